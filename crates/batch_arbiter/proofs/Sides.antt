@@ -1,13 +1,13 @@
 -- The lists of the pool as shares and lines: what an edit of one list does to the allocation.
-use Rattle.std.proofs.Common.{ℕ, ◌≡◌, ◌≢◌, ◌+◌, ◌-◌, ◌<◌, ◌≤◌, ◌^◌, List, [], ◌∷◌, ◌++◌, length, drop, sym, ap, ◌∙◌, subst, arith, set, Some, inl, inr}
+use Rattle.std.proofs.Common.{ℕ, ◌≡◌, ◌≢◌, Bool, true, false, cond, find, refl, ◌+◌, ◌-◌, ◌<◌, ◌≤◌, ◌^◌, List, [], ◌∷◌, ◌++◌, length, drop, sym, ap, ◌∙◌, subst, arith, set, Some, None, inl, inr}
 use Rattle.std.specs.Prelude.{slice_index, replicate}
 use Rattle.std.specs.List.{All}
 use Rattle.std.proofs.lemmas.Bool.{cases_eq, leb-true}
-use Rattle.std.proofs.lemmas.List.{length-set, get_or-set_same, get_or-set_other, get_or-take, get_or-drop, take-set-le, drop-set-lt, drop-set-add, take-replicate, drop-replicate, length-replicate, get_or-replicate}
-use Rattle.std.proofs.lemmas.List.Sums.{sum_by_push}
+use Rattle.std.proofs.lemmas.List.{length-set, get_or-set_same, get_or-set_other, set-set, get_or-take, get_or-drop, take-set-le, drop-set-lt, drop-set-add, take-replicate, drop-replicate, length-replicate, get_or-replicate}
+use Rattle.std.proofs.lemmas.List.Sums.{sum_by_push, sum_by-cons}
 use Rattle.std.proofs.Math.Seq.{take-set-lt}
-use Rattle.batch_arbiter.specs.Allocation.{Claim, Allocation, is_claim, held_units, without_first, shares_of, line_of, next_in, next_grant, idle, asked, granted, released}
-use Rattle.batch_arbiter.specs.Linked.{Lists, list_at, with_list}
+use Rattle.batch_arbiter.specs.Allocation.{Claim, Allocation, is_claim, held_units, without_first, shares_of, line_of, next_in, next_grant, units_of, handed_over, idle, asked, granted, passed, released}
+use Rattle.batch_arbiter.specs.Linked.{Lists, list_at, with_list, IsRemoved}
 use Rattle.batch_arbiter.specs.Standing.{seen, StandsInPool}
 
 pub shares-seen : (capacities : List ℕ) (p : Lists) (r : ℕ) → r < length capacities → shares_of (seen capacities p) r ≡ list_at p r
@@ -119,5 +119,69 @@ module _ (capacities held : List ℕ) (p q s : Lists) (r : ℕ) (c : Claim) (kno
       | inl e ↦ within_at k e
       | inr ne ↦ subst (λ (x : ℕ). x ≤ slice_index capacities k) (sym (held_other k ne)) (sound.within k h)
     ];
+    counted = sound.counted;
+  }
+
+-- A share goes to another act
+
+removed-sum : (batch node : ℕ) (cs : List Claim) → held_units cs ≡ held_units (without_first (is_claim batch node) cs) + units_of batch node cs
+removed-sum batch node [] = refl
+removed-sum batch node (c ∷ cs) = go (is_claim batch node c) (removed-sum batch node cs)
+  where
+    go : (t : Bool) → held_units cs ≡ held_units (without_first (is_claim batch node) cs) + units_of batch node cs
+        → held_units (c ∷ cs)
+        ≡ held_units (cond t cs (c ∷ without_first (is_claim batch node) cs)) + elim (cond t (Some c) (find (is_claim batch node) cs)) [ None ↦ 0 | Some d ↦ d.units ]
+    go true h = omega (arith, sum_by-cons (λ (x : Claim). x.units) c cs)
+    go false h =
+        omega (arith, h, sum_by-cons (λ (x : Claim). x.units) c cs, sum_by-cons (λ (x : Claim). x.units) c (without_first (is_claim batch node) cs))
+
+pub handed_over-sum : (batch from to : ℕ) (cs : List Claim) → held_units (handed_over batch from to cs) ≡ held_units cs
+handed_over-sum batch from to cs =
+    omega (
+      arith,
+      sum_by_push (λ (x : Claim). x.units) (without_first (is_claim batch from) cs) (record { batch = batch; node = to; units = units_of batch from cs }),
+      removed-sum batch from cs,
+    )
+
+module _ (capacities held : List ℕ) (p q s : Lists) (r batch from to units : ℕ) (known : r < length capacities) (sound : StandsInPool capacities held p) (removed : IsRemoved p r batch from units q) (joined : s ≡ with_list q r (list_at q r ++ record { batch = batch; node = to; units = units } ∷ []) (q.room - 1)) where
+  abbrev less : List Claim
+  less = without_first (is_claim batch from) (list_at p r)
+
+  units-are : units ≡ units_of batch from (list_at p r)
+  units-are = omega (arith, removed.sum, removed-sum batch from (list_at p r))
+
+  list_less : list_at q r ≡ less
+  list_less = ap (λ x. list_at x r) removed.after ∙ get_or-set_same p.lists r less [] (omega (arith, sound.twice))
+
+  after_both : s ≡ with_list p r (handed_over batch from to (list_at p r)) p.room
+  after_both =
+      joined
+      ∙ ap (λ cs. with_list q r (cs ++ record { batch = batch; node = to; units = units } ∷ []) (q.room - 1)) list_less
+      ∙ ap (λ n. with_list q r (less ++ record { batch = batch; node = to; units = n } ∷ []) (q.room - 1)) units-are
+      ∙ ap (λ x. with_list x r (handed_over batch from to (list_at p r)) (x.room - 1)) removed.after
+      ∙ ap (λ ls. record { lists = ls; room = p.room + 1 - 1 }) (set-set p.lists r less (handed_over batch from to (list_at p r)))
+      ∙ ap (λ n. with_list p r (handed_over batch from to (list_at p r)) n) (omega arith)
+
+  pub seen-pass : seen capacities s ≡ passed r batch from to (seen capacities p)
+  seen-pass =
+      ap (seen capacities) after_both
+      ∙ seen-share capacities p r p.room (handed_over batch from to (list_at p r)) known
+      ∙ ap (λ cs. record (seen capacities p) { shares = set (seen capacities p).shares r (handed_over batch from to cs) }) (sym (shares-seen capacities p r known))
+
+  passed_list : (k : ℕ) → k < length capacities → held_units (list_at s k) ≡ held_units (list_at p k)
+  passed_list k h = elim (cases_eq k r) [
+    | inl e ↦ subst (λ x. held_units (list_at s x) ≡ held_units (list_at p x)) (sym e)
+        (ap (λ x. held_units (list_at x r)) after_both
+        ∙ ap held_units (get_or-set_same p.lists r (handed_over batch from to (list_at p r)) [] (omega (arith, sound.twice)))
+        ∙ handed_over-sum batch from to (list_at p r))
+    | inr ne ↦ ap (λ x. held_units (list_at x k)) after_both ∙ ap held_units (get_or-set_other p.lists r k (handed_over batch from to (list_at p r)) [] ne)
+  ]
+
+  pub IsSound-pass : StandsInPool capacities held s
+  IsSound-pass = record {
+    twice = ap (λ (x : Lists). length x.lists) after_both ∙ length-set p.lists r (handed_over batch from to (list_at p r)) ∙ sound.twice;
+    counts = sound.counts;
+    sums = λ k h. sound.sums k h ∙ sym (passed_list k h);
+    within = sound.within;
     counted = sound.counted;
   }

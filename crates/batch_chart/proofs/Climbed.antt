@@ -6,7 +6,7 @@ use Rattle.std.proofs.lemmas.Bool.Decides.{eqb_tells}
 use Rattle.batch_recipe.specs.Conditions.{Name, ValueList}
 use Rattle.batch_recipe.specs.Nodes.{node_count}
 use Rattle.batch_recipe.specs.Tree.{Step, follows, Tree, act, skip, Trees, no_trees, tree, Choices, otherwise, choice}
-use Rattle.batch_model.specs.Rest.{in_seq, rest, is_done, all_done, advance, advance_each}
+use Rattle.batch_model.specs.Rest.{in_seq, rest, is_done, all_done}
 use Rattle.batch_model.specs.Settled.{IsAdvanced}
 use Rattle.batch_machine.proofs.Advancing.{advance-advanced}
 use Rattle.batch_recipe.specs.declared.entry.Entry.{Entry}
@@ -32,6 +32,7 @@ use Rattle.batch_chart.proofs.Choosing.{chosen-false}
 use Rattle.batch_chart.proofs.Reached.{within-set}
 use Rattle.batch_chart.proofs.Telling.{nests, nests-below, told-one, told-part, told-same, told-agree}
 use Rattle.batch_chart.proofs.Advanced.{over-at, unbegun-act, advanced-act_chart, advanced-act_still, advanced-seq, advanced-par, advanced-sel, advanced-loop_over, advanced-loop_anew, not-false, moved-later, moved-on, chosen-last, chosen-later, chosen-here}
+use Rattle.batch_chart.specs.ByValues.{bare, advance_by, advance_each_by}
 
 -- tests of rows
 
@@ -227,7 +228,7 @@ module _ (ns : List Entry) (doc : Recipe) (vs : ValueList) (p n : ℕ) (ys : Lis
   whole : (zs : List Stage) (b : Bool) → HasAdvanced ns doc vs p ws zs b → AreTold ns doc (p + 1) (end_at ns p) zs → AreTold ns doc p (end_at ns p) zs
   whole zs b a h =
       told-one ns doc p (end_at ns p) zs
-      (λ c s. (let m = a.means c s in record { finished = a.own ∙ m.1 ∙ sym (ap is_done m.0); advanced = subst IsAdvanced (sym m.0) (advance-advanced vs (meaning c p ws)) }))
+      (λ c s. (let m = a.means c s in record { finished = a.own ∙ m.1 ∙ sym (ap is_done m.0); advanced = subst IsAdvanced (sym m.0) (advance-advanced (bare vs) (meaning c p ws)) }))
       h
 
   passed : (zs : List Stage) (b : Bool) → is_finished (stage_at ws p) ≡ false → HasAdvanced ns doc vs p ws zs b → AreTold ns doc (p + 1) (end_at ns p) zs → HasPassed ns doc vs xs ws p zs b
@@ -244,7 +245,7 @@ module _ (ns : List Entry) (doc : Recipe) (vs : ValueList) (p n : ℕ) (ys : Lis
       let first = over-at ns doc vs xs p (r.before, standing.1) (kind_at ns p) refl before standing.1.0 standing.1.1 in
       let own : is_finished (stage_at xs p) ≡ true = (r.told p standing.1.0 (omega arith) within-p standing.1.1).finished ∙ ap is_done first in
       let a : HasAdvanced ns doc vs p ws ys true = record {
-        means = λ c s. (now c s ∙ sym (ap (advance vs) (was c s)), sym (ap (λ z. is_done (advance vs z)) (was c s)));
+        means = λ c s. (now c s ∙ sym (ap (advance_by vs) (was c s)), sym (ap (λ z. is_done (advance_by vs z)) (was c s)));
         own = ap is_finished (is-own ∙ was-own) ∙ own;
         outside = wide-now;
       } in
@@ -334,12 +335,12 @@ module _ (ns : List Entry) (doc : Recipe) (vs : ValueList) (p n : ℕ) (ys : Lis
   stuck-row i j ne le lt fits u =
       record { means = λ ts q. go ts (row-at ns doc i j ne ts q); outside = outside-row i j (omega arith) fits }
     where
-      go : (ts : Trees) → RowAt ns doc i j ts → (branch ts i ys ≡ advance vs (branch ts i ws)) × (false ≡ is_done (advance vs (branch ts i ws)))
+      go : (ts : Trees) → RowAt ns doc i j ts → (branch ts i ys ≡ advance_by vs (branch ts i ws)) × (false ≡ is_done (advance_by vs (branch ts i ws)))
       go _ (row_at c ts s q e f) =
           let k = stays c i s (inl (omega (arith, e))) in
           let unfinished : is_finished (stage_at ws i) ≡ false = ap is_finished (sym (off-own i (inl lt))) ∙ u in
           let was = chosen-false (is_finished (stage_at ws i)) (branch ts (i + node_count c) ws) (in_seq (meaning c i ws) ts) unfinished in
-          let on = ap (advance vs) was ∙ advanced-still vs (in_seq (meaning c i ws) ts) (sym k.1 ∙ u, k.0) in (
+          let on = ap (advance_by vs) was ∙ advanced-still (bare vs) (in_seq (meaning c i ws) ts) (sym k.1 ∙ u, k.0) in (
             chosen-false (is_finished (stage_at ys i)) (branch ts (i + node_count c) ys) (in_seq (meaning c i ys) ts) u ∙ ap (λ z. in_seq z ts) k.2 ∙ sym on,
             sym (ap is_done on),
           )
@@ -376,12 +377,12 @@ module _ (ns : List Entry) (doc : Recipe) (vs : ValueList) (p n : ℕ) (ys : Lis
   stuck-choice i j ne le lt fits u =
       record { means = λ m ch q. go m ch (choice-at ns doc m i j ne ch q); outside = outside-row i j (omega arith) fits }
     where
-      go : (m : ℕ) (ch : Choices) → ChoiceAt ns doc m i j ch → (false ≡ false → chosen ch i ys ≡ advance vs (chosen ch i ws)) × (false ≡ is_done (advance vs (chosen ch i ws)))
+      go : (m : ℕ) (ch : Choices) → ChoiceAt ns doc m i j ch → (false ≡ false → chosen ch i ys ≡ advance_by vs (chosen ch i ws)) × (false ≡ is_done (advance_by vs (chosen ch i ws)))
       go m _ (choice_at w c ch q s later e f) =
           let k = stays c i s (inl (omega (arith, e))) in
           let unfinished : is_finished (stage_at ws i) ≡ false = ap is_finished (sym (off-own i (inl lt))) ∙ u in
           let was = chosen-false (is_finished (stage_at ws i)) (chosen ch (i + node_count c) ws) (meaning c i ws) unfinished in
-          let on = ap (advance vs) was ∙ advanced-still vs (meaning c i ws) k.0 in (
+          let on = ap (advance_by vs) was ∙ advanced-still (bare vs) (meaning c i ws) k.0 in (
             λ z. chosen-false (is_finished (stage_at ys i)) (chosen ch (i + node_count c) ys) (meaning c i ys) u ∙ k.2 ∙ sym on,
             sym (ap is_done on ∙ sym k.1 ∙ u),
           )
@@ -418,36 +419,36 @@ module _ (ns : List Entry) (doc : Recipe) (vs : ValueList) (p n : ℕ) (ys : Lis
   -- and of branches side by side
 
   each-went : (ts : Trees) (i j : ℕ) → AreStanding ns doc i j ts → p < i → (i ≤ n) ⊎ (end_at ns n ≤ i)
-      → (meaning_each ts i ys ≡ advance_each vs (meaning_each ts i ws)) × (all_finished ts i ys ≡ all_done (advance_each vs (meaning_each ts i ws)))
+      → (meaning_each ts i ys ≡ advance_each_by vs (meaning_each ts i ws)) × (all_finished ts i ys ≡ all_done (advance_each_by vs (meaning_each ts i ws)))
   each-went no_trees i j h lt q = (refl, refl)
   each-went (tree c ts) i j h lt q =
       let e = (stood ns doc i c h.0).end in
-      let one : (meaning c i ys ≡ advance vs (meaning c i ws)) × (is_finished (stage_at ys i) ≡ is_done (advance vs (meaning c i ws))) × ((i + node_count c ≤ n) ⊎ (end_at ns n ≤ i + node_count c)) =
+      let one : (meaning c i ys ≡ advance_by vs (meaning c i ws)) × (is_finished (stage_at ys i) ≡ is_done (advance_by vs (meaning c i ws))) × ((i + node_count c ≤ n) ⊎ (end_at ns n ≤ i + node_count c)) =
       elim (eqb_tells i n) [
         | inl f ↦ at-n c i f.1 h.0
         | inr f ↦ off-n c i f.1 h.0 lt q
       ] in
       let more = each-went ts (i + node_count c) j h.1 (omega arith) one.2 in (
         ap₂ rest one.0 more.0,
-        both-and (is_finished (stage_at ys i)) (is_done (advance vs (meaning c i ws))) (all_finished ts (i + node_count c) ys) (all_done (advance_each vs (meaning_each ts (i + node_count c) ws))) one.1 more.1,
+        both-and (is_finished (stage_at ys i)) (is_done (advance_by vs (meaning c i ws))) (all_finished ts (i + node_count c) ys) (all_done (advance_each_by vs (meaning_each ts (i + node_count c) ws))) one.1 more.1,
       )
     where
-      at-n : (c : Tree) (i : ℕ) → i ≡ n → Stands ns doc i c → (meaning c i ys ≡ advance vs (meaning c i ws)) × (is_finished (stage_at ys i) ≡ is_done (advance vs (meaning c i ws))) × ((i + node_count c ≤ n) ⊎ (end_at ns n ≤ i + node_count c))
+      at-n : (c : Tree) (i : ℕ) → i ≡ n → Stands ns doc i c → (meaning c i ys ≡ advance_by vs (meaning c i ws)) × (is_finished (stage_at ys i) ≡ is_done (advance_by vs (meaning c i ws))) × ((i + node_count c ≤ n) ⊎ (end_at ns n ≤ i + node_count c))
       at-n c i f s =
           let here : Stands ns doc n c = subst (λ z. Stands ns doc z c) f s in
           let m = r.advanced.means c here in
-          subst (λ z. (meaning c z ys ≡ advance vs (meaning c z ws)) × (is_finished (stage_at ys z) ≡ is_done (advance vs (meaning c z ws))) × ((z + node_count c ≤ n) ⊎ (end_at ns n ≤ z + node_count c))) (sym f)
+          subst (λ z. (meaning c z ys ≡ advance_by vs (meaning c z ws)) × (is_finished (stage_at ys z) ≡ is_done (advance_by vs (meaning c z ws))) × ((z + node_count c ≤ n) ⊎ (end_at ns n ≤ z + node_count c))) (sym f)
           (m.0, r.advanced.own ∙ m.1, inr (omega (arith, (stood ns doc n c here).end)))
 
-      off-n : (c : Tree) (i : ℕ) → i ≢ n → Stands ns doc i c → p < i → (i ≤ n) ⊎ (end_at ns n ≤ i) → (meaning c i ys ≡ advance vs (meaning c i ws)) × (is_finished (stage_at ys i) ≡ is_done (advance vs (meaning c i ws))) × ((i + node_count c ≤ n) ⊎ (end_at ns n ≤ i + node_count c))
+      off-n : (c : Tree) (i : ℕ) → i ≢ n → Stands ns doc i c → p < i → (i ≤ n) ⊎ (end_at ns n ≤ i) → (meaning c i ys ≡ advance_by vs (meaning c i ws)) × (is_finished (stage_at ys i) ≡ is_done (advance_by vs (meaning c i ws))) × ((i + node_count c ≤ n) ⊎ (end_at ns n ≤ i + node_count c))
       off-n c i ne s lt (inl le) =
           let by : i + node_count c ≤ n = omega (arith, above.between i lt (omega arith), (stood ns doc i c s).end) in
           let k = stays c i s (inl by) in
-          let on = advanced-still vs (meaning c i ws) k.0 in
+          let on = advanced-still (bare vs) (meaning c i ws) k.0 in
           (k.2 ∙ sym on, k.1 ∙ sym (ap is_done on), inl by)
       off-n c i ne s lt (inr le) =
           let k = stays c i s (inr le) in
-          let on = advanced-still vs (meaning c i ws) k.0 in
+          let on = advanced-still (bare vs) (meaning c i ws) k.0 in
           (k.2 ∙ sym on, k.1 ∙ sym (ap is_done on), inr (omega arith))
 
   each-advanced : (b : Bool) → AreFinished ns doc (p + 1) (end_at ns p) ys b → HasEachAdvanced ns doc vs (p + 1) (end_at ns p) true ws ys b

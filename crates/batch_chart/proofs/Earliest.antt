@@ -10,7 +10,7 @@ use Rattle.batch_machine.specs.Laws.{IsFirst}
 use Rattle.batch_model.specs.Placed.{Rises}
 use Rattle.batch_model.specs.Plant.{Setup, Batch, Plant, opening}
 use Rattle.batch_model.specs.Rest.{Rest, ready, asking, open_act, live, freeing, in_seq, in_par, in_loop, done, acts, place_of}
-use Rattle.batch_model.specs.Moves.{Move, send, state, release, begin, start, end, ask, grant, batch_of, kind_of, place_of_move, order_of, is_earlier, act_move, state_move, least, batch_moves, when, is_served}
+use Rattle.batch_model.specs.Moves.{Move, send, state, release, pass, begin, start, end, ask, grant, batch_of, kind_of, place_of_move, order_of, is_earlier, act_move, state_move, least, batch_moves, when, is_served}
 use Rattle.batch_machine.proofs.Calming.{IsStateMove, state_move-is}
 use Rattle.batch_machine.proofs.Lowering.{IsMoveOf, act_move-is}
 use Rattle.batch_model.proofs.Members.{Has-filter_map, Each-Has}
@@ -112,6 +112,7 @@ kind-range : (m : Move) → (1 ≤ kind_of m) × (kind_of m ≤ 6)
 kind-range (send n p x c) = (omega arith, omega arith)
 kind-range (state n x) = (omega arith, omega arith)
 kind-range (release n p r) = (omega arith, omega arith)
+kind-range (pass n p q r) = (omega arith, omega arith)
 kind-range (begin n p a) = (omega arith, omega arith)
 kind-range (start n p x vs) = (omega arith, omega arith)
 kind-range (end n p) = (omega arith, omega arith)

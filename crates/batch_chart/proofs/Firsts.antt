@@ -1,6 +1,6 @@
 -- The first act that is found makes the first move of a kind.
-use Rattle.std.proofs.Common.{◌≡◌, ◌⊎◌, inl, inr, ◌<◌, ℕ, suc, ◌+◌, ◌-◌, List, [], ◌∷◌, length, Bool, true, false, ◌&&◌, Some, None, nat_eq, nat_lt, nat_le, cond, arith, refl, sym, ◌∙◌, subst, ap, ap₂}
-use Rattle.std.specs.Prelude.{slice_index_or, Option, not, ◌||◌, map, find, option_map, option_and_then, ◌<◌}
+use Rattle.std.proofs.Common.{◌≡◌, ◌⊎◌, inl, inr, ◌<◌, ℕ, suc, ◌+◌, ◌-◌, List, [], ◌∷◌, length, zero, Bool, true, false, ◌&&◌, Some, None, nat_eq, nat_lt, nat_le, cond, arith, refl, sym, ◌∙◌, subst, ap, ap₂}
+use Rattle.std.specs.Prelude.{slice_index_or, Option, IfSome, not, ◌||◌, map, find, option_map, option_and_then, ◌<◌}
 use Rattle.std.specs.List.{filter_map, cons_option}
 use Rattle.std.specs.Int.Bits.{bit_or}
 use Rattle.std.proofs.lemmas.Bool.Decides.{nat_tests}
@@ -14,7 +14,7 @@ use Rattle.batch_model.specs.Plant.{Batch, held_in}
 use Rattle.batch_model.specs.Rest.{Rest, ready, asking, open_act, live, freeing, acts, is_done}
 use Rattle.batch_model.specs.Settled.{IsAdvanced}
 use Rattle.batch_model.specs.Moves as machine
-use Rattle.batch_model.specs.Moves.{freed, kind_of, handed_values, passed_on, is_running, is_stopping, is_stopped, is_empty, is_quiet, when, entering, giving_back}
+use Rattle.batch_model.specs.Moves.{freed, kind_of, handed_values, passed_on, is_running, is_stopping, is_stopped, is_empty, is_quiet, when, entering, last_held, giving_back, reserved_place, handing_over}
 use Rattle.batch_recipe.specs.declared.entry.Entry.{Entry}
 use Rattle.batch_chart.specs.declared.node.Kind.{Kind}
 use Rattle.batch_chart.specs.declared.node.Kind.TheVariants.{Skip, Act, Seq, Par, Sel, Loop}
@@ -28,15 +28,19 @@ use Rattle.batch_chart.specs.Meaning.{act_as}
 use Rattle.batch_chart.specs.Outlined.{kind_at, is_act_kind}
 use Rattle.batch_chart.specs.Nexts.{first_of}
 use Rattle.batch_chart.specs.Noting.{gives}
-use Rattle.batch_chart.specs.NodesOf.{no_need, phase_in, name_in}
+use Rattle.batch_chart.specs.NodesOf.{no_need, no_phase, phase_in, name_in, place_at, step_at}
 use Rattle.batch_chart.specs.OwnMoves.{own_move, is_kind}
 use Rattle.batch_chart.specs.Running.{CanRelease, HasMore, Allows}
-use Rattle.batch_chart.specs.Nexts.{held_at, entered, releasing}
+use Rattle.batch_chart.specs.Nexts.{held_at, last_held as last, entered, releasing, handing}
+use Rattle.batch_chart.specs.Passing.{IsBatchOf, PassesTo}
+use Rattle.batch_recipe.specs.Nodes.{node_count}
+use Rattle.batch_recipe.specs.Procedure.{bound_tree}
+use Rattle.batch_recipe.specs.declared.recipe.Recipe.{Recipe}
 use Rattle.batch_chart.proofs.Choosing.{chosen-true, chosen-false}
 use Rattle.batch_chart.specs.declared.sign.TheConstants.{FITS, FREES, IS_OVER, LACKS}
 use Rattle.batch_chart.proofs.Stepping.{Fits, fits-act}
 use Rattle.batch_chart.proofs.Sought.{showing, of_states, gives_back, ready-shows, asking-shows, open-shows, live-shows, freeing-shows, low-1, low-8, low-10, open-lacks, open-frees, live-frees, freeing-frees}
-use Rattle.batch_chart.proofs.MoveKinds.{kind_in, less, and-true, empty-done, entering-ask, entering-start, entering-begin, giving-some, ready-kind, open-kind, live_kind, live-kind, freeing-kind}
+use Rattle.batch_chart.proofs.MoveKinds.{kind_in, less, and-true, empty-done, entering-ask, entering-start, entering-begin, giving-some, passing-some, ready-kind, open-kind, live_kind, live-kind, freeing-kind}
 
 -- the first move of a kind
 
@@ -56,20 +60,21 @@ find-later n f a as' e = go (f a) e
 
 pub picked : (b : Batch) (n : ℕ) (p : ℕ → Rest → Bool) (g : ℕ → machine.Move) (l : List (ℕ × Rest))
     → ((e : ℕ × Rest) → Has l e → p e.0 e.1 ≡ kind_in n (own_move b e.1))
-    → ((e : ℕ × Rest) → Has l e → p e.0 e.1 ≡ true → own_move b e.1 ≡ Some (g e.0))
+    → ((e : ℕ × Rest) → Has l e → p e.0 e.1 ≡ true → first_of p l ≡ Some e.0 → own_move b e.1 ≡ Some (g e.0))
     → option_map g (first_of p l) ≡ find (is_kind n) (filter_map (own_move b) (map (λ z. z.1) l))
 picked b n p g [] t v = refl
-picked b n p g (a ∷ l) t v = go (p a.0 a.1) refl (picked b n p g l (λ e h. t e (inr h)) (λ e h. v e (inr h)))
+picked b n p g (a ∷ l) t v =
+    go (p a.0 a.1) refl (λ q. picked b n p g l (λ e h. t e (inr h)) (λ e h z f. v e (inr h) z (chosen-false (p a.0 a.1) (Some a.0) (first_of p l) q ∙ f)))
   where
-    go : (q : Bool) → p a.0 a.1 ≡ q → option_map g (first_of p l) ≡ find (is_kind n) (filter_map (own_move b) (map (λ z. z.1) l))
+    go : (q : Bool) → p a.0 a.1 ≡ q → (p a.0 a.1 ≡ false → option_map g (first_of p l) ≡ find (is_kind n) (filter_map (own_move b) (map (λ z. z.1) l)))
         → option_map g (first_of p (a ∷ l)) ≡ find (is_kind n) (filter_map (own_move b) (a.1 ∷ map (λ z. z.1) l))
     go true q later =
         ap (option_map g) (chosen-true (p a.0 a.1) (Some a.0) (first_of p l) q)
-        ∙ sym (v a (inl refl) q)
+        ∙ sym (v a (inl refl) q (chosen-true (p a.0 a.1) (Some a.0) (first_of p l) q))
         ∙ sym (find-here n (own_move b) a.1 (map (λ z. z.1) l) (sym (t a (inl refl)) ∙ q))
     go false q later =
         ap (option_map g) (chosen-false (p a.0 a.1) (Some a.0) (first_of p l) q)
-        ∙ later
+        ∙ later q
         ∙ sym (find-later n (own_move b) a.1 (map (λ z. z.1) l) (sym (t a (inl refl)) ∙ q))
 
 pub picked-none : (b : Batch) (n : ℕ) (as' : List Rest) → ((a : Rest) → kind_in n (own_move b a) ≡ false) → find (is_kind n) (filter_map (own_move b) as') ≡ None
@@ -89,6 +94,9 @@ gives-all n = grind (arith, nat_tests)
 
 pub running-others : (x : State) → is_running x ≡ true → (is_stopping x || is_stopped x) ≡ false
 running-others x e = grind arith
+
+pub stopped-halts : (x : State) → is_stopped x ≡ true → (is_stopping x || is_stopped x) ≡ true
+stopped-halts x e = grind arith
 
 pub stopping-others : (x : State) → is_stopping x ≡ true → is_running x ≡ false
 stopping-others x e = grind arith
@@ -183,14 +191,15 @@ module _ (b : Batch) where
 
 -- Which move it is
 
-abbrev pub seen_at : Place → Step → Task → Batch → Move → machine.Move
-seen_at q s w b (move.Send k c) = machine.send b.number q (phase_in w) c
-seen_at q s w b (move.State x) = machine.state b.number x
-seen_at q s w b (move.Release k i) = machine.release b.number q (slice_index_or s.needs i no_need)
-seen_at q s w b (move.Begin k) = machine.begin b.number q (name_in w)
-seen_at q s w b (move.Start k) = machine.start b.number q (phase_in w) (handed_values b.values (phase_in w).handed)
-seen_at q s w b (move.End k) = machine.end b.number q
-seen_at q s w b (move.Ask k i) = machine.ask b.number q (slice_index_or s.needs i no_need)
+abbrev pub seen_at : Tree → Place → Step → Task → Batch → Move → machine.Move
+seen_at whole q s w b (move.Send k c) = machine.send b.number q (phase_in w) c
+seen_at whole q s w b (move.State x) = machine.state b.number x
+seen_at whole q s w b (move.Release k i) = machine.release b.number q (slice_index_or s.needs i no_need)
+seen_at whole q s w b (move.Pass k to i) = machine.pass b.number q (place_at whole to) (slice_index_or s.needs i no_need)
+seen_at whole q s w b (move.Begin k) = machine.begin b.number q (name_in w)
+seen_at whole q s w b (move.Start k) = machine.start b.number q (phase_in w) (handed_values b.values (phase_in w).handed)
+seen_at whole q s w b (move.End k) = machine.end b.number q
+seen_at whole q s w b (move.Ask k i) = machine.ask b.number q (slice_index_or s.needs i no_need)
 
 own-live : (b : Batch) (c : Command) (s : Step) (p : Phase) (y : State) → passed_on b.state ≡ Some c → accepts y c ≡ true → own_move b (live s p y) ≡ Some (machine.send b.number s.place p c)
 own-live b c s p y e a =
@@ -261,10 +270,10 @@ module _ (b : Batch) (s : Step) where
   ready-asks w i q = let e = sym (ready-kind b 5 s w i) ∙ q in (grind arith, grind arith)
 
 -- an act of the kind, at its stage
-module _ (b : Batch) (ns : List Entry) (xs : List Stage) (k : ℕ) (lt : k < length ns) where
+module _ (whole : Tree) (b : Batch) (ns : List Entry) (xs : List Stage) (k : ℕ) (lt : k < length ns) where
   -- the move is the act's, and the stages allow it
   abbrev pub Suits : (ℕ → Kind → Stage → Move) → Step → Task → Rest → Kind → Stage → Type 0
-  Suits f s w r κ x = (own_move b (act_as s w r x) ≡ Some (seen_at s.place s w b (f k κ x))) × Allows ns xs (f k κ x)
+  Suits f s w r κ x = (own_move b (act_as s w r x) ≡ Some (seen_at whole s.place s w b (f k κ x))) × Allows ns xs (f k κ x)
 
   abbrev pub At : Kind → Stage → Type 0
   At κ x = (kind_at ns k ≡ κ) × (stage_at xs k ≡ x)
@@ -284,21 +293,67 @@ module _ (b : Batch) (ns : List Entry) (xs : List Stage) (k : ℕ) (lt : k < len
   can-still κ x h i a ok (inl e) f = (lt, subst (λ z. CanRelease (kind_at ns k) z i) (sym (a.1 ∙ e)) (ap is_act_kind a.0 ∙ ok, f))
   can-still κ x h i a ok (inr e) f = (lt, subst (λ z. CanRelease (kind_at ns k) z i) (sym (a.1 ∙ e)) (ap is_act_kind a.0 ∙ ok, f))
 
-  pub suits-releasing : (s : Step) (w : Task) (r : Rest) (κ : Kind) (x : Stage) → At κ x → Fits κ s w → IsOfKind 3 s w r x → Suits releasing s w r κ x
-  suits-releasing s w r κ (Freeing (suc i)) a h q =
-      let g : gives (length s.needs) (suc i) ≡ true = sym (and-true (gives (length s.needs) (suc i))) ∙ sym (freeing-kind b 3 s (suc i)) ∙ q in
-      (giving-some b s (suc i) g, can-still κ (Freeing (suc i)) (suc i) (suc i - 1) a (fits-act κ s w h) (inr refl) (gives-step (length s.needs) (suc i) g))
-  suits-releasing s w r κ (Ready i) a h q =
+  freed-gives : (s : Step) (i : ℕ) → kind_in 3 (own_move b (freeing s i)) ≡ true → gives (length s.needs) i ≡ true
+  freed-gives s i q = sym (and-true (gives (length s.needs) i)) ∙ sym (freeing-kind b 3 s i) ∙ q
+
+  pub suits-releasing : (is_stopping b.state || is_stopped b.state) ≡ true → (s : Step) (w : Task) (r : Rest) (κ : Kind) (x : Stage) → At κ x → Fits κ s w → IsOfKind 3 s w r x → Suits releasing s w r κ x
+  suits-releasing halts s w r κ (Freeing (suc i)) a h q =
+      let g = freed-gives s (suc i) q in
+      (chosen-true (is_stopping b.state || is_stopped b.state) (giving_back b s (suc i)) (handing_over b s (suc i)) halts ∙ giving-some b s (suc i) g, can-still κ (Freeing (suc i)) (suc i) (suc i - 1) a (fits-act κ s w h) (inr refl) (gives-step (length s.needs) (suc i) g))
+  suits-releasing halts s w r κ (Ready i) a h q =
       let g = ready-releases b s w i q in
       (own-back b s w i g.0 g.1 g.2 ∙ giving-some b s i g.3, can-still κ (Ready i) i (i - 1) a (fits-act κ s w h) (inl refl) (gives-step (length s.needs) i g.3))
-  suits-releasing s (follows name t) r (Act j) Open a h q =
+  suits-releasing halts s (follows name t) r (Act j) Open a h q =
       let g = open-releases b s r q in
       let count : j ≡ (j - 1) + 1 = sym h ∙ gives-step (length s.needs) (length s.needs) g.3 ∙ ap (λ n. (n - 1) + 1) h in (
         own-closing b s r g.0 g.1 g.2 ∙ giving-some b s (length s.needs) g.3 ∙ ap (λ i. Some (machine.release b.number s.place (slice_index_or s.needs (i - 1) no_need))) h,
         (lt, subst (λ z. CanRelease (kind_at ns k) z (j - 1)) (sym a.1) (a.0 ∙ ap Act count)),
       )
-  suits-releasing s (runs p) r κ (Live y) a h q = absurd (let f = sym (live-kind b 3 s p y) ∙ q in grind arith)
-  suits-releasing x1 x2 x3 x4 x5 x6 x7 x8 = absurd (grind arith)
+  suits-releasing halts s (runs p) r κ (Live y) a h q = absurd (let f = sym (live-kind b 3 s p y) ∙ q in grind arith)
+  suits-releasing x0 x1 x2 x3 x4 x5 x6 x7 x8 = absurd (grind arith)
+
+  -- an act that has ended gives a need up to the node to which it passes that
+  module _ (doc : Recipe) (to : Option ℕ) (small : IfSome to (λ z. z < length ns)) (goes_on : (is_stopping b.state || is_stopped b.state) ≡ false) where
+    handed : (s : Step) (i : ℕ) (o : Option ℕ) → gives (length s.needs) i ≡ true → reserved_place b.recipe.procedure s (i - 1) ≡ option_map (place_at whole) o
+        → handing_over b s i ≡ Some (seen_at whole s.place s (runs no_phase) b (handing o k (Act 0) (Freeing i)))
+    handed s zero o g e = absurd (cc)
+    handed s (suc i) o g e =
+        ap (λ z. elim z as (λ _. Option machine.Move) [ None ↦ giving_back b s (suc i) | Some p ↦ option_map (machine.pass b.number s.place p) (last_held s (suc i)) ])
+        (ap (reserved_place b.recipe.procedure s) (let d : i ≡ suc i - 1 = omega arith in d) ∙ e) ∙ go o
+      where
+        go : (o : Option ℕ) → elim (option_map (place_at whole) o) as (λ _. Option machine.Move) [ None ↦ giving_back b s (suc i) | Some p ↦ option_map (machine.pass b.number s.place p) (last_held s (suc i)) ]
+            ≡ Some (seen_at whole s.place s (runs no_phase) b (handing o k (Act 0) (Freeing (suc i))))
+        go None = giving-some b s (suc i) g
+        go (Some z) = passing-some b (place_at whole z) s (suc i) g
+
+    may-hand : (κ : Kind) (i : ℕ) (o : Option ℕ) → At κ (Freeing i) → is_act_kind κ ≡ true → i ≡ (i - 1) + 1 → IfSome o (λ z. z < length ns) → Allows ns xs (handing o k κ (Freeing i))
+    may-hand κ i None a ok f l = can-still κ (Freeing i) i (i - 1) a ok (inr refl) f
+    may-hand κ i (Some z) a ok f l = (lt, l, ap is_act_kind a.0 ∙ ok, a.1 ∙ ap Freeing f)
+
+    same-handed : (o : Option ℕ) (s : Step) (w v : Task) (κ κ' : Kind) (i : ℕ) → seen_at whole s.place s w b (handing o k κ (Freeing i)) ≡ seen_at whole s.place s v b (handing o k κ' (Freeing i))
+    same-handed None s w v κ κ' i = refl
+    same-handed (Some z) s w v κ κ' i = refl
+
+    pub suits-handing : (s : Step) (w : Task) (r : Rest) (κ : Kind) (x : Stage) → At κ x → Fits κ s w → IsOfKind 3 s w r x → step_at whole k ≡ s → k < node_count whole → PassesTo doc k (last κ x) to
+        → (IsBatchOf doc whole b → own_move b (act_as s w r x) ≡ Some (seen_at whole s.place s w b (handing to k κ x))) × Allows ns xs (handing to k κ x)
+    suits-handing s w r κ (Freeing (suc i)) a h q own within to_here =
+        let g = freed-gives s (suc i) q in (
+          λ of.
+              (chosen-false (is_stopping b.state || is_stopped b.state) (giving_back b s (suc i)) (handing_over b s (suc i)) goes_on
+              ∙ handed s (suc i) to g (placed of (suc i - 1) (to_here of.bound (subst (λ z. k < node_count z) of.tree within)) of)
+              ∙ ap Some (same-handed to s (runs no_phase) w (Act 0) κ (suc i))),
+          may-hand κ (suc i) to a (fits-act κ s w h) (gives-step (length s.needs) (suc i) g) small,
+        )
+      where
+        placed : (of : IsBatchOf doc whole b) (j : ℕ) → option_map (place_at (bound_tree of.bound doc.acts)) to ≡ reserved_place (bound_tree of.bound doc.acts) (step_at (bound_tree of.bound doc.acts) k) j
+            → IsBatchOf doc whole b → reserved_place b.recipe.procedure s j ≡ option_map (place_at whole) to
+        placed of j e _ =
+            ap (λ z. reserved_place z s j) of.follows ∙ ap (λ z. reserved_place whole z j) (sym own)
+            ∙ sym (subst (λ z. option_map (place_at z) to ≡ reserved_place z (step_at z k) j) (sym of.tree) e)
+    suits-handing s w r κ (Ready i) a h q own within to_here = absurd (let g = ready-releases b s w i q in let n : is_stopping b.state ≡ true = g.1 in grind (arith, goes_on))
+    suits-handing s (follows name t) r κ Open a h q own within to_here = absurd (let g = open-releases b s r q in let n : is_stopping b.state ≡ true = g.0 in grind (arith, goes_on))
+    suits-handing s (runs p) r κ (Live y) a h q own within to_here = absurd (let f = sym (live-kind b 3 s p y) ∙ q in grind arith)
+    suits-handing x1 x2 x3 x4 x5 x6 x7 x8 x9 x10 x11 = absurd (grind arith)
 
   pub suits-asking : (s : Step) (w : Task) (r : Rest) (κ : Kind) (x : Stage) → At κ x → Fits κ s w → IsOfKind 5 s w r x → Suits (λ n κ x. move.Ask n (held_at x)) s w r κ x
   suits-asking s w r κ (Ready i) a h q =

@@ -6,7 +6,7 @@ use Rattle.batch_recipe.specs.Conditions.{Name, ValueList}
 use Rattle.batch_recipe.specs.declared.condition.Cond.{Cond}
 use Rattle.batch_recipe.specs.Nodes.{node_count, count_of_each, count_of_choices}
 use Rattle.batch_recipe.specs.Tree.{Step, runs, follows, Tree, act, skip, seq, par, sel, loop, Trees, no_trees, tree, Choices, otherwise, choice}
-use Rattle.batch_model.specs.Rest.{Rest, open_act, in_seq, in_par, done, Rests, rest, is_done, all_done, joined, continued, turned, reach_first, advance, advance_each}
+use Rattle.batch_model.specs.Rest.{Rest, open_act, in_seq, in_par, done, Rests, rest, is_done, all_done, joined}
 use Rattle.batch_model.specs.Moves.{freed}
 use Rattle.batch_model.specs.Settled.{IsAdvanced, AreAdvanced}
 use Rattle.batch_recipe.specs.declared.entry.Entry.{Entry}
@@ -20,10 +20,11 @@ use Rattle.batch_chart.proofs.Advanced.{advance-phase}
 use Rattle.batch_chart.proofs.Likeness.{Apart, next-apart, after-apart, same-stage, same-status}
 use Rattle.batch_chart.proofs.Calm.{turned-still}
 use Rattle.batch_chart.proofs.Choosing.{chosen-false}
+use Rattle.batch_chart.specs.ByValues.{bare, continued_by, turned_by, reach_first_by, advance_by, advance_each_by}
 
 -- r is what q goes on to, where nothing of r is left to be reached
 abbrev Went : ValueList → Rest → Rest → Type 0
-Went vs r q = IsAdvanced r → r ≡ advance vs q
+Went vs r q = IsAdvanced r → r ≡ advance_by vs q
 
 module _ (vs : ValueList) where
   went-if : (b e : Bool) (r q s t : Rest) → e ≡ b → Went vs r s → Went vs q t → Went vs (elim e as (λ _. Rest) [ true ↦ r | false ↦ q ]) (elim b as (λ _. Rest) [ true ↦ s | false ↦ t ])
@@ -32,9 +33,9 @@ module _ (vs : ValueList) where
   went-if x y r q s t e f g = absurd (cc)
 
   went-seq : (r q : Rest) (ts : Trees) → Went vs r q → Went vs (in_seq r ts) (in_seq q ts)
-  went-seq r q ts f h = sym (chosen-false (is_done r) (reach_first vs ts) (in_seq r ts) h.0) ∙ ap (λ z. continued vs z ts) (f h.1)
+  went-seq r q ts f h = sym (chosen-false (is_done r) (reach_first_by vs ts) (in_seq r ts) h.0) ∙ ap (λ z. continued_by vs z ts) (f h.1)
 
-  went-par : (rs qs : Rests) → (AreAdvanced rs → rs ≡ advance_each vs qs) → Went vs (in_par rs) (in_par qs)
+  went-par : (rs qs : Rests) → (AreAdvanced rs → rs ≡ advance_each_by vs qs) → Went vs (in_par rs) (in_par qs)
   went-par rs qs f h = sym (chosen-false (all_done rs) done (in_par rs) h.0) ∙ ap joined (f h.1)
 
   went-loop : (o e : Option ℕ) (p : Cond) (body : Tree) (r q : Rest) → e ≡ o → Went vs r q → Went vs (loop_as e p body r) (loop_as o p body q)
@@ -42,9 +43,9 @@ module _ (vs : ValueList) where
     where
       go : (o : Option ℕ) → Went vs (loop_as o p body r) (loop_as o p body q)
       go None h = refl
-      go (Some k) h = sym (turned-still vs k p body r h.0) ∙ ap (turned vs k p body) (f h.1)
+      go (Some k) h = sym (turned-still (bare vs) k p body r h.0) ∙ ap (turned_by vs k p body) (f h.1)
 
-  went-freed : (s : Step) (k : ℕ) → freed s k ≡ advance vs (freed s k)
+  went-freed : (s : Step) (k : ℕ) → freed s k ≡ advance_by vs (freed s k)
   went-freed s zero = refl
   went-freed s (suc k) = refl
 
@@ -57,9 +58,9 @@ module _ (vs : ValueList) where
       go x h = refl
 
 module _ (ns : List Entry) (doc : Recipe) (vs : ValueList) (p : ℕ) (xs ys : List Stage) (outside : AgreeOutside p (end_at ns p) xs ys) (kept : is_finished (stage_at ys p) ≡ is_finished (stage_at xs p))
-    (here : (c : Tree) → Stands ns doc p c → meaning c p ys ≡ advance vs (meaning c p xs)) where
-  at-node : (n : ℕ) (c : Tree) → n ≡ p → Stands ns doc n c → meaning c n ys ≡ advance vs (meaning c n xs)
-  at-node n c e h = subst (λ i. meaning c i ys ≡ advance vs (meaning c i xs)) (sym e) (here c (subst (λ i. Stands ns doc i c) e h))
+    (here : (c : Tree) → Stands ns doc p c → meaning c p ys ≡ advance_by vs (meaning c p xs)) where
+  at-node : (n : ℕ) (c : Tree) → n ≡ p → Stands ns doc n c → meaning c n ys ≡ advance_by vs (meaning c n xs)
+  at-node n c e h = subst (λ i. meaning c i ys ≡ advance_by vs (meaning c i xs)) (sym e) (here c (subst (λ i. Stands ns doc i c) e h))
 
   mutual
     pub lifted : (c : Tree) (n : ℕ) → Stands ns doc n c → Apart ns doc p n → Went vs (meaning c n ys) (meaning c n xs)
@@ -99,7 +100,7 @@ module _ (ns : List Entry) (doc : Recipe) (vs : ValueList) (p : ℕ) (xs ys : Li
           (lifted body (n + 1) h.3 (next-apart ns doc p n e.1 a))
     ]
 
-    lifted-each : (ts : Trees) (n m : ℕ) → AreStanding ns doc n m ts → Apart ns doc p n → AreAdvanced (meaning_each ts n ys) → meaning_each ts n ys ≡ advance_each vs (meaning_each ts n xs)
+    lifted-each : (ts : Trees) (n m : ℕ) → AreStanding ns doc n m ts → Apart ns doc p n → AreAdvanced (meaning_each ts n ys) → meaning_each ts n ys ≡ advance_each_by vs (meaning_each ts n xs)
     lifted-each no_trees n m h a w = refl
     lifted-each (tree c ts) n m h a w = ap₂ rest (lifted c n h.0 a w.0) (lifted-each ts (n + node_count c) m h.1 (after-apart ns doc p n c h.0 a) w.1)
 

@@ -1,17 +1,17 @@
 -- Which kind of move each act makes, and which move it is.
-use Rattle.std.proofs.Common.{◌≡◌, ◌<◌, ◌≤◌, ℕ, zero, suc, ◌-◌, List, [], ◌∷◌, length, Bool, true, false, ◌&&◌, Some, None, nat_eq, nat_lt, arith, refl, sym, ◌∙◌, ap, ap₂}
+use Rattle.std.proofs.Common.{◌≡◌, ◌<◌, ◌≤◌, ℕ, zero, suc, pred, ◌-◌, List, [], ◌∷◌, length, Bool, true, false, ◌&&◌, Some, None, nat_eq, nat_lt, arith, refl, sym, ◌∙◌, ap, ap₂}
 use Rattle.std.specs.Prelude.{slice_get, slice_index_or, Option, option_map, option_and_then, ◌||◌, ◌++◌}
 use Rattle.std.proofs.lemmas.Bool.Decides.{nat_tests}
 use Rattle.batch_matrix.specs.declared.state.State.{State}
 use Rattle.batch_matrix.specs.declared.command.Command.{Command}
 use Rattle.batch_matrix.specs.Matrix.{accepts}
 use Rattle.batch_recipe.specs.Conditions.{Name}
-use Rattle.batch_recipe.specs.Tree.{Step, Phase, Task, runs, follows, Tree}
+use Rattle.batch_recipe.specs.Tree.{Place, Step, Phase, Task, runs, follows, Tree}
 use Rattle.batch_recipe.specs.declared.need.Need.{Need}
 use Rattle.batch_model.specs.Plant.{Batch, held_in}
 use Rattle.batch_model.specs.Rest.{Rest, ready, open_act, live, freeing, in_seq, in_par, in_loop, Rests, no_rests, rest, acts, acts_of_each, is_done, all_done}
 use Rattle.batch_model.specs.Settled.{IsAdvanced, AreAdvanced}
-use Rattle.batch_model.specs.Moves.{Move, send, begin, start, end, ask, release, kind_of, handed_values, passed_on, is_running, is_stopping, is_stopped, is_empty, is_quiet, when, beginning, entering, giving_back}
+use Rattle.batch_model.specs.Moves.{Move, send, begin, start, end, ask, release, pass, kind_of, handed_values, passed_on, is_running, is_stopping, is_stopped, is_empty, is_quiet, when, beginning, entering, last_held, giving_back, reserved_place, handing_over}
 use Rattle.batch_chart.specs.NodesOf.{no_need}
 use Rattle.batch_chart.specs.Noting.{gives}
 use Rattle.batch_chart.specs.OwnMoves.{own_move, is_kind}
@@ -102,6 +102,16 @@ module _ (b : Batch) where
   giving-none s zero e = refl
   giving-none s (suc k) e = ap (option_map (release b.number s.place)) (get-none s.needs k (gives-not (length s.needs) k e))
 
+  pub passing-some : (to : Place) (s : Step) (k : ℕ) → gives (length s.needs) k ≡ true → option_map (pass b.number s.place to) (last_held s k) ≡ Some (pass b.number s.place to (slice_index_or s.needs (k - 1) no_need))
+  passing-some to s zero e = absurd (cc)
+  passing-some to s (suc k) e =
+      ap (option_map (pass b.number s.place to)) (get-or s.needs k no_need (gives-less (length s.needs) k e))
+      ∙ ap (λ i. Some (pass b.number s.place to (slice_index_or s.needs i no_need))) (let d : k ≡ suc k - 1 = omega arith in d)
+
+  passing-none : (to : Place) (s : Step) (k : ℕ) → gives (length s.needs) k ≡ false → option_map (pass b.number s.place to) (last_held s k) ≡ None
+  passing-none to s zero e = refl
+  passing-none to s (suc k) e = ap (option_map (pass b.number s.place to)) (get-none s.needs k (gives-not (length s.needs) k e))
+
   entering-kind : (n : ℕ) (s : Step) (w : Task) (k : ℕ) → kind_in n (entering b s w k) ≡ elim (nat_lt k (length s.needs)) as (λ _. Bool) [ true ↦ nat_eq 5 n | false ↦ nat_eq 4 n ]
   entering-kind n s w k = go w (nat_lt k (length s.needs)) refl
     where
@@ -167,5 +177,18 @@ module _ (b : Batch) where
       go None = refl
       go (Some c) = when-kind n (accepts x c) (send b.number s.place p c)
 
+  handed-kind : (n : ℕ) (s : Step) (k : ℕ) (o : Option Place)
+      → kind_in n (elim o as (λ _. Option Move) [ None ↦ giving_back b s k | Some to ↦ option_map (pass b.number s.place to) (last_held s k) ]) ≡ (gives (length s.needs) k && nat_eq 3 n)
+  handed-kind n s k None = giving-kind n s k
+  handed-kind n s k (Some to) = go (gives (length s.needs) k) refl
+    where
+      go : (t : Bool) → gives (length s.needs) k ≡ t → kind_in n (option_map (pass b.number s.place to) (last_held s k)) ≡ (t && nat_eq 3 n)
+      go true e = ap (kind_in n) (passing-some to s k e)
+      go false e = ap (kind_in n) (passing-none to s k e)
+
   pub freeing-kind : (n : ℕ) (s : Step) (k : ℕ) → kind_in n (own_move b (freeing s k)) ≡ (gives (length s.needs) k && nat_eq 3 n)
-  freeing-kind n s k = giving-kind n s k
+  freeing-kind n s k = go (is_stopping b.state || is_stopped b.state)
+    where
+      go : (t : Bool) → kind_in n (elim t as (λ _. Option Move) [ true ↦ giving_back b s k | false ↦ handing_over b s k ]) ≡ (gives (length s.needs) k && nat_eq 3 n)
+      go true = giving-kind n s k
+      go false = handed-kind n s k (reserved_place b.recipe.procedure s (pred k))

@@ -4,7 +4,7 @@ use Rattle.std.specs.Prelude.{slice_set}
 use Rattle.std.proofs.lemmas.Bool.Decides.{eqb_tells}
 use Rattle.batch_recipe.specs.Conditions.{ValueList}
 use Rattle.batch_recipe.specs.Tree.{Tree, act, skip, seq, par, sel, loop}
-use Rattle.batch_model.specs.Rest.{in_par, done, is_done, advance}
+use Rattle.batch_model.specs.Rest.{in_par, done, is_done}
 use Rattle.batch_recipe.specs.declared.entry.Entry.{Entry}
 use Rattle.batch_recipe.specs.declared.recipe.Recipe.{Recipe}
 use Rattle.batch_recipe.proofs.Below.{some_count}
@@ -27,6 +27,7 @@ use Rattle.batch_chart.proofs.Lifted.{lifted}
 use Rattle.batch_chart.proofs.Standing.{some-stands, stood}
 use Rattle.batch_chart.proofs.Stepping.{all-told}
 use Rattle.batch_chart.proofs.Telling.{finished-means, told-finished}
+use Rattle.batch_chart.specs.ByValues.{advance_by}
 
 module _ (ns : List Entry) (doc : Recipe) (t : Tree) (laid : IsLaid ns doc t) where
   root-end : end_at ns 0 ≡ length ns
@@ -56,7 +57,7 @@ module _ (ns : List Entry) (doc : Recipe) (t : Tree) (laid : IsLaid ns doc t) wh
         let kept : is_finished (stage_at ys p) ≡ is_finished (stage_at xs p) = r.kept ∙ ap is_finished r.stage in
         let told : AreTold ns doc 0 (length ns) ys = told-after ns doc p (length ns) xs ys both kept below fits r.told r.below in
         let root : 0 < length ns = omega arith in
-        let went : (c : Tree) → Stands ns doc 0 c → meaning c 0 ys ≡ advance vs (meaning c 0 ws) =
+        let went : (c : Tree) → Stands ns doc 0 c → meaning c 0 ys ≡ advance_by vs (meaning c 0 ws) =
         λ c s. lifted ns doc vs p ws ys r.advanced.outside r.kept (λ d q. (r.advanced.means d q).0) c 0 s (inl (omega arith)) (told 0 c (omega arith) root s).advanced in
         record {
           finished = is_finished (stage_at ys 0);
@@ -128,8 +129,8 @@ module _ (ns : List Entry) (doc : Recipe) (vs : ValueList) (xs mid : List Stage)
         left = ap is_finished was;
         advanced = record {
           means = λ c s. (
-            finished-means c k (slice_set mid k Finished) is ∙ sym (ap (advance vs) (freed-means c k (slice_set mid k (Freeing 0)) was)),
-            sym (ap (λ z. is_done (advance vs z)) (freed-means c k (slice_set mid k (Freeing 0)) was)),
+            finished-means c k (slice_set mid k Finished) is ∙ sym (ap (advance_by vs) (freed-means c k (slice_set mid k (Freeing 0)) was)),
+            sym (ap (λ z. is_done (advance_by vs z)) (freed-means c k (slice_set mid k (Freeing 0)) was)),
           );
           own = ap is_finished is;
           outside = λ j q. stage-set_other mid k j Finished (apart j q) ∙ sym (stage-set_other mid k j (Freeing 0) (apart j q));

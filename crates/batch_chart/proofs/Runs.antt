@@ -9,9 +9,17 @@ use Rattle.batch_recipe.specs.declared.entry.Entry.{Entry}
 use Rattle.batch_recipe.specs.declared.recipe.Recipe.{Recipe}
 use Rattle.batch_chart.specs.declared.running.Running.{Running}
 use Rattle.batch_chart.specs.declared.stage.Stage.{Stage}
+use Rattle.std.specs.List.{IsDistinct}
 use Rattle.batch_recipe.specs.Conditions.{ValueList}
-use Rattle.batch_model.specs.Rest.{reach, withdrawn}
-use Rattle.batch_chart.specs.Charts.{IsChartOf, IsRunning, IsRunningOf, remains}
+use Rattle.batch_model.specs.Rest.{Rest, withdrawn}
+use Rattle.batch_model.specs.Plant.{InAdvance}
+use Rattle.std.proofs.Common.{[], ◌∷◌, zero, suc}
+use Rattle.std.specs.VecDeque.{deque_capacity}
+use Rattle.batch_model.specs.Lists.{Has}
+use Rattle.batch_chart.specs.Early.{AreHeld, AreNodes, in_advance}
+use Rattle.batch_chart.specs.declared.passed.Passed.{Passed}
+use Rattle.batch_chart.proofs.Places.{withdrawn-reached}
+use Rattle.batch_chart.specs.Charts.{IsChartOf, IsRunning, IsRunningOf, RunsAs, remains}
 use Rattle.batch_chart.specs.Meaning.{meaning}
 use Rattle.batch_chart.specs.Starting.{HasStarted, AreStarted, HasWithdrawn, AreWithdrawn}
 use Rattle.batch_chart.proofs.Withdrawn.{withdrawn-neat}
@@ -27,6 +35,7 @@ use Rattle.batch_chart.proofs.NodesStand.{node-stands}
 use Rattle.batch_chart.proofs.Shown.{noted}
 use Rattle.batch_chart.proofs.Stepping.{all-told}
 use Rattle.batch_chart.proofs.Standing.{stood, PhaseAt, phase_at, phase-at, ActAt, act_at, act-at, SkipAt, skip_at, skip-at, SeqAt, seq_at, seq-at, ParAt, par_at, par-at, SelAt, sel_at, sel-at, LoopAt, loop_at, loop-at}
+use Rattle.batch_chart.specs.ByValues.{reach_by}
 
 -- two trees at one node are alike in what a node shows
 record AreLike (c d : Tree) : Type 0 where
@@ -103,40 +112,67 @@ runs-in-order chart running h =
       count = count;
     }
 
+-- what is held in advance is held of its nodes
+pub is-held : (chart : Recipe) (running : Running) → IsRunning chart running → AreHeld (length chart.outline.entries.items) running.held.items (deque_capacity running.held)
+is-held chart running h = subst (λ n. AreHeld n running.held.items (deque_capacity running.held)) (sym h.1.count) h.2.held
+
+pub held-nodes : (ns : List Entry) (held : List Passed) → ((p : Passed) → Has held p → p.to < length ns) → AreNodes ns held
+held-nodes ns [] within j lt = absurd (omega arith)
+held-nodes ns (p ∷ held) within zero lt = within p (inl refl)
+held-nodes ns (p ∷ held) within (suc j) lt = held-nodes ns held (λ q i. within q (inr i)) j (omega arith)
+
+-- nothing is held in advance
+nothing-held : (count : ℕ) (held : List Passed) (room : ℕ) → held ≡ [] → count ≤ room → AreHeld count held room
+unfolding IsDistinct
+nothing-held count held room e le = subst (λ l. AreHeld count l room) (sym e) (record { within = λ p i. absurd i; apart = tt; enough = le })
+
 -- it runs, where its stages live and its signs go by them
-pub runs-by : (chart : Recipe) (running : Running) (t : Tree) → IsChartOf t chart → IsAlive t running.stages.items → length running.signs ≡ length chart.outline.entries.items
+pub runs-by : (chart : Recipe) (running : Running) (t : Tree) → IsChartOf t chart → IsAlive t running.stages.items → length running.signs ≡ length chart.outline.entries.items → AreHeld (node_count t) running.held.items (deque_capacity running.held)
     → AreNeat chart.outline.entries.items chart 0 (length chart.outline.entries.items) running.stages.items running.signs → IsRunningOf t running
-runs-by chart running t laid alive count neat = record {
+runs-by chart running t laid alive count held neat = record {
   alive = alive;
   count = count ∙ laid.count;
+  held = held;
   neat = λ ms es other. neat-anywhere t chart.outline.entries.items ms chart es laid other running.stages.items running.signs neat;
 }
 
 -- a call has changed the stages, and the signs with them
-pub went-on : (chart : Recipe) (old new : Running) (ys : List Stage) → new.stages.items ≡ ys → IsKeptUp chart.outline.entries.items chart old.stages.items ys old.signs new.signs → (t : Tree) → IsChartOf t chart → IsRunningOf t old → IsAlive t ys
+pub went-on : (chart : Recipe) (old new : Running) (ys : List Stage) → new.stages.items ≡ ys → IsKeptUp chart.outline.entries.items chart old.stages.items ys old.signs new.signs → (t : Tree) → IsChartOf t chart → IsRunningOf t old → IsAlive t ys → new.held ≡ old.held
     → IsRunningOf t new
-went-on chart old new ys is up t laid ran alive =
-    runs-by chart new t laid (subst (IsAlive t) (sym is) alive) (up.count ∙ ran.count ∙ sym laid.count)
+went-on chart old new ys is up t laid ran alive same =
+    runs-by chart new t laid (subst (IsAlive t) (sym is) alive) (up.count ∙ ran.count ∙ sym laid.count) (subst (λ z. AreHeld (node_count t) z.items (deque_capacity z)) (sym same) ran.held)
     (subst (λ z. AreNeat chart.outline.entries.items chart 0 (length chart.outline.entries.items) z new.signs) (sym is) (up.keeps (ran.neat chart.outline.entries.items chart laid)))
 
 pub started-runs : (chart : Recipe) (running : Running) (ys : List Stage) → running.stages.items ≡ ys → HasStarted (length chart.outline.entries.items) ys → AreStarted chart.outline.entries.items ys running.signs → (t : Tree) (vs : ValueList) → IsChartOf t chart
-    → IsRunningOf t running × (remains t running ≡ reach vs t)
-started-runs chart running ys is started shown t vs laid =
+    → running.held.items ≡ [] → length chart.outline.entries.items ≤ deque_capacity running.held → IsRunningOf t running × (remains t running ≡ reach_by vs t) × RunsAs t running (reach_by vs t) []
+started-runs chart running ys is started shown t vs laid none room =
     let h = started.means t vs laid.root laid.count in (
-      runs-by chart running t laid (subst (IsAlive t) (sym is) h.0) shown.0 (subst (λ z. AreNeat chart.outline.entries.items chart 0 (length chart.outline.entries.items) z running.signs) (sym is) (shown.1 chart t laid)),
+      runs-by chart running t laid (subst (IsAlive t) (sym is) h.0) shown.0 (nothing-held (node_count t) running.held.items (deque_capacity running.held) none (omega (arith, room, laid.count))) (subst (λ z. AreNeat chart.outline.entries.items chart 0 (length chart.outline.entries.items) z running.signs) (sym is) (shown.1 chart t laid)),
       ap (meaning t 0) is ∙ h.1,
+      record {
+        rest = sym (ap (meaning t 0) is ∙ h.1);
+        held = sym (ap (in_advance t) none);
+        waiting = λ x i. absurd i;
+      },
     )
 
-pub stopped-runs : (old new : Running) (ys : List Stage) → new.stages.items ≡ ys → HasWithdrawn old.stages.items ys → AreWithdrawn old.stages.items ys old.signs new.signs → (t : Tree) → IsRunningOf t old → IsRunningOf t new × (remains t new ≡ withdrawn (remains t old))
-stopped-runs old new ys is stopped shown t ran =
+pub stopped-runs : (old new : Running) (ys : List Stage) → new.stages.items ≡ ys → HasWithdrawn old.stages.items ys → AreWithdrawn old.stages.items ys old.signs new.signs → (t : Tree) → new.held ≡ old.held → IsRunningOf t old
+    → IsRunningOf t new × (remains t new ≡ withdrawn (remains t old)) × ((r : Rest) (early : List InAdvance) → RunsAs t old r early → RunsAs t new (withdrawn r) early)
+stopped-runs old new ys is stopped shown t same ran =
     let h = stopped.means t ran.alive in (
       record {
         alive = subst (IsAlive t) (sym is) h.0;
         count = shown.0 ∙ ran.count;
+        held = subst (λ z. AreHeld (node_count t) z.items (deque_capacity z)) (sym same) ran.held;
         neat = λ ns doc laid.
             subst (λ z. AreNeat ns doc 0 (length ns) z new.signs) (sym is) (withdrawn-neat ns doc old.stages.items ys old.signs new.signs shown.1 shown.2 0 (length ns) (ran.neat ns doc laid));
       },
       ap (meaning t 0) is ∙ h.1,
+      λ r early runs. record {
+        rest = ap withdrawn runs.rest ∙ sym (ap (meaning t 0) is ∙ h.1);
+        held = runs.held ∙ ap (λ z. in_advance t z.items) (sym same);
+        waiting = λ x i. withdrawn-reached r x.place ∙ runs.waiting x i;
+      },
     )
 
 pub some-map : {X : Type 0} (P Q : X → Type 0) → ((x : X) → P x → Q x) → (o : Option X) → IfSome o P → IfSome o Q

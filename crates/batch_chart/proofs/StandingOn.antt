@@ -1,16 +1,18 @@
 -- The entries of a recipe stand for the nodes of its expanded tree, whatever units take its roles.
 use Rattle.std.proofs.Common.{◌≡◌, ℕ, zero, suc, ◌+◌, ◌≤◌, List, [], ◌∷◌, ◌++◌, length, Bool, true, false, not, ◌&&◌, Option, Some, None, slice_get, sym, ap, ◌∙◌, refl, subst, arith, append-nil, length-append}
+use Rattle.std.proofs.lemmas.List.{length-map}
 use Rattle.std.specs.List.{list_all}
-use Rattle.std.specs.Prelude.{⊤}
+use Rattle.std.specs.Prelude.{⊤, map}
 use Rattle.std.proofs.lemmas.Bool.{and_parts}
 use Rattle.std.proofs.lemmas.Option.{slice_get_within}
 use Rattle.batch_recipe.specs.Conditions.{Name, same_name}
 use Rattle.batch_recipe.specs.Diagram as diagram
 use Rattle.batch_recipe.specs.Diagram.{Diagram, Diagrams, Cases, diagram_of}
-use Rattle.batch_recipe.specs.Expanding.{Binding, expanded, expanded_each, expanded_cases, act_named, act_tree_with, named_tree_with, unit_with, unit_below, asked_by, task_of}
+use Rattle.batch_recipe.specs.Expanding.{Binding, expanded, expanded_each, expanded_cases, act_named, act_tree_with, named_tree_with, unit_with, unit_below, asked_by, task_of, Sites, unit_named, needs_with, step_of, unit_count}
+use Rattle.batch_recipe.specs.Needs.{one_unit}
 use Rattle.batch_recipe.specs.Growing.{Head, Labels, LabelConditions, entry, plain, act_head, needs_count, topped, bare, grown, grown_each, grown_cases, grown_work, grown_act, grown_named, conditions_of_cases, conditions_along, conditions_along_each, conditions_along_cases, conditions_below, conditions_named, conditions_of, levels_from, number_in, unit_number, entries_of}
 use Rattle.batch_recipe.specs.Nodes.{node_count, count_of_each, count_of_choices, child}
-use Rattle.batch_recipe.specs.Procedure.{table_at, tables_from, level_below, bound_tree}
+use Rattle.batch_recipe.specs.Procedure.{table_at, tables_from, level_below, bound_tree, sites}
 use Rattle.batch_recipe.specs.Tree as tree
 use Rattle.batch_recipe.specs.Tree.{Place, Step, Tree}
 use Rattle.batch_recipe.specs.WellFormed.{has_unit, has_chart}
@@ -39,12 +41,17 @@ node_read (y ∷ ns) zero x h = let e : Some y ≡ Some x = h in cc
 node_read (y ∷ ns) (suc k) x h = node_read ns k x h
 
 -- an act has as many needs as it asks for
-needs_counted : (bound : Binding) (a : Act) → needs_count a ≡ length (asked_by (unit_with bound a.unit) a.needs.items)
-needs_counted bound a = go a.unit
+needs_counted : (own : Sites) (a : Act) → needs_count a ≡ length (needs_with own a)
+needs_counted own a = go a.unit
   where
-    go : (unit : Option UnitChoice) → length a.needs.items + Rattle.batch_recipe.specs.Growing.unit_count unit ≡ length (asked_by (unit_with bound unit) a.needs.items)
-    go None = omega arith
-    go (Some own) = omega arith
+    both : length (map one_unit (map (unit_named own) a.reserves.items) ++ a.needs.items) ≡ length a.reserves.items + length a.needs.items
+    both =
+        length-append (map one_unit (map (unit_named own) a.reserves.items)) a.needs.items
+        ∙ ap (λ z. z + length a.needs.items) (length-map (map (unit_named own) a.reserves.items) one_unit ∙ length-map a.reserves.items (unit_named own))
+
+    go : (unit : Option UnitChoice) → length a.needs.items + length a.reserves.items + unit_count unit ≡ length (asked_by (unit_with own.bound unit) (map (unit_named own) a.reserves.items) a.needs.items)
+    go None = omega (arith, both)
+    go (Some choice) = omega (arith, both)
 
 -- the conditions are those of the outline from i on
 abbrev pub HaveConditions : Recipe → ℕ → List Cond → Type 0
@@ -164,14 +171,14 @@ module _ (doc : Recipe) (bound : Binding) where
     own_unit = unit_below unit (unit_with bound a.unit)
 
     abbrev step : Step
-    step = record { place = p; needs = asked_by (unit_with bound a.unit) a.needs.items }
+    step = step_of (sites bound doc.acts) a p
 
     is_chart : Work → Bool
     is_chart work = elim work [ Follows c ↦ true | Runs name handed reports ↦ false ]
 
     -- one that follows a chart
     act_stands : AreLabels told named (trees own_unit) → ((q : ℕ) → kind_by k q o ≡ act_kind q) → has_chart a ≡ true → AreFrom es n (grown_act told named k o n j u i a) → AreFrom all j (conditions_below told a.work)
-        → StandsAs n (grown_act told named k o n j u i a) (act_tree_with bound trees unit a p)
+        → StandsAs n (grown_act told named k o n j u i a) (act_tree_with (sites bound doc.acts) trees unit a p)
     act_stands labels is chart = go a.work chart
       where
         go : (w : Work) → elim w as (λ _. Bool) [ Follows c ↦ true | Runs name handed reports ↦ false ] ≡ true → AreFrom es n (topped (act_head k o a) n u i (grown_work told named n j w)) → AreFrom all j (conditions_below told w)
@@ -180,19 +187,19 @@ module _ (doc : Recipe) (bound : Binding) where
         go (Follows chart) e h c =
             let xs = grown told named (n + 1) j n 0 (diagram_of chart) in
             let g = chart_stands told named (trees own_unit) labels (n + 1) j n 0 (child p 0) (diagram_of chart) (from_tail es n _ xs h) c in
-            let stood = node_of n (node_count (expanded (trees own_unit) (child p 0) (diagram_of chart))) (act_head k o a) u i xs (act_kind (length step.needs)) h (is (needs_count a) ∙ ap act_kind (needs_counted bound a)) g.0 in
+            let stood = node_of n (node_count (expanded (trees own_unit) (child p 0) (diagram_of chart))) (act_head k o a) u i xs (act_kind (length step.needs)) h (is (needs_count a) ∙ ap act_kind (needs_counted (sites bound doc.acts) a)) g.0 in
             (omega (arith, g.0), (stood, g.1))
 
     -- one that runs a phase
     phase_stands : (number : ℕ) → slice_get doc.acts.phases.items number ≡ Some a → ((q : ℕ) → kind_by k q o ≡ kind.Phase q number) → unit_name bound (unit_choice doc o) ≡ Some own_unit → has_chart a ≡ false
-        → AreFrom es n (grown_act told named k o n j u i a) → StandsAs n (grown_act told named k o n j u i a) (act_tree_with bound trees unit a p)
+        → AreFrom es n (grown_act told named k o n j u i a) → StandsAs n (grown_act told named k o n j u i a) (act_tree_with (sites bound doc.acts) trees unit a p)
     phase_stands number at is on chart = go a.work refl chart
       where
         go : (w : Work) → a.work ≡ w → elim w as (λ _. Bool) [ Follows c ↦ true | Runs name handed reports ↦ false ] ≡ false → AreFrom es n (topped (act_head k o a) n u i (grown_work told named n j w))
             → StandsAs n (topped (act_head k o a) n u i (grown_work told named n j w)) (tree.act step (task_of (trees own_unit) own_unit a.name p w))
         go (Follows c) w e h = absurd (cc)
         go (Runs phase values reports) w e h =
-            let stood = node_of n 0 (act_head k o a) u i [] (kind.Phase (length step.needs) number) h (is (needs_count a) ∙ ap (λ q. kind.Phase q number) (needs_counted bound a)) refl in
+            let stood = node_of n 0 (act_head k o a) u i [] (kind.Phase (length step.needs) number) h (is (needs_count a) ∙ ap (λ q. kind.Phase q number) (needs_counted (sites bound doc.acts) a)) refl in
             let read = node_read es n (entry (act_head k o a) (n + 1 + 0) u i) (from_head es n _ [] h) in
             let under : unit_under es n ≡ o = ap (λ (x : Entry). x.detail) read in
             let named_so = ap phase_by at ∙ ap Rattle.batch_chart.specs.Outlined.phase_in w in
@@ -206,7 +213,7 @@ module _ (doc : Recipe) (bound : Binding) where
   IsOn (Some Phases) o unit = unit_name bound (unit_choice doc o) ≡ Some unit
 
   abbrev LabelsFrom : Option LabelTable → Type 0
-  LabelsFrom level = (o : ℕ) (unit : Name) → IsOn level o unit → AreLabels (conditions_named doc.acts (levels_from level)) (grown_named doc.acts (levels_from level) o) (named_tree_with bound (tables_from doc.acts level) unit)
+  LabelsFrom level = (o : ℕ) (unit : Name) → IsOn level o unit → AreLabels (conditions_named doc.acts (levels_from level)) (grown_named doc.acts (levels_from level) o) (named_tree_with (sites bound doc.acts) (tables_from doc.acts level) unit)
 
   -- Labels, table by table.
   module _ (table : LabelTable) (o : ℕ) (unit name : Name) (n j u i : ℕ) (p : Place) where
@@ -217,14 +224,14 @@ module _ (doc : Recipe) (bound : Binding) where
     named_below = grown_named doc.acts (levels_from (level_below table))
 
     abbrev trees_below : Name → Name → Place → Tree
-    trees_below = named_tree_with bound (tables_from doc.acts (level_below table))
+    trees_below = named_tree_with (sites bound doc.acts) (tables_from doc.acts (level_below table))
 
     abbrev act_entries : ℕ → Act → List Entry
     act_entries k a = grown_act told_below (named_below (unit_number table k o)) (entry_kind.Act table k) (unit_number table k o) n j u i a
 
     abbrev AreActs : Type 0
     AreActs = (k : ℕ) (a : Act) → slice_get (table_at doc.acts table) k ≡ Some a → act_named (table_at doc.acts table) name ≡ Some a → AreFrom es n (act_entries k a) → AreFrom all j (conditions_below told_below a.work)
-        → StandsAs n (act_entries k a) (act_tree_with bound trees_below unit a p)
+        → StandsAs n (act_entries k a) (act_tree_with (sites bound doc.acts) trees_below unit a p)
 
     abbrev found_entries : ℕ → Option Act → List Entry
     found_entries k found = elim found [ None ↦ bare n u i | Some a ↦ act_entries k a ]
@@ -239,7 +246,7 @@ module _ (doc : Recipe) (bound : Binding) where
     named_conditions number = elim number [ None ↦ [] | Some k ↦ found_conditions (slice_get (table_at doc.acts table) k) ]
 
     abbrev named_trees : Option Act → Tree
-    named_trees found = elim found [ None ↦ tree.skip | Some a ↦ act_tree_with bound trees_below unit a p ]
+    named_trees found = elim found [ None ↦ tree.skip | Some a ↦ act_tree_with (sites bound doc.acts) trees_below unit a p ]
 
     found_stands : AreActs → (k : ℕ) (found : Option Act) → slice_get (table_at doc.acts table) k ≡ found → act_named (table_at doc.acts table) name ≡ found → AreFrom es n (found_entries k found) → AreFrom all j (found_conditions found)
         → StandsAs n (found_entries k found) (named_trees found)
@@ -331,5 +338,5 @@ module _ (doc : Recipe) (bound : Binding) where
   recipe_stands =
       let whole : AreFrom es 0 (entries_of doc.acts) = record { front = []; rest = []; is = doc.outlined ∙ sym (append-nil (entries_of doc.acts)); count = refl } in
       let conditions : AreFrom all 0 (conditions_of doc.acts) = record { front = []; rest = []; is = doc.conditioned ∙ sym (append-nil (conditions_of doc.acts)); count = refl } in
-      (act_stands (conditions_named doc.acts (levels_from (Some UnitProcedures))) (grown_named doc.acts (levels_from (Some UnitProcedures)) 0) (named_tree_with bound (tables_from doc.acts (Some UnitProcedures))) 0 [] doc.acts.procedure
+      (act_stands (conditions_named doc.acts (levels_from (Some UnitProcedures))) (grown_named doc.acts (levels_from (Some UnitProcedures)) 0) (named_tree_with (sites bound doc.acts) (tables_from doc.acts (Some UnitProcedures))) 0 [] doc.acts.procedure
       entry_kind.Procedure 0 0 0 0 (0 ∷ []) (of_unit_procedures 0 (unit_below [] (unit_with bound doc.acts.procedure.unit)) tt) (λ q. refl) of_procedure whole conditions).1

@@ -5,7 +5,7 @@ use Rattle.std.proofs.lemmas.Bool.Decides.{eqb_tells}
 use Rattle.batch_recipe.specs.Conditions.{ValueList}
 use Rattle.batch_recipe.specs.Nodes.{node_count}
 use Rattle.batch_recipe.specs.Tree.{Tree, act, skip, seq, par, sel, loop, Trees, Choices}
-use Rattle.batch_model.specs.Rest.{in_par, done, is_done, reach}
+use Rattle.batch_model.specs.Rest.{in_par, done, is_done}
 use Rattle.batch_model.specs.Settled.{IsAdvanced}
 use Rattle.batch_machine.proofs.Advancing.{reach-advanced}
 use Rattle.batch_recipe.specs.declared.entry.Entry.{Entry}
@@ -20,6 +20,7 @@ use Rattle.batch_chart.specs.Told.{TellsWhetherOver, AreTold}
 use Rattle.batch_chart.proofs.Agreeing.{meaning-agree, agree-part}
 use Rattle.batch_chart.proofs.Choosing.{chosen-false}
 use Rattle.batch_chart.proofs.Standing.{stood, nested, nested-each, nested-choices}
+use Rattle.batch_chart.specs.ByValues.{bare, reach_by}
 
 pub finished-means : (c : Tree) (n : ℕ) (xs : List Stage) → stage_at xs n ≡ Finished → meaning c n xs ≡ done
 finished-means (act s w) n xs e = ap (λ x. act_as s w (meaning_below w (n + 1) xs) x) e
@@ -34,8 +35,8 @@ told-finished c n xs e =
     let m = finished-means c n xs e in
     record { finished = ap is_finished e ∙ sym (ap is_done m); advanced = subst IsAdvanced (sym m) tt }
 
-pub told-reached : (vs : ValueList) (c : Tree) (n : ℕ) (xs : List Stage) (b : Bool) → (meaning c n xs ≡ reach vs c) × (b ≡ is_done (reach vs c)) → is_finished (stage_at xs n) ≡ b → TellsWhetherOver c n xs
-told-reached vs c n xs b m own = record { finished = own ∙ m.1 ∙ sym (ap is_done m.0); advanced = subst IsAdvanced (sym m.0) (reach-advanced vs c) }
+pub told-reached : (vs : ValueList) (c : Tree) (n : ℕ) (xs : List Stage) (b : Bool) → (meaning c n xs ≡ reach_by vs c) × (b ≡ is_done (reach_by vs c)) → is_finished (stage_at xs n) ≡ b → TellsWhetherOver c n xs
+told-reached vs c n xs b m own = record { finished = own ∙ m.1 ∙ sym (ap is_done m.0); advanced = subst IsAdvanced (sym m.0) (reach-advanced (bare vs) c) }
 
 -- the subtrees of the nodes from n to m end there
 abbrev pub AreNested : List Entry → Recipe → ℕ → ℕ → Type 0

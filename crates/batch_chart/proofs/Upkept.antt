@@ -104,7 +104,7 @@ module _ (ns : List Entry) (doc : Recipe) (t : Tree) (laid : IsLaid ns doc t) (k
             λ j a b. q.shut (ap is_begun was ∙ plain-begun x from) j a (omega (arith, b, ap node_count here.is)))
 
 module _ (ns : List Entry) (doc : Recipe) (xs ys : List Stage) (old new : List ℕ) (lives : SomeLives ns doc xs) (count : length old ≡ length ns) where
-  come-kept : (k : ℕ) (x v : Stage) → k < length ns → is_act_kind (kind_at ns k) ≡ true → IsPlain x → IsPlain v → stage_at xs k ≡ x → HasCome ns k v xs ys old new → IsKeptUp ns doc xs ys old new
+  pub come-kept : (k : ℕ) (x v : Stage) → k < length ns → is_act_kind (kind_at ns k) ≡ true → IsPlain x → IsPlain v → stage_at xs k ≡ x → HasCome ns k v xs ys old new → IsKeptUp ns doc xs ys old new
   come-kept k x v lt acting from to was h = record {
     count = ap length h.signs ∙ length-set old k (stage_signs (needs_of (kind_at ns k)) v);
     keeps = come-neat ns doc lives.0 lives.1 k lt acting xs ys old new x v (lives.2.fits ∙ sym lives.1.count) count from to was h;
@@ -232,3 +232,6 @@ release-acts ns xs k n i f a =
     go κ (Freeing h) c = (c.0, refl)
     go κ Open c = (ap is_act_kind c, refl)
     go κ x c = absurd c
+
+pub pass-acts : (ns : List Entry) (xs : List Stage) (k n to i : ℕ) → n ≡ k → Allows ns xs (move.Pass k to i) → (n < length ns) × (is_act_kind (kind_at ns n) ≡ true) × (is_finished (stage_at xs n) ≡ false)
+pass-acts ns xs k n to i f a = (omega (arith, f, a.0), ap (λ z. is_act_kind (kind_at ns z)) f ∙ a.2, ap (λ z. is_finished (stage_at xs z)) f ∙ ap is_finished a.3)

@@ -15,7 +15,7 @@ abbrev pub place_at : Tree → ℕ → Place
 place_at t k = (node_at t k).place
 
 abbrev pub no_step : Step
-no_step = record { place = []; needs = [] }
+no_step = record { place = []; needs = []; reserves = [] }
 
 abbrev pub no_phase : Phase
 no_phase = record { unit = []; name = []; handed = []; reports = [] }

@@ -1,15 +1,16 @@
 //! What a recipe's nodes ask for, and what its phase steps run.
-ghost use Rattle.std.specs.Prelude.{◌≡◌, ◌≤◌, length, option_copied, option_map};
-ghost use Rattle.batch_recipe.specs.Expanding.{Binding, unit_chosen};
+ghost use Rattle.std.specs.Prelude.{◌≡◌, ◌<◌, ◌≤◌, IfSome, length, option_copied, option_map};
+ghost use Rattle.batch_recipe.specs.Expanding.{Binding, unit_chosen, unit_count};
 ghost use Rattle.batch_recipe.specs.Tree.{Tree};
 ghost use Rattle.batch_recipe.specs.declared.recipe.TheConstants.{MAX_NODES};
 ghost use Rattle.batch_chart.specs.Charts.{IsChartFor, IsChartOf};
 ghost use Rattle.batch_chart.specs.Outlined.{kind_at, names_in, phase_name, unit_choice, unit_under};
 ghost use Rattle.batch_chart.specs.Needs.{needs_to};
+ghost use Rattle.batch_chart.specs.Passing.{PassesTo};
 ghost use Rattle.batch_chart.specs.NodesOf.{needs_in, node_at, phase_named, step_at};
 
 use crate::node::{Kind, kind_of};
-use batch_recipe::{Entry, Recipe, UnitChoice, Work};
+use batch_recipe::{Act, Entry, Recipe, UnitChoice, Work, act_at, follows};
 use batch_text::Name;
 
 /// How many needs the acts of the recipe have together, which is the most that a batch of it can hold and ask for at once.
@@ -37,6 +38,35 @@ pub fn phase_of(chart: &Recipe, node: u16) -> Option<(&UnitChoice, &Name)>
             phase_names(chart, unit, step)
         }
         _ => None,
+    }
+}
+
+/// The node of the unit procedure to which the act at the node passes on its need with this number, once it has ended.
+///
+/// None where the need isn't the unit of one that it reserves, or where that one doesn't follow it.
+pub(crate) fn passes_to(recipe: &Recipe, node: u16, need: u16) -> Option<u16>
+    ensures to { PassesTo recipe.now node need result }
+    ensures within { IfSome result (λ to. to < length recipe.now.outline.entries.items) }
+{
+    match act_at(recipe, node) {
+        None => None,
+        Some(act) => {
+            let own = own_units(act);
+            if need < own {
+                return None;
+            }
+            follows(recipe, node, usize::from(need - own))
+        }
+    }
+}
+
+/// How many needs the act's own unit is.
+fn own_units(act: &Act) -> u16
+    ensures { result ≡ unit_count act.now.unit }
+{
+    match act.unit {
+        Some(_) => 1,
+        None => 0,
     }
 }
 

@@ -12,7 +12,7 @@ use Rattle.batch_recipe.specs.Links.{IsEntryOf, IsFirst, Hangs, asked_at}
 use Rattle.batch_recipe.specs.Needs.{resources_of}
 use Rattle.batch_recipe.specs.Nodes.{Node, needs_of}
 use Rattle.batch_recipe.specs.Outlines.{act_of, shape_of}
-use Rattle.batch_recipe.specs.Procedure.{bound_nodes}
+use Rattle.batch_recipe.specs.Procedure.{bound_nodes, sites}
 use Rattle.batch_recipe.specs.declared.acts.LabelTable.TheVariants.{Phases}
 use Rattle.batch_recipe.specs.declared.entry.Entry.{Entry}
 use Rattle.batch_recipe.specs.declared.entry.Kind.{Kind}
@@ -93,7 +93,7 @@ module _ (cell : Cell) (number : ℕ) (kept : Option (List (Option ℕ))) (top :
 
         -- what the node asks for itself
         abbrev own : List Name
-        own = resources_of (asked_at bound (act_of recipe.acts e.kind))
+        own = resources_of (asked_at (sites bound recipe.acts) (act_of recipe.acts e.kind))
 
         own_is : resources_of (needs_of it.at.here) ≡ own
         own_is = ap resources_of (own_needs recipe bound count e it.at is it.numbered)

@@ -13,6 +13,7 @@ pub mod Collects
 pub mod Known
 pub mod Rising
 pub mod Bound
+pub mod Takings
 pub mod Recipes
 pub mod Circles
 pub mod Spreads

@@ -1,8 +1,8 @@
 -- The numbers of resources, and what acts ask for by them.
-use Rattle.std.proofs.Common.{◌≡◌, ℕ, ◌<◌, List, ◌++◌, map, length, get_or, slice_get, Vec, Option, Some, None, option_map, refl, sym, ap, ◌∙◌}
+use Rattle.std.proofs.Common.{◌≡◌, ℕ, ◌<◌, ◌≤◌, List, [], ◌∷◌, ◌++◌, append_assoc, map, length, get_or, slice_get, Vec, Option, Some, None, option_map, refl, sym, ap, ◌∙◌, arith}
 use Rattle.std.specs.Global.{Global}
-use Rattle.std.proofs.lemmas.List.{map-append}
-use Rattle.std.proofs.lemmas.Option.{slice_get-get_or, slice_get-map}
+use Rattle.std.proofs.lemmas.List.{length-map, map-append}
+use Rattle.std.proofs.lemmas.Option.{slice_get-get_or, slice_get-map, slice_get_within}
 use Rattle.std.proofs.lemmas.List.Quantifiers.{position-Some}
 use Rattle.std.proofs.lemmas.Slice.Eq.{bytes_eq-Decides}
 use Rattle.batch_cell.specs.LookUps.{resources_of as cell_resources}
@@ -17,7 +17,7 @@ use Rattle.batch_recipe.specs.declared.entry.Kind.TheVariants as kind
 use Rattle.batch_recipe.specs.declared.need.Need.{Need}
 use Rattle.batch_check.specs.Edges.{number_of_resource, numbers_of_resources}
 use Rattle.batch_check.specs.Joining.{AreBelow}
-use Rattle.batch_check.specs.Sites.{bound_on, needs_at, needs_in_table, needs_of}
+use Rattle.batch_check.specs.Sites.{needs_at, needs_in_table, needs_of, sites_on}
 use Rattle.batch_check.specs.declared.site.Site.{Site}
 use Rattle.batch_check.proofs.Joins.{at-Contains}
 
@@ -61,6 +61,13 @@ module _ (cell : Cell) where
   abbrev pub IsCompletedBy : List (Option ℕ) → List Need → List (Option ℕ) → Type 0
   IsCompletedBy numbers rest all = numbers ++ numbers_of_resources cell (resources_of rest) ≡ all
 
+  -- one more number is that of the first of the rest
+  pub IsCompletedBy-more : (numbers more : List (Option ℕ)) (need : Need) (rest : List Need) (all : List (Option ℕ)) → more ≡ numbers ++ number_of_resource cell need.resource ∷ []
+      → IsCompletedBy numbers (need ∷ rest) all → IsCompletedBy more rest all
+  IsCompletedBy-more numbers more need rest all is h =
+      ap (λ (ns : List (Option ℕ)). ns ++ numbers_of_resources cell (resources_of rest)) is
+      ∙ (append_assoc numbers (number_of_resource cell need.resource ∷ []) (numbers_of_resources cell (resources_of rest)) ∙ h)
+
 -- what the act with this number in a table asks for
 pub needs_at_number : (site : Site) (level : LabelTable) (number : ℕ) (table : List (Vec (Option ℕ) Global)) (own : Vec (Option ℕ) Global)
     → needs_in_table table ≡ map (needs_of site) (table_at site.recipe.now.acts level) → slice_get table number ≡ Some own → own.items ≡ needs_at site (kind.Act level number)
@@ -74,4 +81,18 @@ needs_at_number site level number table own are is =
     go (Some a) found mapped =
         let e : Some (needs_of site a) ≡ Some own.items = mapped in
         let same : needs_of site a ≡ own.items = cc in
-        sym same ∙ ap (λ o. numbers_of_resources site.cell.now (resources_of (asked_at (bound_on site) o))) (sym found)
+        sym same ∙ ap (λ o. numbers_of_resources site.cell.now (resources_of (asked_at (sites_on site) o))) (sym found)
+
+-- past the last act of the table there is none
+pub no_needs_at_number : (site : Site) (level : LabelTable) (number : ℕ) (table : List (Vec (Option ℕ) Global))
+    → needs_in_table table ≡ map (needs_of site) (table_at site.recipe.now.acts level) → length table ≤ number → [] ≡ needs_at site (kind.Act level number)
+no_needs_at_number site level number table are past = go (slice_get (table_at site.recipe.now.acts level) number) refl
+  where
+    as_many : length table ≡ length (table_at site.recipe.now.acts level)
+    as_many = sym (length-map table (λ needs. needs.items)) ∙ (ap length are ∙ length-map (table_at site.recipe.now.acts level) (needs_of site))
+
+    go : (o : Option Act) → slice_get (table_at site.recipe.now.acts level) number ≡ o → [] ≡ needs_at site (kind.Act level number)
+    go None found = ap (λ o. numbers_of_resources site.cell.now (resources_of (asked_at (sites_on site) o))) (sym found)
+    go (Some a) found =
+        let within : number < length (table_at site.recipe.now.acts level) = slice_get_within (table_at site.recipe.now.acts level) number a found in
+        absurd (omega (arith, within, past, as_many))

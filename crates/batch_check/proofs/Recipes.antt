@@ -1,8 +1,7 @@
 -- The edges of recipes, one recipe after another.
-use Rattle.std.proofs.Common.{◌≡◌, ℕ, ◌+◌, ◌<◌, ◌≤◌, ◌⊎◌, inl, inr, refl, List, [], ◌∷◌, ◌++◌, get_or, take, length, slice_get, IsTrue, Option, Some, None, option_map, All, sym, ap, ◌∙◌, subst, arith}
+use Rattle.std.proofs.Common.{◌≡◌, ℕ, ◌+◌, ◌<◌, ◌≤◌, ◌⊎◌, inl, inr, refl, ⊎_elim, List, [], ◌∷◌, ◌++◌, get_or, take, length, slice_get, IsTrue, Option, Some, None, option_map, All, sym, ap, ◌∙◌, subst}
 use Rattle.std.specs.List.{Contains}
-use Rattle.std.proofs.lemmas.Bool.{cases_lt}
-use Rattle.std.proofs.lemmas.List.{take_more}
+use Rattle.std.proofs.lemmas.List.{take_all, take_more}
 use Rattle.std.proofs.lemmas.List.Elements.{All-weaker, All-contains, Contains-get_or}
 use Rattle.std.proofs.lemmas.Option.{slice_get_within, slice_get-get_or, slice_get-map}
 use Rattle.batch_cell.specs.LookUps.{resources_of}
@@ -11,19 +10,20 @@ use Rattle.batch_recipe.specs.Conditions.{Name}
 use Rattle.batch_recipe.specs.Nodes.{Node}
 use Rattle.batch_recipe.specs.Procedure.{bound_nodes}
 use Rattle.batch_recipe.specs.declared.recipe.Recipe.{Recipe}
-use Rattle.batch_model.specs.Lists.{Each}
-use Rattle.batch_model.proofs.Members.{Each-append, Each-map}
+use Rattle.batch_model.specs.Lists.{Each, Has}
+use Rattle.batch_model.proofs.Members.{Each-append, Each-map, Has-split}
 use Rattle.batch_check.specs.declared.edge.Edge.{Edge}
 use Rattle.batch_check.specs.declared.edge_set.EdgeSet.{EdgeSet}
-use Rattle.batch_verify.specs.Bindings.{binding_count, numbered}
-use Rattle.batch_verify.proofs.Tried.{numbered-tried}
-use Rattle.batch_check.specs.Edges.{OfNodes, Stands, Covers, CoversRecipes, Follows, AreEdgesOf, has_pair, number_of_resource, numbers_of_resources}
+use Rattle.batch_verify.proofs.Tried.{taken-tried}
+use Rattle.batch_check.specs.Takings.{IsShownBy, bound_by, number_for}
+use Rattle.batch_check.specs.declared.taking.Taking.{Taking}
+use Rattle.batch_check.specs.Edges.{OfNodes, Stands, Covers, CoversRecipes, AreEdgesOf, has_pair, number_of_resource, numbers_of_resources}
 use Rattle.batch_check.specs.LeastRanking.{HasEndsBelow}
-use Rattle.batch_check.specs.Pairs.{ArePaired, Keeps}
+use Rattle.batch_check.specs.Pairs.{Keeps}
 use Rattle.batch_check.specs.Joining.{Grows, HasTaken}
 use Rattle.batch_check.specs.Collecting.{AreAdded, HasAllPairs, IsCollected, IsAdded, PairsAll, PairsRecipe}
 use Rattle.batch_check.proofs.Asking.{Follows-keeps}
-use Rattle.batch_check.proofs.Bound.{bindings_suffice}
+use Rattle.batch_check.proofs.Bound.{follows_shown, paired_shown}
 use Rattle.batch_check.proofs.Joins.{Contains-none, Grows-same, Grows-twice}
 use Rattle.batch_check.proofs.Names.{number_of_own}
 use Rattle.batch_check.proofs.Rising.{Each-get}
@@ -120,61 +120,68 @@ module _ (cell : Cell) (recipes : List Recipe) where
 
 -- One recipe, binding by binding
 
--- the nodes of the recipe where units take its roles by the binding with this number
-abbrev nodes_by : Cell → Recipe → ℕ → List Node
-nodes_by cell recipe k = bound_nodes (numbered cell recipe.roles.items k) recipe.acts
+-- the nodes of the recipe where these candidates take its roles
+abbrev nodes_by : Cell → Recipe → Taking → List Node
+nodes_by cell recipe taking = bound_nodes (bound_by cell recipe.roles.items taking) recipe.acts
 
-pub record KeepsBindings (cell : Cell) (kept : Option (List (Option ℕ))) (recipe : Recipe) (number : ℕ) (old set : EdgeSet) (index : ℕ) : Type 0 where
+pub record KeepsBindings (cell : Cell) (kept : Option (List (Option ℕ))) (recipe : Recipe) (number : ℕ) (takings : List Taking) (old set : EdgeSet) (index : ℕ) : Type 0 where
   pub grown : Grows old set
   pub standing : (all : List Recipe) → slice_get all number ≡ Some recipe → (edge : Edge) → Contains set.edges.items edge → Contains old.edges.items edge ⊎ Stands cell all edge
-  pub covering : (final : List Edge) → Keeps set.edges.items final → (k : ℕ) → k < index → Each (Covers cell final) (nodes_by cell recipe k)
-  pub pairing : kept ≡ Some [] → (final : List Edge) → Keeps set.edges.items final → (k : ℕ) → k < index → Each (PairsAll cell final) (nodes_by cell recipe k)
+  pub covering : (final : List Edge) → Keeps set.edges.items final → (t : Taking) → Has (take index takings) t → Each (Covers cell final) (nodes_by cell recipe t)
+  pub pairing : kept ≡ Some [] → (final : List Edge) → Keeps set.edges.items final → (t : Taking) → Has (take index takings) t → Each (PairsAll cell final) (nodes_by cell recipe t)
 
-module _ (cell : Cell) (kept : Option (List (Option ℕ))) (recipe : Recipe) (number : ℕ) (old : EdgeSet) where
-  pub KeepsBindings-first : KeepsBindings cell kept recipe number old old 0
+module _ (cell : Cell) (kept : Option (List (Option ℕ))) (recipe : Recipe) (number : ℕ) (takings : List Taking) (old : EdgeSet) where
+  pub KeepsBindings-first : KeepsBindings cell kept recipe number takings old old 0
   KeepsBindings-first = record {
     grown = Grows-same old;
     standing = λ all found edge stands. inl stands;
-    covering = λ final later k below. absurd (omega arith);
-    pairing = λ whole final later k below. absurd (omega arith);
+    covering = λ final later t among. absurd among;
+    pairing = λ whole final later t among. absurd among;
   }
 
-  pub KeepsBindings-more : (set new : EdgeSet) (index : ℕ) → KeepsBindings cell kept recipe number old set index
-      → IsCollected cell kept number (nodes_by cell recipe index) set new → KeepsBindings cell kept recipe number old new (index + 1)
-  KeepsBindings-more set new index h collected = record {
+  pub KeepsBindings-more : (set new : EdgeSet) (index : ℕ) (taking : Taking) → index < length takings → taking ≡ get_or takings index taking → KeepsBindings cell kept recipe number takings old set index
+      → IsCollected cell kept number (nodes_by cell recipe taking) set new → KeepsBindings cell kept recipe number takings old new (index + 1)
+  KeepsBindings-more set new index taking in' is h collected = record {
     grown = Grows-twice old set new h.grown collected.grown;
     standing = λ all found edge stands. elim (collected.standing edge stands) [
       | inl known ↦ h.standing all found edge known
       | inr here ↦ inr (record {
         recipe = recipe;
         found = ap (slice_get all) here.recipe_is ∙ found;
-        bound = numbered cell recipe.roles.items index;
-        tried = numbered-tried cell (recipe ∷ []) recipe recipe.own_roles index;
+        bound = bound_by cell recipe.roles.items taking;
+        tried = taken-tried cell (recipe ∷ []) recipe recipe.own_roles (number_for taking);
         node = here.node;
         numbered = here.numbered;
         asked = here.asked;
       })
     ];
-    covering = λ final later k below. so_far (Covers cell final) k
-        (λ before. h.covering final (λ i j known. later i j (collected.grown.kept i j known)) k before)
-        (collected.covering final later) (cases_lt k index) below;
-    pairing = λ whole final later k below. so_far (PairsAll cell final) k
-        (λ before. h.pairing whole final (λ i j known. later i j (collected.grown.kept i j known)) k before)
-        (collected.pairing whole final later) (cases_lt k index) below;
+    covering = λ final later t among. so_far (Covers cell final) t
+        (λ before. h.covering final (λ i j known. later i j (collected.grown.kept i j known)) t before)
+        (collected.covering final later) among;
+    pairing = λ whole final later t among. so_far (PairsAll cell final) t
+        (λ before. h.pairing whole final (λ i j known. later i j (collected.grown.kept i j known)) t before)
+        (collected.pairing whole final later) among;
   }
     where
-      so_far : (P : Node → Type 0) (k : ℕ) → (k < index → Each P (nodes_by cell recipe k)) → Each P (nodes_by cell recipe index) → (k < index) ⊎ (index ≤ k) → k < index + 1
-          → Each P (nodes_by cell recipe k)
-      so_far P k f here (inl before) below = f before
-      so_far P k f here (inr past) below = subst (λ i. Each P (nodes_by cell recipe i)) (let e : index ≡ k = omega arith in e) here
+      more : take (index + 1) takings ≡ take index takings ++ taking ∷ []
+      more = take_more takings index taking in' ∙ ap (λ (t : Taking). take index takings ++ t ∷ []) (sym is)
 
-  pub added_all : (set : EdgeSet) (index : ℕ) → binding_count cell recipe.roles.items ≤ index → KeepsBindings cell kept recipe number old set index
+      so_far : (P : Node → Type 0) (t : Taking) → (Has (take index takings) t → Each P (nodes_by cell recipe t)) → Each P (nodes_by cell recipe taking) → Has (take (index + 1) takings) t
+          → Each P (nodes_by cell recipe t)
+      so_far P t f here among =
+          ⊎_elim f (λ m. ⊎_elim (λ e. subst (λ (z : Taking). Each P (nodes_by cell recipe z)) e here) (λ e. absurd e) m)
+          (Has-split (take index takings) (taking ∷ []) t (subst (λ ts. Has ts t) more among))
+
+  pub added_all : (set : EdgeSet) (index : ℕ) → IsShownBy cell recipe takings → length takings ≤ index → KeepsBindings cell kept recipe number takings old set index
       → (all : List Recipe) → slice_get all number ≡ Some recipe → IsAdded cell kept all recipe old set
-  added_all set index past h all found = record {
+  added_all set index shown past h all found = record {
     grown = h.grown;
     standing = h.standing all found;
     covering = λ final later bound tried.
-        bindings_suffice cell (recipe ∷ []) recipe (λ (names : List Name). Follows final None (numbers_of_resources cell names)) (λ k below. h.covering final later k (omega (arith, past))) bound tried;
-    pairing = λ whole final later bound tried.
-        bindings_suffice cell (recipe ∷ []) recipe (λ (names : List Name). ArePaired final (numbers_of_resources cell names)) (λ k below. h.pairing whole final later k (omega (arith, past))) bound tried;
+        follows_shown cell recipe takings shown (recipe ∷ []) bound tried final (λ t among. h.covering final later t (subst (λ ts. Has ts t) (sym whole) among));
+    pairing = λ kept_is final later bound tried.
+        paired_shown cell recipe takings shown (recipe ∷ []) bound tried final (λ t among. h.pairing kept_is final later t (subst (λ ts. Has ts t) (sym whole) among));
   }
+    where
+      whole : take index takings ≡ takings
+      whole = take_all index takings past

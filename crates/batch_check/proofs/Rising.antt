@@ -166,6 +166,6 @@ cleared_rises c d rank (r ∷ rs) h = (
   λ bound tried.
       parts_hold (λ n. RiseStrictly rank n.asked) r bound
       (Each-map (IsClear d rank) (λ x. RiseStrictly rank x.node.asked) (λ x clear. clear.rising) (procedure_parts (recipe_of r bound))
-      (h.0.1 bound (tried_serves (setup_of c (r ∷ [])) (master_of c r) h.0.0 bound tried))),
+      (h.0.1 bound (tried_serves (setup_of c (r ∷ [])) (master_of c r) h.0.0 bound tried)).clear),
   cleared_rises c d rank rs h.1,
 )

@@ -6,10 +6,11 @@ use Rattle.batch_recipe.specs.Conditions.{Name}
 use Rattle.batch_recipe.specs.Expanding.{Binding}
 use Rattle.batch_recipe.specs.Nodes.{Node}
 use Rattle.batch_recipe.specs.Procedure.{bound_tree}
+use Rattle.batch_recipe.specs.Tree.{Tree}
 use Rattle.batch_recipe.specs.declared.recipe.Recipe as document
 use Rattle.batch_model.specs.Lists.{Each}
 use Rattle.batch_model.specs.Plant.{Role, Master, Setup}
-use Rattle.batch_model.specs.Cleared.{Ranking, Part, NeedsResources, RiseStrictly, IsClear, IsClearedRecipe, HasCandidates, is_procedure, procedure_parts, CanBeCleared}
+use Rattle.batch_model.specs.Cleared.{Ranking, Part, NeedsResources, RiseStrictly, IsClear, IsClearedRecipe, HasCandidates, ReservesFollow, is_procedure, procedure_parts, CanBeCleared}
 use Rattle.batch_model.specs.Setups.{master_of, setup_of}
 use Rattle.batch_model.specs.Recipes.{recipe_of}
 use Rattle.std.proofs.lemmas.List.{length-map, take_more}
@@ -32,20 +33,25 @@ use Rattle.batch_verify.proofs.Serving.{has_candidates}
 
 -- A fault leaves no clearance
 
-unsound_rule : (setup : Setup) (rank : Ranking) (x : Part) (rule : Rule) → Breaks setup None x rule → IsClear setup rank x → ⊥
-unsound_rule setup rank x rule b clear = grind arith
+unsound_rule : (setup : Setup) (rank : Ranking) (procedure : Tree) (x : Part) (rule : Rule) → Breaks setup None procedure x rule → IsClear setup rank x → ReservesFollow procedure x.node → ⊥
+unsound_rule setup rank procedure x rule b clear follow = grind arith
 
-unsound_recipe : (setup : Setup) (rank : Ranking) (xs : List Part) (k : ℕ) (b : Broken) → IsFirstBroken setup None xs k b → Each (IsClear setup rank) xs → ⊥
-unsound_recipe setup rank [] k b h clear = h
-unsound_recipe setup rank (x ∷ xs) k b h clear =
-    elim h [ inl here ↦ unsound_rule setup rank x b.rule here.1 clear.0 | inr later ↦ unsound_recipe setup rank xs (k + 1) b later.1 clear.1 ]
+unsound_recipe : (setup : Setup) (rank : Ranking) (procedure : Tree) (xs : List Part) (k : ℕ) (b : Broken) → IsFirstBroken setup None procedure xs k b → Each (IsClear setup rank) xs
+    → Each (λ x. ReservesFollow procedure x.node) xs → ⊥
+unsound_recipe setup rank procedure [] k b h clear follow = h
+unsound_recipe setup rank procedure (x ∷ xs) k b h clear follow =
+    elim h [
+      | inl here ↦ unsound_rule setup rank procedure x b.rule here.1 clear.0 follow.0
+      | inr later ↦ unsound_recipe setup rank procedure xs (k + 1) b later.1 clear.1 follow.1
+    ]
 
 pub recipe_fault_none : (setup : Setup) (fault : CheckFault) → IsRecipeFault setup fault → fault ≢ Memory → CanBeCleared setup → ⊥
 recipe_fault_none setup Recipes h known cleared = h
 recipe_fault_none setup (in_recipe k broken) h known cleared =
     let clear = Each-get (IsClearedRecipe setup cleared.0) setup.recipes k h.recipe cleared.1.recipes h.found in
     let bound = h.first.bound in
-    unsound_recipe setup cleared.0 (procedure_parts (h.recipe.control bound)) 0 broken h.first.breaks (clear.1 bound (tried_serves setup h.recipe clear.0 bound h.first.tried))
+    let control = clear.1 bound (tried_serves setup h.recipe clear.0 bound h.first.tried) in
+    unsound_recipe setup cleared.0 (h.recipe.control bound).procedure (procedure_parts (h.recipe.control bound)) 0 broken h.first.breaks control.clear control.follow
 recipe_fault_none setup (Circle circle) h known cleared = h
 recipe_fault_none setup Memory h known cleared = known refl
 
@@ -76,7 +82,7 @@ needs_known c all [] h = tt
 needs_known c all (r ∷ rs) h = (
   λ bound tried.
       parts_hold (λ n. NeedsResources (resources_of c) n.here) r bound
-      (Each-map (IsSound (setup_of c all)) (λ x. NeedsResources (resources_of c) x.node.here) (λ x sound. sound.known) (procedure_parts (recipe_of r bound))
+      (Each-map (IsSound (setup_of c all) (bound_tree bound r.acts)) (λ x. NeedsResources (resources_of c) x.node.here) (λ x sound. sound.known) (procedure_parts (recipe_of r bound))
       (h.0 bound (tried_with (setup_of c (r ∷ [])) (setup_of c all) refl (master_of c r) bound tried))),
   needs_known c all rs h.1,
 )
@@ -84,12 +90,12 @@ needs_known c all (r ∷ rs) h = (
 pub candidates_known : (c : equipment.Cell) (all recipes : List document.Recipe) → Each (IsSoundMaster (setup_of c all)) (map (master_of c) recipes)
     → Each HasCandidates (map (master_of c) recipes)
 candidates_known c all [] h = tt
-candidates_known c all (r ∷ rs) h = (has_candidates c all r r.kinds r.own_roles None h.0, candidates_known c all rs h.1)
+candidates_known c all (r ∷ rs) h = (has_candidates c all r r.own_roles None h.0, candidates_known c all rs h.1)
 
-sound_rises : (setup : Setup) (rank : Ranking) (xs : List Part) → Each (IsSound setup) xs → Each (λ x. RiseStrictly rank x.node.asked) xs → Each (IsClear setup rank) xs
-sound_rises setup rank [] h g = tt
-sound_rises setup rank (x ∷ xs) h g =
-    (record { known = h.0.known; on_unit = h.0.on_unit; within = h.0.within; offered = h.0.offered; apart = h.0.apart; turning = h.0.turning; rising = g.0 }, sound_rises setup rank xs h.1 g.1)
+sound_rises : (setup : Setup) (rank : Ranking) (procedure : Tree) (xs : List Part) → Each (IsSound setup procedure) xs → Each (λ x. RiseStrictly rank x.node.asked) xs → Each (IsClear setup rank) xs
+sound_rises setup rank procedure [] h g = tt
+sound_rises setup rank procedure (x ∷ xs) h g =
+    (record { known = h.0.known; on_unit = h.0.on_unit; within = h.0.within; offered = h.0.offered; apart = h.0.apart; turning = h.0.turning; rising = g.0 }, sound_rises setup rank procedure xs h.1 g.1)
 
 rising_clears : (c : equipment.Cell) (all : List document.Recipe) (rank : Ranking) (recipes : List document.Recipe) → Each (IsSoundMaster (setup_of c all)) (map (master_of c) recipes)
     → RiseAlongPaths c rank recipes → Each (IsClearedRecipe (setup_of c all) rank) (map (master_of c) recipes)
@@ -98,13 +104,19 @@ rising_clears c all rank (r ∷ rs) h g =
     let P : Node → Type 0 = λ n. RiseStrictly rank n.asked in
     let m : Master = master_of c r in (
       (
-        has_candidates c all r r.kinds r.own_roles None h.0,
+        has_candidates c all r r.own_roles None h.0,
         λ bound served.
             let xs : List Part = procedure_parts (recipe_of r bound) in
-            sound_rises (setup_of c all) rank xs (h.0 bound (served_is_tried (setup_of c all) m bound served))
-            (nodes-Each P xs
-            (subst (λ (ns : List Node). Each P ns) (sym (parts-nodes is_procedure (0 ∷ []) [] (bound_tree bound r.acts)))
-            (g.0 bound (served_is_tried (setup_of c (r ∷ [])) m bound served)))),
+            let procedure : Tree = bound_tree bound r.acts in
+            let sound : Each (IsSound (setup_of c all) procedure) xs = h.0 bound (served_is_tried (setup_of c all) m bound served) in
+            record {
+              clear =
+                  sound_rises (setup_of c all) rank procedure xs sound
+                  (nodes-Each P xs
+                  (subst (λ (ns : List Node). Each P ns) (sym (parts-nodes is_procedure (0 ∷ []) [] procedure))
+                  (g.0 bound (served_is_tried (setup_of c (r ∷ [])) m bound served))));
+              follow = Each-map (IsSound (setup_of c all) procedure) (λ x. ReservesFollow procedure x.node) (λ x k. k.follow) xs sound;
+            },
       ),
       rising_clears c all rank rs h.1 g.1,
     )

@@ -6,6 +6,7 @@ pub mod Pairs
 pub mod Edges
 pub mod Joining
 pub mod Spreading
+pub mod Takings
 pub mod Sites
 pub mod Collecting
 pub mod Clearing

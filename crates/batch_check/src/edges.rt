@@ -11,9 +11,9 @@ use crate::collecting::collect;
 use crate::edge_set::EdgeSet;
 use crate::path::Reach;
 use crate::site::Site;
+use crate::taking::takings;
 use batch_cell::Cell;
 use batch_recipe::Recipe;
-use batch_verify::binding_count;
 use std::alloc::{AllocError, Global};
 
 /// The orders in which the recipes ask for resources: an edge for each two that follow one another on a path, whatever units take
@@ -80,11 +80,12 @@ fn add_edges(
     ensures { OnOk result ((recipes : List Recipe) → slice_get recipes number ≡ Some recipe.now
         → IsAdded cell.now (kept_at_top reach) recipes recipe.now edges.old edges.new) }
 {
-    for binding in 0..binding_count(cell, &recipe.roles) {
+    let takings = takings(alloc, cell, recipe)?;
+    for taking in &takings {
         let site = Site {
             cell,
             recipe,
-            binding,
+            taking: *taking,
         };
         collect(alloc, &site, number, reach, edges)?;
     }

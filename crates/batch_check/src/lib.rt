@@ -20,6 +20,7 @@ mod ranking;
 mod shortest;
 mod site;
 mod spreading;
+mod taking;
 mod turning;
 
 pub use checking::check;

@@ -19,7 +19,7 @@ use Rattle.batch_verify.specs.declared.certificate.CertFault.TheVariants as cert
 use Rattle.batch_verify.specs.declared.refusal.SetRefusal.{SetRefusal}
 use Rattle.batch_verify.specs.declared.refusal.SetRefusal.TheVariants as set
 use Rattle.batch_verify.specs.declared.rule.Rule.{Rule}
-use Rattle.batch_verify.specs.declared.rule.Rule.TheVariants.{UnknownResource, PhaseNotOffered, SamePhaseInParallel, LoopWithoutPhase, ShareAboveCapacity, RankNotRising}
+use Rattle.batch_verify.specs.declared.rule.Rule.TheVariants.{UnknownResource, PhaseNotOffered, SamePhaseInParallel, LoopWithoutPhase, ShareAboveCapacity, ReserveDoesNotFollow, RankNotRising}
 use Rattle.batch_check.specs.declared.edge.Edge.{Edge}
 use Rattle.batch_check.specs.declared.fault.CheckFault.{CheckFault}
 use Rattle.batch_check.specs.declared.fault.CheckFault.TheVariants as check
@@ -93,6 +93,7 @@ rule_code PhaseNotOffered = codes "V5"
 rule_code SamePhaseInParallel = codes "V6"
 rule_code LoopWithoutPhase = codes "V7"
 rule_code ShareAboveCapacity = codes "V9"
+rule_code ReserveDoesNotFollow = codes "V11"
 
 abbrev pub accepted_text : List ℕ
 accepted_text = line_text (codes "accepted" ∷ [])

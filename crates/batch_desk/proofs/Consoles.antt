@@ -6,7 +6,7 @@ use Rattle.batch_matrix.specs.declared.command.Command.TheVariants as command
 use Rattle.batch_matrix.specs.declared.state.State.{State as BatchState}
 use Rattle.batch_matrix.specs.declared.state.State.TheVariants as state
 use Rattle.batch_engine.specs.declared.event.Event.{Event}
-use Rattle.batch_engine.specs.declared.line.Line.TheVariants.{Send, State, Claim, Begin, Start, End}
+use Rattle.batch_engine.specs.declared.line.Line.TheVariants.{Send, State, Claim, Begin, Start, End, Pass}
 use Rattle.batch_engine.specs.declared.out.Out.{Out}
 use Rattle.batch_engine.specs.declared.out.Out.TheVariants.{Reply, Move}
 use Rattle.batch_engine.specs.declared.refusal.Refusal.{Refusal}
@@ -134,5 +134,6 @@ learns batches c sent taken (Move (State batch state.Aborted)) was = others batc
 learns batches c sent taken (Move (State batch state.Complete)) was = completed batches c sent taken batch was
 learns batches c sent taken (Move (Claim kind batch recipe node resource units)) was = others batches c sent taken (Move (Claim kind batch recipe node resource units)) (λ n. refl) refl refl was
 learns batches c sent taken (Move (Begin batch recipe node)) was = others batches c sent taken (Move (Begin batch recipe node)) (λ n. refl) refl refl was
+learns batches c sent taken (Move (Pass batch recipe node to resource units)) was = others batches c sent taken (Move (Pass batch recipe node to resource units)) (λ n. refl) refl refl was
 learns batches c sent taken (Move (Start batch recipe node unit phase values)) was = others batches c sent taken (Move (Start batch recipe node unit phase values)) (λ n. refl) refl refl was
 learns batches c sent taken (Move (End batch recipe node)) was = others batches c sent taken (Move (End batch recipe node)) (λ n. refl) refl refl was

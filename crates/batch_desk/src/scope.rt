@@ -22,8 +22,11 @@ impl Scope {
             Scope::All => true,
             Scope::Unit(mine) => match line {
                 Line::Send { unit, .. } | Line::Start { unit, .. } => mine == unit,
-                Line::State { .. } | Line::Begin { .. } | Line::End { .. } | Line::Claim { .. } =>
-                    false,
+                Line::State { .. }
+                | Line::Begin { .. }
+                | Line::End { .. }
+                | Line::Pass { .. }
+                | Line::Claim { .. } => false,
             },
         }
     }

@@ -5,10 +5,10 @@ use Rattle.std.specs.List.{AllByRecursion}
 use Rattle.std.proofs.lemmas.List.{length-map}
 use Rattle.batch_recipe.specs.ActsAtNodes.{ActList, AreActsAt, IsActAt, IsNoAct, procedure_acts}
 use Rattle.batch_recipe.specs.Conditions.{Name}
-use Rattle.batch_recipe.specs.Expanding.{Binding, unbound, act_tree_with, named_tree_with}
+use Rattle.batch_recipe.specs.Expanding.{Binding, Sites, unbound, act_tree_with, named_tree_with}
 use Rattle.batch_recipe.specs.Nodes.{Node, node_count}
 use Rattle.batch_recipe.specs.Places.{IsNodeAt, NoNodeAt}
-use Rattle.batch_recipe.specs.Procedure.{bound_nodes, bound_tree, procedure_nodes, tables_from}
+use Rattle.batch_recipe.specs.Procedure.{bound_nodes, bound_tree, procedure_nodes, sites, tables_from}
 use Rattle.batch_recipe.specs.Tree.{Place, Tree}
 use Rattle.batch_recipe.specs.declared.act.Act.{Act}
 use Rattle.batch_recipe.specs.declared.act.Work.{Work}
@@ -93,13 +93,13 @@ act_handed None = []
 act_handed (Some None) = []
 act_handed (Some (Some a)) = handed_with a.work
 
-name_of_tree : (bound : Binding) (trees : Name → Name → Place → Tree) (unit : Name) (p : Place) (a : Act) (w : Work) → a.work ≡ w → name_in (act_tree_with bound trees unit a p) ≡ name_with a.name w
-name_of_tree bound trees unit p a (Follows chart) e = rw e refl
-name_of_tree bound trees unit p a (Runs phase values reports) e = rw e refl
+name_of_tree : (s : Sites) (trees : Name → Name → Place → Tree) (unit : Name) (p : Place) (a : Act) (w : Work) → a.work ≡ w → name_in (act_tree_with s trees unit a p) ≡ name_with a.name w
+name_of_tree s trees unit p a (Follows chart) e = rw e refl
+name_of_tree s trees unit p a (Runs phase values reports) e = rw e refl
 
-handed_of_tree : (bound : Binding) (trees : Name → Name → Place → Tree) (unit : Name) (p : Place) (a : Act) (w : Work) → a.work ≡ w → handed_in (act_tree_with bound trees unit a p) ≡ handed_with w
-handed_of_tree bound trees unit p a (Follows chart) e = rw e refl
-handed_of_tree bound trees unit p a (Runs phase values reports) e = rw e refl
+handed_of_tree : (s : Sites) (trees : Name → Name → Place → Tree) (unit : Name) (p : Place) (a : Act) (w : Work) → a.work ≡ w → handed_in (act_tree_with s trees unit a p) ≡ handed_with w
+handed_of_tree s trees unit p a (Follows chart) e = rw e refl
+handed_of_tree s trees unit p a (Runs phase values reports) e = rw e refl
 
 no_name : (t : Tree) → IsNoAct t → name_in t ≡ []
 no_name t h = grind arith
@@ -110,11 +110,11 @@ no_handed t h = grind arith
 module _ (bound : Binding) (acts : Acts) where
   name_at_node : (a : Option Act) (at : Node) → IsActAt bound acts a at → name_in at.here ≡ act_name (Some a)
   name_at_node None at h = no_name at.here h
-  name_at_node (Some a) at h = ap name_in h.here_is ∙ name_of_tree bound (named_tree_with bound (tables_from acts h.below)) h.unit at.place a a.work refl
+  name_at_node (Some a) at h = ap name_in h.here_is ∙ name_of_tree (sites bound acts) (named_tree_with (sites bound acts) (tables_from acts h.below)) h.unit at.place a a.work refl
 
   handed_at_node : (a : Option Act) (at : Node) → IsActAt bound acts a at → handed_in at.here ≡ act_handed (Some a)
   handed_at_node None at h = no_handed at.here h
-  handed_at_node (Some a) at h = ap handed_in h.here_is ∙ handed_of_tree bound (named_tree_with bound (tables_from acts h.below)) h.unit at.place a a.work refl
+  handed_at_node (Some a) at h = ap handed_in h.here_is ∙ handed_of_tree (sites bound acts) (named_tree_with (sites bound acts) (tables_from acts h.below)) h.unit at.place a a.work refl
 
   names_agree : (list : ActList) (ns : List Node) (k : ℕ) → AreActsAt bound acts list ns → name_of (slice_get ns k) ≡ act_name (slice_get list k)
   names_agree [] [] k h = refl

@@ -1,5 +1,5 @@
 -- What an ask, a grant and a release change in the arbiter, and in the plant's lines and what the record tells of holders.
-use Rattle.std.proofs.Common.{◌≡◌, ◌<◌, ◌+◌, refl, sym, ◌∙◌, ap, ap₂, subst, ℕ, List, [], ◌∷◌, ◌++◌, Bool, true, false, not, Option, Some, None, arith, length, map, filter, drop, set, get_or}
+use Rattle.std.proofs.Common.{◌≡◌, ◌<◌, ◌+◌, refl, sym, ◌∙◌, ap, ap₂, subst, ℕ, List, [], ◌∷◌, ◌++◌, Bool, true, false, not, Option, Some, None, inl, inr, arith, length, map, filter, find, drop, set, get_or}
 use Rattle.std.specs.Prelude.{option_map, nat_le, cond}
 use Rattle.std.proofs.lemmas.List.{map-append, get_or-set_same, get_or-set_other, length-set}
 use Rattle.batch_recipe.specs.Conditions.{Name, same_name}
@@ -7,17 +7,35 @@ use Rattle.batch_recipe.specs.Tree.{Place}
 use Rattle.batch_recipe.specs.declared.need.Need.{Need}
 use Rattle.batch_model.specs.Lists.{Has}
 use Rattle.batch_model.specs.Plant.{BatchAct, Share, is_same_act, without}
-use Rattle.batch_model.specs.Moves.{ask, grant, release, line_after}
+use Rattle.batch_model.specs.Moves.{ask, grant, pass, release, line_after}
 use Rattle.batch_model.specs.Runs.{move}
 use Rattle.batch_model.specs.Records.{holders_after}
-use Rattle.batch_laws.proofs.Entries.{IsOnce, once-snoc}
+use Rattle.batch_laws.proofs.Entries.{IsOnce, act_self, once-snoc, same_act}
 use Rattle.batch_verify.specs.ClearedSet.{ClearedSet}
-use Rattle.batch_arbiter.specs.Allocation.{Claim, shares_of, line_of, asked, granted, released, without_first, is_claim, next_in, batch_node, held_units}
+use Rattle.batch_arbiter.specs.Allocation.{Claim, shares_of, line_of, units_of, asked, granted, handed_over, passed, released, without_first, is_claim, next_in, batch_node, held_units}
 use Rattle.batch_engine.specs.View.{EngineView, act_of, share_of, acts_of, names_of, number_of, line_in, line_at}
 use Rattle.batch_engine.specs.Kept.{IsOfCell}
 use Rattle.batch_engine.proofs.BatchPlaces.{chosen-true, chosen-false}
 use Rattle.batch_engine.proofs.Making.{same-number, same-named, name-yes, name-no, without-head, without-claim}
 use Rattle.batch_engine.proofs.Finding.{named}
+use Rattle.batch_engine.proofs.Passing.{laid_down, taken_up}
+
+Has-shared : (share : Claim → Share) (xs : List Claim) (x : Claim) → Has xs x → Has (map share xs) (share x)
+Has-shared share [] x h = absurd h
+Has-shared share (y ∷ xs) x (inl e) = inl (ap share e)
+Has-shared share (y ∷ xs) x (inr h) = inr (Has-shared share xs x h)
+
+-- shares when one of them, or none, has passed to another act
+abbrev passed_on : BatchAct → Share → Bool → List Share → List Share
+passed_on a new t hs = taken_up new t (laid_down a t hs)
+
+both-chosen : (a : BatchAct) (new : Share) (t : Bool) → t ≡ true → (hs : List Share) → passed_on a new t hs ≡ without a hs ++ new ∷ []
+both-chosen a new true g hs = refl
+both-chosen a new false g hs = absurd cc
+
+neither-chosen : (a : BatchAct) (new : Share) (t : Bool) → t ≡ false → (hs : List Share) → passed_on a new t hs ≡ hs
+neither-chosen a new true g hs = absurd cc
+neither-chosen a new false g hs = refl
 
 once-drop : (xs : List Share) → IsOnce xs → IsOnce (drop 1 xs)
 once-drop [] h = tt
@@ -105,6 +123,32 @@ module _ (v : EngineView) (cell : IsOfCell v.cleared v.allocation) (q : ℕ) (ne
         lines = cell.lines;
       }
 
+  -- A share is passed on
+  pub shares-passed : (n node to : ℕ) (p there : Place) → IsOnce (acts_of v.cleared v.batches (shares_of v.allocation q))
+      → ((x : Claim) → is_claim n node x ≡ is_same_act (act_of v.cleared v.batches x) (n, p))
+      → units_of n node (shares_of v.allocation q) ≡ need.units
+      → act_of v.cleared v.batches (record { batch = n; node = to; units = need.units }) ≡ (n, there)
+      → (name : Name) (r : ℕ) → number_of v.cleared name ≡ Some r
+      → acts_of v.cleared v.batches (shares_of (passed q n node to v.allocation) r) ≡ holders_after name (acts_of v.cleared v.batches (shares_of v.allocation r)) (move (pass n p there need))
+  shares-passed n node to p there once same units at name r f =
+      is-same name need.resource (acts_of v.cleared v.batches (shares_of (passed q n node to v.allocation) r) ≡ holders_after name (acts_of v.cleared v.batches (shares_of v.allocation r)) (move (pass n p there need)))
+      (λ s. ap (acts_of v.cleared v.batches) (at-same v.cleared v.allocation.shares q need.resource e (omega (arith, cell.shares, within)) (handed_over n node to (shares_of v.allocation q)) name r f s)
+      ∙ map-append (share_of v.cleared v.batches) (without_first (is_claim n node) (shares_of v.allocation q)) (record { batch = n; node = to; units = units_of n node (shares_of v.allocation q) } ∷ [])
+      ∙ ap₂ (λ (xs : List Share) (y : Share). xs ++ y ∷ []) (without-claim (share_of v.cleared v.batches) (is_claim n node) (n, p) (shares_of v.allocation q) once same)
+      (ap₂ (λ (a : BatchAct) u. let y : Share = record { act = a; units = u } in y) at units)
+      ∙ ap (λ j. without (n, p) (acts_of v.cleared v.batches (shares_of v.allocation j)) ++ record { act = (n, there); units = need.units } ∷ []) (sym (same-named v.cleared name need.resource r q f e s))
+      ∙ sym (both-chosen (n, p) (record { act = (n, there); units = need.units }) (same_name name need.resource) (name-yes name need.resource s) (acts_of v.cleared v.batches (shares_of v.allocation r))))
+      (λ d. ap (acts_of v.cleared v.batches) (at-other v.cleared v.allocation.shares q need.resource e (omega (arith, cell.shares, within)) (handed_over n node to (shares_of v.allocation q)) name r f d)
+      ∙ sym (neither-chosen (n, p) (record { act = (n, there); units = need.units }) (same_name name need.resource) (name-no name need.resource d) (acts_of v.cleared v.batches (shares_of v.allocation r))))
+
+  pub cell-passed : (n node to : ℕ) → IsOfCell v.cleared (passed q n node to v.allocation)
+  cell-passed n node to =
+      record {
+        capacities = cell.capacities;
+        shares = length-set v.allocation.shares q (handed_over n node to (shares_of v.allocation q)) ∙ cell.shares;
+        lines = cell.lines;
+      }
+
   -- The oldest ask is granted
   module _ (x : Claim) (later : List Claim) (a : BatchAct) (first : line_of v.allocation q ≡ x ∷ later) (is : share_of v.cleared v.batches x ≡ record { act = a; units = need.units })
       (once : (n : Name) (j : ℕ) → number_of v.cleared n ≡ Some j → IsOnce (acts_of v.cleared v.batches (line_of v.allocation j))) where
@@ -158,6 +202,20 @@ module _ (v : EngineView) (cell : IsOfCell v.cleared v.allocation) (q : ℕ) (ne
           shares = length-set v.allocation.shares q (shares_of v.allocation q ++ x ∷ []) ∙ cell.shares;
           lines = length-set v.allocation.lines q (drop 1 (line_of v.allocation q)) ∙ cell.lines;
         }
+
+-- of shares of acts that differ, the one that a claim is for has as many units
+pub units-found : (share : Claim → Share) (n node : ℕ) (a : BatchAct) (xs : List Claim) (x : Claim) → IsOnce (map share xs) → ((y : Claim) → is_claim n node y ≡ is_same_act (share y).act a) → Has xs x → (share x).act ≡ a
+    → units_of n node xs ≡ x.units
+units-found share n node a [] x once same h e = absurd h
+units-found share n node a (y ∷ xs) x once same h e = go (units-found share n node a xs x once.1 same) (is_claim n node y) refl h
+  where
+    go : (Has xs x → (share x).act ≡ a → units_of n node xs ≡ x.units) → (t : Bool) → is_claim n node y ≡ t → Has (y ∷ xs) x → (let units : ℕ = elim (cond t (Some y) (find (is_claim n node) xs)) [ None ↦ 0 | Some c ↦ c.units ] in units) ≡ x.units
+    go later true f (inl g) = ap (λ (z : Claim). z.units) g
+    go later true f (inr m) = absurd (once.0 (share x) (Has-shared share xs x m) (e ∙ sym (same_act (share y).act a (sym (same y) ∙ f))))
+    go later false f (inl g) =
+        absurd (let is : is_same_act (share x).act a ≡ true = subst (λ (z : BatchAct). is_same_act (share x).act z ≡ true) e (act_self (share x).act) in
+        let off : ◌≡◌ {A = Bool} true false = sym is ∙ sym (same x) ∙ ap (is_claim n node) (sym g) ∙ f in cc)
+    go later false f (inr m) = later m e
 
 -- whom the arbiter would serve is first in the line
 pub first-of-line : (capacity : ℕ) (shares line : List Claim) (n node : ℕ) → option_map batch_node (next_in capacity shares line) ≡ Some (n, node)

@@ -1,5 +1,5 @@
 -- A batch is made.
-use Rattle.std.proofs.Common.{◌≡◌, ◌<◌, ◌≤◌, ◌+◌, refl, sym, ◌∙◌, ap, ap₂, subst, ℕ, zero, suc, List, [], ◌∷◌, ◌++◌, Bool, true, false, Option, Some, None, inl, inr, arith, length, map, find, nat_eq}
+use Rattle.std.proofs.Common.{◌≡◌, ◌<◌, ◌≤◌, ◌+◌, refl, sym, ◌∙◌, ap, ap₂, subst, ℕ, zero, suc, List, [], ◌∷◌, ◌++◌, Bool, true, false, Option, Some, None, inl, inr, ⊎_elim, arith, length, map, find, nat_eq}
 use Rattle.std.proofs.lemmas.List.{map-append}
 use Rattle.std.proofs.lemmas.List.Sums.{sum_by_push}
 use Rattle.batch_recipe.specs.Conditions.{Name, ValueList, same_name}
@@ -14,7 +14,7 @@ use Rattle.batch_model.specs.Moves.{Move, next}
 use Rattle.batch_model.specs.Events.{create, created, refused, moves_pending, unknown_recipe, full, bad_binding, is_full, is_binding, bound_by, roles_told, binding, creating_for, creating, with_batch, new_batch, judged, react, Answer}
 use Rattle.batch_model.specs.Runs.{Reacts}
 use Rattle.batch_model.specs.Standing.{AreNumbered}
-use Rattle.batch_model.proofs.Members.{Each-append, Has-flat_map}
+use Rattle.batch_model.proofs.Members.{Each-append, Has-flat_map, Has-split}
 use Rattle.batch_laws.proofs.Entries.{IsOnce}
 use Rattle.batch_verify.specs.ClearedSet.{ClearedSet}
 use Rattle.batch_arbiter.specs.Allocation.{Claim, shares_of, line_of}
@@ -102,6 +102,21 @@ Has-acts f [] x h = absurd h
 Has-acts f (y ∷ xs) x (inl e) = inl (ap f e)
 Has-acts f (y ∷ xs) x (inr h) = inr (Has-acts f xs x h)
 
+-- a batch's shares are its own
+share-number : (name : Name) (b : Model.Batch) (a : Share) → Has (Model.shares_of name b) a → a.act.0 ≡ b.number
+share-number name b a h =
+    ⊎_elim (λ m. (let e = Has-flat_map (Model.share_in_advance name b) b.in_advance a m in early e.0 (same_name name e.0.unit.resource) e.2))
+    (λ m.
+    let act = Has-flat_map (Model.shares_held name b) (Rattle.batch_model.specs.Rest.acts b.rest) a m in
+    let need = Has-mapped (λ (r : Need). let z : Share = record { act = (b.number, Rattle.batch_model.specs.Rest.place_of act.0); units = r.units } in z) (Rattle.std.proofs.Common.filter (λ r. same_name name r.resource) (Model.held_by act.0)) a act.2 in
+    sym (ap (λ (z : Share). z.act.0) need.2))
+    (Has-split (Rattle.std.proofs.Common.flat_map (Model.share_in_advance name b) b.in_advance) (Rattle.std.proofs.Common.flat_map (Model.shares_held name b) (Rattle.batch_model.specs.Rest.acts b.rest)) a h)
+  where
+    early : (held : Model.InAdvance) (t : Bool) → Has (elim t as (λ _. List Share) [ true ↦ [] ++ record { act = (b.number, held.place); units = held.unit.units } ∷ [] | false ↦ [] ]) a → a.act.0 ≡ b.number
+    early held true (inl e) = sym (ap (λ (z : Share). z.act.0) e)
+    early held true (inr i) = absurd i
+    early held false i = absurd i
+
 module _ (v : EngineView) (k : IsKept v) where
   -- whoever holds or waits is of a batch that there is
   pub waiter-below : (name : Name) (q : ℕ) → number_of v.cleared name ≡ Some q → (x : Claim) → Has (line_of v.allocation q) x → x.batch < v.next_number
@@ -119,10 +134,8 @@ module _ (v : EngineView) (k : IsKept v) where
   holder-below name q e x h =
       let a : Share = share_of v.cleared v.batches x in
       let t : Has (holders (plant_of v) name) a = ((told v k).held name).0 a (subst (λ (xs : List Share). Has xs a) (k.tracked.shares q name e) (Has-acts (share_of v.cleared v.batches) (shares_of v.allocation q) x h)) in
-      let d = Has-flat_map (λ (b : Model.Batch). Rattle.std.proofs.Common.flat_map (λ y. map (λ (r : Need). let z : Share = record { act = (b.number, Rattle.batch_model.specs.Rest.place_of y); units = r.units } in z) (Rattle.std.proofs.Common.filter (λ r. same_name name r.resource) (Model.held_by y))) (Rattle.batch_model.specs.Rest.acts b.rest)) (plant_of v).batches a t in
-      let m = Has-flat_map (λ y. map (λ (r : Need). let z : Share = record { act = (d.0.number, Rattle.batch_model.specs.Rest.place_of y); units = r.units } in z) (Rattle.std.proofs.Common.filter (λ r. same_name name r.resource) (Model.held_by y))) (Rattle.batch_model.specs.Rest.acts d.0.rest) a d.2 in
-      let r = Has-mapped (λ (r : Need). let z : Share = record { act = (d.0.number, Rattle.batch_model.specs.Rest.place_of m.0); units = r.units } in z) (Rattle.std.proofs.Common.filter (λ r. same_name name r.resource) (Model.held_by m.0)) a m.2 in
-      below-next v.next_number (plant_of v).batches d.0 x.batch (standing v k).numbers d.1 (ap (λ (z : Share). z.act.0) r.2)
+      let d = Has-flat_map (Model.shares_of name) (plant_of v).batches a t in
+      below-next v.next_number (plant_of v).batches d.0 x.batch (standing v k).numbers d.1 (sym (share-number name d.0 a d.2))
     where
       below-next : (next : ℕ) (bs : List Model.Batch) (b : Model.Batch) (n : ℕ) → AreNumbered next bs → Has bs b → b.number ≡ n → n < next
       below-next next [] b n h i e = absurd i

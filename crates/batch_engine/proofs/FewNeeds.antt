@@ -2,15 +2,16 @@
 use Rattle.std.proofs.Common.{◌≡◌, ◌<◌, ◌≤◌, ◌+◌, ◌*◌, ℕ, zero, suc, List, [], ◌∷◌, Bool, true, false, Option, Some, None, arith, length, map, take, length-take, refl}
 use Rattle.std.specs.Prelude.{nat_le, nat_lt, ◌||◌}
 use Rattle.std.specs.List.{slice_index_or}
-use Rattle.std.proofs.lemmas.List.{length-map}
+use Rattle.std.proofs.lemmas.List.{length-append, length-map}
 use Rattle.std.proofs.lemmas.List.Sums.{sum_by-cons}
 use Rattle.std.proofs.lemmas.Bool.Decides.{nat_tests}
 use Rattle.batch_recipe.specs.Conditions.{Name}
 use Rattle.batch_recipe.specs.Diagram as chart
 use Rattle.batch_recipe.specs.Diagram.{Diagram, Diagrams, Cases, diagram_of}
-use Rattle.batch_recipe.specs.Expanding.{Binding, act_named, act_tree_with, asked_by, expanded, expanded_cases, expanded_each, named_tree_with, task_of, unit_below, unit_with}
+use Rattle.batch_recipe.specs.Expanding.{Binding, Sites, act_named, act_tree_with, asked_by, expanded, expanded_cases, expanded_each, named_tree_with, task_of, unit_below, unit_named, unit_with}
 use Rattle.batch_recipe.specs.Nodes.{child, count_of_choices, count_of_each, count_within, node_count}
-use Rattle.batch_recipe.specs.Procedure.{bound_tree, tables_from}
+use Rattle.batch_recipe.specs.Needs.{one_unit}
+use Rattle.batch_recipe.specs.Procedure.{bound_tree, sites, tables_from}
 use Rattle.batch_recipe.specs.Tree.{Place, Tree, skip}
 use Rattle.batch_cell.specs.declared.cell.Cell.{Cell}
 use Rattle.batch_recipe.specs.declared.act.Act.{Act}
@@ -30,9 +31,9 @@ use Rattle.batch_engine.specs.Kept.{needs_of_all}
 use Rattle.batch_engine.proofs.AlikeNodes.{count-alike}
 use Rattle.batch_engine.specs.View.{EngineView, batch_of, bound_to, setup, no_recipe, plant_of, tree_at, tree_of}
 
--- an act needs at most 16 resources beside its unit, so the acts of a tree need at most 17 a node
+-- an act needs at most 16 resources beside its unit and the four that it reserves, so the acts of a tree need at most 21 a node
 abbrev pub HasFewNeeds : Tree → Type 0
-HasFewNeeds t = needs_in t ≤ 17 * node_count t
+HasFewNeeds t = needs_in t ≤ 21 * node_count t
 
 module _ (acts : Name → Place → Tree) (few : (name : Name) (p : Place) → HasFewNeeds (acts name p)) where
   mutual
@@ -44,67 +45,68 @@ module _ (acts : Name → Place → Tree) (few : (name : Name) (p : Place) → H
     few-expanded p (chart.sel cs) = omega (arith, few-cases p 0 cs)
     few-expanded p (chart.loop turns until d) = omega (arith, few-expanded (child p 0) d)
 
-    few-each : (p : Place) (i : ℕ) (ds : Diagrams) → needs_of_each (expanded_each acts p i ds) ≤ 17 * count_of_each (expanded_each acts p i ds)
+    few-each : (p : Place) (i : ℕ) (ds : Diagrams) → needs_of_each (expanded_each acts p i ds) ≤ 21 * count_of_each (expanded_each acts p i ds)
     few-each p i chart.none = omega arith
     few-each p i (chart.more d ds) = omega (arith, few-expanded (child p i) d, few-each p (i + 1) ds)
 
-    few-cases : (p : Place) (i : ℕ) (cs : Cases) → needs_of_choices (expanded_cases acts p i cs) ≤ 17 * count_of_choices (expanded_cases acts p i cs)
+    few-cases : (p : Place) (i : ℕ) (cs : Cases) → needs_of_choices (expanded_cases acts p i cs) ≤ 21 * count_of_choices (expanded_cases acts p i cs)
     few-cases p i (chart.otherwise d) = few-expanded (child p i) d
     few-cases p i (chart.when c d cs) = omega (arith, few-expanded (child p i) d, few-cases p (i + 1) cs)
 
-few-asked : (unit : Option Name) (needs : List Need) → length needs ≤ 16 → length (asked_by unit needs) ≤ 17
-few-asked None needs h = omega (arith, h)
-few-asked (Some unit) needs h = omega (arith, h)
+few-asked : (unit : Option Name) (reserved : List Name) (needs : List Need) → length reserved ≤ 4 → length needs ≤ 16 → length (asked_by unit reserved needs) ≤ 21
+few-asked None reserved needs r h = omega (arith, r, h, length-append (map one_unit reserved) needs, length-map reserved one_unit)
+few-asked (Some unit) reserved needs r h = omega (arith, r, h, length-append (map one_unit reserved) needs, length-map reserved one_unit)
 
 few-below : (acts : Name → Place → Tree) → ((name : Name) (p : Place) → HasFewNeeds (acts name p)) → (unit name : Name) (p : Place) (work : Work)
-    → needs_below (task_of acts unit name p work) ≤ 17 * count_within (task_of acts unit name p work)
+    → needs_below (task_of acts unit name p work) ≤ 21 * count_within (task_of acts unit name p work)
 few-below acts few unit name p (Follows c) = few-expanded acts few (child p 0) (diagram_of c)
 few-below acts few unit name p (Runs phase values reports) = omega arith
 
-module _ (bound : Binding) where
+module _ (s : Sites) where
   few-act : (acts : Name → Name → Place → Tree) → ((unit name : Name) (p : Place) → HasFewNeeds (acts unit name p)) → (unit : Name) (a : Act) (p : Place)
-      → HasFewNeeds (act_tree_with bound acts unit a p)
+      → HasFewNeeds (act_tree_with s acts unit a p)
   few-act acts few unit a p =
       omega (
         arith,
-        few-asked (unit_with bound a.unit) a.needs.items a.few_needs,
-        few-below (acts (unit_below unit (unit_with bound a.unit))) (few (unit_below unit (unit_with bound a.unit))) (unit_below unit (unit_with bound a.unit)) a.name p a.work,
+        few-asked (unit_with s.bound a.unit) (map (unit_named s) a.reserves.items) a.needs.items (omega (arith, a.few_reserves, length-map a.reserves.items (unit_named s))) a.few_needs,
+        few-below (acts (unit_below unit (unit_with s.bound a.unit))) (few (unit_below unit (unit_with s.bound a.unit))) (unit_below unit (unit_with s.bound a.unit)) a.name p a.work,
       )
 
-  few-named : (tables : List (List Act)) (unit name : Name) (p : Place) → HasFewNeeds (named_tree_with bound tables unit name p)
+  few-named : (tables : List (List Act)) (unit name : Name) (p : Place) → HasFewNeeds (named_tree_with s tables unit name p)
   few-named [] unit name p = omega arith
   few-named (table ∷ tables) unit name p = go (few-named tables) (act_named table name)
     where
-      go : ((unit name : Name) (p : Place) → HasFewNeeds (named_tree_with bound tables unit name p)) → (found : Option Act)
-          → HasFewNeeds (elim found [ None ↦ skip | Some a ↦ act_tree_with bound (named_tree_with bound tables) unit a p ])
+      go : ((unit name : Name) (p : Place) → HasFewNeeds (named_tree_with s tables unit name p)) → (found : Option Act)
+          → HasFewNeeds (elim found [ None ↦ skip | Some a ↦ act_tree_with s (named_tree_with s tables) unit a p ])
       go few None = omega arith
-      go few (Some a) = few-act (named_tree_with bound tables) few unit a p
+      go few (Some a) = few-act (named_tree_with s tables) few unit a p
 
-  few-recipe : (r : document.Recipe) → needs_in (bound_tree bound r.acts) ≤ 69632
+module _ (bound : Binding) where
+  few-recipe : (r : document.Recipe) → needs_in (bound_tree bound r.acts) ≤ 86016
   few-recipe r =
       let tables : List (List Act) = tables_from r.acts (Some UnitProcedures) in
       omega (
         arith,
-        few-act (named_tree_with bound tables) (few-named tables) [] r.acts.procedure (0 ∷ []),
+        few-act (sites bound r.acts) (named_tree_with (sites bound r.acts) tables) (few-named (sites bound r.acts) tables) [] r.acts.procedure (0 ∷ []),
         count-alike bound r.acts,
         r.small,
       )
 
-  few-among : (cell : Cell) (rs : List document.Recipe) (k : ℕ) → needs_in ((slice_index_or (map (master_of cell) rs) k (plain no_recipe)).control bound).procedure ≤ 69632
+  few-among : (cell : Cell) (rs : List document.Recipe) (k : ℕ) → needs_in ((slice_index_or (map (master_of cell) rs) k (plain no_recipe)).control bound).procedure ≤ 86016
   few-among cell [] k = omega arith
   few-among cell (r ∷ rs) zero = few-recipe r
   few-among cell (r ∷ rs) (suc k) = few-among cell rs k
 
--- 17 needs at each of 4,096 nodes
-pub few-needs : (c : ClearedSet) (recipe : ℕ) (units : List ℕ) → needs_in (tree_at c recipe units) ≤ 69632
+-- 21 needs at each of 4,096 nodes
+pub few-needs : (c : ClearedSet) (recipe : ℕ) (units : List ℕ) → needs_in (tree_at c recipe units) ≤ 86016
 few-needs c recipe units = few-among (bound_to c recipe units) c.cell c.recipes recipe
 
-pub few-of_all : (c : ClearedSet) (bs : List Batch) → needs_of_all c bs ≤ 69632 * length bs
+pub few-of_all : (c : ClearedSet) (bs : List Batch) → needs_of_all c bs ≤ 86016 * length bs
 few-of_all c [] = omega arith
 few-of_all c (b ∷ bs) = omega (arith, sum_by-cons (λ (z : Batch). needs_in (tree_of c z)) b bs, few-needs c b.recipe b.units, few-of_all c bs)
 
 -- the batches before an index
-pub few-before : (c : ClearedSet) (bs : List Batch) (i : ℕ) → needs_of_all c (take i bs) ≤ 69632 * i
+pub few-before : (c : ClearedSet) (bs : List Batch) (i : ℕ) → needs_of_all c (take i bs) ≤ 86016 * i
 few-before c bs i = omega (arith, few-of_all c (take i bs), length-take i bs)
 
 or-first : (a b : Bool) → (a || b) ≡ false → a ≡ false

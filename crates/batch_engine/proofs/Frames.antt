@@ -1,6 +1,6 @@
 -- Moves of a batch in two plants that serve the same acts of it.
 use Rattle.std.proofs.Common.{◌≡◌, ⊎_elim, refl, sym, ◌∙◌, ap, subst, subst₂, ℕ, ◌+◌, List, [], ◌∷◌, ◌++◌, Bool, true, false, ◌&&◌, filter_map, Option, Some, None, inl, inr, slice_get}
-use Rattle.std.specs.Prelude.{nat_le, option_to_list}
+use Rattle.std.specs.Prelude.{nat_le, option_to_list, ⊤}
 use Rattle.std.specs.List.{cons_option}
 use Rattle.std.specs.Cmp.Derive.{both_true}
 use Rattle.std.proofs.lemmas.Bool.{and_parts}
@@ -10,7 +10,7 @@ use Rattle.batch_recipe.specs.declared.need.Need.{Need}
 use Rattle.batch_model.specs.Lists.{Has}
 use Rattle.batch_model.specs.Rest.{Rest, ready, asking, open_act, live, freeing, in_seq, in_par, in_loop, done, acts}
 use Rattle.batch_model.specs.Plant.{Setup, Batch, BatchAct, Share, units_in, Plant, is_same_act, holders, without}
-use Rattle.batch_model.specs.Moves.{Move, send, state, release, begin, start, end, ask, grant, batch_of, act_move, state_move, batch_moves, is_served, when, after, next, possible}
+use Rattle.batch_model.specs.Moves.{Move, send, state, release, pass, begin, start, end, ask, grant, batch_of, act_move, state_move, batch_moves, is_served, when, after, next, possible}
 use Rattle.batch_model.specs.Runs.{Out, move}
 use Rattle.batch_model.specs.Records.{holders_told, holders_after}
 use Rattle.batch_machine.proofs.Falling.{Has-batch_moves}
@@ -112,11 +112,20 @@ joined : (line : List Share) (x : Share) (a : BatchAct) → (a.0 ≡ x.act.0 →
 joined [] x a other e = absurd (other (ap (λ (z : BatchAct). z.0) (sym (same_act x.act a e))))
 joined (y ∷ line) x a other e = e
 
+-- a pass leaves as much held as there was
+abbrev pub IsEven : List Out → Move → Type 0
+IsEven outs (pass n p to r) = (q : Name) → units_in (holders_after q (holders_told outs q) (move (pass n p to r))) ≡ units_in (holders_told outs q)
+IsEven outs _ = ⊤
+
 module _ (c : Setup) (outs : List Out) (s : Plant) (told : IsTold outs s) where
   -- as much is held as before
+  held-even : (o : Out) (t : Plant) → IsTold (outs ++ o ∷ []) t → (q : Name) → units_in (holders_after q (holders_told outs q) o) ≡ units_in (holders_told outs q)
+      → units_in (holders t q) ≡ units_in (holders s q)
+  held-even o t after_told q e = sym (after_told.held_units q) ∙ ap (λ hs. units_in hs) (holders_told-last outs o q) ∙ e ∙ told.held_units q
+
   pub held-same : (o : Out) (t : Plant) → IsTold (outs ++ o ∷ []) t → (q : Name) → holders_after q (holders_told outs q) o ≡ holders_told outs q
       → units_in (holders t q) ≡ units_in (holders s q)
-  held-same o t after_told q e = sym (after_told.held_units q) ∙ ap (λ hs. units_in hs) (holders_told-last outs o q ∙ e) ∙ told.held_units q
+  held-same o t after_told q e = held-even o t after_told q (ap (λ hs. units_in hs) e)
 
   -- and the line is as it was
   pub as-before : (t : Plant) (need : Need) (a : BatchAct) → units_in (holders t need.resource) ≡ units_in (holders s need.resource) → t.line need.resource ≡ s.line need.resource
@@ -124,14 +133,16 @@ module _ (c : Setup) (outs : List Out) (s : Plant) (told : IsTold outs s) where
   as-before t need a e f h = subst₂ (λ n line. serves n need.units (c.capacity need.resource) line a ≡ true) e f h
 
   -- a move serves no act of another batch newly, but of the resource that it gives or takes
-  pub served-before : (m : Move) → IsTold (outs ++ move m ∷ []) (after s m) → (n : ℕ) → (n ≡ batch_of m → ⊥)
+  pub served-before : (m : Move) → IsEven outs m → IsTold (outs ++ move m ∷ []) (after s m) → (n : ℕ) → (n ≡ batch_of m → ⊥)
       → (need : Need) (p : Place) → (touched m ≡ Some need.resource → ⊥) → is_served c (after s m) need (n, p) ≡ true → is_served c s need (n, p) ≡ true
-  served-before (send k p x command) t n other need place apart e = as-before (after s (send k p x command)) need (n, place) (held-same (move (send k p x command)) (after s (send k p x command)) t need.resource refl) refl e
-  served-before (state k x) t n other need place apart e = as-before (after s (state k x)) need (n, place) (held-same (move (state k x)) (after s (state k x)) t need.resource refl) refl e
-  served-before (begin k p name) t n other need place apart e = as-before (after s (begin k p name)) need (n, place) (held-same (move (begin k p name)) (after s (begin k p name)) t need.resource refl) refl e
-  served-before (start k p x vs) t n other need place apart e = as-before (after s (start k p x vs)) need (n, place) (held-same (move (start k p x vs)) (after s (start k p x vs)) t need.resource refl) refl e
-  served-before (end k p) t n other need place apart e = as-before (after s (end k p)) need (n, place) (held-same (move (end k p)) (after s (end k p)) t need.resource refl) refl e
-  served-before (release k p r) t n other need place apart e = go (same_name need.resource r.resource) refl
+  served-before (send k p x command) even t n other need place apart e = as-before (after s (send k p x command)) need (n, place) (held-same (move (send k p x command)) (after s (send k p x command)) t need.resource refl) refl e
+  served-before (state k x) even t n other need place apart e = as-before (after s (state k x)) need (n, place) (held-same (move (state k x)) (after s (state k x)) t need.resource refl) refl e
+  served-before (begin k p name) even t n other need place apart e = as-before (after s (begin k p name)) need (n, place) (held-same (move (begin k p name)) (after s (begin k p name)) t need.resource refl) refl e
+  served-before (start k p x vs) even t n other need place apart e = as-before (after s (start k p x vs)) need (n, place) (held-same (move (start k p x vs)) (after s (start k p x vs)) t need.resource refl) refl e
+  served-before (end k p) even t n other need place apart e = as-before (after s (end k p)) need (n, place) (held-same (move (end k p)) (after s (end k p)) t need.resource refl) refl e
+  served-before (pass k p to r) even t n other need place apart e =
+      as-before (after s (pass k p to r)) need (n, place) (held-even (move (pass k p to r)) (after s (pass k p to r)) t need.resource (even need.resource)) refl e
+  served-before (release k p r) even t n other need place apart e = go (same_name need.resource r.resource) refl
     where
       m : Move
       m = release k p r
@@ -142,7 +153,7 @@ module _ (c : Setup) (outs : List Out) (s : Plant) (told : IsTold outs s) where
           as-before (after s m) need (n, place)
           (held-same (move m) (after s m) t need.resource
           (ap (λ (b : Bool). let hs : List Share = elim b [ true ↦ without (k, p) (holders_told outs need.resource) | false ↦ holders_told outs need.resource ] in hs) f)) refl e
-  served-before (grant k p r) t n other need place apart e = go (same_name need.resource r.resource) refl
+  served-before (grant k p r) even t n other need place apart e = go (same_name need.resource r.resource) refl
     where
       m : Move
       m = grant k p r
@@ -154,7 +165,7 @@ module _ (c : Setup) (outs : List Out) (s : Plant) (told : IsTold outs s) where
           (held-same (move m) (after s m) t need.resource
           (ap (λ (b : Bool). let hs : List Share = elim b [ true ↦ holders_told outs need.resource ++ record { act = (k, p); units = r.units } ∷ [] | false ↦ holders_told outs need.resource ] in hs) f))
           (ap (λ (b : Bool). let line : List Share = elim b [ true ↦ without (k, p) (s.line need.resource) | false ↦ s.line need.resource ] in line) f) e
-  served-before (ask k p r) t n other need place apart e = go (same_name need.resource r.resource) refl
+  served-before (ask k p r) even t n other need place apart e = go (same_name need.resource r.resource) refl
     where
       m : Move
       m = ask k p r

@@ -8,9 +8,9 @@ use Rattle.std.specs.List.{list_all, zip}
 use Rattle.batch_recipe.specs.ActsAtNodes.{ActList, AreActsAt, IsActAt, IsNoAct, StandsIn, procedure_acts}
 use Rattle.batch_recipe.specs.Conditions.{Name, ValueList, same_name, value_or_0}
 use Rattle.batch_recipe.specs.Diagram.{diagram_of}
-use Rattle.batch_recipe.specs.Expanding.{act_named, act_tree, named_tree, unbound}
+use Rattle.batch_recipe.specs.Expanding.{Sites, act_named, act_tree_with, named_tree_with, unbound}
 use Rattle.batch_recipe.specs.Nodes.{Node}
-use Rattle.batch_recipe.specs.Procedure.{procedure_nodes, table_at, tables_from}
+use Rattle.batch_recipe.specs.Procedure.{procedure_nodes, sites, table_at, tables_from}
 use Rattle.batch_recipe.specs.Tree.{Place, Tree}
 use Rattle.batch_recipe.specs.WellFormed.{act_names, are_distinct, follows_no_par, is_among, is_chart, is_well_formed, is_work, value_names}
 use Rattle.batch_recipe.specs.declared.act.Act.{Act}
@@ -57,16 +57,16 @@ abbrev pub act_handed : Option Act → List Name
 act_handed None = []
 act_handed (Some a) = handed_with a.work
 
-handed_of_tree : (trees : Name → Name → Place → Tree) (unit : Name) (p : Place) (a : Act) (w : Work) → a.work ≡ w → handed_in (act_tree trees unit a p) ≡ handed_with w
-handed_of_tree trees unit p a (Follows chart) e = rw e refl
-handed_of_tree trees unit p a (Runs phase values reports) e = rw e refl
+handed_of_tree : (s : Sites) (trees : Name → Name → Place → Tree) (unit : Name) (p : Place) (a : Act) (w : Work) → a.work ≡ w → handed_in (act_tree_with s trees unit a p) ≡ handed_with w
+handed_of_tree s trees unit p a (Follows chart) e = rw e refl
+handed_of_tree s trees unit p a (Runs phase values reports) e = rw e refl
 
 no_handed : (t : Tree) → IsNoAct t → handed_in t ≡ []
 no_handed t h = grind arith
 
 handed_at_node : (acts : Acts) (a : Option Act) (at : Node) → IsActAt unbound acts a at → handed_in at.here ≡ act_handed a
 handed_at_node acts None at h = no_handed at.here h
-handed_at_node acts (Some a) at h = ap handed_in h.here_is ∙ handed_of_tree (named_tree (tables_from acts h.below)) h.unit at.place a a.work refl
+handed_at_node acts (Some a) at h = ap handed_in h.here_is ∙ handed_of_tree (sites unbound acts) (named_tree_with (sites unbound acts) (tables_from acts h.below)) h.unit at.place a a.work refl
 
 handed_agree : (acts : Acts) (list : ActList) (ns : List Node) (k : ℕ) (a : Option Act) → AreActsAt unbound acts list ns → slice_get list k ≡ Some a → handed_of (slice_get ns k) ≡ act_handed a
 handed_agree acts [] [] k a h e = let bad : None ≡ Some a = e in absurd cc

@@ -8,38 +8,40 @@ use Rattle.batch_recipe.specs.Tree.{Place, Tree}
 use Rattle.batch_recipe.specs.declared.need.Need.{Need}
 use Rattle.batch_matrix.specs.declared.state.State as states
 use Rattle.batch_model.specs.Lists.{Has}
-use Rattle.batch_model.specs.Rest.{Rest, ready, asking, acts, advance, changed_at, place_of}
+use Rattle.batch_model.specs.Rest.{Rest, ready, asking, acts, place_of}
 use Rattle.batch_model.specs.Plant as Model
-use Rattle.batch_model.specs.Plant.{BatchAct, Share, is_same_act, held_by, holders}
+use Rattle.batch_model.specs.Plant.{BatchAct, InAdvance, Share, in_act, is_same_act, held_by, holders}
 use Rattle.batch_model.specs.Moves as Moves
-use Rattle.batch_model.specs.Moves.{batch_of, batch_after, line_after, after}
+use Rattle.batch_model.specs.Moves.{batch_of, batch_after, batch_moves, line_after, after}
 use Rattle.batch_model.specs.Runs.{move}
 use Rattle.batch_model.specs.Records.{holders_after}
 use Rattle.batch_machine.proofs.Batches.{one_batch}
-use Rattle.batch_machine.proofs.Falling.{one_act}
+use Rattle.batch_machine.proofs.Falling.{batch_moves-number, next-possible, one_act}
 use Rattle.batch_machine.proofs.Rising.{acts-rise}
-use Rattle.batch_model.proofs.Members.{Has-left, Has-right}
+use Rattle.batch_model.proofs.Members.{Has-flat_map, Has-left, Has-right}
 use Rattle.batch_laws.proofs.Entries.{IsOnce, same_act, act_self, filter-Has, name_self}
-use Rattle.batch_arbiter.specs.Allocation.{Claim, shares_of, line_of, asked, granted, released, is_claim, IsHeld, next_grant, batch_node, capacity_of}
+use Rattle.batch_arbiter.specs.Allocation.{Claim, shares_of, line_of, asked, granted, passed, released, units_of, is_claim, IsHeld, next_grant, batch_node, capacity_of}
 use Rattle.batch_chart.specs.NodesOf.{no_need, place_at, step_at, task_at, need_at}
 use Rattle.batch_recipe.specs.Nodes.{node_count}
-use Rattle.batch_chart.specs.Charts.{IsRunningOf, AsksAt, remains, StandsFor}
+use Rattle.batch_chart.specs.Charts.{Awaits, IsRunningOf, AsksAt, RunsAs, remains, StandsFor}
+use Rattle.batch_chart.specs.Early.{in_advance}
 use Rattle.batch_chart.specs.Seen.{move_of}
 use Rattle.batch_chart.specs.declared.chart_move.Move.{Move}
-use Rattle.batch_chart.specs.declared.chart_move.Move.TheVariants.{Send, State, Release, Begin, Start, End, Ask}
+use Rattle.batch_chart.specs.declared.chart_move.Move.TheVariants.{Send, State, Release, Pass, Begin, Start, End, Ask}
 use Rattle.batch_chart.specs.declared.running.Running.{Running}
 use Rattle.batch_engine.specs.declared.batch.Batch.{Batch}
 use Rattle.batch_engine.specs.View as View
-use Rattle.batch_engine.specs.View.{EngineView, act_of, share_of, acts_of, names_of, number_of, line_in, line_at, plant_of, tree_of}
+use Rattle.batch_engine.specs.View.{EngineView, setup, act_of, share_of, acts_of, names_of, number_of, line_in, line_at, plant_of, tree_of}
 use Rattle.batch_engine.specs.Kept.{IsKept}
 use Rattle.batch_engine.specs.Steps.{IsNext}
 use Rattle.batch_engine.proofs.Told.{told, safe, standing}
 use Rattle.batch_engine.proofs.BatchPlaces.{Has-batch_of}
 use Rattle.batch_engine.proofs.Finding.{named, has, batch-runs, tree-placed, claim-act, act-claim, line-units}
+use Rattle.batch_engine.proofs.Passing.{held-waits, pass-awaits}
 use Rattle.batch_engine.proofs.Placing.{step-place}
-use Rattle.batch_engine.proofs.Allocating.{lines-asked, once-asked, cell-asked, shares-released, cell-released, lines-granted, shares-granted, once-granted, cell-granted, first-of-line}
+use Rattle.batch_engine.proofs.Allocating.{lines-asked, once-asked, cell-asked, shares-released, cell-released, shares-passed, cell-passed, units-found, lines-granted, shares-granted, once-granted, cell-granted, first-of-line}
 use Rattle.batch_engine.proofs.Stepping.{changed, IsMove, plant-after, kept-after}
-use Rattle.batch_engine.proofs.Room.{room-quiet, room-asked, room-granted, room-released}
+use Rattle.batch_engine.proofs.Room.{room-quiet, room-asked, room-granted, room-passed, room-released}
 
 -- a move that neither asks for anything, nor gives anything back, nor changes the batch's state
 abbrev pub IsQuiet : Move → Type 0
@@ -66,19 +68,26 @@ abbrev pub Runs : Move → Type 0
 Runs (State x) = ⊥
 Runs _ = Unit {0}
 
-after-rest : (t : Tree) (b : Model.Batch) (m : Move) → Runs m → (r : Rest) → r ≡ (batch_after (move_of t b m) b).rest → (let d : Model.Batch = record b { rest = r } in d) ≡ batch_after (move_of t b m) b
-after-rest t b (Send k c) h r e = ap (λ z. let d : Model.Batch = record b { rest = z } in d) e
-after-rest t b (State x) h r e = absurd h
-after-rest t b (Release k i) h r e = ap (λ z. let d : Model.Batch = record b { rest = z } in d) e
-after-rest t b (Begin k) h r e = ap (λ z. let d : Model.Batch = record b { rest = z } in d) e
-after-rest t b (Start k) h r e = ap (λ z. let d : Model.Batch = record b { rest = z } in d) e
-after-rest t b (End k) h r e = ap (λ z. let d : Model.Batch = record b { rest = z } in d) e
-after-rest t b (Ask k i) h r e = ap (λ z. let d : Model.Batch = record b { rest = z } in d) e
+-- the batch with this rest, which holds this in advance
+abbrev pub as_left : Model.Batch → Rest → List InAdvance → Model.Batch
+as_left b r early = record b { rest = r; in_advance = early }
+
+after-rest : (t : Tree) (b : Model.Batch) (m : Move) → Runs m → (r : Rest) (early : List InAdvance) → r ≡ (batch_after (move_of t b m) b).rest → early ≡ (batch_after (move_of t b m) b).in_advance
+    → as_left b r early ≡ batch_after (move_of t b m) b
+after-rest t b (Send k c) h r early e f = ap₂ (as_left b) e f
+after-rest t b (State x) h r early e f = absurd h
+after-rest t b (Release k i) h r early e f = ap₂ (as_left b) e f
+after-rest t b (Pass k to i) h r early e f = ap₂ (as_left b) e f
+after-rest t b (Begin k) h r early e f = ap₂ (as_left b) e f
+after-rest t b (Start k) h r early e f = ap₂ (as_left b) e f
+after-rest t b (End k) h r early e f = ap₂ (as_left b) e f
+after-rest t b (Ask k i) h r early e f = ap₂ (as_left b) e f
 
 quiet-runs : (m : Move) → IsQuiet m → Runs m
 quiet-runs (Send k c) h = tt
 quiet-runs (State x) h = h
 quiet-runs (Release k i) h = tt
+quiet-runs (Pass k to i) h = tt
 quiet-runs (Begin k) h = tt
 quiet-runs (Start k) h = tt
 quiet-runs (End k) h = tt
@@ -127,14 +136,47 @@ module _ (v : EngineView) (k : IsKept v) (i : ℕ) (b : Batch) (at : slice_get v
   abbrev pub with_chart : Running → Batch
   with_chart r = record b { running = r }
 
+  -- its chart runs as the batch does
+  pub runs-as : RunsAs (tree_of v.cleared b) b.running (View.batch_of v.cleared b).rest (View.batch_of v.cleared b).in_advance
+  runs-as = record {
+    rest = refl;
+    held = refl;
+    waiting = held-waits (setup v.cleared) k.cleared.0 k.tracked.outs (plant_of v) (standing v k) (safe v k) (View.batch_of v.cleared b) (Has-batch_of v.cleared v.batches b (has v k i b at));
+  }
+
+  -- the next move is one of its moves
+  own-next : (m : Move) → IsNext v (move_of (tree_of v.cleared b) (View.batch_of v.cleared b) m)
+      → Has (batch_moves (setup v.cleared) (plant_of v) (View.batch_of v.cleared b)) (move_of (tree_of v.cleared b) (View.batch_of v.cleared b) m)
+  own-next m is =
+      let l : Moves.Move = move_of (tree_of v.cleared b) (View.batch_of v.cleared b) m in
+      let d = Has-flat_map (batch_moves (setup v.cleared) (plant_of v)) (plant_of v).batches l (next-possible (setup v.cleared) (plant_of v) l is) in
+      let number : d.0.number ≡ b.number = sym (batch_moves-number (setup v.cleared) (plant_of v) d.0 l d.2) ∙ of-batch (tree_of v.cleared b) (View.batch_of v.cleared b) m in
+      subst (λ (z : Model.Batch). Has (batch_moves (setup v.cleared) (plant_of v) z) l)
+      (one_batch v.next_number (plant_of v).batches d.0 (View.batch_of v.cleared b) (standing v k).numbers d.1 (Has-batch_of v.cleared v.batches b (has v k i b at)) number) d.2
+
+  -- what it passes a unit to isn't reached, and holds nothing in advance
+  awaits : (m : Move) → IsNext v (move_of (tree_of v.cleared b) (View.batch_of v.cleared b) m) → Awaits (tree_of v.cleared b) (View.batch_of v.cleared b).rest (View.batch_of v.cleared b).in_advance m
+  awaits (Pass node to need) is =
+      pass-awaits (setup v.cleared) k.cleared.0 k.tracked.outs (plant_of v) (standing v k) (safe v k) (View.batch_of v.cleared b) (Has-batch_of v.cleared v.batches b (has v k i b at))
+      b.number (place_at (tree_of v.cleared b) node) (place_at (tree_of v.cleared b) to) (need_at (tree_of v.cleared b) node need) (own-next (Pass node to need) is)
+  awaits (Send node command) is = tt
+  awaits (State x) is = tt
+  awaits (Release node need) is = tt
+  awaits (Begin node) is = tt
+  awaits (Start node) is = tt
+  awaits (End node) is = tt
+  awaits (Ask node need) is = tt
+
   abbrev pub MadeChart : Move → Running → Type 0
   MadeChart m r =
       IsRunningOf (tree_of v.cleared b) r
-      × ((d : Model.Batch) → d.rest ≡ remains (tree_of v.cleared b) b.running → d.values ≡ b.values → remains (tree_of v.cleared b) r ≡ (batch_after (move_of (tree_of v.cleared b) d m) d).rest)
+      × ((d : Model.Batch) → d.values ≡ b.values → RunsAs (tree_of v.cleared b) b.running d.rest d.in_advance → Awaits (tree_of v.cleared b) d.rest d.in_advance m
+      → RunsAs (tree_of v.cleared b) r (batch_after (move_of (tree_of v.cleared b) d m) d).rest (batch_after (move_of (tree_of v.cleared b) d m) d).in_advance)
 
   is-move : (m : Move) (r : Running) → Runs m → MadeChart m r → IsNext v (move_of (tree_of v.cleared b) (View.batch_of v.cleared b) m)
       → IsMove v i b (record b { running = r }) (move_of (tree_of v.cleared b) (View.batch_of v.cleared b) m)
   is-move m r run made is =
+      let left = made.1 (View.batch_of v.cleared b) refl runs-as (awaits m is) in
       record {
         at = at;
         number = refl;
@@ -142,7 +184,7 @@ module _ (v : EngineView) (k : IsKept v) (i : ℕ) (b : Batch) (at : slice_get v
         runs = made.0;
         is = is;
         of_batch = of-batch (tree_of v.cleared b) (View.batch_of v.cleared b) m;
-        becomes = after-rest (tree_of v.cleared b) (View.batch_of v.cleared b) m run (remains (tree_of v.cleared b) r) (made.1 (View.batch_of v.cleared b) refl refl);
+        becomes = after-rest (tree_of v.cleared b) (View.batch_of v.cleared b) m run (remains (tree_of v.cleared b) r) (in_advance (tree_of v.cleared b) r.held.items) (sym left.rest) (sym left.held);
       }
 
   -- the batch changes its state
@@ -246,9 +288,10 @@ module _ (v : EngineView) (k : IsKept v) (i : ℕ) (b : Batch) (at : slice_get v
           let g : ◌≡◌ {A = Bool} true false = sym f ∙ e in absurd cc)
 
   -- who holds a need has a share of it
-  pub held-share : (node need q : ℕ) → StandsFor (tree_of v.cleared b) (remains (tree_of v.cleared b) b.running) (Release node need)
-      → number_of v.cleared (need_at (tree_of v.cleared b) node need).resource ≡ Some q → IsHeld v.allocation q b.number node
-  held-share node need q s e =
+  own-share : (node need q : ℕ) → StandsFor (tree_of v.cleared b) (remains (tree_of v.cleared b) b.running) (Release node need)
+      → number_of v.cleared (need_at (tree_of v.cleared b) node need).resource ≡ Some q
+      → Has (shares_of v.allocation q) (record { batch = b.number; node = node; units = (need_at (tree_of v.cleared b) node need).units })
+  own-share node need q s e =
       let name : Need = need_at (tree_of v.cleared b) node need in
       let a : BatchAct = (b.number, place_at (tree_of v.cleared b) node) in
       let act : Rest = s.2.0 in
@@ -261,16 +304,23 @@ module _ (v : EngineView) (k : IsKept v) (i : ℕ) (b : Batch) (at : slice_get v
       let mine : Has (map (λ (r : Need). let z : Share = record { act = (b.number, place_of act); units = r.units } in z) (filter (λ r. same_name name.resource r.resource) (held_by act))) mineof =
       subst (λ (p : Place). Has (map (λ (r : Need). let z : Share = record { act = (b.number, place_of act); units = r.units } in z) (filter (λ r. same_name name.resource r.resource) (held_by act))) (let z : Share = record { act = (b.number, p); units = name.units } in z)) s.2.2
       (Has-to-map (λ (r : Need). let z : Share = record { act = (b.number, place_of act); units = r.units } in z) (filter (λ r. same_name name.resource r.resource) (held_by act)) name holds) in
+      let model : Model.Batch = View.batch_of v.cleared b in
+      let own : Has (flat_map (Model.shares_held name.resource model) (acts model.rest)) mineof = Has-in-flat (Model.shares_held name.resource model) (acts model.rest) act mineof s.2.1 mine in
       let held : Has (holders (plant_of v) name.resource) mineof =
-      Has-in-flat (λ (d : Model.Batch). flat_map (λ y. map (λ (r : Need). let z : Share = record { act = (d.number, place_of y); units = r.units } in z) (filter (λ r. same_name name.resource r.resource) (held_by y))) (acts d.rest)) (plant_of v).batches (View.batch_of v.cleared b) mineof
-      (Has-batch_of v.cleared v.batches b (has v k i b at))
-      (Has-in-flat (λ y. map (λ (r : Need). let z : Share = record { act = (b.number, place_of y); units = r.units } in z) (filter (λ r. same_name name.resource r.resource) (held_by y))) (acts (remains (tree_of v.cleared b) b.running)) act mineof s.2.1 mine) in
+      Has-in-flat (Model.shares_of name.resource) (plant_of v).batches model mineof (Has-batch_of v.cleared v.batches b (has v k i b at))
+      (Has-right (flat_map (Model.share_in_advance name.resource model) model.in_advance) (flat_map (Model.shares_held name.resource model) (acts model.rest)) mineof own) in
       let share : Has (acts_of v.cleared v.batches (shares_of v.allocation q)) mineof = subst (λ (xs : List Share). Has xs mineof) (sym (k.tracked.shares q name.resource e)) (((told v k).held name.resource).1 mineof held) in
       let x = Has-mapped (share_of v.cleared v.batches) (shares_of v.allocation q) mineof share in
       let n : batch_node x.0 ≡ (b.number, node) = act-claim v k i b at x.0 node s.0 (ap (λ (z : Share). z.act) x.2) in
-      let is : x.0 ≡ record { batch = b.number; node = node; units = x.0.units } =
-      ap (λ (z : ℕ × ℕ). let y : Claim = record { batch = z.0; node = z.1; units = x.0.units } in y) n in
-      (x.0.units, Has-Contains (shares_of v.allocation q) (record { batch = b.number; node = node; units = x.0.units }) (subst (Has (shares_of v.allocation q)) is x.1))
+      let is : x.0 ≡ record { batch = b.number; node = node; units = name.units } =
+      ap₂ (λ (z : ℕ × ℕ) u. let y : Claim = record { batch = z.0; node = z.1; units = u } in y) n (ap (λ (z : Share). z.units) x.2) in
+      subst (Has (shares_of v.allocation q)) is x.1
+
+  pub held-share : (node need q : ℕ) → StandsFor (tree_of v.cleared b) (remains (tree_of v.cleared b) b.running) (Release node need)
+      → number_of v.cleared (need_at (tree_of v.cleared b) node need).resource ≡ Some q → IsHeld v.allocation q b.number node
+  held-share node need q s e =
+      let units : ℕ = (need_at (tree_of v.cleared b) node need).units in
+      (units, Has-Contains (shares_of v.allocation q) (record { batch = b.number; node = node; units = units }) (own-share node need q s e))
 
   -- a resource is given back
   pub release-made : (node need q : ℕ) (r : Running) → StandsFor (tree_of v.cleared b) (remains (tree_of v.cleared b) b.running) (Release node need)
@@ -296,11 +346,45 @@ module _ (v : EngineView) (k : IsKept v) (i : ℕ) (b : Batch) (at : slice_get v
           go None = refl
           go (Some j) = refl
 
+  -- what an act passes on it could as well give back
+  pub as-released : (node to need : ℕ) → StandsFor (tree_of v.cleared b) (remains (tree_of v.cleared b) b.running) (Pass node to need)
+      → StandsFor (tree_of v.cleared b) (remains (tree_of v.cleared b) b.running) (Release node need)
+  as-released node to need s = (s.0, s.2, s.3)
+
+  -- a resource is passed on
+  pub pass-made : (node to need q : ℕ) (r : Running) → StandsFor (tree_of v.cleared b) (remains (tree_of v.cleared b) b.running) (Pass node to need)
+      → number_of v.cleared (need_at (tree_of v.cleared b) node need).resource ≡ Some q → MadeChart (Pass node to need) r
+      → IsNext v (move_of (tree_of v.cleared b) (View.batch_of v.cleared b) (Pass node to need))
+      → Becomes v (changed v i (record b { running = r }) (passed q b.number node to v.allocation)) (move_of (tree_of v.cleared b) (View.batch_of v.cleared b) (Pass node to need))
+  pass-made node to need q r s e made is =
+      let name : Need = need_at (tree_of v.cleared b) node need in
+      let l : Moves.Move = move_of (tree_of v.cleared b) (View.batch_of v.cleared b) (Pass node to need) in
+      let t : IsMove v i b (record b { running = r }) l = is-move (Pass node to need) r tt made is in
+      let once : IsOnce (acts_of v.cleared v.batches (shares_of v.allocation q)) = subst IsOnce (sym (k.tracked.shares q name.resource e)) ((safe v k).held name.resource).3 in
+      let units : units_of b.number node (shares_of v.allocation q) ≡ name.units =
+      units-found (share_of v.cleared v.batches) b.number node (b.number, place_at (tree_of v.cleared b) node) (shares_of v.allocation q) (record { batch = b.number; node = node; units = name.units }) once (same-claim node s.0)
+      (own-share node need q (as-released node to need s) e) (claim-place node name.units) in
+      record {
+        kept = kept-after v k i b (record b { running = r }) l t (passed q b.number node to v.allocation) (λ name. lines name)
+            (shares-passed v k.cell q name e b.number node to (place_at (tree_of v.cleared b) node) (place_at (tree_of v.cleared b) to) once (same-claim node s.0) units (claim-place to name.units))
+            (cell-passed v k.cell q name e b.number node to) k.once
+            (room-passed v i b (record b { running = r }) at refl k.room q b.number node to (omega (arith, k.cell.shares, in-lists name.resource q e)));
+        plant = plant-after v k i b (record b { running = r }) l t (passed q b.number node to v.allocation) (λ name. lines name);
+      }
+    where
+      lines : (n : Name) → line_in (record v { allocation = passed q b.number node to v.allocation }) n ≡ line_in v n
+      lines n = go (number_of v.cleared n)
+        where
+          go : (o : Option ℕ) → line_at (record v { allocation = passed q b.number node to v.allocation }) o ≡ line_at v o
+          go None = refl
+          go (Some j) = refl
+
   -- the act first in line gets its need
   pub grant-made : (node need q : ℕ) (r : Running) → AsksAt (tree_of v.cleared b) (remains (tree_of v.cleared b) b.running) node need
       → number_of v.cleared (need_at (tree_of v.cleared b) node need).resource ≡ Some q → option_map batch_node (next_grant v.allocation q) ≡ Some (b.number, node)
       → IsRunningOf (tree_of v.cleared b) r
-      → ((vs : List (Name × ℕ)) → remains (tree_of v.cleared b) r ≡ advance vs (changed_at (place_at (tree_of v.cleared b) node) Moves.granted (remains (tree_of v.cleared b) b.running)))
+      → ((d : Model.Batch) → RunsAs (tree_of v.cleared b) b.running d.rest d.in_advance
+      → RunsAs (tree_of v.cleared b) r (in_act (place_at (tree_of v.cleared b) node) Moves.granted d).rest (in_act (place_at (tree_of v.cleared b) node) Moves.granted d).in_advance)
       → IsNext v (Moves.grant b.number (place_at (tree_of v.cleared b) node) (need_at (tree_of v.cleared b) node need))
       → Becomes v (changed v i (record b { running = r }) (granted q (next_grant v.allocation q) v.allocation)) (Moves.grant b.number (place_at (tree_of v.cleared b) node) (need_at (tree_of v.cleared b) node need))
   grant-made node need q r asks e first runs goes is =
@@ -312,6 +396,7 @@ module _ (v : EngineView) (k : IsKept v) (i : ℕ) (b : Batch) (at : slice_get v
       let here : share_of v.cleared v.batches x ≡ record { act = a; units = name.units } =
       ap₂ (λ (z : BatchAct) u. let w : Share = record { act = z; units = u } in w) (claim-act v k i b at x node f.4) (line-units v k i b at node need q asks e x in-line f.4) in
       let l : Moves.Move = Moves.grant b.number (place_at (tree_of v.cleared b) node) name in
+      let left = goes (View.batch_of v.cleared b) runs-as in
       let t : IsMove v i b (record b { running = r }) l = record {
         at = at;
         number = refl;
@@ -319,7 +404,7 @@ module _ (v : EngineView) (k : IsKept v) (i : ℕ) (b : Batch) (at : slice_get v
         runs = runs;
         is = is;
         of_batch = refl;
-        becomes = ap (λ (z : Rest). let d : Model.Batch = record (View.batch_of v.cleared b) { rest = z } in d) (goes b.values);
+        becomes = ap₂ (as_left (View.batch_of v.cleared b)) (sym left.rest) (sym left.held);
       } in
       subst (λ (o : Option Claim). Becomes v (changed v i (record b { running = r }) (granted q o v.allocation)) l) (sym f.3)
       (record {

@@ -11,19 +11,20 @@ use Rattle.batch_recipe.specs.declared.need.Need.{Need}
 use Rattle.batch_model.specs.Cleared.{Ranking, phases}
 use Rattle.batch_model.specs.Events.{Event, Reply, LivePhase, live_in}
 use Rattle.batch_model.specs.Lists.{Has}
-use Rattle.batch_model.specs.Moves.{Move, send, state, release, begin, start, end, ask, grant, after, next}
+use Rattle.batch_model.specs.Moves.{Move, send, state, release, pass, begin, start, end, ask, grant, after, batch_moves, next}
 use Rattle.batch_model.specs.Plant.{Setup, Batch, BatchAct, Share, units_in, Plant, opening, holders, without}
 use Rattle.batch_model.specs.Records.{holders_told, holders_after}
 use Rattle.batch_model.specs.Rest.{Rest, ready, asking, open_act, live, freeing, in_seq, in_par, in_loop, done, acts}
 use Rattle.batch_model.specs.Runs.{Out, move, reply, Reacts, Leads}
 use Rattle.batch_model.specs.Standing.{IsStanding, IsStandingBatch}
-use Rattle.batch_model.proofs.Members.{Each-Has, Has-split, Has-right}
+use Rattle.batch_model.proofs.Members.{Each-Has, Has-flat_map, Has-split, Has-right}
+use Rattle.batch_machine.proofs.Falling.{next-possible}
 use Rattle.batch_machine.proofs.Leading.{Leads-move, Leads-reply}
 use Rattle.batch_machine.proofs.Led.{led-stands, opening-stands}
 use Rattle.batch_machine.proofs.Telling.{holders_told-last}
 use Rattle.batch_laws.specs.Telling.{IsTold, IsLiveAt}
 use Rattle.batch_laws.proofs.Along.{kept-along, kept-at_first, placed-trees}
-use Rattle.batch_laws.proofs.Batches.{entry-of, of-entry, holders-entries}
+use Rattle.batch_laws.proofs.Batches.{of-entry, performing-of, holders-entries}
 use Rattle.batch_laws.proofs.ClearedDown.{AreClearedDown}
 use Rattle.batch_laws.proofs.Entries.{Has-without, holders-Has, nat_same, name_same, name_self, units-cons}
 use Rattle.batch_laws.proofs.Facts.{holding, performing, entries, share}
@@ -32,6 +33,8 @@ use Rattle.batch_laws.proofs.Telling.{tells_the_plant}
 use Rattle.batch_laws.proofs.Units.{performed-phase, unit-held}
 use Rattle.batch_engine.specs.Marked.{AreNotedBy}
 use Rattle.batch_engine.specs.Marking.{noted, noted_for}
+use Rattle.batch_engine.proofs.Frames.{IsEven}
+use Rattle.batch_engine.proofs.Passing.{laid_down, pass-even, pass-told, taken_up}
 
 -- Lists
 
@@ -108,7 +111,7 @@ module _ (c : Setup) (rank : Ranking) (down : AreClearedDown c rank) (events : L
         let act : BatchAct = (b.number, f.0.place) in
         let at : IsLiveAt s act f.1 = (b, here, refl, f.0, f.2, f.3, refl) in
         let entry : Has (entries s.batches) (act, performing f.1) = safe.active (record { act = act; phase = f.1 }) (told.runs act f.1 at) in
-        let e = entry-of s.batches act (performing f.1) entry in
+        let e = performing-of s.batches act f.1 entry in
         let sound : IsSound c rank e.0 = safe.sound e.0 e.1 in
         let stood : IsStandingBatch c e.0 = standing-of c s stands e.0 e.1 in
         let one : c.capacity f.1.unit ≡ 1 =
@@ -124,6 +127,29 @@ module _ (c : Setup) (rank : Ranking) (down : AreClearedDown c rank) (events : L
               refl ∙ ap Some e.2,
         ))
         (unit-held [] (0 ∷ []) e.0.recipe.procedure e.0.rest sound.cleared.placed sound.cleared.in_units stood.stands f.0.place f.1 e.3)
+
+-- The next move
+
+module _ (c : Setup) (rank : Ranking) (outs : List Out) (s : Plant) (sd : IsStanding c s) (k : IsKept c rank outs s) where
+  -- is one of a batch
+  mover : (m : Move) → next c s ≡ Some m → (b : Batch) × Has s.batches b × Has (batch_moves c s b) m
+  mover m is = Has-flat_map (batch_moves c s) s.batches m (next-possible c s m is)
+
+  -- whoever passes on a need holds it
+  next-told : (n : ℕ) (p to : Place) (r : Need) → next c s ≡ Some (pass n p to r) → Has (holders_told outs r.resource) (record { act = (n, p); units = r.units })
+  next-told n p to r is = let d = mover (pass n p to r) is in pass-told c rank outs s sd k d.0 d.1 n p to r d.2
+
+  -- and as much is held after a pass as before
+  pub next-even : (m : Move) → next c s ≡ Some m → IsEven outs m
+  next-even (pass n p to r) is = let d = mover (pass n p to r) is in pass-even c rank outs s sd k d.0 d.1 n p to r d.2
+  next-even (send n p x y) is = tt
+  next-even (state n x) is = tt
+  next-even (release n p r) is = tt
+  next-even (begin n p x) is = tt
+  next-even (start n p x y) is = tt
+  next-even (end n p) is = tt
+  next-even (ask n p r) is = tt
+  next-even (grant n p r) is = tt
 
 -- After a move
 
@@ -210,6 +236,35 @@ module _ (c : Setup) (rank : Ranking) (down : AreClearedDown c rank) (events : L
           let seen : IsTold (outs ++ move m ∷ []) (after s m) = told c rank down events (outs ++ move m ∷ []) (after s m) later in
           old name q e one a (held name a (subst (λ xs. Has xs a) (holders_told-last outs (move m) name) ((seen.held name).1 a h))) units
 
+  -- after a pass
+  passed-noted : (n : ℕ) (p to : Place) (r : Need) → next c s ≡ Some (pass n p to r) → AreNotedBy number c (after s (pass n p to r)) hs
+  passed-noted n p to r is name q e one a h units = go (same_name name r.resource) refl (subst (λ xs. Has xs a) (holders_told-last outs (move (pass n p to r)) name) ((seen.held name).1 a h))
+    where
+      new : Share
+      new = record { act = (n, to); units = r.units }
+
+      seen : IsTold (outs ++ move (pass n p to r) ∷ []) (after s (pass n p to r))
+      seen = told c rank down events (outs ++ move (pass n p to r) ∷ []) (after s (pass n p to r)) (later (pass n p to r) is)
+
+      before : (b : Share) → Has (holders_told outs name) b → b.units ≡ 1 → slice_get hs q ≡ Some b.act.0
+      before b i u = old (pass n p to r) is name q e one b i u
+
+      -- whoever passed it on held it
+      passed : same_name name r.resource ≡ true → new ≡ a → slice_get hs q ≡ Some a.act.0
+      passed f g =
+          before (record { act = (n, p); units = r.units })
+          (subst (λ z. Has (holders_told outs z) (record { act = (n, p); units = r.units })) (sym (name_same name r.resource f)) (next-told c rank outs s (stands c rank down events outs s leads) (safe c rank down events outs s leads) n p to r is))
+          (ap (λ (z : Share). z.units) g ∙ units)
+          ∙ ap (λ (z : Share). Some z.act.0) g
+
+      go : (t : Bool) → same_name name r.resource ≡ t
+          → Has (taken_up new t (laid_down (n, p) t (holders_told outs name))) a
+          → slice_get hs q ≡ Some a.act.0
+      go false f i = before a i units
+      go true f i =
+          ⊎_elim (λ j. before a (Has-without (n, p) (holders_told outs name) a j).0 units) (λ j. ⊎_elim (λ g. passed f g) (λ g. absurd g) j)
+          (Has-split (without (n, p) (holders_told outs name)) (new ∷ []) a i)
+
   -- after each move
   pub move-noted : (m : Move) → next c s ≡ Some m → ((name : Name) (q : ℕ) → number name ≡ Some q → q < length hs) → AreNotedBy number c (after s m) (noted number m hs)
   move-noted (grant n p r) is within = granted (grant n p r) is within n p r refl
@@ -218,6 +273,7 @@ module _ (c : Setup) (rank : Ranking) (down : AreClearedDown c rank) (events : L
       gone : (name : Name) (a : Share) (t : Bool) → Has (elim t [ true ↦ without (n, p) (holders_told outs name) | false ↦ holders_told outs name ]) a → Has (holders_told outs name) a
       gone name a true h = (Has-without (n, p) (holders_told outs name) a h).0
       gone name a false h = h
+  move-noted (pass n p to r) is within = passed-noted n p to r is
   move-noted (send n p x y) is within = fewer (send n p x y) is within (λ name a h. h)
   move-noted (state n x) is within = fewer (state n x) is within (λ name a h. h)
   move-noted (begin n p x) is within = fewer (begin n p x) is within (λ name a h. h)
@@ -240,6 +296,7 @@ noted-length number (grant n p r) hs = go (nat_eq r.units 1) (number r.resource)
     go true None = refl
     go true (Some q) = length-set hs q n
 noted-length number (release n p r) hs = refl
+noted-length number (pass n p to r) hs = refl
 noted-length number (send n p x y) hs = refl
 noted-length number (state n x) hs = refl
 noted-length number (begin n p x) hs = refl

@@ -2,14 +2,15 @@
 use Rattle.std.proofs.Common.{◌≡◌, ◌<◌, refl, sym, ◌∙◌, ap, ap₂, subst, ℕ, zero, suc, List, [], ◌∷◌, ◌++◌, true, Option, Some, None, arith, length, map, get_or, slice_get}
 use Rattle.std.specs.Prelude.{option_map, position}
 use Rattle.std.proofs.lemmas.Option.{slice_get_read, slice_get_within, slice_get-get_or, slice_get-map, get_or_from_slice_get}
-use Rattle.std.proofs.lemmas.List.{length-map}
+use Rattle.std.proofs.lemmas.List.{length-map, map-append}
 use Rattle.batch_cell.specs.LookUps.{units_of}
 use Rattle.batch_cell.specs.declared.cell.Cell.{Cell}
 use Rattle.batch_recipe.specs.ActsAtNodes.{ActList, AreActsAt, IsActAt, IsNoAct, procedure_acts}
 use Rattle.batch_recipe.specs.Conditions.{Name, same_name}
-use Rattle.batch_recipe.specs.Expanding.{Binding, act_tree_with, asked_by, named_tree_with, unit_chosen, unit_with}
+use Rattle.batch_recipe.specs.Expanding.{Binding, act_tree_with, asked_by, named_tree_with, needs_with, unit_chosen, unit_named, unit_with}
+use Rattle.batch_recipe.specs.Needs.{one_unit}
 use Rattle.batch_recipe.specs.Nodes.{Node}
-use Rattle.batch_recipe.specs.Procedure.{bound_nodes, bound_tree, tables_from}
+use Rattle.batch_recipe.specs.Procedure.{bound_nodes, bound_tree, sites, tables_from}
 use Rattle.batch_recipe.specs.Tree.{Place, Tree, act, skip, runs}
 use Rattle.batch_recipe.specs.WellFormed.{is_among}
 use Rattle.batch_recipe.specs.declared.act.Act.{Act}
@@ -20,10 +21,10 @@ use Rattle.batch_recipe.specs.declared.need.Need.{Need}
 use Rattle.batch_recipe.specs.declared.recipe.Recipe.{Recipe}
 use Rattle.batch_recipe.proofs.NodeActs.{procedure_acts_are}
 use Rattle.batch_model.specs.Lists.{Each}
-use Rattle.batch_model.proofs.Members.{Each-Has}
+use Rattle.batch_model.proofs.Members.{Each-Has, Each-append}
 use Rattle.batch_chart.specs.NodesOf.{needs_in, node_at, phase_named, step_of}
 use Rattle.batch_engine.specs.Names.{roles_at, roles_of}
-use Rattle.batch_engine.specs.Numbered.{AreActsNumbered, AreNeeds, IsActNumbered, IsChoiceNumber, IsOfRoles, IsTaskNumbered, named_need, need_number, need_with, number_with, phase_among, phase_in, phase_number, phase_on, resource_number}
+use Rattle.batch_engine.specs.Numbered.{AreActsNumbered, AreNeeds, AreReservedNeeds, IsActNumbered, IsChoiceNumber, IsOfRoles, IsReservedNeed, IsTaskNumbered, IsUnitNeed, named_need, need_number, need_with, number_with, phase_among, phase_in, phase_number, phase_on, resource_number}
 use Rattle.batch_engine.specs.View.{EngineView, bound_to, master_at, tree_at}
 use Rattle.batch_engine.specs.Kept.{IsKept}
 use Rattle.batch_engine.specs.declared.numbers.ActNumbers.{ActNumbers}
@@ -38,8 +39,8 @@ use Rattle.batch_engine.proofs.Roles.{role-declared}
 use Rattle.batch_engine.proofs.Telling.{roles-read, some-at, tree-bound}
 
 -- the node is that of this act, on some unit, where the roles are bound
-abbrev pub IsOfAct : Binding → Act → Tree → Type 0
-IsOfAct bound a here = (trees : Name → Name → Place → Tree) × (unit : Name) × (p : Place) × (here ≡ act_tree_with bound trees unit a p)
+abbrev pub IsOfAct : Binding → Acts → Act → Tree → Type 0
+IsOfAct bound acts a here = (trees : Name → Name → Place → Tree) × (unit : Name) × (p : Place) × (here ≡ act_tree_with (sites bound acts) trees unit a p)
 
 abbrev pub name_first : Option (Name × Name) → Name
 name_first None = []
@@ -78,10 +79,10 @@ module _ (bound : Binding) (acts : Acts) where
   none-agree (b ∷ list) (at ∷ ns) (suc k) d h e = none-agree list ns k d h.1 e
   none-agree list ns k d h e = absurd (grind arith)
 
-  pub act-here : (k : ℕ) (a : Act) → slice_get (procedure_acts acts) k ≡ Some (Some a) → IsOfAct bound a (node_at (bound_tree bound acts) k).here
+  pub act-here : (k : ℕ) (a : Act) → slice_get (procedure_acts acts) k ≡ Some (Some a) → IsOfAct bound acts a (node_at (bound_tree bound acts) k).here
   act-here k a e =
       let h = acts-agree (procedure_acts acts) (bound_nodes bound acts) k a (record { place = []; asked = []; here = skip }) (procedure_acts_are bound acts) e in
-      (named_tree_with bound (tables_from acts h.below), h.unit, (node_at (bound_tree bound acts) k).place, h.here_is)
+      (named_tree_with (sites bound acts) (tables_from acts h.below), h.unit, (node_at (bound_tree bound acts) k).place, h.here_is)
 
   pub none-here : (k : ℕ) → slice_get (procedure_acts acts) k ≡ Some None → IsNoAct (node_at (bound_tree bound acts) k).here
   none-here k e = none-agree (procedure_acts acts) (bound_nodes bound acts) k (record { place = []; asked = []; here = skip }) (procedure_acts_are bound acts) e
@@ -142,34 +143,96 @@ choice-number cell roles bound (Role role) x h declared =
       subst (IsOfRoles roles) (sym h.1) (slice_get_within roles h.0 role at),
     )
 
-pub act-needs : (cell : Cell) (roles : List Name) (bound : Binding) (unit : Option UnitChoice) (needs : List Need) (xs : List NeedNumber) → AreNeeds cell roles unit needs xs
-    → ((role : Name) → unit ≡ Some (Role role) → is_among roles role ≡ true)
-    → (map (need_with cell roles bound) xs ≡ map (need_number cell) (asked_by (unit_with bound unit) needs)) × Each (λ (z : NeedNumber). IsOfRoles roles z.resource) xs
-act-needs cell roles bound None needs xs h declared =
-    let is : xs ≡ map (named_need cell) needs = h.2 ∙ ap (λ (first : List NeedNumber). first ++ map (named_need cell) needs) h.1 in
-    (ap (map (need_with cell roles bound)) is ∙ named-needs cell roles bound needs, subst (Each (λ (z : NeedNumber). IsOfRoles roles z.resource)) (sym is) (named-of_roles cell roles needs))
-act-needs cell roles bound (Some choice) needs xs h declared =
-    let x : ResourceNumber = h.1.0 in
-    let own : NeedNumber = record { resource = x; units = 1 } in
-    let is : xs ≡ own ∷ map (named_need cell) needs = h.2 ∙ ap (λ (first : List NeedNumber). first ++ map (named_need cell) needs) h.1.1 in
-    let chosen = choice-number cell roles bound choice x h.1.2 (λ role e. declared role (ap Some e)) in (
-      ap (map (need_with cell roles bound)) is
-          ∙ ap₂ (λ (n : ℕ) (ys : List (ℕ × ℕ)). (let y : ℕ × ℕ = (n, 1) in y) ∷ ys) chosen.0 (named-needs cell roles bound needs),
-      subst (Each (λ (z : NeedNumber). IsOfRoles roles z.resource)) (sym is) (chosen.1, named-of_roles cell roles needs),
+abbrev IsDeclared : List Name → UnitChoice → Type 0
+IsDeclared roles choice = (role : Name) → choice ≡ Role role → is_among roles role ≡ true
+
+-- What is numbered of a list of needs
+
+abbrev AreTold : Cell → List Name → Binding → List Need → List NeedNumber → Type 0
+AreTold cell roles bound needs xs = (map (need_with cell roles bound) xs ≡ map (need_number cell) needs) × Each (λ (z : NeedNumber). IsOfRoles roles z.resource) xs
+
+told-append : (cell : Cell) (roles : List Name) (bound : Binding) (needs more : List Need) (xs ys : List NeedNumber) → AreTold cell roles bound needs xs → AreTold cell roles bound more ys
+    → AreTold cell roles bound (needs ++ more) (xs ++ ys)
+told-append cell roles bound needs more xs ys h k = (
+  map-append (need_with cell roles bound) xs ys ∙ ap₂ (λ (us vs : List (ℕ × ℕ)). us ++ vs) h.0 k.0 ∙ sym (map-append (need_number cell) needs more),
+  Each-append (λ (z : NeedNumber). IsOfRoles roles z.resource) xs ys h.1 k.1,
+)
+
+-- one unit of the unit that is chosen
+told-one : (cell : Cell) (roles : List Name) (bound : Binding) (choice : UnitChoice) (number : ResourceNumber) (unit : Name) → IsChoiceNumber cell roles choice number → IsDeclared roles choice → unit ≡ unit_chosen bound choice
+    → AreTold cell roles bound (one_unit unit ∷ []) (record { resource = number; units = 1 } ∷ [])
+told-one cell roles bound choice number unit h declared e =
+    let chosen = choice-number cell roles bound choice number h declared in (
+      ap (λ (n : ℕ). (let y : ℕ × ℕ = (n, 1) in y) ∷ []) (chosen.0 ∙ ap (resource_number cell) (sym e)),
+      (chosen.1, tt),
     )
 
--- the unit that an act's first need names, whatever units take the roles
-abbrev first_resource : List Need → Name
-first_resource [] = []
-first_resource (n ∷ ns) = n.resource
+abbrev own_need : Binding → Option UnitChoice → List Need
+own_need bound None = []
+own_need bound (Some choice) = one_unit (unit_chosen bound choice) ∷ []
 
-unit-first : (bound : Binding) (unit : Option UnitChoice) (role : Name) (needs : List Need) → unit ≡ Some (Role role) → first_resource (asked_by (unit_with bound unit) needs) ≡ bound role
-unit-first bound unit role needs e = ap (λ (u : Option UnitChoice). first_resource (asked_by (unit_with bound u) needs)) e
+told-own : (cell : Cell) (roles : List Name) (bound : Binding) (unit : Option UnitChoice) (first : List NeedNumber) → IsUnitNeed cell roles unit first → ((choice : UnitChoice) → unit ≡ Some choice → IsDeclared roles choice)
+    → AreTold cell roles bound (own_need bound unit) first
+told-own cell roles bound None first h declared = subst (AreTold cell roles bound []) (sym h) (refl, tt)
+told-own cell roles bound (Some choice) first h declared =
+    subst (AreTold cell roles bound (one_unit (unit_chosen bound choice) ∷ [])) (sym h.1) (told-one cell roles bound choice h.0 (unit_chosen bound choice) h.2 (declared choice refl) refl)
 
-pub act-declared : (r : Recipe) (k : ℕ) (a : Act) (role : Name) → slice_get (procedure_acts r.acts) k ≡ Some (Some a) → a.unit ≡ Some (Role role) → is_among (roles_of r) role ≡ true
-act-declared r k a role e f =
-    role-declared r role (λ t. first_resource (step_of (node_at t k).here).needs)
-    (λ bound. (let h = act-here bound r.acts k a e in ap (λ (t : Tree). first_resource (step_of t).needs) h.3 ∙ unit-first bound a.unit role a.needs.items f))
+-- the resource of need i
+abbrev resource_in : List Need → ℕ → Name
+resource_in [] i = []
+resource_in (n ∷ ns) zero = n.resource
+resource_in (n ∷ ns) (suc i) = resource_in ns i
+
+later-resource : (f : Name → Name) (names : List Name) (needs : List Need) (j : ℕ) (name : Name) → slice_get names j ≡ Some name → resource_in (map one_unit (map f names) ++ needs) j ≡ f name
+later-resource f [] needs j name e = absurd cc
+later-resource f (x ∷ names) needs zero name e = ap f (let same : x ≡ name = cc in same)
+later-resource f (x ∷ names) needs (suc j) name e = later-resource f names needs j name e
+
+-- the number of the need by which an act reserves unit procedure j of its list
+abbrev reserved_need : Option UnitChoice → ℕ → ℕ
+reserved_need None j = j
+reserved_need (Some choice) j = suc j
+
+reserved-resource : (bound : Binding) (unit : Option UnitChoice) (f : Name → Name) (names : List Name) (needs : List Need) (j : ℕ) (name : Name) → slice_get names j ≡ Some name
+    → resource_in (asked_by (unit_with bound unit) (map f names) needs) (reserved_need unit j) ≡ f name
+reserved-resource bound None f names needs j name e = later-resource f names needs j name e
+reserved-resource bound (Some choice) f names needs j name e = later-resource f names needs j name e
+
+unit-first : (bound : Binding) (unit : Option UnitChoice) (role : Name) (reserved : List Name) (needs : List Need) → unit ≡ Some (Role role) → resource_in (asked_by (unit_with bound unit) reserved needs) 0 ≡ bound role
+unit-first bound unit role reserved needs e = ap (λ (u : Option UnitChoice). resource_in (asked_by (unit_with bound u) reserved needs) 0) e
+
+module _ (r : Recipe) (k : ℕ) (a : Act) (here : slice_get (procedure_acts r.acts) k ≡ Some (Some a)) where
+  -- the resource of need i of the act, whatever units take the roles
+  seen-resource : (i : ℕ) (bound : Binding) → resource_in (step_of (node_at (bound_tree bound r.acts) k).here).needs i ≡ resource_in (needs_with (sites bound r.acts) a) i
+  seen-resource i bound = ap (λ (t : Tree). resource_in (step_of t).needs i) (act-here bound r.acts k a here).3
+
+  pub act-declared : (role : Name) → a.unit ≡ Some (Role role) → is_among (roles_of r) role ≡ true
+  act-declared role f =
+      role-declared r role (λ t. resource_in (step_of (node_at t k).here).needs 0)
+      (λ bound. seen-resource 0 bound ∙ unit-first bound a.unit role (map (unit_named (sites bound r.acts)) a.reserves.items) a.needs.items f)
+
+  reserved-declared : (j : ℕ) (name : Name) → slice_get a.reserves.items j ≡ Some name → (choice : UnitChoice) → ((bound : Binding) → unit_named (sites bound r.acts) name ≡ unit_chosen bound choice) → IsDeclared (roles_of r) choice
+  reserved-declared j name at choice named role e =
+      role-declared r role (λ t. resource_in (step_of (node_at t k).here).needs (reserved_need a.unit j))
+      (λ bound. seen-resource (reserved_need a.unit j) bound ∙ reserved-resource bound a.unit (unit_named (sites bound r.acts)) a.reserves.items a.needs.items j name at ∙ named bound ∙ ap (unit_chosen bound) e)
+
+told-reserved : (cell : Cell) (roles : List Name) (bound : Binding) (acts : Acts) (names : List Name) (xs : List NeedNumber) → AreReservedNeeds cell roles acts names xs
+    → ((j : ℕ) (name : Name) → slice_get names j ≡ Some name → (choice : UnitChoice) → ((bound : Binding) → unit_named (sites bound acts) name ≡ unit_chosen bound choice) → IsDeclared roles choice)
+    → AreTold cell roles bound (map one_unit (map (unit_named (sites bound acts)) names)) xs
+told-reserved cell roles bound acts [] [] h declared = (refl, tt)
+told-reserved cell roles bound acts [] (x ∷ xs) h declared = absurd h
+told-reserved cell roles bound acts (name ∷ names) [] h declared = absurd h
+told-reserved cell roles bound acts (name ∷ names) (x ∷ xs) h declared =
+    let choice : UnitChoice = h.0.0 in
+    let unit : Name = unit_named (sites bound acts) name in
+    told-append cell roles bound (one_unit unit ∷ []) (map one_unit (map (unit_named (sites bound acts)) names)) (x ∷ []) xs
+    (subst (λ (z : NeedNumber). AreTold cell roles bound (one_unit unit ∷ []) (z ∷ [])) (sym h.0.2.1)
+    (told-one cell roles bound choice h.0.2.0 unit h.0.2.2 (declared 0 name refl choice h.0.1) (h.0.1 bound)))
+    (told-reserved cell roles bound acts names xs h.1 (λ j other e. declared (suc j) other e))
+
+asked-is : (bound : Binding) (unit : Option UnitChoice) (reserved : List Name) (needs : List Need) → asked_by (unit_with bound unit) reserved needs ≡ (own_need bound unit ++ map one_unit reserved) ++ needs
+asked-is bound None reserved needs = refl
+asked-is bound (Some choice) reserved needs = refl
 
 -- Tables that grow
 
@@ -187,13 +250,34 @@ no-act-numbered cell roles bound t x h e f =
     nothing : (t : Tree) → IsNoAct t → NO_PHASE ≡ phase_in cell t
     nothing t h = grind arith
 
-pub act-numbered : (cell : Cell) (r : Recipe) (k : ℕ) (a : Act) (x : ActNumbers) → slice_get (procedure_acts r.acts) k ≡ Some (Some a) → AreNeeds cell (roles_of r) a.unit a.needs.items x.needs.items
+pub act-numbered : (cell : Cell) (r : Recipe) (k : ℕ) (a : Act) (x : ActNumbers) → slice_get (procedure_acts r.acts) k ≡ Some (Some a) → AreNeeds cell (roles_of r) r.acts a x.needs.items
     → ((bound : Binding) → IsTaskNumbered cell (roles_of r) bound (node_at (bound_tree bound r.acts) k).here x.task)
     → (bound : Binding) → IsActNumbered cell (roles_of r) bound (node_at (bound_tree bound r.acts) k).here x
 act-numbered cell r k a x e needs task bound =
     let h = act-here bound r.acts k a e in
-    let numbered = act-needs cell (roles_of r) bound a.unit a.needs.items x.needs.items needs (λ role f. act-declared r k a role e f) in
-    record { needs = numbered.0 ∙ ap (λ (z : Tree). map (need_number cell) (step_of z).needs) (sym h.3); of_roles = numbered.1; task = task bound }
+    let units : List Need = map one_unit (map (unit_named (sites bound r.acts)) a.reserves.items) in
+    let named : AreTold cell (roles_of r) bound a.needs.items (map (named_need cell) a.needs.items) = (named-needs cell (roles_of r) bound a.needs.items, named-of_roles cell (roles_of r) a.needs.items) in
+    let own : AreTold cell (roles_of r) bound (own_need bound a.unit) needs.first =
+    told-own cell (roles_of r) bound a.unit needs.first needs.own (λ choice f role g. act-declared r k a e role (f ∙ ap (λ (z : UnitChoice). let o : Option UnitChoice = Some z in o) g)) in
+    let held : AreTold cell (roles_of r) bound units needs.reserved = told-reserved cell (roles_of r) bound r.acts a.reserves.items needs.reserved needs.held (reserved-declared r k a e) in
+    let told : AreTold cell (roles_of r) bound ((own_need bound a.unit ++ units) ++ a.needs.items) x.needs.items =
+    subst (AreTold cell (roles_of r) bound ((own_need bound a.unit ++ units) ++ a.needs.items)) (sym needs.all)
+    (told-append cell (roles_of r) bound (own_need bound a.unit ++ units) a.needs.items (needs.first ++ needs.reserved) (map (named_need cell) a.needs.items)
+    (told-append cell (roles_of r) bound (own_need bound a.unit) units needs.first needs.reserved own held) named) in
+    record {
+      needs = told.0 ∙ ap (map (need_number cell)) (sym (asked-is bound a.unit (map (unit_named (sites bound r.acts)) a.reserves.items) a.needs.items)) ∙ ap (λ (z : Tree). map (need_number cell) (step_of z).needs) (sym h.3);
+      of_roles = told.1;
+      task = task bound;
+    }
+
+-- One reserved unit more
+
+pub reserved-push : (cell : Cell) (roles : List Name) (acts : Acts) (names : List Name) (xs : List NeedNumber) (name : Name) (x : NeedNumber) → AreReservedNeeds cell roles acts names xs → IsReservedNeed cell roles acts name x
+    → AreReservedNeeds cell roles acts (names ++ name ∷ []) (xs ++ x ∷ [])
+reserved-push cell roles acts [] [] name x h own = (own, tt)
+reserved-push cell roles acts [] (y ∷ xs) name x h own = absurd h
+reserved-push cell roles acts (other ∷ names) [] name x h own = absurd h
+reserved-push cell roles acts (other ∷ names) (y ∷ xs) name x h own = (h.0, reserved-push cell roles acts names xs name x h.1 own)
 
 pub pushed : {X : Type 0} (P : ℕ → X → Type 0) (xs : List X) (y : X) → ((k : ℕ) (x : X) → slice_get xs k ≡ Some x → P k x) → P (length xs) y
     → (k : ℕ) (x : X) → slice_get (xs ++ y ∷ []) k ≡ Some x → P k x

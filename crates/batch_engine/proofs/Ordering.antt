@@ -9,7 +9,7 @@ use Rattle.batch_matrix.specs.Matrix.{target}
 use Rattle.batch_recipe.specs.Conditions.{Name}
 use Rattle.batch_matrix.specs.declared.state.State.TheVariants.{Idle}
 use Rattle.batch_recipe.specs.Conditions.{ValueList}
-use Rattle.batch_model.specs.Rest.{withdrawn, reach}
+use Rattle.batch_model.specs.Rest.{withdrawn}
 use Rattle.batch_recipe.specs.Values.{with_outputs_zero}
 use Rattle.batch_engine.specs.View.{tree_of, recipe_made}
 use Rattle.batch_model.specs.Plant as Model
@@ -20,7 +20,10 @@ use Rattle.batch_model.specs.Runs.{Reacts}
 use Rattle.batch_laws.proofs.Entries.{IsOnce, once-filter}
 use Rattle.batch_arbiter.specs.Allocation as Arbiter
 use Rattle.batch_arbiter.specs.Allocation.{Claim, Allocation, shares_of, line_of, is_of_batch}
-use Rattle.batch_chart.specs.Charts.{IsRunningOf, remains}
+use Rattle.batch_recipe.specs.Tree.{Tree}
+use Rattle.batch_chart.specs.ByValues.{reach_by}
+use Rattle.batch_chart.specs.Charts.{IsRunningOf, RunsAs}
+use Rattle.batch_chart.specs.Early.{in_advance}
 use Rattle.batch_chart.specs.declared.running.Running.{Running}
 use Rattle.batch_engine.specs.declared.batch.Batch.{Batch}
 use Rattle.batch_engine.specs.View.{EngineView, setup, tree_at, batch_of, share_of, acts_of, number_of, line_in, line_at, plant_of}
@@ -148,7 +151,7 @@ all-parted p (x ∷ xss) =
     )
 
 module _ (v : EngineView) (k : IsKept v) (i : ℕ) (command : Command) (n : ℕ) (o : IsOrder v i command n) (ends : EndsAsks command) (r : Running)
-    (runs : IsRunningOf (tree_of v.cleared o.batch) r) (rest : remains (tree_of v.cleared o.batch) r ≡ withdrawn (remains (tree_of v.cleared o.batch) o.batch.running)) where
+    (runs : IsRunningOf (tree_of v.cleared o.batch) r) (left : RunsAs (tree_of v.cleared o.batch) r (withdrawn (batch_of v.cleared o.batch).rest) (batch_of v.cleared o.batch).in_advance) where
   abbrev less : Allocation
   less = Arbiter.withdrawn o.batch.number v.allocation
 
@@ -170,7 +173,7 @@ module _ (v : EngineView) (k : IsKept v) (i : ℕ) (command : Command) (n : ℕ)
   stop-made =
       let b' : Batch = record (o.batch) { state = target command; running = r } in
       order-made v k i command n o b' refl refl runs
-      (ap (λ z. let d : Model.Batch = record (batch_of v.cleared o.batch) { state = target command; rest = z } in d) rest ∙ asks-becomes command ends (batch_of v.cleared o.batch))
+      (ap₂ (λ z early. let d : Model.Batch = record (batch_of v.cleared o.batch) { state = target command; rest = z; in_advance = early } in d) (sym left.rest) (sym left.held) ∙ asks-becomes command ends (batch_of v.cleared o.batch))
       less (λ name. stopped-line name ∙ asks-lines command ends o.batch.number (line_in v) name) (λ q. refl)
       (record {
         capacities = k.cell.capacities;
@@ -182,11 +185,13 @@ module _ (v : EngineView) (k : IsKept v) (i : ℕ) (command : Command) (n : ℕ)
 
 -- the procedure is reached anew
 pub reset-made : (v : EngineView) → IsKept v → (i n : ℕ) (o : IsOrder v i Reset n) (r : Running) (vs : ValueList) → vs ≡ with_outputs_zero (recipe_made v.cleared o.batch).outputs o.batch.values
-    → IsRunningOf (tree_of v.cleared o.batch) r → ((ws : ValueList) → remains (tree_of v.cleared o.batch) r ≡ reach ws (tree_of v.cleared o.batch))
+    → IsRunningOf (tree_of v.cleared o.batch) r → ((ws : ValueList) → RunsAs (tree_of v.cleared o.batch) r (reach_by ws (tree_of v.cleared o.batch)) [])
     → Ordered v (changed v i (record (o.batch) { values = vs; state = Idle; running = r }) v.allocation) Reset n
-reset-made v k i n o r vs e runs rest =
+reset-made v k i n o r vs e runs left =
     let b' : Batch = record (o.batch) { values = vs; state = Idle; running = r } in
+    let tree : Tree = tree_of v.cleared o.batch in
+    let zero : ValueList = with_outputs_zero (recipe_made v.cleared o.batch).outputs o.batch.values in
     order-made v k i Reset n o b' refl refl runs
-    (ap₂ (λ ws z. let d : Model.Batch = record (batch_of v.cleared o.batch) { values = ws; state = Idle; rest = z } in d) e
-    (rest (with_outputs_zero (recipe_made v.cleared o.batch).outputs o.batch.values)))
+    (ap₂ (λ ws z. let d : Model.Batch = record (batch_of v.cleared o.batch) { values = ws; state = Idle; rest = z; in_advance = in_advance tree r.held.items } in d) e (sym (left zero).rest)
+    ∙ ap (λ early. let d : Model.Batch = record (batch_of v.cleared o.batch) { values = zero; state = Idle; rest = reach_by zero tree; in_advance = early } in d) (sym (left zero).held))
     v.allocation (λ name. refl) (λ q. refl) k.cell k.once (room-quiet v i o.batch b' o.at refl k.room)

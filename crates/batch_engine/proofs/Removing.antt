@@ -1,5 +1,5 @@
 -- A batch is removed.
-use Rattle.std.proofs.Common.{◌≡◌, ◌<◌, ◌≤◌, refl, sym, ◌∙◌, ap, ap₂, subst, ℕ, zero, suc, List, [], ◌∷◌, Bool, true, false, not, cond, Option, Some, None, inl, inr, arith, map, filter, nat_eq}
+use Rattle.std.proofs.Common.{◌≡◌, ◌<◌, ◌≤◌, refl, sym, ◌∙◌, ap, ap₂, subst, ℕ, zero, suc, List, [], ◌∷◌, ◌++◌, Bool, true, false, not, cond, Option, Some, None, inl, inr, arith, map, filter, nat_eq}
 use Rattle.std.specs.Prelude.{slice_get}
 use Rattle.std.specs.List.{remove}
 use Rattle.std.proofs.lemmas.List.Sums.{sum_by-cons}
@@ -20,9 +20,10 @@ use Rattle.batch_model.specs.Runs.{Reacts}
 use Rattle.batch_model.specs.Standing.{AreNumbered}
 use Rattle.batch_machine.proofs.Batches.{one_batch}
 use Rattle.batch_laws.proofs.Entries.{IsOnce, Has-holders}
-use Rattle.batch_laws.proofs.Facts.{Fact, holding, awaiting, facts, entries}
+use Rattle.batch_laws.proofs.Facts.{Fact, holding, awaiting, batch_facts, early_facts, facts, entries}
 use Rattle.batch_laws.proofs.Batches.{entry-of}
-use Rattle.batch_laws.proofs.Invariant.{IsFitting}
+use Rattle.batch_laws.proofs.Invariant.{IsFitting, standing-of}
+use Rattle.batch_laws.proofs.Passing.{early-none, is_under_way}
 use Rattle.batch_verify.specs.ClearedSet.{ClearedSet}
 use Rattle.batch_arbiter.specs.Allocation.{Claim, shares_of, line_of}
 use Rattle.batch_chart.specs.NodesOf.{needs_in, place_at}
@@ -120,17 +121,21 @@ needs-less c (x ∷ bs) (suc i) =
 
 module _ (v : EngineView) (k : IsKept v) (i : ℕ) (b : Batch) (at : slice_get v.batches i ≡ Some b) (idle : b.state ≡ Idle) where
   -- an idle batch has no facts
-  no-facts : facts (batch_of v.cleared b).rest ≡ []
+  no-facts : batch_facts (batch_of v.cleared b) ≡ []
   no-facts =
-      let fits : IsFitting b.state (facts (batch_of v.cleared b).rest) = ((safe v k).sound (batch_of v.cleared b) (Has-batch_of v.cleared v.batches b (Has-get v.batches i b at))).fits in
-      subst (λ x. IsFitting x (facts (batch_of v.cleared b).rest)) idle fits
+      let d : Model.Batch = batch_of v.cleared b in
+      let i' : Has (plant_of v).batches d = Has-batch_of v.cleared v.batches b (Has-get v.batches i b at) in
+      let fits : IsFitting b.state (facts d.rest) = ((safe v k).sound d i').fits in
+      let none : facts d.rest ≡ [] = subst (λ x. IsFitting x (facts d.rest)) idle fits in
+      let early : d.in_advance ≡ [] = early-none (setup v.cleared) d (standing-of (setup v.cleared) (plant_of v) (standing v k) d i') (ap is_under_way idle) in
+      ap₂ (λ xs ys. early_facts xs ++ ys) early none
 
   no-entry : (a : BatchAct) (f : Fact) → a.0 ≡ b.number → Has (entries (plant_of v).batches) (a, f) → ⊥
   no-entry a f e h =
       let d = entry-of (plant_of v).batches a f h in
       let same : d.0 ≡ batch_of v.cleared b =
       one_batch v.next_number (plant_of v).batches d.0 (batch_of v.cleared b) (standing v k).numbers d.1 (Has-batch_of v.cleared v.batches b (Has-get v.batches i b at)) (d.2 ∙ e) in
-      subst (λ es. Has es (a.1, f)) (ap (λ (z : Model.Batch). facts z.rest) same ∙ no-facts) d.3
+      subst (λ es. Has es (a.1, f)) (ap (λ (z : Model.Batch). batch_facts z) same ∙ no-facts) d.3
 
   no-waiter : (name : Name) (q : ℕ) → number_of v.cleared name ≡ Some q → (x : Claim) → Has (line_of v.allocation q) x → x.batch ≡ b.number → ⊥
   no-waiter name q e x h s =

@@ -1,10 +1,11 @@
 -- Roles: a tree depends on none but those of its recipe, and the units with these numbers take them.
-use Rattle.std.proofs.Common.{◌≡◌, ◌<◌, ◌≤◌, refl, sym, ◌∙◌, ap, ap₂, subst, ℕ, zero, suc, List, [], ◌∷◌, Bool, true, false, ◌&&◌, ◌||◌, not, cond, Option, Some, None, arith, length, find, get_or}
+use Rattle.std.proofs.Common.{◌≡◌, ◌<◌, ◌≤◌, refl, sym, ◌∙◌, ap, ap₂, subst, ℕ, zero, suc, List, [], ◌∷◌, Bool, true, false, ◌&&◌, ◌||◌, not, cond, Option, Some, None, arith, length, map, find, get_or}
+use Rattle.std.specs.Prelude.{option_and_then}
 use Rattle.std.specs.List.{list_all, list_any, zip}
 use Rattle.std.proofs.lemmas.Bool.{and_parts}
 use Rattle.batch_recipe.specs.Conditions.{Name, same_name}
-use Rattle.batch_recipe.specs.Expanding.{Binding, act_named, act_tree_with, asked_by, named_tree_with, task_of, unbound, unit_below, unit_with}
-use Rattle.batch_recipe.specs.Procedure.{bound_tree, tables_from}
+use Rattle.batch_recipe.specs.Expanding.{Binding, act_named, act_tree_with, asked_by, named_tree_with, reserves_from, task_of, unbound, unit_below, unit_count, unit_named, unit_with}
+use Rattle.batch_recipe.specs.Procedure.{bound_tree, sites, tables_from}
 use Rattle.batch_recipe.specs.Tree.{Place, Tree, act, skip}
 use Rattle.batch_recipe.specs.WellFormed.{are_distinct, are_kinds, has_chart, has_unit, is_among, is_role_among}
 use Rattle.batch_recipe.specs.declared.act.Act.{Act}
@@ -50,20 +51,43 @@ module _ (one other : Binding) (names : List Name) (agree : (role : Name) → is
   unitless None h = refl
   unitless (Some choice) h = absurd cc
 
-  act-same : (f g : Name → Name → Place → Tree) → f ≡ g → (unit : Name) (a : Act) (p : Place) → IsSame a → act_tree_with one f unit a p ≡ act_tree_with other g unit a p
-  act-same f g e unit a p h =
-      ap₂ (λ (trees : Name → Name → Place → Tree) (u : Option Name). act (record { place = p; needs = asked_by u a.needs.items }) (task_of (trees (unit_below unit u)) (unit_below unit u) a.name p a.work)) e h
+  module _ (acts : Acts) (units : Each IsSame acts.unit_procedures.items) where
+    -- the units that are reserved
+    abbrev Named : Name → Name
+    Named = unit_named (sites one acts)
 
-  found-same : (table : List Act) (f g : Name → Name → Place → Tree) → f ≡ g → Each IsSame table → (unit name : Name) (p : Place) (o : Option Act) → act_named table name ≡ o
-      → ◌≡◌ {A = Tree} (elim o [ None ↦ skip | Some a ↦ act_tree_with one f unit a p ]) (elim o [ None ↦ skip | Some a ↦ act_tree_with other g unit a p ])
-  found-same table f g e h unit name p None q = refl
-  found-same table f g e h unit name p (Some a) q = act-same f g e unit a p (find-each IsSame (λ (z : Act). same_name z.name name) table a h q)
+    abbrev NamedSo : Name → Name
+    NamedSo = unit_named (sites other acts)
 
-  named-same : (tables : List (List Act)) → Each (Each IsSame) tables → named_tree_with one tables ≡ named_tree_with other tables
-  named-same [] h = refl
-  named-same (table ∷ tables) h =
-      fun_ext (λ unit. fun_ext (λ name. fun_ext (λ p.
-      found-same table (named_tree_with one tables) (named_tree_with other tables) (named-same tables h.1) h.0 unit name p (act_named table name) refl)))
+    reserved-same : Named ≡ NamedSo
+    reserved-same = fun_ext (λ name. go name (act_named acts.unit_procedures.items name) refl)
+      where
+        go : (name : Name) (found : Option Act) → act_named acts.unit_procedures.items name ≡ found
+            → ◌≡◌ {A = Name} (elim (option_and_then (λ (u : Act). unit_with one u.unit) found) [ None ↦ [] | Some unit ↦ unit ])
+            (elim (option_and_then (λ (u : Act). unit_with other u.unit) found) [ None ↦ [] | Some unit ↦ unit ])
+        go name None e = refl
+        go name (Some a) e =
+            ap (λ (o : Option Name). let unit : Name = elim o [ None ↦ [] | Some unit ↦ unit ] in unit) (find-each IsSame (λ (z : Act). same_name z.name name) acts.unit_procedures.items a units e)
+
+    act-same : (f g : Name → Name → Place → Tree) → f ≡ g → (unit : Name) (a : Act) (p : Place) → IsSame a → act_tree_with (sites one acts) f unit a p ≡ act_tree_with (sites other acts) g unit a p
+    act-same f g e unit a p h =
+        ap₂ (λ (trees : Name → Name → Place → Tree) (u : Option Name).
+        act (record { place = p; needs = asked_by u (map Named a.reserves.items) a.needs.items; reserves = reserves_from (unit_count a.unit) a.reserves.items })
+        (task_of (trees (unit_below unit u)) (unit_below unit u) a.name p a.work)) e h
+        ∙ ap (λ (named : Name → Name).
+        act (record { place = p; needs = asked_by (unit_with other a.unit) (map named a.reserves.items) a.needs.items; reserves = reserves_from (unit_count a.unit) a.reserves.items })
+        (task_of (g (unit_below unit (unit_with other a.unit))) (unit_below unit (unit_with other a.unit)) a.name p a.work)) reserved-same
+
+    found-same : (table : List Act) (f g : Name → Name → Place → Tree) → f ≡ g → Each IsSame table → (unit name : Name) (p : Place) (o : Option Act) → act_named table name ≡ o
+        → ◌≡◌ {A = Tree} (elim o [ None ↦ skip | Some a ↦ act_tree_with (sites one acts) f unit a p ]) (elim o [ None ↦ skip | Some a ↦ act_tree_with (sites other acts) g unit a p ])
+    found-same table f g e h unit name p None q = refl
+    found-same table f g e h unit name p (Some a) q = act-same f g e unit a p (find-each IsSame (λ (z : Act). same_name z.name name) table a h q)
+
+    named-same : (tables : List (List Act)) → Each (Each IsSame) tables → named_tree_with (sites one acts) tables ≡ named_tree_with (sites other acts) tables
+    named-same [] h = refl
+    named-same (table ∷ tables) h =
+        fun_ext (λ unit. fun_ext (λ name. fun_ext (λ p.
+        found-same table (named_tree_with (sites one acts) tables) (named_tree_with (sites other acts) tables) (named-same tables h.1) h.0 unit name p (act_named table name) refl)))
 
   pub tree-same : (acts : Acts) → list_all (is_role_among names) acts.unit_procedures.items ≡ true → are_kinds acts ≡ true → bound_tree one acts ≡ bound_tree other acts
   tree-same acts roles kinds =
@@ -80,7 +104,7 @@ module _ (one other : Binding) (names : List Name) (agree : (role : Name) → is
       all-each IsSame (λ s. not (has_unit s) && not (has_chart s)) (λ s h. unitless s.unit (not-true (has_unit s) (and_parts (not (has_unit s)) (not (has_chart s)) h).0)) acts.phases.items third.1 in
       let units : Each IsSame acts.unit_procedures.items = all-each IsSame (is_role_among names) (λ u h. declared u.unit h) acts.unit_procedures.items roles in
       let tables : List (List Act) = tables_from acts (Some UnitProcedures) in
-      act-same (named_tree_with one tables) (named_tree_with other tables) (named-same tables (units, (operations, (phases, tt)))) [] acts.procedure (0 ∷ []) procedure
+      act-same acts units (named_tree_with (sites one acts) tables) (named_tree_with (sites other acts) tables) (named-same acts units tables (units, (operations, (phases, tt)))) [] acts.procedure (0 ∷ []) procedure
 
 -- the role whose unit stands somewhere in the tree, whatever unit it is, is declared
 pub role-declared : (r : Recipe) (role : Name) (seen : Tree → Name) → ((bound : Binding) → seen (bound_tree bound r.acts) ≡ bound role) → is_among (roles_of r) role ≡ true

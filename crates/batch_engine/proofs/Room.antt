@@ -5,7 +5,7 @@ use Rattle.std.specs.Prelude.{slice_get}
 use Rattle.std.proofs.lemmas.List.{length-append}
 use Rattle.std.proofs.lemmas.List.Sums.{sum_by-set, sum_by-cons, sum_by_push}
 use Rattle.batch_verify.specs.ClearedSet.{ClearedSet}
-use Rattle.batch_arbiter.specs.Allocation.{Claim, shares_of, line_of, asked, granted, released, without_first, is_claim}
+use Rattle.batch_arbiter.specs.Allocation.{Claim, shares_of, line_of, units_of, asked, granted, handed_over, passed, released, without_first, is_claim}
 use Rattle.batch_chart.specs.NodesOf.{needs_in}
 use Rattle.batch_engine.specs.Batches.{BatchList, with_batch_at}
 use Rattle.batch_engine.specs.declared.batch.Batch.{Batch}
@@ -93,4 +93,16 @@ module _ (v : EngineView) (i : ℕ) (b b' : Batch) (at : slice_get v.batches i �
         needs-same v.cleared v.batches i b b' at made,
         sum_by-set (λ (xs : List Claim). length xs) v.allocation.shares q (without_first (is_claim n node) (shares_of v.allocation q)) [] few,
         without-length (is_claim n node) (shares_of v.allocation q),
+      )
+
+  pub room-passed : (q n node to : ℕ) → q < length v.allocation.shares → HasRoom (changed v i b' (passed q n node to v.allocation))
+  room-passed q n node to few =
+      let held : List Claim = shares_of v.allocation q in
+      omega (
+        arith,
+        room,
+        needs-same v.cleared v.batches i b b' at made,
+        sum_by-set (λ (xs : List Claim). length xs) v.allocation.shares q (handed_over n node to held) [] few,
+        length-append (without_first (is_claim n node) held) (record { batch = n; node = to; units = units_of n node held } ∷ []),
+        without-length (is_claim n node) held,
       )

@@ -19,6 +19,7 @@ use Rattle.batch_verify.specs.ClearedSet.{ClearedSet}
 use Rattle.batch_arbiter.specs.Allocation.{Allocation}
 use Rattle.batch_chart.specs.Charts.{CanMake, IsChartOf, IsRunning, IsRunningOf}
 use Rattle.batch_chart.specs.NodesOf.{node_at, step_at}
+use Rattle.batch_chart.specs.Passing.{IsBatchOf, IsTreeOf}
 use Rattle.batch_chart.specs.declared.chart_move.Move.{Move}
 use Rattle.batch_engine.specs.Batches.{BatchList, with_batch_at}
 use Rattle.batch_engine.specs.declared.batch.Batch.{Batch}
@@ -40,6 +41,7 @@ use Rattle.batch_engine.proofs.Ordering.{Ordered}
 use Rattle.batch_engine.proofs.Room.{needs-set}
 use Rattle.batch_engine.proofs.Seeking.{found-at}
 use Rattle.batch_engine.proofs.Stepping.{changed}
+use Rattle.batch_engine.proofs.Telling.{tree-is}
 
 -- the batch at an index, and what is kept of the engine
 pub record IsRead (v : EngineView) (i : ℕ) (b : Batch) : Type 0 where
@@ -83,6 +85,13 @@ seat-of {v} {w} {i} {b} {x} e r h =
       runs = (batch-runs v r.kept i b r.at).runs;
       running = runs-here v r.kept i b r.at x listed;
     }
+
+-- it is a batch of the recipe's tree
+pub recipe-tree : {v : EngineView} {i : ℕ} {b : Batch} {x : document.Recipe} → IsSeat v i b x → IsTreeOf x (tree_of v.cleared b)
+recipe-tree {v} {i} {b} {x} s = (bound_to v.cleared b.recipe b.units, tree-is v.cleared b.recipe x s.listed b.units)
+
+pub recipe-batch : {v : EngineView} {i : ℕ} {b : Batch} {x : document.Recipe} → IsSeat v i b x → IsBatchOf x (tree_of v.cleared b) (batch_of v.cleared b)
+recipe-batch {v} {i} {b} {x} s = record { bound = bound_to v.cleared b.recipe b.units; tree = tree-is v.cleared b.recipe x s.listed b.units; follows = refl }
 
 -- The batch that makes the next move
 pub mover : {v w : EngineView} {i : ℕ} {b : Batch} {m : Move} → w ≡ v → IsKept w → IsOwnStep v (IsNext v) i m → b ≡ get_or w.batches i b → IsMover v i b m

@@ -160,6 +160,14 @@ module _ (v : EngineView) (k : IsKept v) (i : ℕ) (b : Batch) (at : slice_get v
   pub release-told : {n need q u : ℕ} → IsNumberAt v.cleared b n need q u → Tells v b (Chart.Release n need) (Lines.Claim Released b.number b.recipe n q u)
   release-told {n} {need} {q} {u} h = record { is = ap₂ (Moves.release b.number) (place-here n) (need-here n need q u h.0 h.1); known = known-resource v k (need_at (tree_of v.cleared b) n need).resource q h.0 }
 
+  pub pass-told : {n need q u : ℕ} (to : ℕ) → IsNumberAt v.cleared b n need q u → Tells v b (Chart.Pass n to need) (Lines.Pass b.number b.recipe n to q u)
+  pass-told {n} {need} {q} {u} to h =
+      record {
+        is = ap₂ (λ x y. Moves.pass b.number x y (Names.need_of v.cleared q u)) (place-here n) (place-here to)
+            ∙ ap (Moves.pass b.number (Tree.place_at (tree_of v.cleared b) n) (Tree.place_at (tree_of v.cleared b) to)) (need-here n need q u h.0 h.1);
+        known = tt;
+      }
+
   pub grant-told : (need : ℕ) {n q u : ℕ} → IsNumberAt v.cleared b n need q u → IsNext v (Moves.grant b.number (Tree.place_at (tree_of v.cleared b) n) (need_at (tree_of v.cleared b) n need))
       → TellsNext v (Lines.Claim Granted b.number b.recipe n q u)
   grant-told need {n} {q} {u} h is =

@@ -48,11 +48,12 @@ use Rattle.batch_engine.proofs.Frames.{ServesBefore, first_in, lines-alone, serv
 use Rattle.batch_engine.proofs.Granting.{Granted, asks-node, served-node}
 use Rattle.batch_engine.proofs.Nodes.{within-or_past}
 use Rattle.batch_engine.proofs.Others.{batches-are-few, others-none}
+use Rattle.batch_engine.proofs.Noted.{next-even}
 use Rattle.batch_engine.proofs.Positions.{NonePasses-position}
 use Rattle.batch_engine.proofs.RoomForAsk.{number-at}
 use Rattle.batch_engine.proofs.Seeking.{found-at}
 use Rattle.batch_engine.proofs.Taken.{name-there}
-use Rattle.batch_engine.proofs.Told.{down, told, standing}
+use Rattle.batch_engine.proofs.Told.{down, told, safe, standing}
 
 -- there are marks enough
 pub few : (v : EngineView) → IsKept v → length v.batches ≤ 4096
@@ -191,7 +192,7 @@ module _ (v w : EngineView) (k : IsKept v) (l : IsKept w) (m : Moves.Move) (next
       let apart : d.0.number ≡ Moves.batch_of m → ⊥ = λ e. other h.batch h.at (ap (λ (z : Model.Batch). z.number) (sym d.2) ∙ e) in
       let before : ServesBefore (setup v.cleared) (plant_of v) (plant_of w) (batch_of w.cleared d.0) =
       λ step task held need here got served.
-      served-before (setup v.cleared) k.tracked.outs (plant_of v) (told v k) m told-after d.0.number apart need step.place
+      served-before (setup v.cleared) k.tracked.outs (plant_of v) (told v k) m (next-even (setup v.cleared) k.cleared.0 k.tracked.outs (plant_of v) (standing v k) (safe v k) m next_is) told-after d.0.number apart need step.place
       (λ e. (let u = unserved need.resource e in
       u.2 (served-at w l i d.0 d.1 step task held need u.0 here got (ap (λ (c : ClearedSet). number_of c need.resource) makes.cleared ∙ u.1)
       (subst (λ (c : ClearedSet). is_served (setup c) (plant_of w) need (d.0.number, step.place) ≡ true) (sym makes.cleared) served))))

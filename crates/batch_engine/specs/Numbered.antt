@@ -5,12 +5,14 @@ use Rattle.batch_cell.specs.LookUps.{units_of, resources_of, phases_of}
 use Rattle.batch_cell.specs.declared.cell.Cell.{Cell}
 use Rattle.batch_recipe.specs.Conditions.{Name, same_name}
 use Rattle.batch_recipe.specs.Nodes.{node_count}
-use Rattle.batch_recipe.specs.Procedure.{bound_tree}
-use Rattle.batch_recipe.specs.Expanding.{Binding}
+use Rattle.batch_recipe.specs.Procedure.{bound_tree, sites}
+use Rattle.batch_recipe.specs.Expanding.{Binding, unit_chosen, unit_named}
 use Rattle.batch_recipe.specs.Tree.{Tree, act, Task, runs, follows}
 use Rattle.batch_recipe.specs.WellFormed.{is_among}
+use Rattle.batch_recipe.specs.declared.act.Act.{Act}
 use Rattle.batch_recipe.specs.declared.act.UnitChoice.{UnitChoice}
 use Rattle.batch_recipe.specs.declared.act.UnitChoice.TheVariants as Choice
+use Rattle.batch_recipe.specs.declared.acts.Acts.{Acts}
 use Rattle.batch_recipe.specs.declared.need.Need.{Need}
 use Rattle.batch_recipe.specs.declared.recipe.Recipe.{Recipe}
 use Rattle.batch_model.specs.Lists.{Each}
@@ -72,9 +74,24 @@ abbrev pub IsUnitNeed : Cell → List Name → Option UnitChoice → List NeedNu
 IsUnitNeed cell roles None xs = xs ≡ []
 IsUnitNeed cell roles (Some choice) xs = (x : ResourceNumber) × (xs ≡ record { resource = x; units = 1 } ∷ []) × IsChoiceNumber cell roles choice x
 
--- the unit's need, and those after it
-abbrev pub AreNeeds : Cell → List Name → Option UnitChoice → List Need → List NeedNumber → Type 0
-AreNeeds cell roles unit needs xs = (first : List NeedNumber) × IsUnitNeed cell roles unit first × (xs ≡ first ++ map (named_need cell) needs)
+-- the need of the unit of the unit procedure with this name
+abbrev pub IsReservedNeed : Cell → List Name → Acts → Name → NeedNumber → Type 0
+IsReservedNeed cell roles acts name x =
+    (choice : UnitChoice) × ((bound : Binding) → unit_named (sites bound acts) name ≡ unit_chosen bound choice)
+    × ((number : ResourceNumber) × (x ≡ record { resource = number; units = 1 }) × IsChoiceNumber cell roles choice number)
+
+abbrev pub AreReservedNeeds : Cell → List Name → Acts → List Name → List NeedNumber → Type 0
+AreReservedNeeds cell roles acts [] [] = ⊤
+AreReservedNeeds cell roles acts (name ∷ names) (x ∷ xs) = IsReservedNeed cell roles acts name x × AreReservedNeeds cell roles acts names xs
+AreReservedNeeds cell roles acts _ _ = ⊥
+
+-- the unit's need, those of the units that are reserved, and those after them
+pub record AreNeeds (cell : Cell) (roles : List Name) (acts : Acts) (a : Act) (xs : List NeedNumber) : Type 0 where
+  pub first : List NeedNumber
+  pub reserved : List NeedNumber
+  pub own : IsUnitNeed cell roles a.unit first
+  pub held : AreReservedNeeds cell roles acts a.reserves.items reserved
+  pub all : xs ≡ (first ++ reserved) ++ map (named_need cell) a.needs.items
 
 -- Phases
 

@@ -3,7 +3,7 @@ use Rattle.std.specs.Prelude.{◌≡◌, ◌<◌, ℕ, List, [], Option, Some, N
 use Rattle.batch_model.specs.Moves as Model
 use Rattle.batch_model.specs.Moves.{next, after, least, batch_moves, grant}
 use Rattle.batch_model.specs.Plant.{batch_at}
-use Rattle.batch_arbiter.specs.Allocation.{Allocation, asked, batch_node, next_grant, released, resource_count}
+use Rattle.batch_arbiter.specs.Allocation.{Allocation, asked, batch_node, next_grant, passed, released, resource_count}
 use Rattle.batch_chart.specs.NodesOf.{node_at, place_at, step_at, need_at, phase_at, phase_named}
 use Rattle.batch_cell.specs.LookUps.{units_of}
 use Rattle.batch_recipe.specs.Conditions.{Name, same_name}
@@ -13,7 +13,7 @@ use Rattle.batch_chart.specs.OwnMoves.{grants}
 use Rattle.batch_chart.specs.Seen.{move_of}
 use Rattle.batch_recipe.specs.declared.recipe.Recipe as document
 use Rattle.batch_chart.specs.declared.chart_move.Move.{Move}
-use Rattle.batch_chart.specs.declared.chart_move.Move.TheVariants.{Ask, Release, State}
+use Rattle.batch_chart.specs.declared.chart_move.Move.TheVariants.{Ask, Pass, Release, State}
 use Rattle.batch_engine.specs.declared.batch.Batch.{Batch}
 use Rattle.batch_engine.specs.declared.line.ClaimKind.{ClaimKind}
 use Rattle.batch_engine.specs.declared.line.Line.{Line}
@@ -140,11 +140,12 @@ pub record IsMover (v : EngineView) (i : ℕ) (b : Batch) (m : Move) : Type 0 wh
 abbrev pub IsMaking : EngineView → List RecipeNumbers → Allocation → ℕ → Batch → Move → Type 0
 IsMaking v numbers allocation i b m = IsMover v i b m × (numbers ≡ v.numbers) × (allocation ≡ v.allocation)
 
--- the arbiter takes what a move of the batch asks for or gives back
+-- the arbiter takes what a move of the batch asks for, gives back or passes on
 abbrev pub IsClaimed : ClearedSet → Batch → Move → Allocation → Allocation → Type 0
 IsClaimed c b (Ask node need) old new =
     (resource : ℕ) × (units : ℕ) × IsNumberAt c b node need resource units × (new ≡ asked resource (record { batch = b.number; node = node; units = units }) old)
 IsClaimed c b (Release node need) old new = (resource : ℕ) × (units : ℕ) × IsNumberAt c b node need resource units × (new ≡ released resource b.number node old)
+IsClaimed c b (Pass node to need) old new = (resource : ℕ) × (units : ℕ) × IsNumberAt c b node need resource units × (new ≡ passed resource b.number node to old)
 IsClaimed c b m old new = new ≡ old
 
 -- a batch of the engine has an act at this node

@@ -52,6 +52,7 @@ move_of c (Line.Begin batch recipe node) = Moves.begin batch (place_at c recipe 
 move_of c (Line.Start batch recipe node unit phase values) =
     Moves.start batch (place_at c recipe node) (phase_at c recipe node unit phase) (zip (handed_at c recipe node) values)
 move_of c (Line.End batch recipe node) = Moves.end batch (place_at c recipe node)
+move_of c (Line.Pass batch recipe node to resource units) = Moves.pass batch (place_at c recipe node) (place_at c recipe to) (need_of c resource units)
 move_of c (Line.Claim ClaimKind.Asked batch recipe node resource units) = Moves.ask batch (place_at c recipe node) (need_of c resource units)
 move_of c (Line.Claim ClaimKind.Granted batch recipe node resource units) = Moves.grant batch (place_at c recipe node) (need_of c resource units)
 move_of c (Line.Claim ClaimKind.Released batch recipe node resource units) = Moves.release batch (place_at c recipe node) (need_of c resource units)

@@ -13,6 +13,7 @@ use Rattle.batch_verify.specs.ClearedSet.{ClearedSet}
 use Rattle.batch_arbiter.specs.Allocation.{Claim, Allocation, line_of}
 use Rattle.batch_chart.specs.NodesOf.{place_at}
 use Rattle.batch_chart.specs.Charts.{remains}
+use Rattle.batch_chart.specs.Early.{in_advance}
 use Rattle.batch_engine.specs.Names.{roles_told}
 use Rattle.batch_engine.specs.declared.batch.Batch.{Batch}
 use Rattle.batch_engine.specs.declared.numbers.RecipeNumbers.{RecipeNumbers}
@@ -70,6 +71,7 @@ batch_of c b =
       values = b.values;
       state = b.state;
       rest = remains (tree_of c b) b.running;
+      in_advance = in_advance (tree_of c b) b.running.held.items;
     }
 
 -- the place of a node of the batch with this number

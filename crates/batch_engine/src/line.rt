@@ -52,6 +52,15 @@ pub enum Line {
         recipe: u16,
         node: u16,
     },
+    /// An act that has ended passes on what it reserved: the act at the node `to` holds that in advance.
+    Pass {
+        batch: u64,
+        recipe: u16,
+        node: u16,
+        to: u16,
+        resource: u16,
+        units: u32,
+    },
     /// An act's claim on units of a resource, for one of its needs.
     Claim {
         kind: ClaimKind,

@@ -61,6 +61,22 @@ fn claim_line(kind: ClaimKind, batch: &Batch, node: u16, share: (u16, u32)) -> L
     }
 }
 
+/// The line of an act that passes on a claim to the act at the node `to`.
+#[inline(always)]
+fn pass_line(batch: &Batch, node: u16, to: u16, share: (u16, u32)) -> Line
+    ensures { result ≡ Lines.Pass batch.now.number batch.now.recipe node to share.0 share.1 }
+{
+    let (resource, units) = share;
+    Line::Pass {
+        batch: batch.number,
+        recipe: batch.recipe,
+        node,
+        to,
+        resource,
+        units,
+    }
+}
+
 impl Control {
     /// The numbers of the phase that an act of a batch runs. Those of an act that runs none name nothing.
     #[inline(always)]
@@ -130,6 +146,10 @@ impl Control {
             Move::Release { node, need } => {
                 let share = resource_at(&self.numbers, batch, node, need);
                 claim_line(ClaimKind::Released, batch, node, share)
+            }
+            Move::Pass { node, to, need } => {
+                let share = resource_at(&self.numbers, batch, node, need);
+                pass_line(batch, node, to, share)
             }
             Move::Begin { node } => Line::Begin {
                 batch: number,

@@ -13,7 +13,8 @@ use batch_arbiter::Arbiter;
 use batch_chart::Move;
 use batch_matrix::State;
 
-/// An act that asks for a resource joins its line, and one that releases it gives it back. Other moves need nothing of the arbiter.
+/// An act that asks for a resource joins its line, one that releases it gives it back, and one that passes it on hands its share over.
+/// Other moves need nothing of the arbiter.
 fn claim(arbiter: &mut Arbiter, numbers: &[RecipeNumbers], batch: &Batch, made: Move)
     requires { (v : EngineView) × (i : ℕ) × IsMaking v numbers.now arbiter.old i batch.now made }
     ensures { (v : EngineView) (i : ℕ) → IsMaking v numbers.now arbiter.old i batch.now made → IsClaimed v.cleared batch.now made arbiter.old arbiter.new }
@@ -26,6 +27,10 @@ fn claim(arbiter: &mut Arbiter, numbers: &[RecipeNumbers], batch: &Batch, made: 
         Move::Release { node, need } => {
             let (resource, _units) = resource_at(numbers, batch, node, need);
             arbiter.release(resource, batch.number, node);
+        }
+        Move::Pass { node, to, need } => {
+            let (resource, _units) = resource_at(numbers, batch, node, need);
+            arbiter.pass(resource, batch.number, node, to);
         }
         _ => {}
     }

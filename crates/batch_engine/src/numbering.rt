@@ -1,5 +1,6 @@
 //! Looking up the numbers of what recipes name.
-ghost use Rattle.std.specs.Prelude.{◌≡◌, ◌≤◌, ◌<◌, ◌++◌, [], IfOk, length, map, position};
+ghost use Rattle.std.specs.Prelude.{◌≡◌, ◌≤◌, ◌<◌, ◌++◌, List, [], IfOk, length, map, position, true};
+ghost use Rattle.std.specs.List.{list_all};
 ghost use Rattle.batch_cell.specs.LookUps.{units_of};
 ghost use Rattle.batch_chart.specs.Charts.{IsChartFor};
 ghost use Rattle.batch_chart.specs.NodesOf.{node_at, phase_named};
@@ -9,8 +10,10 @@ ghost use Rattle.batch_recipe.specs.Nodes.{node_count};
 ghost use Rattle.batch_recipe.specs.Procedure.{bound_tree, procedure_tree};
 ghost use Rattle.batch_recipe.specs.Tree.{Tree};
 ghost use Rattle.batch_recipe.specs.declared.role.TheConstants.{MAX_ROLES};
+ghost use Rattle.batch_verify.specs.Walking.{names_unit};
 ghost use Rattle.batch_engine.specs.Names.{roles_of};
-ghost use Rattle.batch_engine.specs.Numbered.{AreNeeds, AreRecipesNumbered, IsActNumbered, IsChoiceNumber, IsRecipeNumbered, IsRoleNumber, IsTaskNumbered, IsUnitNeed, named_need, phase_number, phase_on, resource_number};
+ghost use Rattle.batch_engine.specs.declared.numbers.NeedNumber.{NeedNumber};
+ghost use Rattle.batch_engine.specs.Numbered.{AreNeeds, AreRecipesNumbered, AreReservedNeeds, IsActNumbered, IsChoiceNumber, IsRecipeNumbered, IsRoleNumber, IsTaskNumbered, IsUnitNeed, named_need, phase_number, phase_on, resource_number};
 
 use crate::numbers::{
     ActNumbers, NO_PHASE, NeedNumber, PhaseNumber, RecipeNumbers, ResourceNumber, TaskNumber,
@@ -19,6 +22,7 @@ use batch_cell::Cell;
 use batch_chart::{needs, phase_of};
 use batch_recipe::{Act, Need, Recipe, Role, UnitChoice, act_at, node_count};
 use batch_text::Name;
+use batch_verify::unit_reserved;
 use std::alloc::{AllocError, Global};
 
 /// Where the role with this name stands.
@@ -103,18 +107,38 @@ fn number_each(
     Ok(numbers)
 }
 
+/// Adds the units of the unit procedures with these names, which an act reserves after its own.
+fn number_reserved(
+    cell: &Cell,
+    recipe: &Recipe,
+    numbers: Vec<NeedNumber>,
+    names: &[Name],
+) -> Result<Vec<NeedNumber>, AllocError>
+    requires { list_all (names_unit recipe.now.acts) names.now ≡ true }
+    ensures { IfOk result (λ all. (more : List NeedNumber) × AreReservedNeeds cell.now (roles_of recipe.now) recipe.now.acts names.now more × (all.items ≡ numbers.items ++ more)) }
+{
+    let mut numbers = numbers;
+    for name in names {
+        let choice = unit_reserved(&recipe.acts, name);
+        let resource = number_choice(cell, &recipe.roles, choice);
+        numbers.push(NeedNumber { resource, units: 1 })?;
+    }
+    Ok(numbers)
+}
+
 /// All that an act asks for.
 fn number_needs(
     alloc: Global,
     cell: &Cell,
-    roles: &[Role],
+    recipe: &Recipe,
     act: &Act,
 ) -> Result<Vec<NeedNumber>, AllocError>
-    requires { length roles.now ≤ MAX_ROLES }
-    ensures { IfOk result (λ numbers. AreNeeds cell.now (map (λ role. role.name) roles.now) act.now.unit act.now.needs.items numbers.items) }
+    requires { list_all (names_unit recipe.now.acts) act.now.reserves.items ≡ true }
+    ensures { IfOk result (λ numbers. AreNeeds cell.now (roles_of recipe.now) recipe.now.acts act.now numbers.items) }
 {
-    let unit = number_unit(alloc, cell, roles, &act.unit)?;
-    let needs = number_each(cell, unit, &act.needs)?;
+    let unit = number_unit(alloc, cell, &recipe.roles, &act.unit)?;
+    let reserved = number_reserved(cell, recipe, unit, &act.reserves)?;
+    let needs = number_each(cell, reserved, &act.needs)?;
     Ok(needs)
 }
 
@@ -176,7 +200,7 @@ fn number_act(
             task: TaskNumber::Phase(NO_PHASE),
         });
     };
-    let needs = number_needs(alloc, cell, &recipe.roles, act)?;
+    let needs = number_needs(alloc, cell, recipe, act)?;
     let task = number_task(cell, recipe, node);
     Ok(ActNumbers { needs, task })
 }

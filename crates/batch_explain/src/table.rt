@@ -5,7 +5,7 @@ ghost use Rattle.batch_explain.specs.Explaining.{refusal_codes};
 use crate::explanation::Explanation;
 
 /// The explanations of all codes of refusals, in order of letter and number.
-pub fn explanations() -> [Explanation; 51]
+pub fn explanations() -> [Explanation; 52]
     ensures { map (λ explanation. explanation.code.now) result ≡ refusal_codes }
 {
     // By a reference, so that the proof holds one place and not each of its texts.
@@ -13,7 +13,7 @@ pub fn explanations() -> [Explanation; 51]
     *table
 }
 
-static EXPLANATIONS: [Explanation; 51] = [
+static EXPLANATIONS: [Explanation; 52] = [
     Explanation {
         code: "A1",
         meaning: "the line with this number is the first of the record that differs from what the lines that were sent come to",
@@ -51,12 +51,12 @@ static EXPLANATIONS: [Explanation; 51] = [
     },
     Explanation {
         code: "D5",
-        meaning: "a label, a unit, a role, a value or an output is named that the document doesn't declare",
+        meaning: "a label, a unit, a role, a value, an output or a unit procedure is named that the document doesn't declare",
         remedy: "declare it, or name what is declared; capitals count",
     },
     Explanation {
         code: "D6",
-        meaning: "a name is declared twice, a phase is offered twice by one unit, or a phase reports an output twice",
+        meaning: "a name is declared twice, a phase is offered twice by one unit, a phase reports an output twice, or an act reserves a unit procedure twice",
         remedy: "give one of the two another name",
     },
     Explanation {
@@ -238,6 +238,11 @@ static EXPLANATIONS: [Explanation; 51] = [
         code: "V10",
         meaning: "two recipes have one name, or there are more than 256",
         remedy: "name each recipe once, with its own name",
+    },
+    Explanation {
+        code: "V11",
+        meaning: "a unit procedure that a step reserves doesn't follow it",
+        remedy: "reserve the unit procedure that is next once the step has ended, with no `sel`, `skip`, end of a branch of a `par` or turn of a `loop` between",
     },
     Explanation {
         code: "W1",

@@ -44,5 +44,5 @@ kept-along d rank cleared told s sd k es (move m ∷ outs) t l =
     (let td = moved-stands d rank cleared s m sd l.0 in kept-along d rank cleared (told ++ move m ∷ []) (after s m) td (move-step d rank told s sd k m l.0 td).0 es outs t l.1)
 kept-along d rank cleared told s sd k (v ∷ es) (reply r ∷ outs) t l =
     subst (λ z. IsKept d rank z t) (append_assoc told (reply r ∷ []) outs)
-    (kept-along d rank cleared (told ++ reply r ∷ []) l.0 (reacts-stands d s l.0 v r sd l.1) (reply-step d rank cleared told s sd k v r l.0 l.1) es outs t l.2)
+    (kept-along d rank cleared (told ++ reply r ∷ []) l.0 (reacts-stands d (placed-trees d rank cleared) s l.0 v r sd l.1) (reply-step d rank cleared told s sd k v r l.0 l.1) es outs t l.2)
 kept-along d rank cleared told s sd k es outs t l = grind arith

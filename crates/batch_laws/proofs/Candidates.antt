@@ -1,16 +1,18 @@
 -- A path has one unit procedure, so that clearance for every binding is clearance of each unit procedure on each unit.
-use Rattle.std.proofs.Common.{arith, ◌≡◌, refl, sym, ◌∙◌, ap, subst, ℕ, ◌+◌, List, [], ◌∷◌, true, false, ◌&&◌, not, IsTrue, Option, Some, None, inl, inr}
+use Rattle.std.proofs.Common.{arith, ◌≡◌, refl, sym, ◌∙◌, ap, subst, ℕ, ◌+◌, List, [], ◌∷◌, true, false, ◌&&◌, ◌||◌, not, map, length, nat_le, IsTrue, Option, Some, None, inl, inr}
 use Rattle.std.proofs.lemmas.Bool.{and_parts}
+use Rattle.std.proofs.lemmas.Bool.Decides.{nat_tests}
 use Rattle.std.specs.List.{list_all}
 use Rattle.batch_cell.specs.declared.cell.Cell as equipment
 use Rattle.batch_recipe.specs.Conditions.{Name, same_name}
 use Rattle.batch_recipe.specs.Diagram as chart
 use Rattle.batch_recipe.specs.Diagram.{Diagram, Diagrams, Cases, diagram_of}
-use Rattle.batch_recipe.specs.Expanding.{Binding, unbound, unit_chosen, unit_with, unit_below, asked_by, expanded, expanded_each, expanded_cases, task_of, act_named, act_tree_with, named_tree_with}
+use Rattle.batch_recipe.specs.Expanding.{Binding, unbound, Sites, unit_chosen, unit_with, unit_below, unit_count, unit_named, asked_by, reserves_from, expanded, expanded_each, expanded_cases, task_of, act_named, act_tree_with, named_tree_with}
 use Rattle.batch_recipe.specs.Needs.{resources_of}
 use Rattle.batch_recipe.specs.Nodes.{child}
 use Rattle.batch_recipe.specs.Tree.{Place, Tree, act, skip, seq, par, sel, loop, Trees, Choices, Step, follows}
-use Rattle.batch_recipe.specs.WellFormed.{has_unit, has_chart, is_among, are_distinct, is_role_among}
+use Rattle.batch_recipe.specs.ActsAtNodes.{procedure_acts}
+use Rattle.batch_recipe.specs.WellFormed.{reserves_none, has_unit, has_chart, is_among, are_distinct, is_role_among}
 use Rattle.batch_recipe.specs.declared.act.Act.{Act}
 use Rattle.batch_recipe.specs.declared.act.UnitChoice.{UnitChoice}
 use Rattle.batch_recipe.specs.declared.act.UnitChoice.TheVariants.{Unit, Role}
@@ -21,12 +23,12 @@ use Rattle.batch_recipe.specs.declared.recipe.Recipe as document
 use Rattle.batch_model.specs.Lists.{Has, Each}
 use Rattle.batch_model.specs.Plant.{Role as Declared, Setup}
 use Rattle.batch_model.specs.Cleared.{Ranking, Part, is_procedure, in_procedure, part, parts, parts_of_each, parts_of_choices, surely_runs, IsServed, IsClear, HasCandidates, IsClearedRecipe}
-use Rattle.batch_model.specs.Setups.{labels, labels_of_each, labels_of_cases, labels_of, name_role, master_of}
+use Rattle.batch_model.specs.Setups.{labels, labels_of_each, labels_of_cases, labels_of, reserve_role, master_of}
 use Rattle.batch_model.proofs.Bindings.{HaveNoUnits, list_all-Has, none-chosen, no-units-below, unit-of-each, on-chosen, chart-same-runs, label-same-runs}
 use Rattle.batch_model.proofs.Members.{Has-left, Has-right, Each-append, find-Has}
 use Rattle.batch_laws.specs.Candidates.{MayBe, MayRun, tree_on, UnitProcedureIsClear, ChartIsClear, ChartsAreClear, CasesAreClear, WorkIsClear, IsClearOnEach, CandidatesSuffice}
 use Rattle.batch_laws.proofs.Members.{Each-left, Each-right}
-use Rattle.batch_laws.proofs.Roles.{with_role, with_role-own, AreServed, still-served, some-serves, names_of, one-declared, some-declared, named-role}
+use Rattle.batch_laws.proofs.Roles.{AreServed, some-serves, names_of, one-declared, some-declared, named-role}
 
 -- Whether a node outside unit procedures is clear doesn't depend on what stands below it, but for the body of a loop
 
@@ -50,42 +52,42 @@ module _ (setup : Setup) (rank : Ranking) where
   root-clear p asked s name t u h =
       record { known = h.known; on_unit = tt; within = h.within; offered = tt; apart = tt; turning = tt; rising = h.rising }
 
--- Charts of unit procedures, of which `named` are labels: a binding that serves chooses a unit on which each of these may run, and
--- each such unit is chosen by some binding that serves
+-- Charts of unit procedures, of which `named` are labels: a binding that serves chooses a unit on which each of these may run
 
 module _ (setup : Setup) (rank : Ranking) (roles : List Declared) (units : List Act) (tables : List (List Act)) (named : List Name) (Serves : Binding → Type 0)
     (none_below : HaveNoUnits tables)
     (own : (name : Name) (a : Act) → act_named units name ≡ Some a → (choice : UnitChoice) × (a.unit ≡ Some choice))
     (may_be : (bound : Binding) → Serves bound → (name : Name) → Has named name → (a : Act) → act_named units name ≡ Some a
     → (choice : UnitChoice) → a.unit ≡ Some choice → MayBe roles choice (unit_chosen bound choice))
-    (choosing : (name : Name) → Has named name → (a : Act) → act_named units name ≡ Some a
-    → (choice : UnitChoice) → a.unit ≡ Some choice → (unit : Name) → MayBe roles choice unit → (bound : Binding) × Serves bound × (unit_chosen bound choice ≡ unit))
     (some : (bound : Binding) × Serves bound) where
   abbrev Clear : Part → Type 0
   Clear = IsClear setup rank
 
+  abbrev own_sites : Binding → Sites
+  own_sites bound = record { bound = bound; unit_procedures = units }
+
   abbrev label_of : Binding → Name → Place → Tree
-  label_of bound = named_tree_with bound (units ∷ tables) []
+  label_of bound = named_tree_with (own_sites bound) (units ∷ tables) []
 
   abbrev AreNamed : List Name → Type 0
   AreNamed names = (name : Name) → Has names name → Has named name
 
   same-turns : (bound other : Binding) (p : Place) (d : Diagram) → surely_runs (expanded (label_of bound) p d) ≡ surely_runs (expanded (label_of other) p d)
-  same-turns bound other p d = chart-same-runs (label_of bound) (label_of other) (λ name q. label-same-runs bound other (units ∷ tables) [] [] name q) p d
+  same-turns bound other p d = chart-same-runs (label_of bound) (label_of other) (λ name q. label-same-runs (own_sites bound) (own_sites other) (units ∷ tables) [] [] name q) p d
 
   mutual
-    for_all : (bound : Binding) → Serves bound → (p : Place) (asked : List Name) (d : Diagram) → AreNamed (labels d) → ChartIsClear setup rank roles units tables p asked d
+    for_all : (bound : Binding) → Serves bound → (p : Place) (asked : List Name) (d : Diagram) → AreNamed (labels d) → ChartIsClear setup rank roles Serves units tables p asked d
         → Each Clear (parts in_procedure p asked (expanded (label_of bound) p d))
     for_all bound s p asked (chart.label name) n h = go (act_named units name) refl h
       where
-        go : (o : Option Act) → act_named units name ≡ o → UnitProcedureIsClear setup rank roles units tables p asked o
-            → Each Clear (parts in_procedure p asked (elim o [ None ↦ skip | Some a ↦ act_tree_with bound (named_tree_with bound tables) [] a p ]))
+        go : (o : Option Act) → act_named units name ≡ o → UnitProcedureIsClear setup rank roles Serves units tables p asked o
+            → Each Clear (parts in_procedure p asked (elim o [ None ↦ skip | Some a ↦ act_tree_with (own_sites bound) (named_tree_with (own_sites bound) tables) [] a p ]))
         go None e h = (h, tt)
         go (Some a) e h =
             let choice = own name a e in
             let unit : Name = unit_chosen bound choice.0 in
-            subst (λ t. Each Clear (parts in_procedure p asked t)) (sym (on-chosen bound tables none_below choice.0 a p choice.1))
-            (h unit (subst (λ o. MayRun roles o unit) (sym choice.1) (may_be bound s name (n name (inl refl)) a e choice.0 choice.1)))
+            subst (λ t. Each Clear (parts in_procedure p asked t)) (sym (on-chosen (own_sites bound) (own_sites bound) refl tables none_below choice.0 a p choice.1))
+            (h unit (subst (λ o. MayRun roles o unit) (sym choice.1) (may_be bound s name (n name (inl refl)) a e choice.0 choice.1)) bound s (ap (unit_with bound) choice.1))
     for_all bound s p asked chart.skip n h = (h, tt)
     for_all bound s p asked (chart.seq ds) n h =
         (seq-clear setup rank p asked (expanded_each (label_of unbound) p 0 ds) (expanded_each (label_of bound) p 0 ds) h.0, for_branches bound s p asked 0 ds n h.1)
@@ -99,7 +101,7 @@ module _ (setup : Setup) (rank : Ranking) (roles : List Declared) (units : List 
     )
 
     for_branches : (bound : Binding) → Serves bound → (p : Place) (asked : List Name) (i : ℕ) (ds : Diagrams) → AreNamed (labels_of_each ds)
-        → ChartsAreClear setup rank roles units tables p asked i ds → Each Clear (parts_of_each in_procedure p asked i (expanded_each (label_of bound) p i ds))
+        → ChartsAreClear setup rank roles Serves units tables p asked i ds → Each Clear (parts_of_each in_procedure p asked i (expanded_each (label_of bound) p i ds))
     for_branches bound s p asked i chart.none n h = tt
     for_branches bound s p asked i (chart.more d ds) n h =
         Each-append Clear (parts in_procedure (child p i) asked (expanded (label_of bound) (child p i) d)) (parts_of_each in_procedure p asked (i + 1) (expanded_each (label_of bound) p (i + 1) ds))
@@ -107,7 +109,7 @@ module _ (setup : Setup) (rank : Ranking) (roles : List Declared) (units : List 
         (for_branches bound s p asked (i + 1) ds (λ name k. n name (Has-right (labels d) (labels_of_each ds) name k)) h.1)
 
     for_cases : (bound : Binding) → Serves bound → (p : Place) (asked : List Name) (i : ℕ) (cs : Cases) → AreNamed (labels_of_cases cs)
-        → CasesAreClear setup rank roles units tables p asked i cs → Each Clear (parts_of_choices in_procedure p asked i (expanded_cases (label_of bound) p i cs))
+        → CasesAreClear setup rank roles Serves units tables p asked i cs → Each Clear (parts_of_choices in_procedure p asked i (expanded_cases (label_of bound) p i cs))
     for_cases bound s p asked i (chart.otherwise d) n h = for_all bound s (child p i) asked d n h
     for_cases bound s p asked i (chart.when c d cs) n h =
         Each-append Clear (parts in_procedure (child p i) asked (expanded (label_of bound) (child p i) d)) (parts_of_choices in_procedure p asked (i + 1) (expanded_cases (label_of bound) p (i + 1) cs))
@@ -120,18 +122,19 @@ module _ (setup : Setup) (rank : Ranking) (roles : List Declared) (units : List 
 
   mutual
     by_itself : (p : Place) (asked : List Name) (d : Diagram) → AreNamed (labels d) → Always (λ bound. parts in_procedure p asked (expanded (label_of bound) p d))
-        → ChartIsClear setup rank roles units tables p asked d
+        → ChartIsClear setup rank roles Serves units tables p asked d
     by_itself p asked (chart.label name) n h = go (act_named units name) refl h
       where
         go : (o : Option Act) → act_named units name ≡ o
-            → Always (λ bound. parts in_procedure p asked (elim o [ None ↦ skip | Some a ↦ act_tree_with bound (named_tree_with bound tables) [] a p ]))
-            → UnitProcedureIsClear setup rank roles units tables p asked o
+            → Always (λ bound. parts in_procedure p asked (elim o [ None ↦ skip | Some a ↦ act_tree_with (own_sites bound) (named_tree_with (own_sites bound) tables) [] a p ]))
+            → UnitProcedureIsClear setup rank roles Serves units tables p asked o
         go None e h = (h some.0 some.1).0
-        go (Some a) e h = λ unit m.
+        go (Some a) e h = λ unit m bound serves on.
             let choice = own name a e in
-            let by = choosing name (n name (inl refl)) a e choice.0 choice.1 unit (subst (λ o. MayRun roles o unit) choice.1 m) in
-            subst (λ u. Each Clear (parts in_procedure p asked (tree_on tables u a p))) by.2
-            (subst (λ t. Each Clear (parts in_procedure p asked t)) (on-chosen by.0 tables none_below choice.0 a p choice.1) (h by.0 by.1))
+            let chosen : Some (unit_chosen bound choice.0) ≡ Some unit = sym (ap (unit_with bound) choice.1) ∙ on in
+            let same : unit_chosen bound choice.0 ≡ unit = cc in
+            subst (λ u. Each Clear (parts in_procedure p asked (tree_on (own_sites bound) tables u a p))) same
+            (subst (λ t. Each Clear (parts in_procedure p asked t)) (on-chosen (own_sites bound) (own_sites bound) refl tables none_below choice.0 a p choice.1) (h bound serves))
     by_itself p asked chart.skip n h = (h some.0 some.1).0
     by_itself p asked (chart.seq ds) n h = (
       seq-clear setup rank p asked (expanded_each (label_of some.0) p 0 ds) (expanded_each (label_of unbound) p 0 ds) (h some.0 some.1).0,
@@ -152,7 +155,7 @@ module _ (setup : Setup) (rank : Ranking) (roles : List Declared) (units : List 
     )
 
     branches_by_themselves : (p : Place) (asked : List Name) (i : ℕ) (ds : Diagrams) → AreNamed (labels_of_each ds)
-        → Always (λ bound. parts_of_each in_procedure p asked i (expanded_each (label_of bound) p i ds)) → ChartsAreClear setup rank roles units tables p asked i ds
+        → Always (λ bound. parts_of_each in_procedure p asked i (expanded_each (label_of bound) p i ds)) → ChartsAreClear setup rank roles Serves units tables p asked i ds
     branches_by_themselves p asked i chart.none n h = tt
     branches_by_themselves p asked i (chart.more d ds) n h = (
       by_itself (child p i) asked d (λ name k. n name (Has-left (labels d) (labels_of_each ds) name k)) (λ bound s.
@@ -162,7 +165,7 @@ module _ (setup : Setup) (rank : Ranking) (roles : List Declared) (units : List 
     )
 
     cases_by_themselves : (p : Place) (asked : List Name) (i : ℕ) (cs : Cases) → AreNamed (labels_of_cases cs)
-        → Always (λ bound. parts_of_choices in_procedure p asked i (expanded_cases (label_of bound) p i cs)) → CasesAreClear setup rank roles units tables p asked i cs
+        → Always (λ bound. parts_of_choices in_procedure p asked i (expanded_cases (label_of bound) p i cs)) → CasesAreClear setup rank roles Serves units tables p asked i cs
     cases_by_themselves p asked i (chart.otherwise d) n h = by_itself (child p i) asked d n h
     cases_by_themselves p asked i (chart.when c d cs) n h = (
       by_itself (child p i) asked d (λ name k. n name (Has-left (labels d) (labels_of_cases cs) name k)) (λ bound s.
@@ -173,35 +176,35 @@ module _ (setup : Setup) (rank : Ranking) (roles : List Declared) (units : List 
 
   -- The whole procedure, by the tests on its unit and work
 
-  abbrev root_of : Binding → Act → Option UnitChoice → Work → Tree
-  root_of bound a o w =
-      act (record { place = 0 ∷ []; needs = asked_by (unit_with bound o) a.needs.items })
-      (task_of (named_tree_with bound (units ∷ tables) (unit_below [] (unit_with bound o))) (unit_below [] (unit_with bound o)) a.name (0 ∷ []) w)
+  abbrev root_of : Binding → Act → Option UnitChoice → List Name → Work → Tree
+  root_of bound a o rs w =
+      act (record { place = 0 ∷ []; needs = asked_by (unit_with bound o) (map (unit_named (own_sites bound)) rs) a.needs.items; reserves = reserves_from (unit_count o) rs })
+      (task_of (named_tree_with (own_sites bound) (units ∷ tables) (unit_below [] (unit_with bound o))) (unit_below [] (unit_with bound o)) a.name (0 ∷ []) w)
 
   abbrev labels_in : Work → List Name
   labels_in w = elim w [ Follows c ↦ labels (diagram_of c) | Runs phase values reports ↦ [] ]
 
-  abbrev OnEach : Act → Option UnitChoice → Work → Type 0
-  OnEach a o w =
-      IsClear setup rank (part is_procedure (0 ∷ []) [] (root_of unbound a o w)) × WorkIsClear setup rank roles units tables (0 ∷ []) (resources_of a.needs.items) w
+  abbrev OnEach : Act → Option UnitChoice → List Name → Work → Type 0
+  OnEach a o rs w =
+      IsClear setup rank (part is_procedure (0 ∷ []) [] (root_of unbound a o rs w)) × WorkIsClear setup rank roles Serves units tables (0 ∷ []) (resources_of a.needs.items) w
 
-  pub whole-for_all : (a : Act) (o : Option UnitChoice) (w : Work) → o ≡ None → elim w [ Follows c ↦ true | Runs phase values reports ↦ false ] ≡ true → AreNamed (labels_in w)
-      → OnEach a o w → Always (λ bound. parts is_procedure (0 ∷ []) [] (root_of bound a o w))
-  whole-for_all a None (Follows c) e f n h bound s = (
-    root-clear setup rank (0 ∷ []) [] (record { place = 0 ∷ []; needs = a.needs.items }) a.name
+  pub whole-for_all : (a : Act) (o : Option UnitChoice) (rs : List Name) (w : Work) → o ≡ None → rs ≡ [] → elim w [ Follows c ↦ true | Runs phase values reports ↦ false ] ≡ true → AreNamed (labels_in w)
+      → OnEach a o rs w → Always (λ bound. parts is_procedure (0 ∷ []) [] (root_of bound a o rs w))
+  whole-for_all a None [] (Follows c) e q f n h bound s = (
+    root-clear setup rank (0 ∷ []) [] (record { place = 0 ∷ []; needs = a.needs.items; reserves = [] }) a.name
         (expanded (label_of unbound) (child (0 ∷ []) 0) (diagram_of c)) (expanded (label_of bound) (child (0 ∷ []) 0) (diagram_of c)) h.0,
     for_all bound s (child (0 ∷ []) 0) (resources_of a.needs.items) (diagram_of c) n h.1,
   )
-  whole-for_all a o w e f n h bound s = grind arith
+  whole-for_all a o rs w e q f n h bound s = grind arith
 
-  pub whole-by_itself : (a : Act) (o : Option UnitChoice) (w : Work) → o ≡ None → elim w [ Follows c ↦ true | Runs phase values reports ↦ false ] ≡ true → AreNamed (labels_in w)
-      → Always (λ bound. parts is_procedure (0 ∷ []) [] (root_of bound a o w)) → OnEach a o w
-  whole-by_itself a None (Follows c) e f n h = (
-    root-clear setup rank (0 ∷ []) [] (record { place = 0 ∷ []; needs = a.needs.items }) a.name
+  pub whole-by_itself : (a : Act) (o : Option UnitChoice) (rs : List Name) (w : Work) → o ≡ None → rs ≡ [] → elim w [ Follows c ↦ true | Runs phase values reports ↦ false ] ≡ true → AreNamed (labels_in w)
+      → Always (λ bound. parts is_procedure (0 ∷ []) [] (root_of bound a o rs w)) → OnEach a o rs w
+  whole-by_itself a None [] (Follows c) e q f n h = (
+    root-clear setup rank (0 ∷ []) [] (record { place = 0 ∷ []; needs = a.needs.items; reserves = [] }) a.name
         (expanded (label_of some.0) (child (0 ∷ []) 0) (diagram_of c)) (expanded (label_of unbound) (child (0 ∷ []) 0) (diagram_of c)) (h some.0 some.1).0,
     by_itself (child (0 ∷ []) 0) (resources_of a.needs.items) (diagram_of c) n (λ bound s. (h bound s).1),
   )
-  whole-by_itself a o w e f n h = grind arith
+  whole-by_itself a o rs w e q f n h = grind arith
 
 -- Documents
 
@@ -250,24 +253,13 @@ module _ (setup : Setup) (rank : Ranking) (cell : equipment.Cell) (recipe : docu
   may_be bound s name h a e (Unit unit) f = refl
   may_be bound s name h a e (Role role) f =
       let d = declared name a e role f in
-      let used : IsTrue (name_role units named role) = named-role units named name h a e role f in (
+      let used : IsTrue ((master_of cell recipe).names_role role) = ap (λ t. t || reserve_role units (procedure_acts recipe.acts) role) (named-role units named name h a e role f) in (
         d.0,
         d.1,
         d.2,
         subst (λ r. IsTrue (is_among d.0.candidates (bound r))) d.2
-            (served-role bound roles s d.0 d.1 (subst (λ r. IsTrue (name_role units named r)) (sym d.2) used)),
+            (served-role bound roles s d.0 d.1 (subst (λ r. IsTrue ((master_of cell recipe).names_role r)) (sym d.2) used)),
       )
-
-  module _ (some : (bound : Binding) × Serves bound) where
-    choosing : (name : Name) → Has named name → (a : Act) → act_named units name ≡ Some a
-        → (choice : UnitChoice) → a.unit ≡ Some choice → (unit : Name) → MayBe roles choice unit → (bound : Binding) × Serves bound × (unit_chosen bound choice ≡ unit)
-    choosing name h a e (Unit own) f unit m = (some.0, some.1, m)
-    choosing name h a e (Role role) f unit m = (
-      with_role role unit some.0,
-      still-served (master_of cell recipe).names_role roles some.0 role unit some.1
-          (λ d k q. subst (λ z. IsTrue (is_among z.candidates unit)) (roles-differ m.0 d m.1 k (m.2 ∙ sym q)) m.3),
-      with_role-own role unit some.0,
-    )
 
   serving : HasCandidates (master_of cell recipe) → (bound : Binding) × Serves bound
   serving h = some-serves (master_of cell recipe).names_role roles roles-differ h
@@ -279,19 +271,30 @@ module _ (setup : Setup) (rank : Ranking) (cell : equipment.Cell) (recipe : docu
   no_unit : recipe.acts.procedure.unit ≡ None
   no_unit = none-chosen recipe.acts.procedure.unit procedure_kind.0
 
+  none-reserved : (xs : List Name) → nat_le (length xs) 0 ≡ true → xs ≡ []
+  none-reserved [] e = refl
+  none-reserved (x ∷ xs) e = absurd (grind (arith, nat_tests))
+
+  no_reserves : recipe.acts.procedure.reserves.items ≡ []
+  no_reserves = none-reserved recipe.acts.procedure.reserves.items (and_parts (reserves_none recipe.acts.procedure) _ recipe.own_reserves).0
+
   pub on-each : IsClearedRecipe setup rank (master_of cell recipe) → IsClearOnEach setup rank cell recipe
   on-each h =
       let some = serving h.0 in
-      let each = whole-by_itself setup rank roles units tables named Serves (no-units-below recipe.acts recipe.kinds) own may_be (choosing some) some
-      recipe.acts.procedure recipe.acts.procedure.unit recipe.acts.procedure.work no_unit procedure_kind.1 (λ name k. k) h.1 in
-      record { candidates = h.0; root = each.0; chart = each.1 }
+      let each = whole-by_itself setup rank roles units tables named Serves (no-units-below recipe.acts recipe.kinds) own may_be some
+      recipe.acts.procedure recipe.acts.procedure.unit recipe.acts.procedure.reserves.items recipe.acts.procedure.work no_unit no_reserves procedure_kind.1 (λ name k. k)
+      (λ bound s. (h.1 bound s).clear) in
+      record { candidates = h.0; root = each.0; chart = each.1; follow = λ bound s. (h.1 bound s).follow }
 
   pub for-every : IsClearOnEach setup rank cell recipe → IsClearedRecipe setup rank (master_of cell recipe)
   for-every h =
       let some = serving h.candidates in (
         h.candidates,
-        whole-for_all setup rank roles units tables named Serves (no-units-below recipe.acts recipe.kinds) own may_be (choosing some) some
-            recipe.acts.procedure recipe.acts.procedure.unit recipe.acts.procedure.work no_unit procedure_kind.1 (λ name k. k) (h.root, h.chart),
+        λ bound s. record {
+          clear = whole-for_all setup rank roles units tables named Serves (no-units-below recipe.acts recipe.kinds) own may_be some
+              recipe.acts.procedure recipe.acts.procedure.unit recipe.acts.procedure.reserves.items recipe.acts.procedure.work no_unit no_reserves procedure_kind.1 (λ name k. k) (h.root, h.chart) bound s;
+          follow = h.follow bound s;
+        },
       )
 
 pub candidates_suffice : CandidatesSuffice

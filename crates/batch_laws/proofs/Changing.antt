@@ -1,26 +1,26 @@
 -- One act of one batch changes: what each kind of change keeps.
-use Rattle.std.proofs.Common.{◌≡◌, ◌⊎◌, ⊎_elim, sym, ◌∙◌, ap, subst, subst₂, ℕ, ◌+◌, ◌≤◌, arith, List, [], ◌∷◌, ◌++◌, false, map, Option, Some, inl, inr, bytes_eq, append-nil}
+use Rattle.std.proofs.Common.{◌≡◌, ◌⊎◌, ⊎_elim, sym, ◌∙◌, ap, ap₂, subst, subst₂, ℕ, ◌+◌, ◌≤◌, arith, List, [], ◌∷◌, ◌++◌, false, map, Option, Some, inl, inr, bytes_eq, append-nil}
 use Rattle.std.proofs.lemmas.List.{map-append}
 use Rattle.batch_matrix.specs.declared.state.State.{State}
 use Rattle.batch_model.specs.Lists.{Has}
-use Rattle.batch_recipe.specs.Conditions.{Name, ValueList}
+use Rattle.batch_recipe.specs.Conditions.{Name}
 use Rattle.batch_recipe.specs.Tree.{Place, Phase}
-use Rattle.batch_model.specs.Rest.{Rest, advance, changed_at, place_of}
+use Rattle.batch_model.specs.Rest.{Rest, changed_at, place_of}
 use Rattle.batch_model.specs.Plant.{Setup, Batch, BatchAct, Share, units_in, Plant, without}
 use Rattle.batch_model.specs.Runs.{Out}
 use Rattle.batch_model.specs.Records.{holders_after, holders_told, waiters_after, Active, active_after, active_told, state_after, state_told}
 use Rattle.batch_machine.proofs.Telling.{holders_told-last, waiters_told-last, active_told-last, state_told-last}
-use Rattle.batch_laws.proofs.Facts.{Fact, holding, awaiting, performing, Standing, held_at, facts, Entry, entry, entries, holders_among, need, share}
+use Rattle.batch_laws.proofs.Facts.{Fact, holding, awaiting, performing, Standing, held_at, facts, early_facts, batch_facts, Entry, entry, entries, holders_among, need, share}
 use Rattle.batch_model.specs.Cleared.{Ranking}
 use Rattle.batch_laws.proofs.ClearedDown.{IsClearedDown}
 use Rattle.batch_model.proofs.Members.{Has-split, Has-left, Has-right}
 use Rattle.batch_laws.proofs.Members.{Has-map}
 use Rattle.batch_laws.proofs.Ranking.{holding-performing, holding-awaiting, same_holding}
-use Rattle.batch_laws.proofs.Reaching.{advance-facts}
 use Rattle.batch_laws.proofs.Framing.{Frame}
 use Rattle.batch_laws.proofs.Entries.{Agrees, Has-holders, holders-append, agrees-more, agrees-less, IsOnce, NoneBy, units-append, units-frame, units-one, Has-frame, frame-front, frame-middle, frame-back, name_self}
-use Rattle.batch_laws.proofs.Batches.{NumbersDiffer, only, Has-only, plant-frame, AreOthers}
-use Rattle.batch_laws.proofs.Invariant.{IsFitting, IsSound, IsKept}
+use Rattle.batch_laws.proofs.Batches.{NumbersDiffer, only, Has-only, BatchFrame, plant-frame, AreOthers}
+use Rattle.batch_laws.proofs.Alike.{StandApart}
+use Rattle.batch_laws.proofs.Invariant.{IsFitting, AreFirstNeeds, IsSound, IsKept}
 use Rattle.batch_model.specs.Standing.{IsStanding}
 use Rattle.batch_laws.proofs.Invariant.{numbers-of}
 use Rattle.batch_recipe.specs.declared.need.Need.{Need}
@@ -237,40 +237,49 @@ not_performing n p names u before after x a y h e =
     (λ m. m)
     (split-framed x.front (map (entry n) (held_at p names)) [] x.back (a, performing y) (subst (λ z. Has z (a, performing y)) x.was h))
 
--- a change of batch b by g, whose rest goes on from a change of the act a by f
-pub record IsChange (b : Batch) (a : Rest) (g : Batch → Batch) (f : Rest → Rest) (vs : ValueList) : Type 0 where
+-- a change of batch b by g, which changes the act a by f, and nothing that is held in advance
+pub record IsChange (b : Batch) (a : Rest) (g : Batch → Batch) (f : Rest → Rest) : Type 0 where
   pub number : (g b).number ≡ b.number
   pub recipe : (g b).recipe ≡ b.recipe
-  pub goes_on : (g b).rest ≡ advance vs (changed_at (place_of a) f b.rest)
+  pub changed : (g b).rest ≡ changed_at (place_of a) f b.rest
+  pub early : (g b).in_advance ≡ b.in_advance
 
-pub change-facts : (b : Batch) (a : Rest) (g : Batch → Batch) (f : Rest → Rest) (vs : ValueList) → IsChange b a g f vs → facts (g b).rest ≡ facts (changed_at (place_of a) f b.rest)
-change-facts b a g f vs c = ap facts c.goes_on ∙ advance-facts vs (changed_at (place_of a) f b.rest)
+pub change-facts : (b : Batch) (a : Rest) (g : Batch → Batch) (f : Rest → Rest) → IsChange b a g f → batch_facts (g b) ≡ early_facts b.in_advance ++ facts (changed_at (place_of a) f b.rest)
+change-facts b a g f c = ap₂ (λ xs ys. early_facts xs ++ ys) c.early (ap facts c.changed)
 
-pub change-sound : (d : Setup) (rank : Ranking) (b : Batch) (a : Rest) (g : Batch → Batch) (f : Rest → Rest) (vs : ValueList) → IsSound d rank b → IsChange b a g f vs
+pub change-sound : (d : Setup) (rank : Ranking) (b : Batch) (a : Rest) (g : Batch → Batch) (f : Rest → Rest) → IsSound d rank b → IsChange b a g f
     → IsFitting (g b).state (facts (g b).rest) → IsSound d rank (g b)
-change-sound d rank b a g f vs s c fits = record { cleared = subst (IsClearedDown d rank) (sym c.recipe) s.cleared; fits = fits }
+change-sound d rank b a g f s c fits = record {
+  cleared = subst (IsClearedDown d rank) (sym c.recipe) s.cleared;
+  fits = fits;
+  apart = subst StandApart (sym c.early) s.apart;
+  units = subst₂ (λ r xs. AreFirstNeeds r.procedure xs) (sym c.recipe) (sym c.early) s.units;
+}
 
 -- the facts of the act before and after
 pub record Becomes (a : Rest) (f : Rest → Rest) (names : List Need) (t u : Tail) : Type 0 where
   pub was : facts a ≡ held_at (place_of a) names ++ tail_at (place_of a) t
   pub is : facts (f a) ≡ held_at (place_of a) names ++ tail_at (place_of a) u
 
-pub apart : (next : ℕ) (bs : List Batch) (b : Batch) (a : Rest) (g : Batch → Batch) (f : Rest → Rest) (vs : ValueList) (names : List Need) (t u : Tail)
-    → NumbersDiffer next bs → Has bs b → Frame b.rest a → IsChange b a g f vs → Becomes a f names t u
+pub apart : (next : ℕ) (bs : List Batch) (b : Batch) (a : Rest) (g : Batch → Batch) (f : Rest → Rest) (names : List Need) (t u : Tail)
+    → NumbersDiffer next bs → Has bs b → BatchFrame b a → IsChange b a g f → Becomes a f names t u
     → IsApart b.number (place_of a) names t u (entries bs) (entries (map (only b.number g) bs))
-apart next bs b a g f vs names t u h i fr c e =
+apart next bs b a g f names t u h i fr c e =
     let p = plant-frame next bs b a h i fr in
     let n : ℕ = b.number in
     record {
       front = p.0;
       back = p.1;
       was = p.2 ∙ ap (λ z. p.0 ++ (z ++ p.1)) (ap (map (entry n)) e.was ∙ map-append (entry n) (held_at (place_of a) names) (tail_at (place_of a) t));
-      is = p.3 g f c.number (change-facts b a g f vs c) ∙ ap (λ z. p.0 ++ (z ++ p.1)) (ap (map (entry n)) e.is ∙ map-append (entry n) (held_at (place_of a) names) (tail_at (place_of a) u));
+      is = p.3 g f c.number (change-facts b a g f c) ∙ ap (λ z. p.0 ++ (z ++ p.1)) (ap (map (entry n)) e.is ∙ map-append (entry n) (held_at (place_of a) names) (tail_at (place_of a) u));
       not_front = p.4;
       not_back = p.5;
     }
 
 -- fewer facts of the act are fewer facts of the batch
-pub fewer-facts : (b : Batch) (a : Rest) (g : Batch → Batch) (f : Rest → Rest) (vs : ValueList) → Frame b.rest a → IsChange b a g f vs
+pub fewer-facts : (b : Batch) (a : Rest) (g : Batch → Batch) (f : Rest → Rest) → Frame b.rest a → IsChange b a g f
     → ((e : Standing) → Has (facts (f a)) e → Has (facts a) e) → (e : Standing) → Has (facts (g b).rest) e → Has (facts b.rest) e
-fewer-facts b a g f vs fr c less e h = grind (arith, change-facts b a g f vs c, frame-front fr.0 (facts a) fr.1 e, frame-back fr.0 (facts a) fr.1 e, frame-middle, Has-frame)
+fewer-facts b a g f fr c less e h =
+    subst (λ z. Has z e) (sym fr.2)
+    (⊎_elim (frame-front fr.0 (facts a) fr.1 e) (λ m. ⊎_elim (λ n. frame-middle fr.0 (facts a) fr.1 e (less e n)) (frame-back fr.0 (facts a) fr.1 e) m)
+    (Has-frame fr.0 (facts (f a)) fr.1 e (subst (λ z. Has z e) (ap facts c.changed ∙ fr.3 f) h)))

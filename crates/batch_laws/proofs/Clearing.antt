@@ -1,12 +1,12 @@
 -- Clearance over all nodes makes clearance on the way down.
-use Rattle.std.proofs.Common.{◌≡◌, refl, sym, ◌∙◌, ap, subst, ℕ, ◌+◌, ◌<◌, arith, List, [], ◌∷◌, ◌++◌, Bool, true, false, map, IsTrue, inl, inr}
+use Rattle.std.proofs.Common.{◌≡◌, refl, sym, ◌∙◌, ap, subst, ℕ, ◌+◌, ◌<◌, arith, List, [], ◌∷◌, ◌++◌, Bool, true, false, map, IsTrue, inl, inr, slice_get}
 use Rattle.std.proofs.lemmas.Bool.{and_parts}
 use Rattle.std.proofs.lemmas.Slice.Eq.{bytes_eq-Decides}
 use Rattle.std.specs.List.{list_all}
 use Rattle.batch_recipe.specs.Conditions.{Name, same_name}
 use Rattle.batch_recipe.specs.Expanding.{Binding}
 use Rattle.batch_recipe.specs.Nodes.{Node, child}
-use Rattle.batch_recipe.specs.Tree.{Place, Phase, Task, runs, follows, Tree, act, skip, seq, par, sel, loop, Trees, no_trees, tree, Choices, otherwise, choice}
+use Rattle.batch_recipe.specs.Tree.{Place, Phase, Step, Task, runs, follows, Tree, act, skip, seq, par, sel, loop, Trees, no_trees, tree, Choices, otherwise, choice}
 use Rattle.batch_recipe.specs.WellFormed.{is_among, are_distinct}
 use Rattle.batch_model.specs.Lists.{Has, Each}
 use Rattle.batch_model.specs.Plant.{Recipe, Role, Master, Setup}
@@ -17,8 +17,10 @@ use Rattle.batch_model.proofs.Members.{Has-right, Has-split, Each-Has, Each-map,
 use Rattle.batch_model.proofs.Parts.{parts-nodes}
 use Rattle.batch_laws.specs.Procedures.{IsOfLevel, IsActOf, AreOfLevel, AreChoicesOf, HasLevels, IsProcedure}
 use Rattle.batch_laws.specs.Premises.{IsOfDocuments}
-use Rattle.batch_laws.proofs.ClearedDown.{RunsInUnits, RunsInUnitsBelow, RunInUnits, RunSideBySide, ChoicesRunInUnits, AreApart, IsOfferedPhase, IsClearedDown, AreClearedDown}
+use Rattle.batch_laws.proofs.Avoiding.{followers-avoided}
+use Rattle.batch_laws.proofs.ClearedDown.{RunsInUnits, RunsInUnitsBelow, RunInUnits, RunSideBySide, ChoicesRunInUnits, AreApart, IsOfferedPhase, BeginsAlone, FollowersBeginAlone, IsClearedDown, AreClearedDown}
 use Rattle.batch_laws.proofs.Members.{Each-left, Each-right, Each-image, map-Has}
+use Rattle.batch_laws.proofs.Tops.{Top, tops, tops_of_each, tops_of_choices, top-steps, follower-one}
 use Rattle.batch_laws.proofs.Ways.{paths-down}
 use Rattle.batch_recipe.specs.declared.need.Need.{Need}
 use Rattle.batch_recipe.specs.Needs.{one_unit, resources_of}
@@ -318,6 +320,44 @@ module _ (setup : Setup) (rank : Ranking) where
           (one-user unit (child p i) asked t h.0 (Each-left Clear (parts in_procedure (child p i) asked t) (parts_of_choices in_procedure p asked (i + 1) cs) c))
           (one-user_choices unit p asked (i + 1) cs h.1 (Each-right Clear (parts in_procedure (child p i) asked t) (parts_of_choices in_procedure p asked (i + 1) cs) c))
 
+    -- Unit procedures ask first for their units, which have one user
+
+    abbrev IsAlone : Top → Type 0
+    IsAlone t = BeginsAlone setup t.0
+
+    alone_act : (unit : Name) (s : Step) (w : Task) → IsActOf in_procedure unit s.needs w → BeginsWithUnit setup.units s.needs → Each IsAlone (tops (act s w))
+    alone_act unit s (runs x) h u = tt
+    alone_act unit s (follows name t) h u = (go s.needs refl h u, tt)
+      where
+        go : (needs : List Need) → s.needs ≡ needs → IsActOf in_procedure unit needs (follows name t) → BeginsWithUnit setup.units needs → BeginsAlone setup s
+        go [] e k v = absurd k
+        go (own ∷ needs) e k v = (own, ap (λ zs. slice_get zs 0) e, k.0, exclusive own.resource v)
+
+    mutual
+      alone : (unit : Name) (p : Place) (asked : List Name) (t : Tree) → IsOfLevel in_procedure unit t → Each Clear (parts in_procedure p asked t) → Each IsAlone (tops t)
+      alone unit p asked (act s w) h c = alone_act unit s w h c.0.on_unit
+      alone unit p asked skip h c = tt
+      alone unit p asked (seq ts) h c = alone_each unit p asked 0 ts h c.1
+      alone unit p asked (par ts) h c = alone_each unit p asked 0 ts h.1 c.1
+      alone unit p asked (sel cs) h c = alone_choices unit p asked 0 cs h c.1
+      alone unit p asked (loop n q t) h c = alone unit (child p 0) asked t h c.1
+
+      alone_each : (unit : Name) (p : Place) (asked : List Name) (i : ℕ) (ts : Trees) → AreOfLevel in_procedure unit ts → Each Clear (parts_of_each in_procedure p asked i ts)
+          → Each IsAlone (tops_of_each ts)
+      alone_each unit p asked i no_trees h c = tt
+      alone_each unit p asked i (tree t ts) h c =
+          Each-append IsAlone (tops t) (tops_of_each ts)
+          (alone unit (child p i) asked t h.0 (Each-left Clear (parts in_procedure (child p i) asked t) (parts_of_each in_procedure p asked (i + 1) ts) c))
+          (alone_each unit p asked (i + 1) ts h.1 (Each-right Clear (parts in_procedure (child p i) asked t) (parts_of_each in_procedure p asked (i + 1) ts) c))
+
+      alone_choices : (unit : Name) (p : Place) (asked : List Name) (i : ℕ) (cs : Choices) → AreChoicesOf in_procedure unit cs → Each Clear (parts_of_choices in_procedure p asked i cs)
+          → Each IsAlone (tops_of_choices cs)
+      alone_choices unit p asked i (otherwise t) h c = alone unit (child p i) asked t h c
+      alone_choices unit p asked i (choice q t cs) h c =
+          Each-append IsAlone (tops t) (tops_of_choices cs)
+          (alone unit (child p i) asked t h.0 (Each-left Clear (parts in_procedure (child p i) asked t) (parts_of_choices in_procedure p asked (i + 1) cs) c))
+          (alone_choices unit p asked (i + 1) cs h.1 (Each-right Clear (parts in_procedure (child p i) asked t) (parts_of_choices in_procedure p asked (i + 1) cs) c))
+
     -- The whole procedure
 
     whole-in_units : (t : Tree) → HasLevels t → Each Clear (parts is_procedure (0 ∷ []) [] t) → RunsInUnits [] t
@@ -331,6 +371,13 @@ module _ (setup : Setup) (rank : Ranking) where
     whole-one-user (act s (follows name t)) h c = one-user [] (0 ∷ 0 ∷ []) (resources_of s.needs) t h c.1
     whole-one-user skip h c = tt
     whole-one-user t h c = absurd (grind arith)
+
+    whole-alone : (t : Tree) → HasLevels t → Each Clear (parts is_procedure (0 ∷ []) [] t) → FollowersBeginAlone setup t
+    whole-alone (act s (follows name t)) h c =
+        λ place wanted to e.
+        let m = follower-one s name t place wanted to e in
+        (m.0.0, inr (top-steps t m.0 m.1), m.3, Each-Has IsAlone (tops t) m.0 (alone [] (0 ∷ 0 ∷ []) (resources_of s.needs) t h c.1) m.1)
+    whole-alone t h c = absurd (grind arith)
 
     abbrev AsksInOrder : Node → Type 0
     AsksInOrder n = RiseStrictly rank n.asked
@@ -346,6 +393,9 @@ module _ (setup : Setup) (rank : Ranking) where
           in_units = whole-in_units r.procedure h.levels c;
           offered = phases-offered is_procedure (0 ∷ []) [] r.procedure c;
           single = whole-one-user r.procedure h.levels c;
+          reserved = h.reserved;
+          followed = whole-alone r.procedure h.levels c;
+          avoided = followers-avoided r.procedure h.placed h.levels;
         }
 
 -- Pairs that bind every role serve, so the control recipe of a batch is cleared
@@ -365,7 +415,7 @@ binding-serves master pairs e =
 pub control-clear : (setup : Setup) (rank : Ranking) → IsCleared setup rank → (r : Recipe) → IsControl setup r → Each (IsClear setup rank) (procedure_parts r)
 control-clear setup rank c r (master, known, (pairs, is, made)) =
     subst (λ z. Each (IsClear setup rank) (procedure_parts z)) (sym made)
-    ((Each-Has (IsClearedRecipe setup rank) setup.recipes master c.recipes known).1 (bound_by pairs) (binding-serves master pairs is))
+    ((Each-Has (IsClearedRecipe setup rank) setup.recipes master c.recipes known).1 (bound_by pairs) (binding-serves master pairs is)).clear
 
 pub control-procedure : (setup : Setup) → IsOfDocuments setup → (r : Recipe) → IsControl setup r → IsProcedure r.procedure
 control-procedure setup h r (master, known, (pairs, is, made)) =

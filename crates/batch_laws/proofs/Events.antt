@@ -14,7 +14,7 @@ use Rattle.batch_recipe.specs.Values.{with_outputs_zero}
 use Rattle.batch_model.specs.Events.{Refusal, created, ordered, removed, refused, command_not_accepted, not_idle, Answer, new_batch, with_batch, reset, commanded, lines_under, ordering, without_batch, removing}
 use Rattle.batch_model.specs.Runs.{Out, reply}
 use Rattle.batch_model.specs.Records.{waiters_after, state_after}
-use Rattle.batch_laws.proofs.Facts.{holding, awaiting, performing, Standing, facts, Entry, entry, entries_of, entries, holder_of, holders_among, need}
+use Rattle.batch_laws.proofs.Facts.{holding, awaiting, performing, Standing, facts, early_facts, batch_facts, Entry, entry, entries_of, entries, holder_of, holders_among, need}
 use Rattle.batch_model.specs.Cleared.{Ranking}
 use Rattle.batch_laws.proofs.ClearedDown.{IsClearedDown}
 use Rattle.batch_model.proofs.Members.{Has-split}
@@ -23,14 +23,15 @@ use Rattle.batch_laws.proofs.Reaching.{reach-facts, is_kept, withdrawn-facts}
 use Rattle.batch_laws.proofs.Entries.{Agrees, once-filter, Has-filter, filter-Has, nat_same, nat_self, nat_differs, holders-append}
 use Rattle.batch_laws.proofs.Batches.{Has-only, below-next, only, only-hit, only-miss, same-batch}
 use Rattle.batch_laws.proofs.Invariant.{IsFitting, NothingAwaited, IsSound, IsKept}
-use Rattle.batch_laws.proofs.Batches.{entry-of, of-entry}
+use Rattle.batch_laws.proofs.Batches.{awaiting-of, performing-of, of-entry, append-holders}
+use Rattle.batch_laws.proofs.Passing.{is_under_way, early-none}
 use Rattle.batch_machine.proofs.Telling.{holders_told-last, waiters_told-last, active_told-last, state_told-last}
 use Rattle.batch_laws.proofs.Changing.{changed_plant, kept-after}
 use Rattle.batch_laws.proofs.Keeping.{kept-quiet}
 use Rattle.batch_laws.proofs.Moving.{tells-other, tells-own}
 use Rattle.std.proofs.lemmas.List.{append-nil}
 use Rattle.batch_model.specs.Standing.{IsStanding}
-use Rattle.batch_laws.proofs.Invariant.{numbers-of}
+use Rattle.batch_laws.proofs.Invariant.{standing-of, numbers-of}
 use Rattle.batch_recipe.specs.declared.need.Need.{Need}
 
 -- Answers: the record with the reply, and the plant
@@ -70,12 +71,12 @@ pub kept-created : (d : Setup) (rank : Ranking) (outs : List Out) (s : Plant) (r
 kept-created d rank outs s r name size told vs cleared sd k =
     let o : Out = reply (created s.next_number name size told) in
     let n : Batch = new_batch s.next_number r size vs in
-    let none : facts n.rest ≡ [] = reach-facts vs r.procedure in
+    let none : batch_facts n ≡ [] = reach-facts vs r.procedure in
     let same : entries (s.batches ++ n ∷ []) ≡ entries s.batches
     = entries-append s.batches (n ∷ []) ∙ ap (λ z. entries s.batches ++ (map (entry s.next_number) z ++ [])) none ∙ append-nil (entries s.batches) in
     record {
       sound = λ c h. ⊎_elim (k.sound c)
-          (λ m. ⊎_elim (λ e. subst (IsSound d rank) e (record { cleared = cleared; fits = none })) (λ e. absurd e) m)
+          (λ m. ⊎_elim (λ e. subst (IsSound d rank) e (record { cleared = cleared; fits = none; apart = tt; units = λ held j. absurd j })) (λ e. absurd e) m)
           (Has-split s.batches (n ∷ []) c h);
       held = λ q. subst₂ Agrees (sym (holders_told-last outs o q)) (ap (holders_among q) (sym same)) (k.held q);
       within = λ q. subst (λ z. units_in (holders_among q z) ≤ d.capacity q) (sym same) (k.within q);
@@ -98,7 +99,7 @@ kept-created d rank outs s r name size told vs cleared sd k =
 
 -- Removal
 
-entries-without : (n : ℕ) (bs : List Batch) → ((c : Batch) → Has bs c → c.number ≡ n → facts c.rest ≡ []) → entries (filter (λ b. not (nat_eq b.number n)) bs) ≡ entries bs
+entries-without : (n : ℕ) (bs : List Batch) → ((c : Batch) → Has bs c → c.number ≡ n → batch_facts c ≡ []) → entries (filter (λ b. not (nat_eq b.number n)) bs) ≡ entries bs
 entries-without n [] h = refl
 entries-without n (b ∷ bs) h = go (nat_eq b.number n) refl (entries-without n bs (λ c k. h c (inr k)))
   where
@@ -112,9 +113,11 @@ kept-removed : (d : Setup) (rank : Ranking) (outs : List Out) (s : Plant) (b : B
 kept-removed d rank outs s b i idle sd k =
     let o : Out = reply (removed b.number) in
     let left : Batch → Bool = λ c. not (nat_eq c.number b.number) in
-    let none : facts b.rest ≡ [] = subst (λ z. IsFitting z (facts b.rest)) idle (k.sound b i).fits in
+    let stands = standing-of d s sd b i in
+    let none : batch_facts b ≡ []
+    = ap₂ (λ xs ys. early_facts xs ++ ys) (early-none d b stands (ap is_under_way idle)) (subst (λ z. IsFitting z (facts b.rest)) idle (k.sound b i).fits) in
     let same : entries (filter left s.batches) ≡ entries s.batches
-    = entries-without b.number s.batches (λ c h e. subst (λ z. facts z.rest ≡ []) (sym (same-batch s.next_number s.batches c b (numbers-of d s sd) h i e)) none) in
+    = entries-without b.number s.batches (λ c h e. subst (λ z. batch_facts z ≡ []) (sym (same-batch s.next_number s.batches c b (numbers-of d s sd) h i e)) none) in
     record {
       sound = λ c h. k.sound c ((Has-filter left s.batches c h).0);
       held = λ q. subst₂ Agrees (sym (holders_told-last outs o q)) (ap (holders_among q) (sym same)) (k.held q);
@@ -136,8 +139,11 @@ order-others c n x m old d = tells-other n m (Some x) old d
 order-own : (c : Command) (n : ℕ) (x was : State) → state_after n (Some was) (reply (ordered c n x)) ≡ Some x
 order-own c n x was = tells-own n (Some x) (Some was)
 
--- a batch that may be reset has no facts
-reset-nothing : (x : State) (es : List Standing) → accepts x Reset ≡ true → IsFitting x es → es ≡ []
+-- a batch that may be reset isn't under way, and has no facts
+pub reset-rests : (x : State) → accepts x Reset ≡ true → is_under_way x ≡ false
+reset-rests x e = grind arith
+
+pub reset-nothing : (x : State) (es : List Standing) → accepts x Reset ≡ true → IsFitting x es → es ≡ []
 reset-nothing x es e h = grind arith
 
 kept-holders : (n : ℕ) (q : Name) (es : List Standing) → holders_among q (map (entry n) (filter is_kept es)) ≡ holders_among q (map (entry n) es)
@@ -163,15 +169,16 @@ module _ (d : Setup) (rank : Ranking) (outs : List Out) (s : Plant) (sd : IsStan
       → IsKept d rank (outs ++ reply (ordered c b.number (target c)) ∷ []) (changed_plant s b.number (λ z. record z { state = target c }) s.line)
   kept-commanded c fits wait =
       kept-quiet d rank outs s sd k b i (reply (ordered c b.number (target c))) (λ z. record z { state = target c }) refl
-      (record { cleared = sound-b.cleared; fits = fits (facts b.rest) }) refl
+      (record { cleared = sound-b.cleared; fits = fits (facts b.rest); apart = sound-b.apart; units = sound-b.units }) refl
       (order-others c b.number (target c), order-own c b.number (target c) b.state) (λ q hs. refl) wait (λ xs. refl)
 
   kept-reset : accepts b.state Reset ≡ true → IsKept d rank (outs ++ reply (ordered Reset b.number Idle) ∷ []) (changed_plant s b.number reset s.line)
   kept-reset e =
-      let none : facts b.rest ≡ [] = reset-nothing b.state (facts b.rest) e sound-b.fits in
+      let none : batch_facts b ≡ []
+      = ap₂ (λ xs ys. early_facts xs ++ ys) (early-none d b (standing-of d s sd b i) (reset-rests b.state e)) (reset-nothing b.state (facts b.rest) e sound-b.fits) in
       let vs : ValueList = with_outputs_zero b.recipe.outputs b.values in
       kept-quiet d rank outs s sd k b i (reply (ordered Reset b.number Idle)) reset refl
-      (record { cleared = sound-b.cleared; fits = reach-facts vs b.recipe.procedure })
+      (record { cleared = sound-b.cleared; fits = reach-facts vs b.recipe.procedure; apart = tt; units = λ held j. absurd j })
       (reach-facts vs b.recipe.procedure ∙ sym none)
       (order-others Reset b.number Idle, order-own Reset b.number Idle b.state) (λ q hs. refl) (λ q ws. refl) (λ xs. refl)
 
@@ -192,6 +199,8 @@ module _ (d : Setup) (rank : Ranking) (outs : List Out) (s : Plant) (sd : IsStan
       (record {
         cleared = sound-b.cleared;
         fits = fits (facts (withdrawn b.rest)) (λ p r h. not_kept p r (subst (λ z. Has z (p, awaiting r)) (withdrawn-facts b.rest) h));
+        apart = sound-b.apart;
+        units = sound-b.units;
       })
       (order-others c n (target c)) (order-own c n (target c) b.state)
       (λ q. subst (Agrees (Rattle.batch_model.specs.Records.holders_told outs q)) (sym (same q)) (k.held q))
@@ -200,11 +209,14 @@ module _ (d : Setup) (rank : Ranking) (outs : List Out) (s : Plant) (sd : IsStan
       (λ q. once-filter (λ a. not (nat_eq a.act.0 n)) (s.line q) (k.once q))
       (λ q a h. (let m = Has-filter (λ z. not (nat_eq z.act.0 n)) (s.line q) a h in asks q a m.0 (not_this a.act.0 n m.1)))
       (λ x h. runs_on x.act x.phase (k.active x h))
-      (λ q a h. waited q a (entry-of (map (only n g) s.batches) a.act (awaiting (need q a.units)) h))
-      (λ a x h. ran a x (entry-of (map (only n g) s.batches) a (performing x) h))
+      (λ q a h. waited q a (awaiting-of (map (only n g) s.batches) a.act (need q a.units) h))
+      (λ a x h. ran a x (performing-of (map (only n g) s.batches) a x h))
     where
       one : (q : Name) (e : Batch) → Has s.batches e → (t : Bool) → nat_eq e.number b.number ≡ t → holders_among q (entries_of (elim t [ true ↦ stopped c e | false ↦ e ])) ≡ holders_among q (entries_of e)
-      one q e h true w = ap (λ z. holders_among q (map (entry e.number) z)) (withdrawn-facts e.rest) ∙ kept-holders e.number q (facts e.rest)
+      one q e h true w =
+          append-holders e.number q (early_facts e.in_advance) (facts (withdrawn e.rest))
+          ∙ (ap (λ z. holders_among q (map (entry e.number) (early_facts e.in_advance)) ++ z) (ap (λ z. holders_among q (map (entry e.number) z)) (withdrawn-facts e.rest) ∙ kept-holders e.number q (facts e.rest))
+          ∙ sym (append-holders e.number q (early_facts e.in_advance) (facts e.rest)))
       one q e h false w = refl
 
       not_kept : (p : Place) (r : Need) → Has (filter is_kept (facts b.rest)) (p, awaiting r) → ⊥
@@ -249,12 +261,12 @@ module _ (d : Setup) (rank : Ranking) (outs : List Out) (s : Plant) (sd : IsStan
 
       asks : (q : Name) (a : Share) → Has (s.line q) a → (a.act.0 ≡ b.number → ⊥) → Has (entries (map (only b.number (stopped c)) s.batches)) (a.act, awaiting (need q a.units))
       asks q a h d' =
-          let e = entry-of s.batches a.act (awaiting (need q a.units)) (k.asked q a h) in
+          let e = awaiting-of s.batches a.act (need q a.units) (k.asked q a h) in
           subst (λ z. Has (entries (map (only b.number (stopped c)) s.batches)) ((z, a.act.1), awaiting (need q a.units))) e.2
           (of-entry (map (only b.number (stopped c)) s.batches) e.0 a.act.1 (awaiting (need q a.units)) (stays_other e.0 e.1 (λ w. d' (sym e.2 ∙ w))) e.3)
 
       runs_on : (a : BatchAct) (x : Phase) → Has (entries s.batches) (a, performing x) → Has (entries (map (only b.number (stopped c)) s.batches)) (a, performing x)
-      runs_on a x h = (let e = entry-of s.batches a (performing x) h in go e.0 e.1 e.2 e.3 (nat_eq e.0.number b.number) refl)
+      runs_on a x h = (let e = performing-of s.batches a x h in go e.0 e.1 e.2 e.3 (nat_eq e.0.number b.number) refl)
         where
           go : (e : Batch) → Has s.batches e → e.number ≡ a.0 → Has (facts e.rest) (a.1, performing x) → (t : Bool) → nat_eq e.number b.number ≡ t
               → Has (entries (map (only b.number (stopped c)) s.batches)) (a, performing x)

@@ -4,7 +4,7 @@ use Rattle.std.specs.Str.{bytes_eq}
 use Rattle.batch_recipe.specs.Conditions.{Name}
 use Rattle.batch_recipe.specs.Tree.{Place, Phase}
 use Rattle.batch_model.specs.Rest.{Rest, ready, asking, open_act, live, freeing, in_seq, in_par, in_loop, done, Rests, no_rests, rest}
-use Rattle.batch_model.specs.Plant.{Batch, BatchAct, Share}
+use Rattle.batch_model.specs.Plant.{InAdvance, Batch, BatchAct, Share}
 use Rattle.batch_recipe.specs.declared.need.Need.{Need}
 
 pub data Fact : Type 0 where
@@ -50,8 +50,16 @@ Entry = BatchAct × Fact
 abbrev pub entry : ℕ → Standing → Entry
 entry n e = ((n, e.0), e.1)
 
+-- what is held in advance
+abbrev pub early_facts : List InAdvance → List Standing
+early_facts xs = map (λ held. let e : Standing = (held.place, holding held.unit) in e) xs
+
+-- the facts of a batch
+abbrev pub batch_facts : Batch → List Standing
+batch_facts b = early_facts b.in_advance ++ facts b.rest
+
 abbrev pub entries_of : Batch → List Entry
-entries_of b = map (entry b.number) (facts b.rest)
+entries_of b = map (entry b.number) (batch_facts b)
 
 abbrev pub entries : List Batch → List Entry
 entries bs = flat_map entries_of bs

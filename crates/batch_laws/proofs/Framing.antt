@@ -65,7 +65,7 @@ frame-self r c a e =
 elsewhere-append : (p : Place) (xs ys : List Standing) → IsElsewhere p xs → IsElsewhere p ys → IsElsewhere p (xs ++ ys)
 elsewhere-append p xs ys h k e m q = ⊎_elim (λ n. h e n q) (λ n. k e n q) (Has-split xs ys e m)
 
-frame-after : (before : List Standing) (now : List Standing) (later after : (Rest → Rest) → List Standing) (a : Rest) → IsElsewhere (place_of a) before
+pub frame-after : (before : List Standing) (now : List Standing) (later after : (Rest → Rest) → List Standing) (a : Rest) → IsElsewhere (place_of a) before
     → ((f : Rest → Rest) → after f ≡ before ++ later f) → Frames now later a → Frames (before ++ now) after a
 frame-after before now later after a el e f = (
   before ++ f.0,

@@ -1,11 +1,11 @@
 -- The one fact that every event and every move keeps.
-use Rattle.std.proofs.Common.{◌≡◌, refl, subst, ℕ, ◌<◌, ◌≤◌, arith, List, [], ◌∷◌, true, Some, inl}
+use Rattle.std.proofs.Common.{◌≡◌, refl, subst, ℕ, ◌<◌, ◌≤◌, arith, List, [], ◌∷◌, true, Some, slice_get, inl}
 use Rattle.batch_matrix.specs.declared.state.State.{State}
 use Rattle.batch_matrix.specs.declared.state.State.TheVariants.{Idle, Running, Pausing, Paused, Holding, Held, Restarting, Stopping, Stopped, Aborting, Aborted, Complete}
 use Rattle.batch_model.specs.Lists.{Has}
 use Rattle.batch_recipe.specs.Conditions.{Name}
-use Rattle.batch_recipe.specs.Tree.{Place, Phase}
-use Rattle.batch_model.specs.Plant.{Setup, Batch, BatchAct, Share, units_in, Plant}
+use Rattle.batch_recipe.specs.Tree.{Place, Step, Phase, Tree}
+use Rattle.batch_model.specs.Plant.{Setup, InAdvance, Batch, BatchAct, Share, units_in, Plant}
 use Rattle.batch_model.specs.Moves.{is_running}
 use Rattle.batch_model.specs.Runs.{Out}
 use Rattle.batch_model.specs.Records.{holders_told, waiters_told, Active, active_told, state_told, IsAtRest}
@@ -14,6 +14,8 @@ use Rattle.batch_model.specs.Cleared.{Ranking}
 use Rattle.batch_laws.proofs.ClearedDown.{IsClearedDown}
 use Rattle.batch_laws.proofs.Entries.{Agrees, IsOnce}
 use Rattle.batch_laws.proofs.Batches.{NumbersDiffer}
+use Rattle.batch_laws.proofs.Alike.{StandApart}
+use Rattle.batch_model.specs.ActStates.{steps}
 use Rattle.batch_model.specs.Standing.{IsStandingBatch, AreNumbered, IsStanding}
 use Rattle.batch_model.proofs.Members.{Each-Has}
 use Rattle.batch_recipe.specs.declared.need.Need.{Need}
@@ -36,10 +38,19 @@ IsFitting Holding es = Unit {0}
 IsFitting Held es = Unit {0}
 IsFitting Restarting es = Unit {0}
 
--- a batch of a cleared recipe, whose facts fit its state
+-- what is held in advance is what each step of the tree at its place asks for first
+abbrev pub IsFirstNeed : Tree → InAdvance → Type 0
+IsFirstNeed c held = (s : Step) → Has (steps c) s → s.place ≡ held.place → slice_get s.needs 0 ≡ Some held.unit
+
+abbrev pub AreFirstNeeds : Tree → List InAdvance → Type 0
+AreFirstNeeds c xs = (held : InAdvance) → Has xs held → IsFirstNeed c held
+
+-- a batch of a cleared recipe, whose facts fit its state; what it holds in advance stands apart
 pub record IsSound (d : Setup) (rank : Ranking) (b : Batch) : Type 0 where
   pub cleared : IsClearedDown d rank b.recipe
   pub fits : IsFitting b.state (facts b.rest)
+  pub apart : StandApart b.in_advance
+  pub units : AreFirstNeeds b.recipe.procedure b.in_advance
 
 -- the record so far tells the plant's facts, and these are in order
 pub record IsKept (d : Setup) (rank : Ranking) (outs : List Out) (s : Plant) : Type 0 where

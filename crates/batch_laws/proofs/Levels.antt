@@ -1,14 +1,14 @@
 -- The expanded tree of a recipe has the levels of a procedure.
-use Rattle.std.proofs.Common.{arith, ◌≡◌, refl, ℕ, ◌+◌, List, [], ◌∷◌, Bool, true, false, ◌&&◌, not, Option, Some, None}
+use Rattle.std.proofs.Common.{arith, ◌≡◌, refl, ℕ, ◌+◌, List, [], ◌∷◌, Bool, true, false, ◌&&◌, not, map, Option, Some, None}
 use Rattle.std.proofs.lemmas.Bool.{and_parts}
 use Rattle.std.specs.List.{list_all}
 use Rattle.batch_recipe.specs.Conditions.{Name}
 use Rattle.batch_recipe.specs.Diagram as chart
 use Rattle.batch_recipe.specs.Diagram.{Diagram, Diagrams, Cases, diagram_of}
-use Rattle.batch_recipe.specs.Tree.{Place, Tree, act, skip}
+use Rattle.batch_recipe.specs.Tree.{Place, Step, Tree, act, skip}
 use Rattle.batch_recipe.specs.Nodes.{child}
-use Rattle.batch_recipe.specs.Expanding.{expanded, expanded_each, expanded_cases, unit_below, asked_by, task_of, act_named, Binding, unit_chosen, unit_with, act_tree_with, named_tree_with}
-use Rattle.batch_recipe.specs.Procedure.{tables_from}
+use Rattle.batch_recipe.specs.Expanding.{expanded, expanded_each, expanded_cases, unit_below, asked_by, task_of, act_named, Sites, unit_chosen, unit_with, unit_named, step_of, act_tree_with, named_tree_with}
+use Rattle.batch_recipe.specs.Procedure.{sites, tables_from}
 use Rattle.batch_recipe.specs.WellFormed.{has_unit, has_chart, has_no_par, follows_no_par, is_work, act_names, value_names}
 use Rattle.batch_recipe.specs.declared.act.Act.{Act}
 use Rattle.batch_recipe.specs.declared.act.Work.{Work}
@@ -19,6 +19,7 @@ use Rattle.batch_model.specs.Cleared.{Level, in_procedure, in_unit_procedure, in
 use Rattle.batch_model.proofs.Bindings.{list_all-Has}
 use Rattle.batch_model.proofs.Members.{find-Has}
 use Rattle.batch_machine.proofs.Placed.{bound_tree-IsPlaced}
+use Rattle.batch_laws.proofs.Reserved.{reserves-units}
 use Rattle.batch_laws.specs.Procedures.{AllowsPar, IsOfLevel, IsActOf, AreOfLevel, AreChoicesOf, HasLevels, TreesAreProcedures, RecipesAreProcedures}
 use Rattle.batch_recipe.specs.declared.need.Need.{Need}
 use Rattle.batch_recipe.specs.declared.act.UnitChoice.{UnitChoice}
@@ -72,63 +73,63 @@ some_chart w = elim w [ Follows c ↦ true | Runs phase values reports ↦ false
 abbrev no_par : Work → Bool
 no_par w = elim w [ Follows c ↦ has_no_par (diagram_of c) | Runs phase values reports ↦ true ]
 
-module _ (bound : Binding) where
-  phase_step-level : (acts : Name → Place → Tree) (unit name : Name) (p : Place) (o : Option UnitChoice) (needs : List Need) (w : Work)
-      → (not (some_unit o) && not (some_chart w)) ≡ true → IsActOf in_operation unit (asked_by (unit_with bound o) needs) (task_of acts (unit_below unit (unit_with bound o)) name p w)
-  phase_step-level acts unit name p o needs w e = grind arith
+module _ (own : Sites) where
+  phase_step-level : (acts : Name → Place → Tree) (unit name : Name) (p : Place) (o : Option UnitChoice) (reserved : List Name) (needs : List Need) (w : Work)
+      → (not (some_unit o) && not (some_chart w)) ≡ true → IsActOf in_operation unit (asked_by (unit_with own.bound o) reserved needs) (task_of acts (unit_below unit (unit_with own.bound o)) name p w)
+  phase_step-level acts unit name p o reserved needs w e = grind arith
 
   operation-level : (acts : Name → Name → Place → Tree) → ((unit name : Name) (p : Place) → IsOfLevel in_operation unit (acts unit name p))
-      → (unit name : Name) (p : Place) (o : Option UnitChoice) (needs : List Need) (w : Work)
-      → (not (some_unit o) && some_chart w) ≡ true → IsActOf in_unit_procedure unit (asked_by (unit_with bound o) needs) (task_of (acts (unit_below unit (unit_with bound o))) (unit_below unit (unit_with bound o)) name p w)
-  operation-level acts named unit name p None needs (Follows c) e = expanded-level in_operation unit (acts unit) (named unit) (child p 0) (diagram_of c) (λ q. tt)
-  operation-level acts h unit name p o needs w e = absurd (grind arith)
+      → (unit name : Name) (p : Place) (o : Option UnitChoice) (reserved : List Name) (needs : List Need) (w : Work)
+      → (not (some_unit o) && some_chart w) ≡ true → IsActOf in_unit_procedure unit (asked_by (unit_with own.bound o) reserved needs) (task_of (acts (unit_below unit (unit_with own.bound o))) (unit_below unit (unit_with own.bound o)) name p w)
+  operation-level acts named unit name p None reserved needs (Follows c) e = expanded-level in_operation unit (acts unit) (named unit) (child p 0) (diagram_of c) (λ q. tt)
+  operation-level acts h unit name p o reserved needs w e = absurd (grind arith)
 
   unit_procedure-level : (acts : Name → Name → Place → Tree) → ((unit name : Name) (p : Place) → IsOfLevel in_unit_procedure unit (acts unit name p))
-      → (above unit name : Name) (p : Place) (o : Option UnitChoice) (needs : List Need) (w : Work)
-      → (some_unit o && some_chart w) ≡ true → no_par w ≡ true → IsActOf in_procedure above (asked_by (unit_with bound o) needs) (task_of (acts (unit_below unit (unit_with bound o))) (unit_below unit (unit_with bound o)) name p w)
-  unit_procedure-level acts named above unit name p (Some own) needs (Follows c) e n =
-      let unit : Name = unit_chosen bound own in
+      → (above unit name : Name) (p : Place) (o : Option UnitChoice) (reserved : List Name) (needs : List Need) (w : Work)
+      → (some_unit o && some_chart w) ≡ true → no_par w ≡ true → IsActOf in_procedure above (asked_by (unit_with own.bound o) reserved needs) (task_of (acts (unit_below unit (unit_with own.bound o))) (unit_below unit (unit_with own.bound o)) name p w)
+  unit_procedure-level acts named above unit name p (Some choice) reserved needs (Follows c) e n =
+      let unit : Name = unit_chosen own.bound choice in
       (refl, expanded-level in_unit_procedure unit (acts unit) (named unit) (child p 0) (diagram_of c) (λ q. absurd cc))
-  unit_procedure-level acts h above unit name p o needs w e n = absurd (grind arith)
+  unit_procedure-level acts h above unit name p o reserved needs w e n = absurd (grind arith)
 
-  procedure-level : (acts : Name → Name → Place → Tree) → ((unit name : Name) (p : Place) → IsOfLevel in_procedure [] (acts unit name p)) → (a : Act) (p : Place) (o : Option UnitChoice) (w : Work)
-      → (not (some_unit o) && some_chart w) ≡ true → HasLevels (act (record { place = p; needs = asked_by (unit_with bound o) a.needs.items }) (task_of (acts (unit_below [] (unit_with bound o))) (unit_below [] (unit_with bound o)) a.name p w))
-  procedure-level acts named a p None (Follows c) e = expanded-level in_procedure [] (acts []) (named []) (child p 0) (diagram_of c) (λ q. tt)
-  procedure-level acts h a p o w e = absurd (grind arith)
+  procedure-level : (acts : Name → Name → Place → Tree) → ((unit name : Name) (p : Place) → IsOfLevel in_procedure [] (acts unit name p)) → (s : Step) (name : Name) (p : Place) (o : Option UnitChoice) (w : Work)
+      → (not (some_unit o) && some_chart w) ≡ true → HasLevels (act s (task_of (acts (unit_below [] (unit_with own.bound o))) (unit_below [] (unit_with own.bound o)) name p w))
+  procedure-level acts named s name p None (Follows c) e = expanded-level in_procedure [] (acts []) (named []) (child p 0) (diagram_of c) (λ q. tt)
+  procedure-level acts h s name p o w e = absurd (grind arith)
 
   -- Tables
 
   module _ (steps : List Act) (kinds : list_all (λ s. not (has_unit s) && not (has_chart s)) steps ≡ true) where
-    steps-level : (unit name : Name) (p : Place) → IsOfLevel in_operation unit (named_tree_with bound (steps ∷ []) unit name p)
+    steps-level : (unit name : Name) (p : Place) → IsOfLevel in_operation unit (named_tree_with own (steps ∷ []) unit name p)
     steps-level unit name p = go (act_named steps name) refl
       where
-        go : (o : Option Act) → act_named steps name ≡ o → IsOfLevel in_operation unit (elim o [ None ↦ skip | Some a ↦ act_tree_with bound (named_tree_with bound []) unit a p ])
+        go : (o : Option Act) → act_named steps name ≡ o → IsOfLevel in_operation unit (elim o [ None ↦ skip | Some a ↦ act_tree_with own (named_tree_with own []) unit a p ])
         go None e = tt
         go (Some a) e =
-            phase_step-level (named_tree_with bound [] (unit_below unit (unit_with bound a.unit))) unit a.name p a.unit a.needs.items a.work
+            phase_step-level (named_tree_with own [] (unit_below unit (unit_with own.bound a.unit))) unit a.name p a.unit (map (unit_named own) a.reserves.items) a.needs.items a.work
             (list_all-Has (λ s. not (has_unit s) && not (has_chart s)) steps kinds a (find-Has _ steps a e))
 
     module _ (operations : List Act) (operation_kinds : list_all (λ o. not (has_unit o) && has_chart o) operations ≡ true) where
-      operations-level : (unit name : Name) (p : Place) → IsOfLevel in_unit_procedure unit (named_tree_with bound (operations ∷ steps ∷ []) unit name p)
+      operations-level : (unit name : Name) (p : Place) → IsOfLevel in_unit_procedure unit (named_tree_with own (operations ∷ steps ∷ []) unit name p)
       operations-level unit name p = go (act_named operations name) refl
         where
-          go : (o : Option Act) → act_named operations name ≡ o → IsOfLevel in_unit_procedure unit (elim o [ None ↦ skip | Some a ↦ act_tree_with bound (named_tree_with bound (steps ∷ [])) unit a p ])
+          go : (o : Option Act) → act_named operations name ≡ o → IsOfLevel in_unit_procedure unit (elim o [ None ↦ skip | Some a ↦ act_tree_with own (named_tree_with own (steps ∷ [])) unit a p ])
           go None e = tt
           go (Some a) e =
-              operation-level (named_tree_with bound (steps ∷ [])) steps-level unit a.name p a.unit a.needs.items a.work
+              operation-level (named_tree_with own (steps ∷ [])) steps-level unit a.name p a.unit (map (unit_named own) a.reserves.items) a.needs.items a.work
               (list_all-Has (λ o. not (has_unit o) && has_chart o) operations operation_kinds a (find-Has _ operations a e))
 
       module _ (unit_procedures : List Act) (unit_kinds : list_all (λ u. has_unit u && has_chart u) unit_procedures ≡ true)
           (no_par_in : (u : Act) → Has unit_procedures u → follows_no_par u ≡ true) where
-        unit_procedures-level : (unit name : Name) (p : Place) → IsOfLevel in_procedure [] (named_tree_with bound (unit_procedures ∷ operations ∷ steps ∷ []) unit name p)
+        unit_procedures-level : (unit name : Name) (p : Place) → IsOfLevel in_procedure [] (named_tree_with own (unit_procedures ∷ operations ∷ steps ∷ []) unit name p)
         unit_procedures-level unit name p = go (act_named unit_procedures name) refl
           where
             go : (o : Option Act) → act_named unit_procedures name ≡ o
-                → IsOfLevel in_procedure [] (elim o [ None ↦ skip | Some a ↦ act_tree_with bound (named_tree_with bound (operations ∷ steps ∷ [])) unit a p ])
+                → IsOfLevel in_procedure [] (elim o [ None ↦ skip | Some a ↦ act_tree_with own (named_tree_with own (operations ∷ steps ∷ [])) unit a p ])
             go None e = tt
             go (Some a) e =
                 let there : Has unit_procedures a = find-Has _ unit_procedures a e in
-                unit_procedure-level (named_tree_with bound (operations ∷ steps ∷ [])) operations-level [] unit a.name p a.unit a.needs.items a.work
+                unit_procedure-level (named_tree_with own (operations ∷ steps ∷ [])) operations-level [] unit a.name p a.unit (map (unit_named own) a.reserves.items) a.needs.items a.work
                 (list_all-Has (λ u. has_unit u && has_chart u) unit_procedures unit_kinds a there) (no_par_in a there)
 
 pub trees_are_procedures : TreesAreProcedures
@@ -138,14 +139,16 @@ trees_are_procedures bound acts values kinds formed =
     let kind = and_parts (list_all (λ o. not (has_unit o) && has_chart o) acts.operations.items) _ unit_kind.1 in
     let work = and_parts (is_work (act_names acts.unit_procedures.items) values acts.procedure) _ (and_parts _ _ formed).1 in
     let unit_work = and_parts (list_all (λ u. is_work (act_names acts.operations.items) values u && follows_no_par u) acts.unit_procedures.items) _ work.1 in
+    let own : Sites = sites bound acts in
     record {
       placed = bound_tree-IsPlaced acts bound;
       levels =
-          procedure-level bound (named_tree_with bound (tables_from acts (Some UnitProcedures)))
-          (unit_procedures-level bound acts.phases.items kind.1 acts.operations.items kind.0 acts.unit_procedures.items unit_kind.0
+          procedure-level own (named_tree_with own (tables_from acts (Some UnitProcedures)))
+          (unit_procedures-level own acts.phases.items kind.1 acts.operations.items kind.0 acts.unit_procedures.items unit_kind.0
           (λ u h. (and_parts (is_work (act_names acts.operations.items) values u) (follows_no_par u)
           (list_all-Has (λ u. is_work (act_names acts.operations.items) values u && follows_no_par u) acts.unit_procedures.items unit_work.0 u h)).1))
-          acts.procedure (0 ∷ []) acts.procedure.unit acts.procedure.work procedure_kind.0;
+          (step_of own acts.procedure (0 ∷ [])) acts.procedure.name (0 ∷ []) acts.procedure.unit acts.procedure.work procedure_kind.0;
+      reserved = reserves-units bound acts kinds (bound_tree-IsPlaced acts bound);
     }
 
 pub recipes_are_procedures : RecipesAreProcedures

@@ -59,7 +59,7 @@ module _ (d : Setup) (rank : Ranking) (outs : List Out) (s : Plant) (sd : IsStan
       made x r q =
           let sound : IsSound d rank b = k.sound b i in let here : IsStandingBatch d b = standing-of d s sd b i in (
             kept-quiet d rank outs s sd k b i (move (state b.number x)) (batch_after (state b.number x)) refl
-                (record { cleared = sound.cleared; fits = fit-reached b.state x b.rest q r sound.fits })
+                (record { cleared = sound.cleared; fits = fit-reached b.state x b.rest q r sound.fits; apart = sound.apart; units = sound.units })
                 refl (λ n old w. tells-other b.number n (Some x) old w, tells-own b.number (Some x) (Some b.state)) (λ q hs. refl) (λ q ws. refl) (λ xs. refl),
             starts-nothing d outs (move (state b.number x)) (λ n q y vs e. cc),
           )

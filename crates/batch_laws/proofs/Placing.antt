@@ -1,14 +1,14 @@
 -- All facts of a rest stand at or below the place of its chart.
-use Rattle.std.proofs.Common.{◌+◌, ◌≡◌, sym, ◌∙◌, ap, ℕ, ◌≤◌, arith, List, [], ◌∷◌, ◌++◌, take, slice_get, Option, Some, inl, inr, ⊎_elim, append_assoc, append-nil}
+use Rattle.std.proofs.Common.{◌+◌, ◌≡◌, refl, sym, ◌∙◌, ap, ℕ, ◌≤◌, arith, List, [], ◌∷◌, ◌++◌, take, slice_get, Option, Some, inl, inr, ⊎_elim, append_assoc, append-nil}
 use Rattle.batch_model.specs.Lists.{Has}
 use Rattle.batch_recipe.specs.Tree.{Place, Tree, act, seq, par, sel, loop, Task, runs, follows, Trees, no_trees, tree, Choices, otherwise, choice}
-use Rattle.batch_model.specs.Rest.{Rest, ready, asking, open_act, live, freeing, in_seq, in_par, in_loop, done, Rests, rest, acts, acts_of_each, place_of}
+use Rattle.batch_model.specs.Rest.{Rest, ready, asking, open_act, live, freeing, in_seq, in_par, in_loop, done, Rests, no_rests, rest, acts, acts_of_each, place_of}
 use Rattle.batch_recipe.specs.Nodes.{child}
 use Rattle.batch_model.specs.Records.{IsAtOrAbove}
 use Rattle.batch_laws.proofs.Facts.{holding, performing, Standing, held_at, awaited_at, facts, facts_of_each}
 use Rattle.batch_model.specs.Standing.{IsRestOf, IsRestBelow, IsBranch, AreBranches, IsChosen}
 use Rattle.batch_model.specs.Placed.{IsPlaced, IsPlacedBelow, ArePlaced, IsChoicePlaced}
-use Rattle.batch_model.proofs.Members.{Has-split}
+use Rattle.batch_model.proofs.Members.{Has-split, Has-left, Has-right}
 use Rattle.batch_laws.proofs.Members.{Has-map}
 use Rattle.batch_recipe.specs.declared.need.Need.{Need}
 
@@ -121,9 +121,39 @@ mutual
   acts-chosen p i (choice q c ch) r pl (inl h) a k = (i, omega arith, under_child p i (place_of a) (acts-under (child p i) c r pl.0 h a k))
   acts-chosen p i (choice q c ch) r pl (inr h) a k = let m = acts-chosen p (i + 1) ch r pl.1 h a k in (m.0, omega (arith, m.1), m.2)
 
+-- Each fact is of an act
+
+mutual
+  pub fact-stands : (r : Rest) (e : Standing) → Has (facts r) e → (a : Rest) × Has (acts r) a × (place_of a ≡ e.0)
+  fact-stands (ready s w k) e h = (ready s w k, inl refl, sym (held-place s.place (take k s.needs) e h))
+  fact-stands (asking s w k) e h = (
+    asking s w k,
+    inl refl,
+    sym (⊎_elim (held-place s.place (take k s.needs) e) (awaited-place s.place (slice_get s.needs k) e) (Has-split (held_at s.place (take k s.needs)) (awaited_at s.place (slice_get s.needs k)) e h)),
+  )
+  fact-stands (open_act s r) e h =
+      ⊎_elim (λ m. (open_act s r, inl refl, sym (held-place s.place s.needs e m))) (λ m. let k = fact-stands r e m in (k.0, inr k.1, k.2)) (Has-split (held_at s.place s.needs) (facts r) e h)
+  fact-stands (live s x t) e h = (
+    live s x t,
+    inl refl,
+    sym (⊎_elim (held-place s.place s.needs e) (λ m. ⊎_elim (λ q. ap (λ z. z.0) (sym q)) (λ q. absurd q) m) (Has-split (held_at s.place s.needs) ((s.place, performing x) ∷ []) e h)),
+  )
+  fact-stands (freeing s k) e h = (freeing s k, inl refl, sym (held-place s.place (take k s.needs) e h))
+  fact-stands (in_seq r cs) e h = fact-stands r e h
+  fact-stands (in_par rs) e h = fact-stands_each rs e h
+  fact-stands (in_loop n c b r) e h = fact-stands r e h
+  fact-stands done e h = absurd h
+
+  fact-stands_each : (rs : Rests) (e : Standing) → Has (facts_of_each rs) e → (a : Rest) × Has (acts_of_each rs) a × (place_of a ≡ e.0)
+  fact-stands_each no_rests e h = absurd h
+  fact-stands_each (rest r rs) e h =
+      ⊎_elim (λ m. let k = fact-stands r e m in (k.0, Has-left (acts r) (acts_of_each rs) k.0 k.1, k.2))
+      (λ m. let k = fact-stands_each rs e m in (k.0, Has-right (acts r) (acts_of_each rs) k.0 k.1, k.2))
+      (Has-split (facts r) (facts_of_each rs) e h)
+
 -- Places under different children differ
 
-drop_prefix : (p a b : Place) → p ++ a ≡ p ++ b → a ≡ b
+pub drop_prefix : (p a b : Place) → p ++ a ≡ p ++ b → a ≡ b
 drop_prefix [] a b e = e
 drop_prefix (i ∷ p) a b e = drop_prefix p a b (let h : p ++ a ≡ p ++ b = cc in h)
 

@@ -4,8 +4,9 @@ use Rattle.std.proofs.lemmas.List.Elements.{filter-append}
 use Rattle.std.proofs.lemmas.Bool.{and_parts}
 use Rattle.batch_recipe.specs.Conditions.{ValueList, holds}
 use Rattle.batch_recipe.specs.declared.condition.Cond.{Cond}
-use Rattle.batch_recipe.specs.Tree.{Place, Tree, seq, par, sel, loop, Trees, no_trees, tree, Choices, otherwise, choice}
+use Rattle.batch_recipe.specs.Tree.{Place, Tree, act, skip, seq, par, sel, loop, Trees, no_trees, tree, Choices, otherwise, choice}
 use Rattle.batch_model.specs.Rest.{Rest, ready, asking, open_act, live, freeing, in_seq, in_par, in_loop, done, Rests, no_rests, rest, is_done, all_done, joined, turning, reach, reach_first, reach_each, reach_chosen, turned, advance, advance_each, withdrawn, withdrawn_each}
+use Rattle.batch_laws.proofs.Raising.{at_moment}
 use Rattle.batch_laws.proofs.Facts.{holding, awaiting, performing, Standing, held_at, awaited_at, facts, facts_of_each}
 use Rattle.batch_recipe.specs.declared.need.Need.{Need}
 
@@ -32,38 +33,39 @@ either-facts b q r h k = grind arith
 
 mutual
   -- nothing stands of a chart that has just been reached
-  pub reach-facts : (vs : ValueList) (c : Tree) → facts (reach vs c) ≡ []
+  pub reach-facts : (vs : ValueList) (c : Tree) → facts (reach (at_moment vs []) c) ≡ []
   reach-facts vs (seq cs) = reach_first-facts vs cs
-  reach-facts vs (par cs) = joined-facts (reach_each vs cs) ∙ reach_each-facts vs cs
+  reach-facts vs (par cs) = joined-facts (reach_each (at_moment vs []) cs) ∙ reach_each-facts vs cs
   reach-facts vs (sel ch) = reach_chosen-facts vs ch
-  reach-facts vs (loop n c body) = turning-facts (pred n) c body (reach vs body) ∙ reach-facts vs body
-  reach-facts vs c = grind arith
+  reach-facts vs (loop n c body) = turning-facts (pred n) c body (reach (at_moment vs []) body) ∙ reach-facts vs body
+  reach-facts vs (act s w) = refl
+  reach-facts vs skip = refl
 
-  pub reach_first-facts : (vs : ValueList) (cs : Trees) → facts (reach_first vs cs) ≡ []
+  pub reach_first-facts : (vs : ValueList) (cs : Trees) → facts (reach_first (at_moment vs []) cs) ≡ []
   reach_first-facts vs no_trees = refl
-  reach_first-facts vs (tree c cs) = in_order-facts (reach vs c) (reach_first vs cs) cs (reach_first-facts vs cs) ∙ reach-facts vs c
+  reach_first-facts vs (tree c cs) = in_order-facts (reach (at_moment vs []) c) (reach_first (at_moment vs []) cs) cs (reach_first-facts vs cs) ∙ reach-facts vs c
 
-  pub reach_each-facts : (vs : ValueList) (cs : Trees) → facts_of_each (reach_each vs cs) ≡ []
+  pub reach_each-facts : (vs : ValueList) (cs : Trees) → facts_of_each (reach_each (at_moment vs []) cs) ≡ []
   reach_each-facts vs no_trees = refl
-  reach_each-facts vs (tree c cs) = ap (λ xs. xs ++ facts_of_each (reach_each vs cs)) (reach-facts vs c) ∙ reach_each-facts vs cs
+  reach_each-facts vs (tree c cs) = ap (λ xs. xs ++ facts_of_each (reach_each (at_moment vs []) cs)) (reach-facts vs c) ∙ reach_each-facts vs cs
 
-  pub reach_chosen-facts : (vs : ValueList) (ch : Choices) → facts (reach_chosen vs ch) ≡ []
+  pub reach_chosen-facts : (vs : ValueList) (ch : Choices) → facts (reach_chosen (at_moment vs []) ch) ≡ []
   reach_chosen-facts vs (otherwise c) = reach-facts vs c
-  reach_chosen-facts vs (choice p c ch) = either-facts (holds vs p) (reach vs c) (reach_chosen vs ch) (reach-facts vs c) (reach_chosen-facts vs ch)
+  reach_chosen-facts vs (choice p c ch) = either-facts (holds vs p) (reach (at_moment vs []) c) (reach_chosen (at_moment vs []) ch) (reach-facts vs c) (reach_chosen-facts vs ch)
 
-turned-facts : (vs : ValueList) (n : ℕ) (c : Cond) (body : Tree) (r : Rest) → facts (turned vs n c body r) ≡ facts r
+turned-facts : (vs : ValueList) (n : ℕ) (c : Cond) (body : Tree) (r : Rest) → facts (turned (at_moment vs []) n c body r) ≡ facts r
 turned-facts vs n c body r = grind (arith, turning-facts, either-facts, reach-facts, done-facts)
 
 mutual
   -- a rest that advances gains and loses no fact
-  pub advance-facts : (vs : ValueList) (r : Rest) → facts (advance vs r) ≡ facts r
+  pub advance-facts : (vs : ValueList) (r : Rest) → facts (advance (at_moment vs []) r) ≡ facts r
   advance-facts vs (open_act s r) = ap (λ xs. held_at s.place s.needs ++ xs) (advance-facts vs r)
-  advance-facts vs (in_seq r cs) = in_order-facts (advance vs r) (reach_first vs cs) cs (reach_first-facts vs cs) ∙ advance-facts vs r
-  advance-facts vs (in_par rs) = joined-facts (advance_each vs rs) ∙ advance_each-facts vs rs
-  advance-facts vs (in_loop n c body r) = turned-facts vs n c body (advance vs r) ∙ advance-facts vs r
+  advance-facts vs (in_seq r cs) = in_order-facts (advance (at_moment vs []) r) (reach_first (at_moment vs []) cs) cs (reach_first-facts vs cs) ∙ advance-facts vs r
+  advance-facts vs (in_par rs) = joined-facts (advance_each (at_moment vs []) rs) ∙ advance_each-facts vs rs
+  advance-facts vs (in_loop n c body r) = turned-facts vs n c body (advance (at_moment vs []) r) ∙ advance-facts vs r
   advance-facts vs r = grind arith
 
-  pub advance_each-facts : (vs : ValueList) (rs : Rests) → facts_of_each (advance_each vs rs) ≡ facts_of_each rs
+  pub advance_each-facts : (vs : ValueList) (rs : Rests) → facts_of_each (advance_each (at_moment vs []) rs) ≡ facts_of_each rs
   advance_each-facts vs no_rests = refl
   advance_each-facts vs (rest r rs) = ap₂ (λ xs ys. xs ++ ys) (advance-facts vs r) (advance_each-facts vs rs)
 

@@ -1,5 +1,5 @@
 -- Runs of the same events agree.
-use Rattle.std.proofs.Common.{◌≡◌, List, [], ◌∷◌, ◌++◌, Some, None, map, refl, sym, ◌∙◌, ap, subst, inl, inr}
+use Rattle.std.proofs.Common.{◌≡◌, List, [], ◌∷◌, ◌++◌, None, map, refl, sym, ◌∙◌, ap, subst, inl, inr}
 use Rattle.batch_model.specs.Events.{Event, Reply, refused, no_memory, react}
 use Rattle.batch_model.specs.Moves.{Move, after, next}
 use Rattle.batch_model.specs.Plant.{Setup, Plant}

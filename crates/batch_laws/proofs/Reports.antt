@@ -1,7 +1,7 @@
 -- Each report keeps what is kept, and so does each event.
 use Rattle.std.proofs.Common.{arith, ◌≡◌, refl, sym, ◌∙◌, ap, subst, subst₂, ℕ, List, [], ◌∷◌, ◌++◌, Bool, true, false, ◌&&◌, find, Option, Some, None, inl, inr, nat_eq, length, bytes_eq}
 use Rattle.batch_matrix.specs.declared.state.State.{State}
-use Rattle.batch_matrix.specs.declared.state.State.TheVariants.{Running, Paused, Holding, Held, Stopped, Aborted}
+use Rattle.batch_matrix.specs.declared.state.State.TheVariants.{Holding}
 use Rattle.batch_matrix.specs.declared.command.Command.TheVariants.{Hold}
 use Rattle.batch_matrix.specs.declared.report.Report.{Report}
 use Rattle.batch_matrix.specs.declared.report.PhaseEnd.{PhaseEnd}
@@ -11,24 +11,29 @@ use Rattle.std.specs.Option.{option_or}
 use Rattle.batch_model.specs.Lists.{Has}
 use Rattle.batch_recipe.specs.Conditions.{Name, ValueList}
 use Rattle.batch_recipe.specs.Tree.{Place, Phase, Step}
-use Rattle.batch_model.specs.Rest.{Rest, ready, asking, open_act, live, freeing, in_seq, in_par, in_loop, done, acts}
+use Rattle.batch_model.specs.Rest.{Rest, ready, asking, open_act, live, freeing, in_seq, in_par, in_loop, done, acts, place_of, changed_at}
 use Rattle.batch_model.specs.Plant.{Formula, size_out_of_range, value_out_of_range, scaled, Recipe, Master, Setup, Batch, Plant, batch_at, in_batch}
 use Rattle.batch_model.specs.Moves.{Move, ended, next}
 use Rattle.batch_recipe.specs.Values.{with_values, are_outputs, left_out}
 use Rattle.batch_model.specs.Events.{Event, create, order, remove, report, Reply, reported, refused, unknown_recipe, bad_binding, binding, is_binding, bound_by, roles_told, creating_for, unknown_batch, no_live_phase, report_not_expected, bad_output, output_left_out, owed, accepting, bad_size, bad_value, full, moves_pending, no_memory, is_full, creating, ordering, removing, LivePhase, live_in, live_phase, phase_after, batch_state_after, outputs_of, batch_reported, reporting, judged, react}
 use Rattle.batch_model.specs.Runs.{Out, reply, Reacts}
 use Rattle.batch_model.specs.Records.{Active, active_after, ends_phase}
-use Rattle.batch_laws.proofs.Facts.{Standing, held_at, facts}
+use Rattle.batch_laws.proofs.Facts.{Standing, held_at, facts, early_facts}
+use Rattle.batch_machine.proofs.Keeping.{RemainsAs, phase_after-remains}
+use Rattle.batch_model.proofs.Members.{Each-Has}
+use Rattle.batch_laws.proofs.Due.{awaited-nowhere}
+use Rattle.batch_laws.proofs.Steady.{stays-steady, stays-tidy, phase_after-stays}
+use Rattle.batch_laws.proofs.Passing.{kept-on, is_under_way, early-none}
 use Rattle.batch_model.specs.Cleared.{Ranking}
 use Rattle.batch_laws.proofs.ClearedDown.{AreClearedDown}
-use Rattle.batch_laws.proofs.Invariant.{IsFitting, IsKept}
-use Rattle.batch_laws.proofs.Changing.{changed_plant, IsChange, change-facts, change-sound}
+use Rattle.batch_laws.proofs.Invariant.{IsFitting, IsSound, IsKept, standing-of}
+use Rattle.batch_laws.proofs.Changing.{changed_plant, IsChange, change-sound}
 use Rattle.batch_laws.proofs.Keeping.{kept-quiet, kept-finished, act_frame, TellsState}
 use Rattle.batch_laws.proofs.MoveSteps.{freed-facts, take-length}
 use Rattle.batch_laws.proofs.Events.{Answered, find-Has, kept-refused, kept-created, ordering-step, removing-step}
 use Rattle.batch_laws.proofs.Moving.{tells-other, tells-own}
 use Rattle.std.proofs.lemmas.List.{append-nil}
-use Rattle.batch_model.specs.Standing.{IsControl, IsStanding}
+use Rattle.batch_model.specs.Standing.{IsAwaited, IsControl, IsStandingBatch, IsStanding}
 
 -- Reports
 
@@ -56,6 +61,20 @@ fit-reported Report.Running x es h = h
 fit-reported Report.Stopped x es h = h
 fit-reported Report.Aborted x es h = h
 fit-reported Report.Fault x es h = fit-fault x es (accepts x Hold) h
+
+-- a batch that isn't under way after a report wasn't before
+under_way-fault : (x : State) (t : Bool) → is_under_way (elim t [ true ↦ Holding | false ↦ x ]) ≡ false → is_under_way x ≡ false
+under_way-fault x true e = let bad : true ≡ false = e in absurd cc
+under_way-fault x false e = e
+
+under_way-before : (word : Report) (x : State) → is_under_way (batch_state_after word x) ≡ false → is_under_way x ≡ false
+under_way-before Report.Done x e = e
+under_way-before Report.Paused x e = e
+under_way-before Report.Held x e = e
+under_way-before Report.Running x e = e
+under_way-before Report.Stopped x e = e
+under_way-before Report.Aborted x e = e
+under_way-before Report.Fault x e = under_way-fault x (accepts x Hold) e
 
 -- A live phase that is found
 
@@ -110,33 +129,60 @@ module _ (d : Setup) (rank : Ranking) (outs : List Out) (s : Plant) (sd : IsStan
   tells : TellsState (reply (reported unit name word b.number p.place then_state)) b.number b.state then_state
   tells = (λ m old q. tells-other b.number m (Some then_state) old q, tells-own b.number (Some then_state) (Some b.state))
 
+  -- the batch to which the phase has reported, before its charts go on
+  abbrev told : (Rest → Rest) → Batch → Batch
+  told f z = record z { values = with_values outputs z.values; state = batch_state_after word z.state; rest = changed_at p.place f z.rest }
+
+  change : (f : Rest → Rest) → IsChange b (live p x t) (told f) f
+  change f = record { number = refl; recipe = refl; changed = refl; early = refl }
+
+  fine : IsSound d rank b
+  fine = k.sound b i
+
+  here : IsStandingBatch d b
+  here = standing-of d s sd b i
+
+  only_act : (e : PhaseEnd) → (a : Rest) → Has (acts b.rest) a → place_of a ≡ p.place → RemainsAs a (phase_after e a)
+  only_act e a j' q = phase_after-remains e a
+
+  -- it goes on from there
+  gone_on : (o : List Out) (e : PhaseEnd) → IsKept d rank o (changed_plant s b.number (told (phase_after e)) s.line) → IsKept d rank o (changed_plant s b.number (batch_reported word outputs p.place e) s.line)
+  gone_on o e =
+      kept-on d rank o s sd b i fine here p.place (λ moment. phase_after e) (with_values outputs b.values) b.in_advance (told (phase_after e)) (batch_reported word outputs p.place e)
+      (record { number = refl; changed = refl; early = refl; same_number = refl; same_recipe = refl; same_state = refl; advanced = refl; left = refl })
+      (record {
+        apart = fine.apart;
+        units = fine.units;
+        nowhere = λ held h. awaited-nowhere b.recipe.procedure b.rest fine.cleared.placed here.stands held.place (Each-Has (λ held. IsAwaited b.rest held.place) b.in_advance held here.awaited h);
+      })
+      (stays-steady (phase_after e) (phase_after-stays e)) (stays-tidy (phase_after e) (phase_after-stays e)) (only_act e)
+      (λ z. early-none d b here (under_way-before word b.state z)) s.line
+
   -- a report that leaves the phase live
-  kept-reported : (e : PhaseEnd) (f : Rest → Rest) → IsChange b (live p x t) (batch_reported word outputs p.place e) f (with_values outputs b.values)
-      → facts (f (live p x t)) ≡ facts (live p x t) → ends_phase word ≡ false
+  kept-reported : (e : PhaseEnd) → facts (phase_after e (live p x t)) ≡ facts (live p x t) → ends_phase word ≡ false
       → IsKept d rank (outs ++ reply (reported unit name word b.number p.place then_state) ∷ []) (changed_plant s b.number (batch_reported word outputs p.place e) s.line)
-  kept-reported e f c same ends =
-      let g : Batch → Batch = batch_reported word outputs p.place e in
-      let fr = act_frame d rank outs s sd k b i (live p x t) j g f (with_values outputs b.values) c in
-      let quiet : facts (g b).rest ≡ facts b.rest
-      = change-facts b (live p x t) g f (with_values outputs b.values) c ∙ fr.3 f ∙ ap (λ z. fr.0 ++ (z ++ fr.1)) same ∙ sym fr.2 in
-      kept-quiet d rank outs s sd k b i (reply (reported unit name word b.number p.place then_state)) g refl
-      (change-sound d rank b (live p x t) g f (with_values outputs b.values) (k.sound b i) c
-      (fit-reported word b.state (facts (g b).rest) (subst (IsFitting b.state) (sym quiet) (k.sound b i).fits)))
-      quiet tells (λ q hs. refl) (λ q ws. refl) (λ xs. not_ending word unit name b.number p.place then_state xs ends)
+  kept-reported e same ends =
+      let f : Rest → Rest = phase_after e in
+      let g : Batch → Batch = told f in
+      let fr = act_frame d rank outs s sd k b i (live p x t) j g f (change f) in
+      let quiet : facts (g b).rest ≡ facts b.rest = fr.3 f ∙ ap (λ z. fr.0 ++ (z ++ fr.1)) same ∙ sym fr.2 in
+      gone_on (outs ++ reply (reported unit name word b.number p.place then_state) ∷ []) e
+      (kept-quiet d rank outs s sd k b i (reply (reported unit name word b.number p.place then_state)) g refl
+      (change-sound d rank b (live p x t) g f fine (change f)
+      (fit-reported word b.state (facts (g b).rest) (subst (IsFitting b.state) (sym quiet) fine.fits)))
+      (ap (λ z. early_facts b.in_advance ++ z) quiet) tells (λ q hs. refl) (λ q ws. refl) (λ xs. not_ending word unit name b.number p.place then_state xs ends))
 
   reported-step : (e : PhaseEnd) → after_report t word ≡ Some e
       → IsKept d rank (outs ++ reply (reported unit name word b.number p.place then_state) ∷ []) (changed_plant s b.number (batch_reported word outputs p.place e) s.line)
   reported-step Ended q =
       let ends : ends_phase word ≡ true = ended-word t word q in
-      kept-finished d rank outs s sd k b i (live p x t) j (batch_reported word outputs p.place Ended) ended (with_values outputs b.values)
-      (record { number = refl; recipe = refl; goes_on = refl })
+      gone_on (outs ++ reply (reported unit name word b.number p.place then_state) ∷ []) Ended
+      (kept-finished d rank outs s sd k b i (live p x t) j (told (phase_after Ended)) ended (change ended)
       p.needs x unit name word then_state
       (record { was = refl; is = freed-facts p (length p.needs) ∙ ap (held_at p.place) (take-length p.needs) ∙ sym (append-nil (held_at p.place p.needs)) })
-      ends (ended-state word b.state ends) tells
-  reported-step (Now y) q =
-      kept-reported (Now y) (phase_after (Now y)) (record { number = refl; recipe = refl; goes_on = refl }) refl (now-word t y word q)
-  reported-step Same q =
-      kept-reported Same (λ r. r) (record { number = refl; recipe = refl; goes_on = refl }) refl (same-word t word q)
+      ends (ended-state word b.state ends) tells)
+  reported-step (Now y) q = kept-reported (Now y) refl (now-word t y word q)
+  reported-step Same q = kept-reported Same refl (same-word t word q)
 
 module _ (d : Setup) (rank : Ranking) (cleared : AreClearedDown d rank) (outs : List Out) (s : Plant) (sd : IsStanding d s) (k : IsKept d rank outs s) where
   reporting-step : (unit name : Name) (word : Report) (outputs : ValueList) (b : Batch) → Has s.batches b → (l : LivePhase) → IsFound b (acts b.rest) l

@@ -1,7 +1,6 @@
 -- A phase that starts was idle, and its unit offers it.
 use Rattle.std.proofs.Common.{◌≡◌, ⊎_elim, refl, sym, ◌∙◌, ap, ap₂, subst, ℕ, ◌+◌, ◌≤◌, arith, List, [], ◌∷◌, ◌++◌, Bool, true, false, map, inl, inr, nat_eq, IsTrue}
 use Rattle.std.proofs.lemmas.List.{same_from_push}
-use Rattle.batch_laws.proofs.Units as units
 use Rattle.batch_model.specs.Lists.{Has, Each}
 use Rattle.batch_recipe.specs.Conditions.{Name, ValueList}
 use Rattle.batch_recipe.specs.Tree.{Place, Phase}
@@ -9,16 +8,16 @@ use Rattle.batch_model.specs.Plant.{Setup, Batch, BatchAct, Share, units_in, Pla
 use Rattle.batch_model.specs.Moves.{start}
 use Rattle.batch_model.specs.Runs.{Out, move}
 use Rattle.batch_model.specs.Records.{active_told, StartsIdle, IsOnUnit}
-use Rattle.batch_laws.proofs.Facts.{holding, performing, Standing, facts, entry, entries_of, entries, holder_of, holders_among, share}
+use Rattle.batch_laws.proofs.Facts.{holding, performing, Standing, facts, early_facts, batch_facts, entry, entries_of, entries, holder_of, holders_among, share}
 use Rattle.batch_model.specs.Cleared.{Ranking, phases}
 use Rattle.batch_laws.proofs.ClearedDown.{IsOfferedPhase}
 use Rattle.batch_model.proofs.Members.{Each-Has}
 use Rattle.batch_laws.proofs.Members.{Has-Each}
-use Rattle.batch_laws.proofs.Units.{shares, performed-phase, unit-held, twice-held}
+use Rattle.batch_laws.proofs.Units.{shares, shares-append, performed-phase, unit-held, twice-held}
 use Rattle.batch_laws.proofs.Entries.{holders-append, holders-Has, nat_same, units-append, units-cons, units-one}
 use Rattle.batch_laws.proofs.Batches.{same-batch}
 use Rattle.batch_laws.proofs.Invariant.{IsSound, IsKept}
-use Rattle.batch_laws.proofs.Batches.{entry-of, of-entry}
+use Rattle.batch_laws.proofs.Batches.{performing-of, of-entry}
 use Rattle.batch_model.specs.Standing.{IsStandingBatch, IsStanding}
 use Rattle.batch_laws.proofs.Invariant.{standing-of, numbers-of}
 use Rattle.batch_recipe.specs.Needs.{one_unit}
@@ -36,7 +35,8 @@ batch-shares u [] b h = absurd h
 batch-shares u (c ∷ bs) b h =
     let e : units_in (holders_among u (entries_of c ++ entries bs)) ≡ units_in (holders_among u (entries_of c)) + units_in (holders_among u (entries bs))
     = ap (λ z. units_in z) (holders-append u (entries_of c) (entries bs)) ∙ units-append (holders_among u (entries_of c)) (holders_among u (entries bs)) in
-    let own : units_in (holders_among u (entries_of c)) ≡ shares u (facts c.rest) = shares-holders c.number u (facts c.rest) in
+    let own : units_in (holders_among u (entries_of c)) ≡ shares u (batch_facts c) = shares-holders c.number u (batch_facts c) in
+    let early : shares u (batch_facts c) ≡ shares u (early_facts c.in_advance) + shares u (facts c.rest) = shares-append u (early_facts c.in_advance) (facts c.rest) in
     ⊎_elim
     (λ q. subst (λ z. shares u (facts z.rest) ≤ units_in (holders_among u (entries_of c ++ entries bs))) q
     (let l : shares u (facts c.rest) ≤ units_in (holders_among u (entries_of c ++ entries bs)) = omega arith in l))
@@ -50,7 +50,7 @@ member-units (x ∷ xs) a (inl e) = let c : units_in (x ∷ xs) ≡ x.units + un
 member-units (x ∷ xs) a (inr k) = let c : units_in (x ∷ xs) ≡ x.units + units_in xs = units-cons x xs in let l : a.units ≤ units_in xs = member-units xs a k in omega arith
 
 -- of one unit there is one holder
-alone : (xs : List Share) (a b : BatchAct) → units_in xs ≤ 1 → Has xs (share a 1) → Has xs (share b 1) → a ≡ b
+pub alone : (xs : List Share) (a b : BatchAct) → units_in xs ≤ 1 → Has xs (share a 1) → Has xs (share b 1) → a ≡ b
 alone [] a b l h k = absurd h
 alone (x ∷ xs) a b l (inl e) (inl f) = ap (λ z. z.act) (sym e ∙ f)
 alone (x ∷ xs) a b l (inl e) (inr k) = grind (arith, units-cons x xs, member-units xs (share b 1) k)
@@ -64,10 +64,10 @@ pub phase-alone : (d : Setup) (rank : Ranking) (outs : List Out) (s : Plant) →
 phase-alone d rank outs s sd k a b x y hx hy same apart = go e f (nat_eq e.0.number f.0.number) refl
   where
     e : (c : Batch) × Has s.batches c × (c.number ≡ a.0) × Has (facts c.rest) (a.1, performing x)
-    e = entry-of s.batches a (performing x) hx
+    e = performing-of s.batches a x hx
 
     f : (c : Batch) × Has s.batches c × (c.number ≡ b.0) × Has (facts c.rest) (b.1, performing y)
-    f = entry-of s.batches b (performing y) hy
+    f = performing-of s.batches b y hy
 
     one : (c : Batch) → Has s.batches c → (p : Place) (z : Phase) → Has (facts c.rest) (p, performing z) → units_in (holders_among z.unit (entries s.batches)) ≤ 1
     one c i p z h =
@@ -125,7 +125,7 @@ starts-idle d rank outs s t n p x vs sd k td l here stay before n' p' x' vs' e =
     let xx : x ≡ x' = same_start n n' p p' x x' vs vs' q.1 in
     subst (λ z. IsTrue (d.offers z.unit z.name) × Each (λ a. IsOnUnit z.unit z.name a → ⊥) (active_told before)) xx
     (subst (λ z. IsTrue (d.offers x.unit x.name) × Each (λ a. IsOnUnit x.unit x.name a → ⊥) (active_told z)) q.0 (
-      (let b = entry-of t.batches (n, p) (performing x) here in
+      (let b = performing-of t.batches (n, p) x here in
           let sound : IsSound d rank b.0 = l.sound b.0 b.1 in let stood : IsStandingBatch d b.0 = standing-of d t td b.0 b.1 in
           Each-Has (IsOfferedPhase d) (phases b.0.recipe.procedure) x sound.cleared.offered (performed-phase b.0.recipe.procedure b.0.rest stood.stands p x b.3)),
       Has-Each (λ a. IsOnUnit x.unit x.name a → ⊥) (active_told outs)

@@ -18,7 +18,7 @@ use Rattle.batch_laws.proofs.Ranking.{held-performing, awaited-performing}
 use Rattle.batch_laws.proofs.Units.{lone-performing}
 use Rattle.batch_laws.proofs.Batches.{holders-entries}
 use Rattle.batch_laws.proofs.Invariant.{IsKept}
-use Rattle.batch_laws.proofs.Batches.{entry-of, of-entry}
+use Rattle.batch_laws.proofs.Batches.{awaiting-of, performing-of, of-entry}
 use Rattle.batch_laws.proofs.Asking.{awaiting-act, asking-awaits}
 use Rattle.batch_laws.proofs.Along.{kept-at_first, kept-along}
 use Rattle.batch_laws.proofs.Entries.{length-sums}
@@ -93,7 +93,7 @@ told d rank outs s k =
       lines = k.lines;
       asks = λ r a. (
         λ h.
-            (let e = entry-of s.batches a.act (awaiting (need r a.units)) (k.asked r a h) in
+            (let e = awaiting-of s.batches a.act (need r a.units) (k.asked r a h) in
             let w = awaiting-act e.0.rest a.act.1 (need r a.units) e.3 in
             (e.0, e.1, e.2, w.0, w.1, w.2, w.3, w.4, w.5)),
         λ h. k.listed r a
@@ -101,7 +101,7 @@ told d rank outs s k =
             (of-entry s.batches h.0 h.3.place (awaiting (need r a.units)) h.1 (asking-awaits h.0.rest h.3 h.4 h.5 (need r a.units) h.6 h.8))),
       );
       ran = λ a x h.
-          (let e = entry-of s.batches a (performing x) (k.active (record { act = a; phase = x }) h) in
+          (let e = performing-of s.batches a x (k.active (record { act = a; phase = x }) h) in
           let l = performing-live e.0.rest a.1 x e.3 in
           (e.0, e.1, e.2, l.0, l.1, l.2, l.3));
       runs = λ a x h. k.shown a x

@@ -1,11 +1,11 @@
--- surface: clearance unit procedure by unit procedure: each on every unit that may be its own, by itself.
-use Rattle.std.specs.Prelude.{◌≡◌, ◌↔◌, ℕ, ◌+◌, List, [], ◌∷◌, IsTrue, Option, Some, None, ⊤}
+-- surface: clearance unit procedure by unit procedure: each on every unit that may be its own, with every choice of units for what it reserves, by itself.
+use Rattle.std.specs.Prelude.{◌≡◌, ◌↔◌, ℕ, ◌+◌, List, [], ◌∷◌, map, IsTrue, Option, Some, None, ⊤}
 use Rattle.batch_cell.specs.declared.cell.Cell as equipment
 use Rattle.batch_recipe.specs.Conditions.{Name}
 use Rattle.batch_recipe.specs.Diagram as chart
 use Rattle.batch_recipe.specs.Diagram.{Diagram, Diagrams, Cases, diagram_of}
-use Rattle.batch_recipe.specs.Expanding.{expanded, expanded_each, expanded_cases, task_of, act_named, named_tree}
-use Rattle.batch_recipe.specs.Needs.{one_unit, resources_of}
+use Rattle.batch_recipe.specs.Expanding.{Binding, unbound, Sites, expanded, expanded_each, expanded_cases, task_of, act_named, asked_by, reserves_from, unit_named, unit_with, named_tree_with}
+use Rattle.batch_recipe.specs.Needs.{resources_of}
 use Rattle.batch_recipe.specs.Nodes.{child}
 use Rattle.batch_recipe.specs.Procedure.{procedure_tree}
 use Rattle.batch_recipe.specs.Tree.{Place, Tree, act, skip, seq, par, sel, loop}
@@ -18,7 +18,8 @@ use Rattle.batch_recipe.specs.declared.act.Work.TheVariants.{Follows, Runs}
 use Rattle.batch_recipe.specs.declared.recipe.Recipe as document
 use Rattle.batch_model.specs.Lists.{Has, Each}
 use Rattle.batch_model.specs.Plant.{Role as Declared, Setup}
-use Rattle.batch_model.specs.Cleared.{Ranking, is_procedure, in_procedure, part, parts, IsClear, HasCandidates, IsClearedRecipe}
+use Rattle.batch_model.specs.Cleared.{Ranking, is_procedure, in_procedure, part, parts, procedure_parts, IsClear, ReservesFollow, HasCandidates, IsServed, IsClearedRecipe}
+use Rattle.batch_model.specs.Recipes.{recipe_of}
 use Rattle.batch_model.specs.Setups.{master_of}
 
 -- the unit may take the role
@@ -37,24 +38,33 @@ MayRun roles None unit = ⊥
 MayRun roles (Some choice) unit = MayBe roles choice unit
 
 -- the unit procedure on a unit, whose chart's labels are looked up in the tables
-abbrev pub tree_on : List (List Act) → Name → Act → Place → Tree
-tree_on tables unit a place =
-    act (record { place = place; needs = one_unit unit ∷ a.needs.items }) (task_of (named_tree tables unit) unit a.name place a.work)
+abbrev pub tree_on : Sites → List (List Act) → Name → Act → Place → Tree
+tree_on sites tables unit a place =
+    act (record {
+      place = place;
+      needs = asked_by (Some unit) (map (unit_named sites) a.reserves.items) a.needs.items;
+      reserves = reserves_from 1 a.reserves.items;
+    })
+    (task_of (named_tree_with sites tables unit) unit a.name place a.work)
 
-module _ (setup : Setup) (rank : Ranking) (roles : List Declared) (units : List Act) (tables : List (List Act)) where
+module _ (setup : Setup) (rank : Ranking) (roles : List Declared) (Serves : Binding → Type 0) (units : List Act) (tables : List (List Act)) where
+  abbrev pub sites_of : Binding → Sites
+  sites_of bound = record { bound = bound; unit_procedures = units }
+
   -- what a label of the procedure's chart stands for, where no unit takes any role
   abbrev pub label_tree : Name → Place → Tree
-  label_tree = named_tree (units ∷ tables) []
+  label_tree = named_tree_with (sites_of unbound) (units ∷ tables) []
 
   -- the node itself is clear
   abbrev pub NodeIsClear : Place → List Name → Tree → Type 0
   NodeIsClear place asked chart = IsClear setup rank (part in_procedure place asked chart)
 
-  -- the unit procedure is clear on every unit on which it may run
+  -- the unit procedure is clear on every unit on which it may run, whatever units take the roles of those that are reserved
   abbrev pub UnitProcedureIsClear : Place → List Name → Option Act → Type 0
   UnitProcedureIsClear place asked None = NodeIsClear place asked skip
   UnitProcedureIsClear place asked (Some a) =
-      (unit : Name) → MayRun roles a.unit unit → Each (IsClear setup rank) (parts in_procedure place asked (tree_on tables unit a place))
+      (unit : Name) → MayRun roles a.unit unit → (bound : Binding) → Serves bound → unit_with bound a.unit ≡ Some unit
+      → Each (IsClear setup rank) (parts in_procedure place asked (tree_on (sites_of bound) tables unit a place))
 
   -- in the procedure's chart, each unit procedure is so, and each node outside unit procedures is clear
   abbrev mutual
@@ -85,12 +95,14 @@ module _ (setup : Setup) (rank : Ranking) (roles : List Declared) (units : List 
   WorkIsClear place asked (Runs phase values reports) = ⊤
 
 -- each unit procedure that the procedure's chart names is clear on every unit on which it may run, by itself, and so is each
--- node outside unit procedures
+-- node outside unit procedures; what is reserved follows
 pub record IsClearOnEach (setup : Setup) (rank : Ranking) (cell : equipment.Cell) (recipe : document.Recipe) : Type 0 where
   pub candidates : HasCandidates (master_of cell recipe)
   pub root : IsClear setup rank (part is_procedure (0 ∷ []) [] (procedure_tree recipe.acts))
-  pub chart : WorkIsClear setup rank (master_of cell recipe).roles recipe.acts.unit_procedures.items
+  pub chart : WorkIsClear setup rank (master_of cell recipe).roles (IsServed (master_of cell recipe)) recipe.acts.unit_procedures.items
       (recipe.acts.operations.items ∷ recipe.acts.phases.items ∷ []) (0 ∷ []) (resources_of recipe.acts.procedure.needs.items) recipe.acts.procedure.work
+  pub follow : (bound : Binding) → IsServed (master_of cell recipe) bound
+      → Each (λ this_part. ReservesFollow (recipe_of recipe bound).procedure this_part.node) (procedure_parts (recipe_of recipe bound))
 
 -- the ranking clears a recipe whatever units take its roles exactly where each unit procedure is clear on each unit by itself
 abbrev pub CandidatesSuffice : Type 0

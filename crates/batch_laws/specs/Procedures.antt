@@ -1,13 +1,16 @@
 -- trusted: expanded trees of the procedural model: a procedure of unit procedures, these of operations, and these of phase steps.
-use Rattle.std.specs.Prelude.{◌≡◌, List, [], ◌∷◌, true, ⊤}
+use Rattle.std.specs.Prelude.{◌≡◌, List, [], ◌∷◌, true, ⊤, Some, slice_get}
 use Rattle.batch_recipe.specs.Conditions.{Name}
-use Rattle.batch_recipe.specs.Tree.{Tree, act, skip, seq, par, sel, loop, Task, runs, follows, Trees, no_trees, tree, Choices, otherwise, choice}
+use Rattle.batch_recipe.specs.Following.{follower}
+use Rattle.batch_recipe.specs.Tree.{Place, Tree, act, skip, seq, par, sel, loop, Task, runs, follows, Trees, no_trees, tree, Choices, otherwise, choice}
 use Rattle.batch_recipe.specs.Expanding.{Binding}
 use Rattle.batch_recipe.specs.Procedure.{bound_tree}
 use Rattle.batch_recipe.specs.WellFormed.{are_kinds, is_well_formed}
 use Rattle.batch_recipe.specs.declared.acts.Acts.{Acts}
 use Rattle.batch_recipe.specs.declared.recipe.Recipe as document
 use Rattle.batch_recipe.specs.declared.need.Need.{Need}
+use Rattle.batch_model.specs.ActStates.{steps}
+use Rattle.batch_model.specs.Lists.{Each}
 use Rattle.batch_model.specs.Recipes.{recipe_of}
 use Rattle.batch_model.specs.Cleared.{Level, in_procedure, in_unit_procedure, in_operation}
 use Rattle.batch_model.specs.Placed.{IsPlaced}
@@ -47,10 +50,17 @@ abbrev pub HasLevels : Tree → Type 0
 HasLevels (act step (follows name chart)) = IsOfLevel in_procedure [] chart
 HasLevels _ = ⊥
 
+-- where a unit procedure follows an act that reserves it, the need by which the act does so is what that one asks for first
+abbrev pub ReservesUnits : Tree → Type 0
+ReservesUnits chart =
+    Each (λ step. Each (λ reserve. (place : Place) → follower chart step.place reserve.name ≡ Some place
+    → Each (λ other. other.place ≡ place → slice_get step.needs reserve.need ≡ slice_get other.needs 0) (steps chart)) step.reserves) (steps chart)
+
 -- the expanded tree of a procedure
 pub record IsProcedure (chart : Tree) : Type 0 where
   pub placed : IsPlaced (0 ∷ []) chart
   pub levels : HasLevels chart
+  pub reserved : ReservesUnits chart
 
 -- where acts are of their kinds and well formed, the expanded tree is one of a procedure, whatever units take the roles
 abbrev pub TreesAreProcedures : Type 0

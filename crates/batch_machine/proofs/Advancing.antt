@@ -1,9 +1,9 @@
 -- `reach` and `advance` leave nothing to be reached, and take and give back nothing.
 use Rattle.std.proofs.Common.{arith, ◌≡◌, refl, ◌∙◌, ap₂, ◌&&◌, ℕ, zero, suc, pred, Bool, true, false}
-use Rattle.batch_recipe.specs.Conditions.{ValueList, holds}
+use Rattle.batch_recipe.specs.Conditions.{holds}
 use Rattle.batch_recipe.specs.declared.condition.Cond.{Cond}
 use Rattle.batch_recipe.specs.Tree.{Tree, act, skip, seq, par, sel, loop, Trees, no_trees, tree, Choices, otherwise, choice}
-use Rattle.batch_model.specs.Rest.{Rest, ready, asking, open_act, live, freeing, in_seq, in_par, in_loop, done, Rests, no_rests, rest, is_done, all_done, joined, turning, reach, reach_first, reach_each, reach_chosen, turned, advance, advance_each, withdrawn, withdrawn_each}
+use Rattle.batch_model.specs.Rest.{Rest, Moment, ready, asking, open_act, live, freeing, in_seq, in_par, in_loop, done, Rests, no_rests, rest, is_done, all_done, joined, turning, reach, reach_first, reach_each, reach_chosen, turned, advance, advance_each, withdrawn, withdrawn_each}
 use Rattle.batch_model.specs.Settled.{IsAdvanced, AreAdvanced}
 
 joined-advanced : (rs : Rests) → AreAdvanced rs → IsAdvanced (joined rs)
@@ -32,51 +32,51 @@ either-advanced true q r h k = h
 either-advanced false q r h k = k
 
 mutual
-  pub reach-advanced : (vs : ValueList) (c : Tree) → IsAdvanced (reach vs c)
-  reach-advanced vs (act s w) = tt
-  reach-advanced vs skip = tt
-  reach-advanced vs (seq cs) = reach_first-advanced vs cs
-  reach-advanced vs (par cs) = joined-advanced (reach_each vs cs) (reach_each-advanced vs cs)
-  reach-advanced vs (sel ch) = reach_chosen-advanced vs ch
-  reach-advanced vs (loop n c body) = turning-advanced (pred n) c body (reach vs body) (reach-advanced vs body)
+  pub reach-advanced : (mo : Moment) (c : Tree) → IsAdvanced (reach mo c)
+  reach-advanced mo (act s w) = tt
+  reach-advanced mo skip = tt
+  reach-advanced mo (seq cs) = reach_first-advanced mo cs
+  reach-advanced mo (par cs) = joined-advanced (reach_each mo cs) (reach_each-advanced mo cs)
+  reach-advanced mo (sel ch) = reach_chosen-advanced mo ch
+  reach-advanced mo (loop n c body) = turning-advanced (pred n) c body (reach mo body) (reach-advanced mo body)
 
-  pub reach_first-advanced : (vs : ValueList) (cs : Trees) → IsAdvanced (reach_first vs cs)
-  reach_first-advanced vs no_trees = tt
-  reach_first-advanced vs (tree c cs) = in_order-advanced (reach vs c) (reach_first vs cs) cs (reach-advanced vs c) (reach_first-advanced vs cs)
+  pub reach_first-advanced : (mo : Moment) (cs : Trees) → IsAdvanced (reach_first mo cs)
+  reach_first-advanced mo no_trees = tt
+  reach_first-advanced mo (tree c cs) = in_order-advanced (reach mo c) (reach_first mo cs) cs (reach-advanced mo c) (reach_first-advanced mo cs)
 
-  pub reach_each-advanced : (vs : ValueList) (cs : Trees) → AreAdvanced (reach_each vs cs)
-  reach_each-advanced vs no_trees = tt
-  reach_each-advanced vs (tree c cs) = (reach-advanced vs c, reach_each-advanced vs cs)
+  pub reach_each-advanced : (mo : Moment) (cs : Trees) → AreAdvanced (reach_each mo cs)
+  reach_each-advanced mo no_trees = tt
+  reach_each-advanced mo (tree c cs) = (reach-advanced mo c, reach_each-advanced mo cs)
 
-  pub reach_chosen-advanced : (vs : ValueList) (ch : Choices) → IsAdvanced (reach_chosen vs ch)
-  reach_chosen-advanced vs (otherwise c) = reach-advanced vs c
-  reach_chosen-advanced vs (choice p c ch) = either-advanced (holds vs p) (reach vs c) (reach_chosen vs ch) (reach-advanced vs c) (reach_chosen-advanced vs ch)
+  pub reach_chosen-advanced : (mo : Moment) (ch : Choices) → IsAdvanced (reach_chosen mo ch)
+  reach_chosen-advanced mo (otherwise c) = reach-advanced mo c
+  reach_chosen-advanced mo (choice p c ch) = either-advanced (holds mo.values p) (reach mo c) (reach_chosen mo ch) (reach-advanced mo c) (reach_chosen-advanced mo ch)
 
-turned-advanced : (vs : ValueList) (n : ℕ) (c : Cond) (body : Tree) (r : Rest) → IsAdvanced r → IsAdvanced (turned vs n c body r)
-turned-advanced vs zero c body r h = turning-advanced 0 c body r h
-turned-advanced vs (suc n) c body r h = go (is_done r) refl
+turned-advanced : (mo : Moment) (n : ℕ) (c : Cond) (body : Tree) (r : Rest) → IsAdvanced r → IsAdvanced (turned mo n c body r)
+turned-advanced mo zero c body r h = turning-advanced 0 c body r h
+turned-advanced mo (suc n) c body r h = go (is_done r) refl
   where
     go : (b : Bool) → is_done r ≡ b
-        → IsAdvanced (elim b [ false ↦ in_loop (suc n) c body r | true ↦ elim (holds vs c) [ true ↦ done | false ↦ turning n c body (reach vs body) ] ])
+        → IsAdvanced (elim b [ false ↦ in_loop (suc n) c body r | true ↦ elim (holds mo.values c) [ true ↦ done | false ↦ turning n c body (reach mo body) ] ])
     go false e = (e, h)
-    go true e = either-advanced (holds vs c) done (turning n c body (reach vs body)) tt (turning-advanced n c body (reach vs body) (reach-advanced vs body))
+    go true e = either-advanced (holds mo.values c) done (turning n c body (reach mo body)) tt (turning-advanced n c body (reach mo body) (reach-advanced mo body))
 
 mutual
   -- nothing is left to be reached once a rest has advanced
-  pub advance-advanced : (vs : ValueList) (r : Rest) → IsAdvanced (advance vs r)
-  advance-advanced vs (ready s w k) = tt
-  advance-advanced vs (asking s w k) = tt
-  advance-advanced vs (open_act s r) = advance-advanced vs r
-  advance-advanced vs (live s p x) = tt
-  advance-advanced vs (freeing s k) = tt
-  advance-advanced vs (in_seq r cs) = in_order-advanced (advance vs r) (reach_first vs cs) cs (advance-advanced vs r) (reach_first-advanced vs cs)
-  advance-advanced vs (in_par rs) = joined-advanced (advance_each vs rs) (advance_each-advanced vs rs)
-  advance-advanced vs (in_loop n c body r) = turned-advanced vs n c body (advance vs r) (advance-advanced vs r)
-  advance-advanced vs done = tt
+  pub advance-advanced : (mo : Moment) (r : Rest) → IsAdvanced (advance mo r)
+  advance-advanced mo (ready s w k) = tt
+  advance-advanced mo (asking s w k) = tt
+  advance-advanced mo (open_act s r) = advance-advanced mo r
+  advance-advanced mo (live s p x) = tt
+  advance-advanced mo (freeing s k) = tt
+  advance-advanced mo (in_seq r cs) = in_order-advanced (advance mo r) (reach_first mo cs) cs (advance-advanced mo r) (reach_first-advanced mo cs)
+  advance-advanced mo (in_par rs) = joined-advanced (advance_each mo rs) (advance_each-advanced mo rs)
+  advance-advanced mo (in_loop n c body r) = turned-advanced mo n c body (advance mo r) (advance-advanced mo r)
+  advance-advanced mo done = tt
 
-  pub advance_each-advanced : (vs : ValueList) (rs : Rests) → AreAdvanced (advance_each vs rs)
-  advance_each-advanced vs no_rests = tt
-  advance_each-advanced vs (rest r rs) = (advance-advanced vs r, advance_each-advanced vs rs)
+  pub advance_each-advanced : (mo : Moment) (rs : Rests) → AreAdvanced (advance_each mo rs)
+  advance_each-advanced mo no_rests = tt
+  advance_each-advanced mo (rest r rs) = (advance-advanced mo r, advance_each-advanced mo rs)
 
 -- Withdrawn asks
 

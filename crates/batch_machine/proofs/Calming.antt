@@ -1,5 +1,5 @@
 -- A batch that changes its state by itself has less work left.
-use Rattle.std.proofs.Common.{◌≡◌, refl, sym, ◌∙◌, ap, ℕ, suc, length, ◌-◌, Bool, true, List, [], ◌∷◌, Some, arith, inl, inr, ◌<◌, ◌≤◌, ◌+◌, ◌*◌}
+use Rattle.std.proofs.Common.{◌≡◌, refl, sym, ◌∙◌, ap, subst, ℕ, suc, length, ◌-◌, Bool, true, false, List, [], ◌∷◌, Some, arith, inl, inr, ◌<◌, ◌≤◌, ◌+◌, ◌*◌}
 use Rattle.std.proofs.lemmas.Bool.{and_parts}
 use Rattle.std.specs.List.{list_all}
 use Rattle.std.specs.Prelude.{option_and_then}
@@ -7,11 +7,13 @@ use Rattle.batch_matrix.specs.declared.state.State.{State}
 use Rattle.batch_matrix.specs.declared.state.State.TheVariants.{Running, Pausing, Paused, Holding, Held, Restarting, Stopping, Stopped, Aborting, Aborted, Complete}
 use Rattle.batch_matrix.specs.Matrix.{ends_as}
 use Rattle.batch_recipe.specs.Tree.{Step, Phase}
-use Rattle.batch_model.specs.Lists.{Has}
+use Rattle.batch_model.specs.Lists.{Has, Each}
+use Rattle.batch_model.specs.Standing.{is_resting, IsUnbegun}
+use Rattle.batch_machine.proofs.Gathering.{no-acts_of_done}
 use Rattle.batch_model.specs.Rest.{Rest, ready, asking, open_act, live, freeing, in_seq, in_par, in_loop, done, Rests, no_rests, rest, is_done, acts, acts_of_each}
 use Rattle.batch_model.specs.Plant.{Batch, phase_states}
 use Rattle.batch_model.specs.Moves.{Move, state, is_running, when, is_reached, state_move}
-use Rattle.batch_model.specs.Runs.{toil, toil_of_work, toil_of_each, sends, ahead, toil_left, toil_left_in_each, state_moves_left}
+use Rattle.batch_model.specs.Runs.{toil, toil_of_work, toil_of_each, sends, goes_on, ahead, toil_left, toil_left_in_each, state_moves_left}
 use Rattle.batch_model.proofs.Members.{Has-left, Has-right}
 
 -- in state y no more lies ahead than in x, and no more is sent to the live phases
@@ -58,9 +60,15 @@ live-all test (done ∷ more) e s p t (inr h) = live-all test more e s p t h
 sends-running : (t : State) → is_running t ≡ true → sends Running t ≡ 0
 sends-running t e = grind arith
 
+-- no state in which a batch goes on ends as one in which it doesn't
+still-off : (x y : State) → ends_as x ≡ Some y → goes_on y ≡ false → goes_on x ≡ false
+still-off x y e f = grind arith
+
 -- m changes the state of a batch in state x to one in which less work is left
 abbrev pub IsStateMove : ℕ → State → Rest → Move → Type 0
-IsStateMove n x r m = (y : State) × (m ≡ state n y) × (state_moves_left y + toil_left y r < state_moves_left x + toil_left x r)
+IsStateMove n x r m =
+    (y : State) × (m ≡ state n y) × (state_moves_left y + toil_left y r < state_moves_left x + toil_left x r) × (goes_on y ≡ false → goes_on x ≡ false)
+    × (is_resting y ≡ true → Each IsUnbegun (acts r))
 
 taken : (t : Bool) (l m : Move) → when t l ≡ Some m → (t ≡ true) × (m ≡ l)
 taken t l m e = grind arith
@@ -68,16 +76,20 @@ taken t l m e = grind arith
 state_move-lowers : (n : ℕ) (x : State) (r : Rest) (m : Move)
     → option_and_then (λ y. when (is_reached y r) (state n y)) (ends_as x) ≡ Some m → IsStateMove n x r m
 state_move-lowers n Running r m e =
-    (Complete, (taken (is_done r) (state n Complete) m e).1, omega (arith, calmer Running Complete (λ k. omega arith) r (λ s p t h. omega arith)))
+    (Complete, (taken (is_done r) (state n Complete) m e).1, omega (arith, calmer Running Complete (λ k. omega arith) r (λ s p t h. omega arith)), still-off Running Complete refl, λ d. subst (Each IsUnbegun) (sym (no-acts_of_done r (taken (is_done r) (state n Complete) m e).0)) tt)
 state_move-lowers n Pausing r m e = (
   Paused,
   (taken (is_reached Paused r) (state n Paused) m e).1,
   omega (arith, calmer Pausing Paused (λ k. omega arith) r (λ s p t h. omega arith)),
+  still-off Pausing Paused refl,
+  λ d. absurd cc,
 )
 state_move-lowers n Holding r m e = (
   Held,
   (taken (is_reached Held r) (state n Held) m e).1,
   omega (arith, calmer Holding Held (λ k. omega arith) r (λ s p t h. omega arith)),
+  still-off Holding Held refl,
+  λ d. absurd cc,
 )
 state_move-lowers n Restarting r m e =
     let all = taken (is_reached Running r) (state n Running) m e in (
@@ -87,16 +99,22 @@ state_move-lowers n Restarting r m e =
         arith,
         calmer Restarting Running (λ k. omega arith) r (λ s p t h. omega (arith, sends-running t (live-all is_running (acts r) all.0 s p t h))),
       ),
+      still-off Restarting Running refl,
+      λ d. absurd cc,
     )
 state_move-lowers n Stopping r m e = (
   Stopped,
   (taken (is_reached Stopped r) (state n Stopped) m e).1,
   omega (arith, calmer Stopping Stopped (λ k. omega arith) r (λ s p t h. omega arith)),
+  still-off Stopping Stopped refl,
+  λ d. absurd cc,
 )
 state_move-lowers n Aborting r m e = (
   Aborted,
   (taken (is_reached Aborted r) (state n Aborted) m e).1,
   omega (arith, calmer Aborting Aborted (λ k. omega arith) r (λ s p t h. omega arith)),
+  still-off Aborting Aborted refl,
+  λ d. absurd cc,
 )
 state_move-lowers n x r m e = grind arith
 

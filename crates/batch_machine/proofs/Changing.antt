@@ -12,7 +12,7 @@ use Rattle.batch_model.proofs.Members.{Has-left, Has-right}
 pub to_same_place : (q p : Place) → same_place q p ≡ true → q ≡ p
 to_same_place q p e = (bytes_eq-Decides q p).0 e
 
-same_test : (q p : Place) → q ≡ p → same_place q p ≡ true
+pub same_test : (q p : Place) → q ≡ p → same_place q p ≡ true
 same_test q p e = (bytes_eq-Decides q p).1 e
 
 module _ (x : State) (p : Place) (f : Rest → Rest) where

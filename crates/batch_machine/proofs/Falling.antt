@@ -1,13 +1,13 @@
 -- Each possible move lowers the work left.
-use Rattle.std.proofs.Common.{◌≡◌, ◌⊎◌, refl, sym, ◌∙◌, ap, subst, true, List, [], ◌∷◌, Some, None, arith, inl, inr, ◌<◌}
+use Rattle.std.proofs.Common.{◌≡◌, ◌⊎◌, refl, sym, ◌∙◌, ap, subst, true, List, [], ◌∷◌, Some, None, arith, inl, inr, ◌<◌, ◌+◌, false}
 use Rattle.std.specs.Prelude.{Option, ◌++◌, map, option_to_list, sum_by}
 use Rattle.std.specs.List.{filter_map}
 use Rattle.batch_model.specs.Lists.{Has}
 use Rattle.batch_recipe.specs.Tree.{Place, is_before}
-use Rattle.batch_model.specs.Rest.{Rest, acts, changed_at, place_of}
-use Rattle.batch_model.specs.Plant.{Setup, Batch, Plant, in_act}
-use Rattle.batch_model.specs.Moves.{Move, batch_of, place_of_move, act_move, act_after, state_move, batch_moves, possible, batch_after, after, next}
-use Rattle.batch_model.specs.Runs.{toil_left, batch_work_left, work_left}
+use Rattle.batch_model.specs.Rest.{Rest, acts, advance, changed_at, place_of}
+use Rattle.batch_model.specs.Plant.{Setup, Batch, Plant, moment_of, with_rest, in_act}
+use Rattle.batch_model.specs.Moves.{Move, batch_of, place_of_move, act_move, act_after, state_move, batch_moves, possible, passing, batch_after, after, next}
+use Rattle.batch_model.specs.Runs.{goes_on, toil_left, state_moves_left, batch_work_left, work_left}
 use Rattle.batch_model.specs.Standing.{HasPlacedTrees, IsStandingBatch, IsStanding}
 use Rattle.batch_model.specs.Placed.{Rises}
 use Rattle.batch_model.proofs.Members.{Each-Has, Has-flat_map, Has-filter_map}
@@ -49,15 +49,30 @@ pub batch-rises : (c : Setup) (b : Batch) → HasPlacedTrees c → IsStandingBat
 batch-rises c b placed k =
     acts-rise (0 ∷ []) b.recipe.procedure b.rest (placed b.recipe k.known) k.stands
 
+-- what is passed on changes neither the batch's state nor its rest
+pub same-rest : (m : Move) (b : Batch) → (passing m b).rest ≡ b.rest
+same-rest m b = grind arith
+
+pub same-state : (m : Move) (b : Batch) → (passing m b).state ≡ b.state
+same-state m b = grind arith
+
+same-work : (m : Move) (b : Batch) (r : Rest) → batch_work_left (with_rest r (passing m b)) ≡ state_moves_left b.state + toil_left b.state r
+same-work m b r = ap (λ x. state_moves_left x + toil_left x r) (same-state m b)
+
 -- the move of an act lowers the work left of its batch
-in_act-falls : (b : Batch) (a : Rest) (m : Move) → Rises (acts b.rest) → Has (acts b.rest) a → IsMoveOf b a m
-    → batch_work_left (in_act (place_of_move m) (act_after b.values m) b) < batch_work_left b
-in_act-falls b a m rises h t =
+in_act-falls : (b : Batch) (a : Rest) (m : Move) → (goes_on b.state ≡ false → b.in_advance ≡ []) → Rises (acts b.rest) → Has (acts b.rest) a → IsMoveOf b a m
+    → batch_work_left (in_act (place_of_move m) (act_after (moment_of b) m) (passing m b)) < batch_work_left b
+in_act-falls b a m none rises h t =
+    let f : Rest → Rest = act_after (moment_of b) m in
+    let calm : goes_on b.state ≡ false → (moment_of (passing m b)).early ≡ [] =
+    λ e. ap (λ d. (moment_of d).early) (t.passes e) ∙ ap (map (λ held. held.place)) (none e) in
     omega (
       arith,
-      advance-toil b.state b.values (changed_at (place_of_move m) (act_after b.values m) b.rest),
-      changed_at-lower b.state (place_of_move m) (act_after b.values m) b.rest
-          (λ d k p. subst (λ z. toil_left b.state (act_after b.values m z) < toil_left b.state z) (one_act (acts b.rest) a d rises h k (sym t.place ∙ sym p)) t.lowers)
+      same-work m b (advance (moment_of (passing m b)) (changed_at (place_of_move m) f (passing m b).rest)),
+      advance-toil b.state (moment_of (passing m b)) calm (changed_at (place_of_move m) f (passing m b).rest),
+      ap (λ r. toil_left b.state (changed_at (place_of_move m) f r)) (same-rest m b),
+      changed_at-lower b.state (place_of_move m) f b.rest
+          (λ d k p. subst (λ z. toil_left b.state (f z) < toil_left b.state z) (one_act (acts b.rest) a d rises h k (sym t.place ∙ sym p)) t.lowers)
           (a, h, sym t.place),
     )
 
@@ -79,7 +94,7 @@ batch_moves-fall c s b m placed k h =
           subst (λ z. batch_work_left (batch_after z b) < batch_work_left b) (sym t.1) t.2
       | inr e ↦
           let t : IsMoveOf b e.0 m = act_move-is b c s e.0 m e.2 in
-          subst (λ z. batch_work_left z < batch_work_left b) (sym t.changes) (in_act-falls b e.0 m (batch-rises c b placed k) e.1 t)
+          subst (λ z. batch_work_left z < batch_work_left b) (sym t.changes) (in_act-falls b e.0 m k.given_up (batch-rises c b placed k) e.1 t)
     ]
 
 -- each possible move lowers the work left

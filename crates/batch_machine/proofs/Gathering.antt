@@ -1,12 +1,14 @@
 -- What is gathered over the acts of a rest stays the same when the rest advances.
-use Rattle.std.proofs.Common.{◌≡◌, refl, sym, ◌∙◌, ap, ℕ, zero, suc, pred, List, [], ◌∷◌, ◌++◌, Bool, true, false}
+use Rattle.std.proofs.Common.{arith, ◌≡◌, refl, sym, ◌∙◌, ap, ℕ, zero, suc, pred, List, [], ◌∷◌, ◌++◌, Bool, true, false}
 use Rattle.std.specs.Prelude.{flat_map}
 use Rattle.std.proofs.lemmas.Grind.{flat_map-append}
 use Rattle.std.proofs.lemmas.Bool.{and_parts}
-use Rattle.batch_recipe.specs.Conditions.{ValueList, holds}
+use Rattle.batch_recipe.specs.Conditions.{holds}
 use Rattle.batch_recipe.specs.declared.condition.Cond.{Cond}
 use Rattle.batch_recipe.specs.Tree.{Step, Tree, act, skip, seq, par, sel, loop, Task, Trees, no_trees, tree, Choices, otherwise, choice}
-use Rattle.batch_model.specs.Rest.{Rest, ready, asking, open_act, live, freeing, in_seq, in_par, in_loop, done, Rests, no_rests, rest, is_done, all_done, joined, turning, reach, reach_first, reach_each, reach_chosen, turned, advance, advance_each, acts, acts_of_each}
+use Rattle.batch_model.specs.Rest.{Rest, Moment, held_early, ready, asking, open_act, live, freeing, in_seq, in_par, in_loop, done, Rests, no_rests, rest, is_done, all_done, joined, turning, reach, reach_first, reach_each, reach_chosen, turned, advance, advance_each, acts, acts_of_each}
+use Rattle.batch_model.specs.Lists.{Each}
+use Rattle.batch_model.specs.Standing.{IsUnbegun}
 use Rattle.batch_model.specs.Plant.{held_by, held_in, phase_states}
 
 pub no-acts_of_done : (r : Rest) → is_done r ≡ true → acts r ≡ []
@@ -26,8 +28,8 @@ no-acts_of_all_done (rest r rs) e =
     let h : (is_done r ≡ true) × (all_done rs ≡ true) = and_parts (is_done r) (all_done rs) e in
     ap (λ xs. xs ++ acts_of_each rs) (no-acts_of_done r h.0) ∙ no-acts_of_all_done rs h.1
 
--- g gathers nothing from an act that holds nothing yet, and of an open act looks at its step alone
-module _ {X : Type 0} (g : Rest → List X) (new : (s : Step) (w : Task) → g (ready s w 0) ≡ []) (top : (s : Step) (q r : Rest) → g (open_act s q) ≡ g (open_act s r)) where
+-- g gathers nothing from an act that has just been reached, and of an open act looks at its step alone
+module _ {X : Type 0} (g : Rest → List X) (mo : Moment) (new : (s : Step) (w : Task) → g (ready s w (held_early mo.early s)) ≡ []) (top : (s : Step) (q r : Rest) → g (open_act s q) ≡ g (open_act s r)) where
   abbrev gathered : Rest → List X
   gathered r = flat_map g (acts r)
 
@@ -62,68 +64,72 @@ module _ {X : Type 0} (g : Rest → List X) (new : (s : Step) (w : Task) → g (
 
   mutual
     -- nothing is gathered from a chart that has just been reached
-    pub reach-gathered : (vs : ValueList) (c : Tree) → gathered (reach vs c) ≡ []
-    reach-gathered vs (act s w) = append-nothing (g (ready s w 0)) ∙ new s w
-    reach-gathered vs skip = refl
-    reach-gathered vs (seq cs) = reach_first-gathered vs cs
-    reach-gathered vs (par cs) = joined-gathered (reach_each vs cs) ∙ reach_each-gathered vs cs
-    reach-gathered vs (sel ch) = reach_chosen-gathered vs ch
-    reach-gathered vs (loop n c body) = turning-gathered (pred n) c body (reach vs body) ∙ reach-gathered vs body
+    pub reach-gathered : (c : Tree) → gathered (reach mo c) ≡ []
+    reach-gathered (act s w) = append-nothing (g (ready s w (held_early mo.early s))) ∙ new s w
+    reach-gathered skip = refl
+    reach-gathered (seq cs) = reach_first-gathered cs
+    reach-gathered (par cs) = joined-gathered (reach_each mo cs) ∙ reach_each-gathered cs
+    reach-gathered (sel ch) = reach_chosen-gathered ch
+    reach-gathered (loop n c body) = turning-gathered (pred n) c body (reach mo body) ∙ reach-gathered body
 
-    pub reach_first-gathered : (vs : ValueList) (cs : Trees) → gathered (reach_first vs cs) ≡ []
-    reach_first-gathered vs no_trees = refl
-    reach_first-gathered vs (tree c cs) = in_order-gathered (reach vs c) (reach_first vs cs) cs (reach_first-gathered vs cs) ∙ reach-gathered vs c
+    pub reach_first-gathered : (cs : Trees) → gathered (reach_first mo cs) ≡ []
+    reach_first-gathered no_trees = refl
+    reach_first-gathered (tree c cs) = in_order-gathered (reach mo c) (reach_first mo cs) cs (reach_first-gathered cs) ∙ reach-gathered c
 
-    pub reach_each-gathered : (vs : ValueList) (cs : Trees) → flat_map g (acts_of_each (reach_each vs cs)) ≡ []
-    reach_each-gathered vs no_trees = refl
-    reach_each-gathered vs (tree c cs) =
-        flat_map-append g (acts (reach vs c)) (acts_of_each (reach_each vs cs))
-        ∙ ap (λ xs. xs ++ flat_map g (acts_of_each (reach_each vs cs))) (reach-gathered vs c)
-        ∙ reach_each-gathered vs cs
+    pub reach_each-gathered : (cs : Trees) → flat_map g (acts_of_each (reach_each mo cs)) ≡ []
+    reach_each-gathered no_trees = refl
+    reach_each-gathered (tree c cs) =
+        flat_map-append g (acts (reach mo c)) (acts_of_each (reach_each mo cs))
+        ∙ ap (λ xs. xs ++ flat_map g (acts_of_each (reach_each mo cs))) (reach-gathered c)
+        ∙ reach_each-gathered cs
 
-    pub reach_chosen-gathered : (vs : ValueList) (ch : Choices) → gathered (reach_chosen vs ch) ≡ []
-    reach_chosen-gathered vs (otherwise c) = reach-gathered vs c
-    reach_chosen-gathered vs (choice p c ch) = either-gathered (holds vs p) (reach vs c) (reach_chosen vs ch) (reach-gathered vs c) (reach_chosen-gathered vs ch)
+    pub reach_chosen-gathered : (ch : Choices) → gathered (reach_chosen mo ch) ≡ []
+    reach_chosen-gathered (otherwise c) = reach-gathered c
+    reach_chosen-gathered (choice p c ch) = either-gathered (holds mo.values p) (reach mo c) (reach_chosen mo ch) (reach-gathered c) (reach_chosen-gathered ch)
 
-  turned-gathered : (vs : ValueList) (n : ℕ) (c : Cond) (body : Tree) (r : Rest) → gathered (turned vs n c body r) ≡ gathered r
-  turned-gathered vs zero c body r = turning-gathered 0 c body r
-  turned-gathered vs (suc n) c body r = go (is_done r) refl
+  turned-gathered : (n : ℕ) (c : Cond) (body : Tree) (r : Rest) → gathered (turned mo n c body r) ≡ gathered r
+  turned-gathered zero c body r = turning-gathered 0 c body r
+  turned-gathered (suc n) c body r = go (is_done r) refl
     where
       go : (b : Bool) → is_done r ≡ b
-          → gathered (elim b [ false ↦ in_loop (suc n) c body r | true ↦ elim (holds vs c) [ true ↦ done | false ↦ turning n c body (reach vs body) ] ]) ≡ gathered r
+          → gathered (elim b [ false ↦ in_loop (suc n) c body r | true ↦ elim (holds mo.values c) [ true ↦ done | false ↦ turning n c body (reach mo body) ] ]) ≡ gathered r
       go false e = refl
       go true e =
-          either-gathered (holds vs c) done (turning n c body (reach vs body)) refl (turning-gathered n c body (reach vs body) ∙ reach-gathered vs body)
+          either-gathered (holds mo.values c) done (turning n c body (reach mo body)) refl (turning-gathered n c body (reach mo body) ∙ reach-gathered body)
           ∙ ap (flat_map g) (sym (no-acts_of_done r e))
 
   mutual
     -- a rest that advances gains and loses nothing of what is gathered
-    pub advance-gathered : (vs : ValueList) (r : Rest) → gathered (advance vs r) ≡ gathered r
-    advance-gathered vs (ready s w k) = refl
-    advance-gathered vs (asking s w k) = refl
-    advance-gathered vs (open_act s r) = ap (λ xs. xs ++ gathered (advance vs r)) (top s (advance vs r) r) ∙ ap (λ xs. g (open_act s r) ++ xs) (advance-gathered vs r)
-    advance-gathered vs (live s p x) = refl
-    advance-gathered vs (freeing s k) = refl
-    advance-gathered vs (in_seq r cs) = in_order-gathered (advance vs r) (reach_first vs cs) cs (reach_first-gathered vs cs) ∙ advance-gathered vs r
-    advance-gathered vs (in_par rs) = joined-gathered (advance_each vs rs) ∙ advance_each-gathered vs rs
-    advance-gathered vs (in_loop n c body r) = turned-gathered vs n c body (advance vs r) ∙ advance-gathered vs r
-    advance-gathered vs done = refl
+    pub advance-gathered : (r : Rest) → gathered (advance mo r) ≡ gathered r
+    advance-gathered (ready s w k) = refl
+    advance-gathered (asking s w k) = refl
+    advance-gathered (open_act s r) = ap (λ xs. xs ++ gathered (advance mo r)) (top s (advance mo r) r) ∙ ap (λ xs. g (open_act s r) ++ xs) (advance-gathered r)
+    advance-gathered (live s p x) = refl
+    advance-gathered (freeing s k) = refl
+    advance-gathered (in_seq r cs) = in_order-gathered (advance mo r) (reach_first mo cs) cs (reach_first-gathered cs) ∙ advance-gathered r
+    advance-gathered (in_par rs) = joined-gathered (advance_each mo rs) ∙ advance_each-gathered rs
+    advance-gathered (in_loop n c body r) = turned-gathered n c body (advance mo r) ∙ advance-gathered r
+    advance-gathered done = refl
 
-    pub advance_each-gathered : (vs : ValueList) (rs : Rests) → flat_map g (acts_of_each (advance_each vs rs)) ≡ flat_map g (acts_of_each rs)
-    advance_each-gathered vs no_rests = refl
-    advance_each-gathered vs (rest r rs) =
-        flat_map-append g (acts (advance vs r)) (acts_of_each (advance_each vs rs))
-        ∙ ap (λ xs. xs ++ flat_map g (acts_of_each (advance_each vs rs))) (advance-gathered vs r)
-        ∙ ap (λ xs. flat_map g (acts r) ++ xs) (advance_each-gathered vs rs)
+    pub advance_each-gathered : (rs : Rests) → flat_map g (acts_of_each (advance_each mo rs)) ≡ flat_map g (acts_of_each rs)
+    advance_each-gathered no_rests = refl
+    advance_each-gathered (rest r rs) =
+        flat_map-append g (acts (advance mo r)) (acts_of_each (advance_each mo rs))
+        ∙ ap (λ xs. xs ++ flat_map g (acts_of_each (advance_each mo rs))) (advance-gathered r)
+        ∙ ap (λ xs. flat_map g (acts r) ++ xs) (advance_each-gathered rs)
         ∙ sym (flat_map-append g (acts r) (acts_of_each rs))
 
--- a chart that has just been reached holds nothing
-pub held_in-reach : (vs : ValueList) (c : Tree) → held_in (reach vs c) ≡ []
-held_in-reach = reach-gathered held_by (λ s w. refl) (λ s q r. refl)
+-- where nothing is held in advance, an act that has just been reached holds nothing
+none-early : (mo : Moment) → mo.early ≡ [] → (s : Step) (w : Task) → held_by (ready s w (held_early mo.early s)) ≡ []
+none-early mo none s w = ap (λ early. held_by (ready s w (held_early early s))) none
 
--- advancing takes and gives back no resource
-pub held_in-advance : (vs : ValueList) (r : Rest) → held_in (advance vs r) ≡ held_in r
-held_in-advance = advance-gathered held_by (λ s w. refl) (λ s q r. refl)
+-- nor does a chart
+pub held_in-reach : (mo : Moment) → mo.early ≡ [] → (c : Tree) → held_in (reach mo c) ≡ []
+held_in-reach mo none = reach-gathered held_by mo (none-early mo none) (λ s q r. refl)
+
+-- and advancing takes and gives back no resource
+pub held_in-advance : (mo : Moment) → mo.early ≡ [] → (r : Rest) → held_in (advance mo r) ≡ held_in r
+held_in-advance mo none = advance-gathered held_by mo (none-early mo none) (λ s q r. refl)
 
 phase_states-cons : (a : Rest) (xs : List Rest) → phase_states (a ∷ xs) ≡ phase_states (a ∷ []) ++ phase_states xs
 phase_states-cons (ready s w k) xs = refl
@@ -141,13 +147,31 @@ phase_states-gathered [] = refl
 phase_states-gathered (a ∷ xs) = ap (λ ys. phase_states (a ∷ []) ++ ys) (phase_states-gathered xs) ∙ sym (phase_states-cons a xs)
 
 -- a chart that has just been reached runs no phase
-pub phase_states-reach : (vs : ValueList) (c : Tree) → phase_states (acts (reach vs c)) ≡ []
-phase_states-reach vs c =
-    sym (phase_states-gathered (acts (reach vs c))) ∙ reach-gathered (λ a. phase_states (a ∷ [])) (λ s w. refl) (λ s q r. refl) vs c
+pub phase_states-reach : (mo : Moment) (c : Tree) → phase_states (acts (reach mo c)) ≡ []
+phase_states-reach mo c =
+    sym (phase_states-gathered (acts (reach mo c))) ∙ reach-gathered (λ a. phase_states (a ∷ [])) mo (λ s w. refl) (λ s q r. refl) c
 
 -- advancing changes the states of no phase
-pub phase_states-advance : (vs : ValueList) (r : Rest) → phase_states (acts (advance vs r)) ≡ phase_states (acts r)
-phase_states-advance vs r =
-    sym (phase_states-gathered (acts (advance vs r)))
-    ∙ advance-gathered (λ a. phase_states (a ∷ [])) (λ s w. refl) (λ s q r. refl) vs r
+pub phase_states-advance : (mo : Moment) (r : Rest) → phase_states (acts (advance mo r)) ≡ phase_states (acts r)
+phase_states-advance mo r =
+    sym (phase_states-gathered (acts (advance mo r)))
+    ∙ advance-gathered (λ a. phase_states (a ∷ [])) mo (λ s w. refl) (λ s q r. refl) r
     ∙ phase_states-gathered (acts r)
+
+-- Acts that have begun
+
+abbrev begun_marks : Rest → List Bool
+begun_marks (ready s w k) = []
+begun_marks _ = true ∷ []
+
+unmarked : (a : Rest) (ys : List Bool) → begun_marks a ++ ys ≡ [] → IsUnbegun a × (ys ≡ [])
+unmarked (ready s w k) ys e = (tt, e)
+unmarked a ys e = absurd (grind arith)
+
+all-unbegun : (xs : List Rest) → flat_map begun_marks xs ≡ [] → Each IsUnbegun xs
+all-unbegun [] e = tt
+all-unbegun (a ∷ xs) e = let first = unmarked a (flat_map begun_marks xs) e in (first.0, all-unbegun xs first.1)
+
+-- no act of a chart that has just been reached has begun
+pub reach-unbegun : (mo : Moment) (c : Tree) → Each IsUnbegun (acts (reach mo c))
+reach-unbegun mo c = all-unbegun (acts (reach mo c)) (reach-gathered begun_marks mo (λ s w. refl) (λ s q r. refl) c)

@@ -4,10 +4,9 @@ use Rattle.batch_matrix.specs.declared.state.State.{State}
 use Rattle.batch_matrix.specs.declared.command.Command.{Command}
 use Rattle.batch_matrix.specs.declared.report.PhaseEnd.{PhaseEnd}
 use Rattle.batch_matrix.specs.declared.report.PhaseEnd.TheVariants.{Ended, Now, Same}
-use Rattle.batch_recipe.specs.Conditions.{ValueList}
 use Rattle.batch_recipe.specs.Tree.{Place, Step, Task, runs, follows, Tree, act, seq, par, sel, loop, Trees, no_trees, tree, Choices, otherwise, choice}
 use Rattle.batch_model.specs.Lists.{Has}
-use Rattle.batch_model.specs.Rest.{same_place, Rest, ready, asking, open_act, live, freeing, in_seq, in_par, in_loop, done, Rests, no_rests, rest, acts, acts_of_each, reach, changed_at, changed_in_each, withdrawn, withdrawn_each, place_of}
+use Rattle.batch_model.specs.Rest.{same_place, Rest, Moment, ready, asking, open_act, live, freeing, in_seq, in_par, in_loop, done, Rests, no_rests, rest, acts, acts_of_each, reach, changed_at, changed_in_each, withdrawn, withdrawn_each, place_of}
 use Rattle.batch_model.specs.Moves.{freed, sent, released, begun, ended}
 use Rattle.batch_model.specs.Events.{phase_after}
 use Rattle.batch_model.specs.Standing.{IsRestOf, IsRestBelow, IsBranch, AreBranches, IsChosen}
@@ -66,9 +65,9 @@ phase_after-remains Ended a = ended-remains a
 phase_after-remains (Now y) a = now-remains y a
 phase_after-remains Same a = λ s w h. h
 
-pub begun-remains : (vs : ValueList) (t : Step) (v : Task) (k : ℕ) → RemainsAs (ready t v k) (begun vs (ready t v k))
-begun-remains vs t (runs p) k s w h = (h.0, sym h.1)
-begun-remains vs t (follows name c) k s w h = (h.0, subst (λ z. IsRestBelow z (reach vs c)) h.1 (reach-IsRestOf vs c))
+pub begun-remains : (mo : Moment) (t : Step) (v : Task) (k : ℕ) → RemainsAs (ready t v k) (begun mo (ready t v k))
+begun-remains mo t (runs p) k s w h = (h.0, sym h.1)
+begun-remains mo t (follows name c) k s w h = (h.0, subst (λ z. IsRestBelow z (reach mo c)) h.1 (reach-IsRestOf mo c))
 
 -- A change at a place
 

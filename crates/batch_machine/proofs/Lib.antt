@@ -8,11 +8,13 @@ pub mod Work
 pub mod Rising
 pub mod Changing
 pub mod Keeping
+pub mod InAdvance
 pub mod Lowering
 pub mod Calming
 pub mod Batches
 pub mod Falling
 pub mod Moving
+pub mod Leaving
 pub mod Deciding
 pub mod Refusing
 pub mod Answering

@@ -6,8 +6,8 @@ use Rattle.batch_recipe.specs.Diagram as chart
 use Rattle.batch_recipe.specs.Diagram.{Diagram, Diagrams, Cases, diagram_of}
 use Rattle.batch_recipe.specs.Tree.{Place, Tree, skip}
 use Rattle.batch_recipe.specs.Nodes.{child}
-use Rattle.batch_recipe.specs.Expanding.{expanded, expanded_each, expanded_cases, unit_below, task_of, act_named, Binding, unit_with, act_tree_with, named_tree_with}
-use Rattle.batch_recipe.specs.Procedure.{tables_from, bound_tree}
+use Rattle.batch_recipe.specs.Expanding.{expanded, expanded_each, expanded_cases, unit_below, task_of, act_named, Binding, Sites, unit_with, act_tree_with, named_tree_with}
+use Rattle.batch_recipe.specs.Procedure.{sites, tables_from, bound_tree}
 use Rattle.batch_recipe.specs.declared.act.Act.{Act}
 use Rattle.batch_recipe.specs.declared.act.Work.{Work}
 use Rattle.batch_recipe.specs.declared.act.Work.TheVariants.{Follows, Runs}
@@ -47,27 +47,28 @@ module _ (acts : Name → Place → Tree) (placed : ArePlacedActs acts) where
   task_of-IsPlacedBelow unit name p (Follows c) = expanded-IsPlaced (child p 0) (diagram_of c)
   task_of-IsPlacedBelow unit name p (Runs phase values reports) = tt
 
-module _ (bound : Binding) where
+module _ (sites : Sites) where
   pub act_tree-IsPlaced : (acts : Name → Name → Place → Tree) → ((unit : Name) → ArePlacedActs (acts unit)) → (unit : Name) (a : Act) (p : Place)
-      → IsPlaced p (act_tree_with bound acts unit a p)
+      → IsPlaced p (act_tree_with sites acts unit a p)
   act_tree-IsPlaced acts placed unit a p =
-      let own : Name = unit_below unit (unit_with bound a.unit) in
+      let own : Name = unit_below unit (unit_with sites.bound a.unit) in
       (refl, task_of-IsPlacedBelow (acts own) (placed own) own a.name p a.work)
 
-  pub named_tree-IsPlaced : (tables : List (List Act)) (unit : Name) → ArePlacedActs (named_tree_with bound tables unit)
+  pub named_tree-IsPlaced : (tables : List (List Act)) (unit : Name) → ArePlacedActs (named_tree_with sites tables unit)
   named_tree-IsPlaced [] unit name p = tt
   named_tree-IsPlaced (table ∷ tables) unit name p = go (act_named table name) (named_tree-IsPlaced tables)
     where
-      go : (o : Option Act) → ((own : Name) → ArePlacedActs (named_tree_with bound tables own))
-          → IsPlaced p (elim o [ None ↦ skip | Some a ↦ act_tree_with bound (named_tree_with bound tables) unit a p ])
+      go : (o : Option Act) → ((own : Name) → ArePlacedActs (named_tree_with sites tables own))
+          → IsPlaced p (elim o [ None ↦ skip | Some a ↦ act_tree_with sites (named_tree_with sites tables) unit a p ])
       go None placed = tt
-      go (Some a) placed = act_tree-IsPlaced (named_tree_with bound tables) placed unit a p
+      go (Some a) placed = act_tree-IsPlaced (named_tree_with sites tables) placed unit a p
 
 -- each act of a recipe's expanded tree carries its place
 pub bound_tree-IsPlaced : (acts : Acts) (bound : Binding) → IsPlaced (0 ∷ []) (bound_tree bound acts)
 bound_tree-IsPlaced acts bound =
     let tables = tables_from acts (Some UnitProcedures) in
-    act_tree-IsPlaced bound (named_tree_with bound tables) (named_tree-IsPlaced bound tables) [] acts.procedure (0 ∷ [])
+    let own : Sites = sites bound acts in
+    act_tree-IsPlaced own (named_tree_with own tables) (named_tree-IsPlaced own tables) [] acts.procedure (0 ∷ [])
 
 -- setups whose recipes have the expanded trees of acts have placed trees
 pub expanded-HasPlacedTrees : (c : Setup) → Each IsExpanded c.recipes → HasPlacedTrees c

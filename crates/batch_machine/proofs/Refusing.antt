@@ -11,7 +11,7 @@ use Rattle.batch_recipe.specs.Conditions.{Name, ValueList, same_name}
 use Rattle.batch_model.specs.Plant.{Formula, size_out_of_range, value_out_of_range, scaled, Recipe, Setup, Batch, Plant, batch_at, in_batch, Master}
 use Rattle.batch_model.specs.Moves.{Move, is_stopping, next}
 use Rattle.batch_recipe.specs.Values.{are_outputs, have_output, left_out}
-use Rattle.batch_model.specs.Events.{Event, create, order, remove, report, Reply, created, ordered, removed, reported, refused, Refusal, unknown_recipe, bad_binding, binding, is_binding, bound_by, creating_for, roles_told, unknown_batch, command_not_accepted, no_live_phase, report_not_expected, bad_output, output_left_out, owed, accepting, full, not_idle, moves_pending, no_memory, Answer, is_full, creating, commanded, lines_under, ordering, without_batch, removing, LivePhase, live_phase, batch_state_after, outputs_of, batch_reported, reporting, judged, react}
+use Rattle.batch_model.specs.Events.{Event, create, order, remove, report, Reply, created, ordered, removed, refused, Refusal, unknown_recipe, bad_binding, binding, is_binding, bound_by, creating_for, roles_told, unknown_batch, command_not_accepted, no_live_phase, report_not_expected, bad_output, output_left_out, owed, accepting, full, not_idle, moves_pending, no_memory, Answer, is_full, creating, commanded, lines_under, ordering, without_batch, removing, LivePhase, live_phase, outputs_of, reporting, judged, react}
 use Rattle.batch_model.specs.Runs.{IsCreated, Reacts}
 use Rattle.batch_machine.specs.Laws.{IsCreate, IsFirstLeftOut, HasCause}
 use Rattle.batch_model.specs.declared.limits.TheConstants.{LAST_NUMBER}

@@ -54,7 +54,7 @@ pub run_from-leads : (c : Setup) → HasPlacedTrees c → (s : Plant) (es : List
 run_from-leads c placed s [] k e = (s, refl, e)
 run_from-leads c placed s (d ∷ es) k e =
     let a = react c s d in
-    let stands : IsStanding c a.1 = react-stands c s k d in
+    let stands : IsStanding c a.1 = react-stands c placed s k d in
     let n : ℕ = work_left a.1 in
     let moves = settling-leads c n a.1 in
     let there : IsStanding c (settling n c a.1).1 = leads-stands c placed a.1 (settling n c a.1).1 [] (map move (settling n c a.1).0) stands moves in

@@ -1,9 +1,12 @@
 -- Whatever a rest reaches stands at its node of the expanded tree.
-use Rattle.std.proofs.Common.{◌≡◌, refl, sym, subst, ℕ, zero, suc, pred, Bool, true, false, arith, inl, inr, ◌≤◌}
-use Rattle.batch_recipe.specs.Conditions.{ValueList, holds}
+use Rattle.std.proofs.Common.{◌≡◌, refl, sym, subst, ℕ, zero, suc, pred, Bool, true, false, arith, inl, inr, ◌≤◌, List, [], ◌∷◌, length}
+use Rattle.batch_recipe.specs.Conditions.{holds}
 use Rattle.batch_recipe.specs.declared.condition.Cond.{Cond}
-use Rattle.batch_recipe.specs.Tree.{Tree, act, skip, seq, par, sel, loop, Task, runs, follows, Trees, no_trees, tree, Choices, otherwise, choice}
-use Rattle.batch_model.specs.Rest.{Rest, ready, asking, open_act, live, freeing, in_seq, in_par, in_loop, done, Rests, no_rests, rest, is_done, all_done, joined, turning, reach, reach_first, reach_each, reach_chosen, continued, turned, advance, advance_each}
+use Rattle.std.specs.Prelude.{take}
+use Rattle.std.specs.List.{list_any}
+use Rattle.batch_recipe.specs.declared.need.Need.{Need}
+use Rattle.batch_recipe.specs.Tree.{Place, Step, Tree, act, skip, seq, par, sel, loop, Task, runs, follows, Trees, no_trees, tree, Choices, otherwise, choice}
+use Rattle.batch_model.specs.Rest.{same_place, Rest, Moment, held_early, ready, asking, open_act, live, freeing, in_seq, in_par, in_loop, done, Rests, no_rests, rest, is_done, all_done, joined, turning, reach, reach_first, reach_each, reach_chosen, continued, turned, advance, advance_each}
 use Rattle.batch_model.specs.Standing.{IsRestOf, IsRestBelow, IsBranch, AreBranches, IsChosen}
 
 mutual
@@ -52,93 +55,102 @@ either-IsChosen : (p : Cond) (c : Tree) (ch : Choices) (b : Bool) (q r : Rest) �
 either-IsChosen p c ch true q r h k = inl h
 either-IsChosen p c ch false q r h k = inr k
 
+-- an act that is just reached holds no more than its needs
+pub early-within : (early : List Place) (s : Step) → held_early early s ≤ length s.needs
+early-within early s = go (list_any (same_place s.place) early) s.needs
+  where
+    go : (b : Bool) (needs : List Need) → elim b [ true ↦ length (take 1 needs) | false ↦ 0 ] ≤ length needs
+    go true [] = omega arith
+    go true (own ∷ needs) = omega arith
+    go false needs = omega arith
+
 pred-within : (n : ℕ) → pred n ≤ n
 pred-within n = omega arith
 
 mutual
-  pub reach-IsRestOf : (vs : ValueList) (c : Tree) → IsRestOf c (reach vs c)
-  reach-IsRestOf vs (act s w) = (refl, refl, omega arith)
-  reach-IsRestOf vs skip = tt
-  reach-IsRestOf vs (seq cs) = reach_first-IsRestOf vs cs
-  reach-IsRestOf vs (par cs) = joined-IsRestOf cs (reach_each vs cs) (reach_each-AreBranches vs cs)
-  reach-IsRestOf vs (sel ch) = reach_chosen-IsChosen vs ch
-  reach-IsRestOf vs (loop n c body) = turning-IsRestOf n (pred n) c body (reach vs body) (pred-within n) (reach-IsRestOf vs body)
+  pub reach-IsRestOf : (mo : Moment) (c : Tree) → IsRestOf c (reach mo c)
+  reach-IsRestOf mo (act s w) = (refl, refl, early-within mo.early s)
+  reach-IsRestOf mo skip = tt
+  reach-IsRestOf mo (seq cs) = reach_first-IsRestOf mo cs
+  reach-IsRestOf mo (par cs) = joined-IsRestOf cs (reach_each mo cs) (reach_each-AreBranches mo cs)
+  reach-IsRestOf mo (sel ch) = reach_chosen-IsChosen mo ch
+  reach-IsRestOf mo (loop n c body) = turning-IsRestOf n (pred n) c body (reach mo body) (pred-within n) (reach-IsRestOf mo body)
 
-  pub reach_first-IsRestOf : (vs : ValueList) (cs : Trees) → IsRestOf (seq cs) (reach_first vs cs)
-  reach_first-IsRestOf vs no_trees = tt
-  reach_first-IsRestOf vs (tree c cs) = first-IsRestOf c cs (reach vs c) (reach_first vs cs) (reach-IsRestOf vs c) (reach_first-IsRestOf vs cs)
+  pub reach_first-IsRestOf : (mo : Moment) (cs : Trees) → IsRestOf (seq cs) (reach_first mo cs)
+  reach_first-IsRestOf mo no_trees = tt
+  reach_first-IsRestOf mo (tree c cs) = first-IsRestOf c cs (reach mo c) (reach_first mo cs) (reach-IsRestOf mo c) (reach_first-IsRestOf mo cs)
 
-  pub reach_each-AreBranches : (vs : ValueList) (cs : Trees) → AreBranches cs (reach_each vs cs)
-  reach_each-AreBranches vs no_trees = tt
-  reach_each-AreBranches vs (tree c cs) = (reach-IsRestOf vs c, reach_each-AreBranches vs cs)
+  pub reach_each-AreBranches : (mo : Moment) (cs : Trees) → AreBranches cs (reach_each mo cs)
+  reach_each-AreBranches mo no_trees = tt
+  reach_each-AreBranches mo (tree c cs) = (reach-IsRestOf mo c, reach_each-AreBranches mo cs)
 
-  pub reach_chosen-IsChosen : (vs : ValueList) (ch : Choices) → IsChosen ch (reach_chosen vs ch)
-  reach_chosen-IsChosen vs (otherwise c) = reach-IsRestOf vs c
-  reach_chosen-IsChosen vs (choice p c ch) =
-      either-IsChosen p c ch (holds vs p) (reach vs c) (reach_chosen vs ch) (reach-IsRestOf vs c) (reach_chosen-IsChosen vs ch)
+  pub reach_chosen-IsChosen : (mo : Moment) (ch : Choices) → IsChosen ch (reach_chosen mo ch)
+  reach_chosen-IsChosen mo (otherwise c) = reach-IsRestOf mo c
+  reach_chosen-IsChosen mo (choice p c ch) =
+      either-IsChosen p c ch (holds mo.values p) (reach mo c) (reach_chosen mo ch) (reach-IsRestOf mo c) (reach_chosen-IsChosen mo ch)
 
-again-IsRestOf : (vs : ValueList) (n m : ℕ) (c : Cond) (body : Tree) → suc m ≤ n → (b : Bool)
-    → IsRestOf (loop n c body) (elim b [ true ↦ done | false ↦ turning m c body (reach vs body) ])
-again-IsRestOf vs n m c body lt true = tt
-again-IsRestOf vs n m c body lt false = turning-IsRestOf n m c body (reach vs body) (omega arith) (reach-IsRestOf vs body)
+again-IsRestOf : (mo : Moment) (n m : ℕ) (c : Cond) (body : Tree) → suc m ≤ n → (b : Bool)
+    → IsRestOf (loop n c body) (elim b [ true ↦ done | false ↦ turning m c body (reach mo body) ])
+again-IsRestOf mo n m c body lt true = tt
+again-IsRestOf mo n m c body lt false = turning-IsRestOf n m c body (reach mo body) (omega arith) (reach-IsRestOf mo body)
 
-turned-IsRestOf : (vs : ValueList) (n m : ℕ) (c : Cond) (body : Tree) (r : Rest) → m ≤ n → IsRestOf body r → IsRestOf (loop n c body) (turned vs m c body r)
-turned-IsRestOf vs n zero c body r lt h = turning-IsRestOf n 0 c body r lt h
-turned-IsRestOf vs n (suc m) c body r lt h = go (is_done r)
+turned-IsRestOf : (mo : Moment) (n m : ℕ) (c : Cond) (body : Tree) (r : Rest) → m ≤ n → IsRestOf body r → IsRestOf (loop n c body) (turned mo m c body r)
+turned-IsRestOf mo n zero c body r lt h = turning-IsRestOf n 0 c body r lt h
+turned-IsRestOf mo n (suc m) c body r lt h = go (is_done r)
   where
     go : (b : Bool)
-        → IsRestOf (loop n c body) (elim b [ false ↦ in_loop (suc m) c body r | true ↦ elim (holds vs c) [ true ↦ done | false ↦ turning m c body (reach vs body) ] ])
+        → IsRestOf (loop n c body) (elim b [ false ↦ in_loop (suc m) c body r | true ↦ elim (holds mo.values c) [ true ↦ done | false ↦ turning m c body (reach mo body) ] ])
     go false = (lt, refl, refl, h)
-    go true = again-IsRestOf vs n m c body lt (holds vs c)
+    go true = again-IsRestOf mo n m c body lt (holds mo.values c)
 
 -- a branch that has gone on remains one of the branches, or gives way to the next
-continued-here : (vs : ValueList) (c : Tree) (cs : Trees) (r : Rest) (ds : Trees) → IsRestOf c r → ds ≡ cs
-    → IsRestOf (seq (tree c cs)) (continued vs r ds)
-continued-here vs c cs r ds h e = go (is_done r)
+continued-here : (mo : Moment) (c : Tree) (cs : Trees) (r : Rest) (ds : Trees) → IsRestOf c r → ds ≡ cs
+    → IsRestOf (seq (tree c cs)) (continued mo r ds)
+continued-here mo c cs r ds h e = go (is_done r)
   where
-    after : IsRestOf (seq cs) (reach_first vs ds)
-    after = subst (λ x. IsRestOf (seq cs) (reach_first vs x)) (sym e) (reach_first-IsRestOf vs cs)
+    after : IsRestOf (seq cs) (reach_first mo ds)
+    after = subst (λ x. IsRestOf (seq cs) (reach_first mo x)) (sym e) (reach_first-IsRestOf mo cs)
 
-    go : (b : Bool) → IsRestOf (seq (tree c cs)) (elim b [ true ↦ reach_first vs ds | false ↦ in_seq r ds ])
-    go true = later c cs (reach_first vs ds) after
+    go : (b : Bool) → IsRestOf (seq (tree c cs)) (elim b [ true ↦ reach_first mo ds | false ↦ in_seq r ds ])
+    go true = later c cs (reach_first mo ds) after
     go false = inl (h, e)
 
-subst₂-loop : (vs : ValueList) (n m : ℕ) (c d : Cond) (body b : Tree) (r : Rest) → d ≡ c → b ≡ body
-    → IsRestOf (loop n c body) (turned vs m c body r) → IsRestOf (loop n c body) (turned vs m d b r)
-subst₂-loop vs n m c d body b r e f h =
-    subst (λ x. IsRestOf (loop n c body) (turned vs m x b r)) (sym e) (subst (λ x. IsRestOf (loop n c body) (turned vs m c x r)) (sym f) h)
+subst₂-loop : (mo : Moment) (n m : ℕ) (c d : Cond) (body b : Tree) (r : Rest) → d ≡ c → b ≡ body
+    → IsRestOf (loop n c body) (turned mo m c body r) → IsRestOf (loop n c body) (turned mo m d b r)
+subst₂-loop mo n m c d body b r e f h =
+    subst (λ x. IsRestOf (loop n c body) (turned mo m x b r)) (sym e) (subst (λ x. IsRestOf (loop n c body) (turned mo m c x r)) (sym f) h)
 
 mutual
   -- what remains of a chart still does when it has advanced
-  pub advance-IsRestOf : (vs : ValueList) (c : Tree) (r : Rest) → IsRestOf c r → IsRestOf c (advance vs r)
-  advance-IsRestOf vs (act s w) (ready u v k) h = h
-  advance-IsRestOf vs (act s w) (asking u v k) h = h
-  advance-IsRestOf vs (act s w) (open_act u r) h = (h.0, advance-IsRestBelow vs w r h.1)
-  advance-IsRestOf vs (act s w) (live u p x) h = h
-  advance-IsRestOf vs (act s w) (freeing u k) h = h
-  advance-IsRestOf vs (seq cs) (in_seq r ds) h = advance-IsBranch vs cs r ds h
-  advance-IsRestOf vs (par cs) (in_par rs) h = joined-IsRestOf cs (advance_each vs rs) (advance-AreBranches vs cs rs h)
-  advance-IsRestOf vs (sel ch) r h = advance-IsChosen vs ch r h
-  advance-IsRestOf vs (loop n c body) (in_loop m d b r) h =
-      subst₂-loop vs n m c d body b (advance vs r) h.1 h.2 (turned-IsRestOf vs n m c body (advance vs r) h.0 (advance-IsRestOf vs body r h.3))
-  advance-IsRestOf vs c done h = done-IsRestOf c
-  advance-IsRestOf vs _ _ h = absurd h
+  pub advance-IsRestOf : (mo : Moment) (c : Tree) (r : Rest) → IsRestOf c r → IsRestOf c (advance mo r)
+  advance-IsRestOf mo (act s w) (ready u v k) h = h
+  advance-IsRestOf mo (act s w) (asking u v k) h = h
+  advance-IsRestOf mo (act s w) (open_act u r) h = (h.0, advance-IsRestBelow mo w r h.1)
+  advance-IsRestOf mo (act s w) (live u p x) h = h
+  advance-IsRestOf mo (act s w) (freeing u k) h = h
+  advance-IsRestOf mo (seq cs) (in_seq r ds) h = advance-IsBranch mo cs r ds h
+  advance-IsRestOf mo (par cs) (in_par rs) h = joined-IsRestOf cs (advance_each mo rs) (advance-AreBranches mo cs rs h)
+  advance-IsRestOf mo (sel ch) r h = advance-IsChosen mo ch r h
+  advance-IsRestOf mo (loop n c body) (in_loop m d b r) h =
+      subst₂-loop mo n m c d body b (advance mo r) h.1 h.2 (turned-IsRestOf mo n m c body (advance mo r) h.0 (advance-IsRestOf mo body r h.3))
+  advance-IsRestOf mo c done h = done-IsRestOf c
+  advance-IsRestOf mo _ _ h = absurd h
 
-  pub advance-IsRestBelow : (vs : ValueList) (w : Task) (r : Rest) → IsRestBelow w r → IsRestBelow w (advance vs r)
-  advance-IsRestBelow vs (runs p) r h = absurd h
-  advance-IsRestBelow vs (follows name c) r h = advance-IsRestOf vs c r h
+  pub advance-IsRestBelow : (mo : Moment) (w : Task) (r : Rest) → IsRestBelow w r → IsRestBelow w (advance mo r)
+  advance-IsRestBelow mo (runs p) r h = absurd h
+  advance-IsRestBelow mo (follows name c) r h = advance-IsRestOf mo c r h
 
-  pub advance-IsBranch : (vs : ValueList) (cs : Trees) (r : Rest) (ds : Trees) → IsBranch cs r ds → IsRestOf (seq cs) (continued vs (advance vs r) ds)
-  advance-IsBranch vs no_trees r ds h = absurd h
-  advance-IsBranch vs (tree c cs) r ds (inl h) = continued-here vs c cs (advance vs r) ds (advance-IsRestOf vs c r h.0) h.1
-  advance-IsBranch vs (tree c cs) r ds (inr h) = later c cs (continued vs (advance vs r) ds) (advance-IsBranch vs cs r ds h)
+  pub advance-IsBranch : (mo : Moment) (cs : Trees) (r : Rest) (ds : Trees) → IsBranch cs r ds → IsRestOf (seq cs) (continued mo (advance mo r) ds)
+  advance-IsBranch mo no_trees r ds h = absurd h
+  advance-IsBranch mo (tree c cs) r ds (inl h) = continued-here mo c cs (advance mo r) ds (advance-IsRestOf mo c r h.0) h.1
+  advance-IsBranch mo (tree c cs) r ds (inr h) = later c cs (continued mo (advance mo r) ds) (advance-IsBranch mo cs r ds h)
 
-  pub advance-AreBranches : (vs : ValueList) (cs : Trees) (rs : Rests) → AreBranches cs rs → AreBranches cs (advance_each vs rs)
-  advance-AreBranches vs no_trees no_rests h = tt
-  advance-AreBranches vs (tree c cs) (rest r rs) h = (advance-IsRestOf vs c r h.0, advance-AreBranches vs cs rs h.1)
-  advance-AreBranches vs cs rs h = absurd (grind arith)
+  pub advance-AreBranches : (mo : Moment) (cs : Trees) (rs : Rests) → AreBranches cs rs → AreBranches cs (advance_each mo rs)
+  advance-AreBranches mo no_trees no_rests h = tt
+  advance-AreBranches mo (tree c cs) (rest r rs) h = (advance-IsRestOf mo c r h.0, advance-AreBranches mo cs rs h.1)
+  advance-AreBranches mo cs rs h = absurd (grind arith)
 
-  pub advance-IsChosen : (vs : ValueList) (ch : Choices) (r : Rest) → IsChosen ch r → IsChosen ch (advance vs r)
-  advance-IsChosen vs (otherwise c) r h = advance-IsRestOf vs c r h
-  advance-IsChosen vs (choice p c ch) r (inl h) = inl (advance-IsRestOf vs c r h)
-  advance-IsChosen vs (choice p c ch) r (inr h) = inr (advance-IsChosen vs ch r h)
+  pub advance-IsChosen : (mo : Moment) (ch : Choices) (r : Rest) → IsChosen ch r → IsChosen ch (advance mo r)
+  advance-IsChosen mo (otherwise c) r h = advance-IsRestOf mo c r h
+  advance-IsChosen mo (choice p c ch) r (inl h) = inl (advance-IsRestOf mo c r h)
+  advance-IsChosen mo (choice p c ch) r (inr h) = inr (advance-IsChosen mo ch r h)

@@ -9,14 +9,14 @@ use Rattle.batch_recipe.specs.Tree.{Place, Tree}
 use Rattle.batch_recipe.specs.Values.{have_output}
 use Rattle.batch_recipe.specs.declared.acts.Acts.{Acts}
 use Rattle.batch_model.specs.Lists.{Has, Each}
-use Rattle.batch_model.specs.Rest.{Rest, acts, reach, advance, withdrawn, place_of}
-use Rattle.batch_model.specs.Plant.{Master, Setup, Plant, opening, held_in, phase_states}
-use Rattle.batch_model.specs.Moves.{Move, batch_of, place_of_move, is_earlier, is_stopping, possible, next, after}
+use Rattle.batch_model.specs.Rest.{Rest, Moment, acts, reach, advance, withdrawn, place_of}
+use Rattle.batch_model.specs.Plant.{Master, Setup, InAdvance, Batch, Plant, opening, held_in, phase_states}
+use Rattle.batch_model.specs.Moves.{Move, batch_of, kind_of, place_of_move, is_earlier, is_stopping, possible, next, after}
 use Rattle.batch_model.specs.Events.{Event, create, report, Reply, refused, Refusal, output_left_out, bad_binding, full, LivePhase, live_phase, moves_pending, no_memory, is_binding}
-use Rattle.batch_model.specs.Runs.{Out, reply, move, Reacts, Leads, work_left, settling, run}
+use Rattle.batch_model.specs.Runs.{Out, reply, move, Reacts, Leads, goes_on, work_left, settling, run}
 use Rattle.batch_model.specs.Records.{holders_after, holders_told, waiters_after, waiters_told, active_after, active_told, state_after, state_told}
 use Rattle.batch_model.specs.Settled.{IsAdvanced}
-use Rattle.batch_model.specs.Standing.{IsRestOf, HasPlacedTrees, IsStanding}
+use Rattle.batch_model.specs.Standing.{is_resting, IsRestOf, HasPlacedTrees, IsStanding}
 use Rattle.batch_model.specs.Placed.{IsPlaced, Rises}
 use Rattle.batch_model.specs.declared.limits.TheConstants.{LAST_NUMBER}
 
@@ -36,34 +36,34 @@ SetupsArePlaced = (setup : Setup) → Each IsExpanded setup.recipes → HasPlace
 
 -- nothing is left to be reached of a chart that has just been reached, nor of a rest that has advanced
 abbrev pub ReachesFully : Type 0
-ReachesFully = (values : ValueList) (chart : Tree) → IsAdvanced (reach values chart)
+ReachesFully = (moment : Moment) (chart : Tree) → IsAdvanced (reach moment chart)
 
 abbrev pub AdvancesFully : Type 0
-AdvancesFully = (values : ValueList) (rest : Rest) → IsAdvanced (advance values rest)
+AdvancesFully = (moment : Moment) (rest : Rest) → IsAdvanced (advance moment rest)
 
 -- what is reached of a chart can remain of it, and still can when it has advanced or its asks are withdrawn
 abbrev pub ReachingStands : Type 0
-ReachingStands = (values : ValueList) (chart : Tree) → IsRestOf chart (reach values chart)
+ReachingStands = (moment : Moment) (chart : Tree) → IsRestOf chart (reach moment chart)
 
 abbrev pub AdvancingStands : Type 0
-AdvancingStands = (values : ValueList) (chart : Tree) (rest : Rest) → IsRestOf chart rest → IsRestOf chart (advance values rest)
+AdvancingStands = (moment : Moment) (chart : Tree) (rest : Rest) → IsRestOf chart rest → IsRestOf chart (advance moment rest)
 
 abbrev pub WithdrawingStands : Type 0
 WithdrawingStands = (chart : Tree) (rest : Rest) → IsRestOf chart rest → IsRestOf chart (withdrawn rest)
 
--- what has just been reached holds nothing, and advancing takes and gives back nothing
+-- where nothing is held in advance, what has just been reached holds nothing, and advancing takes and gives back nothing
 abbrev pub ReachingHoldsNothing : Type 0
-ReachingHoldsNothing = (values : ValueList) (chart : Tree) → held_in (reach values chart) ≡ []
+ReachingHoldsNothing = (moment : Moment) (chart : Tree) → moment.early ≡ [] → held_in (reach moment chart) ≡ []
 
 abbrev pub AdvancingHoldsTheSame : Type 0
-AdvancingHoldsTheSame = (values : ValueList) (rest : Rest) → held_in (advance values rest) ≡ held_in rest
+AdvancingHoldsTheSame = (moment : Moment) (rest : Rest) → moment.early ≡ [] → held_in (advance moment rest) ≡ held_in rest
 
 -- what has just been reached runs no phase, and advancing changes the states of none
 abbrev pub ReachingRunsNoPhase : Type 0
-ReachingRunsNoPhase = (values : ValueList) (chart : Tree) → phase_states (acts (reach values chart)) ≡ []
+ReachingRunsNoPhase = (moment : Moment) (chart : Tree) → phase_states (acts (reach moment chart)) ≡ []
 
 abbrev pub AdvancingRunsTheSamePhases : Type 0
-AdvancingRunsTheSamePhases = (values : ValueList) (rest : Rest) → phase_states (acts (advance values rest)) ≡ phase_states (acts rest)
+AdvancingRunsTheSamePhases = (moment : Moment) (rest : Rest) → phase_states (acts (advance moment rest)) ≡ phase_states (acts rest)
 
 -- the acts of a rest are in the order of their places, and one stands at a place
 abbrev pub ActsRise : Type 0
@@ -110,6 +110,25 @@ abbrev pub WorkFalls : Type 0
 WorkFalls =
     (setup : Setup) (plant : Plant) (made : Move) → HasPlacedTrees setup → IsStanding setup plant → Has (possible setup plant) made
     → work_left (after plant made) < work_left plant
+
+-- Units that are held in advance
+
+-- the move gives back, passes on, begins or ends
+abbrev pub IsOnTheWay : Move → Type 0
+IsOnTheWay made = (3 ≤ kind_of made) × (kind_of made ≤ 4)
+
+-- a batch that holds something in advance has such a move, and is neither on its way to Stopped or Aborted, nor there, nor idle or complete
+abbrev pub HeldInAdvanceGoesOn : Type 0
+HeldInAdvanceGoesOn =
+    (setup : Setup) (plant : Plant) (batch : Batch) (held : InAdvance) → HasPlacedTrees setup → IsStanding setup plant
+    → Has plant.batches batch → Has batch.in_advance held
+    → (goes_on batch.state ≡ true) × (is_resting batch.state ≡ false) × ((made : Move) × Has (possible setup plant) made × (batch_of made ≡ batch.number) × IsOnTheWay made)
+
+-- where no move is possible, nothing is held in advance
+abbrev pub SettledHoldsNothingInAdvance : Type 0
+SettledHoldsNothingInAdvance =
+    (setup : Setup) (plant : Plant) → HasPlacedTrees setup → IsStanding setup plant → next setup plant ≡ None
+    → Each (λ batch. batch.in_advance ≡ []) plant.batches
 
 -- Events
 

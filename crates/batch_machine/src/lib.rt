@@ -17,7 +17,9 @@ mod rests;
 mod runs;
 
 pub use events::{refusals_change_nothing, refusals_have_causes};
-pub use moves::{acts_have_one_move, next_is_first, next_is_least, work_falls};
+pub use moves::{
+    acts_have_one_move, held_in_advance_goes_on, next_is_first, next_is_least, work_falls,
+};
 pub use records::last_line_tells;
 pub use rests::{
     acts_rise, advances_fully, advances_without_taking, stands_in_its_chart, trees_are_placed,

@@ -1,5 +1,5 @@
 //! The moves that a plant makes by itself.
-ghost use Rattle.batch_machine.specs.Laws.{ActsHaveOneMove, FirstIsNext, NextIsFirst, NextIsLeast, NoneIsPossible, WorkFalls};
+ghost use Rattle.batch_machine.specs.Laws.{ActsHaveOneMove, FirstIsNext, HeldInAdvanceGoesOn, NextIsFirst, NextIsLeast, NoneIsPossible, SettledHoldsNothingInAdvance, WorkFalls};
 
 /// The next move is a possible one and none is earlier, and without a next move none is possible.
 pub fn next_is_least()
@@ -21,4 +21,11 @@ pub fn acts_have_one_move()
 /// In a plant that stands, each possible move lowers the work left.
 pub fn work_falls()
     ensures { WorkFalls }
+{}
+
+/// In a plant that stands, a batch that holds something in advance goes on and has a move that gives back, passes on, begins or ends;
+/// so where no move is possible nothing is held in advance.
+pub fn held_in_advance_goes_on()
+    ensures moves { HeldInAdvanceGoesOn }
+    ensures settled { SettledHoldsNothingInAdvance }
 {}

@@ -1,12 +1,12 @@
 -- What of an expanded tree depends on the units that take the roles: nothing below a unit procedure but its unit, and above it
 -- nothing that the rules ask.
-use Rattle.std.proofs.Common.{◌≡◌, refl, sym, ◌∙◌, ap, ap₂, ℕ, ◌+◌, List, [], ◌∷◌, Bool, true, false, ◌&&◌, ◌||◌, not, Option, Some, None, inl, inr}
+use Rattle.std.proofs.Common.{◌≡◌, refl, sym, ◌∙◌, ap, ap₂, ℕ, ◌+◌, List, [], ◌∷◌, ◌++◌, map, Bool, true, false, ◌&&◌, ◌||◌, not, Option, Some, None, inl, inr}
 use Rattle.std.proofs.lemmas.Bool.{and_parts}
 use Rattle.std.specs.List.{list_all}
 use Rattle.batch_recipe.specs.Conditions.{Name, same_name}
 use Rattle.batch_recipe.specs.Diagram as chart
 use Rattle.batch_recipe.specs.Diagram.{Diagram, Diagrams, Cases, diagram_of}
-use Rattle.batch_recipe.specs.Expanding.{Binding, unbound, unit_chosen, unit_with, unit_below, asked_by, expanded, expanded_each, expanded_cases, task_of, act_named, act_tree_with, named_tree, named_tree_with}
+use Rattle.batch_recipe.specs.Expanding.{Sites, unit_chosen, unit_with, unit_below, unit_named, unit_count, asked_by, reserves_from, expanded, expanded_each, expanded_cases, task_of, act_named, act_tree_with, named_tree_with}
 use Rattle.batch_recipe.specs.Needs.{one_unit}
 use Rattle.batch_recipe.specs.Nodes.{child}
 use Rattle.batch_recipe.specs.Tree.{Place, Tree, act, skip}
@@ -55,34 +55,40 @@ unit-of-each acts kinds a h =
     let units = (and_parts (list_all (λ u. has_unit u && has_chart u) acts.unit_procedures.items) _ (and_parts (not (has_unit acts.procedure) && has_chart acts.procedure) _ kinds).1).0 in
     some-chosen a.unit (and_parts (has_unit a) (has_chart a) (list_all-Has (λ u. has_unit u && has_chart u) acts.unit_procedures.items units a h)).0
 
-abbrev tree_of_choice : Binding → (Name → Name → Place → Tree) → Name → Act → Place → Option UnitChoice → Tree
-tree_of_choice bound acts unit a p o =
-    act (record { place = p; needs = asked_by (unit_with bound o) a.needs.items })
-    (task_of (acts (unit_below unit (unit_with bound o))) (unit_below unit (unit_with bound o)) a.name p a.work)
+-- the unit procedures have the same units
+abbrev pub HaveSameUnits : Sites → Sites → Type 0
+HaveSameUnits sites other = unit_named sites ≡ unit_named other
 
-pub same-below : (bound : Binding) (tables : List (List Act)) → HaveNoUnits tables → (unit name : Name) (p : Place)
-    → named_tree_with bound tables unit name p ≡ named_tree tables unit name p
-same-below bound [] h unit name p = refl
-same-below bound (table ∷ tables) h unit name p = go (act_named table name) refl (same-below bound tables h.1)
-  where
-    go : (o : Option Act) → act_named table name ≡ o → ((unit name : Name) (p : Place) → named_tree_with bound tables unit name p ≡ named_tree tables unit name p)
-        → ◌≡◌ {A = Tree} (elim o [ None ↦ skip | Some a ↦ act_tree_with bound (named_tree_with bound tables) unit a p ]) (elim o [ None ↦ skip | Some a ↦ act_tree_with unbound (named_tree tables) unit a p ])
-    go None e same = refl
-    go (Some a) e same =
-        let none : a.unit ≡ None = h.0 a (find-Has (λ a. same_name a.name name) table a e) in
-        let acts : named_tree_with bound tables ≡ named_tree tables = fun_ext (λ u. fun_ext (λ n. fun_ext (λ q. same u n q))) in
-        ap (tree_of_choice bound (named_tree_with bound tables) unit a p) none
-        ∙ ap (λ f. tree_of_choice bound f unit a p None) acts
-        ∙ sym (ap (tree_of_choice unbound (named_tree tables) unit a p) none)
+abbrev tree_of_choice : Sites → (Name → Name) → (Name → Name → Place → Tree) → Name → Act → Place → Option UnitChoice → Tree
+tree_of_choice sites named acts unit a p o =
+    act (record { place = p; needs = asked_by (unit_with sites.bound o) (map named a.reserves.items) a.needs.items; reserves = reserves_from (unit_count o) a.reserves.items })
+    (task_of (acts (unit_below unit (unit_with sites.bound o))) (unit_below unit (unit_with sites.bound o)) a.name p a.work)
 
--- a unit procedure that is expanded with a binding is the one on the unit that is chosen
-pub on-chosen : (bound : Binding) (tables : List (List Act)) → HaveNoUnits tables → (own : UnitChoice) (a : Act) (p : Place) → a.unit ≡ Some own
-    → act_tree_with bound (named_tree_with bound tables) [] a p
-    ≡ act (record { place = p; needs = one_unit (unit_chosen bound own) ∷ a.needs.items })
-    (task_of (named_tree tables (unit_chosen bound own)) (unit_chosen bound own) a.name p a.work)
-on-chosen bound tables h own a p e =
-    let acts : named_tree_with bound tables ≡ named_tree tables = fun_ext (λ u. fun_ext (λ n. fun_ext (λ q. same-below bound tables h u n q))) in
-    ap (tree_of_choice bound (named_tree_with bound tables) [] a p) e ∙ ap (λ f. tree_of_choice bound f [] a p (Some own)) acts
+module _ (sites other : Sites) (alike : HaveSameUnits sites other) where
+  pub same-below : (tables : List (List Act)) → HaveNoUnits tables → (unit name : Name) (p : Place)
+      → named_tree_with sites tables unit name p ≡ named_tree_with other tables unit name p
+  same-below [] h unit name p = refl
+  same-below (table ∷ tables) h unit name p = go (act_named table name) refl (same-below tables h.1)
+    where
+      go : (o : Option Act) → act_named table name ≡ o → ((unit name : Name) (p : Place) → named_tree_with sites tables unit name p ≡ named_tree_with other tables unit name p)
+          → ◌≡◌ {A = Tree} (elim o [ None ↦ skip | Some a ↦ act_tree_with sites (named_tree_with sites tables) unit a p ]) (elim o [ None ↦ skip | Some a ↦ act_tree_with other (named_tree_with other tables) unit a p ])
+      go None e same = refl
+      go (Some a) e same =
+          let none : a.unit ≡ None = h.0 a (find-Has (λ a. same_name a.name name) table a e) in
+          let acts : named_tree_with sites tables ≡ named_tree_with other tables = fun_ext (λ u. fun_ext (λ n. fun_ext (λ q. same u n q))) in
+          ap (tree_of_choice sites (unit_named sites) (named_tree_with sites tables) unit a p) none
+          ∙ (ap (λ f. tree_of_choice sites (unit_named sites) f unit a p None) acts
+          ∙ (ap (λ n. tree_of_choice other n (named_tree_with other tables) unit a p None) alike
+          ∙ sym (ap (tree_of_choice other (unit_named other) (named_tree_with other tables) unit a p) none)))
+
+  -- a unit procedure that is expanded with a binding is the one on the unit that is chosen
+  pub on-chosen : (tables : List (List Act)) → HaveNoUnits tables → (own : UnitChoice) (a : Act) (p : Place) → a.unit ≡ Some own
+      → act_tree_with sites (named_tree_with sites tables) [] a p
+      ≡ act (record { place = p; needs = one_unit (unit_chosen sites.bound own) ∷ (map one_unit (map (unit_named sites) a.reserves.items) ++ a.needs.items); reserves = reserves_from 1 a.reserves.items })
+      (task_of (named_tree_with other tables (unit_chosen sites.bound own)) (unit_chosen sites.bound own) a.name p a.work)
+  on-chosen tables h own a p e =
+      let acts : named_tree_with sites tables ≡ named_tree_with other tables = fun_ext (λ u. fun_ext (λ n. fun_ext (λ q. same-below tables h u n q))) in
+      ap (tree_of_choice sites (unit_named sites) (named_tree_with sites tables) [] a p) e ∙ ap (λ f. tree_of_choice sites (unit_named sites) f [] a p (Some own)) acts
 
 -- Whether a phase is surely run doesn't depend on it either
 
@@ -108,16 +114,16 @@ module _ (f g : Name → Place → Tree) (same : (name : Name) (p : Place) → s
   task-same-runs unit other name p (Follows c) = chart-same-runs (child p 0) (diagram_of c)
   task-same-runs unit other name p (Runs phase values reports) = refl
 
-pub label-same-runs : (bound other : Binding) (tables : List (List Act)) (unit second name : Name) (p : Place)
-    → surely_runs (named_tree_with bound tables unit name p) ≡ surely_runs (named_tree_with other tables second name p)
-label-same-runs bound other [] unit second name p = refl
-label-same-runs bound other (table ∷ tables) unit second name p = go (act_named table name) (label-same-runs bound other tables)
+pub label-same-runs : (sites other : Sites) (tables : List (List Act)) (unit second name : Name) (p : Place)
+    → surely_runs (named_tree_with sites tables unit name p) ≡ surely_runs (named_tree_with other tables second name p)
+label-same-runs sites other [] unit second name p = refl
+label-same-runs sites other (table ∷ tables) unit second name p = go (act_named table name) (label-same-runs sites other tables)
   where
-    go : (o : Option Act) → ((unit second name : Name) (p : Place) → surely_runs (named_tree_with bound tables unit name p) ≡ surely_runs (named_tree_with other tables second name p))
-        → surely_runs (elim o [ None ↦ skip | Some a ↦ act_tree_with bound (named_tree_with bound tables) unit a p ])
+    go : (o : Option Act) → ((unit second name : Name) (p : Place) → surely_runs (named_tree_with sites tables unit name p) ≡ surely_runs (named_tree_with other tables second name p))
+        → surely_runs (elim o [ None ↦ skip | Some a ↦ act_tree_with sites (named_tree_with sites tables) unit a p ])
         ≡ surely_runs (elim o [ None ↦ skip | Some a ↦ act_tree_with other (named_tree_with other tables) second a p ])
     go None same = refl
     go (Some a) same =
-        let u : Name = unit_below unit (unit_with bound a.unit) in
-        let v : Name = unit_below second (unit_with other a.unit) in
-        task-same-runs (named_tree_with bound tables u) (named_tree_with other tables v) (same u v) u v a.name p a.work
+        let u : Name = unit_below unit (unit_with sites.bound a.unit) in
+        let v : Name = unit_below second (unit_with other.bound a.unit) in
+        task-same-runs (named_tree_with sites tables u) (named_tree_with other tables v) (same u v) u v a.name p a.work

@@ -1,8 +1,10 @@
 -- trusted: clearance: what recipes must meet, by a ranking of a cell's resources, so that their batches can run safely.
-use Rattle.std.specs.Prelude.{◌≡◌, ℕ, ◌+◌, ◌<◌, ◌≤◌, List, [], ◌∷◌, ◌++◌, length, map, Bool, true, false, ◌&&◌, ◌||◌, IsTrue, ⊤}
+use Rattle.std.specs.Prelude.{◌≡◌, ℕ, ◌+◌, ◌<◌, ◌≤◌, List, [], ◌∷◌, ◌++◌, length, map, Bool, true, false, ◌&&◌, ◌||◌, IsTrue, ⊤, Some}
 use Rattle.batch_recipe.specs.Conditions.{Name, same_name}
 use Rattle.batch_recipe.specs.Tree.{Place, Phase, Tree, act, skip, seq, par, sel, loop, Task, runs, follows, Trees, no_trees, tree, Choices, otherwise, choice}
-use Rattle.batch_recipe.specs.Nodes.{Node, node, child, needs_of}
+use Rattle.batch_recipe.specs.Nodes.{Node, node, child, needs_of, reserves_of}
+use Rattle.batch_recipe.specs.Following.{follower}
+pub use Rattle.batch_recipe.specs.Levels.{Level, is_procedure, in_procedure, in_unit_procedure, in_operation, below}
 use Rattle.batch_recipe.specs.WellFormed.{is_among, are_distinct}
 use Rattle.batch_recipe.specs.Needs.{resources_of}
 use Rattle.batch_recipe.specs.declared.need.Need.{Need}
@@ -15,21 +17,6 @@ abbrev pub Ranking : Type 0
 Ranking = Name → ℕ
 
 -- Nodes and the levels of the procedural model
-
--- where a node stands: it is the procedure, or it is in the chart of a procedure, whose labels stand for unit procedures, in that
--- of a unit procedure, whose labels stand for operations, or in that of an operation, whose labels stand for phase steps
-pub data Level : Type 0 where
-  is_procedure : Level
-  in_procedure : Level
-  in_unit_procedure : Level
-  in_operation : Level
-
--- the level of the chart of an act at this level; a phase step has none
-abbrev pub below : Level → Level
-below is_procedure = in_procedure
-below in_procedure = in_unit_procedure
-below in_unit_procedure = in_operation
-below in_operation = in_operation
 
 -- a node and its level
 pub record Part : Type 0 where
@@ -173,6 +160,11 @@ pub record IsClear (setup : Setup) (rank : Ranking) (this_part : Part) : Type 0 
   -- along the path from the root, in the order in which the needs are asked for
   pub rising : RiseStrictly rank this_part.node.asked
 
+-- each unit procedure that the act at a node reserves follows the node
+abbrev pub ReservesFollow : Tree → Node → Type 0
+ReservesFollow procedure at =
+    Each (λ reserve. (place : Place) × (follower procedure at.place reserve.name ≡ Some place)) (reserves_of at.here)
+
 -- each role that the tree names has a unit that may take it
 abbrev pub HasCandidates : Master → Type 0
 HasCandidates master = Each (λ role. IsTrue (master.names_role role.name) → (unit : Name) × IsTrue (is_among role.candidates unit)) master.roles
@@ -181,10 +173,15 @@ HasCandidates master = Each (λ role. IsTrue (master.names_role role.name) → (
 abbrev pub IsServed : Master → Binding → Type 0
 IsServed master bound = Each (λ role. IsTrue (master.names_role role.name) → IsTrue (is_among role.candidates (bound role.name))) master.roles
 
+-- each node of the control recipe meets the rules
+pub record IsClearedControl (setup : Setup) (rank : Ranking) (recipe : Recipe) : Type 0 where
+  pub clear : Each (IsClear setup rank) (procedure_parts recipe)
+  pub follow : Each (λ this_part. ReservesFollow recipe.procedure this_part.node) (procedure_parts recipe)
+
 -- the ranking clears the recipe, whatever units take its roles
 abbrev pub IsClearedRecipe : Setup → Ranking → Master → Type 0
 IsClearedRecipe setup rank master =
-    HasCandidates master × ((bound : Binding) → IsServed master bound → Each (IsClear setup rank) (procedure_parts (master.control bound)))
+    HasCandidates master × ((bound : Binding) → IsServed master bound → IsClearedControl setup rank (master.control bound))
 
 -- the ranking clears the recipes for the cell
 pub record IsCleared (setup : Setup) (rank : Ranking) : Type 0 where

@@ -66,7 +66,7 @@ is_full setup plant = nat_le setup.batch_limit (length plant.batches) || nat_lt 
 -- an idle batch whose procedure is reached
 abbrev pub new_batch : ℕ → Recipe → ℕ → ValueList → Batch
 new_batch number recipe size values =
-    record { number = number; recipe = recipe; size = size; values = values; state = Idle; rest = reach values recipe.procedure }
+    record { number = number; recipe = recipe; size = size; values = values; state = Idle; rest = reach (record { values = values; early = [] }) recipe.procedure; in_advance = [] }
 
 abbrev pub with_batch : Plant → Recipe → ℕ → ValueList → Plant
 with_batch plant recipe size values =

@@ -6,6 +6,7 @@ pub mod Events
 pub mod Runs
 pub mod ActStates
 pub mod Records
+pub mod Transfers
 pub mod Settled
 pub mod Standing
 pub mod Placed

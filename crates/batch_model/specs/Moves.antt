@@ -1,5 +1,5 @@
 -- trusted: the moves that a plant makes by itself: which are possible, which is next, and what each changes.
-use Rattle.std.specs.Prelude.{ℕ, zero, suc, pred, List, [], ◌∷◌, ◌++◌, length, map, find, flat_map, Bool, true, false, ◌&&◌, ◌||◌, Option, Some, None, option_map, option_and_then, option_to_list, nat_le, ◌+◌, slice_get}
+use Rattle.std.specs.Prelude.{ℕ, zero, suc, pred, List, [], ◌∷◌, ◌++◌, length, map, find, flat_map, Bool, true, false, ◌&&◌, ◌||◌, Option, Some, None, nat_eq, option_map, option_and_then, option_to_list, nat_le, ◌+◌, slice_get}
 use Rattle.std.specs.List.{list_all, filter_map}
 use Rattle.batch_matrix.specs.declared.state.State.{State}
 use Rattle.batch_matrix.specs.declared.state.State.TheVariants.{Running, Pausing, Holding, Restarting, Stopping, Stopped, Aborting, Aborted, Complete}
@@ -7,10 +7,11 @@ use Rattle.batch_matrix.specs.declared.command.Command.{Command}
 use Rattle.batch_matrix.specs.declared.command.Command.TheVariants.{Pause, Resume, Hold, Restart, Stop, Abort}
 use Rattle.batch_matrix.specs.Matrix.{same_state, accepts, target, ends_as}
 use Rattle.batch_recipe.specs.Conditions.{Name, ValueList, value_or_0}
-use Rattle.batch_recipe.specs.Tree.{Place, is_before, Step, Phase, Task, runs, follows}
+use Rattle.batch_recipe.specs.Tree.{Place, is_before, Step, Phase, Tree, Task, runs, follows}
+use Rattle.batch_recipe.specs.Following.{follower}
 use Rattle.batch_recipe.specs.declared.need.Need.{Need}
-use Rattle.batch_model.specs.Rest.{Rest, ready, asking, open_act, live, freeing, done, is_done, acts, reach}
-use Rattle.batch_model.specs.Plant.{Setup, Batch, BatchAct, Share, units_in, Plant, is_same_act, with_share, without_share, in_batch, in_act, held_in, phase_states, holders}
+use Rattle.batch_model.specs.Rest.{Rest, ready, asking, open_act, live, freeing, done, is_done, Moment, acts, reach}
+use Rattle.batch_model.specs.Plant.{Setup, Batch, BatchAct, Share, units_in, Plant, is_same_act, with_share, without_share, moment_of, in_batch, in_act, held_in, phase_states, holders}
 -- the value where the test holds, as std has it
 pub use Rattle.std.specs.Bool.{then_some as when}
 
@@ -19,6 +20,8 @@ pub data Move : Type 0 where
   send : ℕ → Place → Phase → Command → Move
   state : ℕ → State → Move
   release : ℕ → Place → Need → Move
+  -- with the place that the act's unit is passed to
+  pass : ℕ → Place → Place → Need → Move
   begin : ℕ → Place → Name → Move
   start : ℕ → Place → Phase → ValueList → Move
   end : ℕ → Place → Move
@@ -31,6 +34,7 @@ abbrev pub batch_of : Move → ℕ
 batch_of (send number place phase command) = number
 batch_of (state number becomes) = number
 batch_of (release number place need) = number
+batch_of (pass number place to need) = number
 batch_of (begin number place name) = number
 batch_of (start number place phase handed) = number
 batch_of (end number place) = number
@@ -41,6 +45,7 @@ abbrev pub kind_of : Move → ℕ
 kind_of (send number place phase command) = 1
 kind_of (state number becomes) = 2
 kind_of (release number place need) = 3
+kind_of (pass number place to need) = 3
 kind_of (begin number place name) = 4
 kind_of (start number place phase handed) = 4
 kind_of (end number place) = 4
@@ -51,6 +56,7 @@ abbrev pub place_of_move : Move → Place
 place_of_move (send number place phase command) = place
 place_of_move (state number becomes) = []
 place_of_move (release number place need) = place
+place_of_move (pass number place to need) = place
 place_of_move (begin number place name) = place
 place_of_move (start number place phase handed) = place
 place_of_move (end number place) = place
@@ -115,10 +121,27 @@ abbrev pub entering : Batch → Step → Task → ℕ → Option Move
 entering batch step task held =
     elim (slice_get step.needs held) [ Some need ↦ Some (ask batch.number step.place need) | None ↦ Some (beginning batch step task) ]
 
--- the last of the needs that are held, so many of the first, is given back
+-- the last of the needs that an act holds, so many of the first
+abbrev pub last_held : Step → ℕ → Option Need
+last_held step zero = None
+last_held step (suc fewer) = slice_get step.needs fewer
+
+-- it is given back
 abbrev pub giving_back : Batch → Step → ℕ → Option Move
-giving_back batch step zero = None
-giving_back batch step (suc fewer) = option_map (release batch.number step.place) (slice_get step.needs fewer)
+giving_back batch step held = option_map (release batch.number step.place) (last_held step held)
+
+-- where the unit procedure stands that a step reserves by the need with this number, if it follows the step
+abbrev pub reserved_place : Tree → Step → ℕ → Option Place
+reserved_place procedure step number =
+    option_and_then (λ reserve. follower procedure step.place reserve.name) (find (λ reserve. nat_eq reserve.need number) step.reserves)
+
+-- it is passed to the unit procedure for which the step reserves it, or given back
+abbrev pub handing_over : Batch → Step → ℕ → Option Move
+handing_over batch step held =
+    elim (reserved_place batch.recipe.procedure step (pred held)) [
+      | None ↦ giving_back batch step held
+      | Some to ↦ option_map (pass batch.number step.place to) (last_held step held)
+    ]
 
 -- as many units of the resource are free as are needed, and the act is first in its line
 abbrev pub is_served : Setup → Plant → Need → BatchAct → Bool
@@ -145,7 +168,8 @@ act_move setup plant batch (open_act step rest) =
     ]
 act_move setup plant batch (live step phase now) =
     option_and_then (λ command. when (accepts now command) (send batch.number step.place phase command)) (passed_on batch.state)
-act_move setup plant batch (freeing step left) = giving_back batch step left
+act_move setup plant batch (freeing step left) =
+    elim (is_stopping batch.state || is_stopped batch.state) [ true ↦ giving_back batch step left | false ↦ handing_over batch step left ]
 act_move setup plant batch _ = None
 
 abbrev pub state_move : Batch → Option Move
@@ -184,10 +208,10 @@ released (open_act step rest) = freed step (pred (length step.needs))
 released (freeing step left) = freed step (pred left)
 released rest = rest
 
-abbrev pub begun : ValueList → Rest → Rest
-begun values (ready step (runs phase) held) = live step phase Running
-begun values (ready step (follows name chart) held) = open_act step (reach values chart)
-begun values rest = rest
+abbrev pub begun : Moment → Rest → Rest
+begun moment (ready step (runs phase) held) = live step phase Running
+begun moment (ready step (follows name chart) held) = open_act step (reach moment chart)
+begun moment rest = rest
 
 abbrev pub ended : Rest → Rest
 ended (open_act step rest) = freed step (length step.needs)
@@ -203,24 +227,30 @@ granted (asking step task held) = ready step task (suc held)
 granted rest = rest
 
 -- what a move makes of the act at its place
-abbrev pub act_after : ValueList → Move → Rest → Rest
-act_after values (send number place phase command) = sent command
-act_after values (state number becomes) = λ rest. rest
-act_after values (release number place need) = released
-act_after values (begin number place name) = begun values
-act_after values (start number place phase handed) = begun values
-act_after values (end number place) = ended
-act_after values (ask number place need) = asked
-act_after values (grant number place need) = granted
+abbrev pub act_after : Moment → Move → Rest → Rest
+act_after moment (send number place phase command) = sent command
+act_after moment (state number becomes) = λ rest. rest
+act_after moment (release number place need) = released
+act_after moment (pass number place to need) = released
+act_after moment (begin number place name) = begun moment
+act_after moment (start number place phase handed) = begun moment
+act_after moment (end number place) = ended
+act_after moment (ask number place need) = asked
+act_after moment (grant number place need) = granted
 
 abbrev pub line_after : Move → (Name → List Share) → Name → List Share
 line_after (ask number place need) line resource = with_share resource (number, place) need (line resource)
 line_after (grant number place need) line resource = without_share resource (number, place) need (line resource)
 line_after _ line resource = line resource
 
+-- the batch that holds in advance as well what the move passes on
+abbrev pub passing : Move → Batch → Batch
+passing (pass number place to need) batch = record batch { in_advance = record { place = to; unit = need } ∷ batch.in_advance }
+passing _ batch = batch
+
 abbrev pub batch_after : Move → Batch → Batch
 batch_after (state number becomes) batch = record batch { state = becomes }
-batch_after move batch = in_act (place_of_move move) (act_after batch.values move) batch
+batch_after move batch = in_act (place_of_move move) (act_after (moment_of batch) move) (passing move batch)
 
 -- the plant after a move
 abbrev pub after : Plant → Move → Plant

@@ -6,7 +6,8 @@ use Rattle.batch_recipe.specs.Tree.{Place, Tree}
 use Rattle.batch_recipe.specs.Conditions.{same_name}
 use Rattle.batch_recipe.specs.Expanding.{Binding}
 use Rattle.batch_recipe.specs.declared.need.Need.{Need}
-use Rattle.batch_model.specs.Rest.{same_place, Rest, ready, asking, open_act, live, freeing, acts, advance, changed_at, place_of}
+use Rattle.std.specs.List.{list_any}
+use Rattle.batch_model.specs.Rest.{same_place, Rest, ready, asking, open_act, live, freeing, Moment, acts, advance, changed_at, place_of}
 
 -- what a formula gives for a size: its values, or why it gives none
 pub data Formula : Type 0 where
@@ -48,6 +49,11 @@ pub record Setup : Type 0 where
   pub recipes : List Master
   pub batch_limit : ℕ
 
+-- the place of a unit procedure that its chart hasn't reached yet, and its unit, which was passed to it
+pub record InAdvance : Type 0 where
+  pub place : Place
+  pub unit : Need
+
 pub record Batch : Type 0 where
   pub number : ℕ
   pub recipe : Recipe
@@ -55,6 +61,8 @@ pub record Batch : Type 0 where
   pub values : ValueList
   pub state : State
   pub rest : Rest
+  -- what is held in advance
+  pub in_advance : List InAdvance
 
 -- an act of a batch: the batch's number and the act's place
 abbrev pub BatchAct : Type 0
@@ -107,9 +115,21 @@ abbrev pub in_batch : ℕ → (Batch → Batch) → Plant → Plant
 in_batch number change plant =
     record plant { batches = map (λ batch. elim (nat_eq batch.number number) [ true ↦ change batch | false ↦ batch ]) plant.batches }
 
+-- what the charts of a batch find when they go on
+abbrev pub moment_of : Batch → Moment
+moment_of batch = record { values = batch.values; early = map (λ held. held.place) batch.in_advance }
+
+-- a chart has reached the act at this place, and it isn't finished
+abbrev pub is_reached : Rest → Place → Bool
+is_reached rest place = list_any (λ act. same_place (place_of act) place) (acts rest)
+
+-- the batch with this rest; what is reached by it holds no more in advance
+abbrev pub with_rest : Rest → Batch → Batch
+with_rest rest batch = record batch { rest = rest; in_advance = filter (λ held. not (is_reached rest held.place)) batch.in_advance }
+
 -- the batch in which the act at this place has been changed, and its charts have gone on from there
 abbrev pub in_act : Place → (Rest → Rest) → Batch → Batch
-in_act place change batch = record batch { rest = advance batch.values (changed_at place change batch.rest) }
+in_act place change batch = with_rest (advance (moment_of batch) (changed_at place change batch.rest)) batch
 
 -- what an act itself holds, in the order in which it asked for it
 abbrev pub held_by : Rest → List Need
@@ -145,9 +165,17 @@ shares_held resource batch act =
     map (λ need. record { act = (batch.number, place_of act); units = need.units })
     (filter (λ need. same_name resource need.resource) (held_by act))
 
+-- the share of a resource that is held in advance, where what is held is of it
+abbrev pub share_in_advance : Name → Batch → InAdvance → List Share
+share_in_advance resource batch held = with_share resource (batch.number, held.place) held.unit []
+
+-- a batch's shares of a resource
+abbrev pub shares_of : Name → Batch → List Share
+shares_of resource batch = flat_map (share_in_advance resource batch) batch.in_advance ++ flat_map (shares_held resource batch) (acts batch.rest)
+
 -- who holds how much of a resource
 abbrev pub holders : Plant → Name → List Share
-holders plant resource = flat_map (λ batch. flat_map (shares_held resource batch) (acts batch.rest)) plant.batches
+holders plant resource = flat_map (shares_of resource) plant.batches
 
 -- who asks for how much of a resource, in the order in which the asks came
 abbrev pub askers : Plant → Name → List Share

@@ -7,7 +7,7 @@ use Rattle.batch_matrix.specs.declared.report.Report.{Report}
 use Rattle.batch_matrix.specs.Matrix.{same_state, same_report}
 use Rattle.batch_model.specs.Lists.{Has, Each}
 use Rattle.batch_model.specs.Plant.{Setup, BatchAct, Share, units_in, acts_in, Plant, is_same_act, with_share, without_share, holders, askers}
-use Rattle.batch_model.specs.Moves.{state, release, start, ask, grant, is_stopped}
+use Rattle.batch_model.specs.Moves.{state, release, pass, start, ask, grant, is_stopped}
 use Rattle.batch_model.specs.Events.{created, ordered, reported}
 use Rattle.batch_model.specs.Runs.{Out, reply, move}
 use Rattle.batch_recipe.specs.Conditions.{Name}
@@ -16,10 +16,12 @@ use Rattle.batch_recipe.specs.Tree.{Place, Phase}
 abbrev pub without_batch : ℕ → List Share → List Share
 without_batch number shares = filter (λ share. not (nat_eq share.act.0 number)) shares
 
--- a place of a batch holds its share of a resource from its grant to its release
+-- a place of a batch holds its share of a resource from its grant to its release, or to its pass, from which the other place holds it
 abbrev pub holders_after : Name → List Share → Out → List Share
 holders_after resource shares (move (grant number place need)) = with_share resource (number, place) need shares
 holders_after resource shares (move (release number place need)) = without_share resource (number, place) need shares
+holders_after resource shares (move (pass number place to need)) =
+    with_share resource (number, to) need (without_share resource (number, place) need shares)
 holders_after resource shares _ = shares
 
 abbrev pub holders_told : List Out → Name → List Share

@@ -1,5 +1,6 @@
 -- trusted: what remains of a recipe while a batch runs, as a term.
-use Rattle.std.specs.Prelude.{ℕ, zero, suc, pred, List, [], ◌∷◌, ◌++◌, Bool, true, false, ◌&&◌, nat_eq}
+use Rattle.std.specs.Prelude.{ℕ, zero, suc, pred, List, [], ◌∷◌, ◌++◌, length, take, Bool, true, false, ◌&&◌, nat_eq}
+use Rattle.std.specs.List.{list_any}
 use Rattle.std.specs.Cmp.Lexicographic.{pointwise}
 use Rattle.batch_matrix.specs.declared.state.State.{State}
 use Rattle.batch_recipe.specs.Conditions.{ValueList, holds}
@@ -48,57 +49,66 @@ joined rests = elim (all_done rests) [ true ↦ done | false ↦ in_par rests ]
 abbrev pub turning : ℕ → Cond → Tree → Rest → Rest
 turning turns until body remaining = elim (is_done remaining) [ true ↦ done | false ↦ in_loop turns until body remaining ]
 
+-- what a chart finds when it is reached: the values of the batch, and the places that hold their units in advance
+pub record Moment : Type 0 where
+  pub values : ValueList
+  pub early : List Place
+
+-- how many of its first needs an act holds that is just reached: its unit, which comes first, where it holds that in advance
+abbrev pub held_early : List Place → Step → ℕ
+held_early early step = elim (list_any (same_place step.place) early) [ true ↦ length (take 1 step.needs) | false ↦ 0 ]
+
 -- what remains of a chart that has just been reached
 abbrev mutual
-  pub reach : ValueList → Tree → Rest
-  reach values (act step task) = ready step task 0
-  reach values skip = done
-  reach values (seq charts) = reach_first values charts
-  reach values (par charts) = joined (reach_each values charts)
-  reach values (sel choices) = reach_chosen values choices
-  reach values (loop turns until body) = turning (pred turns) until body (reach values body)
+  pub reach : Moment → Tree → Rest
+  reach moment (act step task) = ready step task (held_early moment.early step)
+  reach moment skip = done
+  reach moment (seq charts) = reach_first moment charts
+  reach moment (par charts) = joined (reach_each moment charts)
+  reach moment (sel choices) = reach_chosen moment choices
+  reach moment (loop turns until body) = turning (pred turns) until body (reach moment body)
 
   -- one branch after the other
-  pub reach_first : ValueList → Trees → Rest
-  reach_first values no_trees = done
-  reach_first values (tree chart charts) =
-      let remaining = reach values chart in elim (is_done remaining) [ true ↦ reach_first values charts | false ↦ in_seq remaining charts ]
+  pub reach_first : Moment → Trees → Rest
+  reach_first moment no_trees = done
+  reach_first moment (tree chart charts) =
+      let remaining = reach moment chart in elim (is_done remaining) [ true ↦ reach_first moment charts | false ↦ in_seq remaining charts ]
 
-  pub reach_each : ValueList → Trees → Rests
-  reach_each values no_trees = no_rests
-  reach_each values (tree chart charts) = rest (reach values chart) (reach_each values charts)
+  pub reach_each : Moment → Trees → Rests
+  reach_each moment no_trees = no_rests
+  reach_each moment (tree chart charts) = rest (reach moment chart) (reach_each moment charts)
 
   -- the first branch whose condition holds, else the last
-  pub reach_chosen : ValueList → Choices → Rest
-  reach_chosen values (otherwise chart) = reach values chart
-  reach_chosen values (choice condition chart choices) =
-      elim (holds values condition) [ true ↦ reach values chart | false ↦ reach_chosen values choices ]
+  pub reach_chosen : Moment → Choices → Rest
+  reach_chosen moment (otherwise chart) = reach moment chart
+  reach_chosen moment (choice condition chart choices) =
+      elim (holds moment.values condition) [ true ↦ reach moment chart | false ↦ reach_chosen moment choices ]
 
 -- a branch of `seq` that is finished gives way to the next
-abbrev pub continued : ValueList → Rest → Trees → Rest
-continued values remaining charts = elim (is_done remaining) [ true ↦ reach_first values charts | false ↦ in_seq remaining charts ]
+abbrev pub continued : Moment → Rest → Trees → Rest
+continued moment remaining charts = elim (is_done remaining) [ true ↦ reach_first moment charts | false ↦ in_seq remaining charts ]
 
 -- a turn that is finished is the last where the condition holds or no turn may follow
-abbrev pub turned : ValueList → ℕ → Cond → Tree → Rest → Rest
-turned values zero until body remaining = elim (is_done remaining) [ true ↦ done | false ↦ in_loop 0 until body remaining ]
-turned values (suc turns) until body remaining =
+abbrev pub turned : Moment → ℕ → Cond → Tree → Rest → Rest
+turned moment zero until body remaining = elim (is_done remaining) [ true ↦ done | false ↦ in_loop 0 until body remaining ]
+turned moment (suc turns) until body remaining =
     elim (is_done remaining) [
       | false ↦ in_loop (suc turns) until body remaining
-      | true ↦ elim (holds values until) [ true ↦ done | false ↦ turning turns until body (reach values body) ]
+      | true ↦ elim (holds moment.values until) [ true ↦ done | false ↦ turning turns until body (reach moment body) ]
     ]
 
 -- what remains once everything is reached that can be, and finished what is
 abbrev mutual
-  pub advance : ValueList → Rest → Rest
-  advance values (open_act step remaining) = open_act step (advance values remaining)
-  advance values (in_seq remaining charts) = continued values (advance values remaining) charts
-  advance values (in_par rests) = joined (advance_each values rests)
-  advance values (in_loop turns until body remaining) = turned values turns until body (advance values remaining)
-  advance values remaining = remaining
+  pub advance : Moment → Rest → Rest
+  advance moment (open_act step remaining) = open_act step (advance moment remaining)
+  advance moment (in_seq remaining charts) = continued moment (advance moment remaining) charts
+  advance moment (in_par rests) = joined (advance_each moment rests)
+  advance moment (in_loop turns until body remaining) = turned moment turns until body (advance moment remaining)
+  advance moment remaining = remaining
 
-  pub advance_each : ValueList → Rests → Rests
-  advance_each values no_rests = no_rests
-  advance_each values (rest remaining rests) = rest (advance values remaining) (advance_each values rests)
+  pub advance_each : Moment → Rests → Rests
+  advance_each moment no_rests = no_rests
+  advance_each moment (rest remaining rests) = rest (advance moment remaining) (advance_each moment rests)
 
 -- the acts that the charts have reached and that aren't finished, each as it stands, in the order of their places
 abbrev mutual

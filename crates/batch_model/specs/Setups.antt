@@ -1,9 +1,10 @@
 -- trusted: the setup of the machine that a cell and recipes stand for.
-use Rattle.std.specs.Prelude.{ℕ, List, [], ◌∷◌, ◌++◌, map, Bool, false, Option, Some, None, option_and_then, position}
+use Rattle.std.specs.Prelude.{ℕ, List, [], ◌∷◌, ◌++◌, map, Bool, false, ◌||◌, Option, Some, None, option_and_then, position}
 use Rattle.std.specs.List.{slice_index_or, list_any}
 use Rattle.batch_cell.specs.Equipment.{unit_phases}
 use Rattle.batch_cell.specs.LookUps.{units_of, units_of_class, resources_of, capacities_of}
 use Rattle.batch_cell.specs.declared.cell.Cell as equipment
+use Rattle.batch_recipe.specs.ActsAtNodes.{procedure_acts}
 use Rattle.batch_recipe.specs.Conditions.{Name, same_name}
 use Rattle.batch_recipe.specs.WellFormed.{is_among}
 use Rattle.batch_recipe.specs.Diagram.{Diagram, label, skip, seq, par, sel, loop, Diagrams, none, more, Cases, otherwise, when, diagram_of}
@@ -52,12 +53,18 @@ abbrev pub name_role : List Act → List Name → Name → Bool
 name_role table names role =
     list_any (λ name. elim (option_and_then role_of (act_named table name)) [ None ↦ false | Some own ↦ same_name own role ]) names
 
+-- some act of these reserves a unit procedure of the table that has the role
+abbrev pub reserve_role : List Act → List (Option Act) → Name → Bool
+reserve_role table acts role = list_any (λ found. elim found [ None ↦ false | Some a ↦ name_role table a.reserves.items role ]) acts
+
 -- the units of its class may take a role
 abbrev pub master_of : equipment.Cell → document.Recipe → Master
 master_of cell recipe = record {
   name = recipe.acts.procedure.name;
   roles = map (λ role. record { name = role.name; candidates = units_of_class cell role.class }) recipe.roles.items;
-  names_role = name_role recipe.acts.unit_procedures.items (labels_of recipe.acts.procedure);
+  names_role = λ role.
+      name_role recipe.acts.unit_procedures.items (labels_of recipe.acts.procedure) role
+      || reserve_role recipe.acts.unit_procedures.items (procedure_acts recipe.acts) role;
   control = recipe_of recipe;
 }
 

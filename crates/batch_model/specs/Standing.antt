@@ -1,11 +1,17 @@
 -- surface: a plant in which each batch's rest is what can remain of its recipe: every act of it stands at its node of the expanded tree.
-use Rattle.std.specs.Prelude.{◌≡◌, ◌⊎◌, ℕ, ◌<◌, ◌≤◌, List, [], ◌∷◌, length, true, ⊤}
+use Rattle.std.specs.Prelude.{◌≡◌, ◌⊎◌, ℕ, ◌<◌, ◌≤◌, List, [], ◌∷◌, ◌++◌, length, Bool, true, false, ◌||◌, ⊤}
+use Rattle.batch_matrix.specs.declared.state.State.{State}
+use Rattle.batch_matrix.specs.declared.state.State.TheVariants.{Idle, Complete}
+use Rattle.batch_matrix.specs.Matrix.{same_state}
+use Rattle.batch_recipe.specs.Following.{Follower, enter}
+use Rattle.batch_recipe.specs.Levels.{Level, is_procedure, below}
 use Rattle.batch_recipe.specs.Conditions.{Name}
-use Rattle.batch_recipe.specs.Tree.{Task, runs, follows, Tree, act, seq, par, sel, loop, Trees, no_trees, tree, Choices, otherwise, choice}
+use Rattle.batch_recipe.specs.Tree.{Place, Task, runs, follows, Tree, act, seq, par, sel, loop, Trees, no_trees, tree, Choices, otherwise, choice}
 use Rattle.batch_model.specs.Lists.{Has, Each}
-use Rattle.batch_model.specs.Rest.{Rest, ready, asking, open_act, live, freeing, in_seq, in_par, in_loop, done, Rests, no_rests, rest}
+use Rattle.batch_model.specs.Rest.{Rest, ready, asking, open_act, live, freeing, in_seq, in_par, in_loop, done, Rests, no_rests, rest, acts}
 use Rattle.batch_model.specs.Plant.{Recipe, Master, Setup, Batch, Plant}
 use Rattle.batch_model.specs.Events.{is_binding, bound_by}
+use Rattle.batch_model.specs.Runs.{goes_on}
 use Rattle.batch_model.specs.Settled.{IsAdvanced}
 use Rattle.batch_model.specs.Placed.{IsPlaced}
 
@@ -43,6 +49,42 @@ abbrev mutual
   IsChosen (otherwise chart) remaining = IsRestOf chart remaining
   IsChosen (choice condition chart choices) remaining = IsRestOf chart remaining ⊎ IsChosen choices remaining
 
+-- Units that are held in advance
+
+-- what follows a branch of a `seq`, where these charts come after it, and `next` follows the `seq`
+abbrev pub after_branch : Level → List Follower → Trees → List Follower
+after_branch level next no_trees = next
+after_branch level next (tree chart charts) = enter level chart
+
+abbrev mutual
+  -- the unit procedures that are reached before any act begins: those that follow acts that are freeing, or open with nothing left in
+  -- their charts; `next` follows the rest
+  pub due : Level → List Follower → Rest → List Follower
+  due level next (open_act step remaining) = due (below level) next remaining
+  due level next (freeing step left) = next
+  due level next (in_seq remaining charts) = due level (after_branch level next charts) remaining
+  due level next (in_par rests) = due_in_each level rests
+  due level next (in_loop turns until body remaining) = due level [] remaining
+  due level next done = next
+  due level next _ = []
+
+  pub due_in_each : Level → Rests → List Follower
+  due_in_each level no_rests = []
+  due_in_each level (rest remaining rests) = due level [] remaining ++ due_in_each level rests
+
+-- the unit procedure at the place is due in the rest
+abbrev pub IsAwaited : Rest → Place → Type 0
+IsAwaited remaining place = (name : Name) × Has (due is_procedure [] remaining) (name, place)
+
+-- Batches that aren't started, or are complete
+
+abbrev pub is_resting : State → Bool
+is_resting now = same_state now Idle || same_state now Complete
+
+abbrev pub IsUnbegun : Rest → Type 0
+IsUnbegun (ready step task granted) = ⊤
+IsUnbegun _ = ⊥
+
 -- the control recipe is made from the master recipe, for units that take its roles
 abbrev pub IsControlOf : Master → Recipe → Type 0
 IsControlOf master recipe =
@@ -56,11 +98,16 @@ IsControl setup recipe = (master : Master) × Has setup.recipes master × IsCont
 abbrev pub HasPlacedTrees : Setup → Type 0
 HasPlacedTrees setup = (recipe : Recipe) → IsControl setup recipe → IsPlaced (0 ∷ []) recipe.procedure
 
--- the batch makes a control recipe of the setup, its rest is what can remain of that, and nothing is left to be reached
+-- the batch makes a control recipe of the setup, its rest is what can remain of that, and nothing is left to be reached; what it holds
+-- in advance is due, and a batch that is on its way to Stopped or Aborted, or there, holds nothing in advance; no act of an idle or
+-- complete batch has begun
 pub record IsStandingBatch (setup : Setup) (batch : Batch) : Type 0 where
   pub known : IsControl setup batch.recipe
   pub stands : IsRestOf batch.recipe.procedure batch.rest
   pub advanced : IsAdvanced batch.rest
+  pub awaited : Each (λ held. IsAwaited batch.rest held.place) batch.in_advance
+  pub given_up : goes_on batch.state ≡ false → batch.in_advance ≡ []
+  pub unbegun : is_resting batch.state ≡ true → Each IsUnbegun (acts batch.rest)
 
 -- the numbers rise, and stay below the next one
 abbrev pub AreNumbered : ℕ → List Batch → Type 0

@@ -5,15 +5,17 @@ use Rattle.std.proofs.lemmas.List.{flat_map_more, length-map, take_more}
 use Rattle.std.proofs.lemmas.List.Folds.{flat_map-map}
 use Rattle.std.proofs.Math.Seq.{take-append_seam}
 use Rattle.batch_recipe.specs.Conditions.{Name}
-use Rattle.batch_recipe.specs.Expanding.{asked_by, unit_chosen, unit_with}
-use Rattle.batch_recipe.specs.Needs.{resources_of}
+use Rattle.batch_recipe.specs.Expanding.{asked_by, needs_with, unit_chosen, unit_named, unit_with}
+use Rattle.batch_recipe.specs.Needs.{one_unit, resources_of}
 use Rattle.batch_recipe.specs.Nodes.{node, needs_of, child}
+use Rattle.batch_recipe.specs.Procedure.{sites}
 use Rattle.batch_recipe.specs.Texts.{place_text}
 use Rattle.batch_recipe.specs.Tree.{Place, Tree}
 use Rattle.batch_recipe.specs.declared.act.Act.{Act}
 use Rattle.batch_recipe.specs.declared.act.UnitChoice.{UnitChoice}
+use Rattle.batch_recipe.specs.declared.acts.Acts.{Acts}
 use Rattle.batch_recipe.specs.declared.need.Need.{Need}
-use Rattle.batch_outline.specs.Along.{Seat, asked_text, asked_unit, held_text, seat_below}
+use Rattle.batch_outline.specs.Along.{Seat, asked_needs, asked_reserves, asked_text, asked_unit, held_text, seat_below, unit_of_name}
 use Rattle.batch_outline.specs.Showing.{Branch, asked_above, branch_text, itself, kind_at, kind_below, listed, need_text, spaced}
 
 pub child_text : (p : Place) (i : ℕ) → 0 < length p → place_text (child p i) ≡ place_text p ++ (codes "." ++ decimal i)
@@ -50,13 +52,22 @@ kind_far [] a long = absurd (omega (arith, long))
 kind_far (n ∷ []) a long = absurd (omega (arith, long))
 kind_far (n ∷ m ∷ p) a long = refl
 
--- what an act asks for, each behind a space
-pub asked_is : (a : Act) → flat_map spaced (resources_of (asked_by (unit_with itself a.unit) a.needs.items)) ≡ asked_text a
-asked_is a = go a.unit
+-- the units of these unit procedures, and then these needs, each behind a space
+reserved_are : (acts : Acts) (names : List Name) (needs : List Need)
+    → flat_map spaced (resources_of (map one_unit (map (unit_named (sites itself acts)) names) ++ needs)) ≡ asked_reserves acts names ++ asked_needs needs
+reserved_are acts [] needs = flat_map-map spaced (λ (need : Need). need.resource) needs
+reserved_are acts (name ∷ names) needs =
+    ap (λ t. spaced (unit_of_name acts name) ++ t) (reserved_are acts names needs)
+    ∙ sym (append_assoc (spaced (unit_of_name acts name)) (asked_reserves acts names) (asked_needs needs))
+
+-- all that an act asks for, each behind a space
+pub asked_is : (acts : Acts) (a : Act) → flat_map spaced (resources_of (needs_with (sites itself acts) a)) ≡ asked_text acts a
+asked_is acts a = go a.unit
   where
-    go : (unit : Option UnitChoice) → flat_map spaced (resources_of (asked_by (unit_with itself unit) a.needs.items)) ≡ asked_unit unit ++ flat_map (λ (need : Need). spaced need.resource) a.needs.items
-    go None = flat_map-map spaced (λ (need : Need). need.resource) a.needs.items
-    go (Some own) = ap (λ t. spaced (unit_chosen itself own) ++ t) (flat_map-map spaced (λ (need : Need). need.resource) a.needs.items)
+    go : (unit : Option UnitChoice) → flat_map spaced (resources_of (asked_by (unit_with itself unit) (map (unit_named (sites itself acts)) a.reserves.items) a.needs.items))
+        ≡ asked_unit unit ++ (asked_reserves acts a.reserves.items ++ asked_needs a.needs.items)
+    go None = reserved_are acts a.reserves.items a.needs.items
+    go (Some own) = ap (λ t. spaced (unit_chosen itself own) ++ t) (reserved_are acts a.reserves.items a.needs.items)
 
 pub needs_listed : (what : List ℕ) (need : Need) (needs : List Need)
     → listed what (map need_text (need ∷ needs)) ≡ spaced what ++ flat_map (λ (n : Need). spaced (need_text n)) (need ∷ needs)
@@ -66,6 +77,12 @@ pub needs_written : (what : List ℕ) (needs : List Need) (empty : Bool) → emp
     → listed what (map need_text needs) ≡ spaced what ++ flat_map (λ (n : Need). spaced (need_text n)) needs
 needs_written what [] empty some is = let bad : true ≡ false = sym is ∙ some in absurd cc
 needs_written what (need ∷ needs) empty some is = needs_listed what need needs
+
+-- the names behind the word that says which they are
+pub names_written : (what : List ℕ) (names : List Name) (empty : Bool) → empty ≡ false → empty ≡ nat_eq (length names) 0
+    → listed what names ≡ spaced what ++ flat_map spaced names
+names_written what [] empty some is = let bad : true ≡ false = sym is ∙ some in absurd cc
+names_written what (name ∷ names) empty some is = refl
 
 -- a text of elements grows by an element at a time
 pub texts_more : {X : Type 0} (text : X → List ℕ) (head : List ℕ) (xs : List X) (i : ℕ) (x d : X) → i < length xs → x ≡ get_or xs i d

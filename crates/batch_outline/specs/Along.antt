@@ -3,12 +3,13 @@ use Rattle.std.specs.Prelude.{ℕ, ◌+◌, List, [], ◌∷◌, ◌++◌, map, 
 use Rattle.std.specs.List.{flat_map}
 use Rattle.batch_recipe.specs.Conditions.{Name}
 use Rattle.batch_recipe.specs.Diagram.{Diagram, label, skip, seq, par, sel, loop, Diagrams, none, more, Cases, otherwise, when, diagram_of, diagrams_of, cases_of}
-use Rattle.batch_recipe.specs.Expanding.{act_named, unit_chosen}
-use Rattle.batch_recipe.specs.Procedure.{tables_from}
+use Rattle.batch_recipe.specs.Expanding.{act_named, unit_chosen, unit_named}
+use Rattle.batch_recipe.specs.Procedure.{sites, tables_from}
 use Rattle.batch_recipe.specs.declared.act.Act.{Act}
 use Rattle.batch_recipe.specs.declared.act.UnitChoice.{UnitChoice}
 use Rattle.batch_recipe.specs.declared.act.Work.{Work}
 use Rattle.batch_recipe.specs.declared.act.Work.TheVariants.{Follows, Runs}
+use Rattle.batch_recipe.specs.declared.acts.Acts.{Acts}
 use Rattle.batch_recipe.specs.declared.acts.LabelTable.{LabelTable}
 use Rattle.batch_recipe.specs.declared.chart.Chart.{Chart}
 use Rattle.batch_recipe.specs.declared.condition.Cond.{Cond}
@@ -74,28 +75,38 @@ abbrev pub asked_unit : Option UnitChoice → List ℕ
 asked_unit None = []
 asked_unit (Some own) = spaced (unit_chosen itself own)
 
-abbrev pub asked_text : Act → List ℕ
-asked_text a = asked_unit a.unit ++ flat_map (λ (need : Need). spaced need.resource) a.needs.items
+-- the unit of the unit procedure with this name
+abbrev pub unit_of_name : Acts → Name → List ℕ
+unit_of_name acts name = unit_named (sites itself acts) name
+
+abbrev pub asked_reserves : Acts → List Name → List ℕ
+asked_reserves acts names = flat_map (λ (name : Name). spaced (unit_of_name acts name)) names
+
+abbrev pub asked_needs : List Need → List ℕ
+asked_needs needs = flat_map (λ (need : Need). spaced need.resource) needs
+
+abbrev pub asked_text : Acts → Act → List ℕ
+asked_text acts a = asked_unit a.unit ++ (asked_reserves acts a.reserves.items ++ asked_needs a.needs.items)
 
 abbrev pub below_act : Labels → List ℕ → List ℕ → Work → List ℕ
 below_act named p h (Follows c) = along named (seat_below p h 0 []) (diagram_of c)
 below_act named p h (Runs phase values reports) = []
 
 -- an act of this kind
-abbrev pub act_lines : List RecipeRole → Labels → Seat → List ℕ → Act → List ℕ
-act_lines roles named s kind a = plain_line s (act_text roles kind a) ++ below_act named s.place (s.held ++ asked_text a) a.work
+abbrev pub act_lines : List RecipeRole → Acts → Labels → Seat → List ℕ → Act → List ℕ
+act_lines roles acts named s kind a = plain_line s (act_text roles kind a) ++ below_act named s.place (s.held ++ asked_text acts a) a.work
 
-abbrev pub named_lines : List RecipeRole → List (List Act) → Labels
-named_lines roles [] name s = plain_line s (codes "skip")
-named_lines roles (table ∷ tables) name s = elim (act_named table name) [
+abbrev pub named_lines : List RecipeRole → Acts → List (List Act) → Labels
+named_lines roles acts [] name s = plain_line s (codes "skip")
+named_lines roles acts (table ∷ tables) name s = elim (act_named table name) [
   | None ↦ plain_line s (codes "skip")
-  | Some a ↦ act_lines roles (named_lines roles tables) s (kind_below a.unit a.work) a
+  | Some a ↦ act_lines roles acts (named_lines roles acts tables) s (kind_below a.unit a.work) a
 ]
 
 -- of a recipe, from a level on
 
 abbrev pub labels_from : Recipe → Option LabelTable → Labels
-labels_from r level = named_lines r.roles.items (tables_from r.acts level)
+labels_from r level = named_lines r.roles.items r.acts (tables_from r.acts level)
 
 abbrev pub part_lines : Recipe → Option LabelTable → List ℕ → List ℕ → ℕ → List Chart → List ℕ
 part_lines r level p h i parts = along_each (labels_from r level) p h i (diagrams_of (map diagram_of parts))

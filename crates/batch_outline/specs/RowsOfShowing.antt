@@ -1,8 +1,10 @@
 -- worked rows: lines of nodes, worked out: what they say, and what they don't.
 use Rattle.std.specs.Prelude.{◌≡◌, ◌≢◌, [], ◌∷◌, None, Some, codes}
+use Rattle.batch_recipe.specs.Expanding.{reserves_from}
 use Rattle.batch_recipe.specs.Needs.{one_unit}
 use Rattle.batch_recipe.specs.Nodes.{Node}
-use Rattle.batch_recipe.specs.Tree.{Tree, act, skip, seq, sel, loop, runs, no_trees, tree, otherwise, choice}
+use Rattle.batch_recipe.specs.Tree.{act, skip, seq, sel, loop, runs, no_trees, tree, otherwise, choice}
+use Rattle.batch_recipe.specs.declared.act.Act.{Act}
 use Rattle.batch_recipe.specs.declared.act.UnitChoice.TheVariants.{Unit, Role}
 use Rattle.batch_recipe.specs.declared.act.Work.{Work}
 use Rattle.batch_recipe.specs.declared.act.Work.TheVariants.{Follows}
@@ -11,7 +13,7 @@ use Rattle.batch_recipe.specs.declared.condition.Cond.{Cond}
 use Rattle.batch_recipe.specs.declared.condition.Op.TheVariants.{AtMost}
 use Rattle.batch_recipe.specs.declared.condition.Term.TheVariants.{Number}
 use Rattle.batch_recipe.specs.declared.need.Need.{Need}
-use Rattle.batch_outline.specs.Showing.{asked_above, branches, chosen_else, chosen_if, itself, kind_below, need_text, no_branch, row_text}
+use Rattle.batch_outline.specs.Showing.{act_text, asked_above, branches, chosen_else, chosen_if, itself, kind_below, need_text, no_branch, phase_text, row_text}
 
 abbrev pub two_units : Need
 two_units = record { resource = codes "STEAM"; units = 2 }
@@ -46,8 +48,28 @@ abbrev pub heating : Node
 heating = record {
   place = 0 ∷ 1 ∷ [];
   asked = codes "R1" ∷ codes "STEAM" ∷ [];
-  here = act (record { place = 0 ∷ 1 ∷ []; needs = two_units ∷ [] }) (runs (record { unit = codes "R1"; name = codes "HEAT"; handed = []; reports = [] }));
+  here = act (record { place = 0 ∷ 1 ∷ []; needs = two_units ∷ []; reserves = [] }) (runs (record { unit = codes "R1"; name = codes "HEAT"; handed = []; reports = [] }));
 }
+
+-- a phase step below the unit R1 that reserves the unit R2 of KEEP, and asks for steam
+abbrev pub passing : Node
+passing = record {
+  place = 0 ∷ 1 ∷ [];
+  asked = codes "R1" ∷ codes "R2" ∷ codes "STEAM" ∷ [];
+  here =
+      act (record { place = 0 ∷ 1 ∷ []; needs = one_unit (codes "R2") ∷ two_units ∷ []; reserves = reserves_from 0 (codes "KEEP" ∷ []) })
+      (runs (record { unit = codes "R1"; name = codes "HEAT"; handed = []; reports = [] }));
+}
+
+-- a unit that an act reserves is held below the act, and not above it
+abbrev pub ReservedUnitIsNotHeldAbove : Type 0
+ReservedUnitIsNotHeldAbove = asked_above passing ≡ codes "R1" ∷ []
+
+-- an act with the phase, the unit procedures that it reserves, and its needs
+abbrev pub ReservingAct : Type 0
+ReservingAct =
+    (a : Act) → a.name ≡ codes "ADD" → a.unit ≡ None → phase_text a.work ≡ codes " runs MIX" → a.reserves.items ≡ codes "KEEP" ∷ codes "WASH" ∷ []
+    → a.needs.items ≡ two_units ∷ [] → act_text [] (codes "phase") a ≡ codes "phase ADD runs MIX reserves KEEP WASH needs STEAM*2"
 
 abbrev pub HeldAbove : Type 0
 HeldAbove = asked_above heating ≡ codes "R1" ∷ []

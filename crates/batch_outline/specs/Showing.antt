@@ -133,10 +133,11 @@ kind_at [] a = codes "procedure"
 kind_at (root ∷ []) a = codes "procedure"
 kind_at (root ∷ i ∷ below) a = kind_below a.unit a.work
 
--- the act, of this kind, with its name, its unit, its phase and its needs
+-- the act, of this kind, with its name, its unit, its phase, the unit procedures that it reserves, and its needs
 abbrev pub act_text : List RecipeRole → List ℕ → Act → List ℕ
 act_text roles kind a =
-    kind ++ (spaced a.name ++ (unit_text roles a.unit ++ (phase_text a.work ++ listed (codes "needs") (map need_text a.needs.items))))
+    kind ++ (spaced a.name ++ (unit_text roles a.unit ++ (phase_text a.work ++ (listed (codes "reserves") a.reserves.items
+    ++ listed (codes "needs") (map need_text a.needs.items)))))
 
 -- Lines
 

@@ -2,10 +2,10 @@
 ghost use Rattle.std.specs.Prelude.{◌≡◌, ◌++◌, IfOk, OnOk, codes, map, option_copied, string_bytes};
 ghost use Rattle.std.specs.List.{flat_map};
 ghost use Rattle.batch_recipe.specs.Expanding.{unit_chosen};
-ghost use Rattle.batch_outline.specs.Along.{asked_text, asked_unit};
+ghost use Rattle.batch_outline.specs.Along.{asked_needs, asked_reserves, asked_text, asked_unit, unit_of_name};
 ghost use Rattle.batch_outline.specs.Showing.{act_text, class_text, itself, kind_below, listed, need_text, phase_text, role_named, spaced, unit_text};
 
-use batch_recipe::{Act, Need, Recipe, Role, UnitChoice, Work};
+use batch_recipe::{Act, Acts, Need, Recipe, Role, UnitChoice, Work, act_named};
 use batch_text::Name;
 use std::alloc::{AllocError, Global};
 
@@ -20,7 +20,7 @@ pub fn kind_below(act: &Act) -> &'static str
     }
 }
 
-/// The act, of this kind, with its name, its unit, its phase and its needs.
+/// The act, of this kind, with its name, its unit, its phase, the unit procedures that it reserves, and its needs.
 pub fn act_text(alloc: Global, recipe: &Recipe, kind: &str, act: &Act) -> Result<String, AllocError>
     ensures { IfOk result (λ text. string_bytes text ≡ act_text recipe.now.roles.items kind.now act.now) }
 {
@@ -28,6 +28,7 @@ pub fn act_text(alloc: Global, recipe: &Recipe, kind: &str, act: &Act) -> Result
     let mut text = format!(in alloc; "{kind} {name}")?;
     put_unit(&mut text, recipe, act)?;
     put_phase(&mut text, act)?;
+    put_reserves(&mut text, &act.reserves)?;
     put_needs(&mut text, &act.needs)?;
     Ok(text)
 }
@@ -73,6 +74,25 @@ fn put_phase(text: &mut String, act: &Act) -> Result<(), AllocError>
     }
 }
 
+fn put_reserves(text: &mut String, names: &[Name]) -> Result<(), AllocError>
+    ensures { OnOk result (string_bytes text.new ≡ string_bytes text.old ++ listed (codes "reserves") names.now) }
+{
+    if names.is_empty() {
+        return Ok(());
+    }
+    text.push_str(" reserves")?;
+    put_each_name(text, names)
+}
+
+fn put_each_name(text: &mut String, names: &[Name]) -> Result<(), AllocError>
+    ensures { OnOk result (string_bytes text.new ≡ string_bytes text.old ++ flat_map spaced names.now) }
+{
+    for name in names {
+        write!(text, " {name}")?;
+    }
+    Ok(())
+}
+
 fn put_needs(text: &mut String, needs: &[Need]) -> Result<(), AllocError>
     ensures { OnOk result (string_bytes text.new ≡ string_bytes text.old ++ listed (codes "needs") (map need_text needs.now)) }
 {
@@ -104,12 +124,13 @@ fn put_need(text: &mut String, need: &Need) -> Result<(), AllocError>
     }
 }
 
-/// What is held below the act: this, and then what the act asks for, its unit or role first.
-pub fn held_below(alloc: Global, held: &str, act: &Act) -> Result<String, AllocError>
-    ensures { IfOk result (λ below. string_bytes below ≡ held.now ++ asked_text act.now) }
+/// All that is held below the act: this, and then the act's own unit or role, those of the unit procedures that it reserves, and its needs.
+pub fn held_below(alloc: Global, held: &str, acts: &Acts, act: &Act) -> Result<String, AllocError>
+    ensures { IfOk result (λ below. string_bytes below ≡ held.now ++ asked_text acts.now act.now) }
 {
     let mut below = String::from_str(alloc, held)?;
     put_chosen(&mut below, act)?;
+    put_reserved(&mut below, acts, &act.reserves)?;
     put_resources(&mut below, &act.needs)?;
     Ok(below)
 }
@@ -136,8 +157,32 @@ fn chosen(choice: &UnitChoice) -> &Name
     }
 }
 
+/// The unit of each of these unit procedures, or its role.
+fn put_reserved(text: &mut String, acts: &Acts, names: &[Name]) -> Result<(), AllocError>
+    ensures { OnOk result (string_bytes text.new ≡ string_bytes text.old ++ asked_reserves acts.now names.now) }
+{
+    for name in names {
+        let unit = unit_reserved(acts, name);
+        write!(text, " {unit}")?;
+    }
+    Ok(())
+}
+
+/// The unit of the unit procedure with this name, or its role. Recipes reserve none that is missing; of one the text is empty.
+fn unit_reserved<'a>(acts: &'a Acts, name: &Name) -> &'a str
+    ensures { result.now ≡ unit_of_name acts.now name.now }
+{
+    match act_named(&acts.unit_procedures, name) {
+        None => "",
+        Some(act) => match &act.unit {
+            None => "",
+            Some(choice) => chosen(choice).text(),
+        },
+    }
+}
+
 fn put_resources(text: &mut String, needs: &[Need]) -> Result<(), AllocError>
-    ensures { OnOk result (string_bytes text.new ≡ string_bytes text.old ++ flat_map (λ need. spaced need.resource) needs.now) }
+    ensures { OnOk result (string_bytes text.new ≡ string_bytes text.old ++ asked_needs needs.now) }
 {
     for need in needs {
         let resource = &need.resource;

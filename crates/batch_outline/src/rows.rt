@@ -1,5 +1,5 @@
 //! Lines of nodes, worked out. The function is empty: its contract is the lines.
-ghost use Rattle.batch_outline.specs.RowsOfShowing.{BranchesOfSelection, FirstLine, HeldAbove, KindsBelow, LoopLine, OneUnit, OwnNeedIsNotHeld, RoleTakesItself, TwoUnits};
+ghost use Rattle.batch_outline.specs.RowsOfShowing.{BranchesOfSelection, FirstLine, HeldAbove, KindsBelow, LoopLine, OneUnit, OwnNeedIsNotHeld, ReservedUnitIsNotHeldAbove, ReservingAct, RoleTakesItself, TwoUnits};
 
 pub fn shown_lines()
     ensures two_units { TwoUnits }
@@ -9,6 +9,8 @@ pub fn shown_lines()
     ensures first_line { FirstLine }
     ensures held_above { HeldAbove }
     ensures own_need { OwnNeedIsNotHeld }
+    ensures reserved_unit { ReservedUnitIsNotHeldAbove }
+    ensures reserving_act { ReservingAct }
     ensures kinds { KindsBelow }
     ensures roles { RoleTakesItself }
 {}

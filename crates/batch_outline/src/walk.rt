@@ -21,7 +21,7 @@ pub fn put_act(
     seat: Seat<'_>,
 ) -> Result<(), AllocError>
     ensures { OnOk result (string_bytes text.new ≡ string_bytes text.old
-        ++ act_lines recipe.now.roles.items (labels_from recipe.now level) (seat_of seat.entry) kind.now act.now) }
+        ++ act_lines recipe.now.roles.items recipe.now.acts (labels_from recipe.now level) (seat_of seat.entry) kind.now act.now) }
 {
     let head = act_text(alloc, recipe, kind, act)?;
     put_line(text, seat, &head, "")?;
@@ -29,7 +29,7 @@ pub fn put_act(
         Work::Runs { .. } => Ok(()),
         Work::Follows(chart) => {
             let place = child_place(alloc, seat.place, 0)?;
-            let held = held_below(alloc, seat.held, act)?;
+            let held = held_below(alloc, seat.held, &recipe.acts, act)?;
             let below = Seat {
                 place: &place,
                 held: &held,

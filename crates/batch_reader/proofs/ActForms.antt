@@ -1,16 +1,16 @@
 -- Acts, without where their parts lie in memory: what a recipe's parts must be depends on no more.
-use Rattle.std.proofs.Common.{arith, ◌≡◌, ◌≤◌, nat_le, Bool, true, ◌&&◌, List, [], ◌∷◌, ◌++◌, map, length, Option, Some, None, option_map, refl, sym, ap, ◌∙◌, subst, find}
+use Rattle.std.proofs.Common.{arith, ◌≡◌, ◌≤◌, nat_le, Bool, true, ◌&&◌, List, [], ◌∷◌, ◌++◌, map, length, Option, Some, None, option_and_then, option_map, refl, sym, ap, ◌∙◌, subst, find}
 use Rattle.std.proofs.Math.Path.{fun_ext}
 use Rattle.std.proofs.lemmas.List.{length-map}
 use Rattle.std.specs.List.{list_all}
 use Rattle.batch_recipe.specs.Conditions.{Name, same_name}
 use Rattle.batch_recipe.specs.Diagram.{Diagram, diagram_of}
-use Rattle.batch_recipe.specs.Expanding.{act_tree, act_named, asked_by, expanded, named_tree, own_unit, task_of, unit_below}
+use Rattle.batch_recipe.specs.Expanding.{Sites, act_named, act_tree_with, asked_by, expanded, named_tree_with, reserves_from, task_of, unbound, unit_below, unit_count, unit_named, unit_with}
 use Rattle.batch_recipe.specs.Nodes.{Node, child, nodes}
-use Rattle.batch_recipe.specs.Procedure.{procedure_nodes, procedure_tree}
+use Rattle.batch_recipe.specs.Procedure.{procedure_nodes, procedure_tree, sites}
 use Rattle.batch_recipe.specs.Tree as tree
-use Rattle.batch_recipe.specs.Tree.{Place, Tree, Task, act, skip}
-use Rattle.batch_recipe.specs.WellFormed.{act_names, are_distinct, are_reports, are_roles, has_no_par, is_among, is_chart, is_well_formed, is_work, reports_with, value_names}
+use Rattle.batch_recipe.specs.Tree.{Place, Step, Tree, Task, act, skip}
+use Rattle.batch_recipe.specs.WellFormed.{act_names, are_distinct, are_reports, are_reserves, are_roles, has_no_par, is_among, is_chart, is_well_formed, is_work, reports_with, reserve_well, value_names}
 use Rattle.batch_recipe.specs.declared.act.Act.{Act}
 use Rattle.batch_recipe.specs.declared.act.TheConstants.{MAX_REPORTS, MAX_VALUES}
 use Rattle.batch_recipe.specs.declared.act.UnitChoice.{UnitChoice}
@@ -32,6 +32,7 @@ pub data WorkForm : Type 0 where
 pub record ActForm : Type 0 where
   pub name : Name
   pub unit : Option UnitChoice
+  pub reserves : List Name
   pub needs : List Need
   pub work : WorkForm
 
@@ -40,7 +41,7 @@ work_form (Follows c) = follows (diagram_of c)
 work_form (Runs phase handed reports) = runs phase handed.items reports.items
 
 abbrev pub form : Act → ActForm
-form a = record { name = a.name; unit = a.unit; needs = a.needs.items; work = work_form a.work }
+form a = record { name = a.name; unit = a.unit; reserves = a.reserves.items; needs = a.needs.items; work = work_form a.work }
 
 -- ---- well-formed
 
@@ -122,52 +123,97 @@ reports_form outputs a =
     (and_same (all_form _ (λ s. are_distinct (form_reports s)) (λ s. ap are_distinct (reports_case s.work)) steps)
     (all_form _ (λ s. list_all (is_among outputs) (form_reports s)) (λ s. ap (list_all (is_among outputs)) (reports_case s.work)) steps))
 
+-- ---- unit procedures that are reserved
+
+abbrev reserve_forms : List Name → List ActForm → Bool
+reserve_forms names fs = list_all (λ f. are_distinct f.reserves) fs && list_all (λ f. list_all (is_among names) f.reserves) fs
+
+reserve_well_form : (xs us : List Act) → reserve_well (act_names us) xs ≡ reserve_forms (form_names (map form us)) (map form xs)
+reserve_well_form xs us =
+    and_same (all_form _ (λ f. are_distinct f.reserves) (λ a. refl) xs) (all_form _ (λ f. list_all (is_among (act_names us)) f.reserves) (λ a. refl) xs)
+    ∙ ap (λ names. reserve_forms names (map form xs)) (names_form us)
+
+abbrev are_form_reserves : ActForm → List ActForm → List ActForm → List ActForm → Bool
+are_form_reserves procedure us os ss =
+    nat_le (length procedure.reserves) 0 && (reserve_forms (form_names us) us && (reserve_forms (form_names us) os && reserve_forms (form_names us) ss))
+
+reserves_form : (a : Acts)
+    → are_reserves a ≡ are_form_reserves (form a.procedure) (map form a.unit_procedures.items) (map form a.operations.items) (map form a.phases.items)
+reserves_form a =
+    let us : List Act = a.unit_procedures.items in
+    and_same refl (and_same (reserve_well_form us us) (and_same (reserve_well_form a.operations.items us) (reserve_well_form a.phases.items us)))
+
 -- ---- the expanded tree
 
 abbrev form_task : (Name → Place → Tree) → Name → Name → Place → WorkForm → Task
 form_task acts unit name p (follows d) = tree.follows name (expanded acts (child p 0) d)
 form_task acts unit name p (runs phase handed reported) = tree.runs (record { unit = unit; name = phase; handed = handed; reports = reported })
 
-abbrev form_act : (Name → Name → Place → Tree) → Name → ActForm → Place → Tree
-form_act acts unit f p =
-    act (record { place = p; needs = asked_by (own_unit f.unit) f.needs })
-    (form_task (acts (unit_below unit (own_unit f.unit))) (unit_below unit (own_unit f.unit)) f.name p f.work)
+-- where `named` tells the unit of a unit procedure
+abbrev form_step : (Name → Name) → ActForm → Place → Step
+form_step named f p = record {
+  place = p;
+  needs = asked_by (unit_with unbound f.unit) (map named f.reserves) f.needs;
+  reserves = reserves_from (unit_count f.unit) f.reserves;
+}
+
+abbrev form_act : (Name → Name) → (Name → Name → Place → Tree) → Name → ActForm → Place → Tree
+form_act named acts unit f p =
+    act (form_step named f p) (form_task (acts (unit_below unit (unit_with unbound f.unit))) (unit_below unit (unit_with unbound f.unit)) f.name p f.work)
 
 abbrev form_named : List ActForm → Name → Option ActForm
 form_named fs name = find (λ f. same_name f.name name) fs
 
-abbrev form_tree : List (List ActForm) → Name → Name → Place → Tree
-form_tree [] unit name p = skip
-form_tree (table ∷ tables) unit name p = elim (form_named table name) [ None ↦ skip | Some f ↦ form_act (form_tree tables) unit f p ]
+abbrev form_unit : List ActForm → Name → Name
+form_unit us name = elim (option_and_then (λ f. unit_with unbound f.unit) (form_named us name)) [ None ↦ [] | Some unit ↦ unit ]
+
+abbrev form_tree : (Name → Name) → List (List ActForm) → Name → Name → Place → Tree
+form_tree named [] unit name p = skip
+form_tree named (table ∷ tables) unit name p = elim (form_named table name) [ None ↦ skip | Some f ↦ form_act named (form_tree named tables) unit f p ]
 
 task_case : (acts : Name → Place → Tree) (unit name : Name) (p : Place) (w : Work) → task_of acts unit name p w ≡ form_task acts unit name p (work_form w)
 task_case acts unit name p w = grind arith
-
-act_same : (acts : Name → Name → Place → Tree) (unit : Name) (a : Act) (p : Place) → act_tree acts unit a p ≡ form_act acts unit (form a) p
-act_same acts unit a p = grind (arith, task_case (acts (unit_below unit (own_unit a.unit))) (unit_below unit (own_unit a.unit)) a.name p a.work)
 
 named_same : (xs : List Act) (name : Name) → option_map form (act_named xs name) ≡ form_named (map form xs) name
 named_same [] name = refl
 named_same (x ∷ xs) name = grind (arith, named_same xs name)
 
-found_case : (acts forms : Name → Name → Place → Tree) → acts ≡ forms → (unit : Name) (p : Place) (o : Option Act)
-    → ◌≡◌ {A = Tree} (elim o [ None ↦ skip | Some a ↦ act_tree acts unit a p ]) (elim (option_map form o) [ None ↦ skip | Some f ↦ form_act forms unit f p ])
-found_case acts forms same unit p o = grind (arith, act_same)
+module _ (own : Sites) (unbinding : own.bound ≡ unbound) where
+  act_same : (acts : Name → Name → Place → Tree) (unit : Name) (a : Act) (p : Place) → act_tree_with own acts unit a p ≡ form_act (unit_named own) acts unit (form a) p
+  act_same acts unit a p = grind (arith, unbinding, task_case (acts (unit_below unit (unit_with unbound a.unit))) (unit_below unit (unit_with unbound a.unit)) a.name p a.work)
 
-tree_same : (tables : List (List Act)) → named_tree tables ≡ form_tree (map (map form) tables)
-tree_same [] = fun_ext (λ unit. fun_ext (λ name. fun_ext (λ p. refl)))
-tree_same (table ∷ tables) = fun_ext (λ unit. fun_ext (λ name. fun_ext (λ p.
-    found_case (named_tree tables) (form_tree (map (map form) tables)) (tree_same tables) unit p (act_named table name)
-    ∙ ap (λ (o : Option ActForm). elim o [ None ↦ skip | Some f ↦ form_act (form_tree (map (map form) tables)) unit f p ]) (named_same table name))))
+  found_case : (acts forms : Name → Name → Place → Tree) → acts ≡ forms → (unit : Name) (p : Place) (o : Option Act)
+      → ◌≡◌ {A = Tree} (elim o [ None ↦ skip | Some a ↦ act_tree_with own acts unit a p ]) (elim (option_map form o) [ None ↦ skip | Some f ↦ form_act (unit_named own) forms unit f p ])
+  found_case acts forms same unit p o = grind (arith, act_same)
 
-abbrev whole_tree : ActForm → List ActForm → List ActForm → List ActForm → Tree
-whole_tree procedure us os ss = form_act (form_tree (us ∷ os ∷ ss ∷ [])) [] procedure (0 ∷ [])
+  tree_same : (tables : List (List Act)) → named_tree_with own tables ≡ form_tree (unit_named own) (map (map form) tables)
+  tree_same [] = fun_ext (λ unit. fun_ext (λ name. fun_ext (λ p. refl)))
+  tree_same (table ∷ tables) = fun_ext (λ unit. fun_ext (λ name. fun_ext (λ p.
+      found_case (named_tree_with own tables) (form_tree (unit_named own) (map (map form) tables)) (tree_same tables) unit p (act_named table name)
+      ∙ ap (λ (o : Option ActForm). elim o [ None ↦ skip | Some f ↦ form_act (unit_named own) (form_tree (unit_named own) (map (map form) tables)) unit f p ]) (named_same table name))))
+
+unit_case : (o : Option Act)
+    → ◌≡◌ {A = Name} (elim (option_and_then (λ a. unit_with unbound a.unit) o) [ None ↦ [] | Some unit ↦ unit ])
+    (elim (option_and_then (λ f. unit_with unbound f.unit) (option_map form o)) [ None ↦ [] | Some unit ↦ unit ])
+unit_case None = refl
+unit_case (Some a) = refl
+
+unit_same : (us : List Act) → unit_named (record { bound = unbound; unit_procedures = us }) ≡ form_unit (map form us)
+unit_same us = fun_ext (λ name. unit_case (act_named us name)
+    ∙ ap (λ (o : Option ActForm). elim (option_and_then (λ f. unit_with unbound f.unit) o) [ None ↦ [] | Some unit ↦ unit ]) (named_same us name))
+
+abbrev whole_tree : (Name → Name) → ActForm → List ActForm → List ActForm → List ActForm → Tree
+whole_tree named procedure us os ss = form_act named (form_tree named (us ∷ os ∷ ss ∷ [])) [] procedure (0 ∷ [])
 
 procedure_form : (a : Acts)
-    → procedure_tree a ≡ whole_tree (form a.procedure) (map form a.unit_procedures.items) (map form a.operations.items) (map form a.phases.items)
+    → procedure_tree a
+    ≡ whole_tree (form_unit (map form a.unit_procedures.items)) (form a.procedure) (map form a.unit_procedures.items) (map form a.operations.items) (map form a.phases.items)
 procedure_form a =
+    let own : Sites = sites unbound a in
     let tables : List (List Act) = a.unit_procedures.items ∷ a.operations.items ∷ a.phases.items ∷ [] in
-    act_same (named_tree tables) [] a.procedure (0 ∷ []) ∙ ap (λ (F : Name → Name → Place → Tree). form_act F [] (form a.procedure) (0 ∷ [])) (tree_same tables)
+    act_same own refl (named_tree_with own tables) [] a.procedure (0 ∷ [])
+    ∙ ap (λ (F : Name → Name → Place → Tree). form_act (unit_named own) F [] (form a.procedure) (0 ∷ [])) (tree_same own refl tables)
+    ∙ ap (λ (named : Name → Name). whole_tree named (form a.procedure) (map form a.unit_procedures.items) (map form a.operations.items) (map form a.phases.items)) (unit_same a.unit_procedures.items)
 
 -- ---- what is said of one recipe's parts holds of others with the same forms
 
@@ -185,9 +231,13 @@ module _ (a b : Acts) (procedure : form a.procedure ≡ form b.procedure) (unit_
   same_reports : (outputs : List Name) → are_reports outputs a ≡ are_reports outputs b
   same_reports outputs = reports_form outputs a ∙ ap (are_form_reports outputs) phases ∙ sym (reports_form outputs b)
 
+  same_reserves : are_reserves a ≡ are_reserves b
+  same_reserves = reserves_form a ∙ (λ i. are_form_reserves (procedure i) (unit_procedures i) (operations i) (phases i)) ∙ sym (reserves_form b)
+
   same_nodes : procedure_nodes a ≡ procedure_nodes b
   same_nodes =
-      ap (nodes (0 ∷ []) []) (procedure_form a ∙ (λ i. whole_tree (procedure i) (unit_procedures i) (operations i) (phases i)) ∙ sym (procedure_form b))
+      ap (nodes (0 ∷ []) [])
+      (procedure_form a ∙ (λ i. whole_tree (form_unit (unit_procedures i)) (procedure i) (unit_procedures i) (operations i) (phases i)) ∙ sym (procedure_form b))
 
 pub sound_along : (inputs parameters inputs2 parameters2 : List Quantity) (outputs outputs2 : List Name) (roles roles2 : List RecipeRole) (a b : Acts)
     → map (λ q. q.name) inputs ≡ map (λ q. q.name) inputs2 → map (λ q. q.name) parameters ≡ map (λ q. q.name) parameters2 → outputs ≡ outputs2 → roles ≡ roles2
@@ -217,5 +267,6 @@ sound_along is ps js qs os rs roles roles2 a b ei ep eo er procedure unit_proced
       well_formed = sym (same_well_formed a b procedure unit_procedures operations phases (value_names js qs rs)) ∙ ap (λ names. is_well_formed names a) (sym values) ∙ h.well_formed;
       own_roles = sym (same_roles a b procedure unit_procedures operations phases roles2) ∙ ap (λ rs. are_roles rs a) (sym er) ∙ h.own_roles;
       own_reports = sym (same_reports a b procedure unit_procedures operations phases rs) ∙ ap (λ names. are_reports names a) (sym eo) ∙ h.own_reports;
+      own_reserves = sym (same_reserves a b procedure unit_procedures operations phases) ∙ h.own_reserves;
       small = subst (λ (ns : List Node). length ns ≤ MAX_NODES) (same_nodes a b procedure unit_procedures operations phases) h.small;
     }

@@ -1,5 +1,5 @@
 -- A table stands for one unit, one module and one shared resource at most.
-use Rattle.std.proofs.Common.{◌≡◌, ℕ, ◌<◌, ◌≤◌, inl, inr, Bool, true, List, [], ◌++◌, map, length, get_or, Some, None, codes, nat_eq, sym, ap, ◌∙◌, subst, if◌then◌else◌, arith}
+use Rattle.std.proofs.Common.{◌≡◌, ℕ, ◌<◌, ◌≤◌, inl, inr, Bool, true, List, [], ◌++◌, map, length, get_or, Some, None, codes, nat_eq, sym, ap, ◌∙◌, subst, arith}
 use Rattle.std.proofs.lemmas.Bool.{false≢true}
 use Rattle.std.proofs.lemmas.List.{length-map, map-id, get_or-map}
 use Rattle.std.proofs.lemmas.List.Folds.{list_all-map, flat_map-map}

@@ -14,25 +14,29 @@ use Rattle.batch_reader.proofs.Items.{HasTables_same}
 use Rattle.batch_reader.proofs.OneEntry.{HasName_unique, HasLabel_unique, HasNameOr_unique, HasChart_unique, HasFewNames_unique, HasFewNeeds_unique}
 use Rattle.batch_reader.proofs.UnitChoices.{same_unit}
 use Rattle.batch_reader.specs.Entries.{HasTables}
-use Rattle.batch_reader.specs.RecipeTables.{HasCourse, HasNeeds, IsQuantityTable, IsOutputTable, IsRoleTable, IsProcedureTable, IsUnitProcedureTable, IsOperationTable, IsPhaseTable}
+use Rattle.batch_reader.specs.RecipeTables.{HasCourse, HasNeeds, HasReserves, IsQuantityTable, IsOutputTable, IsRoleTable, IsProcedureTable, IsUnitProcedureTable, IsOperationTable, IsPhaseTable}
 use Rattle.batch_reader.specs.RecipeDocument.{HasActs, IsRecipeTable}
 use Rattle.batch_reader.specs.SoundRecipe.{IsSoundRecipe}
 
 same_needs : (ms : Members) (a b : Act) → HasNeeds ms a → HasNeeds ms b → a.needs.items ≡ b.needs.items
 same_needs ms a b h k = HasFewNeeds_unique _ ms _ a.needs.items b.needs.items h k
 
+same_reserves : (ms : Members) (a b : Act) → HasReserves ms a → HasReserves ms b → a.reserves.items ≡ b.reserves.items
+same_reserves ms a b h k = HasFewNames_unique _ ms _ a.reserves.items b.reserves.items h k
+
 same_work : (ms : Members) (a b : Act) → HasCourse ms a → HasCourse ms b → work_form a.work ≡ work_form b.work
 same_work ms a b h k =
     ap work_form h.follows ∙ ap follows (HasChart_unique _ ms (diagram_of h.chart) (diagram_of k.chart) h.text k.text) ∙ sym (ap work_form k.follows)
 
-same_form : (a b : Act) → a.name ≡ b.name → a.unit ≡ b.unit → a.needs.items ≡ b.needs.items → work_form a.work ≡ work_form b.work → form a ≡ form b
-same_form a b name unit needs work = cc
+same_form : (a b : Act) → a.name ≡ b.name → a.unit ≡ b.unit → a.reserves.items ≡ b.reserves.items → a.needs.items ≡ b.needs.items → work_form a.work ≡ work_form b.work
+    → form a ≡ form b
+same_form a b name unit reserves needs work = cc
 
 same_unit_procedure : (ms : Members) (a b : Act) → IsUnitProcedureTable ms a → IsUnitProcedureTable ms b → form a ≡ form b
-same_unit_procedure ms a b h k = grind (arith, same_unit ms a b h k, same_needs ms a b h.needs k.needs, same_work ms a b h.course k.course, same_form, HasLabel_unique)
+same_unit_procedure ms a b h k = grind (arith, same_unit ms a b h k, same_reserves ms a b h.reserves k.reserves, same_needs ms a b h.needs k.needs, same_work ms a b h.course k.course, same_form, HasLabel_unique)
 
 same_operation : (ms : Members) (a b : Act) → IsOperationTable ms a → IsOperationTable ms b → form a ≡ form b
-same_operation ms a b h k = grind (arith, same_needs ms a b h.needs k.needs, same_work ms a b h.course k.course, same_form, HasLabel_unique)
+same_operation ms a b h k = grind (arith, same_reserves ms a b h.reserves k.reserves, same_needs ms a b h.needs k.needs, same_work ms a b h.course k.course, same_form, HasLabel_unique)
 
 same_phase : (ms : Members) (a b : Act) → IsPhaseTable ms a → IsPhaseTable ms b → form a ≡ form b
 same_phase ms a b h k =
@@ -40,12 +44,13 @@ same_phase ms a b h k =
     let phase : h.phase ≡ k.phase = HasNameOr_unique _ ms b.name h.phase k.phase (rw name at h.runs) k.runs in
     let values : h.handed.items ≡ k.handed.items = HasFewNames_unique _ ms _ h.handed.items k.handed.items h.values k.values in
     let reports : h.reported.items ≡ k.reported.items = HasFewNames_unique _ ms _ h.reported.items k.reported.items h.reports k.reports in
-    same_form a b name (h.no_unit ∙ sym k.no_unit) (same_needs ms a b h.needs k.needs)
+    same_form a b name (h.no_unit ∙ sym k.no_unit) (same_reserves ms a b h.reserves k.reserves) (same_needs ms a b h.needs k.needs)
     (ap work_form h.work ∙ ap (λ p. runs p h.handed.items h.reported.items) phase ∙ ap₂ (runs k.phase) values reports ∙ sym (ap work_form k.work))
 
 -- of the procedure's table, which doesn't have its name
-same_course : (ms : Members) (a b : Act) → IsProcedureTable ms a → IsProcedureTable ms b → (a.unit ≡ b.unit) × (a.needs.items ≡ b.needs.items) × (work_form a.work ≡ work_form b.work)
-same_course ms a b h k = (h.no_unit ∙ sym k.no_unit, same_needs ms a b h.needs k.needs, same_work ms a b h.course k.course)
+same_course : (ms : Members) (a b : Act) → IsProcedureTable ms a → IsProcedureTable ms b
+    → (a.unit ≡ b.unit) × (a.reserves.items ≡ b.reserves.items) × (a.needs.items ≡ b.needs.items) × (work_form a.work ≡ work_form b.work)
+same_course ms a b h k = (h.no_unit ∙ sym k.no_unit, h.no_reserves ∙ sym k.no_reserves, same_needs ms a b h.needs k.needs, same_work ms a b h.course k.course)
 
 same_procedure : (ms : Members) (a b : Acts) → HasActs ms a → HasActs ms b → form a.procedure ≡ form b.procedure
 same_procedure ms a b h k = grind (arith, same_course, same_form, HasName_unique)

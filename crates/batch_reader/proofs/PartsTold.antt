@@ -11,6 +11,7 @@ use Rattle.batch_cell.specs.declared.unit.Unit.{Unit}
 use Rattle.batch_recipe.specs.Conditions.{Name}
 use Rattle.batch_recipe.specs.Procedure.{procedure_nodes}
 use Rattle.batch_recipe.specs.WellFormed.{value_names}
+use Rattle.batch_recipe.specs.declared.act.Act.{Act}
 use Rattle.batch_recipe.specs.declared.acts.Acts.{Acts}
 use Rattle.batch_recipe.specs.declared.outline_fault.OutlineFault.{OutlineFault}
 use Rattle.batch_recipe.specs.declared.outline_fault.OutlineFault.TheVariants as outline
@@ -18,7 +19,7 @@ use Rattle.batch_recipe.specs.declared.quantity.Quantity.{Quantity}
 use Rattle.batch_recipe.specs.declared.recipe.Recipe.{Recipe}
 use Rattle.batch_recipe.specs.declared.recipe.TheConstants.{MAX_NODES}
 use Rattle.batch_reader.specs.Faults.{IsNamingFault, IsReportFault, IsRoleFault, IsToldIn, IsWrong, Tells}
-use Rattle.batch_reader.specs.PartFaults.{AreDistinct, FailsFirst, HasUndeclaredName, IsPartFault, OffersTwice, Parts}
+use Rattle.batch_reader.specs.PartFaults.{AreDistinct, FailsFirst, HasReserveFault, HasUndeclaredName, IsPartFault, IsReserveFaultOf, OffersTwice, Parts}
 use Rattle.batch_reader.specs.SoundTables.{outline_fault}
 use Rattle.batch_reader.specs.declared.fault.EntryFault.{EntryFault}
 use Rattle.batch_reader.specs.declared.fault.EntryFault.TheVariants.{MissingKey, WrongKind, UnknownKey, Undeclared, Duplicate, OutOfLimit, Chart}
@@ -26,6 +27,7 @@ use Rattle.batch_reader.specs.declared.fault.Spot.{Spot}
 use Rattle.batch_reader.specs.declared.fault.TableFault.{TableFault}
 use Rattle.batch_reader.specs.declared.fault.TableFault.TheVariants.{Entry, Memory}
 use Rattle.batch_reader.specs.declared.fault.TableKind.{TableKind}
+use Rattle.batch_reader.specs.declared.fault.TableKind.TheVariants as table_kind
 
 -- where it is known what is wrong, or also in which tables, that is told of the spot
 pub wrong_told : (what : EntryFault) (P : Spot → Type 0) (Q : Spot → EntryFault → Type 0) → ((spot : Spot) → P spot → Q spot what) → (fault : TableFault)
@@ -115,10 +117,36 @@ pub report_fault : (p : Parts) (kind : TableKind) (entry : ℕ) (wrong : EntryFa
 report_fault p kind entry MissingKey h = h
 report_fault p kind entry WrongKind h = h
 report_fault p kind entry UnknownKey h = h
-report_fault p kind entry Undeclared h = inr (inr h)
-report_fault p kind entry Duplicate h = inr (inr (inr h))
+report_fault p kind entry Undeclared h = inr (inr (inl h))
+report_fault p kind entry Duplicate h = inr (inr (inr (inl h)))
 report_fault p kind entry OutOfLimit h = absurd h
 report_fault p kind entry (Chart offset) h = h
+
+-- nothing else is told of what acts reserve
+no_reserve_fault : (acts : Acts) (kind : TableKind) (entry : ℕ) (wrong : EntryFault) → ((names : List Name) (table : List Act) → IsReserveFaultOf names table entry wrong → ⊥)
+    → HasReserveFault acts kind entry wrong → ⊥
+no_reserve_fault acts table_kind.UnitProcedure entry wrong none h = none _ _ h
+no_reserve_fault acts table_kind.Operation entry wrong none h = none _ _ h
+no_reserve_fault acts table_kind.Phase entry wrong none h = none _ _ h
+no_reserve_fault acts table_kind.Cell entry wrong none h = h
+no_reserve_fault acts table_kind.Unit entry wrong none h = h
+no_reserve_fault acts table_kind.Module entry wrong none h = h
+no_reserve_fault acts table_kind.Shared entry wrong none h = h
+no_reserve_fault acts table_kind.Recipe entry wrong none h = h
+no_reserve_fault acts table_kind.Input entry wrong none h = h
+no_reserve_fault acts table_kind.Parameter entry wrong none h = h
+no_reserve_fault acts table_kind.Output entry wrong none h = h
+no_reserve_fault acts table_kind.Role entry wrong none h = h
+no_reserve_fault acts table_kind.Procedure entry wrong none h = h
+
+pub reserve_fault : (p : Parts) (kind : TableKind) (entry : ℕ) (wrong : EntryFault) → HasReserveFault p.acts kind entry wrong → IsPartFault p kind entry wrong
+reserve_fault p kind entry Undeclared h = inr (inr (inr h))
+reserve_fault p kind entry Duplicate h = inr (inr (inr (inr h)))
+reserve_fault p kind entry MissingKey h = no_reserve_fault p.acts kind entry MissingKey (λ names table f. f) h
+reserve_fault p kind entry WrongKind h = no_reserve_fault p.acts kind entry WrongKind (λ names table f. f) h
+reserve_fault p kind entry UnknownKey h = no_reserve_fault p.acts kind entry UnknownKey (λ names table f. f) h
+reserve_fault p kind entry OutOfLimit h = absurd (no_reserve_fault p.acts kind entry OutOfLimit (λ names table f. f) h)
+reserve_fault p kind entry (Chart offset) h = no_reserve_fault p.acts kind entry (Chart offset) (λ names table f. f) h
 
 -- the expanded tree is too large
 pub large_told : (p : Parts) (fault : OutlineFault) → (IsErrOf {T = Recipe} (Err fault) outline.TooMany → MAX_NODES < length (procedure_nodes p.acts))

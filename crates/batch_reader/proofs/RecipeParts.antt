@@ -98,6 +98,7 @@ formed_of_tables ms acts h = record {
   operations = each_table IsOperationTable (λ a. IsFormedWork a.work) (λ ns a t. formed_course ns a t.course) _ ms _ h.operations;
   phases = each_table IsPhaseTable (λ a. IsFormedWork a.work) formed_phase _ ms _ h.phases;
   few_reports = each_table_true IsPhaseTable reports_few few_reports _ ms _ h.phases;
+  no_reserves = ap (λ names. nat_le (length names) 0) h.procedure.stands_for.no_reserves;
 }
 
 -- ---- names that are no words of charts

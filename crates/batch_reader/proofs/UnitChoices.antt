@@ -19,7 +19,7 @@ use Rattle.batch_reader.specs.declared.fault.TableFault.TheVariants.{Memory}
 
 -- the keys of a unit procedure's table where its unit, or its role, stands at this one
 abbrev pub keys_with : List ℕ → List (List ℕ)
-keys_with key = codes "name" ∷ key ∷ codes "needs" ∷ codes "chart" ∷ []
+keys_with key = codes "name" ∷ key ∷ codes "needs" ∷ codes "chart" ∷ codes "reserves" ∷ []
 
 role_key : (ms : Members) (name : List ℕ) (found : Option Data) → get_member (codes "role") ms ≡ found → HasName (codes "role") ms name → codes "role" ≡ unit_key found
 role_key ms name found e h = grind arith

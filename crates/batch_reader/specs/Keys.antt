@@ -3,7 +3,7 @@ use Rattle.std.specs.Prelude.{ℕ, Bool, true, false, List, [], ◌∷◌, Optio
 use Rattle.toml.specs.Data.{Data, Members, get_member}
 use Rattle.batch_cell.specs.declared.module.TheConstants.{MAX_PHASES}
 use Rattle.batch_cell.specs.declared.shared.TheConstants.{MAX_CAPACITY}
-use Rattle.batch_recipe.specs.declared.act.TheConstants.{MAX_NEEDS, MAX_REPORTS, MAX_VALUES}
+use Rattle.batch_recipe.specs.declared.act.TheConstants.{MAX_NEEDS, MAX_REPORTS, MAX_RESERVES, MAX_VALUES}
 use Rattle.batch_recipe.specs.declared.header.TheConstants.{MAX_VERSION_LEN, MAX_TEXT_LEN}
 use Rattle.batch_recipe.specs.declared.scaling.TheConstants.{MAX_SIZE, MAX_VALUE}
 use Rattle.batch_reader.specs.declared.fault.TableKind.{TableKind}
@@ -81,8 +81,11 @@ keys_of Role table = needed (codes "name") a_name ∷ needed (codes "class") a_n
 keys_of Procedure table = optional (codes "needs") (some_needs MAX_NEEDS) ∷ needed (codes "chart") a_chart ∷ []
 keys_of UnitProcedure table =
     needed (codes "name") a_free_name
-    ∷ needed (unit_key (get_member (codes "role") table)) a_name ∷ optional (codes "needs") (some_needs MAX_NEEDS) ∷ needed (codes "chart") a_chart_without_par ∷ []
-keys_of Operation table = needed (codes "name") a_free_name ∷ optional (codes "needs") (some_needs MAX_NEEDS) ∷ needed (codes "chart") a_chart ∷ []
+    ∷ needed (unit_key (get_member (codes "role") table)) a_name ∷ optional (codes "needs") (some_needs MAX_NEEDS) ∷ needed (codes "chart") a_chart_without_par
+    ∷ optional (codes "reserves") (some_names 0 MAX_RESERVES) ∷ []
+keys_of Operation table =
+    needed (codes "name") a_free_name ∷ optional (codes "needs") (some_needs MAX_NEEDS) ∷ needed (codes "chart") a_chart ∷ optional (codes "reserves") (some_names 0 MAX_RESERVES) ∷ []
 keys_of Phase table =
     needed (codes "name") a_free_name ∷ optional (codes "runs") a_name ∷ optional (codes "needs") (some_needs MAX_NEEDS)
-    ∷ optional (codes "values") (some_names 0 MAX_VALUES) ∷ optional (codes "reports") (some_names 0 MAX_REPORTS) ∷ []
+    ∷ optional (codes "values") (some_names 0 MAX_VALUES) ∷ optional (codes "reports") (some_names 0 MAX_REPORTS)
+    ∷ optional (codes "reserves") (some_names 0 MAX_RESERVES) ∷ []

@@ -10,7 +10,7 @@ use Rattle.batch_cell.specs.declared.shared.Shared.{Shared}
 use Rattle.batch_cell.specs.declared.unit.Unit.{Unit}
 use Rattle.batch_recipe.specs.Conditions.{Name}
 use Rattle.batch_recipe.specs.Procedure.{procedure_nodes}
-use Rattle.batch_recipe.specs.WellFormed.{act_names, value_names, is_role_among, is_work, reports_among, reports_once}
+use Rattle.batch_recipe.specs.WellFormed.{act_names, value_names, is_role_among, is_work, reports_among, reports_once, reserves_among, reserves_once}
 use Rattle.batch_recipe.specs.declared.act.Act.{Act}
 use Rattle.batch_recipe.specs.declared.acts.Acts.{Acts}
 use Rattle.batch_recipe.specs.declared.quantity.Quantity.{Quantity}
@@ -168,11 +168,24 @@ abbrev pub HasUndeclaredReport : List Name → Acts → TableKind → ℕ → Ty
 HasUndeclaredReport outputs acts table_kind.Phase entry = FailsFirst (λ front. list_all (reports_among outputs) front ≡ true) acts.phases.items entry
 HasUndeclaredReport outputs acts _ entry = ⊥
 
+-- of the acts of a table this one is the first that reserves a unit procedure twice, or another than these
+abbrev pub IsReserveFaultOf : List Name → List Act → ℕ → EntryFault → Type 0
+IsReserveFaultOf names acts entry Duplicate = FailsFirst (λ front. list_all reserves_once front ≡ true) acts entry
+IsReserveFaultOf names acts entry Undeclared = FailsFirst (λ front. list_all (reserves_among names) front ≡ true) acts entry
+IsReserveFaultOf names acts entry _ = ⊥
+
+-- the acts of each table reserve unit procedures
+abbrev pub HasReserveFault : Acts → TableKind → ℕ → EntryFault → Type 0
+HasReserveFault acts table_kind.UnitProcedure entry wrong = IsReserveFaultOf (act_names acts.unit_procedures.items) acts.unit_procedures.items entry wrong
+HasReserveFault acts table_kind.Operation entry wrong = IsReserveFaultOf (act_names acts.unit_procedures.items) acts.operations.items entry wrong
+HasReserveFault acts table_kind.Phase entry wrong = IsReserveFaultOf (act_names acts.unit_procedures.items) acts.phases.items entry wrong
+HasReserveFault acts _ entry wrong = ⊥
+
 -- this is wrong with the parts of a recipe at the table that has this number among those of its kind
 abbrev pub IsPartFault : Parts → TableKind → ℕ → EntryFault → Type 0
 IsPartFault p kind entry OutOfLimit = HasWrongCountOfParts p kind entry ⊎ IsTooLarge p kind entry
-IsPartFault p kind entry Duplicate = HasValueTwice p.inputs p.parameters p.outputs kind entry ⊎ (HasRoleTwice p.roles kind entry ⊎ (HasActTwice p.acts kind entry ⊎ HasReportTwice p.acts kind entry))
-IsPartFault p kind entry Undeclared = HasUndeclaredName (values_of_parts p) p.acts kind entry ⊎ (HasUndeclaredRole p.roles p.acts kind entry ⊎ HasUndeclaredReport p.outputs p.acts kind entry)
+IsPartFault p kind entry Duplicate = HasValueTwice p.inputs p.parameters p.outputs kind entry ⊎ (HasRoleTwice p.roles kind entry ⊎ (HasActTwice p.acts kind entry ⊎ (HasReportTwice p.acts kind entry ⊎ HasReserveFault p.acts kind entry Duplicate)))
+IsPartFault p kind entry Undeclared = HasUndeclaredName (values_of_parts p) p.acts kind entry ⊎ (HasUndeclaredRole p.roles p.acts kind entry ⊎ (HasUndeclaredReport p.outputs p.acts kind entry ⊎ HasReserveFault p.acts kind entry Undeclared))
 IsPartFault p kind entry _ = ⊥
 
 -- the tables of the document stand for parts of a recipe, with which this is wrong

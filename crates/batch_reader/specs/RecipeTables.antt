@@ -6,7 +6,7 @@ use Rattle.batch_recipe.specs.Conditions.{Name}
 use Rattle.batch_recipe.specs.Diagram.{diagram_of}
 use Rattle.batch_recipe.specs.WellFormed.{follows_no_par}
 use Rattle.batch_recipe.specs.declared.act.Act.{Act}
-use Rattle.batch_recipe.specs.declared.act.TheConstants.{MAX_NEEDS, MAX_REPORTS, MAX_VALUES}
+use Rattle.batch_recipe.specs.declared.act.TheConstants.{MAX_NEEDS, MAX_REPORTS, MAX_RESERVES, MAX_VALUES}
 use Rattle.batch_recipe.specs.declared.act.UnitChoice.{UnitChoice}
 use Rattle.batch_recipe.specs.declared.act.UnitChoice.TheVariants.{Unit, Role}
 use Rattle.batch_recipe.specs.declared.act.Work.TheVariants.{Follows, Runs}
@@ -58,10 +58,15 @@ pub record HasCourse (ms : Members) (a : Act) : Type 0 where
   pub follows : a.work ≡ Follows chart
   pub text : HasChart (codes "chart") ms (diagram_of chart)
 
+-- the table's key `reserves` has the names of the unit procedures that the act reserves
+abbrev pub HasReserves : Members → Act → Type 0
+HasReserves ms a = HasFewNames (codes "reserves") ms MAX_RESERVES a.reserves.items
+
 -- the table of the procedure stands for it
 pub record IsProcedureTable (ms : Members) (a : Act) : Type 0 where
   pub keys : has_only_keys (codes "needs" ∷ codes "chart" ∷ []) ms ≡ true
   pub no_unit : a.unit ≡ None
+  pub no_reserves : a.reserves.items ≡ []
   pub needs : HasNeeds ms a
   pub course : HasCourse ms a
 
@@ -78,24 +83,26 @@ choice_name (Role role) = role
 pub record IsUnitProcedureTable (ms : Members) (a : Act) : Type 0 where
   pub choice : UnitChoice
   pub runs_on : a.unit ≡ Some choice
-  pub keys : has_only_keys (codes "name" ∷ choice_key choice ∷ codes "needs" ∷ codes "chart" ∷ []) ms ≡ true
+  pub keys : has_only_keys (codes "name" ∷ choice_key choice ∷ codes "needs" ∷ codes "chart" ∷ codes "reserves" ∷ []) ms ≡ true
   pub chosen : HasName (choice_key choice) ms (choice_name choice)
   pub name : HasLabel (codes "name") ms a.name
   pub needs : HasNeeds ms a
   pub course : HasCourse ms a
   pub no_par : follows_no_par a ≡ true
+  pub reserves : HasReserves ms a
 
 -- the table stands for the operation
 pub record IsOperationTable (ms : Members) (a : Act) : Type 0 where
-  pub keys : has_only_keys (codes "name" ∷ codes "needs" ∷ codes "chart" ∷ []) ms ≡ true
+  pub keys : has_only_keys (codes "name" ∷ codes "needs" ∷ codes "chart" ∷ codes "reserves" ∷ []) ms ≡ true
   pub name : HasLabel (codes "name") ms a.name
   pub no_unit : a.unit ≡ None
   pub needs : HasNeeds ms a
   pub course : HasCourse ms a
+  pub reserves : HasReserves ms a
 
 -- the table stands for the phase step
 pub record IsPhaseTable (ms : Members) (a : Act) : Type 0 where
-  pub keys : has_only_keys (codes "name" ∷ codes "runs" ∷ codes "needs" ∷ codes "values" ∷ codes "reports" ∷ []) ms ≡ true
+  pub keys : has_only_keys (codes "name" ∷ codes "runs" ∷ codes "needs" ∷ codes "values" ∷ codes "reports" ∷ codes "reserves" ∷ []) ms ≡ true
   pub name : HasLabel (codes "name") ms a.name
   pub no_unit : a.unit ≡ None
   pub needs : HasNeeds ms a
@@ -106,6 +113,7 @@ pub record IsPhaseTable (ms : Members) (a : Act) : Type 0 where
   pub runs : HasNameOr (codes "runs") ms a.name phase
   pub values : HasFewNames (codes "values") ms MAX_VALUES handed.items
   pub reports : HasFewNames (codes "reports") ms MAX_REPORTS reported.items
+  pub reserves : HasReserves ms a
 
 -- a table of this kind, one of those in which labels are looked up, stands for the act
 abbrev pub IsActTable : TableKind → Members → Act → Type 0

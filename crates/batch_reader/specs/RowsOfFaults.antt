@@ -2,9 +2,10 @@
 use Rattle.std.specs.Prelude.{◌≡◌, [], ◌∷◌, Some, codes}
 use Rattle.toml.specs.Data.{Members, no_members, member, no_items, item, string, array, table}
 use Rattle.batch_cell.specs.declared.module.Module.{Module}
-use Rattle.batch_reader.specs.PartFaults.{HasUndeclaredUnit, IsCountFault}
+use Rattle.batch_recipe.specs.declared.act.Act.{Act}
+use Rattle.batch_reader.specs.PartFaults.{HasUndeclaredUnit, IsCountFault, IsReserveFaultOf}
 use Rattle.batch_reader.specs.TableFaults.{IsFaultOfTable, IsNoChartAt}
-use Rattle.batch_reader.specs.declared.fault.EntryFault.TheVariants.{MissingKey, UnknownKey}
+use Rattle.batch_reader.specs.declared.fault.EntryFault.TheVariants.{Duplicate, MissingKey, Undeclared, UnknownKey}
 use Rattle.batch_reader.specs.declared.fault.TableKind.TheVariants as table_kind
 
 -- `cell = "C"` and `[[unit]]`, which has no name
@@ -63,3 +64,15 @@ NoLaterModuleIsTold = (m : Module) → m.unit ≡ Some (codes "R9") → ¬ HasUn
 -- of 65 tables where 64 may stand the last one is too many, and of 64 none
 abbrev pub CountsAreTold : Type 0
 CountsAreTold = IsCountFault 1 64 65 64 × (¬ IsCountFault 1 64 65 65) × (¬ IsCountFault 1 64 64 64)
+
+-- a phase step that reserves KEEP where no unit procedure has that name
+abbrev pub ReserveIsUndeclared : Type 0
+ReserveIsUndeclared = (step : Act) → step.reserves.items ≡ codes "KEEP" ∷ [] → IsReserveFaultOf (codes "MAKE" ∷ []) (step ∷ []) 0 Undeclared
+
+-- and where one has
+abbrev pub ReserveIsDeclared : Type 0
+ReserveIsDeclared = (step : Act) → step.reserves.items ≡ codes "KEEP" ∷ [] → ¬ IsReserveFaultOf (codes "MAKE" ∷ codes "KEEP" ∷ []) (step ∷ []) 0 Undeclared
+
+-- one that reserves it twice
+abbrev pub ReserveStandsTwice : Type 0
+ReserveStandsTwice = (step : Act) → step.reserves.items ≡ codes "KEEP" ∷ codes "KEEP" ∷ [] → IsReserveFaultOf (codes "MAKE" ∷ codes "KEEP" ∷ []) (step ∷ []) 0 Duplicate

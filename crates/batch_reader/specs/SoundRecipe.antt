@@ -2,7 +2,7 @@
 use Rattle.std.specs.Prelude.{◌≡◌, ◌<◌, ◌≤◌, true, List, length}
 use Rattle.batch_recipe.specs.Conditions.{Name}
 use Rattle.batch_recipe.specs.Procedure.{procedure_nodes}
-use Rattle.batch_recipe.specs.WellFormed.{are_reports, are_roles, is_well_formed, value_names}
+use Rattle.batch_recipe.specs.WellFormed.{are_reports, are_reserves, are_roles, is_well_formed, value_names}
 use Rattle.batch_recipe.specs.declared.acts.Acts.{Acts}
 use Rattle.batch_recipe.specs.declared.quantity.Quantity.{Quantity}
 use Rattle.batch_recipe.specs.declared.recipe.TheConstants.{MAX_ENTRIES, MAX_ACTS, MAX_NODES}
@@ -26,5 +26,7 @@ pub record IsSoundRecipe (inputs parameters : List Quantity) (outputs : List Nam
   pub own_roles : are_roles roles acts ≡ true
   -- phase steps report outputs of the recipe
   pub own_reports : are_reports outputs acts ≡ true
+  -- acts reserve unit procedures of the recipe
+  pub own_reserves : are_reserves acts ≡ true
   -- the expanded tree
   pub small : length (procedure_nodes acts) ≤ MAX_NODES

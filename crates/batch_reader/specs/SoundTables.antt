@@ -1,7 +1,7 @@
 -- private: what the checks of a recipe's parts leave to the making of the recipe, which counts the nodes.
 use Rattle.std.specs.Prelude.{◌≡◌, ◌<◌, ◌≤◌, true, List, length}
 use Rattle.batch_recipe.specs.Conditions.{Name}
-use Rattle.batch_recipe.specs.WellFormed.{are_reports, are_roles, is_well_formed, value_names}
+use Rattle.batch_recipe.specs.WellFormed.{are_reports, are_reserves, are_roles, is_well_formed, value_names}
 use Rattle.batch_recipe.specs.declared.acts.Acts.{Acts}
 use Rattle.batch_recipe.specs.declared.outline_fault.OutlineFault.{OutlineFault}
 use Rattle.batch_recipe.specs.declared.outline_fault.OutlineFault.TheVariants as outline
@@ -29,6 +29,7 @@ pub record HasSoundTables (inputs parameters : List Quantity) (outputs : List Na
   pub well_formed : is_well_formed (value_names inputs parameters outputs) acts ≡ true
   pub own_roles : are_roles roles acts ≡ true
   pub own_reports : are_reports outputs acts ≡ true
+  pub own_reserves : are_reserves acts ≡ true
 
 -- the size of the expanded tree is told at the procedure
 abbrev pub outline_fault : OutlineFault → TableFault

@@ -16,7 +16,7 @@ use crate::fault::{EntryFault, Spot, TableFault, TableKind};
 use crate::needs::few_needs_at;
 use crate::recipe_entries::{few_names_at, label_at, name_or};
 use crate::tables::FromTable;
-use batch_recipe::{Act, MAX_NEEDS, MAX_REPORTS, MAX_VALUES, UnitChoice, Work};
+use batch_recipe::{Act, MAX_NEEDS, MAX_REPORTS, MAX_RESERVES, MAX_VALUES, UnitChoice, Work};
 use batch_text::Name;
 use std::alloc::Global;
 use toml::Table;
@@ -60,12 +60,12 @@ fn choice_at(alloc: Global, table: &Table, spot: Spot) -> Result<UnitChoice, Tab
 
 /// Whether the table has no keys but those of a unit procedure: `role`, or `unit` where that is missing.
 fn has_unit_procedure_keys(table: &Table) -> bool
-    ensures { result ≡ has_only_keys (codes "name" ∷ unit_key (get_member (codes "role") (table_view table.now)) ∷ codes "needs" ∷ codes "chart" ∷ []) (table_view table.now) }
+    ensures { result ≡ has_only_keys (codes "name" ∷ unit_key (get_member (codes "role") (table_view table.now)) ∷ codes "needs" ∷ codes "chart" ∷ codes "reserves" ∷ []) (table_view table.now) }
 {
     if member(table, "role").is_some() {
-        return has_only_keys(table, &["name", "role", "needs", "chart"]);
+        return has_only_keys(table, &["name", "role", "needs", "chart", "reserves"]);
     }
-    has_only_keys(table, &["name", "unit", "needs", "chart"])
+    has_only_keys(table, &["name", "unit", "needs", "chart", "reserves"])
 }
 
 fn unit_procedure(alloc: Global, table: &Table, spot: Spot) -> Result<Act, TableFault>
@@ -81,9 +81,11 @@ fn unit_procedure(alloc: Global, table: &Table, spot: Spot) -> Result<Act, Table
     let choice = choice_at(alloc, table, spot)?;
     let needs = few_needs_at(alloc, table, "needs", MAX_NEEDS, spot)?;
     let chart = chart_without_par_at(alloc, table, spot)?;
+    let reserves = few_names_at(alloc, table, "reserves", MAX_RESERVES, spot)?;
     Ok(Act {
         name,
         unit: Some(choice),
+        reserves,
         needs,
         work: Work::Follows(chart),
     })
@@ -95,15 +97,17 @@ fn operation(alloc: Global, table: &Table, spot: Spot) -> Result<Act, TableFault
         → (act : Act) → ¬ (IsOperationTable (table_view table.now) act)) }
     ensures told { IfErr result (TellsAt spot (IsTableFault TableKind.Operation (table_view table.now))) }
 {
-    if !has_only_keys(table, &["name", "needs", "chart"]) {
+    if !has_only_keys(table, &["name", "needs", "chart", "reserves"]) {
         return Err(TableFault::Entry(spot, EntryFault::UnknownKey));
     }
     let name = label_at(alloc, table, "name", spot)?;
     let needs = few_needs_at(alloc, table, "needs", MAX_NEEDS, spot)?;
     let chart = chart_at(alloc, table, spot)?;
+    let reserves = few_names_at(alloc, table, "reserves", MAX_RESERVES, spot)?;
     Ok(Act {
         name,
         unit: None,
+        reserves,
         needs,
         work: Work::Follows(chart),
     })
@@ -115,7 +119,10 @@ fn phase_step(alloc: Global, table: &Table, spot: Spot) -> Result<Act, TableFaul
         → (act : Act) → ¬ (IsPhaseTable (table_view table.now) act)) }
     ensures told { IfErr result (TellsAt spot (IsTableFault TableKind.Phase (table_view table.now))) }
 {
-    if !has_only_keys(table, &["name", "runs", "needs", "values", "reports"]) {
+    if !has_only_keys(
+        table,
+        &["name", "runs", "needs", "values", "reports", "reserves"],
+    ) {
         return Err(TableFault::Entry(spot, EntryFault::UnknownKey));
     }
     let name = label_at(alloc, table, "name", spot)?;
@@ -123,9 +130,11 @@ fn phase_step(alloc: Global, table: &Table, spot: Spot) -> Result<Act, TableFaul
     let needs = few_needs_at(alloc, table, "needs", MAX_NEEDS, spot)?;
     let values = few_names_at(alloc, table, "values", MAX_VALUES, spot)?;
     let reports = few_names_at(alloc, table, "reports", MAX_REPORTS, spot)?;
+    let reserves = few_names_at(alloc, table, "reserves", MAX_RESERVES, spot)?;
     Ok(Act {
         name,
         unit: None,
+        reserves,
         needs,
         work: Work::Runs {
             phase,
@@ -167,6 +176,7 @@ fn procedure(alloc: Global, table: &Table, name: Name) -> Result<Act, TableFault
     Ok(Act {
         name,
         unit: None,
+        reserves: Vec::new(alloc),
         needs,
         work: Work::Follows(chart),
     })

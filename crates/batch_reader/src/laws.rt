@@ -1,8 +1,9 @@
 //! Worked faults of documents.
-ghost use Rattle.batch_reader.specs.RowsOfFaults.{UnitLacksItsName, NoSecondUnitLacksOne, NoKeyIsUnknown, UnitBesideRoleIsUnknown, RoleAloneIsKnown, NeitherIsMissing, FirstByteIsGood, FirstModuleIsUndeclared, NoLaterModuleIsTold, CountsAreTold};
+ghost use Rattle.batch_reader.specs.RowsOfFaults.{UnitLacksItsName, NoSecondUnitLacksOne, NoKeyIsUnknown, UnitBesideRoleIsUnknown, RoleAloneIsKnown, NeitherIsMissing, FirstByteIsGood, FirstModuleIsUndeclared, NoLaterModuleIsTold, CountsAreTold, ReserveIsUndeclared, ReserveIsDeclared, ReserveStandsTwice};
 
 /// Worked rows: a unit without its name is told as one, and no other unit, nor an unknown key; a unit procedure has `unit` or
-/// `role`, and not both; the first byte of a chart that goes on is good; the first module whose unit isn't declared is told, and no later one; one table too many is told at its number.
+/// `role`, and not both; the first byte of a chart that goes on is good; the first module whose unit isn't declared is told, and no later one; one table too many is told at its number;
+/// a unit procedure that is reserved is declared, and stands once.
 pub fn worked_faults()
     ensures missing { UnitLacksItsName }
     ensures no_second { NoSecondUnitLacksOne }
@@ -14,4 +15,7 @@ pub fn worked_faults()
     ensures undeclared { FirstModuleIsUndeclared }
     ensures no_later { NoLaterModuleIsTold }
     ensures counts { CountsAreTold }
+    ensures undeclared_reserve { ReserveIsUndeclared }
+    ensures declared_reserve { ReserveIsDeclared }
+    ensures reserve_twice { ReserveStandsTwice }
 {}

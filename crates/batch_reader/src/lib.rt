@@ -20,6 +20,7 @@ mod recipe_document;
 mod recipe_entries;
 mod recipe_names;
 mod reports;
+mod reserves;
 mod resources;
 mod roles;
 mod tables;

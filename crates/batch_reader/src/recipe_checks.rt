@@ -19,6 +19,7 @@ use crate::equipment::check_count;
 use crate::fault::{EntryFault, Spot, TableFault, TableKind};
 use crate::recipe_names::{RecipeNames, recipe_names};
 use crate::reports::check_reports;
+use crate::reserves::check_reserves;
 use crate::roles::check_roles;
 use batch_recipe::{Act, Acts, MAX_ACTS, MAX_ENTRIES, MAX_ROLES, Quantity, Role, Work};
 use batch_text::Name;
@@ -44,7 +45,8 @@ pub(crate) fn check_recipe(
     check_counts(inputs, parameters, outputs, roles, acts)?;
     check_names(alloc, inputs, parameters, outputs, acts)?;
     check_roles(alloc, roles, acts)?;
-    check_reports(outputs, acts)
+    check_reports(outputs, acts)?;
+    check_reserves(acts)
 }
 
 /// Tests how many tables of each kind there are.

@@ -43,8 +43,8 @@ const TOP: Spot = Spot {
 /// - `Entry`, where it is too long, which is told at its top, or says no recipe. The first fault is told: of the top's
 ///   entries, then of each table by itself (inputs, parameters, outputs, roles, the procedure, unit procedures, operations,
 ///   phase steps), then of how many there are, of the names of values and acts, of the labels and values that acts name,
-///   of the names of roles, of the roles that unit procedures name, of the outputs that phase steps report, and of the size of
-///   the expanded tree;
+///   of the names of roles, of the roles that unit procedures name, of the outputs that phase steps report, of the unit
+///   procedures that acts reserve, and of the size of the expanded tree;
 /// - `Memory`, where memory is refused on the way.
 pub fn read_recipe(alloc: Global, bytes: &[u8]) -> Result<Recipe, DocFault>
     ensures ok { IfOk result (IsRecipeDocument bytes.now) }

@@ -82,7 +82,7 @@ fn reports_among(act: &Act, outputs: &[Name]) -> bool
 }
 
 /// Whether none of the names stands twice.
-fn are_distinct(names: &[Name]) -> bool
+pub(crate) fn are_distinct(names: &[Name]) -> bool
     ensures { result ≡ are_distinct names.now }
 {
     for (index, name) in names.iter().enumerate() {

@@ -4,9 +4,9 @@ use Rattle.std.proofs.lemmas.List.{map-append}
 use Rattle.batch_recipe.specs.Conditions.{Name}
 use Rattle.batch_recipe.specs.Diagram as chart
 use Rattle.batch_recipe.specs.Diagram.{Diagram, Diagrams, Cases, diagram_of}
-use Rattle.batch_recipe.specs.Expanding.{Binding, unbound, expanded, expanded_each, expanded_cases, task_of, act_named, act_tree_with, named_tree_with}
+use Rattle.batch_recipe.specs.Expanding.{Binding, unbound, Sites, expanded, expanded_each, expanded_cases, task_of, act_named, act_tree_with, named_tree_with}
 use Rattle.batch_recipe.specs.Nodes.{Node, child, nodes, nodes_within, nodes_of_each, nodes_of_choices}
-use Rattle.batch_recipe.specs.Procedure.{bound_tree, procedure_nodes, tables_from}
+use Rattle.batch_recipe.specs.Procedure.{sites, bound_tree, procedure_nodes, tables_from}
 use Rattle.batch_recipe.specs.Tree.{Place, Tree, skip}
 use Rattle.batch_recipe.specs.declared.act.Act.{Act}
 use Rattle.batch_recipe.specs.declared.acts.Acts.{Acts}
@@ -56,22 +56,24 @@ module _ (f g : Labels) (alike : AreAlike f g) where
   task-places unit unit' name p (Follows c) above other = chart-places (child p 0) (diagram_of c) above other
   task-places unit unit' name p (Runs phase values reports) above other = refl
 
-module _ (bound : Binding) where
+module _ (sites other_sites : Sites) where
   act-places : (f g : Name → Labels) → ((unit unit' : Name) → AreAlike (f unit) (g unit')) → (unit unit' : Name) (a : Act) (p : Place) (above other : List Name)
-      → places (nodes p above (act_tree_with bound f unit a p)) ≡ places (nodes p other (act_tree_with unbound g unit' a p))
+      → places (nodes p above (act_tree_with sites f unit a p)) ≡ places (nodes p other (act_tree_with other_sites g unit' a p))
   act-places f g alike unit unit' a p above other = grind (arith, task-places)
 
-  label-places : (tables : List (List Act)) (unit unit' : Name) → AreAlike (named_tree_with bound tables unit) (named_tree_with unbound tables unit')
+  label-places : (tables : List (List Act)) (unit unit' : Name) → AreAlike (named_tree_with sites tables unit) (named_tree_with other_sites tables unit')
   label-places [] unit unit' name p above other = refl
   label-places (table ∷ tables) unit unit' name p above other = go (act_named table name) (label-places tables)
     where
-      go : (o : Option Act) → ((u u' : Name) → AreAlike (named_tree_with bound tables u) (named_tree_with unbound tables u'))
-          → places (nodes p above (elim o [ None ↦ skip | Some a ↦ act_tree_with bound (named_tree_with bound tables) unit a p ]))
-          ≡ places (nodes p other (elim o [ None ↦ skip | Some a ↦ act_tree_with unbound (named_tree_with unbound tables) unit' a p ]))
+      go : (o : Option Act) → ((u u' : Name) → AreAlike (named_tree_with sites tables u) (named_tree_with other_sites tables u'))
+          → places (nodes p above (elim o [ None ↦ skip | Some a ↦ act_tree_with sites (named_tree_with sites tables) unit a p ]))
+          ≡ places (nodes p other (elim o [ None ↦ skip | Some a ↦ act_tree_with other_sites (named_tree_with other_sites tables) unit' a p ]))
       go None alike = refl
-      go (Some a) alike = act-places (named_tree_with bound tables) (named_tree_with unbound tables) alike unit unit' a p above other
+      go (Some a) alike = act-places (named_tree_with sites tables) (named_tree_with other_sites tables) alike unit unit' a p above other
 
 pub places_stay : (bound : Binding) (acts : Acts) → map (λ n. n.place) (nodes (0 ∷ []) [] (bound_tree bound acts)) ≡ map (λ n. n.place) (procedure_nodes acts)
 places_stay bound acts =
     let tables : List (List Act) = tables_from acts (Some UnitProcedures) in
-    act-places bound (named_tree_with bound tables) (named_tree_with unbound tables) (label-places bound tables) [] [] acts.procedure (0 ∷ []) [] []
+    let own : Sites = sites bound acts in
+    let other : Sites = sites unbound acts in
+    act-places own other (named_tree_with own tables) (named_tree_with other tables) (label-places own other tables) [] [] acts.procedure (0 ∷ []) [] []

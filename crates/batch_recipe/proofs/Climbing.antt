@@ -18,7 +18,7 @@ module _ (r : Recipe) where
   abbrev pub ns : List Node
   ns = procedure_nodes r.acts
 
-  outlines : IsOutline r.acts r.outline.entries.items
+  pub outlines : IsOutline r.acts r.outline.entries.items
   outlines = subst (λ es. IsOutline r.acts es) (sym r.outlined) (is_outline r.acts)
 
   -- an entry stands for the node with its number, whatever units take the roles

@@ -4,11 +4,11 @@ use Rattle.std.proofs.Common.{◌≡◌, ℕ, zero, suc, ◌+◌, ◌++◌, List
 use Rattle.batch_recipe.specs.ActsAtNodes.{ActList, acts_along, acts_along_each, acts_along_cases, acts_below, acts_from, acts_named, procedure_acts}
 use Rattle.batch_recipe.specs.Conditions.{Name, same_name}
 use Rattle.batch_recipe.specs.Diagram.{Diagram, label, skip, seq, par, sel, loop, Diagrams, none, more, Cases, otherwise, when, diagram_of}
-use Rattle.batch_recipe.specs.Expanding.{Binding, expanded, expanded_each, expanded_cases, task_of, act_named, act_tree_with, named_tree_with, unit_with, unit_below, asked_by}
+use Rattle.batch_recipe.specs.Expanding.{Binding, Sites, expanded, expanded_each, expanded_cases, task_of, act_named, act_tree_with, named_tree_with, unit_with, unit_below, needs_with}
 use Rattle.batch_recipe.specs.Labels.{label_along, label_along_each, label_along_cases, label_below, label_named, label_at}
 use Rattle.batch_recipe.specs.Needs.{resources_of}
 use Rattle.batch_recipe.specs.Nodes.{Node, node, nodes, nodes_within, nodes_of_each, nodes_of_choices, child}
-use Rattle.batch_recipe.specs.Procedure.{tables_from, bound_nodes}
+use Rattle.batch_recipe.specs.Procedure.{sites, tables_from, bound_nodes}
 use Rattle.batch_recipe.specs.Tree.{Place, Tree}
 use Rattle.batch_recipe.specs.Tree as tree
 use Rattle.batch_recipe.specs.declared.act.Act.{Act}
@@ -113,25 +113,26 @@ found_named name (b ∷ table) a is = go (same_name b.name name) refl (λ rest. 
         let after : act_named (b ∷ table) name ≡ act_named table name = rw fails refl in
         later (sym after ∙ is)
 
-module _ (bound : Binding) where
+module _ (sites : Sites) where
   labels_labelled : (tables : List (List Act)) (unit name : Name) (p : Place) (above : List Name)
-      → AreLabelled (label_named tables name) p (acts_named tables name) (nodes p above (named_tree_with bound tables unit name p))
+      → AreLabelled (label_named tables name) p (acts_named tables name) (nodes p above (named_tree_with sites tables unit name p))
   labels_labelled [] unit name p above = (bare (label_named [] name) p above tree.skip, tt)
   labels_labelled (table ∷ tables) unit name p above = go (act_named table name) refl (λ own n r more. labels_labelled tables own n r more)
     where
       go : (found : Option Act) → act_named table name ≡ found
-          → ((own n : Name) (r : Place) (more : List Name) → AreLabelled (label_named tables n) r (acts_named tables n) (nodes r more (named_tree_with bound tables own n r)))
+          → ((own n : Name) (r : Place) (more : List Name) → AreLabelled (label_named tables n) r (acts_named tables n) (nodes r more (named_tree_with sites tables own n r)))
           → AreLabelled (label_named (table ∷ tables) name) p (elim found [ None ↦ None ∷ [] | Some a ↦ acts_from (acts_named tables) a ])
-          (nodes p above (elim found [ None ↦ tree.skip | Some a ↦ act_tree_with bound (named_tree_with bound tables) unit a p ]))
+          (nodes p above (elim found [ None ↦ tree.skip | Some a ↦ act_tree_with sites (named_tree_with sites tables) unit a p ]))
       go None is below = (bare (label_named (table ∷ tables) name) p above tree.skip, tt)
       go (Some a) is below =
-          let own = unit_below unit (unit_with bound a.unit) in (
+          let own = unit_below unit (unit_with sites.bound a.unit) in (
             ([], sym (append-nil p), λ b e. let both : Some a ≡ Some b = e in let same : a ≡ b = cc in ap Some (sym (found_named name table a is) ∙ ap (λ (x : Act). x.name) same)),
-            work_labelled (named_tree_with bound tables own) (acts_named tables) (label_named tables) (below own) (label_named (table ∷ tables) name) own a.name p
-                (above ++ resources_of (asked_by (unit_with bound a.unit) a.needs.items)) a.work
+            work_labelled (named_tree_with sites tables own) (acts_named tables) (label_named tables) (below own) (label_named (table ∷ tables) name) own a.name p
+                (above ++ resources_of (needs_with sites a)) a.work
                 (λ i q. ap (λ o. elim o [ None ↦ None | Some found ↦ label_below (label_named tables) found.work i q ]) is),
           )
 
+module _ (bound : Binding) where
   labelled_at : (f : Labelling) (p : Place) (os : ActList) (xs : List Node) → AreLabelled f p os xs → (k : ℕ) (o : Option Act) (x : Node) → slice_get os k ≡ Some o → slice_get xs k ≡ Some x → IsLabelled f p o x
   labelled_at f p [] xs h k o x is at = let bad : None ≡ Some o = is in absurd cc
   labelled_at f p (u ∷ os) [] h k o x is at = absurd h
@@ -146,12 +147,13 @@ module _ (bound : Binding) where
   pub label_of_act : (acts : Acts) (k : ℕ) (x : Node) (a : Act) → slice_get (bound_nodes bound acts) k ≡ Some x → slice_get (procedure_acts acts) k ≡ Some (Some a) → label_at acts x.place ≡ Some a.name
   label_of_act acts k x a at is =
       let tables = tables_from acts (Some UnitProcedures) in
+      let all_sites : Sites = sites bound acts in
       let own = unit_below [] (unit_with bound acts.procedure.unit) in
       let f : Labelling = λ q. label_at acts (0 ∷ q) in
       let all : AreLabelled f (0 ∷ []) (procedure_acts acts) (bound_nodes bound acts) = (
         ([], refl, λ b e. let both : Some acts.procedure ≡ Some b = e in let same : acts.procedure ≡ b = cc in ap (λ (y : Act). Some y.name) same),
-        work_labelled (named_tree_with bound tables own) (acts_named tables) (label_named tables) (λ n r more. labels_labelled tables own n r more) f own acts.procedure.name (0 ∷ [])
-            (resources_of (asked_by (unit_with bound acts.procedure.unit) acts.procedure.needs.items)) acts.procedure.work (λ i q. refl),
+        work_labelled (named_tree_with all_sites tables own) (acts_named tables) (label_named tables) (λ n r more. labels_labelled all_sites tables own n r more) f own acts.procedure.name (0 ∷ [])
+            (resources_of (needs_with all_sites acts.procedure)) acts.procedure.work (λ i q. refl),
       ) in
       let h = labelled_at f (0 ∷ []) (procedure_acts acts) (bound_nodes bound acts) all k (Some a) x is at in
       let same : 0 ∷ h.0 ≡ x.place = sym {b = 0 ∷ h.0} h.1 in

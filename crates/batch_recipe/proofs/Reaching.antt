@@ -21,11 +21,11 @@ all_from : (P : Node → Type 0) (xs : List Node) → ((j : ℕ) (x : Node) → 
 all_from P [] h = tt
 all_from P (x ∷ xs) h = (h 0 x refl, all_from P xs (λ j y is. h (suc j) y is))
 
-not_before : (p : Place) → is_before p p ≡ false
+pub not_before : (p : Place) → is_before p p ≡ false
 not_before [] = refl
 not_before (i ∷ p) = rw (is_before, same_number i) (not_before p)
 
-in_front : (xs : List Node) → AreInOrder xs → (j k : ℕ) (x y : Node) → j < k → slice_get xs j ≡ Some x → slice_get xs k ≡ Some y → is_before x.place y.place ≡ true
+pub in_front : (xs : List Node) → AreInOrder xs → (j k : ℕ) (x y : Node) → j < k → slice_get xs j ≡ Some x → slice_get xs k ≡ Some y → is_before x.place y.place ≡ true
 in_front [] h j k x y less is at = let bad : None ≡ Some x = is in absurd cc
 in_front (z ∷ xs) h zero zero x y less is at = absurd (omega (arith, less))
 in_front (z ∷ xs) h zero (suc k) x y less is at =

@@ -6,7 +6,7 @@ use Rattle.batch_recipe.specs.ActsAtNodes.{ActList, AreActsAt, IsActAt, IsNoAct,
 use Rattle.batch_recipe.specs.Conditions.{Name}
 use Rattle.batch_recipe.specs.Expanding.{Binding, unbound, act_tree_with, named_tree_with}
 use Rattle.batch_recipe.specs.Nodes.{Node, reports_in, reports_of}
-use Rattle.batch_recipe.specs.Procedure.{bound_nodes, procedure_nodes, tables_from}
+use Rattle.batch_recipe.specs.Procedure.{sites, bound_nodes, procedure_nodes, tables_from}
 use Rattle.batch_recipe.specs.Tree.{Place, Tree, act, skip, seq, par, sel, loop}
 use Rattle.batch_recipe.specs.WellFormed.{reports_with}
 use Rattle.batch_recipe.specs.declared.act.Act.{Act}
@@ -32,13 +32,13 @@ no_reports (sel cs) h = refl
 no_reports (loop n c t) h = refl
 
 module _ (bound : Binding) (acts : Acts) where
-  of_tree : (trees : Name → Name → Place → Tree) (unit : Name) (p : Place) (a : Act) (w : Work) → a.work ≡ w → reports_in (act_tree_with bound trees unit a p) ≡ reports_with w
+  of_tree : (trees : Name → Name → Place → Tree) (unit : Name) (p : Place) (a : Act) (w : Work) → a.work ≡ w → reports_in (act_tree_with (sites bound acts) trees unit a p) ≡ reports_with w
   of_tree trees unit p a (Follows chart) e = rw e refl
   of_tree trees unit p a (Runs phase values reports) e = rw e refl
 
   at_node : (a : Option Act) (at : Node) → IsActAt bound acts a at → reports_in at.here ≡ act_reports a
   at_node None at h = no_reports at.here h
-  at_node (Some a) at h = ap reports_in h.here_is ∙ of_tree (named_tree_with bound (tables_from acts h.below)) h.unit at.place a a.work refl
+  at_node (Some a) at h = ap reports_in h.here_is ∙ of_tree (named_tree_with (sites bound acts) (tables_from acts h.below)) h.unit at.place a a.work refl
 
   agree : (list : ActList) (ns : List Node) (k : ℕ) → AreActsAt bound acts list ns → reports_of (slice_get ns k) ≡ listed_reports (slice_get list k)
   agree [] [] k h = refl

@@ -4,11 +4,11 @@ use Rattle.std.proofs.lemmas.List.{length-map, map-append}
 use Rattle.batch_recipe.specs.ActsAtNodes.{ActList, acts_along, acts_along_each, acts_along_cases, acts_below, acts_from, acts_named, procedure_acts}
 use Rattle.batch_recipe.specs.Conditions.{Name, same_name}
 use Rattle.batch_recipe.specs.Diagram.{Diagram, label, skip, seq, par, sel, loop, Diagrams, none, more, Cases, otherwise, when, diagram_of}
-use Rattle.batch_recipe.specs.Expanding.{Binding, unbound, expanded, expanded_each, expanded_cases, task_of, act_named, act_tree_with, named_tree_with, unit_with, unit_below, asked_by}
+use Rattle.batch_recipe.specs.Expanding.{Binding, unbound, expanded, expanded_each, expanded_cases, task_of, act_named, act_tree_with, named_tree_with, unit_with, unit_below, step_of}
 use Rattle.batch_recipe.specs.Growing.{Head, Labels, LabelConditions, plain, act_head, topped, bare, grown, grown_each, grown_cases, grown_work, grown_act, grown_named, conditions_along, conditions_of_cases, told_from, levels_from, number_in, unit_number, entries_of}
 use Rattle.batch_recipe.specs.Nodes.{child, node_count, count_within, count_of_each, count_of_choices}
 use Rattle.batch_recipe.specs.Outlines.{an_act, Shape, form_of, act_of, shape_of, shapes, shapes_within, shapes_of_each, shapes_of_choices, IsOutline}
-use Rattle.batch_recipe.specs.Procedure.{table_at, tables_from, level_below, bound_tree}
+use Rattle.batch_recipe.specs.Procedure.{sites, table_at, tables_from, level_below, bound_tree}
 use Rattle.batch_recipe.specs.Tree.{Place, Tree, Task, Trees, Choices}
 use Rattle.batch_recipe.specs.Tree as tree
 use Rattle.batch_recipe.specs.declared.act.Act.{Act}
@@ -134,11 +134,11 @@ module _ (bound : Binding) (acts : Acts) where
             (h.0 ∙ ap (λ g. record { form = g; end = n + (1 + node_count t); parent = u; child = i } ∷ shapes (n + 1) n 0 t) f, h.1 ∙ ap (λ x. x ∷ acts_along list (diagram_of c)) is)
 
   abbrev LabelsFrom : Option LabelTable → Type 0
-  LabelsFrom level = (unit : Name) (o : ℕ) → AreLabels (named_tree_with bound (tables_from acts level) unit) (grown_named acts (levels_from level) o) (acts_named (tables_from acts level))
+  LabelsFrom level = (unit : Name) (o : ℕ) → AreLabels (named_tree_with (sites bound acts) (tables_from acts level) unit) (grown_named acts (levels_from level) o) (acts_named (tables_from acts level))
 
   module _ (table : LabelTable) (labels : LabelsFrom (level_below table)) (name : Name) (o : ℕ) where
     abbrev trees_below : Name → Name → Place → Tree
-    trees_below = named_tree_with bound (tables_from acts (level_below table))
+    trees_below = named_tree_with (sites bound acts) (tables_from acts (level_below table))
 
     abbrev acts_then : Name → ActList
     acts_then = acts_named (tables_from acts (level_below table))
@@ -151,20 +151,20 @@ module _ (bound : Binding) (acts : Acts) where
 
     found_matches : (k : ℕ) (found : Option Act) → slice_get (table_at acts table) k ≡ found → (n j u i : ℕ) (unit : Name) (p : Place)
         → Matches (elim found [ None ↦ bare n u i | Some a ↦ grown_one k n j u i a ])
-        (shapes n u i (elim found [ None ↦ tree.skip | Some a ↦ act_tree_with bound trees_below unit a p ]))
+        (shapes n u i (elim found [ None ↦ tree.skip | Some a ↦ act_tree_with (sites bound acts) trees_below unit a p ]))
         (elim found [ None ↦ None ∷ [] | Some a ↦ acts_from acts_then a ])
     found_matches k None is n j u i unit p = (refl, refl)
     found_matches k (Some a) is n j u i unit p =
         let own = unit_below unit (unit_with bound a.unit) in
         act_matches (told_from acts (level_below table)) (trees_below own) (grown_below (unit_number table k o)) acts_then (labels own (unit_number table k o)) (kind.Act table k) (unit_number table k o) a refl is n j u i own p
-        (record { place = p; needs = asked_by (unit_with bound a.unit) a.needs.items })
+        (step_of (sites bound acts) a p)
 
     label_matches : (number : Option ℕ) → number_in (table_at acts table) name ≡ number → (n j u i : ℕ) (unit : Name) (p : Place)
         → Matches (elim number [
           | None ↦ bare n u i
           | Some k ↦ elim (slice_get (table_at acts table) k) [ None ↦ bare n u i | Some a ↦ grown_one k n j u i a ]
         ])
-        (shapes n u i (elim (act_named (table_at acts table) name) [ None ↦ tree.skip | Some a ↦ act_tree_with bound trees_below unit a p ]))
+        (shapes n u i (elim (act_named (table_at acts table) name) [ None ↦ tree.skip | Some a ↦ act_tree_with (sites bound acts) trees_below unit a p ]))
         (elim (act_named (table_at acts table) name) [ None ↦ None ∷ [] | Some a ↦ acts_from acts_then a ])
     label_matches None is n j u i unit p = rw (not_found (λ (a : Act). same_name a.name name) (table_at acts table) is) (refl, refl)
     label_matches (Some k) is n j u i unit p =
@@ -185,8 +185,8 @@ module _ (bound : Binding) (acts : Acts) where
   whole_matches : Matches (entries_of acts) (shapes 0 0 0 (bound_tree bound acts)) (procedure_acts acts)
   whole_matches =
       let own = unit_below [] (unit_with bound acts.procedure.unit) in
-      act_matches (told_from acts (Some UnitProcedures)) (named_tree_with bound (tables_from acts (Some UnitProcedures)) own) (grown_named acts (levels_from (Some UnitProcedures)) 0) (acts_named (tables_from acts (Some UnitProcedures)))
-      (of_unit_procedures own 0) kind.Procedure 0 acts.procedure refl refl 0 0 0 0 own (0 ∷ []) (record { place = 0 ∷ []; needs = asked_by (unit_with bound acts.procedure.unit) acts.procedure.needs.items })
+      act_matches (told_from acts (Some UnitProcedures)) (named_tree_with (sites bound acts) (tables_from acts (Some UnitProcedures)) own) (grown_named acts (levels_from (Some UnitProcedures)) 0) (acts_named (tables_from acts (Some UnitProcedures)))
+      (of_unit_procedures own 0) kind.Procedure 0 acts.procedure refl refl 0 0 0 0 own (0 ∷ []) (step_of (sites bound acts) acts.procedure (0 ∷ []))
 
 -- what grows from the procedure is the recipe's outline
 pub is_outline : (acts : Acts) → IsOutline acts (entries_of acts)

@@ -4,7 +4,7 @@ use Rattle.batch_recipe.specs.Conditions.{Name, same_name}
 use Rattle.batch_recipe.specs.Diagram.{Diagram, label, skip, seq, par, sel, loop, Diagrams, none, more, Cases, otherwise, when, diagram_of, diagrams_of, cases_of}
 use Rattle.batch_recipe.specs.Procedure.{table_at}
 use Rattle.batch_recipe.specs.declared.act.Act.{Act}
-use Rattle.batch_recipe.specs.declared.act.UnitChoice.{UnitChoice}
+use Rattle.batch_recipe.specs.Expanding.{unit_count}
 use Rattle.batch_recipe.specs.declared.act.Work.{Work}
 use Rattle.batch_recipe.specs.declared.act.Work.TheVariants.{Follows, Runs}
 use Rattle.batch_recipe.specs.declared.acts.Acts.{Acts}
@@ -39,13 +39,9 @@ topped h n u i below = entry h (n + 1 + length below) u i ∷ below
 abbrev pub bare : ℕ → ℕ → ℕ → List Entry
 bare n u i = entry (plain kind.Skip 0) (n + 1) u i ∷ []
 
--- how many needs an act has, its unit among them
-abbrev pub unit_count : Option UnitChoice → ℕ
-unit_count None = 0
-unit_count (Some own) = 1
-
+-- how many needs an act has, its unit and those that it reserves among them
 abbrev pub needs_count : Act → ℕ
-needs_count a = length a.needs.items + unit_count a.unit
+needs_count a = length a.needs.items + length a.reserves.items + unit_count a.unit
 
 -- the unit procedure of an act, where those above it stand under o
 abbrev pub unit_number : LabelTable → ℕ → ℕ → ℕ

@@ -1,6 +1,6 @@
 -- private: how the nodes of an expanded tree hang together, by number.
 use Rattle.std.specs.Prelude.{◌≡◌, ◌<◌, ◌≤◌, ◌⊎◌, ℕ, zero, suc, ◌+◌, List, [], ◌∷◌, ◌++◌, slice_get, Option, Some, None}
-use Rattle.batch_recipe.specs.Expanding.{Binding, asked_by, unit_with}
+use Rattle.batch_recipe.specs.Expanding.{Sites, needs_with}
 use Rattle.batch_recipe.specs.Needs.{resources_of}
 use Rattle.batch_recipe.specs.declared.need.Need.{Need}
 use Rattle.batch_recipe.specs.declared.act.Act.{Act}
@@ -10,9 +10,9 @@ use Rattle.batch_recipe.specs.Tree.{Tree, act, skip, seq, par, sel, loop, Task, 
 use Rattle.batch_recipe.specs.declared.entry.Entry.{Entry}
 
 -- all that an act asks for, where the roles are bound
-abbrev pub asked_at : Binding → Option Act → List Need
-asked_at bound None = []
-asked_at bound (Some a) = asked_by (unit_with bound a.unit) a.needs.items
+abbrev pub asked_at : Sites → Option Act → List Need
+asked_at sites None = []
+asked_at sites (Some a) = needs_with sites a
 
 abbrev pub form_at : Tree → Form
 form_at (act s w) = an_act

@@ -28,7 +28,7 @@ pub struct Entry {
     pub end: u16,
     pub parent: u16,
     pub child: u16,
-    /// How many needs the act has, its unit among them: 0 where the node is no act.
+    /// How many needs the act has, its unit and those that it reserves among them: 0 where the node is no act.
     pub needs: u16,
     /// Of an act the unit procedure that it stands under, by its number in its table; of a `sel` the first of its branches'
     /// conditions, and of a loop its condition, by their numbers in the outline. 0 at other nodes.

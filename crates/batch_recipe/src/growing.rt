@@ -38,11 +38,11 @@ fn unit_number(table: LabelTable, number: usize, unit: usize) -> usize
     }
 }
 
-/// How many needs the act has, its unit among them.
+/// How many needs the act has, its unit and those that it reserves among them.
 fn needs_count(act: &Act) -> u16
     ensures { result ≡ needs_count act.now }
 {
-    let needs = act.needs.len() as u16;
+    let needs = act.needs.len() as u16 + act.reserves.len() as u16;
     match &act.unit {
         None => needs,
         Some(_) => needs + 1,

@@ -2,7 +2,7 @@
 ghost use Rattle.std.specs.Prelude.{◌≡◌, ◌≤◌, ◌<◌, length, true, IfOk, IsErrOf};
 ghost use Rattle.batch_recipe.specs.Parts.{IsMadeOf};
 ghost use Rattle.batch_recipe.specs.Procedure.{procedure_nodes};
-ghost use Rattle.batch_recipe.specs.WellFormed.{are_kinds, are_reports, are_roles, has_free_names, is_well_formed, value_names};
+ghost use Rattle.batch_recipe.specs.WellFormed.{are_kinds, are_reports, are_reserves, are_roles, has_free_names, is_well_formed, value_names};
 ghost use Rattle.batch_recipe.specs.declared.scaling.TheConstants.{MAX_SIZE};
 ghost use Rattle.batch_recipe.specs.declared.role.TheConstants.{MAX_ROLES};
 ghost use Rattle.batch_recipe.specs.declared.recipe.TheConstants.{MAX_ENTRIES, MAX_ACTS, MAX_NODES};
@@ -47,6 +47,7 @@ impl Recipe {
         requires few_roles { length parts.roles.items ≤ MAX_ROLES }
         requires own_roles { are_roles parts.roles.items parts.acts ≡ true }
         requires own_reports { are_reports parts.outputs.items parts.acts ≡ true }
+        requires own_reserves { are_reserves parts.acts ≡ true }
         requires kinds { are_kinds parts.acts ≡ true }
         requires well_formed { is_well_formed (value_names parts.inputs.items parts.parameters.items parts.outputs.items) parts.acts ≡ true }
         requires free_names { has_free_names (value_names parts.inputs.items parts.parameters.items parts.outputs.items) parts.acts ≡ true }

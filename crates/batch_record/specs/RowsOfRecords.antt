@@ -6,7 +6,7 @@ use Rattle.batch_matrix.specs.declared.report.Report.TheVariants as Report
 use Rattle.batch_recipe.specs.Tree.{Phase}
 use Rattle.batch_recipe.specs.declared.need.Need.{Need}
 use Rattle.batch_model.specs.Events.{created, ordered, removed, reported, refused, command_not_accepted, output_left_out, bad_size, bad_value, no_memory}
-use Rattle.batch_model.specs.Moves.{send, state, release, begin, start, end, ask, grant}
+use Rattle.batch_model.specs.Moves.{send, state, release, begin, start, end, pass, ask, grant}
 use Rattle.batch_model.specs.Runs.{Out, reply, move}
 use Rattle.batch_record.specs.Laws.{is_passed_over}
 use Rattle.batch_record.specs.RecordLine.{out_of_line}
@@ -27,6 +27,9 @@ GrantedUnit = out_of_line (codes "grant 1 0.0 R1") ≡ Some (move (grant 1 (0 �
 
 abbrev pub ReleasedUnit : Type 0
 ReleasedUnit = out_of_line (codes "release 1 0.0 R1") ≡ Some (move (release 1 (0 ∷ 0 ∷ []) (units_of (codes "R1") 1)))
+
+abbrev pub PassedUnit : Type 0
+PassedUnit = out_of_line (codes "pass 1 0.0.0 0.1 R2") ≡ Some (move (pass 1 (0 ∷ 0 ∷ 0 ∷ []) (0 ∷ 1 ∷ []) (units_of (codes "R2") 1)))
 
 abbrev pub StartedPhase : Type 0
 StartedPhase = out_of_line (codes "start 1 0.3 R1 ADD QTY=7 T=0") ≡ Some (move (start 1 (0 ∷ 3 ∷ []) add ((codes "QTY", 7) ∷ (codes "T", 0) ∷ [])))

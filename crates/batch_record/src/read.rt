@@ -1,13 +1,13 @@
 //! Reading a line of a record.
 ghost use Rattle.std.specs.Prelude.{◌≡◌, ◌∷◌, [], Some, MatchOption};
 ghost use Rattle.batch_wire.specs.EventLine.{word_of_report};
-ghost use Rattle.batch_record.specs.RecordLine.{words_left, need_of, state_of, claim_of, claim_with, batch_of, batch_with, removed_of, report_told_of, report_with, order_of, ok_of, other_of, begun_of, ended_of, phase_with, sent_of, started_of, created_of, refusal_of, code_alone, state_alone, formula_of, left_out_of, out_of_words, out_of_line};
+ghost use Rattle.batch_record.specs.RecordLine.{words_left, need_of, state_of, claim_of, claim_with, batch_of, batch_with, removed_of, report_told_of, report_with, order_of, ok_of, other_of, begun_of, passed_of, passed_with, ended_of, phase_with, sent_of, started_of, created_of, refusal_of, code_alone, state_alone, formula_of, left_out_of, out_of_words, out_of_line};
 ghost use Rattle.batch_record.specs.Laws.{Tells, TellsNothing};
-ghost use Rattle.batch_record.specs.Reading.{Gives, claim_told, report_told, begun_told, ended_told, phase_told, sent_told, started_told, created_told, refusal_told, out_of};
+ghost use Rattle.batch_record.specs.Reading.{Gives, claim_told, report_told, begun_told, passed_told, ended_told, phase_told, sent_told, started_told, created_told, refusal_told, out_of};
 
 use crate::pairs::{are_plain_values, are_role_pairs};
 use crate::told::{
-    Begun, Claim, Created, Ended, PhaseStep, Refused, Reported, Sent, Started, Told,
+    Begun, Claim, Created, Ended, Passed, PhaseStep, Refused, Reported, Sent, Started, Told,
 };
 use crate::word::{command_of, is_plain_place, plain_number, read_need, state_of, word_of_report};
 use crate::words::Words;
@@ -32,6 +32,8 @@ fn read_words(mut line: Words<'_>) -> Option<Told<'_>>
         Some(Told::Asked(read_claim(line)?))
     } else if first == b"release".as_slice() {
         Some(Told::Released(read_claim(line)?))
+    } else if first == b"pass".as_slice() {
+        Some(Told::Passed(read_passed(line)?))
     } else if first == b"ok".as_slice() {
         read_ok(line)
     } else if first == b"state".as_slice() {
@@ -320,6 +322,36 @@ fn claim_with<'a>(batch: &'a [u8], place: &'a [u8], need: &'a [u8]) -> Option<Cl
             resource,
             units,
         })
+    } else {
+        None
+    }
+}
+
+/// A batch, a place, the place of a unit procedure and a need.
+fn read_passed(mut arguments: Words<'_>) -> Option<Passed<'_>>
+    ensures { Gives passed_told result (passed_of (words_left arguments.entry.rest)) }
+{
+    let batch = arguments.next()?;
+    let place = arguments.next()?;
+    let to = arguments.next()?;
+    let need = arguments.next()?;
+    if arguments.next().is_some() {
+        return None;
+    }
+    passed_with(batch, place, to, need)
+}
+
+fn passed_with<'a>(
+    batch: &'a [u8],
+    place: &'a [u8],
+    to: &'a [u8],
+    need: &'a [u8],
+) -> Option<Passed<'a>>
+    ensures { Gives passed_told result (passed_with to.now (claim_with batch.now place.now (need_of need.now))) }
+{
+    let claim = claim_with(batch, place, need)?;
+    if is_plain_place(to) {
+        Some(Passed { claim, to })
     } else {
         None
     }

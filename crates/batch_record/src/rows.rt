@@ -3,6 +3,7 @@ ghost use Rattle.batch_record.specs.RowsOfRecords.{
   AskedUnits,
   GrantedUnit,
   ReleasedUnit,
+  PassedUnit,
   StartedPhase,
   SentCommand,
   StatedBatch,
@@ -35,6 +36,7 @@ pub fn record_lines()
     ensures asked_units { AskedUnits }
     ensures granted_unit { GrantedUnit }
     ensures released_unit { ReleasedUnit }
+    ensures passed_unit { PassedUnit }
     ensures started_phase { StartedPhase }
     ensures sent_command { SentCommand }
     ensures stated_batch { StatedBatch }

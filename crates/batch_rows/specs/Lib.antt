@@ -8,4 +8,5 @@ pub mod RowsOfActStates
 pub mod RowsOfClearance
 pub mod RowsOfSafety
 pub mod RowsOfSettlement
+pub mod RowsOfTransfers
 pub mod Example

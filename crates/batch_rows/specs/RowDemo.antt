@@ -25,13 +25,13 @@ abbrev pub add : Phase
 add = record { unit = codes "R1"; name = codes "ADD"; handed = []; reports = [] }
 
 abbrev pub operation : Tree
-operation = act (record { place = 0 ∷ 0 ∷ 0 ∷ []; needs = [] }) (follows (codes "CHARGE") (act (record { place = 0 ∷ 0 ∷ 0 ∷ 0 ∷ []; needs = [] }) (runs add)))
+operation = act (record { place = 0 ∷ 0 ∷ 0 ∷ []; needs = []; reserves = [] }) (follows (codes "CHARGE") (act (record { place = 0 ∷ 0 ∷ 0 ∷ 0 ∷ []; needs = []; reserves = [] }) (runs add)))
 
 abbrev pub unit_procedure : Tree
-unit_procedure = act (record { place = 0 ∷ 0 ∷ []; needs = one_unit (codes "R1") ∷ [] }) (follows (codes "MAKE") operation)
+unit_procedure = act (record { place = 0 ∷ 0 ∷ []; needs = one_unit (codes "R1") ∷ []; reserves = [] }) (follows (codes "MAKE") operation)
 
 abbrev pub procedure : Tree
-procedure = act (record { place = 0 ∷ []; needs = [] }) (follows (codes "A") unit_procedure)
+procedure = act (record { place = 0 ∷ []; needs = []; reserves = [] }) (follows (codes "A") unit_procedure)
 
 abbrev pub recipe : Recipe
 recipe = record { name = codes "A"; formula = formula; outputs = []; procedure = procedure }

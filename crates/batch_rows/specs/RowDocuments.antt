@@ -73,17 +73,17 @@ entry_named (e ∷ es) name p = elim (same_name e.0 name) [ true ↦ e.1 p | fal
 -- a phase step that runs a phase on a unit
 abbrev pub phase_step : Name → List Need → Name → Name → List Name → Entry
 phase_step name needs unit phase handed =
-    (name, λ p. act (record { place = p; needs = needs }) (runs (record { unit = unit; name = phase; handed = handed; reports = [] })))
+    (name, λ p. act (record { place = p; needs = needs; reserves = [] }) (runs (record { unit = unit; name = phase; handed = handed; reports = [] })))
 
 -- the same without needs and values, where the phase reports outputs
 abbrev pub reporting_step : Name → Name → List Name → Entry
 reporting_step name unit reports =
-    (name, λ p. act (record { place = p; needs = [] }) (runs (record { unit = unit; name = name; handed = []; reports = reports })))
+    (name, λ p. act (record { place = p; needs = []; reserves = [] }) (runs (record { unit = unit; name = name; handed = []; reports = reports })))
 
 -- an act that follows a chart, whose labels stand in a table
 abbrev pub chart_act : Name → List Need → List Entry → Diagram → Entry
 chart_act name needs table d =
-    (name, λ p. act (record { place = p; needs = needs }) (follows name (expanded (entry_named table) (child p 0) d)))
+    (name, λ p. act (record { place = p; needs = needs; reserves = [] }) (follows name (expanded (entry_named table) (child p 0) d)))
 
 abbrev pub procedure_of : Entry → Tree
 procedure_of e = e.1 (0 ∷ [])

@@ -14,11 +14,11 @@ use Rattle.batch_rows.specs.RowParts.{p0, p00, p000, p001, on}
 use Rattle.batch_safety.specs.Settlement.{IsAtWork, WaitsForSomething}
 
 abbrev pub batch : ℕ → State → Rest → Batch
-batch n x r = record { number = n; recipe = recipe; size = 1000; values = []; state = x; rest = r }
+batch n x r = record { number = n; recipe = recipe; size = 1000; values = []; state = x; rest = r; in_advance = [] }
 
 -- an act that needs one thing
 abbrev pub step : Place → Need → Step
-step p need = record { place = p; needs = need ∷ [] }
+step p need = record { place = p; needs = need ∷ []; reserves = [] }
 
 -- an act in line for it
 abbrev pub waits : Place → Need → Rest
@@ -40,7 +40,7 @@ beside_one_that_waits b x = record { batches = b ∷ batch 2 x (waits p0 (one_un
 
 -- a phase that needs nothing
 abbrev pub phase_at : Place → Rest
-phase_at p = live (record { place = p; needs = [] }) (on r1 add) Running
+phase_at p = live (record { place = p; needs = []; reserves = [] }) (on r1 add) Running
 
 abbrev pub LivePhaseWorks : Type 0
 LivePhaseWorks = IsAtWork (beside_one_that_waits (batch 1 Running (holds p0 (one_unit hdr) (phase_at p00))) Running) (1, p0)

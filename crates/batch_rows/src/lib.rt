@@ -10,6 +10,7 @@ mod clearance;
 mod runs;
 mod safety;
 mod settlement;
+mod transfers;
 
 pub use clearance::{
     act_runs_what_its_chart_runs, candidates_of_a_role, crossed_branches_are_cleared,
@@ -30,6 +31,11 @@ pub use safety::{
     unit_not_held_above, units_told, waiting_in_a_circle, waits_end,
 };
 pub use settlement::{holders_at_work, waits_for_nothing};
+pub use transfers::{
+    follower_is_reserved, held_batch_hands_over, other_is_not_reserved, pass_is_told,
+    reserved_units_are_ranked, steps_are_followed, stopping_batch_gives_back, unit_is_handed_over,
+    unit_is_kept, unit_is_lost,
+};
 
 /// There are documents that meet the premises of the laws on records: a cell with two recipes that are cleared, though their
 /// batches can point at each other.

@@ -4,6 +4,7 @@ use Rattle.batch_laws.specs.Premises.{IsOfDocuments}
 use Rattle.batch_safety.specs.Sets.{ClearedSetsRunSafely}
 use Rattle.batch_laws.proofs.Clearing.{cleared-down}
 use Rattle.batch_laws.proofs.Sets.{sets_are_documents}
+use Rattle.batch_safety.proofs.KeptAlong.{units-kept}
 use Rattle.batch_safety.proofs.Safe.{safe}
 use Rattle.batch_laws.proofs.Telling.{tells_the_plant}
 use Rattle.batch_safety.proofs.Working.{nobody_waits_in_vain}
@@ -15,5 +16,6 @@ cleared_sets_run_safely c recipes (rank, cleared) =
     record {
       safe = safe setup rank (cleared-down setup rank kept cleared);
       told = tells_the_plant setup rank (cleared-down setup rank kept cleared);
+      kept = units-kept setup rank (cleared-down setup rank kept cleared);
       settled = nobody_waits_in_vain setup rank kept cleared;
     }

@@ -4,4 +4,10 @@ pub mod Safe
 pub mod Settling
 pub mod Working
 pub mod Awaiting
+pub mod Unbegun
+pub mod KeptUnits
+pub mod Making
+pub mod UnitsKept
+pub mod KeptEvents
+pub mod KeptAlong
 pub mod Joined

@@ -16,7 +16,7 @@ use Rattle.batch_safety.proofs.Safety.{safe-now}
 use Rattle.batch_laws.proofs.Starting.{starts-nothing}
 use Rattle.batch_laws.proofs.Moving.{move-step}
 use Rattle.batch_laws.proofs.Reports.{reply-step}
-use Rattle.batch_laws.proofs.Along.{kept-at_first, moved-stands}
+use Rattle.batch_laws.proofs.Along.{kept-at_first, moved-stands, placed-trees}
 
 no_line : (before : List Out) (o : Out) → ◌≡◌ {A = List Out} [] (before ++ o ∷ []) → ⊥
 no_line [] o e = cc
@@ -49,7 +49,7 @@ module _ (d : Setup) (rank : Ranking) (cleared : AreClearedDown d rank) where
   safe-along told s sd k st (v ∷ es) (reply r ∷ outs) t l (o ∷ front) more e =
       let q = same_first o (reply r) (front ++ more) outs e in
       subst (IsSafeNow d) (append_assoc told (reply r ∷ []) front ∙ ap (λ z. told ++ z ∷ front) (sym q.0))
-      (safe-along (told ++ reply r ∷ []) l.0 (reacts-stands d s l.0 v r sd l.1) (reply-step d rank cleared told s sd k v r l.0 l.1)
+      (safe-along (told ++ reply r ∷ []) l.0 (reacts-stands d (placed-trees d rank cleared) s l.0 v r sd l.1) (reply-step d rank cleared told s sd k v r l.0 l.1)
       (starts-nothing d told (reply r) (λ n p x vs f. reply_no_start r n p x vs f)) es outs t l.2 front more q.1)
   safe-along told s sd k st es outs t l front more e = grind arith
 

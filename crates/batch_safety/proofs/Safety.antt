@@ -1,23 +1,30 @@
 -- What is kept makes a record safe.
-use Rattle.std.proofs.Common.{◌≡◌, ◌⊎◌, sym, ◌∙◌, ap, subst, ℕ, suc, ◌≤◌, ◌<◌, arith, List, [], ◌∷◌, Some, inl, inr}
+use Rattle.std.proofs.Common.{◌≡◌, ◌⊎◌, ⊎_elim, sym, ◌∙◌, ap, ap₂, subst, subst₂, ◌++◌, false, ℕ, suc, ◌≤◌, ◌<◌, arith, List, [], ◌∷◌, Some, inl, inr}
 use Rattle.batch_matrix.specs.declared.state.State.{State}
 use Rattle.batch_model.specs.Lists.{Has, Each}
 use Rattle.batch_recipe.specs.Tree.{Place}
 use Rattle.batch_model.specs.Plant.{Setup, Batch, BatchAct, Share, acts_in, Plant}
 use Rattle.batch_model.specs.Runs.{Out}
 use Rattle.batch_model.specs.Records.{holders_told, waiters_told, state_told, IsAtRest, scene_told, Waiting, IsWaiting, IsAtOrAbove, StandsBefore, WaitsForHolder, WaitsForOlder, PointsTo, PointAlong, HasCapacity, HoldsUnits, StartsIdle, HasNoCircle, RestsEmpty, IsSafeNow}
-use Rattle.batch_laws.proofs.Facts.{Fact, holding, awaiting, performing, facts, entries, need, share}
+use Rattle.batch_laws.proofs.Facts.{Fact, holding, awaiting, facts, early_facts, batch_facts, entries, need, share}
 use Rattle.batch_model.specs.Cleared.{Ranking}
 use Rattle.batch_laws.proofs.Members.{Has-map, map-Has, Has-Each}
 use Rattle.batch_laws.proofs.Ranking.{rank-rises}
 use Rattle.batch_laws.proofs.Units.{unit-held}
 use Rattle.batch_laws.proofs.Entries.{IsOnce, Has-holders, holders-Has}
-use Rattle.batch_laws.proofs.Batches.{entry-of, of-entry, same-batch}
+use Rattle.batch_laws.proofs.Batches.{entry-of, of-entry, awaiting-of, performing-of, early-fact, same-batch}
+use Rattle.batch_laws.proofs.Due.{awaited-none_under}
+use Rattle.batch_laws.proofs.Passing.{is_under_way, early-none}
+use Rattle.batch_laws.proofs.Placing.{fact-stands}
+use Rattle.batch_model.proofs.Members.{Has-split, Each-Has}
 use Rattle.batch_laws.proofs.Invariant.{IsSound, IsKept, at_rest-nothing}
-use Rattle.batch_model.specs.Standing.{IsStandingBatch, IsStanding}
+use Rattle.batch_model.specs.Standing.{IsAwaited, IsStandingBatch, IsStanding}
 use Rattle.batch_laws.proofs.Invariant.{standing-of, numbers-of}
 use Rattle.batch_recipe.specs.Needs.{one_unit}
 use Rattle.batch_recipe.specs.Conditions.{Name}
+
+rests-not_under_way : (x : State) → IsAtRest x → is_under_way x ≡ false
+rests-not_under_way x r = grind arith
 
 -- Places in a line
 
@@ -48,7 +55,7 @@ module _ (d : Setup) (rank : Ranking) (outs : List Out) (s : Plant) (sd : IsStan
 
   holds-units : HoldsUnits outs
   holds-units a h =
-      let e = entry-of s.batches a.act (performing a.phase) (k.active a h) in
+      let e = performing-of s.batches a.act a.phase (k.active a h) in
       let sound : IsSound d rank e.0 = k.sound e.0 e.1 in let here : IsStandingBatch d e.0 = standing-of d s sd e.0 e.1 in
       go e.0 e.1 e.2 (unit-held [] (0 ∷ []) e.0.recipe.procedure e.0.rest sound.cleared.placed sound.cleared.in_units here.stands a.act.1 a.phase e.3)
     where
@@ -74,16 +81,25 @@ module _ (d : Setup) (rank : Ranking) (outs : List Out) (s : Plant) (sd : IsStan
   holder-rises w v h p =
       let x = Has-map (λ z. z.act) (waiters_told outs v.resource) v.act h in
       let y = Has-map (λ z. z.act) (holders_told outs w.resource) (v.act.0, p.0) p.1 in
-      let asks = entry-of s.batches x.0.act (awaiting (need v.resource x.0.units)) (k.asked v.resource x.0 (subst (λ z. Has z x.0) (k.lines v.resource) x.1)) in
+      let asks = awaiting-of s.batches x.0.act (need v.resource x.0.units) (k.asked v.resource x.0 (subst (λ z. Has z x.0) (k.lines v.resource) x.1)) in
       let holds = entry-of s.batches y.0.act (holding (need w.resource y.0.units)) (Has-holders w.resource (entries s.batches) y.0 ((k.held w.resource).1 y.0 y.1)) in
       let same : holds.0 ≡ asks.0
       = same-batch s.next_number s.batches holds.0 asks.0 (numbers-of d s sd) holds.1 asks.1 (holds.2 ∙ ap (λ z. z.0) y.2 ∙ sym (asks.2 ∙ ap (λ z. z.0) x.2)) in
       let sound : IsSound d rank asks.0 = k.sound asks.0 asks.1 in let here : IsStandingBatch d asks.0 = standing-of d s sd asks.0 asks.1 in
       let below : IsAtOrAbove y.0.act.1 x.0.act.1
       = subst (λ z. IsAtOrAbove z x.0.act.1) (sym (ap (λ z. z.1) y.2)) (subst (λ z. IsAtOrAbove p.0 z) (sym (ap (λ z. z.1) x.2)) p.2) in
+      ⊎_elim
+      (λ m.
+      let held = early-fact asks.0.in_advance y.0.act.1 (holding (need w.resource y.0.units)) m in
+      let a = fact-stands asks.0.rest (x.0.act.1, awaiting (need v.resource x.0.units)) asks.3 in
+      let due = Each-Has (λ held. IsAwaited asks.0.rest held.place) asks.0.in_advance held.0 here.awaited held.1 in
+      absurd (awaited-none_under asks.0.recipe.procedure asks.0.rest sound.cleared.placed here.stands held.0.place due a.0 a.1
+      (subst₂ IsAtOrAbove (sym held.2) (sym a.2) below)))
+      (λ m.
       rank-rises (λ q. suc (rank q)) 0 (0 ∷ []) asks.0.recipe.procedure asks.0.rest sound.cleared.placed sound.cleared.rising here.stands y.0.act.1 x.0.act.1
-      (need w.resource y.0.units) (need v.resource x.0.units)
-      (subst (λ z. Has (facts z.rest) (y.0.act.1, holding (need w.resource y.0.units))) same holds.3) asks.3 below
+      (need w.resource y.0.units) (need v.resource x.0.units) m asks.3 below)
+      (Has-split (early_facts asks.0.in_advance) (facts asks.0.rest) (y.0.act.1, holding (need w.resource y.0.units))
+      (subst (λ z. Has (batch_facts z) (y.0.act.1, holding (need w.resource y.0.units))) same holds.3))
 
   -- v's resource has a higher rank than w's, or it is the same one and v's ask is older
   abbrev Precedes : Waiting → Waiting → Type 0
@@ -120,7 +136,14 @@ module _ (d : Setup) (rank : Ranking) (outs : List Out) (s : Plant) (sd : IsStan
   has-no_circle (w ∷ ws) h = not-itself w (along-precedes w ws w h.0.1 h.0.0 h.1)
 
   nothing-at_rest : (n : ℕ) (x : State) → state_told outs n ≡ Some x → IsAtRest x → (a : BatchAct) (f : Fact) → Has (entries s.batches) (a, f) → a.0 ≡ n → ⊥
-  nothing-at_rest n x t r a f h e = grind (arith, entry-of s.batches a f h, at_rest-nothing)
+  nothing-at_rest n x t r a f h e =
+      let w = entry-of s.batches a f h in
+      let told : Some x ≡ Some w.0.state = sym t ∙ (ap (state_told outs) (sym (w.2 ∙ e)) ∙ k.states w.0 w.1) in
+      let now : x ≡ w.0.state = cc in
+      let rests : IsAtRest w.0.state = subst IsAtRest now r in
+      let none : batch_facts w.0 ≡ []
+      = ap₂ (λ xs ys. early_facts xs ++ ys) (early-none d w.0 (standing-of d s sd w.0 w.1) (rests-not_under_way w.0.state rests)) (at_rest-nothing w.0.state (facts w.0.rest) rests (k.sound w.0 w.1).fits) in
+      subst (λ zs. Has zs (a.1, f)) none w.3
 
   rests-empty : RestsEmpty outs
   rests-empty n x t r q = (

@@ -10,13 +10,13 @@ use Rattle.batch_model.specs.Moves.{Move, grant, act_move, state_move, batch_mov
 use Rattle.batch_model.specs.Runs.{Out}
 use Rattle.batch_model.specs.Records.{holders_told, scene_of, Link, IsLink, IsChain, StandsUnder}
 use Rattle.batch_machine.proofs.Ordering.{none_least}
-use Rattle.batch_laws.proofs.Facts.{awaiting, need}
+use Rattle.batch_laws.proofs.Facts.{need}
 use Rattle.batch_model.specs.Cleared.{Ranking}
 use Rattle.batch_laws.proofs.Members.{flat_map-Has, Has-map, map-Has}
 use Rattle.batch_laws.proofs.Entries.{act_self, name_self, name_same, filter-Has, length-filter_lt}
 use Rattle.batch_laws.proofs.Batches.{holders-entries}
 use Rattle.batch_laws.proofs.Invariant.{IsKept}
-use Rattle.batch_laws.proofs.Batches.{entry-of}
+use Rattle.batch_laws.proofs.Batches.{awaiting-of}
 use Rattle.batch_laws.proofs.Asking.{awaiting-act}
 use Rattle.batch_safety.proofs.Safety.{holder-rises}
 use Rattle.batch_model.specs.Standing.{IsStanding}
@@ -79,7 +79,7 @@ module _ (d : Setup) (rank : Ranking) (outs : List Out) (s : Plant) (sd : IsStan
   -- for the first in a line of a settled plant too little is free
   first-unserved : next d s ≡ None → (q : Name) (a : Share) (more : List Share) → s.line q ≡ a ∷ more → d.capacity q < units_in (holders s q) + a.units
   first-unserved e q a more f =
-      let b = entry-of s.batches a.act (awaiting (need q a.units)) (k.asked q a (subst (λ z. Has z a) (sym f) (inl refl))) in
+      let b = awaiting-of s.batches a.act (need q a.units) (k.asked q a (subst (λ z. Has z a) (sym f) (inl refl))) in
       let w = awaiting-act b.0.rest a.act.1 (need q a.units) b.3 in
       let here : (b.0.number, w.0.place) ≡ a.act = ap₂ (λ i j. let z : BatchAct = (i, j) in z) b.2 w.4 in
       below (units_in (holders s q) + a.units) (d.capacity q)

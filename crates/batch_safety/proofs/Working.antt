@@ -1,5 +1,5 @@
 -- Where no move is possible, the last holder of a chain that can't be continued is at work.
-use Rattle.std.proofs.Common.{◌+◌, ◌≡◌, ◌⊎◌, ⊎_elim, refl, sym, ◌∙◌, ap, subst, ℕ, zero, suc, ◌≤◌, ◌<◌, arith, List, [], ◌∷◌, ◌++◌, Bool, true, false, ◌&&◌, ◌||◌, take, slice_get, Option, Some, None, inl, inr, length}
+use Rattle.std.proofs.Common.{◌+◌, ◌≡◌, ◌⊎◌, ⊎_elim, refl, sym, ◌∙◌, ap, subst, ℕ, zero, suc, ◌≤◌, ◌<◌, arith, List, [], ◌∷◌, ◌++◌, Bool, true, false, ◌&&◌, ◌||◌, take, slice_get, Option, Some, None, option_map, inl, inr, length}
 use Rattle.batch_matrix.specs.declared.state.State.{State}
 use Rattle.batch_matrix.specs.declared.state.State.TheVariants.{Idle, Running, Pausing, Paused, Holding, Held, Restarting, Stopping, Stopped, Aborting, Aborted, Complete}
 use Rattle.batch_model.specs.Lists.{Has}
@@ -7,17 +7,17 @@ use Rattle.batch_recipe.specs.Conditions.{Name}
 use Rattle.batch_recipe.specs.Tree.{Place, Step, Phase, Tree, act, seq, par, sel, loop, Task, runs, follows, Trees, no_trees, tree, Choices, otherwise, choice}
 use Rattle.batch_model.specs.Rest.{Rest, ready, asking, open_act, live, freeing, in_seq, in_par, in_loop, done, Rests, no_rests, rest, acts, acts_of_each, is_done, all_done, place_of}
 use Rattle.batch_model.specs.Plant.{Setup, Batch, BatchAct, Share, Plant, opening, holders}
-use Rattle.batch_model.specs.Moves.{Move, begin, start, end, ask, release, handed_values, beginning, entering, giving_back, when, is_running, is_stopping, is_stopped, is_quiet, is_empty, act_move, next}
+use Rattle.batch_model.specs.Moves.{Move, begin, start, end, ask, release, pass, reserved_place, handed_values, beginning, entering, giving_back, when, is_running, is_stopping, is_stopped, is_quiet, is_empty, act_move, next}
 use Rattle.batch_model.specs.Runs.{Out}
 use Rattle.batch_model.specs.Cleared.{is_procedure, IsCleared}
-use Rattle.batch_model.specs.Standing.{IsStandingBatch, IsStanding}
+use Rattle.batch_model.specs.Standing.{HasPlacedTrees, IsStandingBatch, IsStanding}
 use Rattle.batch_machine.proofs.Led.{opening-stands, leads-stands}
 use Rattle.batch_safety.proofs.Awaiting.{among-Has, CanBeMet, awaited-known}
 use Rattle.batch_laws.proofs.Clearing.{cleared-down, control-clear, control-procedure}
 use Rattle.batch_model.specs.Records.{scene_of, Waiting, IsWaiting, IsAtOrAbove, Link, IsLink, IsChain, StandsUnder}
 use Rattle.batch_model.specs.Settled.{IsAdvanced, AreAdvanced}
 use Rattle.batch_recipe.specs.Nodes.{child}
-use Rattle.batch_laws.proofs.Facts.{Fact, holding, awaiting, performing, Standing, held_at, awaited_at, facts, facts_of_each, entries, need, share}
+use Rattle.batch_laws.proofs.Facts.{Fact, holding, awaiting, performing, Standing, held_at, awaited_at, facts, facts_of_each, early_facts, entries, need, share}
 use Rattle.batch_model.specs.Standing.{IsRestOf, IsRestBelow, IsBranch, AreBranches, IsChosen}
 use Rattle.batch_model.specs.Placed.{IsPlaced, IsPlacedBelow, ArePlaced, IsChoicePlaced}
 use Rattle.batch_model.specs.Cleared.{Ranking}
@@ -30,7 +30,8 @@ use Rattle.batch_safety.proofs.Bounding.{IsBounded, AreBounded, rest-bounded}
 use Rattle.batch_laws.proofs.Entries.{Has-holders}
 use Rattle.batch_laws.proofs.Batches.{holders-entries}
 use Rattle.batch_laws.proofs.Invariant.{IsFitting, IsSound, IsKept}
-use Rattle.batch_laws.proofs.Batches.{entry-of, of-entry}
+use Rattle.batch_laws.proofs.Batches.{entry-of, of-entry, awaiting-of}
+use Rattle.batch_machine.proofs.Leaving.{settled-none}
 use Rattle.batch_laws.proofs.Along.{kept-at_first, kept-along}
 use Rattle.batch_safety.proofs.Settling.{no_act_move, held-by_others, short-chain}
 use Rattle.batch_laws.proofs.Invariant.{standing-of}
@@ -202,11 +203,22 @@ freeing-moves d s b p zero h f = absurd (let l : 0 < 0 = h.0 in omega arith)
 freeing-moves d s b p (suc n) h f =
     let l : suc n ≤ length p.needs = h.1 in
     let g = get-below p.needs n (omega arith) in
-    go (slice_get p.needs n) g.0 g.1 f
+    pick (is_stopping b.state || is_stopped b.state) (reserved_place b.recipe.procedure p n) (slice_get p.needs n) g.0 g.1 f
   where
-    go : (o : Option Need) (r : Need) → o ≡ Some r → ((m : Move) → ◌≡◌ {A = Option Move} (elim o [ None ↦ None | Some x ↦ Some (release b.number p.place x) ]) (Some m) → ⊥) → ⊥
-    go None r e f = (let c : ◌≡◌ {A = Option Need} None (Some r) = e in absurd cc)
-    go (Some x) r e f = no_none (release b.number p.place x) f
+    pick : (t : Bool) (o : Option Place) (q : Option Need) (r : Need) → q ≡ Some r
+        → ((m : Move)
+        → ◌≡◌ {A = Option Move}
+        (elim t [
+          | true ↦ option_map (release b.number p.place) q
+          | false ↦ elim o [ None ↦ option_map (release b.number p.place) q | Some to ↦ option_map (pass b.number p.place to) q ]
+        ])
+        (Some m)
+        → ⊥)
+        → ⊥
+    pick t o None r e f = (let c : ◌≡◌ {A = Option Need} None (Some r) = e in absurd cc)
+    pick true o (Some x) r e f = no_none (release b.number p.place x) f
+    pick false None (Some x) r e f = no_none (release b.number p.place x) f
+    pick false (Some to) (Some x) r e f = no_none (pass b.number p.place to x) f
 
 open-moves : (d : Setup) (s : Plant) (b : Batch) (p : Step) (r : Rest) → b.state ≡ Running → is_done r ≡ true → ((m : Move) → act_move d s b (open_act p r) ≡ Some m → ⊥) → ⊥
 open-moves d s b p r run fin h = go (is_stopping b.state || is_stopped b.state) (ap (λ z. is_stopping z || is_stopped z) run) h
@@ -273,7 +285,7 @@ module _ (d : Setup) (s : Plant) (b : Batch) (run : b.state ≡ Running) where
 abbrev LiveUnder : Batch → Place → Type 0
 LiveUnder b q = (p : Step) × (x : Phase) × (t : State) × Has (acts b.rest) (live p x t) × IsAtOrAbove q p.place
 
-module _ (d : Setup) (rank : Ranking) (outs : List Out) (s : Plant) (sd : IsStanding d s) (k : IsKept d rank outs s) (settled : next d s ≡ None) where
+module _ (d : Setup) (rank : Ranking) (trees : HasPlacedTrees d) (outs : List Out) (s : Plant) (sd : IsStanding d s) (k : IsKept d rank outs s) (settled : next d s ≡ None) where
   -- an act that asks stands in line
   asks-in_line : (b : Batch) → Has s.batches b → (h : BatchAct) → b.number ≡ h.0 → (p : Step) (w : Task) (n : ℕ) → Has (acts b.rest) (asking p w n) → IsAtOrAbove h.1 p.place
       → ((v : Waiting) → IsWaiting (scene_of s) v → StandsUnder h v → ⊥) → ⊥
@@ -315,7 +327,8 @@ module _ (d : Setup) (rank : Ranking) (outs : List Out) (s : Plant) (sd : IsStan
   holder-at_work : (h : BatchAct) (r : Need) → Has (entries s.batches) (h, holding r) → ((v : Waiting) → IsWaiting (scene_of s) v → StandsUnder h v → ⊥) → IsAtWork s h
   holder-at_work h r e none =
       let b = entry-of s.batches h (holding r) e in
-      (b.0, b.1, b.2, go b.0 b.1 b.2 b.3 b.0.state refl)
+      let none = settled-none d trees s sd settled b.0 b.1 in
+      (b.0, b.1, b.2, go b.0 b.1 b.2 (subst (λ xs. Has (early_facts xs ++ facts b.0.rest) (h.1, holding r)) none b.3) b.0.state refl)
     where
       go : (b : Batch) → Has s.batches b → b.number ≡ h.0 → Has (facts b.rest) (h.1, holding r) → (x : State) → b.state ≡ x → IsHalting x ⊎ LiveUnder b h.1
       go b i num f Running q = inr (let a = act-of b.rest h.1 (holding r) f in runs-on b i q h num a.0 a.1 a.2 none)
@@ -347,7 +360,7 @@ module _ (d : Setup) (rank : Ranking) (outs : List Out) (s : Plant) (sd : IsStan
 ask-can_be_met : (setup : Setup) (rank : Ranking) (outs : List Out) (s : Plant) → IsCleared setup rank → IsStanding setup s → IsKept setup rank outs s
     → (r : Name) (a : Share) → Has (s.line r) a → CanBeMet setup rank (need r a.units)
 ask-can_be_met setup rank outs s cleared stands k r a h =
-    let e = entry-of s.batches a.act (awaiting (need r a.units)) (k.asked r a h) in
+    let e = awaiting-of s.batches a.act (need r a.units) (k.asked r a h) in
     let b : IsStandingBatch setup e.0 = Each-Has (IsStandingBatch setup) s.batches e.0 stands.batches e.1 in
     awaited-known setup rank is_procedure (0 ∷ []) [] e.0.recipe.procedure e.0.rest
     (control-clear setup rank cleared e.0.recipe b.known) b.stands a.act.1 (need r a.units) e.3
@@ -372,5 +385,5 @@ nobody_waits_in_vain setup rank kept cleared es outs t l settled =
       held = λ r oldest later f. held-by_others setup rank outs t stands k settled r oldest later f
           (ask-can_be_met setup rank outs t cleared stands k r oldest (subst (λ z. Has z oldest) (sym f) (inl refl))).1;
       short = λ ls h. short-chain setup rank outs t stands k ls setup.resources h (λ m i. waiting-known setup rank outs t cleared stands k m.waiting (each-waits t ls h m i));
-      ends = ends-at_work setup rank outs t stands k settled;
+      ends = ends-at_work setup rank (λ r c. (control-procedure setup kept r c).placed) outs t stands k settled;
     }

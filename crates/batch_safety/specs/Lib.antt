@@ -1,3 +1,4 @@
 pub mod Headline
 pub mod Settlement
 pub mod Sets
+pub mod Units

@@ -6,6 +6,7 @@
 ghost use Rattle.batch_safety.specs.Headline.{CanOnlyBeSafe};
 ghost use Rattle.batch_safety.specs.Sets.{ClearedSetsRunSafely, RunsSafely};
 ghost use Rattle.batch_safety.specs.Settlement.{NobodyWaitsInVain};
+ghost use Rattle.batch_safety.specs.Units.{UnitsAreKept};
 
 pub use batch_laws::{
     candidates_suffice, records_tell_the_plant, sets_are_documents, trees_have_units, ways_rise,
@@ -23,6 +24,12 @@ pub fn records_are_safe()
 /// at work.
 pub fn nobody_waits_in_vain()
     ensures { NobodyWaitsInVain }
+{}
+
+/// A unit that was passed on to a unit procedure is held there until this begins, and one that a step reserves is held by the batch from
+/// that step's begin on until the unit procedure begins for which it is reserved, unless the batch is stopped or aborted.
+pub fn units_are_kept()
+    ensures { UnitsAreKept }
 {}
 
 /// Recipes that clearance accepts for a cell run safely in it.

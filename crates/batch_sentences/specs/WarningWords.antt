@@ -12,6 +12,8 @@ use Rattle.batch_recipe.specs.declared.recipe.Recipe.{Recipe}
 use Rattle.batch_recipe.specs.declared.role.Role.{Role}
 use Rattle.batch_sentences.specs.Shown.{shown}
 use Rattle.batch_warnings.specs.Warnings.{quantities_in}
+use Rattle.batch_warnings.specs.declared.warning.QuantityTable.{QuantityTable}
+use Rattle.batch_warnings.specs.declared.warning.QuantityTable.TheVariants.{Inputs, Parameters}
 use Rattle.batch_warnings.specs.declared.warning.RecipeWarning.{RecipeWarning}
 use Rattle.batch_warnings.specs.declared.warning.RecipeWarning.TheVariants.{UnnamedAct, ValueOutOfRange, UnreportedOutput, UnusedRole, ScaledParameter}
 
@@ -30,9 +32,13 @@ kind_said Phases = codes "phase"
 abbrev pub unnamed_said : LabelTable → Act → List ℕ
 unnamed_said table a = codes "no chart names the " ++ (kind_said table ++ (codes " " ++ (a.name ++ codes ", so it never runs")))
 
-abbrev pub range_said : ℕ → Quantity → List ℕ
-range_said basis q =
-    codes "the value of " ++ (q.name ++ (codes ", " ++ (decimal q.value ++ (codes ", lies outside its range, " ++ (decimal q.min ++ (codes " to " ++ (decimal q.max
+abbrev pub value_said : QuantityTable → List ℕ
+value_said Inputs = codes "the value of the input "
+value_said Parameters = codes "the value of the parameter "
+
+abbrev pub range_said : QuantityTable → ℕ → Quantity → List ℕ
+range_said table basis q =
+    value_said table ++ (q.name ++ (codes ", " ++ (decimal q.value ++ (codes ", lies outside its range, " ++ (decimal q.min ++ (codes " to " ++ (decimal q.max
     ++ (codes ", so no batch of the basis, " ++ (decimal basis ++ codes ", can be created")))))))))
 
 abbrev pub output_said : Name → List ℕ
@@ -49,7 +55,7 @@ scaled_said q =
 
 abbrev pub warning_said : Recipe → RecipeWarning → List ℕ
 warning_said r (UnnamedAct table act) = said_at (unnamed_said table) (table_at r.acts table) act
-warning_said r (ValueOutOfRange table quantity) = said_at (range_said r.basis) (quantities_in r table) quantity
+warning_said r (ValueOutOfRange table quantity) = said_at (range_said table r.basis) (quantities_in r table) quantity
 warning_said r (UnreportedOutput output) = said_at output_said r.outputs.items output
 warning_said r (UnusedRole role) = said_at role_said r.roles.items role
 warning_said r (ScaledParameter parameter) = said_at scaled_said r.parameters.items parameter

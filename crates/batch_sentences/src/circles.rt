@@ -1,6 +1,6 @@
 //! What is said beside a circle: which acts hold and ask, where they stand, and what clears the set.
 use crate::names::{act_name, recipe_name, resource_name};
-use crate::roles::class_of;
+use crate::roles::{class_of, unit_of};
 use crate::sources::Source;
 use crate::ways::{Way, way_to};
 use batch_cell::Cell;
@@ -76,10 +76,24 @@ fn asks_for(cell: &Cell, recipe: &Recipe, act: &Act, resource: &str) -> bool {
             return true;
         }
     }
+    for name in &act.reserves {
+        if let Some(choice) = unit_of(recipe, name) {
+            if may_be(cell, recipe, choice, resource) {
+                return true;
+            }
+        }
+    }
     match &act.unit {
-        Some(UnitChoice::Unit(unit)) => unit.text() == resource,
-        Some(UnitChoice::Role(role)) => may_take(cell, recipe, role, resource),
+        Some(choice) => may_be(cell, recipe, choice, resource),
         None => false,
+    }
+}
+
+/// Whether the unit of this name is the one chosen, or may take the role.
+fn may_be(cell: &Cell, recipe: &Recipe, choice: &UnitChoice, resource: &str) -> bool {
+    match choice {
+        UnitChoice::Unit(unit) => unit.text() == resource,
+        UnitChoice::Role(role) => may_take(cell, recipe, role, resource),
     }
 }
 

@@ -69,12 +69,17 @@ pub(crate) fn undeclared_role<'a>(document: &Table, table: &'a Table) -> Option<
     }
 }
 
-/// The first of the table's reports that isn't an output of the document.
-pub(crate) fn undeclared_report<'a>(document: &Table, table: &'a Table) -> Option<&'a str> {
-    let reports = table.get("reports")?.as_array()?;
-    for value in reports {
+/// The first name of the table's list at this key that no table of this word of the document has.
+pub(crate) fn undeclared_listed<'a>(
+    document: &Table,
+    table: &'a Table,
+    key: &str,
+    word: &str,
+) -> Option<&'a str> {
+    let listed = table.get(key)?.as_array()?;
+    for value in listed {
         if let Some(name) = value.as_str() {
-            if times_among(document, "output", name) == 0 {
+            if times_among(document, word, name) == 0 {
                 return Some(name);
             }
         }

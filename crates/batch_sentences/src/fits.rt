@@ -118,6 +118,12 @@ pub(crate) fn given_said(alloc: Global, shape: Shape, value: &Value) -> Result<S
         (Shape::Number(_, _), Value::String(_)) => {
             String::from_str(alloc, "; a number stands without quotes")
         }
+        (Shape::Truth, Value::String(_)) => {
+            String::from_str(alloc, "; true and false stand without quotes")
+        }
+        (Shape::Name | Shape::Text(_), Value::Integer(_) | Value::Float(_) | Value::Boolean(_)) => {
+            String::from_str(alloc, "; a text stands in quotes")
+        }
         _ => Ok(String::new(alloc)),
     }
 }

@@ -41,9 +41,10 @@ pub(crate) fn hint_said(
     if rest.starts_with('(') && !word.is_empty() {
         return bracket_said(alloc, word, kind);
     }
-    let hint = match sign_hint(rest) {
+    let inside = inside_of(alloc, front)?;
+    let hint = match sign_hint(inside, word, rest) {
         Some(hint) => hint,
-        None => form_hint(inside_of(alloc, front)?, rest),
+        None => form_hint(inside, rest),
     };
     String::from_str(alloc, hint)
 }
@@ -73,25 +74,57 @@ fn bracket_said(alloc: Global, word: &str, kind: TableKind) -> Result<String, Al
     )
 }
 
-/// What is meant by a sign that no chart has, or not here.
-fn sign_hint(rest: &str) -> Option<&'static str> {
+/// What is meant by a sign that no chart has, or not behind this word.
+fn sign_hint(inside: Inside<'_>, word: &str, rest: &str) -> Option<&'static str> {
     if rest.starts_with('#') || rest.starts_with("//") || rest.starts_with("/*") {
         return Some("; a chart has no comments");
     }
-    if rest.starts_with("->") || rest.starts_with("=>") {
-        return Some(ONE_AFTER_ANOTHER);
+    if rest.starts_with("->") || rest.starts_with("=>") || rest.starts_with('\u{2192}') {
+        return Some(if inside.form == "sel" && !inside.has_colon {
+            SEL
+        } else {
+            ONE_AFTER_ANOTHER
+        });
     }
     if rest.starts_with(is_comparing) {
         return Some("; values compare by <, <=, =, /=, >= and >");
     }
     if rest.starts_with('&') || rest.starts_with('|') {
-        return Some(CONDITION);
+        return Some(if may_compare(inside) {
+            CONDITION
+        } else {
+            "; what runs side by side stands in par(..), a choice in sel(..)"
+        });
     }
+    sign_of_names_hint(word, rest)
+}
+
+/// Whether a condition may stand at the end of what the bracket has.
+fn may_compare(inside: Inside<'_>) -> bool {
+    match inside.form {
+        "sel" => !inside.has_colon,
+        "loop" => inside.commas == 1,
+        _ => false,
+    }
+}
+
+/// What is meant by a sign that no name, number or list of charts has.
+fn sign_of_names_hint(word: &str, rest: &str) -> Option<&'static str> {
     if rest.starts_with('-') {
         return Some("; numbers aren't negative");
     }
     if rest.starts_with('.') {
-        return Some("; numbers are whole");
+        return Some(if is_in_number(word, rest) {
+            "; numbers are whole"
+        } else {
+            "; a label is the name of one act, and has no dot"
+        });
+    }
+    if rest.trim_end() == ";" {
+        return Some("; no sign ends a chart");
+    }
+    if rest.starts_with(is_foreign) {
+        return Some("; names have the letters a to z and A to Z, digits, `_` and `-`");
     }
     if rest.starts_with('[') || rest.starts_with('{') {
         return Some("; the brackets of charts are round");
@@ -102,9 +135,32 @@ fn sign_hint(rest: &str) -> Option<&'static str> {
     None
 }
 
+/// Whether a number stands before the dot with which the rest begins, or behind it alone.
+fn is_in_number(word: &str, rest: &str) -> bool {
+    if word.is_empty() {
+        let behind = rest.get(1..).unwrap_or("");
+        behind.starts_with(is_of_numbers)
+    } else {
+        word.starts_with(is_of_numbers)
+    }
+}
+
 /// Whether operators of some language have this letter.
 fn is_comparing(letter: char) -> bool {
-    letter == '=' || letter == '<' || letter == '>' || letter == '!'
+    matches!(
+        letter,
+        '=' | '<' | '>' | '!' | '\u{2264}' | '\u{2265}' | '\u{2260}'
+    )
+}
+
+/// Whether numbers begin with this letter.
+fn is_of_numbers(letter: char) -> bool {
+    letter.is_ascii_digit()
+}
+
+/// Whether no name has this letter, since it isn't of ASCII.
+fn is_foreign(letter: char) -> bool {
+    !letter.is_ascii()
 }
 
 /// What the bracket is to have.
@@ -137,11 +193,18 @@ fn sel_hint(inside: Inside<'_>, rest: &str) -> &'static str {
             list_hint(inside, rest)
         };
     }
-    if inside.piece == "else" || rest.starts_with(',') || rest.starts_with(')') {
+    if is_otherwise(inside.piece) || rest.starts_with(',') || rest.starts_with(')') {
         SEL
     } else {
         CONDITION
     }
+}
+
+/// Whether the last branch of a choice begins with this word, in charts or elsewhere.
+fn is_otherwise(word: &str) -> bool {
+    word.eq_ignore_ascii_case("else")
+        || word.eq_ignore_ascii_case("otherwise")
+        || word.eq_ignore_ascii_case("default")
 }
 
 /// What the whole chart is to have.
@@ -163,6 +226,10 @@ fn list_hint(inside: Inside<'_>, rest: &str) -> &'static str {
         "; a chart is missing here"
     } else if inside.form == "par" && inside.commas == 0 && rest.starts_with(')') {
         "; a `par` has two charts or more"
+    } else if inside.piece == "else" {
+        "; `else` is a word of charts, which stands before the last branch of a `sel`"
+    } else if FORMS.contains(&inside.piece) {
+        "; a bracket stands behind seq, par, sel and loop"
     } else {
         "; a comma stands between charts"
     }

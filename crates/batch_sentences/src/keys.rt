@@ -31,6 +31,8 @@ const CHART: Key = Key("chart", true, Shape::Text(MAX_CHART_LEN));
 
 const NEEDS: Key = Key("needs", false, Shape::Needs(16));
 
+const RESERVES: Key = Key("reserves", false, Shape::Names(0, 4));
+
 const GREATEST_VALUE: i64 = 1_000_000_000_000;
 
 const CELL: [Key; 4] = [
@@ -81,22 +83,24 @@ const ROLE: [Key; 2] = [NAME, Key("class", true, Shape::Name)];
 
 const PROCEDURE: [Key; 2] = [CHART, NEEDS];
 
-const UNIT_PROCEDURE: [Key; 5] = [
+const UNIT_PROCEDURE: [Key; 6] = [
     NAME,
     Key("unit", false, Shape::Name),
     Key("role", false, Shape::Name),
     CHART,
     NEEDS,
+    RESERVES,
 ];
 
-const OPERATION: [Key; 3] = [NAME, CHART, NEEDS];
+const OPERATION: [Key; 4] = [NAME, CHART, NEEDS, RESERVES];
 
-const PHASE: [Key; 5] = [
+const PHASE: [Key; 6] = [
     NAME,
     Key("runs", false, Shape::Name),
     NEEDS,
     Key("values", false, Shape::Names(0, 4)),
     Key("reports", false, Shape::Names(0, 16)),
+    RESERVES,
 ];
 
 /// The keys of a table of this kind.

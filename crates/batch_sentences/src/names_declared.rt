@@ -1,7 +1,7 @@
 //! What is wrong with the names that a table declares or uses.
 use crate::declared::{
     Reference, first_named, listed_twice, names_among, offered_before, times_among,
-    undeclared_name, undeclared_report, undeclared_role, value_names, word_below, word_declaring,
+    undeclared_listed, undeclared_name, undeclared_role, value_names, word_below, word_declaring,
 };
 use crate::documents::table_said;
 use crate::entries::{Wrong, name_of, tables_of};
@@ -30,11 +30,17 @@ pub(crate) fn undeclared(
     if let Some(reference) = undeclared_name(document, table, kind) {
         return Wrong::with(key, reference_said(alloc, document, kind, reference));
     }
-    if let Some(name) = undeclared_report(document, table) {
+    if let Some(name) = undeclared_listed(document, table, "reports", "output") {
         return Wrong::with("reports", undeclared_said(alloc, document, "output", name));
     }
-    match undeclared_role(document, table) {
-        Some(role) => Wrong::with("role", undeclared_said(alloc, document, "role", role)),
+    if let Some(role) = undeclared_role(document, table) {
+        return Wrong::with("role", role_said(alloc, document, role));
+    }
+    match undeclared_listed(document, table, "reserves", "unit_procedure") {
+        Some(name) => Wrong::with(
+            "reserves",
+            undeclared_said(alloc, document, "unit_procedure", name),
+        ),
         None => Wrong::told(alloc, key, "a label or a name is declared nowhere"),
     }
 }
@@ -52,6 +58,15 @@ fn undeclared_said(
     let names = names_among(alloc, document, word)?;
     let meant = meant_or_known(alloc, name, &names)?;
     format!(in alloc; "no [[{word}]] is named `{name}`{meant}")
+}
+
+/// That no role has the name, and where a unit is named, unless a role may have been meant.
+fn role_said(alloc: Global, document: &Table, role: &str) -> Result<String, AllocError> {
+    let said = undeclared_said(alloc, document, "role", role)?;
+    if said.as_str().ends_with('?') {
+        return Ok(said);
+    }
+    format!(in alloc; "{said}; a unit of the cell is named by the key `unit`")
 }
 
 /// That the name of a chart, or of a list of values, is declared nowhere, or as something else.
@@ -92,7 +107,10 @@ pub(crate) fn duplicate(
     spot: Spot,
 ) -> Result<Wrong<'static>, AllocError> {
     if let Some(name) = listed_twice(table, "reports") {
-        return Wrong::with("reports", format!(in alloc; "`{name}` stands twice"));
+        return Wrong::with(
+            "reports",
+            format!(in alloc; "`{name}` stands twice in `reports`"),
+        );
     }
     if let Some(name) = name_of(table) {
         if let Some(first) = first_named(document, namesakes_of(&spot.kind), name) {
@@ -100,6 +118,12 @@ pub(crate) fn duplicate(
                 return Wrong::with("name", namesake_said(alloc, text, document, name, first));
             }
         }
+    }
+    if let Some(name) = listed_twice(table, "reserves") {
+        return Wrong::with(
+            "reserves",
+            format!(in alloc; "`{name}` stands twice in `reserves`"),
+        );
     }
     Wrong::with("phases", offered_said(alloc, document, table))
 }

@@ -2,10 +2,10 @@
 use crate::names::resource_name;
 use crate::near::{meant_or_known, meant_said, resource_names};
 use crate::ranks::rank_said;
-use crate::roles::{class_of, unit_among, unit_without};
+use crate::roles::{class_of, unit_among, unit_of, unit_without};
 use crate::ways::way_to;
 use batch_cell::Cell;
-use batch_recipe::{Act, Recipe, UnitChoice, Work, act_at, node_count};
+use batch_recipe::{Act, Recipe, UnitChoice, Work, act_at, follows, node_count};
 use batch_text::Name;
 use batch_verify::{Broken, Certificate, Rule};
 use std::alloc::{AllocError, Global};
@@ -57,38 +57,93 @@ fn rule_said(
         Rule::ShareAboveCapacity => share_said(alloc, cell, act),
         Rule::PhaseNotOffered => phase_said(alloc, cell, recipe, acts, act),
         Rule::SamePhaseInParallel => parallel_said(alloc, recipe, broken.node),
-        Rule::LoopWithoutPhase => String::from_str(alloc, "a turn of this `loop` may run no phase"),
+        Rule::LoopWithoutPhase => String::from_str(
+            alloc,
+            "a turn of this `loop` may run no phase; each way through its chart has to run one, as by a phase in place of `skip`",
+        ),
+        Rule::ReserveDoesNotFollow => reserve_said(alloc, recipe, broken.node, act),
         Rule::RankNotRising => rank_said(alloc, cell, recipe, certificate, acts),
     }
 }
 
+/// What the act asks for first that is no resource: its unit, a unit that it reserves, or a need.
 fn unknown_said(
     alloc: Global,
     cell: &Cell,
     recipe: &Recipe,
     act: &Act,
 ) -> Result<String, AllocError> {
-    match &act.unit {
-        Some(UnitChoice::Unit(unit)) => {
-            if cell.unit_of(unit).is_none() {
-                let meant = meant_unit(alloc, cell, recipe, unit)?;
-                return format!(in alloc; "{unit} is no unit of the cell {}{meant}", cell.name);
+    if let Some(choice) = &act.unit {
+        if let Some(said) = lacking_said(alloc, cell, recipe, choice, None)? {
+            return Ok(said);
+        }
+    }
+    for name in &act.reserves {
+        if let Some(choice) = unit_of(recipe, name) {
+            if let Some(said) = lacking_said(alloc, cell, recipe, choice, Some(name))? {
+                return Ok(said);
             }
         }
-        Some(UnitChoice::Role(role)) => {
-            if let Some(class) = class_of(recipe, role) {
-                if cell.candidates(class) == 0 {
-                    let meant = meant_class(alloc, cell, class)?;
-                    return format!(in alloc;
-                        "its role {role} needs a unit of class {class}, and the cell {} has none{meant}",
-                        cell.name
-                    );
-                }
-            }
-        }
-        None => {}
     }
     need_said(alloc, cell, recipe, act)
+}
+
+/// That the cell lacks the unit, or each unit that may take the role, which is the act's own, or that of what it reserves.
+fn lacking_said(
+    alloc: Global,
+    cell: &Cell,
+    recipe: &Recipe,
+    choice: &UnitChoice,
+    reserved: Option<&Name>,
+) -> Result<Option<String>, AllocError> {
+    let said = match choice {
+        UnitChoice::Unit(unit) if cell.unit_of(unit).is_none() => {
+            unit_lacking_said(alloc, cell, recipe, unit, reserved)?
+        }
+        UnitChoice::Unit(_) => return Ok(None),
+        UnitChoice::Role(role) => match class_of(recipe, role) {
+            Some(class) if cell.candidates(class) == 0 => {
+                class_lacking_said(alloc, cell, role, class, reserved)?
+            }
+            _ => return Ok(None),
+        },
+    };
+    Ok(Some(said))
+}
+
+/// That the unit is none of the cell.
+fn unit_lacking_said(
+    alloc: Global,
+    cell: &Cell,
+    recipe: &Recipe,
+    unit: &Name,
+    reserved: Option<&Name>,
+) -> Result<String, AllocError> {
+    let meant = meant_unit(alloc, cell, recipe, unit)?;
+    let owner = match reserved {
+        Some(name) => format!(in alloc; "it reserves {name}, whose unit ")?,
+        None => String::new(alloc),
+    };
+    format!(in alloc; "{owner}{unit} is no unit of the cell {}{meant}", cell.name)
+}
+
+/// That no unit of the cell is of the role's class.
+fn class_lacking_said(
+    alloc: Global,
+    cell: &Cell,
+    role: &Name,
+    class: &Name,
+    reserved: Option<&Name>,
+) -> Result<String, AllocError> {
+    let meant = meant_class(alloc, cell, class)?;
+    let owner = match reserved {
+        Some(name) => format!(in alloc; "it reserves {name}, whose")?,
+        None => String::from_str(alloc, "its")?,
+    };
+    format!(in alloc;
+        "{owner} role {role} needs a unit of class {class}, and the cell {} has none{meant}",
+        cell.name
+    )
 }
 
 /// The unit that may have been meant.
@@ -190,6 +245,21 @@ fn share_said(alloc: Global, cell: &Cell, act: &Act) -> Result<String, AllocErro
     String::from_str(alloc, "it asks for more units than a resource has")
 }
 
+/// The first unit procedure that the act reserves and that doesn't follow it.
+fn reserve_said(
+    alloc: Global,
+    recipe: &Recipe,
+    node: u16,
+    act: &Act,
+) -> Result<String, AllocError> {
+    for i in 0..act.reserves.len() {
+        if follows(recipe, node, i).is_none() {
+            return format!(in alloc; "it reserves {}, which doesn't follow it", act.reserves[i]);
+        }
+    }
+    String::from_str(alloc, "it reserves a unit procedure that doesn't follow it")
+}
+
 fn phase_said(
     alloc: Global,
     cell: &Cell,
@@ -260,7 +330,7 @@ fn offered_said(alloc: Global, cell: &Cell, unit: u16, phase: &Name) -> Result<S
 fn parallel_said(alloc: Global, recipe: &Recipe, node: u16) -> Result<String, AllocError> {
     match shared_phase(alloc, recipe, node)? {
         Some((phase, first, second)) => format!(in alloc;
-            "two branches of this `par` run the same phase, {phase}: number {first} and number {second}"
+            "two branches of this `par` run the same phase, {phase}: number {first} and number {second}; what runs one after the other stands in seq(..)"
         ),
         None => String::from_str(alloc, "two branches of this `par` run the same phase"),
     }

@@ -1,5 +1,5 @@
 //! Ranks that don't rise along the path to a step.
-use crate::roles::{class_of, role_among};
+use crate::roles::{class_of, role_among, unit_of};
 use batch_cell::Cell;
 use batch_recipe::{Act, Recipe, UnitChoice};
 use batch_text::Name;
@@ -11,6 +11,23 @@ use std::alloc::{AllocError, Global};
 struct Asked<'a> {
     name: &'a Name,
     rank: u32,
+    kept: Option<Kept<'a>>,
+}
+
+/// The unit procedure that a unit is reserved for, and the role that the unit takes for it, if it has one.
+#[derive(Clone, Copy)]
+struct Kept<'a> {
+    procedure: &'a Name,
+    role: Option<&'a Name>,
+}
+
+/// Where units and ranks are looked up, and a role with the unit that is to take it.
+#[derive(Clone, Copy)]
+struct Scene<'a> {
+    cell: &'a Cell,
+    recipe: &'a Recipe,
+    certificate: Option<&'a Certificate>,
+    taken: Option<(&'a Name, &'a Name)>,
 }
 
 /// The ranks of what acts ask for, one behind the other.
@@ -22,76 +39,185 @@ enum Ranks<'a> {
     Fall(Asked<'a>, Asked<'a>),
 }
 
+impl<'a> Asked<'a> {
+    /// Whether it is a unit that takes this role of what it is reserved for.
+    fn takes(self, role: &Name) -> bool {
+        match self.kept {
+            Some(
+                Kept {
+                    role: Some(own),
+                    ..
+                },
+            ) => *own == *role,
+            _ => false,
+        }
+    }
+}
+
+impl<'a> Scene<'a> {
+    fn asked(self, name: &'a Name, kept: Option<Kept<'a>>) -> Asked<'a> {
+        Asked {
+            name,
+            rank: rank_of(self.certificate, name),
+            kept,
+        }
+    }
+
+    /// The unit that is to take the role.
+    fn taking(self, role: &Name) -> Option<&'a Name> {
+        match self.taken {
+            Some((own, unit)) if *own == *role => Some(unit),
+            _ => None,
+        }
+    }
+
+    /// The unit of the act, where that is known.
+    fn unit_on(self, act: &'a Act) -> Option<&'a Name> {
+        match &act.unit {
+            None => None,
+            Some(UnitChoice::Unit(unit)) => Some(unit),
+            Some(UnitChoice::Role(role)) => self.taking(role),
+        }
+    }
+
+    /// The units of the least and of the greatest rank that may take the role, the first of each.
+    fn extremes(self, role: &Name) -> Option<(&'a Name, &'a Name)> {
+        if let Some(unit) = self.taking(role) {
+            return Some((unit, unit));
+        }
+        let class = class_of(self.recipe, role)?;
+        let mut found: Option<(&'a Name, &'a Name)> = None;
+        for unit in &self.cell.units {
+            if unit.is_of_class(class) {
+                found = Some(match found {
+                    None => (&unit.name, &unit.name),
+                    Some((least, greatest)) => (
+                        self.lesser(&unit.name, least),
+                        self.greater(&unit.name, greatest),
+                    ),
+                });
+            }
+        }
+        found
+    }
+
+    /// The first of the two where its rank is below that of the second.
+    fn lesser(self, name: &'a Name, other: &'a Name) -> &'a Name {
+        if rank_of(self.certificate, name) < rank_of(self.certificate, other) {
+            name
+        } else {
+            other
+        }
+    }
+
+    /// The first of the two where its rank is above that of the second.
+    fn greater(self, name: &'a Name, other: &'a Name) -> &'a Name {
+        if rank_of(self.certificate, other) < rank_of(self.certificate, name) {
+            name
+        } else {
+            other
+        }
+    }
+}
+
 impl<'a> Ranks<'a> {
-    /// The ranks along the acts, where this unit takes the role of the unit procedure among them.
-    fn along(
-        certificate: Option<&Certificate>,
-        acts: &[&'a Act],
-        taking: Option<&'a Name>,
-    ) -> Ranks<'a> {
+    /// The ranks along the acts.
+    fn along(scene: Scene<'a>, acts: &[&'a Act]) -> Ranks<'a> {
         let mut ranks = Ranks::Rise(None);
         for act in acts {
-            ranks = ranks.then_those_of(certificate, act, taking);
+            ranks = ranks.then_those_of(scene, act);
         }
         ranks
     }
 
-    /// The ranks with that of one more name.
-    fn then(self, certificate: Option<&Certificate>, name: &'a Name) -> Ranks<'a> {
-        let later = Asked {
-            name,
-            rank: rank_of(certificate, name),
-        };
+    /// The ranks with that of one more resource, which is one of two: of the lesser rank to those before it, of the greater to those
+    /// behind it.
+    fn then(self, least: Asked<'a>, greatest: Asked<'a>) -> Ranks<'a> {
         match self {
-            Ranks::Rise(Some(earlier)) if later.rank <= earlier.rank => Ranks::Fall(earlier, later),
-            Ranks::Rise(_) => Ranks::Rise(Some(later)),
+            Ranks::Rise(Some(earlier)) if least.rank <= earlier.rank => Ranks::Fall(earlier, least),
+            Ranks::Rise(_) => Ranks::Rise(Some(greatest)),
             Ranks::Fall(earlier, fallen) => Ranks::Fall(earlier, fallen),
         }
     }
 
     /// The ranks with those of what the act asks for, in order.
-    fn then_those_of(
-        self,
-        certificate: Option<&Certificate>,
-        act: &'a Act,
-        taking: Option<&'a Name>,
-    ) -> Ranks<'a> {
-        let mut ranks = match unit_on(act, taking) {
-            Some(unit) => self.then(certificate, unit),
+    fn then_those_of(self, scene: Scene<'a>, act: &'a Act) -> Ranks<'a> {
+        let mut ranks = match scene.unit_on(act) {
+            Some(unit) => {
+                let own = scene.asked(unit, None);
+                self.then(own, own)
+            }
             None => self,
         };
+        for procedure in &act.reserves {
+            ranks = ranks.then_reserved(scene, procedure);
+        }
         for need in &act.needs {
-            ranks = ranks.then(certificate, &need.resource);
+            let own = scene.asked(&need.resource, None);
+            ranks = ranks.then(own, own);
         }
         ranks
     }
-}
 
-/// The unit of the act, where this unit takes its role.
-fn unit_on<'a>(act: &'a Act, taking: Option<&'a Name>) -> Option<&'a Name> {
-    match &act.unit {
-        None => None,
-        Some(UnitChoice::Unit(unit)) => Some(unit),
-        Some(UnitChoice::Role(_)) => taking,
+    /// The ranks with that of the unit of a unit procedure that is reserved.
+    fn then_reserved(self, scene: Scene<'a>, procedure: &'a Name) -> Ranks<'a> {
+        match unit_of(scene.recipe, procedure) {
+            None => self,
+            Some(UnitChoice::Unit(unit)) => {
+                let kept = Kept {
+                    procedure,
+                    role: None,
+                };
+                let own = scene.asked(unit, Some(kept));
+                self.then(own, own)
+            }
+            Some(UnitChoice::Role(role)) => {
+                let kept = Kept {
+                    procedure,
+                    role: Some(role),
+                };
+                match self.extremes_behind(scene, role) {
+                    Some((least, greatest)) => {
+                        let least = scene.asked(least, Some(kept));
+                        self.then(least, scene.asked(greatest, Some(kept)))
+                    }
+                    None => self,
+                }
+            }
+        }
+    }
+
+    /// The units of the least and of the greatest rank that may take the role, which has one unit where it stands twice.
+    fn extremes_behind(&self, scene: Scene<'a>, role: &Name) -> Option<(&'a Name, &'a Name)> {
+        match self {
+            Ranks::Rise(Some(earlier)) if earlier.takes(role) => Some((earlier.name, earlier.name)),
+            _ => scene.extremes(role),
+        }
     }
 }
 
-/// Names the first need of the acts whose rank isn't above that of what was asked for before it, and which unit takes the role of
-/// their unit procedure, where it has one.
+/// Names the first need of the acts whose rank isn't above that of what was asked for before it, and which units take the roles of
+/// their unit procedure, and of what they reserve, where these have any.
 pub(crate) fn rank_said<'a>(
     alloc: Global,
     cell: &'a Cell,
-    recipe: &Recipe,
-    certificate: Option<&Certificate>,
+    recipe: &'a Recipe,
+    certificate: Option<&'a Certificate>,
     acts: &[&'a Act],
 ) -> Result<String, AllocError> {
+    let scene = Scene {
+        cell,
+        recipe,
+        certificate,
+        taken: None,
+    };
     if let Some(role) = role_among(acts) {
-        if let Some((unit, earlier, later)) = first_fall(cell, recipe, certificate, acts, role) {
+        if let Some((unit, earlier, later)) = first_fall(scene, acts, role) {
             let fall = fall_said(alloc, earlier, later)?;
             return format!(in alloc; "where {unit} takes the role {role}, {fall}");
         }
     }
-    match Ranks::along(certificate, acts, None) {
+    match Ranks::along(scene, acts) {
         Ranks::Fall(earlier, later) => fall_said(alloc, earlier, later),
         Ranks::Rise(_) => String::from_str(alloc, "it asks for resources whose ranks don't rise"),
     }
@@ -99,17 +225,15 @@ pub(crate) fn rank_said<'a>(
 
 /// The first of the units that may take the role with which the ranks of the acts don't rise, and where they fall.
 fn first_fall<'a>(
-    cell: &'a Cell,
-    recipe: &Recipe,
-    certificate: Option<&Certificate>,
+    scene: Scene<'a>,
     acts: &[&'a Act],
-    role: &Name,
+    role: &'a Name,
 ) -> Option<(&'a Name, Asked<'a>, Asked<'a>)> {
-    let class = class_of(recipe, role)?;
-    for unit in &cell.units {
+    let class = class_of(scene.recipe, role)?;
+    for unit in &scene.cell.units {
         if unit.is_of_class(class) {
-            let ranks = Ranks::along(certificate, acts, Some(&unit.name));
-            if let Ranks::Fall(earlier, later) = ranks {
+            let taken = Some((role, &unit.name));
+            if let Ranks::Fall(earlier, later) = Ranks::along(Scene { taken, ..scene }, acts) {
                 return Some((&unit.name, earlier, later));
             }
         }
@@ -118,10 +242,32 @@ fn first_fall<'a>(
 }
 
 fn fall_said(alloc: Global, earlier: Asked<'_>, later: Asked<'_>) -> Result<String, AllocError> {
-    format!(in alloc;
-        "it asks for {} of rank {} after {} of rank {}, and ranks have to rise",
-        later.name, later.rank, earlier.name, earlier.rank
-    )
+    let pause = if later.kept.is_some() { "," } else { "" };
+    let later = asked_said(alloc, later)?;
+    let earlier = asked_said(alloc, earlier)?;
+    format!(in alloc; "it asks for {later}{pause} after {earlier}, and ranks have to rise")
+}
+
+/// The name and the rank, and for which unit procedure a unit is reserved.
+fn asked_said(alloc: Global, asked: Asked<'_>) -> Result<String, AllocError> {
+    let Asked { name, rank, kept } = asked;
+    match kept {
+        None => format!(in alloc; "{name} of rank {rank}"),
+        Some(
+            Kept {
+                procedure,
+                role: None,
+            },
+        ) => format!(in alloc; "{name} of rank {rank}, reserved for {procedure}"),
+        Some(
+            Kept {
+                procedure,
+                role: Some(role),
+            },
+        ) => format!(in alloc;
+            "{name} of rank {rank}, reserved for {procedure} where it takes the role {role}"
+        ),
+    }
 }
 
 fn rank_of(certificate: Option<&Certificate>, name: &Name) -> u32 {

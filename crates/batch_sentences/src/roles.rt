@@ -1,6 +1,6 @@
 //! The roles of recipes, and the units that may take them.
 use batch_cell::Cell;
-use batch_recipe::{Act, Recipe, UnitChoice};
+use batch_recipe::{Act, Recipe, UnitChoice, act_named};
 use batch_text::Name;
 
 /// The class whose units may take the role.
@@ -42,4 +42,12 @@ pub(crate) fn unit_without(cell: &Cell, recipe: &Recipe, role: &Name, phase: &Na
         }
     }
     None
+}
+
+/// The unit of the unit procedure with this name, or its role.
+pub(crate) fn unit_of<'a>(recipe: &'a Recipe, name: &Name) -> Option<&'a UnitChoice> {
+    match &act_named(&recipe.acts.unit_procedures, name)?.unit {
+        Some(unit) => Some(unit),
+        None => None,
+    }
 }

@@ -2,7 +2,7 @@
 ghost use Rattle.std.specs.Prelude.{◌≡◌, IfOk, string_bytes};
 ghost use Rattle.batch_recipe.specs.Procedure.{table_at};
 ghost use Rattle.batch_warnings.specs.Warnings.{quantities_in};
-ghost use Rattle.batch_sentences.specs.WarningWords.{kind_said, module_said, output_said, range_said, recipe_warning, role_said, said_at, scaled_said, unit_warning, unnamed_said, warning_said, warning_words};
+ghost use Rattle.batch_sentences.specs.WarningWords.{kind_said, module_said, output_said, range_said, recipe_warning, role_said, said_at, scaled_said, unit_warning, unnamed_said, value_said, warning_said, warning_words};
 
 use crate::sentence::Sentence;
 use batch_cell::Cell;
@@ -53,10 +53,22 @@ fn warning_said(
     match warning {
         RecipeWarning::UnnamedAct(table, act) => unnamed_said(alloc, &recipe.acts, table, act),
         RecipeWarning::ValueOutOfRange(QuantityTable::Inputs, input) => {
-            range_said(alloc, recipe.basis, &recipe.inputs, input)
+            range_said(
+                alloc,
+                QuantityTable::Inputs,
+                recipe.basis,
+                &recipe.inputs,
+                input,
+            )
         }
         RecipeWarning::ValueOutOfRange(QuantityTable::Parameters, parameter) => {
-            range_said(alloc, recipe.basis, &recipe.parameters, parameter)
+            range_said(
+                alloc,
+                QuantityTable::Parameters,
+                recipe.basis,
+                &recipe.parameters,
+                parameter,
+            )
         }
         RecipeWarning::UnreportedOutput(output) => output_said(alloc, recipe, output),
         RecipeWarning::UnusedRole(role) => role_said(alloc, recipe, role),
@@ -106,21 +118,28 @@ fn kind_said(table: LabelTable) -> &'static str
 #[tactic(auto, using(crate::proofs::Said::said_found, crate::proofs::Said::said_past))]
 fn range_said(
     alloc: Global,
+    table: QuantityTable,
     basis: u64,
     quantities: &[Quantity],
     quantity: usize,
 ) -> Result<String, AllocError>
-    ensures { IfOk result (λ said. string_bytes said ≡ said_at (range_said basis) quantities.now quantity) }
+    ensures { IfOk result (λ said. string_bytes said ≡ said_at (range_said table basis) quantities.now quantity) }
 {
     match quantities.get(quantity) {
-        Some(quantity) => outside_said(alloc, basis, quantity),
+        Some(quantity) => outside_said(alloc, table, basis, quantity),
         None => Ok(String::new(alloc)),
     }
 }
 
-fn outside_said(alloc: Global, basis: u64, quantity: &Quantity) -> Result<String, AllocError>
-    ensures { IfOk result (λ said. string_bytes said ≡ range_said basis quantity.now) }
+fn outside_said(
+    alloc: Global,
+    table: QuantityTable,
+    basis: u64,
+    quantity: &Quantity,
+) -> Result<String, AllocError>
+    ensures { IfOk result (λ said. string_bytes said ≡ range_said table basis quantity.now) }
 {
+    let front = value_said(table);
     let Quantity {
         name,
         value,
@@ -129,8 +148,17 @@ fn outside_said(alloc: Global, basis: u64, quantity: &Quantity) -> Result<String
         ..
     } = quantity;
     format!(in alloc;
-        "the value of {name}, {value}, lies outside its range, {min} to {max}, so no batch of the basis, {basis}, can be created"
+        "{front}{name}, {value}, lies outside its range, {min} to {max}, so no batch of the basis, {basis}, can be created"
     )
+}
+
+fn value_said(table: QuantityTable) -> &'static str
+    ensures { result.now ≡ value_said table }
+{
+    match table {
+        QuantityTable::Inputs => "the value of the input ",
+        QuantityTable::Parameters => "the value of the parameter ",
+    }
 }
 
 #[tactic(auto, using(crate::proofs::Said::said_found, crate::proofs::Said::said_past))]

@@ -56,6 +56,7 @@ transcripts_are_safe set runs lines said new t =
       transcript = t;
       leads = leads;
       safe = runs.safe said.events said.outs new leads;
+      kept = λ front rest events plant e h. runs.kept events front plant h;
       settled = transcript_settles (setup set) opening new lines said refl t;
     }
 

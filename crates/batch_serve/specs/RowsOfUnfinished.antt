@@ -8,7 +8,7 @@ use Rattle.batch_engine.specs.Looked.{unfinished}
 use Rattle.batch_engine.specs.View.{no_recipe}
 
 abbrev pub batch_in : State → Batch
-batch_in now = record { number = 1; recipe = no_recipe; size = 1; values = []; state = now; rest = done }
+batch_in now = record { number = 1; recipe = no_recipe; size = 1; values = []; state = now; in_advance = []; rest = done }
 
 -- a plant with a batch in each of these states
 abbrev pub plant_in : List State → Plant

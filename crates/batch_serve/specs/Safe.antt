@@ -1,9 +1,12 @@
 -- trusted: transcripts from the opening of a cleared set: their outs are a safe record.
-use Rattle.std.specs.Prelude.{ℕ, List, Option}
+use Rattle.std.specs.Prelude.{ℕ, ◌≡◌, List, ◌++◌, Option}
 use Rattle.std.specs.Io.KnownBytes.{Appends, Consumes}
+use Rattle.batch_model.specs.Events.{Event}
+use Rattle.batch_model.specs.Lists.{Each}
 use Rattle.batch_model.specs.Plant.{Setup, Plant, opening}
 use Rattle.batch_model.specs.Records.{IsSafe}
-use Rattle.batch_model.specs.Runs.{Leads}
+use Rattle.batch_model.specs.Runs.{Out, Leads}
+use Rattle.batch_model.specs.Transfers.{KeepsUnits}
 use Rattle.batch_safety.specs.Settlement.{WaitsForSomething}
 use Rattle.batch_verify.specs.ClearedSet.{ClearedSet}
 use Rattle.batch_engine.specs.View.{setup}
@@ -17,6 +20,9 @@ pub record IsSafeTranscript (c : Setup) (lines : List (List ℕ)) (said : Exchan
   pub transcript : Transcript c opening lines said new
   pub leads : Leads c opening said.events said.outs new
   pub safe : IsSafe c said.outs
+  -- after each of its lines, each batch of the plant that it has led to keeps the units that are told to be kept for it
+  pub kept : (front rest : List Out) (events : List Event) (plant : Plant) → said.outs ≡ front ++ rest → Leads c opening events front plant
+      → Each (KeepsUnits front) plant.batches
   -- no move is left to be made
   pub settled : IsSettled c new
 

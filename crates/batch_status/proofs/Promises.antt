@@ -1,6 +1,6 @@
 -- The lines of outs tell what the outs tell.
 use Rattle.std.proofs.Common.{◌≡◌, inl, inr, ℕ, Bool, true, false, List, [], ◌∷◌, ◌++◌, fold, map, filter, not, Option, Some, None, option_map, refl, sym, ap, subst, ◌∙◌, nat_eq}
-use Rattle.batch_model.specs.Moves.{send, state, release, begin, start, end, ask, grant}
+use Rattle.batch_model.specs.Moves.{send, state, release, begin, start, end, pass, ask, grant}
 use Rattle.batch_model.specs.Events.{created, ordered, removed, reported, refused}
 use Rattle.batch_model.specs.Plant.{BatchAct, is_same_act}
 use Rattle.batch_model.specs.Records.{Active, active_after, ends_phase, holders_after, state_after, waiters_after}
@@ -31,6 +31,7 @@ seen tale (move (release n p need)) = refl
 seen tale (move (begin n p name)) = refl
 seen tale (move (start n p phase values)) = refl
 seen tale (move (end n p)) = refl
+seen tale (move (pass n p to need)) = refl
 seen tale (move (ask n p need)) = refl
 seen tale (move (grant n p need)) = refl
 
@@ -131,6 +132,7 @@ live-step lives actives (move (begin n p name)) e = e
 live-step lives actives (move (start n p phase values)) e =
     appended place_of_live lives _ ∙ ap (λ ps. ps ++ record { act = (n, p); unit = phase.unit; name = phase.name } ∷ []) e ∙ sym (appended place_of_active actives _)
 live-step lives actives (move (end n p)) e = e
+live-step lives actives (move (pass n p to need)) e = e
 live-step lives actives (move (ask n p need)) e = e
 live-step lives actives (move (grant n p need)) e = e
 
@@ -167,6 +169,7 @@ state-step m listed now (move (release n p need)) h = h
 state-step m listed now (move (begin n p name)) h = h
 state-step m listed now (move (start n p phase values)) h = h
 state-step m listed now (move (end n p)) h = h
+state-step m listed now (move (pass n p to need)) h = h
 state-step m listed now (move (ask n p need)) h = h
 state-step m listed now (move (grant n p need)) h = h
 

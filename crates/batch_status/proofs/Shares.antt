@@ -98,5 +98,14 @@ pub left-read : (old new : List Kept) (name : Name) (act : BatchAct) (need : Nee
 left-read old new name act need is e r =
     ap (shares_of r) (e ∙ ap (λ n. filter (is_other n act) old) is) ∙ left r act need old
 
+-- and joins at another place
+pub passed-read : (old new : List Kept) (k : Kept) (left_at from to : List ℕ) (need : Need) → need.resource ≡ k.resource → need.units ≡ k.units → left_at ≡ from → k.place ≡ to
+    → new ≡ filter (is_other k.resource (k.batch, left_at)) old ++ k ∷ []
+    → (r : Name) → shares_of r new ≡ with_share r (k.batch, to) need (without_share r (k.batch, from) need (shares_of r old))
+passed-read old new k left_at from to need e u f t is r =
+    let left : List Kept = filter (is_other k.resource (k.batch, left_at)) old in
+    ap (shares_of r) is ∙ joined r left k need e u ∙ ap (with_share r (k.batch, k.place) need) (left-read old left k.resource (k.batch, left_at) need (sym e) refl r)
+    ∙ (λ i. with_share r (k.batch, t i) need (without_share r (k.batch, f i) need (shares_of r old)))
+
 pub batch_left-read : (old new : List Kept) (n : ℕ) → new ≡ filter (λ k. not (nat_eq k.batch n)) old → (r : Name) → shares_of r new ≡ without_batch n (shares_of r old)
 batch_left-read old new n e r = ap (shares_of r) e ∙ batch_left r n old

@@ -6,6 +6,7 @@ use Rattle.batch_matrix.specs.declared.command.Command.{Command}
 use Rattle.batch_matrix.specs.declared.command.Command.TheVariants.{Stop, Abort}
 use Rattle.batch_matrix.specs.declared.state.State.{State}
 use Rattle.batch_recipe.specs.Conditions.{Name, same_name}
+use Rattle.batch_recipe.specs.Tree.{Place}
 use Rattle.batch_model.specs.Plant.{BatchAct, is_same_act, with_share, without_share}
 use Rattle.batch_model.specs.Plant as Model
 use Rattle.batch_model.specs.Records.{without_batch, holders_after, waiters_after}
@@ -57,6 +58,11 @@ Joins old claim new = (resource : Name) → shares_of resource new ≡ with_shar
 
 abbrev pub Leaves : List Kept → ClaimTold → List Kept → Type 0
 Leaves old claim new = (resource : Name) → shares_of resource new ≡ without_share resource (claim.batch, claim.place) claim.need (shares_of resource old)
+
+-- it left at its place and joined at the other
+abbrev pub Passes : List Kept → ClaimTold × Place → List Kept → Type 0
+Passes old told new = (resource : Name) → shares_of resource new
+    ≡ with_share resource (told.0.batch, told.1) told.0.need (without_share resource (told.0.batch, told.0.place) told.0.need (shares_of resource old))
 
 abbrev pub BatchLeaves : ℕ → List Kept → List Kept → Type 0
 BatchLeaves batch old new = (resource : Name) → shares_of resource new ≡ without_batch batch (shares_of resource old)

@@ -46,6 +46,10 @@ abbrev pub StopsWaiting : Type 0
 StopsWaiting = Tell (codes "ask 1 0.0 STEAM*2" ∷ codes "ask 2 0.0 STEAM" ∷ codes "ok stop 1 stopping" ∷ [])
     (λ tale. tale.waiters (codes "STEAM") ≡ share 2 (0 ∷ 0 ∷ []) 1 ∷ [])
 
+-- a unit that is passed is held at the other place, and nowhere is it free between
+abbrev pub HoldsAtTheOther : Type 0
+HoldsAtTheOther = Tell (codes "grant 1 0.0.0 R2" ∷ codes "pass 1 0.0.0 0.1 R2" ∷ []) (λ tale. tale.holders (codes "R2") ≡ share 1 (0 ∷ 1 ∷ []) 1 ∷ [])
+
 abbrev pub after_start : List (List ℕ) → (Tale → Type 0) → Type 0
 after_start lines P = Tell (take 8 one_batch ++ lines) P
 

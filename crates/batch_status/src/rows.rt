@@ -1,5 +1,5 @@
 //! Records, worked out. The function is empty: its contract is what their lines tell.
-ghost use Rattle.batch_status.specs.RowsOfStatus.{ArePassedOver, HasStopped, IsBrokenOff, IsElsewhere, IsHeld, IsHolding, IsRestarting, NoRecord, Removed, Rests, Runs, StopsWaiting, TakesThePlace, TellsNothingYet, Waits};
+ghost use Rattle.batch_status.specs.RowsOfStatus.{ArePassedOver, HasStopped, HoldsAtTheOther, IsBrokenOff, IsElsewhere, IsHeld, IsHolding, IsRestarting, NoRecord, Removed, Rests, Runs, StopsWaiting, TakesThePlace, TellsNothingYet, Waits};
 
 pub fn told_lines()
     ensures waits { Waits }
@@ -7,6 +7,7 @@ pub fn told_lines()
     ensures rests { Rests }
     ensures removed { Removed }
     ensures stops_waiting { StopsWaiting }
+    ensures holds_at_the_other { HoldsAtTheOther }
     ensures is_holding { IsHolding }
     ensures is_held { IsHeld }
     ensures is_restarting { IsRestarting }

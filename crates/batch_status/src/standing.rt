@@ -4,12 +4,12 @@ ghost use Rattle.std.specs.List.Sorted.{IsSorted};
 ghost use Rattle.batch_recipe.specs.Conditions.{Name};
 ghost use Rattle.batch_model.specs.Plant.{BatchAct};
 ghost use Rattle.batch_status.specs.Listing.{act_cmp, holder_cmp, waiter_cmp, of_act};
-ghost use Rattle.batch_status.specs.Kept.{act_of, claim_of, claims_of, shares_of, is_other, HoldersAfter, WaitersAfter, Joins, Leaves, BatchLeaves, LeavesAt};
-ghost use Rattle.batch_record.specs.Reading.{out_of, claim_told};
+ghost use Rattle.batch_status.specs.Kept.{act_of, claim_of, claims_of, shares_of, is_other, HoldersAfter, WaitersAfter, Joins, Leaves, Passes, BatchLeaves, LeavesAt};
+ghost use Rattle.batch_record.specs.Reading.{out_of, claim_told, passed_told};
 
 use crate::memory::{NoMemory, read_name, read_place};
 use batch_matrix::Command;
-use batch_record::{Claim, Told};
+use batch_record::{Claim, Passed, Told};
 use batch_text::{Name, Place};
 use std::alloc::Global;
 use std::cmp::Ordering;
@@ -93,6 +93,21 @@ impl Standing {
             && kept.place == *place));
     }
 
+    /// The share joins, and that of the same batch at the place leaves.
+    fn take_over(&mut self, place: &Place, kept: Kept) -> Result<(), NoMemory>
+        ensures ok { OnOk result (self.new.shares.items ≡ filter (is_other kept.resource (kept.batch, place.now)) self.old.shares.items ++ kept ∷ []) }
+        ensures err { OnErr result (self.new.shares.items ≡ self.old.shares.items) }
+    {
+        if self.shares.reserve(1).is_err() {
+            return Err(NoMemory);
+        }
+        self.shares.retain(|share| !(kept.resource == share.resource
+            && share.batch == kept.batch
+            && share.place == *place));
+        self.shares.push_reserved(kept);
+        Ok(())
+    }
+
     fn leave_batch(&mut self, batch: u64)
         ensures { self.new.shares.items ≡ filter (λ kept. not (nat_eq kept.batch batch)) self.old.shares.items }
     {
@@ -109,6 +124,7 @@ impl Standing {
         match told {
             Told::Granted(claim) => self.claim_joins(alloc, claim),
             Told::Released(claim) => self.claim_leaves(alloc, claim),
+            Told::Passed(told) => self.claim_passes(alloc, told),
             _ => Ok(()),
         }
     }
@@ -166,6 +182,25 @@ impl Standing {
         let place = read_place(alloc, claim.place)?;
         self.leave(&resource, claim.batch, &place);
         Ok(())
+    }
+
+    fn claim_passes(&mut self, alloc: Global, told: Passed<'_>) -> Result<(), NoMemory>
+        ensures ok { OnOk result (Passes self.old.shares.items (passed_told told.entry) self.new.shares.items) }
+        ensures err { OnErr result (self.new.shares.items ≡ self.old.shares.items) }
+    {
+        let claim = told.claim;
+        let resource = read_name(alloc, claim.resource)?;
+        let place = read_place(alloc, claim.place)?;
+        let to = read_place(alloc, told.to)?;
+        self.take_over(
+            &place,
+            Kept {
+                resource,
+                batch: claim.batch,
+                place: to,
+                units: claim.units,
+            },
+        )
     }
 }
 

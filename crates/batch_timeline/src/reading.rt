@@ -76,11 +76,11 @@ fn take_lines(alloc: Global, timeline: &mut Timeline, text: &[u8]) -> Result<(),
     let mut number: u64 = 0;
     while let Some(at) = line_feed(rest) {
         number = number.saturating_add(1);
-        timeline.pass(number);
+        timeline.reach(number);
         take_line(alloc, timeline, &rest[..at], number)?;
         rest = &rest[at + 1..];
     }
-    timeline.pass(number.saturating_add(1));
+    timeline.reach(number.saturating_add(1));
     Ok(())
 }
 

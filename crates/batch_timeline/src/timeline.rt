@@ -2,7 +2,7 @@
 use crate::bars::{Bars, Ending, Share};
 use crate::remark::Remark;
 use batch_matrix::Command;
-use batch_record::{Claim, Told, Words};
+use batch_record::{Claim, Passed, Told, Words};
 use batch_text::Name;
 use std::alloc::{AllocError, Global};
 
@@ -42,7 +42,7 @@ impl Timeline {
     }
 
     /// The line with this number comes.
-    pub fn pass(&mut self, number: u64) {
+    pub fn reach(&mut self, number: u64) {
         if !self.has_clock {
             self.now = number;
         }
@@ -76,6 +76,7 @@ impl Timeline {
                 self.begin(alloc, claim, false)
             }
             Told::Released(claim) => self.end(alloc, claim, false),
+            Told::Passed(passed) => self.hand_over(alloc, passed),
             Told::Ordered { command, batch, .. } => self.order(alloc, command, batch),
             Told::Reported(reported) => self.note_unit(alloc, reported.unit),
             Told::Sent(sent) => self.note_unit(alloc, sent.step.unit),
@@ -92,6 +93,18 @@ impl Timeline {
         } else {
             Ok(())
         }
+    }
+
+    /// The act gives its unit up, and from then on the batch holds it where the unit procedure stands that follows.
+    fn hand_over(&mut self, alloc: Global, passed: Passed<'_>) -> Result<(), AllocError> {
+        let given = passed.claim;
+        self.note_unit(alloc, given.resource)?;
+        self.end(alloc, given, false)?;
+        let taken = Claim {
+            place: passed.to,
+            ..given
+        };
+        self.begin(alloc, taken, false)
     }
 
     fn begin(&mut self, alloc: Global, claim: Claim<'_>, waits: bool) -> Result<(), AllocError> {

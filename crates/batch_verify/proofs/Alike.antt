@@ -2,10 +2,10 @@
 use Rattle.std.proofs.Common.{arith, ◌≡◌, ℕ, zero, suc, ◌+◌, ◌++◌, false, ◌&&◌, ◌||◌, List, [], ◌∷◌, Option, Some, None, slice_get, sym, ap, ap₂, ◌∙◌, refl, subst}
 use Rattle.batch_recipe.specs.Conditions.{Name, same_name}
 use Rattle.batch_recipe.specs.Diagram.{Diagram, label, skip, seq, par, sel, loop, Diagrams, none, more, Cases, otherwise, when, diagram_of}
-use Rattle.batch_recipe.specs.Expanding.{Binding, expanded, expanded_each, expanded_cases, task_of, act_named, act_tree_with, named_tree_with, unit_with, unit_below}
+use Rattle.batch_recipe.specs.Expanding.{Binding, Sites, expanded, expanded_each, expanded_cases, task_of, act_named, act_tree_with, named_tree_with, unit_with, unit_below}
 use Rattle.batch_recipe.specs.Needs.{resources_of}
 use Rattle.batch_recipe.specs.Nodes.{child}
-use Rattle.batch_recipe.specs.Procedure.{bound_tree, tables_from}
+use Rattle.batch_recipe.specs.Procedure.{bound_tree, sites, tables_from}
 use Rattle.batch_recipe.specs.Tree as tree
 use Rattle.batch_recipe.specs.Tree.{Place, Phase, Tree, Task, Trees, Choices}
 use Rattle.batch_recipe.specs.declared.act.Act.{Act}
@@ -19,10 +19,10 @@ use Rattle.batch_verify.specs.Walking.{phase_names}
 use Rattle.batch_verify.specs.Ways.{bound_parts}
 use Rattle.batch_verify.proofs.Phases.{phase_names-append}
 
--- the same nodes, whose phase steps run phases of the same names
+-- the same nodes, whose steps stand at the same places and reserve the same, and whose phase steps run phases of the same names
 abbrev mutual
   pub AreAlike : Tree → Tree → Type 0
-  AreAlike (tree.act s w) (tree.act r v) = TasksAlike w v
+  AreAlike (tree.act s w) (tree.act r v) = TasksAlike w v × (s.place ≡ r.place) × (s.reserves ≡ r.reserves)
   AreAlike tree.skip tree.skip = Unit {0}
   AreAlike (tree.seq ts) (tree.seq us) = EachAlike ts us
   AreAlike (tree.par ts) (tree.par us) = EachAlike ts us
@@ -32,7 +32,7 @@ abbrev mutual
 
   pub TasksAlike : Task → Task → Type 0
   TasksAlike (tree.runs one) (tree.runs other) = one.name ≡ other.name
-  TasksAlike (tree.follows name t) (tree.follows other u) = AreAlike t u
+  TasksAlike (tree.follows name t) (tree.follows other u) = AreAlike t u × (name ≡ other)
   TasksAlike _ _ = ⊥
 
   pub EachAlike : Trees → Trees → Type 0
@@ -49,7 +49,7 @@ abbrev mutual
 
 mutual
   pub same_runs : (t u : Tree) → AreAlike t u → surely_runs t ≡ surely_runs u
-  same_runs (tree.act s w) (tree.act r v) h = task_same_runs w v h
+  same_runs (tree.act s w) (tree.act r v) h = task_same_runs w v h.0
   same_runs (tree.seq ts) (tree.seq us) h = each_same_runs ts us h
   same_runs (tree.par ts) (tree.par us) h = each_same_runs ts us h
   same_runs (tree.sel cs) (tree.sel ds) h = choices_same_runs cs ds h
@@ -57,7 +57,7 @@ mutual
   same_runs t u h = grind arith
 
   task_same_runs : (w v : Task) → TasksAlike w v → task_surely_runs w ≡ task_surely_runs v
-  task_same_runs (tree.follows name t) (tree.follows other u) h = same_runs t u h
+  task_same_runs (tree.follows name t) (tree.follows other u) h = same_runs t u h.0
   task_same_runs w v h = grind arith
 
   each_same_runs : (ts us : Trees) → EachAlike ts us → some_surely_runs ts ≡ some_surely_runs us
@@ -74,7 +74,7 @@ same_both ps qs rs ss e f = phase_names-append ps rs ∙ (ap₂ (λ xs ys. xs ++
 
 mutual
   same_names : (t u : Tree) → AreAlike t u → phase_names (phases t) ≡ phase_names (phases u)
-  same_names (tree.act s w) (tree.act r v) h = task_same_names w v h
+  same_names (tree.act s w) (tree.act r v) h = task_same_names w v h.0
   same_names (tree.seq ts) (tree.seq us) h = each_same_names ts us h
   same_names (tree.par ts) (tree.par us) h = each_same_names ts us h
   same_names (tree.sel cs) (tree.sel ds) h = choices_same_names cs ds h
@@ -83,7 +83,7 @@ mutual
 
   task_same_names : (w v : Task) → TasksAlike w v → phase_names (phases_within w) ≡ phase_names (phases_within v)
   task_same_names (tree.runs one) (tree.runs other) h = ap (λ name. name ∷ []) h
-  task_same_names (tree.follows name t) (tree.follows other u) h = same_names t u h
+  task_same_names (tree.follows name t) (tree.follows other u) h = same_names t u h.0
   task_same_names _ _ h = absurd h
 
   each_same_names : (ts us : Trees) → EachAlike ts us → phase_names (phases_of_each ts) ≡ phase_names (phases_of_each us)
@@ -154,7 +154,7 @@ turns_as _ _ same h = absurd same
 -- Node by node
 
 abbrev pub IsLike : Part → Part → Type 0
-IsLike x y = (x.level ≡ y.level) × AreAlike x.node.here y.node.here
+IsLike x y = (x.level ≡ y.level) × AreAlike x.node.here y.node.here × (x.node.place ≡ y.node.place)
 
 abbrev PartsAlike : List Part → List Part → Type 0
 PartsAlike [] [] = Unit {0}
@@ -168,17 +168,17 @@ both _ _ ns ms h g = absurd h
 
 mutual
   parts_alike : (l : Level) (p : Place) (above under : List Name) (t u : Tree) → AreAlike t u → PartsAlike (parts l p above t) (parts l p under u)
-  parts_alike l p above under (tree.act s w) (tree.act r v) h = ((refl, h), within_alike (below l) p (above ++ resources_of s.needs) (under ++ resources_of r.needs) w v h)
-  parts_alike l p above under tree.skip tree.skip h = ((refl, tt), tt)
-  parts_alike l p above under (tree.seq ts) (tree.seq us) h = ((refl, h), each_alike l p above under 0 ts us h)
-  parts_alike l p above under (tree.par ts) (tree.par us) h = ((refl, h), each_alike l p above under 0 ts us h)
-  parts_alike l p above under (tree.sel cs) (tree.sel ds) h = ((refl, h), choices_alike l p above under 0 cs ds h)
-  parts_alike l p above under (tree.loop n c t) (tree.loop m d u) h = ((refl, h), parts_alike l (child p 0) above under t u h)
+  parts_alike l p above under (tree.act s w) (tree.act r v) h = ((refl, h, refl), within_alike (below l) p (above ++ resources_of s.needs) (under ++ resources_of r.needs) w v h.0)
+  parts_alike l p above under tree.skip tree.skip h = ((refl, tt, refl), tt)
+  parts_alike l p above under (tree.seq ts) (tree.seq us) h = ((refl, h, refl), each_alike l p above under 0 ts us h)
+  parts_alike l p above under (tree.par ts) (tree.par us) h = ((refl, h, refl), each_alike l p above under 0 ts us h)
+  parts_alike l p above under (tree.sel cs) (tree.sel ds) h = ((refl, h, refl), choices_alike l p above under 0 cs ds h)
+  parts_alike l p above under (tree.loop n c t) (tree.loop m d u) h = ((refl, h, refl), parts_alike l (child p 0) above under t u h)
   parts_alike l p above under _ _ h = absurd h
 
   within_alike : (l : Level) (p : Place) (above under : List Name) (w v : Task) → TasksAlike w v → PartsAlike (parts_within l p above w) (parts_within l p under v)
   within_alike l p above under (tree.runs one) (tree.runs other) h = tt
-  within_alike l p above under (tree.follows name t) (tree.follows other u) h = parts_alike l (child p 0) above under t u h
+  within_alike l p above under (tree.follows name t) (tree.follows other u) h = parts_alike l (child p 0) above under t u h.0
   within_alike l p above under _ _ h = absurd h
 
   each_alike : (l : Level) (p : Place) (above under : List Name) (i : ℕ) (ts us : Trees) → EachAlike ts us → PartsAlike (parts_of_each l p above i ts) (parts_of_each l p under i us)
@@ -204,6 +204,12 @@ alike_at _ _ h k x is = absurd h
 -- The trees of a recipe
 
 module _ (bound other : Binding) (acts : Acts) where
+  abbrev one : Sites
+  one = sites bound acts
+
+  abbrev two : Sites
+  two = sites other acts
+
   abbrev Labels : (Name → Place → Tree) → (Name → Place → Tree) → Type 0
   Labels f g = (name : Name) (p : Place) → AreAlike (f name p) (g name p)
 
@@ -226,28 +232,32 @@ module _ (bound other : Binding) (acts : Acts) where
       cases_alike p i (when c d cs) = (chart_alike (child p i) d, cases_alike p (i + 1) cs)
 
     work_alike : (unit second name : Name) (p : Place) (work : Work) → TasksAlike (task_of f unit name p work) (task_of g second name p work)
-    work_alike unit second name p (Follows c) = chart_alike (child p 0) (diagram_of c)
+    work_alike unit second name p (Follows c) = (chart_alike (child p 0) (diagram_of c), refl)
     work_alike unit second name p (Runs phase values reports) = refl
 
   abbrev From : List (List Act) → Type 0
-  From tables = (unit second name : Name) (p : Place) → AreAlike (named_tree_with bound tables unit name p) (named_tree_with other tables second name p)
+  From tables = (unit second name : Name) (p : Place) → AreAlike (named_tree_with one tables unit name p) (named_tree_with two tables second name p)
 
   act_alike : (tables : List (List Act)) → From tables → (unit second : Name) (a : Act) (p : Place)
-      → AreAlike (act_tree_with bound (named_tree_with bound tables) unit a p) (act_tree_with other (named_tree_with other tables) second a p)
+      → AreAlike (act_tree_with one (named_tree_with one tables) unit a p) (act_tree_with two (named_tree_with two tables) second a p)
   act_alike tables labels unit second a p =
       let own = unit_below unit (unit_with bound a.unit) in
       let owned = unit_below second (unit_with other a.unit) in
-      work_alike (named_tree_with bound tables own) (named_tree_with other tables owned) (labels own owned) own owned a.name p a.work
+      (work_alike (named_tree_with one tables own) (named_tree_with two tables owned) (labels own owned) own owned a.name p a.work, refl, refl)
 
   from : (tables : List (List Act)) → From tables
   from [] = λ unit second name p. tt
   from (table ∷ tables) = λ unit second name p. found (from tables) (act_named table name) unit second p
     where
       found : From tables → (o : Option Act) (unit second : Name) (p : Place)
-          → AreAlike (elim o [ None ↦ tree.skip | Some a ↦ act_tree_with bound (named_tree_with bound tables) unit a p ])
-          (elim o [ None ↦ tree.skip | Some a ↦ act_tree_with other (named_tree_with other tables) second a p ])
+          → AreAlike (elim o [ None ↦ tree.skip | Some a ↦ act_tree_with one (named_tree_with one tables) unit a p ])
+          (elim o [ None ↦ tree.skip | Some a ↦ act_tree_with two (named_tree_with two tables) second a p ])
       found labels None unit second p = tt
       found labels (Some a) unit second p = act_alike tables labels unit second a p
+
+  -- the trees are alike
+  pub tree_alike : AreAlike (bound_tree bound acts) (bound_tree other acts)
+  tree_alike = let tables = tables_from acts (Some UnitProcedures) in act_alike tables (from tables) [] [] acts.procedure (0 ∷ [])
 
   -- the nodes with one number run the same
   pub part_alike : (k : ℕ) (x : Part) → slice_get (bound_parts bound acts) k ≡ Some x → (y : Part) × (slice_get (bound_parts other acts) k ≡ Some y) × IsLike x y

@@ -1,19 +1,23 @@
--- What nodes break as `par`s and loops, by number.
-use Rattle.std.proofs.Common.{◌≡◌, ◌≢◌, ◌⊎◌, ℕ, ◌+◌, ◌<◌, ◌≤◌, List, [], ◌∷◌, ◌++◌, length, Option, Some, None, slice_get, get_or, sym, ap, ◌∙◌, refl, subst, arith, inl, inr, length-append}
+-- What nodes break whatever units take the roles, by number.
+use Rattle.std.proofs.Common.{◌≡◌, ◌≢◌, ◌⊎◌, ℕ, suc, ◌+◌, ◌<◌, ◌≤◌, List, [], ◌∷◌, ◌++◌, length, Option, Some, None, slice_get, get_or, sym, ap, ◌∙◌, refl, subst, arith, inl, inr, length-append}
 use Rattle.std.proofs.lemmas.Bool.{cases_lt}
 use Rattle.std.proofs.lemmas.Option.{slice_get_within, slice_get-get_or}
-use Rattle.batch_recipe.specs.Expanding.{unbound}
+use Rattle.batch_recipe.specs.Expanding.{Binding, unbound, reserves_from, unit_count}
+use Rattle.batch_recipe.specs.ActsAtNodes.{IsNoAct}
+use Rattle.batch_recipe.specs.Conditions.{Name}
 use Rattle.batch_recipe.specs.Links.{form_at}
-use Rattle.batch_recipe.specs.Nodes.{Node}
+use Rattle.batch_recipe.specs.Nodes.{Node, reserves_of}
 use Rattle.batch_recipe.specs.Outlines.{act_of, form_of}
-use Rattle.batch_recipe.specs.Procedure.{bound_nodes, procedure_nodes}
+use Rattle.batch_recipe.specs.Procedure.{bound_nodes, procedure_nodes, sites}
+use Rattle.batch_recipe.specs.Tree.{Tree}
 use Rattle.batch_recipe.specs.declared.act.Act.{Act}
+use Rattle.batch_recipe.specs.declared.acts.Acts.{Acts}
 use Rattle.batch_recipe.specs.declared.entry.Entry.{Entry}
 use Rattle.batch_recipe.specs.declared.recipe.Recipe.{Recipe}
 use Rattle.batch_recipe.proofs.Climbing.{as_many}
 use Rattle.batch_recipe.proofs.Slices.{slice_get-left, slice_get-right}
 use Rattle.batch_model.specs.Cleared.{Level, Part, below, IsApart}
-use Rattle.batch_verify.specs.Charts.{depth_is, IsFaultOf, AreFaults}
+use Rattle.batch_verify.specs.Charts.{depth_is, of_chart, reserve_count, AreFaults, IsChartFault, ReservesAs}
 use Rattle.batch_verify.specs.Ways.{Spot, Way, bound_parts, bound_ways}
 use Rattle.batch_verify.specs.declared.depth.Depth.{Depth}
 use Rattle.batch_verify.specs.declared.depth.Depth.TheVariants.{Procedure}
@@ -21,6 +25,7 @@ use Rattle.batch_verify.specs.declared.rule.Rule.{Rule}
 use Rattle.batch_verify.specs.declared.rule.Rule.TheVariants as rules
 use Rattle.batch_verify.proofs.Alike.{IsLike, apart_as, turns_as, part_alike}
 use Rattle.batch_verify.proofs.Stands.{IsTop, IsBelow, Stands, stands, node_of}
+use Rattle.batch_verify.proofs.Verdicts.{bare_reserves}
 use Rattle.batch_verify.proofs.WayActs.{IsHereOn}
 
 -- what is at a number of a list to which one more was added: one of those before, or it
@@ -50,7 +55,8 @@ module _ (r : Recipe) where
     pub few : length below ≡ n
     pub many : length faults ≡ n
     pub depths : (k : ℕ) (w : Way) (d : Depth) → slice_get (bound_ways unbound r.acts) k ≡ Some w → slice_get below k ≡ Some d → depth_is d ≡ w.under.level
-    pub each : (k : ℕ) (x : Part) (fault : Option Rule) → slice_get (bound_parts unbound r.acts) k ≡ Some x → slice_get faults k ≡ Some fault → IsFaultOf x fault
+    pub each : (k : ℕ) (x : Part) (fault : Option Rule) → slice_get (bound_parts unbound r.acts) k ≡ Some x → slice_get faults k ≡ Some fault → IsChartFault x (of_chart fault)
+    pub reserve : (k : ℕ) (fault : Option Rule) → slice_get faults k ≡ Some fault → ReservesAs r.acts k fault
 
   pub KeepsFaults-none : KeepsFaults [] [] 0
   KeepsFaults-none = record {
@@ -58,6 +64,7 @@ module _ (r : Recipe) where
     many = refl;
     depths = λ k w d is none. absurd cc;
     each = λ k x fault is none. absurd cc;
+    reserve = λ k fault none. absurd cc;
   }
 
   module _ (below' : List Depth) (faults : List (Option Rule)) (n : ℕ) (h : KeepsFaults below' faults n) (e : Entry) (is : slice_get r.outline.entries.items n ≡ Some e)
@@ -79,15 +86,22 @@ module _ (r : Recipe) where
       depth_under : depth_is next ≡ at.own.under.level
       depth_under = go (act_of r.acts e.kind) refl at.on.here
         where
-          go : (o : Option Act) → act_of r.acts e.kind ≡ o → IsHereOn unbound at.own at.x o → depth_is next ≡ at.own.under.level
+          go : (o : Option Act) → act_of r.acts e.kind ≡ o → IsHereOn (sites unbound r.acts) at.own at.x o → depth_is next ≡ at.own.under.level
           go None o_is here = ap depth_is (along o_is) ∙ (depth_at ∙ ap (λ (s : Spot). s.level) (sym here.1))
           go (Some a) o_is here = under (λ no. let bad : Some a ≡ None = sym o_is ∙ no in cc) ∙ (ap below depth_at ∙ sym here.under_level)
 
-      module _ (fault : Option Rule)
-          (found : (x : Node) → slice_get (procedure_nodes r.acts) n ≡ Some x → form_of e.kind ≡ form_at x.here → IsFaultOf (record { level = depth_is depth; node = x }) fault) where
-        own_fault : IsFaultOf at.x fault
-        own_fault =
-            subst (λ (l : Level). IsFaultOf (record { level = l; node = at.x.node }) fault) (depth_at ∙ sym at.on.level) (found at.x.node (node_of r unbound n at.x at.x_is) at.formed)
+      module _ (chart fault : Option Rule)
+          (found : (x : Node) → slice_get (procedure_nodes r.acts) n ≡ Some x → form_of e.kind ≡ form_at x.here → IsChartFault (record { level = depth_is depth; node = x }) chart)
+          (joined : (x : Part) → IsChartFault x chart → IsChartFault x (of_chart fault) × ReservesAs r.acts n fault) where
+        own_chart : IsChartFault at.x chart
+        own_chart =
+            subst (λ (l : Level). IsChartFault (record { level = l; node = at.x.node }) chart) (depth_at ∙ sym at.on.level) (found at.x.node (node_of r unbound n at.x at.x_is) at.formed)
+
+        own_fault : IsChartFault at.x (of_chart fault)
+        own_fault = (joined at.x own_chart).0
+
+        own_reserve : ReservesAs r.acts n fault
+        own_reserve = (joined at.x own_chart).1
 
         pub KeepsFaults-more : KeepsFaults (below' ++ next ∷ []) (faults ++ fault ∷ []) (n + 1)
         KeepsFaults-more = record {
@@ -95,6 +109,7 @@ module _ (r : Recipe) where
           many = omega (arith, length-append faults (fault ∷ []), h.many);
           depths = λ k w d w_is d_is. depth_now k w d w_is (one_more below' next n k d h.few d_is);
           each = λ k x f x_is f_is. fault_now k x f x_is (one_more faults fault n k f h.many f_is);
+          reserve = λ k f f_is. reserve_now k f (one_more faults fault n k f h.many f_is);
         }
           where
             way_is : (a b : Way) → Some a ≡ Some b → a ≡ b
@@ -109,14 +124,18 @@ module _ (r : Recipe) where
                 let same = way_is at.own w (sym at.own_is ∙ (ap (slice_get (bound_ways unbound r.acts)) (sym new.0) ∙ w_is)) in
                 ap depth_is (sym new.1) ∙ (depth_under ∙ ap (λ (v : Way). v.under.level) same)
 
-            fault_now : (k : ℕ) (x : Part) (f : Option Rule) → slice_get (bound_parts unbound r.acts) k ≡ Some x → ((k < n) × (slice_get faults k ≡ Some f)) ⊎ ((k ≡ n) × (fault ≡ f)) → IsFaultOf x f
+            fault_now : (k : ℕ) (x : Part) (f : Option Rule) → slice_get (bound_parts unbound r.acts) k ≡ Some x → ((k < n) × (slice_get faults k ≡ Some f)) ⊎ ((k ≡ n) × (fault ≡ f)) → IsChartFault x (of_chart f)
             fault_now k x f x_is (inl was) = h.each k x f x_is was.1
             fault_now k x f x_is (inr new) =
                 let same = part_is at.x x (sym at.x_is ∙ (ap (slice_get (bound_parts unbound r.acts)) (sym new.0) ∙ x_is)) in
-                subst (λ (o : Option Rule). IsFaultOf x o) new.1 (subst (λ (y : Part). IsFaultOf y fault) same own_fault)
+                subst (λ (o : Option Rule). IsChartFault x (of_chart o)) new.1 (subst (λ (y : Part). IsChartFault y (of_chart fault)) same own_fault)
+
+            reserve_now : (k : ℕ) (f : Option Rule) → ((k < n) × (slice_get faults k ≡ Some f)) ⊎ ((k ≡ n) × (fault ≡ f)) → ReservesAs r.acts k f
+            reserve_now k f (inl was) = h.reserve k f was.1
+            reserve_now k f (inr new) = subst (λ (o : Option Rule). ReservesAs r.acts k o) new.1 (subst (λ m. ReservesAs r.acts m fault) (sym new.0) own_reserve)
 
   -- a fault is that of the node whatever units take the roles
-  fault_as : (x y : Part) → IsLike x y → IsLike y x → (fault : Option Rule) → IsFaultOf y fault → IsFaultOf x fault
+  fault_as : (x y : Part) → IsLike x y → IsLike y x → (fault : Option Rule) → IsChartFault y fault → IsChartFault x fault
   fault_as x y to from None h = (
     apart_back x y from h.0,
     turns_as y.node.here x.node.here from.1 h.1,
@@ -134,6 +153,44 @@ module _ (r : Recipe) where
     each = λ bound k x fault x_is f_is.
         let to = part_alike bound unbound r.acts k x x_is in
         let from = part_alike unbound bound r.acts k to.0 to.1 in
-        let same = part_is from.0 x (sym from.1 ∙ x_is) in
-        fault_as x to.0 to.2 (subst (λ (y : Part). IsLike to.0 y) same from.2) fault (h.each k to.0 fault to.1 f_is);
+        let same = part_is from.0 x (sym from.1 ∙ x_is) in (
+          fault_as x to.0 to.2 (subst (λ (y : Part). IsLike to.0 y) same from.2) (of_chart fault) (h.each k to.0 fault to.1 f_is),
+          h.reserve k fault f_is bound x.node (node_of r bound k x x_is),
+        );
   }
+
+-- As many unit procedures are reserved by a node as by its act.
+
+from_counted : (number : ℕ) (names : List Name) → length (reserves_from number names) ≡ length names
+from_counted number [] = refl
+from_counted number (name ∷ names) = ap suc (from_counted (number + 1) names)
+
+bare_counted : (t : Tree) → IsNoAct t → length (reserves_of t) ≡ 0
+bare_counted t b = ap length (bare_reserves t b)
+
+pub reserves_counted : (r : Recipe) (bound : Binding) (k : ℕ) (e : Entry) → slice_get r.outline.entries.items k ≡ Some e → (at : Node) → slice_get (bound_nodes bound r.acts) k ≡ Some at
+    → length (reserves_of at.here) ≡ reserve_count (act_of r.acts e.kind)
+reserves_counted r bound k e is at at_is = ap (λ (x : Node). length (reserves_of x.here)) same ∙ go (act_of r.acts e.kind) here.on.here
+  where
+    here : Stands r bound k e
+    here = stands r bound k e is
+
+    node_is : (a b : Node) → Some a ≡ Some b → a ≡ b
+    node_is a b e = cc
+
+    same : at ≡ here.x.node
+    same = node_is at here.x.node (sym at_is ∙ node_of r bound k here.x here.x_is)
+
+    go : (o : Option Act) → IsHereOn (sites bound r.acts) here.own here.x o → length (reserves_of here.x.node.here) ≡ reserve_count o
+    go None h = bare_counted here.x.node.here h.0
+    go (Some a) h = ap (λ (t : Tree). length (reserves_of t)) h.here_is ∙ from_counted (unit_count a.unit) a.reserves.items
+
+-- A rule on `par`s and loops goes before that on what is reserved.
+pub chart_kept : (acts : Acts) (node : ℕ) (x : Part) (rule : Rule) → IsChartFault x (Some rule) → IsChartFault x (of_chart (Some rule)) × ReservesAs acts node (Some rule)
+chart_kept acts node x rules.SamePhaseInParallel h = (h, λ bound at is. tt)
+chart_kept acts node x rules.LoopWithoutPhase h = (h, λ bound at is. tt)
+chart_kept acts node x rules.UnknownResource h = absurd h
+chart_kept acts node x rules.ShareAboveCapacity h = absurd h
+chart_kept acts node x rules.PhaseNotOffered h = absurd h
+chart_kept acts node x rules.ReserveDoesNotFollow h = absurd h
+chart_kept acts node x rules.RankNotRising h = absurd h

@@ -9,7 +9,6 @@ use Rattle.batch_recipe.specs.WellFormed.{are_kinds, has_chart, is_among}
 use Rattle.batch_recipe.specs.declared.act.Act.{Act}
 use Rattle.batch_recipe.specs.declared.acts.Acts.{Acts}
 use Rattle.batch_recipe.specs.declared.entry.Kind.{Kind}
-use Rattle.batch_recipe.specs.declared.entry.Kind.TheVariants as kind
 use Rattle.batch_verify.specs.NodePhases.{phase_at, phase_run, AreMarked, IsNoStep}
 use Rattle.batch_verify.specs.Walking.{Gathers}
 

@@ -8,11 +8,11 @@ use Rattle.batch_cell.specs.LookUps.{units_of}
 use Rattle.batch_cell.specs.declared.cell.Cell as equipment
 use Rattle.batch_recipe.specs.ActsAtNodes.{IsNoAct}
 use Rattle.batch_recipe.specs.Conditions.{Name}
-use Rattle.batch_recipe.specs.Expanding.{Binding, act_tree_with, asked_by, unit_with}
+use Rattle.batch_recipe.specs.Expanding.{Binding, Sites, act_tree_with, needs_with}
 use Rattle.batch_recipe.specs.Needs.{resources_of}
 use Rattle.batch_recipe.specs.Nodes.{Node, needs_of}
 use Rattle.batch_recipe.specs.Outlines.{act_of}
-use Rattle.batch_recipe.specs.Procedure.{bound_nodes, bound_tree}
+use Rattle.batch_recipe.specs.Procedure.{bound_nodes, bound_tree, sites}
 use Rattle.batch_recipe.specs.Tree.{Tree}
 use Rattle.batch_recipe.specs.declared.act.Act.{Act}
 use Rattle.batch_recipe.specs.declared.entry.Entry.{Entry}
@@ -36,6 +36,12 @@ use Rattle.batch_verify.proofs.Verdicts.{MeetBelow, all_meet, bare_breaks, bare_
 use Rattle.batch_verify.proofs.WayActs.{IsActOn, IsHereOn}
 
 module _ (c : equipment.Cell) (ranking : Option Ranking) (bound : Binding) (r : Recipe) where
+  abbrev on : Sites
+  on = sites bound r.acts
+
+  abbrev procedure : Tree
+  procedure = bound_tree bound r.acts
+
   abbrev pub IsNumber : Path → Type 0
   IsNumber p = ForSome p.unit (λ number. number < length (units_of c))
 
@@ -49,7 +55,7 @@ module _ (c : equipment.Cell) (ranking : Option Ranking) (bound : Binding) (r : 
     pub numbers : (k : ℕ) (p : Path) → slice_get paths k ≡ Some p → IsNumber p
     pub runs : (k : ℕ) (w : Way) (x : Node) (p : Path) → slice_get (bound_ways bound r.acts) k ≡ Some w → slice_get (bound_nodes bound r.acts) k ≡ Some x → slice_get paths k ≡ Some p
         → IsPathTo w.under x.asked p
-    pub meet : (recipes : List Recipe) → MeetBelow (setup_of c recipes) ranking (bound_parts bound r.acts) n
+    pub meet : (recipes : List Recipe) → MeetBelow (setup_of c recipes) ranking procedure (bound_parts bound r.acts) n
 
   module _ (paths : List Path) (n : ℕ) (h : KeepsPaths paths n) (e : Entry) (is : slice_get r.outline.entries.items n ≡ Some e)
       (p : Path) (some : (q : Path) → slice_get paths e.parent ≡ Some q → p ≡ q) (none : length paths ≤ e.parent → p ≡ no_path) where
@@ -95,8 +101,8 @@ module _ (c : equipment.Cell) (ranking : Option Ranking) (bound : Binding) (r : 
 
     -- what is said of the node, by what is said of its entry
     abbrev pub Looked : Result Path Rule → Type 0
-    Looked (Ok q) = ((recipes : List Recipe) → MeetsRules (setup_of c recipes) ranking at.x) × IsPathTo at.own.under at.x.node.asked q
-    Looked (Err rule) = (recipes : List Recipe) → Breaks (setup_of c recipes) ranking at.x rule
+    Looked (Ok q) = ((recipes : List Recipe) → MeetsRules (setup_of c recipes) ranking procedure at.x) × IsPathTo at.own.under at.x.node.asked q
+    Looked (Err rule) = (recipes : List Recipe) → Breaks (setup_of c recipes) ranking procedure at.x rule
 
     module _ (bare : IsNoAct at.x.node.here) (same : at.own.under ≡ at.own.here) where
       names_are : at.x.node.asked ≡ above.names
@@ -105,16 +111,16 @@ module _ (c : equipment.Cell) (ranking : Option Ranking) (bound : Binding) (r : 
       path_kept : IsPathTo at.own.under at.x.node.asked p
       path_kept = subst (λ (v : Spot). IsPathTo v at.x.node.asked p) (sym same) (subst (λ ns. IsPathTo at.own.here ns p) (sym names_are) above.path_is)
 
-      bare_looked : (fault : Option Rule) → IsFaultOf at.x fault → Looked (kept p fault)
-      bare_looked None sound = ((λ recipes. bare_meets (setup_of c recipes) ranking at.x bare sound (path_is_rising ranking at.x.node.asked p.last path_kept.1)), path_kept)
-      bare_looked (Some rule) broken = λ recipes. bare_breaks (setup_of c recipes) ranking at.x bare rule broken
+      bare_looked : (fault : Option Rule) → IsFaultOf procedure at.x fault → Looked (kept p fault)
+      bare_looked None sound = ((λ recipes. bare_meets (setup_of c recipes) ranking procedure at.x bare sound (path_is_rising ranking at.x.node.asked p.last path_kept.1)), path_kept)
+      bare_looked (Some rule) broken = λ recipes. bare_breaks (setup_of c recipes) ranking procedure at.x bare rule broken
 
-    module _ (a : Act) (here : IsActOn bound at.own at.x a) where
+    module _ (a : Act) (here : IsActOn on at.own at.x a) where
       abbrev tree : Tree
-      tree = act_tree_with bound here.acts at.own.here.unit a at.x.node.place
+      tree = act_tree_with on here.acts at.own.here.unit a at.x.node.place
 
       abbrev own_names : List Name
-      own_names = above.names ++ resources_of (asked_by (unit_with bound a.unit) a.needs.items)
+      own_names = above.names ++ resources_of (needs_with on a)
 
       names_go_on : at.x.node.asked ≡ own_names
       names_go_on = above.asks ∙ ap (λ t. above.names ++ resources_of (needs_of t)) here.here_is
@@ -129,29 +135,30 @@ module _ (c : equipment.Cell) (ranking : Option Ranking) (bound : Binding) (r : 
 
       abbrev Entered : Result Path Rule → Type 0
       Entered res = (recipes : List Recipe)
-          → IsEnteredAs c bound (setup_of c recipes) ranking at.own.here.level at.own.here.unit above.names a (part at.own.here.level at.x.node.place above.names tree) res
+          → IsEnteredAs c on (setup_of c recipes) ranking procedure at.own.here.level at.own.here.unit above.names a (part at.own.here.level at.x.node.place above.names tree) res
 
       act_looked : (res : Result Path Rule) → Entered res → Looked res
       act_looked (Ok q) h = (
-        λ recipes. subst (λ (y : Part). MeetsRules (setup_of c recipes) ranking y) (sym part_is) (h recipes).0,
+        λ recipes. subst (λ (y : Part). MeetsRules (setup_of c recipes) ranking procedure y) (sym part_is) (h recipes).0,
         (
           subst (λ (l : Level). IsOnUnit c l at.own.under.unit q.unit) (sym here.under_level) (subst (λ u. IsOnUnit c (below at.own.here.level) u q.unit) (sym here.under_unit) (h []).1),
           subst (λ ns. RisesTo ranking ns q.last) (sym names_go_on) (h []).2,
         ),
       )
-      act_looked (Err rule) h = λ recipes. subst (λ (y : Part). Breaks (setup_of c recipes) ranking y rule) (sym part_is) (h recipes)
+      act_looked (Err rule) h = λ recipes. subst (λ (y : Part). Breaks (setup_of c recipes) ranking procedure y rule) (sym part_is) (h recipes)
 
-    module _ (res : Result Path Rule) (fault : Option Rule) (known : IsFaultOf at.x fault)
-        (entered : (a : Act) → act_of r.acts e.kind ≡ Some a → (level : Level) → IsEntered c bound ranking level p a res)
+    module _ (res : Result Path Rule) (fault : Option Rule) (known : IsFaultOf procedure at.x fault)
+        (entered : (a : Act) → act_of r.acts e.kind ≡ Some a → (level : Level) → IsEntered c on ranking fault level p a res)
         (kept_is : act_of r.acts e.kind ≡ None → res ≡ kept p fault) where
       pub looked : Looked res
       looked = go (act_of r.acts e.kind) refl at.on.here
         where
-          go : (o : Option Act) → act_of r.acts e.kind ≡ o → IsHereOn bound at.own at.x o → Looked res
+          go : (o : Option Act) → act_of r.acts e.kind ≡ o → IsHereOn on at.own at.x o → Looked res
           go None o_is here = subst Looked (sym (kept_is o_is)) (bare_looked here.0 here.1 fault known)
           go (Some a) o_is here =
               act_looked a here res
-              (λ recipes. entered a o_is at.own.here.level here.acts recipes at.own.here.unit at.x.node.place above.names here.kind above.path_is.0 above.path_is.1)
+              (λ recipes. entered a o_is at.own.here.level procedure here.acts recipes at.own.here.unit at.x.node.place above.names here.kind above.path_is.0 above.path_is.1
+              (subst (λ (y : Part). IsFaultOf procedure y fault) (part_is a here) known))
 
     pub KeepsPaths-more : (q : Path) → Looked (Ok q) → IsNumber q → KeepsPaths (paths ++ q ∷ []) (n + 1)
     KeepsPaths-more q ok number = record {
@@ -183,23 +190,23 @@ module _ (c : equipment.Cell) (ranking : Option Ranking) (bound : Binding) (r : 
             subst (λ (o' : Path). IsPathTo w.under x.asked o') new.1
             (subst (λ (v : Way). IsPathTo v.under x.asked q) w_same (subst (λ (y : Node). IsPathTo at.own.under y.asked q) x_same ok.1))
 
-        meet_now : (recipes : List Recipe) (k : ℕ) (x : Part) → slice_get (bound_parts bound r.acts) k ≡ Some x → (k < n) ⊎ (n ≤ k) → k < n + 1 → MeetsRules (setup_of c recipes) ranking x
+        meet_now : (recipes : List Recipe) (k : ℕ) (x : Part) → slice_get (bound_parts bound r.acts) k ≡ Some x → (k < n) ⊎ (n ≤ k) → k < n + 1 → MeetsRules (setup_of c recipes) ranking procedure x
         meet_now recipes k x x_is (inl lt) most = h.meet recipes k x lt x_is
         meet_now recipes k x x_is (inr le) most =
             let k_is : k ≡ n = omega (arith, le, most) in
             let same = part_at at.x x (sym at.x_is ∙ (ap (slice_get (bound_parts bound r.acts)) (sym k_is) ∙ x_is)) in
-            subst (λ (y : Part). MeetsRules (setup_of c recipes) ranking y) same (ok.0 recipes)
+            subst (λ (y : Part). MeetsRules (setup_of c recipes) ranking procedure y) same (ok.0 recipes)
 
-    pub path_stops : (rule : Rule) → Looked (Err rule) → (recipes : List Recipe) → IsFirstBroken (setup_of c recipes) ranking (bound_parts bound r.acts) 0 (record { node = 0 + n; rule = rule })
-    path_stops rule broken recipes = first_breaks (setup_of c recipes) ranking (bound_parts bound r.acts) 0 n at.x rule (h.meet recipes) at.x_is (broken recipes)
+    pub path_stops : (rule : Rule) → Looked (Err rule) → (recipes : List Recipe) → IsFirstBroken (setup_of c recipes) ranking procedure (bound_parts bound r.acts) 0 (record { node = 0 + n; rule = rule })
+    path_stops rule broken recipes = first_breaks (setup_of c recipes) ranking procedure (bound_parts bound r.acts) 0 n at.x rule (h.meet recipes) at.x_is (broken recipes)
 
     -- the rule that the node breaks as a `par` or a loop
-    pub fault_known : (faults : List (Option Rule)) → AreFaults r.acts faults → (fault : Option Rule) → slice_get faults n ≡ Some fault → IsFaultOf at.x fault
+    pub fault_known : (faults : List (Option Rule)) → AreFaults r.acts faults → (fault : Option Rule) → slice_get faults n ≡ Some fault → IsFaultOf procedure at.x fault
     fault_known faults all fault fault_is = all.each bound n at.x fault at.x_is fault_is
 
-  pub paths_end : (paths : List Path) (n : ℕ) → KeepsPaths paths n → length r.outline.entries.items ≤ n → (recipes : List Recipe) → Each (MeetsRules (setup_of c recipes) ranking) (bound_parts bound r.acts)
+  pub paths_end : (paths : List Path) (n : ℕ) → KeepsPaths paths n → length r.outline.entries.items ≤ n → (recipes : List Recipe) → Each (MeetsRules (setup_of c recipes) ranking procedure) (bound_parts bound r.acts)
   paths_end paths n h all recipes =
       let parts = bound_parts bound r.acts in
       let nodes = ap length (parts-nodes is_procedure (0 ∷ []) [] (bound_tree bound r.acts)) in
       let few : length parts ≤ n = omega (arith, all, as_many_entries r.acts r.outline.entries.items (outlines r bound) bound, nodes, length-map parts (λ (x : Part). x.node)) in
-      all_meet (setup_of c recipes) ranking parts (λ k x lt is. h.meet recipes k x (omega (arith, lt, few)) is)
+      all_meet (setup_of c recipes) ranking procedure parts (λ k x lt is. h.meet recipes k x (omega (arith, lt, few)) is)

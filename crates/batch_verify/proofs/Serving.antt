@@ -1,159 +1,100 @@
 -- A recipe that breaks no rule in any tried binding has candidates, and is cleared.
-use Rattle.std.proofs.Common.{arith, ◌≡◌, ℕ, ◌+◌, Bool, true, false, IsTrue, List, [], ◌∷◌, Option, Some, None, refl, sym, ap, ◌∙◌, subst, inl, inr}
-use Rattle.std.specs.Prelude.{option_and_then}
-use Rattle.std.specs.Cmp.Lexicographic.{bytes_decides}
-use Rattle.std.proofs.lemmas.Bool.{or_cases}
-use Rattle.batch_cell.specs.LookUps.{units_of, resources_of}
+use Rattle.std.proofs.Common.{◌≡◌, true, false, IsTrue, List, [], ◌∷◌, map, Option, Some, None, sym, ap, ◌∙◌, subst, inl, inr, refl}
+use Rattle.batch_cell.specs.LookUps.{resources_of}
 use Rattle.batch_cell.specs.declared.cell.Cell as equipment
-use Rattle.batch_recipe.specs.Conditions.{Name, same_name}
-use Rattle.batch_recipe.specs.Diagram as chart
-use Rattle.batch_recipe.specs.Diagram.{Diagram, Diagrams, Cases}
-use Rattle.batch_recipe.specs.Expanding.{Binding, act_named, act_tree_with, asked_by, expanded, expanded_each, expanded_cases, named_tree_with, unit_with}
-use Rattle.batch_recipe.specs.Needs as needs
-use Rattle.batch_recipe.specs.Nodes.{child}
-use Rattle.batch_recipe.specs.Tree.{Place, Tree, skip}
-use Rattle.batch_recipe.specs.WellFormed.{is_among, are_kinds, are_roles}
+use Rattle.batch_recipe.specs.ActsAtNodes.{ActList, AreActsAt, IsActAt, IsNodeOf, procedure_acts}
+use Rattle.batch_recipe.specs.Conditions.{Name}
+use Rattle.batch_recipe.specs.Expanding.{Binding, unit_chosen}
+use Rattle.batch_recipe.specs.Nodes.{Node, needs_of}
+use Rattle.batch_recipe.specs.Procedure.{bound_nodes, bound_tree}
+use Rattle.batch_recipe.specs.Tree.{Tree}
+use Rattle.batch_recipe.specs.WellFormed.{is_among, are_roles}
 use Rattle.batch_recipe.specs.declared.act.Act.{Act}
 use Rattle.batch_recipe.specs.declared.act.UnitChoice.{UnitChoice}
-use Rattle.batch_recipe.specs.declared.act.UnitChoice.TheVariants.{Unit, Role}
-use Rattle.batch_recipe.specs.declared.recipe.Recipe as document
+use Rattle.batch_recipe.specs.declared.acts.Acts.{Acts}
+use Rattle.batch_recipe.specs.declared.need.Need.{Need}
+use Rattle.batch_recipe.specs.declared.recipe.Recipe.{Recipe}
+use Rattle.batch_recipe.proofs.NodeActs.{procedure_acts_are}
 use Rattle.batch_model.specs.Lists.{Each, Has}
 use Rattle.batch_model.specs.Plant.{Role as ModelRole, Setup}
-use Rattle.batch_model.specs.Cleared.{Ranking, Part, is_procedure, in_procedure, part, parts, parts_of_each, parts_of_choices, BeginsWithUnit, HasCandidates, HasUnit, IsClearedRecipe}
-use Rattle.batch_model.specs.Setups.{labels, labels_of_each, labels_of_cases, labels_of, master_of, name_role, role_of, setup_of}
-use Rattle.batch_model.proofs.Members.{Has-split}
+use Rattle.batch_model.specs.Cleared.{Ranking, Part, is_procedure, HasCandidates, IsClear, IsClearedControl, IsClearedRecipe, NeedsResources, ReservesFollow}
+use Rattle.batch_model.specs.Recipes.{recipe_of}
+use Rattle.batch_model.specs.Setups.{master_of, setup_of}
+use Rattle.batch_model.proofs.Members.{Each-Has, Each-map}
+use Rattle.batch_model.proofs.Parts.{parts-nodes}
 use Rattle.batch_verify.specs.Bindings.{nobody, numbered}
 use Rattle.batch_verify.specs.Refusals.{MeetsRules, IsTriedFor, IsVerdictOn}
-use Rattle.batch_verify.proofs.Bound.{chart as procedure_diagram, label_of, procedure_is, procedure_labels, procedure_of, lower}
-use Rattle.batch_verify.proofs.Covering.{Each_left, Each_right}
-use Rattle.batch_verify.proofs.Entering.{unit_is_resource}
+use Rattle.batch_verify.specs.Ways.{bound_parts}
+use Rattle.batch_verify.specs.declared.rule.Rule.TheVariants.{UnknownResource}
+use Rattle.batch_verify.proofs.Choices.{asked, asks_for, asks_in, has_mapped, needs_are}
+use Rattle.batch_verify.proofs.Least.{meets_each}
+use Rattle.batch_verify.proofs.Owners.{names_it}
 use Rattle.batch_verify.proofs.Served.{served_is_tried}
 use Rattle.batch_verify.proofs.Tried.{nobody-apart, numbered-tried}
 
--- What holds of all nodes of a chart holds of those of each label
-module _ (F : Name → Place → Tree) (P : Part → Type 0) (above : List Name) (name : Name) where
-  abbrev Somewhere : Type 0
-  Somewhere = (q : Place) × Each P (parts in_procedure q above (F name q))
+each_mapped : {X Y : Type 0} (f : X → Y) (Q : Y → Type 0) (xs : List X) → Each (λ x. Q (f x)) xs → Each Q (map f xs)
+each_mapped f Q [] h = tt
+each_mapped f Q (x ∷ xs) h = (h.0, each_mapped f Q xs h.1)
 
-  mutual
-    pub at_label : (p : Place) (d : Diagram) → Each P (parts in_procedure p above (expanded F p d)) → Has (labels d) name → Somewhere
-    at_label p (chart.label own) h (inl e) = (p, subst (λ n. Each P (parts in_procedure p above (F n p))) e h)
-    at_label p (chart.seq ds) h m = at_branch p 0 ds h.1 m
-    at_label p (chart.par ds) h m = at_branch p 0 ds h.1 m
-    at_label p (chart.sel cs) h m = at_case p 0 cs h.1 m
-    at_label p (chart.loop turns until d) h m = at_label (child p 0) d h.1 m
-    at_label p d h m = grind arith
+module _ (bound : Binding) (acts : Acts) where
+  -- an act of the recipe stands at a node
+  node_with : (list : ActList) (ns : List Node) → AreActsAt bound acts list ns → (a : Act) → Has list (Some a) → (at : Node) × Has ns at × IsNodeOf bound acts a at
+  node_with [] ns h a m = absurd m
+  node_with (o ∷ list) [] h a m = absurd h
+  node_with (o ∷ list) (at ∷ ns) h a (inl e) = (at, inl refl, subst (λ q. IsActAt bound acts q at) e h.0)
+  node_with (o ∷ list) (at ∷ ns) h a (inr m) = let f = node_with list ns h.1 a m in (f.0, inr f.1, f.2)
 
-    at_branch : (p : Place) (i : ℕ) (ds : Diagrams) → Each P (parts_of_each in_procedure p above i (expanded_each F p i ds)) → Has (labels_of_each ds) name → Somewhere
-    at_branch p i chart.none h m = absurd m
-    at_branch p i (chart.more d ds) h m =
-        let first = parts in_procedure (child p i) above (expanded F (child p i) d) in
-        let rest = parts_of_each in_procedure p above (i + 1) (expanded_each F p (i + 1) ds) in
-        elim (Has-split (labels d) (labels_of_each ds) name m) [
-          | inl k ↦ at_label (child p i) d (Each_left P first rest h) k
-          | inr k ↦ at_branch p (i + 1) ds (Each_right P first rest h) k
-        ]
-
-    at_case : (p : Place) (i : ℕ) (cs : Cases) → Each P (parts_of_choices in_procedure p above i (expanded_cases F p i cs)) → Has (labels_of_cases cs) name → Somewhere
-    at_case p i (chart.otherwise d) h m = at_label (child p i) d h m
-    at_case p i (chart.when c d cs) h m =
-        let first = parts in_procedure (child p i) above (expanded F (child p i) d) in
-        let rest = parts_of_choices in_procedure p above (i + 1) (expanded_cases F p (i + 1) cs) in
-        elim (Has-split (labels d) (labels_of_cases cs) name m) [
-          | inl k ↦ at_label (child p i) d (Each_left P first rest h) k
-          | inr k ↦ at_case p (i + 1) cs (Each_right P first rest h) k
-        ]
-
--- a role that the tree names is that of a unit procedure which a label names
-pub record IsRoleOf (table : List Act) (names : List Name) (role : Name) : Type 0 where
-  pub name : Name
-  pub own : Act
-  pub has : Has names name
-  pub found : act_named table name ≡ Some own
-  pub takes : own.unit ≡ Some (Role role)
-
-abbrev is_role : Option Name → Name → Bool
-is_role own role = elim own [ None ↦ false | Some name ↦ same_name name role ]
-
-abbrev role_in : Option UnitChoice → Option Name
-role_in unit = elim unit [ None ↦ None | Some choice ↦ elim choice [ Unit unit ↦ None | Role role ↦ Some role ] ]
-
-role_is : (a : Act) (role : Name) → is_role (role_of a) role ≡ true → a.unit ≡ Some (Role role)
-role_is a role h = go a.unit h
-  where
-    go : (o : Option UnitChoice) → is_role (role_in o) role ≡ true → o ≡ Some (Role role)
-    go None h = let bad : false ≡ true = h in absurd cc
-    go (Some (Unit unit)) h = let bad : false ≡ true = h in absurd cc
-    go (Some (Role own)) h = ap (λ n. Some (Role n)) ((bytes_decides own role).0 h)
-
-role_label : (table : List Act) (names : List Name) (role : Name) → name_role table names role ≡ true → IsRoleOf table names role
-role_label table [] role h = let bad : false ≡ true = h in absurd cc
-role_label table (name ∷ names) role h =
-    elim (or_cases (is_role (option_and_then role_of (act_named table name)) role) (name_role table names role) h) [
-      | inl here ↦ go (act_named table name) refl here
-      | inr later ↦ (let r = role_label table names role later in record { name = r.name; own = r.own; has = inr r.has; found = r.found; takes = r.takes })
-    ]
-  where
-    go : (o : Option Act) → act_named table name ≡ o → is_role (option_and_then role_of o) role ≡ true → IsRoleOf table (name ∷ names) role
-    go None e here = let bad : false ≡ true = here in absurd cc
-    go (Some a) e here = record { name = name; own = a; has = inl refl; found = e; takes = role_is a role here }
-
--- a unit procedure that meets the rules is on a unit
-on_unit : (setup : Setup) (ranking : Option Ranking) (x : Part) → MeetsRules setup ranking x → HasUnit setup.units x.level x.node.here
-on_unit setup None x h = h.on_unit
-on_unit setup (Some rank) x h = h.on_unit
-
-module _ (c : equipment.Cell) (recipes : List document.Recipe) (recipe : document.Recipe) (kinds : are_kinds recipe.acts ≡ true) (own : are_roles recipe.roles.items recipe.acts ≡ true) where
+module _ (c : equipment.Cell) (recipes : List Recipe) (recipe : Recipe) (own : are_roles recipe.roles.items recipe.acts ≡ true) where
   abbrev setup : Setup
   setup = setup_of c recipes
 
   abbrev first : Binding
   first = numbered c recipe.roles.items 0
 
-  no_unit_is_nobody : is_among (units_of c) (nobody (resources_of c)) ≡ true → ⊥
-  no_unit_is_nobody h = let bad : true ≡ false = sym (unit_is_resource c (nobody (resources_of c)) h) ∙ nobody-apart (resources_of c) in cc
+  abbrev IsKnownAt : Node → Type 0
+  IsKnownAt at = NeedsResources (resources_of c) at.here
+
+  no_resource_is_nobody : is_among (resources_of c) (nobody (resources_of c)) ≡ true → ⊥
+  no_resource_is_nobody h = let bad : true ≡ false = sym h ∙ nobody-apart (resources_of c) in absurd cc
 
   module _ (ranking : Option Ranking) (verdict : IsVerdictOn setup ranking (master_of c recipe) None) where
-    abbrev Meets : Part → Type 0
-    Meets = MeetsRules setup ranking
+    all_known : Each IsKnownAt (bound_nodes first recipe.acts)
+    all_known =
+        let procedure = bound_tree first recipe.acts in
+        subst (Each IsKnownAt) (parts-nodes is_procedure (0 ∷ []) [] procedure)
+        (each_mapped (λ (x : Part). x.node) IsKnownAt (bound_parts first recipe.acts)
+        (Each-map (MeetsRules setup ranking procedure) (λ (x : Part). IsKnownAt x.node) (λ x h. (meets_each setup ranking procedure x h UnknownResource).0) (bound_parts first recipe.acts)
+        (verdict first (numbered-tried c recipes recipe own 0))))
 
-    all_meet : Each Meets (parts is_procedure (0 ∷ []) [] (procedure_of recipe.acts kinds first))
-    all_meet = subst (λ t. Each Meets (parts is_procedure (0 ∷ []) [] t)) (procedure_is recipe.acts kinds first) (verdict first (numbered-tried c recipes recipe own 0))
-
-    -- a role that the tree names is taken by a unit
-    taken : (role : Name) → name_role recipe.acts.unit_procedures.items (labels_of recipe.acts.procedure) role ≡ true → is_among (units_of c) (first role) ≡ true
+    -- a role that the tree names is taken by a resource
+    taken : (role : Name) → names_it recipe role ≡ true → is_among (resources_of c) (first role) ≡ true
     taken role named =
-        let by = role_label recipe.acts.unit_procedures.items (labels_of recipe.acts.procedure) role named in
-        let above = needs.resources_of recipe.acts.procedure.needs.items in
-        let at = at_label (label_of recipe.acts kinds first) Meets above by.name (child (0 ∷ []) 0) (procedure_diagram recipe.acts kinds) all_meet.1
-        (subst (λ ls. Has ls by.name) (procedure_labels recipe.acts kinds) by.has) in
-        let tree = act_tree_with first (named_tree_with first (lower recipe.acts kinds)) [] by.own at.0 in
-        let is : label_of recipe.acts kinds first by.name at.0 ≡ tree =
-        ap (λ o. elim o [ None ↦ skip | Some a ↦ act_tree_with first (named_tree_with first (lower recipe.acts kinds)) [] a at.0 ]) by.found in
-        let all = subst (λ t. Each Meets (parts in_procedure at.0 above t)) is at.1 in
-        begins by.own by.takes at.0 (on_unit setup ranking (part in_procedure at.0 above tree) all.0)
-      where
-        begins : (a : Act) → a.unit ≡ Some (Role role) → (p : Place) → HasUnit (units_of c) in_procedure (act_tree_with first (named_tree_with first (lower recipe.acts kinds)) [] a p)
-            → is_among (units_of c) (first role) ≡ true
-        begins a takes p h = go (unit_with first a.unit) (ap (unit_with first) takes) h
-          where
-            go : (o : Option Name) → o ≡ Some (first role) → BeginsWithUnit (units_of c) (asked_by o a.needs.items) → is_among (units_of c) (first role) ≡ true
-            go None e h = absurd cc
-            go (Some u) e h = let same : u ≡ first role = cc in subst (λ n. is_among (units_of c) n ≡ true) same h
+        let q = asks_for recipe role named in
+        let n = node_with first recipe.acts (procedure_acts recipe.acts) (bound_nodes first recipe.acts) (procedure_acts_are first recipe.acts) q.by q.stands_there in
+        let P : Need → Type 0 = λ need. IsTrue (is_among (resources_of c) need.resource) in
+        let needs : needs_of n.0.here ≡ map (asked first) (asks_in recipe.acts q.by) = ap needs_of n.2.here_is ∙ needs_are first recipe.acts q.by in
+        let known = subst (Each P) needs (Each-Has IsKnownAt (bound_nodes first recipe.acts) n.0 all_known n.1) in
+        let own_need = Each-Has P (map (asked first) (asks_in recipe.acts q.by)) (asked first q.ask) known (has_mapped recipe (asked first) (asks_in recipe.acts q.by) q.ask q.asked_for) in
+        subst (λ (choice : UnitChoice). IsTrue (is_among (resources_of c) (unit_chosen first choice))) q.is own_need
 
     pub has_candidates : HasCandidates (master_of c recipe)
     has_candidates = go (master_of c recipe).roles (numbered-tried c recipes recipe own 0)
       where
-        candidate : (candidates : List Name) (role : Name) → IsTriedFor setup candidates (first role) → name_role recipe.acts.unit_procedures.items (labels_of recipe.acts.procedure) role ≡ true
-            → (unit : Name) × IsTrue (is_among candidates unit)
-        candidate [] role t named = absurd (no_unit_is_nobody (subst (λ n. is_among (units_of c) n ≡ true) t (taken role named)))
+        candidate : (candidates : List Name) (role : Name) → IsTriedFor setup candidates (first role) → names_it recipe role ≡ true → (unit : Name) × IsTrue (is_among candidates unit)
+        candidate [] role t named = absurd (no_resource_is_nobody (subst (λ n. is_among (resources_of c) n ≡ true) t (taken role named)))
         candidate (unit ∷ more) role t named = (first role, t)
 
-        go : (roles : List ModelRole) → Each (λ role. IsTrue (name_role recipe.acts.unit_procedures.items (labels_of recipe.acts.procedure) role.name) → IsTriedFor setup role.candidates (first role.name)) roles
-            → Each (λ role. IsTrue (name_role recipe.acts.unit_procedures.items (labels_of recipe.acts.procedure) role.name) → (unit : Name) × IsTrue (is_among role.candidates unit)) roles
+        go : (roles : List ModelRole) → Each (λ role. IsTrue (names_it recipe role.name) → IsTriedFor setup role.candidates (first role.name)) roles
+            → Each (λ role. IsTrue (names_it recipe role.name) → (unit : Name) × IsTrue (is_among role.candidates unit)) roles
         go [] h = tt
         go (role ∷ roles) h = ((λ named. candidate role.candidates role.name (h.0 named) named), go roles h.1)
 
   pub is_cleared : (rank : Ranking) → IsVerdictOn setup (Some rank) (master_of c recipe) None → IsClearedRecipe setup rank (master_of c recipe)
-  is_cleared rank verdict =
-      (has_candidates (Some rank) verdict, λ bound served. verdict bound (served_is_tried setup (master_of c recipe) bound served))
+  is_cleared rank verdict = (has_candidates (Some rank) verdict, λ bound served. cleared bound (verdict bound (served_is_tried setup (master_of c recipe) bound served)))
+    where
+      both : (procedure : Tree) (xs : List Part) → Each (MeetsRules setup (Some rank) procedure) xs → Each (IsClear setup rank) xs × Each (λ x. ReservesFollow procedure x.node) xs
+      both procedure [] h = (tt, tt)
+      both procedure (x ∷ xs) h = let rest = both procedure xs h.1 in ((h.0.0, rest.0), (h.0.1, rest.1))
+
+      cleared : (bound : Binding) → Each (MeetsRules setup (Some rank) (bound_tree bound recipe.acts)) (bound_parts bound recipe.acts) → IsClearedControl setup rank (recipe_of recipe bound)
+      cleared bound h = let q = both (bound_tree bound recipe.acts) (bound_parts bound recipe.acts) h in record { clear = q.0; follow = q.1 }

@@ -3,11 +3,11 @@ use Rattle.std.proofs.Common.{◌≡◌, ◌≢◌, ◌⊎◌, ℕ, zero, suc, �
 use Rattle.std.specs.Option.{option_map}
 use Rattle.std.proofs.lemmas.Option.{slice_get-map}
 use Rattle.batch_recipe.specs.Conditions.{Name}
-use Rattle.batch_recipe.specs.Expanding.{Binding, asked_by, named_tree_with, task_of, unit_below, unit_with}
+use Rattle.batch_recipe.specs.Expanding.{Binding, named_tree_with, step_of, task_of, unit_below, unit_with}
 use Rattle.batch_recipe.specs.Nodes.{node_count, count_within, count_of_each, count_of_choices}
 use Rattle.batch_recipe.specs.Outlines.{IsOutline, Shape, shape_of, shapes, shapes_within, shapes_of_each, shapes_of_choices}
 use Rattle.batch_recipe.specs.Tree.{Tree, act, skip, seq, par, sel, loop, Step, Task, runs, follows, Trees, no_trees, tree, Choices, otherwise, choice}
-use Rattle.batch_recipe.specs.Procedure.{tables_from}
+use Rattle.batch_recipe.specs.Procedure.{sites, tables_from}
 use Rattle.batch_recipe.specs.declared.acts.LabelTable.TheVariants.{UnitProcedures}
 use Rattle.batch_recipe.specs.declared.entry.Entry.{Entry}
 use Rattle.batch_recipe.specs.declared.recipe.Recipe.{Recipe}
@@ -136,13 +136,13 @@ module _ (r : Recipe) (bound : Binding) where
   outlines = subst (λ es. IsOutline r.acts es) (sym r.outlined) (is_outline r.acts)
 
   abbrev step : Step
-  step = record { place = 0 ∷ []; needs = asked_by (unit_with bound r.acts.procedure.unit) r.acts.procedure.needs.items }
+  step = step_of (sites bound r.acts) r.acts.procedure (0 ∷ [])
 
   abbrev own : Name
   own = unit_below [] (unit_with bound r.acts.procedure.unit)
 
   abbrev task : Task
-  task = task_of (named_tree_with bound (tables_from r.acts (Some UnitProcedures)) own) own r.acts.procedure.name (0 ∷ []) r.acts.procedure.work
+  task = task_of (named_tree_with (sites bound r.acts) (tables_from r.acts (Some UnitProcedures)) own) own r.acts.procedure.name (0 ∷ []) r.acts.procedure.work
 
   -- the way of the node of an entry
   pub way_of : (k : ℕ) (e : Entry) → slice_get r.outline.entries.items k ≡ Some e → HasWay (bound_ways bound r.acts) k e

@@ -7,7 +7,7 @@ use Rattle.batch_recipe.specs.Links.{IsFirst, Hangs, form_at}
 use Rattle.batch_recipe.specs.Needs.{resources_of}
 use Rattle.batch_recipe.specs.Nodes.{Node, needs_of}
 use Rattle.batch_recipe.specs.Outlines.{act_of, form_of, shape_of}
-use Rattle.batch_recipe.specs.Procedure.{bound_nodes, bound_tree}
+use Rattle.batch_recipe.specs.Procedure.{bound_nodes, bound_tree, sites}
 use Rattle.batch_recipe.specs.declared.entry.Entry.{Entry}
 use Rattle.batch_recipe.specs.declared.recipe.Recipe.{Recipe}
 use Rattle.batch_recipe.proofs.Climbing.{entry_in, act_at}
@@ -38,7 +38,7 @@ pub record Stands (r : Recipe) (bound : Binding) (k : ℕ) (e : Entry) : Type 0 
   pub own_is : slice_get (bound_ways bound r.acts) k ≡ Some own
   pub x : Part
   pub x_is : slice_get (bound_parts bound r.acts) k ≡ Some x
-  pub on : IsOn bound own x (act_of r.acts e.kind)
+  pub on : IsOn (sites bound r.acts) own x (act_of r.acts e.kind)
   pub formed : form_of e.kind ≡ form_at x.node.here
   pub hangs : IsTop k own x ⊎ IsBelow (bound_ways bound r.acts) (bound_nodes bound r.acts) k e own x
 

@@ -1,7 +1,6 @@
 -- The bindings by number are tried, and show each unit that is tried for a role.
 use Rattle.std.proofs.Common.{◌≡◌, ℕ, suc, ◌<◌, ◌≤◌, max, Bool, true, false, not, cond, ◌||◌, IsTrue, List, [], ◌∷◌, ◌++◌, length, map, slice_get, Option, Some, None, refl, sym, ap, ◌∙◌, subst, arith, inl, inr}
 use Rattle.std.specs.List.{find, list_all}
-use Rattle.std.specs.Prelude.{option_and_then}
 use Rattle.std.specs.Cmp.Lexicographic.{bytes_decides}
 use Rattle.std.proofs.Math.Nat.{le-max_left, le-max_right}
 use Rattle.std.proofs.lemmas.Bool.{false_from_ne_true, or_from, or_cases, or_left, or_right, and_parts, not-true}
@@ -10,20 +9,16 @@ use Rattle.std.proofs.lemmas.Option.{slice_get_within}
 use Rattle.batch_cell.specs.LookUps.{resources_of, units_of_class}
 use Rattle.batch_cell.specs.declared.cell.Cell as equipment
 use Rattle.batch_recipe.specs.Conditions.{Name, same_name}
-use Rattle.batch_recipe.specs.Expanding.{Binding, act_named, unit_with}
+use Rattle.batch_recipe.specs.Expanding.{Binding}
 use Rattle.batch_recipe.specs.WellFormed.{is_among, are_distinct, are_roles, is_role_among}
-use Rattle.batch_recipe.specs.declared.act.Act.{Act}
-use Rattle.batch_recipe.specs.declared.act.UnitChoice.{UnitChoice}
-use Rattle.batch_recipe.specs.declared.act.UnitChoice.TheVariants.{Unit, Role as by_role}
 use Rattle.batch_recipe.specs.declared.recipe.Recipe as document
 use Rattle.batch_recipe.specs.declared.role.Role.{Role}
 use Rattle.batch_model.specs.Lists.{Each, Has}
 use Rattle.batch_model.specs.Plant.{Setup}
 use Rattle.batch_model.specs.Plant.{Role as ModelRole}
-use Rattle.batch_model.specs.Setups.{labels_of, master_of, name_role, role_of, setup_of}
+use Rattle.batch_model.specs.Setups.{master_of, setup_of}
 use Rattle.batch_verify.specs.Bindings.{nobody, candidate_of, numbered, binding_count}
 use Rattle.batch_verify.specs.Refusals.{IsTried, IsTriedFor}
-use Rattle.batch_verify.proofs.Levels.{found_passes}
 use Rattle.batch_verify.proofs.NameLemmas.{among_at, same_name_sym}
 
 -- Nobody
@@ -65,7 +60,7 @@ pub record StandsAt (names : List Name) (name : Name) : Type 0 where
   pub place : ℕ
   pub found : slice_get names place ≡ Some name
 
-stands_at : (names : List Name) (name : Name) → is_among names name ≡ true → StandsAt names name
+pub stands_at : (names : List Name) (name : Name) → is_among names name ≡ true → StandsAt names name
 stands_at [] name h = let bad : false ≡ true = h in absurd cc
 stands_at (first ∷ names) name h =
     elim (or_cases (same_name name first) (is_among names name) h) [
@@ -110,12 +105,12 @@ found_role (first ∷ roles) name h = go (same_name first.name name) refl (found
         let f = later (ap (λ b. b || is_among (role_names roles) name) (sym apart) ∙ h) in
         record { role = f.role; has = inr f.has; found = ap (λ b. cond b (Some first) (role_named roles name)) e ∙ f.found; named = f.named }
 
-has_name : (roles : List Role) (role : Role) (name : Name) → Has roles role → same_name name role.name ≡ true → is_among (role_names roles) name ≡ true
+pub has_name : (roles : List Role) (role : Role) (name : Name) → Has roles role → same_name name role.name ≡ true → is_among (role_names roles) name ≡ true
 has_name (first ∷ roles) role name (inl e) same = or_left (same_name name first.name) (is_among (role_names roles) name) (ap (λ (r : Role). same_name name r.name) e ∙ same)
 has_name (first ∷ roles) role name (inr m) same = or_right (same_name name first.name) (is_among (role_names roles) name) (has_name roles role name m same)
 has_name [] role name m same = absurd m
 
-own_role : (roles : List Role) → are_distinct (role_names roles) ≡ true → (role : Role) → Has roles role → role_named roles role.name ≡ Some role
+pub own_role : (roles : List Role) → are_distinct (role_names roles) ≡ true → (role : Role) → Has roles role → role_named roles role.name ≡ Some role
 own_role [] h role m = absurd m
 own_role (first ∷ roles) h role (inl e) = ap (λ b. cond b (Some first) (role_named roles role.name)) ((bytes_decides first.name role.name).1 (ap (λ (r : Role). r.name) e)) ∙ ap Some e
 own_role (first ∷ roles) h role (inr m) =
@@ -151,24 +146,30 @@ module _ (c : equipment.Cell) where
     roles = recipe.roles.items
 
     abbrev Named : Name → Type 0
-    Named name = IsTrue (name_role recipe.acts.unit_procedures.items (labels_of recipe.acts.procedure) name)
+    Named name = IsTrue ((master_of c recipe).names_role name)
 
     abbrev model_role : Role → ModelRole
     model_role role = record { name = role.name; candidates = units_of_class c role.class }
 
-    differ : are_distinct (role_names roles) ≡ true
+    pub differ : are_distinct (role_names roles) ≡ true
     differ = (and_parts (are_distinct (role_names roles)) (list_all (is_role_among (role_names roles)) recipe.acts.unit_procedures.items) own).0
 
-    pub numbered-tried : (number : ℕ) → IsTried setup (master_of c recipe) (numbered c roles number)
-    numbered-tried number = go roles (own_role roles differ)
+    -- of each role the candidate with a number of its own
+    pub taken-tried : (number_for : Name → ℕ) → IsTried setup (master_of c recipe) (λ name. numbered c roles (number_for name) name)
+    taken-tried number_for = go roles (own_role roles differ)
       where
         go : (rest : List Role) → ((role : Role) → Has rest role → role_named roles role.name ≡ Some role)
-            → Each (λ role. Named role.name → IsTriedFor setup role.candidates (numbered c roles number role.name)) (map model_role rest)
+            → Each (λ role. Named role.name → IsTriedFor setup role.candidates (numbered c roles (number_for role.name) role.name)) (map model_role rest)
         go [] h = tt
         go (role ∷ rest) h = (
-          (λ named. subst (λ found. IsTriedFor setup (units_of_class c role.class) (who found number)) (sym (h role (inl refl))) (numbered_for setup (units_of_class c role.class) number)),
+          (λ named.
+              subst (λ found. IsTriedFor setup (units_of_class c role.class) (who found (number_for role.name))) (sym (h role (inl refl)))
+              (numbered_for setup (units_of_class c role.class) (number_for role.name))),
           go rest (λ other m. h other (inr m)),
         )
+
+    pub numbered-tried : (number : ℕ) → IsTried setup (master_of c recipe) (numbered c roles number)
+    numbered-tried number = taken-tried (λ name. number)
 
     module _ (bound : Binding) (tried : IsTried setup (master_of c recipe) bound) where
       tried_at : (rest : List Role) (role : Role) → Has rest role → Each (λ role. Named role.name → IsTriedFor setup role.candidates (bound role.name)) (map model_role rest)
@@ -199,38 +200,12 @@ module _ (c : equipment.Cell) where
                     ∙ ap (λ o. taken setup (elim o [ None ↦ slice_get (first ∷ more) 0 | Some unit ↦ Some unit ])) at.found),
               )
 
-      abbrev is_role : Option Name → Name → Bool
-      is_role own role = elim own [ None ↦ false | Some name ↦ same_name name role ]
-
-      abbrev role_in : Option UnitChoice → Option Name
-      role_in unit = elim unit [ None ↦ None | Some choice ↦ elim choice [ Unit unit ↦ None | by_role role ↦ Some role ] ]
-
-      abbrev role_by : Name → Option Name
-      role_by name = option_and_then role_of (act_named recipe.acts.unit_procedures.items name)
-
-      -- a label names the role of its unit procedure
-      label_names : (names : List Name) (name : Name) (a : Act) (role : Name) → Has names name → act_named recipe.acts.unit_procedures.items name ≡ Some a → a.unit ≡ Some (by_role role)
-          → name_role recipe.acts.unit_procedures.items names role ≡ true
-      label_names [] name a role m found takes = absurd m
-      label_names (first ∷ names) name a role (inl e) found takes = grind (arith, itself role, or_left)
-      label_names (first ∷ names) name a role (inr m) found takes =
-          or_right (is_role (role_by first) role) (name_role recipe.acts.unit_procedures.items names role) (label_names names name a role m found takes)
-
-      abbrev is_declared : Option UnitChoice → Bool
-      is_declared unit = elim unit [ None ↦ true | Some choice ↦ elim choice [ Unit unit ↦ true | by_role role ↦ is_among (role_names roles) role ] ]
-
-      -- the unit of a unit procedure that the tree names is its unit in a numbered binding
-      pub tried-covers : (name : Name) → Has (labels_of recipe.acts.procedure) name → (a : Act) → act_named recipe.acts.unit_procedures.items name ≡ Some a
-          → (k : ℕ) × (k < binding_count c roles) × (unit_with bound a.unit ≡ unit_with (numbered c roles k) a.unit)
-      tried-covers name m a found = go a.unit refl
-        where
-          go : (o : Option UnitChoice) → a.unit ≡ o → (k : ℕ) × (k < binding_count c roles) × (unit_with bound o ≡ unit_with (numbered c roles k) o)
-          go None e = (0, some-binding roles, refl)
-          go (Some (Unit unit)) e = (0, some-binding roles, refl)
-          go (Some (by_role role)) e =
-              let all = (and_parts (are_distinct (role_names roles)) (list_all (is_role_among (role_names roles)) recipe.acts.unit_procedures.items) own).1 in
-              let known = found_passes (λ x. same_name x.name name) (is_role_among (role_names roles)) recipe.acts.unit_procedures.items a found all in
-              let among : is_among (role_names roles) role ≡ true =
-              sym (ap (λ o. is_declared o) e) ∙ known in
-              let by = role-covered role (label_names (labels_of recipe.acts.procedure) name a role m found e) among in
-              (by.0, by.1, ap Some by.2)
+      -- who is tried for a role that the tree names, as it is declared
+      pub role-tried : (name : Name) → Named name → is_among (role_names roles) name ≡ true → (role : Role) × Has roles role × (role.name ≡ name) × IsTriedFor setup (units_of_class c role.class) (bound name)
+      role-tried name named among =
+          let f = found_role roles name among in (
+            f.role,
+            f.has,
+            f.named,
+            subst (λ n. IsTriedFor setup (units_of_class c f.role.class) (bound n)) f.named (tried_at roles f.role f.has tried (subst Named (sym f.named) named)),
+          )

@@ -3,10 +3,10 @@ use Rattle.std.proofs.Common.{arith, ◌≡◌, ℕ, zero, suc, ◌+◌, ◌++�
 use Rattle.batch_recipe.specs.ActsAtNodes.{ActList, acts_along, acts_along_each, acts_along_cases, acts_below, acts_from, acts_named, procedure_acts, IsNoAct}
 use Rattle.batch_recipe.specs.Conditions.{Name}
 use Rattle.batch_recipe.specs.Diagram.{Diagram, label, skip, seq, par, sel, loop, Diagrams, none, more, Cases, otherwise, when, diagram_of}
-use Rattle.batch_recipe.specs.Expanding.{Binding, expanded, expanded_each, expanded_cases, task_of, act_named, act_tree_with, named_tree_with, unit_with, unit_below, asked_by}
+use Rattle.batch_recipe.specs.Expanding.{Binding, Sites, expanded, expanded_each, expanded_cases, task_of, act_named, act_tree_with, named_tree_with, needs_with, step_of, unit_with, unit_below}
 use Rattle.batch_recipe.specs.Needs.{resources_of}
 use Rattle.batch_recipe.specs.Nodes.{child}
-use Rattle.batch_recipe.specs.Procedure.{table_at, tables_from, level_below}
+use Rattle.batch_recipe.specs.Procedure.{table_at, tables_from, level_below, sites}
 use Rattle.batch_recipe.specs.Tree as tree
 use Rattle.batch_recipe.specs.Tree.{Place, Tree, Step, Task}
 use Rattle.batch_recipe.specs.WellFormed.{are_kinds}
@@ -23,49 +23,52 @@ use Rattle.batch_verify.specs.Ways.{Spot, Way, way, ways, ways_within, ways_of_e
 use Rattle.batch_verify.proofs.Levels.{below_is, named_kind, procedure_kind}
 
 -- the act's node is on the unit of its way, and its chart on the unit that it has itself
-pub record IsActOn (bound : Binding) (w : Way) (x : Part) (a : Act) : Type 0 where
+pub record IsActOn (s : Sites) (w : Way) (x : Part) (a : Act) : Type 0 where
   pub acts : Name → Name → Place → Tree
-  pub here_is : x.node.here ≡ act_tree_with bound acts w.here.unit a x.node.place
+  pub here_is : x.node.here ≡ act_tree_with s acts w.here.unit a x.node.place
   pub kind : is_of_level w.here.level a ≡ true
   pub under_level : w.under.level ≡ below w.here.level
-  pub under_unit : w.under.unit ≡ unit_below w.here.unit (unit_with bound a.unit)
+  pub under_unit : w.under.unit ≡ unit_below w.here.unit (unit_with s.bound a.unit)
 
-abbrev pub IsHereOn : Binding → Way → Part → Option Act → Type 0
-IsHereOn bound w x None = IsNoAct x.node.here × (w.under ≡ w.here)
-IsHereOn bound w x (Some a) = IsActOn bound w x a
+abbrev pub IsHereOn : Sites → Way → Part → Option Act → Type 0
+IsHereOn s w x None = IsNoAct x.node.here × (w.under ≡ w.here)
+IsHereOn s w x (Some a) = IsActOn s w x a
 
-pub record IsOn (bound : Binding) (w : Way) (x : Part) (o : Option Act) : Type 0 where
+pub record IsOn (s : Sites) (w : Way) (x : Part) (o : Option Act) : Type 0 where
   pub level : x.level ≡ w.here.level
-  pub here : IsHereOn bound w x o
+  pub here : IsHereOn s w x o
 
 -- as many ways, nodes and acts, each node on its way
-abbrev pub AreOn : Binding → List Way → List Part → ActList → Type 0
-AreOn bound [] [] [] = Unit {0}
-AreOn bound (w ∷ ws) (x ∷ xs) (o ∷ os) = IsOn bound w x o × AreOn bound ws xs os
-AreOn bound _ _ _ = ⊥
+abbrev pub AreOn : Sites → List Way → List Part → ActList → Type 0
+AreOn s [] [] [] = Unit {0}
+AreOn s (w ∷ ws) (x ∷ xs) (o ∷ os) = IsOn s w x o × AreOn s ws xs os
+AreOn s _ _ _ = ⊥
 
 -- A unit procedure's first need is its unit, and no other act has one.
-unit_is : (bound : Binding) (l : Level) (a : Act) → is_of_level l a ≡ true → (unit : Name)
-    → unit_within l unit (asked_by (unit_with bound a.unit) a.needs.items) ≡ unit_below unit (unit_with bound a.unit)
-unit_is bound l a kind unit = grind (arith, and_parts)
+unit_is : (s : Sites) (l : Level) (a : Act) → is_of_level l a ≡ true → (unit : Name)
+    → unit_within l unit (needs_with s a) ≡ unit_below unit (unit_with s.bound a.unit)
+unit_is s l a kind unit = grind (arith, and_parts)
 
 module _ (bound : Binding) (acts : Acts) (kinds : are_kinds acts ≡ true) where
-  both : (ws : List Way) (xs : List Part) (os : ActList) (vs : List Way) (ys : List Part) (ps : ActList) → AreOn bound ws xs os → AreOn bound vs ys ps
-      → AreOn bound (ws ++ vs) (xs ++ ys) (os ++ ps)
+  abbrev on : Sites
+  on = sites bound acts
+
+  both : (ws : List Way) (xs : List Part) (os : ActList) (vs : List Way) (ys : List Part) (ps : ActList) → AreOn on ws xs os → AreOn on vs ys ps
+      → AreOn on (ws ++ vs) (xs ++ ys) (os ++ ps)
   both [] [] [] vs ys ps h g = g
   both (w ∷ ws) (x ∷ xs) (o ∷ os) vs ys ps h g = (h.0, both ws xs os vs ys ps h.1 g)
   both ws xs os vs ys ps h g = grind arith
 
   -- the nodes that a label expands to, on a unit
   abbrev Labels : Spot → (Name → Place → Tree) → (Name → ActList) → Type 0
-  Labels v trees named = (name : Name) (p : Place) (above : List Name) → AreOn bound (ways v (trees name p)) (parts v.level p above (trees name p)) (named name)
+  Labels v trees named = (name : Name) (p : Place) (above : List Name) → AreOn on (ways v (trees name p)) (parts v.level p above (trees name p)) (named name)
 
   module _ (v : Spot) (trees : Name → Place → Tree) (named : Name → ActList) (labels : Labels v trees named) where
-    bare : (p : Place) (above : List Name) (t : Tree) → IsNoAct t → spot_below v t ≡ v → IsOn bound (way v t) (part v.level p above t) None
+    bare : (p : Place) (above : List Name) (t : Tree) → IsNoAct t → spot_below v t ≡ v → IsOn on (way v t) (part v.level p above t) None
     bare p above t idle same = record { level = refl; here = (idle, same) }
 
     mutual
-      chart_on : (p : Place) (above : List Name) (d : Diagram) → AreOn bound (ways v (expanded trees p d)) (parts v.level p above (expanded trees p d)) (acts_along named d)
+      chart_on : (p : Place) (above : List Name) (d : Diagram) → AreOn on (ways v (expanded trees p d)) (parts v.level p above (expanded trees p d)) (acts_along named d)
       chart_on p above (label name) = labels name p above
       chart_on p above skip = (bare p above tree.skip tt refl, tt)
       chart_on p above (seq ds) = (bare p above (tree.seq (expanded_each trees p 0 ds)) tt refl, each_on p above 0 ds)
@@ -74,7 +77,7 @@ module _ (bound : Binding) (acts : Acts) (kinds : are_kinds acts ≡ true) where
       chart_on p above (loop turns until d) = (bare p above (tree.loop turns until (expanded trees (child p 0) d)) tt refl, chart_on (child p 0) above d)
 
       each_on : (p : Place) (above : List Name) (i : ℕ) (ds : Diagrams)
-          → AreOn bound (ways_of_each v (expanded_each trees p i ds)) (parts_of_each v.level p above i (expanded_each trees p i ds)) (acts_along_each named ds)
+          → AreOn on (ways_of_each v (expanded_each trees p i ds)) (parts_of_each v.level p above i (expanded_each trees p i ds)) (acts_along_each named ds)
       each_on p above i none = tt
       each_on p above i (more d ds) =
           let t = expanded trees (child p i) d in
@@ -83,7 +86,7 @@ module _ (bound : Binding) (acts : Acts) (kinds : are_kinds acts ≡ true) where
           (chart_on (child p i) above d) (each_on p above (i + 1) ds)
 
       cases_on : (p : Place) (above : List Name) (i : ℕ) (cs : Cases)
-          → AreOn bound (ways_of_choices v (expanded_cases trees p i cs)) (parts_of_choices v.level p above i (expanded_cases trees p i cs)) (acts_along_cases named cs)
+          → AreOn on (ways_of_choices v (expanded_cases trees p i cs)) (parts_of_choices v.level p above i (expanded_cases trees p i cs)) (acts_along_cases named cs)
       cases_on p above i (otherwise d) = chart_on (child p i) above d
       cases_on p above i (when c d cs) =
           let t = expanded trees (child p i) d in
@@ -92,7 +95,7 @@ module _ (bound : Binding) (acts : Acts) (kinds : are_kinds acts ≡ true) where
           (chart_on (child p i) above d) (cases_on p above (i + 1) cs)
 
     work_on : (unit name : Name) (p : Place) (above : List Name) (work : Work)
-        → AreOn bound (ways_within v (task_of trees unit name p work)) (parts_within v.level p above (task_of trees unit name p work)) (acts_below named work)
+        → AreOn on (ways_within v (task_of trees unit name p work)) (parts_within v.level p above (task_of trees unit name p work)) (acts_below named work)
     work_on unit name p above (Follows c) = chart_on (child p 0) above (diagram_of c)
     work_on unit name p above (Runs phase values reports) = tt
 
@@ -101,17 +104,17 @@ module _ (bound : Binding) (acts : Acts) (kinds : are_kinds acts ≡ true) where
   spot_from level unit = record { level = level_of level; unit = unit }
 
   abbrev LabelsFrom : Option table.LabelTable → Type 0
-  LabelsFrom level = (unit : Name) → Labels (spot_from level unit) (named_tree_with bound (tables_from acts level) unit) (acts_named (tables_from acts level))
+  LabelsFrom level = (unit : Name) → Labels (spot_from level unit) (named_tree_with on (tables_from acts level) unit) (acts_named (tables_from acts level))
 
   module _ (l : Level) (level : Option table.LabelTable) (under : below l ≡ level_of level) (labels : LabelsFrom level) (a : Act) (kind : is_of_level l a ≡ true) (unit : Name) (p : Place) (above : List Name) where
     abbrev trees : Name → Name → Place → Tree
-    trees = named_tree_with bound (tables_from acts level)
+    trees = named_tree_with on (tables_from acts level)
 
     abbrev own : Name
     own = unit_below unit (unit_with bound a.unit)
 
     abbrev step : Step
-    step = record { place = p; needs = asked_by (unit_with bound a.unit) a.needs.items }
+    step = step_of on a p
 
     abbrev task : Task
     task = task_of (trees own) own a.name p a.work
@@ -120,20 +123,20 @@ module _ (bound : Binding) (acts : Acts) (kinds : are_kinds acts ≡ true) where
     at = record { level = l; unit = unit }
 
     chart_at : spot_within at step ≡ spot_from level own
-    chart_at = ap₂ (λ (m : Level) (u : Name). record { level = m; unit = u }) under (unit_is bound l a kind unit)
+    chart_at = ap₂ (λ (m : Level) (u : Name). record { level = m; unit = u }) under (unit_is on l a kind unit)
 
-    act_on : AreOn bound (ways at (act_tree_with bound trees unit a p)) (parts l p above (act_tree_with bound trees unit a p)) (acts_from (acts_named (tables_from acts level)) a)
+    act_on : AreOn on (ways at (act_tree_with on trees unit a p)) (parts l p above (act_tree_with on trees unit a p)) (acts_from (acts_named (tables_from acts level)) a)
     act_on = (
-      record { level = refl; here = record { acts = trees; here_is = refl; kind = kind; under_level = refl; under_unit = unit_is bound l a kind unit } },
-      subst (λ (m : Level). AreOn bound (ways_within (spot_within at step) task) (parts_within m p (above ++ resources_of step.needs) task) (acts_below (acts_named (tables_from acts level)) a.work)) (sym under)
-          (subst (λ (v : Spot). AreOn bound (ways_within v task) (parts_within (level_of level) p (above ++ resources_of step.needs) task) (acts_below (acts_named (tables_from acts level)) a.work)) (sym chart_at)
+      record { level = refl; here = record { acts = trees; here_is = refl; kind = kind; under_level = refl; under_unit = unit_is on l a kind unit } },
+      subst (λ (m : Level). AreOn on (ways_within (spot_within at step) task) (parts_within m p (above ++ resources_of step.needs) task) (acts_below (acts_named (tables_from acts level)) a.work)) (sym under)
+          (subst (λ (v : Spot). AreOn on (ways_within v task) (parts_within (level_of level) p (above ++ resources_of step.needs) task) (acts_below (acts_named (tables_from acts level)) a.work)) (sym chart_at)
           (work_on (spot_from level own) (trees own) (acts_named (tables_from acts level)) (labels own) own a.name p (above ++ resources_of step.needs) a.work)),
     )
 
   -- the act that a table has under a name, or none
   found_on : (t : table.LabelTable) → LabelsFrom (level_below t) → (name : Name) (found : Option Act) → act_named (table_at acts t) name ≡ found → (unit : Name) (p : Place) (above : List Name)
-      → AreOn bound (ways (spot_from (Some t) unit) (elim found [ None ↦ tree.skip | Some a ↦ act_tree_with bound (named_tree_with bound (tables_from acts (level_below t))) unit a p ]))
-      (parts (level_of (Some t)) p above (elim found [ None ↦ tree.skip | Some a ↦ act_tree_with bound (named_tree_with bound (tables_from acts (level_below t))) unit a p ]))
+      → AreOn on (ways (spot_from (Some t) unit) (elim found [ None ↦ tree.skip | Some a ↦ act_tree_with on (named_tree_with on (tables_from acts (level_below t))) unit a p ]))
+      (parts (level_of (Some t)) p above (elim found [ None ↦ tree.skip | Some a ↦ act_tree_with on (named_tree_with on (tables_from acts (level_below t))) unit a p ]))
       (elim found [ None ↦ None ∷ [] | Some a ↦ acts_from (acts_named (tables_from acts (level_below t))) a ])
   found_on t labels name None is unit p above = (record { level = refl; here = (tt, refl) }, tt)
   found_on t labels name (Some a) is unit p above = act_on (level_of (Some t)) (level_below t) (below_is t) labels a (named_kind acts kinds t name a is) unit p above
@@ -150,11 +153,11 @@ module _ (bound : Binding) (acts : Acts) (kinds : are_kinds acts ≡ true) where
   of_unit_procedures : LabelsFrom (Some UnitProcedures)
   of_unit_procedures = λ unit name p above. found_on UnitProcedures of_operations name (act_named acts.unit_procedures.items name) refl unit p above
 
-  procedure_on : AreOn bound (bound_ways bound acts) (bound_parts bound acts) (procedure_acts acts)
+  procedure_on : AreOn on (bound_ways bound acts) (bound_parts bound acts) (procedure_acts acts)
   procedure_on = act_on is_procedure (Some UnitProcedures) refl of_unit_procedures acts.procedure (procedure_kind acts kinds) [] (0 ∷ []) []
 
-  on_at : (ws : List Way) (xs : List Part) (os : ActList) → AreOn bound ws xs os → (k : ℕ) (w : Way) (o : Option Act) → slice_get ws k ≡ Some w → slice_get os k ≡ Some o
-      → (x : Part) × (slice_get xs k ≡ Some x) × IsOn bound w x o
+  on_at : (ws : List Way) (xs : List Part) (os : ActList) → AreOn on ws xs os → (k : ℕ) (w : Way) (o : Option Act) → slice_get ws k ≡ Some w → slice_get os k ≡ Some o
+      → (x : Part) × (slice_get xs k ≡ Some x) × IsOn on w x o
   on_at [] [] [] h k w o is at = let bad : None ≡ Some w = is in cc
   on_at (v ∷ ws) (x ∷ xs) (q ∷ os) h zero w o is at = grind arith
   on_at (v ∷ ws) (x ∷ xs) (q ∷ os) h (suc k) w o is at = on_at ws xs os h.1 k w o is at
@@ -162,5 +165,5 @@ module _ (bound : Binding) (acts : Acts) (kinds : are_kinds acts ≡ true) where
 
   -- the node with this number stands on its way
   pub part_on : (k : ℕ) (w : Way) (o : Option Act) → slice_get (bound_ways bound acts) k ≡ Some w → slice_get (procedure_acts acts) k ≡ Some o
-      → (x : Part) × (slice_get (bound_parts bound acts) k ≡ Some x) × IsOn bound w x o
+      → (x : Part) × (slice_get (bound_parts bound acts) k ≡ Some x) × IsOn on w x o
   part_on k w o is at = on_at (bound_ways bound acts) (bound_parts bound acts) (procedure_acts acts) procedure_on k w o is at

@@ -49,7 +49,7 @@ fn role_named<'a>(roles: &'a [Role], name: &Name) -> Option<&'a Role>
 }
 
 /// The name of the unit that is the one with this index among those of the class.
-fn candidate_named<'a>(cell: &'a Cell, class: &Name, index: u16) -> Option<&'a Name>
+pub(crate) fn candidate_named<'a>(cell: &'a Cell, class: &Name, index: u16) -> Option<&'a Name>
     ensures { option_copied result ≡ slice_get (units_of_class cell.now class.now) index }
 {
     match cell.candidate(class, index) {

@@ -1,14 +1,15 @@
-//! Rules on `par`s and loops, which don't depend on the units that take the roles.
+//! Rules on `par`s and loops, and on what acts reserve, which don't depend on the units that take the roles.
 ghost use Rattle.std.specs.Prelude.{◌≡◌, ◌≢◌, ◌<◌, ◌≤◌, map, length, slice_get, Some, None, IfOk};
 ghost use Rattle.batch_recipe.specs.Nodes.{Node};
 ghost use Rattle.batch_recipe.specs.Outlines.{act_of, form_of};
 ghost use Rattle.batch_recipe.specs.Links.{form_at};
 ghost use Rattle.batch_recipe.specs.Procedure.{procedure_nodes};
-ghost use Rattle.batch_model.specs.Cleared.{below, surely_runs};
-ghost use Rattle.batch_verify.specs.Charts.{depth_is, AreFaults, IsFaultOf};
+ghost use Rattle.batch_model.specs.Cleared.{below, surely_runs, Part};
+ghost use Rattle.batch_verify.specs.Charts.{depth_is, of_chart, reserve_count, AreFaults, IsChartFault, ReservesAs};
 
 use crate::branch_phases::branches_run_apart;
 use crate::depth::Depth;
+use crate::reserve_faults::reserves_follow;
 use crate::rule::Rule;
 use crate::running_nodes::running_nodes;
 use batch_recipe::{Acts, Entry, Kind, Recipe};
@@ -48,7 +49,7 @@ fn chart_fault(
     requires known { node < length runs.now }
     requires runs { runs.now ≡ map (λ x. surely_runs x.here) (procedure_nodes recipe.now.acts) }
     ensures { IfOk result (λ fault. (x : Node) → slice_get (procedure_nodes recipe.now.acts) node ≡ Some x → form_of entry.now.kind ≡ form_at x.here
-        → IsFaultOf (record { level = depth_is depth; node = x }) fault) }
+        → IsChartFault (record { level = depth_is depth; node = x }) fault) }
 {
     match entry.kind {
         Kind::Par => match depth {
@@ -73,7 +74,34 @@ fn chart_fault(
     }
 }
 
-/// The rule that each node breaks as a `par` or a loop, by number.
+/// How many unit procedures the act at the node reserves.
+fn reserve_count(acts: &Acts, entry: &Entry) -> usize
+    ensures { result ≡ reserve_count (act_of acts.now entry.now.kind) }
+{
+    match entry.kind.act(acts) {
+        None => 0,
+        Some(act) => act.reserves.len(),
+    }
+}
+
+/// The rule that the node breaks as a `par` or a loop, which is this one, or by what it reserves.
+fn reserve_fault(recipe: &Recipe, entry: &Entry, node: u16, chart: Option<Rule>) -> Option<Rule>
+    requires { slice_get recipe.now.outline.entries.items node ≡ Some entry.now }
+    ensures { (x : Part) → IsChartFault x chart → IsChartFault x (of_chart result) × ReservesAs recipe.now.acts node result }
+{
+    match chart {
+        Some(rule) => Some(rule),
+        None => {
+            if reserves_follow(recipe, node, reserve_count(&recipe.acts, entry)) {
+                None
+            } else {
+                Some(Rule::ReserveDoesNotFollow)
+            }
+        }
+    }
+}
+
+/// The rule that each node breaks whatever units take the roles, by number.
 pub(crate) fn chart_faults(alloc: Global, recipe: &Recipe) -> Result<Vec<Option<Rule>>, AllocError>
     ensures { IfOk result (λ faults. AreFaults recipe.now.acts faults.items) }
 {
@@ -84,7 +112,8 @@ pub(crate) fn chart_faults(alloc: Global, recipe: &Recipe) -> Result<Vec<Option<
     for entry in &recipe.outline.entries {
         let depth = depth_above(&below, entry);
         let node = faults.len() as u16;
-        faults.push(chart_fault(alloc, recipe, &runs, entry, node, depth)?)?;
+        let chart = chart_fault(alloc, recipe, &runs, entry, node, depth)?;
+        faults.push(reserve_fault(recipe, entry, node, chart))?;
         below.push(depth_below(&recipe.acts, entry, depth))?;
     }
     Ok(faults)

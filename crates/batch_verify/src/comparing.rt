@@ -33,6 +33,7 @@ fn order(rule: Rule) -> u8
         Rule::PhaseNotOffered => 2,
         Rule::SamePhaseInParallel => 3,
         Rule::LoopWithoutPhase => 4,
-        Rule::RankNotRising => 5,
+        Rule::ReserveDoesNotFollow => 5,
+        Rule::RankNotRising => 6,
     }
 }

@@ -6,7 +6,7 @@ use Rattle.batch_matrix.specs.declared.report.Report.{Report}
 use Rattle.batch_recipe.specs.Conditions.{Name, ValueList}
 use Rattle.batch_recipe.specs.Texts.{line_text, place_text}
 use Rattle.batch_recipe.specs.declared.need.Need.{Need}
-use Rattle.batch_model.specs.Moves.{Move, send, state, release, begin, start, end, ask, grant}
+use Rattle.batch_model.specs.Moves.{Move, send, state, release, begin, start, end, pass, ask, grant}
 use Rattle.batch_model.specs.Events.{Refusal, unknown_recipe, unknown_batch, command_not_accepted, no_live_phase, report_not_expected, bad_output, output_left_out, bad_binding, bad_size, bad_value, full, not_idle, moves_pending, no_memory, Reply, created, ordered, removed, reported, refused}
 use Rattle.batch_model.specs.Runs.{Out, reply, move}
 
@@ -98,6 +98,7 @@ move_words (begin n place name) = codes "begin" ∷ decimal n ∷ place_text pla
 move_words (start n place phase values) =
     codes "start" ∷ decimal n ∷ place_text place ∷ phase.unit ∷ phase.name ∷ value_texts values
 move_words (end n place) = codes "end" ∷ decimal n ∷ place_text place ∷ []
+move_words (pass n place to need) = codes "pass" ∷ decimal n ∷ place_text place ∷ place_text to ∷ need_text need ∷ []
 move_words (ask n place need) = codes "ask" ∷ decimal n ∷ place_text place ∷ need_text need ∷ []
 move_words (grant n place need) = codes "grant" ∷ decimal n ∷ place_text place ∷ need_text need ∷ []
 

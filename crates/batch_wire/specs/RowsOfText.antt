@@ -7,7 +7,7 @@ use Rattle.batch_recipe.specs.Needs.{one_unit}
 use Rattle.batch_recipe.specs.Tree.{Phase}
 use Rattle.batch_recipe.specs.declared.need.Need.{Need}
 use Rattle.batch_model.specs.Events.{created, ordered, removed, reported, refused, report_not_expected, bad_output, output_left_out, bad_binding, bad_value, not_idle}
-use Rattle.batch_model.specs.Moves.{send, start, release, ask}
+use Rattle.batch_model.specs.Moves.{send, start, release, pass, ask}
 use Rattle.batch_model.specs.Runs.{reply, move}
 use Rattle.batch_wire.specs.RecordText.{out_text}
 
@@ -28,6 +28,9 @@ AskedUnits = out_text (move (ask 1 (0 ∷ 1 ∷ []) two_units)) ≡ codes "ask 1
 
 abbrev pub ReleasedUnit : Type 0
 ReleasedUnit = out_text (move (release 1 (0 ∷ 1 ∷ []) (one_unit (codes "STEAM")))) ≡ codes "release 1 0.1 STEAM\n"
+
+abbrev pub PassedUnit : Type 0
+PassedUnit = out_text (move (pass 1 (0 ∷ 0 ∷ 0 ∷ []) (0 ∷ 1 ∷ []) (one_unit (codes "R2")))) ≡ codes "pass 1 0.0.0 0.1 R2\n"
 
 abbrev pub CreatedReply : Type 0
 CreatedReply = out_text (reply (created 1 (codes "B") 7 ((codes "rx", codes "R2") ∷ (codes "ry", codes "R1") ∷ []))) ≡ codes "created 1 B 7 rx=R2 ry=R1\n"

@@ -1,8 +1,8 @@
 //! Writing a line of the record.
 ghost use Rattle.std.specs.Prelude.{◌≡◌, ◌≤◌, Some, ◌∷◌, [], ◌++◌, IfSome, map, codes, decimal, drop, length};
 ghost use Rattle.std.specs.List.{zip};
-ghost use Rattle.batch_recipe.specs.Texts.{line_text};
-ghost use Rattle.batch_engine.specs.Names.{handed_at, name_at, phase_name, recipe_name, resource_name, roles_of, roles_told};
+ghost use Rattle.batch_recipe.specs.Texts.{line_text, place_text};
+ghost use Rattle.batch_engine.specs.Names.{handed_at, name_at, need_of, phase_name, place_at, recipe_name, resource_name, roles_of, roles_told};
 ghost use Rattle.batch_engine.specs.Surface.{out_of, reply_of, move_of, refusal_of};
 ghost use Rattle.batch_engine.specs.declared.line.Line.TheVariants as lines;
 ghost use Rattle.batch_engine.specs.declared.reply.Reply.TheVariants as replies;
@@ -18,7 +18,7 @@ use crate::line_room::LineRoom;
 use crate::names::{
     act_name, handed_names, output_name, phase_name, recipe_name, resource_name, value_name,
 };
-use crate::places::{ToldPlace, write_place};
+use crate::places::{ToldPlace, write_node_place, write_place};
 use crate::recipe_places::RecipePlaces;
 use crate::site::Site;
 use crate::writing::{write_all, write_pieces};
@@ -175,6 +175,12 @@ fn site_of_move(line: Line) -> Option<Site>
             ..
         }
         | Line::End {
+            batch,
+            recipe,
+            node,
+            ..
+        }
+        | Line::Pass {
             batch,
             recipe,
             node,
@@ -455,6 +461,13 @@ fn write_move<W: Write>(
             ..
         } => write_start(place, cleared, recipe, node, unit, phase, values, writer),
         Line::End { .. } => write_apart(&[b"end "], place, &[b"\n"], writer),
+        Line::Pass {
+            recipe,
+            to,
+            resource,
+            units,
+            ..
+        } => write_pass(place, cleared, recipe, to, resource, units, writer),
         Line::Claim {
             kind,
             resource,
@@ -537,6 +550,39 @@ fn write_need<W: Write>(
         &[b" ", resource, b"*", units, b"\n"],
         writer,
     )
+}
+
+/// Writes that a unit is handed over: the batch and the act's place, the place of the unit procedure, the unit, and how many units of it
+/// where it is more than one.
+#[inline(never)]
+fn write_pass<W: Write>(
+    place: &ToldPlace<'_>,
+    cleared: &Cleared,
+    recipe: u16,
+    to: u16,
+    resource: u16,
+    units: u32,
+    writer: &mut W,
+) -> Result<(), WriteFault>
+    ensures { Writes (W.contents writer.old) (W.contents writer.new) result
+        (codes "pass " ++ line_text (told_text place.now ∷ place_text (place_at cleared.now recipe to) ∷ need_text (need_of cleared.now resource units) ∷ [])) }
+{
+    write_apart(&[b"pass "], place, &[b" "], writer)?;
+    write_node_place(cleared, recipe, to, writer)?;
+    write_told_need(resource_name(cleared, resource), units, writer)
+}
+
+/// Writes a need as the last word of a line.
+fn write_told_need<W: Write>(resource: &[u8], units: u32, writer: &mut W) -> Result<(), WriteFault>
+    ensures { Writes (W.contents writer.old) (W.contents writer.new) result
+        (codes " " ++ (need_text (record { resource = resource.now; units = units }) ++ codes "\n")) }
+{
+    if units <= 1 {
+        return write_pieces(writer, &[b" ", resource, b"\n"]);
+    }
+    let mut digits = Buffer::new();
+    let units = digits.format(units).as_bytes();
+    write_pieces(writer, &[b" ", resource, b"*", units, b"\n"])
 }
 
 fn write_start<W: Write>(

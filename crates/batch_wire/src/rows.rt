@@ -2,7 +2,7 @@
 ghost use Rattle.std.specs.Prelude.{◌≡◌};
 ghost use Rattle.batch_recipe.specs.declared.role.TheConstants.{MAX_ROLES};
 ghost use Rattle.batch_wire.specs.RowsOfLines.{BoundRoles, RoleBoundTwice, RoleWithoutUnit, FifthRole};
-ghost use Rattle.batch_wire.specs.RowsOfText.{SentCommand, HandedValues, AskedUnits, ReleasedUnit, CreatedReply, PlainReply, CommandReply, RemoveReply, FaultReply, RefusedReport, RefusedOutput, RefusedLeavingOut, RefusedBinding, RefusedValue, RefusedRemoval};
+ghost use Rattle.batch_wire.specs.RowsOfText.{SentCommand, HandedValues, AskedUnits, ReleasedUnit, PassedUnit, CreatedReply, PlainReply, CommandReply, RemoveReply, FaultReply, RefusedReport, RefusedOutput, RefusedLeavingOut, RefusedBinding, RefusedValue, RefusedRemoval};
 ghost use Rattle.batch_wire.specs.declared.event_line.TheConstants.{MAX_LINE_LEN};
 ghost use Rattle.batch_wire.specs.declared.report_line.TheConstants.{MAX_PAIRS};
 
@@ -18,6 +18,7 @@ pub fn record_lines()
     ensures handed_values { HandedValues }
     ensures asked_units { AskedUnits }
     ensures released_unit { ReleasedUnit }
+    ensures passed_unit { PassedUnit }
     ensures created_reply { CreatedReply }
     ensures plain_reply { PlainReply }
     ensures command_reply { CommandReply }

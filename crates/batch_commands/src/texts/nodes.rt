@@ -54,5 +54,6 @@ pub(crate) fn rule_code(rule: Rule) -> &'static str
         Rule::SamePhaseInParallel => "V6",
         Rule::LoopWithoutPhase => "V7",
         Rule::ShareAboveCapacity => "V9",
+        Rule::ReserveDoesNotFollow => "V11",
     }
 }

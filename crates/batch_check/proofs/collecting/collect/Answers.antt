@@ -9,7 +9,7 @@ use Rattle.batch_recipe.specs.declared.entry.Entry.{Entry}
 use Rattle.batch_recipe.specs.declared.entry.Kind.TheVariants as kind
 use Rattle.batch_check.specs.Edges.{Follows}
 use Rattle.batch_check.specs.Collecting.{IsReady, is_joined, kept_at_top, with_joined}
-use Rattle.batch_check.specs.Sites.{bound_on, nodes_on, needs_at}
+use Rattle.batch_check.specs.Sites.{bound_on, nodes_on, needs_at, sites_on}
 use Rattle.batch_check.specs.declared.path.Path.{Path}
 use Rattle.batch_check.proofs.Asking.{Follows-alone}
 use Rattle.batch_check.proofs.Collects.{AreJoined, AreJoined-at, AreJoined-with, IsTop, KeepsPaths, KeepsPaths-more, all_collected, is_above, top_of}
@@ -42,7 +42,7 @@ pub ask_act-requires-clause-needs : goal.ask_act-requires-clause-needs
 ask_act-requires-clause-needs c = λ number among.
     let at = (goal.at.ask_act-requires-clause-needs c).After-path_above-above in
     let needs_are : c.of.result.now ≡ needs_at c.args.site.now (entry at).kind = c.of.ensures c.args.site.now c.in_ok-needs.ensures in
-    let names = resources_of (asked_at (bound_on c.args.site.now) (act_of c.args.site.now.recipe.now.acts (entry at).kind)) in
+    let names = resources_of (asked_at (sites_on c.args.site.now) (act_of c.args.site.now.recipe.now.acts (entry at).kind)) in
     let below = numbers_below c.args.site.now.cell.now names number (subst (λ (needs : List (Option ℕ)). Contains needs (Some number)) needs_are among) in
     omega (arith, below, c.requires, c.loop-node.invariant.paths.grown.same_count)
 

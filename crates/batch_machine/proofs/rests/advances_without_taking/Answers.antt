@@ -2,4 +2,4 @@ use Rattle.batch_machine.proofs.Gathering.{held_in-advance, held_in-reach, phase
 use Rattle.batch_machine.proofs.rests.advances_without_taking.Goals as goal
 
 pub returns : goal.returns
-returns c = record { reached = held_in-reach; advanced = held_in-advance; reached_phases = phase_states-reach; advanced_phases = phase_states-advance }
+returns c = record { reached = λ mo chart none. held_in-reach mo none chart; advanced = λ mo r none. held_in-advance mo none r; reached_phases = phase_states-reach; advanced_phases = phase_states-advance }

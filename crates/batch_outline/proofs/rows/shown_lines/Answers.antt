@@ -11,6 +11,8 @@ returns c = record {
   first_line = rw (decimal_digit 0 (lit< tt)) refl;
   held_above = refl;
   own_need = λ e. cc;
+  reserved_unit = refl;
+  reserving_act = λ a name unit phase reserves needs. rw (name, unit, phase, reserves, needs, decimal_digit 2 (lit< tt)) refl;
   kinds = ((λ work. refl), (λ work. refl), (λ chart. refl));
   roles = refl;
 }

@@ -1,4 +1,4 @@
-use Rattle.std.proofs.Common.{◌≡◌, [], ◌∷◌, ◌++◌, ℕ, ◌+◌, List, Some, sym, ap, ap₂, ◌∙◌, arith, refl, append_assoc, length, codes, decimal, string_bytes}
+use Rattle.std.proofs.Common.{◌≡◌, [], ◌++◌, ◌+◌, Some, sym, ap, ap₂, ◌∙◌, arith, refl, append_assoc, length, codes, decimal, string_bytes}
 use Rattle.std.proofs.lemmas.Result.{on_ok_weaker}
 use Rattle.batch_recipe.specs.Diagram.{diagram_of}
 use Rattle.batch_recipe.specs.Expanding.{act_named}
@@ -6,9 +6,47 @@ use Rattle.batch_recipe.specs.Procedure.{table_at, tables_from}
 use Rattle.batch_recipe.proofs.Counts.{counted, counted_act, counted_name}
 use Rattle.batch_recipe.proofs.Tables.{counted_some}
 use Rattle.batch_recipe.proofs.Branches.{counted_at, counted_choice, counted_last}
-use Rattle.batch_outline.specs.Along.{along, choice_lines, if_text, labels_from, line, loop_text, part_lines, plain_line, seat_of}
+use Rattle.batch_outline.specs.Along.{act_lines, along, asked_text, below_act, choice_lines, if_text, labels_from, line, loop_text, plain_line, seat_of}
+use Rattle.batch_outline.specs.Showing.{act_text}
 use Rattle.batch_outline.proofs.Branching.{cases_last, cases_more, parts_more}
+use Rattle.batch_outline.proofs.Walked.{label_stands}
 use Rattle.batch_outline.proofs.walk.+walk.Goals as goal
+
+pub put_act-returns : goal.put_act-returns
+put_act-returns t c =
+    let r = c.args.recipe.now in
+    let a = c.args.act.now in
+    let named = labels_from r c.args.level in
+    let p = c.args.seat.place.now in
+    let d = diagram_of c.in-Follows.chart in
+    let old = string_bytes c.args.text.now in
+    let before = string_bytes c.put_line.new.text in
+    let head = act_text r.roles.items c.args.kind.now a in
+    let below = c.args.seat.held.now ++ asked_text r.acts a in
+    let top = plain_line (seat_of c.args.seat) head in
+    let rest = along named (record { place = p ++ (codes "." ++ decimal 0); held = below; branch = [] }) d in
+    let headed : c.deref.result.now ≡ head = c.deref.ensures ∙ c.in_ok-head.ensures in
+    let placed : c.deref-in-Follows.result.now ≡ p ++ (codes "." ++ decimal 0) = c.deref-in-Follows.ensures ∙ c.in_ok-place-in-Follows.ensures in
+    let held : c.deref-in-Follows-2.result.now ≡ below = c.deref-in-Follows-2.ensures ∙ c.in_ok-held-in-Follows.ensures in
+    let works : rest ≡ below_act named p below a.work = rw c.in-Follows.is refl in
+    on_ok_weaker c.put_chart.result
+    (λ told. told ∙ ap₂ (λ place held. before ++ along named (record { place = place; held = held; branch = [] }) d) placed held
+    ∙ ap (λ text. text ++ rest) (c.in_ok-put_line.ensures ∙ ap (λ h. old ++ plain_line (seat_of c.args.seat) h) headed) ∙ append_assoc old top rest
+    ∙ ap (λ text. old ++ (top ++ text)) works)
+    c.put_chart.ensures
+
+pub put_label-returns-in-Some-act_named : goal.put_label-returns-in-Some-act_named
+put_label-returns-in-Some-act_named t c =
+    let r = c.args.recipe.now in
+    let table = c.in-Some.table in
+    let a = c.in-Some-act_named.act.now in
+    let old = string_bytes c.args.text.now in
+    let seat = seat_of c.args.seat in
+    let found : act_named (table_at r.acts table) c.args.name.now ≡ Some a =
+    ap (λ ts. act_named ts c.args.name.now) (sym c.table.ensures) ∙ sym c.in-Some-act_named.ensures in
+    let stands : act_lines r.roles.items r.acts (labels_from r c.below.result) seat c.kind_below-kind.result.now a ≡ labels_from r c.args.level c.args.name.now seat =
+    rw (c.in-Some.is, c.below.ensures, c.kind_below-kind.ensures) (label_stands r table c.args.name.now a seat found) in
+    on_ok_weaker c.put_act.result (λ told. told ∙ ap (λ text. old ++ text) stands) c.put_act.ensures
 
 pub put_act-put_chart-requires : goal.put_act-put_chart-requires
 put_act-put_chart-requires t c =

@@ -1,6 +1,6 @@
 use Rattle.std.proofs.Common.{refl, rules, codes}
 use Rattle.std.proofs.lemmas.Result.{err_from_is_err_and}
-use Rattle.batch_recipe.specs.declared.act.TheConstants.{MAX_REPORTS, MAX_VALUES}
+use Rattle.batch_recipe.specs.declared.act.TheConstants.{MAX_REPORTS, MAX_RESERVES, MAX_VALUES}
 use Rattle.toml.specs.View.{table_view}
 use Rattle.batch_reader.proofs.EntryFaults.{few_told, label_told, name_or_told, table_told}
 use Rattle.batch_reader.specs.declared.fault.TableKind.TheVariants.{Phase}
@@ -34,6 +34,7 @@ returns-clause-ok c = record {
   runs = c.in_ok-phase.ensures.ok;
   values = c.in_ok-values.ensures.ok;
   reports = c.in_ok-reports.ensures.ok;
+  reserves = c.in_ok-reserves.ensures.ok;
 }
 
 pub returns-in_err-name-clause-told : goal.returns-in_err-name-clause-told
@@ -60,3 +61,13 @@ pub returns-in_err-reports-clause-told : goal.returns-in_err-reports-clause-told
 returns-in_err-reports-clause-told c =
     let p = err_from_is_err_and c.from_residual-in_err-reports.result c.from_residual-in_err-reports.ensures.1 in
     rw (p.1, p.2) (table_told Phase (table_view c.args.table.now) 4 _ refl _ _ (few_told (codes "reports") (table_view c.args.table.now) MAX_REPORTS _ _ c.in_err-reports.ensures.refused c.in_err-reports.ensures.told))
+
+pub returns-in_err-reserves-clause-refused : goal.returns-in_err-reserves-clause-refused
+returns-in_err-reserves-clause-refused c =
+    let p = err_from_is_err_and c.from_residual-in_err-reserves.result c.from_residual-in_err-reserves.ensures.1 in
+    rw (p.1, p.2) (λ known act h. c.in_err-reserves.ensures.refused known act.reserves.items h.reserves)
+
+pub returns-in_err-reserves-clause-told : goal.returns-in_err-reserves-clause-told
+returns-in_err-reserves-clause-told c =
+    let p = err_from_is_err_and c.from_residual-in_err-reserves.result c.from_residual-in_err-reserves.ensures.1 in
+    rw (p.1, p.2) (table_told Phase (table_view c.args.table.now) 5 _ refl _ _ (few_told (codes "reserves") (table_view c.args.table.now) MAX_RESERVES _ _ c.in_err-reserves.ensures.refused c.in_err-reserves.ensures.told))

@@ -1,8 +1,9 @@
 use Rattle.std.proofs.lemmas.Result.{err_from_is_err_and}
 use Rattle.std.proofs.Common.{◌≡◌, false, codes, refl, rules}
 use Rattle.toml.specs.Data.{get_member}
+use Rattle.batch_recipe.specs.declared.act.TheConstants.{MAX_RESERVES}
 use Rattle.toml.specs.View.{table_view}
-use Rattle.batch_reader.proofs.EntryFaults.{label_told, table_told}
+use Rattle.batch_reader.proofs.EntryFaults.{few_told, label_told, table_told}
 use Rattle.batch_reader.proofs.UnitChoices.{choice_refused, keys_refused, keys_with}
 use Rattle.batch_reader.specs.Entries.{has_only_keys}
 use Rattle.batch_reader.specs.Keys.{unit_key}
@@ -44,3 +45,13 @@ pub returns-in_err-chart-clause-told : goal.returns-in_err-chart-clause-told
 returns-in_err-chart-clause-told c =
     let p = err_from_is_err_and c.from_residual-in_err-chart.result c.from_residual-in_err-chart.ensures.1 in
     rw (p.1, p.2) (table_told UnitProcedure (table_view c.args.table.now) 3 _ refl _ _ (c.in_err-chart.ensures.told))
+
+pub returns-in_err-reserves-clause-refused : goal.returns-in_err-reserves-clause-refused
+returns-in_err-reserves-clause-refused c =
+    let p = err_from_is_err_and c.from_residual-in_err-reserves.result c.from_residual-in_err-reserves.ensures.1 in
+    rw (p.1, p.2) (λ known act h. c.in_err-reserves.ensures.refused known act.reserves.items h.reserves)
+
+pub returns-in_err-reserves-clause-told : goal.returns-in_err-reserves-clause-told
+returns-in_err-reserves-clause-told c =
+    let p = err_from_is_err_and c.from_residual-in_err-reserves.result c.from_residual-in_err-reserves.ensures.1 in
+    rw (p.1, p.2) (table_told UnitProcedure (table_view c.args.table.now) 4 _ refl _ _ (few_told (codes "reserves") (table_view c.args.table.now) MAX_RESERVES _ _ c.in_err-reserves.ensures.refused c.in_err-reserves.ensures.told))

@@ -1,9 +1,13 @@
-use Rattle.std.proofs.Common.{◌≡◌, [], ◌∷◌, Some, inl, inr, refl, codes, arith}
+use Rattle.std.proofs.Common.{◌≡◌, ◌≢◌, ◌&&◌, true, [], ◌∷◌, Some, ap, sym, inl, inr, refl, codes, arith, ◌∙◌}
+use Rattle.std.proofs.lemmas.Bool.{false≢true}
+use Rattle.std.specs.List.{list_all}
 use Rattle.batch_cell.specs.Equipment.{HasDeclaredUnits}
 use Rattle.batch_cell.specs.declared.module.Module.{Module}
 use Rattle.toml.specs.Data.{no_members, table}
 use Rattle.batch_grammar.specs.ChartGrammar.{here, no_offsets, whole, skip as reads_skip}
 use Rattle.batch_recipe.specs.Diagram.{skip}
+use Rattle.batch_recipe.specs.WellFormed.{are_distinct, is_among, reserves_among, reserves_once}
+use Rattle.batch_recipe.specs.declared.act.Act.{Act}
 use Rattle.batch_reader.specs.Keys.{needed, a_name}
 use Rattle.batch_reader.specs.RowsOfFaults.{on_unit, for_role, with_keys}
 use Rattle.batch_reader.proofs.laws.worked_faults.Goals as goal
@@ -55,3 +59,22 @@ returns-clause-no_later c = λ m unit h. unit_is_missing m unit h.before
 
 pub returns-clause-counts : goal.returns-clause-counts
 returns-clause-counts c = (inr (omega arith, refl), (λ h. elim h [ inl few ↦ omega (arith, few.0) | inr many ↦ omega (arith, many.1) ]), λ h. elim h [ inl few ↦ omega (arith, few.0) | inr many ↦ omega (arith, many.0) ])
+
+-- KEEP isn't MAKE
+keep_is_missing : (step : Act) → step.reserves.items ≡ codes "KEEP" ∷ [] → list_all (reserves_among (codes "MAKE" ∷ [])) (step ∷ []) ≢ true
+keep_is_missing step is all = false≢true (sym (ap (λ names. list_all (is_among (codes "MAKE" ∷ [])) names && true) is) ∙ all)
+
+keep_is_named : (step : Act) → step.reserves.items ≡ codes "KEEP" ∷ [] → list_all (reserves_among (codes "MAKE" ∷ codes "KEEP" ∷ [])) (step ∷ []) ≡ true
+keep_is_named step is = ap (λ names. list_all (is_among (codes "MAKE" ∷ codes "KEEP" ∷ [])) names && true) is
+
+keep_stands_twice : (step : Act) → step.reserves.items ≡ codes "KEEP" ∷ codes "KEEP" ∷ [] → list_all reserves_once (step ∷ []) ≢ true
+keep_stands_twice step is all = false≢true (sym (ap (λ names. are_distinct names && true) is) ∙ all)
+
+pub returns-clause-undeclared_reserve : goal.returns-clause-undeclared_reserve
+returns-clause-undeclared_reserve c = λ step is. record { before = refl; fails = keep_is_missing step is }
+
+pub returns-clause-declared_reserve : goal.returns-clause-declared_reserve
+returns-clause-declared_reserve c = λ step is h. h.fails (keep_is_named step is)
+
+pub returns-clause-reserve_twice : goal.returns-clause-reserve_twice
+returns-clause-reserve_twice c = λ step is. record { before = refl; fails = keep_stands_twice step is }

@@ -4,7 +4,7 @@ use Rattle.std.specs.List.{list_all}
 use Rattle.batch_recipe.specs.WellFormed.{reports_among, reports_few, reports_once}
 use Rattle.batch_reader.proofs.Truth.{and_true, both_true}
 use Rattle.batch_reader.proofs.ArrayFaults.{tells_weaker}
-use Rattle.batch_reader.proofs.PartsTold.{naming_fault, report_fault, role_fault}
+use Rattle.batch_reader.proofs.PartsTold.{naming_fault, report_fault, reserve_fault, role_fault}
 use Rattle.batch_reader.specs.PartFaults.{Parts}
 use Rattle.batch_reader.proofs.recipe_checks.check_recipe.Goals as goal
 
@@ -18,7 +18,7 @@ pub returns-clause-ok : goal.returns-clause-ok
 returns-clause-ok c =
     let counts = c.in_ok-check_counts.ensures in
     let steps = c.args.acts.now.phases.items in
-    on_ok_weaker c.check_reports.result (λ reports. record {
+    on_ok_weaker c.check_reserves.result (λ reserves. record {
       few_inputs = counts.values.0;
       few_parameters = counts.values.1;
       few_outputs = counts.values.2;
@@ -31,14 +31,25 @@ returns-clause-ok c =
       few_phases = counts.few_acts.2;
       well_formed = c.in_ok-check_names.ensures.ok;
       own_roles = c.in_ok-check_roles.ensures.ok;
-      own_reports = and_true (list_all reports_few steps) (list_all reports_once steps && list_all (reports_among c.args.outputs.now) steps) c.requires.few_reports reports;
-    }) c.check_reports.ensures.ok
+      own_reports = and_true (list_all reports_few steps) (list_all reports_once steps && list_all (reports_among c.args.outputs.now) steps) c.requires.few_reports c.in_ok-check_reports.ensures.ok;
+      own_reserves = reserves;
+    }) c.check_reserves.ensures.ok
 
 pub returns-clause-refused : goal.returns-clause-refused
-returns-clause-refused c =
+returns-clause-refused c = IfErr-weaker c.check_reserves.result _ _ (λ fault wrong known sound. wrong sound.own_reserves) c.check_reserves.ensures.refused
+
+pub returns-in_err-check_reports-clause-refused : goal.returns-in_err-check_reports-clause-refused
+returns-in_err-check_reports-clause-refused c =
+    let p = err_from_is_err_and c.from_residual-in_err-check_reports.result c.from_residual-in_err-check_reports.ensures.1 in
     let steps = c.args.acts.now.phases.items in
-    IfErr-weaker c.check_reports.result _ _ (λ fault wrong known sound.
-    wrong (both_true (list_all reports_few steps) (list_all reports_once steps && list_all (reports_among c.args.outputs.now) steps) sound.own_reports).1) c.check_reports.ensures.refused
+    rw (p.1, p.2) (λ known sound.
+    c.in_err-check_reports.ensures.refused (both_true (list_all reports_few steps) (list_all reports_once steps && list_all (reports_among c.args.outputs.now) steps) sound.own_reports).1)
+
+pub returns-in_err-check_reports-clause-stands : goal.returns-in_err-check_reports-clause-stands
+returns-in_err-check_reports-clause-stands c =
+    let p = err_from_is_err_and c.from_residual-in_err-check_reports.result c.from_residual-in_err-check_reports.ensures.1 in
+    let parts : Parts = record { inputs = c.args.inputs.now; parameters = c.args.parameters.now; outputs = c.args.outputs.now; roles = c.args.roles.now; acts = c.args.acts.now } in
+    rw (p.1, p.2) (tells_weaker _ _ (λ spot. report_fault parts spot.kind spot.entry) _ c.in_err-check_reports.ensures.stands)
 
 pub returns-in_err-check_roles-clause-refused : goal.returns-in_err-check_roles-clause-refused
 returns-in_err-check_roles-clause-refused c =
@@ -54,4 +65,4 @@ returns-in_err-check_roles-clause-stands c =
 pub returns-clause-stands : goal.returns-clause-stands
 returns-clause-stands c =
     let parts : Parts = record { inputs = c.args.inputs.now; parameters = c.args.parameters.now; outputs = c.args.outputs.now; roles = c.args.roles.now; acts = c.args.acts.now } in
-    IfErr-weaker c.check_reports.result _ _ (λ fault. tells_weaker _ _ (λ spot. report_fault parts spot.kind spot.entry) fault) c.check_reports.ensures.stands
+    IfErr-weaker c.check_reserves.result _ _ (λ fault. tells_weaker _ _ (λ spot. reserve_fault parts spot.kind spot.entry) fault) c.check_reserves.ensures.stands

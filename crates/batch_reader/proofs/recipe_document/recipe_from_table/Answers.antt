@@ -54,6 +54,7 @@ new-requires c =
       few_roles = sound.few_roles;
       own_roles = sound.own_roles;
       own_reports = sound.own_reports;
+      own_reserves = sound.own_reserves;
       some_unit_procedures = sound.some_unit_procedures;
       few_unit_procedures = sound.few_unit_procedures;
       some_operations = sound.some_operations;

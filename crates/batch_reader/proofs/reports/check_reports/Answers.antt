@@ -2,11 +2,10 @@ use Rattle.std.proofs.Common.{◌≡◌, true}
 use Rattle.std.proofs.lemmas.Result.{err_from_is_err_and, on_ok_weaker, IfErr-weaker}
 use Rattle.std.specs.List.{list_all}
 use Rattle.batch_recipe.specs.WellFormed.{reports_among, reports_once}
-use Rattle.batch_reader.proofs.ArrayFaults.{in_among}
 use Rattle.batch_reader.proofs.EntryFaults.{err_both}
 use Rattle.batch_reader.proofs.PartsTold.{kind_told}
 use Rattle.batch_reader.proofs.Truth.{both_true, and_true}
-use Rattle.batch_reader.specs.Faults.{IsReportFault, is_of_recipe}
+use Rattle.batch_reader.specs.Faults.{IsReportFault}
 use Rattle.batch_reader.specs.PartFaults.{FailsFirst}
 use Rattle.batch_reader.specs.declared.fault.EntryFault.TheVariants.{Duplicate, Undeclared}
 use Rattle.batch_reader.specs.declared.fault.TableKind.TheVariants.{Phase}

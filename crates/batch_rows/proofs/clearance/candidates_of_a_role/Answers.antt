@@ -2,8 +2,7 @@ use Rattle.std.proofs.Common.{◌≡◌, ◌⊎◌, ⊎_elim, inl, inr, refl, sy
 use Rattle.std.proofs.lemmas.Slice.Eq.{bytes_eq-Decides}
 use Rattle.batch_recipe.specs.Conditions.{Name}
 use Rattle.batch_recipe.specs.WellFormed.{is_among}
-use Rattle.batch_model.specs.Lists.{Each}
-use Rattle.batch_model.specs.Cleared.{IsClear, procedure_parts}
+use Rattle.batch_model.specs.Cleared.{IsClearedControl}
 use Rattle.batch_rows.specs.RowDocuments.{r1, r2, hdr, rx, master_b}
 use Rattle.batch_rows.specs.RowsOfClearance.{with_master, units_first}
 use Rattle.batch_rows.proofs.clearance.candidates_of_a_role.Goals as goal
@@ -18,7 +17,7 @@ either u h = go (bytes_eq u r1) (bytes_eq u r2) refl refl h
 
 -- the recipe is clear with the unit in the role
 abbrev ClearOn : Name → Type 0
-ClearOn unit = Each (IsClear (with_master master_b) units_first) (procedure_parts (master_b.control (λ role. unit)))
+ClearOn unit = IsClearedControl (with_master master_b) units_first (master_b.control (λ role. unit))
 
 on_r1 : ClearOn r1
 on_r1 = grind arith
@@ -40,10 +39,10 @@ returns-clause-each c = record {
 }
 
 pub returns-clause-one : goal.returns-clause-one
-returns-clause-one c = λ rank h. grind (arith, h.recipes.0.1 (λ role. r2) (λ u. refl, tt))
+returns-clause-one c = λ rank h. grind (arith, (h.recipes.0.1 (λ role. r2) (λ u. refl, tt)).clear)
 
 pub returns-clause-header : goal.returns-clause-header
-returns-clause-header c = λ rank h. grind (arith, h.recipes.0.1 (λ role. hdr) (λ u. refl, tt))
+returns-clause-header c = λ rank h. grind (arith, (h.recipes.0.1 (λ role. hdr) (λ u. refl, tt)).clear)
 
 pub returns-clause-none : goal.returns-clause-none
 returns-clause-none c = λ rank h. grind (arith, (h.recipes.0.0.0 refl).1)

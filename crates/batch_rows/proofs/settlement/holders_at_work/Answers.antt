@@ -14,7 +14,7 @@ returns-clause-phase c = (
   batch 1 Running (holds p0 (one_unit hdr) (phase_at p00)),
   inl refl,
   refl,
-  inr (record { place = p00; needs = [] }, on r1 add, Running, inr (inl refl), (0 ∷ [], refl)),
+  inr (record { place = p00; needs = []; reserves = [] }, on r1 add, Running, inr (inl refl), (0 ∷ [], refl)),
 )
 
 pub returns-clause-batch : goal.returns-clause-batch
@@ -29,7 +29,7 @@ beside (inl halting) = absurd cc
 beside (inr phase) =
     elim phase.3 [
       | inl e ↦ absurd cc
-      | inr (inl e) ↦ apart phase.0 (let same : ◌≡◌ {A = Step} (record { place = p001; needs = [] }) phase.0 = cc in ap (λ (z : Step). z.place) same) phase.4.0 phase.4.1
+      | inr (inl e) ↦ apart phase.0 (let same : ◌≡◌ {A = Step} (record { place = p001; needs = []; reserves = [] }) phase.0 = cc in ap (λ (z : Step). z.place) same) phase.4.0 phase.4.1
       | inr (inr none) ↦ absurd none
     ]
 

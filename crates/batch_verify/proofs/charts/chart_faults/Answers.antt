@@ -7,6 +7,7 @@ use Rattle.batch_recipe.specs.declared.entry.Entry.{Entry}
 use Rattle.batch_recipe.specs.declared.entry.Kind.TheVariants as kind
 use Rattle.batch_recipe.proofs.Climbing.{as_many}
 use Rattle.batch_model.specs.Cleared.{surely_runs}
+use Rattle.batch_verify.specs.Charts.{ReservesAs}
 use Rattle.batch_verify.proofs.Faults.{KeepsFaults-none, KeepsFaults-more, all_faults}
 use Rattle.batch_verify.proofs.charts.chart_faults.Goals as goal
 
@@ -15,6 +16,17 @@ chart_fault-requires-clause-known c =
     let nodes = procedure_nodes c.args.recipe.now.acts in
     let runs : length c.in_ok-runs.runs.items ≡ length nodes = ap length c.in_ok-runs.ensures ∙ length-map nodes (λ (x : Node). surely_runs x.here) in
     omega (arith, c.len-node.ensures, c.loop-entry.invariant.many, c.loop-entry-test.true, ap length c.deref-entry-items.ensures.value, as_many c.args.recipe.now, runs, ap length c.deref-in-loop-entry.ensures.value)
+
+pub reserve_fault-requires : goal.reserve_fault-requires
+reserve_fault-requires c =
+    let r = c.args.recipe.now in
+    let n = c.loop-entry.entry-index in
+    let zero : Entry = record { kind = kind.Skip; end = 0; parent = 0; child = 0; needs = 0; detail = 0 } in
+    let entry : Entry = get_or c.deref-entry-items.result.now n zero in
+    let is : slice_get r.outline.entries.items n ≡ Some entry =
+    ap (λ xs. slice_get xs n) (sym c.deref-entry-items.ensures.value) ∙ slice_get-get_or c.deref-entry-items.result.now n zero c.loop-entry-test.true in
+    let node : n ≡ c.len-node.result = omega (arith, c.len-node.ensures, c.loop-entry.invariant.many) in
+    subst (λ k. slice_get r.outline.entries.items k ≡ Some entry) node is
 
 pub loop-entry-init : goal.loop-entry-init
 loop-entry-init c = rw (c.in_ok-below.ensures.items, c.in_ok-faults.ensures.items) (KeepsFaults-none c.args.recipe.now)
@@ -32,8 +44,9 @@ loop-entry-preserved c =
     let more = KeepsFaults-more r c.loop-entry.below.items c.loop-entry.faults.items n h entry is c.depth_above-depth.result
     (λ d d_is. c.depth_above-depth.ensures.some d (ap (λ xs. slice_get xs entry.parent) c.deref.ensures.value ∙ d_is))
     (λ past. c.depth_above-depth.ensures.none (omega (arith, past, ap length c.deref.ensures.value)))
-    c.depth_below.result c.depth_below.ensures.act c.depth_below.ensures.chart c.in_ok-chart_fault.field-0
-    (λ x x_is formed. c.in_ok-chart_fault.ensures x (subst (λ k. slice_get (procedure_nodes r.acts) k ≡ Some x) node x_is) formed) in
+    c.depth_below.result c.depth_below.ensures.act c.depth_below.ensures.chart c.in_ok-chart.chart c.reserve_fault.result
+    (λ x x_is formed. c.in_ok-chart.ensures x (subst (λ k. slice_get (procedure_nodes r.acts) k ≡ Some x) node x_is) formed)
+    (λ x broken. let both = c.reserve_fault.ensures x broken in (both.0, subst (λ k. ReservesAs r.acts k c.reserve_fault.result) (sym node) both.1)) in
     rw (c.in_ok-push.ensures.items, c.in_ok-push-2.ensures.items) more
 
 pub returns : goal.returns

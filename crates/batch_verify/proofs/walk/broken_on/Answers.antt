@@ -9,7 +9,7 @@ use Rattle.batch_recipe.specs.declared.role.Role.{Role}
 use Rattle.batch_recipe.proofs.Climbing.{as_many}
 use Rattle.batch_model.specs.Cleared.{Level}
 use Rattle.batch_model.specs.Setups.{setup_of}
-use Rattle.batch_verify.specs.Bindings.{numbered}
+use Rattle.batch_verify.specs.Trials.{bound_by}
 use Rattle.batch_verify.specs.Offers.{AreOffered, offering_unit, with_offering}
 use Rattle.batch_verify.specs.Refusals.{ranking_in, IsFirstBroken}
 use Rattle.batch_verify.specs.Ways.{bound_parts}
@@ -17,6 +17,8 @@ use Rattle.batch_verify.specs.Walking.{IsEntered}
 use Rattle.batch_verify.specs.declared.rule.Rule.{Rule}
 use Rattle.batch_verify.specs.declared.site.Path.{Path}
 use Rattle.batch_verify.proofs.Offers.{AreOffered-with}
+use Rattle.batch_recipe.specs.Procedure.{bound_tree, sites}
+use Rattle.batch_verify.proofs.Reserving.{reserves_named}
 use Rattle.batch_verify.proofs.Paths.{KeepsPaths-more, number_above, looked, fault_known, path_stops, paths_end}
 use Rattle.batch_verify.proofs.walk.broken_on.Goals as goal
 
@@ -32,7 +34,7 @@ look-requires c =
     let cell = c.args.cell.now in
     let r = c.args.recipe.now in
     let ranking = ranking_in cell (option_copied c.args.ranks) in
-    let bound = numbered cell r.roles.items c.args.binding in
+    let bound = bound_by cell r.roles.items c.args.trial in
     let n = c.loop-entry.entry-index in
     let h = c.loop-entry.invariant.paths in
     let paths = c.loop-entry.paths.items in
@@ -42,6 +44,7 @@ look-requires c =
     let above = c.path_above-above.result in
     record {
       asks = c.requires.asks;
+      reserved = λ a act_is. reserves_named r.acts r.kinds r.own_reserves entry.kind a act_is;
       known = λ a unit act_is known_is.
           c.loop-entry.invariant.offered entry.kind a unit act_is
           (ap (λ units. offering_unit units entry.kind) (sym c.deref-in-loop-entry-2.ensures.value) ∙ (sym c.offering_unit-known.ensures ∙ known_is));
@@ -56,7 +59,7 @@ returns-in-Err c = λ recipes.
     let cell = c.args.cell.now in
     let r = c.args.recipe.now in
     let ranking = ranking_in cell (option_copied c.args.ranks) in
-    let bound = numbered cell r.roles.items c.args.binding in
+    let bound = bound_by cell r.roles.items c.args.trial in
     let n = c.loop-entry.entry-index in
     let h = c.loop-entry.invariant.paths in
     let paths = c.loop-entry.paths.items in
@@ -69,14 +72,14 @@ returns-in-Err c = λ recipes.
     let fault_is : slice_get c.args.faults.now n ≡ Some fault =
     ap (slice_get c.args.faults.now) node ∙ slice_get-get_or c.args.faults.now c.len-node.result None
     (omega (arith, node, c.loop-entry-test.true, ap length c.deref-entry-items.ensures.value, as_many r, c.requires.faults.as_many)) in
-    let entered = subst (λ (roles : List Role). (a : Act) → act_of r.acts entry.kind ≡ Some a → (level : Level) → IsEntered cell (numbered cell roles c.args.binding) ranking level above a (Err c.in-Err.rule))
+    let entered = subst (λ (roles : List Role). (a : Act) → act_of r.acts entry.kind ≡ Some a → (level : Level) → IsEntered cell (sites (bound_by cell roles c.args.trial) r.acts) ranking fault level above a (Err c.in-Err.rule))
     c.deref.ensures.value c.in-Err.ensures.act in
     let some = (λ (q : Path) (q_is : slice_get paths entry.parent ≡ Some q). c.path_above-above.ensures.some q (ap (λ xs. slice_get xs entry.parent) c.deref-in-loop-entry.ensures.value ∙ q_is)) in
     let none = (λ (past : length paths ≤ entry.parent). c.path_above-above.ensures.none (omega (arith, past, ap length c.deref-in-loop-entry.ensures.value))) in
     let known = fault_known cell ranking bound r paths n h entry is above some none c.args.faults.now c.requires.faults fault fault_is in
     let broken = looked cell ranking bound r paths n h entry is above some none (Err c.in-Err.rule) fault known entered c.in-Err.ensures.chart in
     let at : 0 + n ≡ c.len-node.result = omega (arith, node) in
-    subst (λ k. IsFirstBroken (setup_of cell recipes) ranking (bound_parts bound r.acts) 0 (record { node = k; rule = c.in-Err.rule })) at
+    subst (λ k. IsFirstBroken (setup_of cell recipes) ranking (bound_tree bound r.acts) (bound_parts bound r.acts) 0 (record { node = k; rule = c.in-Err.rule })) at
     (path_stops cell ranking bound r paths n h entry is above some none c.in-Err.rule broken recipes)
 
 pub loop-entry-preserved : goal.loop-entry-preserved
@@ -84,7 +87,7 @@ loop-entry-preserved c =
     let cell = c.args.cell.now in
     let r = c.args.recipe.now in
     let ranking = ranking_in cell (option_copied c.args.ranks) in
-    let bound = numbered cell r.roles.items c.args.binding in
+    let bound = bound_by cell r.roles.items c.args.trial in
     let n = c.loop-entry.entry-index in
     let h = c.loop-entry.invariant.paths in
     let paths = c.loop-entry.paths.items in
@@ -97,7 +100,7 @@ loop-entry-preserved c =
     let fault_is : slice_get c.args.faults.now n ≡ Some fault =
     ap (slice_get c.args.faults.now) node ∙ slice_get-get_or c.args.faults.now c.len-node.result None
     (omega (arith, node, c.loop-entry-test.true, ap length c.deref-entry-items.ensures.value, as_many r, c.requires.faults.as_many)) in
-    let entered = subst (λ (roles : List Role). (a : Act) → act_of r.acts entry.kind ≡ Some a → (level : Level) → IsEntered cell (numbered cell roles c.args.binding) ranking level above a (Ok c.in-Ok.path))
+    let entered = subst (λ (roles : List Role). (a : Act) → act_of r.acts entry.kind ≡ Some a → (level : Level) → IsEntered cell (sites (bound_by cell roles c.args.trial) r.acts) ranking fault level above a (Ok c.in-Ok.path))
     c.deref.ensures.value c.in-Ok.ensures.act in
     let some = (λ (q : Path) (q_is : slice_get paths entry.parent ≡ Some q). c.path_above-above.ensures.some q (ap (λ xs. slice_get xs entry.parent) c.deref-in-loop-entry.ensures.value ∙ q_is)) in
     let none = (λ (past : length paths ≤ entry.parent). c.path_above-above.ensures.none (omega (arith, past, ap length c.deref-in-loop-entry.ensures.value))) in
@@ -115,5 +118,5 @@ loop-entry-preserved c =
 
 pub returns : goal.returns
 returns c = λ recipes.
-    paths_end c.args.cell.now (ranking_in c.args.cell.now (option_copied c.args.ranks)) (numbered c.args.cell.now c.args.recipe.now.roles.items c.args.binding) c.args.recipe.now
+    paths_end c.args.cell.now (ranking_in c.args.cell.now (option_copied c.args.ranks)) (bound_by c.args.cell.now c.args.recipe.now.roles.items c.args.trial) c.args.recipe.now
     c.loop-entry.paths.items c.loop-entry.entry-index c.loop-entry.invariant.paths (omega (arith, c.loop-entry-test.false, ap length c.deref-entry-items.ensures.value)) recipes

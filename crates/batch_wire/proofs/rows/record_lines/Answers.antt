@@ -8,6 +8,7 @@ returns c = record {
   handed_values = rw (decimal_digit 1 (lit< tt), decimal_digit 0 (lit< tt), decimal_digit 3 (lit< tt), decimal_digit 7 (lit< tt)) refl;
   asked_units = rw (decimal_digit 1 (lit< tt), decimal_digit 0 (lit< tt), decimal_digit 2 (lit< tt)) refl;
   released_unit = rw (decimal_digit 1 (lit< tt), decimal_digit 0 (lit< tt)) refl;
+  passed_unit = rw (decimal_digit 1 (lit< tt), decimal_digit 0 (lit< tt)) refl;
   created_reply = rw (decimal_digit 1 (lit< tt), decimal_digit 7 (lit< tt)) refl;
   plain_reply = rw (decimal_digit 1 (lit< tt), decimal_digit 7 (lit< tt)) refl;
   command_reply = rw (decimal_digit 2 (lit< tt)) refl;

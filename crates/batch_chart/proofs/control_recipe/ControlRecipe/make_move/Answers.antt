@@ -32,6 +32,9 @@ end-requires-clause-allowed c = rw c.in-End.is at c.requires.allowed
 pub release-requires-clause-allowed : goal.release-requires-clause-allowed
 release-requires-clause-allowed c = rw c.in-Release.is at c.requires.allowed
 
+pub pass_on-requires-clause-allowed : goal.pass_on-requires-clause-allowed
+pass_on-requires-clause-allowed c = rw c.in-Pass.is at c.requires.allowed
+
 pub returns-in-Begin : goal.returns-in-Begin
 returns-in-Begin c = record { made = rw c.in-Begin.is c.begin.ensures.made; kept = c.begin.ensures.kept }
 
@@ -40,3 +43,6 @@ returns-in-End c = record { made = rw c.in-End.is c.end.ensures.made; kept = c.e
 
 pub returns-in-Release : goal.returns-in-Release
 returns-in-Release c = record { made = rw c.in-Release.is c.release.ensures.made; kept = c.release.ensures.kept }
+
+pub returns-in-Pass : goal.returns-in-Pass
+returns-in-Pass c = record { made = rw c.in-Pass.is c.pass_on.ensures.made; kept = c.pass_on.ensures.kept }

@@ -1,4 +1,4 @@
-use Rattle.std.proofs.Common.{◌∙◌}
+use Rattle.std.proofs.Common.{◌∙◌, refl}
 use Rattle.std.proofs.lemmas.List.{with_items_is}
 use Rattle.batch_chart.proofs.Runs.{stopped-runs}
 use Rattle.batch_chart.proofs.running.Running.stop_all.Goals as goal
@@ -6,4 +6,4 @@ use Rattle.batch_chart.proofs.running.Running.stop_all.Goals as goal
 pub returns : goal.returns
 returns c =
     let is = with_items_is c.args.self.now.stages c.withdraw.new.stages (c.withdraw.auto.stages ∙ c.deref_mut.ensures.len) in
-    λ t old. stopped-runs c.args.self.now _ _ is (rw c.deref_mut.ensures.value at c.withdraw.ensures.withdrawn) (rw c.deref_mut.ensures.value at c.withdraw.ensures.shown) t old
+    λ t old. stopped-runs c.args.self.now _ _ is (rw c.deref_mut.ensures.value at c.withdraw.ensures.withdrawn) (rw c.deref_mut.ensures.value at c.withdraw.ensures.shown) t refl old

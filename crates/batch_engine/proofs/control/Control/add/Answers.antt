@@ -8,6 +8,7 @@ use Rattle.batch_model.specs.Events.{new_batch, Answer}
 use Rattle.batch_model.specs.Runs.{Reacts, IsCreated}
 use Rattle.batch_arbiter.specs.Allocation.{Allocation}
 use Rattle.batch_chart.specs.Charts.{IsRunningOf}
+use Rattle.batch_chart.specs.Early.{in_advance}
 use Rattle.batch_chart.specs.NodesOf.{needs_in}
 use Rattle.batch_engine.specs.declared.batch.Batch.{Batch}
 use Rattle.batch_engine.specs.View.{EngineView, seen, setup, bound_to, recipe_at, tree_at, batch_of, plant_of}
@@ -88,7 +89,8 @@ made c =
       kept = subst IsKept c.self.view_is c.self.invariant.kept;
       number = number;
       runs = left.0;
-      new = ap₂ (λ n r. let d : Model.Batch = record { number = n; recipe = recipe_at v.cleared c.args.recipe c.args.units; size = c.args.size; values = c.args.values; state = Idle; rest = r } in d) number left.1;
+      new = ap₂ (λ n r. let d : Model.Batch = record { number = n; recipe = recipe_at v.cleared c.args.recipe c.args.units; size = c.args.size; values = c.args.values; state = Idle; rest = r; in_advance = in_advance (tree_at v.cleared c.args.recipe c.args.units) c.in-Ok.running.held.items } in d) number left.1
+          ∙ ap (λ early. let d : Model.Batch = record (new_batch v.next_number (recipe_at v.cleared c.args.recipe c.args.units) c.args.size c.args.values) { in_advance = early } in d) (sym left.2.held);
       enough = omega (arith, c.needs_with-needs.ensures c.args.units, c.in-Ok-reserve.ensures.ok);
     }
 

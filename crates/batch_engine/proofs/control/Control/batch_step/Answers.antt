@@ -8,7 +8,7 @@ use Rattle.batch_engine.specs.View.{EngineView, batch_of, plant_of, setup, tree_
 use Rattle.batch_engine.proofs.AtRest.{stopped-moves}
 use Rattle.batch_engine.proofs.BatchPlaces.{Has-batch_of}
 use Rattle.batch_engine.proofs.Finding.{has}
-use Rattle.batch_engine.proofs.Seats.{IsRead, IsSeat, read-at, seat-of}
+use Rattle.batch_engine.proofs.Seats.{IsRead, IsSeat, read-at, recipe-batch, recipe-tree, seat-of}
 use Rattle.batch_engine.proofs.Told.{safe}
 use Rattle.batch_engine.proofs.Upcoming.{grant-least, no-move, own-least}
 use Rattle.batch_engine.proofs.control.Control.batch_step.Goals as goal
@@ -28,9 +28,9 @@ returns-in-Some c =
         chart = c.recipe-chart.result.now;
         here = record { at = s.at; listed = s.listed };
         can = c.in-Some.ensures.possible;
-        about = c.in-Some.ensures.about (tree_of v.cleared b) s.chart s.runs;
+        about = c.in-Some.ensures.about (tree_of v.cleared b) s.chart (recipe-tree s) s.runs;
         is = own-least v c.args.index b (move_of (tree_of v.cleared b) (batch_of v.cleared b) c.in-Some.made) s.at
-            (sym (c.in-Some.ensures.next (tree_of v.cleared b) (batch_of v.cleared b) s.chart s.runs refl refl));
+            (sym (c.in-Some.ensures.next (tree_of v.cleared b) (batch_of v.cleared b) s.chart s.runs refl refl (recipe-batch s)));
       },
     )
 
@@ -41,14 +41,14 @@ returns-in_err-node c =
     let s = seat (goal.at.returns-in_err-node c).After-recipe-chart in
     let grants : IsFirstGrant v b None = subst (IsFirstGrant v b) c.in_err-node.was c.first_grant.ensures in
     subst (IsBatchStep v c.args.index) (sym c.from_residual.ensures)
-    (no-move v c.args.index b s.at (sym (c.in_default.ensures.next (tree_of v.cleared b) (batch_of v.cleared b) s.chart s.runs refl refl)) grants)
+    (no-move v c.args.index b s.at (sym (c.in_default.ensures.next (tree_of v.cleared b) (batch_of v.cleared b) s.chart s.runs refl refl (recipe-batch s))) grants)
 
 pub returns : goal.returns
 returns c =
     let v : EngineView = c.args.self.now in
     let b : Batch = c.index-batch.result.now in
     let s = seat (goal.at.returns c).After-recipe-chart in
-    let own : ◌≡◌ {A = Option Moves.Move} None (own_next (batch_of v.cleared b)) = c.in_default.ensures.next (tree_of v.cleared b) (batch_of v.cleared b) s.chart s.runs refl refl in
+    let own : ◌≡◌ {A = Option Moves.Move} None (own_next (batch_of v.cleared b)) = c.in_default.ensures.next (tree_of v.cleared b) (batch_of v.cleared b) s.chart s.runs refl refl (recipe-batch s) in
     let found : IsFirstGrant v b (Some (c.in_ok-node.node, c.in_ok-node.resource, c.in_ok-node.units)) = subst (IsFirstGrant v b) c.in_ok-node.was c.first_grant.ensures in
     let g = found c.args.index s.at in (
       refl,

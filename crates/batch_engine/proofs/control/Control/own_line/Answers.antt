@@ -6,7 +6,7 @@ use Rattle.batch_engine.specs.declared.line.Line.{Line}
 use Rattle.batch_engine.specs.Steps.{IsMover, IsNext, Tells, TellsNext}
 use Rattle.batch_engine.specs.View.{EngineView}
 use Rattle.batch_engine.proofs.Seats.{mover, needs-there}
-use Rattle.batch_engine.proofs.Telling.{ask-told, begin-told, end-told, release-told, state-told}
+use Rattle.batch_engine.proofs.Telling.{ask-told, begin-told, end-told, pass-told, release-told, state-told}
 use Rattle.batch_engine.proofs.control.Control.own_line.Goals as goal
 use Rattle.batch_engine.proofs.control.Control.own_line.Goals.{After-index-batch}
 
@@ -43,6 +43,17 @@ returns-in-Release c =
     let h = moves (goal.at.returns-in-Release c).After-index-batch (Chart.Release c.in-Release.node c.in-Release.need) c.in-Release.is in
     let number = c.resource_at-share.ensures c.args.self.now (needs-there c.args.index (c.deref.ensures.value ∙ ap (λ (z : EngineView). z.numbers) c.self.view_is) h.kept h.at h.about.0 h.about.1) in
     next h (subst (Tells c.args.self.now c.index-batch.result.now (Chart.Release c.in-Release.node c.in-Release.need)) (sym c.claim_line.ensures) (release-told c.args.self.now h.kept c.args.index c.index-batch.result.now h.at number))
+
+pub resource_at-share-requires-in-Pass : goal.resource_at-share-requires-in-Pass
+resource_at-share-requires-in-Pass c =
+    let h = moves (goal.at.resource_at-share-requires-in-Pass c).After-index-batch (Chart.Pass c.in-Pass.node c.in-Pass.to c.in-Pass.need) c.in-Pass.is in
+    (c.args.self.now, needs-there c.args.index (c.deref-in-Pass.ensures.value ∙ ap (λ (z : EngineView). z.numbers) c.self.view_is) h.kept h.at h.about.0 h.about.2)
+
+pub returns-in-Pass : goal.returns-in-Pass
+returns-in-Pass c =
+    let h = moves (goal.at.returns-in-Pass c).After-index-batch (Chart.Pass c.in-Pass.node c.in-Pass.to c.in-Pass.need) c.in-Pass.is in
+    let number = c.resource_at-share-in-Pass.ensures c.args.self.now (needs-there c.args.index (c.deref-in-Pass.ensures.value ∙ ap (λ (z : EngineView). z.numbers) c.self.view_is) h.kept h.at h.about.0 h.about.2) in
+    next h (subst (Tells c.args.self.now c.index-batch.result.now (Chart.Pass c.in-Pass.node c.in-Pass.to c.in-Pass.need)) (sym c.pass_line.ensures) (pass-told c.args.self.now h.kept c.args.index c.index-batch.result.now h.at c.in-Pass.to number))
 
 pub resource_at-share-requires-in-Ask : goal.resource_at-share-requires-in-Ask
 resource_at-share-requires-in-Ask c =

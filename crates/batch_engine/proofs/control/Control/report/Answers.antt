@@ -72,7 +72,7 @@ made c j fine =
     let left = c.report.ensures (tree_of c.args.self.now.cleared c.index_mut-batch.result.now) j.seat.chart j.seat.runs in
     report-made j c.args.report.now.word c.args.report.now.outputs.items c.requires.settled c.args.report.now.done_alone c.in-Some-after_report._end ends fine (sym c.left_out.ensures ∙ c.in_default-left_out.is)
     c.set_outputs.new.self (c.set_outputs.ensures ∙ ap (λ xs. with_values xs c.index_mut-batch.result.now.values) c.deref-3.ensures.value) c.report.new.self left.0
-    (left.1 c.in-Some.live.state c.in-Some-after_report._end (j.phase.live c.recipe-chart.result.now j.seat.listed) ends) c.state_after-next.result c.state_after-next.ensures
+    (λ d e runs. left.1 c.in-Some.live.state c.in-Some-after_report._end d (j.phase.live c.recipe-chart.result.now j.seat.listed) ends e runs) c.state_after-next.result c.state_after-next.ensures
 
 pub invariant_of-self : goal.invariant_of-self
 invariant_of-self c =

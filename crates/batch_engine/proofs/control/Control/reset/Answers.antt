@@ -29,7 +29,7 @@ made c s =
     ap (λ (m : Master). (m.control (bound_to v.cleared b.recipe b.units)).outputs) (master-found v.cleared b.recipe c.recipe-chart.result.now s.listed) ∙ sym c.deref.ensures.value in
     let left = λ (ws : ValueList). c.reset.ensures (tree_of v.cleared b) ws s.chart s.runs in
     reset-made v s.kept c.args.index c.args.number (order-at v c.args.index Reset c.args.number c.requires.order b s.at) c.reset.new.self c.clear_outputs.new.self
-    (c.clear_outputs.ensures ∙ ap (λ z. with_outputs_zero z b.values) (sym outputs)) (left []).0 (λ ws. (left ws).1)
+    (c.clear_outputs.ensures ∙ ap (λ z. with_outputs_zero z b.values) (sym outputs)) (left []).0 (λ ws. (left ws).2)
 
 pub reset-requires : goal.reset-requires
 reset-requires c = (seat (goal.at.reset-requires c).After-recipe-chart).running

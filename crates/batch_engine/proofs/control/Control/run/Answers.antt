@@ -2,12 +2,12 @@ use Rattle.std.proofs.Common.{◌∙◌, refl, sym, ap, subst, ℕ}
 use Rattle.batch_arbiter.specs.Allocation.{Allocation, asked}
 use Rattle.batch_chart.specs.Seen.{move_of}
 use Rattle.batch_chart.specs.declared.chart_move.Move.{Move}
-use Rattle.batch_chart.specs.declared.chart_move.Move.TheVariants.{Ask, Release, State}
+use Rattle.batch_chart.specs.declared.chart_move.Move.TheVariants.{Ask, Pass, Release, State}
 use Rattle.batch_chart.specs.declared.running.Running.{Running}
 use Rattle.batch_engine.specs.declared.batch.Batch.{Batch}
 use Rattle.batch_engine.specs.Steps.{IsClaimed, IsMaking, IsMover, IsOfAct}
 use Rattle.batch_engine.specs.View.{EngineView, batch_of, tree_of}
-use Rattle.batch_engine.proofs.Made.{Becomes, MadeChart, ask-made, release-made, run-quiet}
+use Rattle.batch_engine.proofs.Made.{Becomes, MadeChart, ask-made, pass-made, release-made, run-quiet}
 use Rattle.batch_engine.proofs.RoomForAsk.{room-for-ask}
 use Rattle.batch_engine.proofs.Seats.{IsSeat, chart-within, closed-makes, counted-set, mover, seat-of}
 use Rattle.batch_engine.proofs.Stepping.{changed}
@@ -24,6 +24,9 @@ becomes {v} {i} {b} (Ask node need) h {r} {a} act (q, u, number, is) made =
 becomes {v} {i} {b} (Release node need) h {r} {a} act (q, u, number, is) made =
     subst (λ (z : Allocation). Becomes v (changed v i (record b { running = r }) z) (move_of (tree_of v.cleared b) (batch_of v.cleared b) (Release node need))) (sym is)
     (release-made v h.kept i b h.at node need q r h.about number.0 made h.is)
+becomes {v} {i} {b} (Pass node to need) h {r} {a} act (q, u, number, is) made =
+    subst (λ (z : Allocation). Becomes v (changed v i (record b { running = r }) z) (move_of (tree_of v.cleared b) (batch_of v.cleared b) (Pass node to need))) (sym is)
+    (pass-made v h.kept i b h.at node to need q r h.about number.0 made h.is)
 becomes (State state) h act is made = absurd act
 becomes {v} {i} {b} m h {r} {a} act is made =
     subst (λ (z : Allocation). Becomes v (changed v i (record b { running = r }) z) (move_of (tree_of v.cleared b) (batch_of v.cleared b) m)) (sym is)

@@ -3,8 +3,9 @@ use Rattle.batch_matrix.specs.declared.state.State.{State}
 use Rattle.batch_arbiter.specs.Allocation.{withdrawn}
 use Rattle.batch_engine.specs.declared.batch.Batch.{Batch}
 use Rattle.batch_engine.specs.Orders.{IsOrder}
-use Rattle.batch_engine.specs.View.{EngineView, tree_of}
+use Rattle.batch_engine.specs.View.{EngineView, batch_of, tree_of}
 use Rattle.batch_engine.proofs.Finding.{batch-runs}
+use Rattle.batch_engine.proofs.Made.{runs-as}
 use Rattle.batch_engine.proofs.OrderAnswers.{order-at}
 use Rattle.batch_engine.proofs.Ordering.{Ordered, stop-made}
 use Rattle.batch_engine.proofs.Seats.{IsRead, closed-ordered, counted-set, read-there}
@@ -25,7 +26,7 @@ made c =
     let left = c.stop_all.ensures (tree_of v.cleared b) (batch-runs v r.kept c.args.index b r.at).runs in
     subst (λ n. Ordered v (changed v c.args.index (record b { state = c.args.state; running = c.stop_all.new.self }) (withdrawn n v.allocation)) c.args.command c.args.number) o.number
     (subst (λ (x : State). Ordered v (changed v c.args.index (record b { state = x; running = c.stop_all.new.self }) (withdrawn b.number v.allocation)) c.args.command c.args.number) (sym c.requires.target)
-    (stop-made v r.kept c.args.index c.args.command c.args.number o c.requires.ends c.stop_all.new.self left.0 left.1))
+    (stop-made v r.kept c.args.index c.args.command c.args.number o c.requires.ends c.stop_all.new.self left.0 (left.2 (batch_of v.cleared b).rest (batch_of v.cleared b).in_advance (runs-as v r.kept c.args.index b r.at))))
 
 pub invariant_of-self : goal.invariant_of-self
 invariant_of-self c =

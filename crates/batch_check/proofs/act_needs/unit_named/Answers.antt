@@ -1,0 +1,7 @@
+use Rattle.std.proofs.Common.{ap, sym, ◌∙◌}
+use Rattle.batch_check.specs.Edges.{number_of_resource}
+use Rattle.batch_check.specs.Sites.{bound_on}
+use Rattle.batch_check.proofs.act_needs.unit_named.Goals as goal
+
+pub returns : goal.returns
+returns c = c.unit_chosen.ensures ∙ ap (number_of_resource c.args.site.now.cell.now) (sym (c.unit_reserved.ensures (bound_on c.args.site.now)))

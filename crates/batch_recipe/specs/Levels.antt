@@ -1,0 +1,16 @@
+-- trusted: the levels of the procedural model, at which the nodes of an expanded tree stand.
+
+-- where a node stands: it is the procedure, or it is in the chart of a procedure, whose labels stand for unit procedures, in that
+-- of a unit procedure, whose labels stand for operations, or in that of an operation, whose labels stand for phase steps
+pub data Level : Type 0 where
+  is_procedure : Level
+  in_procedure : Level
+  in_unit_procedure : Level
+  in_operation : Level
+
+-- the level of the chart of an act at this level; a phase step has none
+abbrev pub below : Level → Level
+below is_procedure = in_procedure
+below in_procedure = in_unit_procedure
+below in_unit_procedure = in_operation
+below in_operation = in_operation

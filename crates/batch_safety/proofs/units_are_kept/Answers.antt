@@ -1,0 +1,6 @@
+use Rattle.batch_laws.proofs.Clearing.{cleared-down}
+use Rattle.batch_safety.proofs.KeptAlong.{units-kept}
+use Rattle.batch_safety.proofs.units_are_kept.Goals as goal
+
+pub returns : goal.returns
+returns c setup rank kept cleared = units-kept setup rank (cleared-down setup rank kept cleared)
