@@ -3,7 +3,7 @@ use batch_serve::{ServeFault, SetFault};
 use thiserror::Error;
 
 /// What is found of a record.
-#[derive(Clone, Copy, Debug, PartialEq, Eq)]
+#[derive(Clone, Copy)]
 pub enum Finding {
     /// It is the record of the lines that were sent.
     Agrees,
@@ -14,7 +14,7 @@ pub enum Finding {
 }
 
 /// Why nothing is found of a record.
-#[derive(Clone, Copy, Debug, PartialEq, Eq, Error)]
+#[derive(Clone, Copy, Debug, Error)]
 pub enum AuditFault {
     /// The line with this number ends as a refusal for want of memory does. What comes of such a record isn't judged.
     #[error("line {0} of the record says that there was no memory")]

@@ -1,7 +1,7 @@
 //! Edges between resources.
 
 /// The act at a node of a recipe asks for `later`, and `earlier` is asked for before on its path.
-#[derive(Clone, Copy, Debug, PartialEq, Eq)]
+#[derive(Clone, Copy, Debug)]
 pub struct Edge {
     /// The recipe's number, from 0 in the order given.
     pub recipe: u16,

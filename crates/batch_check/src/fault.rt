@@ -9,7 +9,7 @@ use thiserror::Error;
 
 /// Why no ranking clears recipes for a cell: the first fault in the order of these. Want of memory stands where a growth was
 /// refused.
-#[derive(Debug, PartialEq, Eq, Error, Drop)]
+#[derive(Debug, Error, Drop)]
 pub enum CheckFault {
     /// Two recipes have one name, or there are too many.
     #[error("two recipes have one name, or there are too many")]

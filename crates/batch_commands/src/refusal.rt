@@ -7,7 +7,7 @@ use batch_sentences::Sentence;
 use std::alloc::{AllocError, AllocFailed};
 
 /// What a refusal is for.
-#[derive(Clone, Copy, Debug, PartialEq, Eq)]
+#[derive(Clone, Copy)]
 pub enum RefusalKind {
     /// A document, a certificate or the recipes have a fault.
     Fault,
@@ -38,7 +38,7 @@ impl RefusalKind {
 }
 
 /// What the program prints of what it refuses, and how it ends then.
-#[derive(Debug, Drop)]
+#[derive(Drop)]
 pub struct DocumentRefusal {
     /// The lines for standard output, each with its line feed.
     pub text: String,
@@ -49,7 +49,7 @@ pub struct DocumentRefusal {
 }
 
 /// Why a command ends without what it was to print or to serve.
-#[derive(Debug, Drop)]
+#[derive(Drop)]
 pub enum Halt {
     /// Something is refused, or there was no memory to judge it, which its refusal says.
     Refused(DocumentRefusal),

@@ -18,7 +18,7 @@ pub struct Desk {
 }
 
 /// The event for which there was no place.
-#[derive(Debug, Drop)]
+#[derive(Drop)]
 pub struct Full(pub Event);
 
 impl Model for Desk {

@@ -1,7 +1,7 @@
 //! How a loop ended.
 
 /// How a loop ended.
-#[derive(Clone, Copy, Debug, PartialEq, Eq)]
+#[derive(Clone, Copy, Debug)]
 pub enum LoopEnd {
     /// All that was to come has come.
     Done,

@@ -8,7 +8,7 @@ use crate::scope::Scope;
 const MAX_PLACES: usize = 4096;
 
 /// The plan of a port: what it is told of, and how many places its rings have, for events and for outs.
-#[derive(Clone, Copy, Debug, PartialEq, Eq)]
+#[derive(Clone, Copy)]
 pub struct PortPlan {
     pub scope: Scope,
     pub event_places: usize,

@@ -5,7 +5,7 @@ ghost use Rattle.batch_desk.specs.Due.{sees};
 use batch_engine::Line;
 
 /// Which moves a port is told of, beside the replies to its own events.
-#[derive(Clone, Copy, Debug, PartialEq, Eq)]
+#[derive(Clone, Copy)]
 pub enum Scope {
     /// Every move, as a console is.
     All,

@@ -1,7 +1,7 @@
 //! What a console sends next.
 
 /// What a console sends next.
-#[derive(Clone, Copy, Debug, PartialEq, Eq)]
+#[derive(Clone, Copy, PartialEq, Eq)]
 pub(crate) enum Step {
     Create,
     /// The start of the batch with this number.

@@ -3,7 +3,7 @@ use batch_matrix::{Command, State};
 use batch_recipe::MAX_VALUES;
 
 /// What becomes of a claim on a resource.
-#[derive(Clone, Copy, Debug, PartialEq, Eq)]
+#[derive(Clone, Copy)]
 pub enum ClaimKind {
     /// An act asks for units of the resource.
     Asked,
@@ -15,7 +15,7 @@ pub enum ClaimKind {
 
 /// A move, by numbers: of its batch, mostly of the recipe and the node of an act, of a unit and its phase, of a resource and how
 /// many units of its capacity. `==` looks at every place, also of a start's values that mean nothing.
-#[derive(Clone, Copy, Debug, PartialEq, Eq)]
+#[derive(Clone, Copy)]
 pub enum Line {
     /// A phase is told to do something.
     Send {

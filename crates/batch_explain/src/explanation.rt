@@ -7,7 +7,7 @@ use crate::table::explanations;
 use std::alloc::{AllocError, Global};
 
 /// What a code means, and what to do where it is met.
-#[derive(Clone, Copy, Debug, PartialEq, Eq)]
+#[derive(Clone, Copy)]
 pub struct Explanation {
     /// The code as it is printed behind `refused`.
     pub code: &'static str,

@@ -6,7 +6,7 @@ use std::alloc::{AllocError, AllocFailed};
 use thiserror::Error;
 
 /// Why a text gives no chart. Offsets count its bytes from 0.
-#[derive(Clone, Copy, Debug, PartialEq, Eq, Error)]
+#[derive(Clone, Copy, Debug, Error)]
 pub enum ChartFault {
     /// The length of the longest front of the text that begins some chart, whatever its numbers.
     #[error("not a chart at byte {0}")]
@@ -19,7 +19,7 @@ pub enum ChartFault {
 }
 
 /// Why a text can't be read on.
-#[derive(Clone, Copy, Debug)]
+#[derive(Clone, Copy)]
 pub enum Stop {
     NotAChart,
     Memory,

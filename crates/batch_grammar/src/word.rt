@@ -9,7 +9,7 @@ use batch_text::Name;
 use std::alloc::Global;
 
 /// What a word is: one of the six words with a meaning, or a name.
-#[derive(Clone, Copy, Debug, PartialEq, Eq)]
+#[derive(Clone, Copy)]
 pub enum Word {
     Name,
     Skip,

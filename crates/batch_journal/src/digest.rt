@@ -8,7 +8,7 @@ use itoa::Buffer;
 use sha2::{Digest, Sha256};
 
 /// The SHA-256 of documents: 64 lower-case hexadecimal digits.
-#[derive(Clone, Copy, Debug, PartialEq, Eq)]
+#[derive(Clone, Copy)]
 pub struct Digits {
     text: [u8; 64],
     ghost plain: { IsPlain text },

@@ -8,7 +8,7 @@ use std::io::ErrorKind;
 use thiserror::Error;
 
 /// Why a call of a disk failed. What it did of its work isn't known, so the next start recovers the file.
-#[derive(Clone, Copy, Debug, PartialEq, Eq, Error)]
+#[derive(Clone, Copy, Debug, Error)]
 pub enum DiskError {
     /// The file can't be read, written, cut or synced.
     #[error("the journal can't be read, written or synced")]

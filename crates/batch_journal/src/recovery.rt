@@ -14,7 +14,7 @@ use std::alloc::Global;
 use thiserror::Error;
 
 /// Why a file wasn't recovered. It stays as it is.
-#[derive(Clone, Copy, Debug, PartialEq, Eq, Error)]
+#[derive(Clone, Copy, Debug, Error)]
 pub enum RecoveryFault {
     /// A call of the disk failed, or there was no memory for the bytes.
     #[error("{0}")]

@@ -7,7 +7,7 @@ ghost use Rattle.batch_journal.specs.Lines.{IsLine};
 use sha2::{Digest, Sha256};
 
 /// The sum of the last group, or that of the documents, which stands before the first one: lower-case hexadecimal digits.
-#[derive(Clone, Copy, Debug, PartialEq, Eq)]
+#[derive(Clone, Copy)]
 pub enum Sum {
     /// The SHA-256 of the documents, from the header.
     Documents([u8; 64]),

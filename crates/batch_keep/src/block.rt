@@ -26,7 +26,7 @@ use thiserror::Error;
 const HEADER_LEN: usize = 84;
 
 /// Why there is no recovery block.
-#[derive(Clone, Copy, Debug, PartialEq, Eq, Error)]
+#[derive(Clone, Copy, Debug, Error)]
 pub enum BlockFault {
     /// There was no memory, or an event or a line of the journal was refused for want of it.
     #[error("out of memory")]

@@ -16,7 +16,7 @@ use std::alloc::Global;
 use thiserror::Error;
 
 /// Why there is no start over a journal.
-#[derive(Clone, Copy, Debug, PartialEq, Eq, Error)]
+#[derive(Clone, Copy, Debug, Error)]
 pub enum StartFault {
     /// The journal wasn't recovered.
     #[error("{0}")]

@@ -17,7 +17,7 @@ pub enum Report {
 }
 
 /// What an accepted report makes of its phase.
-#[derive(Clone, Copy, Debug, PartialEq, Eq)]
+#[derive(Clone, Copy, PartialEq, Eq)]
 pub enum PhaseEnd {
     /// The phase has ended.
     Ended,

@@ -2,7 +2,7 @@
 use crate::answer::Answer;
 
 /// How many batches are still to be completed, which unit is the next to tick, and the answer that is to be reported.
-#[derive(Clone, Copy, Debug, PartialEq, Eq)]
+#[derive(Clone, Copy)]
 pub(crate) struct Link {
     pub(crate) left: u64,
     pub(crate) next: u16,

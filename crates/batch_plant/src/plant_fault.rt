@@ -2,7 +2,7 @@
 use thiserror::Error;
 
 /// Why a plant didn't run to its end. Of several the first in this order is told.
-#[derive(Clone, Copy, Debug, PartialEq, Eq, Error)]
+#[derive(Clone, Copy, Debug, Error)]
 pub enum PlantFault {
     /// There was no memory for the engine, or for the rings.
     #[error("out of memory")]

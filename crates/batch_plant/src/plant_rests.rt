@@ -2,7 +2,7 @@
 
 /// How many outs are still to be taken at each port. None where that isn't known: an end of a ring was lost, or the port
 /// couldn't be closed.
-#[derive(Clone, Copy, Debug, PartialEq, Eq)]
+#[derive(Clone, Copy, Debug)]
 pub struct PlantRests {
     pub console: Option<usize>,
     pub link: Option<usize>,

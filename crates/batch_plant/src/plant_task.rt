@@ -2,7 +2,7 @@
 use batch_text::Name;
 
 /// What a plant is to do: as many batches of the recipe, in this size, are created and started, and run until they are complete.
-#[derive(Debug, Drop)]
+#[derive(Drop)]
 pub struct PlantTask {
     pub recipe: Name,
     pub size: u64,

@@ -77,7 +77,7 @@ impl fmt::Display for Spot {
 }
 
 /// What is wrong with a table.
-#[derive(Clone, Copy, Debug, PartialEq, Eq, Error)]
+#[derive(Clone, Copy, Debug, Error)]
 pub enum EntryFault {
     /// A key that the table needs is missing (of a unit procedure, both `unit` and `role`), or the document has no procedure.
     #[error("a key is missing")]
@@ -103,7 +103,7 @@ pub enum EntryFault {
 }
 
 /// Why a document is refused. Where several faults stand, it is the first that the reader meets.
-#[derive(Clone, Copy, Debug, PartialEq, Eq, Error)]
+#[derive(Clone, Copy, Debug, Error)]
 pub enum DocFault {
     #[error("not a TOML document")]
     NotToml,
@@ -114,7 +114,7 @@ pub enum DocFault {
 }
 
 /// Why a table is refused.
-#[derive(Clone, Copy, Debug, PartialEq, Eq, Error)]
+#[derive(Clone, Copy, Debug, Error)]
 pub(crate) enum TableFault {
     #[error("{0}: {1}")]
     Entry(Spot, EntryFault),

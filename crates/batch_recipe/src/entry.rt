@@ -6,7 +6,7 @@ use crate::act::Act;
 use crate::acts::{Acts, LabelTable};
 
 /// What stands at a node.
-#[derive(Clone, Copy, PartialEq, Eq)]
+#[derive(Clone, Copy)]
 pub enum Kind {
     Skip,
     /// The recipe's procedure.
@@ -21,7 +21,7 @@ pub enum Kind {
 }
 
 /// A node. It is the child with the number `child` of the node `parent`, and the root is child 0 of itself.
-#[derive(Clone, Copy, PartialEq, Eq)]
+#[derive(Clone, Copy)]
 pub struct Entry {
     pub kind: Kind,
     /// The number past all nodes below it, which come right after it.

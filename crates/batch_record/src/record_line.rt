@@ -8,7 +8,7 @@ use crate::read::read_out;
 use crate::told::Told;
 
 /// The line is no line of a record.
-#[derive(Clone, Copy, Debug, PartialEq, Eq)]
+#[derive(Clone, Copy)]
 pub struct NoRecordLine;
 
 /// What the line tells, which comes without its line feed: an out, or nothing where it is a comment or says that an event line was

@@ -9,7 +9,7 @@ use toml::Table;
 use toml::de::Error;
 
 /// Which document is to stand at a path.
-#[derive(Clone, Copy, Debug, PartialEq, Eq)]
+#[derive(Clone, Copy)]
 pub enum Asked {
     Cell,
     Recipe,

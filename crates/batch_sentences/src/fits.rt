@@ -5,7 +5,7 @@ use std::alloc::{AllocError, Global};
 use toml::Value;
 
 /// How a value suits its key.
-#[derive(Clone, Copy, PartialEq)]
+#[derive(Clone, Copy)]
 pub(crate) enum Fit {
     Good,
     WrongKind,

@@ -6,7 +6,7 @@ use crate::showing::shown;
 use std::alloc::{AllocError, Global};
 
 /// What a refusal means, for a person.
-#[derive(Debug, Drop)]
+#[derive(Drop)]
 pub struct Sentence {
     /// One line, without its line feed.
     pub text: String,

@@ -5,7 +5,7 @@ use batch_recipe::{Kind, LabelTable, MAX_NODES, Recipe};
 use std::alloc::{AllocError, Global};
 
 /// The document of a recipe: its path, and in which lines the tables of its acts begin.
-#[derive(Debug, Drop)]
+#[derive(Drop)]
 pub struct Source {
     /// The path, with its control characters told by escapes.
     path: String,

@@ -13,7 +13,7 @@ use std::io::{ErrorKind, Write};
 use std::marker::PhantomData;
 
 /// Where a text stands.
-#[derive(Clone, Copy, Debug, PartialEq, Eq)]
+#[derive(Clone, Copy)]
 pub enum Spot {
     /// At the start of a line.
     Start,

@@ -2,7 +2,7 @@
 use batch_matrix::Command;
 
 /// What a unit is told to do with a phase that it offers.
-#[derive(Clone, Copy, Debug, PartialEq, Eq)]
+#[derive(Clone, Copy)]
 pub enum Order {
     /// The phase starts.
     Start,

@@ -7,7 +7,7 @@ use crate::order::Order;
 use batch_matrix::{Command, Report, State, ends_as};
 
 /// A phase of a steady unit: its state, and how many ticks it has to run.
-#[derive(Clone, Copy, Debug, PartialEq, Eq)]
+#[derive(Clone, Copy)]
 pub(crate) struct SteadyPhase {
     pub(crate) state: State,
     pub(crate) ticks_left: u64,

@@ -12,7 +12,7 @@ use batch_record::{NoRecordLine, Told, read_record_line};
 use std::alloc::Global;
 
 /// Why a line wasn't taken.
-#[derive(Clone, Copy, Debug, PartialEq, Eq)]
+#[derive(Clone, Copy)]
 pub enum LineFault {
     /// It is no line of a record.
     NoRecord,

@@ -19,7 +19,7 @@ use thiserror::Error;
 const PIECE_LEN: usize = 65_536;
 
 /// Why a record wasn't read.
-#[derive(Clone, Copy, Debug, PartialEq, Eq, Error)]
+#[derive(Clone, Copy, Debug, Error)]
 pub enum StatusFault {
     /// The line with this number is no line of a record.
     #[error("line {0} is no line of a record")]

@@ -7,7 +7,7 @@ use crate::shape::Shape;
 use std::fmt;
 
 /// A picture of so many points, in which a later shape covers an earlier one. Its text is SVG.
-#[derive(Debug, Drop)]
+#[derive(Drop)]
 pub struct Picture {
     pub width: u64,
     pub height: u64,

@@ -15,7 +15,7 @@ use std::alloc::{AllocError, Global};
 use thiserror::Error;
 
 /// Why a record wasn't drawn.
-#[derive(Clone, Copy, Debug, PartialEq, Eq, Error)]
+#[derive(Clone, Copy, Debug, Error)]
 pub enum RecordFault {
     /// The line with this number, counted from 1, is no line of a record.
     #[error("line {0} is no line of a record")]

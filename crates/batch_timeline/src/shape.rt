@@ -6,7 +6,7 @@ use batch_text::Name;
 use std::fmt;
 
 /// A thin line between two points.
-#[derive(Clone, Copy, Debug)]
+#[derive(Clone, Copy)]
 pub struct Grid {
     pub left: u64,
     pub top: u64,
@@ -32,7 +32,7 @@ impl fmt::Display for Grid {
 }
 
 /// Which end of a text stands at its place.
-#[derive(Clone, Copy, Debug, PartialEq, Eq)]
+#[derive(Clone, Copy)]
 pub enum Anchor {
     Start,
     Middle,
@@ -52,7 +52,7 @@ impl fmt::Display for Anchor {
 }
 
 /// A text on a line that ends at its place, stands around it, or begins there.
-#[derive(Debug, Drop)]
+#[derive(Drop)]
 pub struct Label {
     pub left: u64,
     pub base: u64,
@@ -74,7 +74,7 @@ impl fmt::Display for Label {
 }
 
 /// A bar of a batch, with what it says where a pointer rests on it.
-#[derive(Debug, Drop)]
+#[derive(Drop)]
 pub struct Block {
     pub left: u64,
     pub top: u64,
@@ -188,7 +188,7 @@ fn colour(hue: u64) -> &'static str
 }
 
 /// What stands in a picture.
-#[derive(Debug, Drop)]
+#[derive(Drop)]
 pub enum Shape {
     Grid(Grid),
     Label(Label),

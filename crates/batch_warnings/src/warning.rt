@@ -2,7 +2,7 @@
 use batch_recipe::LabelTable;
 
 /// A part of a recipe that is taken though it can hardly be meant so. Each is told by its number in the order of declaration, from 0.
-#[derive(Clone, Copy, PartialEq, Eq)]
+#[derive(Clone, Copy)]
 pub enum RecipeWarning {
     /// No chart names this act of the table.
     UnnamedAct(LabelTable, usize),
@@ -17,7 +17,7 @@ pub enum RecipeWarning {
 }
 
 /// The inputs or the parameters of a recipe.
-#[derive(Clone, Copy, PartialEq, Eq)]
+#[derive(Clone, Copy)]
 pub enum QuantityTable {
     Inputs,
     Parameters,

@@ -8,7 +8,7 @@ use std::alloc::{AllocError, AllocFailed};
 use thiserror::Error;
 
 /// What the words ask for.
-#[derive(Debug, Drop)]
+#[derive(Drop)]
 pub struct CommandWords {
     /// Nothing is to be said in words of a refusal.
     pub quiet: bool,
@@ -16,7 +16,7 @@ pub struct CommandWords {
 }
 
 /// A command of the program.
-#[derive(Debug, Drop)]
+#[derive(Drop)]
 pub enum Subcommand {
     /// To judge documents.
     Judge(Judgement),
@@ -58,7 +58,7 @@ pub enum Subcommand {
 }
 
 /// An audit.
-#[derive(Debug, Drop)]
+#[derive(Drop)]
 pub struct AuditWords {
     /// A record that ends too soon is accepted.
     pub beginning: bool,
@@ -69,7 +69,7 @@ pub struct AuditWords {
 }
 
 /// A judgement of documents, with their paths.
-#[derive(Debug, Drop)]
+#[derive(Drop)]
 pub enum Judgement {
     /// To find a certificate for the recipes. Everything that is refused is to be told, or the first refusal alone.
     Check {
@@ -97,7 +97,7 @@ pub enum Judgement {
 }
 
 /// Where the set comes from that is to be served.
-#[derive(Debug, Drop)]
+#[derive(Drop)]
 pub enum Source {
     /// The documents that the program has built in.
     Demo,

@@ -1,7 +1,7 @@
 //! Which comments a record has.
 
 /// Which comments a record has.
-#[derive(Clone, Copy, Debug, PartialEq, Eq)]
+#[derive(Clone, Copy)]
 pub struct Comments {
     /// Each line that is answered, before its answer.
     pub echo: bool,

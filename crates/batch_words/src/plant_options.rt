@@ -2,7 +2,7 @@
 ghost use Rattle.std.specs.Prelude.{◌≤◌};
 
 /// How large a plant of the demo is, and how long its phases run, each number in its range.
-#[derive(Clone, Copy, Debug, PartialEq, Eq)]
+#[derive(Clone, Copy)]
 pub struct PlantOptions {
     /// How many batches are created and started, 1 to 100.
     pub batches: u64,

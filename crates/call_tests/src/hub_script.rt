@@ -1,7 +1,7 @@
 //! Scripts of a hub and its desks: a line for each call, whose answers are one text.
 use crate::expected::assert_text;
-use crate::lines::cleared_of;
-use crate::stage::Stage;
+use crate::hub_stage::Stage;
+use crate::lines::demo_set_of;
 use batch_desk::PortPlan;
 use batch_verify::Cleared;
 use std::alloc::Global;
@@ -37,7 +37,7 @@ fn told_of_set(
 
 /// What is told of the script.
 fn told(alloc: Global, recipe: &str, plans: &[PortPlan], script: &str) -> Result<String, Fail> {
-    let cleared = cleared_of(alloc, recipe)?;
+    let cleared = demo_set_of(alloc, recipe)?;
     told_of_set(alloc, &cleared, recipe, plans, script)
 }
 

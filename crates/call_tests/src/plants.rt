@@ -1,6 +1,6 @@
 //! Plants over the demo cell, and what is told of their end.
 use crate::documents::A;
-use crate::lines::cleared_of;
+use crate::lines::demo_set_of;
 use batch_desk::{Gate, Hub};
 use batch_engine::{Line, Out};
 use batch_matrix::State;
@@ -22,7 +22,7 @@ struct DemoSet {
 fn demo_set(alloc: Global) -> Result<DemoSet, Fail> {
     let recipe = Name::read(alloc, b"A")?;
     Ok(DemoSet {
-        cleared: cleared_of(alloc, A)?,
+        cleared: demo_set_of(alloc, A)?,
         recipe,
     })
 }

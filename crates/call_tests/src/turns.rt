@@ -1,7 +1,7 @@
 //! Turns: what is taken, told and put, with room in the rings and without.
 use crate::documents::{A, Z};
+use crate::hub_script::assert_told;
 use crate::ports::{console, link};
-use crate::script::assert_told;
 use std::test::Fail;
 
 #[test]

@@ -24,7 +24,7 @@ pub(crate) struct Left {
 
 impl Model for Left {
     ghost use Rattle.std.specs.Prelude.{⊤};
-    ghost use Rattle.desk_tests.specs.Seats.{IsLeft};
+    ghost use Rattle.call_tests.specs.Seats.{IsLeft};
 
     ghost Value = { ⊤ };
 

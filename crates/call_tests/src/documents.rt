@@ -1,4 +1,4 @@
-//! The documents of the worked examples.
+//! The documents of the tests.
 
 /// The demo cell.
 pub(crate) const CELL1: &str = "cell = \"DEMO\"
@@ -54,6 +54,23 @@ chart = \"CHARGE\"
 [[operation]]
 name = \"CHARGE\"
 chart = \"loop(1000, X > 0, ADD)\"
+[[phase]]
+name = \"ADD\"
+";
+
+/// Twenty-three unit procedures on R1, one after the other, of one operation each that does nothing: a start of it has 164 moves.
+pub(crate) const Z: &str = "recipe = \"Z\"
+version = \"1\"
+basis = 1000
+[procedure]
+chart = \"seq(MAKE, MAKE, MAKE, MAKE, MAKE, MAKE, MAKE, MAKE, MAKE, MAKE, MAKE, MAKE, MAKE, MAKE, MAKE, MAKE, MAKE, MAKE, MAKE, MAKE, MAKE, MAKE, MAKE)\"
+[[unit_procedure]]
+name = \"MAKE\"
+unit = \"R1\"
+chart = \"CHARGE\"
+[[operation]]
+name = \"CHARGE\"
+chart = \"skip\"
 [[phase]]
 name = \"ADD\"
 ";

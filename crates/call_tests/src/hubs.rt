@@ -5,7 +5,8 @@ ghost use Rattle.batch_engine.specs.View.{plant_of};
 ghost use Rattle.batch_desk.specs.DeskState.{desk_rings};
 ghost use Rattle.batch_desk.specs.HubState.{rings};
 
-use crate::lines::engine_of;
+use crate::documents::CELL1;
+use crate::records::engine_of;
 use batch_desk::{Desk, Hub, HubFault, PortPlan};
 use batch_engine::Engine;
 use std::alloc::Global;
@@ -27,6 +28,6 @@ pub(crate) fn hub_of(
 ) -> Result<(Hub, Vec<Desk>), Fail>
     ensures { IfOk result (λ r. rings r.0 ≡ map desk_rings r.1.items) }
 {
-    let engine = engine_of(alloc, recipe)?;
+    let engine = engine_of(alloc, CELL1, &[recipe])?;
     new_hub(alloc, engine, plans).map_err(|fault| Fail::from(fault))
 }

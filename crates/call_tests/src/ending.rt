@@ -1,7 +1,7 @@
 //! Scripts of a hub whose first desk finishes: what is done at the hub and at the desks, before and after.
 use crate::expected::assert_text;
 use crate::left::Left;
-use crate::lines::cleared_of;
+use crate::lines::demo_set_of;
 use crate::seats::Seats;
 use batch_desk::{Hub, PortPlan};
 use batch_engine::{Engine, Event};
@@ -118,7 +118,7 @@ fn told_of_set(
 /// What is told of a script. At the line `finish` the first desk finishes; at the end the hub does.
 fn told(alloc: Global, recipe: &str, plans: &[PortPlan], script: &str) -> Result<String, Fail> {
     let scripts = script.split_once("finish\n").ok_or("no desk finishes")?;
-    let cleared = cleared_of(alloc, recipe)?;
+    let cleared = demo_set_of(alloc, recipe)?;
     told_of_set(alloc, &cleared, recipe, plans, scripts)
 }
 

@@ -1,4 +1,8 @@
 //! An engine over documents, and the record of an event line or of moves.
+ghost use Rattle.std.specs.Prelude.{◌≡◌, IfOk};
+ghost use Rattle.batch_model.specs.Plant.{opening};
+ghost use Rattle.batch_engine.specs.View.{plant_of};
+
 use batch_cell::Cell;
 use batch_check::check;
 use batch_engine::{Engine, Event, Out};
@@ -41,13 +45,15 @@ pub(crate) fn cleared_of(alloc: Global, cell: &str, recipes: &[&str]) -> Result<
 }
 
 /// An engine in which nothing has happened.
-pub(crate) fn engine_of(alloc: Global, cell: &str, recipes: &[&str]) -> Result<Engine, Fail> {
+pub(crate) fn engine_of(alloc: Global, cell: &str, recipes: &[&str]) -> Result<Engine, Fail>
+    ensures { IfOk result (λ engine. plant_of engine ≡ opening) }
+{
     let cleared = cleared_of(alloc, cell, recipes)?;
     Engine::new(alloc, cleared).map_err(|_| Fail::from("no engine"))
 }
 
 /// The event of a line.
-fn event_of(alloc: Global, line: &str) -> Result<Event, Fail> {
+pub(crate) fn event_of(alloc: Global, line: &str) -> Result<Event, Fail> {
     let event = read_event(alloc, line.as_bytes())?;
     Ok(event.ok_or("no event")?)
 }

@@ -1,5 +1,5 @@
-use Rattle.desk_tests.proofs.Seating.{left_sealed}
-use Rattle.desk_tests.proofs.left.Left.seal.Goals as goal
+use Rattle.call_tests.proofs.Seating.{left_sealed}
+use Rattle.call_tests.proofs.left.Left.seal.Goals as goal
 
 pub invariant_of-self : goal.invariant_of-self
 invariant_of-self c = left_sealed _ _ _ _ _ _ c.in-Ok-Some.ensures.ok c.self.invariant

@@ -22,7 +22,7 @@ pub(crate) struct Seats {
 
 impl Model for Seats {
     ghost use Rattle.std.specs.Prelude.{⊤};
-    ghost use Rattle.desk_tests.specs.Seats.{IsSeated};
+    ghost use Rattle.call_tests.specs.Seats.{IsSeated};
 
     ghost Value = { ⊤ };
 

@@ -12,7 +12,7 @@ use Rattle.batch_desk.specs.Ends.{Seals}
 use Rattle.batch_desk.specs.HubState.{HubState, rings}
 use Rattle.batch_desk.specs.PortState.{PortState, port_rings, sealed}
 use Rattle.batch_desk.specs.Rings.{Ring, IsOfRing}
-use Rattle.desk_tests.specs.Seats.{IsLeft, IsSeated}
+use Rattle.call_tests.specs.Seats.{IsLeft, IsSeated}
 
 -- the first of the desks is that of the first port
 

@@ -1,5 +1,5 @@
-use Rattle.desk_tests.proofs.Seating.{tokens_of_port, left_back}
-use Rattle.desk_tests.proofs.left.Left.close.Goals as goal
+use Rattle.call_tests.proofs.Seating.{tokens_of_port, left_back}
+use Rattle.call_tests.proofs.left.Left.close.Goals as goal
 
 pub close_by-requires : goal.close_by-requires
 close_by-requires c = tokens_of_port _ _ _ c.self.invariant

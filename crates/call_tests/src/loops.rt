@@ -1,7 +1,7 @@
 //! The loops of a hub and of a console, one after the other in one thread.
 use crate::documents::{A, Z};
+use crate::hub_script::assert_told;
 use crate::ports::console;
-use crate::script::assert_told;
 use std::alloc::Global;
 use std::process::Abort;
 use std::test::Fail;

@@ -1,8 +1,8 @@
 //! The end of a port: its desk finishes, it is closed or cut and sealed, and what is left is taken.
 use crate::documents::A;
 use crate::ending::assert_ended;
+use crate::hub_script::assert_told;
 use crate::ports::console;
-use crate::script::assert_told;
 use std::test::Fail;
 
 /// All that a port is due is in its ring when it is sealed: so many are left, and so many are taken.

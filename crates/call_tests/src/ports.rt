@@ -3,7 +3,8 @@ ghost use Rattle.std.specs.Prelude.{◌≡◌};
 ghost use Rattle.batch_desk.specs.DeskState.{desk_rings};
 ghost use Rattle.batch_desk.specs.HubState.{rings};
 
-use crate::lines::{event_of, text_of};
+use crate::lines::text_of;
+use crate::records::event_of;
 use batch_desk::{Desk, Full, Hub, HubFault, PortPlan, Scope, Turned};
 use batch_verify::Cleared;
 use std::alloc::Global;
