@@ -4,6 +4,7 @@ use Rattle.std.specs.Io.KnownBytes.{Appends}
 use Rattle.clap.specs.Kinds.{IsAmong}
 use Rattle.clap.specs.Walk.{Text}
 use Rattle.clap.specs.declared.error.kind.ErrorKind.{ErrorKind}
+use Rattle.batch_words.specs.declared.comments.Comments.{Comments}
 use Rattle.batch_words.specs.CommandLine.{Request, Source, demo, faults_of, keep, plant, serve}
 use Rattle.batch_verify.specs.ClearedSet.{ClearedSet}
 use Rattle.batch_commands.specs.Judging.{is_for_memory, status_of}
@@ -89,7 +90,7 @@ done_success gives request quiet output errors _ (explains texts status asked to
 done_success gives request quiet output errors _ (halts h status warned _ told) is =
     absurd (no_success quiet output (record { before = warned; after = errors.after }) h status told cc)
 done_success gives request quiet output errors _ (serves _ _ _ _ _ _) is = absurd cc
-done_success gives request quiet output errors _ (keeps _ _ _ _ _ _ _ _ _) is = absurd cc
+done_success gives request quiet output errors _ (keeps _ _ _ _ _ _ _ _ _ _) is = absurd cc
 done_success gives request quiet output errors _ (writes _ _ _ _ _ _) is = absurd cc
 done_success gives request quiet output errors _ (remarks _ _ _ _ _ _ _) is = absurd cc
 done_success gives request quiet output errors _ (reads _ _ _ _) is = absurd cc
@@ -126,7 +127,7 @@ done_serving gives request quiet output errors set hushed _ (judges _ _ _ _ _ _ 
 done_serving gives request quiet output errors set hushed _ (writes _ _ _ _ _ _) is = absurd cc
 done_serving gives request quiet output errors set hushed _ (explains _ _ _ _) is = absurd cc
 done_serving gives request quiet output errors set hushed _ (halts _ _ _ _ _) is = absurd cc
-done_serving gives request quiet output errors set hushed _ (keeps _ _ _ _ _ _ _ _ _) is = absurd cc
+done_serving gives request quiet output errors set hushed _ (keeps _ _ _ _ _ _ _ _ _ _) is = absurd cc
 done_serving gives request quiet output errors set hushed _ (remarks _ _ _ _ _ _ _) is = absurd cc
 done_serving gives request quiet output errors set hushed _ (reads _ _ _ _) is = absurd cc
 done_serving gives request quiet output errors set hushed _ (draws _ _ _ _) is = absurd cc
@@ -134,42 +135,44 @@ done_serving gives request quiet output errors set hushed _ (audits _ _ _ _ _ _)
 done_serving gives request quiet output errors set hushed _ (plants _ _ _ _ _ _) is = absurd cc
 
 -- what was to be served with a journal, with nothing written before
-pub record IsKeeping (gives : Gives) (request : Request) (digested : Digested) (journal : String Global) (output errors : Stream) : Type 0 where
+pub record IsKeeping (gives : Gives) (request : Request) (digested : Digested) (journal : String Global) (comments : Comments) (output errors : Stream) : Type 0 where
   pub cell : Text
   pub certificate : Text
   pub recipes : List Text
-  pub asked : request ≡ keep (string_bytes journal) cell certificate recipes
+  pub asked : request ≡ keep (string_bytes journal) cell certificate recipes comments.echo comments.times
   pub is_set : AreDigested gives cell certificate recipes digested.set digested.documents.text
   pub unwritten : IsUnwritten output
   pub silent : IsUnwritten errors
 
-pub done_keeping : (gives : Gives) (request : Request) (quiet : Bool) (output errors : Stream) (digested : Digested) (hushed : Bool) (journal : String Global) (course : Course)
-    → IsDone gives request quiet output errors course → course ≡ Keeps digested hushed journal
-    → IsKeeping gives request digested journal output errors × (hushed ≡ quiet)
-done_keeping gives request quiet output errors digested hushed journal _ (keeps cell certificate recipes other own asked is_set kept silent) is =
+pub done_keeping : (gives : Gives) (request : Request) (quiet : Bool) (output errors : Stream) (digested : Digested) (hushed : Bool) (journal : String Global) (comments : Comments) (course : Course)
+    → IsDone gives request quiet output errors course → course ≡ Keeps digested hushed journal comments
+    → IsKeeping gives request digested journal comments output errors × (hushed ≡ quiet)
+done_keeping gives request quiet output errors digested hushed journal comments _ (keeps cell certificate recipes other own said asked is_set kept silent) is =
     let same : own ≡ digested = cc in
-    let named : other ≡ journal = cc in (
+    let named : other ≡ journal = cc in
+    let chosen : said ≡ comments = cc in (
       record {
         cell = cell;
         certificate = certificate;
         recipes = recipes;
-        asked = subst (λ (path : String Global). request ≡ keep (string_bytes path) cell certificate recipes) named asked;
+        asked = subst (λ (o : Comments). request ≡ keep (string_bytes journal) cell certificate recipes o.echo o.times) chosen
+            (subst (λ (path : String Global). request ≡ keep (string_bytes path) cell certificate recipes said.echo said.times) named asked);
         is_set = subst (λ (d : Digested). AreDigested gives cell certificate recipes d.set d.documents.text) same is_set;
         unwritten = kept;
         silent = silent;
       },
       cc,
     )
-done_keeping gives request quiet output errors digested hushed journal _ (serves _ _ _ _ _ _) is = absurd cc
-done_keeping gives request quiet output errors digested hushed journal _ (remarks _ _ _ _ _ _ _) is = absurd cc
-done_keeping gives request quiet output errors digested hushed journal _ (judges _ _ _ _ _ _ _) is = absurd cc
-done_keeping gives request quiet output errors digested hushed journal _ (explains _ _ _ _) is = absurd cc
-done_keeping gives request quiet output errors digested hushed journal _ (halts _ _ _ _ _) is = absurd cc
-done_keeping gives request quiet output errors digested hushed journal _ (reads _ _ _ _) is = absurd cc
-done_keeping gives request quiet output errors digested hushed journal _ (draws _ _ _ _) is = absurd cc
-done_keeping gives request quiet output errors digested hushed journal _ (audits _ _ _ _ _ _) is = absurd cc
-done_keeping gives request quiet output errors digested hushed journal _ (plants _ _ _ _ _ _) is = absurd cc
-done_keeping gives request quiet output errors digested hushed journal _ (writes _ _ _ _ _ _) is = absurd cc
+done_keeping gives request quiet output errors digested hushed journal comments _ (serves _ _ _ _ _ _) is = absurd cc
+done_keeping gives request quiet output errors digested hushed journal comments _ (remarks _ _ _ _ _ _ _) is = absurd cc
+done_keeping gives request quiet output errors digested hushed journal comments _ (judges _ _ _ _ _ _ _) is = absurd cc
+done_keeping gives request quiet output errors digested hushed journal comments _ (explains _ _ _ _) is = absurd cc
+done_keeping gives request quiet output errors digested hushed journal comments _ (halts _ _ _ _ _) is = absurd cc
+done_keeping gives request quiet output errors digested hushed journal comments _ (reads _ _ _ _) is = absurd cc
+done_keeping gives request quiet output errors digested hushed journal comments _ (draws _ _ _ _) is = absurd cc
+done_keeping gives request quiet output errors digested hushed journal comments _ (audits _ _ _ _ _ _) is = absurd cc
+done_keeping gives request quiet output errors digested hushed journal comments _ (plants _ _ _ _ _ _) is = absurd cc
+done_keeping gives request quiet output errors digested hushed journal comments _ (writes _ _ _ _ _ _) is = absurd cc
 
 -- what comes of the demo's plant is the same whatever documents say
 pub plant_done : (these those : Gives) (batches ticks ring : ℕ) (request : Request) (quiet : Bool) (output errors : Stream) (course : Course)
@@ -181,7 +184,7 @@ plant_done these those batches ticks ring request quiet output errors _ is (halt
     halts h status warned (subst Those (sym is) (subst These is halted)) told
 plant_done these those batches ticks ring request quiet output errors _ is (serves _ _ asked _ _ _) = absurd cc
 plant_done these those batches ticks ring request quiet output errors _ is (remarks _ _ _ asked _ _ _) = absurd cc
-plant_done these those batches ticks ring request quiet output errors _ is (keeps _ _ _ _ _ asked _ _ _) = absurd cc
+plant_done these those batches ticks ring request quiet output errors _ is (keeps _ _ _ _ _ _ asked _ _ _) = absurd cc
 plant_done these those batches ticks ring request quiet output errors _ is (reads _ asked _ _) = absurd cc
 plant_done these those batches ticks ring request quiet output errors _ is (draws _ asked _ _) = absurd cc
 plant_done these those batches ticks ring request quiet output errors _ is (audits _ _ asked _ _ _) = absurd cc
@@ -213,7 +216,7 @@ demo_done gives request quiet output errors _ demo_asked (halts h status warned 
 demo_done gives request quiet output errors _ demo_asked (judges _ _ _ _ asked _ _) = absurd cc
 demo_done gives request quiet output errors _ demo_asked (writes _ _ _ asked _ _) = absurd cc
 demo_done gives request quiet output errors _ demo_asked (explains _ _ asked _) = absurd cc
-demo_done gives request quiet output errors _ demo_asked (keeps _ _ _ _ _ asked _ _ _) = absurd cc
+demo_done gives request quiet output errors _ demo_asked (keeps _ _ _ _ _ _ asked _ _ _) = absurd cc
 demo_done gives request quiet output errors _ demo_asked (remarks _ _ _ asked _ _ _) = absurd cc
 demo_done gives request quiet output errors _ demo_asked (reads _ asked _ _) = absurd cc
 demo_done gives request quiet output errors _ demo_asked (draws _ asked _ _) = absurd cc

@@ -48,7 +48,7 @@ HaltsSource gives (documents cell certificate recipes) h = HaltsClearing gives c
 -- of documents that are only judged it is warned
 abbrev pub Halts : Gives → Warns → Request → Halt → Type 0
 Halts gives warns (judge judgement) h = HaltsJudgement gives warns judgement h
-Halts gives warns (keep journal cell certificate recipes) h = HaltsClearing gives cell certificate recipes h × warns []
+Halts gives warns (keep journal cell certificate recipes echo times) h = HaltsClearing gives cell certificate recipes h × warns []
 Halts gives warns (write path judgement) h = HaltsJudgement gives warns judgement h
 Halts gives warns (serve source) h = HaltsSource gives source h × warns []
 Halts gives warns (remark source echo times) h = HaltsSource gives source h × warns []

@@ -134,9 +134,9 @@ pub data IsDone (gives : Gives) (request : Request) (quiet : Bool) (output error
       → request ≡ remark source comments.echo comments.times → IsSetOf gives source set → IsUnwritten output → IsUnwritten errors
       → IsDone gives request quiet output errors (Remarks set quiet comments)
   -- with a journal at this path, which names the set by the digits of its documents
-  keeps : (cell certificate : Text) (recipes : List Text) (journal : String Global) (digested : Digested)
-      → request ≡ keep (string_bytes journal) cell certificate recipes → AreDigested gives cell certificate recipes digested.set digested.documents.text
-      → IsUnwritten output → IsUnwritten errors → IsDone gives request quiet output errors (courses.Keeps digested quiet journal)
+  keeps : (cell certificate : Text) (recipes : List Text) (journal : String Global) (digested : Digested) (comments : Comments)
+      → request ≡ keep (string_bytes journal) cell certificate recipes comments.echo comments.times → AreDigested gives cell certificate recipes digested.set digested.documents.text
+      → IsUnwritten output → IsUnwritten errors → IsDone gives request quiet output errors (courses.Keeps digested quiet journal comments)
   reads : (path : Option (String Global))
       → request ≡ tell (option_map string_bytes path) → IsUnwritten output → IsUnwritten errors
       → IsDone gives request quiet output errors (Reads path)

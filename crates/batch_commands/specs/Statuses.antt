@@ -23,7 +23,7 @@ AreCodesTold texts output = (text : List ℕ) × Tells texts text × Appends out
 abbrev pub IsSuccess : Gives → Bool → Request → Stream → Stream → Type 0
 IsSuccess gives quiet (judge judgement) output errors =
     (text : List ℕ) × Appends output.before output.after text × IsVerdict gives (IsWarned quiet errors.before errors.after) judgement text
-IsSuccess gives quiet (keep journal cell certificate recipes) output errors = ⊥
+IsSuccess gives quiet (keep journal cell certificate recipes echo times) output errors = ⊥
 IsSuccess gives quiet (audit beginning path source) output errors = ⊥
 IsSuccess gives quiet (write path judgement) output errors = ⊥
 IsSuccess gives quiet (serve source) output errors = ⊥

@@ -24,11 +24,13 @@ pub enum Course {
         quiet: bool,
         comments: Comments,
     },
-    /// The same over a set whose documents have these digits, with a journal in the file at this path.
+    /// The same over a set whose documents have these digits, with a journal in the file at this path, and with comments in the record
+    /// or without them.
     Keeps {
         digested: Digested,
         quiet: bool,
         path: String,
+        comments: Comments,
     },
     /// The program is to tell what a record says: the one at this path, or the one on its input.
     Reads {

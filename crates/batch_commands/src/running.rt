@@ -111,6 +111,7 @@ fn run_command<D: Documents, O: Write, E: Write>(
             cell,
             certificate,
             recipes,
+            comments,
         } => keep(
             alloc,
             quiet,
@@ -118,6 +119,7 @@ fn run_command<D: Documents, O: Write, E: Write>(
             &cell,
             &certificate,
             &recipes,
+            comments,
             documents,
             output,
             errors,
@@ -219,11 +221,12 @@ fn keep<D: Documents, O: Write, E: Write>(
     cell: &str,
     certificate: &str,
     recipes: &[String],
+    comments: Comments,
     documents: &D,
     output: &mut O,
     errors: &mut E,
 ) -> Course
-    ensures { IsDone (D.gives documents.now) (keep (string_bytes path) cell.now certificate.now (map string_bytes recipes.now)) quiet
+    ensures { IsDone (D.gives documents.now) (keep (string_bytes path) cell.now certificate.now (map string_bytes recipes.now) comments.echo comments.times) quiet
         (record { before = O.contents output.old; after = O.contents output.new })
         (record { before = E.contents errors.old; after = E.contents errors.new }) result }
 {
@@ -232,6 +235,7 @@ fn keep<D: Documents, O: Write, E: Write>(
             digested,
             quiet,
             path,
+            comments,
         },
         Err(halt) => Course::Ends(announce(alloc, quiet, &halt, output, errors)),
     }

@@ -11,7 +11,9 @@ ghost use Rattle.batch_keep.specs.Told.{IsAtRest, IsNeverLost};
 use crate::serving::{Journal, serve_at};
 use batch_engine::Engine;
 use batch_journal::{Disk, Run};
-use batch_serve::{Held, ServeFault, Start, transcripts_are_whole};
+use batch_serve::{
+    Held, HeldRemarks, NoRemarks, Remarks, ServeFault, Start, transcripts_are_whole,
+};
 use std::alloc::Global;
 use std::io;
 use std::io::{Read, Write};
@@ -22,7 +24,7 @@ use thiserror::Error;
 /// Why a run over a journal stopped before its input ended. What was read is in the journal.
 #[derive(Clone, Copy, Debug, PartialEq, Eq, Error)]
 pub enum KeepFault {
-    /// There was no memory for an event or for the answers of a group, of which none is told.
+    /// There was no memory for an event or for the answers of a group, of which none is told but those before its last comment.
     #[error("out of memory")]
     Memory,
     /// The input or the journal failed, or the output.
@@ -58,16 +60,27 @@ pub fn serve_holding<R: Read + Drop, D: Disk, K: Clock + Drop, W: Write>(
     ensures never_lost { D.is_disk result.1 → (all : List ℕ) → R.remaining input ≡ Some all → IsNeverLost (setup engine.old.cleared) (plant_of engine.old) journal.documents (D.seen journal.disk)
         (D.durable result.1) (D.seen result.1) (D.given result.1) (W.contents writer) (W.contents result.2) }
 {
-    serve_started::<R, D, K, W, Brand>(alloc, engine, input, journal, writer, max_reads)
+    serve_started::<R, D, K, W, Brand, NoRemarks>(
+        alloc, engine, input, journal, writer, NoRemarks, max_reads,
+    )
 }
 
-/// The same, of a run that began at an earlier moment: whoever calls it says from which one on a crash left the journal's lines.
-pub fn serve_started<R: Read + Drop, D: Disk, K: Clock + Drop, W: Write, C: Run>(
+/// The same, of a run that began at an earlier moment: whoever calls it says from which one on a crash left the journal's lines. What
+/// is remarked on a line is written behind the answers before it, which are told then.
+pub fn serve_started<
+    R: Read + Drop,
+    D: Disk,
+    K: Clock + Drop,
+    W: Write,
+    C: Run,
+    M: Remarks<W> + Drop,
+>(
     alloc: Global,
     engine: &mut Engine,
     input: R,
     journal: Journal<D, K>,
     writer: W,
+    remarks: M,
     max_reads: u64,
 ) -> (Result<(), KeepFault>, D, W)
     requires at_rest { D.is_disk journal.disk → IsKept C.documents C.base (D.durable journal.disk) (D.seen journal.disk) (D.given journal.disk) [] (sum_text journal.sum) }
@@ -84,15 +97,26 @@ pub fn serve_started<R: Read + Drop, D: Disk, K: Clock + Drop, W: Write, C: Run>
     ensures never_lost { D.is_disk result.1 → C.input ≡ R.remaining input → (all start : List ℕ) → C.input ≡ Some all → C.base ≡ text_of (recovered C.documents start)
         → IsNeverLost (setup engine.old.cleared) (plant_of engine.old) C.documents start (D.durable result.1) (D.seen result.1) (D.given result.1) (W.contents writer) (W.contents result.2) }
 {
-    serve_holding_at::<R, D, K, W, C, Brand>(alloc, engine, input, journal, writer, max_reads)
+    serve_holding_at::<R, D, K, W, C, Brand, M>(
+        alloc, engine, input, journal, writer, remarks, max_reads,
+    )
 }
 
-fn serve_holding_at<R: Read + Drop, D: Disk, K: Clock + Drop, W: Write, C: Run, S: Start>(
+fn serve_holding_at<
+    R: Read + Drop,
+    D: Disk,
+    K: Clock + Drop,
+    W: Write,
+    C: Run,
+    S: Start,
+    M: Remarks<W> + Drop,
+>(
     alloc: Global,
     engine: &mut Engine,
     input: R,
     journal: Journal<D, K>,
     writer: W,
+    remarks: M,
     max_reads: u64,
 ) -> (Result<(), KeepFault>, D, W)
     requires at_rest { D.is_disk journal.disk → IsKept C.documents C.base (D.durable journal.disk) (D.seen journal.disk) (D.given journal.disk) [] (sum_text journal.sum) }
@@ -111,8 +135,14 @@ fn serve_holding_at<R: Read + Drop, D: Disk, K: Clock + Drop, W: Write, C: Run, 
 {
     transcripts_are_whole();
     let mut held: Held<W, S> = Held::new(alloc, writer);
-    let (served, disk) = serve_at::<R, D, K, Held<W, S>, C>(
-        alloc, engine, input, journal, &mut held, max_reads,
+    let (served, disk) = serve_at::<R, D, K, Held<W, S>, C, HeldRemarks<M>>(
+        alloc,
+        engine,
+        input,
+        journal,
+        &mut held,
+        &mut HeldRemarks::new(remarks),
+        max_reads,
     );
     match served {
         Ok(()) => {

@@ -3,12 +3,14 @@
 
 mod block;
 mod holding;
+mod remarking;
 mod replaying;
 mod serving;
 mod starting;
 
 pub use block::{BlockFault, block_rows, recovery_block};
 pub use holding::{KeepFault, serve_holding, serve_started};
+pub use remarking::serve_started_remarked;
 pub use replaying::replay;
 pub use serving::{Journal, serve_in_memory, serve_journalled};
 pub use starting::{StartFault, Started, start};

@@ -10,7 +10,7 @@ ghost use Rattle.batch_keep.specs.Told.{IsAtRest, IsTold, IsToldAgain, TellsLine
 
 use batch_engine::Engine;
 use batch_journal::{Disk, JournalReader, Memory, Run, Sum, lines_begin, recovered_are_lines};
-use batch_serve::{NoRemarks, ServeFault, serve, want_is_not_told};
+use batch_serve::{NoRemarks, Remarks, ServeFault, serve, want_is_not_told};
 use std::alloc::Global;
 use std::io::{Read, Write};
 use std::marker::Brand;
@@ -57,7 +57,15 @@ pub fn serve_journalled<R: Read + Drop, D: Disk, K: Clock + Drop, W: Write>(
     ensures again { D.is_disk result.1 → (all : List ℕ) → R.remaining input ≡ Some all → IsToldAgain (setup engine.old.cleared) (plant_of engine.old) journal.documents (D.seen journal.disk)
         (D.durable result.1) (D.seen result.1) (D.given result.1) (W.contents writer.old) (W.contents writer.new) }
 {
-    serve_at::<R, D, K, W, Brand>(alloc, engine, input, journal, writer, max_reads)
+    serve_at::<R, D, K, W, Brand, NoRemarks>(
+        alloc,
+        engine,
+        input,
+        journal,
+        writer,
+        &mut NoRemarks,
+        max_reads,
+    )
 }
 
 /// The same over a disk in memory, which is one.
@@ -76,12 +84,13 @@ pub fn serve_in_memory<K: Clock + Drop>(
     serve_journalled(alloc, engine, input, journal, writer, max_reads)
 }
 
-pub(crate) fn serve_at<R: Read + Drop, D: Disk, K: Clock + Drop, W: Write, C: Run>(
+pub(crate) fn serve_at<R: Read + Drop, D: Disk, K: Clock + Drop, W: Write, C: Run, M: Remarks<W>>(
     alloc: Global,
     engine: &mut Engine,
     input: R,
     journal: Journal<D, K>,
     writer: &mut W,
+    remarks: &mut M,
     max_reads: u64,
 ) -> (Result<(), ServeFault>, D)
     requires at_rest { D.is_disk journal.disk → IsKept C.documents C.base (D.durable journal.disk) (D.seen journal.disk) (D.given journal.disk) [] (sum_text journal.sum) }
@@ -107,13 +116,6 @@ pub(crate) fn serve_at<R: Read + Drop, D: Disk, K: Clock + Drop, W: Write, C: Ru
         journal.clock,
         journal.sum,
     );
-    let result = serve(
-        alloc,
-        engine,
-        &mut reader,
-        writer,
-        &mut NoRemarks,
-        max_reads,
-    );
+    let result = serve(alloc, engine, &mut reader, writer, remarks, max_reads);
     (result, reader.into_disk())
 }

@@ -38,7 +38,7 @@ done_to_write gives request quiet output errors _ path text (running.plants _ _ 
 done_to_write gives request quiet output errors _ path text (running.halts _ _ _ _ _) is = absurd cc
 done_to_write gives request quiet output errors _ path text (running.judges _ _ _ _ _ _ _) is = absurd cc
 done_to_write gives request quiet output errors _ path text (running.explains _ _ _ _) is = absurd cc
-done_to_write gives request quiet output errors _ path text (running.keeps _ _ _ _ _ _ _ _ _) is = absurd cc
+done_to_write gives request quiet output errors _ path text (running.keeps _ _ _ _ _ _ _ _ _ _) is = absurd cc
 done_to_write gives request quiet output errors _ path text (running.remarks _ _ _ _ _ _ _) is = absurd cc
 done_to_write gives request quiet output errors _ path text (running.audits _ _ _ _ _ _) is = absurd cc
 done_to_write gives request quiet output errors _ path text (running.draws _ _ _ _) is = absurd cc
@@ -70,8 +70,9 @@ draws_no_file record_path path judgement is = cc
 no_comments : (source : Source) (echo times : Bool) (path : Text) (judgement : Judgement) → remark source echo times ≡ write path judgement → ⊥
 no_comments source echo times path judgement is = cc
 
-no_journal : (journal cell certificate : Text) (recipes : List Text) (path : Text) (judgement : Judgement) → keep journal cell certificate recipes ≡ write path judgement → ⊥
-no_journal journal cell certificate recipes path judgement is = cc
+no_journal : (journal cell certificate : Text) (recipes : List Text) (echo times : Bool) (path : Text) (judgement : Judgement)
+    → keep journal cell certificate recipes echo times ≡ write path judgement → ⊥
+no_journal journal cell certificate recipes echo times path judgement is = cc
 
 no_audit : (source : Source) (beginning : Bool) (record_path path : Text) (judgement : Judgement) → audit beginning record_path source ≡ write path judgement → ⊥
 no_audit source beginning record_path path judgement is = cc
@@ -98,8 +99,8 @@ kept_at gives holds files words ends errors path judgement _ asked (serves sourc
     absurd (serves_no_file source path judgement (same_request words (serve source) (write path judgement) asked2 asked))
 kept_at gives holds files words ends errors path judgement _ asked (remarks source echo times _ _ asked2 _ _ _) is =
     absurd (no_comments source echo times path judgement (same_request words (remark source echo times) (write path judgement) asked2 asked))
-kept_at gives holds files words ends errors path judgement _ asked (keeps journal cell certificate recipes _ _ _ asked2 _ _) is =
-    absurd (no_journal journal cell certificate recipes path judgement (same_request words (keep journal cell certificate recipes) (write path judgement) asked2 asked))
+kept_at gives holds files words ends errors path judgement _ asked (keeps journal cell certificate recipes echo times _ _ _ asked2 _ _) is =
+    absurd (no_journal journal cell certificate recipes echo times path judgement (same_request words (keep journal cell certificate recipes echo times) (write path judgement) asked2 asked))
 kept_at gives holds files words ends errors path judgement _ asked (audits beginning record_path source _ _ asked2 _ _) is =
     absurd (no_audit source beginning record_path path judgement (same_request words (audit beginning record_path source) (write path judgement) asked2 asked))
 kept_at gives holds files words ends errors path judgement _ asked (draws record_path _ asked2 _) is =

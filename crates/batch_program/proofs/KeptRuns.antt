@@ -1,5 +1,5 @@
 -- A run over a journal.
-use Rattle.std.proofs.Common.{◌≡◌, ◌⊎◌, ℕ, ◌++◌, ◌≤◌, length, List, [], Option, Some, None, Result, Ok, Err, IfErr, OnOk, IsOk, take, drop, take-append-drop, inl, inr, refl, sym, ◌∙◌, ap, subst}
+use Rattle.std.proofs.Common.{◌≡◌, ◌⊎◌, ℕ, Bool, ◌++◌, ◌≤◌, length, List, [], Option, Some, None, Result, Ok, Err, IfErr, OnOk, IsOk, take, drop, take-append-drop, inl, inr, refl, sym, ◌∙◌, ap, subst}
 use Rattle.std.specs.Prelude.{IfSome}
 use Rattle.std.proofs.lemmas.List.{append-nil, take_all}
 use Rattle.std.proofs.KnownBytes.{Appends-kept, prepend_known-nil}
@@ -112,14 +112,14 @@ start_untold path fault output status kept is = inr (kept, is)
 -- Over the file
 
 -- what was told behind the block, by the set, the digits and the block that it was started with
-pub told_as : (set now_set : ClearedSet) (plant : Plant) (digits now_digits base : List ℕ) (is_disk : Type 0) (durable seen given block now_block : List ℕ) (unread before after : Option (List ℕ)) (status : ℕ)
+pub told_as : (set now_set : ClearedSet) (plant : Plant) (digits now_digits base : List ℕ) (commented : Bool) (is_disk : Type 0) (durable seen given block now_block : List ℕ) (unread before after : Option (List ℕ)) (status : ℕ)
     → set ≡ now_set → digits ≡ now_digits → block ≡ now_block
-    → IsToldBehind (setup set) plant digits base is_disk durable seen given block unread before after status
-    → IsToldBehind (setup now_set) plant now_digits base is_disk durable seen given now_block unread before after status
-told_as set now_set plant digits now_digits base is_disk durable seen given block now_block unread before after status same_set same_digits same_block told =
-    subst (λ (b : List ℕ). IsToldBehind (setup now_set) plant now_digits base is_disk durable seen given b unread before after status) same_block
-    (subst (λ (d : List ℕ). IsToldBehind (setup now_set) plant d base is_disk durable seen given block unread before after status) same_digits
-    (subst (λ (s : ClearedSet). IsToldBehind (setup s) plant digits base is_disk durable seen given block unread before after status) same_set told))
+    → IsToldBehind (setup set) plant digits base commented is_disk durable seen given block unread before after status
+    → IsToldBehind (setup now_set) plant now_digits base commented is_disk durable seen given now_block unread before after status
+told_as set now_set plant digits now_digits base commented is_disk durable seen given block now_block unread before after status same_set same_digits same_block told =
+    subst (λ (b : List ℕ). IsToldBehind (setup now_set) plant now_digits base commented is_disk durable seen given b unread before after status) same_block
+    (subst (λ (d : List ℕ). IsToldBehind (setup now_set) plant d base commented is_disk durable seen given block unread before after status) same_digits
+    (subst (λ (s : ClearedSet). IsToldBehind (setup s) plant digits base commented is_disk durable seen given block unread before after status) same_set told))
 
 pub moments_as : {documents base now_documents now_base : List ℕ} {since now_since moment : ℕ} {left_since : ℕ → Left → Type 0} → documents ≡ now_documents → base ≡ now_base → since ≡ now_since
     → HasRecalled documents base since moment left_since → HasRecalled now_documents now_base now_since moment left_since
@@ -128,17 +128,17 @@ moments_as {documents = documents} {base = base} {now_documents = now_documents}
     (subst (λ (b : List ℕ). HasRecalled now_documents b since moment left_since) base_is
     (subst (λ (d : List ℕ). HasRecalled d base since moment left_since) same recalled))
 
-module _ (disks : DiskKind) (set : ClearedSet) (digits path : List ℕ) (start end : disks.File) (ends : serving.Ends) (status : ℕ) where
+module _ (disks : DiskKind) (set : ClearedSet) (digits path : List ℕ) (commented : Bool) (start end : disks.File) (ends : serving.Ends) (status : ℕ) where
   pub told_refused : (fault : StartFault) → ((refusal : RecoveryFault) → fault ≡ Recovery refusal → disks.is_disk end → IsRefusedFor digits (disks.seen start) refusal)
-      → IsStartTold path fault (output_of ends) status → IsJournalTold disks set digits path start end ends status
+      → IsStartTold path fault (output_of ends) status → IsJournalTold disks set digits path commented start end ends status
   told_refused fault refused (inl (refusal, is, told)) = refuses refusal (refused refusal is) told
   told_refused fault refused (inr untold) = stops untold
 
   pub told_behind : (lines : List (List ℕ)) (plant : Plant) (block base : List ℕ) → (disks.is_disk end → HasNoFault digits (disks.seen start)) → (disks.is_disk end → lines ≡ recovered digits (disks.seen start))
       → IsBlockOf (setup set) opening lines plant block → base ≡ text_of (recovered digits (disks.seen start))
-      → IsToldBehind (setup set) plant digits base (disks.is_disk end) (disks.durable end) (disks.seen end) (disks.given end) block ends.unread ends.before ends.after status
-      → IsJournalTold disks set digits path start end ends status
-  told_behind lines plant block base taken are is_block base_is (inl (middle, appends, told)) =
-      serves lines plant block middle (λ d. (taken d, are d)) is_block appends
+      → IsToldBehind (setup set) plant digits base commented (disks.is_disk end) (disks.durable end) (disks.seen end) (disks.given end) block ends.unread ends.before ends.after status
+      → IsJournalTold disks set digits path commented start end ends status
+  told_behind lines plant block base taken are is_block base_is (inl (middle, plain, appends, shown, told)) =
+      serves lines plant block middle plain (λ d. (taken d, are d)) is_block appends shown
       (record { answers = told.answers; never_lost = λ d. told.never_lost d (disks.seen start) base_is; ends = told.ends })
   told_behind lines plant block base taken are is_block base_is (inr (begins, is)) = fails lines plant block taken is_block begins is

@@ -133,8 +133,9 @@ true_at gives holds files words ends errors beginning path source _ asked (write
     absurd (audits_no_file source beginning path other judgement (same_request words (audit beginning path source) (write other judgement) asked asked2))
 true_at gives holds files words ends errors beginning path source _ asked (serves other _ _ asked2 _ _ _) is =
     absurd (serves_no_audit other source beginning path (same_request words (serve other) (audit beginning path source) asked2 asked))
-true_at gives holds files words ends errors beginning path source _ asked (keeps other cell certificate recipes _ _ _ asked2 _ _) is =
-    absurd (audits_no_journal beginning path source other cell certificate recipes (same_request words (audit beginning path source) (keep other cell certificate recipes) asked asked2))
+true_at gives holds files words ends errors beginning path source _ asked (keeps other cell certificate recipes echo times _ _ _ asked2 _ _) is =
+    absurd (audits_no_journal beginning path source other cell certificate recipes echo times
+    (same_request words (audit beginning path source) (keep other cell certificate recipes echo times) asked asked2))
 true_at gives holds files words ends errors beginning path source _ asked (remarks other echo times _ _ asked2 _ _ _) is =
     absurd (audits_no_comments source other beginning echo times path (same_request words (audit beginning path source) (remark other echo times) asked asked2))
 true_at gives holds files words ends errors beginning path source _ asked (reads other _ asked2 _) is =

@@ -65,7 +65,7 @@ done_remarking gives request quiet output errors set hushed comments _ (running.
 done_remarking gives request quiet output errors set hushed comments _ (running.judges _ _ _ _ _ _ _) is = absurd cc
 done_remarking gives request quiet output errors set hushed comments _ (running.explains _ _ _ _) is = absurd cc
 done_remarking gives request quiet output errors set hushed comments _ (running.halts _ _ _ _ _) is = absurd cc
-done_remarking gives request quiet output errors set hushed comments _ (running.keeps _ _ _ _ _ _ _ _ _) is = absurd cc
+done_remarking gives request quiet output errors set hushed comments _ (running.keeps _ _ _ _ _ _ _ _ _ _) is = absurd cc
 done_remarking gives request quiet output errors set hushed comments _ (running.reads _ _ _ _) is = absurd cc
 done_remarking gives request quiet output errors set hushed comments _ (running.draws _ _ _ _) is = absurd cc
 done_remarking gives request quiet output errors set hushed comments _ (running.audits _ _ _ _ _ _) is = absurd cc
@@ -87,8 +87,8 @@ set_to_remark gives words output errors _ set quiet comments (running.starves _)
 no_serving : (source other : Source) (echo times : Bool) → serve other ≡ remark source echo times → ⊥
 no_serving source other echo times is = cc
 
-no_journal : (source : Source) (echo times : Bool) (path cell certificate : Text) (recipes : List Text) → keep path cell certificate recipes ≡ remark source echo times → ⊥
-no_journal source echo times path cell certificate recipes is = cc
+no_journal : (source : Source) (echo times e t : Bool) (path cell certificate : Text) (recipes : List Text) → keep path cell certificate recipes e t ≡ remark source echo times → ⊥
+no_journal source echo times e t path cell certificate recipes is = cc
 
 no_audit : (source other : Source) (echo times beginning : Bool) (path : Text) → audit beginning path other ≡ remark source echo times → ⊥
 no_audit source other echo times beginning path is = cc
@@ -122,8 +122,8 @@ safe_at gives holds files words ends errors source echo times _ asked (remarks o
     let same = same_source other source echo times e t (same_request words (remark other e t) (remark source echo times) asked2 asked) in
     let (left, answers, says) = ran_to_the_end set served (record ends { after = all.plain }) (ask_quiet words) errors all.serves told is in
     (set, left, all.plain, subst (λ s. IsSetOf gives s set) same is_set, all.remarked, answers, says)
-safe_at gives holds files words ends errors source echo times _ asked (keeps path cell certificate recipes _ _ _ asked2 _ _) is =
-    absurd (no_journal source echo times path cell certificate recipes (same_request words (keep path cell certificate recipes) (remark source echo times) asked2 asked))
+safe_at gives holds files words ends errors source echo times _ asked (keeps path cell certificate recipes e t _ _ _ asked2 _ _) is =
+    absurd (no_journal source echo times e t path cell certificate recipes (same_request words (keep path cell certificate recipes e t) (remark source echo times) asked2 asked))
 safe_at gives holds files words ends errors source echo times _ asked (audits beginning path other _ _ asked2 _ _) is =
     absurd (no_audit source other echo times beginning path (same_request words (audit beginning path other) (remark source echo times) asked2 asked))
 safe_at gives holds files words ends errors source echo times _ asked (reads path _ asked2 _) is =

@@ -1,6 +1,6 @@
 -- What a run that serves tells, and one that runs a plant.
 use Rattle.std.proofs.Common.{◌≡◌, ◌⊎◌, ℕ, zero, suc, ◌≤◌, Bool, true, false, List, Option, Some, None, Result, Ok, Err, IfOk, inl, inr, refl, subst, arith, ◌∙◌}
-use Rattle.std.specs.Prelude.{IfSome, String, option_map, string_bytes, take}
+use Rattle.std.specs.Prelude.{◌||◌, IfSome, String, option_map, string_bytes, take}
 use Rattle.std.specs.Global.{Global}
 use Rattle.std.specs.Io.KnownBytes.{Appends, Keeps}
 use Rattle.clap.specs.Walk.{Text}
@@ -10,6 +10,7 @@ use Rattle.batch_engine.specs.View.{setup}
 use Rattle.batch_wire.specs.Transcript.{lines_of, whole_lines}
 use Rattle.batch_wire.specs.Written.{AppendsBeginning}
 use Rattle.batch_serve.specs.Safe.{BeginsSafely, WritesSafely, WritesWholeSafely}
+use Rattle.batch_words.specs.declared.comments.Comments.{Comments}
 use Rattle.batch_words.specs.CommandLine.{Request, Source, audit, plant, serve, source_of, tell, keep, Judgement, write, remark, picture}
 use Rattle.batch_words.specs.declared.command.AuditWords.{AuditWords}
 use Rattle.batch_words.specs.declared.plant_options.PlantOptions.{PlantOptions}
@@ -159,7 +160,7 @@ done_to_plant gives request quiet output errors _ set options (running.plants ot
     let chosen : own ≡ options = cc in
     (subst (λ (o : PlantOptions). request ≡ plant o.batches o.ticks o.ring) chosen asked, subst IsDemoSet same cleared, kept, silent)
 done_to_plant gives request quiet output errors _ set options (running.serves _ _ _ _ _ _) is = absurd cc
-done_to_plant gives request quiet output errors _ set options (running.keeps _ _ _ _ _ _ _ _ _) is = absurd cc
+done_to_plant gives request quiet output errors _ set options (running.keeps _ _ _ _ _ _ _ _ _ _) is = absurd cc
 done_to_plant gives request quiet output errors _ set options (running.remarks _ _ _ _ _ _ _) is = absurd cc
 done_to_plant gives request quiet output errors _ set options (running.reads _ _ _ _) is = absurd cc
 done_to_plant gives request quiet output errors _ set options (running.draws _ _ _ _) is = absurd cc
@@ -213,7 +214,7 @@ done_to_read gives request quiet output errors _ path (running.reads other asked
     let same : other ≡ path = cc in
     (subst (λ (p : Option (String Global)). request ≡ tell (option_map string_bytes p)) same asked, kept, silent)
 done_to_read gives request quiet output errors _ path (running.serves _ _ _ _ _ _) is = absurd cc
-done_to_read gives request quiet output errors _ path (running.keeps _ _ _ _ _ _ _ _ _) is = absurd cc
+done_to_read gives request quiet output errors _ path (running.keeps _ _ _ _ _ _ _ _ _ _) is = absurd cc
 done_to_read gives request quiet output errors _ path (running.remarks _ _ _ _ _ _ _) is = absurd cc
 done_to_read gives request quiet output errors _ path (running.plants _ _ _ _ _ _) is = absurd cc
 done_to_read gives request quiet output errors _ path (running.audits _ _ _ _ _ _) is = absurd cc
@@ -265,7 +266,7 @@ done_to_draw gives request quiet output errors _ path (running.draws other asked
     let same : other ≡ path = cc in
     (subst (λ (p : Option (String Global)). request ≡ picture (option_map string_bytes p)) same asked, kept, silent)
 done_to_draw gives request quiet output errors _ path (running.serves _ _ _ _ _ _) is = absurd cc
-done_to_draw gives request quiet output errors _ path (running.keeps _ _ _ _ _ _ _ _ _) is = absurd cc
+done_to_draw gives request quiet output errors _ path (running.keeps _ _ _ _ _ _ _ _ _ _) is = absurd cc
 done_to_draw gives request quiet output errors _ path (running.remarks _ _ _ _ _ _ _) is = absurd cc
 done_to_draw gives request quiet output errors _ path (running.reads _ _ _ _) is = absurd cc
 done_to_draw gives request quiet output errors _ path (running.plants _ _ _ _ _ _) is = absurd cc
@@ -325,7 +326,7 @@ done_to_audit gives words request quiet output errors _ set own asked (running.a
     subst (IsToAudit gives words output errors set) chosen
     (record { asked = subst (AskFor words) is_asked asked; is_set = subst (IsSetOf gives (source_of other.source)) same is_set; unwritten = kept; silent = silent })
 done_to_audit gives words request quiet output errors _ set own asked (running.serves _ _ _ _ _ _) is = absurd cc
-done_to_audit gives words request quiet output errors _ set own asked (running.keeps _ _ _ _ _ _ _ _ _) is = absurd cc
+done_to_audit gives words request quiet output errors _ set own asked (running.keeps _ _ _ _ _ _ _ _ _ _) is = absurd cc
 done_to_audit gives words request quiet output errors _ set own asked (running.remarks _ _ _ _ _ _ _) is = absurd cc
 done_to_audit gives words request quiet output errors _ set own asked (running.reads _ _ _ _) is = absurd cc
 done_to_audit gives words request quiet output errors _ set own asked (running.draws _ _ _ _) is = absurd cc
@@ -357,18 +358,18 @@ audit_kept holds set beginning path unread left before mid after quiet still lou
 -- A journal
 
 -- what is to be served over a journal is the set of the documents that the words name, and nothing was written
-pub record IsToKeep (gives : Gives) (words : List Text) (output errors : Stream) (digested : Digested) (path : String Global) : Type 0 where
+pub record IsToKeep (gives : Gives) (words : List Text) (output errors : Stream) (digested : Digested) (path : String Global) (comments : Comments) : Type 0 where
   pub cell : Text
   pub certificate : Text
   pub recipes : List Text
-  pub asked : AskFor words (keep (string_bytes path) cell certificate recipes)
+  pub asked : AskFor words (keep (string_bytes path) cell certificate recipes comments.echo comments.times)
   pub is_set : AreDigested gives cell certificate recipes digested.set digested.documents.text
   pub unwritten : Keeps output.before output.after
 
-pub set_to_keep : (gives : Gives) (words : List Text) (output errors : Stream) (course : Course) (digested : Digested) (quiet : Bool) (path : String Global)
-    → IsRun gives words output errors course → course ≡ course_of.Keeps digested quiet path → IsToKeep gives words output errors digested path
-set_to_keep gives words output errors _ digested quiet path (running.commands request course asked came) is =
-    let (keeping, _) = done_keeping gives request (ask_quiet words) output errors digested quiet path course came is in
+pub set_to_keep : (gives : Gives) (words : List Text) (output errors : Stream) (course : Course) (digested : Digested) (quiet : Bool) (path : String Global) (comments : Comments)
+    → IsRun gives words output errors course → course ≡ course_of.Keeps digested quiet path comments → IsToKeep gives words output errors digested path comments
+set_to_keep gives words output errors _ digested quiet path comments (running.commands request course asked came) is =
+    let (keeping, _) = done_keeping gives request (ask_quiet words) output errors digested quiet path comments course came is in
     record {
       cell = keeping.cell;
       certificate = keeping.certificate;
@@ -377,9 +378,9 @@ set_to_keep gives words output errors _ digested quiet path (running.commands re
       is_set = keeping.is_set;
       unwritten = keeping.unwritten;
     }
-set_to_keep gives words output errors _ digested quiet path (running.helps _ _ _ _) is = absurd cc
-set_to_keep gives words output errors _ digested quiet path (running.misuses _ _) is = absurd cc
-set_to_keep gives words output errors _ digested quiet path (running.starves _) is = absurd cc
+set_to_keep gives words output errors _ digested quiet path comments (running.helps _ _ _ _) is = absurd cc
+set_to_keep gives words output errors _ digested quiet path comments (running.misuses _ _) is = absurd cc
+set_to_keep gives words output errors _ digested quiet path comments (running.starves _) is = absurd cc
 
 untold_kept : (before mid after : Option (List ℕ)) (status : ℕ) → Keeps before mid → IsUntold (record { before = mid; after = after }) status
     → IsUntold (record { before = before; after = after }) status
@@ -391,25 +392,25 @@ refusal_kept path fault before mid after status kept (inl (appends, is)) = inl (
 refusal_kept path fault before mid after status kept (inr (inl is)) = inr (inl is)
 refusal_kept path fault before mid after status kept (inr (inr (untouched, is))) = inr (inr (kept_then_kept before mid after kept untouched, is))
 
-journal_told_kept : (disks : DiskKind) (set : ClearedSet) (digits path : List ℕ) (start end : disks.File) (unread left before mid after : Option (List ℕ)) (status : ℕ) → Keeps before mid
-    → IsJournalTold disks set digits path start end (record { unread = unread; left = left; before = mid; after = after }) status
-    → IsJournalTold disks set digits path start end (record { unread = unread; left = left; before = before; after = after }) status
-journal_told_kept disks set digits path start end unread left before mid after status kept (journal.refuses fault refused told) =
+journal_told_kept : (disks : DiskKind) (set : ClearedSet) (digits path : List ℕ) (commented : Bool) (start end : disks.File) (unread left before mid after : Option (List ℕ)) (status : ℕ) → Keeps before mid
+    → IsJournalTold disks set digits path commented start end (record { unread = unread; left = left; before = mid; after = after }) status
+    → IsJournalTold disks set digits path commented start end (record { unread = unread; left = left; before = before; after = after }) status
+journal_told_kept disks set digits path commented start end unread left before mid after status kept (journal.refuses fault refused told) =
     journal.refuses fault refused (refusal_kept path fault before mid after status kept told)
-journal_told_kept disks set digits path start end unread left before mid after status kept (journal.stops untold) =
+journal_told_kept disks set digits path commented start end unread left before mid after status kept (journal.stops untold) =
     journal.stops (untold_kept before mid after status kept untold)
-journal_told_kept disks set digits path start end unread left before mid after status kept (journal.serves lines reached block middle are is_block appends behind) =
-    journal.serves lines reached block middle are is_block (kept_then_appended before mid middle block kept appends) behind
-journal_told_kept disks set digits path start end unread left before mid after status kept (journal.fails lines reached block taken is_block begins is) =
+journal_told_kept disks set digits path commented start end unread left before mid after status kept (journal.serves lines reached block middle plain are is_block appends shown behind) =
+    journal.serves lines reached block middle plain are is_block (kept_then_appended before mid middle block kept appends) shown behind
+journal_told_kept disks set digits path commented start end unread left before mid after status kept (journal.fails lines reached block taken is_block begins is) =
     journal.fails lines reached block taken is_block (kept_then_begun before mid after block kept begins) is
 
 -- serving over a journal, after the writer was left as it was
-pub journal_kept : (files : JournalFiles) (set : ClearedSet) (digits path : List ℕ) (unread left before mid after : Option (List ℕ)) (status : ℕ) → Keeps before mid
-    → IsJournalRun files set digits path (record { unread = unread; left = left; before = mid; after = after }) status
-    → IsJournalRun files set digits path (record { unread = unread; left = left; before = before; after = after }) status
-journal_kept files set digits path unread left before mid after status kept (inl (start, end, opens, fresh, over)) =
-    inl (start, end, opens, fresh, record { any_moment = over.any_moment; untouched = over.untouched; told = journal_told_kept files.disks set digits path start end unread left before mid after status kept over.told })
-journal_kept files set digits path unread left before mid after status kept (inr untold) = inr (untold_kept before mid after status kept untold)
+pub journal_kept : (files : JournalFiles) (set : ClearedSet) (digits path : List ℕ) (commented : Bool) (unread left before mid after : Option (List ℕ)) (status : ℕ) → Keeps before mid
+    → IsJournalRun files set digits path commented (record { unread = unread; left = left; before = mid; after = after }) status
+    → IsJournalRun files set digits path commented (record { unread = unread; left = left; before = before; after = after }) status
+journal_kept files set digits path commented unread left before mid after status kept (inl (start, end, opens, fresh, over)) =
+    inl (start, end, opens, fresh, record { any_moment = over.any_moment; untouched = over.untouched; told = journal_told_kept files.disks set digits path commented start end unread left before mid after status kept over.told })
+journal_kept files set digits path commented unread left before mid after status kept (inr untold) = inr (untold_kept before mid after status kept untold)
 
 -- Exit statuses
 
@@ -461,15 +462,16 @@ plants_no_picture batches ticks ring path is = cc
 serves_no_plant : (source : Source) (batches ticks ring : ℕ) → serve source ≡ plant batches ticks ring → ⊥
 serves_no_plant source batches ticks ring is = cc
 
-serves_no_journal : (source : Source) (path cell certificate : Text) (recipes : List Text) → serve source ≡ keep path cell certificate recipes → ⊥
-serves_no_journal source path cell certificate recipes is = cc
+serves_no_journal : (source : Source) (path cell certificate : Text) (recipes : List Text) (echo times : Bool) → serve source ≡ keep path cell certificate recipes echo times → ⊥
+serves_no_journal source path cell certificate recipes echo times is = cc
 
-plants_no_journal : (batches ticks ring : ℕ) (path cell certificate : Text) (recipes : List Text) → plant batches ticks ring ≡ keep path cell certificate recipes → ⊥
-plants_no_journal batches ticks ring path cell certificate recipes is = cc
+plants_no_journal : (batches ticks ring : ℕ) (path cell certificate : Text) (recipes : List Text) (echo times : Bool)
+    → plant batches ticks ring ≡ keep path cell certificate recipes echo times → ⊥
+plants_no_journal batches ticks ring path cell certificate recipes echo times is = cc
 
-pub audits_no_journal : (beginning : Bool) (record_path : Text) (source : Source) (path cell certificate : Text) (recipes : List Text)
-    → audit beginning record_path source ≡ keep path cell certificate recipes → ⊥
-audits_no_journal beginning record_path source path cell certificate recipes is = cc
+pub audits_no_journal : (beginning : Bool) (record_path : Text) (source : Source) (path cell certificate : Text) (recipes : List Text) (echo times : Bool)
+    → audit beginning record_path source ≡ keep path cell certificate recipes echo times → ⊥
+audits_no_journal beginning record_path source path cell certificate recipes echo times is = cc
 
 safe_at : (gives : Gives) (holds : Holds) (files : JournalFiles) (words : List Text) (ends : serving.Ends) (errors : Stream) (source : Source) (status : ℕ)
     → AskFor words (serve source) → IsProgramRun gives holds files words ends errors status → status ≡ 0
@@ -482,8 +484,8 @@ safe_at gives holds files words ends errors source _ asked (serves other set ser
     let same = same_source other source (same_request words (serve other) (serve source) asked2 asked) in
     let (left, answers, says) = ran_to_the_end set served ends (ask_quiet words) errors all told is in
     (set, left, subst (λ s. IsSetOf gives s set) same is_set, answers, says)
-safe_at gives holds files words ends errors source _ asked (keeps path cell certificate recipes _ _ _ asked2 _ _) is =
-    absurd (serves_no_journal source path cell certificate recipes (same_request words (serve source) (keep path cell certificate recipes) asked asked2))
+safe_at gives holds files words ends errors source _ asked (keeps path cell certificate recipes echo times _ _ _ asked2 _ _) is =
+    absurd (serves_no_journal source path cell certificate recipes echo times (same_request words (serve source) (keep path cell certificate recipes echo times) asked asked2))
 safe_at gives holds files words ends errors source _ asked (remarks other echo times _ _ asked2 _ _ _) is =
     absurd (serves_no_comments source other echo times (same_request words (serve source) (remark other echo times) asked asked2))
 safe_at gives holds files words ends errors source _ asked (reads path _ asked2 _) is =
@@ -523,7 +525,7 @@ explained_in_range texts output errors status (inr (_, inr memory)) = rw memory 
 done_in_range : (gives : Gives) (request : Request) (quiet : Bool) (output errors : Stream) (course : Course) (status : ℕ)
     → IsDone gives request quiet output errors course → course ≡ Ends status → status ≤ 4
 done_in_range gives request quiet output errors _ status (running.serves _ _ _ _ _ _) is = absurd cc
-done_in_range gives request quiet output errors _ status (running.keeps _ _ _ _ _ _ _ _ _) is = absurd cc
+done_in_range gives request quiet output errors _ status (running.keeps _ _ _ _ _ _ _ _ _ _) is = absurd cc
 done_in_range gives request quiet output errors _ status (running.remarks _ _ _ _ _ _ _) is = absurd cc
 done_in_range gives request quiet output errors _ status (running.reads _ _ _ _) is = absurd cc
 done_in_range gives request quiet output errors _ status (running.draws _ _ _ _) is = absurd cc
@@ -609,16 +611,16 @@ ends_in_range status (inl well) = rw well (omega arith)
 ends_in_range status (inr (inl fails)) = rw fails (omega arith)
 ends_in_range status (inr (inr memory)) = rw memory (omega arith)
 
-journal_in_range : (disks : DiskKind) (set : ClearedSet) (digits path : List ℕ) (start end : disks.File) (ends : serving.Ends) (status : ℕ)
-    → IsJournalTold disks set digits path start end ends status → status ≤ 4
-journal_in_range disks set digits path start end ends status (journal.refuses fault _ told) = refusal_in_range path fault (output_of ends) status told
-journal_in_range disks set digits path start end ends status (journal.stops untold) = untold_in_range (output_of ends) status untold
-journal_in_range disks set digits path start end ends status (journal.serves _ _ _ _ _ _ _ behind) = ends_in_range status behind.ends
-journal_in_range disks set digits path start end ends status (journal.fails _ _ _ _ _ _ fault) = rw fault (omega arith)
+journal_in_range : (disks : DiskKind) (set : ClearedSet) (digits path : List ℕ) (commented : Bool) (start end : disks.File) (ends : serving.Ends) (status : ℕ)
+    → IsJournalTold disks set digits path commented start end ends status → status ≤ 4
+journal_in_range disks set digits path commented start end ends status (journal.refuses fault _ told) = refusal_in_range path fault (output_of ends) status told
+journal_in_range disks set digits path commented start end ends status (journal.stops untold) = untold_in_range (output_of ends) status untold
+journal_in_range disks set digits path commented start end ends status (journal.serves _ _ _ _ _ _ _ _ _ behind) = ends_in_range status behind.ends
+journal_in_range disks set digits path commented start end ends status (journal.fails _ _ _ _ _ _ fault) = rw fault (omega arith)
 
-kept_in_range : (files : JournalFiles) (set : ClearedSet) (digits path : List ℕ) (ends : serving.Ends) (status : ℕ) → IsJournalRun files set digits path ends status → status ≤ 4
-kept_in_range files set digits path ends status (inl (start, end, _, _, over)) = journal_in_range files.disks set digits path start end ends status over.told
-kept_in_range files set digits path ends status (inr untold) = untold_in_range (output_of ends) status untold
+kept_in_range : (files : JournalFiles) (set : ClearedSet) (digits path : List ℕ) (commented : Bool) (ends : serving.Ends) (status : ℕ) → IsJournalRun files set digits path commented ends status → status ≤ 4
+kept_in_range files set digits path commented ends status (inl (start, end, _, _, over)) = journal_in_range files.disks set digits path commented start end ends status over.told
+kept_in_range files set digits path commented ends status (inr untold) = untold_in_range (output_of ends) status untold
 
 written_in_range : (holds : Holds) (path text : List ℕ) (errors : Stream) (status : ℕ) → IsWritten holds path text errors status → status ≤ 4
 written_in_range holds path text errors status (inl (_, _, success)) = rw success (omega arith)
@@ -632,7 +634,7 @@ run_in_range gives holds files words ends errors status (writes path _ text warn
     written_in_range holds path text (record { before = warned; after = errors.after }) status written
 run_in_range gives holds files words ends errors _ (serves _ _ served _ _ _ _) = serving_in_range served
 run_in_range gives holds files words ends errors _ (remarks _ _ _ _ served _ _ _ _) = serving_in_range served
-run_in_range gives holds files words ends errors status (keeps path _ _ _ set digits _ _ _ ran) = kept_in_range files set digits path ends status ran
+run_in_range gives holds files words ends errors status (keeps path _ _ _ echo times set digits _ _ _ ran) = kept_in_range files set digits path (echo || times) ends status ran
 run_in_range gives holds files words ends errors status (reads path _ _ told) = record_in_range holds path ends errors status told
 run_in_range gives holds files words ends errors status (draws path _ _ told) = drawn_in_range holds path ends errors status told
 run_in_range gives holds files words ends errors status (audits beginning path _ set _ _ _ told) = audit_in_range holds set beginning path ends errors status told
@@ -665,8 +667,9 @@ told_plant gives holds files words ends errors batches ticks ring _ asked (write
     absurd (plants_no_file batches ticks ring path judgement (same_request words (plant batches ticks ring) (write path judgement) asked asked2))
 told_plant gives holds files words ends errors batches ticks ring _ asked (serves source _ _ asked2 _ _ _) is =
     absurd (serves_no_plant source batches ticks ring (same_request words (serve source) (plant batches ticks ring) asked2 asked))
-told_plant gives holds files words ends errors batches ticks ring _ asked (keeps path cell certificate recipes _ _ _ asked2 _ _) is =
-    absurd (plants_no_journal batches ticks ring path cell certificate recipes (same_request words (plant batches ticks ring) (keep path cell certificate recipes) asked asked2))
+told_plant gives holds files words ends errors batches ticks ring _ asked (keeps path cell certificate recipes echo times _ _ _ asked2 _ _) is =
+    absurd (plants_no_journal batches ticks ring path cell certificate recipes echo times
+    (same_request words (plant batches ticks ring) (keep path cell certificate recipes echo times) asked asked2))
 told_plant gives holds files words ends errors batches ticks ring _ asked (remarks source echo times _ _ asked2 _ _ _) is =
     absurd (plants_no_comments batches ticks ring source echo times (same_request words (plant batches ticks ring) (remark source echo times) asked asked2))
 told_plant gives holds files words ends errors batches ticks ring _ asked (reads path _ asked2 _) is =

@@ -1,5 +1,5 @@
 -- trusted: what comes of a run over a journal, and what is printed of a file that is refused.
-use Rattle.std.specs.Prelude.{◌≡◌, ◌⊎◌, ◌++◌, ℕ, List, Option, IfSome, codes, decimal}
+use Rattle.std.specs.Prelude.{◌≡◌, ◌⊎◌, ◌++◌, ℕ, Bool, true, false, List, Option, IfSome, codes, decimal}
 use Rattle.std.specs.Io.KnownBytes.{Appends}
 use Rattle.batch_model.specs.Plant.{Plant, opening}
 use Rattle.batch_verify.specs.ClearedSet.{ClearedSet}
@@ -7,6 +7,7 @@ use Rattle.batch_engine.specs.View.{setup}
 use Rattle.batch_wire.specs.Transcript.{lines_of}
 use Rattle.batch_wire.specs.Written.{AppendsBeginning}
 use Rattle.batch_wire.specs.WrittenTranscript.{WritesTranscript}
+use Rattle.batch_serve.specs.Comments.{IsRemarked}
 use Rattle.batch_serve.specs.Serves as serving
 use Rattle.batch_journal.specs.Disks.{Left}
 use Rattle.batch_journal.specs.Journals.{recovered}
@@ -49,6 +50,11 @@ pub record JournalFiles : Type 1 where
   pub disks : DiskKind
   pub opens : List ℕ → disks.File → Type 0
 
+-- what stands behind the block as it is without comments, where some are asked for; where none is, as it is
+abbrev pub IsShownAs : Bool → Option (List ℕ) → Option (List ℕ) → Option (List ℕ) → Type 0
+IsShownAs false middle after plain = after ≡ plain
+IsShownAs true middle after plain = IsRemarked middle after plain
+
 -- behind the block: with status 0 all lines of the input are answered; and whatever came of it, a replay of what a crash leaves tells
 -- again what the journal's lines and this run told
 pub record IsServedBehind (disks : DiskKind) (set : ClearedSet) (digits : List ℕ) (plant : Plant) (start end : disks.File) (unread middle after : Option (List ℕ)) (status : ℕ) : Type 0 where
@@ -58,31 +64,32 @@ pub record IsServedBehind (disks : DiskKind) (set : ClearedSet) (digits : List �
   pub ends : (status ≡ success_status) ⊎ (status ≡ fault_status) ⊎ (status ≡ memory_status)
 
 -- what is told over the file that was opened
-pub data IsJournalTold (disks : DiskKind) (set : ClearedSet) (digits path : List ℕ) (start end : disks.File) (ends : serving.Ends) (status : ℕ) : Type 0 where
+pub data IsJournalTold (disks : DiskKind) (set : ClearedSet) (digits path : List ℕ) (commented : Bool) (start end : disks.File) (ends : serving.Ends) (status : ℕ) : Type 0 where
   refuses : (fault : RecoveryFault) → (disks.is_disk end → IsRefusedFor digits (disks.seen start) fault) → IsJournalRefused path fault (output_of ends) status
-      → IsJournalTold disks set digits path start end ends status
-  stops : IsUntold (output_of ends) status → IsJournalTold disks set digits path start end ends status
-  -- the recovery block of the lines that the file had, which there is no reason to refuse, and what is told behind it
-  serves : (lines : List (List ℕ)) (plant : Plant) (block : List ℕ) (middle : Option (List ℕ))
+      → IsJournalTold disks set digits path commented start end ends status
+  stops : IsUntold (output_of ends) status → IsJournalTold disks set digits path commented start end ends status
+  -- the recovery block of the lines that the file had, which there is no reason to refuse, and what is told behind it, comments aside
+  serves : (lines : List (List ℕ)) (plant : Plant) (block : List ℕ) (middle plain : Option (List ℕ))
       → (disks.is_disk end → HasNoFault digits (disks.seen start) × (lines ≡ recovered digits (disks.seen start)))
-      → IsBlockOf (setup set) opening lines plant block → Appends ends.before middle block → IsServedBehind disks set digits plant start end ends.unread middle ends.after status
-      → IsJournalTold disks set digits path start end ends status
+      → IsBlockOf (setup set) opening lines plant block → Appends ends.before middle block → IsShownAs commented middle ends.after plain
+      → IsServedBehind disks set digits plant start end ends.unread middle plain status
+      → IsJournalTold disks set digits path commented start end ends status
   -- the block can't be written whole
   fails : (lines : List (List ℕ)) (plant : Plant) (block : List ℕ) → (disks.is_disk end → HasNoFault digits (disks.seen start)) → IsBlockOf (setup set) opening lines plant block
-      → AppendsBeginning ends.before ends.after block → status ≡ fault_status → IsJournalTold disks set digits path start end ends status
+      → AppendsBeginning ends.before ends.after block → status ≡ fault_status → IsJournalTold disks set digits path commented start end ends status
 
 -- the file as it was opened and as it was left; at each moment between them a crash leaves the lines that it had, and all behind them
 -- that the machine was given by then
-pub record IsOverFile (disks : DiskKind) (set : ClearedSet) (digits path : List ℕ) (start end : disks.File) (ends : serving.Ends) (status : ℕ) : Type 0 where
+pub record IsOverFile (disks : DiskKind) (set : ClearedSet) (digits path : List ℕ) (commented : Bool) (start end : disks.File) (ends : serving.Ends) (status : ℕ) : Type 0 where
   pub any_moment : disks.is_disk end
       → HasRecalled digits (text_of (recovered digits (disks.seen start))) (disks.moment start) (disks.moment end) (disks.left_since end)
   -- a file that there is a reason to refuse stays as it was
   pub untouched : disks.is_disk end → HasNoFault digits (disks.seen start) ⊎ (disks.seen end ≡ disks.seen start)
-  pub told : IsJournalTold disks set digits path start end ends status
+  pub told : IsJournalTold disks set digits path commented start end ends status
 
--- the file at the path is opened, in which all that is read is durable; or it can't be opened
-abbrev pub IsJournalRun : JournalFiles → ClearedSet → List ℕ → List ℕ → serving.Ends → ℕ → Type 0
-IsJournalRun files set digits path ends status =
+-- the file at the path is opened, in which all that is read is durable; or it can't be opened. Comments may be asked for in the record
+abbrev pub IsJournalRun : JournalFiles → ClearedSet → List ℕ → List ℕ → Bool → serving.Ends → ℕ → Type 0
+IsJournalRun files set digits path commented ends status =
     ((start : files.disks.File) × (end : files.disks.File) × files.opens path start × (files.disks.is_disk start → files.disks.durable start ≡ files.disks.seen start)
-    × IsOverFile files.disks set digits path start end ends status)
+    × IsOverFile files.disks set digits path commented start end ends status)
     ⊎ IsUntold (output_of ends) status

@@ -1,5 +1,5 @@
 -- private: how a run over a journal comes to its end.
-use Rattle.std.specs.Prelude.{◌≡◌, ◌⊎◌, ℕ, List, Option, IfSome, option_map}
+use Rattle.std.specs.Prelude.{◌≡◌, ◌⊎◌, ℕ, Bool, List, Option, IfSome, option_map}
 use Rattle.std.specs.Io.KnownBytes.{Appends}
 use Rattle.batch_model.specs.Plant.{Setup, Plant}
 use Rattle.batch_wire.specs.Transcript.{lines_of}
@@ -13,7 +13,7 @@ use Rattle.batch_keep.specs.Told.{IsNeverLost}
 use Rattle.batch_keep.specs.declared.starting.StartFault.{StartFault}
 use Rattle.batch_keep.specs.declared.starting.StartFault.TheVariants.{Recovery}
 use Rattle.batch_commands.specs.Running.{Stream, fault_status, memory_status, success_status}
-use Rattle.batch_program.specs.JournalRuns.{IsJournalRefused}
+use Rattle.batch_program.specs.JournalRuns.{IsJournalRefused, IsShownAs}
 use Rattle.batch_program.specs.RecordRuns.{IsUntold}
 
 -- the bytes that a reader of an input gives to a journal
@@ -31,8 +31,9 @@ pub record IsTold (c : Setup) (plant : Plant) (documents base : List ℕ) (is_di
   pub never_lost : is_disk → (start : List ℕ) → base ≡ text_of (recovered documents start) → IfSome unread (λ input. IsNeverLost c plant documents start durable seen given middle after)
   pub ends : (status ≡ success_status) ⊎ (status ≡ fault_status) ⊎ (status ≡ memory_status)
 
--- the block and that, or a beginning of it
-abbrev pub IsToldBehind : Setup → Plant → List ℕ → List ℕ → Type 0 → List ℕ → List ℕ → List ℕ → List ℕ → Option (List ℕ) → Option (List ℕ) → Option (List ℕ) → ℕ → Type 0
-IsToldBehind c plant documents base is_disk durable seen given block unread before after status =
-    ((middle : Option (List ℕ)) × Appends before middle block × IsTold c plant documents base is_disk durable seen given unread middle after status)
+-- the block and that, comments aside, or a beginning of the block
+abbrev pub IsToldBehind : Setup → Plant → List ℕ → List ℕ → Bool → Type 0 → List ℕ → List ℕ → List ℕ → List ℕ → Option (List ℕ) → Option (List ℕ) → Option (List ℕ) → ℕ → Type 0
+IsToldBehind c plant documents base commented is_disk durable seen given block unread before after status =
+    ((middle : Option (List ℕ)) × (plain : Option (List ℕ)) × Appends before middle block × IsShownAs commented middle after plain
+    × IsTold c plant documents base is_disk durable seen given unread middle plain status)
     ⊎ (AppendsBeginning before after block × (status ≡ fault_status))

@@ -1,5 +1,5 @@
 -- trusted: what comes of the program's words, input and documents.
-use Rattle.std.specs.Prelude.{◌≡◌, ◌≤◌, ◌++◌, ℕ, zero, suc, Bool, true, false, IfOk, IfSome, List, Option, Result, Ok, Err, codes, decimal, if◌then◌else◌, nat_eq, Some}
+use Rattle.std.specs.Prelude.{◌≡◌, ◌≤◌, ◌++◌, ℕ, zero, suc, Bool, true, false, ◌||◌, IfOk, IfSome, List, Option, Result, Ok, Err, codes, decimal, if◌then◌else◌, nat_eq, Some}
 use Rattle.std.specs.Io.KnownBytes.{Appends, Keeps}
 use Rattle.std.specs.Process.{exit_status}
 use Rattle.std.specs.declared.process.ExitCode.{ExitCode}
@@ -81,10 +81,10 @@ pub data IsProgramRun (gives : Gives) (holds : Holds) (files : JournalFiles) (wo
   remarks : (source : Source) (echo times : Bool) (set : ClearedSet) (served : Result ℕ SetFault)
       → AskFor words (remark source echo times) → IsSetOf gives source set → ServesRemarked set MAX_READS served ends
       → IfOk served (IsLeftTold (ask_quiet words) errors) → IsProgramRun gives holds files words ends errors (status_of_serving served)
-  -- it is served over the journal that they name
-  keeps : (journal cell certificate : Text) (recipes : List Text) (set : ClearedSet) (digits : List ℕ) (status : ℕ)
-      → AskFor words (keep journal cell certificate recipes) → AreDigested gives cell certificate recipes set digits
-      → IsJournalRun files set digits journal ends status → IsProgramRun gives holds files words ends errors status
+  -- it is served over the journal that they name, with comments in the record or without them
+  keeps : (journal cell certificate : Text) (recipes : List Text) (echo times : Bool) (set : ClearedSet) (digits : List ℕ) (status : ℕ)
+      → AskFor words (keep journal cell certificate recipes echo times) → AreDigested gives cell certificate recipes set digits
+      → IsJournalRun files set digits journal (echo || times) ends status → IsProgramRun gives holds files words ends errors status
   -- what the record that the words name tells is printed, or what the input tells
   reads : (path : Option Text) (status : ℕ)
       → AskFor words (tell path) → IsRecordTold holds path ends errors status → IsProgramRun gives holds files words ends errors status

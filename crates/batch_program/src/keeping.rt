@@ -1,13 +1,16 @@
 //! Serving over a journal.
-ghost use Rattle.std.specs.Prelude.{◌≡◌, ◌⊎◌, [], IsOk};
+ghost use Rattle.std.specs.Prelude.{◌≡◌, ◌⊎◌, ◌||◌, [], ℕ, List, Option, Some, IfSome, IsOk, OnOk, is_some};
 ghost use Rattle.std.specs.Io.KnownBytes.{Keeps};
 ghost use Rattle.batch_engine.specs.View.{setup, plant_of};
+ghost use Rattle.batch_keep.specs.Told.{IsNeverLost};
+ghost use Rattle.batch_wire.specs.Transcript.{lines_of};
 ghost use Rattle.batch_wire.specs.Written.{Writes};
+ghost use Rattle.batch_wire.specs.WrittenTranscript.{WritesTranscript};
 ghost use Rattle.batch_journal.specs.Journals.{recovered, sum_text};
 ghost use Rattle.batch_journal.specs.Lines.{text_of};
 ghost use Rattle.batch_journal.specs.Readers.{HasRecalled, IsAccounted, IsKept, IsWhole};
 ghost use Rattle.batch_commands.specs.Running.{fault_status, memory_status, success_status};
-ghost use Rattle.batch_program.specs.JournalRuns.{IsJournalRun, IsOverFile};
+ghost use Rattle.batch_program.specs.JournalRuns.{IsJournalRun, IsOverFile, IsShownAs};
 ghost use Rattle.batch_program.specs.Keeping.{IsToldBehind, cleaned};
 
 use crate::journal_faults::{
@@ -19,9 +22,10 @@ use crate::program::{MAX_READS, tell_left};
 use batch_commands::{Digested, SUCCESS};
 use batch_engine::Engine;
 use batch_journal::{Disk, Run};
-use batch_keep::{Journal, KeepFault, Started, serve_started, start};
-use batch_serve::{CleanReader, clean_lines_serve_alike};
+use batch_keep::{Journal, KeepFault, Started, serve_started, serve_started_remarked, start};
+use batch_serve::{CleanReader, NoRemarks, Remarking, clean_lines_serve_alike};
 use batch_wire::{WriteFault, write_all};
+use batch_words::Comments;
 use std::alloc::Global;
 use std::io::{Read, Write};
 use std::marker::Brand;
@@ -37,12 +41,14 @@ struct Messages<'a> {
 /// Serves event lines from the input over the set, with a journal of them in the file at the path, and gives the exit status.
 ///
 /// The lines that the journal has are served again first, without their answers being written, and the recovery block stands before all
-/// else on the output. A file that is no journal, or one of other documents, or damaged, is refused by a line on the output.
+/// else on the output; comments in the record stand behind it. A file that is no journal, or one of other documents, or damaged, is
+/// refused by a line on the output.
 pub fn keep_journal<J: Journals, R: Read, W: Write, E: Write>(
     alloc: Global,
     digested: Digested,
     quiet: bool,
     path: &str,
+    comments: Comments,
     journals: &J,
     input: &mut Noted<R>,
     output: Noted<W>,
@@ -59,7 +65,7 @@ pub fn keep_journal<J: Journals, R: Read, W: Write, E: Write>(
         left_since = J.File.left_since;
       };
       opens = J.opens journals.now;
-    }) digested.set digested.documents.text path.now
+    }) digested.set digested.documents.text path.now (comments.echo || comments.times)
         (record {
           unread = R.remaining input.old.stream;
           left = R.remaining input.new.stream;
@@ -70,13 +76,25 @@ pub fn keep_journal<J: Journals, R: Read, W: Write, E: Write>(
     match journals.open_journal(path) {
         Ok(disk) => {
             let clock = journals.clock();
+            let remarking = remarking_of(journals.clock(), comments);
             let messages = Messages { path, quiet };
             let (status, _, output) = serve_opened(
-                alloc, digested, messages, clock, disk, input, output, errors,
+                alloc, digested, messages, clock, disk, remarking, input, output, errors,
             );
             (status, output)
         }
         Err(reason) => (complain_unopened(alloc, path, reason, errors), output),
+    }
+}
+
+/// What is remarked on the lines in the record, where comments are asked for.
+fn remarking_of<K: Clock + Drop>(clock: K, comments: Comments) -> Option<Remarking<K>>
+    ensures { is_some result ≡ (comments.echo || comments.times) }
+{
+    if comments.echo || comments.times {
+        Some(Remarking::new(clock, comments.echo, comments.times))
+    } else {
+        None
     }
 }
 
@@ -87,6 +105,7 @@ fn serve_opened<D: Disk, K: Clock + Drop, R: Read, W: Write, E: Write>(
     messages: Messages,
     clock: K,
     disk: D,
+    remarking: Option<Remarking<K>>,
     input: &mut Noted<R>,
     output: Noted<W>,
     errors: &mut E,
@@ -100,7 +119,7 @@ fn serve_opened<D: Disk, K: Clock + Drop, R: Read, W: Write, E: Write>(
       given = D.given;
       moment = D.moment;
       left_since = D.left_since;
-    }) digested.set digested.documents.text messages.entry.path.now disk result.1
+    }) digested.set digested.documents.text messages.entry.path.now (is_some remarking) disk result.1
         (record {
           unread = R.remaining input.old.stream;
           left = R.remaining input.new.stream;
@@ -109,7 +128,7 @@ fn serve_opened<D: Disk, K: Clock + Drop, R: Read, W: Write, E: Write>(
         }) result.0 }
 {
     serve_file::<D, K, R, W, E, Brand>(
-        alloc, digested, messages, clock, disk, input, output, errors,
+        alloc, digested, messages, clock, disk, remarking, input, output, errors,
     )
 }
 
@@ -119,6 +138,7 @@ fn serve_file<D: Disk, K: Clock + Drop, R: Read, W: Write, E: Write, C: Run>(
     messages: Messages,
     clock: K,
     mut disk: D,
+    remarking: Option<Remarking<K>>,
     input: &mut Noted<R>,
     mut output: Noted<W>,
     errors: &mut E,
@@ -135,7 +155,7 @@ fn serve_file<D: Disk, K: Clock + Drop, R: Read, W: Write, E: Write, C: Run>(
       given = D.given;
       moment = D.moment;
       left_since = D.left_since;
-    }) digested.set digested.documents.text messages.entry.path.now disk result.1
+    }) digested.set digested.documents.text messages.entry.path.now (is_some remarking) disk result.1
         (record {
           unread = R.remaining input.old.stream;
           left = R.remaining input.new.stream;
@@ -164,6 +184,7 @@ fn serve_file<D: Disk, K: Clock + Drop, R: Read, W: Write, E: Write, C: Run>(
                 &block,
                 messages,
                 journal,
+                remarking,
                 input,
                 output,
                 errors,
@@ -190,6 +211,7 @@ fn serve_behind<D: Disk, K: Clock + Drop, R: Read, W: Write, E: Write, C: Run>(
     block: &[u8],
     messages: Messages,
     journal: Journal<D, K>,
+    remarking: Option<Remarking<K>>,
     input: &mut Noted<R>,
     mut output: Noted<W>,
     errors: &mut E,
@@ -202,7 +224,7 @@ fn serve_behind<D: Disk, K: Clock + Drop, R: Read, W: Write, E: Write, C: Run>(
     requires was { D.is_disk journal.disk → C.was }
     ensures any_moment { D.is_disk result.1 → HasRecalled C.documents C.base C.since (D.moment result.1) (D.left_since result.1) }
     ensures stays { D.is_disk result.1 → ∥ C.was ∥₁ }
-    ensures told { IsToldBehind (setup engine.old.cleared) (plant_of engine.old) C.documents C.base (D.is_disk result.1)
+    ensures told { IsToldBehind (setup engine.old.cleared) (plant_of engine.old) C.documents C.base (is_some remarking) (D.is_disk result.1)
         (D.durable result.1) (D.seen result.1) (D.given result.1) block.now (R.remaining input.old.stream) (W.contents output.stream) (W.contents result.2.stream) result.0 }
 {
     clean_lines_serve_alike();
@@ -211,8 +233,8 @@ fn serve_behind<D: Disk, K: Clock + Drop, R: Read, W: Write, E: Write, C: Run>(
         return (status, journal.disk, output);
     }
     let reader = CleanReader::new(&mut *input);
-    let (served, disk, output) = serve_started::<CleanReader<&mut Noted<R>>, D, K, Noted<W>, C>(
-        alloc, engine, reader, journal, output, MAX_READS,
+    let (served, disk, output) = serve_shown::<CleanReader<&mut Noted<R>>, D, K, Noted<W>, C>(
+        alloc, engine, reader, journal, output, remarking,
     );
     let status = tell_end(
         alloc,
@@ -224,6 +246,38 @@ fn serve_behind<D: Disk, K: Clock + Drop, R: Read, W: Write, E: Write, C: Run>(
         errors,
     );
     (status, disk, output)
+}
+
+/// Serves the input, with comments in the record or without them.
+fn serve_shown<R: Read + Drop, D: Disk, K: Clock + Drop, W: Write, C: Run>(
+    alloc: Global,
+    engine: &mut Engine,
+    input: R,
+    journal: Journal<D, K>,
+    output: W,
+    remarking: Option<Remarking<K>>,
+) -> (Result<(), KeepFault>, D, W)
+    requires at_rest { D.is_disk journal.disk → IsKept C.documents C.base (D.durable journal.disk) (D.seen journal.disk) (D.given journal.disk) [] (sum_text journal.sum) }
+    requires whole { D.is_disk journal.disk → IsWhole (D.given journal.disk) }
+    requires recalled { D.is_disk journal.disk → HasRecalled C.documents C.base C.since (D.moment journal.disk) (D.left_since journal.disk) }
+    requires accounted { D.is_disk journal.disk → IsAccounted C.input (D.given journal.disk) (R.remaining input) }
+    requires was { D.is_disk journal.disk → C.was }
+    ensures any_moment { D.is_disk result.1 → HasRecalled C.documents C.base C.since (D.moment result.1) (D.left_since result.1) }
+    ensures stays { D.is_disk result.1 → ∥ C.was ∥₁ }
+    ensures shown { (plain : Option (List ℕ)) × IsShownAs (is_some remarking) (W.contents output) (W.contents result.2) plain
+        × OnOk result.0 (IfSome (R.remaining input) (λ all.
+        WritesTranscript (setup engine.old.cleared) (plant_of engine.old) (lines_of all) (plant_of engine.new) (W.contents output) plain))
+        × (D.is_disk result.1 → C.input ≡ R.remaining input → (all start : List ℕ) → C.input ≡ Some all → C.base ≡ text_of (recovered C.documents start)
+        → IsNeverLost (setup engine.old.cleared) (plant_of engine.old) C.documents start (D.durable result.1) (D.seen result.1) (D.given result.1) (W.contents output) plain) }
+{
+    match remarking {
+        Some(remarking) => serve_started_remarked::<R, D, K, W, C>(
+            alloc, engine, input, journal, output, remarking, MAX_READS,
+        ),
+        None => serve_started::<R, D, K, W, C, NoRemarks>(
+            alloc, engine, input, journal, output, NoRemarks, MAX_READS,
+        ),
+    }
 }
 
 /// Tells how many batches the end of the input left unfinished, or why serving stopped, and gives the exit status.

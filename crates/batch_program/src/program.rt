@@ -93,8 +93,9 @@ pub fn run_program<D: Documents + Records + Journals, P: PlantRunner, R: Read, W
             digested,
             quiet,
             path,
+            comments,
         } => keep_journal(
-            alloc, digested, quiet, &path, documents, input, output, errors,
+            alloc, digested, quiet, &path, comments, documents, input, output, errors,
         ),
         Course::Reads { path } => {
             let status = tell_record(alloc, path, documents, input, &mut output, errors);

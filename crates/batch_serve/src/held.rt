@@ -1,10 +1,13 @@
 //! A writer that holds answers back until they show no want of memory.
-ghost use Rattle.std.specs.Prelude.{◌≡◌, ◌⊎◌, ◌<◌, ◌≤◌, ℕ, List, Option, Some, [], length, take, drop, IsTrue, IsFalse, MatchOption, OnOk};
+ghost use Rattle.batch_wire.specs.EventLine.{event_of_line};
+ghost use Rattle.std.specs.Prelude.{◌≡◌, ◌⊎◌, ◌<◌, ◌≤◌, ℕ, List, Option, Some, None, Ok, [], length, take, drop, IsTrue, IsFalse, MatchOption, OnOk};
 ghost use Rattle.std.specs.Io.KnownBytes.{Appends, Keeps, append_known};
 ghost use Rattle.batch_serve.specs.Held.{IsPassed, IsHeldBack, IsUnended, TellsAll, TellsClear};
 ghost use Rattle.batch_serve.specs.Replays.{Has, ShowsNoWant};
 ghost use Rattle.batch_serve.specs.Holding.{FindsFirst, IsWholeTo, StopsAt, sooner};
 
+use crate::remarks::Remarks;
+use batch_wire::WriteFault;
 use memchr::{memmem, memrchr};
 use std::alloc::Global;
 use std::io;
@@ -70,6 +73,32 @@ impl<W: Write, C: Start> Held<W, C> {
     {
         let result = self.flush();
         (result, self.inner)
+    }
+
+    /// Has a line remarked on, behind all that it took: that is passed on first.
+    ///
+    /// It fails where some of that has to be held back, which is a refusal for want of memory or an unfinished line.
+    pub(crate) fn remark<M: Remarks<W>>(
+        &mut self,
+        line: &[u8],
+        remarks: &mut M,
+    ) -> Result<(), WriteFault>
+        requires { event_of_line line.now ≡ Ok None → ⊥ }
+        ensures bytes { Keeps (append_known (W.contents self.old.inner) self.old.held.items) (append_known (W.contents self.new.inner) self.new.held.items) }
+        ensures none { OnOk result (self.new.held.items ≡ []) }
+        ensures want { IsTrue self.new.has_want → IsTrue self.old.has_want ⊎ IsHeldBack self.new.held.items }
+    {
+        self.clear();
+        if self.pass_on().is_err() {
+            return Err(WriteFault);
+        }
+        if self.held.is_empty() {
+            return remarks.answer_begins(line, &mut self.inner);
+        }
+        // The flush fails, and tells whether memory was wanted.
+        match self.flush() {
+            Ok(()) | Err(_) => Err(WriteFault),
+        }
     }
 
     /// Clears of what is held the whole lines before the first refusal for want of memory, and tells whether there is one.

@@ -5,6 +5,7 @@ mod answering;
 mod clean_lines;
 mod fault;
 mod held;
+mod held_remarks;
 mod laws;
 mod limits;
 mod line_buffer;
@@ -18,6 +19,7 @@ mod set;
 pub use clean_lines::CleanReader;
 pub use fault::{ServeFault, SetFault};
 pub use held::{Held, Start, shows_want};
+pub use held_remarks::HeldRemarks;
 pub use laws::{
     clean_line_rows, clean_lines_agree, clean_lines_serve_alike, comment_rows, held_rows,
     no_want_is_well, serving_agrees, told_is_recovered, transcripts_are_safe,
@@ -25,6 +27,7 @@ pub use laws::{
     want_is_not_told,
 };
 pub use limits::piece_limit_is_fixed;
+pub use remarked::Remarked;
 pub use remarked_set::serve_remarked;
 pub use remarking::Remarking;
 pub use remarks::{NoRemarks, Remarks};

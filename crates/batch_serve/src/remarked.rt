@@ -27,7 +27,7 @@ pub enum Spot {
 ///
 /// What is written as the record has no `#`; else the write fails.
 #[derive(Drop)]
-pub(crate) struct Remarked<W: Write, C: Start> {
+pub struct Remarked<W: Write, C: Start> {
     inner: W,
     spot: Spot,
     // a part of a comment failed
@@ -38,7 +38,7 @@ pub(crate) struct Remarked<W: Write, C: Start> {
 
 impl<W: Write, C: Start> Remarked<W, C> {
     /// Over a writer.
-    pub(crate) fn new(inner: W) -> Remarked<W, C>
+    pub fn new(inner: W) -> Remarked<W, C>
         requires { C.contents ≡ W.contents inner }
         ensures { uncommented C.contents (W.contents result.inner) ≡ W.contents inner }
     {
@@ -51,7 +51,7 @@ impl<W: Write, C: Start> Remarked<W, C> {
     }
 
     /// The writer.
-    pub(crate) fn into_inner(self) -> W
+    pub fn into_inner(self) -> W
         ensures { IsRemarked C.contents (W.contents result) (uncommented C.contents (W.contents self.inner)) }
     {
         self.inner

@@ -1,5 +1,5 @@
 //! Comments on the lines that are served: when they came, and the lines themselves.
-ghost use Rattle.std.specs.Prelude.{◌≡◌, ◌<◌, ℕ, OnOk, false};
+ghost use Rattle.std.specs.Prelude.{◌≡◌, ◌<◌, ◌||◌, ℕ, OnOk, false};
 ghost use Rattle.std.specs.Io.KnownBytes.{Appends, Keeps};
 ghost use Rattle.batch_serve.specs.Comments.{echo_text, echoed, escape, escaped, escaped_byte, hex_digit, is_printable, time_text};
 ghost use Rattle.batch_serve.specs.Remarking.{WritesRemark, uncommented};
@@ -20,7 +20,7 @@ pub struct Remarking<K: Clock> {
     echo: bool,
     times: bool,
     // the time of the last read is still to be written
-    is_due: bool,
+    time_is_due: bool,
 }
 
 impl<K: Clock> Remarking<K> {
@@ -32,27 +32,33 @@ impl<K: Clock> Remarking<K> {
             clock,
             echo,
             times,
-            is_due: false,
+            time_is_due: false,
         }
     }
 }
 
 impl<W: Write, K: Clock, C: Start> Remarks<Remarked<W, C>> for Remarking<K> {
     fn read_begins(&mut self)
-        ensures { (self.new.is_due ≡ self.old.times) × (self.new.echo ≡ self.old.echo) × (self.new.times ≡ self.old.times) }
+        ensures { (self.new.time_is_due ≡ self.old.times) × (self.new.echo ≡ self.old.echo) × (self.new.times ≡ self.old.times) }
     {
-        self.is_due = self.times;
+        self.time_is_due = self.times;
+    }
+
+    fn is_due(&self) -> bool
+        ensures { result ≡ (self.now.time_is_due || self.now.echo) }
+    {
+        self.time_is_due || self.echo
     }
 
     fn answer_begins(&mut self, line: &[u8], writer: &mut Remarked<W, C>) -> Result<(), WriteFault>
         ensures kept { Keeps (uncommented C.contents (W.contents writer.old.inner)) (uncommented C.contents (W.contents writer.new.inner)) }
-        ensures written { OnOk result (WritesRemark self.old.is_due self.old.echo line.now (W.contents writer.old.inner) (W.contents writer.new.inner)) }
-        ensures once { OnOk result (self.new.is_due ≡ false) }
+        ensures written { OnOk result (WritesRemark self.old.time_is_due self.old.echo line.now (W.contents writer.old.inner) (W.contents writer.new.inner)) }
+        ensures once { OnOk result (self.new.time_is_due ≡ false) }
         ensures asked { (self.new.echo ≡ self.old.echo) × (self.new.times ≡ self.old.times) }
     {
-        if self.is_due {
+        if self.time_is_due {
             write_time(&self.clock, writer)?;
-            self.is_due = false;
+            self.time_is_due = false;
         }
         if self.echo {
             write_echo(line, writer)?;

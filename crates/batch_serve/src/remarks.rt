@@ -13,6 +13,9 @@ pub trait Remarks<W: Write> {
     /// A read of the input brought bytes, or its end.
     fn read_begins(&mut self);
 
+    /// Whether something is remarked on the next line that is answered.
+    fn is_due(&self) -> bool;
+
     /// The line is about to be answered; it gives something. Of a line that is too long only so much may be known as shows that.
     ///
     /// The error comes where the writer failed, or took nothing.
@@ -27,6 +30,10 @@ pub struct NoRemarks;
 
 impl<W: Write> Remarks<W> for NoRemarks {
     fn read_begins(&mut self) {}
+
+    fn is_due(&self) -> bool {
+        false
+    }
 
     fn answer_begins(&mut self, _line: &[u8], _writer: &mut W) -> Result<(), WriteFault> {
         Ok(())

@@ -3,9 +3,9 @@ use Rattle.std.proofs.Common.{◌≡◌, ℕ, Bool, true, false, List, [], ◌�
 use Rattle.clap.specs.Faults.{fault_of}
 use Rattle.clap.specs.Simple.{subcommand_of}
 use Rattle.clap.specs.Walk.{Text, Row, first_of}
-use Rattle.clap.specs.declared.error.kind.ErrorKind.TheVariants.{ArgumentConflict, DisplayHelp, DisplayVersion, InvalidSubcommand, MissingRequiredArgument, UnknownArgument, ValueValidation}
+use Rattle.clap.specs.declared.error.kind.ErrorKind.TheVariants.{DisplayHelp, DisplayVersion, InvalidSubcommand, MissingRequiredArgument, UnknownArgument, ValueValidation}
 use Rattle.clap.proofs.OnLiterals.{clap_on_literals}
-use Rattle.batch_words.specs.CommandLine.{batches_of, faults_of, is_given, program_app, ring_of, ticks_of, word_of, words_of}
+use Rattle.batch_words.specs.CommandLine.{asked_by, batches_of, is_given, keep, program_app, ring_of, ticks_of, word_of, words_of}
 
 abbrev check_line : List Text
 check_line = codes "check" ∷ codes "c" ∷ codes "r" ∷ codes "s" ∷ []
@@ -106,16 +106,18 @@ verify_has_no_comments : fault_of program_app (codes "verify" ∷ codes "--echo"
 unfolding clap_on_literals
 verify_has_no_comments = refl
 
-abbrev clash_line : List Text
-clash_line = codes "run" ∷ codes "--journal" ∷ codes "j" ∷ codes "--echo" ∷ codes "c" ∷ codes "k" ∷ []
+-- beside a journal
 
-journal_clashes_with_echo : faults_of clash_line ≡ ArgumentConflict ∷ []
-unfolding clap_on_literals
-journal_clashes_with_echo = refl
+abbrev both_line : List Text
+both_line = codes "run" ∷ codes "--journal" ∷ codes "j" ∷ codes "--echo" ∷ codes "c" ∷ codes "k" ∷ []
 
-journal_alone_is_taken : faults_of journal_line ≡ []
+echo_beside_a_journal_is_taken : fault_of program_app both_line ≡ []
 unfolding clap_on_literals
-journal_alone_is_taken = refl
+echo_beside_a_journal_is_taken = refl
+
+echo_beside_a_journal_is_read : asked_by (subcommand_of program_app both_line) ≡ keep (codes "j") (codes "c") (codes "k") [] true false
+unfolding clap_on_literals
+echo_beside_a_journal_is_read = refl
 
 serve_is_unknown : fault_of program_app (codes "serve" ∷ []) ≡ UnknownArgument ∷ InvalidSubcommand ∷ []
 unfolding clap_on_literals

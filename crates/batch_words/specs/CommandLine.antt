@@ -1,17 +1,17 @@
 -- trusted: the command line: `check [--all] [--write FILE] CELL RECIPE..`, `verify CELL CERT RECIPE..`, `show CELL RECIPE..`, `run [--journal FILE] [--echo] [--times] CELL CERT RECIPE..`, `status RECORD`, `draw RECORD`, `audit RECORD CELL CERT RECIPE..`, `plant`, `explain CODE..`, and no words at all.
-use Rattle.std.specs.Prelude.{◌≡◌, ◌≢◌, ◌⊎◌, [], ◌∷◌, ℕ, Bool, List, Option, Some, None, map, option_map, codes, true, false, ◌&&◌, ◌||◌, is_some, unwrap_or, string_bytes, if◌then◌else◌, ⊤}
+use Rattle.std.specs.Prelude.{◌≡◌, ◌≢◌, ◌⊎◌, [], ℕ, Bool, List, Option, Some, None, map, option_map, codes, true, false, ◌||◌, unwrap_or, string_bytes, if◌then◌else◌, ⊤}
 use Rattle.std.specs.Str.{bytes_eq}
 use Rattle.std.specs.Str.Parse.{digits_value, without_leading_plus}
 use Rattle.clap.specs.Lexer.{usize_max}
 use Rattle.clap.specs.Faults.{fault_of}
-use Rattle.clap.specs.Kinds.{Kinds, IsAmong, or_else}
+use Rattle.clap.specs.Kinds.{Kinds, IsAmong}
 use Rattle.clap.specs.ValueTests.{is_unsigned_in}
 use Rattle.clap.specs.Walk.{Row, Rule, Text, first_of, all_of}
-use Rattle.clap.specs.Simple.{App, new_app, new_rule, on_top, subcommand_of, with_rule, with_subcommand}
+use Rattle.clap.specs.Simple.{App, new_app, new_rule, on_top, with_rule, with_subcommand}
 use Rattle.clap.specs.declared.builder.action.ArgAction.TheVariants.{Set, Append, SetTrue}
 use Rattle.clap.specs.declared.builder.value_parser.ValueParser.TheVariants.{Unsigned}
 use Rattle.clap.specs.declared.error.kind.ErrorKind.{ErrorKind}
-use Rattle.clap.specs.declared.error.kind.ErrorKind.TheVariants.{ArgumentConflict, DisplayHelp, DisplayVersion, OutOfMemory}
+use Rattle.clap.specs.declared.error.kind.ErrorKind.TheVariants.{DisplayHelp, DisplayVersion, OutOfMemory}
 use Rattle.batch_words.specs.declared.command.Subcommand.{Subcommand}
 use Rattle.batch_words.specs.declared.command.Subcommand.TheVariants.{Judge, Serve, Status, Audit, Plant, Explain, Keep, Write, Remark, Picture}
 use Rattle.batch_words.specs.declared.command.Judgement as judgements
@@ -153,8 +153,8 @@ pub data Request : Type 0 where
   serve : Source → Request
   -- to serve it with comments in the record: the lines, or times, or both
   remark : (source : Source) (echo times : Bool) → Request
-  -- to serve that of the documents at these paths, with a journal in the file at the first one
-  keep : (journal cell certificate : Text) (recipes : List Text) → Request
+  -- to serve that of the documents at these paths, with a journal in the file at the first one, and with comments in the record or without them
+  keep : (journal cell certificate : Text) (recipes : List Text) (echo times : Bool) → Request
   -- to tell what the record at this path says, or the one on standard input
   tell : (path : Option Text) → Request
   -- to draw what it says
@@ -195,7 +195,8 @@ serve_by source rows =
 -- with a journal where one is named
 abbrev pub run_by : Option Text → List Row → Request
 run_by None rows = serve_by (documents (word_of (codes "CELL") rows) (word_of (codes "CERT") rows) (words_of (codes "RECIPE") rows)) rows
-run_by (Some journal) rows = keep journal (word_of (codes "CELL") rows) (word_of (codes "CERT") rows) (words_of (codes "RECIPE") rows)
+run_by (Some journal) rows =
+    keep journal (word_of (codes "CELL") rows) (word_of (codes "CERT") rows) (words_of (codes "RECIPE") rows) (is_given (codes "echo") rows) (is_given (codes "times") rows)
 
 -- what the words behind `verify` or `run` ask for
 abbrev pub certified_by : Text → List Row → Request
@@ -246,7 +247,8 @@ request_of (Judge judgement) = judge (judgement_of judgement)
 request_of (Write path judgement) = write (string_bytes path) (judgement_of judgement)
 request_of (Serve source) = serve (source_of source)
 request_of (Remark source comments) = remark (source_of source) comments.echo comments.times
-request_of (Keep journal cell certificate recipes) = keep (string_bytes journal) (string_bytes cell) (string_bytes certificate) (map string_bytes recipes.items)
+request_of (Keep journal cell certificate recipes comments) =
+    keep (string_bytes journal) (string_bytes cell) (string_bytes certificate) (map string_bytes recipes.items) comments.echo comments.times
 request_of (Status path) = tell (option_map string_bytes path)
 request_of (Picture path) = picture (option_map string_bytes path)
 request_of (Audit words) = audit words.beginning (string_bytes words.path) (source_of words.source)
@@ -257,21 +259,9 @@ request_of (Explain texts) = explain (map string_bytes texts.items)
 abbrev pub AreWordsOf : Option (Text × List Row) → CommandWords → Type 0
 AreWordsOf entered words = (request_of words.command ≡ asked_by entered) × (words.quiet ≡ asks_quiet entered)
 
--- a journal and comments are asked for
-abbrev pub rows_clash : List Row → Bool
-rows_clash rows = is_some (first_of (codes "journal") rows) && (is_given (codes "echo") rows || is_given (codes "times") rows)
-
-abbrev pub clashes : Option (Text × List Row) → Bool
-clashes None = false
-clashes (Some entered) = rows_clash entered.1
-
--- no comments are written beside a journal
-abbrev pub clash_kinds : Bool → Kinds
-clash_kinds clash = if clash then ArgumentConflict ∷ [] else []
-
--- the kinds of faults that the words may have: those that clap finds, and where it finds none, that of what doesn't go together
+-- the kinds of faults that the words may have: those that clap finds
 abbrev pub faults_of : List Text → Kinds
-faults_of words = or_else (fault_of program_app words) (clash_kinds (clashes (subcommand_of program_app words)))
+faults_of words = fault_of program_app words
 
 -- what the user asks to be shown: help, or the version
 abbrev pub IsShown : ErrorKind → Type 0

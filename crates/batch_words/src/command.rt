@@ -38,6 +38,7 @@ pub enum Subcommand {
         cell: String,
         certificate: String,
         recipes: Vec<String>,
+        comments: Comments,
     },
     /// To tell what a record says: the one at this path, or the one on standard input.
     Status {

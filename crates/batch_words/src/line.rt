@@ -62,7 +62,7 @@ An example, in examples/paint_plant; type the lines below it:
 The same with a journal, from which the next start brings the plant back:
   batchd run --journal day.journal cell.toml certificate.txt primer.toml rinse-mended.toml
 
-The same with each line and its time as comments in the record:
+The same with each line and its time as comments in the record, with a journal or without one:
   batchd run --echo --times cell.toml certificate.txt primer.toml rinse-mended.toml
 ";
 
@@ -184,7 +184,7 @@ fn run<'a>(alloc: Global) -> Result<Command<'a>, AllocError>
         .arg(path(
             alloc,
             "journal",
-            "Writes each event line to this file before it is answered, and begins where the file ends; not with --echo or --times",
+            "Writes each event line to this file before it is answered, and begins where the file ends",
         ))?
         .arg(flag(
             alloc,

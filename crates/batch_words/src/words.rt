@@ -1,8 +1,8 @@
 //! The words of the command line.
-ghost use Rattle.std.specs.Prelude.{◌≡◌, ◌≤◌, ◌⊎◌, IfOk, IfErr, MatchOption, Some, false, is_some, map, option_map, string_bytes, codes, []};
+ghost use Rattle.std.specs.Prelude.{◌≡◌, ◌≤◌, ◌⊎◌, IfOk, IfErr, MatchOption, Some, map, option_map, string_bytes, codes, []};
 ghost use Rattle.std.specs.Str.Parse.{digits_value, without_leading_plus};
 ghost use Rattle.clap.specs.Words.{FailsBy, IsUnsignedIn, fault_of, first_of, found_of, kind_of, rows_of, subcommand_of, subcommand_rows_of};
-ghost use Rattle.batch_words.specs.CommandLine.{AreWordsOf, HasOptionsOf, IsFaultOf, IsFaultOfKind, audited_by, certified_by, checked_by, is_given, named_by, number_given, program_app, request_of, word_of, words_of, shown_by, judged_by, judgement_of, clash_kinds, clashes, faults_of, rows_clash, run_by, serve_by, source_of};
+ghost use Rattle.batch_words.specs.CommandLine.{AreWordsOf, HasOptionsOf, IsFaultOf, IsFaultOfKind, audited_by, certified_by, checked_by, is_given, named_by, number_given, program_app, request_of, word_of, words_of, shown_by, judged_by, judgement_of, faults_of, run_by, serve_by, source_of};
 
 use crate::command::{AuditWords, CommandFault, CommandWords, Judgement, Source, Subcommand};
 use crate::comments::Comments;
@@ -11,15 +11,6 @@ use crate::plant_options::PlantOptions;
 use clap::error::ErrorKind;
 use clap::{ArgMatches, Error};
 use std::alloc::{AllocError, Global};
-
-/// What is said of a journal and comments, by a text like those of clap.
-const CLASH: &str = "\
-error: the argument '--journal <FILE>' cannot be used with '--echo' or '--times'
-
-Usage: batchd run [OPTIONS] <CELL> <CERT> [RECIPE]...
-
-For more information, try '--help'.
-";
 
 /// Reads the words that follow the program's name. Where there are none the program is to serve.
 ///
@@ -31,7 +22,7 @@ pub fn parse(alloc: Global, words: &[String]) -> Result<CommandWords, CommandFau
     ensures fault { IfErr result (IsFaultOf (faults_of (map string_bytes words.now))) }
 {
     match matches_of(alloc, words) {
-        Ok(matches) => taken_words(alloc, &matches),
+        Ok(matches) => Ok(words_of(alloc, &matches)?),
         Err(error) => Err(fault_from(alloc, &error)),
     }
 }
@@ -41,34 +32,6 @@ fn matches_of<'a>(alloc: Global, words: &'a [String]) -> Result<ArgMatches<'a>, 
     ensures kinds { FailsBy (fault_of program_app (map string_bytes words.entry.now)) result }
 {
     program(alloc)?.try_get_matches_from(words)
-}
-
-/// What the words ask for, unless that doesn't go together.
-fn taken_words(alloc: Global, matches: &ArgMatches<'_>) -> Result<CommandWords, CommandFault>
-    ensures words { IfOk result (AreWordsOf (subcommand_rows_of matches.now)) }
-    ensures taken { IfOk result (λ _. clashes (subcommand_rows_of matches.now) ≡ false) }
-    ensures fault { IfErr result (IsFaultOf (clash_kinds (clashes (subcommand_rows_of matches.now)))) }
-{
-    if is_clash(matches) {
-        return Err(CommandFault::Usage(String::from_str(alloc, CLASH)?));
-    }
-    Ok(words_of(alloc, matches)?)
-}
-
-/// Whether a journal and comments are asked for.
-fn is_clash(matches: &ArgMatches<'_>) -> bool
-    ensures { result ≡ clashes (subcommand_rows_of matches.now) }
-{
-    match matches.subcommand() {
-        Some((_, words)) => has_clash(words),
-        None => false,
-    }
-}
-
-fn has_clash(words: &ArgMatches<'_>) -> bool
-    ensures { result ≡ rows_clash (rows_of (found_of words.now)) }
-{
-    has(words, "journal") && (flag(words, "echo") || flag(words, "times"))
 }
 
 fn words_of(alloc: Global, matches: &ArgMatches<'_>) -> Result<CommandWords, AllocError>
@@ -188,6 +151,7 @@ fn certified_command(
             cell,
             certificate,
             recipes,
+            comments: comments_of(words),
         },
         None => serve_command(
             words,
@@ -204,14 +168,21 @@ fn certified_command(
 fn serve_command(words: &ArgMatches<'_>, source: Source) -> Subcommand
     ensures { request_of result ≡ serve_by (source_of source) (rows_of (found_of words.now)) }
 {
-    let comments = Comments {
-        echo: flag(words, "echo"),
-        times: flag(words, "times"),
-    };
+    let comments = comments_of(words);
     if comments.echo || comments.times {
         Subcommand::Remark { source, comments }
     } else {
         Subcommand::Serve(source)
+    }
+}
+
+/// Which comments in the record are asked for.
+fn comments_of(words: &ArgMatches<'_>) -> Comments
+    ensures { (result.echo ≡ is_given (codes "echo") (rows_of (found_of words.now))) × (result.times ≡ is_given (codes "times") (rows_of (found_of words.now))) }
+{
+    Comments {
+        echo: flag(words, "echo"),
+        times: flag(words, "times"),
     }
 }
 
@@ -266,16 +237,6 @@ fn flag(words: &ArgMatches<'_>, name: &str) -> bool
 {
     match words.get_str(name) {
         Some(text) => text == "true",
-        None => false,
-    }
-}
-
-/// Whether a word was given for the argument.
-fn has(words: &ArgMatches<'_>, name: &str) -> bool
-    ensures { result ≡ is_some (first_of name.now (rows_of (found_of words.now))) }
-{
-    match words.get_str(name) {
-        Some(_) => true,
         None => false,
     }
 }

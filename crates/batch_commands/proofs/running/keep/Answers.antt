@@ -6,7 +6,7 @@ use Rattle.batch_commands.proofs.running.keep.Goals as goal
 
 pub returns-in-Ok : goal.returns-in-Ok
 returns-in-Ok g c =
-    keeps c.args.cell.now c.args.certificate.now (map string_bytes c.args.recipes.now) c.args.path c.in-Ok.digested refl c.in-Ok.ensures.digested
+    keeps c.args.cell.now c.args.certificate.now (map string_bytes c.args.recipes.now) c.args.path c.in-Ok.digested c.args.comments refl c.in-Ok.ensures.digested
     (Keeps-refl _) (Keeps-refl _)
 
 pub returns-in-Err : goal.returns-in-Err

@@ -35,7 +35,7 @@ returns-in-Remark g c = rw c.in-Remark.is (rw (c.in-Remark.source-is, c.in-Remar
 pub returns-in-Keep : goal.returns-in-Keep
 returns-in-Keep g c =
     rw c.in-Keep.is
-    (rw (c.deref-in-Keep.ensures, c.deref-in-Keep-2.ensures, c.deref-in-Keep-3.ensures.value, c.in-Keep.journal-is, c.in-Keep.cell-is, c.in-Keep.certificate-is, c.in-Keep.recipes-is) at c.keep.ensures)
+    (rw (c.deref-in-Keep.ensures, c.deref-in-Keep-2.ensures, c.deref-in-Keep-3.ensures.value, c.in-Keep.journal-is, c.in-Keep.cell-is, c.in-Keep.certificate-is, c.in-Keep.recipes-is, c.in-Keep.comments-is) at c.keep.ensures)
 
 pub returns-in-Status : goal.returns-in-Status
 returns-in-Status g c = rw c.in-Status.is (reads c.in-Status.path refl (Keeps-refl _) (Keeps-refl _))

@@ -12,17 +12,20 @@ returns-in-Err-clause-told g c = inr (c.in-Err.ensures, c.complain_block-status.
 
 pub returns-clause-told : goal.returns-clause-told
 returns-clause-told g c =
-    let served = c.serve_started-served in
+    let served = c.serve_shown-served in
+    let (plain, shown, told, lost) = served.ensures.shown in
     let unread = g.R.Read.remaining c.args.input.now.stream in
     let reader_is = c.new-reader.ensures in
     let input_is = c.requires.input ∙ sym reader_is in
     inl (
       _,
+      plain,
       c.in_default.ensures,
+      shown,
       record {
         answers = λ well. answered (setup c.args.engine.now.cleared) (plant_of c.args.engine.now) _ served.result.0 unread _ _ _ c.clean_lines_serve_alike.ensures reader_is
-            (c.tell_end-status.ensures.well well) served.ensures.served;
-        never_lost = λ d start base. where_known unread _ _ reader_is (λ all known. served.ensures.never_lost d input_is all start (input_is ∙ known) base);
+            (c.tell_end-status.ensures.well well) told;
+        never_lost = λ d start base. where_known unread _ _ reader_is (λ all known. lost d input_is all start (input_is ∙ known) base);
         ends = c.tell_end-status.ensures.ends;
       },
     )

@@ -26,7 +26,7 @@ pub returns-in-Err : goal.returns-in-Err
 returns-in-Err g c =
     record {
       any_moment = λ d. begun_before g.D.Disk.moment g.D.Disk.left_since _ _ _ _ _ _ _ (c.start.ensures.any_moment d) refl refl (c.requires.fresh (c.start.ensures.stays d)).1;
-      told = told_refused _ _ _ _ _ _ _ _ c.in-Err.fault (λ refusal is d. start_refused c.args.digested.documents.text (g.D.Disk.seen c.args.disk) c.start.result c.in-Err.fault refusal c.in-Err.is is (c.start.ensures.refused d))
+      told = told_refused _ _ _ _ _ _ _ _ _ c.in-Err.fault (λ refusal is d. start_refused c.args.digested.documents.text (g.D.Disk.seen c.args.disk) c.start.result c.in-Err.fault refusal c.in-Err.is is (c.start.ensures.refused d))
           c.refuse_start-status.ensures;
       untouched = λ d. untouched_of _ _ _ (c.start.ensures.untouched d);
     }
@@ -39,6 +39,6 @@ returns-in-Ok g c =
     record {
       untouched = λ d. inl (taken d);
       any_moment = λ d. moments_as c.text.ensures.digits c.requires.base c.requires.since (c.serve_behind.ensures.any_moment d);
-      told = told_behind _ _ _ _ _ _ _ _ block.0 _ _ _ taken (λ d. ∥∥₁_elim (c.serve_behind.ensures.stays d) (search props) (λ was. block.2 was)) block.1 c.requires.base
-          (told_as _ _ _ _ _ _ _ _ _ _ _ _ _ _ _ _ c.in-Ok.ensures.cleared c.text.ensures.digits c.deref.ensures.value c.serve_behind.ensures.told);
+      told = told_behind _ _ _ _ _ _ _ _ _ block.0 _ _ _ taken (λ d. ∥∥₁_elim (c.serve_behind.ensures.stays d) (search props) (λ was. block.2 was)) block.1 c.requires.base
+          (told_as _ _ _ _ _ _ _ _ _ _ _ _ _ _ _ _ _ c.in-Ok.ensures.cleared c.text.ensures.digits c.deref.ensures.value c.serve_behind.ensures.told);
     }
