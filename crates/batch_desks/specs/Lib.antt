@@ -1,0 +1,6 @@
+pub mod DeskNames
+pub mod DesksDocument
+pub mod DesksFaults
+pub mod DeskUnits
+pub mod Told
+pub mod RowsOfDesks

@@ -1,0 +1,4 @@
+pub mod Waits
+pub mod RowsOfWaits
+pub mod Dues
+pub mod RowsOfDue
