@@ -254,7 +254,10 @@ fn reserve_said(
 ) -> Result<String, AllocError> {
     for i in 0..act.reserves.len() {
         if follows(recipe, node, i).is_none() {
-            return format!(in alloc; "it reserves {}, which doesn't follow it", act.reserves[i]);
+            return format!(in alloc;
+                "it reserves {}, which doesn't follow it; an act reserves the unit procedure that comes next when it ends",
+                act.reserves[i]
+            );
         }
     }
     String::from_str(alloc, "it reserves a unit procedure that doesn't follow it")

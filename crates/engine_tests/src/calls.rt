@@ -1,4 +1,5 @@
-//! Events at any point, and what the engine tells of acts between them.
+//! Events at any point, and what the engine tells of acts and values between them.
+use crate::documents::{A, L};
 use crate::script::assert_told;
 use std::test::Fail;
 
@@ -7,6 +8,7 @@ fn event_while_moves_pend(rt: HostRuntime) -> Result<(), Fail> {
     assert_told(
         &rt,
         rt.alloc(),
+        A,
         "accept create A 1000
 settled
 move
@@ -47,6 +49,38 @@ begin 1 0.0 MAKE
 begin 1 0.0.0 CHARGE
 start 1 0.0.0.0 R1 ADD
 settled: true
+",
+    )
+}
+
+#[test]
+fn value_of_a_batch(rt: HostRuntime) -> Result<(), Fail> {
+    assert_told(
+        &rt,
+        rt.alloc(),
+        L,
+        "accept create L 1000
+accept start 1
+moves
+value 1 X
+accept report R1 ADD done X=1
+value 1 X
+value 1 Y
+value 2 X
+",
+        "created 1 L 1000
+ok start 1 running
+begin 1 0 L
+ask 1 0.0 R1
+grant 1 0.0 R1
+begin 1 0.0 MAKE
+begin 1 0.0.0 CHARGE
+start 1 0.0.0.0.0 R1 ADD
+value 1 X: Some(0)
+ok report R1 ADD done 1 0.0.0.0.0 running
+value 1 X: Some(1)
+value 1 Y: None
+value 2 X: None
 ",
     )
 }

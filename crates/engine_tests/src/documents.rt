@@ -38,3 +38,22 @@ chart = \"ADD\"
 [[phase]]
 name = \"ADD\"
 ";
+
+/// A loop of up to a thousand turns, which ends once X is above 0.
+pub(crate) const L: &str = "recipe = \"L\"
+version = \"1\"
+basis = 1000
+[[output]]
+name = \"X\"
+[procedure]
+chart = \"MAKE\"
+[[unit_procedure]]
+name = \"MAKE\"
+unit = \"R1\"
+chart = \"CHARGE\"
+[[operation]]
+name = \"CHARGE\"
+chart = \"loop(1000, X > 0, ADD)\"
+[[phase]]
+name = \"ADD\"
+";

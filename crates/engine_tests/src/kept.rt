@@ -1,10 +1,10 @@
 //! Serving over a journal that lies in memory, and whose sync fails.
 use crate::documents::{A, CELL1};
 use crate::records::engine_of;
-use crate::serving::{INPUT, MANY_READS};
+use crate::serving::{INPUT, MANY_READS, RECORD};
 use batch_engine::Engine;
 use batch_journal::{Disk, DiskError, recover};
-use batch_keep::{Journal, KeepFault, serve_holding};
+use batch_keep::{Journal, KeepFault, serve_holding, serve_journalled};
 use batch_serve::ServeFault;
 use std::alloc::Global;
 use std::io;
@@ -135,5 +135,43 @@ fn nothing_is_told(alloc: Global, syncs: u32) -> Result<bool, Fail> {
 #[test]
 fn sync_fails(rt: HostRuntime) -> Result<(), Fail> {
     assert!(rt; nothing_is_told(rt.alloc(), 1)?);
+    Ok(())
+}
+
+/// What is told of the input where answers are held back.
+fn held(alloc: Global) -> Result<Vec<u8>, Fail> {
+    let mut engine = engine_of(alloc, CELL1, &[A])?;
+    let journal = begun(alloc, 2)?;
+    let (ending, _, told) = serve_holding(
+        alloc,
+        &mut engine,
+        INPUT,
+        journal,
+        Vec::new(alloc),
+        MANY_READS,
+    );
+    ending?;
+    Ok(told)
+}
+
+#[test]
+fn held_over_a_journal(rt: HostRuntime) -> Result<(), Fail> {
+    assert!(rt; held(rt.alloc())?.as_slice() == RECORD);
+    Ok(())
+}
+
+/// What is told of the input over a journal.
+fn journalled(alloc: Global) -> Result<Vec<u8>, Fail> {
+    let mut engine = engine_of(alloc, CELL1, &[A])?;
+    let journal = begun(alloc, 2)?;
+    let mut told = Vec::new(alloc);
+    let (ending, _) = serve_journalled(alloc, &mut engine, INPUT, journal, &mut told, MANY_READS);
+    ending?;
+    Ok(told)
+}
+
+#[test]
+fn served_over_a_journal(rt: HostRuntime) -> Result<(), Fail> {
+    assert!(rt; journalled(rt.alloc())?.as_slice() == RECORD);
     Ok(())
 }

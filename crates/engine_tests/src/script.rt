@@ -1,9 +1,9 @@
 //! Scripts of an engine: event lines, and questions between them, whose answers are one text.
-use crate::documents::{A, CELL1};
+use crate::documents::CELL1;
 use crate::expected::assert_text;
 use crate::records::{accept, engine_of, moves, next_move};
 use batch_engine::Engine;
-use batch_text::Place;
+use batch_text::{Name, Place};
 use std::alloc::Global;
 use std::process::Abort;
 use std::test::Fail;
@@ -14,6 +14,14 @@ fn state(alloc: Global, engine: &Engine, act: &str) -> Result<String, Fail> {
     let place = Place::read(alloc, place.as_bytes())?;
     let state = engine.state_of(batch.parse()?, &place);
     Ok(format!(in alloc; "state {act}: {state:?}\n")?)
+}
+
+/// A value of a batch, asked for by `BATCH NAME`.
+fn value(alloc: Global, engine: &Engine, value: &str) -> Result<String, Fail> {
+    let (batch, name) = value.split_once(' ').ok_or("no name")?;
+    let name = Name::read(alloc, name.as_bytes())?;
+    let number = engine.value_of(batch.parse()?, &name);
+    Ok(format!(in alloc; "value {value}: {number:?}\n")?)
 }
 
 /// Whether no move is possible.
@@ -31,12 +39,13 @@ fn answer_to_word(alloc: Global, engine: &mut Engine, word: &str) -> Result<Stri
     }
 }
 
-/// What is told of a line of a script: of `accept` and an event line the reply alone, with no move made; of `state` the
-/// answer behind the question.
+/// What is told of a line of a script: of `accept` and an event line the reply alone, with no move made; of `state` and
+/// `value` the answer behind the question.
 fn answer(alloc: Global, engine: &mut Engine, line: &str) -> Result<String, Fail> {
     match line.split_once(' ') {
         Some(("accept", event)) => accept(alloc, engine, event),
         Some(("state", act)) => state(alloc, engine, act),
+        Some(("value", name)) => value(alloc, engine, name),
         _ => answer_to_word(alloc, engine, line),
     }
 }
@@ -51,9 +60,9 @@ fn answers(alloc: Global, engine: &mut Engine, script: &str) -> Result<String, F
     Ok(told)
 }
 
-/// What is told of a script by an engine of recipe A in the demo cell.
-fn told(alloc: Global, script: &str) -> Result<String, Fail> {
-    let mut engine = engine_of(alloc, CELL1, &[A])?;
+/// What is told of a script by an engine of this recipe in the demo cell.
+fn told(alloc: Global, recipe: &str, script: &str) -> Result<String, Fail> {
+    let mut engine = engine_of(alloc, CELL1, &[recipe])?;
     answers(alloc, &mut engine, script)
 }
 
@@ -61,8 +70,9 @@ fn told(alloc: Global, script: &str) -> Result<String, Fail> {
 pub(crate) fn assert_told(
     rt: &impl Abort,
     alloc: Global,
+    recipe: &str,
     script: &str,
     expected: &str,
 ) -> Result<(), Fail> {
-    assert_text(rt, told(alloc, script), expected)
+    assert_text(rt, told(alloc, recipe, script), expected)
 }
