@@ -1,2 +1,3 @@
 pub mod Accounts
 pub mod Sorted
+pub mod TextLines
