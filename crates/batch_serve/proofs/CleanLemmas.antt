@@ -14,7 +14,7 @@ use Rattle.batch_wire.specs.EventLine.{is_space, is_word, words, is_comment, eve
 use Rattle.batch_wire.specs.Transcript.{lines_of, Exchange, silence, followed_by, Answers, Transcript}
 use Rattle.batch_wire.specs.declared.event_line.TheConstants.{MAX_LINE_LEN}
 use Rattle.batch_wire.specs.declared.fault.WireFault.TheVariants.{TooLong}
-use Rattle.batch_serve.specs.CleanLines.{clean_byte, is_too_long, gives_nothing, clean, clean_text, clean_lines, clean_from, IsClean, CleansLines, CleanLinesAgree, CleanLinesServeAlike}
+use Rattle.batch_serve.specs.CleanLines.{clean_byte, is_too_long, gives_nothing, clean, clean_text, clean_lines, clean_from, CleansLines, CleanLinesAgree, CleanLinesServeAlike}
 use Rattle.batch_serve.specs.Serving.{EndsLine, HasNoFeed}
 use Rattle.batch_serve.specs.declared.line_buffer.TheConstants.{KEPT}
 use Rattle.batch_serve.proofs.LineBeginnings.{take_twice, length_strip}
@@ -259,18 +259,6 @@ stepped first piece line rest whole now put written out at so_far ends whole_is 
     ∙ ap (λ l. l ++ clean_from [] (drop (at + 1) rest ++ more)) (sym out_is)
     ∙ ap (λ l. out ++ clean_from l (drop (at + 1) rest ++ more)) (sym none)
     ∙ ap (λ l. out ++ clean_from now (l ++ more)) (sym (take_rest rest (at + 1)))
-
-clean_lines_more : (lines : List (List ℕ)) (line : List ℕ) → clean_lines (lines ++ line ∷ []) ≡ clean_lines lines ++ clean_text (clean line)
-clean_lines_more [] line = append-nil (clean_text (clean line))
-clean_lines_more (first ∷ lines) line =
-    ap (λ l. clean_text (clean first) ++ l) (clean_lines_more lines line) ∙ sym (append_assoc (clean_text (clean first)) (clean_lines lines) (clean_text (clean line)))
-
--- one more line was written
-pub clean_more : (written put line out : List ℕ) → IsClean written → put ≡ clean_text (clean line) → out ≡ written ++ put → IsClean out
-clean_more written put line out so_far put_is is = record {
-  lines = so_far.lines ++ line ∷ [];
-  is = is ∙ ap (λ l. l ++ put) so_far.is ∙ ap (λ l. clean_lines so_far.lines ++ l) put_is ∙ sym (clean_lines_more so_far.lines line);
-}
 
 pub finished : (first piece line rest now written : List ℕ) → Gives first piece written line rest → HasNoFeed rest → now ≡ take KEPT (line ++ rest)
     → (more : List ℕ) → clean_from first (piece ++ more) ≡ written ++ clean_from now more

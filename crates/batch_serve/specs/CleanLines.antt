@@ -39,11 +39,6 @@ abbrev pub clean_from : List ℕ → List ℕ → List ℕ
 clean_from begun [] = clean_text (clean begun)
 clean_from begun (b ∷ bytes) = if b == 10 then clean_text (clean begun) ++ clean_from [] bytes else clean_from (begun ++ b ∷ []) bytes
 
--- the text is that of some lines as a journal has them
-pub record IsClean (text : List ℕ) : Type 0 where
-  pub lines : List (List ℕ)
-  pub is : text ≡ clean_lines lines
-
 -- the two agree
 abbrev pub CleansLines : Type 0
 CleansLines = (input : List ℕ) → clean_from [] input ≡ clean_lines (lines_of input)

@@ -1,19 +1,17 @@
 //! Lines as a journal has them.
-ghost use Rattle.std.specs.Prelude.{◌≡◌, ◌+◌, ◌<◌, ◌≤◌, ℕ, List, [], ◌∷◌, ◌++◌, length, take, map, replicate, option_map, IfOk, OnOk, OnErr};
+ghost use Rattle.std.specs.Prelude.{◌≡◌, ◌+◌, ◌<◌, ◌≤◌, ℕ, List, [], ◌∷◌, ◌++◌, length, take, map, replicate, option_map, IfOk, OnErr};
 ghost use Rattle.std.specs.Io.KnownBytes.{Consumes, IsAtEnd, Keeps};
 ghost use Rattle.std.specs.List.{list_all};
 ghost use Rattle.std.specs.Str.Lines.{strip_carriage_return};
 ghost use Rattle.batch_wire.specs.EventLine.{is_space};
 ghost use Rattle.batch_wire.specs.Transcript.{lines_of};
-ghost use Rattle.batch_serve.specs.CleanLines.{clean, clean_byte, clean_text, clean_from, clean_lines, gives_nothing, IsClean};
+ghost use Rattle.batch_serve.specs.CleanLines.{clean, clean_byte, clean_text, clean_from, clean_lines, gives_nothing};
 
 use crate::line_buffer::LineBuffer;
 use crate::serving::line_feed;
 use batch_wire::MAX_LINE_LEN;
-use std::alloc::{AllocError, Global};
 use std::io;
 use std::io::{ErrorKind, Read};
-use std::marker::Model;
 
 /// How many bytes one call of the reader below may give.
 const PIECE_LEN: usize = 65_536;
@@ -68,60 +66,6 @@ impl<R: Read> Read for CleanReader<R> {
     }
 }
 
-/// Cuts bytes, as they come, into lines as a journal has them. A contract sees it as the line that has begun, as far as it is kept.
-#[derive(Drop)]
-pub struct CleanLines {
-    line: LineBuffer,
-}
-
-impl Model for CleanLines {
-    ghost use Rattle.std.specs.Prelude.{ℕ, List};
-
-    ghost Value = { List ℕ };
-
-    ghost view = { λ cut. cut.line };
-}
-
-impl CleanLines {
-    /// Before the first byte.
-    pub fn new() -> CleanLines
-        ensures { result ≡ [] }
-    {
-        CleanLines {
-            line: LineBuffer::new(),
-        }
-    }
-
-    /// Takes the next bytes, and gives the lines that end in them.
-    ///
-    /// The error is that there is no memory for them. Then nothing is taken.
-    pub fn take(&mut self, alloc: Global, piece: &[u8]) -> Result<Vec<u8>, AllocError>
-        ensures text { IfOk result (λ given. (more : List ℕ) → clean_from self.old (piece.now ++ more) ≡ given.items ++ clean_from self.new more) }
-        ensures clean { IfOk result (λ given. IsClean given.items) }
-        ensures untaken { OnErr result (self.new ≡ self.old) }
-    {
-        let mut given = vec![in alloc; 0u8; self.line.len() + piece.len() + 1]?;
-        let count = take_lines(&mut self.line, piece, &mut given);
-        given.truncate(count);
-        Ok(given)
-    }
-
-    /// Takes the end of the bytes, and gives the last line, which no line feed ends.
-    ///
-    /// The error is that there is no memory for it. Then the end isn't taken.
-    pub fn end(&mut self, alloc: Global) -> Result<Vec<u8>, AllocError>
-        ensures text { IfOk result (λ given. given.items ≡ clean_from self.old []) }
-        ensures clean { IfOk result (λ given. IsClean given.items) }
-        ensures begun { OnOk result (self.new ≡ []) }
-        ensures untaken { OnErr result (self.new ≡ self.old) }
-    {
-        let mut given = vec![in alloc; 0u8; self.line.len() + 1]?;
-        let count = end_line(&mut self.line, &mut given);
-        given.truncate(count);
-        Ok(given)
-    }
-}
-
 /// Reads at most so many bytes, to the front of the piece.
 fn read_front<R: Read>(reader: &mut R, piece: &mut [u8], most: usize) -> io::Result<usize>
     requires some { 0 < most }
@@ -137,7 +81,6 @@ fn take_lines(line: &mut LineBuffer, piece: &[u8], out: &mut [u8]) -> usize
     requires { length line.old + length piece.now + 1 ≤ length out.old }
     ensures within { result ≤ length out.new }
     ensures text { (more : List ℕ) → clean_from line.old (piece.now ++ more) ≡ take result out.new ++ clean_from line.new more }
-    ensures clean { IsClean (take result out.new) }
 {
     let mut rest = piece;
     let mut written = 0;

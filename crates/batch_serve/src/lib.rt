@@ -15,7 +15,7 @@ mod remarks;
 mod serving;
 mod set;
 
-pub use clean_lines::{CleanLines, CleanReader};
+pub use clean_lines::CleanReader;
 pub use fault::{ServeFault, SetFault};
 pub use held::{Held, Start, shows_want};
 pub use laws::{

@@ -1,12 +1,14 @@
 -- The whole lines of a text, and what a desk is due of them.
-use Rattle.std.proofs.Common.{◌≡◌, ◌<◌, ◌≤◌, ◌+◌, ◌-◌, ℕ, Bool, true, false, cond, List, [], ◌∷◌, ◌++◌, length, take, drop, filter, position, Option, Some, None, ltb, eqb, ◌==◌, get_or, refl, sym, ap, arith, append_assoc, append-nil, ◌∙◌}
+use Rattle.std.proofs.Common.{◌≡◌, ◌<◌, ◌≤◌, ◌+◌, ◌-◌, ℕ, suc, Bool, true, false, cond, List, [], ◌∷◌, ◌++◌, length, take, drop, filter, position, Option, Some, None, ltb, eqb, ◌==◌, get_or, refl, sym, ap, arith, append_assoc, append-nil, ◌∙◌}
 use Rattle.std.proofs.lemmas.Bool.Decides.{nat_tests}
+use Rattle.std.proofs.lemmas.Grind.{flat_map-append}
 use Rattle.std.proofs.lemmas.List.{take_more}
 use Rattle.std.proofs.lemmas.List.Elements.{All-from_get_or, filter-append}
 use Rattle.std.proofs.lemmas.List.Splits.{slice_split_none, slice_split_first, length-slice_split}
 use Rattle.std.proofs.lemmas.List.Sums.{fails_before_first}
 use Rattle.std.specs.List.{slice_split, position_or_len, before_first, after_first}
-use Rattle.batch_serve_desks.specs.Lines.{is_feed, lines_of, whole_lines}
+use Rattle.batch_serve_desks.specs.Lines.{is_feed}
+use Rattle.batch_wire.specs.Transcript.{lines_of, whole_lines}
 use Rattle.batch_serve_desks.specs.Dues.{is_due}
 use Rattle.batch_serve_desks.specs.Runs.{Run, due_of}
 
@@ -15,7 +17,9 @@ place_of text at found = (grind (arith, nat_tests), grind (arith, nat_tests))
 
 -- but for the last, which isn't whole
 but_last : (line : List ℕ) (lines : List (List ℕ)) (n : ℕ) → length lines ≡ n + 1 → take (length (line ∷ lines) - 1) (line ∷ lines) ≡ line ∷ take (length lines - 1) lines
-but_last line lines n some = rw some refl
+but_last line lines n some =
+    let count : length (line ∷ lines) - 1 ≡ suc (length lines - 1) = omega (arith, some) in
+    ap (λ k. take k (line ∷ lines)) count
 
 -- a line ends there, and the others stand behind it
 pub whole_first : (text : List ℕ) (at : ℕ) → position is_feed text ≡ Some at → whole_lines text ≡ take at text ∷ whole_lines (drop (at + 1) text)
@@ -23,7 +27,7 @@ whole_first text at found =
     let place = place_of text at found in
     let within : position_or_len is_feed text < length text = omega (arith, place.0, place.1) in
     let split : lines_of text ≡ take at text ∷ lines_of (drop (at + 1) text) =
-        slice_split_first is_feed text 0 within ∙ ap (λ n. take n text ∷ lines_of (drop (n + 1) text)) place.0 in
+    slice_split_first is_feed text 0 within ∙ ap (λ n. take n text ∷ lines_of (drop (n + 1) text)) place.0 in
     ap (λ (lines : List (List ℕ)). take (length lines - 1) lines) split
     ∙ but_last (take at text) (lines_of (drop (at + 1) text)) _ (length-slice_split is_feed (drop (at + 1) text))
 
@@ -48,11 +52,8 @@ pub told_line : (own : Bool) (unit now : Option (List ℕ)) (all front : List (L
 told_line own unit now all front line same =
     ap (λ u. (all ++ filter (is_due own unit) front) ++ filter (is_due own u) (line ∷ [])) same ∙ filter_more (is_due own unit) all front line
 
-due_both : (desk : ℕ) (unit : Option (List ℕ)) (front others : List Run) → due_of desk unit (front ++ others) ≡ due_of desk unit front ++ due_of desk unit others
-due_both desk unit [] others = refl
-due_both desk unit (run ∷ front) others =
-    ap (λ l. filter (is_due (run.desk == desk) unit) (whole_lines run.text) ++ l) (due_both desk unit front others)
-    ∙ sym (append_assoc (filter (is_due (run.desk == desk) unit) (whole_lines run.text)) (due_of desk unit front) (due_of desk unit others))
+pub due_both : (desk : ℕ) (unit : Option (List ℕ)) (front others : List Run) → due_of desk unit (front ++ others) ≡ due_of desk unit front ++ due_of desk unit others
+due_both desk unit front others = flat_map-append (λ (run : Run). filter (is_due (run.desk == desk) unit) (whole_lines run.text)) front others
 
 -- the answers of one more run were told
 pub told_run : (desk : ℕ) (unit now : Option (List ℕ)) (all : List (List ℕ)) (answers : List Run) (i : ℕ) (run : Run) (text : List ℕ) (own : Bool)

@@ -5,3 +5,8 @@ pub mod RowsOfDue
 pub mod Lines
 pub mod Runs
 pub mod Told
+pub mod Served
+pub mod Turns
+pub mod Joined
+pub mod Recorded
+pub mod GoingOn

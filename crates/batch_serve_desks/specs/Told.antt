@@ -2,14 +2,14 @@
 use Rattle.std.specs.Prelude.{◌≡◌, ℕ, ◌<◌, List, ◌++◌, length, get_or}
 use Rattle.batch_serve_desks.specs.Runs.{Run, due_of}
 use Rattle.batch_serve_desks.specs.Waits.{IsAccount}
-use Rattle.batch_serve_desks.specs.declared.listener.Listener.{Listener}
+use Rattle.batch_serve_desks.specs.declared.desk.Desk.{Desk}
 
 -- whatever came and went before, the lines that the desk at this place is due of the answers came now
-pub record IsTold (desk : ℕ) (answers : List Run) (old new : Listener) : Type 0 where
+pub record IsTold (desk : ℕ) (answers : List Run) (old new : Desk) : Type 0 where
   pub unit : new.unit ≡ old.unit
   pub account : (all told : List (List ℕ)) → IsAccount all told old.waiting → IsAccount (all ++ due_of desk old.unit answers) told new.waiting
 
 -- each is told
-pub record AreTold (answers : List Run) (old new : List Listener) : Type 0 where
+pub record AreTold (answers : List Run) (old new : List Desk) : Type 0 where
   pub count : length new ≡ length old
-  pub each : (desk : ℕ) (other : Listener) → desk < length old → IsTold desk answers (get_or old desk other) (get_or new desk other)
+  pub each : (desk : ℕ) (other : Desk) → desk < length old → IsTold desk answers (get_or old desk other) (get_or new desk other)

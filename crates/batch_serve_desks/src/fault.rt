@@ -1,7 +1,12 @@
-//! Why a desk is cut.
+//! What goes wrong.
+ghost use Rattle.std.specs.Prelude.{◌≡◌};
+
+use crate::keep::KeepFault;
+use batch_wire::WriteFault;
+use std::alloc::AllocError;
 use thiserror::Error;
 
-/// Why a desk is cut by those who write to it.
+/// Why a desk is cut by those who tell it.
 #[derive(Clone, Copy, Debug, PartialEq, Eq, Error)]
 pub enum CutReason {
     /// As many lines waited for it as may, and one more came.
@@ -10,4 +15,48 @@ pub enum CutReason {
     /// There was no memory for a line that is to wait.
     #[error("there is no memory for a line that waits for it")]
     Memory,
+}
+
+/// Why a turn ended before its desks were told. Serving must end then.
+#[derive(Clone, Copy, Debug, PartialEq, Eq, Error)]
+pub enum TurnFault {
+    /// There was no memory.
+    #[error("out of memory")]
+    Memory,
+    /// The lines couldn't be kept.
+    #[error("the journal can't be written")]
+    Journal,
+    /// The record couldn't be written.
+    #[error("the record can't be written")]
+    Record,
+}
+
+impl From<AllocError> for TurnFault {
+    ghost use Rattle.batch_serve_desks.specs.declared.fault.TurnFault.TheVariants as faults;
+
+    ghost from_gives = { λ _ fault. fault ≡ faults.Memory };
+
+    fn from(_error: AllocError) -> TurnFault {
+        TurnFault::Memory
+    }
+}
+
+impl From<KeepFault> for TurnFault {
+    ghost use Rattle.batch_serve_desks.specs.declared.fault.TurnFault.TheVariants as faults;
+
+    ghost from_gives = { λ _ fault. fault ≡ faults.Journal };
+
+    fn from(_fault: KeepFault) -> TurnFault {
+        TurnFault::Journal
+    }
+}
+
+impl From<WriteFault> for TurnFault {
+    ghost use Rattle.batch_serve_desks.specs.declared.fault.TurnFault.TheVariants as faults;
+
+    ghost from_gives = { λ _ fault. fault ≡ faults.Record };
+
+    fn from(_fault: WriteFault) -> TurnFault {
+        TurnFault::Record
+    }
 }

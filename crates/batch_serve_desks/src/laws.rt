@@ -1,7 +1,14 @@
-//! Laws and worked rows of what a desk is due and of what waits for it. Nothing runs here.
+//! Laws and worked rows of what is served, what a desk is due of it, and what waits for it. Nothing runs here.
+ghost use Rattle.batch_serve_desks.specs.Joined.{TranscriptsJoin};
+ghost use Rattle.batch_serve_desks.specs.Recorded.{RecordsAreSorted};
+ghost use Rattle.batch_serve_desks.specs.GoingOn.{ServiceGoesOn, TextsGoOn};
+ghost use Rattle.batch_serve_desks.specs.Served.{ServiceIsSafe};
 ghost use Rattle.batch_serve_desks.specs.Dues.{RunsAreSorted};
 ghost use Rattle.batch_serve_desks.specs.RowsOfDue.{CommentIsDueToNobody, ConsoleSeesAll, LinkSeesItsOrders, LinkSeesNoOther, RecordIsSorted, ReplyIsOwn};
 ghost use Rattle.batch_serve_desks.specs.RowsOfWaits.{FrontIsTold, NoOtherIsTold, RestWaits, CutLosesTheRest};
+
+use batch_serve::transcripts_are_safe;
+use batch_verify::Cleared;
 
 /// Worked rows: of lines that came, the first may have been told and the rest waits; no other line was, and none out of order;
 /// of a desk that is cut the rest is lost.
@@ -17,6 +24,11 @@ pub fn runs_are_sorted()
     ensures { RunsAreSorted }
 {}
 
+/// What a desk is due of a record, as its comments tell whose lines are answered, is what it is due of the answers.
+pub fn records_are_sorted()
+    ensures { RecordsAreSorted }
+{}
+
 /// Worked rows: replies are due to whoever sent the line, moves to consoles, starts and sends to the link of their unit and to no
 /// other; a record of two consoles is sorted by its comments.
 pub fn due_rows()
@@ -26,4 +38,25 @@ pub fn due_rows()
     ensures no_other { LinkSeesNoOther }
     ensures comment { CommentIsDueToNobody }
     ensures whole { RecordIsSorted }
+{}
+
+/// The answers to runs of lines that were served from the opening of a cleared set are the text of a safe transcript of these
+/// lines, in the order in which they were served.
+pub fn service_is_safe(cleared: &Cleared)
+    ensures { ServiceIsSafe cleared.now }
+{
+    transcripts_join();
+    transcripts_are_safe(cleared);
+}
+
+/// Runs that were served behind others were served with them; and their text, the lines of it that a desk is due, and the lines
+/// that a desk sent stand behind those of the others.
+pub fn service_goes_on()
+    ensures served { ServiceGoesOn }
+    ensures texts { TextsGoOn }
+{}
+
+/// Two transcripts, of which one comes to the plant that the other begins with, are one of the lines of both.
+pub fn transcripts_join()
+    ensures { TranscriptsJoin }
 {}

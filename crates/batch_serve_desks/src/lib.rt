@@ -1,21 +1,27 @@
 //! Serving several desks at once: what stands between one machine and the threads of its desks.
 #![tactic(auto)]
 
+mod desk;
+mod desk_server;
 mod fault;
 mod keep;
 mod laws;
 mod line;
-mod listener;
 mod remarks;
 mod run;
+mod serving;
 mod sorting;
 mod waiting;
 
-pub use fault::CutReason;
-pub use laws::{due_rows, runs_are_sorted, waiting_rows};
-pub use line::Line;
-pub use listener::Listener;
+pub use desk::Desk;
+pub use desk_server::DeskServer;
+pub use fault::{CutReason, TurnFault};
 pub use keep::{Keep, KeepFault, NoJournal};
+pub use laws::{
+    due_rows, records_are_sorted, runs_are_sorted, service_goes_on, service_is_safe,
+    transcripts_join, waiting_rows,
+};
+pub use line::Line;
 pub use remarks::runs_text;
 pub use run::Run;
 pub use sorting::is_due;

@@ -53,7 +53,8 @@ fn push_from(
     }
     text.extend_from_slice(b"# from ")?;
     text.extend_from_slice(name_of(names, desk))?;
-    text.push(b'\n')
+    text.push(b'\n')?;
+    Ok(())
 }
 
 fn is_same(before: Option<usize>, desk: usize) -> bool

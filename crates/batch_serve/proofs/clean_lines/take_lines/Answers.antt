@@ -1,5 +1,5 @@
 use Rattle.std.proofs.Common.{take, arith}
-use Rattle.batch_serve.proofs.CleanLemmas.{clean_more, stepped, finished, put_behind, room_here, room_left}
+use Rattle.batch_serve.proofs.CleanLemmas.{stepped, finished, put_behind, room_here, room_left}
 use Rattle.batch_serve.proofs.clean_lines.take_lines.Goals as goal
 
 pub end_line-written-requires : goal.end_line-written-requires
@@ -25,8 +25,6 @@ loop-at-preserved c =
     let room = room_here c.loop-at.line rest whole c.loop-at.written at _ so_far.room c.in-Some.ensures c.extend.ensures in
     record {
       room = room_left c.loop-at.line rest whole c.end_line-written.new.line c.loop-at.written at count _ so_far.room c.in-Some.ensures c.extend.ensures c.end_line-written.ensures.within c.end_line-written.ensures.begun;
-      clean = clean_more _ _ _ _ so_far.clean c.end_line-written.ensures.text
-          (put_behind c.loop-at.out put c.loop-at.written _ count (omega (arith, room, c.requires)) (omega (arith, room, c.requires, c.end_line-written.ensures.within)));
       text = stepped c.args.line.now c.args.piece.now c.loop-at.line rest whole c.end_line-written.new.line (take count put) _ _ at so_far.text c.in-Some.ensures c.extend.ensures c.end_line-written.ensures.begun c.end_line-written.ensures.text
           (put_behind c.loop-at.out put c.loop-at.written _ count (omega (arith, room, c.requires)) (omega (arith, room, c.requires, c.end_line-written.ensures.within)));
     }

@@ -1,11 +1,10 @@
 use Rattle.std.proofs.Common.{◌≡◌, ◌≤◌, ◌+◌, ℕ, List, ◌++◌, length, take}
-use Rattle.batch_serve.specs.CleanLines.{clean_from, IsClean}
+use Rattle.batch_serve.specs.CleanLines.{clean_from}
 use Rattle.batch_serve.proofs.clean_lines.take_lines.Given as goal
 
 abbrev pub invariant-loop-at : goal.invariant-loop-at
 invariant-loop-at l = record {
   room : l.written + (length l.line + length l.rest) ≤ length l.initial.line + length l.piece;
-  clean : IsClean (take l.written l.out);
   text : (more : List ℕ) → clean_from l.initial.line (l.piece ++ more) ≡ take l.written l.out ++ clean_from l.line (l.rest ++ more);
 }
 

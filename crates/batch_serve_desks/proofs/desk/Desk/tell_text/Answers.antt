@@ -1,10 +1,10 @@
 use Rattle.std.proofs.Common.{◌+◌, List, ℕ, [], ◌∷◌, ◌++◌, filter, take, drop, sym, ◌∙◌, ap, subst, append-nil}
 use Rattle.std.proofs.lemmas.List.{take_rest}
 use Rattle.batch_serve_desks.specs.Dues.{is_due}
-use Rattle.batch_serve_desks.specs.Lines.{whole_lines}
+use Rattle.batch_wire.specs.Transcript.{whole_lines}
 use Rattle.batch_serve_desks.specs.Waits.{IsAccount}
 use Rattle.batch_serve_desks.proofs.TextLines.{lines_more, told_line, whole_first, whole_none}
-use Rattle.batch_serve_desks.proofs.listener.Listener.tell_text.Goals as goal
+use Rattle.batch_serve_desks.proofs.desk.Desk.tell_text.Goals as goal
 
 pub loop-at-preserved : goal.loop-at-preserved
 loop-at-preserved c =

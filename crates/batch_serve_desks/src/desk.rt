@@ -1,7 +1,8 @@
-//! Who is told of what is served.
+//! A desk: what it is due, and what of that waits for it.
 ghost use Rattle.std.specs.Prelude.{◌≡◌, ◌<◌, List, ℕ, [], ◌∷◌, ◌++◌, length, filter, position, IfSome};
+ghost use Rattle.batch_wire.specs.Transcript.{whole_lines};
 ghost use Rattle.batch_serve_desks.specs.Dues.{is_due};
-ghost use Rattle.batch_serve_desks.specs.Lines.{is_feed, whole_lines};
+ghost use Rattle.batch_serve_desks.specs.Lines.{is_feed};
 ghost use Rattle.batch_serve_desks.specs.Waits.{IsAccount, nothing_waits};
 ghost use Rattle.batch_serve_desks.specs.Told.{AreTold, IsTold};
 
@@ -13,9 +14,9 @@ use crate::waiting::Waiting;
 use batch_text::Name;
 use std::alloc::Global;
 
-/// The hearing side of a desk, which is a console or the link of a unit.
+/// A desk, which is a console or the link of a unit, without its paths and its threads.
 #[derive(Drop)]
-pub struct Listener {
+pub struct Desk {
     /// The unit of which it sees the starts and sends. A console, which has none, sees each move.
     pub unit: Option<Name>,
     /// What waits for it.
@@ -24,17 +25,24 @@ pub struct Listener {
     pub why: Option<CutReason>,
 }
 
-impl Listener {
+impl Desk {
     /// For which so many lines may wait.
-    pub fn new(alloc: Global, unit: Option<Name>, lag: usize) -> Listener
+    pub fn new(alloc: Global, unit: Option<Name>, lag: usize) -> Desk
         ensures unit { result.unit ≡ unit }
         ensures waiting { result.waiting ≡ nothing_waits lag }
     {
-        Listener {
+        Desk {
             unit,
             waiting: Waiting::new(alloc, lag),
             why: None,
         }
+    }
+
+    /// Whether it is cut. Then nothing waits for it, and what it sends is dropped.
+    pub fn is_cut(&self) -> bool
+        ensures { result ≡ self.now.waiting.is_cut }
+    {
+        self.waiting.is_cut()
     }
 
     /// Has a line wait, if it is due. Where no more may wait, or there is no memory, the desk is cut.
@@ -84,11 +92,11 @@ impl Listener {
 }
 
 /// Tells each desk of the answers.
-pub fn tell_each(alloc: Global, listeners: &mut Vec<Listener>, answers: &[Run])
-    ensures { AreTold answers.now listeners.old.items listeners.new.items }
+pub fn tell_each(alloc: Global, desks: &mut Vec<Desk>, answers: &[Run])
+    ensures { AreTold answers.now desks.old.items desks.new.items }
 {
-    for desk in 0..listeners.len() {
-        listeners[desk].tell(alloc, answers, desk);
+    for desk in 0..desks.len() {
+        desks[desk].tell(alloc, answers, desk);
     }
 }
 

@@ -1,8 +1,8 @@
 use Rattle.std.proofs.Common.{◌≡◌, List, ℕ, ◌++◌, filter, length}
 use Rattle.batch_serve_desks.specs.Dues.{is_due}
-use Rattle.batch_serve_desks.specs.Lines.{whole_lines}
+use Rattle.batch_wire.specs.Transcript.{whole_lines}
 use Rattle.batch_serve_desks.specs.Waits.{IsAccount}
-use Rattle.batch_serve_desks.proofs.listener.Listener.tell_text.Given as goal
+use Rattle.batch_serve_desks.proofs.desk.Desk.tell_text.Given as goal
 
 -- the first lines were told
 abbrev pub invariant-loop-at : goal.invariant-loop-at

@@ -1,6 +1,6 @@
 use Rattle.std.proofs.Common.{take}
 use Rattle.batch_serve_desks.specs.Told.{IsTold}
-use Rattle.batch_serve_desks.proofs.listener.Listener.tell.Given as goal
+use Rattle.batch_serve_desks.proofs.desk.Desk.tell.Given as goal
 
 -- the answers so far were told
 abbrev pub invariant-loop-answer : goal.invariant-loop-answer

@@ -1,0 +1,105 @@
+//! Several desks over one machine.
+ghost use Rattle.std.specs.Prelude.{◌≡◌, ◌<◌, ℕ, [], length, get_or, true, false, OnOk, OnErr, IsErrOf};
+ghost use Rattle.std.specs.Io.KnownBytes.{Appends, Keeps};
+ghost use Rattle.batch_serve_desks.specs.Turns.{IsSameBut, IsTurned, with_run};
+ghost use Rattle.batch_serve_desks.specs.declared.desk.Desk.{Desk as OneDesk};
+
+use crate::desk::{Desk, tell_each};
+use crate::fault::TurnFault;
+use crate::keep::Keep;
+use crate::remarks::{last_of, runs_text};
+use crate::run::Run;
+use crate::serving::serve_runs;
+use batch_engine::Engine;
+use batch_text::Name;
+use batch_wire::{WriteFault, write_all};
+use std::alloc::{AllocError, Global};
+use std::io::Write;
+
+/// One machine that several desks send lines to, and what it has to tell them. It has no thread and waits for nobody: whole lines
+/// are given to it as they come, a turn serves them, and what waits for a desk is handed on as places come free.
+#[derive(Drop)]
+pub struct DeskServer {
+    /// The machine.
+    pub engine: Engine,
+    /// What the desks are called, in their order.
+    pub names: Vec<Name>,
+    /// The desks.
+    pub desks: Vec<Desk>,
+    /// The lines that are to be served in the next turn.
+    pub group: Vec<Run>,
+    /// The place of the desk whose lines were served last.
+    pub last: Option<usize>,
+}
+
+impl DeskServer {
+    /// Over a machine; no line was served in this life.
+    pub fn new(alloc: Global, engine: Engine, names: Vec<Name>, desks: Vec<Desk>) -> DeskServer
+        ensures engine { result.engine ≡ engine }
+        ensures names { result.names ≡ names }
+        ensures desks { result.desks ≡ desks }
+        ensures group { result.group.items ≡ [] }
+        ensures last { result.last ≡ None }
+    {
+        DeskServer {
+            engine,
+            names,
+            desks,
+            group: Vec::new(alloc),
+            last: None,
+        }
+    }
+
+    /// Has whole lines of a desk wait to be served in the next turn. Of a desk that is cut they are dropped.
+    ///
+    /// The error is that there is no memory for one run more. Then nothing is taken.
+    pub fn take(&mut self, desk: usize, lines: Vec<u8>) -> Result<(), AllocError>
+        requires { desk < length self.old.desks.items }
+        ensures taken { OnOk result ((other : OneDesk) → (get_or self.old.desks.items desk other).waiting.is_cut ≡ false
+            → self.new.group.items ≡ with_run self.old.group.items desk lines.items) }
+        ensures cut { (other : OneDesk) → (get_or self.old.desks.items desk other).waiting.is_cut ≡ true → self.new.group.items ≡ self.old.group.items }
+        ensures untaken { OnErr result (self.new.group.items ≡ self.old.group.items) }
+        ensures same { IsSameBut self.old self.new }
+    {
+        if lines.is_empty() || self.desks[desk].is_cut() {
+            return Ok(());
+        }
+        self.group.push(Run::new(desk, lines))?;
+        Ok(())
+    }
+
+    /// Serves the lines that were taken since the last turn: they are kept, answered and recorded, and the desks are told.
+    ///
+    /// Where they can't be kept nothing is answered. Where the record can't be written, or there is no memory, no desk is told.
+    pub fn turn<K: Keep, W: Write>(
+        &mut self,
+        alloc: Global,
+        keep: &mut K,
+        output: &mut W,
+    ) -> Result<(), TurnFault>
+        ensures turned { OnOk result (IsTurned self.old self.new (K.kept keep.old) (K.kept keep.new) (W.contents output.old) (W.contents output.new)) }
+        ensures unkept { IsErrOf result TurnFault.Journal → (self.new.engine ≡ self.old.engine) × Keeps (W.contents output.old) (W.contents output.new) }
+        ensures untold { OnErr result (self.new.desks ≡ self.old.desks) }
+    {
+        let lines = runs_text(alloc, &self.names, self.last, &self.group)?;
+        keep.keep(&lines)?;
+        let answers = serve_runs(alloc, &mut self.engine, &self.group)?;
+        let text = runs_text(alloc, &self.names, self.last, &answers)?;
+        write_record(output, &text)?;
+        tell_each(alloc, &mut self.desks, &answers);
+        self.last = last_of(self.last, &self.group);
+        self.group.clear();
+        Ok(())
+    }
+}
+
+/// Writes a text of the record, and hands it on.
+fn write_record<W: Write>(output: &mut W, text: &[u8]) -> Result<(), WriteFault>
+    ensures { OnOk result (Appends (W.contents output.old) (W.contents output.new) text.now) }
+{
+    write_all(output, text)?;
+    match output.flush() {
+        Ok(()) => Ok(()),
+        Err(_) => Err(WriteFault),
+    }
+}
