@@ -58,8 +58,11 @@ from_of names (Some desk) = Some (get_or names desk [])
 line_from : (name : List ℕ) → All (λ b. is_feed b ≡ false) name → All (λ b. is_feed b ≡ false) (codes "# from " ++ name)
 line_from name plain =
     All-append (λ b. is_feed b ≡ false) (codes "# from ") name
-    (All-cons _ 35 _ refl (All-cons _ 32 _ refl (All-cons _ 102 _ refl (All-cons _ 114 _ refl (All-cons _ 111 _ refl (All-cons _ 109 _ refl (All-cons _ 32 _ refl (All-nil _))))))))
+    (one 35 (codes " from ") refl (one 32 (codes "from ") refl (one 102 (codes "rom ") refl (one 114 (codes "om ") refl (one 111 (codes "m ") refl (one 109 (codes " ") refl (one 32 [] refl (All-nil (λ b. is_feed b ≡ false)))))))))
     plain
+  where
+    one : (b : ℕ) (rest : List ℕ) → is_feed b ≡ false → All (λ x. is_feed x ≡ false) rest → All (λ x. is_feed x ≡ false) (b ∷ rest)
+    one b rest is others = All-cons (λ x. is_feed x ≡ false) b rest is others
 
 from_line : (name : List ℕ) → All (λ b. is_feed b ≡ false) name → whole_lines (codes "# from " ++ (name ++ 10 ∷ [])) ≡ (codes "# from " ++ name) ∷ []
 from_line name plain =
@@ -79,9 +82,9 @@ is_own names i k are in_i in_k = own_if (eqb_tells k i)
   where
     own_if : ((eqb k i ≡ true) × (k ≡ i)) ⊎ ((eqb k i ≡ false) × (k ≡ i → ⊥)) → pointwise nat_eq (get_or names i []) (get_or names k []) ≡ (k == i)
     own_if (inl (same, is)) = (bytes_decides (get_or names i []) (get_or names k [])).1 (ap (λ n. get_or names n []) (sym is)) ∙ sym same
-    own_if (inr (other, no)) =
+    own_if (inr (other, apart)) =
         false_from_ne_true (pointwise nat_eq (get_or names i []) (get_or names k []))
-        (λ h. no (sym (are.distinct i k in_i in_k ((bytes_decides (get_or names i []) (get_or names k [])).0 h)))) ∙ sym other
+        (λ h. apart (sym (are.distinct i k in_i in_k ((bytes_decides (get_or names i []) (get_or names k [])).0 h)))) ∙ sym other
 
 -- The record
 
@@ -89,12 +92,12 @@ same_is : (before : Option ℕ) (desk : ℕ) → is_same before desk ≡ true �
 same_is None desk is = absurd (cc is)
 same_is (Some other) desk is = ap Some (eqb-true other desk is)
 
-behind_if : (names : List (List ℕ)) (desk : ℕ) (unit before : Option (List ℕ)) (at : Option ℕ) (sender : ℕ) (same : Bool) (text : List ℕ) → is_same at sender ≡ same
+behind_if : (names : List (List ℕ)) (desk : ℕ) (unit : Option (List ℕ)) (at : Option ℕ) (sender : ℕ) (same : Bool) (text : List ℕ) → is_same at sender ≡ same
     → AreNames names
     → due (get_or names desk []) unit (from_of names at) (whole_lines (cond same [] (codes "# from " ++ (get_or names sender [] ++ 10 ∷ [])) ++ text))
     ≡ due (get_or names desk []) unit (from_of names (Some sender)) (whole_lines text)
-behind_if names desk unit before at sender true text is are = ap (λ (o : Option ℕ). due (get_or names desk []) unit (from_of names o) (whole_lines text)) (same_is at sender is)
-behind_if names desk unit before at sender false text is are =
+behind_if names desk unit at sender true text is are = ap (λ (o : Option ℕ). due (get_or names desk []) unit (from_of names o) (whole_lines text)) (same_is at sender is)
+behind_if names desk unit at sender false text is are =
     let name = get_or names sender [] in
     let comment : List ℕ = codes "# from " ++ (name ++ 10 ∷ []) in
     ap (due (get_or names desk []) unit (from_of names at)) (whole_both comment text (inr (codes "# from " ++ name, sym (append_assoc (codes "# from ") name (10 ∷ [])))))
@@ -110,7 +113,7 @@ sorted_from names desk unit at (run ∷ answers) are within plain =
     let name : List ℕ = get_or names desk [] in
     let rest : List ℕ = runs_text names (Some run.desk) answers in
     let own : is_from name (from_of names (Some run.desk)) ≡ (run.desk == desk) = is_own names desk run.desk are within one.desk in
-    behind_if names desk unit None at run.desk (is_same at run.desk) (run.text ++ rest) refl are
+    behind_if names desk unit at run.desk (is_same at run.desk) (run.text ++ rest) refl are
     ∙ ap (due name unit (from_of names (Some run.desk))) (whole_both run.text rest one.whole)
     ∙ runs_sorted name unit (from_of names (Some run.desk)) (whole_lines run.text) (whole_lines rest) one.plain
     ∙ ap (λ b. filter (is_due b unit) (whole_lines run.text) ++ due name unit (from_of names (Some run.desk)) (whole_lines rest)) own

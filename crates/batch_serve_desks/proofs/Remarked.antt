@@ -4,14 +4,15 @@ use Rattle.std.proofs.lemmas.List.{drop_more}
 use Rattle.batch_serve_desks.specs.Runs.{Run, from_text, is_same, last_of, runs_text}
 
 -- the comment and the text of the next run were written
-pub run_written : (names : List (List ℕ)) (last : Option ℕ) (runs : List Run) (i desk : ℕ) (run : Run) (text from own whole : List ℕ)
-    → i < length runs → run ≡ get_or runs i run → desk ≡ run.desk → own ≡ run.text → from ≡ text ++ from_text names last desk
+pub run_written : (names : List (List ℕ)) (last : Option ℕ) (runs : List Run) (i desk : ℕ) (run : Run) (text from own done whole : List ℕ)
+    → i < length runs → run ≡ get_or runs i run → desk ≡ run.desk → own ≡ run.text → from ≡ text ++ from_text names last desk → done ≡ from ++ own
     → text ++ runs_text names last (drop i runs) ≡ whole
-    → (from ++ own) ++ runs_text names (Some desk) (drop (i + 1) runs) ≡ whole
-run_written names last runs i desk run text from own whole within item desk_is own_is from_is so_far =
+    → done ++ runs_text names (Some desk) (drop (i + 1) runs) ≡ whole
+run_written names last runs i desk run text from own done whole within item desk_is own_is from_is done_is so_far =
     let rest : List ℕ = runs_text names (Some desk) (drop (i + 1) runs) in
     let next : drop i runs ≡ run ∷ drop (i + 1) runs = drop_more runs i run within ∙ ap (λ (r : Run). r ∷ drop (i + 1) runs) (sym item) in
-    ap (λ l. (l ++ own) ++ rest) from_is
+    ap (λ l. l ++ rest) done_is
+    ∙ ap (λ l. (l ++ own) ++ rest) from_is
     ∙ ap (λ l. l ++ rest) (append_assoc text (from_text names last desk) own)
     ∙ append_assoc text (from_text names last desk ++ own) rest
     ∙ ap (λ l. text ++ l) (append_assoc (from_text names last desk) own rest)

@@ -1,5 +1,6 @@
 -- Runs that are served one after the other.
-use Rattle.std.proofs.Common.{◌≡◌, ℕ, List, [], ◌∷◌, ◌++◌, Some, refl, sym, ◌∙◌, ap, subst, append_assoc, append-nil}
+use Rattle.std.proofs.Common.{◌≡◌, ◌<◌, ◌+◌, ℕ, length, take, get_or, List, [], ◌∷◌, ◌++◌, Some, refl, sym, ◌∙◌, ap, subst, append_assoc, append-nil}
+use Rattle.std.proofs.lemmas.List.{take_more}
 use Rattle.batch_model.specs.Plant.{Setup, Plant, opening}
 use Rattle.batch_verify.specs.ClearedSet.{ClearedSet}
 use Rattle.batch_engine.specs.View.{setup}
@@ -28,11 +29,19 @@ goes_on c old mid new (run ∷ runs) more answers told (first, others, on, is, s
     (first, others ++ told, on, is, goes_on c on mid new runs more others told served other, ap (λ (l : List Run). l ++ told) all)
 
 -- one more run was served, by the machine of the same set
-pub one_more : (set now : ClearedSet) (old mid new : Plant) (runs answers : List Run) (run answer : Run) → now ≡ set → AreServed (setup set) old runs answers mid
+one_more : (set now : ClearedSet) (old mid new : Plant) (runs answers : List Run) (run answer : Run) → now ≡ set → AreServed (setup set) old runs answers mid
     → IsAnswered (setup now) mid run answer new → AreServed (setup set) old (runs ++ run ∷ []) (answers ++ answer ∷ []) new
 one_more set now old mid new runs answers run answer same served is =
     let one : IsAnswered (setup set) mid run answer new = subst (λ (s : ClearedSet). IsAnswered (setup s) mid run answer new) same is in
     goes_on (setup set) old mid new runs (run ∷ []) answers (answer ∷ []) served (answer, [], new, one, (refl, refl), refl)
+
+-- so were all up to that one
+pub served_so_far : (set now : ClearedSet) (old mid new : Plant) (runs answers items : List Run) (i : ℕ) (run answer : Run) → i < length runs → run ≡ get_or runs i run → now ≡ set
+    → items ≡ answers ++ answer ∷ [] → AreServed (setup set) old (take i runs) answers mid → IsAnswered (setup now) mid run answer new → AreServed (setup set) old (take (i + 1) runs) items new
+served_so_far set now old mid new runs answers items i run answer within item same all served is =
+    let front : take (i + 1) runs ≡ take i runs ++ run ∷ [] = take_more runs i run within ∙ ap (λ (r : Run). take i runs ++ r ∷ []) (sym item) in
+    subst (λ (l : List Run). AreServed (setup set) old l items new) (sym front)
+    (subst (λ (l : List Run). AreServed (setup set) old (take i runs ++ run ∷ []) l new) (sym all) (one_more set now old mid new (take i runs) answers run answer same served is))
 
 -- A transcript
 

@@ -1,5 +1,5 @@
 //! Where groups of lines are kept before any of them is answered.
-ghost use Rattle.std.specs.Prelude.{◌≡◌, OnOk};
+ghost use Rattle.std.specs.Prelude.{◌≡◌, None, OnOk};
 ghost use Rattle.std.specs.Io.KnownBytes.{Appends};
 
 use thiserror::Error;
@@ -28,6 +28,8 @@ pub struct KeepFault;
 pub struct NoJournal;
 
 impl Keep for NoJournal {
+    ghost use Rattle.std.specs.Prelude.{None};
+
     ghost kept = { λ _. None };
 
     fn keep(&mut self, _lines: &[u8]) -> Result<(), KeepFault> {

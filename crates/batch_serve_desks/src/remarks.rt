@@ -21,9 +21,10 @@ pub fn runs_text(
     let mut text = Vec::new(alloc);
     let mut last = before;
     for run in runs {
-        push_from(&mut text, names, last, run.desk())?;
+        let sender = run.desk();
+        push_from(&mut text, names, last, sender)?;
         text.extend_from_slice(run.text())?;
-        last = Some(run.desk());
+        last = Some(sender);
     }
     Ok(text)
 }

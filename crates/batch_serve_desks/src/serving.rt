@@ -3,16 +3,15 @@ ghost use Rattle.std.specs.Prelude.{◌≡◌, IfOk};
 ghost use Rattle.batch_engine.specs.View.{setup, plant_of};
 ghost use Rattle.batch_serve_desks.specs.Served.{AreServed, IsAnswered};
 
-use crate::fault::TurnFault;
 use crate::run::Run;
 use batch_engine::Engine;
 use batch_serve::{NoRemarks, serve};
-use std::alloc::Global;
+use std::alloc::{AllocError, Global};
 
 /// Answers the lines of a run. The answers are of the same desk.
 ///
 /// The error is that there is no memory for them. The machine may be ahead of what is told then.
-fn serve_run(alloc: Global, engine: &mut Engine, run: &Run) -> Result<Run, TurnFault>
+fn serve_run(alloc: Global, engine: &mut Engine, run: &Run) -> Result<Run, AllocError>
     ensures cleared { engine.new.cleared ≡ engine.old.cleared }
     ensures served { IfOk result (λ answer. IsAnswered (setup engine.old.cleared) (plant_of engine.old) run.now answer (plant_of engine.new)) }
 {
@@ -28,7 +27,7 @@ fn serve_run(alloc: Global, engine: &mut Engine, run: &Run) -> Result<Run, TurnF
         u64::MAX,
     ) {
         Ok(()) => Ok(Run::new(run.desk(), text)),
-        Err(_) => Err(TurnFault::Memory),
+        Err(_) => Err(AllocError),
     }
 }
 
@@ -39,16 +38,14 @@ pub(crate) fn serve_runs(
     alloc: Global,
     engine: &mut Engine,
     runs: &[Run],
-) -> Result<Vec<Run>, TurnFault>
+) -> Result<Vec<Run>, AllocError>
     ensures cleared { engine.new.cleared ≡ engine.old.cleared }
     ensures served { IfOk result (λ answers. AreServed (setup engine.old.cleared) (plant_of engine.old) runs.now answers.items (plant_of engine.new)) }
 {
     let mut answers = Vec::new(alloc);
     for run in runs {
         let answer = serve_run(alloc, engine, run)?;
-        if answers.push(answer).is_err() {
-            return Err(TurnFault::Memory);
-        }
+        answers.push(answer)?;
     }
     Ok(answers)
 }

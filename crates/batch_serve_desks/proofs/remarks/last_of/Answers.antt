@@ -3,4 +3,4 @@ use Rattle.batch_serve_desks.proofs.Remarked.{run_seen}
 use Rattle.batch_serve_desks.proofs.remarks.last_of.Goals as goal
 
 pub loop-run-preserved : goal.loop-run-preserved
-loop-run-preserved c = run_seen c.loop-run.last c.args.before _ c.args.runs.now c.loop-run.run-index c.desk-last.result c.run-item.result (omega arith) c.run-item.is c.desk-last.ensures c.loop-run.invariant
+loop-run-preserved c = run_seen c.loop-run.last c.args.before _ c.args.runs.now c.loop-run.run-index c.desk.result c.run-item.result (omega arith) c.run-item.is c.desk.ensures c.loop-run.invariant

@@ -1,10 +1,13 @@
-use Rattle.std.proofs.Common.{◌+◌, List, ℕ, [], ◌∷◌, ◌++◌, filter, take, drop, sym, ◌∙◌, ap, subst, append-nil}
-use Rattle.std.proofs.lemmas.List.{take_rest}
+use Rattle.std.proofs.Common.{rules, arith, length, ◌+◌, List, ℕ, [], ◌∷◌, ◌++◌, filter, take, drop, sym, ◌∙◌, ap, subst, append-nil}
+use Rattle.std.proofs.lemmas.List.{length-drop, take_rest}
 use Rattle.batch_serve_desks.specs.Dues.{is_due}
 use Rattle.batch_wire.specs.Transcript.{whole_lines}
 use Rattle.batch_serve_desks.specs.Waits.{IsAccount}
 use Rattle.batch_serve_desks.proofs.TextLines.{lines_more, told_line, whole_first, whole_none}
 use Rattle.batch_serve_desks.proofs.desk.Desk.tell_text.Goals as goal
+
+pub overflow_add-rest : goal.overflow_add-rest
+overflow_add-rest c = search (rules, c.in-Some.ensures.within, c.loop-at.invariant.within)
 
 pub loop-at-preserved : goal.loop-at-preserved
 loop-at-preserved c =
@@ -13,6 +16,7 @@ loop-at-preserved c =
     let at = c.in-Some.at in
     let line = take at rest in
     record {
+      within = omega (arith, so_far.within, ap length (take_rest rest (at + 1)), length-drop (at + 1) rest);
       unit = c.tell_line.ensures.unit ∙ so_far.unit;
       front = so_far.front ++ line ∷ [];
       splits = lines_more c.args.text.now rest line (drop (at + 1) rest) so_far.front so_far.splits (whole_first rest at (sym c.in-Some.ensures.value))

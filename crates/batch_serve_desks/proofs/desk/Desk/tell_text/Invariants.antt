@@ -1,4 +1,4 @@
-use Rattle.std.proofs.Common.{◌≡◌, List, ℕ, ◌++◌, filter, length}
+use Rattle.std.proofs.Common.{◌≡◌, ◌≤◌, List, ℕ, ◌++◌, filter, length}
 use Rattle.batch_serve_desks.specs.Dues.{is_due}
 use Rattle.batch_wire.specs.Transcript.{whole_lines}
 use Rattle.batch_serve_desks.specs.Waits.{IsAccount}
@@ -7,6 +7,7 @@ use Rattle.batch_serve_desks.proofs.desk.Desk.tell_text.Given as goal
 -- the first lines were told
 abbrev pub invariant-loop-at : goal.invariant-loop-at
 invariant-loop-at l = record {
+  within : length l.rest ≤ length l.text;
   unit : l.self.unit ≡ l.initial.self.unit;
   front : List (List ℕ);
   splits : whole_lines l.text ≡ front ++ whole_lines l.rest;
