@@ -2,7 +2,7 @@
 use Rattle.std.proofs.Common.{◌≡◌, ℕ, List, [], ◌∷◌, ◌++◌, Option, Some, cond, ◌==◌, refl, sym, ap, append_assoc, ◌∙◌}
 use Rattle.std.proofs.lemmas.Grind.{flat_map-append}
 use Rattle.batch_serve_desks.specs.GoingOn.{TextsGoOn}
-use Rattle.batch_serve_desks.specs.Runs.{Run, from_text, last_of, own_text, runs_text}
+use Rattle.batch_serve_desks.specs.Runs.{Run, from_text, last_of, runs_text}
 use Rattle.batch_serve_desks.proofs.TextLines.{due_both}
 
 text_both : (names : List (List ℕ)) (before : Option ℕ) (runs more : List Run)

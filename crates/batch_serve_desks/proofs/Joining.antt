@@ -1,6 +1,6 @@
 -- Transcripts that meet in one plant.
-use Rattle.std.proofs.Common.{◌≡◌, ℕ, List, [], ◌∷◌, ◌++◌, sym, ◌∙◌, ap, subst}
-use Rattle.batch_model.specs.Plant.{Setup, Plant}
+use Rattle.std.proofs.Common.{[], ◌∷◌, sym, ◌∙◌, ap, subst}
+use Rattle.batch_model.specs.Plant.{Plant}
 use Rattle.batch_wire.specs.Transcript.{Exchange, followed_by, Transcript}
 use Rattle.batch_serve_desks.specs.Joined.{TranscriptsJoin}
 use Rattle.batch_serve.proofs.Exchanges.{followed-assoc}

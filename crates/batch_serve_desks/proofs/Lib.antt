@@ -7,3 +7,4 @@ pub mod Recorded
 pub mod Remarked
 pub mod Telling
 pub mod GoingOn
+pub mod LivesKept

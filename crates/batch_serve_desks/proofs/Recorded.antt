@@ -1,5 +1,5 @@
 -- What desks are due of a record is told by its text.
-use Rattle.std.proofs.Common.{◌≡◌, ◌⊎◌, ◌<◌, ◌≤◌, ◌+◌, ◌-◌, ℕ, suc, Bool, true, false, not, cond, List, [], ◌∷◌, ◌++◌, length, take, filter, get_or, Option, Some, None, ◌==◌, eqb, nat_eq, codes, refl, sym, ap, subst, arith, append_assoc, append-nil, ◌∙◌, inl, inr}
+use Rattle.std.proofs.Common.{◌≡◌, ◌⊎◌, ◌<◌, ◌+◌, ◌-◌, ℕ, Bool, true, false, cond, List, [], ◌∷◌, ◌++◌, length, take, filter, get_or, Option, Some, None, ◌==◌, eqb, nat_eq, codes, refl, sym, ap, arith, append_assoc, append-nil, ◌∙◌, inl, inr}
 use Rattle.std.proofs.Math.Seq.{take-append-add}
 use Rattle.std.proofs.lemmas.Bool.{eqb-true, false_from_ne_true}
 use Rattle.std.proofs.lemmas.Bool.Decides.{eqb_tells}
@@ -7,12 +7,12 @@ use Rattle.std.proofs.lemmas.List.{length-append}
 use Rattle.std.proofs.lemmas.List.Elements.{All-append, All-cons, All-nil, All-head, All-tail}
 use Rattle.std.proofs.lemmas.List.Splits.{slice_split_at, length-slice_split}
 use Rattle.std.specs.Cmp.Lexicographic.{bytes_decides, pointwise}
-use Rattle.std.specs.List.{All, slice_split, onto_first}
+use Rattle.std.specs.List.{All, onto_first}
 use Rattle.batch_wire.specs.Transcript.{lines_of, whole_lines}
 use Rattle.batch_serve.specs.Replays.{IsWholeLines}
 use Rattle.batch_serve_desks.specs.Dues.{due, is_due, is_from}
 use Rattle.batch_serve_desks.specs.Lines.{is_feed}
-use Rattle.batch_serve_desks.specs.Runs.{Run, due_of, from_text, is_same, runs_text}
+use Rattle.batch_serve_desks.specs.Runs.{Run, due_of, is_same, runs_text}
 use Rattle.batch_serve_desks.specs.Recorded.{AreNames, IsPlainRun, RecordsAreSorted}
 use Rattle.batch_serve_desks.proofs.Sorted.{runs_sorted}
 

@@ -1,7 +1,7 @@
 -- Texts of runs, as one run more is written.
-use Rattle.std.proofs.Common.{◌≡◌, ◌<◌, ◌+◌, ℕ, cond, true, false, Bool, List, [], ◌∷◌, ◌++◌, length, drop, get_or, codes, Option, Some, refl, sym, ap, append_assoc, append-nil, ◌∙◌}
+use Rattle.std.proofs.Common.{◌≡◌, ◌<◌, ◌+◌, ℕ, cond, true, false, Bool, List, [], ◌∷◌, ◌++◌, length, drop, get_or, codes, Option, Some, sym, ap, append_assoc, append-nil, ◌∙◌}
 use Rattle.std.proofs.lemmas.List.{drop_more}
-use Rattle.batch_serve_desks.specs.Runs.{Run, from_text, is_same, last_of, runs_text}
+use Rattle.batch_serve_desks.specs.Runs.{Run, from_text, last_of, runs_text}
 
 -- the comment and the text of the next run were written
 pub run_written : (names : List (List ℕ)) (last : Option ℕ) (runs : List Run) (i desk : ℕ) (run : Run) (text from own done whole : List ℕ)

@@ -1,5 +1,5 @@
 -- Runs that are served one after the other.
-use Rattle.std.proofs.Common.{◌≡◌, ◌<◌, ◌+◌, ℕ, length, take, get_or, List, [], ◌∷◌, ◌++◌, Some, refl, sym, ◌∙◌, ap, subst, append_assoc, append-nil}
+use Rattle.std.proofs.Common.{◌≡◌, ◌<◌, ◌+◌, ℕ, length, take, get_or, List, [], ◌∷◌, ◌++◌, Some, refl, sym, ◌∙◌, ap, subst}
 use Rattle.std.proofs.lemmas.List.{take_more}
 use Rattle.batch_model.specs.Plant.{Setup, Plant, opening}
 use Rattle.batch_verify.specs.ClearedSet.{ClearedSet}
@@ -10,7 +10,7 @@ use Rattle.batch_serve_desks.specs.Joined.{TranscriptsJoin}
 use Rattle.batch_serve.specs.Safe.{TranscriptsAreSafe}
 use Rattle.batch_serve_desks.specs.GoingOn.{ServiceGoesOn}
 use Rattle.batch_serve_desks.specs.Runs.{Run}
-use Rattle.batch_serve_desks.specs.Served.{AreServed, IsAnswered, IsSafeService, ServiceIsSafe, plain_text, run_lines}
+use Rattle.batch_serve_desks.specs.Served.{AreServed, IsAnswered, ServiceIsSafe, plain_text, run_lines}
 
 -- the text that was written is the run's answer
 pub answered : (c : Setup) (old new : Plant) (run answer : Run) (input before after : List ℕ) → input ≡ run.text → before ≡ []

@@ -10,3 +10,4 @@ pub mod Turns
 pub mod Joined
 pub mod Recorded
 pub mod GoingOn
+pub mod Lives

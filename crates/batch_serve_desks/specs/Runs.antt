@@ -1,5 +1,5 @@
 -- surface: runs of lines that one desk sent, or of answers to them, as a text, and what of them is a desk's.
-use Rattle.std.specs.Prelude.{◌≡◌, ℕ, ◌+◌, Bool, true, false, ◌==◌, List, [], ◌∷◌, ◌++◌, map, filter, flat_map, get_or, Option, Some, None, cond, codes}
+use Rattle.std.specs.Prelude.{ℕ, Bool, false, ◌==◌, List, [], ◌∷◌, ◌++◌, filter, flat_map, get_or, Option, Some, None, cond, codes}
 use Rattle.batch_wire.specs.Transcript.{whole_lines}
 use Rattle.batch_serve_desks.specs.Dues.{is_due}
 

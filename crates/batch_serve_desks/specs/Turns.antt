@@ -1,5 +1,5 @@
 -- surface: what a server of several desks did with bytes of a desk, and in a turn.
-use Rattle.std.specs.Prelude.{◌≡◌, ℕ, List, [], ◌∷◌, ◌++◌, Option, Result}
+use Rattle.std.specs.Prelude.{◌≡◌, ℕ, List, [], ◌∷◌, ◌++◌, Option}
 use Rattle.std.specs.Io.KnownBytes.{Appends}
 use Rattle.batch_engine.specs.View.{setup, plant_of}
 use Rattle.batch_serve_desks.specs.Runs.{Run, last_of, runs_text}
@@ -29,4 +29,4 @@ pub record IsTurned (old new : DeskServer) (kept_before kept_after record_before
   pub last : new.last ≡ last_of old.last old.group.items
   pub group : new.group.items ≡ []
   pub cleared : new.engine.cleared ≡ old.engine.cleared
-  pub names : new.names ≡ old.names
+  pub names : new.names.items ≡ old.names.items

@@ -1,5 +1,6 @@
 //! Laws and worked rows of what is served, what a desk is due of it, and what waits for it. Nothing runs here.
 ghost use Rattle.batch_serve_desks.specs.Joined.{TranscriptsJoin};
+ghost use Rattle.batch_serve_desks.specs.Lives.{LivesBegin, LivesGoOn};
 ghost use Rattle.batch_serve_desks.specs.Recorded.{RecordsAreSorted};
 ghost use Rattle.batch_serve_desks.specs.GoingOn.{ServiceGoesOn, TextsGoOn};
 ghost use Rattle.batch_serve_desks.specs.Served.{ServiceIsSafe};
@@ -59,4 +60,11 @@ pub fn service_goes_on()
 /// Two transcripts, of which one comes to the plant that the other begins with, are one of the lines of both.
 pub fn transcripts_join()
     ensures { TranscriptsJoin }
+{}
+
+/// A server's account: of the runs since the machine's opening, all answers are kept, recorded and told, or wait. It begins with a
+/// machine at its opening, and each turn leads it on.
+pub fn lives_go_on()
+    ensures begin { LivesBegin }
+    ensures go_on { LivesGoOn }
 {}

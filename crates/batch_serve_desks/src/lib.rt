@@ -18,7 +18,7 @@ pub use desk_server::DeskServer;
 pub use fault::{CutReason, TurnFault};
 pub use keep::{Keep, KeepFault, NoJournal};
 pub use laws::{
-    due_rows, records_are_sorted, runs_are_sorted, service_goes_on, service_is_safe,
+    due_rows, lives_go_on, records_are_sorted, runs_are_sorted, service_goes_on, service_is_safe,
     transcripts_join, waiting_rows,
 };
 pub use line::Line;

@@ -1,4 +1,4 @@
-use Rattle.std.proofs.Common.{sym, ◌∙◌, arith}
+use Rattle.std.proofs.Common.{arith}
 use Rattle.batch_serve_desks.proofs.Remarked.{run_seen}
 use Rattle.batch_serve_desks.proofs.remarks.last_of.Goals as goal
 

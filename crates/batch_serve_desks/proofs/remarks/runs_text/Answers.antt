@@ -1,4 +1,4 @@
-use Rattle.std.proofs.Common.{sym, ◌∙◌, arith}
+use Rattle.std.proofs.Common.{arith}
 use Rattle.batch_serve_desks.proofs.Remarked.{run_written}
 use Rattle.batch_serve_desks.proofs.remarks.runs_text.Goals as goal
 

@@ -1,4 +1,4 @@
-use Rattle.std.proofs.Common.{List, ℕ, [], ◌++◌, eqb, take, refl, sym, ◌∙◌, ap, subst, append-nil, arith}
+use Rattle.std.proofs.Common.{List, ℕ, ◌++◌, eqb, take, refl, sym, ◌∙◌, ap, subst, append-nil, arith}
 use Rattle.batch_serve_desks.specs.Runs.{due_of}
 use Rattle.batch_serve_desks.specs.Waits.{IsAccount}
 use Rattle.batch_serve_desks.proofs.TextLines.{told_run}
