@@ -11,3 +11,4 @@ pub mod Joined
 pub mod Recorded
 pub mod GoingOn
 pub mod Lives
+pub mod Rounds

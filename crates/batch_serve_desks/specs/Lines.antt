@@ -1,4 +1,4 @@
--- private: where a line ends.
+-- surface: where a line ends.
 use Rattle.std.specs.Prelude.{ℕ, Bool, ◌==◌}
 
 abbrev pub is_feed : ℕ → Bool

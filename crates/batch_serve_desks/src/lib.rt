@@ -8,6 +8,7 @@ mod keep;
 mod laws;
 mod line;
 mod remarks;
+mod rounds;
 mod run;
 mod serving;
 mod sorting;
@@ -23,6 +24,7 @@ pub use laws::{
 };
 pub use line::Line;
 pub use remarks::runs_text;
+pub use rounds::{Lines, Sent};
 pub use run::Run;
 pub use sorting::is_due;
 pub use waiting::Waiting;
