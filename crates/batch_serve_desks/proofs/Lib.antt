@@ -8,3 +8,4 @@ pub mod Remarked
 pub mod Telling
 pub mod GoingOn
 pub mod LivesKept
+pub mod Gathering

@@ -15,8 +15,8 @@ with_run group desk (b ∷ text) = group ++ record { desk = desk; text = b ∷ t
 -- but for the group, the server is as it was
 pub record IsSameBut (old new : DeskServer) : Type 0 where
   pub engine : new.engine ≡ old.engine
-  pub names : new.names ≡ old.names
-  pub desks : new.desks ≡ old.desks
+  pub names : new.names.items ≡ old.names.items
+  pub desks : new.desks.items ≡ old.desks.items
   pub last : new.last ≡ old.last
 
 -- the group was kept, served and recorded, and each desk was told

@@ -24,7 +24,7 @@ pub use laws::{
 };
 pub use line::Line;
 pub use remarks::runs_text;
-pub use rounds::{Lines, Sent};
+pub use rounds::{Lines, Reader, Sent, Writer};
 pub use run::Run;
 pub use sorting::is_due;
 pub use waiting::Waiting;
