@@ -1,5 +1,5 @@
 -- surface: what came through the rings of desks, and what went into them.
-use Rattle.std.specs.Prelude.{◌≡◌, ℕ, ◌<◌, Bool, false, List, [], ◌++◌, length, get_or, flat_map}
+use Rattle.std.specs.Prelude.{◌≡◌, ℕ, ◌<◌, false, List, [], ◌++◌, length, get_or, flat_map}
 use Rattle.rtrb.specs.Ring.{received, sent}
 use Rattle.batch_serve_desks.specs.Runs.{Run, own_text}
 use Rattle.batch_serve_desks.specs.Waits.{IsAccount}
