@@ -1,10 +1,11 @@
 -- Desks whose lines are taken, and to which lines are handed on, one after the other.
-use Rattle.std.proofs.Common.{◌≡◌, ◌≢◌, ◌<◌, ◌≤◌, ◌+◌, ◌⊎◌, ℕ, false, length, get_or, set, cond, eqb, List, [], ◌∷◌, ◌++◌, append-nil, sym, ◌∙◌, ap, subst, arith, inl, inr, get_or-set_other, get_or-set_same}
+use Rattle.std.proofs.Common.{◌≡◌, ◌≢◌, ◌<◌, ◌≤◌, ◌+◌, ◌⊎◌, ℕ, false, ◌||◌, length, get_or, set, cond, eqb, List, [], ◌∷◌, ◌++◌, append-nil, append_assoc, sym, ◌∙◌, ap, subst, arith, inl, inr, get_or-set_other, get_or-set_same}
 use Rattle.std.proofs.lemmas.Bool.{cases_lt, ne_eqb}
 use Rattle.std.proofs.lemmas.Grind.{flat_map-append}
 use Rattle.std.proofs.lemmas.List.{get_or_default}
+use Rattle.std.specs.List.{list_any}
 use Rattle.rtrb.specs.Ring.{received}
-use Rattle.batch_serve_desks.specs.Rounds.{IsGathered, IsHandedOn, text_sent}
+use Rattle.batch_serve_desks.specs.Rounds.{IsGathered, IsHandedOn, LinesGoOn, is_end, text_of_one, text_sent}
 use Rattle.batch_serve_desks.specs.Runs.{Run, own_text}
 use Rattle.batch_serve_desks.specs.Turns.{IsSameBut}
 use Rattle.batch_serve_desks.specs.declared.desk.Desk.{Desk}
@@ -31,16 +32,16 @@ kept_behind first now i new rest k other above =
 
 -- one desk's lines more were taken
 pub gathered_more : (desks : List Desk) (first now : List Reader) (i : ℕ) (old new : Reader) (start before after : List Run) → i < length now → old ≡ get_or now i old
-    → ((other : Desk) → (get_or desks i other).waiting.is_cut ≡ false → IsGathered i (received old.ring) (received new.ring) before after)
+    → ((other : Desk) → (get_or desks i other).waiting.is_cut ≡ false → IsGathered i old new before after)
     → ((k : ℕ) → (k ≡ i → ⊥) → own_text k after ≡ own_text k before)
-    → ((k : ℕ) (reader : Reader) (other : Desk) → k < i → (get_or desks k other).waiting.is_cut ≡ false → IsGathered k (received (get_or first k reader).ring) (received (get_or now k reader).ring) start before)
+    → ((k : ℕ) (reader : Reader) (other : Desk) → k < i → (get_or desks k other).waiting.is_cut ≡ false → IsGathered k (get_or first k reader) (get_or now k reader) start before)
     → ((k : ℕ) (reader : Reader) → i ≤ k → get_or now k reader ≡ get_or first k reader)
     → ((k : ℕ) → i ≤ k → own_text k before ≡ own_text k start)
     → (k : ℕ) (reader : Reader) (other : Desk) → k < i + 1 → (get_or desks k other).waiting.is_cut ≡ false
-    → IsGathered k (received (get_or first k reader).ring) (received (get_or (set now i new) k reader).ring) start after
+    → IsGathered k (get_or first k reader) (get_or (set now i new) k reader) start after
 gathered_more desks first now i old new start before after within is came others so_far rest own k reader other below uncut = go (cases_lt k i)
   where
-    here : k ≡ i → IsGathered k (received (get_or first k reader).ring) (received (get_or (set now i new) k reader).ring) start after
+    here : k ≡ i → IsGathered k (get_or first k reader) (get_or (set now i new) k reader) start after
     here at =
         let g = came other (subst (λ n. (get_or desks n other).waiting.is_cut ≡ false) at uncut) in
         let then_is : get_or (set now i new) k reader ≡ new = ap (λ n. get_or (set now i new) n reader) at ∙ get_or-set_same now i new reader within in
@@ -49,9 +50,10 @@ gathered_more desks first now i old new start before after within is came others
           more = g.more;
           came = ap (λ (r : Reader). received r.ring) then_is ∙ g.came ∙ ap (λ (r : Reader). received r.ring ++ g.more) (sym first_is);
           own = ap (λ n. own_text n after) at ∙ g.own ∙ ap (λ l. l ++ text_sent g.more) (own i (omega arith)) ∙ ap (λ n. own_text n start ++ text_sent g.more) (sym at);
+          ends = ap (λ (r : Reader). r.has_ended) then_is ∙ g.ends ∙ ap (λ (r : Reader). r.has_ended || list_any is_end g.more) (sym first_is);
         }
 
-    go : (k < i) ⊎ (i ≤ k) → IsGathered k (received (get_or first k reader).ring) (received (get_or (set now i new) k reader).ring) start after
+    go : (k < i) ⊎ (i ≤ k) → IsGathered k (get_or first k reader) (get_or (set now i new) k reader) start after
     go (inl lt) =
         let apart : k ≢ i = omega arith in
         let g = so_far k reader other lt uncut in
@@ -59,6 +61,7 @@ gathered_more desks first now i old new start before after within is came others
           more = g.more;
           came = ap (λ (r : Reader). received r.ring) (get_or-set_other now i k new reader apart) ∙ g.came;
           own = others k apart ∙ g.own;
+          ends = ap (λ (r : Reader). r.has_ended) (get_or-set_other now i k new reader apart) ∙ g.ends;
         }
     go (inr le) = here (omega arith)
 
@@ -104,3 +107,14 @@ same_on a b d one other = record {
   desks = other.desks ∙ one.desks;
   last = other.last ∙ one.last;
 }
+
+-- all that came out of the ring was served, or is in the group
+pub lines_go_on : LinesGoOn
+lines_go_on desk runs group after old new so_far g =
+    let own : List Run → List ℕ = own_text desk in
+    flat_map-append (λ (run : Run). cond (eqb run.desk desk) run.text []) runs after
+    ∙ ap (λ l. own runs ++ l) g.own
+    ∙ sym (append_assoc (own runs) (own group) (text_sent g.more))
+    ∙ ap (λ l. l ++ text_sent g.more) (sym (flat_map-append (λ (run : Run). cond (eqb run.desk desk) run.text []) runs group) ∙ so_far)
+    ∙ sym (flat_map-append text_of_one (received old.ring) g.more)
+    ∙ ap text_sent (sym g.came)

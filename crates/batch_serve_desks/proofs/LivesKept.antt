@@ -1,11 +1,13 @@
 -- Turns lead the account of a server on.
-use Rattle.std.proofs.Common.{◌≡◌, ℕ, List, [], ◌∷◌, ◌++◌, get_or, Option, None, Some, refl, sym, ap, subst, arith, ◌∙◌}
+use Rattle.std.proofs.Common.{◌≡◌, ℕ, List, [], ◌∷◌, ◌++◌, length, get_or, Option, None, Some, refl, sym, ap, subst, arith, ◌∙◌}
 use Rattle.std.proofs.KnownBytes.{Appends-nil, Appends-trans}
 use Rattle.std.specs.Io.KnownBytes.{Appends}
 use Rattle.batch_model.specs.Plant.{Setup, Plant, opening}
 use Rattle.batch_verify.specs.ClearedSet.{ClearedSet}
-use Rattle.batch_engine.specs.View.{setup, plant_of}
-use Rattle.batch_serve_desks.specs.Lives.{LivesBegin, LivesGoOn}
+use Rattle.batch_engine.specs.View.{EngineView, setup, plant_of}
+use Rattle.batch_serve_desks.specs.Lives.{LivesBegin, LivesGoOn, LivesHandOn, LivesTake}
+use Rattle.rtrb.specs.Ring.{sent}
+use Rattle.batch_serve_desks.specs.Rounds.{IsHandedOver}
 use Rattle.batch_serve_desks.specs.Runs.{Run, due_of, last_of, runs_text}
 use Rattle.batch_serve_desks.specs.Served.{AreServed}
 use Rattle.batch_serve_desks.specs.Told.{IsTold}
@@ -61,4 +63,33 @@ lives_begin set kept recorded s cleared plant last each = record {
   is_kept = Appends-nil kept;
   is_recorded = Appends-nil recorded;
   each = each;
+}
+
+pub lives_take : LivesTake
+lives_take set kept recorded runs answers now old new life same = record {
+  cleared = ap (λ (e : EngineView). e.cleared) same.engine ∙ life.cleared;
+  served = subst (λ (e : EngineView). AreServed (setup set) opening runs answers (plant_of e)) (sym same.engine) life.served;
+  last = same.last ∙ life.last;
+  is_kept = subst (λ (n : List (List ℕ)). Appends kept now.kept (runs_text n None runs)) (sym same.names) life.is_kept;
+  is_recorded = subst (λ (n : List (List ℕ)). Appends recorded now.recorded (runs_text n None answers)) (sym same.names) life.is_recorded;
+  each = λ desk other within.
+      subst (λ (l : List Desk). IsAccount (due_of desk (get_or l desk other).unit answers) (now.told desk) (get_or l desk other).waiting) (sym same.desks)
+      (life.each desk other (omega (arith, within, ap length same.desks)));
+}
+
+pub lives_hand_on : LivesHandOn
+lives_hand_on set kept recorded runs answers now old new before after writer life handed as_many told = record {
+  cleared = ap (λ (e : EngineView). e.cleared) handed.engine ∙ life.cleared;
+  served = subst (λ (e : EngineView). AreServed (setup set) opening runs answers (plant_of e)) (sym handed.engine) life.served;
+  last = handed.last ∙ life.last;
+  is_kept = subst (λ (n : List (List ℕ)). Appends kept now.kept (runs_text n None runs)) (sym handed.names) life.is_kept;
+  is_recorded = subst (λ (n : List (List ℕ)). Appends recorded now.recorded (runs_text n None answers)) (sym handed.names) life.is_recorded;
+  each = λ desk other within.
+      let in_old : desk < length old.desks.items = omega (arith, within, handed.handed.count) in
+      let one = handed.handed.each desk other writer (omega (arith, in_old, as_many)) in
+      let all : List (List ℕ) = due_of desk (get_or old.desks.items desk other).unit answers in
+      let was : IsAccount all (sent (get_or before desk writer).ring) (get_or old.desks.items desk other).waiting =
+      subst (λ (l : List (List ℕ)). IsAccount all l (get_or old.desks.items desk other).waiting) (told desk (omega (arith, in_old, as_many))) (life.each desk other in_old) in
+      subst (λ (u : Option (List ℕ)). IsAccount (due_of desk u answers) (sent (get_or after desk writer).ring) (get_or new.desks.items desk other).waiting) (sym one.unit)
+      (one.account all was);
 }

@@ -4,11 +4,14 @@ use Rattle.std.specs.Io.KnownBytes.{Appends}
 use Rattle.batch_model.specs.Plant.{opening}
 use Rattle.batch_verify.specs.ClearedSet.{ClearedSet}
 use Rattle.batch_engine.specs.View.{setup, plant_of}
+use Rattle.rtrb.specs.Ring.{sent}
+use Rattle.batch_serve_desks.specs.Rounds.{IsHandedOver}
 use Rattle.batch_serve_desks.specs.Runs.{Run, due_of, last_of, runs_text}
 use Rattle.batch_serve_desks.specs.Served.{AreServed}
-use Rattle.batch_serve_desks.specs.Turns.{IsTurned}
+use Rattle.batch_serve_desks.specs.Turns.{IsSameBut, IsTurned}
 use Rattle.batch_serve_desks.specs.Waits.{IsAccount}
 use Rattle.batch_serve_desks.specs.declared.desk.Desk.{Desk}
+use Rattle.batch_serve_desks.specs.declared.rounds.Writer.{Writer}
 use Rattle.batch_serve_desks.specs.declared.desk_server.DeskServer.{DeskServer}
 
 -- what is kept, what is recorded, and what each desk was told, by its place
@@ -34,6 +37,20 @@ LivesGoOn =
     → IsLife set kept recorded runs answers now old → IsTurned old new now.kept kept_after now.recorded recorded_after
     → (more : List Run)
     × IsLife set kept recorded (runs ++ old.group.items) (answers ++ more) (record now { kept = kept_after; recorded = recorded_after }) new
+
+-- lines that are taken leave it as it is
+abbrev pub LivesTake : Type 0
+LivesTake =
+    (set : ClearedSet) (kept recorded : Option (List ℕ)) (runs answers : List Run) (now : Outside) (old new : DeskServer)
+    → IsLife set kept recorded runs answers now old → IsSameBut old new → IsLife set kept recorded runs answers now new
+
+-- what is handed on has gone into the rings of the writers, of which each desk has one
+abbrev pub LivesHandOn : Type 0
+LivesHandOn =
+    (set : ClearedSet) (kept recorded : Option (List ℕ)) (runs answers : List Run) (now : Outside) (old new : DeskServer) (before after : List Writer) (writer : Writer)
+    → IsLife set kept recorded runs answers now old → IsHandedOver old new before after → length before ≡ length old.desks.items
+    → ((desk : ℕ) → desk < length before → now.told desk ≡ sent (get_or before desk writer).ring)
+    → IsLife set kept recorded runs answers (record now { told = λ desk. sent (get_or after desk writer).ring }) new
 
 -- it begins with a machine at its opening, before any line was taken, and nothing waits for a desk
 abbrev pub LivesBegin : Type 0

@@ -1,8 +1,9 @@
 //! Laws and worked rows of what is served, what a desk is due of it, and what waits for it. Nothing runs here.
 ghost use Rattle.batch_serve_desks.specs.Joined.{TranscriptsJoin};
-ghost use Rattle.batch_serve_desks.specs.Lives.{LivesBegin, LivesGoOn};
+ghost use Rattle.batch_serve_desks.specs.Lives.{LivesBegin, LivesGoOn, LivesHandOn, LivesTake};
 ghost use Rattle.batch_serve_desks.specs.Recorded.{RecordsAreSorted};
 ghost use Rattle.batch_serve_desks.specs.GoingOn.{ServiceGoesOn, TextsGoOn};
+ghost use Rattle.batch_serve_desks.specs.Rounds.{LinesGoOn};
 ghost use Rattle.batch_serve_desks.specs.Served.{ServiceIsSafe};
 ghost use Rattle.batch_serve_desks.specs.Dues.{RunsAreSorted};
 ghost use Rattle.batch_serve_desks.specs.RowsOfDue.{CommentIsDueToNobody, ConsoleSeesAll, LinkSeesItsOrders, LinkSeesNoOther, RecordIsSorted, ReplyIsOwn};
@@ -63,8 +64,17 @@ pub fn transcripts_join()
 {}
 
 /// A server's account: of the runs since the machine's opening, all answers are kept, recorded and told, or wait. It begins with a
-/// machine at its opening, and each turn leads it on.
+/// machine at its opening, each turn leads it on, lines that are taken leave it as it is, and what is handed on to the rings of
+/// writers is told.
 pub fn lives_go_on()
     ensures begin { LivesBegin }
     ensures go_on { LivesGoOn }
+    ensures take { LivesTake }
+    ensures hand_on { LivesHandOn }
+{}
+
+/// The lines of a desk that were served, and those that are to be served in the next turn, are all that came out of the ring of its
+/// reader, as long as it isn't cut: so it stays as more comes.
+pub fn lines_go_on()
+    ensures { LinesGoOn }
 {}

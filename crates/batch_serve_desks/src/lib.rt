@@ -19,8 +19,8 @@ pub use desk_server::DeskServer;
 pub use fault::{CutReason, TurnFault};
 pub use keep::{Keep, KeepFault, NoJournal};
 pub use laws::{
-    due_rows, lives_go_on, records_are_sorted, runs_are_sorted, service_goes_on, service_is_safe,
-    transcripts_join, waiting_rows,
+    due_rows, lines_go_on, lives_go_on, records_are_sorted, runs_are_sorted, service_goes_on,
+    service_is_safe, transcripts_join, waiting_rows,
 };
 pub use line::Line;
 pub use remarks::runs_text;

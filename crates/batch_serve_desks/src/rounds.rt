@@ -1,7 +1,7 @@
 //! Rounds: what the readers of desks hand over is taken, and what waits for desks is handed to their writers.
-ghost use Rattle.std.specs.Prelude.{◌≡◌, ◌<◌, ◌≤◌, ◌↔◌, ℕ, [], ◌∷◌, ◌++◌, length, get_or, true, false, IfOk, IsTrue, OnOk};
+ghost use Rattle.std.specs.Prelude.{◌≡◌, ◌<◌, ◌≤◌, ℕ, length, get_or, false, IfOk, OnOk};
 ghost use Rattle.rtrb.specs.Ring.{SameConsumer, received};
-ghost use Rattle.batch_serve_desks.specs.Rounds.{AreGathered, AreHandedOn, IsGathered, IsHandedOn};
+ghost use Rattle.batch_serve_desks.specs.Rounds.{AreGathered, AreHandedOn, IsGathered, IsHandedOn, IsHandedOver, IsTaken};
 ghost use Rattle.batch_serve_desks.specs.Runs.{own_text};
 ghost use Rattle.batch_serve_desks.specs.Turns.{IsSameBut};
 ghost use Rattle.batch_serve_desks.specs.declared.desk.Desk.{Desk as OneDesk};
@@ -88,12 +88,11 @@ impl DeskServer {
         requires { desk < length self.old.desks.items }
         ensures same { IsSameBut self.old self.new }
         ensures gathered { OnOk result ((other : OneDesk) → (get_or self.old.desks.items desk other).waiting.is_cut ≡ false
-            → IsGathered desk (received reader.old.ring) (received reader.new.ring) self.old.group.items self.new.group.items) }
+            → IsGathered desk reader.old reader.new self.old.group.items self.new.group.items) }
         ensures others { (other : ℕ) → (other ≡ desk → ⊥) → own_text other self.new.group.items ≡ own_text other self.old.group.items }
     {
-        if self.take_sent(desk, &mut reader.ring)? {
-            reader.has_ended = true;
-        }
+        let ended = self.take_sent(desk, &mut reader.ring)?;
+        reader.has_ended = reader.has_ended || ended;
         Ok(())
     }
 
@@ -102,10 +101,9 @@ impl DeskServer {
         requires { desk < length self.old.desks.items }
         ensures ring { SameConsumer ring.old ring.new }
         ensures same { IsSameBut self.old self.new }
-        ensures gathered { OnOk result ((other : OneDesk) → (get_or self.old.desks.items desk other).waiting.is_cut ≡ false
-            → IsGathered desk (received ring.old) (received ring.new) self.old.group.items self.new.group.items) }
+        ensures taken { IfOk result (λ ended. (other : OneDesk) → (get_or self.old.desks.items desk other).waiting.is_cut ≡ false
+            → IsTaken desk (received ring.old) (received ring.new) ended self.old.group.items self.new.group.items) }
         ensures others { (other : ℕ) → (other ≡ desk → ⊥) → own_text other self.new.group.items ≡ own_text other self.old.group.items }
-        ensures ended { IfOk result (λ ended. IsTrue ended ↔ (received ring.new ≡ received ring.old ++ Sent.End ∷ [])) }
     {
         match ring.pop() {
             Ok(Sent::Lines(lines)) => {
@@ -120,8 +118,7 @@ impl DeskServer {
     /// Hands to each writer as many of the lines that wait for its desk as there is place for.
     pub fn hand_on(&mut self, writers: &mut Vec<Writer>)
         requires { length writers.old.items ≤ length self.old.desks.items }
-        ensures handed { AreHandedOn self.old.desks.items self.new.desks.items writers.old.items writers.new.items }
-        ensures same { (self.new.engine ≡ self.old.engine) × (self.new.names ≡ self.old.names) × (self.new.group ≡ self.old.group) × (self.new.last ≡ self.old.last) }
+        ensures { IsHandedOver self.old self.new writers.old.items writers.new.items }
     {
         hand_on_each(&mut self.desks, writers);
     }

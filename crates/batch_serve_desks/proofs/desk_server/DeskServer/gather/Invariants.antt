@@ -1,5 +1,4 @@
 use Rattle.std.proofs.Common.{◌≡◌, ◌<◌, ◌≤◌, ℕ, false, length, get_or}
-use Rattle.rtrb.specs.Ring.{received}
 use Rattle.batch_serve_desks.specs.Rounds.{IsGathered}
 use Rattle.batch_serve_desks.specs.Runs.{own_text}
 use Rattle.batch_serve_desks.specs.Turns.{IsSameBut}
@@ -13,7 +12,7 @@ invariant-loop-desk l = record {
   same : IsSameBut l.initial.self l.self;
   count : length l.readers.items ≡ length l.initial.readers.items;
   gathered : (k : ℕ) (reader : Reader) (other : Desk) → k < l.desk → (get_or l.initial.self.desks.items k other).waiting.is_cut ≡ false
-      → IsGathered k (received (get_or l.initial.readers.items k reader).ring) (received (get_or l.readers.items k reader).ring) l.initial.self.group.items l.self.group.items;
+      → IsGathered k (get_or l.initial.readers.items k reader) (get_or l.readers.items k reader) l.initial.self.group.items l.self.group.items;
   rest : (k : ℕ) (reader : Reader) → l.desk ≤ k → get_or l.readers.items k reader ≡ get_or l.initial.readers.items k reader;
   own : (k : ℕ) → l.desk ≤ k → own_text k l.self.group.items ≡ own_text k l.initial.self.group.items;
 }
