@@ -9,3 +9,4 @@ pub mod Telling
 pub mod GoingOn
 pub mod LivesKept
 pub mod Gathering
+pub mod Threading

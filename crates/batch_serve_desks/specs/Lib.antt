@@ -12,3 +12,5 @@ pub mod Recorded
 pub mod GoingOn
 pub mod Lives
 pub mod Rounds
+pub mod Threads
+pub mod Pieces

@@ -30,6 +30,7 @@ impl Desk {
     pub fn new(alloc: Global, unit: Option<Name>, lag: usize) -> Desk
         ensures unit { result.unit ≡ unit }
         ensures waiting { result.waiting ≡ nothing_waits lag }
+        ensures why { result.why ≡ None }
     {
         Desk {
             unit,

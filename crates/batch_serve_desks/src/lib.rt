@@ -7,12 +7,15 @@ mod fault;
 mod keep;
 mod laws;
 mod line;
+mod pause;
+mod reading;
 mod remarks;
 mod rounds;
 mod run;
 mod serving;
 mod sorting;
 mod waiting;
+mod writing;
 
 pub use desk::Desk;
 pub use desk_server::DeskServer;
@@ -23,8 +26,11 @@ pub use laws::{
     service_is_safe, transcripts_join, waiting_rows,
 };
 pub use line::Line;
+pub use pause::Pause;
+pub use reading::read_lines;
 pub use remarks::runs_text;
 pub use rounds::{Lines, Reader, Sent, Writer};
 pub use run::Run;
 pub use sorting::is_due;
 pub use waiting::Waiting;
+pub use writing::write_lines;
