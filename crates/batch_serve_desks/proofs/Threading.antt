@@ -1,11 +1,11 @@
 -- What readers hand over, and what writers write, step by step.
-use Rattle.std.proofs.Common.{◌≡◌, ℕ, Bool, true, false, List, [], ◌∷◌, ◌++◌, Option, refl, sym, ap, subst, append_assoc, append-nil, ◌∙◌}
+use Rattle.std.proofs.Common.{◌≡◌, ℕ, Bool, true, false, List, [], ◌∷◌, ◌++◌, Option, Result, Ok, Err, refl, sym, ap, subst, append_assoc, append-nil, ◌∙◌}
 use Rattle.std.proofs.KnownBytes.{Appends-nil, Appends-kept, Appends-trans, Consumes-kept, Consumes-nil, Consumes-trans, Keeps-refl}
 use Rattle.std.proofs.lemmas.Bool.{false≢true}
 use Rattle.std.proofs.lemmas.Grind.{flat_map-append}
 use Rattle.std.specs.Io.KnownBytes.{Appends, Consumes, IsAtEnd, Keeps}
 use Rattle.std.specs.List.{list_any}
-use Rattle.batch_wire.specs.Written.{AppendsBeginning}
+use Rattle.batch_wire.specs.Written.{AppendsBeginning, Writes}
 use Rattle.batch_serve_desks.specs.Rounds.{is_end, text_of_one, text_sent}
 use Rattle.batch_serve_desks.specs.Threads.{IsRead, IsWritten, ReadsOn, WritesOn, lines_text}
 use Rattle.batch_serve_desks.specs.declared.rounds.Sent.{Sent}
@@ -136,3 +136,18 @@ reads_begin a x = nothing_read a a x x (Keeps-refl a) refl
 
 pub writes_begin : (x : List (List ℕ)) (a : Option (List ℕ)) → WritesOn x x a a
 writes_begin x a = nothing_written x x a a refl (Keeps-refl a)
+
+-- One line
+
+pub line_begun : (old new : Option (List ℕ)) (line : List ℕ) → AppendsBeginning old new line → AppendsBeginning old new (line ++ 10 ∷ [])
+line_begun old new line begun = record {
+  written = begun.written;
+  rest = begun.rest ++ 10 ∷ [];
+  splits = ap (λ l. l ++ 10 ∷ []) begun.splits ∙ append_assoc begun.written begun.rest (10 ∷ []);
+  appends = begun.appends;
+}
+
+pub line_ended : {E : Type 0} (old mid new : Option (List ℕ)) (line : List ℕ) (r : Result (Unit {0}) E) → Appends old mid line → Writes mid new r (10 ∷ [])
+    → Writes old new r (line ++ 10 ∷ [])
+line_ended old mid new line (Ok u) front feed = Appends-trans old mid new line (10 ∷ []) front feed
+line_ended old mid new line (Err e) front feed = begun_behind old mid new line (10 ∷ []) front feed

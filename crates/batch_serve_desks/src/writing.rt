@@ -6,7 +6,7 @@ ghost use Rattle.batch_serve_desks.specs.Threads.{IsWritten, WritesNext};
 
 use crate::line::Line;
 use crate::pause::Pause;
-use batch_wire::{WriteFault, write_pieces};
+use batch_wire::{WriteFault, write_all};
 use rtrb::Consumer;
 use std::io::Write;
 
@@ -57,8 +57,10 @@ fn write_next<W: Write, P: Pause>(
     }
 }
 
+#[tactic(auto, using(crate::proofs::Threading::line_begun, crate::proofs::Threading::line_ended))]
 fn write_line<W: Write>(output: &mut W, line: &Line) -> Result<(), WriteFault>
     ensures { Writes (W.contents output.old) (W.contents output.new) result (line.now ++ 10 ∷ []) }
 {
-    write_pieces(output, &[line.as_slice(), b"\n"])
+    write_all(output, line.as_slice())?;
+    write_all(output, b"\n")
 }
