@@ -7,7 +7,6 @@ use Rattle.batch_verify.specs.ClearedSet.{ClearedSet}
 use Rattle.batch_engine.specs.View.{EngineView, setup, plant_of}
 use Rattle.batch_serve_desks.specs.Lives.{LivesBegin, LivesGoOn, LivesHandOn, LivesTake}
 use Rattle.rtrb.specs.Ring.{sent}
-use Rattle.batch_serve_desks.specs.Rounds.{IsHandedOver}
 use Rattle.batch_serve_desks.specs.Runs.{Run, due_of, last_of, runs_text}
 use Rattle.batch_serve_desks.specs.Served.{AreServed}
 use Rattle.batch_serve_desks.specs.Told.{IsTold}

@@ -1,4 +1,3 @@
-use Rattle.std.proofs.Common.{◌<◌, length}
 use Rattle.rtrb.specs.Ring.{sent}
 use Rattle.batch_serve_desks.specs.Threads.{ReadsOn}
 use Rattle.batch_serve_desks.proofs.reading.read_lines.Given as goal
