@@ -1,12 +1,10 @@
-//! Tests of the engine by its calls, of serving, of several desks, and of units that it drives, by public names alone. Nothing stands on this crate.
+//! Tests of the engine by its calls, of serving, and of units that it drives, by public names alone. Nothing stands on this crate.
 #![tactic(auto)]
 
 #[cfg(test)]
 mod boxes;
 #[cfg(test)]
 mod calls;
-#[cfg(test)]
-mod desks;
 #[cfg(test)]
 mod documents;
 #[cfg(test)]
