@@ -1,0 +1,18 @@
+-- Where want of memory may be the answer to an event.
+use Rattle.std.proofs.Common.{◌≡◌, ◌⊎◌, Option, Some, None, refl, inl, inr}
+use Rattle.batch_model.specs.Events.{Event, refused, no_memory, moves_pending, judged, Answer}
+use Rattle.batch_model.specs.Moves.{Move, next}
+use Rattle.batch_model.specs.Plant.{Setup, Plant}
+use Rattle.batch_model.specs.Runs.{IsCreated, Reacts}
+
+-- no move is pending
+pub wants-settled : (c : Setup) (s : Plant) (e : Event) (t : Plant) → Reacts c s e (refused no_memory) t → next c s ≡ None
+wants-settled c s e t wants = go (next c s) refl wants
+  where
+    abbrev answer : Option Move → Answer
+    answer o = elim o [ Some m ↦ (refused moves_pending, s) | None ↦ judged c s e ]
+
+    go : (o : Option Move) → next c s ≡ o → (answer o ≡ (refused no_memory, t)) ⊎ (IsCreated (answer o).0 × (refused no_memory ≡ refused no_memory) × (t ≡ s)) → next c s ≡ None
+    go None is w = is
+    go (Some m) is (inl w) = absurd (cc w)
+    go (Some m) is (inr w) = absurd w.0
