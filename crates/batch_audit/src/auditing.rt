@@ -1,5 +1,5 @@
 //! Auditing a record.
-ghost use Rattle.std.specs.Prelude.{◌≡◌, ◌∷◌, IfOk, IfSome, List, ℕ};
+ghost use Rattle.std.specs.Prelude.{◌≡◌, ◌∷◌, [], IfOk, IfSome, List, ℕ};
 ghost use Rattle.batch_engine.specs.View.{plant_of, setup};
 ghost use Rattle.batch_wire.specs.EventLine.{event_of_line};
 ghost use Rattle.batch_wire.specs.Known.{AreKnown};

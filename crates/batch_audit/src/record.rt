@@ -77,8 +77,8 @@ impl<'a> Record<'a> {
     }
 
     /// What is found where nothing more is due.
-    pub(crate) fn finish(mut self) -> Finding
-        ensures { Finishes self.count self.rest.now result }
+    pub(crate) fn finish(&mut self) -> Finding
+        ensures { Finishes self.old.count self.old.rest.now result }
     {
         if self.next_line().is_some() {
             return Finding::Differs(self.next_number());

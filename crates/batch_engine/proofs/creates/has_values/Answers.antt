@@ -9,7 +9,7 @@ use Rattle.batch_engine.proofs.creates.has_values.Goals as goal
 pub returns-in-Ok : goal.returns-in-Ok
 returns-in-Ok c = (λ _. (_, c.in-Ok.ensures), λ _. refl)
 
-pub returns : goal.returns-in-Err
+pub returns : goal.returns
 returns c =
     subst (λ b. IsTrue b ↔ ((vs : ValueList) × (formula_of c.args.recipe.now c.args.size ≡ scaled vs))) (sym c.is_want.ensures)
     (values-if c.args.recipe.now c.args.size c.in-Err.bad c.in-Err.ensures)
