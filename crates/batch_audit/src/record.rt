@@ -80,7 +80,7 @@ impl<'a> Record<'a> {
     pub(crate) fn finish(&mut self) -> Finding
         ensures { Finishes self.old.count self.old.rest.now result }
     {
-        if self.next_line().is_some() {
+        if let Some(_at) = self.next_line() {
             return Finding::Differs(self.next_number());
         }
         if self.rest.is_empty() {

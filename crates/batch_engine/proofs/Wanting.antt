@@ -5,14 +5,16 @@ use Rattle.batch_model.specs.Moves.{Move, next}
 use Rattle.batch_model.specs.Plant.{Setup, Plant}
 use Rattle.batch_model.specs.Runs.{IsCreated, Reacts}
 
--- no move is pending
-pub wants-settled : (c : Setup) (s : Plant) (e : Event) (t : Plant) → Reacts c s e (refused no_memory) t → next c s ≡ None
-wants-settled c s e t wants = go (next c s) refl wants
-  where
-    abbrev answer : Option Move → Answer
-    answer o = elim o [ Some m ↦ (refused moves_pending, s) | None ↦ judged c s e ]
+module _ (c : Setup) (s : Plant) (e : Event) (t : Plant) where
+  abbrev answer : Option Move → Answer
+  answer o = elim o [ Some m ↦ (refused moves_pending, s) | None ↦ judged c s e ]
 
-    go : (o : Option Move) → next c s ≡ o → (answer o ≡ (refused no_memory, t)) ⊎ (IsCreated (answer o).0 × (refused no_memory ≡ refused no_memory) × (t ≡ s)) → next c s ≡ None
-    go None is w = is
-    go (Some m) is (inl w) = absurd (cc w)
-    go (Some m) is (inr w) = absurd w.0
+  by_next : (o : Option Move) → next c s ≡ o → (answer o ≡ (refused no_memory, t)) ⊎ (IsCreated (answer o).0 × (refused no_memory ≡ refused no_memory) × (t ≡ s))
+      → next c s ≡ None
+  by_next None is w = is
+  by_next (Some m) is (inl w) = absurd (cc w)
+  by_next (Some m) is (inr w) = absurd w.0
+
+  -- no move is pending
+  pub wants-settled : Reacts c s e (refused no_memory) t → next c s ≡ None
+  wants-settled wants = by_next (next c s) refl wants

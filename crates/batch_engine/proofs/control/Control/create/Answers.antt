@@ -19,10 +19,12 @@ returns-in-Err c = record { cleared = refl; reacts = inl (c.in-Err.ensures c.arg
 
 pub add-requires : goal.add-requires
 add-requires c =
-    let v : EngineView = c.args.self.now in
-    (c.args.name.now, c.args.pairs.now,
-    can-create v c.args.name.now c.args.size c.args.pairs.now c.in-Ok.choice.recipe c.recipe.result.now c.requires (read (goal.at.add-requires c).After-recipe) c.in-Ok.choice.units c.in-Ok.ensures
-    c.in-Ok-values_for.values c.in-Ok-values_for.ensures)
+    let v : EngineView = c.args.self.now in (
+      c.args.name.now,
+      c.args.pairs.now,
+      can-create v c.args.name.now c.args.size c.args.pairs.now c.in-Ok.choice.recipe c.recipe.result.now c.requires (read (goal.at.add-requires c).After-recipe) c.in-Ok.choice.units c.in-Ok.ensures
+          c.in-Ok-values_for.values c.in-Ok-values_for.ensures,
+    )
 
 pub returns-in-Ok-values_for : goal.returns-in-Ok-values_for
 returns-in-Ok-values_for c =
