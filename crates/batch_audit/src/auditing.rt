@@ -49,20 +49,20 @@ fn audit_lines(
     transcripts_are_safe(engine.cleared());
     let mut places = KnownPlaces::new();
     let mut answer = Vec::new(alloc);
-    let mut record = Record::of(text);
+    let mut audited = Record::of(text);
     let mut rest = sent;
     while let Some(at) = line_feed(rest) {
         let line = &rest[..at];
         if let Some(finding) =
-            audit_line(alloc, &mut engine, line, &mut places, &mut answer, &mut record)?
+            audit_line(alloc, &mut engine, line, &mut places, &mut answer, &mut audited)?
         {
             return Ok(finding);
         }
         rest = &rest[at + 1..];
     }
-    match audit_line(alloc, &mut engine, rest, &mut places, &mut answer, &mut record)? {
+    match audit_line(alloc, &mut engine, rest, &mut places, &mut answer, &mut audited)? {
         Some(finding) => Ok(finding),
-        None => Ok(record.finish()),
+        None => Ok(audited.finish()),
     }
 }
 
@@ -73,17 +73,17 @@ fn audit_line(
     line: &[u8],
     places: &mut KnownPlaces,
     answer: &mut Vec<u8>,
-    record: &mut Record<'_>,
+    audited: &mut Record<'_>,
 ) -> Result<Option<Finding>, AuditFault>
     requires { AreKnown engine.old.cleared places.old }
     ensures known { AreKnown engine.new.cleared places.new }
     ensures cleared { engine.new.cleared ≡ engine.old.cleared }
     ensures answered { IfOk result (λ found. (all left : List (List ℕ)) (text : List ℕ)
-        → IsAudited engine.old.cleared all (line.now ∷ left) (plant_of engine.old) text record.old.count record.old.rest.now
-        → IsAnswered engine.old.cleared all left (plant_of engine.new) text record.new.count record.new.rest.now found) }
+        → IsAudited engine.old.cleared all (line.now ∷ left) (plant_of engine.old) text audited.old.count audited.old.rest.now
+        → IsAnswered engine.old.cleared all left (plant_of engine.new) text audited.new.count audited.new.rest.now found) }
 {
-    if let Some(at) = passed_over(alloc, engine, line, record)? {
-        record.take_line(at);
+    if let Some(at) = passed_over(alloc, engine, line, audited)? {
+        audited.take_line(at);
         return Ok(None);
     }
     answer.clear();
@@ -92,7 +92,7 @@ fn audit_line(
         // The engine itself had no memory.
         return Err(AuditFault::Memory);
     }
-    Ok(record.compare(answer))
+    Ok(audited.compare(answer))
 }
 
 /// Where the record's next line ends, behind its comments, if that is a refusal for want of memory with which the engine might have answered.
@@ -100,15 +100,15 @@ fn passed_over(
     alloc: Global,
     engine: &Engine,
     line: &[u8],
-    record: &mut Record<'_>,
+    audited: &mut Record<'_>,
 ) -> Result<Option<usize>, AuditFault>
-    ensures passed { IfOk result (λ _. IsCompared record.old.count record.old.rest.now [] record.new.count record.new.rest.now []) }
-    ensures over { IfOk result (IsPassedOver (setup engine.now.cleared) (plant_of engine.now) (event_of_line line.now) record.new.rest.now) }
+    ensures passed { IfOk result (λ _. IsCompared audited.old.count audited.old.rest.now [] audited.new.count audited.new.rest.now []) }
+    ensures over { IfOk result (IsPassedOver (setup engine.now.cleared) (plant_of engine.now) (event_of_line line.now) audited.new.rest.now) }
 {
-    let Some(at) = record.next_line() else {
+    let Some(at) = audited.next_line() else {
         return Ok(None);
     };
-    if is_free(alloc, engine, line, &record.rest[..at])? {
+    if is_free(alloc, engine, line, &audited.rest[..at])? {
         Ok(Some(at))
     } else {
         Ok(None)

@@ -24,5 +24,5 @@ returns c = record {
   count = c.next_line.new.self.count;
   rest = c.next_line.new.self.rest.now;
   passed = c.next_line.ensures.passed;
-  end = part _ c.in_default.ensures.next (something_left c.next_line.new.self.rest.now (sym c.is_empty.ensures ∙ c.if-is_empty.false)) c.next_number.ensures;
+  end = part _ c.in_default.ensures.next (something_left c.next_line.new.self.rest.now (sym c.is_empty.ensures ∙ c.if-is_empty.false)) c.next_number-2.ensures;
 }
