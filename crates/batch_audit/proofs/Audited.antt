@@ -80,7 +80,7 @@ module _ (c : Setup) (all left : List (List ℕ)) (line : List ℕ) (plant : Pla
   -- an answer that no other has a part of the text with leads on
   pub further : (said : Exchange) (mid : Plant) → Answers c plant (event_of_line line) said mid
       → ((other : Exchange) (then_on : Plant) (s more : List ℕ) → Answers c plant (event_of_line line) other then_on → other.text ++ s ≡ said.text ++ more
-          → (other.text ≡ said.text) × (then_on ≡ mid))
+      → (other.text ≡ said.text) × (then_on ≡ mid))
       → Reaches c all left mid (text ++ said.text)
   further said mid answers once = record {
     onward = λ others last t.
@@ -103,8 +103,7 @@ module _ (c : Setup) (all left : List (List ℕ)) (line : List ℕ) (plant : Pla
       → (whole : Exchange) × (last : Plant) × Transcript c opening all whole last × BeginsText (text ++ told) whole.text
   begins_some said mid told rest answers is =
       let others = some_transcript c mid left in
-      let on = so_far.onward (followed_by said others.0) mid (said, others.0, mid, answers, others.1, refl) in
-      (
+      let on = so_far.onward (followed_by said others.0) mid (said, others.0, mid, answers, others.1, refl) in (
         on.0,
         mid,
         on.1,
@@ -184,10 +183,10 @@ module _ (set : ClearedSet) (all left : List (List ℕ)) (line : List ℕ) (plan
   passes_over mid then_on at between last comments here free words takes =
       let said = free_answers (setup set) plant (event_of_line line) (take at between) free in
       let once : (other : Exchange) (on : Plant) (s more : List ℕ) → Answers (setup set) plant (event_of_line line) other on → other.text ++ s ≡ said.0.text ++ more
-              → (other.text ≡ said.0.text) × (on ≡ plant)
-          = λ other on s more answers is.
-          (let same = free_once (setup set) plant (event_of_line line) (take at between) other on s more free answers (is ∙ ap (λ l. l ++ more) said.2) in
-          (same.0 ∙ sym said.2, same.1)) in
+      → (other.text ≡ said.0.text) × (on ≡ plant)
+      = λ other on s more answers is.
+      (let same = free_once (setup set) plant (event_of_line line) (take at between) other on s more free answers (is ∙ ap (λ l. l ++ more) said.2) in
+      (same.0 ∙ sym said.2, same.1)) in
       let on = further (setup set) all left line plant (told_text so_far.lines) so_far.reaches said.0 plant said.1 once in
       let lines : List (List ℕ) = comments.lines ++ take at between ∷ [] in
       let told : told_text (so_far.lines ++ lines) ≡ told_text so_far.lines ++ said.0.text =

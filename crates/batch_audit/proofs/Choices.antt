@@ -86,8 +86,7 @@ module _ (c : Setup) (old : Plant) where
       let same = (refusal-just c old event no_memory h.mid reacts).0 in
       let settled = wants-settled c old event h.mid reacts in
       let rest = rests h.moves new settled (subst (λ p. Settles c p h.moves new) same h.settles) in
-      let told : outs ≡ reply (refused no_memory) ∷ [] = h.tells ∙ ap (λ a. reply a ∷ map move h.moves) wants ∙ ap (λ l. reply (refused no_memory) ∷ map move l) rest.0 in
-      (
+      let told : outs ≡ reply (refused no_memory) ∷ [] = h.tells ∙ ap (λ a. reply a ∷ map move h.moves) wants ∙ ap (λ l. reply (refused no_memory) ∷ map move l) rest.0 in (
         subst (λ p. Reacts c old event (refused no_memory) p) same reacts,
         ap (λ (x : Exchange). x.text) is ∙ ap (λ (l : List Out). flat_map out_text l) told,
         rest.1,
@@ -113,8 +112,7 @@ module _ (c : Setup) (old : Plant) where
       let rest : List ℕ = flat_map out_text (map move takes.moves) ++ s in
       let told : said.text ++ s ≡ out_text (reply takes.answer) ++ rest =
       ap (λ (x : Exchange). x.text ++ s) is ∙ ap (λ (l : List Out). flat_map out_text l ++ s) takes.tells
-      ∙ append_assoc (out_text (reply takes.answer)) (flat_map out_text (map move takes.moves)) s in
-      (
+      ∙ append_assoc (out_text (reply takes.answer)) (flat_map out_text (map move takes.moves)) s in (
         λ line. begins_other (out_text (reply takes.answer) ++ rest) wants_line more (no_line_want takes.answer rest) (sym told ∙ line),
         λ batch. elim (no_batch_want takes.answer rest) [
           | inl wants ↦ absurd (takes.has_memory wants)

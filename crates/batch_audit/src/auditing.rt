@@ -53,14 +53,26 @@ fn audit_lines(
     let mut rest = sent;
     while let Some(at) = line_feed(rest) {
         let line = &rest[..at];
-        if let Some(finding) =
-            audit_line(alloc, &mut engine, line, &mut places, &mut answer, &mut audited)?
-        {
+        if let Some(finding) = audit_line(
+            alloc,
+            &mut engine,
+            line,
+            &mut places,
+            &mut answer,
+            &mut audited,
+        )? {
             return Ok(finding);
         }
         rest = &rest[at + 1..];
     }
-    match audit_line(alloc, &mut engine, rest, &mut places, &mut answer, &mut audited)? {
+    match audit_line(
+        alloc,
+        &mut engine,
+        rest,
+        &mut places,
+        &mut answer,
+        &mut audited,
+    )? {
         Some(finding) => Ok(finding),
         None => Ok(audited.finish()),
     }
