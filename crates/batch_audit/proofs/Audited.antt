@@ -1,8 +1,8 @@
 -- How an audit goes on by a line that was sent, and what it finds.
-use Rattle.std.proofs.Common.{◌≡◌, ◌⊎◌, ℕ, ◌+◌, ◌-◌, ◌^◌, Bool, true, false, not, eqb, List, [], ◌∷◌, ◌++◌, Option, Some, None, Result, Ok, Err, length, min, take, drop, cond, refl, sym, ap, subst, ◌∙◌, append_assoc, append-nil, inl, inr, arith}
+use Rattle.std.proofs.Common.{◌≡◌, ◌⊎◌, ℕ, ◌+◌, ◌-◌, ◌^◌, Bool, true, false, not, eqb, List, [], ◌∷◌, ◌++◌, Option, Some, None, Result, Ok, Err, length, min, take, drop, cond, refl, sym, ap, subst, ◌∙◌, append_assoc, append-nil, codes, IfSome, inl, inr, arith}
 use Rattle.std.specs.Prelude.{◌≢◌}
 use Rattle.std.specs.List.{list_all}
-use Rattle.std.proofs.lemmas.List.{append_cancel_left, length-append}
+use Rattle.std.proofs.lemmas.List.{append_cancel_left, length-append, take_rest}
 use Rattle.std.proofs.lemmas.List.Sums.{list_all-from_AllPass}
 use Rattle.batch_model.specs.Events.{Event}
 use Rattle.batch_model.specs.Plant.{Setup, Plant, opening}
@@ -23,23 +23,23 @@ use Rattle.batch_audit.specs.Comparing as comparing
 use Rattle.batch_audit.specs.Comparing.{Compares, Finishes, Halts, IsCompared, IsEnd, IsNextLine, TakesLines}
 use Rattle.batch_audit.specs.declared.finding.Finding.{Finding}
 use Rattle.batch_audit.specs.declared.finding.Finding.TheVariants.{Agrees, Differs, EndsBefore}
-use Rattle.batch_audit.proofs.Choices.{free_answers, free_once, silent_once, well_once}
+use Rattle.batch_audit.proofs.Choices.{free_answers, free_once, silent_once, well_once, well_told}
 use Rattle.batch_audit.proofs.ComparingLemmas.{comments_tell, last_of, lines_apart, some_lines, takes_both, told_both, told_first, told_of}
 
 -- Transcripts
 
 -- whatever the lines say, each that gives an event may be refused for want of memory
 may_be_refused : (c : Setup) (plant : Plant) (says : Result (Option Event) WireFault) → (said : Exchange) × Answers c plant says said plant
-may_be_refused c plant (Ok None) = (silence, refl, refl)
-may_be_refused c plant (Err fault) = (refusal fault, refl, refl)
+may_be_refused c plant (Ok None) = (silence, (refl, refl))
+may_be_refused c plant (Err fault) = (refusal fault, (refl, refl))
 may_be_refused c plant (Ok (Some event)) = (refusal Memory, inl (refl, refl))
 
 some_transcript : (c : Setup) (plant : Plant) (lines : List (List ℕ)) → (said : Exchange) × Transcript c plant lines said plant
-some_transcript c plant [] = (silence, refl, refl)
+some_transcript c plant [] = (silence, (refl, refl))
 some_transcript c plant (line ∷ lines) =
     let others = some_transcript c plant lines in
     let first = may_be_refused c plant (event_of_line line) in
-    (followed_by first.0 others.0, first.0, others.0, plant, first.1, others.1, refl)
+    (followed_by first.0 others.0, (first.0, others.0, plant, first.1, others.1, refl))
 
 -- nothing was answered yet
 pub starts : (c : Setup) (all : List (List ℕ)) → Reaches c all all opening []
@@ -173,6 +173,42 @@ module _ (set : ClearedSet) (all : List (List ℕ)) (text : List ℕ) where
       subst (λ n. Finds set all text (EndsBefore n)) (sym (number_is lines count number takes.counted is))
       (ends lines rest (takes.read ∙ ap (λ l. lines ++ l) (last_of rest none)) begins more)
 
+-- The lines that were sent
+
+pub begins_audit : (set : ClearedSet) (all : List (List ℕ)) (text : List ℕ) (plant : Plant) (count : ℕ) (rest : List ℕ) → plant ≡ opening → count ≡ 0 → rest ≡ text
+    → TranscriptsAreSafe set → IsAudited set all all plant text count rest
+begins_audit set all text plant count rest new none is safe = record {
+  lines = [];
+  takes = record { read = ap lines_of (sym is); counted = omega (arith, none) };
+  reaches = subst (λ p. Reaches (setup set) all all p []) (sym new) (starts (setup set) all);
+  safe = safe;
+}
+
+module _ (set : ClearedSet) (all : List (List ℕ)) (plant : Plant) (text : List ℕ) (count : ℕ) (left rest : List ℕ) where
+  pub first_is_next : (at : ℕ) → EndsLine at rest → IsAudited set all (lines_of rest) plant text count left
+      → IsAudited set all (take at rest ∷ lines_of (take (length rest - (at + 1)) (drop (at + 1) rest))) plant text count left
+  first_is_next at here so_far =
+      subst (λ l. IsAudited set all l plant text count left) (lines_apart rest at here ∙ ap (λ l. take at rest ∷ lines_of l) (sym (take_rest rest (at + 1)))) so_far
+
+  pub last_is_next : HasNoFeed rest → IsAudited set all (lines_of rest) plant text count left → IsAudited set all (rest ∷ []) plant text count left
+  last_is_next none so_far = subst (λ l. IsAudited set all l plant text count left) (last_of rest none) so_far
+
+-- an audit goes on by the line that comes next, of an engine that keeps its set
+pub steps : (a set : ClearedSet) (all left : List (List ℕ)) (line : List ℕ) (plant new : Plant) (text : List ℕ) (count then_on : ℕ) (rest last : List ℕ) (given found : Option Finding)
+    → a ≡ set → given ≡ found → IsAudited set all (line ∷ left) plant text count rest
+    → ((lines more : List (List ℕ)) (t : List ℕ) → IsAudited a lines (line ∷ more) plant t count rest → IsAnswered a lines more new t then_on last given)
+    → IsAnswered set all left new text then_on last found
+steps a set all left line plant new text count then_on rest last given found same is so_far answers =
+    subst (λ f. IsAnswered set all left new text then_on last f) is
+    (subst (λ s. IsAnswered s all left new text then_on last given) same
+    (answers all left text (subst (λ s. IsAudited s all (line ∷ left) plant text count rest) (sym same) so_far)))
+
+-- all that was to be read was read
+pub finds_of_input : (set : ClearedSet) (unread : Option (List ℕ)) (read text : List ℕ) (finding : Finding) → IfSome unread (λ input. read ≡ input)
+    → Finds set (lines_of read) text finding → IfSome unread (λ input. Finds set (lines_of input) text finding)
+finds_of_input set None read text finding is f = tt
+finds_of_input set (Some input) read text finding is f = subst (λ l. Finds set (lines_of l) text finding) is f
+
 -- A line that was sent
 
 module _ (set : ClearedSet) (all left : List (List ℕ)) (line : List ℕ) (plant : Plant) (text : List ℕ) (count : ℕ) (rest : List ℕ)
@@ -285,8 +321,8 @@ module _ (set : ClearedSet) (all left : List (List ℕ)) (line : List ℕ) (plan
 
             begins : IsWholeLines left_due → left_due ++ s ≡ wrong ++ more → ⊥
             begins (inl none) rest = some none
-            begins (inr (front, ends)) rest =
-                let found = whole_line (take at last) left_due s more (fed_not (take at last) here.0.before) front ends (rest ∙ append_assoc (take at last) (10 ∷ []) more) in
+            begins (inr (front, fed)) rest =
+                let found = whole_line (take at last) left_due s more (fed_not (take at last) here.0.before) front fed (rest ∙ append_assoc (take at last) (10 ∷ []) more) in
                 other (record { rest = found.0; splits = found.1 ∙ sym (append_assoc (take at last) (10 ∷ []) found.0) })
 
         none_begins : (lines : List (List ℕ)) → lines_of between ≡ lines ++ lines_of last → said.text ≡ told_text lines ++ left_due
@@ -407,3 +443,19 @@ module _ (set : ClearedSet) (all : List (List ℕ)) (plant : Plant) (text : List
           differs_so set all text (so_far.lines ++ a.lines) then_on number at last (takes then_on last a) here.0 is (begins then_on last a) (no_more at then_on last a here.1)
       by _ then_on last a (comparing.part number none some is) =
           ends_so set all text (so_far.lines ++ a.lines) then_on number last (takes then_on last a) none is (begins then_on last a) (inl some)
+
+-- What comes of a line
+
+module _ (set : ClearedSet) (all left : List (List ℕ)) (line : List ℕ) (plant : Plant) (text : List ℕ) (count : ℕ) (rest : List ℕ)
+    (so_far : IsAudited set all (line ∷ left) plant text count rest) (mid then_on : ℕ) (between last : List ℕ) (comments : IsCompared count rest [] mid between []) where
+  pub goes_over : (at : ℕ) → IsPassedOver (setup set) plant (event_of_line line) between (Some at) → TakesLines mid between (take at between ∷ []) then_on last
+      → IsAudited set all left plant text then_on last
+  goes_over at over takes = passes_over set all left line plant text count rest so_far mid then_on at between last comments over.0.0 over.1 over.0.1 takes
+
+  pub goes_by : (new : Plant) (due : List ℕ) (found : Option Finding) → IsPassedOver (setup set) plant (event_of_line line) between None
+      → ((more : List ℕ) → (due ≢ codes "refused W6\n" ++ more) × (due ≢ codes "refused E11\n" ++ more))
+      → (said : Exchange) × Answers (setup set) plant (event_of_line line) said new × (due ≡ said.text)
+      → Compares mid between due then_on last found → IsAnswered set all left new text then_on last found
+  goes_by new due found (next, not_free) other (said, answers, is) compares =
+      let well = well_told (setup set) plant (event_of_line line) said new (λ more. subst (λ l. (l ≢ codes "refused W6\n" ++ more) × (l ≢ codes "refused E11\n" ++ more)) is (other more)) answers in
+      answered set all left line plant text count rest so_far mid then_on between last due new comments said next not_free answers well is found compares

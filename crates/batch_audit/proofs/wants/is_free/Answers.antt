@@ -2,7 +2,7 @@ use Rattle.std.proofs.Common.{sym}
 use Rattle.batch_engine.specs.Surface.{event_of}
 use Rattle.batch_engine.specs.View.{plant_of, setup}
 use Rattle.batch_wire.specs.EventLine.{event_of_line}
-use Rattle.batch_audit.proofs.Freedom.{if_wanted, no_event, no_want, no_words}
+use Rattle.batch_audit.proofs.Freedom.{no_want}
 use Rattle.batch_audit.proofs.wants.is_free.Goals as goal
 
 pub returns-in_default : goal.returns-in_default

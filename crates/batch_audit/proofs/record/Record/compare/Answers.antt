@@ -1,4 +1,4 @@
-use Rattle.std.proofs.Common.{sym, ◌∙◌}
+use Rattle.std.proofs.Common.{sym}
 use Rattle.batch_audit.specs.Comparing.{IsCompared, all_told, differs, ends}
 use Rattle.batch_audit.proofs.ComparingLemmas.{behind_shorter, comments_compared, compared_both, line_compared, nothing_compared, nothing_left, something_left}
 use Rattle.batch_audit.proofs.record.Record.compare.Goals as goal
@@ -24,20 +24,20 @@ pub returns-in_default : goal.returns-in_default
 returns-in_default c = record {
   left = c.loop-left.left.now;
   compared = passed (goal.at.returns-in_default c).After-next_line;
-  halts = ends _ c.in_default.ensures.next (something_left c.loop-left.left.now (sym c.is_empty.ensures ∙ c.if-not-is_empty.false)) c.next_number.ensures;
+  halts = ends _ c.in_default.ensures.next (something_left c.loop-left.left.now (sym c.loop-left-test.ensures)) c.next_number.ensures;
 }
 
 pub returns-in_default-left_behind : goal.returns-in_default-left_behind
 returns-in_default-left_behind c = record {
   left = c.loop-left.left.now;
   compared = passed (goal.at.returns-in_default-left_behind c).After-next_line;
-  halts = differs _ c.in-Some.at c.in-Some.ensures.next (something_left c.loop-left.left.now (sym c.is_empty.ensures ∙ c.if-not-is_empty.false)) c.in_default-left_behind.ensures
-      c.next_number.ensures;
+  halts = differs _ c.in-Some.at c.in-Some.ensures.next (something_left c.loop-left.left.now (sym c.loop-left-test.ensures)) c.in_default-left_behind.ensures
+      c.next_number-in_default-left_behind.ensures;
 }
 
 pub returns : goal.returns
 returns c = record {
   left = c.loop-left.left.now;
   compared = c.loop-left.invariant;
-  halts = all_told (nothing_left c.loop-left.left.now (sym c.is_empty.ensures ∙ c.if-not-is_empty.true));
+  halts = all_told (nothing_left c.loop-left.left.now (sym c.loop-left-test.ensures));
 }
