@@ -47,7 +47,7 @@ pub(crate) fn engine_of(alloc: Global, cell: &str, recipes: &[&str]) -> Result<E
 }
 
 /// The event of a line.
-fn event_of(alloc: Global, line: &str) -> Result<Event, Fail> {
+pub(crate) fn event_of(alloc: Global, line: &str) -> Result<Event, Fail> {
     let event = read_event(alloc, line.as_bytes())?;
     Ok(event.ok_or("no event")?)
 }
