@@ -1,5 +1,5 @@
 -- How an audit goes on by a line that was sent, and what it finds.
-use Rattle.std.proofs.Common.{◌≡◌, ◌⊎◌, ℕ, ◌+◌, ◌-◌, ◌^◌, Bool, true, false, not, eqb, List, [], ◌∷◌, ◌++◌, Option, Some, None, Result, Ok, Err, length, min, take, drop, cond, refl, sym, ap, subst, ◌∙◌, append_assoc, append-nil, codes, IfSome, inl, inr, arith}
+use Rattle.std.proofs.Common.{◌≡◌, ◌⊎◌, ℕ, ◌+◌, ◌-◌, ◌^◌, true, false, not, List, [], ◌∷◌, ◌++◌, Option, Some, None, Result, Ok, Err, length, min, take, drop, refl, sym, ap, subst, ◌∙◌, append_assoc, append-nil, codes, IfSome, inl, inr, arith}
 use Rattle.std.specs.Prelude.{◌≢◌}
 use Rattle.std.specs.List.{list_all}
 use Rattle.std.proofs.lemmas.List.{append_cancel_left, length-append, take_rest}
@@ -17,12 +17,12 @@ use Rattle.batch_serve.specs.Safe.{TranscriptsAreSafe}
 use Rattle.batch_serve.specs.Serving.{EndsLine, HasNoFeed}
 use Rattle.batch_serve.proofs.Replays.{is_other, whole_line, whole_then}
 use Rattle.batch_serve.proofs.Wholes.{answers_whole}
-use Rattle.batch_audit.specs.Auditing.{GoesOn, IsAnswered, IsAudited, IsFree, IsNotFree, IsPassedOver, Reaches}
+use Rattle.batch_audit.specs.Auditing.{IsAnswered, IsAudited, IsFree, IsNotFree, IsPassedOver, Reaches}
 use Rattle.batch_audit.specs.Audits.{BeginsNoRecord, BeginsRecordOf, Finds, IsRecordOfNone, agrees, differs, ends, number_behind, told_line, told_text}
 use Rattle.batch_audit.specs.Comparing as comparing
 use Rattle.batch_audit.specs.Comparing.{Compares, Finishes, Halts, IsCompared, IsEnd, IsNextLine, TakesLines}
 use Rattle.batch_audit.specs.declared.finding.Finding.{Finding}
-use Rattle.batch_audit.specs.declared.finding.Finding.TheVariants.{Agrees, Differs, EndsBefore}
+use Rattle.batch_audit.specs.declared.finding.Finding.TheVariants.{Differs, EndsBefore}
 use Rattle.batch_audit.proofs.Choices.{free_answers, free_once, silent_once, well_once, well_told}
 use Rattle.batch_audit.proofs.ComparingLemmas.{comments_tell, last_of, lines_apart, some_lines, takes_both, told_both, told_first, told_of}
 

@@ -8,7 +8,7 @@ use Rattle.std.proofs.lemmas.Bool.Decides.{Decides-eqb}
 use Rattle.std.proofs.lemmas.Slice.Eq.{starts_is}
 use Rattle.batch_machine.proofs.Refusing.{refusal-just}
 use Rattle.batch_model.specs.Events.{Event, Reply, refused, no_memory}
-use Rattle.batch_model.specs.Moves.{Move, after, next}
+use Rattle.batch_model.specs.Moves.{Move, next}
 use Rattle.batch_model.specs.Plant.{Setup, Plant}
 use Rattle.batch_model.specs.Runs.{Out, reply, move, Reacts}
 use Rattle.batch_recipe.specs.Texts.{line_text}

@@ -1,5 +1,5 @@
 -- private: how far an audit has come, and which refusals for want of memory a record may have.
-use Rattle.std.specs.Prelude.{◌≡◌, ◌⊎◌, ℕ, List, [], ◌∷◌, ◌++◌, Option, Some, None, Result, Ok, Err, codes, take, ⊤}
+use Rattle.std.specs.Prelude.{◌≡◌, ◌⊎◌, ℕ, List, ◌++◌, Option, Some, None, Result, Ok, codes, take, ⊤}
 use Rattle.batch_model.specs.Events.{Event, refused, no_memory}
 use Rattle.batch_model.specs.Plant.{Setup, Plant, opening}
 use Rattle.batch_model.specs.Runs.{Reacts}

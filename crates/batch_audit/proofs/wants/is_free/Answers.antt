@@ -1,5 +1,3 @@
-use Rattle.std.proofs.Common.{sym}
-use Rattle.batch_engine.specs.Surface.{event_of}
 use Rattle.batch_engine.specs.View.{plant_of, setup}
 use Rattle.batch_wire.specs.EventLine.{event_of_line}
 use Rattle.batch_audit.proofs.Freedom.{no_want}

@@ -1,6 +1,6 @@
 use Rattle.std.proofs.Common.{sym}
 use Rattle.batch_audit.specs.Comparing.{IsCompared, all_told, differs, ends}
-use Rattle.batch_audit.proofs.ComparingLemmas.{behind_shorter, comments_compared, compared_both, line_compared, nothing_compared, nothing_left, something_left}
+use Rattle.batch_audit.proofs.ComparingLemmas.{comments_compared, compared_both, line_compared, nothing_compared, nothing_left, something_left}
 use Rattle.batch_audit.proofs.record.Record.compare.Goals as goal
 use Rattle.batch_audit.proofs.record.Record.compare.Goals.{After-next_line}
 

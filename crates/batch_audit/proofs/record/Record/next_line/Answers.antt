@@ -1,4 +1,4 @@
-use Rattle.std.proofs.Common.{true, sym, ◌∙◌}
+use Rattle.std.proofs.Common.{sym, ◌∙◌}
 use Rattle.batch_audit.proofs.ComparingLemmas.{comment_compared}
 use Rattle.batch_audit.proofs.record.Record.next_line.Goals as goal
 
