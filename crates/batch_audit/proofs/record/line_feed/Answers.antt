@@ -5,7 +5,7 @@ use Rattle.std.proofs.lemmas.List.{get_or-take, length-take}
 use Rattle.std.proofs.lemmas.List.Elements.{All-from_get_or}
 use Rattle.memchr.specs.Find.{IsFirstByte, is_byte}
 use Rattle.batch_serve.specs.Serving.{EndsLine, HasNoFeed}
-use Rattle.batch_audit.proofs.comparing.line_feed.Goals as goal
+use Rattle.batch_audit.proofs.record.line_feed.Goals as goal
 
 feed-at : (bytes : List ℕ) (o : Option ℕ) → IsFirstByte (is_byte 10) bytes o → MatchOption o (HasNoFeed bytes) (λ at. EndsLine at bytes)
 feed-at bytes None first = All-from_get_or (λ b. eqb b 10 ≡ false) bytes 0 (λ i l. false_from_ne_true (eqb (get_or bytes i 0) 10) (first i (omega arith) l))
