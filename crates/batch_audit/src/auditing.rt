@@ -1,5 +1,6 @@
 //! Auditing a record.
 ghost use Rattle.std.specs.Prelude.{◌≡◌, ◌∷◌, [], IfOk, IfSome, List, ℕ};
+ghost use Rattle.batch_model.specs.Plant.{opening};
 ghost use Rattle.batch_engine.specs.View.{plant_of, setup};
 ghost use Rattle.batch_wire.specs.EventLine.{event_of_line};
 ghost use Rattle.batch_wire.specs.Known.{AreKnown};
@@ -43,9 +44,22 @@ fn audit_lines(
 ) -> Result<Finding, AuditFault>
     ensures { IfOk result (Finds cleared (lines_of sent.now) text.now) }
 {
-    let Ok(mut engine) = Engine::new(alloc, cleared) else {
-        return Err(AuditFault::Memory);
-    };
+    match Engine::new(alloc, cleared) {
+        Ok(mut engine) => audit_each(alloc, &mut engine, sent, text),
+        Err(_) => Err(AuditFault::Memory),
+    }
+}
+
+/// The same by an engine to which nothing was given yet.
+fn audit_each(
+    alloc: Global,
+    engine: &mut Engine,
+    sent: &[u8],
+    text: &[u8],
+) -> Result<Finding, AuditFault>
+    requires { plant_of engine.old ≡ opening }
+    ensures { IfOk result (Finds engine.old.cleared (lines_of sent.now) text.now) }
+{
     transcripts_are_safe(engine.cleared());
     let mut places = KnownPlaces::new();
     let mut answer = Vec::new(alloc);
@@ -55,7 +69,7 @@ fn audit_lines(
         let line = &rest[..at];
         if let Some(finding) = audit_line(
             alloc,
-            &mut engine,
+            engine,
             line,
             &mut places,
             &mut answer,
@@ -65,14 +79,7 @@ fn audit_lines(
         }
         rest = &rest[at + 1..];
     }
-    match audit_line(
-        alloc,
-        &mut engine,
-        rest,
-        &mut places,
-        &mut answer,
-        &mut audited,
-    )? {
+    match audit_line(alloc, engine, rest, &mut places, &mut answer, &mut audited)? {
         Some(finding) => Ok(finding),
         None => Ok(audited.finish()),
     }

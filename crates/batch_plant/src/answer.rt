@@ -2,7 +2,7 @@
 use batch_matrix::Report;
 
 /// What a unit answered to a tick: a report of one of its phases, by number.
-#[derive(Clone, Copy, Debug)]
+#[derive(Clone, Copy)]
 pub(crate) struct Answer {
     pub(crate) unit: u16,
     pub(crate) phase: u16,
