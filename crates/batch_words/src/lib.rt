@@ -1,10 +1,12 @@
 //! The words of the program's command line, and the command that they name.
 #![tactic(auto)]
 
+mod argument;
 mod command;
 mod comments;
 mod line;
 mod plant_options;
+mod table;
 mod words;
 
 pub use command::{AuditWords, CommandFault, CommandWords, Judgement, Source, Subcommand};

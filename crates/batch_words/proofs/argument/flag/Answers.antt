@@ -1,5 +1,5 @@
 use Rattle.batch_words.proofs.Arguments.{with_action, with_help, with_long}
-use Rattle.batch_words.proofs.line.flag.Goals as goal
+use Rattle.batch_words.proofs.argument.flag.Goals as goal
 
 pub returns-clause-rule : goal.returns-clause-rule
 returns-clause-rule c =
