@@ -2,10 +2,10 @@
 use crate::names::{act_name, recipe_name, resource_name};
 use crate::roles::{class_of, unit_of};
 use crate::sources::Source;
-use crate::ways::{Way, way_to};
+use crate::ways::node_above;
 use batch_cell::Cell;
 use batch_check::{Edge, rise_without};
-use batch_recipe::{Act, Recipe, UnitChoice};
+use batch_recipe::{Act, MAX_NODES, Recipe, UnitChoice, act_at};
 use batch_text::Name;
 use std::alloc::{AllocError, Global};
 
@@ -23,12 +23,11 @@ pub(crate) fn holder_said(
     let Some(recipe) = recipes.get(usize::from(edge.recipe)) else {
         return Ok(String::new(alloc));
     };
-    let way = way_to(alloc, recipe, edge.node)?;
-    let held = resource_name(cell, edge.earlier);
-    match holder_on(cell, recipe, &way, held) {
-        Some((act, node)) if node != edge.node => {
+    match holder_of(cell, recipe, edge) {
+        Some(node) if node != edge.node => {
+            let name = act_name(recipes, edge.recipe, node);
             let place = file_said(alloc, recipe, sources, edge.recipe, node, true)?;
-            format!(in alloc; " in {}{place}", act.name)
+            format!(in alloc; " in {name}{place}")
         }
         _ => Ok(String::new(alloc)),
     }
@@ -45,28 +44,36 @@ pub(crate) fn asker_said(
     let Some(recipe) = recipes.get(usize::from(edge.recipe)) else {
         return Ok(String::new(alloc));
     };
-    let way = way_to(alloc, recipe, edge.node)?;
-    let held = resource_name(cell, edge.earlier);
-    let has_file = match holder_on(cell, recipe, &way, held) {
-        Some((_, node)) => node == edge.node,
+    let has_file = match holder_of(cell, recipe, edge) {
+        Some(node) => node == edge.node,
         None => true,
     };
     file_said(alloc, recipe, sources, edge.recipe, edge.node, has_file)
 }
 
-/// The first act on the way that asks for the resource of this name, and the number of its node.
-fn holder_on<'a>(
-    cell: &Cell,
-    recipe: &Recipe,
-    way: &Way<'a>,
-    resource: &str,
-) -> Option<(&'a Act, u16)> {
-    for (act, node) in way.acts.iter().zip(&way.nodes) {
-        if asks_for(cell, recipe, act, resource) {
-            return Some((*act, *node));
+/// The node of the first act on the way to the edge's node that asks for what is held.
+fn holder_of(cell: &Cell, recipe: &Recipe, edge: Edge) -> Option<u16> {
+    let held = resource_name(cell, edge.earlier);
+    let mut found = None;
+    let mut at = Some(edge.node);
+    for _ in 0..MAX_NODES {
+        let Some(node) = at else {
+            break;
+        };
+        if asks_at(cell, recipe, node, held) {
+            found = Some(node);
         }
+        at = node_above(recipe, node);
     }
-    None
+    found
+}
+
+/// Whether the node is of an act that asks for the resource of this name.
+fn asks_at(cell: &Cell, recipe: &Recipe, node: u16, resource: &str) -> bool {
+    match act_at(recipe, node) {
+        Some(act) => asks_for(cell, recipe, act, resource),
+        None => false,
+    }
 }
 
 /// Whether the act asks for the resource of this name, where some unit takes its role.

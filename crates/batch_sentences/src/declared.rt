@@ -20,10 +20,28 @@ const DECLARING: [&str; 7] = [
 
 const VALUES: [&str; 3] = ["input", "parameter", "output"];
 
+/// The list that the table has under this key, as are a document's tables of a word; an empty one where it has none.
+pub(crate) fn list_at<'a>(table: &'a Table, key: &str) -> &'a [Value] {
+    match table.get(key) {
+        Some(Value::Array(values)) => values,
+        _ => &[],
+    }
+}
+
+/// The text that the table has under this key.
+pub(crate) fn text_at<'a>(table: &'a Table, key: &str) -> Option<&'a str> {
+    table.get(key)?.as_str()
+}
+
+/// The name of the table.
+fn name_in(table: &Value) -> Option<&str> {
+    table.get("name")?.as_str()
+}
+
 /// The word of the first tables of a recipe of which one has this name.
 pub(crate) fn word_declaring(document: &Table, name: &str) -> Option<&'static str> {
     for word in DECLARING {
-        if times_among(document, word, name) > 0 {
+        if is_among(document, word, name) {
             return Some(word);
         }
     }
@@ -33,36 +51,30 @@ pub(crate) fn word_declaring(document: &Table, name: &str) -> Option<&'static st
 /// The first table of these kinds with this name.
 pub(crate) fn first_named(document: &Table, kinds: &[TableKind], name: &str) -> Option<Spot> {
     for kind in kinds {
-        let word = word_of(*kind).unwrap_or("");
-        if let Some(tables) = document.get(word).and_then(Value::as_array) {
-            for (entry, table) in tables.iter().enumerate() {
-                if table.get("name").and_then(Value::as_str) == Some(name) {
-                    return Some(Spot { kind: *kind, entry });
-                }
+        let tables = list_at(document, word_of(*kind).unwrap_or(""));
+        for (entry, table) in tables.iter().enumerate() {
+            if name_in(table) == Some(name) {
+                return Some(Spot { kind: *kind, entry });
             }
         }
     }
     None
 }
 
-/// How many tables of the word have this name.
-pub(crate) fn times_among(document: &Table, word: &str, name: &str) -> usize {
-    let Some(tables) = document.get(word).and_then(Value::as_array) else {
-        return 0;
-    };
-    let mut times: usize = 0;
-    for table in tables {
-        if table.get("name").and_then(Value::as_str) == Some(name) {
-            times = times.saturating_add(1);
+/// Whether a table of the word has this name.
+fn is_among(document: &Table, word: &str, name: &str) -> bool {
+    for table in list_at(document, word) {
+        if name_in(table) == Some(name) {
+            return true;
         }
     }
-    times
+    false
 }
 
 /// The role that the table names, where the document doesn't declare it.
 pub(crate) fn undeclared_role<'a>(document: &Table, table: &'a Table) -> Option<&'a str> {
-    let role = table.get("role")?.as_str()?;
-    if times_among(document, "role", role) > 0 {
+    let role = text_at(table, "role")?;
+    if is_among(document, "role", role) {
         None
     } else {
         Some(role)
@@ -76,10 +88,9 @@ pub(crate) fn undeclared_listed<'a>(
     key: &str,
     word: &str,
 ) -> Option<&'a str> {
-    let listed = table.get(key)?.as_array()?;
-    for value in listed {
+    for value in list_at(table, key) {
         if let Some(name) = value.as_str() {
-            if times_among(document, word, name) == 0 {
+            if !is_among(document, word, name) {
                 return Some(name);
             }
         }
@@ -94,11 +105,9 @@ pub(crate) fn names_among<'a>(
     word: &str,
 ) -> Result<Vec<&'a str>, AllocError> {
     let mut names = Vec::new(alloc);
-    if let Some(tables) = document.get(word).and_then(Value::as_array) {
-        for table in tables {
-            if let Some(name) = table.get("name").and_then(Value::as_str) {
-                names.push(name)?;
-            }
+    for table in list_at(document, word) {
+        if let Some(name) = name_in(table) {
+            names.push(name)?;
         }
     }
     Ok(names)
@@ -108,8 +117,10 @@ pub(crate) fn names_among<'a>(
 pub(crate) fn value_names(alloc: Global, document: &Table) -> Result<Vec<&str>, AllocError> {
     let mut names = Vec::new(alloc);
     for word in VALUES {
-        for name in names_among(alloc, document, word)? {
-            names.push(name)?;
+        for table in list_at(document, word) {
+            if let Some(name) = name_in(table) {
+                names.push(name)?;
+            }
         }
     }
     Ok(names)
@@ -117,24 +128,22 @@ pub(crate) fn value_names(alloc: Global, document: &Table) -> Result<Vec<&str>, 
 
 /// The first text of the table's list under this key that stands there twice.
 pub(crate) fn listed_twice<'a>(table: &'a Table, key: &str) -> Option<&'a str> {
-    for value in table.get(key)?.as_array()? {
-        if let Some(name) = value.as_str() {
-            if times_listed(table, key, name) > 1 {
-                return Some(name);
+    let values = list_at(table, key);
+    for value in values {
+        if let Some(text) = value.as_str() {
+            if times_in(values, text) > 1 {
+                return Some(text);
             }
         }
     }
     None
 }
 
-/// How often the name stands in the table's list under this key.
-fn times_listed(table: &Table, key: &str, name: &str) -> usize {
-    let Some(values) = table.get(key).and_then(Value::as_array) else {
-        return 0;
-    };
+/// How often the text stands in the list.
+fn times_in(values: &[Value], text: &str) -> usize {
     let mut times: usize = 0;
     for value in values {
-        if value.as_str() == Some(name) {
+        if value.as_str() == Some(text) {
             times = times.saturating_add(1);
         }
     }
@@ -147,10 +156,10 @@ pub(crate) fn offered_before<'a>(
     unit: &str,
     module: &'a Table,
 ) -> Option<(&'a str, &'a str)> {
-    for value in module.get("phases")?.as_array()? {
+    for value in list_at(module, "phases") {
         if let Some(phase) = value.as_str() {
             if let Some(other) = module_offering(document, unit, phase) {
-                if Some(other) != module.get("name").and_then(Value::as_str) {
+                if Some(other) != text_at(module, "name") {
                     return Some((phase, other));
                 }
             }
@@ -161,11 +170,11 @@ pub(crate) fn offered_before<'a>(
 
 /// The name of the first module of the unit that offers the phase.
 fn module_offering<'a>(document: &'a Table, unit: &str, phase: &str) -> Option<&'a str> {
-    for module in document.get("module")?.as_array()? {
+    for module in list_at(document, "module") {
         if let Some(module) = module.as_table() {
-            let is_own = module.get("unit").and_then(Value::as_str) == Some(unit);
-            if is_own && times_listed(module, "phases", phase) > 0 {
-                return module.get("name").and_then(Value::as_str);
+            let is_own = text_at(module, "unit") == Some(unit);
+            if is_own && times_in(list_at(module, "phases"), phase) > 0 {
+                return text_at(module, "name");
             }
         }
     }
@@ -204,12 +213,13 @@ pub(crate) fn undeclared_name<'a>(
 
 /// The first of the table's values that isn't declared.
 fn undeclared_value<'a>(document: &Table, table: &'a Table) -> Option<Reference<'a>> {
-    let values = table.get("values")?.as_array()?;
-    for value in values {
+    for value in list_at(table, "values") {
         if let Some(name) = value.as_str() {
-            let is_value = true;
-            if !is_declared(document, "", Reference { name, is_value }) {
-                return Some(Reference { name, is_value });
+            if !is_value(document, name) {
+                return Some(Reference {
+                    name,
+                    is_value: true,
+                });
             }
         }
     }
@@ -218,24 +228,30 @@ fn undeclared_value<'a>(document: &Table, table: &'a Table) -> Option<Reference<
 
 /// The first name of the table's chart that is no value in a condition, or else names no table of the word below.
 fn undeclared_part<'a>(document: &Table, table: &'a Table, below: &str) -> Option<Reference<'a>> {
-    let chart = table.get("chart")?.as_str()?;
+    let chart = text_at(table, "chart")?;
     let mut rest = chart;
     for _ in 0..chart.len() {
-        let begin = rest.find(is_of_words)?;
-        let front = rest.get(..begin)?;
-        let tail = rest.get(begin..)?;
-        let name = tail.trim_start_matches(is_of_words);
-        let word = tail.get(..tail.len().checked_sub(name.len())?)?;
+        let (before, name, behind) = word_in(rest)?;
         let reference = Reference {
-            name: word,
-            is_value: is_compared(front, name),
+            name,
+            is_value: is_compared(before, behind),
         };
-        if is_reference(word) && !is_declared(document, below, reference) {
+        if is_reference(name) && !is_declared(document, below, reference) {
             return Some(reference);
         }
-        rest = name;
+        rest = behind;
     }
     None
+}
+
+/// The first word of the text, with what stands before it and behind it.
+fn word_in(text: &str) -> Option<(&str, &str, &str)> {
+    let begin = text.find(is_of_words)?;
+    let before = text.get(..begin)?;
+    let tail = text.get(begin..)?;
+    let behind = tail.trim_start_matches(is_of_words);
+    let word = tail.get(..tail.len().checked_sub(behind.len())?)?;
+    Some((before, word, behind))
 }
 
 /// Whether an operator ends what stands before a word of a chart, or begins what stands behind it.
@@ -258,13 +274,13 @@ fn is_declared(document: &Table, below: &str, reference: Reference<'_>) -> bool 
     if reference.is_value {
         is_value(document, reference.name)
     } else {
-        times_among(document, below, reference.name) > 0
+        is_among(document, below, reference.name)
     }
 }
 
 fn is_value(document: &Table, name: &str) -> bool {
     for word in VALUES {
-        if times_among(document, word, name) > 0 {
+        if is_among(document, word, name) {
             return true;
         }
     }

@@ -1,5 +1,6 @@
 //! What is wrong with a table of a document.
 use crate::charts::{no_chart_said, number_said};
+use crate::declared::text_at;
 use crate::fits::{Fit, given_said, shape_said, suit};
 use crate::keys::{Key, keys_of, kind_said, kinds_beside, most_of, word_of};
 use crate::lines::line_of;
@@ -133,17 +134,7 @@ fn unknown<'a>(
     kind: TableKind,
 ) -> Result<Wrong<'a>, AllocError> {
     match unknown_key(keys, table) {
-        Some(name) => {
-            let known = names_said(alloc, keys)?;
-            let meant = meant_key(alloc, keys, name)?;
-            let others = others_said(alloc, kind, name)?;
-            Wrong::with(
-                name,
-                format!(in alloc;
-                    "the key `{name}` is unknown here; known are {known}{others}{meant}"
-                ),
-            )
-        }
+        Some(name) => Wrong::with(name, unknown_said(alloc, keys, name, kind)),
         // Some keys of these two kinds suit one another badly.
         None => match kind {
             TableKind::UnitProcedure => Wrong::told(
@@ -156,13 +147,27 @@ fn unknown<'a>(
     }
 }
 
-/// The key that may have been meant.
-fn meant_key(alloc: Global, keys: &[Key], written: &str) -> Result<String, AllocError> {
+/// That the key is unknown, which keys are known, and which of them may have been meant.
+fn unknown_said(
+    alloc: Global,
+    keys: &[Key],
+    name: &str,
+    kind: TableKind,
+) -> Result<String, AllocError> {
+    let names = names_of(alloc, keys)?;
+    let known = names.join(alloc, ", ")?;
+    let others = others_said(alloc, kind, name)?;
+    let meant = meant_said(alloc, name, &names)?;
+    format!(in alloc; "the key `{name}` is unknown here; known are {known}{others}{meant}")
+}
+
+/// The names of the keys.
+fn names_of(alloc: Global, keys: &[Key]) -> Result<Vec<&'static str>, AllocError> {
     let mut names = Vec::new(alloc);
     for key in keys {
         names.push(key.0)?;
     }
-    meant_said(alloc, written, &names)
+    Ok(names)
 }
 
 /// Which other tables of such a document have the key, if any.
@@ -201,18 +206,6 @@ fn is_known(keys: &[Key], name: &str) -> bool {
     false
 }
 
-/// The names of the keys.
-fn names_said(alloc: Global, keys: &[Key]) -> Result<String, AllocError> {
-    let mut names = String::new(alloc);
-    for key in keys {
-        if !names.is_empty() {
-            names.push_str(", ")?;
-        }
-        names.push_str(key.0)?;
-    }
-    Ok(names)
-}
-
 fn wrong_kind(
     alloc: Global,
     keys: &[Key],
@@ -234,7 +227,7 @@ fn wrong_kind(
             ),
         );
     }
-    match name_of(table) {
+    match text_at(table, "name") {
         Some(name) if is_chart_word(name.as_bytes()) => Wrong::with(
             "name",
             format!(in alloc; "the name `{name}` is a word of charts, which names nothing else"),
@@ -327,7 +320,7 @@ fn chart_out_of_limit(
     line: Option<usize>,
     table: &Table,
 ) -> Result<Wrong<'static>, AllocError> {
-    if let Some(chart) = chart_of(table) {
+    if let Some(chart) = text_at(table, "chart") {
         if let Some(said) = number_said(alloc, text, line, chart)? {
             return Wrong::with("chart", Ok(said));
         }
@@ -348,16 +341,8 @@ fn no_chart(
     byte: usize,
     kind: TableKind,
 ) -> Result<Wrong<'static>, AllocError> {
-    let chart = chart_of(table).unwrap_or("");
+    let chart = text_at(table, "chart").unwrap_or("");
     Wrong::with("chart", no_chart_said(alloc, text, line, chart, byte, kind))
-}
-
-fn chart_of(table: &Table) -> Option<&str> {
-    table.get("chart")?.as_str()
-}
-
-pub(crate) fn name_of(table: &Table) -> Option<&str> {
-    table.get("name")?.as_str()
 }
 
 /// The first of the keys whose value suits it so.

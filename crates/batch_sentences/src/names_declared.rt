@@ -1,16 +1,16 @@
 //! What is wrong with the names that a table declares or uses.
 use crate::declared::{
-    Reference, first_named, listed_twice, names_among, offered_before, times_among,
-    undeclared_listed, undeclared_name, undeclared_role, value_names, word_below, word_declaring,
+    Reference, first_named, listed_twice, names_among, offered_before, text_at, undeclared_listed,
+    undeclared_name, undeclared_role, value_names, word_below, word_declaring,
 };
 use crate::documents::table_said;
-use crate::entries::{Wrong, name_of, tables_of};
+use crate::entries::{Wrong, tables_of};
 use crate::keys::namesakes_of;
 use crate::lines::line_of;
 use crate::near::meant_or_known;
 use batch_reader::{Spot, TableKind};
 use std::alloc::{AllocError, Global};
-use toml::{Table, Value};
+use toml::Table;
 
 /// Which name of the table is declared nowhere.
 pub(crate) fn undeclared(
@@ -20,7 +20,7 @@ pub(crate) fn undeclared(
     kind: TableKind,
 ) -> Result<Wrong<'static>, AllocError> {
     if kind == TableKind::Module {
-        let unit = table.get("unit").and_then(Value::as_str).unwrap_or("");
+        let unit = text_at(table, "unit").unwrap_or("");
         return Wrong::with("unit", undeclared_said(alloc, document, "unit", unit));
     }
     let key = match kind {
@@ -52,12 +52,15 @@ fn undeclared_said(
     word: &str,
     name: &str,
 ) -> Result<String, AllocError> {
-    if let Some(other) = word_declaring(document, name) {
-        return format!(in alloc; "no [[{word}]] is named `{name}`, which is a [[{other}]]");
+    match word_declaring(document, name) {
+        Some(other) => {
+            format!(in alloc; "no [[{word}]] is named `{name}`, which is a [[{other}]]")
+        }
+        None => {
+            let meant = meant_or_known(alloc, name, names_among(alloc, document, word))?;
+            format!(in alloc; "no [[{word}]] is named `{name}`{meant}")
+        }
     }
-    let names = names_among(alloc, document, word)?;
-    let meant = meant_or_known(alloc, name, &names)?;
-    format!(in alloc; "no [[{word}]] is named `{name}`{meant}")
 }
 
 /// That no role has the name, and where a unit is named, unless a role may have been meant.
@@ -77,25 +80,48 @@ fn reference_said(
     reference: Reference<'_>,
 ) -> Result<String, AllocError> {
     let name = reference.name;
-    if let Some(word) = word_declaring(document, name) {
-        return match word_below(kind) {
-            Some(below) if !reference.is_value => format!(in alloc;
-                "`{name}` is a [[{word}]], and a label of this chart names a [[{below}]]"
-            ),
-            Some(_) => format!(in alloc;
-                "`{name}` is a [[{word}]], and a condition compares values: an [[input]], a [[parameter]] or an [[output]]"
-            ),
-            None => format!(in alloc;
-                "`{name}` is a [[{word}]], and `values` are of the kinds [[input]], [[parameter]] and [[output]]"
-            ),
-        };
+    match word_declaring(document, name) {
+        Some(word) => misnamed_said(alloc, kind, reference, word),
+        None => {
+            let names = names_for(alloc, document, kind, reference);
+            let meant = meant_or_known(alloc, name, names)?;
+            format!(in alloc; "`{name}` is declared nowhere{meant}")
+        }
     }
-    let names = match word_below(kind) {
-        Some(below) if !reference.is_value => names_among(alloc, document, below)?,
-        _ => value_names(alloc, document)?,
-    };
-    let meant = meant_or_known(alloc, name, &names)?;
-    format!(in alloc; "`{name}` is declared nowhere{meant}")
+}
+
+/// That the name is that of a table of this word, which it isn't to be.
+fn misnamed_said(
+    alloc: Global,
+    kind: TableKind,
+    reference: Reference<'_>,
+    word: &str,
+) -> Result<String, AllocError> {
+    let name = reference.name;
+    match word_below(kind) {
+        Some(below) if !reference.is_value => format!(in alloc;
+            "`{name}` is a [[{word}]], and a label of this chart names a [[{below}]]"
+        ),
+        Some(_) => format!(in alloc;
+            "`{name}` is a [[{word}]], and a condition compares values: an [[input]], a [[parameter]] or an [[output]]"
+        ),
+        None => format!(in alloc;
+            "`{name}` is a [[{word}]], and `values` are of the kinds [[input]], [[parameter]] and [[output]]"
+        ),
+    }
+}
+
+/// The names that may stand where this one does.
+fn names_for<'a>(
+    alloc: Global,
+    document: &'a Table,
+    kind: TableKind,
+    reference: Reference<'_>,
+) -> Result<Vec<&'a str>, AllocError> {
+    match word_below(kind) {
+        Some(below) if !reference.is_value => names_among(alloc, document, below),
+        _ => value_names(alloc, document),
+    }
 }
 
 /// Which name of the table stands twice.
@@ -112,7 +138,7 @@ pub(crate) fn duplicate(
             format!(in alloc; "`{name}` stands twice in `reports`"),
         );
     }
-    if let Some(name) = name_of(table) {
+    if let Some(name) = text_at(table, "name") {
         if let Some(first) = first_named(document, namesakes_of(&spot.kind), name) {
             if first != spot {
                 return Wrong::with("name", namesake_said(alloc, text, document, name, first));
@@ -147,7 +173,7 @@ fn namesake_said(
 
 /// Which phase of the module its unit offers twice.
 fn offered_said(alloc: Global, document: &Table, module: &Table) -> Result<String, AllocError> {
-    let unit = module.get("unit").and_then(Value::as_str).unwrap_or("");
+    let unit = text_at(module, "unit").unwrap_or("");
     if let Some(phase) = listed_twice(module, "phases") {
         return format!(in alloc;
             "the phase `{phase}` is offered twice by the unit `{unit}`: it stands twice in this module"

@@ -16,7 +16,7 @@ pub(crate) fn meant_said(
     names: &[&str],
 ) -> Result<String, AllocError> {
     match nearest(alloc, written, names)? {
-        Some(name) => format!(in alloc; "; did you mean `{name}`?"),
+        Some(name) => question_said(alloc, name),
         None => Ok(String::new(alloc)),
     }
 }
@@ -25,12 +25,17 @@ pub(crate) fn meant_said(
 pub(crate) fn meant_or_known(
     alloc: Global,
     written: &str,
-    names: &[&str],
+    names: Result<Vec<&str>, AllocError>,
 ) -> Result<String, AllocError> {
-    match nearest(alloc, written, names)? {
-        Some(name) => format!(in alloc; "; did you mean `{name}`?"),
-        None => known_said(alloc, names),
+    let names = names?;
+    match nearest(alloc, written, &names)? {
+        Some(name) => question_said(alloc, name),
+        None => known_said(alloc, &names),
     }
+}
+
+fn question_said(alloc: Global, name: &str) -> Result<String, AllocError> {
+    format!(in alloc; "; did you mean `{name}`?")
 }
 
 /// The names that there are, or the first of many.
@@ -38,18 +43,12 @@ fn known_said(alloc: Global, names: &[&str]) -> Result<String, AllocError> {
     if names.is_empty() {
         return String::from_str(alloc, "; none is known");
     }
-    let mut said = String::from_str(alloc, "; known are ")?;
-    for (number, name) in names.iter().enumerate() {
-        if number == MOST_TOLD {
-            said.push_str(" and more")?;
-            break;
-        }
-        if number > 0 {
-            said.push_str(", ")?;
-        }
-        said.push_str(name)?;
+    if names.len() > MOST_TOLD {
+        let first = names[..MOST_TOLD].join(alloc, ", ")?;
+        return format!(in alloc; "; known are {first} and more");
     }
-    Ok(said)
+    let known = names.join(alloc, ", ")?;
+    format!(in alloc; "; known are {known}")
 }
 
 /// The name that is the written one but for the case of its letters, or the first of those that fewest letters part from it, where

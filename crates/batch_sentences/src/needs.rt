@@ -1,11 +1,12 @@
 //! What is wrong with the needs of a table.
+use crate::declared::list_at;
 use batch_recipe::MAX_UNITS;
 use batch_text::is_name;
 use toml::Table;
 
 /// The first of the table's needs that says no resource and units, if any.
 pub(crate) fn unreadable_need(table: &Table) -> Option<&str> {
-    for need in table.get("needs")?.as_array()? {
+    for need in list_at(table, "needs") {
         if let Some(text) = need.as_str() {
             if !is_need(text) {
                 return Some(text);
@@ -17,7 +18,7 @@ pub(crate) fn unreadable_need(table: &Table) -> Option<&str> {
 
 /// The first of the table's needs whose units are out of their limits.
 pub(crate) fn need_out_of_limit(table: &Table) -> Option<&str> {
-    for need in table.get("needs")?.as_array()? {
+    for need in list_at(table, "needs") {
         if let Some(text) = need.as_str() {
             if is_need(text) && !has_few_units(text) {
                 return Some(text);

@@ -3,8 +3,8 @@ use crate::names::resource_name;
 use crate::near::{meant_or_known, meant_said, resource_names};
 use crate::ranks::rank_said;
 use crate::roles::{class_of, unit_among, unit_of, unit_without};
-use crate::ways::way_to;
-use batch_cell::Cell;
+use crate::ways::{acts_to, place_said};
+use batch_cell::{Cell, Module, Unit};
 use batch_recipe::{Act, Recipe, UnitChoice, Work, act_at, follows, node_count};
 use batch_text::Name;
 use batch_verify::{Broken, Certificate, Rule};
@@ -18,15 +18,15 @@ pub(crate) fn broken_said(
     certificate: Option<&Certificate>,
     broken: Broken,
 ) -> Result<String, AllocError> {
-    let way = way_to(alloc, recipe, broken.node)?;
+    let acts = acts_to(alloc, recipe, broken.node)?;
     let name = &recipe.acts.procedure.name;
-    let place = way.place.as_str();
-    match way.acts.last() {
+    let place = place_said(alloc, recipe, broken.node);
+    match acts.last() {
         Some(act) => {
-            let said = rule_said(alloc, cell, recipe, certificate, broken, &way.acts, act);
+            let said = rule_said(alloc, cell, recipe, certificate, broken, &acts, act);
             node_said(alloc, name, &act.name, place, said)
         }
-        None => format!(in alloc; "{name} breaks a rule at {place}"),
+        None => rule_broken_said(alloc, name, place),
     }
 }
 
@@ -35,11 +35,21 @@ fn node_said(
     alloc: Global,
     procedure: &Name,
     act: &Name,
-    place: &str,
+    place: Result<String, AllocError>,
     said: Result<String, AllocError>,
 ) -> Result<String, AllocError> {
+    let place = place?;
     let said = said?;
     format!(in alloc; "{procedure}, {act} at {place}: {said}")
+}
+
+fn rule_broken_said(
+    alloc: Global,
+    procedure: &Name,
+    place: Result<String, AllocError>,
+) -> Result<String, AllocError> {
+    let place = place?;
+    format!(in alloc; "{procedure} breaks a rule at {place}")
 }
 
 /// What of the act breaks the rule, which is the last on its way.
@@ -74,18 +84,29 @@ fn unknown_said(
     act: &Act,
 ) -> Result<String, AllocError> {
     if let Some(choice) = &act.unit {
-        if let Some(said) = lacking_said(alloc, cell, recipe, choice, None)? {
-            return Ok(said);
+        if is_lacking(cell, recipe, choice) {
+            return lacking_said(alloc, cell, recipe, choice, None);
         }
     }
     for name in &act.reserves {
         if let Some(choice) = unit_of(recipe, name) {
-            if let Some(said) = lacking_said(alloc, cell, recipe, choice, Some(name))? {
-                return Ok(said);
+            if is_lacking(cell, recipe, choice) {
+                return lacking_said(alloc, cell, recipe, choice, Some(name));
             }
         }
     }
     need_said(alloc, cell, recipe, act)
+}
+
+/// Whether the cell lacks the unit, or each unit that may take the role.
+fn is_lacking(cell: &Cell, recipe: &Recipe, choice: &UnitChoice) -> bool {
+    match choice {
+        UnitChoice::Unit(unit) => cell.unit_of(unit).is_none(),
+        UnitChoice::Role(role) => match class_of(recipe, role) {
+            Some(class) => cell.candidates(class) == 0,
+            None => false,
+        },
+    }
 }
 
 /// That the cell lacks the unit, or each unit that may take the role, which is the act's own, or that of what it reserves.
@@ -95,36 +116,35 @@ fn lacking_said(
     recipe: &Recipe,
     choice: &UnitChoice,
     reserved: Option<&Name>,
-) -> Result<Option<String>, AllocError> {
-    let said = match choice {
-        UnitChoice::Unit(unit) if cell.unit_of(unit).is_none() => {
-            unit_lacking_said(alloc, cell, recipe, unit, reserved)?
+) -> Result<String, AllocError> {
+    match choice {
+        UnitChoice::Unit(unit) => {
+            let meant = meant_unit(alloc, cell, recipe, unit);
+            unit_lacking_said(alloc, cell, unit, reserved, meant)
         }
-        UnitChoice::Unit(_) => return Ok(None),
         UnitChoice::Role(role) => match class_of(recipe, role) {
-            Some(class) if cell.candidates(class) == 0 => {
-                class_lacking_said(alloc, cell, role, class, reserved)?
-            }
-            _ => return Ok(None),
+            Some(class) => class_lacking_said(alloc, cell, role, class, reserved),
+            None => Ok(String::new(alloc)),
         },
-    };
-    Ok(Some(said))
+    }
 }
 
 /// That the unit is none of the cell.
 fn unit_lacking_said(
     alloc: Global,
     cell: &Cell,
-    recipe: &Recipe,
     unit: &Name,
     reserved: Option<&Name>,
+    meant: Result<String, AllocError>,
 ) -> Result<String, AllocError> {
-    let meant = meant_unit(alloc, cell, recipe, unit)?;
-    let owner = match reserved {
-        Some(name) => format!(in alloc; "it reserves {name}, whose unit ")?,
-        None => String::new(alloc),
-    };
-    format!(in alloc; "{owner}{unit} is no unit of the cell {}{meant}", cell.name)
+    let meant = meant?;
+    let cell = &cell.name;
+    match reserved {
+        Some(name) => format!(in alloc;
+            "it reserves {name}, whose unit {unit} is no unit of the cell {cell}{meant}"
+        ),
+        None => format!(in alloc; "{unit} is no unit of the cell {cell}{meant}"),
+    }
 }
 
 /// That no unit of the cell is of the role's class.
@@ -136,14 +156,15 @@ fn class_lacking_said(
     reserved: Option<&Name>,
 ) -> Result<String, AllocError> {
     let meant = meant_class(alloc, cell, class)?;
-    let owner = match reserved {
-        Some(name) => format!(in alloc; "it reserves {name}, whose")?,
-        None => String::from_str(alloc, "its")?,
-    };
-    format!(in alloc;
-        "{owner} role {role} needs a unit of class {class}, and the cell {} has none{meant}",
-        cell.name
-    )
+    let cell = &cell.name;
+    match reserved {
+        Some(name) => format!(in alloc;
+            "it reserves {name}, whose role {role} needs a unit of class {class}, and the cell {cell} has none{meant}"
+        ),
+        None => format!(in alloc;
+            "its role {role} needs a unit of class {class}, and the cell {cell} has none{meant}"
+        ),
+    }
 }
 
 /// The unit that may have been meant.
@@ -154,36 +175,23 @@ fn meant_unit(
     written: &Name,
 ) -> Result<String, AllocError> {
     if class_of(recipe, written).is_some() {
-        return format!(in alloc; "; {written} is a role, which stands under the key `role`");
-    }
-    if cell.candidates(written) > 0 {
-        return format!(in alloc;
+        format!(in alloc; "; {written} is a role, which stands under the key `role`")
+    } else if cell.candidates(written) > 0 {
+        format!(in alloc;
             "; {written} is a class: a [[role]] of it stands for one of its units, and the key `role` names that"
-        );
+        )
+    } else {
+        meant_or_known(alloc, written.text(), unit_names(alloc, &cell.units))
     }
-    let mut names = Vec::new(alloc);
-    for unit in &cell.units {
-        names.push(unit.name.text())?;
-    }
-    meant_or_known(alloc, written.text(), &names)
 }
 
 /// The class that may have been meant.
 fn meant_class(alloc: Global, cell: &Cell, written: &Name) -> Result<String, AllocError> {
     if cell.unit_of(written).is_some() {
-        return format!(in alloc;
-            "; {written} is a unit, and the key `class` names the class of units"
-        );
+        format!(in alloc; "; {written} is a unit, and the key `class` names the class of units")
+    } else {
+        meant_or_known(alloc, written.text(), class_names(alloc, &cell.units))
     }
-    let mut names = Vec::new(alloc);
-    for unit in &cell.units {
-        if let Some(class) = &unit.class {
-            if !names.contains(&class.text()) {
-                names.push(class.text())?;
-            }
-        }
-    }
-    meant_or_known(alloc, written.text(), &names)
 }
 
 /// The resource that may have been meant.
@@ -194,26 +202,48 @@ fn meant_resource(
     written: &Name,
 ) -> Result<String, AllocError> {
     if class_of(recipe, written).is_some() {
-        return format!(in alloc;
-            "; {written} is a role, and needs are of units by their own names"
-        );
+        format!(in alloc; "; {written} is a role, and needs are of units by their own names")
+    } else if cell.candidates(written) > 0 {
+        format!(in alloc; "; {written} is a class, and needs are of units by their own names")
+    } else if let Some(unit) = unit_with(&cell.modules, written) {
+        format!(in alloc; "; {written} is a module of the unit {unit}, which is what can be needed")
+    } else {
+        meant_or_known(alloc, written.text(), resource_names(alloc, cell))
     }
-    if cell.candidates(written) > 0 {
-        return format!(in alloc;
-            "; {written} is a class, and needs are of units by their own names"
-        );
-    }
-    for module in &cell.modules {
-        if module.name == *written {
+}
+
+/// The unit to which the module of this name belongs.
+fn unit_with<'a>(modules: &'a [Module], name: &Name) -> Option<&'a Name> {
+    for module in modules {
+        if module.name == *name {
             if let Some(unit) = &module.unit {
-                return format!(in alloc;
-                    "; {written} is a module of the unit {unit}, which is what can be needed"
-                );
+                return Some(unit);
             }
         }
     }
-    let names = resource_names(alloc, cell)?;
-    meant_or_known(alloc, written.text(), &names)
+    None
+}
+
+/// The names of the units.
+fn unit_names(alloc: Global, units: &[Unit]) -> Result<Vec<&str>, AllocError> {
+    let mut names = Vec::new(alloc);
+    for unit in units {
+        names.push(unit.name.text())?;
+    }
+    Ok(names)
+}
+
+/// The classes of the units, each once.
+fn class_names(alloc: Global, units: &[Unit]) -> Result<Vec<&str>, AllocError> {
+    let mut names = Vec::new(alloc);
+    for unit in units {
+        if let Some(class) = &unit.class {
+            if !names.contains(&class.text()) {
+                names.push(class.text())?;
+            }
+        }
+    }
+    Ok(names)
 }
 
 /// The first need of the act that is no resource.
@@ -275,10 +305,7 @@ fn phase_said(
     };
     match unit_among(acts) {
         Some(UnitChoice::Unit(unit)) => {
-            let offered = match cell.unit_of(unit) {
-                Some(number) => offered_said(alloc, cell, number, phase)?,
-                None => String::new(alloc),
-            };
+            let offered = offered_said(alloc, cell, cell.unit_of(unit), phase)?;
             format!(in alloc; "the unit {unit} doesn't offer the phase {phase}{offered}")
         }
         Some(UnitChoice::Role(role)) => role_said(alloc, cell, recipe, role, phase),
@@ -297,7 +324,7 @@ fn role_said(
     match unit_without(cell, recipe, role, phase) {
         Some(unit) => {
             let name = resource_name(cell, unit);
-            let offered = offered_said(alloc, cell, unit, phase)?;
+            let offered = offered_said(alloc, cell, Some(unit), phase)?;
             format!(in alloc;
                 "the unit {name}, which may take the role {role}, doesn't offer the phase {phase}{offered}"
             )
@@ -307,26 +334,50 @@ fn role_said(
 }
 
 /// The phases that the unit with this number offers, and which of them may have been meant by this one.
-fn offered_said(alloc: Global, cell: &Cell, unit: u16, phase: &Name) -> Result<String, AllocError> {
-    let mut said = String::new(alloc);
-    let mut names = Vec::new(alloc);
-    if unit >= cell.units() {
-        return Ok(said);
+fn offered_said(
+    alloc: Global,
+    cell: &Cell,
+    unit: Option<u16>,
+    phase: &Name,
+) -> Result<String, AllocError> {
+    match unit {
+        Some(unit) => {
+            let names = phase_names(alloc, cell, unit)?;
+            choice_said(alloc, phase.text(), &names)
+        }
+        None => Ok(String::new(alloc)),
     }
+}
+
+/// The names of the phases that the unit offers.
+fn phase_names(alloc: Global, cell: &Cell, unit: u16) -> Result<Vec<&str>, AllocError> {
+    let mut names = Vec::new(alloc);
     for number in 0..u16::MAX {
-        let Some(phase) = cell.phase_name(unit, number) else {
+        let Some(phase) = phase_at(cell, unit, number) else {
             break;
         };
-        said.push_str(if number == 0 { "; it offers " } else { ", " })?;
-        said.push_str(phase.text())?;
         names.push(phase.text())?;
     }
-    if said.is_empty() {
+    Ok(names)
+}
+
+/// The phase with this number that the unit offers.
+fn phase_at(cell: &Cell, unit: u16, number: u16) -> Option<&Name> {
+    if unit < cell.units() {
+        cell.phase_name(unit, number)
+    } else {
+        None
+    }
+}
+
+/// The names of phases that are offered, and which of them may have been meant by this one.
+fn choice_said(alloc: Global, written: &str, names: &[&str]) -> Result<String, AllocError> {
+    if names.is_empty() {
         return String::from_str(alloc, "; it offers none, since no module of it has phases");
     }
-    let meant = meant_said(alloc, phase.text(), &names)?;
-    said.push_str(meant.as_str())?;
-    Ok(said)
+    let offered = names.join(alloc, ", ")?;
+    let meant = meant_said(alloc, written, names)?;
+    format!(in alloc; "; it offers {offered}{meant}")
 }
 
 /// Which phase two branches of the `par` at the node run.

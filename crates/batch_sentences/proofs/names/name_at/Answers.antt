@@ -4,6 +4,14 @@ use Rattle.batch_recipe.specs.Procedure.{procedure_nodes}
 use Rattle.batch_sentences.proofs.ActNames.{none_past}
 use Rattle.batch_sentences.proofs.names.name_at.Goals as goal
 
+pub returns-in-Some : goal.returns-in-Some
+returns-in-Some c =
+    let acts = c.args.recipe.now.acts in
+    elim (cases_lt c.args.node (length (procedure_nodes acts))) [
+      | inl within ↦ rw (c.act_at.ensures.act within, c.in-Some.is) c.text.ensures.value
+      | inr past ↦ let none = rw c.in-Some.is at c.act_at.ensures.past past in absurd cc
+    ]
+
 pub returns-in-None : goal.returns-in-None
 returns-in-None c =
     let acts = c.args.recipe.now.acts in
