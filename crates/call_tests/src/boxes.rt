@@ -1,7 +1,7 @@
 //! Drivers of two kinds, in boxes at one simulator.
 use crate::drivers::{Answer, Scripted};
 use crate::expected::assert_text;
-use crate::simulator::answers;
+use crate::teller::answers;
 use batch_matrix::Report;
 use batch_sim::{AnyDriver, Simulator, SteadyUnit};
 use std::alloc::Global;
@@ -14,17 +14,14 @@ const ANSWERS: [Answer; 3] = [Some((0, Report::Held)), None, Some((7, Report::Fa
 /// What units of any kinds tell of the script.
 fn told(alloc: Global, drivers: Vec<AnyDriver>, script: &str) -> Result<String, Fail> {
     let mut units = Simulator::new(drivers);
-    answers(alloc, &mut units, script)
+    answers(alloc, &mut units, &mut (), script)
 }
 
 /// What a steady unit of two phases that run two ticks, and beside it one that answers by a list, tell of the script.
 fn told_by_two(alloc: Global, script: &str) -> Result<String, Fail> {
     let steady = AnyDriver::new(Box::new(alloc, SteadyUnit::new(alloc, 2, 2)?)?);
     let scripted = AnyDriver::new(Box::new(alloc, Scripted::new(&ANSWERS))?);
-    let mut drivers = Vec::new(alloc);
-    drivers.push(steady)?;
-    drivers.push(scripted)?;
-    told(alloc, drivers, script)
+    told(alloc, Vec::from_array(alloc, [steady, scripted])?, script)
 }
 
 /// That what the two units tell of the script is the text expected.

@@ -2,47 +2,59 @@
 use crate::documents::{A, CELL1};
 use crate::drivers::{Answer, Scripted};
 use crate::expected::assert_text;
+use crate::records::engine_of;
 use crate::simulator::steady;
-use crate::stage::Stage;
-use batch_sim::{SteadyUnit, UnitDriver};
+use crate::teller::answers;
+use batch_engine::Engine;
+use batch_sim::{Simulator, SteadyUnit, UnitDriver};
 use std::alloc::Global;
 use std::process::Abort;
 use std::test::Fail;
 
 /// A batch begins, whose one phase runs on R1.
-pub(crate) const START: &str = "create A 1000\nstart 1";
+const START: &str = "create A 1000\nstart 1";
 
-/// The demo cell with these units, and an engine in which nothing has happened.
-fn stage_of<D: UnitDriver>(alloc: Global, units: Vec<D>) -> Result<Stage<D>, Fail> {
-    Stage::new(alloc, CELL1, &[A], units)
+/// The demo cell's units, whose phases run two ticks.
+pub(crate) fn steady_units(alloc: Global) -> Result<Simulator<SteadyUnit>, Fail> {
+    Ok(Simulator::new(steady(alloc, &[3, 3], 2)?))
 }
 
-/// The demo cell's units, whose phases run two ticks, and an engine in which nothing has happened.
-pub(crate) fn steady_stage(alloc: Global) -> Result<Stage<SteadyUnit>, Fail> {
-    let units = steady(alloc, &[3, 3], 2)?;
-    stage_of(alloc, units)
-}
-
-/// What is told of the script once a phase of R1 runs.
-fn told_after_start<D: UnitDriver>(
+/// Begins a batch, whose one phase runs on R1 then.
+pub(crate) fn start<D: UnitDriver>(
     alloc: Global,
-    stage: &mut Stage<D>,
-    script: &str,
-) -> Result<String, Fail> {
-    let _ = stage.told(alloc, START)?;
-    stage.told(alloc, script)
+    engine: &mut Engine,
+    units: &mut Simulator<D>,
+) -> Result<(), Fail> {
+    let _ = answers(alloc, engine, units, START)?;
+    Ok(())
 }
 
-/// What is told of the script by these units, once a phase of R1 runs.
-fn told_by<D: UnitDriver>(alloc: Global, units: Vec<D>, script: &str) -> Result<String, Fail> {
-    let mut stage = stage_of(alloc, units)?;
-    told_after_start(alloc, &mut stage, script)
+/// What is told of the second script, behind the first.
+fn told_behind<D: UnitDriver>(
+    alloc: Global,
+    engine: &mut Engine,
+    units: &mut Simulator<D>,
+    scripts: (&str, &str),
+) -> Result<String, Fail> {
+    let _ = answers(alloc, engine, units, scripts.0)?;
+    answers(alloc, engine, units, scripts.1)
+}
+
+/// What is told of the second script, behind the first, by an engine of the recipe and these units of the demo cell.
+pub(crate) fn told_by<D: UnitDriver>(
+    alloc: Global,
+    recipe: &str,
+    units: &mut Simulator<D>,
+    scripts: (&str, &str),
+) -> Result<String, Fail> {
+    let mut engine = engine_of(alloc, CELL1, &[recipe])?;
+    told_behind(alloc, &mut engine, units, scripts)
 }
 
 /// What is told of the script where the units work steadily, and a phase of R1 runs.
 fn steady_told(alloc: Global, script: &str) -> Result<String, Fail> {
-    let units = steady(alloc, &[3, 3], 2)?;
-    told_by(alloc, units, script)
+    let mut units = steady_units(alloc)?;
+    told_by(alloc, A, &mut units, (START, script))
 }
 
 /// That what is told of the script where the units work steadily is the text expected.
@@ -56,12 +68,12 @@ pub(crate) fn assert_steady(
 }
 
 /// A unit for each list of answers.
-fn scripted(alloc: Global, answers: &[&'static [Answer]]) -> Result<Vec<Scripted>, Fail> {
+fn scripted(alloc: Global, answers: &[&'static [Answer]]) -> Result<Simulator<Scripted>, Fail> {
     let mut units = Vec::new(alloc);
     for list in answers {
         units.push(Scripted::new(*list))?;
     }
-    Ok(units)
+    Ok(Simulator::new(units))
 }
 
 /// What is told of the script where the units answer so, and a phase of R1 runs.
@@ -70,8 +82,8 @@ fn scripted_told(
     answers: &[&'static [Answer]],
     script: &str,
 ) -> Result<String, Fail> {
-    let units = scripted(alloc, answers)?;
-    told_by(alloc, units, script)
+    let mut units = scripted(alloc, answers)?;
+    told_by(alloc, A, &mut units, (START, script))
 }
 
 /// That what is told of the script where the units answer so is the text expected.

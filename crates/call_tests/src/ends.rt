@@ -43,7 +43,7 @@ impl<'a> Read for OneByOne<'a> {
 }
 
 /// How a writer fails.
-#[derive(Clone, Copy, Debug)]
+#[derive(Clone, Copy)]
 pub(crate) enum Failure {
     /// A call is refused.
     Refuses,
@@ -78,17 +78,16 @@ impl Narrow {
 impl Write for Narrow {
     fn write(&mut self, buf: &[u8]) -> io::Result<usize> {
         self.calls = self.calls.saturating_add(1);
-        match (self.failure, buf.first()) {
-            (Failure::Refuses, _) if self.calls == self.fails_at => {
-                Err(io::Error::from(ErrorKind::Other))
+        if self.calls == self.fails_at {
+            match self.failure {
+                Failure::Refuses => return Err(io::Error::from(ErrorKind::Other)),
+                Failure::TakesNone => return Ok(0),
+                Failure::KeepsBack => {}
             }
-            (Failure::TakesNone, _) if self.calls == self.fails_at => Ok(0),
-            (_, Some(byte)) => {
-                self.taken.push(*byte)?;
-                Ok(1)
-            }
-            (_, None) => Ok(0),
         }
+        let count = buf.len().min(1);
+        self.taken.extend_from_slice(&buf[..count])?;
+        Ok(count)
     }
 
     fn flush(&mut self) -> io::Result<()> {

@@ -11,3 +11,18 @@ pub(crate) fn assert_text(
     assert_eq!(rt; told?.as_str(), expected);
     Ok(())
 }
+
+/// That no row of a table is wrong.
+pub(crate) fn assert_none(
+    rt: &impl Abort,
+    first_wrong: Result<Option<usize>, Fail>,
+) -> Result<(), Fail> {
+    assert_eq!(rt; first_wrong?, None);
+    Ok(())
+}
+
+/// That it is so.
+pub(crate) fn assert_so(rt: &impl Abort, is_so: Result<bool, Fail>) -> Result<(), Fail> {
+    assert!(rt; is_so?);
+    Ok(())
+}

@@ -1,44 +1,45 @@
 //! Scripts of a hub and its desks: a line for each call, whose answers are one text.
+use crate::ending::ended_told;
 use crate::expected::assert_text;
-use crate::hub_stage::Stage;
+use crate::hubs::hub_of;
 use crate::lines::demo_set_of;
+use crate::teller::answers;
 use batch_desk::PortPlan;
 use batch_verify::Cleared;
 use std::alloc::Global;
 use std::process::Abort;
 use std::test::Fail;
 
-/// What is told of each line.
-fn answers(
+/// What is told by a new hub of the recipe, whose names are those of the cleared set, with its desks.
+fn stage_told(
     alloc: Global,
-    cleared: &Cleared,
-    stage: &mut Stage,
-    script: &str,
-) -> Result<String, Fail> {
-    let mut told = String::new(alloc);
-    for line in script.lines() {
-        let answer = stage.answer(alloc, cleared, line)?;
-        told.push_str(answer.as_str())?;
-    }
-    Ok(told)
-}
-
-/// What is told by a new hub of the recipe, whose names are those of the cleared set.
-fn told_of_set(
-    alloc: Global,
-    cleared: &Cleared,
+    cleared: &mut Cleared,
     recipe: &str,
     plans: &[PortPlan],
     script: &str,
 ) -> Result<String, Fail> {
-    let mut stage = Stage::new(alloc, recipe, plans)?;
-    answers(alloc, cleared, &mut stage, script)
+    let mut stage = hub_of(alloc, recipe, plans)?;
+    answers(alloc, &mut stage, cleared, script)
+}
+
+/// The same, where the first desk finishes at the line `finish`, and the hub ends behind the script.
+fn told_of_set(
+    alloc: Global,
+    cleared: &mut Cleared,
+    recipe: &str,
+    plans: &[PortPlan],
+    script: &str,
+) -> Result<String, Fail> {
+    match script.split_once("finish\n") {
+        Some(scripts) => ended_told(alloc, cleared, recipe, plans, scripts),
+        None => stage_told(alloc, cleared, recipe, plans, script),
+    }
 }
 
 /// What is told of the script.
 fn told(alloc: Global, recipe: &str, plans: &[PortPlan], script: &str) -> Result<String, Fail> {
-    let cleared = demo_set_of(alloc, recipe)?;
-    told_of_set(alloc, &cleared, recipe, plans, script)
+    let mut cleared = demo_set_of(alloc, recipe)?;
+    told_of_set(alloc, &mut cleared, recipe, plans, script)
 }
 
 /// That what is told of the script is the text expected.

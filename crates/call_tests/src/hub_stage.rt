@@ -1,50 +1,40 @@
 //! A hub, and the desks of its ports.
-use crate::hubs::hub_of;
 use crate::looping::{console_told, hub_told};
-use crate::ports::{at_desk, at_hub};
-use batch_desk::{Desk, Hub, PortPlan};
+use crate::ports::{at_desks, at_hub};
+use crate::teller::Teller;
+use crate::words::{number_of, shown};
+use batch_desk::{Desk, Hub, HubFault};
 use batch_verify::Cleared;
 use std::alloc::Global;
 use std::test::Fail;
 
-/// A hub, and the desks of its ports.
-#[derive(Drop)]
-pub(crate) struct Stage {
-    hub: Hub,
-    desks: Vec<Desk>,
+/// Seals a port, and tells whether there is a token.
+fn sealed(hub: &mut Hub, port: usize) -> Result<bool, HubFault> {
+    hub.seal(port).map(|token| token.is_some())
 }
 
-impl Stage {
-    pub(crate) fn new(alloc: Global, recipe: &str, plans: &[PortPlan]) -> Result<Stage, Fail> {
-        let (hub, desks) = hub_of(alloc, recipe, plans)?;
-        Ok(Stage { hub, desks })
-    }
+fn seal(alloc: Global, hub: &mut Hub, port: &str) -> Result<String, Fail> {
+    let (port, _) = number_of(port)?;
+    shown(alloc, "seal", &sealed(hub, usize::from(port)))
+}
 
-    /// Seals a port, and tells whether there is a token.
-    fn seal(&mut self, alloc: Global, port: &str) -> Result<String, Fail> {
-        let sealed = self.hub.seal(port.parse()?);
-        let told = sealed.map(|token| token.is_some());
-        Ok(format!(in alloc; "seal: {told:?}\n")?)
-    }
+/// No desk is left.
+fn lose(alloc: Global, desks: &mut Vec<Desk>) -> Result<String, Fail> {
+    desks.clear();
+    Ok(String::new(alloc))
+}
 
-    /// What is told of a line of a script.
-    pub(crate) fn answer(
-        &mut self,
-        alloc: Global,
-        cleared: &Cleared,
-        line: &str,
-    ) -> Result<String, Fail> {
-        let (word, words) = line.split_once(' ').ok_or("no port")?;
+/// What is told of a line is in the names of the cleared set.
+impl Teller<Cleared> for (Hub, Vec<Desk>) {
+    fn answer(&mut self, alloc: Global, cleared: &mut Cleared, line: &str) -> Result<String, Fail> {
+        let (word, words) = line.split_once(' ').unwrap_or((line, ""));
         match word {
-            "send" | "take" => at_desk(alloc, cleared, &mut self.desks, 0, words),
-            "hub" => hub_told(alloc, &mut self.hub, words),
-            "console" => console_told(alloc, &mut self.desks, words),
-            "seal" => self.seal(alloc, words),
-            "lose" => {
-                self.desks.clear();
-                Ok(String::new(alloc))
-            }
-            _ => at_hub(alloc, &mut self.hub, word, words),
+            "send" | "take" => at_desks(alloc, cleared, &mut self.1, 0, words),
+            "hub" => hub_told(alloc, &mut self.0, words),
+            "console" => console_told(alloc, &mut self.1, words),
+            "seal" => seal(alloc, &mut self.0, words),
+            "lose" => lose(alloc, &mut self.1),
+            _ => at_hub(alloc, &mut self.0, word, words),
         }
     }
 }

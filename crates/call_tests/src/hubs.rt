@@ -7,17 +7,17 @@ ghost use Rattle.batch_desk.specs.HubState.{rings};
 
 use crate::documents::CELL1;
 use crate::records::engine_of;
-use batch_desk::{Desk, Hub, HubFault, PortPlan};
+use batch_desk::{Desk, Hub, PortPlan};
 use batch_engine::Engine;
 use std::alloc::Global;
 use std::test::Fail;
 
 /// A hub of the engine and the desks of its ports, or why there is none.
-fn new_hub(alloc: Global, engine: Engine, plans: &[PortPlan]) -> Result<(Hub, Vec<Desk>), HubFault>
+fn new_hub(alloc: Global, engine: Engine, plans: &[PortPlan]) -> Result<(Hub, Vec<Desk>), Fail>
     requires { plant_of engine ≡ opening }
     ensures { IfOk result (λ r. rings r.0 ≡ map desk_rings r.1.items) }
 {
-    Hub::new(alloc, engine, plans).map_err(|(fault, _)| fault)
+    Hub::new(alloc, engine, plans).map_err(|(fault, _)| Fail::from(fault))
 }
 
 /// A hub of an engine of the recipe, and the desks of its ports.
@@ -29,5 +29,5 @@ pub(crate) fn hub_of(
     ensures { IfOk result (λ r. rings r.0 ≡ map desk_rings r.1.items) }
 {
     let engine = engine_of(alloc, CELL1, &[recipe])?;
-    new_hub(alloc, engine, plans).map_err(|fault| Fail::from(fault))
+    new_hub(alloc, engine, plans)
 }

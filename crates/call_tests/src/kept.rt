@@ -1,5 +1,6 @@
 //! Serving over a journal that lies in memory, and whose sync fails.
 use crate::documents::{A, CELL1};
+use crate::expected::assert_so;
 use crate::records::engine_of;
 use crate::serving::{INPUT, MANY_READS, RECORD};
 use batch_engine::Engine;
@@ -106,7 +107,17 @@ fn begun(alloc: Global, syncs: u32) -> Result<Journal<Pages, Seven>, Fail> {
     })
 }
 
-/// Whether serving the input over this journal ends by a read fault, with all of it in the file and nothing told.
+/// How the input is served over a journal.
+#[derive(Clone, Copy)]
+enum Served {
+    /// By a read fault, with all of it in the file and nothing told.
+    Untold,
+    /// To its end, where answers are held back.
+    Held,
+    /// To its end, where they aren't.
+    Told,
+}
+
 fn is_untold(alloc: Global, engine: &mut Engine, journal: Journal<Pages, Seven>) -> bool {
     let (ending, disk, told) = serve_holding(
         alloc,
@@ -121,24 +132,6 @@ fn is_untold(alloc: Global, engine: &mut Engine, journal: Journal<Pages, Seven>)
         && told.is_empty()
 }
 
-/// The same of a journal whose file syncs so many times.
-fn is_untold_over(alloc: Global, engine: &mut Engine, syncs: u32) -> Result<bool, Fail> {
-    let journal = begun(alloc, syncs)?;
-    Ok(is_untold(alloc, engine, journal))
-}
-
-fn nothing_is_told(alloc: Global, syncs: u32) -> Result<bool, Fail> {
-    let mut engine = engine_of(alloc, CELL1, &[A])?;
-    is_untold_over(alloc, &mut engine, syncs)
-}
-
-#[test]
-fn sync_fails(rt: HostRuntime) -> Result<(), Fail> {
-    assert!(rt; nothing_is_told(rt.alloc(), 1)?);
-    Ok(())
-}
-
-/// Whether the record is told of the input where answers are held back.
 fn is_held(alloc: Global, engine: &mut Engine, journal: Journal<Pages, Seven>) -> bool {
     let (ending, _, told) = serve_holding(
         alloc,
@@ -151,41 +144,52 @@ fn is_held(alloc: Global, engine: &mut Engine, journal: Journal<Pages, Seven>) -
     ending.is_ok() && told.as_slice() == RECORD
 }
 
-/// The same where they aren't.
 fn is_told(alloc: Global, engine: &mut Engine, journal: Journal<Pages, Seven>) -> bool {
     let mut told = Vec::new(alloc);
     let (ending, _) = serve_journalled(alloc, engine, INPUT, journal, &mut told, MANY_READS);
     ending.is_ok() && told.as_slice() == RECORD
 }
 
-fn is_held_over(alloc: Global, engine: &mut Engine) -> Result<bool, Fail> {
-    let journal = begun(alloc, 2)?;
-    Ok(is_held(alloc, engine, journal))
+fn is_served(
+    alloc: Global,
+    engine: &mut Engine,
+    journal: Journal<Pages, Seven>,
+    served: Served,
+) -> bool {
+    match served {
+        Served::Untold => is_untold(alloc, engine, journal),
+        Served::Held => is_held(alloc, engine, journal),
+        Served::Told => is_told(alloc, engine, journal),
+    }
 }
 
-fn is_told_over(alloc: Global, engine: &mut Engine) -> Result<bool, Fail> {
-    let journal = begun(alloc, 2)?;
-    Ok(is_told(alloc, engine, journal))
+/// Whether the input is served so over a journal whose file syncs so many times.
+fn is_served_over(
+    alloc: Global,
+    engine: &mut Engine,
+    syncs: u32,
+    served: Served,
+) -> Result<bool, Fail> {
+    let journal = begun(alloc, syncs)?;
+    Ok(is_served(alloc, engine, journal, served))
 }
 
-fn held(alloc: Global) -> Result<bool, Fail> {
+fn over_a_journal(alloc: Global, syncs: u32, served: Served) -> Result<bool, Fail> {
     let mut engine = engine_of(alloc, CELL1, &[A])?;
-    is_held_over(alloc, &mut engine)
+    is_served_over(alloc, &mut engine, syncs, served)
 }
 
-fn journalled(alloc: Global) -> Result<bool, Fail> {
-    let mut engine = engine_of(alloc, CELL1, &[A])?;
-    is_told_over(alloc, &mut engine)
+#[test]
+fn sync_fails(rt: HostRuntime) -> Result<(), Fail> {
+    assert_so(&rt, over_a_journal(rt.alloc(), 1, Served::Untold))
 }
 
 #[test]
 fn held_over_a_journal(rt: HostRuntime) -> Result<(), Fail> {
-    assert!(rt; held(rt.alloc())?);
-    Ok(())
+    assert_so(&rt, over_a_journal(rt.alloc(), 2, Served::Held))
 }
 
 #[test]
 fn served_over_a_journal(rt: HostRuntime) -> Result<(), Fail> {
-    assert!(rt; journalled(rt.alloc())?);
-    Ok(())
+    assert_so(&rt, over_a_journal(rt.alloc(), 2, Served::Told))
 }

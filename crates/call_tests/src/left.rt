@@ -4,7 +4,9 @@ ghost use Rattle.batch_desk.specs.HubState.{rings};
 ghost use Rattle.batch_desk.specs.Rings.{IsOfRing};
 
 use crate::lines::text_of;
-use crate::ports::{at_desk, at_hub};
+use crate::ports::{at_desks, at_hub};
+use crate::teller::Teller;
+use crate::words::shown;
 use batch_desk::{Desk, Hub, HubFault, Inbox};
 use batch_engine::{Event, Out};
 use batch_verify::Cleared;
@@ -74,43 +76,40 @@ impl Left {
 
     /// What is told where the first port is closed.
     fn closed(&mut self, alloc: Global) -> Result<String, Fail> {
-        let closed = self.close().ok_or("no token")?;
-        Ok(format!(in alloc; "close: {closed:?}\n")?)
+        match self.close() {
+            Some(closed) => shown(alloc, "close", &closed),
+            None => Err(Fail::from("no token")),
+        }
     }
 
     /// What is told where the first port is sealed.
     fn sealed(&mut self, alloc: Global) -> Result<String, Fail> {
-        let rest = self.seal();
-        Ok(format!(in alloc; "seal: {rest:?}\n")?)
+        shown(alloc, "seal", &self.seal())
     }
 
     /// The line of an out that is left.
     fn taken(&mut self, alloc: Global, cleared: &Cleared) -> Result<String, Fail> {
         let out = self.take();
-        text_of(alloc, cleared, out)
-    }
-
-    /// What is told of a line of a script.
-    #[tactic(auto, using(crate::proofs::Seating::left_stays))]
-    pub(crate) fn answer(
-        &mut self,
-        alloc: Global,
-        cleared: &Cleared,
-        line: &str,
-    ) -> Result<String, Fail> {
-        let (word, words) = line.split_once(' ').ok_or("no port")?;
-        match (word, words) {
-            ("close", "0") => self.closed(alloc),
-            ("seal", "0") => self.sealed(alloc),
-            ("take", "0") => self.taken(alloc, cleared),
-            ("send" | "take", _) => at_desk(alloc, cleared, &mut self.others, 1, words),
-            _ => at_hub(alloc, &mut self.hub, word, words),
-        }
+        text_of(alloc, cleared, out, "nothing\n")
     }
 
     /// The hub.
     pub(crate) fn into_hub(self) -> Hub {
         let Left { hub, .. } = self;
         hub
+    }
+}
+
+impl Teller<Cleared> for Left {
+    #[tactic(auto, using(crate::proofs::Seating::left_stays))]
+    fn answer(&mut self, alloc: Global, cleared: &mut Cleared, line: &str) -> Result<String, Fail> {
+        let (word, words) = line.split_once(' ').unwrap_or((line, ""));
+        match (word, words) {
+            ("close", "0") => self.closed(alloc),
+            ("seal", "0") => self.sealed(alloc),
+            ("take", "0") => self.taken(alloc, cleared),
+            ("send" | "take", _) => at_desks(alloc, cleared, &mut self.others, 1, words),
+            _ => at_hub(alloc, &mut self.hub, word, words),
+        }
     }
 }

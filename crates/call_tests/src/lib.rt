@@ -67,8 +67,12 @@ mod stage;
 #[cfg(test)]
 mod steady;
 #[cfg(test)]
+mod teller;
+#[cfg(test)]
 mod threads;
 #[cfg(test)]
 mod turns;
+#[cfg(test)]
+mod words;
 #[cfg(test)]
 mod writers;

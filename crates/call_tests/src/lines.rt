@@ -12,12 +12,17 @@ pub(crate) fn demo_set_of(alloc: Global, recipe: &str) -> Result<Cleared, Fail> 
     cleared_of(alloc, CELL1, &[recipe])
 }
 
-/// The line of an out.
-pub(crate) fn text_of(alloc: Global, cleared: &Cleared, out: Option<Out>) -> Result<String, Fail> {
+/// The line of an out, or what is told where there is none.
+pub(crate) fn text_of(
+    alloc: Global,
+    cleared: &Cleared,
+    out: Option<Out>,
+    none: &str,
+) -> Result<String, Fail> {
     let mut text = Vec::new(alloc);
     match out {
         Some(out) => write_out(&out, cleared, &mut text)?,
-        None => text.extend_from_slice(b"nothing\n")?,
+        None => text.extend_from_slice(none.as_bytes())?,
     }
     Ok(String::from_utf8(text)?)
 }

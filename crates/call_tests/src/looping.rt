@@ -1,4 +1,5 @@
 //! Loops of a hub and of a console: so many turns at a gate, and how they end.
+use crate::words::{number_of, shown};
 use batch_desk::{Desk, Gate, Hub, LoopEnd, console_loop, hub_loop};
 use batch_text::Name;
 use std::alloc::Global;
@@ -18,27 +19,22 @@ impl Gate for Open {
 
 /// How many batches, how many turns, and a gate that is `open` or `shut`.
 fn loop_words(words: &str) -> Result<(u64, u64, Open), Fail> {
-    let (batches, words) = words.split_once(' ').ok_or("no batches")?;
-    let (limit, gate) = words.split_once(' ').ok_or("no limit")?;
-    Ok((batches.parse()?, limit.parse()?, Open(gate == "open")))
+    let (batches, words) = number_of(words)?;
+    let (limit, gate) = number_of(words)?;
+    Ok((u64::from(batches), u64::from(limit), Open(gate == "open")))
 }
 
-/// How a loop of the first desk's console ended, which makes A in size 1000.
-fn console_end(alloc: Global, desks: &mut Vec<Desk>, words: &str) -> Result<LoopEnd, Fail> {
+/// How a loop of a desk's console ended, which makes A in size 1000.
+fn console_end(alloc: Global, desk: &mut Desk, words: &str) -> Result<LoopEnd, Fail> {
     let (batches, limit, mut gate) = loop_words(words)?;
     let recipe = Name::read(alloc, b"A")?;
-    if desks.is_empty() {
-        return Err(Fail::from("no desk"));
-    }
-    let desk = &mut desks[0];
     Ok(console_loop(alloc, desk, &recipe, 1000, batches, &mut gate, limit))
 }
 
 /// How a loop of the hub ended.
 pub(crate) fn hub_told(alloc: Global, hub: &mut Hub, words: &str) -> Result<String, Fail> {
     let (batches, limit, mut gate) = loop_words(words)?;
-    let end = hub_loop(hub, batches, &mut gate, limit);
-    Ok(format!(in alloc; "hub: {end:?}\n")?)
+    shown(alloc, "hub", &hub_loop(hub, batches, &mut gate, limit))
 }
 
 /// How a loop of the first desk's console ended.
@@ -47,6 +43,8 @@ pub(crate) fn console_told(
     desks: &mut Vec<Desk>,
     words: &str,
 ) -> Result<String, Fail> {
-    let end = console_end(alloc, desks, words)?;
-    Ok(format!(in alloc; "console: {end:?}\n")?)
+    match desks.get_mut(0) {
+        Some(desk) => shown(alloc, "console", &console_end(alloc, desk, words)?),
+        None => Err(Fail::from("no desk")),
+    }
 }

@@ -1,6 +1,5 @@
 //! The end of a port: its desk finishes, it is closed or cut and sealed, and what is left is taken.
 use crate::documents::A;
-use crate::ending::assert_ended;
 use crate::hub_script::assert_told;
 use crate::ports::console;
 use std::test::Fail;
@@ -8,7 +7,7 @@ use std::test::Fail;
 /// All that a port is due is in its ring when it is sealed: so many are left, and so many are taken.
 #[test]
 fn eight_outs_are_left(rt: HostRuntime) -> Result<(), Fail> {
-    assert_ended(
+    assert_told(
         &rt,
         rt.alloc(),
         A,
@@ -57,7 +56,7 @@ batch 1: Some(Running)
 /// A port isn't closed while an event of its desk remains. The other port goes on.
 #[test]
 fn events_remain(rt: HostRuntime) -> Result<(), Fail> {
-    assert_ended(
+    assert_told(
         &rt,
         rt.alloc(),
         A,
@@ -96,7 +95,7 @@ batch 1: Some(Complete)
 /// Of a port that is cut no event is taken any more, and it can't be closed. What waits is still put.
 #[test]
 fn cut_port_takes_nothing(rt: HostRuntime) -> Result<(), Fail> {
-    assert_ended(
+    assert_told(
         &rt,
         rt.alloc(),
         A,

@@ -3,9 +3,10 @@ ghost use Rattle.std.specs.Prelude.{◌≡◌, IfOk};
 ghost use Rattle.batch_model.specs.Plant.{opening};
 ghost use Rattle.batch_engine.specs.View.{plant_of};
 
+use crate::lines::text_of;
 use batch_cell::Cell;
 use batch_check::check;
-use batch_engine::{Engine, Event, Out};
+use batch_engine::{Engine, Event, Line, Out};
 use batch_reader::{read_cell, read_recipe};
 use batch_recipe::Recipe;
 use batch_verify::{Cleared, verify};
@@ -17,11 +18,11 @@ use std::test::Fail;
 const MAX_MOVES: usize = 100_000;
 
 fn cell_of(alloc: Global, document: &str) -> Result<Cell, Fail> {
-    Ok(read_cell(alloc, document.as_bytes())?)
+    read_cell(alloc, document.as_bytes()).map_err(|fault| Fail::from(fault))
 }
 
 fn recipe_of(alloc: Global, document: &str) -> Result<Recipe, Fail> {
-    Ok(read_recipe(alloc, document.as_bytes())?)
+    read_recipe(alloc, document.as_bytes()).map_err(|fault| Fail::from(fault))
 }
 
 fn recipes_of(alloc: Global, documents: &[&str]) -> Result<Vec<Recipe>, Fail> {
@@ -54,60 +55,52 @@ pub(crate) fn engine_of(alloc: Global, cell: &str, recipes: &[&str]) -> Result<E
 
 /// The event of a line.
 pub(crate) fn event_of(alloc: Global, line: &str) -> Result<Event, Fail> {
-    let event = read_event(alloc, line.as_bytes())?;
-    Ok(event.ok_or("no event")?)
-}
-
-pub(crate) fn tell(engine: &Engine, out: Out, record: &mut Vec<u8>) -> Result<(), Fail> {
-    Ok(write_out(&out, engine.cleared(), record)?)
-}
-
-/// Makes all moves that are possible.
-fn settle(engine: &mut Engine, record: &mut Vec<u8>) -> Result<(), Fail> {
-    for _ in 0..MAX_MOVES {
-        let Some(line) = engine.next_move() else {
-            return Ok(());
-        };
-        tell(engine, Out::Move(line), record)?;
-    }
-    Err("moves without end")?
-}
-
-/// Takes the event of the line.
-pub(crate) fn take(
-    alloc: Global,
-    engine: &mut Engine,
-    line: &str,
-    record: &mut Vec<u8>,
-) -> Result<(), Fail> {
-    let reply = engine.accept(&event_of(alloc, line)?);
-    tell(engine, Out::Reply(reply), record)
-}
-
-fn text_of(record: Vec<u8>) -> Result<String, Fail> {
-    Ok(String::from_utf8(record)?)
+    read_event(alloc, line.as_bytes())?.ok_or_else(|| Fail::from("no event"))
 }
 
 /// The record of the event of the line, of whose moves none is made.
 pub(crate) fn accept(alloc: Global, engine: &mut Engine, line: &str) -> Result<String, Fail> {
-    let mut record = Vec::new(alloc);
-    take(alloc, engine, line, &mut record)?;
-    text_of(record)
+    let reply = engine.accept(&event_of(alloc, line)?);
+    text_of(alloc, engine.cleared(), Some(Out::Reply(reply)), "")
 }
 
 /// The record of the next move.
 pub(crate) fn next_move(alloc: Global, engine: &mut Engine) -> Result<String, Fail> {
-    let mut record = Vec::new(alloc);
-    match engine.next_move() {
-        Some(line) => tell(engine, Out::Move(line), &mut record)?,
-        None => record.extend_from_slice(b"no move\n")?,
-    }
-    text_of(record)
+    let out = match engine.next_move() {
+        Some(line) => Some(Out::Move(line)),
+        None => None,
+    };
+    text_of(alloc, engine.cleared(), out, "no move\n")
 }
 
-/// The record of the moves that are possible.
-pub(crate) fn moves(alloc: Global, engine: &mut Engine) -> Result<String, Fail> {
+/// What is told of the moves that are made.
+pub(crate) trait Told {
+    fn tell(&mut self, line: Line);
+}
+
+fn write_move(engine: &Engine, line: Line, record: &mut Vec<u8>) -> Result<(), Fail> {
+    Ok(write_out(&Out::Move(line), engine.cleared(), record)?)
+}
+
+/// Makes all moves that are possible, and tells them.
+fn settle<T: Told>(engine: &mut Engine, told: &mut T, record: &mut Vec<u8>) -> Result<(), Fail> {
+    for _ in 0..MAX_MOVES {
+        let Some(line) = engine.next_move() else {
+            return Ok(());
+        };
+        write_move(engine, line, record)?;
+        told.tell(line);
+    }
+    Err(Fail::from("moves without end"))
+}
+
+/// The record of the moves that are possible, which are told.
+pub(crate) fn moves<T: Told>(
+    alloc: Global,
+    engine: &mut Engine,
+    told: &mut T,
+) -> Result<String, Fail> {
     let mut record = Vec::new(alloc);
-    settle(engine, &mut record)?;
-    text_of(record)
+    settle(engine, told, &mut record)?;
+    Ok(String::from_utf8(record)?)
 }

@@ -5,7 +5,8 @@ ghost use Rattle.batch_desk.specs.HubState.{rings};
 
 use crate::hubs::hub_of;
 use crate::left::Left;
-use crate::ports::{at_desk, at_hub, send, take};
+use crate::ports::{at_desk, at_desks, at_hub};
+use crate::teller::Teller;
 use batch_desk::{Desk, Hub, PortPlan};
 use batch_verify::Cleared;
 use std::alloc::Global;
@@ -50,24 +51,6 @@ impl Seats {
         Ok(Seats { hub, first, others })
     }
 
-    /// What is told of a line of a script.
-    #[tactic(auto, using(crate::proofs::Seating::seated_stays))]
-    pub(crate) fn answer(
-        &mut self,
-        alloc: Global,
-        cleared: &Cleared,
-        line: &str,
-    ) -> Result<String, Fail> {
-        let (word, words) = line.split_once(' ').ok_or("no port")?;
-        let (port, event) = words.split_once(' ').unwrap_or((words, ""));
-        match (word, port) {
-            ("send", "0") => send(alloc, &mut self.first, event),
-            ("take", "0") => take(alloc, cleared, &mut self.first),
-            ("send" | "take", _) => at_desk(alloc, cleared, &mut self.others, 1, words),
-            _ => at_hub(alloc, &mut self.hub, word, words),
-        }
-    }
-
     /// The first desk finishes.
     #[tactic(auto, using(crate::proofs::Seating::left_seated))]
     pub(crate) fn finish(self) -> Left {
@@ -78,6 +61,19 @@ impl Seats {
             token,
             inbox,
             others,
+        }
+    }
+}
+
+impl Teller<Cleared> for Seats {
+    #[tactic(auto, using(crate::proofs::Seating::seated_stays))]
+    fn answer(&mut self, alloc: Global, cleared: &mut Cleared, line: &str) -> Result<String, Fail> {
+        let (word, words) = line.split_once(' ').unwrap_or((line, ""));
+        let (port, event) = words.split_once(' ').unwrap_or((words, ""));
+        match (word, port) {
+            ("send" | "take", "0") => at_desk(alloc, cleared, &mut self.first, event),
+            ("send" | "take", _) => at_desks(alloc, cleared, &mut self.others, 1, words),
+            _ => at_hub(alloc, &mut self.hub, word, words),
         }
     }
 }

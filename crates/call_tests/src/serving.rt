@@ -4,8 +4,7 @@ use crate::ends::{Failure, Narrow, OneByOne};
 use crate::records::cleared_of;
 use batch_serve::{NoRemarks, SetFault, serve_set};
 use std::alloc::Global;
-use std::io::Read;
-use std::process::Abort;
+use std::io::{Read, Write};
 use std::test::Fail;
 
 /// More calls of a reader than any of these runs makes, but where it says another number.
@@ -65,15 +64,15 @@ impl Outcome {
     }
 }
 
-/// That the run ended so, and its record has these bytes. The comparison is proved here, and not anew in each test.
-pub(crate) fn assert_outcome(
-    rt: &impl Abort,
-    outcome: Result<Outcome, Fail>,
-    ending: Result<usize, SetFault>,
-    record: &[u8],
-) -> Result<(), Fail> {
-    assert!(rt; outcome?.is(ending, record));
-    Ok(())
+/// Serves what the reader gives to the writer.
+fn served<R: Read, W: Write>(
+    alloc: Global,
+    reader: &mut R,
+    writer: &mut W,
+    max_reads: u64,
+) -> Result<Result<usize, SetFault>, Fail> {
+    let cleared = cleared_of(alloc, CELL1, &[A])?;
+    Ok(serve_set(alloc, cleared, reader, writer, &mut NoRemarks, max_reads))
 }
 
 /// Serves what the reader gives.
@@ -82,33 +81,17 @@ pub(crate) fn run<R: Read + Drop>(
     reader: R,
     max_reads: u64,
 ) -> Result<Outcome, Fail> {
-    let cleared = cleared_of(alloc, CELL1, &[A])?;
     let mut reader = reader;
     let mut record = Vec::new(alloc);
-    let ending = serve_set(
-        alloc,
-        cleared,
-        &mut reader,
-        &mut record,
-        &mut NoRemarks,
-        max_reads,
-    );
+    let ending = served(alloc, &mut reader, &mut record, max_reads)?;
     Ok(Outcome { ending, record })
 }
 
 /// Serves the input, which comes byte by byte, to a writer that fails.
 pub(crate) fn run_into(alloc: Global, fails_at: usize, failure: Failure) -> Result<Outcome, Fail> {
-    let cleared = cleared_of(alloc, CELL1, &[A])?;
     let mut reader = OneByOne::of(INPUT);
     let mut writer = Narrow::failing(alloc, fails_at, failure);
-    let ending = serve_set(
-        alloc,
-        cleared,
-        &mut reader,
-        &mut writer,
-        &mut NoRemarks,
-        MANY_READS,
-    );
+    let ending = served(alloc, &mut reader, &mut writer, MANY_READS)?;
     Ok(Outcome {
         ending,
         record: writer.taken,

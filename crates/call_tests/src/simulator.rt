@@ -1,10 +1,29 @@
 //! Scripts of a simulator: an order or a tick a line, whose answers are one text.
 use crate::expected::assert_text;
-use batch_matrix::{Command, Report};
+use crate::teller::{Teller, answers};
+use crate::words::{number_of, shown};
+use batch_matrix::Command;
 use batch_sim::{Order, Simulator, SteadyUnit, UnitDriver};
 use std::alloc::{AllocError, Global};
 use std::process::Abort;
 use std::test::Fail;
+
+/// The orders by their words.
+const ORDERS: [(&str, Order); 7] = [
+    ("start", Order::Start),
+    ("pause", Order::Send(Command::Pause)),
+    ("resume", Order::Send(Command::Resume)),
+    ("hold", Order::Send(Command::Hold)),
+    ("restart", Order::Send(Command::Restart)),
+    ("stop", Order::Send(Command::Stop)),
+    ("abort", Order::Send(Command::Abort)),
+];
+
+/// What a line asks for: an order to a phase of a unit, or a tick of a unit.
+enum Call {
+    Order(u16, u16, Order),
+    Tick(u16),
+}
 
 /// Steady units with so many phases each, which run so many ticks.
 pub(crate) fn steady(
@@ -19,73 +38,51 @@ pub(crate) fn steady(
     Ok(units)
 }
 
-fn order_of(word: &str) -> Option<Order> {
-    match word {
-        "start" => Some(Order::Start),
-        "pause" => Some(Order::Send(Command::Pause)),
-        "resume" => Some(Order::Send(Command::Resume)),
-        "hold" => Some(Order::Send(Command::Hold)),
-        "restart" => Some(Order::Send(Command::Restart)),
-        "stop" => Some(Order::Send(Command::Stop)),
-        "abort" => Some(Order::Send(Command::Abort)),
-        _ => None,
+fn order_of(word: &str) -> Result<Order, Fail> {
+    for (name, order) in &ORDERS {
+        if *name == word {
+            return Ok(*order);
+        }
     }
+    Err(Fail::from("no such order"))
 }
 
-/// Gives the order of `UNIT PHASE WORD`, and tells whether there is such a unit.
-fn order<D: UnitDriver>(
-    alloc: Global,
-    units: &mut Simulator<D>,
-    words: &str,
-) -> Result<String, Fail> {
-    let (unit, words) = words.split_once(' ').ok_or("no phase")?;
-    let (phase, word) = words.split_once(' ').ok_or("no order")?;
-    let order = order_of(word).ok_or("no such order")?;
-    let known = units.order(unit.parse()?, phase.parse()?, order);
-    Ok(format!(in alloc; "order: {known}\n")?)
+/// The order of `UNIT PHASE WORD`.
+fn order_call(words: &str) -> Result<Call, Fail> {
+    let (unit, words) = number_of(words)?;
+    let (phase, word) = number_of(words)?;
+    Ok(Call::Order(unit, phase, order_of(word)?))
 }
 
-/// A tick of a unit, and what it reports.
-fn tick<D: UnitDriver>(
-    alloc: Global,
-    units: &mut Simulator<D>,
-    unit: &str,
-) -> Result<String, Fail> {
-    let answer: Option<(u16, Report)> = units.tick(unit.parse()?);
-    Ok(format!(in alloc; "tick: {answer:?}\n")?)
+fn tick_call(unit: &str) -> Result<Call, Fail> {
+    let (unit, _) = number_of(unit)?;
+    Ok(Call::Tick(unit))
 }
 
-/// What is told of a line of a script.
-fn answer<D: UnitDriver>(
-    alloc: Global,
-    units: &mut Simulator<D>,
-    line: &str,
-) -> Result<String, Fail> {
+fn call_of(line: &str) -> Result<Call, Fail> {
     match line.split_once(' ') {
-        Some(("order", words)) => order(alloc, units, words),
-        Some(("tick", unit)) => tick(alloc, units, unit),
+        Some(("order", words)) => order_call(words),
+        Some(("tick", unit)) => tick_call(unit),
         _ => Err(Fail::from("no such word")),
     }
 }
 
-/// What is told of each line.
-pub(crate) fn answers<D: UnitDriver>(
-    alloc: Global,
-    units: &mut Simulator<D>,
-    script: &str,
-) -> Result<String, Fail> {
-    let mut told = String::new(alloc);
-    for line in script.lines() {
-        let answer = answer(alloc, units, line)?;
-        told.push_str(answer.as_str())?;
+/// Of an order it is told whether there is such a unit, of a tick what the unit reports.
+impl<D: UnitDriver> Teller<()> for Simulator<D> {
+    fn answer(&mut self, alloc: Global, _beside: &mut (), line: &str) -> Result<String, Fail> {
+        match call_of(line)? {
+            Call::Order(unit, phase, order) => {
+                shown(alloc, "order", &self.order(unit, phase, order))
+            }
+            Call::Tick(unit) => shown(alloc, "tick", &self.tick(unit)),
+        }
     }
-    Ok(told)
 }
 
 /// What steady units with so many phases each tell of the script, when a phase runs so many ticks.
 fn told(alloc: Global, phases: &[u16], ticks: u64, script: &str) -> Result<String, Fail> {
     let mut units = Simulator::new(steady(alloc, phases, ticks)?);
-    answers(alloc, &mut units, script)
+    answers(alloc, &mut units, &mut (), script)
 }
 
 /// That what steady units tell of the script is the text expected.

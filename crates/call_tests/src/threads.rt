@@ -1,8 +1,8 @@
 //! Plants in threads.
 use crate::expected::assert_text;
 use crate::gates::{Meeting, Open};
-use crate::plants::{run, steady_units};
-use batch_plant::PlantGates;
+use crate::plants::{run, words_of};
+use batch_plant::{PlantFault, PlantGates};
 use std::alloc::Global;
 use std::sync::Arc;
 use std::sync::atomic::{AtomicU64, Ordering};
@@ -22,42 +22,67 @@ fn open_gates() -> PlantGates<Open, Open, Open> {
 #[test]
 fn refused_create_ends_the_plant(rt: HostRuntime) -> Result<(), Fail> {
     let alloc = rt.alloc();
-    let units = steady_units(alloc, 5)?;
+    let fault = run(&rt, alloc, 0, 1_000_000, open_gates());
     assert_text(
         &rt,
-        run(&rt, alloc, units, 0, 1, 1_000_000, open_gates()),
+        words_of(alloc, fault),
         "what the console sent was refused",
     )
 }
 
+/// The flags of the loops of console and link, and how many of their gates saw the other's.
+#[derive(Drop)]
+struct Flags {
+    console: Arc<AtomicU64, Global>,
+    link: Arc<AtomicU64, Global>,
+    met: Arc<AtomicU64, Global>,
+}
+
+fn new_flags(alloc: Global) -> Result<Flags, Fail> {
+    Ok(Flags {
+        console: Arc::new(alloc, AtomicU64::new(0))?,
+        link: Arc::new(alloc, AtomicU64::new(0))?,
+        met: Arc::new(alloc, AtomicU64::new(0))?,
+    })
+}
+
+/// A gate whose own flag is the first.
+fn meeting(
+    mine: &Arc<AtomicU64, Global>,
+    other: &Arc<AtomicU64, Global>,
+    met: &Arc<AtomicU64, Global>,
+) -> Result<Meeting, Fail> {
+    Ok(Meeting {
+        mine: Arc::try_clone(mine)?,
+        other: Arc::try_clone(other)?,
+        met: Arc::try_clone(met)?,
+    })
+}
+
+/// Gates of console and link that look at the other's flag.
+fn meeting_gates(flags: &Flags) -> Result<PlantGates<Open, Meeting, Meeting>, Fail> {
+    Ok(PlantGates {
+        hub: Open,
+        console: meeting(&flags.console, &flags.link, &flags.met)?,
+        link: meeting(&flags.link, &flags.console, &flags.met)?,
+    })
+}
+
+/// Runs a plant with these flags.
+fn run_meeting<R: Threads>(
+    rt: &R,
+    alloc: Global,
+    flags: &Flags,
+) -> Result<Option<PlantFault>, Fail> {
+    let gates = meeting_gates(flags)?;
+    run(rt, alloc, 1000, 10_000_000, gates)
+}
+
 /// How many of the gates of console and link saw that the other's loop runs.
 fn met<R: Threads>(rt: &R, alloc: Global) -> Result<u64, Fail> {
-    let console = Arc::new(alloc, AtomicU64::new(0))?;
-    let link = Arc::new(alloc, AtomicU64::new(0))?;
-    let met = Arc::new(alloc, AtomicU64::new(0))?;
-    let gates = PlantGates {
-        hub: Open,
-        console: Meeting {
-            mine: Arc::try_clone(&console)?,
-            other: Arc::try_clone(&link)?,
-            met: Arc::try_clone(&met)?,
-        },
-        link: Meeting {
-            mine: link,
-            other: console,
-            met: Arc::try_clone(&met)?,
-        },
-    };
-    run(
-        rt,
-        alloc,
-        steady_units(alloc, 5)?,
-        1000,
-        1,
-        10_000_000,
-        gates,
-    )?;
-    Ok(met.load(Ordering::SeqCst))
+    let flags = new_flags(alloc)?;
+    let _ = run_meeting(rt, alloc, &flags)?;
+    Ok(flags.met.load(Ordering::SeqCst))
 }
 
 #[test]

@@ -1,9 +1,11 @@
 //! Driving to a writer that fails.
-use crate::driven::{START, steady_stage};
+use crate::documents::{A, CELL1};
+use crate::driven::{start, steady_units};
 use crate::ends::{Failure, Narrow};
-use crate::stage::Stage;
-use batch_drive::DriveFault;
-use batch_sim::SteadyUnit;
+use crate::expected::assert_none;
+use crate::records::engine_of;
+use batch_drive::{DriveFault, drive};
+use batch_engine::Engine;
 use std::alloc::Global;
 use std::test::Fail;
 
@@ -16,20 +18,30 @@ end 1 0
 state 1 complete
 ";
 
+/// Rows of a writer that refuses one handing on: which one, after how many rounds, how these end, and what it has then taken.
+/// What is written is handed on once a round.
+const HANDED_ON: [(usize, u64, Result<(), DriveFault>, &[u8]); 4] = [
+    (1, 0, Ok(()), b""),
+    (1, 2, Err(DriveFault::Write), b""),
+    (2, 2, Err(DriveFault::Write), END),
+    (3, 2, Ok(()), END),
+];
+
 /// How so many rounds of a batch that is started here end over this writer.
 fn driven(
     alloc: Global,
-    stage: &mut Stage<SteadyUnit>,
+    engine: &mut Engine,
     writer: &mut Narrow,
     rounds: u64,
 ) -> Result<Result<(), DriveFault>, Fail> {
-    let _ = stage.told(alloc, START)?;
-    Ok(stage.drive_into(alloc, writer, rounds))
+    let mut units = steady_units(alloc)?;
+    start(alloc, engine, &mut units)?;
+    Ok(drive(alloc, engine, &mut units, writer, rounds))
 }
 
 fn ended(alloc: Global, writer: &mut Narrow, rounds: u64) -> Result<Result<(), DriveFault>, Fail> {
-    let mut stage = steady_stage(alloc)?;
-    driven(alloc, &mut stage, writer, rounds)
+    let mut engine = engine_of(alloc, CELL1, &[A])?;
+    driven(alloc, &mut engine, writer, rounds)
 }
 
 /// Whether so many rounds end so over this writer, which has then taken these bytes.
@@ -56,35 +68,23 @@ fn first_wrong_write(alloc: Global) -> Result<Option<usize>, Fail> {
     Ok(None)
 }
 
-#[test]
-fn writer_fails_at_each_call(rt: HostRuntime) -> Result<(), Fail> {
-    assert_eq!(rt; first_wrong_write(rt.alloc())?, None);
-    Ok(())
+/// The first row of those that are handed on that isn't so.
+fn first_wrong_handing(alloc: Global) -> Result<Option<usize>, Fail> {
+    for (refused, rounds, ending, taken) in &HANDED_ON {
+        let writer = Narrow::failing(alloc, *refused, Failure::KeepsBack);
+        if !is_ended(alloc, writer, *rounds, *ending, *taken)? {
+            return Ok(Some(*refused));
+        }
+    }
+    Ok(None)
 }
 
-/// Whether what is written is handed on once a round: so many rounds end so where this handing on is refused.
-fn is_handed_on(
-    alloc: Global,
-    refused: usize,
-    rounds: u64,
-    ending: Result<(), DriveFault>,
-    taken: &[u8],
-) -> Result<bool, Fail> {
-    is_ended(
-        alloc,
-        Narrow::failing(alloc, refused, Failure::KeepsBack),
-        rounds,
-        ending,
-        taken,
-    )
+#[test]
+fn writer_fails_at_each_call(rt: HostRuntime) -> Result<(), Fail> {
+    assert_none(&rt, first_wrong_write(rt.alloc()))
 }
 
 #[test]
 fn rounds_are_handed_on(rt: HostRuntime) -> Result<(), Fail> {
-    let alloc = rt.alloc();
-    assert!(rt; is_handed_on(alloc, 1, 0, Ok(()), b"")?);
-    assert!(rt; is_handed_on(alloc, 1, 2, Err(DriveFault::Write), b"")?);
-    assert!(rt; is_handed_on(alloc, 2, 2, Err(DriveFault::Write), END)?);
-    assert!(rt; is_handed_on(alloc, 3, 2, Ok(()), END)?);
-    Ok(())
+    assert_none(&rt, first_wrong_handing(rt.alloc()))
 }
