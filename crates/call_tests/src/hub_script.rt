@@ -1,6 +1,7 @@
 //! Scripts of a hub and its desks: a line for each call, whose answers are one text.
 use crate::ending::ended_told;
 use crate::expected::assert_text;
+use crate::hub_stage::Stage;
 use crate::hubs::hub_of;
 use crate::lines::demo_set_of;
 use crate::teller::answers;
@@ -18,7 +19,7 @@ fn stage_told(
     plans: &[PortPlan],
     script: &str,
 ) -> Result<String, Fail> {
-    let mut stage = hub_of(alloc, recipe, plans)?;
+    let mut stage = Stage(hub_of(alloc, recipe, plans)?);
     answers(alloc, &mut stage, cleared, script)
 }
 

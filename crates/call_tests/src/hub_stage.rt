@@ -8,6 +8,10 @@ use batch_verify::Cleared;
 use std::alloc::Global;
 use std::test::Fail;
 
+/// A hub, and the desks of its ports.
+#[derive(Drop)]
+pub(crate) struct Stage(pub(crate) (Hub, Vec<Desk>));
+
 /// Seals a port, and tells whether there is a token.
 fn sealed(hub: &mut Hub, port: usize) -> Result<bool, HubFault> {
     hub.seal(port).map(|token| token.is_some())
@@ -25,16 +29,16 @@ fn lose(alloc: Global, desks: &mut Vec<Desk>) -> Result<String, Fail> {
 }
 
 /// What is told of a line is in the names of the cleared set.
-impl Teller<Cleared> for (Hub, Vec<Desk>) {
+impl Teller<Cleared> for Stage {
     fn answer(&mut self, alloc: Global, cleared: &mut Cleared, line: &str) -> Result<String, Fail> {
         let (word, words) = line.split_once(' ').unwrap_or((line, ""));
         match word {
-            "send" | "take" => at_desks(alloc, cleared, &mut self.1, 0, words),
-            "hub" => hub_told(alloc, &mut self.0, words),
-            "console" => console_told(alloc, &mut self.1, words),
-            "seal" => seal(alloc, &mut self.0, words),
-            "lose" => lose(alloc, &mut self.1),
-            _ => at_hub(alloc, &mut self.0, word, words),
+            "send" | "take" => at_desks(alloc, cleared, &mut self.0.1, 0, words),
+            "hub" => hub_told(alloc, &mut self.0.0, words),
+            "console" => console_told(alloc, &mut self.0.1, words),
+            "seal" => seal(alloc, &mut self.0.0, words),
+            "lose" => lose(alloc, &mut self.0.1),
+            _ => at_hub(alloc, &mut self.0.0, word, words),
         }
     }
 }

@@ -18,11 +18,11 @@ use std::test::Fail;
 const MAX_MOVES: usize = 100_000;
 
 fn cell_of(alloc: Global, document: &str) -> Result<Cell, Fail> {
-    read_cell(alloc, document.as_bytes()).map_err(|fault| Fail::from(fault))
+    read_cell(alloc, document.as_bytes()).map_err(|_| Fail::from("no cell"))
 }
 
 fn recipe_of(alloc: Global, document: &str) -> Result<Recipe, Fail> {
-    read_recipe(alloc, document.as_bytes()).map_err(|fault| Fail::from(fault))
+    read_recipe(alloc, document.as_bytes()).map_err(|_| Fail::from("no recipe"))
 }
 
 fn recipes_of(alloc: Global, documents: &[&str]) -> Result<Vec<Recipe>, Fail> {
