@@ -1,6 +1,6 @@
 //! Running the program's commands.
 ghost use Rattle.std.specs.Prelude.{◌≡◌, IfErr, IfOk, OnOk, map, string_bytes};
-ghost use Rattle.batch_words.specs.CommandLine.{audit, judgement_of, keep, plant, remark, request_of, serve, source_of};
+ghost use Rattle.batch_words.specs.CommandLine.{audit, judgement_of, keep, plant, remark, request_of, serve, serve_desks, source_of};
 ghost use Rattle.std.specs.Io.KnownBytes.{Appends};
 ghost use Rattle.batch_commands.specs.Requests.{HaltsDemo, HaltsJudgement, HaltsSource, IsDemoSet, IsSetOf, IsVerdict, demo_gives};
 ghost use Rattle.std.specs.List.{flat_map, list_any};
@@ -10,6 +10,7 @@ ghost use Rattle.batch_commands.specs.Saying.{IsWarned};
 
 use crate::course::Course;
 use crate::demo::{CELL_PATH, CERTIFICATE_PATH, Demo, RECIPE_PATH};
+use crate::desks::clear_desks;
 use crate::digested::clear_digested;
 use crate::documents::{Documents, clear_documents, show_documents, verify_documents};
 use crate::every::{check_asked, draw_asked};
@@ -124,6 +125,18 @@ fn run_command<D: Documents, O: Write, E: Write>(
             output,
             errors,
         ),
+        Subcommand::ServeDesks(words) => serve_desks(
+            alloc,
+            quiet,
+            &words.desks,
+            &words.cell,
+            &words.certificate,
+            &words.recipes,
+            words.times,
+            documents,
+            output,
+            errors,
+        ),
         Subcommand::Status { path } => Course::Reads { path },
         Subcommand::Picture { path } => Course::Draws { path },
         Subcommand::Audit(words) => audit(alloc, quiet, words, documents, output, errors),
@@ -147,6 +160,33 @@ fn serve<D: Documents, O: Write, E: Write>(
 {
     match clear_source(alloc, documents, source) {
         Ok(set) => Course::Serves { set, quiet },
+        Err(halt) => Course::Ends(announce(alloc, quiet, &halt, output, errors)),
+    }
+}
+
+/// Has desks served over the set of documents.
+fn serve_desks<D: Documents, O: Write, E: Write>(
+    alloc: Global,
+    quiet: bool,
+    desks: &str,
+    cell: &str,
+    certificate: &str,
+    recipes: &[String],
+    times: bool,
+    documents: &D,
+    output: &mut O,
+    errors: &mut E,
+) -> Course
+    ensures { IsDone (D.gives documents.now) (serve_desks desks.now cell.now certificate.now (map string_bytes recipes.now) times) quiet
+        (record { before = O.contents output.old; after = O.contents output.new })
+        (record { before = E.contents errors.old; after = E.contents errors.new }) result }
+{
+    match clear_desks(alloc, documents, desks, cell, certificate, recipes) {
+        Ok(served) => Course::ServesDesks {
+            served,
+            quiet,
+            times,
+        },
         Err(halt) => Course::Ends(announce(alloc, quiet, &halt, output, errors)),
     }
 }

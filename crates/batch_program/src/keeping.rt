@@ -17,13 +17,13 @@ use crate::journal_faults::{
     complain_block, complain_stopped, complain_unopened, refuse_start, tell_cut,
 };
 use crate::journals::Journals;
-use crate::noted::Noted;
 use crate::program::{MAX_READS, tell_left};
 use batch_commands::{Digested, SUCCESS};
 use batch_engine::Engine;
 use batch_journal::{Disk, Run};
 use batch_keep::{Journal, KeepFault, Started, serve_started, serve_started_remarked, start};
 use batch_serve::{CleanReader, NoRemarks, Remarking, clean_lines_serve_alike};
+use batch_streams::Noted;
 use batch_wire::{WriteFault, write_all};
 use batch_words::Comments;
 use std::alloc::Global;

@@ -54,3 +54,8 @@ returns-in-Plant g c =
 pub returns : goal.returns
 returns g c =
     rw c.in-Explain.is (explains (map string_bytes c.deref-in-Explain.result.now) _ (cc (c.deref-in-Explain.ensures.value, c.in-Explain.texts-is)) c.tell_codes.ensures)
+
+pub returns-in-ServeDesks : goal.returns-in-ServeDesks
+returns-in-ServeDesks g c =
+    rw c.in-ServeDesks.is
+    (rw (c.deref-in-ServeDesks.ensures, c.deref-in-ServeDesks-2.ensures, c.deref-in-ServeDesks-3.ensures, c.deref-in-ServeDesks-4.ensures.value, c.in-ServeDesks.words-is) at c.serve_desks.ensures)

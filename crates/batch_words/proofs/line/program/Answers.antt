@@ -1,30 +1,8 @@
-use Rattle.std.proofs.Common.{codes}
+use Rattle.std.proofs.Common.{◌∙◌, ap}
 use Rattle.std.proofs.lemmas.Result.{IfOk-weaker}
-use Rattle.batch_words.specs.CommandLine.{audit_app, certified_app, check_app, draw_app, explain_app, plant_app, status_app, show_app, run_app}
-use Rattle.batch_words.proofs.Arguments.{with_command}
+use Rattle.batch_words.specs.Table.{with_commands}
 use Rattle.batch_words.proofs.line.program.Goals as goal
 
 pub returns : goal.returns
-returns c =
-    let checking =
-    with_command c.in_ok-bare.field-0 c.in_ok-checking.checking check_app c.check.result c.in_ok-checking.ensures c.check.ensures
-    c.in_ok-bare.ensures in
-    let verifying =
-    with_command c.in_ok-checking.checking c.in_ok-verifying.verifying (certified_app (codes "verify")) c.verify.result
-    c.in_ok-verifying.ensures c.verify.ensures checking in
-    let showing =
-    with_command c.in_ok-verifying.verifying c.in_ok-showing.showing show_app c.show.result c.in_ok-showing.ensures c.show.ensures verifying in
-    let running =
-    with_command c.in_ok-showing.showing c.in_ok-running.running run_app c.run.result
-    c.in_ok-running.ensures c.run.ensures showing in
-    let telling =
-    with_command c.in_ok-running.running c.in_ok-telling.telling status_app c.status.result c.in_ok-telling.ensures c.status.ensures running in
-    let drawing =
-    with_command c.in_ok-telling.telling c.in_ok-drawing.drawing draw_app c.draw.result c.in_ok-drawing.ensures c.draw.ensures telling in
-    let auditing =
-    with_command c.in_ok-drawing.drawing c.in_ok-auditing.auditing audit_app c.audit.result c.in_ok-auditing.ensures c.audit.ensures drawing in
-    let planting =
-    with_command c.in_ok-auditing.auditing c.in_ok-planting.planting plant_app c.plant.result c.in_ok-planting.ensures c.plant.ensures auditing in
-    IfOk-weaker c.with_command-9.result _ _
-    (λ program adds. with_command c.in_ok-planting.planting program explain_app c.explain.result adds c.explain.ensures planting)
-    c.with_command-9.ensures
+returns c = IfOk-weaker c.with_all.result _ _
+    (λ program is. is ∙ ap (λ app. with_commands app c.commands.result.now) c.in_ok-bare.ensures ∙ c.commands.ensures) c.with_all.ensures
