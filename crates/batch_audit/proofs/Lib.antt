@@ -1,2 +1,4 @@
 pub mod ComparingLemmas
+pub mod Choices
+pub mod Freedom
 pub mod Audited

@@ -1,24 +1,51 @@
--- private: how far a record was compared with the text that is due.
-use Rattle.std.specs.Prelude.{◌≡◌, ◌≢◌, ◌⊎◌, ℕ, ◌-◌, ◌^◌, List, [], ◌∷◌, ◌++◌, length, min}
+-- private: how far a record was compared with what is told.
+use Rattle.std.specs.Prelude.{◌≡◌, ◌≢◌, ℕ, ◌+◌, ◌-◌, ◌^◌, List, [], ◌∷◌, ◌++◌, length, take, min, Option, Some, None, false}
+use Rattle.batch_wire.specs.EventLine.{is_comment}
 use Rattle.batch_wire.specs.Transcript.{lines_of}
-use Rattle.batch_serve.specs.Replays.{BeginsText, ShowsNoWant}
-use Rattle.batch_audit.specs.Audits.{HasLines, number_behind, told_line, told_text}
+use Rattle.batch_serve.specs.Replays.{BeginsText}
+use Rattle.batch_serve.specs.Serving.{EndsLine, HasNoFeed}
+use Rattle.batch_audit.specs.Audits.{told_text}
 use Rattle.batch_audit.specs.declared.finding.Finding.{Finding}
 use Rattle.batch_audit.specs.declared.finding.Finding.TheVariants.{Agrees, Differs, EndsBefore}
 
--- these lines were compared, and the rest of the record is to be with the rest of what is due
-pub record IsCompared (text due rest left : List ℕ) (count : ℕ) : Type 0 where
-  pub lines : List (List ℕ)
+-- these lines were taken of the text, behind so many before, and the rest is left
+pub record TakesLines (start : ℕ) (text : List ℕ) (lines : List (List ℕ)) (count : ℕ) (rest : List ℕ) : Type 0 where
   pub read : lines_of text ≡ lines ++ lines_of rest
-  pub told : due ≡ told_text lines ++ left
-  pub counted : count ≡ min (length lines) (2 ^ 64 - 1)
+  pub counted : min count (2 ^ 64 - 1) ≡ min (start + length lines) (2 ^ 64 - 1)
 
--- what comes of the comparison of a record with the text that is due
-pub data Compares (text due : List ℕ) : Finding → Type 0 where
-  agrees : (lines : List (List ℕ)) → HasLines text lines [] → due ≡ told_text lines → Compares text due Agrees
-  differs : (before others : List (List ℕ)) (line last left : List ℕ) → HasLines text (before ++ line ∷ others) last
-      → due ≡ told_text before ++ left → (BeginsText (told_line line) left → ⊥) → ShowsNoWant (told_line line)
-      → Compares text due (Differs (number_behind before))
-  ends : (lines : List (List ℕ)) (last left : List ℕ) → HasLines text lines last
-      → due ≡ told_text lines ++ left → (last ≢ []) ⊎ (left ≢ [])
-      → Compares text due (EndsBefore (number_behind lines))
+-- the lines that were taken of the text tell what was due, but for what is left of that
+pub record IsCompared (start : ℕ) (text due : List ℕ) (count : ℕ) (rest left : List ℕ) : Type 0 where
+  pub lines : List (List ℕ)
+  pub takes : TakesLines start text lines count rest
+  pub told : due ≡ told_text lines ++ left
+
+-- the line that comes next ends there, and is no comment; None where no line feed ends it
+abbrev pub IsNextLine : List ℕ → Option ℕ → Type 0
+IsNextLine rest None = HasNoFeed rest
+IsNextLine rest (Some at) = EndsLine at rest × (is_comment (take at rest) ≡ false)
+
+-- why no further line was taken: all is told; the line that comes next is another than what is left begins with; or there is none
+pub data Halts (count : ℕ) (rest left : List ℕ) : Option Finding → Type 0 where
+  all_told : left ≡ [] → Halts count rest left None
+  differs : (number at : ℕ) → IsNextLine rest (Some at) → left ≢ [] → (BeginsText (take at rest ++ 10 ∷ []) left → ⊥)
+      → number ≡ min (count + 1) (2 ^ 64 - 1) → Halts count rest left (Some (Differs number))
+  ends : (number : ℕ) → HasNoFeed rest → left ≢ [] → number ≡ min (count + 1) (2 ^ 64 - 1) → Halts count rest left (Some (EndsBefore number))
+
+-- the text was compared with what is due
+pub record Compares (start : ℕ) (text due : List ℕ) (count : ℕ) (rest : List ℕ) (found : Option Finding) : Type 0 where
+  pub left : List ℕ
+  pub compared : IsCompared start text due count rest left
+  pub halts : Halts count rest left found
+
+-- what is found of the rest of a record where nothing more is due: it is empty, or a line stands there, or a part of one
+pub data IsEnd (count : ℕ) (rest : List ℕ) : Finding → Type 0 where
+  empty : rest ≡ [] → IsEnd count rest Agrees
+  more : (number at : ℕ) → IsNextLine rest (Some at) → number ≡ min (count + 1) (2 ^ 64 - 1) → IsEnd count rest (Differs number)
+  part : (number : ℕ) → HasNoFeed rest → rest ≢ [] → number ≡ min (count + 1) (2 ^ 64 - 1) → IsEnd count rest (EndsBefore number)
+
+-- the same behind the comments that come first
+pub record Finishes (start : ℕ) (text : List ℕ) (found : Finding) : Type 0 where
+  pub count : ℕ
+  pub rest : List ℕ
+  pub passed : IsCompared start text [] count rest []
+  pub end : IsEnd count rest found

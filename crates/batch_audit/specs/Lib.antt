@@ -1,3 +1,4 @@
+pub mod Auditing
 pub mod Audits
 pub mod Comparing
 pub mod RowsOfAudits

@@ -1,5 +1,7 @@
 //! What is found of a record, or why nothing is.
-use batch_serve::{ServeFault, SetFault};
+use batch_wire::WriteFault;
+use std::io;
+use std::io::ErrorKind;
 use thiserror::Error;
 
 /// What is found of a record.
@@ -16,30 +18,34 @@ pub enum Finding {
 /// Why nothing is found of a record.
 #[derive(Clone, Copy, Debug, Error)]
 pub enum AuditFault {
-    /// The line with this number ends as a refusal for want of memory does. What comes of such a record isn't judged.
-    #[error("line {0} of the record says that there was no memory")]
-    Wants(u64),
     /// What was sent can't be read.
     #[error("the input can't be read")]
     Read,
-    /// What was sent was read as often as it may be.
-    #[error("the input was read as often as it may be")]
-    TooManyReads,
     /// Memory was refused.
     #[error("out of memory")]
     Memory,
 }
 
-impl From<SetFault> for AuditFault {
+impl From<WriteFault> for AuditFault {
     ghost use Rattle.std.specs.Prelude.{⊤};
 
     ghost from_gives = { λ _ _. ⊤ };
 
-    fn from(fault: SetFault) -> AuditFault {
-        match fault {
-            SetFault::Memory | SetFault::Stopped(ServeFault::Write) => AuditFault::Memory,
-            SetFault::Stopped(ServeFault::Read) => AuditFault::Read,
-            SetFault::Stopped(ServeFault::TooManyReads) => AuditFault::TooManyReads,
+    /// An answer is written to memory.
+    fn from(_fault: WriteFault) -> AuditFault {
+        AuditFault::Memory
+    }
+}
+
+impl From<io::Error> for AuditFault {
+    ghost use Rattle.std.specs.Prelude.{⊤};
+
+    ghost from_gives = { λ _ _. ⊤ };
+
+    fn from(error: io::Error) -> AuditFault {
+        match error.kind() {
+            ErrorKind::OutOfMemory => AuditFault::Memory,
+            _ => AuditFault::Read,
         }
     }
 }

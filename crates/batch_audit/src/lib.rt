@@ -2,9 +2,10 @@
 #![tactic(auto)]
 
 mod auditing;
-mod comparing;
 mod finding;
+mod record;
 mod rows;
+mod wants;
 
 pub use auditing::audit;
 pub use finding::{AuditFault, Finding};

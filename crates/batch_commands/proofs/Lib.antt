@@ -2,6 +2,7 @@ pub mod BytesRead
 pub mod Grown
 pub mod RecipesRead
 pub mod TextsRead
+pub mod DesksRead
 pub mod Halted
 pub mod CertificatesAreRead
 pub mod Outcomes

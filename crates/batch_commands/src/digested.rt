@@ -48,7 +48,7 @@ pub fn clear_digested<D: Documents>(
     })
 }
 
-fn read_cell<D: Documents>(
+pub(crate) fn read_cell<D: Documents>(
     alloc: Global,
     documents: &D,
     path: &str,
@@ -83,7 +83,7 @@ fn read_recipe<D: Documents>(
     Ok(recipe)
 }
 
-fn read_recipes<D: Documents>(
+pub(crate) fn read_recipes<D: Documents>(
     alloc: Global,
     documents: &D,
     paths: &[String],

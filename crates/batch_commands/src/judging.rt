@@ -51,7 +51,13 @@ pub fn judge_recipe(alloc: Global, path: &str, bytes: &[u8]) -> Result<Recipe, H
     }
 }
 
-fn document_halt(alloc: Global, asked: Asked, path: &str, bytes: &[u8], fault: DocFault) -> Halt
+pub(crate) fn document_halt(
+    alloc: Global,
+    asked: Asked,
+    path: &str,
+    bytes: &[u8],
+    fault: DocFault,
+) -> Halt
     ensures { HaltsWith (document_text path.now fault) (document_kind fault) result }
 {
     let kind = match fault {

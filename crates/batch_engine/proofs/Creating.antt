@@ -54,8 +54,8 @@ module _ (v : EngineView) (name : Name) (size : ℕ) (pairs : List (Name × Name
   judge = ap (λ (m : Option Move). let a : Answer = elim m [ Some l ↦ (refused moves_pending, plant_of v) | None ↦ judged (setup v.cleared) (plant_of v) (create name size pairs) ] in a) settled
 
   pub create-unknown : find (λ (m : Master). same_name m.name name) (setup v.cleared).recipes ≡ None
-      → Reacts (setup v.cleared) (plant_of v) (create name size pairs) (refused unknown_recipe) (plant_of v)
-  create-unknown none = inl (judge ∙ ap named_answer none)
+      → react (setup v.cleared) (plant_of v) (create name size pairs) ≡ (refused unknown_recipe, plant_of v)
+  create-unknown none = judge ∙ ap named_answer none
 
   module _ (m : Master) (found : find (λ (m : Master). same_name m.name name) (setup v.cleared).recipes ≡ Some m) where
     abbrev full_answer : Bool → Answer
@@ -64,12 +64,12 @@ module _ (v : EngineView) (name : Name) (size : ℕ) (pairs : List (Name × Name
     abbrev bound_answer : Bool → Answer
     bound_answer t = elim t [ false ↦ (refused bad_binding, plant_of v) | true ↦ creating_for (plant_of v) m size (bound_by pairs) ]
 
-    pub create-full : is_full (setup v.cleared) (plant_of v) ≡ true → Reacts (setup v.cleared) (plant_of v) (create name size pairs) (refused full) (plant_of v)
-    create-full e = inl (judge ∙ ap named_answer found ∙ ap full_answer e)
+    pub create-full : is_full (setup v.cleared) (plant_of v) ≡ true → react (setup v.cleared) (plant_of v) (create name size pairs) ≡ (refused full, plant_of v)
+    create-full e = judge ∙ ap named_answer found ∙ ap full_answer e
 
     pub create-unbound : is_full (setup v.cleared) (plant_of v) ≡ false → is_binding m.roles pairs ≡ false
-        → Reacts (setup v.cleared) (plant_of v) (create name size pairs) (refused bad_binding) (plant_of v)
-    create-unbound e bad = inl (judge ∙ ap named_answer found ∙ ap full_answer e ∙ ap bound_answer bad)
+        → react (setup v.cleared) (plant_of v) (create name size pairs) ≡ (refused bad_binding, plant_of v)
+    create-unbound e bad = judge ∙ ap named_answer found ∙ ap full_answer e ∙ ap bound_answer bad
 
     pub judge-values : (f : Formula) → is_full (setup v.cleared) (plant_of v) ≡ false → is_binding m.roles pairs ≡ true → (m.control (bound_by pairs)).formula size ≡ f
         → react (setup v.cleared) (plant_of v) (create name size pairs) ≡ creating (plant_of v) (m.control (bound_by pairs)) size (roles_told m.roles (bound_by pairs)) f
@@ -83,8 +83,8 @@ pub react-create : (v : EngineView) (recipe : ℕ) (name : Name) (size : ℕ) (p
     ≡ (created v.next_number (recipe_at v.cleared recipe units).name size (Names.roles_told v.cleared recipe units), with_batch (plant_of v) (recipe_at v.cleared recipe units) size vs)
 react-create v recipe name size pairs units vs o =
     let m : Master = master_at v.cleared recipe in
-    judge-values v name size pairs o.settled m o.found (scaled vs) o.free o.taken.binds (ap (λ (bound : Binding). (m.control bound).formula size) o.taken.bound ∙ o.formula)
-    ∙ ap₂ (λ (bound : Binding) told. let a : Answer = (created v.next_number (m.control bound).name size told, with_batch (plant_of v) (m.control bound) size vs) in a) o.taken.bound o.taken.told
+    judge-values v name size pairs o.settled m o.chosen.found (scaled vs) o.chosen.free o.chosen.taken.binds (ap (λ (bound : Binding). (m.control bound).formula size) o.chosen.taken.bound ∙ o.formula)
+    ∙ ap₂ (λ (bound : Binding) told. let a : Answer = (created v.next_number (m.control bound).name size told, with_batch (plant_of v) (m.control bound) size vs) in a) o.chosen.taken.bound o.chosen.taken.told
 
 module _ (c : ClearedSet) (b : Batch) where
   place-more : (bs : List Batch) (n j : ℕ) → (n ≡ b.number → ⊥) → place_in c (bs ++ b ∷ []) n j ≡ place_in c bs n j
@@ -184,8 +184,8 @@ module _ (v : EngineView) (k : IsKept v) where
         shares-more
         (Each-append (IsRunningBatch v.cleared) v.batches (b ∷ []) k.batches (
           record {
-            known = subst (λ (r : ℕ × List ℕ). r.0 < length v.cleared.recipes) (sym made) o.known;
-            units = subst (λ (r : ℕ × List ℕ). AreUnits v.cleared r.1) (sym made) o.taken.own;
+            known = subst (λ (r : ℕ × List ℕ). r.0 < length v.cleared.recipes) (sym made) o.chosen.known;
+            units = subst (λ (r : ℕ × List ℕ). AreUnits v.cleared r.1) (sym made) o.chosen.taken.own;
             runs = subst (λ (r : ℕ × List ℕ). IsRunningOf (tree_at v.cleared r.0 r.1) b.running) (sym made) runs;
           },
           tt,

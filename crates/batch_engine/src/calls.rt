@@ -3,7 +3,7 @@ ghost use Rattle.std.specs.Prelude.{◌≡◌, ◌↔◌, IfOk, IfErr, IsTrue, N
 ghost use Rattle.batch_model.specs.ActStates.{state_of};
 ghost use Rattle.batch_model.specs.Moves.{next};
 ghost use Rattle.batch_model.specs.Plant.{opening};
-ghost use Rattle.batch_engine.specs.Answered.{IsAnswered};
+ghost use Rattle.batch_engine.specs.Answered.{IsAnswered, MayWant};
 ghost use Rattle.batch_engine.specs.Led.{IsLed};
 ghost use Rattle.batch_engine.specs.Looked.{batch_state_in, unfinished, value_in};
 ghost use Rattle.batch_engine.specs.Surface.{event_of, move_of, plant_after};
@@ -61,6 +61,27 @@ impl Engine {
         self.control.is_kept();
         mark_answered(&mut self.marks, &self.control, reply);
         reply
+    }
+
+    /// Whether the event makes a batch where there is memory for it. Of such an event alone want of memory may be the answer.
+    pub fn would_create(&self, event: &Event) -> bool
+        ensures { IsTrue result ↔ MayWant self.now (event_of event.now) }
+    {
+        match event {
+            Event::Create {
+                recipe,
+                size,
+                roles,
+            } => {
+                if !self.settled() {
+                    return false;
+                }
+                self.control.would_create(recipe, *size, roles)
+            }
+            Event::Order { .. } => false,
+            Event::Remove { .. } => false,
+            Event::Report(_) => false,
+        }
     }
 
     /// Whether no move is possible.

@@ -1,15 +1,17 @@
 //! Creating batches.
-ghost use Rattle.std.specs.Prelude.{◌≡◌, ◌<◌, ◌+◌, List, ℕ, None, length, position};
+ghost use Rattle.std.specs.Prelude.{◌≡◌, ◌<◌, ◌+◌, ◌↔◌, IsTrue, List, ℕ, None, length, position, MatchResult};
 ghost use Rattle.batch_chart.specs.NodesOf.{needs_in};
 ghost use Rattle.batch_model.specs.Events as Events;
 ghost use Rattle.batch_model.specs.Events.{is_full};
 ghost use Rattle.batch_model.specs.Moves.{next};
+ghost use Rattle.batch_model.specs.Plant.{scaled};
+ghost use Rattle.batch_model.specs.Recipes.{formula_of};
 ghost use Rattle.batch_model.specs.declared.limits.TheConstants.{MAX_LIVE_BATCHES};
-ghost use Rattle.batch_recipe.specs.Conditions.{same_name};
-ghost use Rattle.batch_engine.specs.Answered.{IsAnswered};
-ghost use Rattle.batch_engine.specs.Creates.{IsCreate};
+ghost use Rattle.batch_recipe.specs.Conditions.{ValueList, same_name};
+ghost use Rattle.batch_engine.specs.Answered.{IsAnswered, MayWant};
+ghost use Rattle.batch_engine.specs.Creates.{IsChosen, IsCreate, IsRefusedFor};
 ghost use Rattle.batch_engine.specs.Kept.{needs_of_all};
-ghost use Rattle.batch_engine.specs.Values.{IsValuesFor, refusal_for};
+ghost use Rattle.batch_engine.specs.Values.{IsValuesFor, is_want, refusal_for};
 ghost use Rattle.batch_engine.specs.View.{setup, plant_of, tree_at};
 
 use crate::batch::Batch;
@@ -58,6 +60,34 @@ fn refusal_for(recipe: u16, bad: BadValues) -> Refusal
         BadValues::OutOfRange(value) => Refusal::BadValue { recipe, value },
         BadValues::Memory => Refusal::Memory,
     }
+}
+
+/// Whether there are values, but no memory for them.
+fn is_want(bad: BadValues) -> bool
+    ensures { result ≡ is_want bad }
+{
+    match bad {
+        BadValues::Size => false,
+        BadValues::OutOfRange(_) => false,
+        BadValues::Memory => true,
+    }
+}
+
+/// Whether a batch of the size has values, be there memory for them or not.
+fn has_values(alloc: Global, recipe: &Recipe, size: u64) -> bool
+    ensures { IsTrue result ↔ (values : ValueList) × (formula_of recipe.now size ≡ scaled values) }
+{
+    match values_for(alloc, recipe, size) {
+        Ok(_) => true,
+        Err(bad) => is_want(bad),
+    }
+}
+
+/// The recipe of a batch that is to be made, by its number, and the units that take its roles.
+#[derive(Clone, Copy)]
+struct Choice {
+    recipe: u16,
+    units: [u16; MAX_ROLES],
 }
 
 /// Where the recipe with this name stands.
@@ -122,24 +152,51 @@ impl Control {
         self.batches.len() as u64 >= MAX_LIVE_BATCHES || self.next_number > LAST_NUMBER
     }
 
+    /// The recipe with this name, and the units that the pairs give to its roles, where one batch more may be; or why no batch is made of them.
+    fn choice(&self, name: &Name, pairs: &[(Name, Name)]) -> Result<Choice, Refusal>
+        requires { next (setup self.now.cleared) (plant_of self.now) ≡ None }
+        ensures { MatchResult result (λ choice. IsChosen self.now choice.recipe name.now pairs.now choice.units)
+            (λ refusal. (size : ℕ) → IsRefusedFor self.now (Events.create name.now size pairs.now) refusal) }
+    {
+        let Some(recipe) = recipe_named(self.cleared.recipes(), name) else {
+            return Err(Refusal::UnknownRecipe);
+        };
+        if self.is_full() {
+            return Err(Refusal::Full);
+        }
+        let document = &self.cleared.recipes()[recipe];
+        let Some(units) = units_for(self.cleared.cell(), &document.roles, pairs) else {
+            return Err(Refusal::BadBinding);
+        };
+        Ok(Choice {
+            recipe: recipe as u16,
+            units,
+        })
+    }
+
     /// A batch of a recipe is to be made.
     pub(crate) fn create(&mut self, name: &Name, size: u64, pairs: &[(Name, Name)]) -> Reply
         requires { next (setup self.old.cleared) (plant_of self.old) ≡ None }
         ensures { IsAnswered self.old (Events.create name.now size pairs.now) result self.new }
     {
-        let Some(recipe) = recipe_named(self.cleared.recipes(), name) else {
-            return Reply::Refused(Refusal::UnknownRecipe);
+        let Choice { recipe, units } = match self.choice(name, pairs) {
+            Ok(choice) => choice,
+            Err(refusal) => return Reply::Refused(refusal),
         };
-        if self.is_full() {
-            return Reply::Refused(Refusal::Full);
+        match values_for(self.alloc, self.cleared.recipe(recipe), size) {
+            Ok(values) => self.add(recipe, size, units, values),
+            Err(bad) => Reply::Refused(refusal_for(recipe, bad)),
         }
-        let document = &self.cleared.recipes()[recipe];
-        let Some(units) = units_for(self.cleared.cell(), &document.roles, pairs) else {
-            return Reply::Refused(Refusal::BadBinding);
-        };
-        match values_for(self.alloc, document, size) {
-            Ok(values) => self.add(recipe as u16, size, units, values),
-            Err(bad) => Reply::Refused(refusal_for(recipe as u16, bad)),
+    }
+
+    /// Whether the create makes a batch where there is memory.
+    pub(crate) fn would_create(&self, name: &Name, size: u64, pairs: &[(Name, Name)]) -> bool
+        requires { next (setup self.now.cleared) (plant_of self.now) ≡ None }
+        ensures { IsTrue result ↔ MayWant self.now (Events.create name.now size pairs.now) }
+    {
+        match self.choice(name, pairs) {
+            Ok(choice) => has_values(self.alloc, self.cleared.recipe(choice.recipe), size),
+            Err(_) => false,
         }
     }
 }

@@ -1,3 +1,5 @@
+pub mod DeskRequests
+pub mod DesksServed
 pub mod Kept
 pub mod Served
 pub mod RemarkedServed

@@ -11,7 +11,7 @@ use Rattle.batch_wire.specs.Transcript.{lines_of, whole_lines}
 use Rattle.batch_wire.specs.Written.{AppendsBeginning}
 use Rattle.batch_serve.specs.Safe.{BeginsSafely, WritesSafely, WritesWholeSafely}
 use Rattle.batch_words.specs.declared.comments.Comments.{Comments}
-use Rattle.batch_words.specs.CommandLine.{Request, Source, audit, plant, serve, source_of, tell, keep, Judgement, write, remark, picture}
+use Rattle.batch_words.specs.CommandLine.{Request, Source, audit, plant, serve, serve_desks, source_of, tell, keep, Judgement, write, remark, picture}
 use Rattle.batch_words.specs.declared.command.AuditWords.{AuditWords}
 use Rattle.batch_words.specs.declared.plant_options.PlantOptions.{PlantOptions}
 use Rattle.batch_commands.specs.Reading.{Gives}
@@ -34,7 +34,7 @@ use Rattle.batch_serve.specs.declared.fault.ServeFault.TheVariants.{Read, Write,
 use Rattle.batch_serve.specs.declared.fault.SetFault.{SetFault}
 use Rattle.batch_serve.specs.declared.fault.SetFault.TheVariants.{Memory, Stopped}
 use Rattle.batch_program.specs.declared.program.TheConstants.{MAX_READS}
-use Rattle.batch_program.specs.Programs.{IsLeftTold, IsProgramRun, PlantsAreComplete, ServingIsSafe, tells, serves, reads, audits, plants, status_of_serving, keeps, writes, remarks, draws}
+use Rattle.batch_program.specs.Programs.{IsLeftTold, IsProgramRun, PlantsAreComplete, ServingIsSafe, tells, serves, serves_desks, reads, audits, plants, status_of_serving, keeps, writes, remarks, draws}
 use Rattle.batch_plant.specs.declared.plant_fault.PlantFault.{PlantFault}
 use Rattle.batch_plant.specs.declared.plant_fault.PlantFault.TheVariants as plant_fault
 use Rattle.batch_audit.specs.declared.finding.Finding.{Finding}
@@ -46,6 +46,10 @@ use Rattle.batch_program.specs.JournalRuns as journal
 use Rattle.batch_commands.specs.Digested.{AreDigested}
 use Rattle.batch_commands.specs.declared.digested.Digested.{Digested}
 use Rattle.batch_journal.specs.declared.recovery.RecoveryFault.{RecoveryFault}
+use Rattle.batch_pipes.specs.declared.fault.DesksFault.{DesksFault}
+use Rattle.batch_pipes.specs.declared.fault.DesksFault.TheVariants as desks_fault
+use Rattle.batch_program.specs.DeskRuns.{status_of_desks, status_of_fault}
+use Rattle.batch_program.proofs.DeskRequests.{desks_no_plant, desks_no_serving}
 use Rattle.batch_program.specs.FileWriting.{IsWritten}
 use Rattle.batch_program.specs.PlantRuns.{HasRun, IsPlantTold, plant_text, refused_status}
 use Rattle.batch_program.specs.DrawingRuns as drawing
@@ -57,7 +61,7 @@ use Rattle.batch_program.specs.RecordRuns.{Holds, IsRecordTold, IsStatusTold, Is
 
 -- what follows a write that left the bytes as they were, follows the bytes before it
 
-kept_then_appended : (before mid after : Option (List ℕ)) (text : List ℕ) → Keeps before mid → Appends mid after text → Appends before after text
+pub kept_then_appended : (before mid after : Option (List ℕ)) (text : List ℕ) → Keeps before mid → Appends mid after text → Appends before after text
 kept_then_appended None mid after text kept appended = tt
 kept_then_appended (Some xs) None after text kept appended = absurd kept
 kept_then_appended (Some xs) (Some ys) None text kept appended = absurd appended
@@ -165,6 +169,7 @@ done_to_plant gives request quiet output errors _ set options (running.remarks _
 done_to_plant gives request quiet output errors _ set options (running.reads _ _ _ _) is = absurd cc
 done_to_plant gives request quiet output errors _ set options (running.draws _ _ _ _) is = absurd cc
 done_to_plant gives request quiet output errors _ set options (running.audits _ _ _ _ _ _) is = absurd cc
+done_to_plant gives request quiet output errors _ set options (running.serves_desks _ _ _ _ _ _ _ _ _ _) is = absurd cc
 done_to_plant gives request quiet output errors _ set options (running.writes _ _ _ _ _ _) is = absurd cc
 done_to_plant gives request quiet output errors _ set options (running.halts _ _ _ _ _) is = absurd cc
 done_to_plant gives request quiet output errors _ set options (running.judges _ _ _ _ _ _ _) is = absurd cc
@@ -218,6 +223,7 @@ done_to_read gives request quiet output errors _ path (running.keeps _ _ _ _ _ _
 done_to_read gives request quiet output errors _ path (running.remarks _ _ _ _ _ _ _) is = absurd cc
 done_to_read gives request quiet output errors _ path (running.plants _ _ _ _ _ _) is = absurd cc
 done_to_read gives request quiet output errors _ path (running.audits _ _ _ _ _ _) is = absurd cc
+done_to_read gives request quiet output errors _ path (running.serves_desks _ _ _ _ _ _ _ _ _ _) is = absurd cc
 done_to_read gives request quiet output errors _ path (running.writes _ _ _ _ _ _) is = absurd cc
 done_to_read gives request quiet output errors _ path (running.halts _ _ _ _ _) is = absurd cc
 done_to_read gives request quiet output errors _ path (running.judges _ _ _ _ _ _ _) is = absurd cc
@@ -271,6 +277,7 @@ done_to_draw gives request quiet output errors _ path (running.remarks _ _ _ _ _
 done_to_draw gives request quiet output errors _ path (running.reads _ _ _ _) is = absurd cc
 done_to_draw gives request quiet output errors _ path (running.plants _ _ _ _ _ _) is = absurd cc
 done_to_draw gives request quiet output errors _ path (running.audits _ _ _ _ _ _) is = absurd cc
+done_to_draw gives request quiet output errors _ path (running.serves_desks _ _ _ _ _ _ _ _ _ _) is = absurd cc
 done_to_draw gives request quiet output errors _ path (running.halts _ _ _ _ _) is = absurd cc
 done_to_draw gives request quiet output errors _ path (running.judges _ _ _ _ _ _ _) is = absurd cc
 done_to_draw gives request quiet output errors _ path (running.explains _ _ _ _) is = absurd cc
@@ -492,6 +499,8 @@ safe_at gives holds files words ends errors source _ asked (reads path _ asked2 
     absurd (serves_no_record source path (same_request words (serve source) (tell path) asked asked2))
 safe_at gives holds files words ends errors source _ asked (draws path _ asked2 _) is =
     absurd (serves_no_picture source path (same_request words (serve source) (picture path) asked asked2))
+safe_at gives holds files words ends errors source _ asked (serves_desks path cell certificate recipes times _ _ _ asked2 _ _ _) is =
+    absurd (desks_no_serving source (same_request words (serve_desks path cell certificate recipes times) (serve source) asked2 asked))
 safe_at gives holds files words ends errors source _ asked (audits beginning path other _ _ asked2 _ _) is =
     absurd (serves_no_audit source other beginning path (same_request words (serve source) (audit beginning path other) asked asked2))
 safe_at gives holds files words ends errors source _ asked (plants _ options _ _ asked2 _ _ _ _) is =
@@ -530,6 +539,7 @@ done_in_range gives request quiet output errors _ status (running.remarks _ _ _ 
 done_in_range gives request quiet output errors _ status (running.reads _ _ _ _) is = absurd cc
 done_in_range gives request quiet output errors _ status (running.draws _ _ _ _) is = absurd cc
 done_in_range gives request quiet output errors _ status (running.audits _ _ _ _ _ _) is = absurd cc
+done_in_range gives request quiet output errors _ status (running.serves_desks _ _ _ _ _ _ _ _ _ _) is = absurd cc
 done_in_range gives request quiet output errors _ status (running.plants _ _ _ _ _ _) is = absurd cc
 done_in_range gives request quiet output errors _ status (running.writes _ _ _ _ _ _) is = absurd cc
 done_in_range gives request quiet output errors _ status (running.halts h told warned _ at) is =
@@ -622,6 +632,17 @@ kept_in_range : (files : JournalFiles) (set : ClearedSet) (digits path : List �
 kept_in_range files set digits path commented ends status (inl (start, end, _, _, over)) = journal_in_range files.disks set digits path commented start end ends status over.told
 kept_in_range files set digits path commented ends status (inr untold) = untold_in_range (output_of ends) status untold
 
+fault_in_range : (fault : DesksFault) → status_of_fault fault ≤ 4
+fault_in_range desks_fault.Memory = omega arith
+fault_in_range desks_fault.Thread = omega arith
+fault_in_range desks_fault.Journal = omega arith
+fault_in_range desks_fault.Record = omega arith
+fault_in_range desks_fault.RoundsOut = omega arith
+
+desks_in_range : (served : Result ℕ DesksFault) → status_of_desks served ≤ 4
+desks_in_range (Ok left) = omega arith
+desks_in_range (Err fault) = fault_in_range fault
+
 written_in_range : (holds : Holds) (path text : List ℕ) (errors : Stream) (status : ℕ) → IsWritten holds path text errors status → status ≤ 4
 written_in_range holds path text errors status (inl (_, _, success)) = rw success (omega arith)
 written_in_range holds path text errors status (inr (inl fault)) = rw fault (omega arith)
@@ -635,6 +656,7 @@ run_in_range gives holds files words ends errors status (writes path _ text warn
 run_in_range gives holds files words ends errors _ (serves _ _ served _ _ _ _) = serving_in_range served
 run_in_range gives holds files words ends errors _ (remarks _ _ _ _ served _ _ _ _) = serving_in_range served
 run_in_range gives holds files words ends errors status (keeps path _ _ _ echo times set digits _ _ _ ran) = kept_in_range files set digits path (echo || times) ends status ran
+run_in_range gives holds files words ends errors _ (serves_desks _ _ _ _ _ _ _ served _ _ _ _) = desks_in_range served
 run_in_range gives holds files words ends errors status (reads path _ _ told) = record_in_range holds path ends errors status told
 run_in_range gives holds files words ends errors status (draws path _ _ told) = drawn_in_range holds path ends errors status told
 run_in_range gives holds files words ends errors status (audits beginning path _ set _ _ _ told) = audit_in_range holds set beginning path ends errors status told
@@ -672,6 +694,8 @@ told_plant gives holds files words ends errors batches ticks ring _ asked (keeps
     (same_request words (plant batches ticks ring) (keep path cell certificate recipes echo times) asked asked2))
 told_plant gives holds files words ends errors batches ticks ring _ asked (remarks source echo times _ _ asked2 _ _ _) is =
     absurd (plants_no_comments batches ticks ring source echo times (same_request words (plant batches ticks ring) (remark source echo times) asked asked2))
+told_plant gives holds files words ends errors batches ticks ring _ asked (serves_desks path cell certificate recipes times _ _ _ asked2 _ _ _) is =
+    absurd (desks_no_plant batches ticks ring (same_request words (serve_desks path cell certificate recipes times) (plant batches ticks ring) asked2 asked))
 told_plant gives holds files words ends errors batches ticks ring _ asked (reads path _ asked2 _) is =
     absurd (plants_no_record batches ticks ring path (same_request words (plant batches ticks ring) (tell path) asked asked2))
 told_plant gives holds files words ends errors batches ticks ring _ asked (draws path _ asked2 _) is =

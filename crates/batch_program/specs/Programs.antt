@@ -6,8 +6,12 @@ use Rattle.std.specs.declared.process.ExitCode.{ExitCode}
 use Rattle.clap.specs.Walk.{Text}
 use Rattle.batch_verify.specs.ClearedSet.{ClearedSet}
 use Rattle.batch_wire.specs.Transcript.{lines_of}
-use Rattle.batch_words.specs.CommandLine.{Source, audit, keep, plant, serve, tell, Judgement, write, remark, picture}
+use Rattle.batch_words.specs.CommandLine.{Source, audit, keep, plant, serve, serve_desks, tell, Judgement, write, remark, picture}
 use Rattle.batch_words.specs.declared.plant_options.PlantOptions.{PlantOptions}
+use Rattle.batch_desks.specs.DeskNames.{desk_names}
+use Rattle.batch_desks.specs.declared.desk_set.Desks.{Desks}
+use Rattle.batch_pipes.specs.declared.fault.DesksFault.{DesksFault}
+use Rattle.batch_commands.specs.DeskSets.{AreDesksCleared}
 use Rattle.batch_commands.specs.Digested.{AreDigested}
 use Rattle.batch_commands.specs.Reading.{Gives}
 use Rattle.batch_commands.specs.Requests.{IsDemoSet, IsSetOf, IsVerdict}
@@ -23,6 +27,7 @@ use Rattle.batch_serve.specs.declared.fault.SetFault.{SetFault}
 use Rattle.batch_serve.specs.declared.fault.SetFault.TheVariants.{Memory, Stopped}
 use Rattle.batch_plant.specs.declared.plant_fault.PlantFault.{PlantFault}
 use Rattle.batch_program.specs.AuditRuns.{IsAccepted, IsAuditTold}
+use Rattle.batch_program.specs.DeskRuns.{IsDesksRecord, status_of_desks}
 use Rattle.batch_program.specs.DrawingRuns.{IsRecordDrawn}
 use Rattle.batch_program.specs.JournalRuns.{JournalFiles, IsJournalRun}
 use Rattle.batch_program.specs.FileWriting.{IsWritten}
@@ -85,6 +90,11 @@ pub data IsProgramRun (gives : Gives) (holds : Holds) (files : JournalFiles) (wo
   keeps : (journal cell certificate : Text) (recipes : List Text) (echo times : Bool) (set : ClearedSet) (digits : List ℕ) (status : ℕ)
       → AskFor words (keep journal cell certificate recipes echo times) → AreDigested gives cell certificate recipes set digits
       → IsJournalRun files set digits journal (echo || times) ends status → IsProgramRun gives holds files words ends errors status
+  -- the desks of the document that they name are served over the set that the others make, and the input isn't read
+  serves_desks : (path cell certificate : Text) (recipes : List Text) (times : Bool) (desks : Desks) (set : ClearedSet) (served : Result ℕ DesksFault)
+      → AskFor words (serve_desks path cell certificate recipes times) → AreDesksCleared gives path cell certificate recipes desks set
+      → IfOk served (λ left. IsDesksRecord times set (desk_names desks.desks.items) (output_of ends)) → Keeps ends.unread ends.left
+      → IsProgramRun gives holds files words ends errors (status_of_desks served)
   -- what the record that the words name tells is printed, or what the input tells
   reads : (path : Option Text) (status : ℕ)
       → AskFor words (tell path) → IsRecordTold holds path ends errors status → IsProgramRun gives holds files words ends errors status
@@ -145,3 +155,12 @@ PlantsAreComplete gives holds files =
     (words : List Text) (ends : serving.Ends) (errors : Stream) (batches ticks ring : ℕ)
     → AskFor words (plant batches ticks ring) → IsProgramRun gives holds files words ends errors 0
     → (set : ClearedSet) × (handled : ℕ) × IsDemoSet set × HasRun set batches handled × Appends ends.before ends.after (plant_text batches handled)
+
+-- a run of `serve` that ends with status 0 has served the desks of its document over the set that its other documents make, cleared by their
+-- certificate; what it wrote is the text of a safe transcript of the desks' lines, in the order in which they were served
+abbrev pub DesksAreSafe : Gives → Holds → JournalFiles → Type 0
+DesksAreSafe gives holds files =
+    (words : List Text) (ends : serving.Ends) (errors : Stream) (path cell certificate : Text) (recipes : List Text) (times : Bool)
+    → AskFor words (serve_desks path cell certificate recipes times) → IsProgramRun gives holds files words ends errors 0
+    → (desks : Desks) × (set : ClearedSet) × AreDesksCleared gives path cell certificate recipes desks set
+    × IsDesksRecord times set (desk_names desks.desks.items) (output_of ends)

@@ -1,5 +1,5 @@
 //! Laws over runs of the program.
-ghost use Rattle.batch_program.specs.Programs.{AuditsAreTrue, CertificatesAreKept, PlantsAreComplete, ServingIsSafe, RemarkedServingIsSafe};
+ghost use Rattle.batch_program.specs.Programs.{AuditsAreTrue, CertificatesAreKept, DesksAreSafe, PlantsAreComplete, ServingIsSafe, RemarkedServingIsSafe};
 
 use crate::journals::Journals;
 use crate::records::Records;
@@ -88,6 +88,26 @@ pub fn certificates_are_kept<D: Documents + Records + Journals>(documents: &D)
 /// events as the third line says, leads to where the batches are complete that were asked for.
 pub fn plants_are_complete<D: Documents + Records + Journals>(documents: &D)
     ensures { PlantsAreComplete (D.gives documents.now) (D.holds documents.now)
+        (record {
+          disks = record {
+            File = D.File;
+            is_disk = D.File.is_disk;
+            durable = D.File.durable;
+            seen = D.File.seen;
+            given = D.File.given;
+            moment = D.File.moment;
+            left_since = D.File.left_since;
+          };
+          opens = D.opens documents.now;
+        }) }
+{
+    let _documents = documents;
+}
+
+/// What the exit status 0 of a run that serves desks tells: the desks and the set are those of the documents, cleared by their
+/// certificate, and what was written is the text of a safe transcript of the desks' lines, in the order in which they were served.
+pub fn desks_are_safe<D: Documents + Records + Journals>(documents: &D)
+    ensures { DesksAreSafe (D.gives documents.now) (D.holds documents.now)
         (record {
           disks = record {
             File = D.File;

@@ -5,12 +5,11 @@ ghost use Rattle.batch_program.specs.AuditRuns.{IsAuditTold, finding_status, fin
 ghost use Rattle.batch_program.specs.RecordRuns.{IsUntold};
 ghost use Rattle.batch_program.specs.Telling.{IsFindingTold};
 
-use crate::noted::Noted;
-use crate::program::MAX_READS;
 use crate::record_status::complain_unopened;
 use crate::records::Records;
 use batch_audit::{AuditFault, Finding, audit};
 use batch_commands::{FILE_FAULT, NO_MEMORY, OUT_OF_MEMORY, SUCCESS, complain, print};
+use batch_streams::Noted;
 use batch_verify::Cleared;
 use batch_words::AuditWords;
 use std::alloc::{AllocError, Global};
@@ -32,8 +31,7 @@ struct FailedAudit {
 /// Tells whether the record that the words name is that of the event lines of the input over the set, and gives the exit status. A record that
 /// ends too soon is accepted where they say so.
 ///
-/// The record is kept in memory, and so is what is due. A record in which the first line that differs says that there was no memory isn't
-/// judged: that is told on the errors, with the status of want of memory.
+/// The record is kept in memory, and so are the lines that were sent.
 pub fn audit_record<D: Records, R: Read, W: Write, E: Write>(
     alloc: Global,
     set: Cleared,
@@ -83,7 +81,7 @@ fn tell_audit<R: Read, W: Write, E: Write>(
         (record { before = E.contents errors.old; after = E.contents errors.new }) result
         ⊎ IsUntold (record { before = W.contents output.old; after = W.contents output.new }) result }
 {
-    match audit(alloc, set, input, text, MAX_READS) {
+    match audit(alloc, set, input, text) {
         Ok(finding) => tell_finding(alloc, beginning, finding, output, errors),
         Err(fault) => complain_unfound(fault, input.failure(), errors),
     }
@@ -149,7 +147,7 @@ fn complain_unfound<E: Write>(fault: AuditFault, reason: Option<io::Error>, erro
     ensures { (result ≡ fault_status) ⊎ (result ≡ memory_status) }
 {
     match (fault, reason) {
-        (AuditFault::Memory | AuditFault::Wants(_), _) => complain(errors, fault, NO_MEMORY),
+        (AuditFault::Memory, _) => complain(errors, fault, NO_MEMORY),
         (_, Some(reason)) => complain(errors, FailedAudit { fault, reason }, FILE_FAULT),
         (_, None) => complain(errors, fault, FILE_FAULT),
     }

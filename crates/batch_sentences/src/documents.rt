@@ -13,6 +13,7 @@ use toml::de::Error;
 pub enum Asked {
     Cell,
     Recipe,
+    Desks,
 }
 
 /// What the fault of the document at this path means: the key or the name that is wrong and its line, where they can be told.
@@ -118,6 +119,12 @@ fn exchanged(asked: Asked, document: &Table) -> Option<&'static str> {
         }
         Asked::Recipe if document.contains_key("cell") => {
             Some("this is a cell, and a recipe is to stand here: the cell comes first")
+        }
+        Asked::Desks if document.contains_key("cell") => {
+            Some("this is a cell, and the desks are to stand here: they come first")
+        }
+        Asked::Desks if document.contains_key("recipe") => {
+            Some("this is a recipe, and the desks are to stand here: they come first")
         }
         _ => None,
     }

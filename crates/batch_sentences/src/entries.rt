@@ -117,8 +117,11 @@ fn missing(
             return Wrong::with("", format!(in alloc; "the key `{}` is missing", key.0));
         }
     }
-    // A unit procedure needs one of these, and a module with a unit its phases.
+    // A unit procedure and a desk need one of these, and a module with a unit its phases.
     match kind {
+        TableKind::Desk => {
+            Wrong::told(alloc, "", "one of the keys `input` and `output` is missing")
+        }
         TableKind::UnitProcedure => {
             Wrong::told(alloc, "", "one of the keys `unit` and `role` is missing")
         }
@@ -144,8 +147,11 @@ fn unknown<'a>(
                 ),
             )
         }
-        // Some keys of these two kinds suit one another badly.
+        // Some keys of the other two kinds suit one another badly.
         None => match kind {
+            TableKind::Desk => {
+                Wrong::told(alloc, "", "a document of desks has tables [[desk]] alone")
+            }
             TableKind::UnitProcedure => Wrong::told(
                 alloc,
                 "role",

@@ -25,7 +25,8 @@ impl Fit {
 pub(crate) fn suit(shape: Shape, value: &Value) -> Fit {
     match shape {
         Shape::Name => name_fit(value),
-        Shape::Text(most) => text_fit(value, most),
+        Shape::Text(most) => text_fit(value, 0, most),
+        Shape::Path(most) => text_fit(value, 1, most),
         Shape::Number(least, most) => number_fit(value, least, most),
         Shape::Truth => truth_fit(value),
         Shape::Names(least, most) => names_fit(value, least, most),
@@ -34,9 +35,9 @@ pub(crate) fn suit(shape: Shape, value: &Value) -> Fit {
     }
 }
 
-fn text_fit(value: &Value, most: usize) -> Fit {
+fn text_fit(value: &Value, least: usize, most: usize) -> Fit {
     match value.as_str() {
-        Some(text) => Fit::within(text.len() <= most),
+        Some(text) => Fit::within(least <= text.len() && text.len() <= most),
         None => Fit::WrongKind,
     }
 }
@@ -94,6 +95,7 @@ pub(crate) fn shape_said(alloc: Global, shape: Shape) -> Result<String, AllocErr
             "a name: 1 to 32 letters, digits, `_` and `-`, the first of them a letter",
         ),
         Shape::Text(most) => format!(in alloc; "a text of at most {most} bytes"),
+        Shape::Path(most) => format!(in alloc; "a path: a text of 1 to {most} bytes"),
         Shape::Number(least, most) => format!(in alloc; "a whole number of {least} to {most}"),
         Shape::Truth => String::from_str(alloc, "true or false"),
         Shape::Names(least, most) => format!(in alloc; "a list of {least} to {most} names"),
@@ -121,9 +123,10 @@ pub(crate) fn given_said(alloc: Global, shape: Shape, value: &Value) -> Result<S
         (Shape::Truth, Value::String(_)) => {
             String::from_str(alloc, "; true and false stand without quotes")
         }
-        (Shape::Name | Shape::Text(_), Value::Integer(_) | Value::Float(_) | Value::Boolean(_)) => {
-            String::from_str(alloc, "; a text stands in quotes")
-        }
+        (
+            Shape::Name | Shape::Text(_) | Shape::Path(_),
+            Value::Integer(_) | Value::Float(_) | Value::Boolean(_),
+        ) => String::from_str(alloc, "; a text stands in quotes"),
         _ => Ok(String::new(alloc)),
     }
 }

@@ -10,6 +10,8 @@ pub(crate) enum Shape {
     Name,
     /// A text of at most so many bytes.
     Text(usize),
+    /// A text that isn't empty, of at most so many bytes.
+    Path(usize),
     /// A whole number of these limits.
     Number(i64, i64),
     Truth,
@@ -103,6 +105,15 @@ const PHASE: [Key; 6] = [
     RESERVES,
 ];
 
+const DESK: [Key; 6] = [
+    NAME,
+    Key("input", false, Shape::Path(4_096)),
+    Key("output", false, Shape::Path(4_096)),
+    Key("unit", false, Shape::Name),
+    Key("stays", false, Shape::Truth),
+    Key("lag", false, Shape::Number(1, 65_536)),
+];
+
 /// The keys of a table of this kind.
 pub(crate) fn keys_of(kind: TableKind) -> &'static [Key] {
     match kind {
@@ -118,6 +129,7 @@ pub(crate) fn keys_of(kind: TableKind) -> &'static [Key] {
         TableKind::UnitProcedure => &UNIT_PROCEDURE,
         TableKind::Operation => &OPERATION,
         TableKind::Phase => &PHASE,
+        TableKind::Desk => &DESK,
     }
 }
 
@@ -136,6 +148,7 @@ pub(crate) fn word_of(kind: TableKind) -> Option<&'static str> {
         TableKind::UnitProcedure => Some("unit_procedure"),
         TableKind::Operation => Some("operation"),
         TableKind::Phase => Some("phase"),
+        TableKind::Desk => Some("desk"),
     }
 }
 
@@ -158,9 +171,11 @@ const OF_RECIPES: [TableKind; 9] = [
     TableKind::Phase,
 ];
 
+const OF_DESKS: [TableKind; 1] = [TableKind::Desk];
+
 /// Whether a document may have several tables of this word.
 pub(crate) fn is_word_of_several(word: &str) -> bool {
-    has_word(&OF_CELLS, word) || has_word(&OF_RECIPES, word)
+    has_word(&OF_CELLS, word) || has_word(&OF_RECIPES, word) || has_word(&OF_DESKS, word)
 }
 
 /// Whether one of these kinds, and not that of procedures, has the word.
@@ -177,6 +192,7 @@ fn has_word(kinds: &[TableKind], word: &str) -> bool {
 pub(crate) fn kinds_beside(kind: TableKind) -> &'static [TableKind] {
     match kind {
         TableKind::Cell | TableKind::Unit | TableKind::Module | TableKind::Shared => &OF_CELLS,
+        TableKind::Desk => &OF_DESKS,
         _ => &OF_RECIPES,
     }
 }
@@ -216,5 +232,6 @@ pub(crate) fn most_of(kind: TableKind) -> usize {
         TableKind::Input | TableKind::Parameter | TableKind::Output => MAX_ENTRIES,
         TableKind::Role => MAX_ROLES,
         TableKind::UnitProcedure | TableKind::Operation | TableKind::Phase => MAX_ACTS,
+        TableKind::Desk => 64,
     }
 }

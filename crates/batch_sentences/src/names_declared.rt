@@ -19,6 +19,9 @@ pub(crate) fn undeclared(
     table: &Table,
     kind: TableKind,
 ) -> Result<Wrong<'static>, AllocError> {
+    if kind == TableKind::Desk {
+        return no_unit(alloc, table);
+    }
     if kind == TableKind::Module {
         let unit = table.get("unit").and_then(Value::as_str).unwrap_or("");
         return Wrong::with("unit", undeclared_said(alloc, document, "unit", unit));
@@ -43,6 +46,15 @@ pub(crate) fn undeclared(
         ),
         None => Wrong::told(alloc, key, "a label or a name is declared nowhere"),
     }
+}
+
+/// That the cell has no such unit, of a desk.
+fn no_unit(alloc: Global, table: &Table) -> Result<Wrong<'static>, AllocError> {
+    let unit = table.get("unit").and_then(Value::as_str).unwrap_or("");
+    Wrong::with(
+        "unit",
+        format!(in alloc; "the cell has no unit `{unit}`"),
+    )
 }
 
 /// That no table of the word has the name, and which tables have it, or what may have been meant.

@@ -62,7 +62,7 @@ has_memory event answer moves outs tells shown is =
     shown.no_event (starts_so _ (codes "refused E11\n") (flat_map out_text (map move moves))
     (ap (λ (l : List Out). flat_map out_text l) tells ∙ ap (λ (a : Reply). out_text (reply a) ++ flat_map out_text (map move moves)) is))
 
-takes_so : (c : Setup) (old : Plant) (event : Event) (outs : List Out) (new : Plant) → (h : Handles c old event outs new) → (h.answer ≡ refused no_memory → ⊥) → Takes c old event outs new
+pub takes_so : (c : Setup) (old : Plant) (event : Event) (outs : List Out) (new : Plant) → (h : Handles c old event outs new) → (h.answer ≡ refused no_memory → ⊥) → Takes c old event outs new
 takes_so c old event outs new h has = record {
   answer = h.answer;
   mid = h.mid;

@@ -29,7 +29,7 @@ outs_whole : (outs : List Out) → IsWholeLines (flat_map out_text outs)
 outs_whole [] = inl refl
 outs_whole (out ∷ outs) = both (out_text out) (flat_map out_text outs) (inr (ends (out_words out))) (outs_whole outs)
 
-answers_whole : (c : Setup) (old : Plant) (says : Result (Option Event) WireFault) (said : Exchange) (new : Plant) → Answers c old says said new → IsWholeLines said.text
+pub answers_whole : (c : Setup) (old : Plant) (says : Result (Option Event) WireFault) (said : Exchange) (new : Plant) → Answers c old says said new → IsWholeLines said.text
 answers_whole c old (Ok None) said new a = inl (ap (λ (x : Exchange). x.text) a.0)
 answers_whole c old (Err fault) said new a =
     subst (λ (x : Exchange). IsWholeLines x.text) (sym a.0) (inr (ends (codes "refused" ∷ fault_code fault ∷ [])))

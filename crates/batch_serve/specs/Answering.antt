@@ -1,4 +1,4 @@
--- private: what comes of a line, and of an event, as far as it was written: all of it at Ok, and after a write fault a beginning.
+-- trusted: what comes of a line, and of an event, as far as it was written: all of it at Ok, and after a write fault a beginning.
 use Rattle.std.specs.Prelude.{ℕ, List, map, flat_map, Option, Result, Ok, Err}
 use Rattle.std.specs.Io.KnownBytes.{Appends}
 use Rattle.batch_model.specs.Events as Model

@@ -16,6 +16,7 @@ mod remarks;
 mod serving;
 mod set;
 
+pub use answering::answer_line;
 pub use clean_lines::CleanReader;
 pub use fault::{ServeFault, SetFault};
 pub use held::{Held, Start, shows_want};

@@ -1,4 +1,4 @@
--- surface: places whose texts are kept.
+-- trusted: places whose texts are kept.
 use Rattle.std.specs.Prelude.{◌≡◌, ℕ, ◌+◌, ◌-◌, ◌≤◌, ◌<◌, ◌⊎◌, List, Option, Some, codes, decimal, drop, length, take, get_or, slice_set}
 use Rattle.std.specs.List.{All}
 use Rattle.batch_recipe.specs.Texts.{place_text}

@@ -7,7 +7,9 @@ mod line;
 mod plant_options;
 mod words;
 
-pub use command::{AuditWords, CommandFault, CommandWords, Judgement, Source, Subcommand};
+pub use command::{
+    AuditWords, CommandFault, CommandWords, DeskWords, Judgement, Source, Subcommand,
+};
 pub use comments::Comments;
 pub use line::VERSION;
 pub use plant_options::PlantOptions;

@@ -3,7 +3,7 @@ ghost use Rattle.std.specs.Prelude.{◌≡◌, IfOk, IsOkAnd, codes, false};
 ghost use Rattle.clap.specs.Words.{app_of, rule_of};
 ghost use Rattle.clap.specs.Words.{AddsSubcommand};
 ghost use Rattle.clap.specs.declared.builder.command.Command.TheViews.{out-Command};
-ghost use Rattle.batch_words.specs.CommandLine.{audit_app, bare_app, certified_app, check_app, draw_app, explain_app, flag_rule, number_rule, optional_rule, plant_app, program_app, several_rule, status_app, word_rule, show_app, path_rule, run_app};
+ghost use Rattle.batch_words.specs.CommandLine.{audit_app, bare_app, certified_app, check_app, draw_app, explain_app, flag_rule, number_rule, optional_rule, plant_app, program_app, several_rule, status_app, word_rule, show_app, path_rule, run_app, serve_app};
 
 use clap::builder::ValueParser;
 use clap::{Arg, ArgAction, Command};
@@ -66,6 +66,14 @@ The same with each line and its time as comments in the record, with a journal o
   batchd run --echo --times cell.toml certificate.txt primer.toml rinse-mended.toml
 ";
 
+const SERVE_HELP: &str = "\
+An example, in examples/desks, whose pipes are made by mkfifo:
+  batchd serve desks.toml cell.toml certificate.txt topcoat.toml > day.record
+
+The same with a journal, from which the next start brings the plant back:
+  batchd serve --journal day.journal desks.toml cell.toml certificate.txt topcoat.toml
+";
+
 const STATUS_HELP: &str = "\
 An example, of a server whose record is written to day.record:
   batchd status day.record
@@ -102,7 +110,8 @@ pub(crate) fn program<'a>(alloc: Global) -> Result<Command<'a>, AllocError>
     let verifying = with_command(checking, verify(alloc))?;
     let showing = with_command(verifying, show(alloc))?;
     let running = with_command(showing, run(alloc))?;
-    let telling = with_command(running, status(alloc))?;
+    let serving = with_command(running, serve(alloc))?;
+    let telling = with_command(serving, status(alloc))?;
     let drawing = with_command(telling, draw(alloc))?;
     let auditing = with_command(drawing, audit(alloc))?;
     let planting = with_command(auditing, plant(alloc))?;
@@ -196,6 +205,29 @@ fn run<'a>(alloc: Global) -> Result<Command<'a>, AllocError>
             "times",
             "Writes `# at MILLISECONDS` before the answers to what one read brought",
         ))
+}
+
+fn serve<'a>(alloc: Global) -> Result<Command<'a>, AllocError>
+    ensures { IfOk result (λ serve. (app_of serve ≡ serve_app) × ((out-Command serve).has_globals ≡ false)) }
+{
+    Command::new(alloc, "serve")
+        .about("Serves several consoles and equipment links at once, each over its own pipes")
+        .after_help(SERVE_HELP)
+        .arg(word(alloc, "DESKS", "The document of the desks"))?
+        .arg(word(alloc, "CELL", "The cell document"))?
+        .arg(word(alloc, "CERT", "The certificate"))?
+        .arg(several(alloc, "RECIPE", "The master recipes"))?
+        .arg(path(
+            alloc,
+            "journal",
+            "Writes each line to this file before it is answered, and begins where the file ends",
+        ))?
+        .arg(flag(
+            alloc,
+            "times",
+            "Writes `# at MILLISECONDS` before the answers to what the desks sent in a turn",
+        ))?
+        .arg(quiet(alloc))
 }
 
 /// A command over a cell, a certificate and recipes.

@@ -84,3 +84,39 @@ value 2 X: None
 ",
     )
 }
+
+#[test]
+fn event_that_would_create(rt: HostRuntime) -> Result<(), Fail> {
+    assert_told(
+        &rt,
+        rt.alloc(),
+        A,
+        "would create A 1000
+would create ZZ 1000
+would start 1
+would remove 1
+would report R1 ADD done
+accept create A 1000
+accept start 1
+would create A 1000
+moves
+would create A 1000
+",
+        "would create: true
+would create: false
+would create: false
+would create: false
+would create: false
+created 1 A 1000
+ok start 1 running
+would create: false
+begin 1 0 A
+ask 1 0.0 R1
+grant 1 0.0 R1
+begin 1 0.0 MAKE
+begin 1 0.0.0 CHARGE
+start 1 0.0.0.0 R1 ADD
+would create: true
+",
+    )
+}

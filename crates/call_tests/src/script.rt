@@ -1,7 +1,7 @@
 //! Scripts of an engine: event lines, and questions between them, whose answers are one text.
 use crate::documents::CELL1;
 use crate::expected::assert_text;
-use crate::records::{accept, engine_of, moves, next_move};
+use crate::records::{accept, engine_of, event_of, moves, next_move};
 use batch_engine::Engine;
 use batch_text::{Name, Place};
 use std::alloc::Global;
@@ -24,6 +24,12 @@ fn value(alloc: Global, engine: &Engine, value: &str) -> Result<String, Fail> {
     Ok(format!(in alloc; "value {value}: {number:?}\n")?)
 }
 
+/// Whether the event of the line would make a batch.
+fn would_create(alloc: Global, engine: &Engine, line: &str) -> Result<String, Fail> {
+    let event = event_of(alloc, line)?;
+    Ok(format!(in alloc; "would create: {}\n", engine.would_create(&event))?)
+}
+
 /// Whether no move is possible.
 fn settled(alloc: Global, engine: &Engine) -> Result<String, Fail> {
     Ok(format!(in alloc; "settled: {}\n", engine.settled())?)
@@ -40,12 +46,13 @@ fn answer_to_word(alloc: Global, engine: &mut Engine, word: &str) -> Result<Stri
 }
 
 /// What is told of a line of a script: of `accept` and an event line the reply alone, with no move made; of `state` and
-/// `value` the answer behind the question.
+/// `value` the answer behind the question; of `would` and an event line whether it would make a batch.
 fn answer(alloc: Global, engine: &mut Engine, line: &str) -> Result<String, Fail> {
     match line.split_once(' ') {
         Some(("accept", event)) => accept(alloc, engine, event),
         Some(("state", act)) => state(alloc, engine, act),
         Some(("value", name)) => value(alloc, engine, name),
+        Some(("would", event)) => would_create(alloc, engine, event),
         _ => answer_to_word(alloc, engine, line),
     }
 }

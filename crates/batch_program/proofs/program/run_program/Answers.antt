@@ -1,8 +1,9 @@
 use Rattle.std.proofs.Common.{map, option_map, string_bytes}
 use Rattle.std.proofs.KnownBytes.{Keeps-refl}
 use Rattle.batch_words.specs.CommandLine.{source_of}
-use Rattle.batch_program.specs.Programs.{tells, serves, keeps, reads, audits, plants, writes, remarks, draws}
+use Rattle.batch_program.specs.Programs.{tells, serves, keeps, reads, audits, plants, writes, remarks, draws, serves_desks}
 use Rattle.batch_program.specs.declared.program.TheConstants.{MAX_READS}
+use Rattle.batch_program.proofs.DesksServed.{desks_kept, desks_to_serve}
 use Rattle.batch_program.proofs.Kept.{file_to_write}
 use Rattle.batch_program.proofs.Plants.{has_run}
 use Rattle.batch_program.proofs.RemarkedServed.{remarked_kept, set_to_remark}
@@ -83,3 +84,11 @@ returns-in-Plants g c =
     c.run_words.ensures course.is in
     plants course.set course.options end.result c.report_of_plant-status.result asked cleared (has_run course.set course.options end.result end.ensures)
     (told_kept _ _ _ _ _ _ course.options.batches end.result _ kept silent c.report_of_plant-status.ensures) (Keeps-refl _)
+
+pub returns-in-ServesDesks : goal.returns-in-ServesDesks
+returns-in-ServesDesks g c =
+    let course = c.in-ServesDesks in
+    let is = desks_to_serve (g.D.Documents.gives c.args.documents.now) (map string_bytes c.args.words.now) _ _ _ course.served course.quiet course.times c.run_words.ensures course.is in
+    let (served, ran, status) = c.serve_desk_set-status.ensures in
+    rw status (serves_desks is.path is.cell is.certificate is.recipes course.times course.served.desks course.served.set served is.asked is.cleared
+    (desks_kept course.times course.served.set _ _ _ _ served is.unwritten ran) (Keeps-refl _))

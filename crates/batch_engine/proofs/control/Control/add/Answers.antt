@@ -27,7 +27,7 @@ use Rattle.batch_engine.proofs.control.Control.add.Goals as goal
 use Rattle.batch_engine.proofs.control.Control.add.Goals.{In-Ok-reserve}
 
 pub needs_with-needs-requires-clause-free : goal.needs_with-needs-requires-clause-free
-needs_with-needs-requires-clause-free c = few-batches c.args.self.now c.requires.2.free
+needs_with-needs-requires-clause-free c = few-batches c.args.self.now c.requires.2.chosen.free
 
 pub add-requires : goal.add-requires
 add-requires c =
@@ -131,7 +131,7 @@ returns c = λ name pairs o.
     ≡ plant_of (with v (v.batches ++ b ∷ []) (v.next_number + 1) (record (v.allocation) { room = room })) =
     ap₂ (λ (bs : List Batch) (a : Allocation). plant_of (seen c.self.inside.cleared c.self.inside.numbers.items bs (c.self.inside.next_number + 1) a)) (ap (λ (r : BatchList). r.batches) c.in-Ok-add.ensures.added) c.in-Ok-reserve.ensures.rest
     ∙ ap (λ (z : EngineView). plant_of (with z (z.batches ++ b ∷ []) (z.next_number + 1) (record (z.allocation) { room = room }))) c.self.view_is in
-    let document = some-at v.cleared.recipes c.args.recipe c.requires.2.known in
+    let document = some-at v.cleared.recipes c.args.recipe c.requires.2.chosen.known in
     let called : recipe_name v.cleared c.args.recipe ≡ (recipe_at v.cleared c.args.recipe c.args.units).name = recipe-named v.cleared c.args.recipe document.0 document.1 (bound_to v.cleared c.args.recipe c.args.units) in
     record {
       cleared = ap (λ (z : EngineView). z.cleared) c.self.view_is;
