@@ -2,7 +2,7 @@
 _batchd() {
     local word=${COMP_WORDS[COMP_CWORD]} before=${COMP_WORDS[COMP_CWORD - 1]} options
     if [ "$COMP_CWORD" -eq 1 ]; then
-        mapfile -t COMPREPLY < <(compgen -W "check verify show run status draw audit plant explain help --help --version" -- "$word")
+        mapfile -t COMPREPLY < <(compgen -W "check verify show run serve status draw audit plant explain help --help --version" -- "$word")
         return
     fi
     case ${COMP_WORDS[1]} in
@@ -10,8 +10,9 @@ _batchd() {
         verify | show) options="--quiet --help" ;;
         audit) options="--beginning --quiet --help" ;;
         run) options="--journal --echo --times --quiet --help" ;;
+        serve) options="--journal --times --quiet --help" ;;
         plant) options="--batches --ticks --ring --help" ;;
-        help) options="check verify show run status draw audit plant explain" ;;
+        help) options="check verify show run serve status draw audit plant explain" ;;
         explain) options="--help $("${COMP_WORDS[0]}" explain 2>/dev/null | cut -d : -f 1)" ;;
         *) options="--help" ;;
     esac

@@ -10,7 +10,7 @@ use Rattle.batch_verify.specs.ClearedSet.{ClearedSet}
 use Rattle.batch_commands.specs.Judging.{is_for_memory, status_of}
 use Rattle.batch_commands.specs.Reading.{Gives}
 use Rattle.batch_commands.specs.Requests.{Halts, HaltsDemo, IsDemoSet, IsSetOf}
-use Rattle.batch_commands.specs.Running.{AskFor, IsAnnounced, IsDone, IsExplained, IsPrinted, IsRun, IsUnwritten, Stream, ask_quiet, memory_status, success_status, commands, status_of_every, serves, reads, audits, plants, halts, judges, explains, helps, misuses, starves, keeps, writes, remarks, draws}
+use Rattle.batch_commands.specs.Running.{AskFor, IsAnnounced, IsDone, IsExplained, IsPrinted, IsRun, IsUnwritten, Stream, ask_quiet, memory_status, success_status, commands, status_of_every, serves, reads, serves_desks, audits, plants, halts, judges, explains, helps, misuses, starves, keeps, writes, remarks, draws}
 use Rattle.batch_commands.specs.Saying.{IsWarned}
 use Rattle.batch_commands.specs.Statuses.{AreCodesTold, IsSuccess, NoCommandServes, ServesClearedSets, SuccessIsTold}
 use Rattle.batch_commands.proofs.Warned.{verdict_more, warned_kept}
@@ -96,6 +96,7 @@ done_success gives request quiet output errors _ (remarks _ _ _ _ _ _ _) is = ab
 done_success gives request quiet output errors _ (reads _ _ _ _) is = absurd cc
 done_success gives request quiet output errors _ (draws _ _ _ _) is = absurd cc
 done_success gives request quiet output errors _ (audits _ _ _ _ _ _) is = absurd cc
+done_success gives request quiet output errors _ (serves_desks _ _ _ _ _ _ _ _ _ _ _) is = absurd cc
 done_success gives request quiet output errors _ (plants _ _ _ _ _ _) is = absurd cc
 
 told_success : (gives : Gives) (words : List Text) (output errors : Stream) (request : Request) (course : Course)
@@ -132,6 +133,7 @@ done_serving gives request quiet output errors set hushed _ (remarks _ _ _ _ _ _
 done_serving gives request quiet output errors set hushed _ (reads _ _ _ _) is = absurd cc
 done_serving gives request quiet output errors set hushed _ (draws _ _ _ _) is = absurd cc
 done_serving gives request quiet output errors set hushed _ (audits _ _ _ _ _ _) is = absurd cc
+done_serving gives request quiet output errors set hushed _ (serves_desks _ _ _ _ _ _ _ _ _ _ _) is = absurd cc
 done_serving gives request quiet output errors set hushed _ (plants _ _ _ _ _ _) is = absurd cc
 
 -- what was to be served with a journal, with nothing written before
@@ -171,6 +173,7 @@ done_keeping gives request quiet output errors digested hushed journal comments 
 done_keeping gives request quiet output errors digested hushed journal comments _ (reads _ _ _ _) is = absurd cc
 done_keeping gives request quiet output errors digested hushed journal comments _ (draws _ _ _ _) is = absurd cc
 done_keeping gives request quiet output errors digested hushed journal comments _ (audits _ _ _ _ _ _) is = absurd cc
+done_keeping gives request quiet output errors digested hushed journal comments _ (serves_desks _ _ _ _ _ _ _ _ _ _ _) is = absurd cc
 done_keeping gives request quiet output errors digested hushed journal comments _ (plants _ _ _ _ _ _) is = absurd cc
 done_keeping gives request quiet output errors digested hushed journal comments _ (writes _ _ _ _ _ _) is = absurd cc
 
@@ -188,6 +191,7 @@ plant_done these those batches ticks ring request quiet output errors _ is (keep
 plant_done these those batches ticks ring request quiet output errors _ is (reads _ asked _ _) = absurd cc
 plant_done these those batches ticks ring request quiet output errors _ is (draws _ asked _ _) = absurd cc
 plant_done these those batches ticks ring request quiet output errors _ is (audits _ _ asked _ _ _) = absurd cc
+plant_done these those batches ticks ring request quiet output errors _ is (serves_desks _ _ _ _ _ _ _ asked _ _ _) = absurd cc
 plant_done these those batches ticks ring request quiet output errors _ is (writes _ _ _ asked _ _) = absurd cc
 plant_done these those batches ticks ring request quiet output errors _ is (judges _ _ _ _ asked _ _) = absurd cc
 plant_done these those batches ticks ring request quiet output errors _ is (explains _ _ asked _) = absurd cc
@@ -221,6 +225,7 @@ demo_done gives request quiet output errors _ demo_asked (remarks _ _ _ asked _ 
 demo_done gives request quiet output errors _ demo_asked (reads _ asked _ _) = absurd cc
 demo_done gives request quiet output errors _ demo_asked (draws _ asked _ _) = absurd cc
 demo_done gives request quiet output errors _ demo_asked (audits _ _ asked _ _ _) = absurd cc
+demo_done gives request quiet output errors _ demo_asked (serves_desks _ _ _ _ _ _ _ asked _ _ _) = absurd cc
 demo_done gives request quiet output errors _ demo_asked (plants _ _ asked _ _ _) = absurd cc
 
 pub no_command_serves : (gives : Gives) → NoCommandServes gives

@@ -6,6 +6,7 @@ pub mod Reading
 pub mod Digested
 pub mod Taking
 pub mod Halting
+pub mod DeskSets
 pub mod Every
 pub mod Looking
 pub mod Running

@@ -1,8 +1,9 @@
 -- trusted: what comes of a request: what is printed, the set that is to be served, or why there is none.
 use Rattle.std.specs.Prelude.{◌≡◌, List, ℕ, [], ◌∷◌}
 use Rattle.batch_verify.specs.ClearedSet.{ClearedSet}
-use Rattle.batch_words.specs.CommandLine.{Judgement, check, draw, verify, Source, demo, documents, Request, judge, serve, tell, audit, plant, explain, show, keep, write, remark, picture}
+use Rattle.batch_words.specs.CommandLine.{Judgement, check, draw, verify, Source, demo, documents, Request, judge, serve, tell, audit, plant, explain, show, keep, write, remark, picture, serve_desks}
 use Rattle.batch_commands.specs.DemoDocuments.{demo_text}
+use Rattle.batch_commands.specs.DeskSets.{HaltsDesks}
 use Rattle.batch_commands.specs.Every.{HaltsChecking, HaltsDrawingOf}
 use Rattle.batch_commands.specs.Halting.{HaltsAtDocuments, HaltsClearing, HaltsVerifying}
 use Rattle.batch_commands.specs.Reading.{AreCleared, ChecksDocuments, DrawsDocuments, Gives, VerifiesDocuments, Warns, ShowsDocuments}
@@ -49,6 +50,7 @@ HaltsSource gives (documents cell certificate recipes) h = HaltsClearing gives c
 abbrev pub Halts : Gives → Warns → Request → Halt → Type 0
 Halts gives warns (judge judgement) h = HaltsJudgement gives warns judgement h
 Halts gives warns (keep journal cell certificate recipes echo times) h = HaltsClearing gives cell certificate recipes h × warns []
+Halts gives warns (serve_desks journal path cell certificate recipes times) h = HaltsDesks gives path cell certificate recipes h × warns []
 Halts gives warns (write path judgement) h = HaltsJudgement gives warns judgement h
 Halts gives warns (serve source) h = HaltsSource gives source h × warns []
 Halts gives warns (remark source echo times) h = HaltsSource gives source h × warns []

@@ -8,7 +8,8 @@ use Rattle.clap.specs.Walk.{Text}
 use Rattle.clap.specs.Words.{subcommand_of}
 use Rattle.clap.specs.declared.error.kind.ErrorKind.{ErrorKind}
 use Rattle.batch_explain.specs.Explaining.{HaveNoCode, Tells}
-use Rattle.batch_words.specs.CommandLine.{IsShown, Judgement, Request, Source, asked_by, asks_quiet, audit, explain, judge, plant, program_app, serve, source_of, tell, keep, write, faults_of, remark, picture}
+use Rattle.batch_words.specs.CommandLine.{IsShown, Judgement, Request, Source, asked_by, asks_quiet, audit, explain, judge, plant, program_app, serve, serve_desks, source_of, tell, keep, write, faults_of, remark, picture}
+use Rattle.batch_commands.specs.DeskSets.{AreDesksCleared}
 use Rattle.batch_commands.specs.Digested.{AreDigested}
 use Rattle.batch_commands.specs.Judging.{is_for_memory, status_of}
 use Rattle.batch_commands.specs.Reading.{Gives}
@@ -19,8 +20,9 @@ use Rattle.batch_words.specs.declared.command.AuditWords.{AuditWords}
 use Rattle.batch_words.specs.declared.comments.Comments.{Comments}
 use Rattle.batch_words.specs.declared.plant_options.PlantOptions.{PlantOptions}
 use Rattle.batch_commands.specs.declared.course.Course.{Course}
-use Rattle.batch_commands.specs.declared.course.Course.TheVariants.{Ends, Serves, Reads, Audits, Plants, Writes, Remarks, Draws}
+use Rattle.batch_commands.specs.declared.course.Course.TheVariants.{Ends, Serves, ServesDesks, Reads, Audits, Plants, Writes, Remarks, Draws}
 use Rattle.batch_commands.specs.declared.course.Course.TheVariants as courses
+use Rattle.batch_commands.specs.declared.desks.DeskSet.{DeskSet}
 use Rattle.batch_commands.specs.declared.digested.Digested.{Digested}
 use Rattle.batch_commands.specs.declared.refusal.Halt.{Halt}
 use Rattle.batch_commands.specs.declared.refusal.Halt.TheVariants as halt
@@ -137,6 +139,11 @@ pub data IsDone (gives : Gives) (request : Request) (quiet : Bool) (output error
   keeps : (cell certificate : Text) (recipes : List Text) (journal : String Global) (digested : Digested) (comments : Comments)
       → request ≡ keep (string_bytes journal) cell certificate recipes comments.echo comments.times → AreDigested gives cell certificate recipes digested.set digested.documents.text
       → IsUnwritten output → IsUnwritten errors → IsDone gives request quiet output errors (courses.Keeps digested quiet journal comments)
+  -- with a journal where a path names one
+  serves_desks : (journal : Option (String Global)) (path cell certificate : Text) (recipes : List Text) (served : DeskSet) (times : Bool)
+      → request ≡ serve_desks (option_map string_bytes journal) path cell certificate recipes times
+      → AreDesksCleared gives path cell certificate recipes served.desks served.digested.set served.digested.documents.text
+      → IsUnwritten output → IsUnwritten errors → IsDone gives request quiet output errors (ServesDesks served quiet journal times)
   reads : (path : Option (String Global))
       → request ≡ tell (option_map string_bytes path) → IsUnwritten output → IsUnwritten errors
       → IsDone gives request quiet output errors (Reads path)

@@ -3,7 +3,7 @@ use Rattle.std.specs.Prelude.{◌≡◌, ◌⊎◌, ℕ, Bool, List}
 use Rattle.std.specs.Io.KnownBytes.{Appends}
 use Rattle.clap.specs.Walk.{Text}
 use Rattle.batch_verify.specs.ClearedSet.{ClearedSet}
-use Rattle.batch_words.specs.CommandLine.{Request, Source, audit, demo, explain, judge, plant, serve, tell, keep, write, remark, picture}
+use Rattle.batch_words.specs.CommandLine.{Request, Source, audit, demo, explain, judge, plant, serve, tell, keep, write, remark, picture, serve_desks}
 use Rattle.batch_commands.specs.Reading.{Gives}
 use Rattle.batch_commands.specs.Requests.{HaltsDemo, IsDemoSet, IsSetOf, IsVerdict}
 use Rattle.batch_commands.specs.Running.{AskFor, IsRun, Stream, ask_quiet, memory_status}
@@ -28,6 +28,7 @@ IsSuccess gives quiet (audit beginning path source) output errors = ⊥
 IsSuccess gives quiet (write path judgement) output errors = ⊥
 IsSuccess gives quiet (serve source) output errors = ⊥
 IsSuccess gives quiet (remark source echo times) output errors = ⊥
+IsSuccess gives quiet (serve_desks journal path cell certificate recipes times) output errors = ⊥
 IsSuccess gives quiet (tell path) output errors = ⊥
 IsSuccess gives quiet (picture path) output errors = ⊥
 IsSuccess gives quiet (plant batches ticks ring) output errors = ⊥

@@ -1,4 +1,5 @@
 //! What the words of the program come to.
+use crate::desks::DeskSet;
 use crate::digested::Digested;
 use batch_verify::Cleared;
 use batch_words::{AuditWords, Comments, PlantOptions};
@@ -31,6 +32,14 @@ pub enum Course {
         quiet: bool,
         path: String,
         comments: Comments,
+    },
+    /// The program is to serve these desks over their set, with a journal in the file at the path where there is one, and with the time of
+    /// each turn in the record or without it.
+    ServesDesks {
+        served: DeskSet,
+        quiet: bool,
+        journal: Option<String>,
+        times: bool,
     },
     /// The program is to tell what a record says: the one at this path, or the one on its input.
     Reads {

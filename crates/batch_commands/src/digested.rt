@@ -4,6 +4,7 @@ ghost use Rattle.batch_journal.specs.Digests.{HasTaken};
 ghost use Rattle.batch_commands.specs.Digested.{AreDigested, ReadsCellText, ReadsRecipeText};
 ghost use Rattle.batch_commands.specs.Taking.{AreTaken};
 ghost use Rattle.batch_commands.specs.Halting.{HaltsAtCell, HaltsAtRecipe, HaltsAtRecipes, HaltsClearing};
+ghost use Rattle.batch_commands.specs.Reading.{ReadsCell};
 
 use crate::documents::{Documents, read_certificate};
 use crate::judging::{clear_recipes, judge_cell, judge_recipe};
@@ -38,6 +39,24 @@ pub fn clear_digested<D: Documents>(
 {
     let mut digest = DocumentsDigest::new();
     let cell = read_cell(alloc, documents, cell, &mut digest)?;
+    clear_behind(alloc, documents, cell, digest, certificate, recipes)
+}
+
+/// The same of a cell that is read already, and whose text alone the digest has taken.
+pub(crate) fn clear_behind<D: Documents>(
+    alloc: Global,
+    documents: &D,
+    cell: Cell,
+    mut digest: DocumentsDigest,
+    certificate: &str,
+    recipes: &[String],
+) -> Result<Digested, Halt>
+    ensures cell { IfOk result (λ digested. digested.set.cell ≡ cell) }
+    ensures digested { IfOk result (λ digested. (path text : List ℕ) → ReadsCellText (D.gives documents.now) path text cell → HasTaken digest (text ∷ [])
+        → AreDigested (D.gives documents.now) path certificate.now (map string_bytes recipes.now) digested.set digested.documents.text) }
+    ensures halted { IfErr result (λ halt. (path : List ℕ) → ReadsCell (D.gives documents.now) path cell
+        → HaltsClearing (D.gives documents.now) path certificate.now (map string_bytes recipes.now) halt) }
+{
     let certificate = read_certificate(alloc, documents, certificate)?;
     let mut sources = Vec::new(alloc);
     let recipes = read_recipes(alloc, documents, recipes, &mut sources, &mut digest)?;
@@ -48,7 +67,7 @@ pub fn clear_digested<D: Documents>(
     })
 }
 
-fn read_cell<D: Documents>(
+pub(crate) fn read_cell<D: Documents>(
     alloc: Global,
     documents: &D,
     path: &str,

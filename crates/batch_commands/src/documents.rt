@@ -240,7 +240,7 @@ pub(crate) fn read_recipe<D: Documents>(
     Ok(recipe)
 }
 
-fn read_recipes<D: Documents>(
+pub(crate) fn read_recipes<D: Documents>(
     alloc: Global,
     documents: &D,
     paths: &[String],

@@ -12,12 +12,10 @@ use crate::texts::{
 };
 use batch_cell::Cell;
 use batch_check::{CheckFault, check};
+use batch_document_sentences::{Asked, document_sentence};
 use batch_reader::{DocFault, read_cell, read_recipe};
 use batch_recipe::Recipe;
-use batch_sentences::{
-    Asked, Sentence, Source, certificate_sentence, document_sentence, fault_sentence,
-    refusal_sentence,
-};
+use batch_sentences::{Sentence, Source, certificate_sentence, fault_sentence, refusal_sentence};
 use batch_verify::{
     CertFault, Certificate, Cleared, Rejected, SetRefusal, read_certificate, verify,
 };
@@ -51,7 +49,13 @@ pub fn judge_recipe(alloc: Global, path: &str, bytes: &[u8]) -> Result<Recipe, H
     }
 }
 
-fn document_halt(alloc: Global, asked: Asked, path: &str, bytes: &[u8], fault: DocFault) -> Halt
+pub(crate) fn document_halt(
+    alloc: Global,
+    asked: Asked,
+    path: &str,
+    bytes: &[u8],
+    fault: DocFault,
+) -> Halt
     ensures { HaltsWith (document_text path.now fault) (document_kind fault) result }
 {
     let kind = match fault {

@@ -3,6 +3,7 @@
 
 mod course;
 mod demo;
+mod desks;
 mod digested;
 mod documents;
 mod drawing;
@@ -20,6 +21,7 @@ mod texts;
 mod warnings;
 
 pub use course::Course;
+pub use desks::{DeskSet, clear_desks};
 pub use digested::{Digested, clear_digested};
 pub use documents::{
     Documents, check_documents, clear_documents, draw_documents, show_documents, verify_documents,

@@ -1,6 +1,6 @@
 //! Running the program's commands.
-ghost use Rattle.std.specs.Prelude.{◌≡◌, IfErr, IfOk, OnOk, map, string_bytes};
-ghost use Rattle.batch_words.specs.CommandLine.{audit, judgement_of, keep, plant, remark, request_of, serve, source_of};
+ghost use Rattle.std.specs.Prelude.{◌≡◌, IfErr, IfOk, OnOk, map, option_map, string_bytes};
+ghost use Rattle.batch_words.specs.CommandLine.{audit, judgement_of, keep, plant, remark, request_of, serve, serve_desks, source_of};
 ghost use Rattle.std.specs.Io.KnownBytes.{Appends};
 ghost use Rattle.batch_commands.specs.Requests.{HaltsDemo, HaltsJudgement, HaltsSource, IsDemoSet, IsSetOf, IsVerdict, demo_gives};
 ghost use Rattle.std.specs.List.{flat_map, list_any};
@@ -10,6 +10,7 @@ ghost use Rattle.batch_commands.specs.Saying.{IsWarned};
 
 use crate::course::Course;
 use crate::demo::{CELL_PATH, CERTIFICATE_PATH, Demo, RECIPE_PATH};
+use crate::desks::clear_desks;
 use crate::digested::clear_digested;
 use crate::documents::{Documents, clear_documents, show_documents, verify_documents};
 use crate::every::{check_asked, draw_asked};
@@ -18,8 +19,8 @@ use crate::saying::{say, say_every};
 use batch_explain::explain;
 use batch_verify::Cleared;
 use batch_words::{
-    AuditWords, CommandFault, CommandWords, Comments, Judgement, PlantOptions, Source, Subcommand,
-    parse,
+    AuditWords, CommandFault, CommandWords, Comments, DeskWords, Judgement, PlantOptions, Source,
+    Subcommand, parse,
 };
 use std::alloc::{AllocError, Global};
 use std::fmt::Display;
@@ -124,6 +125,9 @@ fn run_command<D: Documents, O: Write, E: Write>(
             output,
             errors,
         ),
+        Subcommand::ServeDesks(words) => serve_desks(
+            alloc, quiet, words, documents, output, errors,
+        ),
         Subcommand::Status { path } => Course::Reads { path },
         Subcommand::Picture { path } => Course::Draws { path },
         Subcommand::Audit(words) => audit(alloc, quiet, words, documents, output, errors),
@@ -147,6 +151,39 @@ fn serve<D: Documents, O: Write, E: Write>(
 {
     match clear_source(alloc, documents, source) {
         Ok(set) => Course::Serves { set, quiet },
+        Err(halt) => Course::Ends(announce(alloc, quiet, &halt, output, errors)),
+    }
+}
+
+/// Has desks served over the set of the documents that the words name, with a journal or without one.
+fn serve_desks<D: Documents, O: Write, E: Write>(
+    alloc: Global,
+    quiet: bool,
+    words: DeskWords,
+    documents: &D,
+    output: &mut O,
+    errors: &mut E,
+) -> Course
+    ensures { IsDone (D.gives documents.now) (serve_desks (option_map string_bytes words.journal) (string_bytes words.desks) (string_bytes words.cell)
+        (string_bytes words.certificate) (map string_bytes words.recipes.items) words.times) quiet
+        (record { before = O.contents output.old; after = O.contents output.new })
+        (record { before = E.contents errors.old; after = E.contents errors.new }) result }
+{
+    let cleared = clear_desks(
+        alloc,
+        documents,
+        &words.desks,
+        &words.cell,
+        &words.certificate,
+        &words.recipes,
+    );
+    match cleared {
+        Ok(served) => Course::ServesDesks {
+            served,
+            quiet,
+            journal: words.journal,
+            times: words.times,
+        },
         Err(halt) => Course::Ends(announce(alloc, quiet, &halt, output, errors)),
     }
 }

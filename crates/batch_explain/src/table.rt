@@ -36,7 +36,7 @@ static EXPLANATIONS: [Explanation; 52] = [
     },
     Explanation {
         code: "D2",
-        meaning: "a key that the table needs is missing, a unit procedure has neither unit nor role, or there is no procedure",
+        meaning: "a key that the table needs is missing, a unit procedure has neither unit nor role, a desk has neither input nor output, or there is no procedure",
         remedy: "add the key; docs/FORMATS.md lists the keys of each table",
     },
     Explanation {
@@ -51,7 +51,7 @@ static EXPLANATIONS: [Explanation; 52] = [
     },
     Explanation {
         code: "D5",
-        meaning: "a label, a unit, a role, a value, an output or a unit procedure is named that the document doesn't declare",
+        meaning: "a label, a unit, a role, a value, an output or a unit procedure is named that the document doesn't declare, or a desk's unit is none of the cell's",
         remedy: "declare it, or name what is declared; capitals count",
     },
     Explanation {

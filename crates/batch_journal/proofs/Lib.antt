@@ -12,6 +12,7 @@ mod ClosingLemmas
 mod SumLemmas
 mod WritingLemmas
 pub mod ReaderLemmas
+mod GivenLemmas
 mod DamageLemmas
 mod DigestLemmas
 pub mod TakenLemmas

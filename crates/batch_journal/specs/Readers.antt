@@ -1,9 +1,10 @@
 -- trusted: what a reader keeps whose lines are journalled before it gives them. Each is a fact with one proof at most, so that a struct can keep it.
-use Rattle.std.specs.Prelude.{◌≡◌, ℕ, ◌≤◌, List, ◌++◌, length, take, Option, Some}
+use Rattle.std.specs.Prelude.{◌≡◌, ℕ, ◌≤◌, List, ◌++◌, length, take, drop, Option, Some}
 use Rattle.std.specs.Io.KnownBytes.{prepend_known}
 use Rattle.batch_journal.specs.Lines.{AreLines, text_of, whole_lines}
 use Rattle.batch_journal.specs.Disks.{Left}
-use Rattle.batch_journal.specs.Journals.{recovered, IsJournal}
+use Rattle.batch_journal.specs.Groups.{AreOthers}
+use Rattle.batch_journal.specs.Journals.{journal_format, recovered, IsJournal}
 
 -- all of the file is a synced journal: its lines are those from before, those given, and those ready to be given
 pub record IsKept (documents base durable seen given ready sum : List ℕ) : Type 0 where
@@ -14,6 +15,15 @@ pub record IsKept (documents base durable seen given ready sum : List ℕ) : Typ
 -- whole lines alone
 abbrev pub IsWhole : List ℕ → Type 0
 IsWhole text = text ≡ text_of (whole_lines text)
+
+-- whole lines that may be a group: none of them closes one
+pub record IsGroup (lines : List ℕ) : Type 0 where
+  pub whole : IsWhole lines
+  pub others : AreOthers journal_format (whole_lines lines)
+
+-- the lines of the journal behind those from before and all that was given
+abbrev pub not_given : List ℕ → List ℕ → List ℕ → List ℕ → List ℕ
+not_given documents base seen given = drop (length (base ++ given)) (text_of (recovered documents seen))
 
 -- one text begins the other
 abbrev pub StartsText : List ℕ → List ℕ → Type 0

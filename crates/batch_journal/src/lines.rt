@@ -1,10 +1,12 @@
 //! Whole lines of a text, before its first zero byte.
-ghost use Rattle.std.specs.Prelude.{◌≡◌, ◌≤◌, [], length, take, drop, IsFalse, MatchOption};
+ghost use Rattle.std.specs.Prelude.{◌≡◌, ◌≤◌, [], length, take, drop, IsFalse, IsTrue, MatchOption};
 ghost use Rattle.batch_journal.specs.Groups.{AreOthers};
 ghost use Rattle.batch_journal.specs.Journals.{journal_format};
 ghost use Rattle.batch_journal.specs.Lines.{AreLines, text_of, until_zero, whole_from, whole_lines};
 ghost use Rattle.batch_journal.specs.Ends.{EndsLine};
+ghost use Rattle.batch_journal.specs.Readers.{IsWhole};
 
+use crate::group::is_closing;
 use memchr::memchr2;
 
 /// Where the first line ends, where a line feed ends it and no zero byte stands before that.
@@ -37,13 +39,20 @@ pub(crate) fn end_of(bytes: &[u8]) -> usize
     end
 }
 
-/// Whether a whole line begins with `#`, as those do that a journal has for itself.
-pub(crate) fn has_comment(text: &[u8]) -> bool
+/// Whether the bytes are whole lines, without a zero byte.
+pub fn are_whole_lines(bytes: &[u8]) -> bool
+    ensures { IsTrue result → IsWhole bytes.now }
+{
+    end_of(bytes) == bytes.len()
+}
+
+/// Whether a whole line is such as a journal has for itself.
+pub(crate) fn has_own(text: &[u8]) -> bool
     ensures { IsFalse result → AreOthers journal_format (whole_lines text.now) }
 {
     let mut rest = text;
     while let Some(at) = next_line(rest) {
-        if rest[0] == b'#' {
+        if is_closing(&rest[..at]) {
             return true;
         }
         rest = &rest[at + 1..];

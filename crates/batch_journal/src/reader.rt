@@ -4,59 +4,32 @@ ghost use Rattle.std.specs.Io.{ReadsAtMost};
 ghost use Rattle.std.specs.Io.KnownBytes.{ReadConsumes, Keeps, IsAtEnd, prepend_known};
 ghost use Rattle.batch_journal.specs.Journals.{sum_text};
 ghost use Rattle.batch_journal.specs.Lines.{AreLines, whole_lines};
-ghost use Rattle.batch_journal.specs.Readers.{IsKept, IsWhole, HasRecalled, IsAccounted};
+ghost use Rattle.batch_journal.specs.Readers.{IsKept, IsWhole, HasRecalled, IsAccounted, not_given};
 ghost use Rattle.batch_journal.specs.Windows.{items};
 
 use crate::disk::Disk;
-use crate::group::write_group;
-use crate::lines::{end_of, has_comment};
+use crate::groups::Groups;
+use crate::lines::{end_of, has_own};
+use crate::run::Run;
 use crate::sum::Sum;
 use crate::window::Window;
 use std::io;
 use std::io::{ErrorKind, Read};
-use std::marker::{Brand, PhantomData};
 use std::time::Clock;
-
-/// A run over a journal, as a type: what is known of it at its start stays known while code runs that knows only of a reader.
-pub trait Run {
-    /// The digits of its documents.
-    ghost documents: { List ℕ };
-
-    /// The text of the lines that the journal had then.
-    ghost base: { List ℕ };
-
-    /// A moment from which on a crash left these lines.
-    ghost since: { ℕ };
-
-    /// The bytes of the input, where they are known.
-    ghost input: { Option (List ℕ) };
-
-    /// What the disk that it began over had been, as that it had behaved as one.
-    ghost was: { Type 0 };
-}
 
 /// Gives the bytes of an input, whole lines alone, once they are in the journal and synced: one read of the input is one group.
 ///
-/// No line of the input may begin with `#`, have a zero byte or be longer than the window: there it fails. After a call of the
+/// No line of the input may begin with `# sum `, have a zero byte or be longer than the window: there it fails. After a call of the
 /// disk failed each read fails.
 #[derive(Drop)]
 pub struct JournalReader<R: Read, D: Disk, K: Clock, C: Run> {
     inner: R,
-    disk: D,
-    clock: K,
+    groups: Groups<D, K, C>,
+    // the lines that are in the journal, and behind them what else was read
     window: Window,
-    // how much of the window is in the journal
-    ready: usize,
-    sum: Sum,
-    failed: bool,
-    of: PhantomData<C>,
-    ghost within: { ready ≤ length (items window) },
-    ghost none_ready: { failed ≡ true → ready ≡ 0 },
-    ghost kept: { D.is_disk disk → failed ≡ false → IsKept C.documents C.base (D.durable disk) (D.seen disk) (D.given disk) (take ready (items window)) (sum_text sum) },
-    ghost whole: { D.is_disk disk → IsWhole (D.given disk) },
-    ghost recalled: { D.is_disk disk → HasRecalled C.documents C.base C.since (D.moment disk) (D.left_since disk) },
-    ghost accounted: { D.is_disk disk → IsAccounted C.input (D.given disk) (prepend_known (items window) (R.remaining inner)) },
-    ghost stays: { D.is_disk disk → ∥ C.was ∥₁ },
+    ghost within: { groups.ready ≤ length (items window) },
+    ghost ready: { D.is_disk groups.disk → groups.failed ≡ false → not_given C.documents C.base (D.seen groups.disk) (D.given groups.disk) ≡ take groups.ready (items window) },
+    ghost accounted: { D.is_disk groups.disk → IsAccounted C.input (D.given groups.disk) (prepend_known (items window) (R.remaining inner)) },
 }
 
 impl<R: Read, D: Disk, K: Clock, C: Run> JournalReader<R, D, K, C> {
@@ -68,17 +41,12 @@ impl<R: Read, D: Disk, K: Clock, C: Run> JournalReader<R, D, K, C> {
         requires input { D.is_disk disk → IsAccounted C.input (D.given disk) (R.remaining inner) }
         requires was { D.is_disk disk → C.was }
         ensures remaining { prepend_known (items result.window) (R.remaining result.inner) ≡ prepend_known [] (R.remaining inner) }
-        ensures disk { result.disk ≡ disk }
+        ensures disk { result.groups.disk ≡ disk }
     {
         JournalReader {
             inner,
-            disk,
-            clock,
+            groups: Groups::new(disk, clock, sum),
             window: Window::new(),
-            ready: 0,
-            sum,
-            failed: false,
-            of: PhantomData,
         }
     }
 
@@ -87,14 +55,14 @@ impl<R: Read, D: Disk, K: Clock, C: Run> JournalReader<R, D, K, C> {
     where
         R: Drop,
         K: Drop,
-        ensures disk { result ≡ self.disk }
+        ensures disk { result ≡ self.groups.disk }
         ensures whole { D.is_disk result → IsWhole (D.given result) }
         ensures lines { D.is_disk result → AreLines (whole_lines (D.given result)) }
         ensures recalled { D.is_disk result → HasRecalled C.documents C.base C.since (D.moment result) (D.left_since result) }
         ensures accounted { D.is_disk result → IsAccounted C.input (D.given result) (prepend_known (items self.window) (R.remaining self.inner)) }
         ensures stays { D.is_disk result → ∥ C.was ∥₁ }
     {
-        self.disk
+        self.groups.into_disk()
     }
 }
 
@@ -114,12 +82,12 @@ impl<R: Read, D: Disk, K: Clock, C: Run> JournalReader<R, D, K, C> {
     /// Journals the next lines, where none is ready.
     fn fill(&mut self) -> io::Result<()>
         ensures keeps { Keeps (prepend_known (items self.old.window) (R.remaining self.old.inner)) (prepend_known (items self.new.window) (R.remaining self.new.inner)) }
-        ensures end { OnOk result (self.new.ready ≡ 0 → IsAtEnd (prepend_known (items self.new.window) (R.remaining self.new.inner))) }
+        ensures end { OnOk result (self.new.groups.ready ≡ 0 → IsAtEnd (prepend_known (items self.new.window) (R.remaining self.new.inner))) }
     {
-        if self.ready > 0 {
+        if self.groups.ready > 0 {
             return Ok(());
         }
-        if self.failed {
+        if self.groups.failed {
             return Err(io::Error::from(ErrorKind::Other));
         }
         self.window.move_to_front();
@@ -138,65 +106,33 @@ impl<R: Read, D: Disk, K: Clock, C: Run> JournalReader<R, D, K, C> {
             return Err(io::Error::from(ErrorKind::Interrupted));
         }
         let lines = &bytes[..end];
-        if has_comment(lines) {
+        if has_own(lines) {
             return Err(io::Error::from(ErrorKind::InvalidData));
         }
-        let sum = self.sum.next(lines);
-        let milliseconds = milliseconds_of(&self.clock);
-        self.failed = true;
-        write_group(&mut self.disk, lines, &sum, milliseconds)?;
-        self.failed = false;
-        self.sum = Sum::Group(sum);
-        self.ready = end;
+        self.groups.write(lines)?;
         Ok(())
     }
 
     /// Gives as many of the journalled lines as there is room for.
     fn give(&mut self, buf: &mut [u8]) -> io::Result<usize>
-        requires { self.old.ready ≡ 0 → IsAtEnd (prepend_known (items self.old.window) (R.remaining self.old.inner)) }
+        requires { self.old.groups.ready ≡ 0 → IsAtEnd (prepend_known (items self.old.window) (R.remaining self.old.inner)) }
         ensures bound { ReadsAtMost result buf.new }
         ensures bytes { ReadConsumes (prepend_known (items self.old.window) (R.remaining self.old.inner)) (prepend_known (items self.new.window) (R.remaining self.new.inner)) result buf.new }
     {
-        if self.ready == 0 {
+        if self.groups.ready == 0 {
             return Ok(0);
         }
-        let ready = self.ready;
-        let fits = buf.len().min(ready);
+        let fits = buf.len().min(self.groups.ready);
         let bytes = self.window.as_slice();
         let count = end_of(&bytes[..fits]);
         if count == 0 {
             // There isn't room for a line.
             return Err(io::Error::from(ErrorKind::InvalidInput));
         }
-        self.failed = true;
-        self.ready = 0;
-        self.disk.give(&bytes[..count])?;
-        self.failed = false;
-        buf[..count].copy_from_slice(&bytes[..count]);
+        let lines = &bytes[..count];
+        self.groups.give(lines)?;
+        buf[..count].copy_from_slice(lines);
         self.window.consume(count);
-        self.ready = ready - count;
         Ok(count)
     }
-}
-
-/// The time in milliseconds since 1970; 0 where the clock doesn't tell it.
-fn milliseconds_of<K: Clock>(clock: &K) -> u64 {
-    match clock.since_1970() {
-        Ok(time) => u64::try_from(time.as_millis()).unwrap_or(u64::MAX),
-        Err(_) => 0,
-    }
-}
-
-impl Run for Brand {
-    ghost use Rattle.std.specs.Prelude.{[], None, ⊤};
-
-    ghost documents = { [] };
-
-    ghost base = { [] };
-
-    ghost since = { 0 };
-
-    ghost input = { None };
-
-    ghost was = { ⊤ };
 }

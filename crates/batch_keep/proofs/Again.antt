@@ -13,11 +13,11 @@ use Rattle.batch_journal.specs.Readers.{StartsText, LinesBegin}
 use Rattle.batch_journal.specs.Recovery.{RecoveredAreLines}
 use Rattle.batch_keep.specs.Told.{TellsLines, IsToldAgain, IsNeverLost}
 
-text_both : (a b : List (List ℕ)) → text_of (a ++ b) ≡ text_of a ++ text_of b
+pub text_both : (a b : List (List ℕ)) → text_of (a ++ b) ≡ text_of a ++ text_of b
 text_both [] b = refl
 text_both (line ∷ a) b = ap (λ l. line ++ 10 ∷ l) (text_both a b) ∙ sym (append_assoc line (10 ∷ text_of a) (text_of b))
 
-lines_both : (a b : List (List ℕ)) → AreLines a → AreLines b → AreLines (a ++ b)
+pub lines_both : (a b : List (List ℕ)) → AreLines a → AreLines b → AreLines (a ++ b)
 lines_both [] b are others = others
 lines_both (line ∷ a) b are others = (are.0, lines_both a b are.1 others)
 

@@ -1,26 +1,39 @@
 -- The recovery block.
-use Rattle.std.proofs.Common.{◌≡◌, ◌++◌, ℕ, List, [], length, Some, codes, ◌∙◌, ap, subst}
+use Rattle.std.proofs.Common.{◌≡◌, ◌++◌, ◌∷◌, ◌+◌, ◌<◌, ℕ, List, [], length, map, take, get_or, Some, codes, sym, ◌∙◌, ap, subst}
+use Rattle.std.proofs.lemmas.List.{map-append, take_more}
 use Rattle.batch_model.specs.Plant.{Setup, Plant}
 use Rattle.batch_wire.specs.WrittenTranscript.{WritesTranscript}
 use Rattle.batch_serve.specs.Replays.{ShowsNoWant}
 use Rattle.batch_status.specs.Blocks.{Stage}
 use Rattle.batch_status.specs.Listing.{IsTextOf}
 use Rattle.batch_status.specs.Reading.{LeadsTo}
-use Rattle.batch_keep.specs.Blocks.{IsReplayed, IsBlockOf, block_text}
+use Rattle.batch_keep.specs.Blocks.{AreBlocksOf, IsReplayed, IsBlockOf, block_text}
+use Rattle.batch_keep.specs.Counts.{own_lines, sent_lines}
 
 pub is_replayed : (c : Setup) (old new : Plant) (lines : List (List ℕ)) (before now : List ℕ) → before ≡ [] → WritesTranscript c old lines new (Some before) (Some now) → ShowsNoWant now → IsReplayed c old lines new now
 is_replayed c old new lines before now none w shows =
     let is : now ≡ w.said.text = w.appends ∙ ap (λ l. l ++ w.said.text) none in
     record { said = w.said; transcript = w.transcript; leads = w.leads; shows = subst ShowsNoWant is shows; is = is }
 
-pub is_block : (c : Setup) (old new : Plant) (lines : List (List ℕ)) (told block : List ℕ) (count : ℕ) (stage : Stage) (rows : List ℕ) → IsReplayed c old lines new told → LeadsTo told stage
-    → IsTextOf stage.tale (codes "# ") rows → count ≡ length lines → block ≡ block_text count rows → IsBlockOf c old lines new block
-is_block c old new lines told block count stage rows replayed leads_to are_rows counts is = record {
-  told = told;
-  replayed = replayed;
-  stage = stage;
-  leads_to = leads_to;
-  rows = rows;
-  are_rows = are_rows;
-  is = is ∙ ap (λ n. block_text n rows) counts;
+pub are_blocks : (c : Setup) (old new : Plant) (lines names : List (List ℕ)) (told block : List ℕ) (each : List (List ℕ)) (count : ℕ) (stage : Stage) (rows : List ℕ) → IsReplayed c old lines new told → LeadsTo told stage
+    → IsTextOf stage.tale (codes "# ") rows → count ≡ length (sent_lines lines) → block ≡ block_text count rows
+    → each ≡ map (λ name. block_text (length (own_lines name lines)) rows) names → AreBlocksOf c old lines names new block each
+are_blocks c old new lines names told block each count stage rows replayed leads_to are_rows counts is desks = record {
+  output = record {
+    told = told;
+    replayed = replayed;
+    stage = stage;
+    leads_to = leads_to;
+    rows = rows;
+    are_rows = are_rows;
+    is = is ∙ ap (λ n. block_text n rows) counts;
+  };
+  desks = desks;
 }
+
+-- one more block stands behind those so far
+pub blocks_so_far : (f : List ℕ → List ℕ) (names before items : List (List ℕ)) (i : ℕ) (name block : List ℕ) → i < length names → name ≡ get_or names i name
+    → before ≡ map f (take i names) → block ≡ f name → items ≡ before ++ block ∷ [] → items ≡ map f (take (i + 1) names)
+blocks_so_far f names before items i name block within item so_far block_is is =
+    let front : take (i + 1) names ≡ take i names ++ name ∷ [] = take_more names i name within ∙ ap (λ n. take i names ++ n ∷ []) (sym item) in
+    is ∙ ap (λ l. l ++ block ∷ []) so_far ∙ ap (λ b. map f (take i names) ++ b ∷ []) block_is ∙ sym (map-append f (take i names) (name ∷ [])) ∙ sym (ap (map f) front)

@@ -31,7 +31,7 @@ strip_least true line = omega (arith, length-take (length line - 1) line)
 strip_least false line = omega arith
 
 -- a short comment gives nothing
-comment : (line : List ℕ) → 1 ≤ length line → length line < 1024 → event_of_line (35 ∷ line) ≡ Ok None
+pub comment : (line : List ℕ) → 1 ≤ length line → length line < 1024 → event_of_line (35 ∷ line) ≡ Ok None
 comment line some few =
     let b = get_or (35 ∷ line) (length (35 ∷ line) - 1) 0 == 13 in
     let text = strip_carriage_return (35 ∷ line) in
@@ -114,7 +114,7 @@ module _ (c : Setup) (new : Plant) where
       left_if sum last begun line lines old said (cases_Bool (journal_format.own line)) (cases_Bool (journal_format.closes (journal_format.next sum begun) line)) is
       (λ one told. left_out (journal_format.next sum begun) last [] lines one told) (λ one told. left_out sum last (begun ++ line ∷ []) lines one told) t
 
-line_both : (a b : List ℕ) → IsLine a → IsLine b → IsLine (a ++ b)
+pub line_both : (a b : List ℕ) → IsLine a → IsLine b → IsLine (a ++ b)
 line_both [] b is more = more
 line_both (x ∷ a) b is more = (is.0, is.1, line_both a b is.2 more)
 

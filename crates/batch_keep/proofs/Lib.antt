@@ -1,7 +1,8 @@
 mod Telling
 mod Again
 mod Comments
-mod Counting
+mod CountedLines
 mod Blocks
 pub mod Beginning
 mod StartWords
+mod DesksAgain

@@ -1,5 +1,5 @@
 -- trusted: the block that stands before all that is told after a start over a journal.
-use Rattle.std.specs.Prelude.{◌≡◌, ℕ, List, ◌++◌, length, codes, decimal}
+use Rattle.std.specs.Prelude.{◌≡◌, ℕ, List, ◌++◌, length, map, codes, decimal}
 use Rattle.batch_model.specs.Plant.{Setup, Plant}
 use Rattle.batch_model.specs.Runs.{Leads}
 use Rattle.batch_wire.specs.Transcript.{Exchange, Transcript}
@@ -7,6 +7,7 @@ use Rattle.batch_serve.specs.Replays.{ShowsNoWant}
 use Rattle.batch_status.specs.Blocks.{Stage}
 use Rattle.batch_status.specs.Listing.{IsTextOf}
 use Rattle.batch_status.specs.Reading.{LeadsTo}
+use Rattle.batch_keep.specs.Counts.{own_lines, sent_lines}
 
 -- the text of a transcript of these lines, in which memory was never wanted
 pub record IsReplayed (c : Setup) (old : Plant) (lines : List (List ℕ)) (new : Plant) (record_text : List ℕ) : Type 0 where
@@ -28,4 +29,9 @@ pub record IsBlockOf (c : Setup) (old : Plant) (lines : List (List ℕ)) (new : 
   pub leads_to : LeadsTo told stage
   pub rows : List ℕ
   pub are_rows : IsTextOf stage.tale (codes "# ") rows
-  pub is : block ≡ block_text (length lines) rows
+  pub is : block ≡ block_text (length (sent_lines lines)) rows
+
+-- that block, and those of desks of these names: each has the number of the desk's own lines, and the same rows
+pub record AreBlocksOf (c : Setup) (old : Plant) (lines : List (List ℕ)) (names : List (List ℕ)) (new : Plant) (block : List ℕ) (each : List (List ℕ)) : Type 0 where
+  pub output : IsBlockOf c old lines new block
+  pub desks : each ≡ map (λ name. block_text (length (own_lines name lines)) output.rows) names

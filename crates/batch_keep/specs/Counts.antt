@@ -1,7 +1,33 @@
--- private: what a line adds to the number of a journal's lines.
-use Rattle.std.specs.Prelude.{ℕ, List, if◌then◌else◌}
-use Rattle.batch_journal.specs.Journals.{journal_format}
+-- trusted: which lines of a journal were sent, and which of them by one of several desks.
+use Rattle.std.specs.Prelude.{ℕ, ◌+◌, Bool, true, false, not, ◌||◌, List, [], ◌∷◌, ◌++◌, drop, filter, cond, codes, nat_eq}
+use Rattle.std.specs.Cmp.Lexicographic.{pointwise}
+use Rattle.std.specs.List.{starts_with}
+use Rattle.batch_wire.specs.EventLine.{is_comment}
 
--- the journal's own lines aren't counted
-abbrev pub count_of : List ℕ → ℕ
-count_of line = if journal_format.own line then 0 else 1
+-- all lines but comments
+abbrev pub sent_lines : List (List ℕ) → List (List ℕ)
+sent_lines lines = filter (λ line. not (is_comment line)) lines
+
+-- whether the lines behind this one are a desk's, which before it are or aren't: a comment says whose they are, up to the next
+abbrev pub own_behind : List ℕ → Bool → List ℕ → Bool
+own_behind name own line = cond (starts_with nat_eq line (codes "# from ")) (pointwise nat_eq (drop 7 line) name) own
+
+abbrev pub own_from : List ℕ → Bool → List (List ℕ) → List (List ℕ)
+own_from name own [] = []
+own_from name own (line ∷ lines) = cond (is_comment line) [] (cond own (line ∷ []) []) ++ own_from name (own_behind name own line) lines
+
+-- those that stand behind a comment with the desk's name, up to the next such comment
+abbrev pub own_lines : List ℕ → List (List ℕ) → List (List ℕ)
+own_lines name lines = own_from name false lines
+
+-- the same as a count: of all lines, or of the desk's
+
+abbrev pub is_counted_behind : Bool → List ℕ → Bool → List ℕ → Bool
+is_counted_behind all name counted line = cond (starts_with nat_eq line (codes "# from ")) (all || pointwise nat_eq (drop 7 line) name) counted
+
+abbrev pub count_of : Bool → List ℕ → ℕ
+count_of counted line = cond (is_comment line) 0 (cond counted 1 0)
+
+abbrev pub count_from : Bool → List ℕ → Bool → List (List ℕ) → ℕ
+count_from all name counted [] = 0
+count_from all name counted (line ∷ lines) = count_of counted line + count_from all name (is_counted_behind all name counted line) lines

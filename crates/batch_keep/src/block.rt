@@ -1,10 +1,10 @@
-//! The recovery block: what the lines of a journal, served again, tell of the plant.
-ghost use Rattle.std.specs.Prelude.{◌≡◌, ◌++◌, ℕ, List, length, codes, IfOk, OnOk};
+//! Recovery blocks: what the lines of a journal, served again, tell of the plant.
+ghost use Rattle.std.specs.Prelude.{◌≡◌, ℕ, List, length, map, codes, IfOk};
 ghost use Rattle.batch_engine.specs.View.{setup, plant_of};
 ghost use Rattle.batch_journal.specs.Journals.{IsJournal, recovered};
 ghost use Rattle.batch_journal.specs.Lines.{IsLine};
-ghost use Rattle.batch_keep.specs.Blocks.{IsBlockOf, IsReplayed, block_text};
-ghost use Rattle.batch_keep.specs.Counts.{count_of};
+ghost use Rattle.batch_keep.specs.Blocks.{AreBlocksOf, IsReplayed, block_text};
+ghost use Rattle.batch_keep.specs.Counts.{own_lines};
 ghost use Rattle.batch_keep.specs.RowsOfBlocks.{BlockRows};
 ghost use Rattle.batch_status.specs.Blocks.{Stage};
 ghost use Rattle.batch_status.specs.Kept.{Keeps};
@@ -12,18 +12,16 @@ ghost use Rattle.batch_status.specs.Listing.{IsTextOf};
 ghost use Rattle.batch_status.specs.Reading.{LeadsTo};
 ghost use Rattle.batch_status.specs.Telling.{Tale};
 
+use crate::counting::{own_count, sent_count};
 use crate::replaying::replay;
 use batch_engine::Engine;
-use batch_journal::recovered_are_lines;
 use batch_serve::shows_want;
+use batch_serve_desks::Lines;
 use batch_status::{Status, StatusFault, read_status};
+use batch_text::Name;
 use itoa::Buffer;
-use memchr::memchr;
-use std::alloc::Global;
+use std::alloc::{AllocError, Global};
 use thiserror::Error;
-
-/// The length of a journal's header.
-const HEADER_LEN: usize = 84;
 
 /// Why there is no recovery block.
 #[derive(Clone, Copy, Debug, Error)]
@@ -36,50 +34,42 @@ pub enum BlockFault {
     Status(StatusFault),
 }
 
-/// Serves the lines of a recovered journal again, and gives the block that stands before all that is told then: how many lines they
-/// are, and what their record tells of the plant.
+impl From<AllocError> for BlockFault {
+    ghost use Rattle.batch_keep.specs.declared.block.BlockFault.TheVariants as faults;
+
+    ghost from_gives = { λ _ fault. fault ≡ faults.Memory };
+
+    fn from(_error: AllocError) -> BlockFault {
+        BlockFault::Memory
+    }
+}
+
+/// Serves the lines of a recovered journal again, and gives the blocks that stand before all else that is told then: how many lines
+/// were sent, and what their record tells of the plant. The first is the output's; those of desks, in the order of their names, count
+/// the desk's own lines alone.
 ///
 /// # Errors
 ///
 /// `Memory` where an event or a line was refused for want of memory, or there was none for the record; `Status` where what the machine
 /// told isn't a record.
-pub fn recovery_block(
+pub fn recovery_blocks(
     alloc: Global,
     engine: &mut Engine,
     text: &[u8],
     documents: &[u8; 64],
-) -> Result<Vec<u8>, BlockFault>
+    names: &[Name],
+) -> Result<(Vec<u8>, Vec<Lines>), BlockFault>
     requires journal { (sum : List ℕ) × IsJournal documents.now text.now sum }
     requires digits { IsLine documents.now }
     ensures cleared { engine.new.cleared ≡ engine.old.cleared }
-    ensures block { IfOk result (λ block. IsBlockOf (setup engine.old.cleared) (plant_of engine.old) (recovered documents.now text.now) (plant_of engine.new) block.items) }
+    ensures blocks { IfOk result (λ blocks. AreBlocksOf (setup engine.old.cleared) (plant_of engine.old) (recovered documents.now text.now) names.now (plant_of engine.new) blocks.0.items blocks.1.items) }
 {
-    let count = line_count(text, documents);
     let record = replayed(alloc, engine, text, documents)?;
     let status = status_of(alloc, &record)?;
-    block_of(alloc, count, status)
-}
-
-/// How many lines a journal stands for.
-fn line_count(text: &[u8], documents: &[u8; 64]) -> usize
-    requires { (sum : List ℕ) × IsJournal documents.now text.now sum }
-    ensures { result ≡ length (recovered documents.now text.now) }
-{
-    recovered_are_lines();
-    let mut count = 0;
-    let mut rest = &text[HEADER_LEN..];
-    while let Some(at) = memchr(b'\n', rest) {
-        count += count_of(&rest[..at]);
-        rest = &rest[at + 1..];
-    }
-    count
-}
-
-/// What a line adds to that: nothing, where it is the journal's own.
-fn count_of(line: &[u8]) -> usize
-    ensures { result ≡ count_of line.now }
-{
-    if line.starts_with(b"# sum ") { 0 } else { 1 }
+    let rows = rows_of(alloc, status)?;
+    let block = block_of(alloc, sent_count(text, documents), &rows)?;
+    let desks = desk_blocks(alloc, text, documents, names, &rows)?;
+    Ok((block, desks))
 }
 
 /// The record of the journal's lines.
@@ -112,36 +102,48 @@ fn status_of(alloc: Global, told: &[u8]) -> Result<Status, BlockFault>
     }
 }
 
-/// The block of so many lines and what they tell.
-fn block_of(alloc: Global, count: usize, status: Status) -> Result<Vec<u8>, BlockFault>
-    ensures { IfOk result (λ block. (tale : Tale) → Keeps status tale → (rows : List ℕ) × IsTextOf tale (codes "# ") rows × (block.items ≡ block_text count rows)) }
+/// The rows of what was told.
+fn rows_of(alloc: Global, status: Status) -> Result<Vec<u8>, BlockFault>
+    ensures { IfOk result (λ rows. (tale : Tale) → Keeps status tale → IsTextOf tale (codes "# ") rows.items) }
 {
     match status.text(alloc, b"# ") {
-        Ok(rows) => joined(alloc, count, &rows),
+        Ok(rows) => Ok(rows),
         Err(_) => Err(BlockFault::Memory),
     }
 }
 
-fn joined(alloc: Global, count: usize, rows: &[u8]) -> Result<Vec<u8>, BlockFault>
+/// The blocks of desks of these names.
+fn desk_blocks(
+    alloc: Global,
+    text: &[u8],
+    documents: &[u8; 64],
+    names: &[Name],
+    rows: &[u8],
+) -> Result<Vec<Lines>, AllocError>
+    requires { (sum : List ℕ) × IsJournal documents.now text.now sum }
+    ensures { IfOk result (λ blocks. blocks.items ≡ map (λ name. block_text (length (own_lines name (recovered documents.now text.now))) rows.now) names.now) }
+{
+    let mut blocks = Vec::new(alloc);
+    for name in names {
+        let count = own_count(text, documents, name);
+        let block = block_of(alloc, count, rows)?;
+        blocks.push(Lines::new(block))?;
+    }
+    Ok(blocks)
+}
+
+/// The block of so many lines and these rows.
+fn block_of(alloc: Global, count: usize, rows: &[u8]) -> Result<Vec<u8>, AllocError>
     ensures { IfOk result (λ block. block.items ≡ block_text count rows.now) }
 {
     let mut digits = Buffer::new();
     let mut block = Vec::new(alloc);
-    put(&mut block, b"# recovered ")?;
-    put(&mut block, digits.format(count).as_bytes())?;
-    put(&mut block, b" lines\n")?;
-    put(&mut block, rows)?;
-    put(&mut block, b"# end\n")?;
+    block.extend_from_slice(b"# recovered ")?;
+    block.extend_from_slice(digits.format(count).as_bytes())?;
+    block.extend_from_slice(b" lines\n")?;
+    block.extend_from_slice(rows)?;
+    block.extend_from_slice(b"# end\n")?;
     Ok(block)
-}
-
-fn put(text: &mut Vec<u8>, bytes: &[u8]) -> Result<(), BlockFault>
-    ensures { OnOk result (text.new.items ≡ text.old.items ++ bytes.now) }
-{
-    match text.extend_from_slice(bytes) {
-        Ok(()) => Ok(()),
-        Err(_) => Err(BlockFault::Memory),
-    }
 }
 
 /// Recovery blocks, and which lines they count.

@@ -5,12 +5,14 @@ ghost use Rattle.batch_engine.specs.View.{setup, plant_of};
 ghost use Rattle.batch_journal.specs.Disks.{LeavesOnly};
 ghost use Rattle.batch_journal.specs.Journals.{recovered, sum_text};
 ghost use Rattle.batch_journal.specs.Recovery.{AreRests, IsRecoverable, KeepsLines};
-ghost use Rattle.batch_keep.specs.Blocks.{IsBlockOf};
+ghost use Rattle.batch_keep.specs.Blocks.{AreBlocksOf, IsBlockOf};
 ghost use Rattle.batch_keep.specs.Starts.{IsStartRefused};
 
-use crate::block::{BlockFault, recovery_block};
+use crate::block::{BlockFault, recovery_blocks};
 use batch_engine::Engine;
 use batch_journal::{Digits, Disk, RecoveryFault, Sum, recover};
+use batch_serve_desks::Lines;
+use batch_text::Name;
 use batch_verify::Cleared;
 use std::alloc::Global;
 use thiserror::Error;
@@ -66,7 +68,7 @@ pub struct Started {
 ///
 /// # Errors
 ///
-/// Those of `recover` and `recovery_block`; `Memory` where there is none for the engine.
+/// Those of `recover` and `recovery_blocks`; `Memory` where there is none for the engine.
 pub fn start<D: Disk>(
     alloc: Global,
     set: Cleared,
@@ -90,16 +92,50 @@ pub fn start<D: Disk>(
     // A crash at any moment leaves the same lines, and nothing was given meanwhile.
     ensures any_moment { D.is_disk disk.new → LeavesOnly D.moment D.left_since disk.old disk.new (KeepsLines documents.text (D.seen disk.old) (D.given disk.old)) }
 {
+    let (started, _no_desks) = start_desks(alloc, set, disk, documents, &[])?;
+    Ok(started)
+}
+
+/// The same over desks of these names, of which each has a block of its own.
+///
+/// # Errors
+///
+/// Those of `start`.
+pub fn start_desks<D: Disk>(
+    alloc: Global,
+    set: Cleared,
+    disk: &mut D,
+    documents: Digits,
+    names: &[Name],
+) -> Result<(Started, Vec<Lines>), StartFault>
+    // After a restart, what is read is what is on the disk.
+    requires { D.is_disk disk.old → D.durable disk.old ≡ D.seen disk.old }
+    ensures taken { D.is_disk disk.new → IfOk result (λ _. IsRecoverable documents.text (D.seen disk.old)) }
+    // Another file stays as it is.
+    ensures untouched { D.is_disk disk.new → IsRecoverable documents.text (D.seen disk.old) ⊎ (D.seen disk.new ≡ D.seen disk.old) }
+    // The blocks tell of the lines that the journal had, and the engine stands where they led it.
+    ensures blocks { IfOk result (λ r. (lines : List (List ℕ)) × AreBlocksOf (setup set) opening lines names.now (plant_of r.0.engine) r.0.block.items r.1.items
+        × (D.is_disk disk.new → lines ≡ recovered documents.text (D.seen disk.old))) }
+    ensures cleared { IfOk result (λ r. r.0.engine.cleared ≡ set) }
+    ensures at_rest { D.is_disk disk.new → IfOk result (λ r. (text : List ℕ) × AreRests documents.text text (sum_text r.0.sum) (D.durable disk.new) (D.seen disk.new)
+        × (recovered documents.text text ≡ recovered documents.text (D.seen disk.old))) }
+    ensures given { D.is_disk disk.new → D.given disk.new ≡ D.given disk.old }
+    ensures stays { D.is_disk disk.new → D.is_disk disk.old }
+    ensures refused { D.is_disk disk.new → IfErr result (IsStartRefused documents.text (D.seen disk.old)) }
+    // A crash at any moment leaves the same lines, and nothing was given meanwhile.
+    ensures any_moment { D.is_disk disk.new → LeavesOnly D.moment D.left_since disk.old disk.new (KeepsLines documents.text (D.seen disk.old) (D.given disk.old)) }
+{
     let digits = documents.text();
     let recovered = recover(alloc, disk, &digits)?;
     let Ok(mut engine) = Engine::new(alloc, set) else {
         return Err(StartFault::Memory);
     };
-    let block = recovery_block(alloc, &mut engine, &recovered.text, &digits)?;
-    Ok(Started {
+    let (block, desks) = recovery_blocks(alloc, &mut engine, &recovered.text, &digits, names)?;
+    let started = Started {
         engine,
         sum: recovered.sum,
         block,
         cut: recovered.cut,
-    })
+    };
+    Ok((started, desks))
 }

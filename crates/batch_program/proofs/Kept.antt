@@ -4,7 +4,7 @@ use Rattle.std.specs.Prelude.{String, string_bytes}
 use Rattle.std.specs.Global.{Global}
 use Rattle.std.specs.Io.KnownBytes.{Keeps}
 use Rattle.clap.specs.Walk.{Text}
-use Rattle.batch_words.specs.CommandLine.{Judgement, Request, Source, audit, keep, picture, plant, remark, serve, tell, write}
+use Rattle.batch_words.specs.CommandLine.{Judgement, Request, Source, audit, keep, picture, plant, remark, serve, tell, write, serve_desks}
 use Rattle.batch_commands.specs.Reading.{Gives}
 use Rattle.batch_commands.specs.Requests.{IsVerdict}
 use Rattle.batch_commands.specs.Running.{AskFor, IsDone, IsRun, IsUnwritten, Stream, ask_quiet}
@@ -15,7 +15,8 @@ use Rattle.batch_commands.specs.declared.course.Course.TheVariants as course_of
 use Rattle.batch_commands.proofs.Successes.{same_request}
 use Rattle.batch_commands.proofs.Warned.{verdict_more, warned_kept}
 use Rattle.batch_serve.specs.Serves as serving
-use Rattle.batch_program.specs.Programs.{CertificatesAreKept, IsProgramRun, tells, writes, serves, remarks, keeps, reads, draws, audits, plants}
+use Rattle.batch_program.proofs.DeskRequests.{desks_no_file}
+use Rattle.batch_program.specs.Programs.{CertificatesAreKept, IsProgramRun, tells, writes, serves, serves_desks, remarks, keeps, reads, draws, audits, plants}
 use Rattle.batch_program.specs.JournalRuns.{JournalFiles}
 use Rattle.batch_program.specs.RecordRuns.{Holds, output_of}
 use Rattle.batch_program.proofs.Served.{plants_no_file, serves_no_file, told_at_once}
@@ -41,6 +42,7 @@ done_to_write gives request quiet output errors _ path text (running.explains _ 
 done_to_write gives request quiet output errors _ path text (running.keeps _ _ _ _ _ _ _ _ _ _) is = absurd cc
 done_to_write gives request quiet output errors _ path text (running.remarks _ _ _ _ _ _ _) is = absurd cc
 done_to_write gives request quiet output errors _ path text (running.audits _ _ _ _ _ _) is = absurd cc
+done_to_write gives request quiet output errors _ path text (running.serves_desks _ _ _ _ _ _ _ _ _ _ _) is = absurd cc
 done_to_write gives request quiet output errors _ path text (running.draws _ _ _ _) is = absurd cc
 
 -- the text that is to be written is that of a verdict that accepts, and nothing was written but warnings
@@ -101,6 +103,8 @@ kept_at gives holds files words ends errors path judgement _ asked (remarks sour
     absurd (no_comments source echo times path judgement (same_request words (remark source echo times) (write path judgement) asked2 asked))
 kept_at gives holds files words ends errors path judgement _ asked (keeps journal cell certificate recipes echo times _ _ _ asked2 _ _) is =
     absurd (no_journal journal cell certificate recipes echo times path judgement (same_request words (keep journal cell certificate recipes echo times) (write path judgement) asked2 asked))
+kept_at gives holds files words ends errors path judgement _ asked (serves_desks named desks cell certificate recipes times _ _ _ _ asked2 _ _ _) is =
+    absurd (desks_no_file path judgement (same_request words (serve_desks named desks cell certificate recipes times) (write path judgement) asked2 asked))
 kept_at gives holds files words ends errors path judgement _ asked (audits beginning record_path source _ _ asked2 _ _) is =
     absurd (no_audit source beginning record_path path judgement (same_request words (audit beginning record_path source) (write path judgement) asked2 asked))
 kept_at gives holds files words ends errors path judgement _ asked (draws record_path _ asked2 _) is =

@@ -25,13 +25,11 @@ use Rattle.batch_journal.specs.Readers.{HasRecalled}
 use Rattle.batch_model.specs.Plant.{opening}
 use Rattle.batch_verify.specs.ClearedSet.{ClearedSet}
 use Rattle.batch_engine.specs.View.{setup}
-use Rattle.batch_serve.specs.Serves as serving
 use Rattle.batch_keep.specs.Blocks.{IsBlockOf}
 use Rattle.batch_commands.specs.Running.{IsPrinted, Stream, fault_status, memory_status}
-use Rattle.batch_program.specs.JournalRuns.{DiskKind, IsJournalRefused, IsJournalTold, journal_text, refuses, stops, serves, fails}
+use Rattle.batch_program.specs.JournalRuns.{Behind, DiskKind, IsJournalRefused, IsJournalTold, IsShownBehind, journal_text, refuses, stops, serves, fails}
 use Rattle.batch_program.specs.PlantRuns.{refused_status}
 use Rattle.batch_program.specs.Keeping.{IsStartTold, IsToldBehind, cleaned}
-use Rattle.batch_program.specs.RecordRuns.{output_of}
 
 -- The block
 
@@ -128,17 +126,18 @@ moments_as {documents = documents} {base = base} {now_documents = now_documents}
     (subst (λ (b : List ℕ). HasRecalled now_documents b since moment left_since) base_is
     (subst (λ (d : List ℕ). HasRecalled d base since moment left_since) same recalled))
 
-module _ (disks : DiskKind) (set : ClearedSet) (digits path : List ℕ) (commented : Bool) (start end : disks.File) (ends : serving.Ends) (status : ℕ) where
+module _ (disks : DiskKind) (set : ClearedSet) (digits path : List ℕ) (start end : disks.File) (behind : Behind) (output : Stream) (status : ℕ) where
   pub told_refused : (fault : StartFault) → ((refusal : RecoveryFault) → fault ≡ Recovery refusal → disks.is_disk end → IsRefusedFor digits (disks.seen start) refusal)
-      → IsStartTold path fault (output_of ends) status → IsJournalTold disks set digits path commented start end ends status
+      → IsStartTold path fault output status → IsJournalTold disks set digits path start end behind output status
   told_refused fault refused (inl (refusal, is, told)) = refuses refusal (refused refusal is) told
   told_refused fault refused (inr untold) = stops untold
 
+module _ (disks : DiskKind) (set : ClearedSet) (digits path : List ℕ) (commented : Bool) (start end : disks.File) (unread before after : Option (List ℕ)) (status : ℕ) where
   pub told_behind : (lines : List (List ℕ)) (plant : Plant) (block base : List ℕ) → (disks.is_disk end → HasNoFault digits (disks.seen start)) → (disks.is_disk end → lines ≡ recovered digits (disks.seen start))
       → IsBlockOf (setup set) opening lines plant block → base ≡ text_of (recovered digits (disks.seen start))
-      → IsToldBehind (setup set) plant digits base commented (disks.is_disk end) (disks.durable end) (disks.seen end) (disks.given end) block ends.unread ends.before ends.after status
-      → IsJournalTold disks set digits path commented start end ends status
+      → IsToldBehind (setup set) plant digits base commented (disks.is_disk end) (disks.durable end) (disks.seen end) (disks.given end) block unread before after status
+      → IsJournalTold disks set digits path start end (IsShownBehind disks set digits commented start end unread after status) (record { before = before; after = after }) status
   told_behind lines plant block base taken are is_block base_is (inl (middle, plain, appends, shown, told)) =
-      serves lines plant block middle plain (λ d. (taken d, are d)) is_block appends shown
-      (record { answers = told.answers; never_lost = λ d. told.never_lost d (disks.seen start) base_is; ends = told.ends })
+      serves lines plant block middle (λ d. (taken d, are d)) is_block appends
+      (plain, shown, record { answers = told.answers; never_lost = λ d. told.never_lost d (disks.seen start) base_is; ends = told.ends })
   told_behind lines plant block base taken are is_block base_is (inr (begins, is)) = fails lines plant block taken is_block begins is

@@ -1,3 +1,7 @@
+pub mod DeskRequests
+pub mod DesksKept
+pub mod DesksRecalled
+pub mod DesksServed
 pub mod Kept
 pub mod Served
 pub mod RemarkedServed

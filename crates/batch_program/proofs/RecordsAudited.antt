@@ -5,7 +5,7 @@ use Rattle.std.specs.Io.KnownBytes.{Appends}
 use Rattle.clap.specs.Walk.{Text}
 use Rattle.batch_verify.specs.ClearedSet.{ClearedSet}
 use Rattle.batch_wire.specs.Transcript.{lines_of}
-use Rattle.batch_words.specs.CommandLine.{Judgement, Source, audit, keep, remark, serve, tell, write, picture}
+use Rattle.batch_words.specs.CommandLine.{Judgement, Source, audit, keep, remark, serve, tell, write, picture, serve_desks}
 use Rattle.batch_audit.specs.Audits as findings
 use Rattle.batch_audit.specs.Audits.{Finds, told_text}
 use Rattle.batch_audit.specs.declared.finding.Finding.{Finding}
@@ -16,9 +16,10 @@ use Rattle.batch_commands.specs.Running.{AskFor, IsPrinted, IsUnwritten, Stream,
 use Rattle.batch_commands.specs.VerdictTexts.{accepted_text}
 use Rattle.batch_commands.proofs.Successes.{same_request}
 use Rattle.batch_serve.specs.Serves as serving
+use Rattle.batch_program.proofs.DeskRequests.{desks_no_audit}
 use Rattle.batch_program.specs.AuditRuns.{IsAccepted, IsAuditTold, finding_status, finding_text, finds, stops}
 use Rattle.batch_program.specs.JournalRuns.{JournalFiles}
-use Rattle.batch_program.specs.Programs.{AuditsAreTrue, IsProgramRun, tells, writes, serves, keeps, remarks, reads, audits, plants, draws}
+use Rattle.batch_program.specs.Programs.{AuditsAreTrue, IsProgramRun, tells, writes, serves, serves_desks, keeps, remarks, reads, audits, plants, draws}
 use Rattle.batch_program.specs.RecordRuns.{Holds, IsUntold, output_of}
 use Rattle.batch_program.specs.Telling.{IsFindingTold}
 use Rattle.batch_program.proofs.Served.{audits_no_journal, plants_no_audit, serves_no_audit, told_at_once}
@@ -138,6 +139,8 @@ true_at gives holds files words ends errors beginning path source _ asked (keeps
     (same_request words (audit beginning path source) (keep other cell certificate recipes echo times) asked asked2))
 true_at gives holds files words ends errors beginning path source _ asked (remarks other echo times _ _ asked2 _ _ _) is =
     absurd (audits_no_comments source other beginning echo times path (same_request words (audit beginning path source) (remark other echo times) asked asked2))
+true_at gives holds files words ends errors beginning path source _ asked (serves_desks named desks cell certificate recipes times _ _ _ _ asked2 _ _ _) is =
+    absurd (desks_no_audit beginning path source (same_request words (serve_desks named desks cell certificate recipes times) (audit beginning path source) asked2 asked))
 true_at gives holds files words ends errors beginning path source _ asked (reads other _ asked2 _) is =
     absurd (audits_no_record source beginning path other (same_request words (audit beginning path source) (tell other) asked asked2))
 true_at gives holds files words ends errors beginning path source _ asked (draws other _ asked2 _) is =

@@ -3,7 +3,7 @@ use Rattle.std.proofs.Common.{◌≡◌, ℕ, Bool, List, Option, Some, None, Re
 use Rattle.std.specs.Io.KnownBytes.{Keeps}
 use Rattle.clap.specs.Walk.{Text}
 use Rattle.batch_verify.specs.ClearedSet.{ClearedSet}
-use Rattle.batch_words.specs.CommandLine.{Judgement, Request, Source, audit, keep, plant, remark, serve, tell, write, picture}
+use Rattle.batch_words.specs.CommandLine.{Judgement, Request, Source, audit, keep, plant, remark, serve, tell, write, picture, serve_desks}
 use Rattle.batch_words.specs.declared.comments.Comments.{Comments}
 use Rattle.batch_commands.specs.Reading.{Gives}
 use Rattle.batch_commands.specs.Requests.{IsSetOf}
@@ -17,7 +17,8 @@ use Rattle.batch_serve.specs.RemarkedSet.{ServesRemarked}
 use Rattle.batch_serve.specs.Serves as serving
 use Rattle.batch_serve.specs.Serves.{AnswersAll}
 use Rattle.batch_serve.specs.declared.fault.SetFault.{SetFault}
-use Rattle.batch_program.specs.Programs.{IsLeftTold, IsProgramRun, RemarkedServingIsSafe, tells, writes, serves, keeps, remarks, reads, audits, plants, draws}
+use Rattle.batch_program.proofs.DeskRequests.{desks_no_comments}
+use Rattle.batch_program.specs.Programs.{IsLeftTold, IsProgramRun, RemarkedServingIsSafe, tells, writes, serves, serves_desks, keeps, remarks, reads, audits, plants, draws}
 use Rattle.batch_program.specs.JournalRuns.{JournalFiles}
 use Rattle.batch_program.specs.RecordRuns.{Holds, output_of}
 use Rattle.batch_program.proofs.Served.{ran_to_the_end, served_kept, told_at_once}
@@ -69,6 +70,7 @@ done_remarking gives request quiet output errors set hushed comments _ (running.
 done_remarking gives request quiet output errors set hushed comments _ (running.reads _ _ _ _) is = absurd cc
 done_remarking gives request quiet output errors set hushed comments _ (running.draws _ _ _ _) is = absurd cc
 done_remarking gives request quiet output errors set hushed comments _ (running.audits _ _ _ _ _ _) is = absurd cc
+done_remarking gives request quiet output errors set hushed comments _ (running.serves_desks _ _ _ _ _ _ _ _ _ _ _) is = absurd cc
 done_remarking gives request quiet output errors set hushed comments _ (running.plants _ _ _ _ _ _) is = absurd cc
 done_remarking gives request quiet output errors set hushed comments _ (running.writes _ _ _ _ _ _) is = absurd cc
 
@@ -126,6 +128,8 @@ safe_at gives holds files words ends errors source echo times _ asked (keeps pat
     absurd (no_journal source echo times e t path cell certificate recipes (same_request words (keep path cell certificate recipes e t) (remark source echo times) asked2 asked))
 safe_at gives holds files words ends errors source echo times _ asked (audits beginning path other _ _ asked2 _ _) is =
     absurd (no_audit source other echo times beginning path (same_request words (audit beginning path other) (remark source echo times) asked2 asked))
+safe_at gives holds files words ends errors source echo times _ asked (serves_desks named desks cell certificate recipes stamped _ _ _ _ asked2 _ _ _) is =
+    absurd (desks_no_comments source echo times (same_request words (serve_desks named desks cell certificate recipes stamped) (remark source echo times) asked2 asked))
 safe_at gives holds files words ends errors source echo times _ asked (reads path _ asked2 _) is =
     absurd (no_record source echo times path (same_request words (tell path) (remark source echo times) asked2 asked))
 safe_at gives holds files words ends errors source echo times _ asked (draws path _ asked2 _) is =

@@ -5,13 +5,13 @@ use Rattle.std.specs.Global.{Global}
 use Rattle.std.specs.Io.KnownBytes.{Appends, Keeps}
 use Rattle.clap.specs.Walk.{Text}
 use Rattle.batch_verify.specs.ClearedSet.{ClearedSet}
-use Rattle.batch_model.specs.Plant.{Setup}
+use Rattle.batch_model.specs.Plant.{Plant, Setup}
 use Rattle.batch_engine.specs.View.{setup}
 use Rattle.batch_wire.specs.Transcript.{lines_of, whole_lines}
 use Rattle.batch_wire.specs.Written.{AppendsBeginning}
 use Rattle.batch_serve.specs.Safe.{BeginsSafely, WritesSafely, WritesWholeSafely}
 use Rattle.batch_words.specs.declared.comments.Comments.{Comments}
-use Rattle.batch_words.specs.CommandLine.{Request, Source, audit, plant, serve, source_of, tell, keep, Judgement, write, remark, picture}
+use Rattle.batch_words.specs.CommandLine.{Request, Source, audit, plant, serve, serve_desks, source_of, tell, keep, Judgement, write, remark, picture}
 use Rattle.batch_words.specs.declared.command.AuditWords.{AuditWords}
 use Rattle.batch_words.specs.declared.plant_options.PlantOptions.{PlantOptions}
 use Rattle.batch_commands.specs.Reading.{Gives}
@@ -34,18 +34,23 @@ use Rattle.batch_serve.specs.declared.fault.ServeFault.TheVariants.{Read, Write,
 use Rattle.batch_serve.specs.declared.fault.SetFault.{SetFault}
 use Rattle.batch_serve.specs.declared.fault.SetFault.TheVariants.{Memory, Stopped}
 use Rattle.batch_program.specs.declared.program.TheConstants.{MAX_READS}
-use Rattle.batch_program.specs.Programs.{IsLeftTold, IsProgramRun, PlantsAreComplete, ServingIsSafe, tells, serves, reads, audits, plants, status_of_serving, keeps, writes, remarks, draws}
+use Rattle.batch_program.specs.Programs.{IsLeftTold, IsProgramRun, PlantsAreComplete, ServingIsSafe, tells, serves, serves_desks, reads, audits, plants, status_of_serving, keeps, writes, remarks, draws}
 use Rattle.batch_plant.specs.declared.plant_fault.PlantFault.{PlantFault}
 use Rattle.batch_plant.specs.declared.plant_fault.PlantFault.TheVariants as plant_fault
 use Rattle.batch_audit.specs.declared.finding.Finding.{Finding}
 use Rattle.batch_audit.specs.declared.finding.Finding.TheVariants.{Agrees, Differs, EndsBefore}
 use Rattle.batch_program.specs.AuditRuns as auditing
 use Rattle.batch_program.specs.AuditRuns.{IsAuditTold, finding_status, finding_text}
-use Rattle.batch_program.specs.JournalRuns.{DiskKind, IsJournalRefused, IsJournalRun, IsJournalTold, IsOverFile, JournalFiles}
+use Rattle.batch_program.specs.JournalRuns.{Behind, DiskKind, IsJournalRefused, IsJournalRun, IsJournalTold, IsRunOver, IsShownBehind, JournalFiles}
 use Rattle.batch_program.specs.JournalRuns as journal
 use Rattle.batch_commands.specs.Digested.{AreDigested}
 use Rattle.batch_commands.specs.declared.digested.Digested.{Digested}
 use Rattle.batch_journal.specs.declared.recovery.RecoveryFault.{RecoveryFault}
+use Rattle.batch_desks.specs.DeskNames.{desk_names}
+use Rattle.batch_pipes.specs.declared.fault.DesksFault.{DesksFault}
+use Rattle.batch_pipes.specs.declared.fault.DesksFault.TheVariants as desks_fault
+use Rattle.batch_program.specs.DeskRuns.{AreDesksOn, AreDesksRun, status_of_desks, status_of_fault}
+use Rattle.batch_program.proofs.DeskRequests.{desks_no_plant, desks_no_serving}
 use Rattle.batch_program.specs.FileWriting.{IsWritten}
 use Rattle.batch_program.specs.PlantRuns.{HasRun, IsPlantTold, plant_text, refused_status}
 use Rattle.batch_program.specs.DrawingRuns as drawing
@@ -57,7 +62,7 @@ use Rattle.batch_program.specs.RecordRuns.{Holds, IsRecordTold, IsStatusTold, Is
 
 -- what follows a write that left the bytes as they were, follows the bytes before it
 
-kept_then_appended : (before mid after : Option (List ℕ)) (text : List ℕ) → Keeps before mid → Appends mid after text → Appends before after text
+pub kept_then_appended : (before mid after : Option (List ℕ)) (text : List ℕ) → Keeps before mid → Appends mid after text → Appends before after text
 kept_then_appended None mid after text kept appended = tt
 kept_then_appended (Some xs) None after text kept appended = absurd kept
 kept_then_appended (Some xs) (Some ys) None text kept appended = absurd appended
@@ -165,6 +170,7 @@ done_to_plant gives request quiet output errors _ set options (running.remarks _
 done_to_plant gives request quiet output errors _ set options (running.reads _ _ _ _) is = absurd cc
 done_to_plant gives request quiet output errors _ set options (running.draws _ _ _ _) is = absurd cc
 done_to_plant gives request quiet output errors _ set options (running.audits _ _ _ _ _ _) is = absurd cc
+done_to_plant gives request quiet output errors _ set options (running.serves_desks _ _ _ _ _ _ _ _ _ _ _) is = absurd cc
 done_to_plant gives request quiet output errors _ set options (running.writes _ _ _ _ _ _) is = absurd cc
 done_to_plant gives request quiet output errors _ set options (running.halts _ _ _ _ _) is = absurd cc
 done_to_plant gives request quiet output errors _ set options (running.judges _ _ _ _ _ _ _) is = absurd cc
@@ -218,6 +224,7 @@ done_to_read gives request quiet output errors _ path (running.keeps _ _ _ _ _ _
 done_to_read gives request quiet output errors _ path (running.remarks _ _ _ _ _ _ _) is = absurd cc
 done_to_read gives request quiet output errors _ path (running.plants _ _ _ _ _ _) is = absurd cc
 done_to_read gives request quiet output errors _ path (running.audits _ _ _ _ _ _) is = absurd cc
+done_to_read gives request quiet output errors _ path (running.serves_desks _ _ _ _ _ _ _ _ _ _ _) is = absurd cc
 done_to_read gives request quiet output errors _ path (running.writes _ _ _ _ _ _) is = absurd cc
 done_to_read gives request quiet output errors _ path (running.halts _ _ _ _ _) is = absurd cc
 done_to_read gives request quiet output errors _ path (running.judges _ _ _ _ _ _ _) is = absurd cc
@@ -271,6 +278,7 @@ done_to_draw gives request quiet output errors _ path (running.remarks _ _ _ _ _
 done_to_draw gives request quiet output errors _ path (running.reads _ _ _ _) is = absurd cc
 done_to_draw gives request quiet output errors _ path (running.plants _ _ _ _ _ _) is = absurd cc
 done_to_draw gives request quiet output errors _ path (running.audits _ _ _ _ _ _) is = absurd cc
+done_to_draw gives request quiet output errors _ path (running.serves_desks _ _ _ _ _ _ _ _ _ _ _) is = absurd cc
 done_to_draw gives request quiet output errors _ path (running.halts _ _ _ _ _) is = absurd cc
 done_to_draw gives request quiet output errors _ path (running.judges _ _ _ _ _ _ _) is = absurd cc
 done_to_draw gives request quiet output errors _ path (running.explains _ _ _ _) is = absurd cc
@@ -335,6 +343,7 @@ done_to_audit gives words request quiet output errors _ set own asked (running.h
 done_to_audit gives words request quiet output errors _ set own asked (running.judges _ _ _ _ _ _ _) is = absurd cc
 done_to_audit gives words request quiet output errors _ set own asked (running.explains _ _ _ _) is = absurd cc
 done_to_audit gives words request quiet output errors _ set own asked (running.writes _ _ _ _ _ _) is = absurd cc
+done_to_audit gives words request quiet output errors _ set own asked (running.serves_desks _ _ _ _ _ _ _ _ _ _ _) is = absurd cc
 
 pub set_to_audit : (gives : Gives) (words : List Text) (output errors : Stream) (course : Course) (set : ClearedSet) (own : AuditWords)
     → IsRun gives words output errors course → course ≡ course_of.Audits set own → IsToAudit gives words output errors set own
@@ -392,25 +401,31 @@ refusal_kept path fault before mid after status kept (inl (appends, is)) = inl (
 refusal_kept path fault before mid after status kept (inr (inl is)) = inr (inl is)
 refusal_kept path fault before mid after status kept (inr (inr (untouched, is))) = inr (inr (kept_then_kept before mid after kept untouched, is))
 
-journal_told_kept : (disks : DiskKind) (set : ClearedSet) (digits path : List ℕ) (commented : Bool) (start end : disks.File) (unread left before mid after : Option (List ℕ)) (status : ℕ) → Keeps before mid
-    → IsJournalTold disks set digits path commented start end (record { unread = unread; left = left; before = mid; after = after }) status
-    → IsJournalTold disks set digits path commented start end (record { unread = unread; left = left; before = before; after = after }) status
-journal_told_kept disks set digits path commented start end unread left before mid after status kept (journal.refuses fault refused told) =
+journal_told_kept : (disks : DiskKind) (set : ClearedSet) (digits path : List ℕ) (start end : disks.File) (behind : Behind) (before mid after : Option (List ℕ)) (status : ℕ) → Keeps before mid
+    → IsJournalTold disks set digits path start end behind (record { before = mid; after = after }) status
+    → IsJournalTold disks set digits path start end behind (record { before = before; after = after }) status
+journal_told_kept disks set digits path start end behind before mid after status kept (journal.refuses fault refused told) =
     journal.refuses fault refused (refusal_kept path fault before mid after status kept told)
-journal_told_kept disks set digits path commented start end unread left before mid after status kept (journal.stops untold) =
+journal_told_kept disks set digits path start end behind before mid after status kept (journal.stops untold) =
     journal.stops (untold_kept before mid after status kept untold)
-journal_told_kept disks set digits path commented start end unread left before mid after status kept (journal.serves lines reached block middle plain are is_block appends shown behind) =
-    journal.serves lines reached block middle plain are is_block (kept_then_appended before mid middle block kept appends) shown behind
-journal_told_kept disks set digits path commented start end unread left before mid after status kept (journal.fails lines reached block taken is_block begins is) =
+journal_told_kept disks set digits path start end behind before mid after status kept (journal.serves lines reached block middle are is_block appends so) =
+    journal.serves lines reached block middle are is_block (kept_then_appended before mid middle block kept appends) so
+journal_told_kept disks set digits path start end behind before mid after status kept (journal.fails lines reached block taken is_block begins is) =
     journal.fails lines reached block taken is_block (kept_then_begun before mid after block kept begins) is
 
--- serving over a journal, after the writer was left as it was
-pub journal_kept : (files : JournalFiles) (set : ClearedSet) (digits path : List ℕ) (commented : Bool) (unread left before mid after : Option (List ℕ)) (status : ℕ) → Keeps before mid
-    → IsJournalRun files set digits path commented (record { unread = unread; left = left; before = mid; after = after }) status
-    → IsJournalRun files set digits path commented (record { unread = unread; left = left; before = before; after = after }) status
-journal_kept files set digits path commented unread left before mid after status kept (inl (start, end, opens, fresh, over)) =
-    inl (start, end, opens, fresh, record { any_moment = over.any_moment; untouched = over.untouched; told = journal_told_kept files.disks set digits path commented start end unread left before mid after status kept over.told })
-journal_kept files set digits path commented unread left before mid after status kept (inr untold) = inr (untold_kept before mid after status kept untold)
+-- a run over a journal, after the writer was left as it was
+pub run_over_kept : (files : JournalFiles) (set : ClearedSet) (digits path : List ℕ) (behind : files.disks.File → files.disks.File → Behind) (before mid after : Option (List ℕ)) (status : ℕ) → Keeps before mid
+    → IsRunOver files set digits path behind (record { before = mid; after = after }) status
+    → IsRunOver files set digits path behind (record { before = before; after = after }) status
+run_over_kept files set digits path behind before mid after status kept (inl (start, end, opens, fresh, over)) =
+    inl (start, end, opens, fresh, record { any_moment = over.any_moment; untouched = over.untouched; told = journal_told_kept files.disks set digits path start end (behind start end) before mid after status kept over.told })
+run_over_kept files set digits path behind before mid after status kept (inr untold) = inr (untold_kept before mid after status kept untold)
+
+pub journal_kept : (files : JournalFiles) (set : ClearedSet) (digits path : List ℕ) (commented : Bool) (unread before mid after : Option (List ℕ)) (status : ℕ) → Keeps before mid
+    → IsRunOver files set digits path (λ start end. IsShownBehind files.disks set digits commented start end unread after status) (record { before = mid; after = after }) status
+    → IsRunOver files set digits path (λ start end. IsShownBehind files.disks set digits commented start end unread after status) (record { before = before; after = after }) status
+journal_kept files set digits path commented unread before mid after status kept run =
+    run_over_kept files set digits path (λ start end. IsShownBehind files.disks set digits commented start end unread after status) before mid after status kept run
 
 -- Exit statuses
 
@@ -492,6 +507,8 @@ safe_at gives holds files words ends errors source _ asked (reads path _ asked2 
     absurd (serves_no_record source path (same_request words (serve source) (tell path) asked asked2))
 safe_at gives holds files words ends errors source _ asked (draws path _ asked2 _) is =
     absurd (serves_no_picture source path (same_request words (serve source) (picture path) asked asked2))
+safe_at gives holds files words ends errors source _ asked (serves_desks named path cell certificate recipes times _ _ _ _ asked2 _ _ _) is =
+    absurd (desks_no_serving source (same_request words (serve_desks named path cell certificate recipes times) (serve source) asked2 asked))
 safe_at gives holds files words ends errors source _ asked (audits beginning path other _ _ asked2 _ _) is =
     absurd (serves_no_audit source other beginning path (same_request words (serve source) (audit beginning path other) asked asked2))
 safe_at gives holds files words ends errors source _ asked (plants _ options _ _ asked2 _ _ _ _) is =
@@ -530,6 +547,7 @@ done_in_range gives request quiet output errors _ status (running.remarks _ _ _ 
 done_in_range gives request quiet output errors _ status (running.reads _ _ _ _) is = absurd cc
 done_in_range gives request quiet output errors _ status (running.draws _ _ _ _) is = absurd cc
 done_in_range gives request quiet output errors _ status (running.audits _ _ _ _ _ _) is = absurd cc
+done_in_range gives request quiet output errors _ status (running.serves_desks _ _ _ _ _ _ _ _ _ _ _) is = absurd cc
 done_in_range gives request quiet output errors _ status (running.plants _ _ _ _ _ _) is = absurd cc
 done_in_range gives request quiet output errors _ status (running.writes _ _ _ _ _ _) is = absurd cc
 done_in_range gives request quiet output errors _ status (running.halts h told warned _ at) is =
@@ -611,16 +629,45 @@ ends_in_range status (inl well) = rw well (omega arith)
 ends_in_range status (inr (inl fails)) = rw fails (omega arith)
 ends_in_range status (inr (inr memory)) = rw memory (omega arith)
 
-journal_in_range : (disks : DiskKind) (set : ClearedSet) (digits path : List ℕ) (commented : Bool) (start end : disks.File) (ends : serving.Ends) (status : ℕ)
-    → IsJournalTold disks set digits path commented start end ends status → status ≤ 4
-journal_in_range disks set digits path commented start end ends status (journal.refuses fault _ told) = refusal_in_range path fault (output_of ends) status told
-journal_in_range disks set digits path commented start end ends status (journal.stops untold) = untold_in_range (output_of ends) status untold
-journal_in_range disks set digits path commented start end ends status (journal.serves _ _ _ _ _ _ _ _ _ behind) = ends_in_range status behind.ends
-journal_in_range disks set digits path commented start end ends status (journal.fails _ _ _ _ _ _ fault) = rw fault (omega arith)
+journal_in_range : (disks : DiskKind) (set : ClearedSet) (digits path : List ℕ) (start end : disks.File) (behind : Behind) (output : Stream) (status : ℕ)
+    → ((plant : Plant) (middle : Option (List ℕ)) → behind plant middle → status ≤ 4) → IsJournalTold disks set digits path start end behind output status → status ≤ 4
+journal_in_range disks set digits path start end behind output status within (journal.refuses fault _ told) = refusal_in_range path fault output status told
+journal_in_range disks set digits path start end behind output status within (journal.stops untold) = untold_in_range output status untold
+journal_in_range disks set digits path start end behind output status within (journal.serves _ stood _ middle _ _ _ so) = within stood middle so
+journal_in_range disks set digits path start end behind output status within (journal.fails _ _ _ _ _ _ fault) = rw fault (omega arith)
+
+over_in_range : (files : JournalFiles) (set : ClearedSet) (digits path : List ℕ) (behind : files.disks.File → files.disks.File → Behind) (output : Stream) (status : ℕ)
+    → ((start end : files.disks.File) (plant : Plant) (middle : Option (List ℕ)) → behind start end plant middle → status ≤ 4) → IsRunOver files set digits path behind output status → status ≤ 4
+over_in_range files set digits path behind output status within (inl (start, end, _, _, over)) =
+    journal_in_range files.disks set digits path start end (behind start end) output status (within start end) over.told
+over_in_range files set digits path behind output status within (inr untold) = untold_in_range output status untold
+
+shown_in_range : (disks : DiskKind) (set : ClearedSet) (digits : List ℕ) (commented : Bool) (unread after : Option (List ℕ)) (status : ℕ) (start end : disks.File) (plant : Plant)
+    (middle : Option (List ℕ)) → IsShownBehind disks set digits commented start end unread after status plant middle → status ≤ 4
+shown_in_range disks set digits commented unread after status start end stood middle (plain, shown, served) = ends_in_range status served.ends
 
 kept_in_range : (files : JournalFiles) (set : ClearedSet) (digits path : List ℕ) (commented : Bool) (ends : serving.Ends) (status : ℕ) → IsJournalRun files set digits path commented ends status → status ≤ 4
-kept_in_range files set digits path commented ends status (inl (start, end, _, _, over)) = journal_in_range files.disks set digits path commented start end ends status over.told
-kept_in_range files set digits path commented ends status (inr untold) = untold_in_range (output_of ends) status untold
+kept_in_range files set digits path commented ends status run =
+    over_in_range files set digits path (λ start end. IsShownBehind files.disks set digits commented start end ends.unread ends.after status) (output_of ends) status
+    (shown_in_range files.disks set digits commented ends.unread ends.after status) run
+
+fault_in_range : (fault : DesksFault) → status_of_fault fault ≤ 4
+fault_in_range desks_fault.Memory = omega arith
+fault_in_range desks_fault.Thread = omega arith
+fault_in_range desks_fault.Journal = omega arith
+fault_in_range desks_fault.Record = omega arith
+fault_in_range desks_fault.RoundsOut = omega arith
+
+ended_in_range : (served : Result ℕ DesksFault) → status_of_desks served ≤ 4
+ended_in_range (Ok left) = omega arith
+ended_in_range (Err fault) = fault_in_range fault
+
+desks_in_range : (files : JournalFiles) (set : ClearedSet) (digits : List ℕ) (names : List (List ℕ)) (named : Option (List ℕ)) (times : Bool) (output : Stream) (status : ℕ)
+    → AreDesksRun files set digits names named times output status → status ≤ 4
+desks_in_range files set digits names None times output status (served, _, is) = rw is (ended_in_range served)
+desks_in_range files set digits names (Some path) times output status run =
+    over_in_range files set digits path (λ start end. AreDesksOn files.disks times set names end output.after status) output status
+    (λ start end stood middle behind. ends_in_range status behind.ends) run
 
 written_in_range : (holds : Holds) (path text : List ℕ) (errors : Stream) (status : ℕ) → IsWritten holds path text errors status → status ≤ 4
 written_in_range holds path text errors status (inl (_, _, success)) = rw success (omega arith)
@@ -635,6 +682,8 @@ run_in_range gives holds files words ends errors status (writes path _ text warn
 run_in_range gives holds files words ends errors _ (serves _ _ served _ _ _ _) = serving_in_range served
 run_in_range gives holds files words ends errors _ (remarks _ _ _ _ served _ _ _ _) = serving_in_range served
 run_in_range gives holds files words ends errors status (keeps path _ _ _ echo times set digits _ _ _ ran) = kept_in_range files set digits path (echo || times) ends status ran
+run_in_range gives holds files words ends errors status (serves_desks named _ _ _ _ times desks set digits _ _ _ ran _) =
+    desks_in_range files set digits (desk_names desks.desks.items) named times (output_of ends) status ran
 run_in_range gives holds files words ends errors status (reads path _ _ told) = record_in_range holds path ends errors status told
 run_in_range gives holds files words ends errors status (draws path _ _ told) = drawn_in_range holds path ends errors status told
 run_in_range gives holds files words ends errors status (audits beginning path _ set _ _ _ told) = audit_in_range holds set beginning path ends errors status told
@@ -672,6 +721,8 @@ told_plant gives holds files words ends errors batches ticks ring _ asked (keeps
     (same_request words (plant batches ticks ring) (keep path cell certificate recipes echo times) asked asked2))
 told_plant gives holds files words ends errors batches ticks ring _ asked (remarks source echo times _ _ asked2 _ _ _) is =
     absurd (plants_no_comments batches ticks ring source echo times (same_request words (plant batches ticks ring) (remark source echo times) asked asked2))
+told_plant gives holds files words ends errors batches ticks ring _ asked (serves_desks named path cell certificate recipes times _ _ _ _ asked2 _ _ _) is =
+    absurd (desks_no_plant batches ticks ring (same_request words (serve_desks named path cell certificate recipes times) (plant batches ticks ring) asked2 asked))
 told_plant gives holds files words ends errors batches ticks ring _ asked (reads path _ asked2 _) is =
     absurd (plants_no_record batches ticks ring path (same_request words (plant batches ticks ring) (tell path) asked asked2))
 told_plant gives holds files words ends errors batches ticks ring _ asked (draws path _ asked2 _) is =

@@ -63,33 +63,50 @@ pub record IsServedBehind (disks : DiskKind) (set : ClearedSet) (digits : List �
       IsNeverLost (setup set) plant digits (disks.seen start) (disks.durable end) (disks.seen end) (disks.given end) middle after)
   pub ends : (status ≡ success_status) ⊎ (status ≡ fault_status) ⊎ (status ≡ memory_status)
 
+-- what is told behind a recovery block: of the plant that it tells of, and from where it ends on
+abbrev pub Behind : Type 1
+Behind = Plant → Option (List ℕ) → Type 0
+
+-- the same as it is without comments
+abbrev pub IsShownBehind : (disks : DiskKind) → ClearedSet → List ℕ → Bool → (start end : disks.File) → (unread after : Option (List ℕ)) → ℕ → Behind
+IsShownBehind disks set digits commented start end unread after status = λ plant middle.
+    (plain : Option (List ℕ)) × IsShownAs commented middle after plain × IsServedBehind disks set digits plant start end unread middle plain status
+
 -- what is told over the file that was opened
-pub data IsJournalTold (disks : DiskKind) (set : ClearedSet) (digits path : List ℕ) (commented : Bool) (start end : disks.File) (ends : serving.Ends) (status : ℕ) : Type 0 where
-  refuses : (fault : RecoveryFault) → (disks.is_disk end → IsRefusedFor digits (disks.seen start) fault) → IsJournalRefused path fault (output_of ends) status
-      → IsJournalTold disks set digits path commented start end ends status
-  stops : IsUntold (output_of ends) status → IsJournalTold disks set digits path commented start end ends status
-  -- the recovery block of the lines that the file had, which there is no reason to refuse, and what is told behind it, comments aside
-  serves : (lines : List (List ℕ)) (plant : Plant) (block : List ℕ) (middle plain : Option (List ℕ))
+pub data IsJournalTold (disks : DiskKind) (set : ClearedSet) (digits path : List ℕ) (start end : disks.File) (behind : Behind) (output : Stream) (status : ℕ) : Type 0 where
+  refuses : (fault : RecoveryFault) → (disks.is_disk end → IsRefusedFor digits (disks.seen start) fault) → IsJournalRefused path fault output status
+      → IsJournalTold disks set digits path start end behind output status
+  stops : IsUntold output status → IsJournalTold disks set digits path start end behind output status
+  -- the recovery block of the lines that the file had, which there is no reason to refuse, and that behind it
+  serves : (lines : List (List ℕ)) (plant : Plant) (block : List ℕ) (middle : Option (List ℕ))
       → (disks.is_disk end → HasNoFault digits (disks.seen start) × (lines ≡ recovered digits (disks.seen start)))
-      → IsBlockOf (setup set) opening lines plant block → Appends ends.before middle block → IsShownAs commented middle ends.after plain
-      → IsServedBehind disks set digits plant start end ends.unread middle plain status
-      → IsJournalTold disks set digits path commented start end ends status
+      → IsBlockOf (setup set) opening lines plant block → Appends output.before middle block → behind plant middle
+      → IsJournalTold disks set digits path start end behind output status
   -- the block can't be written whole
   fails : (lines : List (List ℕ)) (plant : Plant) (block : List ℕ) → (disks.is_disk end → HasNoFault digits (disks.seen start)) → IsBlockOf (setup set) opening lines plant block
-      → AppendsBeginning ends.before ends.after block → status ≡ fault_status → IsJournalTold disks set digits path commented start end ends status
+      → AppendsBeginning output.before output.after block → status ≡ fault_status → IsJournalTold disks set digits path start end behind output status
 
 -- the file as it was opened and as it was left; at each moment between them a crash leaves the lines that it had, and all behind them
 -- that the machine was given by then
-pub record IsOverFile (disks : DiskKind) (set : ClearedSet) (digits path : List ℕ) (commented : Bool) (start end : disks.File) (ends : serving.Ends) (status : ℕ) : Type 0 where
+pub record IsOver (disks : DiskKind) (set : ClearedSet) (digits path : List ℕ) (start end : disks.File) (behind : Behind) (output : Stream) (status : ℕ) : Type 0 where
   pub any_moment : disks.is_disk end
       → HasRecalled digits (text_of (recovered digits (disks.seen start))) (disks.moment start) (disks.moment end) (disks.left_since end)
   -- a file that there is a reason to refuse stays as it was
   pub untouched : disks.is_disk end → HasNoFault digits (disks.seen start) ⊎ (disks.seen end ≡ disks.seen start)
-  pub told : IsJournalTold disks set digits path commented start end ends status
+  pub told : IsJournalTold disks set digits path start end behind output status
 
--- the file at the path is opened, in which all that is read is durable; or it can't be opened. Comments may be asked for in the record
+-- the file at the path is opened, in which all that is read is durable; or it can't be opened
+abbrev pub IsRunOver : (files : JournalFiles) → ClearedSet → List ℕ → List ℕ → (files.disks.File → files.disks.File → Behind) → Stream → ℕ → Type 0
+IsRunOver files set digits path behind output status =
+    ((start : files.disks.File) × (end : files.disks.File) × files.opens path start × (files.disks.is_disk start → files.disks.durable start ≡ files.disks.seen start)
+    × IsOver files.disks set digits path start end (behind start end) output status)
+    ⊎ IsUntold output status
+
+-- lines of the input are served over the file. Comments may be asked for in the record
+abbrev pub IsOverFile : (disks : DiskKind) → ClearedSet → List ℕ → List ℕ → Bool → (start end : disks.File) → serving.Ends → ℕ → Type 0
+IsOverFile disks set digits path commented start end ends status =
+    IsOver disks set digits path start end (IsShownBehind disks set digits commented start end ends.unread ends.after status) (output_of ends) status
+
 abbrev pub IsJournalRun : JournalFiles → ClearedSet → List ℕ → List ℕ → Bool → serving.Ends → ℕ → Type 0
 IsJournalRun files set digits path commented ends status =
-    ((start : files.disks.File) × (end : files.disks.File) × files.opens path start × (files.disks.is_disk start → files.disks.durable start ≡ files.disks.seen start)
-    × IsOverFile files.disks set digits path commented start end ends status)
-    ⊎ IsUntold (output_of ends) status
+    IsRunOver files set digits path (λ start end. IsShownBehind files.disks set digits commented start end ends.unread ends.after status) (output_of ends) status

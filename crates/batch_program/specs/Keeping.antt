@@ -2,6 +2,7 @@
 use Rattle.std.specs.Prelude.{◌≡◌, ◌⊎◌, ℕ, Bool, List, Option, IfSome, option_map}
 use Rattle.std.specs.Io.KnownBytes.{Appends}
 use Rattle.batch_model.specs.Plant.{Setup, Plant}
+use Rattle.batch_verify.specs.ClearedSet.{ClearedSet}
 use Rattle.batch_wire.specs.Transcript.{lines_of}
 use Rattle.batch_wire.specs.Written.{AppendsBeginning}
 use Rattle.batch_wire.specs.WrittenTranscript.{WritesTranscript}
@@ -13,6 +14,7 @@ use Rattle.batch_keep.specs.Told.{IsNeverLost}
 use Rattle.batch_keep.specs.declared.starting.StartFault.{StartFault}
 use Rattle.batch_keep.specs.declared.starting.StartFault.TheVariants.{Recovery}
 use Rattle.batch_commands.specs.Running.{Stream, fault_status, memory_status, success_status}
+use Rattle.batch_program.specs.DeskRuns.{AreDesksBehind}
 use Rattle.batch_program.specs.JournalRuns.{IsJournalRefused, IsShownAs}
 use Rattle.batch_program.specs.RecordRuns.{IsUntold}
 
@@ -37,3 +39,9 @@ IsToldBehind c plant documents base commented is_disk durable seen given block u
     ((middle : Option (List ℕ)) × (plain : Option (List ℕ)) × Appends before middle block × IsShownAs commented middle after plain
     × IsTold c plant documents base is_disk durable seen given unread middle plain status)
     ⊎ (AppendsBeginning before after block × (status ≡ fault_status))
+
+-- the block and that of desks, or a beginning of the block
+abbrev pub AreDesksToldBehind : Bool → ClearedSet → List (List ℕ) → Plant → Type 0 → (first given block : List ℕ) → Stream → ℕ → Type 0
+AreDesksToldBehind times set names plant is_disk first given block output status =
+    ((middle : Option (List ℕ)) × Appends output.before middle block × AreDesksBehind times set names is_disk first given output.after status plant middle)
+    ⊎ (AppendsBeginning output.before output.after block × (status ≡ fault_status))

@@ -3,6 +3,7 @@ pub mod DrawingRuns
 pub mod JournalRuns
 pub mod Keeping
 pub mod FileWriting
+pub mod DeskRuns
 pub mod PlantRuns
 pub mod PlantWork
 pub mod Programs

@@ -1,13 +1,16 @@
 -- trusted: what comes of the program's words, input and documents.
-use Rattle.std.specs.Prelude.{◌≡◌, ◌≤◌, ◌++◌, ℕ, zero, suc, Bool, true, false, ◌||◌, IfOk, IfSome, List, Option, Result, Ok, Err, codes, decimal, if◌then◌else◌, nat_eq, Some}
+use Rattle.std.specs.Prelude.{◌≡◌, ◌≤◌, ◌++◌, ℕ, zero, suc, Bool, true, false, ◌||◌, IfOk, IfSome, List, Option, None, Result, Ok, Err, codes, decimal, if◌then◌else◌, nat_eq, Some}
 use Rattle.std.specs.Io.KnownBytes.{Appends, Keeps}
 use Rattle.std.specs.Process.{exit_status}
 use Rattle.std.specs.declared.process.ExitCode.{ExitCode}
 use Rattle.clap.specs.Walk.{Text}
 use Rattle.batch_verify.specs.ClearedSet.{ClearedSet}
 use Rattle.batch_wire.specs.Transcript.{lines_of}
-use Rattle.batch_words.specs.CommandLine.{Source, audit, keep, plant, serve, tell, Judgement, write, remark, picture}
+use Rattle.batch_words.specs.CommandLine.{Source, audit, keep, plant, serve, serve_desks, tell, Judgement, write, remark, picture}
 use Rattle.batch_words.specs.declared.plant_options.PlantOptions.{PlantOptions}
+use Rattle.batch_desks.specs.DeskNames.{desk_names}
+use Rattle.batch_desks.specs.declared.desk_set.Desks.{Desks}
+use Rattle.batch_commands.specs.DeskSets.{AreDesksCleared}
 use Rattle.batch_commands.specs.Digested.{AreDigested}
 use Rattle.batch_commands.specs.Reading.{Gives}
 use Rattle.batch_commands.specs.Requests.{IsDemoSet, IsSetOf, IsVerdict}
@@ -23,6 +26,7 @@ use Rattle.batch_serve.specs.declared.fault.SetFault.{SetFault}
 use Rattle.batch_serve.specs.declared.fault.SetFault.TheVariants.{Memory, Stopped}
 use Rattle.batch_plant.specs.declared.plant_fault.PlantFault.{PlantFault}
 use Rattle.batch_program.specs.AuditRuns.{IsAccepted, IsAuditTold}
+use Rattle.batch_program.specs.DeskRuns.{AreDesksKept, AreDesksRun, IsDesksRecord}
 use Rattle.batch_program.specs.DrawingRuns.{IsRecordDrawn}
 use Rattle.batch_program.specs.JournalRuns.{JournalFiles, IsJournalRun}
 use Rattle.batch_program.specs.FileWriting.{IsWritten}
@@ -85,6 +89,12 @@ pub data IsProgramRun (gives : Gives) (holds : Holds) (files : JournalFiles) (wo
   keeps : (journal cell certificate : Text) (recipes : List Text) (echo times : Bool) (set : ClearedSet) (digits : List ℕ) (status : ℕ)
       → AskFor words (keep journal cell certificate recipes echo times) → AreDigested gives cell certificate recipes set digits
       → IsJournalRun files set digits journal (echo || times) ends status → IsProgramRun gives holds files words ends errors status
+  -- the desks of the document that they name are served over the set that the others make, with a journal where they name one, and the
+  -- input isn't read
+  serves_desks : (journal : Option Text) (path cell certificate : Text) (recipes : List Text) (times : Bool) (desks : Desks) (set : ClearedSet) (digits : List ℕ) (status : ℕ)
+      → AskFor words (serve_desks journal path cell certificate recipes times) → AreDesksCleared gives path cell certificate recipes desks set digits
+      → AreDesksRun files set digits (desk_names desks.desks.items) journal times (output_of ends) status → Keeps ends.unread ends.left
+      → IsProgramRun gives holds files words ends errors status
   -- what the record that the words name tells is printed, or what the input tells
   reads : (path : Option Text) (status : ℕ)
       → AskFor words (tell path) → IsRecordTold holds path ends errors status → IsProgramRun gives holds files words ends errors status
@@ -145,3 +155,22 @@ PlantsAreComplete gives holds files =
     (words : List Text) (ends : serving.Ends) (errors : Stream) (batches ticks ring : ℕ)
     → AskFor words (plant batches ticks ring) → IsProgramRun gives holds files words ends errors 0
     → (set : ClearedSet) × (handled : ℕ) × IsDemoSet set × HasRun set batches handled × Appends ends.before ends.after (plant_text batches handled)
+
+-- a run of `serve` without a journal that ends with status 0 has served the desks of its document over the set that its other documents make,
+-- cleared by their certificate; what it wrote is the text of a safe transcript of the desks' lines, in the order in which they were served
+abbrev pub DesksAreSafe : Gives → Holds → JournalFiles → Type 0
+DesksAreSafe gives holds files =
+    (words : List Text) (ends : serving.Ends) (errors : Stream) (path cell certificate : Text) (recipes : List Text) (times : Bool)
+    → AskFor words (serve_desks None path cell certificate recipes times) → IsProgramRun gives holds files words ends errors 0
+    → (desks : Desks) × (set : ClearedSet) × (digits : List ℕ) × AreDesksCleared gives path cell certificate recipes desks set digits
+    × IsDesksRecord times set (desk_names desks.desks.items) (output_of ends)
+
+-- a run of `serve` with a journal that ends with status 0 has served the desks over the file at its path, behind the recovery block of the lines
+-- that the file had; what it wrote is told again by a replay of what a crash leaves of the file
+abbrev pub DesksAreKept : Gives → Holds → JournalFiles → Type 0
+DesksAreKept gives holds files =
+    (words : List Text) (ends : serving.Ends) (errors : Stream) (journal path cell certificate : Text) (recipes : List Text) (times : Bool)
+    → AskFor words (serve_desks (Some journal) path cell certificate recipes times) → IsProgramRun gives holds files words ends errors 0
+    → (desks : Desks) × (set : ClearedSet) × (digits : List ℕ) × AreDesksCleared gives path cell certificate recipes desks set digits
+    × (start : files.disks.File) × (end : files.disks.File) × files.opens journal start
+    × AreDesksKept files.disks times set digits (desk_names desks.desks.items) start end (output_of ends)

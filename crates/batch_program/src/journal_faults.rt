@@ -4,13 +4,13 @@ ghost use Rattle.batch_commands.specs.Running.{fault_status, memory_status};
 ghost use Rattle.batch_program.specs.JournalRuns.{IsJournalRefused, journal_text};
 ghost use Rattle.batch_program.specs.Keeping.{IsStartTold};
 
-use crate::noted::Noted;
 use batch_commands::{FILE_FAULT, NO_MEMORY, OUT_OF_MEMORY, complain, print, tell};
 use batch_journal::{DiskError, RecoveryFault};
 use batch_keep::{BlockFault, KeepFault, StartFault};
 use batch_sentences::shown;
 use batch_serve::ServeFault;
 use batch_status::StatusFault;
+use batch_streams::Noted;
 use std::alloc::{AllocError, Global};
 use std::fmt::Display;
 use std::io;
@@ -180,7 +180,13 @@ pub(crate) fn complain_unopened<E: Write>(
     complain_journal(alloc, path, reason, errors)
 }
 
-fn complain_disk<E: Write>(alloc: Global, path: &str, fault: DiskError, errors: &mut E) -> u8
+/// Tells why a call of the journal's disk failed, and gives the exit status.
+pub(crate) fn complain_disk<E: Write>(
+    alloc: Global,
+    path: &str,
+    fault: DiskError,
+    errors: &mut E,
+) -> u8
     ensures { (result ≡ fault_status) ⊎ (result ≡ memory_status) }
 {
     match fault {

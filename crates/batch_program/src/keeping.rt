@@ -17,13 +17,13 @@ use crate::journal_faults::{
     complain_block, complain_stopped, complain_unopened, refuse_start, tell_cut,
 };
 use crate::journals::Journals;
-use crate::noted::Noted;
 use crate::program::{MAX_READS, tell_left};
 use batch_commands::{Digested, SUCCESS};
 use batch_engine::Engine;
 use batch_journal::{Disk, Run};
 use batch_keep::{Journal, KeepFault, Started, serve_started, serve_started_remarked, start};
 use batch_serve::{CleanReader, NoRemarks, Remarking, clean_lines_serve_alike};
+use batch_streams::Noted;
 use batch_wire::{WriteFault, write_all};
 use batch_words::Comments;
 use std::alloc::Global;
@@ -33,9 +33,9 @@ use std::time::Clock;
 
 /// The path of the journal as messages name it, and whether they are of faults alone.
 #[derive(Clone, Copy)]
-struct Messages<'a> {
-    path: &'a str,
-    quiet: bool,
+pub(crate) struct Messages<'a> {
+    pub(crate) path: &'a str,
+    pub(crate) quiet: bool,
 }
 
 /// Serves event lines from the input over the set, with a journal of them in the file at the path, and gives the exit status.
@@ -303,7 +303,7 @@ fn tell_end<R: Read, W: Write, E: Write>(
 }
 
 /// Writes the block, as far as the output takes it, and hands it on.
-fn write_block<W: Write>(output: &mut W, block: &[u8]) -> Result<(), WriteFault>
+pub(crate) fn write_block<W: Write>(output: &mut W, block: &[u8]) -> Result<(), WriteFault>
     ensures { Writes (W.contents output.old) (W.contents output.new) result block.now }
 {
     match write_all(output, block) {

@@ -1,9 +1,10 @@
 //! Laws over runs of the program.
-ghost use Rattle.batch_program.specs.Programs.{AuditsAreTrue, CertificatesAreKept, PlantsAreComplete, ServingIsSafe, RemarkedServingIsSafe};
+ghost use Rattle.batch_program.specs.Programs.{AuditsAreTrue, CertificatesAreKept, DesksAreKept, DesksAreSafe, PlantsAreComplete, ServingIsSafe, RemarkedServingIsSafe};
 
 use crate::journals::Journals;
 use crate::records::Records;
 use batch_commands::Documents;
+use batch_keep::desks_are_told_again;
 
 /// What the exit status 0 of a run that serves tells: the set is that of the documents, cleared by their certificate, all lines
 /// of the input were answered, and what was written is the text of a safe record.
@@ -101,5 +102,47 @@ pub fn plants_are_complete<D: Documents + Records + Journals>(documents: &D)
           opens = D.opens documents.now;
         }) }
 {
+    let _documents = documents;
+}
+
+/// What the exit status 0 of a run that serves desks without a journal tells: the desks and the set are those of the documents, cleared by their
+/// certificate, and what was written is the text of a safe transcript of the desks' lines, in the order in which they were served.
+pub fn desks_are_safe<D: Documents + Records + Journals>(documents: &D)
+    ensures { DesksAreSafe (D.gives documents.now) (D.holds documents.now)
+        (record {
+          disks = record {
+            File = D.File;
+            is_disk = D.File.is_disk;
+            durable = D.File.durable;
+            seen = D.File.seen;
+            given = D.File.given;
+            moment = D.File.moment;
+            left_since = D.File.left_since;
+          };
+          opens = D.opens documents.now;
+        }) }
+{
+    let _documents = documents;
+}
+
+/// What the exit status 0 of a run that serves desks over a journal tells: the desks and the set are those of the documents; the recovery
+/// block of the lines that the file had was written, and behind it the answers to lines of the desks; and a replay of what a crash
+/// leaves of the file tells all of that again.
+pub fn desks_are_kept<D: Documents + Records + Journals>(documents: &D)
+    ensures { DesksAreKept (D.gives documents.now) (D.holds documents.now)
+        (record {
+          disks = record {
+            File = D.File;
+            is_disk = D.File.is_disk;
+            durable = D.File.durable;
+            seen = D.File.seen;
+            given = D.File.given;
+            moment = D.File.moment;
+            left_since = D.File.left_since;
+          };
+          opens = D.opens documents.now;
+        }) }
+{
+    desks_are_told_again();
     let _documents = documents;
 }

@@ -1,13 +1,16 @@
 //! The program: what its words ask for, over files and streams. `main` of the program and of every stored run calls it.
 #![tactic(auto)]
 
+mod desk_keeping;
+mod desk_runner;
+mod desk_serving;
+mod file_pipes;
 mod file_writing;
 mod journal_faults;
 mod journals;
 mod keeping;
 mod laws;
 mod limits;
-mod noted;
 mod patient_gate;
 mod plant;
 mod plant_runner;
@@ -21,15 +24,15 @@ mod statuses;
 mod steady_units;
 mod threads;
 
+pub use desk_runner::DeskRunner;
 pub use file_writing::write_file;
 pub use journals::Journals;
 pub use keeping::keep_journal;
 pub use laws::{
-    audits_are_true, certificates_are_kept, plants_are_complete, remarked_serving_is_safe,
-    serving_is_safe,
+    audits_are_true, certificates_are_kept, desks_are_kept, desks_are_safe, plants_are_complete,
+    remarked_serving_is_safe, serving_is_safe,
 };
 pub use limits::{read_limit_is_fixed, turn_limit_is_fixed};
-pub use noted::Noted;
 pub use plant::report_of_plant;
 pub use plant_runner::PlantRunner;
 pub use process::{run_on_files, run_process};

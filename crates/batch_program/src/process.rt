@@ -2,10 +2,10 @@
 ghost use Rattle.std.specs.Prelude.{◌≤◌};
 ghost use Rattle.batch_program.specs.Programs.{IsExitStatus};
 
-use crate::noted::Noted;
 use crate::program::run_program;
 use crate::threads::ThreadsOf;
 use batch_commands::{FilesOf, NO_MEMORY, OUT_OF_MEMORY, USAGE, complain};
+use batch_streams::Noted;
 use std::io::{BufWriter, ErrorKind};
 use std::process::ExitCode;
 use std::thread::Threads;

@@ -2,10 +2,11 @@
 ghost use Rattle.std.specs.Prelude.{◌≡◌, IfOk, map, string_bytes};
 ghost use Rattle.batch_program.specs.Programs.{IsLeftTold, IsProgramRun, IsServed, IsServedRemarked, left_text, status_of_serving};
 
+use crate::desk_runner::DeskRunner;
+use crate::desk_serving::run_desks;
 use crate::file_writing::write_file;
 use crate::journals::Journals;
 use crate::keeping::keep_journal;
-use crate::noted::Noted;
 use crate::plant::report_of_plant;
 use crate::plant_runner::PlantRunner;
 use crate::record_audit::audit_record;
@@ -15,6 +16,7 @@ use crate::records::Records;
 use crate::statuses::serving_status;
 use batch_commands::{Course, Documents, complain, run_words, tell};
 use batch_serve::{NoRemarks, Remarking, ServeFault, SetFault, serve_remarked, serve_set};
+use batch_streams::Noted;
 use batch_verify::Cleared;
 use batch_words::Comments;
 use std::alloc::{AllocError, Global};
@@ -42,7 +44,13 @@ struct Stop {
 /// nor aborted, one line on the errors says how many, unless quiet is asked for; where none is, nothing is written there.
 ///
 /// The time that stands in comments of the record, where they are asked for, is that of the journals' clock. The output is given back.
-pub fn run_program<D: Documents + Records + Journals, P: PlantRunner, R: Read, W: Write, E: Write>(
+pub fn run_program<
+    D: Documents + Records + Journals,
+    P: PlantRunner + DeskRunner,
+    R: Read,
+    W: Write,
+    E: Write,
+>(
     alloc: Global,
     words: &[String],
     documents: &D,
@@ -97,6 +105,25 @@ pub fn run_program<D: Documents + Records + Journals, P: PlantRunner, R: Read, W
         } => keep_journal(
             alloc, digested, quiet, &path, comments, documents, input, output, errors,
         ),
+        Course::ServesDesks {
+            served,
+            quiet,
+            journal,
+            times,
+        } => {
+            let status = run_desks(
+                alloc,
+                plants,
+                served,
+                quiet,
+                journal,
+                times,
+                documents,
+                &mut output,
+                errors,
+            );
+            (status, output)
+        }
         Course::Reads { path } => {
             let status = tell_record(alloc, path, documents, input, &mut output, errors);
             (status, output)

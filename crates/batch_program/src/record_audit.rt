@@ -5,11 +5,11 @@ ghost use Rattle.batch_program.specs.AuditRuns.{IsAuditTold, finding_status, fin
 ghost use Rattle.batch_program.specs.RecordRuns.{IsUntold};
 ghost use Rattle.batch_program.specs.Telling.{IsFindingTold};
 
-use crate::noted::Noted;
 use crate::record_status::complain_unopened;
 use crate::records::Records;
 use batch_audit::{AuditFault, Finding, audit};
 use batch_commands::{FILE_FAULT, NO_MEMORY, OUT_OF_MEMORY, SUCCESS, complain, print};
+use batch_streams::Noted;
 use batch_verify::Cleared;
 use batch_words::AuditWords;
 use std::alloc::{AllocError, Global};

@@ -8,10 +8,10 @@ ghost use Rattle.batch_timeline.specs.Recorded.{IsRecord};
 ghost use Rattle.batch_timeline.specs.declared.picture.Picture.{Picture};
 ghost use Rattle.batch_timeline.specs.declared.reading.RecordFault.TheVariants.{NoRecord};
 
-use crate::noted::Noted;
 use crate::record_status::{complain_unopened, refuse_line};
 use crate::records::Records;
 use batch_commands::{FILE_FAULT, NO_MEMORY, OUT_OF_MEMORY, SUCCESS, complain, print};
+use batch_streams::Noted;
 use batch_timeline::{RecordFault, draw_record};
 use std::alloc::Global;
 use std::io;

@@ -6,12 +6,12 @@ ghost use Rattle.batch_program.specs.RecordRuns.{IsRecordTold, IsStatusOf, IsSta
 ghost use Rattle.batch_status.specs.Reading.{IsRefusedAt};
 ghost use Rattle.batch_status.specs.declared.reading.StatusFault.TheVariants.{NoRecord};
 
-use crate::noted::Noted;
 use crate::program::MAX_READS;
 use crate::records::Records;
 use batch_commands::{FILE_FAULT, NO_MEMORY, OUT_OF_MEMORY, SUCCESS, complain, print, print_bytes};
 use batch_sentences::shown;
 use batch_status::{StatusFault, read_status};
+use batch_streams::Noted;
 use std::alloc::{AllocError, Global};
 use std::io;
 use std::io::{Read, Write};

@@ -1,13 +1,20 @@
 //! Plants in threads of the process.
+use crate::desk_runner::DeskRunner;
+use crate::file_pipes::FilePipes;
 use crate::patient_gate::PatientGate;
 use crate::plant_runner::PlantRunner;
 use crate::steady_units::steady_units;
+use batch_desks::Desks;
+use batch_engine::Engine;
+use batch_pipes::{DesksFault, Timing, serve_desks};
 use batch_plant::{PlantFault, PlantGates, PlantTask, plant_run};
+use batch_serve_desks::Keep;
 use batch_sim::Simulator;
 use batch_text::Name;
 use batch_verify::Cleared;
 use batch_words::PlantOptions;
 use std::alloc::Global;
+use std::io::Write;
 use std::thread::Threads;
 
 /// How many turns each worker has.
@@ -55,5 +62,38 @@ impl<R: Threads> PlantRunner for ThreadsOf<'_, R> {
         };
         let end = plant_run(self.threads, alloc, set, simulator, task, gates)?;
         Ok(end.hub.history().len() as u64)
+    }
+}
+
+impl<R: Threads> DeskRunner for ThreadsOf<'_, R> {
+    fn serve_desks<K: Keep, W: Write, E: Write>(
+        &self,
+        alloc: Global,
+        engine: Engine,
+        desks: Desks,
+        fronts: Vec<Vec<u8>>,
+        times: bool,
+        keep: &mut K,
+        output: &mut W,
+        errors: &mut E,
+    ) -> Result<usize, DesksFault> {
+        let timing = Timing {
+            clock: self.clock,
+            times,
+        };
+        let pipes = FilePipes::new(self.clock, desks.desks.len());
+        serve_desks(
+            self.threads,
+            alloc,
+            &pipes,
+            engine,
+            desks,
+            fronts,
+            &timing,
+            keep,
+            output,
+            errors,
+            &mut pipes.rest(),
+        )
     }
 }

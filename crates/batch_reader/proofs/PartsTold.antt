@@ -138,6 +138,7 @@ no_reserve_fault acts table_kind.Parameter entry wrong none h = h
 no_reserve_fault acts table_kind.Output entry wrong none h = h
 no_reserve_fault acts table_kind.Role entry wrong none h = h
 no_reserve_fault acts table_kind.Procedure entry wrong none h = h
+no_reserve_fault acts table_kind.Desk entry wrong none h = h
 
 pub reserve_fault : (p : Parts) (kind : TableKind) (entry : ℕ) (wrong : EntryFault) → HasReserveFault p.acts kind entry wrong → IsPartFault p kind entry wrong
 reserve_fault p kind entry Undeclared h = inr (inr (inr h))

@@ -21,7 +21,7 @@ use Rattle.batch_reader.specs.declared.fault.Spot.{Spot}
 use Rattle.batch_reader.specs.declared.fault.TableFault.{TableFault}
 use Rattle.batch_reader.specs.declared.fault.TableFault.TheVariants.{Entry, Memory}
 use Rattle.batch_reader.specs.declared.fault.TableKind.{TableKind}
-use Rattle.batch_reader.specs.declared.fault.TableKind.TheVariants.{Cell, Unit, Module, Shared, UnitProcedure, Operation, Phase}
+use Rattle.batch_reader.specs.declared.fault.TableKind.TheVariants.{Cell, Unit, Module, Shared, UnitProcedure, Operation, Phase, Desk}
 
 -- the tables of cell documents
 abbrev pub is_of_cell : TableKind → Bool
@@ -33,6 +33,7 @@ is_of_cell _ = false
 
 -- the tables of recipe documents
 abbrev pub is_of_recipe : TableKind → Bool
+is_of_recipe Desk = false
 is_of_recipe kind = not (is_of_cell kind)
 
 -- unless memory was refused, the fault is in a table of one of these kinds

@@ -7,7 +7,7 @@ use Rattle.batch_recipe.specs.declared.act.TheConstants.{MAX_NEEDS, MAX_REPORTS,
 use Rattle.batch_recipe.specs.declared.header.TheConstants.{MAX_VERSION_LEN, MAX_TEXT_LEN}
 use Rattle.batch_recipe.specs.declared.scaling.TheConstants.{MAX_SIZE, MAX_VALUE}
 use Rattle.batch_reader.specs.declared.fault.TableKind.{TableKind}
-use Rattle.batch_reader.specs.declared.fault.TableKind.TheVariants.{Cell, Unit, Module, Shared, Recipe, Input, Parameter, Output, Role, Procedure, UnitProcedure, Operation, Phase}
+use Rattle.batch_reader.specs.declared.fault.TableKind.TheVariants.{Cell, Unit, Module, Shared, Recipe, Input, Parameter, Output, Role, Procedure, UnitProcedure, Operation, Phase, Desk}
 
 -- what the value at a key has to be
 pub data ValueForm : Type 0 where
@@ -89,3 +89,5 @@ keys_of Phase table =
     needed (codes "name") a_free_name ∷ optional (codes "runs") a_name ∷ optional (codes "needs") (some_needs MAX_NEEDS)
     ∷ optional (codes "values") (some_names 0 MAX_VALUES) ∷ optional (codes "reports") (some_names 0 MAX_REPORTS)
     ∷ optional (codes "reserves") (some_names 0 MAX_RESERVES) ∷ []
+-- neither a cell nor a recipe has tables of desks
+keys_of Desk table = []

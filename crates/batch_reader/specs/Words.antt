@@ -3,7 +3,7 @@ use Rattle.std.specs.Prelude.{ℕ, List, ◌++◌, codes}
 use Rattle.std.specs.Fmt.{decimal}
 use Rattle.batch_reader.specs.declared.fault.Spot.{Spot}
 use Rattle.batch_reader.specs.declared.fault.TableKind.{TableKind}
-use Rattle.batch_reader.specs.declared.fault.TableKind.TheVariants.{Cell, Unit, Module, Shared, Recipe, Input, Parameter, Output, Role, Procedure, UnitProcedure, Operation, Phase}
+use Rattle.batch_reader.specs.declared.fault.TableKind.TheVariants.{Cell, Unit, Module, Shared, Recipe, Input, Parameter, Output, Role, Procedure, UnitProcedure, Operation, Phase, Desk}
 
 abbrev pub table_word : TableKind → List ℕ
 table_word Cell = codes "cell"
@@ -19,6 +19,7 @@ table_word Procedure = codes "procedure"
 table_word UnitProcedure = codes "unit_procedure"
 table_word Operation = codes "operation"
 table_word Phase = codes "phase"
+table_word Desk = codes "desk"
 
 -- the table's word and its number
 abbrev pub spot_text : Spot → List ℕ

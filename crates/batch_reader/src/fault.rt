@@ -7,7 +7,8 @@ use std::alloc::{AllocError, AllocFailed};
 use std::fmt;
 use thiserror::Error;
 
-/// A kind of table of a document. The word for it is that of its tables, and for a top `cell` or `recipe`.
+/// A kind of table of a document. The word for it is that of its tables, and for a top `cell` or `recipe`; what is wrong with the top
+/// of a document of desks is told of its first desk.
 #[derive(Clone, Copy, Debug, PartialEq, Eq)]
 pub enum TableKind {
     /// The top of a cell document.
@@ -36,6 +37,8 @@ pub enum TableKind {
     Operation,
     /// A phase step, `[[phase]]`.
     Phase,
+    /// A console or an equipment link, `[[desk]]`. Neither a cell nor a recipe has such tables: batch_desks reads them.
+    Desk,
 }
 
 impl fmt::Display for TableKind {
@@ -56,6 +59,7 @@ impl fmt::Display for TableKind {
             TableKind::UnitProcedure => "unit_procedure",
             TableKind::Operation => "operation",
             TableKind::Phase => "phase",
+            TableKind::Desk => "desk",
         })
     }
 }

@@ -10,11 +10,7 @@ const LETTERS_A_MISTAKE: usize = 3;
 const MOST_TOLD: usize = 16;
 
 /// A question for the name that was nearly written, or nothing where none is near.
-pub(crate) fn meant_said(
-    alloc: Global,
-    written: &str,
-    names: &[&str],
-) -> Result<String, AllocError> {
+pub fn meant_said(alloc: Global, written: &str, names: &[&str]) -> Result<String, AllocError> {
     match nearest(alloc, written, names)? {
         Some(name) => question_said(alloc, name),
         None => Ok(String::new(alloc)),
@@ -22,7 +18,7 @@ pub(crate) fn meant_said(
 }
 
 /// A question for the name that was nearly written, or the names that there are where none is near.
-pub(crate) fn meant_or_known(
+pub fn meant_or_known(
     alloc: Global,
     written: &str,
     names: Result<Vec<&str>, AllocError>,

@@ -23,7 +23,7 @@ impl Sentence {
     }
 
     /// What is said of the document at this path.
-    pub(crate) fn at(alloc: Global, path: &str, said: &str) -> Result<Sentence, AllocError> {
+    pub fn at(alloc: Global, path: &str, said: &str) -> Result<Sentence, AllocError> {
         let told = format!(in alloc; "{path}: {said}")?;
         Sentence::of(alloc, told.as_str())
     }

@@ -5,7 +5,7 @@ use Rattle.clap.specs.Simple.{subcommand_of}
 use Rattle.clap.specs.Walk.{Text, Row, first_of}
 use Rattle.clap.specs.declared.error.kind.ErrorKind.TheVariants.{DisplayHelp, DisplayVersion, InvalidSubcommand, MissingRequiredArgument, UnknownArgument, ValueValidation}
 use Rattle.clap.proofs.OnLiterals.{clap_on_literals}
-use Rattle.batch_words.specs.CommandLine.{asked_by, batches_of, is_given, keep, program_app, ring_of, ticks_of, word_of, words_of}
+use Rattle.batch_words.specs.CommandLine.{asked_by, batches_of, is_given, keep, program_app, ring_of, serve_desks, ticks_of, word_of, words_of}
 
 abbrev check_line : List Text
 check_line = codes "check" ∷ codes "c" ∷ codes "r" ∷ codes "s" ∷ []
@@ -119,9 +119,31 @@ echo_beside_a_journal_is_read : asked_by (subcommand_of program_app both_line) �
 unfolding clap_on_literals
 echo_beside_a_journal_is_read = refl
 
-serve_is_unknown : fault_of program_app (codes "serve" ∷ []) ≡ UnknownArgument ∷ InvalidSubcommand ∷ []
+watch_is_unknown : fault_of program_app (codes "watch" ∷ []) ≡ UnknownArgument ∷ InvalidSubcommand ∷ []
 unfolding clap_on_literals
-serve_is_unknown = refl
+watch_is_unknown = refl
+
+-- several desks
+
+abbrev desks_line : List Text
+desks_line = codes "serve" ∷ codes "--times" ∷ codes "d" ∷ codes "c" ∷ codes "k" ∷ codes "r" ∷ []
+
+desks_are_read : asked_by (subcommand_of program_app desks_line) ≡ serve_desks None (codes "d") (codes "c") (codes "k") (codes "r" ∷ []) true
+unfolding clap_on_literals
+desks_are_read = refl
+
+desks_are_kept : asked_by (subcommand_of program_app (codes "serve" ∷ codes "--journal" ∷ codes "j" ∷ codes "d" ∷ codes "c" ∷ codes "k" ∷ []))
+    ≡ serve_desks (Some (codes "j")) (codes "d") (codes "c") (codes "k") [] false
+unfolding clap_on_literals
+desks_are_kept = refl
+
+desks_are_taken : fault_of program_app desks_line ≡ []
+unfolding clap_on_literals
+desks_are_taken = refl
+
+desks_are_missing : fault_of program_app (codes "serve" ∷ codes "c" ∷ codes "k" ∷ []) ≡ MissingRequiredArgument ∷ []
+unfolding clap_on_literals
+desks_are_missing = refl
 
 certificate_is_missing : fault_of program_app (codes "run" ∷ codes "c" ∷ []) ≡ MissingRequiredArgument ∷ []
 unfolding clap_on_literals

@@ -1,4 +1,4 @@
--- trusted: the command line: `check [--all] [--write FILE] CELL RECIPE..`, `verify CELL CERT RECIPE..`, `show CELL RECIPE..`, `run [--journal FILE] [--echo] [--times] CELL CERT RECIPE..`, `status RECORD`, `draw RECORD`, `audit RECORD CELL CERT RECIPE..`, `plant`, `explain CODE..`, and no words at all.
+-- trusted: the command line: `check [--all] [--write FILE] CELL RECIPE..`, `verify CELL CERT RECIPE..`, `show CELL RECIPE..`, `run [--journal FILE] [--echo] [--times] CELL CERT RECIPE..`, `serve [--journal FILE] [--times] DESKS CELL CERT RECIPE..`, `status RECORD`, `draw RECORD`, `audit RECORD CELL CERT RECIPE..`, `plant`, `explain CODE..`, and no words at all.
 use Rattle.std.specs.Prelude.{◌≡◌, ◌≢◌, ◌⊎◌, [], ℕ, Bool, List, Option, Some, None, map, option_map, codes, true, false, ◌||◌, unwrap_or, string_bytes, if◌then◌else◌, ⊤}
 use Rattle.std.specs.Str.{bytes_eq}
 use Rattle.std.specs.Str.Parse.{digits_value, without_leading_plus}
@@ -13,7 +13,7 @@ use Rattle.clap.specs.declared.builder.value_parser.ValueParser.TheVariants.{Uns
 use Rattle.clap.specs.declared.error.kind.ErrorKind.{ErrorKind}
 use Rattle.clap.specs.declared.error.kind.ErrorKind.TheVariants.{DisplayHelp, DisplayVersion, OutOfMemory}
 use Rattle.batch_words.specs.declared.command.Subcommand.{Subcommand}
-use Rattle.batch_words.specs.declared.command.Subcommand.TheVariants.{Judge, Serve, Status, Audit, Plant, Explain, Keep, Write, Remark, Picture}
+use Rattle.batch_words.specs.declared.command.Subcommand.TheVariants.{Judge, Serve, ServeDesks, Status, Audit, Plant, Explain, Keep, Write, Remark, Picture}
 use Rattle.batch_words.specs.declared.command.Judgement as judgements
 use Rattle.batch_words.specs.declared.command.Judgement.TheVariants.{Check, Draw, Verify, Show}
 use Rattle.batch_words.specs.declared.command.Source as sources
@@ -72,6 +72,11 @@ show_app = with_rule (with_rule (with_rule (new_app (codes "show"))
 abbrev pub run_app : App
 run_app = with_rule (with_rule (with_rule (certified_app (codes "run")) (path_rule (codes "journal"))) (flag_rule (codes "echo"))) (flag_rule (codes "times"))
 
+abbrev pub serve_app : App
+serve_app = with_rule (with_rule (with_rule (with_rule (with_rule (with_rule (with_rule (new_app (codes "serve"))
+    (word_rule (codes "DESKS"))) (word_rule (codes "CELL"))) (word_rule (codes "CERT"))) (several_rule (codes "RECIPE")))
+    (path_rule (codes "journal"))) (flag_rule (codes "times"))) (flag_rule (codes "quiet"))
+
 abbrev pub status_app : App
 status_app = with_rule (new_app (codes "status")) (optional_rule (codes "RECORD"))
 
@@ -96,8 +101,8 @@ bare_app = on_top (λ s. record s { has_version = true; no_binary_name = true })
 -- the whole command line
 abbrev pub program_app : App
 program_app =
-    with_subcommand (with_subcommand (with_subcommand (with_subcommand (with_subcommand (with_subcommand (with_subcommand (with_subcommand (with_subcommand bare_app
-    check_app.top) (certified_app (codes "verify")).top) show_app.top) run_app.top) status_app.top) draw_app.top) audit_app.top) plant_app.top)
+    with_subcommand (with_subcommand (with_subcommand (with_subcommand (with_subcommand (with_subcommand (with_subcommand (with_subcommand (with_subcommand (with_subcommand bare_app
+    check_app.top) (certified_app (codes "verify")).top) show_app.top) run_app.top) serve_app.top) status_app.top) draw_app.top) audit_app.top) plant_app.top)
     explain_app.top
 
 -- the word that was given for an argument
@@ -155,6 +160,9 @@ pub data Request : Type 0 where
   remark : (source : Source) (echo times : Bool) → Request
   -- to serve that of the documents at these paths, with a journal in the file at the first one, and with comments in the record or without them
   keep : (journal cell certificate : Text) (recipes : List Text) (echo times : Bool) → Request
+  -- to serve the desks of one document over the set of the others, with a journal in the file at the first path where there is one, and with
+  -- times in the record or without them
+  serve_desks : (journal : Option Text) (desks cell certificate : Text) (recipes : List Text) (times : Bool) → Request
   -- to tell what the record at this path says, or the one on standard input
   tell : (path : Option Text) → Request
   -- to draw what it says
@@ -211,6 +219,12 @@ audited_by rows =
     audit (is_given (codes "beginning") rows) (word_of (codes "RECORD") rows)
     (documents (word_of (codes "CELL") rows) (word_of (codes "CERT") rows) (words_of (codes "RECIPE") rows))
 
+-- what the words behind `serve` ask for
+abbrev pub desks_by : List Row → Request
+desks_by rows =
+    serve_desks (first_of (codes "journal") rows) (word_of (codes "DESKS") rows) (word_of (codes "CELL") rows) (word_of (codes "CERT") rows)
+    (words_of (codes "RECIPE") rows) (is_given (codes "times") rows)
+
 -- what is asked for by the word that was entered and the words behind it; `program_app` enters no other word, and at `help` clap answers
 abbrev pub named_by : Text → List Row → Request
 named_by name rows =
@@ -219,8 +233,9 @@ named_by name rows =
     else (if bytes_eq name (codes "status") then tell (first_of (codes "RECORD") rows)
     else (if bytes_eq name (codes "draw") then picture (first_of (codes "RECORD") rows)
     else (if bytes_eq name (codes "audit") then audited_by rows
+    else (if bytes_eq name (codes "serve") then desks_by rows
     else (if bytes_eq name (codes "check") then checked_by rows
-    else (if bytes_eq name (codes "show") then shown_by rows else certified_by name rows))))))
+    else (if bytes_eq name (codes "show") then shown_by rows else certified_by name rows)))))))
 
 -- what is asked for, whether or not a command was entered
 abbrev pub asked_by : Option (Text × List Row) → Request
@@ -249,6 +264,9 @@ request_of (Serve source) = serve (source_of source)
 request_of (Remark source comments) = remark (source_of source) comments.echo comments.times
 request_of (Keep journal cell certificate recipes comments) =
     keep (string_bytes journal) (string_bytes cell) (string_bytes certificate) (map string_bytes recipes.items) comments.echo comments.times
+request_of (ServeDesks words) =
+    serve_desks (option_map string_bytes words.journal) (string_bytes words.desks) (string_bytes words.cell) (string_bytes words.certificate)
+    (map string_bytes words.recipes.items) words.times
 request_of (Status path) = tell (option_map string_bytes path)
 request_of (Picture path) = picture (option_map string_bytes path)
 request_of (Audit words) = audit words.beginning (string_bytes words.path) (source_of words.source)

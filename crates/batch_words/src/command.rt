@@ -40,6 +40,8 @@ pub enum Subcommand {
         recipes: Vec<String>,
         comments: Comments,
     },
+    /// To serve several desks.
+    ServeDesks(DeskWords),
     /// To tell what a record says: the one at this path, or the one on standard input.
     Status {
         path: Option<String>,
@@ -56,6 +58,23 @@ pub enum Subcommand {
     Explain {
         texts: Vec<String>,
     },
+}
+
+/// Which desks are to be served.
+#[derive(Drop)]
+pub struct DeskWords {
+    /// The path of the document of the desks.
+    pub desks: String,
+    /// The path of the document of the cell.
+    pub cell: String,
+    /// The path of the certificate.
+    pub certificate: String,
+    /// The paths of the documents of the recipes.
+    pub recipes: Vec<String>,
+    /// The path of the journal of their lines, where one is to be kept.
+    pub journal: Option<String>,
+    /// The time of each turn is to stand in the record.
+    pub times: bool,
 }
 
 /// An audit.

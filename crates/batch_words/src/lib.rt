@@ -9,7 +9,9 @@ mod plant_options;
 mod table;
 mod words;
 
-pub use command::{AuditWords, CommandFault, CommandWords, Judgement, Source, Subcommand};
+pub use command::{
+    AuditWords, CommandFault, CommandWords, DeskWords, Judgement, Source, Subcommand,
+};
 pub use comments::Comments;
 pub use line::VERSION;
 pub use plant_options::PlantOptions;

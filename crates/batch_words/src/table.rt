@@ -20,7 +20,7 @@ pub(crate) fn commands() -> &'static [CommandText<'static>]
     &COMMANDS
 }
 
-static COMMANDS: [CommandText<'static>; 9] = [
+static COMMANDS: [CommandText<'static>; 10] = [
     CommandText {
         name: "check",
         about: "Prints a certificate for the recipes, or why there is none",
@@ -67,11 +67,7 @@ static COMMANDS: [CommandText<'static>; 9] = [
             CERTIFICATE,
             RECIPES,
             QUIET,
-            Argument(
-                "journal",
-                Form::Path,
-                "Writes each event line to this file before it is answered, and begins where the file ends",
-            ),
+            JOURNAL,
             Argument(
                 "echo",
                 Form::Flag,
@@ -82,6 +78,24 @@ static COMMANDS: [CommandText<'static>; 9] = [
                 Form::Flag,
                 "Writes `# at MILLISECONDS` before the answers to what one read brought",
             ),
+        ],
+    },
+    CommandText {
+        name: "serve",
+        about: "Serves several consoles and equipment links at once, each over its own pipes",
+        example: SERVE_HELP,
+        arguments: &[
+            Argument("DESKS", Form::Word, "The document of the desks"),
+            CELL,
+            CERTIFICATE,
+            RECIPES,
+            JOURNAL,
+            Argument(
+                "times",
+                Form::Flag,
+                "Writes `# at MILLISECONDS` before the answers to what the desks sent in a turn",
+            ),
+            QUIET,
         ],
     },
     CommandText {
@@ -153,6 +167,12 @@ const CERTIFICATE: Argument<'static> = Argument("CERT", Form::Word, "The certifi
 
 const RECIPES: Argument<'static> = Argument("RECIPE", Form::Several, "The master recipes");
 
+const JOURNAL: Argument<'static> = Argument(
+    "journal",
+    Form::Path,
+    "Writes each event line to this file before it is answered, and begins where the file ends",
+);
+
 const QUIET: Argument<'static> = Argument(
     "quiet",
     Form::Flag,
@@ -195,6 +215,14 @@ The same with a journal, from which the next start brings the plant back:
 
 The same with each line and its time as comments in the record, with a journal or without one:
   batchd run --echo --times cell.toml certificate.txt primer.toml rinse-mended.toml
+";
+
+const SERVE_HELP: &str = "\
+An example, in examples/desks, whose pipes are made by mkfifo:
+  batchd serve desks.toml cell.toml certificate.txt topcoat.toml > day.record
+
+The same with a journal, from which the next start brings the plant back:
+  batchd serve --journal day.journal desks.toml cell.toml certificate.txt topcoat.toml > day.record
 ";
 
 const STATUS_HELP: &str = "\

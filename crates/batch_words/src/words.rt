@@ -2,9 +2,11 @@
 ghost use Rattle.std.specs.Prelude.{◌≡◌, ◌≤◌, ◌⊎◌, IfOk, IfErr, MatchOption, Some, map, option_map, string_bytes, codes, []};
 ghost use Rattle.std.specs.Str.Parse.{digits_value, without_leading_plus};
 ghost use Rattle.clap.specs.Words.{FailsBy, IsUnsignedIn, fault_of, first_of, found_of, kind_of, rows_of, subcommand_of, subcommand_rows_of};
-ghost use Rattle.batch_words.specs.CommandLine.{AreWordsOf, HasOptionsOf, IsFaultOf, IsFaultOfKind, audited_by, certified_by, checked_by, is_given, named_by, number_given, program_app, request_of, word_of, words_of, shown_by, judged_by, judgement_of, faults_of, run_by, serve_by, source_of};
+ghost use Rattle.batch_words.specs.CommandLine.{AreWordsOf, HasOptionsOf, IsFaultOf, IsFaultOfKind, audited_by, certified_by, checked_by, desks_by, is_given, named_by, number_given, program_app, request_of, word_of, words_of, shown_by, judged_by, judgement_of, faults_of, run_by, serve_by, source_of};
 
-use crate::command::{AuditWords, CommandFault, CommandWords, Judgement, Source, Subcommand};
+use crate::command::{
+    AuditWords, CommandFault, CommandWords, DeskWords, Judgement, Source, Subcommand,
+};
 use crate::comments::Comments;
 use crate::line::program;
 use crate::plant_options::PlantOptions;
@@ -70,6 +72,9 @@ fn command_of(alloc: Global, name: &str, words: &ArgMatches<'_>) -> Result<Subco
     if name == "audit" {
         return audit_command(alloc, words);
     }
+    if name == "serve" {
+        return desks_command(alloc, words);
+    }
     if name == "check" {
         return check_command(alloc, words);
     }
@@ -91,6 +96,21 @@ fn audit_command(alloc: Global, words: &ArgMatches<'_>) -> Result<Subcommand, Al
             certificate: word(alloc, words, "CERT")?,
             recipes: several(alloc, words, "RECIPE")?,
         },
+    }))
+}
+
+/// `serve`, which has a document of desks, with a journal or without one.
+fn desks_command(alloc: Global, words: &ArgMatches<'_>) -> Result<Subcommand, AllocError>
+    ensures { IfOk result (λ command. request_of command ≡ desks_by (rows_of (found_of words.now))) }
+{
+    let times = flag(words, "times");
+    Ok(Subcommand::ServeDesks(DeskWords {
+        desks: word(alloc, words, "DESKS")?,
+        cell: word(alloc, words, "CELL")?,
+        certificate: word(alloc, words, "CERT")?,
+        recipes: several(alloc, words, "RECIPE")?,
+        journal: optional(alloc, words, "journal")?,
+        times,
     }))
 }
 

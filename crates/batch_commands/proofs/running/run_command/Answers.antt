@@ -54,3 +54,7 @@ returns-in-Plant g c =
 pub returns : goal.returns
 returns g c =
     rw c.in-Explain.is (explains (map string_bytes c.deref-in-Explain.result.now) _ (cc (c.deref-in-Explain.ensures.value, c.in-Explain.texts-is)) c.tell_codes.ensures)
+
+pub returns-in-ServeDesks : goal.returns-in-ServeDesks
+returns-in-ServeDesks g c =
+    rw c.in-ServeDesks.is (rw c.in-ServeDesks.words-is at c.serve_desks.ensures)

@@ -39,6 +39,6 @@ returns-in-Ok g c =
     record {
       untouched = λ d. inl (taken d);
       any_moment = λ d. moments_as c.text.ensures.digits c.requires.base c.requires.since (c.serve_behind.ensures.any_moment d);
-      told = told_behind _ _ _ _ _ _ _ _ _ block.0 _ _ _ taken (λ d. ∥∥₁_elim (c.serve_behind.ensures.stays d) (search props) (λ was. block.2 was)) block.1 c.requires.base
+      told = told_behind _ _ _ _ _ _ _ _ _ _ _ block.0 _ _ _ taken (λ d. ∥∥₁_elim (c.serve_behind.ensures.stays d) (search props) (λ was. block.2 was)) block.1 c.requires.base
           (told_as _ _ _ _ _ _ _ _ _ _ _ _ _ _ _ _ _ c.in-Ok.ensures.cleared c.text.ensures.digits c.deref.ensures.value c.serve_behind.ensures.told);
     }

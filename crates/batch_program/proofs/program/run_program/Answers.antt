@@ -1,8 +1,9 @@
 use Rattle.std.proofs.Common.{map, option_map, string_bytes}
 use Rattle.std.proofs.KnownBytes.{Keeps-refl}
 use Rattle.batch_words.specs.CommandLine.{source_of}
-use Rattle.batch_program.specs.Programs.{tells, serves, keeps, reads, audits, plants, writes, remarks, draws}
+use Rattle.batch_program.specs.Programs.{tells, serves, keeps, reads, audits, plants, writes, remarks, draws, serves_desks}
 use Rattle.batch_program.specs.declared.program.TheConstants.{MAX_READS}
+use Rattle.batch_program.proofs.DesksServed.{desks_kept, desks_to_serve}
 use Rattle.batch_program.proofs.Kept.{file_to_write}
 use Rattle.batch_program.proofs.Plants.{has_run}
 use Rattle.batch_program.proofs.RemarkedServed.{remarked_kept, set_to_remark}
@@ -38,7 +39,7 @@ returns-in-Keeps g c =
     let is = set_to_keep (g.D.Documents.gives c.args.documents.now) (map string_bytes c.args.words.now) _ _ _ digested c.in-Keeps.quiet c.in-Keeps.path c.in-Keeps.comments
     c.run_words.ensures c.in-Keeps.is in
     keeps (string_bytes c.in-Keeps.path) is.cell is.certificate is.recipes c.in-Keeps.comments.echo c.in-Keeps.comments.times digested.set digested.documents.text c.keep_journal.result.0 is.asked is.is_set
-    (journal_kept (record { disks = _; opens = g.D.Journals.opens c.args.documents.now }) digested.set digested.documents.text (string_bytes c.in-Keeps.path) _ _ _ _ _ _ _ is.unwritten (rw c.deref-in-Keeps.ensures at c.keep_journal.ensures))
+    (journal_kept (record { disks = _; opens = g.D.Journals.opens c.args.documents.now }) digested.set digested.documents.text (string_bytes c.in-Keeps.path) _ _ _ _ _ _ is.unwritten (rw c.deref-in-Keeps.ensures at c.keep_journal.ensures))
 
 pub returns-in-Remarks : goal.returns-in-Remarks
 returns-in-Remarks g c =
@@ -83,3 +84,13 @@ returns-in-Plants g c =
     c.run_words.ensures course.is in
     plants course.set course.options end.result c.report_of_plant-status.result asked cleared (has_run course.set course.options end.result end.ensures)
     (told_kept _ _ _ _ _ _ course.options.batches end.result _ kept silent c.report_of_plant-status.ensures) (Keeps-refl _)
+
+pub returns-in-ServesDesks : goal.returns-in-ServesDesks
+returns-in-ServesDesks g c =
+    let course = c.in-ServesDesks in
+    let set = course.served.digested.set in
+    let digits = course.served.digested.documents.text in
+    let named = option_map string_bytes course.journal in
+    let is = desks_to_serve (g.D.Documents.gives c.args.documents.now) (map string_bytes c.args.words.now) _ _ _ course.served course.quiet course.journal course.times c.run_words.ensures course.is in
+    serves_desks named is.path is.cell is.certificate is.recipes course.times course.served.desks set digits c.run_desks-status.result is.asked is.cleared
+    (desks_kept (record { disks = _; opens = g.D.Journals.opens c.args.documents.now }) set digits _ named course.times _ _ _ _ is.unwritten c.run_desks-status.ensures) (Keeps-refl _)

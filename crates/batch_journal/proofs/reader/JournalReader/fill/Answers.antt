@@ -1,59 +1,57 @@
-use Rattle.std.proofs.Common.{rules, ◌≡◌, ◌≤◌, ℕ, List, ◌++◌, length, refl, sym, ◌∙◌, ap, subst, arith}
-use Rattle.batch_journal.proofs.ReaderLemmas.{none_of, kept_ready, keeps_more, accounted_keeps, recalled_on, recalls_kept, group_kept, whole_as}
+use Rattle.std.proofs.Common.{◌≡◌, ◌≤◌, ℕ, List, ◌++◌, length, take, refl, sym, ◌∙◌, ap, arith}
+use Rattle.std.proofs.lemmas.List.{length-take-le}
+use Rattle.batch_journal.specs.Windows.{items}
+use Rattle.batch_journal.proofs.GivenLemmas.{group_front, ready_either, within_either}
+use Rattle.batch_journal.proofs.ReaderLemmas.{none_of, keeps_more, accounted_keeps}
 use Rattle.batch_journal.proofs.reader.JournalReader.fill.Goals as goal
 
 pub invariant_of-self-then-end-eq0 : goal.invariant_of-self-then-end-eq0
 invariant_of-self-then-end-eq0 g c =
     let now = c.args.self.now in
     let ok = c.in_ok-count.ensures.ok in
-    let none : now.ready ≡ 0 = omega (arith, c.if-self-gt0.false) in
+    let none : now.groups.ready ≡ 0 = omega (arith, c.if-self-gt0.false) in
     record {
       within = omega (arith, none);
-      none_ready = now.none_ready;
-      kept = λ d f. kept_ready _ _ _ _ _ _ _ _ (none_of _ _ none ∙ sym (none_of _ _ none)) (now.kept d f);
-      whole = now.whole;
-      recalled = now.recalled;
+      ready = λ d f. now.ready d f ∙ none_of _ _ none ∙ sym (none_of _ _ none);
       accounted = λ d. accounted_keeps _ _ _ _ _ refl (keeps_more _ _ _ _ _ (ok.2 ∙ ap (λ l. l ++ ok.0) c.move_to_front.ensures.items) ok.3) (now.accounted d);
-      stays = now.stays;
     }
 
-pub invariant_of-self-in-Break-branch-2 : goal.invariant_of-self-in-Break-branch-2
-invariant_of-self-in-Break-branch-2 g c =
+pub returns-then-end-eq0-clause-keeps : goal.returns-then-end-eq0-clause-keeps
+returns-then-end-eq0-clause-keeps g c =
+    let ok = c.in_ok-count.ensures.ok in
+    keeps_more _ _ _ _ _ (ok.2 ∙ ap (λ l. l ++ ok.0) c.move_to_front.ensures.items) ok.3
+
+pub invariant_of-self-then-has_own : goal.invariant_of-self-then-has_own
+invariant_of-self-then-has_own g c =
     let now = c.args.self.now in
     let ok = c.in_ok-count.ensures.ok in
-    let none : now.ready ≡ 0 = omega (arith, c.if-self-gt0.false) in
+    let none : now.groups.ready ≡ 0 = omega (arith, c.if-self-gt0.false) in
     record {
       within = omega (arith, none);
-      none_ready = λ is. none;
-      kept = λ d f. absurd (cc f);
-      whole = λ d. whole_as _ _ (c.write_group.ensures.given d) (now.whole (c.write_group.ensures.stays d));
-      recalled = λ d. let d0 = c.write_group.ensures.stays d in
-          recalled_on g.C.Run.documents g.C.Run.base _ _ _ _ _ _ (now.recalled d0) (c.write_group.ensures.time d)
-          (λ left may. recalls_kept _ _ _ _ _ _ _ _ left (now.kept d0 c.if-self.false) may.1);
-      accounted = λ d. accounted_keeps _ _ _ _ _ (c.write_group.ensures.given d) (keeps_more _ _ _ _ _ (ok.2 ∙ ap (λ l. l ++ ok.0) c.move_to_front.ensures.items) ok.3) (now.accounted (c.write_group.ensures.stays d));
-      stays = λ d. now.stays (c.write_group.ensures.stays d);
+      ready = λ d f. now.ready d f ∙ none_of _ _ none ∙ sym (none_of _ _ none);
+      accounted = λ d. accounted_keeps _ _ _ _ _ refl (keeps_more _ _ _ _ _ (ok.2 ∙ ap (λ l. l ++ ok.0) c.move_to_front.ensures.items) ok.3) (now.accounted d);
     }
+
+pub write-requires-clause-lines : goal.write-requires-clause-lines
+write-requires-clause-lines g c = record { whole = group_front _ _ c.end_of-end.ensures.text; others = c.has_own.ensures c.if-has_own.false }
 
 pub invariant_of-self-2 : goal.invariant_of-self-2
 invariant_of-self-2 g c =
     let now = c.args.self.now in
     let ok = c.in_ok-count.ensures.ok in
-    let none : now.ready ≡ 0 = omega (arith, c.if-self-gt0.false) in
     let end = c.end_of-end.result in
+    let bytes = c.as_slice-bytes.result.now in
     let bytes_are = c.as_slice-bytes.ensures.value in
+    let groups = c.write.new.self in
+    let fits : length (take end bytes) ≤ length (items c.read_from.new.self) = omega (arith, length-take-le end bytes c.end_of-end.ensures.within, c.end_of-end.ensures.within, ap (λ (l : List ℕ). length l) bytes_are) in
     record {
-      within = subst (λ (l : List ℕ). end ≤ length l) bytes_are c.end_of-end.ensures.within;
-      none_ready = λ f. absurd (cc f);
-      kept = λ d f.
-          let d0 = c.write_group.ensures.stays d in
-          let kept = kept_ready _ _ _ _ _ _ _ _ (none_of _ _ none) (now.kept d0 c.if-self.false) in
-          let written = c.in_ok-write_group.ensures.written d in
-          group_kept _ _ _ _ _ _ _ _ _ _ _ _ _ _ kept bytes_are c.end_of-end.ensures.text (c.has_comment.ensures c.if-has_comment.false) c.next-sum.ensures.sum c.next-sum.ensures.line
-          (search rules) written.0 written.1 (c.write_group.ensures.given d);
-      whole = λ d. whole_as _ _ (c.write_group.ensures.given d) (now.whole (c.write_group.ensures.stays d));
-      recalled = λ d. let d0 = c.write_group.ensures.stays d in
-          recalled_on g.C.Run.documents g.C.Run.base _ _ _ _ _ _ (now.recalled d0) (c.write_group.ensures.time d)
-          (λ left may. recalls_kept _ _ _ _ _ _ _ _ left (now.kept d0 c.if-self.false) may.1);
-      accounted = λ d. accounted_keeps _ _ _ _ _ (c.write_group.ensures.given d) (keeps_more _ _ _ _ _ (ok.2 ∙ ap (λ l. l ++ ok.0) c.move_to_front.ensures.items) ok.3) (now.accounted (c.write_group.ensures.stays d));
-      stays = λ d. now.stays (c.write_group.ensures.stays d);
+      within = within_either c.write.result groups.ready groups.failed (take end bytes) (items c.read_from.new.self) c.write.ensures.ready c.write.ensures.failed groups.none_ready fits;
+      ready = λ d f. ready_either c.write.result groups.ready groups.failed bytes (items c.read_from.new.self) _ end bytes_are c.end_of-end.ensures.within
+          c.write.ensures.ready c.write.ensures.failed (c.write.ensures.lines d) f;
+      accounted = λ d. accounted_keeps _ _ _ _ _ (c.write.ensures.given d) (keeps_more _ _ _ _ _ (ok.2 ∙ ap (λ l. l ++ ok.0) c.move_to_front.ensures.items) ok.3) (now.accounted (c.write.ensures.stays d));
     }
+
+pub returns-clause-keeps : goal.returns-clause-keeps
+returns-clause-keeps g c =
+    let ok = c.in_ok-count.ensures.ok in
+    keeps_more _ _ _ _ _ (ok.2 ∙ ap (λ l. l ++ ok.0) c.move_to_front.ensures.items) ok.3

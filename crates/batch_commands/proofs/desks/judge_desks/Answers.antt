@@ -1,0 +1,13 @@
+use Rattle.std.proofs.Common.{Err, ap}
+use Rattle.batch_commands.proofs.desks.judge_desks.Goals as goal
+
+pub returns-in-Err-clause-refused : goal.returns-in-Err-clause-refused
+returns-in-Err-clause-refused c =
+    let read = c.in-Err.ensures in
+    record {
+      fault = c.in-Err.fault;
+      stands = read.refused;
+      not_toml = λ is. read.not_toml (ap Err is);
+      is_there = λ entry wrong is. read.stands entry wrong (ap Err is);
+      halts = c.desks_halt.ensures;
+    }

@@ -1,0 +1,188 @@
+-- Where something is wrong with a document, it stands for no desks.
+use Rattle.std.proofs.Common.{◌≡◌, ◌≢◌, ℕ, ◌+◌, ◌⊎◌, inl, inr, Bool, List, [], ◌∷◌, ◌++◌, length, take, drop, nat_eq, Option, Some, None, sym, ap, subst, ◌∙◌, arith, zero, suc, pos, codes, take-append-drop, option_map, string_bytes, refl}
+use Rattle.std.proofs.lemmas.Bool.{false≢true}
+use Rattle.std.proofs.lemmas.List.{length-map, map-append}
+use Rattle.std.specs.Cmp.Lexicographic.{pointwise}
+use Rattle.std.specs.List.{IsDistinct}
+use Rattle.toml.specs.Data.{Data, Items, no_items, item, Members, get_item, get_member, as_table}
+use Rattle.batch_cell.proofs.Distinct.{IsDistinct-front}
+use Rattle.batch_reader.proofs.Items.{HasTables_same}
+use Rattle.batch_reader.proofs.OneEntry.{HasName_missing, HasName_unique}
+use Rattle.batch_reader.specs.Entries.{AllItems, HasName, HasNumber, HasTables, IsTableOf, IsTruth, MayHaveName, items_at}
+use Rattle.batch_reader.specs.Keys.{a_name, a_number, a_truth, needed, optional}
+use Rattle.batch_reader.specs.TableFaults.{IsArrayFault, IsKeyFault, IsNoTableOr}
+use Rattle.batch_reader.specs.declared.fault.EntryFault.{EntryFault}
+use Rattle.batch_reader.specs.declared.fault.EntryFault.TheVariants.{MissingKey, WrongKind, UnknownKey, Undeclared, Duplicate, OutOfLimit, Chart}
+use Rattle.batch_desks.proofs.Told.{tells_refused}
+use Rattle.batch_desks.specs.DeskNames.{HaveDistinctNames, desk_names}
+use Rattle.batch_desks.specs.DesksDocument.{HasLag, IsDeskTable, IsDesksTable, MayHavePath}
+use Rattle.batch_desks.specs.DesksFaults.{HasNameTwice, HasRightCount, HasSetFault, HasWrongCount, IsDeskFault, IsPathFault, IsRightDesk}
+use Rattle.batch_desks.specs.declared.desk.Desk.{Desk}
+use Rattle.batch_desks.specs.declared.desk.TheConstants.{MAX_LAG}
+use Rattle.batch_desks.specs.Told.{Tells}
+use Rattle.batch_desks.specs.declared.desk_set.Desks.{Desks}
+use Rattle.batch_desks.specs.declared.fault.DesksFault.{DesksFault}
+use Rattle.batch_desks.specs.declared.fault.DesksFault.TheVariants.{Memory}
+
+-- nothing is wrong first, and nothing later
+pub none_first : {Wrong Right Later : Type 0} → (Wrong → ⊥) → (Later → ⊥) → Wrong ⊎ (Right × Later) → ⊥
+none_first w l (inl wrong) = w wrong
+none_first w l (inr p) = l p.1
+
+-- ---- a key
+
+pub name_refused : (key : List ℕ) (ms : Members) (wrong : EntryFault) (name : List ℕ) → HasName key ms name → IsKeyFault (needed key a_name) ms wrong → ⊥
+name_refused key ms MissingKey name has h = HasName_missing key ms name h.1 has
+name_refused key ms WrongKind name has h = h.such name (record { text = rw h.found at has.text; valid = has.valid })
+name_refused key ms OutOfLimit name has h = h.such
+name_refused key ms (Chart offset) name has h = h.such
+name_refused key ms UnknownKey name has h = h
+name_refused key ms Undeclared name has h = h
+name_refused key ms Duplicate name has h = h
+
+pub optional_name_refused : (key : List ℕ) (ms : Members) (wrong : EntryFault) (name : Option (List ℕ)) → MayHaveName key ms name → IsKeyFault (optional key a_name) ms wrong → ⊥
+optional_name_refused key ms MissingKey name has h = false≢true h.0
+optional_name_refused key ms WrongKind None has h = let none = rw has at h.found in cc none
+optional_name_refused key ms WrongKind (Some name) has h = h.such name (record { text = rw h.found at has.text; valid = has.valid })
+optional_name_refused key ms OutOfLimit name has h = h.such
+optional_name_refused key ms (Chart offset) name has h = h.such
+optional_name_refused key ms UnknownKey name has h = h
+optional_name_refused key ms Undeclared name has h = h
+optional_name_refused key ms Duplicate name has h = h
+
+pub path_refused : (key : List ℕ) (ms : Members) (wrong : EntryFault) (path : Option (List ℕ)) → MayHavePath key ms path → IsPathFault key ms wrong → ⊥
+path_refused key ms WrongKind None has h = let none = rw has at h.found in cc none
+path_refused key ms WrongKind (Some path) has h = let found = rw h.found at has.text.found in cc (found, h.such)
+path_refused key ms OutOfLimit None has h = let none = rw has at h.found in cc none
+path_refused key ms OutOfLimit (Some path) has h =
+    let found = rw h.found at has.text.found in
+    let same : h.such.text ≡ path = cc (found, h.such.found) in
+    h.such.such (rw same has.some) (rw same has.text.short)
+path_refused key ms MissingKey path has h = h
+path_refused key ms (Chart offset) path has h = h
+path_refused key ms UnknownKey path has h = h
+path_refused key ms Undeclared path has h = h
+path_refused key ms Duplicate path has h = h
+
+pub truth_refused : (key : List ℕ) (ms : Members) (wrong : EntryFault) (truth : Bool) → IsTruth key ms truth → IsKeyFault (optional key a_truth) ms wrong → ⊥
+truth_refused key ms MissingKey truth has h = false≢true h.0
+truth_refused key ms WrongKind truth has h = let found = rw h.found at has in cc (found, h.such)
+truth_refused key ms OutOfLimit truth has h = h.such
+truth_refused key ms (Chart offset) truth has h = h.such
+truth_refused key ms UnknownKey truth has h = h
+truth_refused key ms Undeclared truth has h = h
+truth_refused key ms Duplicate truth has h = h
+
+pub number_refused : (key : List ℕ) (ms : Members) (low high : ℕ) (wrong : EntryFault) (number : ℕ) → HasNumber key ms low high number
+    → IsKeyFault (optional key (a_number low high)) ms wrong → ⊥
+number_refused key ms low high MissingKey number has h = false≢true h.0
+number_refused key ms low high WrongKind number has h = let found = rw h.found at has.integer in cc (found, h.such)
+number_refused key ms low high OutOfLimit number has h =
+    let found = rw h.found at has.integer in
+    let same : h.such.integer ≡ pos number = cc (found, h.such.found) in
+    h.such.outside number same has.at_least has.at_most
+number_refused key ms low high (Chart offset) number has h = h.such
+number_refused key ms low high UnknownKey number has h = h
+number_refused key ms low high Undeclared number has h = h
+number_refused key ms low high Duplicate number has h = h
+
+-- a key that is missing has nothing wrong
+pub missing_refused : (key : List ℕ) (ms : Members) (low high : ℕ) (wrong : EntryFault) → get_member key ms ≡ None → IsKeyFault (optional key (a_number low high)) ms wrong → ⊥
+missing_refused key ms low high MissingKey missing h = false≢true h.0
+missing_refused key ms low high WrongKind missing h = let none = rw missing at h.found in cc none
+missing_refused key ms low high OutOfLimit missing h = let none = rw missing at h.found in cc none
+missing_refused key ms low high (Chart offset) missing h = h.such
+missing_refused key ms low high UnknownKey missing h = h
+missing_refused key ms low high Undeclared missing h = h
+missing_refused key ms low high Duplicate missing h = h
+
+lag_refused : (ms : Members) (wrong : EntryFault) (lag : ℕ) → HasLag ms lag → IsKeyFault (optional (codes "lag") (a_number 1 MAX_LAG)) ms wrong → ⊥
+lag_refused ms wrong lag (inl has) h = number_refused (codes "lag") ms 1 MAX_LAG wrong lag has h
+lag_refused ms wrong lag (inr missing) h = missing_refused (codes "lag") ms 1 MAX_LAG wrong missing.0 h
+
+-- ---- a table
+
+desk_refused : (ms : Members) (wrong : EntryFault) → IsDeskFault ms wrong → (desk : Desk) → IsDeskTable ms desk → ⊥
+desk_refused ms wrong fault desk h =
+    none_first (λ w. false≢true (sym w.1 ∙ h.keys))
+    (none_first (name_refused (codes "name") ms wrong desk.name h.name)
+    (none_first (path_refused (codes "input") ms wrong (option_map string_bytes desk.input) h.input)
+    (none_first (path_refused (codes "output") ms wrong (option_map string_bytes desk.output) h.output)
+    (none_first (λ w. false≢true (sym w.1 ∙ h.some_way))
+    (none_first (optional_name_refused (codes "unit") ms wrong desk.unit h.unit)
+    (none_first (truth_refused (codes "stays") ms wrong desk.stays h.stays)
+    (lag_refused ms wrong desk.lag h.lag))))))) fault
+
+-- ---- the array of tables
+
+-- each item of some that say values says one
+item_says : {X : Type 0} (R : Data → X → Type 0) (items : Items) (xs : List X) → AllItems R items xs → (n : ℕ) (d : Data) → get_item n items ≡ Some d → (x : X) × R d x
+item_says R no_items xs h n d found = absurd (cc found)
+item_says R (item e ds) [] h n d found = absurd h
+item_says R (item e ds) (x ∷ xs) h zero d found = let same : e ≡ d = cc found in (x, rw (← same) h.0)
+item_says R (item e ds) (x ∷ xs) h (suc n) d found = item_says R ds xs h.1 n d found
+
+right_refused : (d : Data) (found : Option Members) (wrong : EntryFault) → as_table d ≡ found → (desk : Desk) → IsTableOf IsDeskTable d desk → IsNoTableOr IsDeskFault found wrong → ⊥
+right_refused d None wrong is_table desk h fault = cc (is_table, h.is_table)
+right_refused d (Some table) wrong is_table desk h fault =
+    let same : h.members ≡ table = cc (is_table, h.is_table) in
+    desk_refused table wrong fault desk (rw same at h.stands_for)
+
+array_refused : (list : Option Items) (items : Items) (desks : List Desk) (entry : ℕ) (wrong : EntryFault) → list ≡ Some items → AllItems (IsTableOf IsDeskTable) items desks
+    → IsArrayFault IsRightDesk IsDeskFault list entry wrong → ⊥
+array_refused None items desks entry wrong found listed h = cc found
+array_refused (Some others) items desks entry wrong found listed h =
+    let same : others ≡ items = cc found in
+    let right = item_says (IsTableOf IsDeskTable) items desks listed entry h.here (rw same at h.found) in
+    right_refused h.here (as_table h.here) wrong refl right.0 right.1 h.fault
+
+-- ---- the set of desks
+
+same_names : (ms : Members) (xs ys : List Desk) → HasTables IsDeskTable (codes "desk") ms xs → HasTables IsDeskTable (codes "desk") ms ys → desk_names xs ≡ desk_names ys
+same_names ms xs ys h k =
+    HasTables_same IsDeskTable (λ desk. desk.name) (λ ns x y a b. HasName_unique _ ns x.name y.name a.name b.name) _ ms xs ys h k
+
+same_length : (xs ys : List Desk) → desk_names xs ≡ desk_names ys → length xs ≡ length ys
+same_length xs ys e =
+    let name : Desk → List ℕ = λ desk. desk.name in
+    sym (length-map xs name) ∙ ap length e ∙ length-map ys name
+
+-- names that differ do so among the first of them
+front_distinct : (desks : List Desk) (i : ℕ) → HaveDistinctNames desks → HaveDistinctNames (take i desks)
+front_distinct desks i distinct =
+    let name : Desk → List ℕ = λ desk. desk.name in
+    let whole : desk_names desks ≡ desk_names (take i desks) ++ desk_names (drop i desks) =
+    ap desk_names (sym (take-append-drop i desks)) ∙ map-append name (take i desks) (drop i desks) in
+    let P : List (List ℕ) → Type 0 = λ names. IsDistinct (pointwise nat_eq) names in
+    IsDistinct-front (pointwise nat_eq) (desk_names (take i desks)) (desk_names (drop i desks)) (subst P whole distinct)
+
+count_refused : (desks : List Desk) (entry : ℕ) (wrong : EntryFault) → HasRightCount desks → HasWrongCount desks entry wrong → ⊥
+count_refused desks entry wrong right h = elim h.1 [ inl few ↦ omega (arith, few.0, right.0) | inr many ↦ omega (arith, many.0, right.1) ]
+
+set_refused : (ms : Members) (entry : ℕ) (wrong : EntryFault) (desks : Desks) → IsDesksTable ms desks → HasSetFault ms entry wrong → ⊥
+set_refused ms entry wrong desks h fault =
+    let names : desk_names desks.desks.items ≡ desk_names fault.desks = same_names ms desks.desks.items fault.desks h.tables fault.tables in
+    let count : length desks.desks.items ≡ length fault.desks = same_length desks.desks.items fault.desks names in
+    let right : HasRightCount fault.desks = (rw count at h.some_desk, rw count at h.few_desks) in
+    let P : List (List ℕ) → Type 0 = λ ks. IsDistinct (pointwise nat_eq) ks in
+    let distinct : HaveDistinctNames fault.desks = subst P names h.distinct in
+    none_first (count_refused fault.desks entry wrong right) (λ twice. twice.1.fails (front_distinct fault.desks (entry + 1) distinct)) fault.fault
+
+-- ---- what is told
+
+pub array_refuses : (ms : Members) (fault : DesksFault) → Tells (IsArrayFault IsRightDesk IsDeskFault (items_at (codes "desk") ms)) fault → fault ≢ Memory
+    → (desks : Desks) → IsDesksTable ms desks → ⊥
+array_refuses ms fault told =
+    tells_refused (IsArrayFault IsRightDesk IsDeskFault (items_at (codes "desk") ms)) ((desks : Desks) → IsDesksTable ms desks → ⊥)
+    (λ entry wrong h desks table. array_refused (items_at (codes "desk") ms) table.tables.items desks.desks.items entry wrong table.tables.found table.tables.tables h) fault told
+
+module _ (ms : Members) (desks : List Desk) (tables : HasTables IsDeskTable (codes "desk") ms desks) where
+  pub count_refuses : (fault : DesksFault) → Tells (HasWrongCount desks) fault → fault ≢ Memory → (all : Desks) → IsDesksTable ms all → ⊥
+  count_refuses fault told =
+      tells_refused (HasWrongCount desks) ((all : Desks) → IsDesksTable ms all → ⊥)
+      (λ entry wrong h all table. set_refused ms entry wrong all table (record { desks = desks; tables = tables; fault = inl h })) fault told
+
+  pub names_refuse : HasRightCount desks → (fault : DesksFault) → Tells (HasNameTwice desks) fault → fault ≢ Memory → (all : Desks) → IsDesksTable ms all → ⊥
+  names_refuse count fault told =
+      tells_refused (HasNameTwice desks) ((all : Desks) → IsDesksTable ms all → ⊥)
+      (λ entry wrong h all table. set_refused ms entry wrong all table (record { desks = desks; tables = tables; fault = inr (count, h) })) fault told

@@ -1,0 +1,22 @@
+-- trusted: the units that desks name.
+use Rattle.std.specs.Prelude.{◌≡◌, ℕ, Bool, true, List, Some, None, is_some, nat_eq, position}
+use Rattle.std.specs.Cmp.Lexicographic.{pointwise}
+use Rattle.std.specs.List.{list_all}
+use Rattle.batch_reader.specs.PartFaults.{FailsFirst}
+use Rattle.batch_reader.specs.declared.fault.EntryFault.TheVariants.{Undeclared}
+use Rattle.batch_desks.specs.declared.desk.Desk.{Desk}
+use Rattle.batch_desks.specs.declared.fault.DesksFault.{DesksFault}
+use Rattle.batch_desks.specs.declared.fault.DesksFault.TheVariants.{Entry}
+
+-- the desk's unit, if it has one, is one of these
+abbrev pub has_unit : List (List ℕ) → Desk → Bool
+has_unit units desk = elim desk.unit [ None ↦ true | Some unit ↦ is_some (position (pointwise nat_eq unit) units) ]
+
+abbrev pub HaveUnits : List (List ℕ) → List Desk → Type 0
+HaveUnits units desks = list_all (has_unit units) desks ≡ true
+
+-- the fault is that of a desk whose unit is none of these: the first of such desks
+pub record TellsNoUnit (units : List (List ℕ)) (desks : List Desk) (fault : DesksFault) : Type 0 where
+  pub entry : ℕ
+  pub told : fault ≡ Entry entry Undeclared
+  pub first : FailsFirst (HaveUnits units) desks entry

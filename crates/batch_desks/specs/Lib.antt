@@ -1,0 +1,7 @@
+pub mod DeskNames
+pub mod DesksDocument
+pub mod DesksFaults
+pub mod DeskUnits
+pub mod Told
+pub mod RowsOfDesks
+pub mod AsDocuments

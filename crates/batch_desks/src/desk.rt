@@ -1,0 +1,33 @@
+//! One desk.
+ghost use Rattle.std.specs.Prelude.{◌≤◌};
+ghost use Rattle.batch_desks.specs.declared.desk.TheConstants.{MAX_LAG};
+
+use batch_text::Name;
+
+/// The longest path of a desk, in bytes.
+pub const MAX_PATH_LEN: usize = 4_096;
+
+/// The most lines that may wait for a desk.
+pub const MAX_LAG: usize = 65_536;
+
+/// How many lines may wait for a desk that doesn't say it.
+pub const USUAL_LAG: usize = 4_096;
+
+/// A console or an equipment link: which lines it sends and is written, and by which paths. A path may be that of a
+/// named pipe, a terminal or a file; it is looked at by nobody before it is opened.
+#[derive(Drop)]
+pub struct Desk {
+    pub name: Name,
+    /// The path that its lines are read from.
+    pub input: Option<String>,
+    /// The path that its answers and moves are written to.
+    pub output: Option<String>,
+    /// The one unit whose starts and sends it is told; all where there is none.
+    pub unit: Option<Name>,
+    /// Whether the input goes on when its writer leaves.
+    pub stays: bool,
+    /// How many lines may wait for it.
+    pub lag: usize,
+    ghost some_lines: { 1 ≤ lag },
+    ghost few_lines: { lag ≤ MAX_LAG },
+}

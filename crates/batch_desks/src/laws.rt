@@ -1,0 +1,41 @@
+//! Worked rows of documents of desks.
+ghost use Rattle.batch_desks.specs.RowsOfDesks.{
+  ConsoleIsRead,
+  NoOtherLagIsRead,
+  NoStayIsRead,
+  StayIsRead,
+  NothingIsWrong,
+  OneWayIsMissing,
+  UnknownKeyIsFirst,
+  LagIsLimited,
+  PathIsLimited,
+  UnitIsNoDesk,
+  NoDeskIsTooFew,
+  SecondNameIsTold,
+  OtherNamesDiffer,
+  UnitIsLookedUp,
+  UnitIsFound,
+  AllUnitsAreFound,
+};
+
+/// Worked rows: a table that leaves out what may be left out stands for a desk with the usual values and for no other; a
+/// desk without input and output is told as one that lacks a key, an unknown key before all else, limits at their ends;
+/// of two desks of one name the second is told; a unit is looked up among those of the cell.
+pub fn worked_desks()
+    ensures console { ConsoleIsRead }
+    ensures no_other_lag { NoOtherLagIsRead }
+    ensures no_stay { NoStayIsRead }
+    ensures stay { StayIsRead }
+    ensures nothing_wrong { NothingIsWrong }
+    ensures one_way { OneWayIsMissing }
+    ensures unknown_first { UnknownKeyIsFirst }
+    ensures lag { LagIsLimited }
+    ensures path { PathIsLimited }
+    ensures no_desk { UnitIsNoDesk }
+    ensures too_few { NoDeskIsTooFew }
+    ensures second_name { SecondNameIsTold }
+    ensures other_names { OtherNamesDiffer }
+    ensures looked_up { UnitIsLookedUp }
+    ensures found { UnitIsFound }
+    ensures all_units { AllUnitsAreFound }
+{}

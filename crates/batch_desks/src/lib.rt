@@ -1,0 +1,22 @@
+//! Reader of documents of desks: the consoles and equipment links that one server serves.
+#![tactic(auto)]
+
+mod desk;
+mod desk_set;
+mod desk_table;
+mod document;
+mod entries;
+mod fault;
+mod laws;
+mod limits;
+mod names;
+mod reading;
+mod units;
+
+pub use desk::{Desk, MAX_LAG, MAX_PATH_LEN, USUAL_LAG};
+pub use desk_set::{Desks, MAX_DESKS};
+pub use fault::DesksFault;
+pub use laws::worked_desks;
+pub use limits::desk_limits_are_fixed;
+pub use reading::read_desks;
+pub use units::check_units;

@@ -1,0 +1,364 @@
+//! What is wrong with a table of a document.
+use crate::charts::{no_chart_said, number_said};
+use crate::declared::text_at;
+use crate::fits::{Fit, given_said, shape_said, suit};
+use crate::keys::{Key, keys_of, kind_said, kinds_beside, most_of, word_of};
+use crate::lines::line_of;
+use crate::names_declared::{duplicate, undeclared};
+use crate::needs::{need_out_of_limit, unreadable_need};
+use batch_grammar::is_chart_word;
+use batch_reader::{EntryFault, Spot, TableKind};
+use batch_recipe::{MAX_NODES, MAX_UNITS};
+use batch_sentences::meant_said;
+use std::alloc::{AllocError, Global};
+use toml::{Table, Value};
+
+/// What is wrong with a table, and under which key, which is empty where that can't be told.
+#[derive(Drop)]
+pub(crate) struct Wrong<'a> {
+    pub(crate) key: &'a str,
+    pub(crate) what: String,
+}
+
+impl<'a> Wrong<'a> {
+    pub(crate) fn told(alloc: Global, key: &'a str, what: &str) -> Result<Wrong<'a>, AllocError> {
+        Wrong::with(key, String::from_str(alloc, what))
+    }
+
+    pub(crate) fn with(
+        key: &'a str,
+        what: Result<String, AllocError>,
+    ) -> Result<Wrong<'a>, AllocError> {
+        Ok(Wrong { key, what: what? })
+    }
+}
+
+/// How many tables of the kind the document has.
+pub(crate) fn tables_of(document: &Table, kind: TableKind) -> usize {
+    let Some(word) = word_of(kind) else {
+        return 0;
+    };
+    match document.get(word) {
+        Some(Value::Array(tables)) => tables.len(),
+        Some(_) => 1,
+        None => 0,
+    }
+}
+
+/// The table at the spot.
+fn entry_at(document: &Table, spot: Spot) -> Option<&Table> {
+    match word_of(spot.kind) {
+        None => Some(document),
+        Some(word) => match document.get(word)? {
+            Value::Array(tables) => tables.get(spot.entry)?.as_table(),
+            value => value.as_table(),
+        },
+    }
+}
+
+/// What the fault of the table at the spot is, in the document of this text.
+pub(crate) fn wrong_at<'a>(
+    alloc: Global,
+    text: &str,
+    document: &'a Table,
+    spot: Spot,
+    fault: EntryFault,
+) -> Result<Wrong<'a>, AllocError> {
+    let keys = keys_of(spot.kind);
+    let Some(table) = entry_at(document, spot) else {
+        return no_table(alloc, document, spot.kind);
+    };
+    match fault {
+        EntryFault::MissingKey => missing(alloc, keys, table, spot.kind),
+        EntryFault::WrongKind => wrong_kind(alloc, keys, document, table, spot.kind),
+        EntryFault::UnknownKey => unknown(alloc, keys, table, spot.kind),
+        EntryFault::Undeclared => undeclared(alloc, document, table, spot.kind),
+        EntryFault::Duplicate => duplicate(alloc, text, document, table, spot),
+        EntryFault::OutOfLimit => {
+            let line = chart_line(text, document, spot);
+            out_of_limit(alloc, keys, text, line, table, spot)
+        }
+        EntryFault::Chart(byte) => {
+            let line = chart_line(text, document, spot);
+            no_chart(alloc, text, line, table, byte, spot.kind)
+        }
+    }
+}
+
+/// The line of the chart of the table at the spot.
+fn chart_line(text: &str, document: &Table, spot: Spot) -> Option<usize> {
+    line_of(text, spot, tables_of(document, spot.kind), "chart")
+}
+
+/// That the document has no table of this kind.
+fn no_table(
+    alloc: Global,
+    document: &Table,
+    kind: TableKind,
+) -> Result<Wrong<'static>, AllocError> {
+    let word = word_of(kind).unwrap_or("");
+    if document.contains_key(word) {
+        Wrong::with(
+            "",
+            format!(in alloc; "`{word}` has to be a table, or tables, with a header of their own"),
+        )
+    } else {
+        Wrong::told(alloc, "", "there is no such table, and one is needed")
+    }
+}
+
+fn missing(
+    alloc: Global,
+    keys: &[Key],
+    table: &Table,
+    kind: TableKind,
+) -> Result<Wrong<'static>, AllocError> {
+    for key in keys {
+        if key.1 && !table.contains_key(key.0) {
+            return Wrong::with("", format!(in alloc; "the key `{}` is missing", key.0));
+        }
+    }
+    // A unit procedure and a desk need one of these, and a module with a unit its phases.
+    match kind {
+        TableKind::Desk => {
+            Wrong::told(alloc, "", "one of the keys `input` and `output` is missing")
+        }
+        TableKind::UnitProcedure => {
+            Wrong::told(alloc, "", "one of the keys `unit` and `role` is missing")
+        }
+        _ => Wrong::told(alloc, "", "the key `phases` is missing"),
+    }
+}
+
+fn unknown<'a>(
+    alloc: Global,
+    keys: &[Key],
+    table: &'a Table,
+    kind: TableKind,
+) -> Result<Wrong<'a>, AllocError> {
+    match unknown_key(keys, table) {
+        Some(name) => Wrong::with(name, unknown_said(alloc, keys, name, kind)),
+        // Some keys of the other two kinds suit one another badly.
+        None => match kind {
+            TableKind::Desk => {
+                Wrong::told(alloc, "", "a document of desks has tables [[desk]] alone")
+            }
+            TableKind::UnitProcedure => Wrong::told(
+                alloc,
+                "role",
+                "`unit` and `role` don't stand together",
+            ),
+            _ => Wrong::told(alloc, "phases", "a module without `unit` has no `phases`"),
+        },
+    }
+}
+
+/// That the key is unknown, which keys are known, and which of them may have been meant.
+fn unknown_said(
+    alloc: Global,
+    keys: &[Key],
+    name: &str,
+    kind: TableKind,
+) -> Result<String, AllocError> {
+    let names = names_of(alloc, keys)?;
+    let known = names.join(alloc, ", ")?;
+    let others = others_said(alloc, kind, name)?;
+    let meant = meant_said(alloc, name, &names)?;
+    format!(in alloc; "the key `{name}` is unknown here; known are {known}{others}{meant}")
+}
+
+/// The names of the keys.
+fn names_of(alloc: Global, keys: &[Key]) -> Result<Vec<&'static str>, AllocError> {
+    let mut names = Vec::new(alloc);
+    for key in keys {
+        names.push(key.0)?;
+    }
+    Ok(names)
+}
+
+/// Which other tables of such a document have the key, if any.
+fn others_said(alloc: Global, kind: TableKind, name: &str) -> Result<String, AllocError> {
+    let mut said = String::new(alloc);
+    for other in kinds_beside(kind) {
+        if is_known(keys_of(*other), name) {
+            let table = kind_said(alloc, *other)?;
+            said.push_str(if said.is_empty() {
+                "; it is a key of "
+            } else {
+                ", "
+            })?;
+            said.push_str(table.as_str())?;
+        }
+    }
+    Ok(said)
+}
+
+/// The first key of the table that isn't one of these.
+fn unknown_key<'a>(keys: &[Key], table: &'a Table) -> Option<&'a str> {
+    for name in table.keys() {
+        if !is_known(keys, name.as_str()) {
+            return Some(name.as_str());
+        }
+    }
+    None
+}
+
+fn is_known(keys: &[Key], name: &str) -> bool {
+    for key in keys {
+        if key.0 == name {
+            return true;
+        }
+    }
+    false
+}
+
+fn wrong_kind(
+    alloc: Global,
+    keys: &[Key],
+    document: &Table,
+    table: &Table,
+    kind: TableKind,
+) -> Result<Wrong<'static>, AllocError> {
+    if let Some(said) = misheaded(alloc, document, kind)? {
+        return Wrong::with("", Ok(said));
+    }
+    if let Some(key) = first_unfit(keys, table, Fit::WrongKind) {
+        return unfit(alloc, key, "has to be", table);
+    }
+    if let Some(need) = unreadable_need(table) {
+        return Wrong::with(
+            "needs",
+            format!(in alloc;
+                "`{need}` is no need: a need is the name of a resource, with a star and a number behind it where it is of several units, as `STEAM` or `STEAM*2`, and no spaces"
+            ),
+        );
+    }
+    match text_at(table, "name") {
+        Some(name) if is_chart_word(name.as_bytes()) => Wrong::with(
+            "name",
+            format!(in alloc; "the name `{name}` is a word of charts, which names nothing else"),
+        ),
+        _ => Wrong::told(alloc, "", "a value is of another kind than its key has"),
+    }
+}
+
+/// That the header of such a table has other brackets: a procedure's single ones, each other double ones.
+fn misheaded(
+    alloc: Global,
+    document: &Table,
+    kind: TableKind,
+) -> Result<Option<String>, AllocError> {
+    let Some(word) = word_of(kind) else {
+        return Ok(None);
+    };
+    let said = match (kind, document.get(word)) {
+        (TableKind::Procedure, Some(Value::Array(_))) => {
+            String::from_str(
+                alloc,
+                "a recipe has one procedure, with the header [procedure]",
+            )
+        }
+        (TableKind::Procedure, _) => return Ok(None),
+        (_, Some(Value::Table(_))) => format!(in alloc;
+            "the header is [[{word}]], since a document may have several of these tables"
+        ),
+        _ => return Ok(None),
+    };
+    Ok(Some(said?))
+}
+
+/// That the value of the key is to be another.
+fn unfit(
+    alloc: Global,
+    key: &Key,
+    front: &str,
+    table: &Table,
+) -> Result<Wrong<'static>, AllocError> {
+    let shape = shape_said(alloc, key.2)?;
+    let given = match table.get(key.0) {
+        Some(value) => given_said(alloc, key.2, value)?,
+        None => String::new(alloc),
+    };
+    Wrong::with(
+        key.0,
+        format!(in alloc; "`{}` {front} {shape}{given}", key.0),
+    )
+}
+
+fn out_of_limit(
+    alloc: Global,
+    keys: &[Key],
+    text: &str,
+    line: Option<usize>,
+    table: &Table,
+    spot: Spot,
+) -> Result<Wrong<'static>, AllocError> {
+    if let Some(key) = first_unfit(keys, table, Fit::OutOfLimit) {
+        return unfit(alloc, key, "is out of its limits: it has to be", table);
+    }
+    let most = most_of(spot.kind);
+    if spot.entry == most {
+        return Wrong::with(
+            "",
+            format!(in alloc; "a document has at most {most} of these tables"),
+        );
+    }
+    if let Some(need) = need_out_of_limit(table) {
+        return Wrong::with(
+            "needs",
+            format!(in alloc; "`{need}` is out of its limits: a need is of 1 to {MAX_UNITS} units"),
+        );
+    }
+    let least = table.get("min").and_then(Value::as_integer);
+    let greatest = table.get("max").and_then(Value::as_integer);
+    match (least, greatest) {
+        (Some(least), Some(greatest)) if least > greatest => {
+            Wrong::told(alloc, "min", "`min` is above `max`")
+        }
+        _ => chart_out_of_limit(alloc, text, line, table),
+    }
+}
+
+/// That a number of the table's chart is out of its limits, or that the acts are too many.
+fn chart_out_of_limit(
+    alloc: Global,
+    text: &str,
+    line: Option<usize>,
+    table: &Table,
+) -> Result<Wrong<'static>, AllocError> {
+    if let Some(chart) = text_at(table, "chart") {
+        if let Some(said) = number_said(alloc, text, line, chart)? {
+            return Wrong::with("chart", Ok(said));
+        }
+    }
+    Wrong::with(
+        "",
+        format!(in alloc;
+            "the acts come to more than {MAX_NODES} nodes: each label stands for its act, with the chart of that"
+        ),
+    )
+}
+
+fn no_chart(
+    alloc: Global,
+    text: &str,
+    line: Option<usize>,
+    table: &Table,
+    byte: usize,
+    kind: TableKind,
+) -> Result<Wrong<'static>, AllocError> {
+    let chart = text_at(table, "chart").unwrap_or("");
+    Wrong::with("chart", no_chart_said(alloc, text, line, chart, byte, kind))
+}
+
+/// The first of the keys whose value suits it so.
+fn first_unfit<'a>(keys: &'a [Key], table: &Table, wanted: Fit) -> Option<&'a Key> {
+    for key in keys {
+        if let Some(value) = table.get(key.0) {
+            if suit(key.2, value) == wanted {
+                return Some(key);
+            }
+        }
+    }
+    None
+}

@@ -1,0 +1,15 @@
+//! What the refusal of a document means, in one line for a person.
+#![tactic(auto)]
+
+mod charts;
+mod declared;
+mod documents;
+mod entries;
+mod fits;
+mod hints;
+mod keys;
+mod lines;
+mod names_declared;
+mod needs;
+
+pub use documents::{Asked, document_sentence};

@@ -1,0 +1,4 @@
+pub mod Keeping
+pub mod Serviced
+pub mod RingsMade
+pub mod Streaming

@@ -1,0 +1,233 @@
+-- Rounds lead a service on.
+use Rattle.std.proofs.Common.{◌≡◌, ◌<◌, ℕ, zero, suc, Bool, true, false, List, [], ◌∷◌, ◌++◌, length, get_or, flat_map, Option, None, Result, Ok, Err, OnOk, codes, decimal, inl, inr, refl, sym, ap, subst, arith, append-nil, ◌∙◌}
+use Rattle.std.proofs.lemmas.Grind.{flat_map-append}
+use Rattle.std.proofs.KnownBytes.{Appends-nil, Appends-trans}
+use Rattle.std.specs.Io.KnownBytes.{Appends}
+use Rattle.batch_engine.specs.View.{EngineView, plant_of, setup}
+use Rattle.rtrb.specs.Ring.{sent}
+use Rattle.batch_serve_desks.specs.Lives.{IsLife}
+use Rattle.batch_serve_desks.specs.Rounds.{AreGathered, IsHandedOver, text_sent}
+use Rattle.batch_serve_desks.specs.Runs.{Run, due_of, last_of, own_text, runs_text}
+use Rattle.batch_serve_desks.specs.Served.{AreServed}
+use Rattle.batch_serve_desks.specs.Turns.{IsSameBut, IsTurned}
+use Rattle.batch_serve_desks.specs.Waits.{IsAccount}
+use Rattle.batch_serve_desks.specs.declared.desk.Desk.{Desk}
+use Rattle.batch_serve_desks.specs.declared.desk_server.DeskServer.{DeskServer}
+use Rattle.batch_serve_desks.specs.declared.rounds.Writer.{Writer}
+use Rattle.batch_serve_desks.proofs.Gathering.{lines_go_on}
+use Rattle.batch_serve_desks.proofs.GoingOn.{texts_go_on}
+use Rattle.batch_serve_desks.proofs.LivesKept.{last_same, life_turned, lives_take}
+use Rattle.batch_desks.specs.DeskNames.{desk_names}
+use Rattle.batch_desks.specs.declared.desk.Desk as plans
+use Rattle.batch_pipes.specs.Kept.{AreReadersKept, ArePortsOf}
+use Rattle.batch_pipes.specs.Opened.{IsOpened}
+use Rattle.batch_serve.specs.Comments.{time_text}
+use Rattle.batch_wire.specs.Written.{Writes}
+use Rattle.batch_pipes.specs.Service.{AppendsTime, AppendsTimed, AreDesksServed, AreTimes, IsService, IsTime, Opening, Part, beginning, told_to}
+use Rattle.batch_pipes.specs.declared.ports.Ports.{Ports}
+
+-- Texts with times
+
+times_both : (times : Bool) (xs ys : List Part) → AreTimes times xs → AreTimes times ys → AreTimes times (xs ++ ys)
+times_both times [] ys one other = other
+times_both times (x ∷ xs) ys one other = (one.0, times_both times xs ys one.1 other)
+
+pub timed_more : (times : Bool) (before mid after : Option (List ℕ)) (text comment more : List ℕ) → AppendsTimed times before mid text → IsTime times comment
+    → Appends mid after (comment ++ more) → AppendsTimed times before after (text ++ more)
+timed_more times before mid after text comment more so_far is_time appends =
+    let part : Part = record { comment = comment; text = more } in
+    record {
+      all = so_far.all ++ (comment ++ more);
+      appends = Appends-trans before mid after so_far.all (comment ++ more) so_far.appends appends;
+      timed = record {
+        parts = so_far.timed.parts ++ part ∷ [];
+        comments = times_both times so_far.timed.parts (part ∷ []) so_far.timed.comments (is_time, tt);
+        is_text = ap (λ l. l ++ more) so_far.timed.is_text ∙ ap (λ l. flat_map (λ (p : Part). p.text) so_far.timed.parts ++ l) (sym (append-nil more))
+            ∙ sym (flat_map-append (λ (p : Part). p.text) so_far.timed.parts (part ∷ []));
+        is_all = ap (λ l. l ++ (comment ++ more)) so_far.timed.is_all
+            ∙ ap (λ l. flat_map (λ (p : Part). p.comment ++ p.text) so_far.timed.parts ++ l) (sym (append-nil (comment ++ more)))
+            ∙ sym (flat_map-append (λ (p : Part). p.comment ++ p.text) so_far.timed.parts (part ∷ []));
+      };
+    }
+
+pub timed_nothing : (times : Bool) (contents : Option (List ℕ)) → AppendsTimed times contents contents []
+timed_nothing times contents =
+    record { all = []; appends = Appends-nil contents; timed = record { parts = []; comments = tt; is_text = refl; is_all = refl } }
+
+-- The time of a turn
+
+pub no_time : (times : Bool) (contents : Option (List ℕ)) → AppendsTime times contents contents
+no_time times contents = ([], inl refl, Appends-nil contents)
+
+pub time_written : {E : Type 0} (times : Bool) (old new : Option (List ℕ)) (milliseconds : ℕ) (r : Result (Unit {0}) E) → times ≡ true
+    → OnOk r (Appends old new (time_text milliseconds)) → OnOk r (AppendsTime times old new)
+time_written times old new milliseconds (Ok u) asked written = (time_text milliseconds, inr (asked, (milliseconds, refl)), written)
+time_written times old new milliseconds (Err e) asked written = tt
+
+-- the comment is written in three parts
+pub time_joined : {E : Type 0} (old head mid new : Option (List ℕ)) (digits : List ℕ) (milliseconds : ℕ) (r : Result (Unit {0}) E) → Appends old head (codes "# at ")
+    → digits ≡ decimal milliseconds → Appends head mid digits → Writes mid new r (10 ∷ []) → OnOk r (Appends old new (time_text milliseconds))
+time_joined old head mid new digits milliseconds (Ok u) begun is more ended =
+    Appends-trans old head new (codes "# at ") (decimal milliseconds ++ 10 ∷ []) begun
+    (Appends-trans head mid new (decimal milliseconds) (10 ∷ []) (subst (Appends head mid) is more) ended)
+time_joined old head mid new digits milliseconds (Err e) begun is more ended = tt
+
+-- Steps of a round
+
+-- an element of a list that has one
+one_of : {T : Type 0} (xs : List T) (k : ℕ) → k < length xs → T
+one_of [] k within = absurd (omega (arith, within))
+one_of (x ∷ xs) k within = x
+
+told_at : (writers : List Writer) (k : ℕ) (writer : Writer) → k < length writers → told_to writers k ≡ sent (get_or writers k writer).ring
+told_at [] k writer within = absurd (omega (arith, within))
+told_at (w ∷ writers) zero writer within = refl
+told_at (w ∷ writers) (suc k) writer within = told_at writers k writer (omega (arith, within))
+
+-- lines are taken from readers
+pub service_gathered : {K : Type 0} (is_safe : K → Type 0) (keeper : K) (times : Bool) (begun : Opening) (kept : List ℕ) (recorded : Option (List ℕ)) (old new : DeskServer)
+    (before after : Ports) → IsSameBut old new → AreGathered old.desks.items before.readers.items after.readers.items old.group.items new.group.items
+    → after.writers.items ≡ before.writers.items → length before.readers.items ≡ length old.desks.items
+    → IsService times begun (is_safe keeper) kept recorded old before → IsService times begun (is_safe keeper) kept recorded new after
+service_gathered is_safe keeper times begun kept recorded old new before after same gathered writers count s = record {
+  runs = s.runs;
+  answers = s.answers;
+  names = same.names ∙ s.names;
+  life = subst (λ (l : List Writer). IsLife (beginning begun) (is_safe keeper) s.runs s.answers (record { kept = kept; recorded = None; told = told_to l }) new) (sym writers)
+      (lives_take is_safe keeper (beginning begun) s.runs s.answers (record { kept = kept; recorded = None; told = told_to before.writers.items }) old new s.life same);
+  is_recorded = subst (λ (n : List (List ℕ)). AppendsTimed times begun.recorded recorded (runs_text n None s.answers)) (sym same.names) s.is_recorded;
+  lines = λ k desk reader within uncut.
+      let is_uncut : (get_or old.desks.items k desk).waiting.is_cut ≡ false = subst (λ (l : List Desk). (get_or l k desk).waiting.is_cut ≡ false) same.desks uncut in
+      let in_old : k < length old.desks.items = omega (arith, within, ap length same.desks) in
+      lines_go_on k s.runs old.group.items new.group.items (get_or before.readers.items k reader) (get_or after.readers.items k reader)
+      (s.lines k desk reader in_old is_uncut) (gathered.each k reader desk (omega (arith, in_old, count)) is_uncut);
+}
+
+-- a turn is made, behind a comment or none
+pub service_turned : {K : Type 0} (is_safe : K → Type 0) (keeper after_keeper : K) (times : Bool) (begun : Opening) (kept kept_after : List ℕ) (recorded mid recorded_after : Option (List ℕ))
+    (comment : List ℕ) (old new : DeskServer) (ports : Ports) → (is_safe after_keeper → is_safe keeper)
+    → IsTurned old new (is_safe after_keeper) kept kept_after begun.again mid recorded_after → IsTime times comment → Appends recorded mid comment
+    → IsService times begun (is_safe keeper) kept recorded old ports → IsService times begun (is_safe after_keeper) kept_after recorded_after new ports
+service_turned is_safe keeper after_keeper times begun kept kept_after recorded mid recorded_after comment old new ports stays turn is_time commented s =
+    let untold : IsTurned old new (is_safe after_keeper) kept kept_after begun.again None None = record {
+      answers = turn.answers;
+      kept = turn.kept;
+      served = turn.served;
+      whole = turn.whole;
+      well = turn.well;
+      recorded = tt;
+      told = turn.told;
+      last = turn.last;
+      group = turn.group;
+      cleared = turn.cleared;
+      names = turn.names;
+    } in
+    let names : List (List ℕ) = old.names.items in
+    let last : old.last ≡ last_of None s.answers = s.life.last ∙ sym (last_same (setup begun.set) begun.plant (plant_of old.engine) None s.runs s.answers s.life.served) in
+    let more : List ℕ = runs_text names old.last turn.answers in
+    let appends : Appends recorded recorded_after (comment ++ more) = Appends-trans recorded mid recorded_after comment more commented turn.recorded in
+    let text : runs_text names None s.answers ++ more ≡ runs_text new.names.items None (s.answers ++ turn.answers) =
+    ap (λ (o : Option ℕ). runs_text names None s.answers ++ runs_text names o turn.answers) last ∙ sym (texts_go_on names None 0 None s.answers turn.answers).text
+    ∙ ap (λ (n : List (List ℕ)). runs_text n None (s.answers ++ turn.answers)) (sym turn.names) in
+    record {
+      runs = s.runs ++ old.group.items;
+      answers = s.answers ++ turn.answers;
+      names = turn.names ∙ s.names;
+      life = life_turned is_safe keeper after_keeper (beginning begun) kept_after None s.runs s.answers
+          (record { kept = kept; recorded = None; told = told_to ports.writers.items }) old new s.life stays untold;
+      is_recorded = subst (AppendsTimed times begun.recorded recorded_after) text
+          (timed_more times begun.recorded recorded recorded_after (runs_text names None s.answers) comment more s.is_recorded is_time appends);
+      lines = λ k desk reader within uncut.
+          let in_old : k < length old.desks.items = omega (arith, within, turn.told.count) in
+          ap (own_text k) (ap (λ (g : List Run). (s.runs ++ old.group.items) ++ g) turn.group ∙ append-nil (s.runs ++ old.group.items))
+          ∙ s.lines k desk reader in_old ((turn.told.each k desk in_old).cut uncut);
+    }
+
+-- what waits is handed on, or desks are cut, and nothing is taken from readers
+pub service_handed : {K : Type 0} (is_safe : K → Type 0) (keeper : K) (times : Bool) (begun : Opening) (kept : List ℕ) (recorded : Option (List ℕ)) (old new : DeskServer)
+    (before after : Ports) → IsHandedOver old new before.writers.items after.writers.items → AreReadersKept before.readers.items after.readers.items
+    → ArePortsOf old.desks.items before
+    → IsService times begun (is_safe keeper) kept recorded old before → IsService times begun (is_safe keeper) kept recorded new after
+service_handed is_safe keeper times begun kept recorded old new before after handed readers of s = record {
+  runs = s.runs;
+  answers = s.answers;
+  names = handed.names ∙ s.names;
+  life = record {
+    cleared = ap (λ (e : EngineView). e.cleared) handed.engine ∙ s.life.cleared;
+    served = subst (λ (e : EngineView). AreServed (setup begun.set) begun.plant s.runs s.answers (plant_of e)) (sym handed.engine) s.life.served;
+    whole = s.life.whole;
+    well = s.life.well;
+    last = handed.last ∙ s.life.last;
+    is_kept = λ safe. s.life.is_kept safe ∙ ap (λ (n : List (List ℕ)). begun.kept ++ runs_text n None s.runs) (sym handed.names);
+    is_recorded = tt;
+    each = λ desk other within. handed_on desk other (omega (arith, within, handed.handed.count));
+  };
+  is_recorded = subst (λ (n : List (List ℕ)). AppendsTimed times begun.recorded recorded (runs_text n None s.answers)) (sym handed.names) s.is_recorded;
+  lines = λ k desk reader within uncut.
+      let in_old : k < length old.desks.items = omega (arith, within, handed.handed.count) in
+      let in_writers : k < length before.writers.items = omega (arith, in_old, of.writers) in
+      let in_readers : k < length before.readers.items = omega (arith, in_old, of.readers) in
+      let writer : Writer = one_of before.writers.items k in_writers in
+      ap (λ (g : List Run). own_text k (s.runs ++ g)) handed.group
+      ∙ s.lines k desk reader in_old ((handed.handed.each k desk writer in_writers).cut uncut)
+      ∙ ap text_sent (sym (readers.each k reader in_readers).ring);
+}
+  where
+    handed_on : (k : ℕ) (other : Desk) → k < length old.desks.items
+        → IsAccount (due_of k (get_or new.desks.items k other).unit s.answers) (told_to after.writers.items k) (get_or new.desks.items k other).waiting
+    handed_on k other in_old =
+        let in_writers : k < length before.writers.items = omega (arith, in_old, of.writers) in
+        let in_after : k < length after.writers.items = omega (arith, in_writers, handed.handed.writers) in
+        let writer : Writer = one_of before.writers.items k in_writers in
+        let one = handed.handed.each k other writer in_writers in
+        let all : List (List ℕ) = due_of k (get_or old.desks.items k other).unit s.answers in
+        let was : IsAccount all (sent (get_or before.writers.items k writer).ring) (get_or old.desks.items k other).waiting =
+        subst (λ (l : List (List ℕ)). IsAccount all l (get_or old.desks.items k other).waiting) (told_at before.writers.items k writer in_writers) (s.life.each k other in_old) in
+        subst (λ (u : Option (List ℕ)). IsAccount (due_of k u s.answers) (told_to after.writers.items k) (get_or new.desks.items k other).waiting) (sym one.unit)
+        (subst (λ (l : List (List ℕ)). IsAccount all l (get_or new.desks.items k other).waiting) (sym (told_at after.writers.items k writer in_after)) (one.account all was))
+
+-- it begins with desks whose rings are made
+pub service_begins : {K : Type 0} (is_safe : K → Type 0) (keeper : K) (times : Bool) (begun : Opening) (engine : EngineView) (desks : List plans.Desk) (s : DeskServer) (p : Ports)
+    → engine.cleared ≡ begun.set → plant_of engine ≡ begun.plant → desk_names desks ≡ begun.names → ArePortsOf s.desks.items p → IsOpened engine desks s p
+    → IsService times begun (is_safe keeper) begun.kept begun.recorded s p
+service_begins is_safe keeper times begun engine desks s p cleared plant named of opened = record {
+  runs = [];
+  answers = [];
+  names = opened.names ∙ named;
+  life = record {
+    cleared = ap (λ (e : EngineView). e.cleared) opened.engine_is ∙ cleared;
+    served = (refl, ap plant_of opened.engine_is ∙ plant);
+    whole = λ again. tt;
+    well = λ again. tt;
+    last = opened.last;
+    is_kept = λ safe. sym (append-nil begun.kept);
+    is_recorded = tt;
+    each = λ desk other within. record {
+      rest = [];
+      begins = sym (nothing_told desk within);
+      waits = λ uncut. sym (opened.empty.waits desk other within);
+    };
+  };
+  is_recorded = timed_nothing times begun.recorded;
+  lines = λ k desk reader within uncut. ap (own_text k) opened.group ∙ ap text_sent (sym (opened.empty.came k reader within));
+}
+  where
+    nothing_told : (k : ℕ) → k < length s.desks.items → told_to p.writers.items k ++ [] ≡ []
+    nothing_told k within =
+        let in_writers : k < length p.writers.items = omega (arith, within, of.writers) in
+        let writer : Writer = one_of p.writers.items k in_writers in
+        append-nil (told_to p.writers.items k) ∙ told_at p.writers.items k writer in_writers ∙ opened.empty.went k writer within
+
+-- what has come of it
+pub service_ends : {K : Type 0} (is_safe : K → Type 0) (keeper : K) (times : Bool) (begun : Opening) (kept : List ℕ) (recorded : Option (List ℕ)) (s : DeskServer) (p : Ports)
+    → IsService times begun (is_safe keeper) kept recorded s p → AreDesksServed times begun (is_safe keeper) kept recorded
+service_ends is_safe keeper times begun kept recorded s p service = record {
+  runs = service.runs;
+  answers = service.answers;
+  new = plant_of s.engine;
+  served = service.life.served;
+  whole = service.life.whole;
+  well = service.life.well;
+  is_kept = λ safe. service.life.is_kept safe ∙ ap (λ (n : List (List ℕ)). begun.kept ++ runs_text n None service.runs) service.names;
+  is_recorded = subst (λ (n : List (List ℕ)). AppendsTimed times begun.recorded recorded (runs_text n None service.answers)) service.names service.is_recorded;
+}

@@ -1,0 +1,12 @@
+use Rattle.std.proofs.Common.{refl}
+use Rattle.batch_serve_desks.specs.declared.desk.Desk.{Desk}
+use Rattle.batch_serve_desks.specs.declared.rounds.Writer.{Writer}
+use Rattle.batch_pipes.proofs.Keeping.{handed_more, handed_some}
+use Rattle.batch_pipes.proofs.dropping.drop_all.Goals as goal
+
+pub loop-preserved : goal.loop-preserved
+loop-preserved c =
+    let desk : Desk = record c.loop.desk { waiting = c.hand_on.new.self } in
+    let writer : Writer = record c.loop.writer { ring = c.hand_on.new.ring } in
+    handed_more c.args.desk.now c.loop.desk desk c.args.writer.now c.loop.writer writer c.loop.invariant
+    (handed_some c.loop.desk desk c.loop.writer writer refl c.hand_on.ensures.same_cut c.hand_on.ensures.account)

@@ -1,0 +1,26 @@
+use Rattle.std.proofs.Common.{◌≡◌, ◌∷◌, [], length, sym, ap, subst, ◌∙◌, append_assoc, append-nil, arith}
+use Rattle.std.specs.Vec.Iter.{into_iter_items}
+use Rattle.batch_pipes.specs.Opened.{IsOpened}
+use Rattle.batch_pipes.proofs.RingsMade.{nothing_left, opened_more, ports_more}
+use Rattle.batch_pipes.proofs.opening.open_each.Goals as goal
+
+pub loop-desk-preserved : goal.loop-desk-preserved
+loop-desk-preserved g c =
+    let at = c.loop-desk in
+    let so_far = at.invariant in
+    let desk = c.in-Some.desk in
+    let steps : into_iter_items at.desk-iterator ≡ desk ∷ into_iter_items c.next.new.self = c.in-Some.ensures.steps.0 in
+    record {
+      left = append_assoc at.yielded (desk ∷ []) _ ∙ rw (← steps) so_far.left;
+      count = (let was = so_far.count in let gone = c.in-Some.ensures.steps.1 in let short = ap length steps in omega arith);
+      ports = ports_more desk.name at.server c.open_desk.new.server at.ports c.open_desk.new.ports c.in_ok-open_desk.ensures so_far.ports;
+      opened = opened_more c.args.server.now.engine at.yielded desk at.server c.open_desk.new.server at.ports c.open_desk.new.ports so_far.ports so_far.opened c.in_ok-open_desk.ensures;
+    }
+
+pub returns-clause-opened : goal.returns-clause-opened
+returns-clause-opened g c =
+    let at = c.loop-desk in
+    let none = c.in-None.ensures.steps in
+    let empty : into_iter_items at.desk-iterator ≡ [] = nothing_left _ (sym at.invariant.count ∙ none.0) in
+    let all = sym (append-nil at.yielded) ∙ rw empty at at.invariant.left ∙ c.into_iter-desk-iterator.ensures.into_iter_gives.0 in
+    subst (λ l. IsOpened c.args.server.now.engine l at.server at.ports) all at.invariant.opened

@@ -1,0 +1,33 @@
+use Rattle.std.proofs.Common.{ap, arith, length, refl}
+use Rattle.batch_pipes.proofs.Keeping.{readers_as_they_are}
+use Rattle.batch_pipes.proofs.Serviced.{service_gathered, service_handed}
+use Rattle.batch_pipes.specs.declared.ports.Ports.{Ports}
+use Rattle.batch_pipes.proofs.rounds.serve_round.Goals as goal
+
+pub returns-clause-ports : goal.returns-clause-ports
+returns-clause-ports g c =
+    let handed = c.hand_on.ensures.handed in
+    let gathered = c.in_ok-gather.ensures.gathered in
+    record {
+      readers = omega (arith, c.requires.readers, gathered.count, handed.count, c.in_ok-serves.ensures.count, ap length c.gather.ensures.same.desks);
+      writers = omega (arith, c.requires.writers, handed.writers, handed.count, c.in_ok-serves.ensures.count, ap length c.gather.ensures.same.desks);
+      threads = omega (arith, c.requires.threads, handed.count, c.in_ok-serves.ensures.count, ap length c.gather.ensures.same.desks);
+    }
+
+pub returns-clause-service : goal.returns-clause-service
+returns-clause-service g c = λ begun again s.
+    let is_safe = g.K.Keep.is_safe in
+    let times = c.args.timing.now.times in
+    let gathered_ports : Ports = record c.args.ports.now { readers = c.gather.new.readers } in
+    let handed_ports : Ports = record gathered_ports { writers = c.hand_on.new.writers } in
+    let gathered = service_gathered is_safe c.args.keep.now times begun (g.K.Keep.kept c.args.keep.now) (g.W.Write.contents c.args.output.now) c.args.server.now c.gather.new.self
+    c.args.ports.now gathered_ports c.gather.ensures.same c.in_ok-gather.ensures.gathered refl c.requires.readers s in
+    let served = c.in_ok-serves.ensures.service gathered_ports begun again gathered in
+    service_handed is_safe c.serve_group.new.keep times begun (g.K.Keep.kept c.serve_group.new.keep) (g.W.Write.contents c.serve_group.new.output) c.serve_group.new.server c.hand_on.new.self
+    gathered_ports handed_ports c.hand_on.ensures (readers_as_they_are c.gather.new.readers.items)
+    (record {
+      readers = omega (arith, c.requires.readers, c.in_ok-gather.ensures.gathered.count, c.in_ok-serves.ensures.count, ap length c.gather.ensures.same.desks);
+      writers = omega (arith, c.requires.writers, c.in_ok-serves.ensures.count, ap length c.gather.ensures.same.desks);
+      threads = omega (arith, c.requires.threads, c.in_ok-serves.ensures.count, ap length c.gather.ensures.same.desks);
+    })
+    served

@@ -1,0 +1,25 @@
+use Rattle.batch_pipes.proofs.Serviced.{service_handed}
+use Rattle.batch_pipes.proofs.serving.run_rounds.Goals as goal
+
+pub loop-init : goal.loop-init
+loop-init g c = record { ports = c.requires; goes = λ begun again s. s }
+
+pub loop-preserved : goal.loop-preserved
+loop-preserved g c = record {
+  ports = c.tend_desks-outlook.ensures.ports;
+  goes = λ begun again s.
+      service_handed g.K.Keep.is_safe c.serve_round.new.keep c.args.timing.now.times begun (g.K.Keep.kept c.serve_round.new.keep) (g.W.Write.contents c.serve_round.new.output)
+      c.serve_round.new.server c.tend_desks-outlook.new.server c.serve_round.new.ports c.tend_desks-outlook.new.ports c.tend_desks-outlook.ensures.desks c.tend_desks-outlook.ensures.readers
+      c.in_ok-serves.ensures.ports (c.in_ok-serves.ensures.service begun again (c.loop.invariant.goes begun again s));
+}
+
+pub returns-then-is_over-clause-done : goal.returns-then-is_over-clause-done
+returns-then-is_over-clause-done g c =
+    let none = c.is_over.ensures c.if-is_over.true in
+    c.tend_desks-outlook.ensures.done none.0 none.1
+
+pub returns-then-is_over-clause-service : goal.returns-then-is_over-clause-service
+returns-then-is_over-clause-service g c = λ begun again s.
+    service_handed g.K.Keep.is_safe c.serve_round.new.keep c.args.timing.now.times begun (g.K.Keep.kept c.serve_round.new.keep) (g.W.Write.contents c.serve_round.new.output)
+    c.serve_round.new.server c.tend_desks-outlook.new.server c.serve_round.new.ports c.tend_desks-outlook.new.ports c.tend_desks-outlook.ensures.desks c.tend_desks-outlook.ensures.readers
+    c.in_ok-serves.ensures.ports (c.in_ok-serves.ensures.service begun again (c.loop.invariant.goes begun again s))

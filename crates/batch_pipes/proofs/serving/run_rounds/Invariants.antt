@@ -1,0 +1,11 @@
+use Rattle.batch_pipes.specs.Kept.{ArePortsOf}
+use Rattle.batch_pipes.specs.Service.{GoesOn}
+use Rattle.batch_pipes.proofs.serving.run_rounds.Given as goal
+
+-- the rounds so far led the service on
+abbrev pub invariant-loop : goal.invariant-loop
+invariant-loop g l = record {
+  ports : ArePortsOf l.server.desks.items l.ports;
+  goes : GoesOn l.timing.times g.K.Keep.again (g.K.Keep.is_safe l.initial.keep) (g.K.Keep.is_safe l.keep) (g.K.Keep.kept l.initial.keep) (g.K.Keep.kept l.keep)
+      (g.W.Write.contents l.initial.output) (g.W.Write.contents l.output) l.initial.server l.server l.initial.ports l.ports;
+}

@@ -1,0 +1,35 @@
+use Rattle.std.proofs.Common.{arith, length-set}
+use Rattle.batch_serve_desks.specs.declared.desk.Desk.{Desk}
+use Rattle.batch_serve_desks.specs.declared.rounds.Reader.{Reader}
+use Rattle.batch_serve_desks.specs.declared.rounds.Writer.{Writer}
+use Rattle.batch_serve_desks.proofs.Gathering.{handed_more, kept_behind}
+use Rattle.batch_pipes.specs.declared.ports.DeskThreads.{DeskThreads}
+use Rattle.batch_pipes.proofs.Keeping.{done_more, readers_more}
+use Rattle.batch_pipes.proofs.tending.tend_each.Goals as goal
+
+pub loop-at-preserved : goal.loop-at-preserved
+loop-at-preserved g c =
+    let so_far = c.loop-at.invariant in
+    let i = c.loop-at.at in
+    record {
+      ports = record {
+        readers = omega (arith, length-set {A = Reader}, length-set {A = Desk}, so_far.ports.readers);
+        writers = omega (arith, length-set {A = Writer}, length-set {A = Desk}, so_far.ports.writers);
+        threads = omega (arith, length-set {A = DeskThreads}, length-set {A = Desk}, so_far.ports.threads);
+      };
+      count = omega (arith, length-set {A = Desk}, so_far.count);
+      handed = handed_more c.args.desks.now.items c.loop-at.desks.items c.args.ports.now.writers.items c.loop-at.ports.writers.items i c.index_mut-desk.result.now c.tend-other.new.desk
+          c.index_mut-writer.result.now c.tend-other.new.writer (omega (arith, so_far.count)) (omega (arith, so_far.count, so_far.ports.writers)) c.index_mut-desk.ensures.value
+          c.index_mut-writer.ensures.value c.tend-other.ensures.desk so_far.handed so_far.rest_desks so_far.rest_writers;
+      rest_desks = kept_behind c.args.desks.now.items c.loop-at.desks.items i c.tend-other.new.desk so_far.rest_desks;
+      rest_writers = kept_behind c.args.ports.now.writers.items c.loop-at.ports.writers.items i c.tend-other.new.writer so_far.rest_writers;
+      readers = readers_more c.args.ports.now.readers.items c.loop-at.ports.readers.items i c.index_mut-reader.result.now c.tend-other.new.reader
+          (omega (arith, so_far.count, so_far.ports.readers)) c.index_mut-reader.ensures.value c.tend-other.ensures.reader so_far.readers so_far.rest_readers;
+      done = done_more c.loop-at.desks.items c.loop-at.ports.readers.items i c.tend-other.new.desk c.tend-other.new.reader c.loop-at.outlook.sends c.loop-at.outlook.waits
+          c.tend-other.result.sends c.tend-other.result.waits _ _ (omega (arith, so_far.count)) (omega (arith, so_far.count, so_far.ports.readers)) c.with-outlook.ensures.sends c.with-outlook.ensures.waits
+          c.tend-other.ensures.done so_far.done;
+      rest_readers = kept_behind c.args.ports.now.readers.items c.loop-at.ports.readers.items i c.tend-other.new.reader so_far.rest_readers;
+    }
+
+pub returns-clause-done : goal.returns-clause-done
+returns-clause-done g c = λ no_sends no_waits k desk reader within. c.loop-at.invariant.done no_sends no_waits k desk reader (omega (arith, within, c.loop-at.invariant.count))

@@ -1,0 +1,37 @@
+-- private: what looking after desks leaves as it was.
+use Rattle.std.specs.Prelude.{◌≡◌, ℕ, ◌<◌, true, false, List, [], length, get_or}
+use Rattle.rtrb.specs.Ring.{received}
+use Rattle.batch_serve_desks.specs.Waits.{IsAccount}
+use Rattle.batch_serve_desks.specs.declared.desk.Desk.{Desk}
+use Rattle.batch_serve_desks.specs.declared.rounds.Reader.{Reader}
+use Rattle.batch_pipes.specs.declared.ports.Ports.{Ports}
+
+-- the desk is as it was, or cut now
+pub record IsDeskKept (old new : Desk) : Type 0 where
+  pub unit : new.unit ≡ old.unit
+  pub cut : new.waiting.is_cut ≡ false → old.waiting.is_cut ≡ false
+  pub waits : new.waiting.is_cut ≡ false → new.waiting.lines ≡ old.waiting.lines
+  pub account : (all told : List (List ℕ)) → IsAccount all told old.waiting → IsAccount all told new.waiting
+
+-- nothing was taken from the reader
+pub record IsReaderKept (old new : Reader) : Type 0 where
+  pub ring : received new.ring ≡ received old.ring
+  pub ended : new.has_ended ≡ old.has_ended
+
+-- so it is of each
+pub record AreReadersKept (old new : List Reader) : Type 0 where
+  pub count : length new ≡ length old
+  pub each : (k : ℕ) (reader : Reader) → k < length old → IsReaderKept (get_or old k reader) (get_or new k reader)
+
+-- unless it is cut, all came that the desk sends, and nothing waits for it
+abbrev pub IsDone : Desk → Reader → Type 0
+IsDone desk reader = desk.waiting.is_cut ≡ false → (reader.has_ended ≡ true) × (desk.waiting.lines ≡ [])
+
+abbrev pub AreDone : List Desk → List Reader → Type 0
+AreDone desks readers = (k : ℕ) (desk : Desk) (reader : Reader) → k < length desks → IsDone (get_or desks k desk) (get_or readers k reader)
+
+-- each desk has its rings and its threads
+pub record ArePortsOf (desks : List Desk) (ports : Ports) : Type 0 where
+  pub readers : length ports.readers.items ≡ length desks
+  pub writers : length ports.writers.items ≡ length desks
+  pub threads : length ports.threads.items ≡ length desks

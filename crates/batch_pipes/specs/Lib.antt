@@ -1,0 +1,4 @@
+pub mod Kept
+pub mod Opened
+pub mod Service
+pub mod Streams

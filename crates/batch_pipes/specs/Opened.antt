@@ -1,0 +1,50 @@
+-- private: desks whose rings are made.
+use Rattle.std.specs.Prelude.{◌≡◌, ℕ, ◌<◌, ◌+◌, List, [], ◌∷◌, ◌++◌, length, get_or, None}
+use Rattle.rtrb.specs.Ring.{received, sent}
+use Rattle.batch_desks.specs.DeskNames.{desk_names}
+use Rattle.batch_desks.specs.declared.desk.Desk as plans
+use Rattle.batch_engine.specs.View.{EngineView}
+use Rattle.batch_serve_desks.specs.declared.desk.Desk.{Desk}
+use Rattle.batch_serve_desks.specs.declared.desk_server.DeskServer.{DeskServer}
+use Rattle.batch_serve_desks.specs.declared.rounds.Reader.{Reader}
+use Rattle.batch_serve_desks.specs.declared.rounds.Writer.{Writer}
+use Rattle.batch_pipes.specs.declared.ports.Ports.{Ports}
+
+-- nothing waits, nothing came out of a ring, and nothing went into one
+pub record AreEmpty (s : DeskServer) (p : Ports) : Type 0 where
+  pub waits : (k : ℕ) (other : Desk) → k < length s.desks.items → (get_or s.desks.items k other).waiting.lines ≡ []
+  pub came : (k : ℕ) (reader : Reader) → k < length s.desks.items → received (get_or p.readers.items k reader).ring ≡ []
+  pub went : (k : ℕ) (writer : Writer) → k < length s.desks.items → sent (get_or p.writers.items k writer).ring ≡ []
+
+-- the server is over the engine, for desks of these names, before anything was served
+pub record IsOpened (engine : EngineView) (desks : List plans.Desk) (s : DeskServer) (p : Ports) : Type 0 where
+  pub engine_is : s.engine ≡ engine
+  pub names : s.names.items ≡ desk_names desks
+  pub last : s.last ≡ None
+  pub group : s.group.items ≡ []
+  pub empty : AreEmpty s p
+
+-- a desk of this name was added to the server
+pub record IsDeskAdded (name : List ℕ) (desk : Desk) (old new : DeskServer) : Type 0 where
+  pub engine : new.engine ≡ old.engine
+  pub names : new.names.items ≡ old.names.items ++ name ∷ []
+  pub last : new.last ≡ old.last
+  pub group : new.group.items ≡ old.group.items
+  pub desks : new.desks.items ≡ old.desks.items ++ desk ∷ []
+
+-- the ends of a desk's rings were added to the ports, and its threads
+pub record ArePortsAdded (reader : Reader) (writer : Writer) (before after : Ports) : Type 0 where
+  pub readers : after.readers.items ≡ before.readers.items ++ reader ∷ []
+  pub writers : after.writers.items ≡ before.writers.items ++ writer ∷ []
+  pub threads : length after.threads.items ≡ length before.threads.items + 1
+
+-- one desk more, for which nothing waits, and whose rings are new
+pub record IsOpenedOn (name : List ℕ) (old new : DeskServer) (before after : Ports) : Type 0 where
+  pub desk : Desk
+  pub reader : Reader
+  pub writer : Writer
+  pub desks : IsDeskAdded name desk old new
+  pub ports : ArePortsAdded reader writer before after
+  pub waits : desk.waiting.lines ≡ []
+  pub came : received reader.ring ≡ []
+  pub went : sent writer.ring ≡ []

@@ -1,0 +1,109 @@
+-- trusted: what rounds of serving desks come to.
+use Rattle.std.specs.Prelude.{◌≡◌, ◌⊎◌, ℕ, ◌<◌, Bool, true, false, List, [], ◌∷◌, ◌++◌, length, get_or, map, flat_map, Option, None, ⊤}
+use Rattle.std.specs.Io.KnownBytes.{Appends}
+use Rattle.batch_model.specs.Plant.{Plant}
+use Rattle.batch_engine.specs.View.{setup}
+use Rattle.batch_serve.specs.Comments.{time_text}
+use Rattle.batch_verify.specs.ClearedSet.{ClearedSet}
+use Rattle.rtrb.specs.Ring.{received, sent}
+use Rattle.batch_serve_desks.specs.Lives.{Beginning, IsLife}
+use Rattle.batch_serve_desks.specs.Rounds.{text_sent}
+use Rattle.batch_serve_desks.specs.Runs.{Run, own_text, runs_text}
+use Rattle.batch_serve_desks.specs.Served.{AreServed, AreWhole, ShowNoWant}
+use Rattle.batch_serve_desks.specs.declared.desk.Desk.{Desk}
+use Rattle.batch_serve_desks.specs.declared.desk_server.DeskServer.{DeskServer}
+use Rattle.batch_serve_desks.specs.declared.rounds.Reader.{Reader}
+use Rattle.batch_serve_desks.specs.declared.rounds.Writer.{Writer}
+use Rattle.batch_pipes.specs.declared.ports.Ports.{Ports}
+
+-- The time of turns
+
+-- a part of the record, with what stands before it
+pub record Part : Type 0 where
+  pub comment : List ℕ
+  pub text : List ℕ
+
+-- nothing, or where times are asked for the time of a turn
+abbrev pub IsTime : Bool → List ℕ → Type 0
+IsTime times comment = (comment ≡ []) ⊎ ((times ≡ true) × ((milliseconds : ℕ) × (comment ≡ time_text milliseconds)))
+
+-- so it is before each part
+abbrev pub AreTimes : Bool → List Part → Type 0
+AreTimes times [] = ⊤
+AreTimes times (p ∷ parts) = IsTime times p.comment × AreTimes times parts
+
+-- such a comment was written
+abbrev pub AppendsTime : Bool → Option (List ℕ) → Option (List ℕ) → Type 0
+AppendsTime times before after = (comment : List ℕ) × IsTime times comment × Appends before after comment
+
+-- the text is that of the parts, without their comments, and all is what they make with them
+pub record IsTimed (times : Bool) (text all : List ℕ) : Type 0 where
+  pub parts : List Part
+  pub comments : AreTimes times parts
+  pub is_text : text ≡ flat_map (λ (p : Part). p.text) parts
+  pub is_all : all ≡ flat_map (λ (p : Part). p.comment ++ p.text) parts
+
+-- known bytes grew by the text, with the times of turns in it
+pub record AppendsTimed (times : Bool) (before after : Option (List ℕ)) (text : List ℕ) : Type 0 where
+  pub all : List ℕ
+  pub appends : Appends before after all
+  pub timed : IsTimed times text all
+
+-- Rounds
+
+-- where serving began: the set, the names of the desks, where the machine stood, and what was kept and recorded; and whether the lines are
+-- served again
+pub record Opening : Type 0 where
+  pub set : ClearedSet
+  pub names : List (List ℕ)
+  pub plant : Plant
+  pub kept : List ℕ
+  pub recorded : Option (List ℕ)
+  pub again : Bool
+
+-- the same, where the times of turns stand in what is recorded
+abbrev pub beginning : Opening → Beginning
+beginning begun = record { set = begun.set; plant = begun.plant; kept = begun.kept; recorded = None; again = begun.again }
+
+-- what went into the ring of the desk's writer
+abbrev pub told_to : List Writer → ℕ → List (List ℕ)
+told_to writers desk = get_or (map (λ (w : Writer). sent w.ring) writers) desk []
+
+-- since then these runs were served, these are the answers, all of which is recorded, and kept where what keeps it has kept all so far; what
+-- each desk was told is what went into the ring of its writer, and the rest waits; and of each desk that isn't cut what was served, or is to
+-- be served next, is all that came out of the ring of its reader
+pub record IsService (times : Bool) (begun : Opening) (safe : Type 0) (kept : List ℕ) (recorded : Option (List ℕ)) (s : DeskServer) (p : Ports) : Type 0 where
+  pub runs : List Run
+  pub answers : List Run
+  pub names : s.names.items ≡ begun.names
+  pub life : IsLife (beginning begun) safe runs answers (record { kept = kept; recorded = None; told = told_to p.writers.items }) s
+  pub is_recorded : AppendsTimed times begun.recorded recorded (runs_text s.names.items None answers)
+  pub lines : (k : ℕ) (desk : Desk) (reader : Reader) → k < length s.desks.items → (get_or s.desks.items k desk).waiting.is_cut ≡ false
+      → own_text k (runs ++ s.group.items) ≡ text_sent (received (get_or p.readers.items k reader).ring)
+
+-- what was so before is so behind
+abbrev pub GoesOn : (times again : Bool) (safe_before safe_after : Type 0) (kept_before kept_after : List ℕ) (recorded_before recorded_after : Option (List ℕ))
+    (old new : DeskServer) (before after : Ports) → Type 0
+GoesOn times again safe_before safe_after kept_before kept_after recorded_before recorded_after old new before after =
+    (begun : Opening) → begun.again ≡ again → IsService times begun safe_before kept_before recorded_before old before
+    → IsService times begun safe_after kept_after recorded_after new after
+
+-- the same of a turn, which leaves the ports
+abbrev pub TurnsOn : (times again : Bool) (safe_before safe_after : Type 0) (kept_before kept_after : List ℕ) (recorded_before recorded_after : Option (List ℕ))
+    (old new : DeskServer) → Type 0
+TurnsOn times again safe_before safe_after kept_before kept_after recorded_before recorded_after old new =
+    (ports : Ports) → GoesOn times again safe_before safe_after kept_before kept_after recorded_before recorded_after old new ports ports
+
+-- Serving to its end
+
+-- runs of lines of the desks were served from the opening on, whole ones where they are served again, and these are the answers: the lines are
+-- kept, where what keeps them has kept all, and the answers are recorded, with the time of each turn where that is asked for
+pub record AreDesksServed (times : Bool) (begun : Opening) (safe : Type 0) (kept : List ℕ) (recorded : Option (List ℕ)) : Type 0 where
+  pub runs : List Run
+  pub answers : List Run
+  pub new : Plant
+  pub served : AreServed (setup begun.set) begun.plant runs answers new
+  pub whole : begun.again ≡ true → AreWhole runs
+  pub well : begun.again ≡ true → ShowNoWant answers
+  pub is_kept : safe → kept ≡ begun.kept ++ runs_text begun.names None runs
+  pub is_recorded : AppendsTimed times begun.recorded recorded (runs_text begun.names None answers)

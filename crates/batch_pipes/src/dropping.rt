@@ -1,0 +1,37 @@
+//! The lines of desks that have no output.
+ghost use Rattle.batch_serve_desks.specs.Rounds.{IsHandedOn};
+
+use crate::ports::{DeskThreads, Outlet};
+use batch_serve_desks::{Desk, Line, Writer};
+use rtrb::Consumer;
+
+/// Drops what waits for a desk that has no output.
+#[tactic(auto, using(crate::proofs::Keeping::handed_nothing))]
+pub(crate) fn drop_unseen(desk: &mut Desk, own: &mut DeskThreads, writer: &mut Writer)
+    ensures { IsHandedOn desk.old desk.new writer.old writer.new }
+{
+    if let Outlet::Nobody(ring) = &mut own.outlet {
+        drop_all(desk, writer, ring);
+    }
+}
+
+#[tactic(auto, using(crate::proofs::Keeping::handed_nothing))]
+fn drop_all(desk: &mut Desk, writer: &mut Writer, ring: &mut Consumer<Line>)
+    ensures { IsHandedOn desk.old desk.new writer.old writer.new }
+{
+    for _ in 0..u64::MAX {
+        empty(ring);
+        if desk.waiting.len() == 0 {
+            return;
+        }
+        desk.waiting.hand_on(&mut writer.ring);
+    }
+}
+
+fn empty(ring: &mut Consumer<Line>) {
+    for _ in 0..u64::MAX {
+        if ring.pop().is_err() {
+            return;
+        }
+    }
+}

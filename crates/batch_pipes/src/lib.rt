@@ -1,0 +1,27 @@
+//! Several desks over pipes: the input and the output of each in a thread of its own, and the machine in the thread that calls.
+#![tactic(auto)]
+
+mod cutting;
+mod dropping;
+mod ending;
+mod fault;
+mod flag;
+mod opening;
+mod pace;
+mod pipes;
+mod ports;
+mod reading;
+mod rest;
+mod rounds;
+mod serving;
+mod tending;
+mod times;
+mod timing;
+mod writing;
+
+pub use fault::{DesksFault, PipeFault};
+pub use pipes::Pipes;
+pub use reading::InputTask;
+pub use serving::serve_desks;
+pub use timing::Timing;
+pub use writing::OutputTask;

@@ -1,0 +1,205 @@
+//! Starting the threads of desks.
+ghost use Rattle.std.specs.Prelude.{◌≡◌, [], IfOk, OnOk};
+ghost use Rattle.rtrb.specs.Ring.{received, sent};
+ghost use Rattle.batch_pipes.specs.Kept.{ArePortsOf};
+ghost use Rattle.batch_pipes.specs.Opened.{IsDeskAdded, IsOpened, IsOpenedOn};
+
+use crate::fault::{DesksFault, PipeFault};
+use crate::flag::Flag;
+use crate::pipes::Pipes;
+use crate::ports::{Child, DeskThreads, Outlet, Ports};
+use crate::reading::{InputTask, run_input};
+use crate::writing::{OutputTask, run_output};
+use batch_desks::{Desk, Desks};
+use batch_engine::Engine;
+use batch_serve_desks::{Desk as Told, DeskServer, Reader, Writer};
+use batch_text::Name;
+use rtrb::{Consumer, RingBuffer};
+use std::alloc::{AllocError, Global};
+use std::thread;
+use std::thread::{JoinHandle, Threads};
+use std::vec::IntoIter;
+
+/// How many texts a reader may be ahead of the machine.
+const TEXTS: usize = 16;
+
+/// How many lines may be on their way to a writer, beside those that wait.
+const LINES: usize = 1_024;
+
+/// Makes a server of the desks over the machine, and starts their threads. The fronts are what is written to the desks before all else,
+/// in their order. Where a thread can't be started those before it find no other end of their rings, and end.
+#[tactic(auto, using(crate::proofs::RingsMade::opened_none))]
+pub(crate) fn open<T: Threads, P: Pipes + Send + Drop + 'static>(
+    threads: &T,
+    alloc: Global,
+    pipes: &P,
+    engine: Engine,
+    desks: Desks,
+    fronts: Vec<Vec<u8>>,
+) -> Result<(DeskServer, Ports), DesksFault>
+    ensures ports { IfOk result (λ opened. ArePortsOf opened.0.desks.items opened.1) }
+    ensures opened { IfOk result (λ opened. IsOpened engine desks.desks.items opened.0 opened.1) }
+{
+    let mut server = DeskServer::new(alloc, engine, Vec::new(alloc), Vec::new(alloc));
+    let mut ports = Ports::new(alloc);
+    open_each(
+        threads,
+        alloc,
+        pipes,
+        desks,
+        fronts,
+        &mut server,
+        &mut ports,
+    )?;
+    Ok((server, ports))
+}
+
+/// Adds the desks to a server that has none, and starts their threads.
+fn open_each<T: Threads, P: Pipes + Send + Drop + 'static>(
+    threads: &T,
+    alloc: Global,
+    pipes: &P,
+    desks: Desks,
+    fronts: Vec<Vec<u8>>,
+    server: &mut DeskServer,
+    ports: &mut Ports,
+) -> Result<(), DesksFault>
+    requires ports { ArePortsOf server.old.desks.items ports.old }
+    requires opened { IsOpened server.old.engine [] server.old ports.old }
+    ensures ports { OnOk result (ArePortsOf server.new.desks.items ports.new) }
+    ensures opened { OnOk result (IsOpened server.old.engine desks.desks.items server.new ports.new) }
+{
+    let Desks { desks } = desks;
+    let mut fronts = fronts.into_iter();
+    for desk in desks {
+        let front = next_front(alloc, &mut fronts);
+        open_desk(threads, alloc, pipes, desk, front, server, ports)?;
+    }
+    Ok(())
+}
+
+/// Adds a desk to the server, and starts its threads.
+fn open_desk<T: Threads, P: Pipes + Send + Drop + 'static>(
+    threads: &T,
+    alloc: Global,
+    pipes: &P,
+    desk: Desk,
+    front: Vec<u8>,
+    server: &mut DeskServer,
+    ports: &mut Ports,
+) -> Result<(), DesksFault>
+    ensures { OnOk result (IsOpenedOn desk.name server.old server.new ports.old ports.new) }
+{
+    let Desk {
+        name,
+        input,
+        output,
+        unit,
+        stays,
+        lag,
+    } = desk;
+    let stop = Flag::new(alloc)?;
+    // Nobody is slow where there is no output.
+    let lag = if output.is_some() { lag } else { usize::MAX };
+    let (reader, input) = open_input(threads, alloc, pipes, input, stays, &stop)?;
+    let (writer, outlet) = open_output(threads, alloc, pipes, output, front, &stop)?;
+    let told = Told::new(alloc, unit, lag);
+    add_desk(server, name, told)?;
+    ports.add(reader, writer, DeskThreads::new(input, outlet, stop))?;
+    Ok(())
+}
+
+/// Adds a desk to the server.
+///
+/// The error is that there is no memory for it.
+fn add_desk(server: &mut DeskServer, name: Name, desk: Told) -> Result<(), AllocError>
+    ensures { OnOk result (IsDeskAdded name desk server.old server.new) }
+{
+    server.names.push(name)?;
+    server.desks.push(desk)?;
+    Ok(())
+}
+
+/// What is written to the next desk before all else; nothing where no front is left.
+fn next_front(alloc: Global, fronts: &mut IntoIter<Vec<u8>>) -> Vec<u8> {
+    match fronts.next() {
+        Some(front) => front,
+        None => Vec::new(alloc),
+    }
+}
+
+/// The ring of a desk's lines, and the thread that reads them, if the desk has an input.
+fn open_input<T: Threads, P: Pipes + Send + Drop + 'static>(
+    threads: &T,
+    alloc: Global,
+    pipes: &P,
+    path: Option<String>,
+    stays: bool,
+    stop: &Flag,
+) -> Result<(Reader, Option<Child>), DesksFault>
+    ensures { IfOk result (λ opened. received opened.0.ring ≡ []) }
+{
+    let (producer, consumer) = RingBuffer::new(alloc, TEXTS)?;
+    let mut reader = Reader {
+        ring: consumer,
+        has_ended: true,
+        rests: false,
+    };
+    let Some(path) = path else {
+        return Ok((reader, None));
+    };
+    reader.has_ended = false;
+    let (began, done) = (Flag::new(alloc)?, Flag::new(alloc)?);
+    let own = pipes.another();
+    let task = InputTask {
+        path,
+        stays,
+        ring: producer,
+        stop: stop.another()?,
+        done: done.another()?,
+    };
+    match thread::spawn(threads, move || run_input(alloc, own, task)) {
+        Ok(handle) => Ok((reader, Some(child_of(handle, began, done)))),
+        Err(_) => Err(DesksFault::Thread),
+    }
+}
+
+/// The ring of the lines that a desk is told, and the thread that writes them behind the front, if the desk has an output.
+fn open_output<T: Threads, P: Pipes + Send + Drop + 'static>(
+    threads: &T,
+    alloc: Global,
+    pipes: &P,
+    path: Option<String>,
+    front: Vec<u8>,
+    stop: &Flag,
+) -> Result<(Writer, Outlet), DesksFault>
+    ensures { IfOk result (λ opened. sent opened.0.ring ≡ []) }
+{
+    let (producer, consumer) = RingBuffer::new(alloc, LINES)?;
+    let writer = Writer { ring: producer };
+    let Some(path) = path else {
+        return Ok((writer, Outlet::Nobody(consumer)));
+    };
+    let (began, done) = (Flag::new(alloc)?, Flag::new(alloc)?);
+    let own = pipes.another();
+    let task = OutputTask {
+        path,
+        front,
+        ring: consumer,
+        stop: stop.another()?,
+        began: began.another()?,
+        done: done.another()?,
+    };
+    match thread::spawn(threads, move || run_output(alloc, own, task)) {
+        Ok(handle) => Ok((writer, Outlet::Thread(child_of(handle, began, done)))),
+        Err(_) => Err(DesksFault::Thread),
+    }
+}
+
+fn child_of(handle: JoinHandle<Result<(), PipeFault>>, began: Flag, done: Flag) -> Child {
+    Child {
+        handle,
+        began,
+        done,
+    }
+}

@@ -1,0 +1,104 @@
+//! The thread of a desk's input.
+ghost use Rattle.std.specs.Prelude.{◌<◌, length, is_ok};
+ghost use Rattle.rtrb.specs.Ring.{sent};
+ghost use Rattle.batch_pipes.specs.Streams.{HandsOver};
+
+use crate::fault::PipeFault;
+use crate::flag::Flag;
+use crate::pipes::Pipes;
+use crate::rest::DeskRest;
+use batch_serve::CleanReader;
+use batch_serve_desks::{Pause, Sent, read_lines};
+use batch_streams::Noted;
+use rtrb::Producer;
+use std::alloc::Global;
+use std::io::Read;
+
+/// How many bytes are handed over at once, at most. A reader of clean lines needs room for a line that is too long.
+const ROOM: usize = 4_096;
+
+/// What the thread of a desk's input is given.
+#[derive(Drop)]
+pub struct InputTask {
+    pub(crate) path: String,
+    pub(crate) stays: bool,
+    pub(crate) ring: Producer<Sent>,
+    pub(crate) stop: Flag,
+    pub(crate) done: Flag,
+}
+
+impl InputTask {
+    /// The path of the input.
+    pub fn path(&self) -> &str {
+        self.path.as_str()
+    }
+
+    /// Whether the input doesn't end when its writer leaves.
+    pub fn stays(&self) -> bool {
+        self.stays
+    }
+
+    /// Hands over the lines of the input, to its end.
+    ///
+    /// The errors are that it was told to end, that the input failed, and that there is no memory.
+    #[tactic(auto, using(crate::proofs::Streaming::nothing_handed))]
+    pub fn read<R: Read + Drop, S: Pause + Drop>(
+        &mut self,
+        alloc: Global,
+        input: R,
+        rest: S,
+    ) -> Result<(), PipeFault>
+        ensures { HandsOver (is_ok result) (R.remaining input) (sent self.old.ring) (sent self.new.ring) }
+    {
+        let mut rest = DeskRest {
+            rest,
+            stop: &self.stop,
+        };
+        let Ok(mut room) = vec![in alloc; 0u8; ROOM] else {
+            return Err(PipeFault::Memory);
+        };
+        hand_over(alloc, input, &mut room, &mut self.ring, &mut rest)
+    }
+}
+
+/// Hands over the lines of an input, to its end, through this room.
+fn hand_over<R: Read + Drop, S: Pause>(
+    alloc: Global,
+    input: R,
+    room: &mut [u8],
+    ring: &mut Producer<Sent>,
+    rest: &mut S,
+) -> Result<(), PipeFault>
+    requires { 0 < length room.old }
+    ensures { HandsOver (is_ok result) (R.remaining input) (sent ring.old) (sent ring.new) }
+{
+    let clean = CleanReader::new(input);
+    let mut lines = Noted::new(clean);
+    if read_lines(alloc, &mut lines, room, ring, rest) {
+        return Ok(());
+    }
+    Err(fault_of(&lines, rest))
+}
+
+/// Why the input ended before its time.
+fn fault_of<R: Read, S: Pause>(lines: &Noted<CleanReader<R>>, rest: &mut S) -> PipeFault {
+    if rest.is_over() {
+        return PipeFault::Over;
+    }
+    match lines.failure() {
+        Some(error) => PipeFault::InputFailed(error),
+        None => PipeFault::Memory,
+    }
+}
+
+/// Opens the input and hands over its lines, to its end.
+pub(crate) fn run_input<P: Pipes + Drop>(
+    alloc: Global,
+    pipes: P,
+    task: InputTask,
+) -> Result<(), PipeFault> {
+    let mut task = task;
+    let ended = pipes.run_input(alloc, &mut task);
+    task.done.raise();
+    ended
+}

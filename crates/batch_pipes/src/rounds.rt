@@ -1,0 +1,53 @@
+//! Rounds: what came is served, and what waits goes on.
+ghost use Rattle.std.specs.Prelude.{◌≡◌, length, OnOk};
+ghost use Rattle.batch_pipes.specs.Kept.{ArePortsOf};
+ghost use Rattle.batch_pipes.specs.Service.{GoesOn, TurnsOn};
+
+use crate::fault::DesksFault;
+use crate::ports::Ports;
+use crate::times::write_time;
+use crate::timing::Timing;
+use batch_serve_desks::{DeskServer, Keep};
+use std::alloc::Global;
+use std::io::Write;
+use std::time::Clock;
+
+/// Takes what the readers handed over, serves it, and hands on what waits. It gives whether there was anything to serve.
+pub(crate) fn serve_round<C: Clock, K: Keep, W: Write>(
+    alloc: Global,
+    server: &mut DeskServer,
+    ports: &mut Ports,
+    timing: &Timing<C>,
+    keep: &mut K,
+    output: &mut W,
+) -> Result<bool, DesksFault>
+    requires { ArePortsOf server.old.desks.items ports.old }
+    ensures ports { OnOk result (ArePortsOf server.new.desks.items ports.new) }
+    ensures service { OnOk result (GoesOn timing.now.times K.again (K.is_safe keep.old) (K.is_safe keep.new) (K.kept keep.old) (K.kept keep.new)
+        (W.contents output.old) (W.contents output.new) server.old server.new ports.old ports.new) }
+{
+    server.gather(&mut ports.readers)?;
+    let serves = serve_group(alloc, server, timing, keep, output)?;
+    server.hand_on(&mut ports.writers);
+    Ok(serves)
+}
+
+/// Makes a turn, if there is anything to serve, which it gives.
+fn serve_group<C: Clock, K: Keep, W: Write>(
+    alloc: Global,
+    server: &mut DeskServer,
+    timing: &Timing<C>,
+    keep: &mut K,
+    output: &mut W,
+) -> Result<bool, DesksFault>
+    ensures count { OnOk result (length server.new.desks.items ≡ length server.old.desks.items) }
+    ensures service { OnOk result (TurnsOn timing.now.times K.again (K.is_safe keep.old) (K.is_safe keep.new) (K.kept keep.old) (K.kept keep.new)
+        (W.contents output.old) (W.contents output.new) server.old server.new) }
+{
+    if server.group.is_empty() {
+        return Ok(false);
+    }
+    write_time(timing, output)?;
+    server.turn(alloc, keep, output)?;
+    Ok(true)
+}

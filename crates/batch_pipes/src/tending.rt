@@ -1,0 +1,152 @@
+//! Looking after the desks between turns.
+ghost use Rattle.std.specs.Prelude.{◌≡◌, ◌||◌, length, true, false, IsTrue};
+ghost use Rattle.batch_serve_desks.specs.Rounds.{AreHandedOn, IsHandedOn, IsHandedOver};
+ghost use Rattle.batch_pipes.specs.Kept.{AreDone, AreReadersKept, ArePortsOf, IsDone, IsReaderKept};
+
+use crate::cutting::{cut_if_failed, cut_if_stalled, tell_cut};
+use crate::dropping::drop_unseen;
+use crate::pace::lines_left;
+use crate::ports::{DeskThreads, Ports};
+use batch_serve_desks::{Desk, DeskServer, Reader, Writer};
+use batch_text::Name;
+use std::alloc::Global;
+use std::io::Write;
+use std::thread::Threads;
+
+/// What is still to come.
+#[derive(Clone, Copy)]
+pub(crate) struct Outlook {
+    /// A desk may send more.
+    pub(crate) sends: bool,
+    /// Lines are on their way to a desk.
+    pub(crate) waits: bool,
+    /// They are, and its output goes on.
+    pub(crate) goes: bool,
+}
+
+impl Outlook {
+    /// Nothing.
+    pub(crate) fn nothing() -> Outlook {
+        Outlook {
+            sends: false,
+            waits: false,
+            goes: false,
+        }
+    }
+
+    /// Whether nothing is still to come.
+    pub(crate) fn is_over(self) -> bool
+        ensures { IsTrue result → (self.sends ≡ false) × (self.waits ≡ false) }
+    {
+        !self.sends && !self.waits
+    }
+
+    fn with(self, other: Outlook) -> Outlook
+        ensures sends { result.sends ≡ (self.sends || other.sends) }
+        ensures waits { result.waits ≡ (self.waits || other.waits) }
+    {
+        Outlook {
+            sends: self.sends || other.sends,
+            waits: self.waits || other.waits,
+            goes: self.goes || other.goes,
+        }
+    }
+}
+
+/// Cuts the desks whose pipes failed, and at the end those that take nothing, and tells which are cut.
+pub(crate) fn tend_desks<T: Threads, E: Write>(
+    threads: &T,
+    alloc: Global,
+    server: &mut DeskServer,
+    ports: &mut Ports,
+    ends: bool,
+    errors: &mut E,
+) -> Outlook
+    requires { ArePortsOf server.old.desks.items ports.old }
+    ensures ports { ArePortsOf server.new.desks.items ports.new }
+    ensures desks { IsHandedOver server.old server.new ports.old.writers.items ports.new.writers.items }
+    ensures readers { AreReadersKept ports.old.readers.items ports.new.readers.items }
+    ensures done { result.sends ≡ false → result.waits ≡ false → AreDone server.new.desks.items ports.new.readers.items }
+{
+    tend_each(
+        threads,
+        alloc,
+        &server.names,
+        &mut server.desks,
+        ports,
+        ends,
+        errors,
+    )
+}
+
+fn tend_each<T: Threads, E: Write>(
+    threads: &T,
+    alloc: Global,
+    names: &[Name],
+    desks: &mut Vec<Desk>,
+    ports: &mut Ports,
+    ends: bool,
+    errors: &mut E,
+) -> Outlook
+    requires { ArePortsOf desks.old.items ports.old }
+    ensures ports { ArePortsOf desks.new.items ports.new }
+    ensures desks { AreHandedOn desks.old.items desks.new.items ports.old.writers.items ports.new.writers.items }
+    ensures readers { AreReadersKept ports.old.readers.items ports.new.readers.items }
+    ensures done { result.sends ≡ false → result.waits ≡ false → AreDone desks.new.items ports.new.readers.items }
+{
+    let mut outlook = Outlook::nothing();
+    for at in 0..desks.len() {
+        let own = &mut ports.threads[at];
+        let reader = &mut ports.readers[at];
+        let writer = &mut ports.writers[at];
+        let desk = &mut desks[at];
+        let other = tend(threads, desk, own, reader, writer, ends);
+        tell_cut(alloc, desk, names.get(at), own, errors);
+        outlook = outlook.with(other);
+    }
+    outlook
+}
+
+/// Looks after one desk, and gives what is still to come of it. While lines are on their way to it, it isn't read, unless its output
+/// takes nothing for long.
+fn tend<T: Threads>(
+    threads: &T,
+    desk: &mut Desk,
+    own: &mut DeskThreads,
+    reader: &mut Reader,
+    writer: &mut Writer,
+    ends: bool,
+) -> Outlook
+    ensures desk { IsHandedOn desk.old desk.new writer.old writer.new }
+    ensures reader { IsReaderKept reader.old reader.new }
+    ensures done { result.sends ≡ false → result.waits ≡ false → IsDone desk.new reader.new }
+{
+    drop_unseen(desk, own, writer);
+    let left = lines_left(desk, writer);
+    own.pace.note(left);
+    cut_if_failed(threads, desk, own, reader);
+    cut_if_stalled(desk, own, ends);
+    reader.rests = is_to_rest(desk, own);
+    outlook_of(desk, own, reader, left)
+}
+
+/// Whether a desk isn't to be read for now.
+fn is_to_rest(desk: &Desk, own: &DeskThreads) -> bool {
+    desk.waiting.len() > 0 && !own.pace.is_stalled()
+}
+
+/// What is still to come of a desk to which so many lines are on their way.
+fn outlook_of(desk: &Desk, own: &DeskThreads, reader: &Reader, left: usize) -> Outlook
+    ensures sends { result.sends ≡ false → desk.now.waiting.is_cut ≡ false → reader.now.has_ended ≡ true }
+    ensures waits { result.waits ≡ false → desk.now.waiting.is_cut ≡ false → left ≡ 0 }
+{
+    if desk.is_cut() {
+        return Outlook::nothing();
+    }
+    let waits = left > 0;
+    Outlook {
+        sends: !reader.has_ended,
+        waits,
+        goes: waits && !own.pace.is_stalled(),
+    }
+}

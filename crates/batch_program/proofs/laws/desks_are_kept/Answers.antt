@@ -1,0 +1,5 @@
+use Rattle.batch_program.proofs.DesksRecalled.{desks_are_kept}
+use Rattle.batch_program.proofs.laws.desks_are_kept.Goals as goal
+
+pub returns : goal.returns
+returns g c = desks_are_kept c.desks_are_told_again.ensures _ _ _

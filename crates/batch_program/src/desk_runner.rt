@@ -1,0 +1,41 @@
+//! Who serves desks.
+ghost use Rattle.std.specs.Prelude.{OnOk};
+ghost use Rattle.batch_desks.specs.DeskNames.{desk_names};
+ghost use Rattle.batch_engine.specs.View.{plant_of};
+ghost use Rattle.batch_pipes.specs.Service.{AreDesksServed};
+
+use batch_desks::Desks;
+use batch_engine::Engine;
+use batch_pipes::DesksFault;
+use batch_serve_desks::Keep;
+use std::alloc::Global;
+use std::io::Write;
+
+/// Who serves desks: the program by threads of its process, and a test as it likes.
+pub trait DeskRunner {
+    /// Serves the desks by the engine until each that has an input has ended or is cut. The fronts are written to the outputs of the desks
+    /// before all else, one to each in order. The lines of each turn are kept before they are answered. The record goes to the output, with
+    /// the time of each turn where that is asked for; which desks are cut is told on the errors. Gives how many batches are neither
+    /// complete, stopped nor aborted.
+    ///
+    /// The errors are those of [`serve_desks`](batch_pipes::serve_desks).
+    fn serve_desks<K: Keep, W: Write, E: Write>(
+        &self,
+        alloc: Global,
+        engine: Engine,
+        desks: Desks,
+        fronts: Vec<Vec<u8>>,
+        times: bool,
+        keep: &mut K,
+        output: &mut W,
+        errors: &mut E,
+    ) -> Result<usize, DesksFault>
+        ensures { OnOk result (AreDesksServed times (record {
+          set = engine.cleared;
+          names = desk_names desks.desks.items;
+          plant = plant_of engine;
+          kept = K.kept keep.old;
+          recorded = W.contents output.old;
+          again = K.again;
+        }) (K.is_safe keep.new) (K.kept keep.new) (W.contents output.new)) };
+}

@@ -1,0 +1,135 @@
+//! Serving desks, and how that ends.
+ghost use Rattle.std.specs.Prelude.{◌≡◌, ℕ, Result, IfOk, option_map, string_bytes};
+ghost use Rattle.batch_desks.specs.DeskNames.{desk_names};
+ghost use Rattle.batch_pipes.specs.declared.fault.DesksFault as faults;
+ghost use Rattle.batch_program.specs.DeskRuns.{AreDesksRun, IsDesksRecord, status_of_desks, status_of_fault};
+
+use crate::desk_keeping::keep_desk_set;
+use crate::desk_runner::DeskRunner;
+use crate::journals::Journals;
+use crate::program::tell_left;
+use batch_commands::{DeskSet, FILE_FAULT, NO_MEMORY, OUT_OF_MEMORY, SUCCESS, complain};
+use batch_engine::Engine;
+use batch_pipes::DesksFault;
+use batch_serve_desks::{NoJournal, service_is_safe};
+use batch_streams::Noted;
+use std::alloc::Global;
+use std::io;
+use std::io::Write;
+use thiserror::Error;
+
+/// Why serving stopped, and the reason that the output gave.
+#[derive(Debug, Error, Drop)]
+#[error("{fault}: {reason}")]
+struct DesksStop {
+    fault: DesksFault,
+    reason: io::Error,
+}
+
+/// Serves the desks over their set, with a journal of their lines in the file at the path where there is one, and gives the exit status.
+pub(crate) fn run_desks<J: Journals, P: DeskRunner, W: Write, E: Write>(
+    alloc: Global,
+    runner: &P,
+    served: DeskSet,
+    quiet: bool,
+    journal: Option<String>,
+    times: bool,
+    journals: &J,
+    output: &mut Noted<W>,
+    errors: &mut E,
+) -> u8
+    ensures { AreDesksRun (record {
+      disks = record {
+        File = J.File;
+        is_disk = J.File.is_disk;
+        durable = J.File.durable;
+        seen = J.File.seen;
+        given = J.File.given;
+        moment = J.File.moment;
+        left_since = J.File.left_since;
+      };
+      opens = J.opens journals.now;
+    }) served.digested.set served.digested.documents.text (desk_names served.desks.desks.items) (option_map string_bytes journal) times
+        (record { before = W.contents output.old.stream; after = W.contents output.new.stream }) result }
+{
+    match journal {
+        Some(path) => keep_desk_set(
+            alloc, runner, served, quiet, &path, times, journals, output, errors,
+        ),
+        None => serve_desk_set(alloc, runner, served, quiet, times, output, errors),
+    }
+}
+
+/// Serves the desks over their set without a journal.
+fn serve_desk_set<P: DeskRunner, W: Write, E: Write>(
+    alloc: Global,
+    runner: &P,
+    served: DeskSet,
+    quiet: bool,
+    times: bool,
+    output: &mut Noted<W>,
+    errors: &mut E,
+) -> u8
+    ensures { (ended : Result ℕ faults.DesksFault) × IfOk ended (λ left. IsDesksRecord times served.digested.set (desk_names served.desks.desks.items)
+        (record { before = W.contents output.old.stream; after = W.contents output.new.stream })) × (result ≡ status_of_desks ended) }
+{
+    let DeskSet { desks, digested } = served;
+    service_is_safe(&digested.set);
+    let Ok(engine) = Engine::new(alloc, digested.set) else {
+        return complain(errors, OUT_OF_MEMORY, NO_MEMORY);
+    };
+    let ended = runner.serve_desks(
+        alloc,
+        engine,
+        desks,
+        Vec::new(alloc),
+        times,
+        &mut NoJournal,
+        output,
+        errors,
+    );
+    tell_ended(alloc, quiet, ended, output.failure(), errors)
+}
+
+/// Tells how many batches are left, or why serving stopped, with the reason that the output gave, and gives the exit status.
+pub(crate) fn tell_ended<E: Write>(
+    alloc: Global,
+    quiet: bool,
+    ended: Result<usize, DesksFault>,
+    reason: Option<io::Error>,
+    errors: &mut E,
+) -> u8
+    ensures { result ≡ status_of_desks ended }
+{
+    match ended {
+        Ok(left) => {
+            tell_left(alloc, quiet, left, errors);
+            SUCCESS
+        }
+        Err(fault) => tell_fault(fault, reason, errors),
+    }
+}
+
+/// Tells why serving stopped, and gives the exit status.
+fn tell_fault<E: Write>(fault: DesksFault, reason: Option<io::Error>, errors: &mut E) -> u8
+    ensures { result ≡ status_of_fault fault }
+{
+    let status = desks_status(fault);
+    match (fault, reason) {
+        (DesksFault::Record, Some(reason)) => complain(errors, DesksStop { fault, reason }, status),
+        _ => complain(errors, fault, status),
+    }
+}
+
+/// The exit status after a fault.
+fn desks_status(fault: DesksFault) -> u8
+    ensures { result ≡ status_of_fault fault }
+{
+    match fault {
+        DesksFault::Memory => NO_MEMORY,
+        DesksFault::Thread => NO_MEMORY,
+        DesksFault::Journal => FILE_FAULT,
+        DesksFault::Record => FILE_FAULT,
+        DesksFault::RoundsOut => FILE_FAULT,
+    }
+}

@@ -1,0 +1,12 @@
+pub mod Accounts
+pub mod Sorted
+pub mod TextLines
+pub mod RunsServed
+pub mod Joining
+pub mod Recorded
+pub mod Remarked
+pub mod Telling
+pub mod GoingOn
+pub mod LivesKept
+pub mod Gathering
+pub mod Threading

@@ -1,0 +1,18 @@
+use Rattle.std.proofs.Common.{◌≡◌, ◌<◌, ◌≤◌, ℕ, false, length, get_or}
+use Rattle.batch_serve_desks.specs.Rounds.{IsGathered}
+use Rattle.batch_serve_desks.specs.Runs.{own_text}
+use Rattle.batch_serve_desks.specs.Turns.{IsSameBut}
+use Rattle.batch_serve_desks.specs.declared.desk.Desk.{Desk}
+use Rattle.batch_serve_desks.specs.declared.rounds.Reader.{Reader}
+use Rattle.batch_serve_desks.proofs.desk_server.DeskServer.gather.Given as goal
+
+-- of the desks before this one lines were taken, and the others are as they were
+abbrev pub invariant-loop-desk : goal.invariant-loop-desk
+invariant-loop-desk l = record {
+  same : IsSameBut l.initial.self l.self;
+  count : length l.readers.items ≡ length l.initial.readers.items;
+  gathered : (k : ℕ) (reader : Reader) (other : Desk) → k < l.desk → (get_or l.initial.self.desks.items k other).waiting.is_cut ≡ false
+      → IsGathered k (get_or l.initial.readers.items k reader) (get_or l.readers.items k reader) l.initial.self.group.items l.self.group.items;
+  rest : (k : ℕ) (reader : Reader) → l.desk ≤ k → get_or l.readers.items k reader ≡ get_or l.initial.readers.items k reader;
+  own : (k : ℕ) → l.desk ≤ k → own_text k l.self.group.items ≡ own_text k l.initial.self.group.items;
+}

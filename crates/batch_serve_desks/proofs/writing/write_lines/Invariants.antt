@@ -1,0 +1,7 @@
+use Rattle.rtrb.specs.Ring.{received}
+use Rattle.batch_serve_desks.specs.Threads.{WritesOn}
+use Rattle.batch_serve_desks.proofs.writing.write_lines.Given as goal
+
+-- all that was received so far was written
+abbrev pub invariant-loop : goal.invariant-loop
+invariant-loop g l = WritesOn (received l.initial.ring) (received l.ring) (g.W.Write.contents l.initial.output) (g.W.Write.contents l.output)

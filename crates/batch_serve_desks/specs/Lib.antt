@@ -1,0 +1,16 @@
+pub mod Waits
+pub mod RowsOfWaits
+pub mod Dues
+pub mod RowsOfDue
+pub mod Lines
+pub mod Runs
+pub mod Told
+pub mod Served
+pub mod Turns
+pub mod Joined
+pub mod Recorded
+pub mod GoingOn
+pub mod Lives
+pub mod Rounds
+pub mod Threads
+pub mod Pieces

@@ -1,0 +1,16 @@
+-- surface: what has come to wait for desks that were told of answers.
+use Rattle.std.specs.Prelude.{◌≡◌, ℕ, ◌<◌, false, List, ◌++◌, length, get_or}
+use Rattle.batch_serve_desks.specs.Runs.{Run, due_of}
+use Rattle.batch_serve_desks.specs.Waits.{IsAccount}
+use Rattle.batch_serve_desks.specs.declared.desk.Desk.{Desk}
+
+-- whatever came and went before, the lines that the desk at this place is due of the answers came now
+pub record IsTold (desk : ℕ) (answers : List Run) (old new : Desk) : Type 0 where
+  pub unit : new.unit ≡ old.unit
+  pub cut : new.waiting.is_cut ≡ false → old.waiting.is_cut ≡ false
+  pub account : (all told : List (List ℕ)) → IsAccount all told old.waiting → IsAccount (all ++ due_of desk old.unit answers) told new.waiting
+
+-- each is told
+pub record AreTold (answers : List Run) (old new : List Desk) : Type 0 where
+  pub count : length new ≡ length old
+  pub each : (desk : ℕ) (other : Desk) → desk < length old → IsTold desk answers (get_or old desk other) (get_or new desk other)

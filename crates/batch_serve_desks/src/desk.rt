@@ -1,0 +1,112 @@
+//! A desk: what it is due, and what of that waits for it.
+ghost use Rattle.std.specs.Prelude.{◌≡◌, ◌<◌, List, ℕ, [], ◌∷◌, ◌++◌, length, filter, position, false, IfSome};
+ghost use Rattle.batch_wire.specs.Transcript.{whole_lines};
+ghost use Rattle.batch_serve_desks.specs.Dues.{is_due};
+ghost use Rattle.batch_serve_desks.specs.Lines.{is_feed};
+ghost use Rattle.batch_serve_desks.specs.Waits.{IsAccount, nothing_waits};
+ghost use Rattle.batch_serve_desks.specs.Told.{AreTold, IsTold};
+
+use crate::fault::CutReason;
+use crate::line::Line;
+use crate::run::Run;
+use crate::sorting::is_due;
+use crate::waiting::Waiting;
+use batch_text::Name;
+use std::alloc::Global;
+
+/// A desk, which is a console or the link of a unit, without its paths and its threads.
+#[derive(Drop)]
+pub struct Desk {
+    /// The unit of which it sees the starts and sends. A console, which has none, sees each move.
+    pub unit: Option<Name>,
+    /// What waits for it.
+    pub waiting: Waiting<Line>,
+    /// Why it was cut, where that was done by those who tell it.
+    pub why: Option<CutReason>,
+}
+
+impl Desk {
+    /// For which so many lines may wait.
+    pub fn new(alloc: Global, unit: Option<Name>, lag: usize) -> Desk
+        ensures unit { result.unit ≡ unit }
+        ensures waiting { result.waiting ≡ nothing_waits lag }
+        ensures why { result.why ≡ None }
+    {
+        Desk {
+            unit,
+            waiting: Waiting::new(alloc, lag),
+            why: None,
+        }
+    }
+
+    /// Whether it is cut. Then nothing waits for it, and what it sends is dropped.
+    pub fn is_cut(&self) -> bool
+        ensures { result ≡ self.now.waiting.is_cut }
+    {
+        self.waiting.is_cut()
+    }
+
+    /// Has a line wait, if it is due. Where there is no memory for it the desk is cut.
+    fn tell_line(&mut self, alloc: Global, line: &[u8], is_own: bool)
+        ensures unit { self.new.unit ≡ self.old.unit }
+        ensures cut { self.new.waiting.is_cut ≡ false → self.old.waiting.is_cut ≡ false }
+        ensures account { (all told : List (List ℕ)) → IsAccount all told self.old.waiting
+            → IsAccount (all ++ filter (is_due is_own self.old.unit) (line.now ∷ [])) told self.new.waiting }
+    {
+        if !is_due(line, is_own, &self.unit) {
+            return;
+        }
+        match Line::new(alloc, line) {
+            Ok(copy) => {
+                if self.waiting.push(copy).is_err() {
+                    self.why = Some(CutReason::Memory);
+                }
+            }
+            Err(_) => {
+                self.waiting.cut();
+                self.why = Some(CutReason::Memory);
+            }
+        }
+    }
+
+    /// Has those lines of the text wait that it is due, which answer its own or another's.
+    fn tell_text(&mut self, alloc: Global, text: &[u8], is_own: bool)
+        ensures unit { self.new.unit ≡ self.old.unit }
+        ensures cut { self.new.waiting.is_cut ≡ false → self.old.waiting.is_cut ≡ false }
+        ensures account { (all told : List (List ℕ)) → IsAccount all told self.old.waiting
+            → IsAccount (all ++ filter (is_due is_own self.old.unit) (whole_lines text.now)) told self.new.waiting }
+    {
+        let mut rest = text;
+        while let Some(at) = line_feed(rest) {
+            self.tell_line(alloc, &rest[..at], is_own);
+            rest = &rest[at + 1..];
+        }
+    }
+
+    /// Has those lines of the answers wait that it is due, as the desk at this place.
+    pub fn tell(&mut self, alloc: Global, answers: &[Run], desk: usize)
+        ensures { IsTold desk answers.now self.old self.new }
+    {
+        for answer in answers {
+            let is_own = answer.desk() == desk;
+            self.tell_text(alloc, answer.text(), is_own);
+        }
+    }
+}
+
+/// Tells each desk of the answers.
+pub fn tell_each(alloc: Global, desks: &mut Vec<Desk>, answers: &[Run])
+    ensures { AreTold answers.now desks.old.items desks.new.items }
+{
+    for desk in 0..desks.len() {
+        desks[desk].tell(alloc, answers, desk);
+    }
+}
+
+/// Where the first line feed stands.
+fn line_feed(text: &[u8]) -> Option<usize>
+    ensures value { result ≡ position is_feed text.now }
+    ensures within { IfSome result (λ at. at < length text.now) }
+{
+    text.iter().position(|byte| *byte == b'\n')
+}

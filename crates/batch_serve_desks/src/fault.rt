@@ -1,0 +1,62 @@
+//! What goes wrong.
+ghost use Rattle.std.specs.Prelude.{◌≡◌};
+
+use crate::keep::KeepFault;
+use batch_wire::WriteFault;
+use std::alloc::AllocError;
+use thiserror::Error;
+
+/// Why a desk is cut by those who tell it.
+#[derive(Clone, Copy, Debug, Error)]
+pub enum CutReason {
+    /// More lines waited for it than may.
+    #[error("too many lines wait for it")]
+    Lag,
+    /// There was no memory for a line that is to wait.
+    #[error("there is no memory for a line that waits for it")]
+    Memory,
+}
+
+/// Why a turn ended before its desks were told. Serving must end then.
+#[derive(Clone, Copy, Debug, Error)]
+pub enum TurnFault {
+    /// There was no memory.
+    #[error("out of memory")]
+    Memory,
+    /// The lines couldn't be kept.
+    #[error("the journal can't be written")]
+    Journal,
+    /// The record couldn't be written.
+    #[error("the record can't be written")]
+    Record,
+}
+
+impl From<AllocError> for TurnFault {
+    ghost use Rattle.batch_serve_desks.specs.declared.fault.TurnFault.TheVariants as faults;
+
+    ghost from_gives = { λ _ fault. fault ≡ faults.Memory };
+
+    fn from(_error: AllocError) -> TurnFault {
+        TurnFault::Memory
+    }
+}
+
+impl From<KeepFault> for TurnFault {
+    ghost use Rattle.batch_serve_desks.specs.declared.fault.TurnFault.TheVariants as faults;
+
+    ghost from_gives = { λ _ fault. fault ≡ faults.Journal };
+
+    fn from(_fault: KeepFault) -> TurnFault {
+        TurnFault::Journal
+    }
+}
+
+impl From<WriteFault> for TurnFault {
+    ghost use Rattle.batch_serve_desks.specs.declared.fault.TurnFault.TheVariants as faults;
+
+    ghost from_gives = { λ _ fault. fault ≡ faults.Record };
+
+    fn from(_fault: WriteFault) -> TurnFault {
+        TurnFault::Record
+    }
+}

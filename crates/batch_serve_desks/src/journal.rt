@@ -1,0 +1,26 @@
+//! The lines of turns in a journal: each turn's are one group, which is synced before any of them is answered.
+
+use crate::keep::{Keep, KeepFault};
+use batch_journal::{Disk, Groups, Run};
+use std::time::Clock;
+
+impl<D: Disk, K: Clock, C: Run> Keep for Groups<D, K, C> {
+    ghost use Rattle.std.specs.Prelude.{true};
+
+    ghost is_safe = { λ groups. D.is_disk groups.disk };
+
+    ghost kept = { λ groups. D.given groups.disk };
+
+    ghost again = { true };
+
+    fn keep(&mut self, lines: &[u8]) -> Result<(), KeepFault> {
+        match Groups::keep(self, lines) {
+            Ok(()) => Ok(()),
+            Err(_) => Err(KeepFault),
+        }
+    }
+
+    fn is_served_again(&self) -> bool {
+        true
+    }
+}

@@ -1,0 +1,59 @@
+//! Where groups of lines are kept before any of them is answered.
+ghost use Rattle.std.specs.Prelude.{◌≡◌, ◌++◌, OnOk, OnErr};
+
+use thiserror::Error;
+
+/// Keeps the lines that are about to be answered.
+///
+/// The clauses are of a value that has kept them so far.
+pub trait Keep {
+    ghost use Rattle.std.specs.Prelude.{ℕ, Bool, List};
+
+    /// It has kept what it was given so far. Nobody can give this of a real file.
+    ghost is_safe: { Self → Type 0 };
+
+    /// The text that it keeps.
+    ghost kept: { Self → List ℕ };
+
+    /// Its lines are served again after a crash, so that want of memory must end the program before it is told.
+    ghost again: { Bool };
+
+    /// Keeps the lines of a turn, as one group. At Ok they are safe.
+    ///
+    /// The error is that they can't be kept. Then nothing may be told from now on.
+    fn keep(&mut self, lines: &[u8]) -> Result<(), KeepFault>
+        ensures kept { is_safe self.new → OnOk result (kept self.new ≡ kept self.old ++ lines.now) }
+        ensures unkept { is_safe self.new → OnErr result (kept self.new ≡ kept self.old) }
+        ensures stays { is_safe self.new → is_safe self.old };
+
+    /// Whether its lines are served again.
+    fn is_served_again(&self) -> bool
+        ensures { result ≡ again };
+}
+
+/// Lines couldn't be kept.
+#[derive(Clone, Copy, Debug, Error)]
+#[error("the journal can't be written")]
+pub struct KeepFault;
+
+/// Keeps nothing.
+#[derive(Drop)]
+pub struct NoJournal;
+
+impl Keep for NoJournal {
+    ghost use Rattle.std.specs.Prelude.{[], false};
+
+    ghost is_safe = { λ _. ⊥ };
+
+    ghost kept = { λ _. [] };
+
+    ghost again = { false };
+
+    fn keep(&mut self, _lines: &[u8]) -> Result<(), KeepFault> {
+        Ok(())
+    }
+
+    fn is_served_again(&self) -> bool {
+        false
+    }
+}

@@ -1,0 +1,39 @@
+//! A line that is told to a desk.
+ghost use Rattle.std.specs.Prelude.{◌≡◌, IfOk};
+
+use std::alloc::{AllocError, Global};
+use std::marker::Model;
+
+/// A line without its line feed. A contract sees it as the list of its bytes.
+#[derive(Drop)]
+pub struct Line {
+    text: Vec<u8>,
+}
+
+impl Model for Line {
+    ghost use Rattle.std.specs.Prelude.{ℕ, List};
+
+    ghost Value = { List ℕ };
+
+    ghost view = { λ line. line.text.items };
+}
+
+impl Line {
+    /// A copy of a line.
+    ///
+    /// The error is that there is no memory for it.
+    pub fn new(alloc: Global, text: &[u8]) -> Result<Line, AllocError>
+        ensures { IfOk result (λ line. line ≡ text.now) }
+    {
+        Ok(Line {
+            text: text.to_vec(alloc)?,
+        })
+    }
+
+    /// Its bytes.
+    pub fn as_slice(&self) -> &[u8]
+        ensures { result.now ≡ self.now }
+    {
+        &self.text
+    }
+}

@@ -1,0 +1,118 @@
+//! The reader of a desk: the lines of its input go into a ring.
+ghost use Rattle.std.specs.Prelude.{◌≡◌, ◌<◌, ◌++◌, ◌∷◌, [], length, true, false};
+ghost use Rattle.rtrb.specs.Ring.{known_free, sent};
+ghost use Rattle.batch_serve_desks.specs.Threads.{IsRead, ReadsNext};
+ghost use Rattle.batch_serve_desks.specs.Pieces.{HasGot};
+
+use crate::pause::Pause;
+use crate::rounds::{Lines, Sent};
+use rtrb::Producer;
+use std::alloc::Global;
+use std::io::{ErrorKind, Read};
+
+/// What came of a call of the input.
+#[derive(Drop)]
+enum Got {
+    Lines(Lines),
+    // it was interrupted
+    Nothing,
+    End,
+    // it failed, or there is no memory for what it gave
+    Fault,
+}
+
+/// Hands over what an input gives, to its end. The input gives whole lines at each call (`batch_serve::CleanReader`), into this room.
+///
+/// It answers true where the input has ended, and that was told; false where the input failed, there was no memory for a line, or
+/// the pause told it to end.
+#[tactic(auto, using(crate::proofs::Threading::reads_begin, crate::proofs::Threading::reads_twice, crate::proofs::Threading::reads_then, crate::proofs::Threading::reads_stop))]
+pub fn read_lines<R: Read, P: Pause>(
+    alloc: Global,
+    input: &mut R,
+    room: &mut [u8],
+    ring: &mut Producer<Sent>,
+    pause: &mut P,
+) -> bool
+    requires { 0 < length room.old }
+    ensures { IsRead result (R.remaining input.old) (R.remaining input.new) (sent ring.old) (sent ring.new) }
+{
+    for _ in 0..u64::MAX {
+        if let Some(ended) = read_next(alloc, input, room, ring, pause) {
+            return ended;
+        }
+    }
+    false
+}
+
+/// Hands over what one call of the input gives. It answers how that ended the input, if it did.
+#[tactic(auto, using(crate::proofs::Threading::lines_read, crate::proofs::Threading::nothing_read, crate::proofs::Threading::lines_lost, crate::proofs::Threading::end_read))]
+fn read_next<R: Read, P: Pause>(
+    alloc: Global,
+    input: &mut R,
+    room: &mut [u8],
+    ring: &mut Producer<Sent>,
+    pause: &mut P,
+) -> Option<bool>
+    requires { 0 < length room.old }
+    ensures { ReadsNext result (R.remaining input.old) (R.remaining input.new) (sent ring.old) (sent ring.new) }
+{
+    if pause.is_over() {
+        return Some(false);
+    }
+    match read_once(alloc, input, room) {
+        Got::Lines(lines) => {
+            if hand_over(ring, Sent::Lines(lines), pause) {
+                None
+            } else {
+                Some(false)
+            }
+        }
+        Got::Nothing => None,
+        Got::End => Some(hand_over(ring, Sent::End, pause)),
+        Got::Fault => Some(false),
+    }
+}
+
+fn read_once<R: Read>(alloc: Global, input: &mut R, room: &mut [u8]) -> Got
+    requires { 0 < length room.old }
+    ensures { HasGot result (R.remaining input.old) (R.remaining input.new) }
+{
+    match input.read(room) {
+        Ok(0) => Got::End,
+        Ok(count) => match room[..count].to_vec(alloc) {
+            Ok(text) => Got::Lines(Lines::new(text)),
+            Err(_) => Got::Fault,
+        },
+        Err(error) if error.kind() == ErrorKind::Interrupted => Got::Nothing,
+        Err(_) => Got::Fault,
+    }
+}
+
+/// Puts an item into the ring, once there is place. It answers false where the other end is gone, or the pause told it to end.
+fn hand_over<P: Pause>(ring: &mut Producer<Sent>, item: Sent, pause: &mut P) -> bool
+    ensures went { result ≡ true → sent ring.new ≡ sent ring.old ++ item ∷ [] }
+    ensures stays { result ≡ false → sent ring.new ≡ sent ring.old }
+{
+    if !wait_for_place(ring, pause) {
+        return false;
+    }
+    ring.push_reserved(item);
+    pause.note_work();
+    true
+}
+
+/// Waits until the ring has a place. It answers false where the other end is gone, or the pause told it to end.
+fn wait_for_place<P: Pause>(ring: &mut Producer<Sent>, pause: &mut P) -> bool
+    ensures stays { sent ring.new ≡ sent ring.old }
+    ensures place { result ≡ true → 0 < known_free ring.new }
+{
+    for _ in 0..u64::MAX {
+        if !ring.is_full() {
+            return true;
+        }
+        if ring.is_abandoned() || !pause.pause() {
+            return false;
+        }
+    }
+    false
+}

@@ -1,0 +1,151 @@
+//! Rounds: what the readers of desks hand over is taken, and what waits for desks is handed to their writers.
+ghost use Rattle.std.specs.Prelude.{◌≡◌, ◌<◌, ◌≤◌, ℕ, length, get_or, false, IfOk, OnOk};
+ghost use Rattle.rtrb.specs.Ring.{SameConsumer, received};
+ghost use Rattle.batch_serve_desks.specs.Rounds.{AreGathered, AreHandedOn, IsGathered, IsHandedOn, IsHandedOver, IsTaken};
+ghost use Rattle.batch_serve_desks.specs.Runs.{own_text};
+ghost use Rattle.batch_serve_desks.specs.Turns.{IsSameBut};
+ghost use Rattle.batch_serve_desks.specs.declared.desk.Desk.{Desk as OneDesk};
+
+use crate::desk::Desk;
+use crate::desk_server::DeskServer;
+use crate::fault::CutReason;
+use crate::line::Line;
+use rtrb::{Consumer, Producer};
+use std::alloc::AllocError;
+use std::marker::Model;
+
+/// Whole lines. A contract sees them as the list of their bytes.
+#[derive(Drop)]
+pub struct Lines {
+    text: Vec<u8>,
+}
+
+impl Model for Lines {
+    ghost use Rattle.std.specs.Prelude.{ℕ, List};
+
+    ghost Value = { List ℕ };
+
+    ghost view = { λ lines. lines.text.items };
+}
+
+impl Lines {
+    /// Of a text.
+    pub fn new(text: Vec<u8>) -> Lines
+        ensures { result ≡ text.items }
+    {
+        Lines { text }
+    }
+
+    /// Their text.
+    pub fn into_text(self) -> Vec<u8>
+        ensures { result.items ≡ self }
+    {
+        self.text
+    }
+}
+
+/// What the reader of a desk hands over.
+#[derive(Drop)]
+pub enum Sent {
+    /// Whole lines that the desk sent.
+    Lines(Lines),
+    /// Nothing more comes.
+    End,
+}
+
+/// The ring through which a desk's reader hands over what it read.
+#[derive(Drop)]
+pub struct Reader {
+    /// The ring.
+    pub ring: Consumer<Sent>,
+    /// Whether the end came.
+    pub has_ended: bool,
+    /// Whether nothing is to be taken from it for now.
+    pub rests: bool,
+}
+
+/// The ring through which a desk's writer is handed what it is to write.
+#[derive(Drop)]
+pub struct Writer {
+    /// The ring.
+    pub ring: Producer<Line>,
+}
+
+impl DeskServer {
+    /// Takes what came next from each reader that doesn't rest, if anything is there.
+    ///
+    /// The error is that there is no memory for one run more. What was handed over is lost then, and serving must end.
+    pub fn gather(&mut self, readers: &mut Vec<Reader>) -> Result<(), AllocError>
+        requires { length readers.old.items ≤ length self.old.desks.items }
+        ensures same { IsSameBut self.old self.new }
+        ensures gathered { OnOk result (AreGathered self.old.desks.items readers.old.items readers.new.items self.old.group.items self.new.group.items) }
+    {
+        for desk in 0..readers.len() {
+            self.gather_one(desk, &mut readers[desk])?;
+        }
+        Ok(())
+    }
+
+    /// Takes what came next from the reader of a desk, if it doesn't rest and anything is there.
+    fn gather_one(&mut self, desk: usize, reader: &mut Reader) -> Result<(), AllocError>
+        requires { desk < length self.old.desks.items }
+        ensures same { IsSameBut self.old self.new }
+        ensures gathered { OnOk result ((other : OneDesk) → (get_or self.old.desks.items desk other).waiting.is_cut ≡ false
+            → IsGathered desk reader.old reader.new self.old.group.items self.new.group.items) }
+        ensures others { (other : ℕ) → (other ≡ desk → ⊥) → own_text other self.new.group.items ≡ own_text other self.old.group.items }
+    {
+        if reader.rests {
+            return Ok(());
+        }
+        let ended = self.take_sent(desk, &mut reader.ring)?;
+        reader.has_ended = reader.has_ended || ended;
+        Ok(())
+    }
+
+    /// Takes what a desk's reader handed over next, if anything is there, and gives whether that was the end.
+    fn take_sent(&mut self, desk: usize, ring: &mut Consumer<Sent>) -> Result<bool, AllocError>
+        requires { desk < length self.old.desks.items }
+        ensures ring { SameConsumer ring.old ring.new }
+        ensures same { IsSameBut self.old self.new }
+        ensures taken { IfOk result (λ ended. (other : OneDesk) → (get_or self.old.desks.items desk other).waiting.is_cut ≡ false
+            → IsTaken desk (received ring.old) (received ring.new) ended self.old.group.items self.new.group.items) }
+        ensures others { (other : ℕ) → (other ≡ desk → ⊥) → own_text other self.new.group.items ≡ own_text other self.old.group.items }
+    {
+        match ring.pop() {
+            Ok(Sent::Lines(lines)) => {
+                self.take(desk, lines.into_text())?;
+                Ok(false)
+            }
+            Ok(Sent::End) => Ok(true),
+            Err(_) => Ok(false),
+        }
+    }
+
+    /// Hands to each writer as many of the lines that wait for its desk as there is place for. A desk for which more lines wait then
+    /// than may is cut.
+    pub fn hand_on(&mut self, writers: &mut Vec<Writer>)
+        requires { length writers.old.items ≤ length self.old.desks.items }
+        ensures { IsHandedOver self.old self.new writers.old.items writers.new.items }
+    {
+        hand_on_each(&mut self.desks, writers);
+    }
+}
+
+fn hand_on_each(desks: &mut Vec<Desk>, writers: &mut Vec<Writer>)
+    requires { length writers.old.items ≤ length desks.old.items }
+    ensures { AreHandedOn desks.old.items desks.new.items writers.old.items writers.new.items }
+{
+    for desk in 0..writers.len() {
+        let writer = &mut writers[desk];
+        hand_on(&mut desks[desk], writer);
+    }
+}
+
+fn hand_on(desk: &mut Desk, writer: &mut Writer)
+    ensures { IsHandedOn desk.old desk.new writer.old writer.new }
+{
+    desk.waiting.hand_on(&mut writer.ring);
+    if desk.waiting.cut_if_late() {
+        desk.why = Some(CutReason::Lag);
+    }
+}
