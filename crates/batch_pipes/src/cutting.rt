@@ -72,11 +72,11 @@ fn is_done(child: &Option<Child>) -> bool {
 /// Why the output failed.
 fn failed_output<T: Threads>(threads: &T, own: &mut DeskThreads) -> Option<PipeFault> {
     match &own.outlet {
-        Outlet::Thread(child) if child.done.is_raised() => {}
+        Outlet::Thread(child, _) if child.done.is_raised() => {}
         _ => return None,
     }
     match mem::replace(&mut own.outlet, Outlet::Ended) {
-        Outlet::Thread(child) => child.join(threads).err(),
+        Outlet::Thread(child, _bell) => child.join(threads).err(),
         _ => None,
     }
 }

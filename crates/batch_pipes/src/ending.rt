@@ -44,7 +44,7 @@ fn child_to_end(server: &DeskServer, at: usize, own: DeskThreads) -> Option<Chil
         return None;
     }
     match outlet {
-        Outlet::Thread(child) => {
+        Outlet::Thread(child, _bell) => {
             if child.began.is_raised() {
                 Some(child)
             } else {

@@ -22,6 +22,10 @@ impl Flag {
         self.0.store(1, Ordering::SeqCst);
     }
 
+    pub(crate) fn lower(&self) {
+        self.0.store(0, Ordering::SeqCst);
+    }
+
     pub(crate) fn is_raised(&self) -> bool {
         self.0.load(Ordering::SeqCst) == 1
     }

@@ -1,6 +1,7 @@
 //! Several desks over pipes: the input and the output of each in a thread of its own, and the machine in the thread that calls.
 #![tactic(auto)]
 
+mod bell;
 mod cutting;
 mod dropping;
 mod ending;

@@ -4,6 +4,7 @@ ghost use Rattle.rtrb.specs.Ring.{received, sent};
 ghost use Rattle.batch_pipes.specs.Kept.{ArePortsOf};
 ghost use Rattle.batch_pipes.specs.Opened.{IsDeskAdded, IsOpened, IsOpenedOn};
 
+use crate::bell::{Bell, Sleeper};
 use crate::fault::{DesksFault, PipeFault};
 use crate::flag::Flag;
 use crate::pipes::Pipes;
@@ -181,6 +182,14 @@ fn open_output<T: Threads, P: Pipes + Send + Drop + 'static>(
         return Ok((writer, Outlet::Nobody(consumer)));
     };
     let (began, done) = (Flag::new(alloc)?, Flag::new(alloc)?);
+    let Ok((hears, rings)) = pipes.inner_pipe() else {
+        return Err(DesksFault::Thread);
+    };
+    let rung = Flag::new(alloc)?;
+    let bell = Bell {
+        rung: rung.another()?,
+        pipe: rings,
+    };
     let own = pipes.another();
     let task = OutputTask {
         path,
@@ -189,9 +198,10 @@ fn open_output<T: Threads, P: Pipes + Send + Drop + 'static>(
         stop: stop.another()?,
         began: began.another()?,
         done: done.another()?,
+        sleeper: Sleeper { rung, pipe: hears },
     };
     match thread::spawn(threads, move || run_output(alloc, own, task)) {
-        Ok(handle) => Ok((writer, Outlet::Thread(child_of(handle, began, done)))),
+        Ok(handle) => Ok((writer, Outlet::Thread(child_of(handle, began, done), bell))),
         Err(_) => Err(DesksFault::Thread),
     }
 }

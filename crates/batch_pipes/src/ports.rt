@@ -2,6 +2,7 @@
 ghost use Rattle.std.specs.Prelude.{◌≡◌, [], OnOk};
 ghost use Rattle.batch_pipes.specs.Opened.{ArePortsAdded};
 
+use crate::bell::Bell;
 use crate::fault::PipeFault;
 use crate::flag::Flag;
 use crate::pace::Pace;
@@ -31,11 +32,20 @@ impl Child {
 #[derive(Drop)]
 pub(crate) enum Outlet {
     /// The thread of its output.
-    Thread(Child),
+    Thread(Child, Bell),
     /// Nobody: the desk has no output, and the lines are dropped.
     Nobody(Consumer<Line>),
     /// It has ended.
     Ended,
+}
+
+impl Outlet {
+    /// Wakes the thread.
+    pub(crate) fn ring(&mut self) {
+        if let Outlet::Thread(_, bell) = self {
+            bell.ring();
+        }
+    }
 }
 
 /// The threads of a desk.

@@ -124,6 +124,9 @@ fn tend<T: Threads>(
     drop_unseen(desk, own, writer);
     let left = lines_left(desk, writer);
     own.pace.note(left);
+    if own.pace.is_behind() {
+        own.outlet.ring();
+    }
     cut_if_failed(threads, desk, own, reader);
     cut_if_stalled(desk, own, ends);
     reader.rests = is_to_rest(desk, own);

@@ -2,10 +2,10 @@
 ghost use Rattle.rtrb.specs.Ring.{received};
 ghost use Rattle.batch_pipes.specs.Streams.{IsWrittenBehind};
 
+use crate::bell::{BellRest, Sleeper};
 use crate::fault::PipeFault;
 use crate::flag::Flag;
 use crate::pipes::Pipes;
-use crate::rest::DeskRest;
 use batch_serve_desks::{Line, Pause, write_lines};
 use batch_streams::Noted;
 use batch_wire::write_all;
@@ -26,6 +26,7 @@ pub struct OutputTask {
     pub(crate) stop: Flag,
     pub(crate) began: Flag,
     pub(crate) done: Flag,
+    pub(crate) sleeper: Sleeper,
 }
 
 impl OutputTask {
@@ -35,15 +36,10 @@ impl OutputTask {
     }
 
     /// Writes to the output, which is open, what stands before all else, and then what comes, until nothing more comes.
-    pub fn write<W: Write + Drop, S: Pause + Drop>(
-        &mut self,
-        alloc: Global,
-        output: W,
-        rest: S,
-    ) -> Result<(), PipeFault> {
+    pub fn write<W: Write + Drop>(&mut self, alloc: Global, output: W) -> Result<(), PipeFault> {
         self.began.raise();
-        let mut rest = DeskRest {
-            rest,
+        let mut rest = BellRest {
+            sleeper: &mut self.sleeper,
             stop: &self.stop,
         };
         let Ok(output) = BufWriter::with_capacity(alloc, ROOM, output) else {

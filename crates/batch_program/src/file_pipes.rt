@@ -3,8 +3,9 @@ use batch_pipes::{InputTask, OutputTask, PipeFault, Pipes};
 use batch_serve_desks::Pause;
 use std::alloc::Global;
 use std::fs::OpenOptions;
-use std::thread;
+use std::io::{PipeReader, PipeWriter};
 use std::time::Duration;
+use std::{io, thread};
 
 /// Pipes, terminals and files that the runtime opens.
 #[derive(Drop)]
@@ -43,6 +44,10 @@ impl Pipes for FilePipes {
         }
     }
 
+    fn inner_pipe(&self) -> io::Result<(PipeReader, PipeWriter)> {
+        io::pipe(&self.clock)
+    }
+
     fn run_input(&self, alloc: Global, task: &mut InputTask) -> Result<(), PipeFault> {
         let opened = OpenOptions::new()
             .read(true)
@@ -60,7 +65,7 @@ impl Pipes for FilePipes {
             .append(true)
             .open(&self.clock, task.path());
         match opened {
-            Ok(file) => task.write(alloc, file, self.desk_rest()),
+            Ok(file) => task.write(alloc, file),
             Err(error) => Err(PipeFault::OutputUnopened(error)),
         }
     }
@@ -73,7 +78,7 @@ const PART: u32 = 16;
 const LEAST: u32 = 1_000;
 
 /// The longest pause of the machine's thread, in microseconds: so much later it may see the first line after a silence.
-const MOST: u32 = 10_000;
+const MOST: u32 = 4_000;
 
 /// The longest pause of a desk's thread for each desk, in microseconds: so a second has no more pauses of many desks than of a dozen.
 const FOR_A_DESK: u32 = 800;
