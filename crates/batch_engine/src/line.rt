@@ -14,7 +14,7 @@ pub enum ClaimKind {
 }
 
 /// A move, by numbers: of its batch, mostly of the recipe and the node of an act, of a unit and its phase, of a resource and how
-/// many units of its capacity. `==` looks at every place, also of a start's values that mean nothing.
+/// many units of its capacity.
 #[derive(Clone, Copy)]
 pub enum Line {
     /// A phase is told to do something.
