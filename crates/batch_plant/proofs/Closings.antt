@@ -22,6 +22,7 @@ use Rattle.rtrb.specs.declared.AnyItems.{AnyItems}
 use Rattle.rtrb.specs.declared.finished.Finished.{Finished}
 use Rattle.std.specs.declared.alloc.Global.{Global}
 use Rattle.batch_engine.specs.declared.out.Out.{Out}
+use Rattle.batch_desk.specs.declared.batch_plan.BatchPlan.{BatchPlan}
 use Rattle.batch_desk.specs.Consoles.{IsConsole}
 use Rattle.batch_desk.specs.Due.{events_of}
 use Rattle.batch_desk.specs.Ends.{Seals}
@@ -180,11 +181,11 @@ rest_left port h g token taken there rest seals all count =
 
 -- The events of the desks
 
-pub comes : {D : Type 0} (command_gives : D → ℕ → Told → D → Type 0) (tick_gives : D → Option (ℕ × Word) → D → Type 0) (cell : Cell) (units : List D) (recipe : Name) (size batches : ℕ) (h : HubState) (rests : PlantRests) (c d l e : DeskState) → c.sent ≡ [] → l.sent ≡ []
-    → IsConsole recipe size batches c d → LinkRan command_gives tick_gives cell units l e → (IsSome rests.console → events_of 0 h.history ≡ d.sent) → (IsSome rests.link → events_of 1 h.history ≡ e.sent)
-    → ComesFromDesks recipe size batches h rests
-comes command_gives tick_gives cell units recipe size batches h rests c d l e none_c none_l ran ran_l all all_l = record {
-  console = λ some. subst (AreOfConsole recipe size batches) (sym (all some ∙ ran.sent ∙ ap (λ es. es ++ ran.more) none_c)) (record { each = ran.each; creates = ran.creates; once = ran.once });
+pub comes : {D : Type 0} (command_gives : D → ℕ → Told → D → Type 0) (tick_gives : D → Option (ℕ × Word) → D → Type 0) (cell : Cell) (units : List D) (plan : BatchPlan) (batches : ℕ) (h : HubState) (rests : PlantRests) (c d l e : DeskState) → c.sent ≡ [] → l.sent ≡ []
+    → IsConsole plan batches c d → LinkRan command_gives tick_gives cell units l e → (IsSome rests.console → events_of 0 h.history ≡ d.sent) → (IsSome rests.link → events_of 1 h.history ≡ e.sent)
+    → ComesFromDesks plan batches h rests
+comes command_gives tick_gives cell units plan batches h rests c d l e none_c none_l ran ran_l all all_l = record {
+  console = λ some. subst (AreOfConsole plan batches) (sym (all some ∙ ran.sent ∙ ap (λ es. es ++ ran.more) none_c)) (record { each = ran.each; creates = ran.creates; once = ran.once });
   link = λ some. subst (All IsReport) (sym (all_l some ∙ ran_l.sent ∙ ap (λ es. es ++ ran_l.more) none_l)) ran_l.each;
 }
 

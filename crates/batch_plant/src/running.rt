@@ -55,7 +55,7 @@ pub fn plant_run<
     ensures account { IfOk result (λ end. IsHub end.hub) }
     ensures link { IfOk result (λ end. HasLink D.command_gives D.tick_gives cleared.cell units end.hub end.rests.link) }
     ensures rings { IfOk result (λ end. HasEventRings task.ring end.hub) }
-    ensures desks { IfOk result (λ end. ComesFromDesks task.recipe task.size task.batches end.hub end.rests) }
+    ensures desks { IfOk result (λ end. ComesFromDesks task.plan task.batches end.hub end.rests) }
 {
     let Ok(gates) = gates.with_flag(alloc) else {
         return Err(PlantFault::Memory);
@@ -85,7 +85,7 @@ fn run_three<
     gates: FlagGates<H, C, L>,
 ) -> Result<Parts, PlantFault>
     ensures hub { IfOk result (λ ran. HubRan task.batches parts.hub ran.hub) }
-    ensures console { IfOk result (λ ran. IsConsole task.recipe task.size task.batches parts.console ran.console) }
+    ensures console { IfOk result (λ ran. IsConsole task.plan task.batches parts.console ran.console) }
     ensures link { IfOk result (λ ran. LinkRan D.command_gives D.tick_gives cell units parts.link ran.link) }
 {
     let Parts { hub, console, link } = parts;

@@ -43,5 +43,5 @@ returns-clause-desks g c =
     let ran = c.in_ok-ran.ran in
     let is = c.in_ok-ran.ensures in
     let new = c.in_ok-parts.ensures.sent in
-    comes g.D.UnitDriver.command_gives g.D.UnitDriver.tick_gives c.in-Ok-of.cell c.args.units c.args.task.recipe c.args.task.size c.args.task.batches c.close.result.hub c.close.result.rests parts.console ran.console parts.link ran.link new.0 new.1
+    comes g.D.UnitDriver.command_gives g.D.UnitDriver.tick_gives c.in-Ok-of.cell c.args.units c.args.task.plan c.args.task.batches c.close.result.hub c.close.result.rests parts.console ran.console parts.link ran.link new.0 new.1
     is.console is.link c.close.ensures.console c.close.ensures.link
