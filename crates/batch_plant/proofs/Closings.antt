@@ -1,5 +1,5 @@
 -- What is known of the ports of a plant, and of their desks.
-use Rattle.std.proofs.Common.{◌≡◌, ℕ, zero, suc, ◌+◌, List, [], ◌∷◌, ◌++◌, length, map, Option, Some, None, IfSome, IsSome, option_map, slice_get, unwrap_or, refl, sym, ap, ◌∙◌, subst, add-one, arith, length-append}
+use Rattle.std.proofs.Common.{◌≡◌, ℕ, zero, suc, ◌+◌, List, [], ◌∷◌, ◌++◌, length, map, Option, Some, None, IfSome, option_map, slice_get, unwrap_or, refl, sym, ap, ◌∙◌, subst, add-one, arith, length-append}
 use Rattle.std.specs.List.{All, slice_set}
 use Rattle.std.proofs.lemmas.List.{length-map}
 use Rattle.std.proofs.lemmas.Option.{same_Some, slice_get-map, IfSome_then}
@@ -35,7 +35,6 @@ use Rattle.batch_desk.specs.declared.plan.PortPlan.{PortPlan}
 use Rattle.batch_plant.specs.Links.{Deed, took, ticked, listed, report_in, reports_made, IsLink}
 use Rattle.batch_plant.specs.Parts.{AreParts, HaveRings, IsRest, LinkRan}
 use Rattle.batch_plant.specs.Plants.{AreOfConsole, ComesFromDesks, HasEventRings, HasLink, IsReport, event_rings}
-use Rattle.batch_plant.specs.declared.plant_rests.PlantRests.{PlantRests}
 
 pub at_place : {X Y : Type 0} (f : X → Y) (xs : List X) (k : ℕ) (y : Y) → slice_get (map f xs) k ≡ Some y → IfSome (slice_get xs k) (λ x. f x ≡ y)
 at_place f [] k y is = tt
@@ -181,18 +180,18 @@ rest_left port h g token taken there rest seals all count =
 
 -- The events of the desks
 
-pub comes : {D : Type 0} (command_gives : D → ℕ → Told → D → Type 0) (tick_gives : D → Option (ℕ × Word) → D → Type 0) (cell : Cell) (units : List D) (plan : BatchPlan) (batches : ℕ) (h : HubState) (rests : PlantRests) (c d l e : DeskState) → c.sent ≡ [] → l.sent ≡ []
-    → IsConsole plan batches c d → LinkRan command_gives tick_gives cell units l e → (IsSome rests.console → events_of 0 h.history ≡ d.sent) → (IsSome rests.link → events_of 1 h.history ≡ e.sent)
-    → ComesFromDesks plan batches h rests
-comes command_gives tick_gives cell units plan batches h rests c d l e none_c none_l ran ran_l all all_l = record {
-  console = λ some. subst (AreOfConsole plan batches) (sym (all some ∙ ran.sent ∙ ap (λ es. es ++ ran.more) none_c)) (record { each = ran.each; creates = ran.creates; once = ran.once });
-  link = λ some. subst (All IsReport) (sym (all_l some ∙ ran_l.sent ∙ ap (λ es. es ++ ran_l.more) none_l)) ran_l.each;
+pub comes : {D : Type 0} (command_gives : D → ℕ → Told → D → Type 0) (tick_gives : D → Option (ℕ × Word) → D → Type 0) (cell : Cell) (units : List D) (plan : BatchPlan) (batches : ℕ) (h : HubState) (c d l e : DeskState) → c.sent ≡ [] → l.sent ≡ []
+    → IsConsole plan batches c d → LinkRan command_gives tick_gives cell units l e → events_of 0 h.history ≡ d.sent → events_of 1 h.history ≡ e.sent
+    → ComesFromDesks plan batches h
+comes command_gives tick_gives cell units plan batches h c d l e none_c none_l ran ran_l all all_l = record {
+  console = subst (AreOfConsole plan batches) (sym (all ∙ ran.sent ∙ ap (λ es. es ++ ran.more) none_c)) (record { each = ran.each; creates = ran.creates; once = ran.once });
+  link = subst (All IsReport) (sym (all_l ∙ ran_l.sent ∙ ap (λ es. es ++ ran_l.more) none_l)) ran_l.each;
 }
 
-pub linked_at_end : {D : Type 0} (command_gives : D → ℕ → Told → D → Type 0) (tick_gives : D → Option (ℕ × Word) → D → Type 0) (cell : Cell) (units : List D) (g h : HubState) (rest : Option ℕ) (l e : DeskState)
+pub linked_at_end : {D : Type 0} (command_gives : D → ℕ → Told → D → Type 0) (tick_gives : D → Option (ℕ × Word) → D → Type 0) (cell : Cell) (units : List D) (g h : HubState) (l e : DeskState)
     → l.sent ≡ [] → slice_get (rings g) 1 ≡ Some (desk_rings e) → event_rings h ≡ event_rings g → LinkRan command_gives tick_gives cell units l e
-    → (IsSome rest → events_of 1 h.history ≡ e.sent) → HasLink command_gives tick_gives cell units h rest
-linked_at_end command_gives tick_gives cell units g h rest l e new at kept ran all = record {
+    → events_of 1 h.history ≡ e.sent → HasLink command_gives tick_gives cell units h
+linked_at_end command_gives tick_gives cell units g h l e new at kept ran all = record {
   before = l;
   after = e;
   later = ran.later;

@@ -232,6 +232,8 @@ told_kept before mid after quiet still loud batches (Err plant_fault.Thread) sta
     (kept_then_kept before mid after kept untouched, is)
 told_kept before mid after quiet still loud batches (Err plant_fault.Refused) status kept silent (untouched, is) =
     (kept_then_kept before mid after kept untouched, is)
+told_kept before mid after quiet still loud batches (Err plant_fault.Unclosed) status kept silent (untouched, is) =
+    (kept_then_kept before mid after kept untouched, is)
 
 -- Records
 
@@ -604,6 +606,7 @@ plant_in_range output errors batches (Err plant_fault.TurnsOut) status printed =
 plant_in_range output errors batches (Err plant_fault.Memory) status (_, memory) = rw memory (omega arith)
 plant_in_range output errors batches (Err plant_fault.Thread) status (_, memory) = rw memory (omega arith)
 plant_in_range output errors batches (Err plant_fault.Refused) status (_, memory) = rw memory (omega arith)
+plant_in_range output errors batches (Err plant_fault.Unclosed) status (_, memory) = rw memory (omega arith)
 
 untold_in_range : (output : Stream) (status : ℕ) → IsUntold output status → status ≤ 4
 untold_in_range output status (_, inl fault) = rw fault (omega arith)
@@ -725,6 +728,7 @@ complete_at output errors set batches (Err plant_fault.TurnsOut) status ran (inr
 complete_at output errors set batches (Err plant_fault.Memory) status ran (_, memory) is = absurd cc
 complete_at output errors set batches (Err plant_fault.Thread) status ran (_, memory) is = absurd cc
 complete_at output errors set batches (Err plant_fault.Refused) status ran (_, memory) is = absurd cc
+complete_at output errors set batches (Err plant_fault.Unclosed) status ran (_, memory) is = absurd cc
 
 same_plant : (from to : Source) (a b ticks more ring places : ℕ) → plant from a ticks ring ≡ plant to b more places → (from ≡ to) × (a ≡ b)
 same_plant from to a b ticks more ring places is = (cc, cc)

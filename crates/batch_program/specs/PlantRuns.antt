@@ -8,7 +8,7 @@ use Rattle.batch_verify.specs.ClearedSet.{ClearedSet}
 use Rattle.batch_engine.specs.View.{setup}
 use Rattle.batch_commands.specs.Running.{IsPrinted, IsUnwritten, Stream, memory_status}
 use Rattle.batch_plant.specs.declared.plant_fault.PlantFault.{PlantFault}
-use Rattle.batch_plant.specs.declared.plant_fault.PlantFault.TheVariants.{Memory, Thread, Refused, TurnsOut}
+use Rattle.batch_plant.specs.declared.plant_fault.PlantFault.TheVariants.{Memory, Thread, Refused, TurnsOut, Unclosed}
 
 -- Texts
 
@@ -36,8 +36,8 @@ pub record HasRun (set : ClearedSet) (batches handled : ℕ) : Type 0 where
   pub complete : (n : ℕ) → 1 ≤ n → n ≤ batches → IsSomeAnd (batch_at plant n) (λ batch. batch.state ≡ Complete)
   pub count : handled ≡ length events
 
--- the three lines are printed, or the one; want of memory, a thread that can't be started and a create that is refused leave the output
--- as it was, and are told on the errors in a free text
+-- the three lines are printed, or the one; want of memory, a thread that can't be started, a create that is refused and a port that can't
+-- be closed leave the output as it was, and are told on the errors in a free text
 abbrev pub IsPlantTold : Stream → Stream → ℕ → Result ℕ PlantFault → ℕ → Type 0
 IsPlantTold output errors batches (Ok handled) status =
     IsPrinted output errors (plant_text batches handled) 0 status ⊎ (IsUnwritten output × (status ≡ memory_status))
@@ -45,3 +45,4 @@ IsPlantTold output errors batches (Err TurnsOut) status = IsPrinted output error
 IsPlantTold output errors batches (Err Memory) status = IsUnwritten output × (status ≡ memory_status)
 IsPlantTold output errors batches (Err Thread) status = IsUnwritten output × (status ≡ memory_status)
 IsPlantTold output errors batches (Err Refused) status = IsUnwritten output × (status ≡ memory_status)
+IsPlantTold output errors batches (Err Unclosed) status = IsUnwritten output × (status ≡ memory_status)

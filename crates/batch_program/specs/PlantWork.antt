@@ -13,7 +13,6 @@ use Rattle.batch_desk.specs.declared.batch_plan.BatchPlan.{BatchPlan}
 use Rattle.batch_desk.specs.HubDone.{AreComplete}
 use Rattle.batch_desk.specs.HubState.{HubState, IsHub}
 use Rattle.batch_plant.specs.Plants.{ComesFromDesks, HasEventRings, HasLink}
-use Rattle.batch_plant.specs.declared.plant_rests.PlantRests.{PlantRests}
 
 -- a role with the unit that takes it, before other bindings; one that no unit may take has none
 abbrev pub with_binding : Name → Option Name → List (Name × Name) → List (Name × Name)
@@ -47,8 +46,7 @@ pub record RunsBy (set : ClearedSet) (options : PlantOptions) (handled : ℕ) : 
   pub rings : HasEventRings options.ring hub
   pub plan : BatchPlan
   pub first : IsFirstPlan set plan
-  pub rests : PlantRests
-  pub desks : ComesFromDesks plan options.batches hub rests
+  pub desks : ComesFromDesks plan options.batches hub
   pub units : List SteadyView
   pub ticks : All (λ unit. unit.ticks ≡ options.ticks) units
-  pub link : HasLink Commands TicksSteadily set.cell units hub rests.link
+  pub link : HasLink Commands TicksSteadily set.cell units hub

@@ -17,7 +17,6 @@ returns g c =
       ticks = subst (λ (units : List SteadyView). All (λ unit. unit.ticks ≡ c.args.options.ticks) units) (sym c.new-simulator.ensures) c.in-Ok.ensures.ticks;
       plan = c.in_ok-plan.plan;
       first = c.in_ok-plan.ensures;
-      rests = end.end.rests;
       desks = end.ensures.desks;
       link = end.ensures.link;
     }
