@@ -28,7 +28,7 @@ use Rattle.batch_desk.specs.Due.{events_of}
 use Rattle.batch_desk.specs.Ends.{Seals}
 use Rattle.batch_desk.specs.Rings.{IsOfRing, Ring, places_of}
 use Rattle.batch_desk.specs.DeskState.{DeskState, IsNewDesk, desk_rings}
-use Rattle.batch_desk.specs.HubState.{HubState, rings}
+use Rattle.batch_desk.specs.HubState.{AreFromPorts, HasGrown, HubState, rings}
 use Rattle.batch_desk.specs.Plans.{AreOfPlans, places_free, sizes_made}
 use Rattle.batch_desk.specs.PortState.{PortState, port_rings, sealed}
 use Rattle.batch_desk.specs.declared.plan.PortPlan.{PortPlan}
@@ -180,10 +180,17 @@ rest_left port h g token taken there rest seals all count =
 
 -- The events of the desks
 
-pub comes : {D : Type 0} (command_gives : D → ℕ → Told → D → Type 0) (tick_gives : D → Option (ℕ × Word) → D → Type 0) (cell : Cell) (units : List D) (plan : BatchPlan) (batches : ℕ) (h : HubState) (c d l e : DeskState) → c.sent ≡ [] → l.sent ≡ []
+-- from a new hub on, all came from its two ports
+pub from_two : (ring : ℕ) (h g k : HubState) → HaveRings ring h → h.history ≡ [] → HasGrown (length h.ports) h.history g.history → k.history ≡ g.history → AreFromPorts 2 k.history
+from_two ring h g k made new grown same =
+    let two : length h.ports ≡ 2 = sym (length-map h.ports sizes_made) ∙ ap length made in
+    subst (AreFromPorts 2) (sym (same ∙ (grown.is ∙ ap (λ es. es ++ grown.more) new))) (subst (λ n. AreFromPorts n grown.more) two grown.each)
+
+pub comes : {D : Type 0} (command_gives : D → ℕ → Told → D → Type 0) (tick_gives : D → Option (ℕ × Word) → D → Type 0) (cell : Cell) (units : List D) (plan : BatchPlan) (batches : ℕ) (h : HubState) (c d l e : DeskState) → AreFromPorts 2 h.history → c.sent ≡ [] → l.sent ≡ []
     → IsConsole plan batches c d → LinkRan command_gives tick_gives cell units l e → events_of 0 h.history ≡ d.sent → events_of 1 h.history ≡ e.sent
     → ComesFromDesks plan batches h
-comes command_gives tick_gives cell units plan batches h c d l e none_c none_l ran ran_l all all_l = record {
+comes command_gives tick_gives cell units plan batches h c d l e ports none_c none_l ran ran_l all all_l = record {
+  ports = ports;
   console = subst (AreOfConsole plan batches) (sym (all ∙ ran.sent ∙ ap (λ es. es ++ ran.more) none_c)) (record { each = ran.each; creates = ran.creates; once = ran.once });
   link = subst (All IsReport) (sym (all_l ∙ ran_l.sent ∙ ap (λ es. es ++ ran_l.more) none_l)) ran_l.each;
 }

@@ -10,7 +10,7 @@ use Rattle.batch_desk.specs.declared.batch_plan.BatchPlan.{BatchPlan}
 use Rattle.batch_desk.specs.Consoles.{IsConsoleEvent, creates, starts}
 use Rattle.batch_desk.specs.DeskState.{DeskState}
 use Rattle.batch_desk.specs.Due.{events_of}
-use Rattle.batch_desk.specs.HubState.{HubState}
+use Rattle.batch_desk.specs.HubState.{AreFromPorts, HubState}
 use Rattle.batch_desk.specs.Rings.{Ring, places_of}
 use Rattle.batch_plant.specs.Links.{IsLink}
 
@@ -25,8 +25,9 @@ pub record AreOfConsole (plan : BatchPlan) (batches : ℕ) (events : List Event)
   pub creates : creates events ≤ batches
   pub once : (n : ℕ) → starts n events ≤ 1
 
--- the events of each port are such as its desk sends
+-- all events came from the two ports, and those of each port are such as its desk sends
 pub record ComesFromDesks (plan : BatchPlan) (batches : ℕ) (h : HubState) : Type 0 where
+  pub ports : AreFromPorts 2 h.history
   pub console : AreOfConsole plan batches (events_of 0 h.history)
   pub link : All IsReport (events_of 1 h.history)
 

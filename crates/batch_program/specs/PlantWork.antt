@@ -1,11 +1,8 @@
 -- surface: what of a plant's options stands in what its run comes to, and which batches it makes.
-use Rattle.std.specs.Prelude.{◌≡◌, ℕ, List, [], ◌∷◌, Option, Some, None, IsSomeAnd, length, slice_get}
+use Rattle.std.specs.Prelude.{◌≡◌, ℕ, List, IsSomeAnd, length, slice_get}
 use Rattle.std.specs.List.{All}
-use Rattle.batch_cell.specs.LookUps.{units_of_class}
 use Rattle.batch_cell.specs.declared.cell.Cell.{Cell}
-use Rattle.batch_recipe.specs.Conditions.{Name}
 use Rattle.batch_recipe.specs.declared.recipe.Recipe.{Recipe}
-use Rattle.batch_recipe.specs.declared.role.Role.{Role}
 use Rattle.batch_verify.specs.ClearedSet.{ClearedSet}
 use Rattle.batch_words.specs.declared.plant_options.PlantOptions.{PlantOptions}
 use Rattle.batch_sim.specs.SteadyUnit.{SteadyView, Commands, TicksSteadily}
@@ -13,16 +10,7 @@ use Rattle.batch_desk.specs.declared.batch_plan.BatchPlan.{BatchPlan}
 use Rattle.batch_desk.specs.HubDone.{AreComplete}
 use Rattle.batch_desk.specs.HubState.{HubState, IsHub}
 use Rattle.batch_plant.specs.Plants.{ComesFromDesks, HasEventRings, HasLink}
-
--- a role with the unit that takes it, before other bindings; one that no unit may take has none
-abbrev pub with_binding : Name → Option Name → List (Name × Name) → List (Name × Name)
-with_binding role None bindings = bindings
-with_binding role (Some unit) bindings = (role, unit) ∷ bindings
-
--- each role with the first unit of the cell that has its class
-abbrev pub first_bindings : Cell → List Role → List (Name × Name)
-first_bindings cell [] = []
-first_bindings cell (role ∷ roles) = with_binding role.name (slice_get (units_of_class cell role.class) 0) (first_bindings cell roles)
+use Rattle.batch_program.specs.PlantRuns.{first_bindings}
 
 -- the plan of a batch of the recipe in the size of its basis, whose roles their first units take
 pub record IsPlanOf (cell : Cell) (recipe : Recipe) (plan : BatchPlan) : Type 0 where

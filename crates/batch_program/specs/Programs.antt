@@ -149,7 +149,7 @@ CertificatesAreKept gives holds files =
     × IsUnwritten (output_of ends)
 
 -- a run of `plant` that ends with status 0 has written its three lines, and a record over the set that the words name, of so many
--- events as the third line says, leads to where the batches that were asked for are complete
+-- events as the third line says, leads to where the batches that were asked for are complete, all made of the set's first recipe
 abbrev pub PlantsAreComplete : Gives → Holds → JournalFiles → Type 0
 PlantsAreComplete gives holds files =
     (words : List Text) (ends : serving.Ends) (errors : Stream) (source : Source) (batches ticks ring : ℕ)

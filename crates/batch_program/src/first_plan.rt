@@ -1,7 +1,8 @@
 //! The plan of the batches of a plant.
 ghost use Rattle.std.specs.Prelude.{◌≡◌, IfOk, option_copied, slice_get};
 ghost use Rattle.batch_cell.specs.LookUps.{units_of_class};
-ghost use Rattle.batch_program.specs.PlantWork.{IsFirstPlan, IsPlanOf, first_bindings};
+ghost use Rattle.batch_program.specs.PlantRuns.{first_bindings};
+ghost use Rattle.batch_program.specs.PlantWork.{IsFirstPlan, IsPlanOf};
 
 use batch_cell::Cell;
 use batch_desk::BatchPlan;

@@ -86,7 +86,8 @@ pub fn certificates_are_kept<D: Documents + Records + Journals>(documents: &D)
 }
 
 /// What the exit status 0 of a run of `plant` tells: the three lines were written, and a record over the set of the documents, or of the
-/// demo, of so many events as the third line says, leads to where the batches are complete that were asked for.
+/// demo, of so many events as the third line says, leads to where the batches are complete that were asked for. Its creates are
+/// of the set's first recipe, in the size of its basis, with the first unit of its class in each role.
 pub fn plants_are_complete<D: Documents + Records + Journals>(documents: &D)
     ensures { PlantsAreComplete (D.gives documents.now) (D.holds documents.now)
         (record {

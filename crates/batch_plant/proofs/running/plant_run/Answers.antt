@@ -2,7 +2,7 @@ use Rattle.std.proofs.Common.{ap, subst, ◌∙◌}
 use Rattle.batch_cell.specs.declared.cell.Cell.{Cell}
 use Rattle.batch_engine.specs.View.{EngineView}
 use Rattle.batch_plant.specs.Plants.{HasLink}
-use Rattle.batch_plant.proofs.Closings.{comes, linked_at_end, parts_stay, rings_at_end, still_complete}
+use Rattle.batch_plant.proofs.Closings.{comes, from_two, linked_at_end, parts_stay, rings_at_end, still_complete}
 use Rattle.batch_plant.proofs.running.plant_run.Goals as goal
 
 pub close-requires : goal.close-requires
@@ -43,5 +43,6 @@ returns-clause-desks g c =
     let ran = c.in_ok-ran.ran in
     let is = c.in_ok-ran.ensures in
     let new = c.in_ok-parts.ensures.sent in
-    comes g.D.UnitDriver.command_gives g.D.UnitDriver.tick_gives c.in-Ok-of.cell c.args.units c.args.task.plan c.args.task.batches c.in_ok-hub.hub parts.console ran.console parts.link ran.link new.0 new.1
+    comes g.D.UnitDriver.command_gives g.D.UnitDriver.tick_gives c.in-Ok-of.cell c.args.units c.args.task.plan c.args.task.batches c.in_ok-hub.hub parts.console ran.console parts.link ran.link
+    (from_two c.args.task.ring parts.hub ran.hub c.in_ok-hub.hub c.in_ok-parts.ensures.rings c.in_ok-parts.ensures.history is.hub.history c.in_ok-hub.ensures.work.1) new.0 new.1
     is.console is.link c.in_ok-hub.ensures.console c.in_ok-hub.ensures.link

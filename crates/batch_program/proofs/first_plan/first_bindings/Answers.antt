@@ -1,4 +1,4 @@
-use Rattle.std.proofs.Common.{append-nil, sym, ◌∙◌}
+use Rattle.std.proofs.Common.{append-nil, sym}
 use Rattle.batch_program.proofs.Plants.{is_bound, is_left_out, next_binding}
 use Rattle.batch_program.proofs.first_plan.first_bindings.Goals as goal
 use Rattle.batch_program.proofs.first_plan.first_bindings.Goals.{in-Some+in_ok-name+in_ok-copied+in_ok-push, in_default}

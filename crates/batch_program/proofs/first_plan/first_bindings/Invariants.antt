@@ -1,5 +1,5 @@
 use Rattle.std.proofs.Common.{◌≡◌, ◌++◌, drop}
-use Rattle.batch_program.specs.PlantWork.{first_bindings}
+use Rattle.batch_program.specs.PlantRuns.{first_bindings}
 use Rattle.batch_program.proofs.first_plan.first_bindings.Given as goal
 
 -- the bindings so far and those of the roles that are left are those of all
