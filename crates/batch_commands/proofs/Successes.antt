@@ -5,7 +5,7 @@ use Rattle.clap.specs.Kinds.{IsAmong}
 use Rattle.clap.specs.Walk.{Text}
 use Rattle.clap.specs.declared.error.kind.ErrorKind.{ErrorKind}
 use Rattle.batch_words.specs.declared.comments.Comments.{Comments}
-use Rattle.batch_words.specs.CommandLine.{Request, Source, demo, faults_of, keep, plant, serve}
+use Rattle.batch_words.specs.CommandLine.{Request, Source, demo, faults_of, keep, serve}
 use Rattle.batch_verify.specs.ClearedSet.{ClearedSet}
 use Rattle.batch_commands.specs.Judging.{is_for_memory, status_of}
 use Rattle.batch_commands.specs.Reading.{Gives}

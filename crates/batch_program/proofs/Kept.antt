@@ -2,9 +2,8 @@
 use Rattle.std.proofs.Common.{◌≡◌, ℕ, Bool, List, Option, Some, inl, inr, refl, subst}
 use Rattle.std.specs.Prelude.{String, string_bytes}
 use Rattle.std.specs.Global.{Global}
-use Rattle.std.specs.Io.KnownBytes.{Keeps}
 use Rattle.clap.specs.Walk.{Text}
-use Rattle.batch_words.specs.CommandLine.{Judgement, Request, Source, audit, keep, picture, plant, remark, serve, tell, write, serve_desks}
+use Rattle.batch_words.specs.CommandLine.{Judgement, Request, Source, audit, keep, picture, remark, serve, tell, write, serve_desks}
 use Rattle.batch_commands.specs.Reading.{Gives}
 use Rattle.batch_commands.specs.Requests.{IsVerdict}
 use Rattle.batch_commands.specs.Running.{AskFor, IsDone, IsRun, IsUnwritten, Stream, ask_quiet}

@@ -1,8 +1,7 @@
 use Rattle.std.proofs.Common.{map, refl, string_bytes}
 use Rattle.std.proofs.KnownBytes.{Keeps-refl}
-use Rattle.batch_words.specs.CommandLine.{judgement_of, source_of}
+use Rattle.batch_words.specs.CommandLine.{judgement_of}
 use Rattle.batch_commands.specs.Running.{explains, halts, judges, reads, writes, draws}
-use Rattle.batch_commands.proofs.Warned.{silent}
 use Rattle.batch_commands.proofs.running.run_command.Goals as goal
 
 pub returns-in-Ok : goal.returns-in-Ok
