@@ -17,7 +17,7 @@ loop-number-preserved g c =
         rings = w.turn.ensures.rings ∙ was.rings;
         outlines = w.turn.ensures.outlines ∙ was.outlines;
         cleared = w.turn.ensures.cleared ∙ was.cleared;
-        history = history_grows _ c.loop-number.port _ c.loop-number.hub w.turn.new.self (as_many _ c.loop-number.hub was.outlines) (λ out. (w.turn.ensures.unknown out).1)
+        history = history_grows _ c.loop-number.port _ c.loop-number.hub w.turn.new.self (as_many c.args.hub.now c.loop-number.hub was.outlines) (λ out. (w.turn.ensures.unknown out).1)
             was.history w.turn.ensures.history;
         record_grows = prefix_then _ _ _ was.record_grows w.turn.ensures.record;
         asked = asked;
