@@ -20,7 +20,7 @@ _batchd() {
         --batches | --ticks | --ring) return ;;
         --write) mapfile -t COMPREPLY < <(compgen -f -- "$word"); return ;;
     esac
-    if [[ $word == -* || ${COMP_WORDS[1]} =~ ^(plant|explain|help)$ ]]; then
+    if [[ $word == -* || ${COMP_WORDS[1]} =~ ^(explain|help)$ ]]; then
         mapfile -t COMPREPLY < <(compgen -W "$options" -- "$word")
     elif [[ ${COMP_WORDS[1]} =~ ^(status|draw|audit)$ ]] || [ "$before" = --journal ]; then
         mapfile -t COMPREPLY < <(compgen -f -- "$word")

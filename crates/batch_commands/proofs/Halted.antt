@@ -3,7 +3,7 @@ use Rattle.std.proofs.Common.{◌≡◌, ℕ, ◌<◌, List, [], ◌∷◌, Resu
 use Rattle.batch_cell.specs.declared.cell.Cell.{Cell}
 use Rattle.batch_recipe.specs.declared.recipe.Recipe.{Recipe}
 use Rattle.batch_verify.specs.CertificateText.{Rank}
-use Rattle.batch_commands.specs.Halting.{HaltsAtDocuments, HaltsAtRecipe, HaltsAtRecipes, HaltsClearing, HaltsOver}
+use Rattle.batch_commands.specs.Halting.{HaltsAtRecipe, HaltsAtRecipes, HaltsClearing, HaltsOver}
 use Rattle.batch_commands.specs.Judging.{RefusesSet}
 use Rattle.batch_commands.specs.Reading.{AreRead, AreReadWarned, Gives, IsSoWarned, ReadsRecipes, Warns}
 use Rattle.batch_commands.specs.declared.refusal.Halt.{Halt}

@@ -1,17 +1,17 @@
 -- Looking at one document after the other.
-use Rattle.std.proofs.Common.{◌≡◌, ◌⊎◌, ℕ, ◌+◌, ◌<◌, ◌++◌, List, [], ◌∷◌, Option, Some, None, Result, Ok, Err, IfErr, inl, inr, length, map, take, get_or, suc, zero, refl, ap, sym, subst, arith, append_assoc, append-nil, ◌∙◌}
+use Rattle.std.proofs.Common.{◌≡◌, ℕ, ◌+◌, ◌<◌, ◌++◌, List, [], ◌∷◌, Some, None, Result, Ok, Err, IfErr, inl, inr, length, map, take, get_or, suc, zero, refl, ap, sym, subst, arith, append_assoc, append-nil, ◌∙◌}
 use Rattle.std.proofs.lemmas.List.{map-append, take_more}
 use Rattle.std.specs.Prelude.{String}
 use Rattle.std.specs.Global.{Global}
 use Rattle.batch_cell.specs.declared.cell.Cell.{Cell}
 use Rattle.batch_recipe.specs.declared.recipe.Recipe.{Recipe}
-use Rattle.batch_commands.specs.Every.{AreLooked, AreRefusalsOf, AreRulesKept, HaltsAtAll, HaltsAtLook, HaltsLooking, IsOneUnread, RefusesRules}
+use Rattle.batch_commands.specs.Every.{AreLooked, AreRefusalsOf, HaltsAtLook, HaltsLooking, IsOneUnread, RefusesRules}
 use Rattle.batch_commands.specs.Halting.{HaltsAtCell, HaltsAtRecipe}
 use Rattle.batch_commands.specs.Looking.{AreAllRead, IsCellLooked, IsLooked, IsSoundlyRead, LooksOn}
-use Rattle.batch_commands.specs.Reading.{AreReadWarned, Gives, IsSoWarned, IsUnread, ReadsCell, ReadsRecipe, ReadsRecipes, Warns}
+use Rattle.batch_commands.specs.Reading.{AreReadWarned, Gives, IsSoWarned, IsUnread, ReadsRecipe, ReadsRecipes, Warns}
 use Rattle.batch_commands.specs.declared.refusal.DocumentRefusal.{DocumentRefusal}
 use Rattle.batch_commands.specs.declared.refusal.Halt.{Halt}
-use Rattle.batch_commands.specs.declared.refusal.Halt.TheVariants.{Refused, Every, Unread, Memory}
+use Rattle.batch_commands.specs.declared.refusal.Halt.TheVariants.{Refused, Unread}
 
 -- where nothing is refused, all are read
 pub all_read : (gives : Gives) (paths : List (List ℕ)) (rs : List Recipe) (refusals : List DocumentRefusal)

@@ -5,7 +5,7 @@ use Rattle.clap.specs.Kinds.{IsAmong}
 use Rattle.clap.specs.Walk.{Text}
 use Rattle.clap.specs.declared.error.kind.ErrorKind.{ErrorKind}
 use Rattle.batch_words.specs.declared.comments.Comments.{Comments}
-use Rattle.batch_words.specs.CommandLine.{Request, Source, demo, faults_of, keep, plant, serve}
+use Rattle.batch_words.specs.CommandLine.{Request, Source, demo, faults_of, keep, serve}
 use Rattle.batch_verify.specs.ClearedSet.{ClearedSet}
 use Rattle.batch_commands.specs.Judging.{is_for_memory, status_of}
 use Rattle.batch_commands.specs.Reading.{Gives}
@@ -97,7 +97,7 @@ done_success gives request quiet output errors _ (reads _ _ _ _) is = absurd cc
 done_success gives request quiet output errors _ (draws _ _ _ _) is = absurd cc
 done_success gives request quiet output errors _ (audits _ _ _ _ _ _) is = absurd cc
 done_success gives request quiet output errors _ (serves_desks _ _ _ _ _ _ _ _ _ _ _) is = absurd cc
-done_success gives request quiet output errors _ (plants _ _ _ _ _ _) is = absurd cc
+done_success gives request quiet output errors _ (plants _ _ _ _ _ _ _) is = absurd cc
 
 told_success : (gives : Gives) (words : List Text) (output errors : Stream) (request : Request) (course : Course)
     → AskFor words request → IsRun gives words output errors course → course ≡ Ends 0 → IsSuccess gives (ask_quiet words) request output errors
@@ -134,7 +134,7 @@ done_serving gives request quiet output errors set hushed _ (reads _ _ _ _) is =
 done_serving gives request quiet output errors set hushed _ (draws _ _ _ _) is = absurd cc
 done_serving gives request quiet output errors set hushed _ (audits _ _ _ _ _ _) is = absurd cc
 done_serving gives request quiet output errors set hushed _ (serves_desks _ _ _ _ _ _ _ _ _ _ _) is = absurd cc
-done_serving gives request quiet output errors set hushed _ (plants _ _ _ _ _ _) is = absurd cc
+done_serving gives request quiet output errors set hushed _ (plants _ _ _ _ _ _ _) is = absurd cc
 
 -- what was to be served with a journal, with nothing written before
 pub record IsKeeping (gives : Gives) (request : Request) (digested : Digested) (journal : String Global) (comments : Comments) (output errors : Stream) : Type 0 where
@@ -174,27 +174,8 @@ done_keeping gives request quiet output errors digested hushed journal comments 
 done_keeping gives request quiet output errors digested hushed journal comments _ (draws _ _ _ _) is = absurd cc
 done_keeping gives request quiet output errors digested hushed journal comments _ (audits _ _ _ _ _ _) is = absurd cc
 done_keeping gives request quiet output errors digested hushed journal comments _ (serves_desks _ _ _ _ _ _ _ _ _ _ _) is = absurd cc
-done_keeping gives request quiet output errors digested hushed journal comments _ (plants _ _ _ _ _ _) is = absurd cc
+done_keeping gives request quiet output errors digested hushed journal comments _ (plants _ _ _ _ _ _ _) is = absurd cc
 done_keeping gives request quiet output errors digested hushed journal comments _ (writes _ _ _ _ _ _) is = absurd cc
-
--- what comes of the demo's plant is the same whatever documents say
-pub plant_done : (these those : Gives) (batches ticks ring : ℕ) (request : Request) (quiet : Bool) (output errors : Stream) (course : Course)
-    → request ≡ plant batches ticks ring → IsDone these request quiet output errors course → IsDone those request quiet output errors course
-plant_done these those batches ticks ring request quiet output errors _ is (plants set options asked is_set kept silent) = plants set options asked is_set kept silent
-plant_done these those batches ticks ring request quiet output errors _ is (halts h status warned halted told) =
-    let These : Request → Type 0 = λ r. Halts these (IsWarned quiet errors.before warned) r h in
-    let Those : Request → Type 0 = λ r. Halts those (IsWarned quiet errors.before warned) r h in
-    halts h status warned (subst Those (sym is) (subst These is halted)) told
-plant_done these those batches ticks ring request quiet output errors _ is (serves _ _ asked _ _ _) = absurd cc
-plant_done these those batches ticks ring request quiet output errors _ is (remarks _ _ _ asked _ _ _) = absurd cc
-plant_done these those batches ticks ring request quiet output errors _ is (keeps _ _ _ _ _ _ asked _ _ _) = absurd cc
-plant_done these those batches ticks ring request quiet output errors _ is (reads _ asked _ _) = absurd cc
-plant_done these those batches ticks ring request quiet output errors _ is (draws _ asked _ _) = absurd cc
-plant_done these those batches ticks ring request quiet output errors _ is (audits _ _ asked _ _ _) = absurd cc
-plant_done these those batches ticks ring request quiet output errors _ is (serves_desks _ _ _ _ _ _ _ asked _ _ _) = absurd cc
-plant_done these those batches ticks ring request quiet output errors _ is (writes _ _ _ asked _ _) = absurd cc
-plant_done these those batches ticks ring request quiet output errors _ is (judges _ _ _ _ asked _ _) = absurd cc
-plant_done these those batches ticks ring request quiet output errors _ is (explains _ _ asked _) = absurd cc
 
 served_set : (gives : Gives) (words : List Text) (output errors : Stream) (request : Request) (set : ClearedSet) (quiet : Bool) (course : Course)
     → AskFor words request → IsRun gives words output errors course → course ≡ Serves set quiet
@@ -226,7 +207,7 @@ demo_done gives request quiet output errors _ demo_asked (reads _ asked _ _) = a
 demo_done gives request quiet output errors _ demo_asked (draws _ asked _ _) = absurd cc
 demo_done gives request quiet output errors _ demo_asked (audits _ _ asked _ _ _) = absurd cc
 demo_done gives request quiet output errors _ demo_asked (serves_desks _ _ _ _ _ _ _ asked _ _ _) = absurd cc
-demo_done gives request quiet output errors _ demo_asked (plants _ _ asked _ _ _) = absurd cc
+demo_done gives request quiet output errors _ demo_asked (plants _ _ _ asked _ _ _) = absurd cc
 
 pub no_command_serves : (gives : Gives) → NoCommandServes gives
 no_command_serves gives words output errors _ asked (commands other course asked2 came) =

@@ -6,7 +6,7 @@ use Rattle.batch_journal.specs.Digests.{HasTaken}
 use Rattle.batch_journal.specs.declared.digest.DocumentsDigest.{DocumentsDigest}
 use Rattle.batch_commands.specs.Digested.{ReadsRecipeText, ReadsTexts}
 use Rattle.batch_commands.specs.Taking.{AreTaken}
-use Rattle.batch_commands.specs.Reading.{Gives, ReadsRecipe, ReadsRecipes}
+use Rattle.batch_commands.specs.Reading.{Gives, ReadsRecipes}
 
 pub none_taken : (gives : Gives) (rs : List Recipe) (digest : DocumentsDigest) → rs ≡ [] → AreTaken gives [] rs digest digest
 none_taken gives rs digest none = record {

@@ -1,5 +1,5 @@
 -- trusted: the graph of what is asked for after what, in the language of Graphviz.
-use Rattle.std.specs.Prelude.{ℕ, List, [], ◌++◌, Option, Some, None, codes, decimal, if◌then◌else◌}
+use Rattle.std.specs.Prelude.{ℕ, List, [], ◌++◌, Some, None, codes, decimal, if◌then◌else◌}
 use Rattle.std.specs.List.{flat_map}
 use Rattle.batch_cell.specs.declared.cell.Cell.{Cell}
 use Rattle.batch_cell.specs.declared.module.Module.{Module}

@@ -29,7 +29,7 @@ IsVerdict gives warns (draw all cell recipes) text = DrawsDocuments gives warns 
 IsVerdict gives warns (verify cell certificate recipes) text = VerifiesDocuments gives warns cell certificate recipes text
 IsVerdict gives warns (show cell recipes) text = ShowsDocuments gives cell recipes text × warns []
 
--- the set that is to be served: the demo's, or that of the documents, cleared by their certificate
+-- the set that is to be served, or whose plant is to be run: the demo's, or that of the documents, cleared by their certificate
 abbrev pub IsSetOf : Gives → Source → ClearedSet → Type 0
 IsSetOf gives demo set = IsDemoSet set
 IsSetOf gives (documents cell certificate recipes) set = AreCleared gives cell certificate recipes set
@@ -57,5 +57,5 @@ Halts gives warns (remark source echo times) h = HaltsSource gives source h × w
 Halts gives warns (audit beginning path source) h = HaltsSource gives source h × warns []
 Halts gives warns (tell path) h = ⊥
 Halts gives warns (picture path) h = ⊥
-Halts gives warns (plant batches ticks ring) h = HaltsDemo h × warns []
+Halts gives warns (plant source batches ticks ring) h = HaltsSource gives source h × warns []
 Halts gives warns (explain texts) h = ⊥

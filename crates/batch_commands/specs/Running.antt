@@ -13,7 +13,7 @@ use Rattle.batch_commands.specs.DeskSets.{AreDesksCleared}
 use Rattle.batch_commands.specs.Digested.{AreDigested}
 use Rattle.batch_commands.specs.Judging.{is_for_memory, status_of}
 use Rattle.batch_commands.specs.Reading.{Gives}
-use Rattle.batch_commands.specs.Requests.{Halts, IsDemoSet, IsSetOf, IsVerdict}
+use Rattle.batch_commands.specs.Requests.{Halts, IsSetOf, IsVerdict}
 use Rattle.batch_commands.specs.Saying.{AreSaid, IsSaid, IsWarned}
 use Rattle.batch_verify.specs.ClearedSet.{ClearedSet}
 use Rattle.batch_words.specs.declared.command.AuditWords.{AuditWords}
@@ -153,8 +153,8 @@ pub data IsDone (gives : Gives) (request : Request) (quiet : Bool) (output error
   audits : (asked : AuditWords) (set : ClearedSet)
       → request ≡ audit asked.beginning (string_bytes asked.path) (source_of asked.source) → IsSetOf gives (source_of asked.source) set
       → IsUnwritten output → IsUnwritten errors → IsDone gives request quiet output errors (Audits set asked)
-  plants : (set : ClearedSet) (options : PlantOptions)
-      → request ≡ plant options.batches options.ticks options.ring → IsDemoSet set → IsUnwritten output → IsUnwritten errors
+  plants : (source : Source) (set : ClearedSet) (options : PlantOptions)
+      → request ≡ plant source options.batches options.ticks options.ring → IsSetOf gives source set → IsUnwritten output → IsUnwritten errors
       → IsDone gives request quiet output errors (Plants set options)
   explains : (texts : List Text) (status : ℕ)
       → request ≡ explain texts → IsExplained texts output errors status → IsDone gives request quiet output errors (Ends status)

@@ -31,7 +31,7 @@ IsSuccess gives quiet (remark source echo times) output errors = ⊥
 IsSuccess gives quiet (serve_desks journal path cell certificate recipes times) output errors = ⊥
 IsSuccess gives quiet (tell path) output errors = ⊥
 IsSuccess gives quiet (picture path) output errors = ⊥
-IsSuccess gives quiet (plant batches ticks ring) output errors = ⊥
+IsSuccess gives quiet (plant source batches ticks ring) output errors = ⊥
 IsSuccess gives quiet (explain texts) output errors = AreCodesTold texts output
 
 -- a command that ends with status 0 was a success

@@ -54,7 +54,7 @@ pub enum Course {
         set: Cleared,
         audit: AuditWords,
     },
-    /// The program is to run the plant of this set, which is that of the demo.
+    /// The program is to run a plant of this set.
     Plants {
         set: Cleared,
         options: PlantOptions,

@@ -2,7 +2,7 @@
 ghost use Rattle.std.specs.Prelude.{◌≡◌, IfErr, IfOk, OnOk, map, option_map, string_bytes};
 ghost use Rattle.batch_words.specs.CommandLine.{audit, judgement_of, keep, plant, remark, request_of, serve, serve_desks, source_of};
 ghost use Rattle.std.specs.Io.KnownBytes.{Appends};
-ghost use Rattle.batch_commands.specs.Requests.{HaltsDemo, HaltsJudgement, HaltsSource, IsDemoSet, IsSetOf, IsVerdict, demo_gives};
+ghost use Rattle.batch_commands.specs.Requests.{HaltsDemo, HaltsJudgement, HaltsSource, IsDemoSet, IsSetOf, IsVerdict};
 ghost use Rattle.std.specs.List.{flat_map, list_any};
 ghost use Rattle.batch_commands.specs.Judging.{is_for_memory};
 ghost use Rattle.batch_commands.specs.Running.{AreRefused, IsAnnounced, IsDone, IsExplained, IsPrinted, IsRefused, IsRun, fault_status, status_of_every};
@@ -56,7 +56,7 @@ const UNKNOWN_CODE: &str =
 struct FailedWrite(io::Error);
 
 /// Does what the words ask for: judges documents and tells the verdict, or hands on the text that a file is to hold, clears the
-/// set that is to be served or over which a record is to be audited, or names the record that is to be read.
+/// set that is to be served, over which a record is to be audited or of which a plant is to be run, or names the record that is to be read.
 ///
 /// Verdicts, explanations and help go to the output, and all else to the errors: what a refusal means, in one line, unless the
 /// words ask for quiet, and what failed, in a free text. Where that can't be written the exit status is the same. Without words
@@ -131,7 +131,9 @@ fn run_command<D: Documents, O: Write, E: Write>(
         Subcommand::Status { path } => Course::Reads { path },
         Subcommand::Picture { path } => Course::Draws { path },
         Subcommand::Audit(words) => audit(alloc, quiet, words, documents, output, errors),
-        Subcommand::Plant(options) => plant(alloc, quiet, options, output, errors),
+        Subcommand::Plant { source, options } => {
+            plant(alloc, quiet, &source, options, documents, output, errors)
+        }
         Subcommand::Explain { texts } => { Course::Ends(tell_codes(alloc, &texts, output, errors)) }
     }
 }
@@ -207,20 +209,21 @@ fn audit<D: Documents, O: Write, E: Write>(
     }
 }
 
-/// Has the demo's plant run.
-fn plant<O: Write, E: Write>(
+/// Has a plant of the set of a source run.
+fn plant<D: Documents, O: Write, E: Write>(
     alloc: Global,
     quiet: bool,
+    source: &Source,
     options: PlantOptions,
+    documents: &D,
     output: &mut O,
     errors: &mut E,
 ) -> Course
-    // Of the demo's documents alone it speaks, and so whatever others say.
-    ensures { IsDone demo_gives (plant options.batches options.ticks options.ring) quiet
+    ensures { IsDone (D.gives documents.now) (plant (source_of source.now) options.batches options.ticks options.ring) quiet
         (record { before = O.contents output.old; after = O.contents output.new })
         (record { before = E.contents errors.old; after = E.contents errors.new }) result }
 {
-    match clear_demo(alloc) {
+    match clear_source(alloc, documents, source) {
         Ok(set) => Course::Plants { set, options },
         Err(halt) => Course::Ends(announce(alloc, quiet, &halt, output, errors)),
     }
@@ -307,7 +310,7 @@ fn judge<D: Documents, E: Write>(
     }
 }
 
-/// The set that is to be served, or over which a record is to be audited.
+/// The set that is to be served, or over which a record is to be audited, or whose plant is to be run.
 fn clear_source<D: Documents>(
     alloc: Global,
     documents: &D,

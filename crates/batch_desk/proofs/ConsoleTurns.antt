@@ -9,10 +9,11 @@ use Rattle.batch_matrix.specs.declared.command.Command.TheVariants as command
 use Rattle.batch_engine.specs.declared.event.Event.{Event}
 use Rattle.batch_engine.specs.declared.event.Event.TheVariants.{Create, Order}
 use Rattle.batch_engine.specs.declared.out.Out.{Out}
+use Rattle.batch_desk.specs.declared.batch_plan.BatchPlan.{BatchPlan}
 use Rattle.batch_desk.specs.declared.step.Step.TheVariants as step
 use Rattle.batch_desk.specs.declared.console.Console.{Console}
 use Rattle.batch_desk.specs.DeskState.{DeskState, Sends}
-use Rattle.batch_desk.specs.Consoles.{IsConsoleEvent, completes, creates, creating, creations, refusals, starting, starts, telling_complete, telling_created, telling_refused}
+use Rattle.batch_desk.specs.Consoles.{IsConsoleEvent, IsSamePlan, completes, creates, creating, creations, refusals, starting, starts, telling_complete, telling_created, telling_refused}
 use Rattle.batch_desk.specs.ConsoleSteps.{Follows, GoesOn, IsTried, Minds, learned}
 use Rattle.batch_desk.proofs.Consoles.{learns}
 
@@ -33,9 +34,9 @@ starts_create m recipe size roles es = sum_by_push (starting m) es (Create recip
 creates_create : (recipe : Name) (size : ℕ) (roles : Vec (Name × Name)) (es : List Event) → creates (es ++ Create recipe size roles ∷ []) ≡ creates es + 1
 creates_create recipe size roles es = sum_by_push creating es (Create recipe size roles)
 
-pub start_goes : (recipe : Name) (size n : ℕ) (c f : Console) (d e : DeskState) → c.step ≡ step.Start n → f.step ≡ step.Wait → f.last ≡ c.last → f.to_create ≡ c.to_create → f.to_complete ≡ c.to_complete → f.refused ≡ c.refused
-    → Sends d (Order command.Start n) e → GoesOn recipe size c d f e
-start_goes recipe size n c f d e here waits last creates-left completing same sends batches before was =
+pub start_goes : (plan : BatchPlan) (n : ℕ) (c f : Console) (d e : DeskState) → c.step ≡ step.Start n → f.step ≡ step.Wait → f.last ≡ c.last → f.to_create ≡ c.to_create → f.to_complete ≡ c.to_complete → f.refused ≡ c.refused
+    → Sends d (Order command.Start n) e → GoesOn plan c d f e
+start_goes plan n c f d e here waits last creates-left completing same sends batches before was =
     let next = was.minds.next n here in
     record {
       is = record {
@@ -45,7 +46,7 @@ start_goes recipe size n c f d e here waits last creates-left completing same se
         seen = was.is.seen;
         sent = more_appended before.sent was.is.more d.sent e.sent (Order command.Start n) was.is.sent sends.sent;
         taken = ap (λ (x : DeskState). x.taken) sends.others ∙ was.is.taken;
-        each = All-push (IsConsoleEvent recipe size) was.is.more (Order command.Start n) was.is.each refl;
+        each = All-push (IsConsoleEvent plan) was.is.more (Order command.Start n) was.is.each refl;
         creates = omega (arith, creates_start n was.is.more, was.is.creates);
         once = λ m. let o = was.is.once m in let unstarted = next.1 in let s = starts_start m n was.is.more in grind (arith, nat_tests);
         created = λ m. let o = was.is.created m in let told = next.2 in let unstarted = next.1 in let s = starts_start m n was.is.more in grind (arith, nat_tests);
@@ -60,25 +61,25 @@ start_goes recipe size n c f d e here waits last creates-left completing same se
       };
     }
 
-pub create_goes : (recipe : Name) (size : ℕ) (roles : Vec (Name × Name)) (c f : Console) (d e : DeskState) → roles.items ≡ [] → 0 < c.to_create → f.step ≡ step.Wait → f.last ≡ c.last → f.to_create ≡ c.to_create - 1 → f.to_complete ≡ c.to_complete → f.refused ≡ c.refused
-    → Sends d (Create recipe size roles) e → GoesOn recipe size c d f e
-create_goes recipe size roles c f d e none some waits last creates-left completing same sends batches before was = record {
+pub create_goes : (plan copy : BatchPlan) (c f : Console) (d e : DeskState) → IsSamePlan plan copy → 0 < c.to_create → f.step ≡ step.Wait → f.last ≡ c.last → f.to_create ≡ c.to_create - 1 → f.to_complete ≡ c.to_complete → f.refused ≡ c.refused
+    → Sends d (Create copy.recipe copy.size copy.roles) e → GoesOn plan c d f e
+create_goes plan copy c f d e same_plan some waits last creates-left completing same sends batches before was = record {
   is = record {
     events = ap (λ (x : DeskState). x.events) sends.others ∙ was.is.events;
     outs = ap (λ (x : DeskState). x.outs) sends.others ∙ was.is.outs;
-    more = was.is.more ++ Create recipe size roles ∷ [];
+    more = was.is.more ++ Create copy.recipe copy.size copy.roles ∷ [];
     seen = was.is.seen;
-    sent = more_appended before.sent was.is.more d.sent e.sent (Create recipe size roles) was.is.sent sends.sent;
+    sent = more_appended before.sent was.is.more d.sent e.sent (Create copy.recipe copy.size copy.roles) was.is.sent sends.sent;
     taken = ap (λ (x : DeskState). x.taken) sends.others ∙ was.is.taken;
-    each = All-push (IsConsoleEvent recipe size) was.is.more (Create recipe size roles) was.is.each (refl, refl, none);
-    creates = omega (arith, creates_create recipe size roles was.is.more, was.minds.to_create, some);
-    once = λ m. omega (arith, was.is.once m, starts_create m recipe size roles was.is.more);
-    created = λ m. omega (arith, was.is.created m, starts_create m recipe size roles was.is.more);
+    each = All-push (IsConsoleEvent plan) was.is.more (Create copy.recipe copy.size copy.roles) was.is.each (same_plan.recipe, same_plan.size, same_plan.roles);
+    creates = omega (arith, creates_create copy.recipe copy.size copy.roles was.is.more, was.minds.to_create, some);
+    once = λ m. omega (arith, was.is.once m, starts_create m copy.recipe copy.size copy.roles was.is.more);
+    created = λ m. omega (arith, was.is.created m, starts_create m copy.recipe copy.size copy.roles was.is.more);
   };
   minds = record {
-    to_create = omega (arith, creates_create recipe size roles was.is.more, was.minds.to_create, creates-left, some);
+    to_create = omega (arith, creates_create copy.recipe copy.size copy.roles was.is.more, was.minds.to_create, creates-left, some);
     to_complete = completing ∙ was.minds.to_complete;
-    above = λ m up. omega (arith, was.minds.above m (omega (arith, last, up)), starts_create m recipe size roles was.is.more);
+    above = λ m up. omega (arith, was.minds.above m (omega (arith, last, up)), starts_create m copy.recipe copy.size copy.roles was.is.more);
     next = λ m at. cc;
     refused = λ e. was.minds.refused (sym same ∙ e);
     none_refused = λ e. was.minds.none_refused (sym same ∙ e);
@@ -90,8 +91,8 @@ pub sent_more : (c f : Console) (d e : DeskState) (event : Event) → Sends d ev
 sent_more c f d e event sends = inr (ap length sends.sent ∙ length-append d.sent (event ∷ []))
 
 -- where there was no place
-pub full_goes : (recipe : Name) (size : ℕ) (c : Console) (d e : DeskState) → e ≡ record d { free = 0 } → GoesOn recipe size c d c e
-full_goes recipe size c d e same batches before was = rw same (record {
+pub full_goes : (plan : BatchPlan) (c : Console) (d e : DeskState) → e ≡ record d { free = 0 } → GoesOn plan c d c e
+full_goes plan c d e same batches before was = rw same (record {
   is = record {
     events = was.is.events;
     outs = was.is.outs;
@@ -111,8 +112,8 @@ full_goes recipe size c d e same batches before was = rw same (record {
 seen_more : (n : ℕ) (outs : List Out) (x : Out) → creations n outs ≤ creations n (outs ++ x ∷ [])
 seen_more n outs x = omega (arith, sum_by_push (telling_created n) outs x)
 
-pub take_goes : (recipe : Name) (size : ℕ) (out : Out) (c f : Console) (d e : DeskState) → f ≡ learned out c → e ≡ record d { taken = d.taken ++ out ∷ [] } → GoesOn recipe size c d f e
-take_goes recipe size out c f d e learns-it taken batches before was = rw (learns-it, taken) (record {
+pub take_goes : (plan : BatchPlan) (out : Out) (c f : Console) (d e : DeskState) → f ≡ learned out c → e ≡ record d { taken = d.taken ++ out ∷ [] } → GoesOn plan c d f e
+take_goes plan out c f d e learns-it taken batches before was = rw (learns-it, taken) (record {
   is = record {
     events = was.is.events;
     outs = was.is.outs;
@@ -129,8 +130,8 @@ take_goes recipe size out c f d e learns-it taken batches before was = rw (learn
 })
 
 -- nothing was sent or taken yet
-pub begins : (recipe : Name) (size batches : ℕ) (c : Console) (d : DeskState) → Minds batches c [] [] → Follows recipe size batches d c d
-begins recipe size batches c d minds = record {
+pub begins : (plan : BatchPlan) (batches : ℕ) (c : Console) (d : DeskState) → Minds batches c [] [] → Follows plan batches d c d
+begins plan batches c d minds = record {
   is = record {
     events = refl;
     outs = refl;
@@ -147,27 +148,27 @@ begins recipe size batches c d minds = record {
 }
 
 -- nothing is left exactly where as many batches became complete
-pub completes_seen : (recipe : Name) (size batches : ℕ) (before d : DeskState) (c : Console) (follows : Follows recipe size batches before c d)
+pub completes_seen : (plan : BatchPlan) (batches : ℕ) (before d : DeskState) (c : Console) (follows : Follows plan batches before c d)
     → completes d.taken ≡ completes before.taken + completes follows.is.seen
-completes_seen recipe size batches before d c follows = ap completes follows.is.taken ∙ sum_by-append telling_complete before.taken follows.is.seen
+completes_seen plan batches before d c follows = ap completes follows.is.taken ∙ sum_by-append telling_complete before.taken follows.is.seen
 
-pub none_left : (recipe : Name) (size batches : ℕ) (before d : DeskState) (c : Console) → Follows recipe size batches before c d → c.to_complete ≡ 0
+pub none_left : (plan : BatchPlan) (batches : ℕ) (before d : DeskState) (c : Console) → Follows plan batches before c d → c.to_complete ≡ 0
     → completes before.taken + batches ≤ completes d.taken
-none_left recipe size batches before d c follows zero = omega (arith, completes_seen recipe size batches before d c follows, follows.minds.to_complete, zero)
+none_left plan batches before d c follows zero = omega (arith, completes_seen plan batches before d c follows, follows.minds.to_complete, zero)
 
-pub some_left : (recipe : Name) (size batches : ℕ) (before d : DeskState) (c : Console) → Follows recipe size batches before c d → completes before.taken + batches ≤ completes d.taken
+pub some_left : (plan : BatchPlan) (batches : ℕ) (before d : DeskState) (c : Console) → Follows plan batches before c d → completes before.taken + batches ≤ completes d.taken
     → c.to_complete ≡ 0
-some_left recipe size batches before d c follows all = omega (arith, completes_seen recipe size batches before d c follows, follows.minds.to_complete, all)
+some_left plan batches before d c follows all = omega (arith, completes_seen plan batches before d c follows, follows.minds.to_complete, all)
 
 -- an event was refused where this is kept in mind
-pub refusals_seen : (recipe : Name) (size batches : ℕ) (before d : DeskState) (c : Console) (follows : Follows recipe size batches before c d)
+pub refusals_seen : (plan : BatchPlan) (batches : ℕ) (before d : DeskState) (c : Console) (follows : Follows plan batches before c d)
     → refusals d.taken ≡ refusals before.taken + refusals follows.is.seen
-refusals_seen recipe size batches before d c follows = ap refusals follows.is.taken ∙ sum_by-append telling_refused before.taken follows.is.seen
+refusals_seen plan batches before d c follows = ap refusals follows.is.taken ∙ sum_by-append telling_refused before.taken follows.is.seen
 
-pub some_refused : (recipe : Name) (size batches : ℕ) (before d : DeskState) (c : Console) → Follows recipe size batches before c d → c.refused ≡ true
+pub some_refused : (plan : BatchPlan) (batches : ℕ) (before d : DeskState) (c : Console) → Follows plan batches before c d → c.refused ≡ true
     → refusals before.taken < refusals d.taken
-some_refused recipe size batches before d c follows is = omega (arith, refusals_seen recipe size batches before d c follows, follows.minds.refused is)
+some_refused plan batches before d c follows is = omega (arith, refusals_seen plan batches before d c follows, follows.minds.refused is)
 
-pub none_refused : (recipe : Name) (size batches : ℕ) (before d : DeskState) (c : Console) → Follows recipe size batches before c d → c.refused ≡ false
+pub none_refused : (plan : BatchPlan) (batches : ℕ) (before d : DeskState) (c : Console) → Follows plan batches before c d → c.refused ≡ false
     → refusals d.taken ≡ refusals before.taken
-none_refused recipe size batches before d c follows is = omega (arith, refusals_seen recipe size batches before d c follows, follows.minds.none_refused is)
+none_refused plan batches before d c follows is = omega (arith, refusals_seen plan batches before d c follows, follows.minds.none_refused is)

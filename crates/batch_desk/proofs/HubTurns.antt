@@ -1,19 +1,42 @@
 -- What turns, one after the other, keep of a hub, and which of its batches are complete.
-use Rattle.std.proofs.Common.{◌≡◌, ℕ, ◌+◌, ◌-◌, ◌<◌, ◌≤◌, List, [], ◌∷◌, ◌++◌, sym, ◌∙◌, ap, subst, arith, append_assoc, append-nil, inl, inr, ◌⊎◌}
+use Rattle.std.proofs.Common.{◌≡◌, ℕ, ◌+◌, ◌-◌, ◌<◌, ◌≤◌, List, [], ◌∷◌, ◌++◌, length, sym, ◌∙◌, ap, subst, arith, append_assoc, append-nil, inl, inr, ◌⊎◌}
 use Rattle.std.proofs.lemmas.Bool.Decides.{nat_tests}
+use Rattle.std.proofs.lemmas.List.{length-map}
+use Rattle.std.proofs.lemmas.List.Elements.{All-nil, All-push}
 use mathlib.Core.List.{IsPrefix}
 use Rattle.batch_engine.specs.declared.event.Event.{Event}
-use Rattle.batch_desk.specs.HubState.{HubState}
+use Rattle.batch_desk.specs.HubState.{HasGrown, HubState, outlines}
 use Rattle.batch_desk.specs.HubDone.{AreComplete, IsComplete}
+use Rattle.batch_desk.specs.PortState.{outline}
 use Rattle.batch_desk.specs.Turns.{Grows}
 
 pub prefix_same : {X : Type 0} (xs : List X) → IsPrefix xs xs
 prefix_same xs = ([], append-nil xs)
 
-pub history_grows : (port : ℕ) (old : List (ℕ × Event)) (h g : HubState) → IsPrefix old h.history → Grows port h g → IsPrefix old g.history
-history_grows port old h g pre (inl same) = subst (λ es. IsPrefix old es) (sym same) pre
-history_grows port old h g pre (inr pops) =
-    (pre.0 ++ (port, pops.event) ∷ [], sym (append_assoc old pre.0 ((port, pops.event) ∷ [])) ∙ (ap (λ es. es ++ (port, pops.event) ∷ []) pre.1 ∙ sym pops.history))
+pub history_same : (ports : ℕ) (history : List (ℕ × Event)) → HasGrown ports history history
+history_same ports history = record { more = []; is = sym (append-nil history); each = All-nil (λ (entry : ℕ × Event). entry.0 < ports) }
+
+pub as_many : (h g : HubState) → outlines g ≡ outlines h → length g.ports ≡ length h.ports
+as_many h g same = sym (length-map g.ports outline) ∙ (ap length same ∙ length-map h.ports outline)
+
+within : (port ports : ℕ) → (port < ports) ⊎ (ports ≤ port)
+within port ports = grind (arith, nat_tests)
+
+grown_within : (ports port : ℕ) (old : List (ℕ × Event)) (h g : HubState) → port < ports → HasGrown ports old h.history → Grows port h g → HasGrown ports old g.history
+grown_within ports port old h g below was (inl same) = subst (λ es. HasGrown ports old es) (sym same) was
+grown_within ports port old h g below was (inr pops) = record {
+  more = was.more ++ (port, pops.event) ∷ [];
+  is = pops.history ∙ (ap (λ es. es ++ (port, pops.event) ∷ []) was.is ∙ append_assoc old was.more ((port, pops.event) ∷ []));
+  each = All-push (λ (entry : ℕ × Event). entry.0 < ports) was.more (port, pops.event) was.each below;
+}
+
+-- a turn of a port that isn't there changes nothing
+pub history_grows : (ports port : ℕ) (old : List (ℕ × Event)) (h g : HubState) → length h.ports ≡ ports → (length h.ports ≤ port → g ≡ h) → HasGrown ports old h.history
+    → Grows port h g → HasGrown ports old g.history
+history_grows ports port old h g many unknown was grown = elim (within port (length h.ports)) [
+  | inl below ↦ grown_within ports port old h g (subst (λ n. port < n) many below) was grown
+  | inr out ↦ subst (λ (k : HubState). HasGrown ports old k.history) (sym (unknown out)) was
+]
 
 pub one_incomplete : (h : HubState) (batches later : ℕ) → later < batches → ¬ IsComplete (batches - later) h → ¬ AreComplete batches h
 one_incomplete h batches later lt lacks all = lacks (all (batches - later) (omega (arith, lt)) (omega (arith, lt)))

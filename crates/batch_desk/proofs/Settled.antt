@@ -1,5 +1,5 @@
 -- A settled engine, and turns between which only the ports changed.
-use Rattle.std.proofs.Common.{◌≡◌, ◌↔◌, ℕ, ◌+◌, ◌<◌, ◌⊎◌, Bool, true, false, IsTrue, IfSome, IsNone, IfOk, Result, Ok, Err, ◌∷◌, [], ◌++◌, length, slice_get, sym, ◌∙◌, ap, subst, arith, inl, inr}
+use Rattle.std.proofs.Common.{◌≡◌, ◌↔◌, ℕ, Bool, true, false, IsTrue, IfSome, IsNone, IfOk, Result, Ok, Err, ◌∷◌, [], ◌++◌, length, slice_get, sym, ◌∙◌, ap, subst, arith, inl, inr}
 use Rattle.batch_desk.specs.HubState.{HubState, IsEngineSettled, outlines}
 use Rattle.batch_desk.specs.HubDone.{IsHubDone}
 use Rattle.batch_desk.specs.Turns.{AnswersTurn, Grows, SameWork, moves}

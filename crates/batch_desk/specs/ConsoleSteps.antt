@@ -1,6 +1,5 @@
 -- private: what a console keeps in mind, and the steps of its turns.
 use Rattle.std.specs.Prelude.{◌≡◌, ℕ, ◌+◌, ◌-◌, ◌<◌, ◌≤◌, ◌⊎◌, List, length, nat_lt, true, false}
-use Rattle.batch_recipe.specs.Conditions.{Name}
 use Rattle.batch_matrix.specs.declared.command.Command.TheVariants as command
 use Rattle.batch_matrix.specs.declared.state.State.TheVariants.{Complete}
 use Rattle.batch_engine.specs.declared.event.Event.{Event}
@@ -8,6 +7,7 @@ use Rattle.batch_engine.specs.declared.line.Line.TheVariants.{State}
 use Rattle.batch_engine.specs.declared.out.Out.{Out}
 use Rattle.batch_engine.specs.declared.out.Out.TheVariants.{Reply, Move}
 use Rattle.batch_engine.specs.declared.reply.Reply.TheVariants.{Created, Ordered, Refused}
+use Rattle.batch_desk.specs.declared.batch_plan.BatchPlan.{BatchPlan}
 use Rattle.batch_desk.specs.declared.step.Step.{Step}
 use Rattle.batch_desk.specs.declared.step.Step.TheVariants.{Create, Start, Wait}
 use Rattle.batch_desk.specs.declared.console.Console.{Console}
@@ -25,13 +25,13 @@ pub record Minds (batches : ℕ) (c : Console) (sent : List Event) (taken : List
   pub none_refused : c.refused ≡ false → refusals taken ≡ 0
 
 -- what has been sent and taken since `before` is a console's, and it keeps that in mind
-pub record Follows (recipe : Name) (size batches : ℕ) (before : DeskState) (c : Console) (d : DeskState) : Type 0 where
-  pub is : IsConsole recipe size batches before d
+pub record Follows (plan : BatchPlan) (batches : ℕ) (before : DeskState) (c : Console) (d : DeskState) : Type 0 where
+  pub is : IsConsole plan batches before d
   pub minds : Minds batches c is.more is.seen
 
 -- it goes on so
-abbrev pub GoesOn : Name → ℕ → Console → DeskState → Console → DeskState → Type 0
-GoesOn recipe size c d f e = (batches : ℕ) (before : DeskState) → Follows recipe size batches before c d → Follows recipe size batches before f e
+abbrev pub GoesOn : BatchPlan → Console → DeskState → Console → DeskState → Type 0
+GoesOn plan c d f e = (batches : ℕ) (before : DeskState) → Follows plan batches before c d → Follows plan batches before f e
 
 -- an event was sent, or the same is to be sent as before
 abbrev pub IsTried : Console → DeskState → Console → DeskState → Type 0

@@ -1,7 +1,6 @@
 -- surface: what a console sends and takes.
-use Rattle.std.specs.Prelude.{◌≡◌, ℕ, ◌≤◌, List, [], ◌++◌, cond, eqb}
+use Rattle.std.specs.Prelude.{◌≡◌, ℕ, ◌≤◌, List, ◌++◌, cond, eqb}
 use Rattle.std.specs.List.{All, sum_by}
-use Rattle.batch_recipe.specs.Conditions.{Name}
 use Rattle.batch_matrix.specs.declared.command.Command.TheVariants as command
 use Rattle.batch_matrix.specs.declared.state.State.TheVariants.{Complete}
 use Rattle.batch_engine.specs.declared.event.Event.{Event}
@@ -10,13 +9,20 @@ use Rattle.batch_engine.specs.declared.line.Line.TheVariants.{State}
 use Rattle.batch_engine.specs.declared.out.Out.{Out}
 use Rattle.batch_engine.specs.declared.out.Out.TheVariants.{Reply, Move}
 use Rattle.batch_engine.specs.declared.reply.Reply.TheVariants.{Created, Refused}
+use Rattle.batch_desk.specs.declared.batch_plan.BatchPlan.{BatchPlan}
 use Rattle.batch_desk.specs.DeskState.{DeskState}
 
--- a create of this recipe in this size that binds no roles, or the start of a batch
-abbrev pub IsConsoleEvent : Name → ℕ → Event → Type 0
-IsConsoleEvent recipe size (Create name amount roles) = (name ≡ recipe) × (amount ≡ size) × (roles.items ≡ [])
-IsConsoleEvent recipe size (Order word batch) = word ≡ command.Start
-IsConsoleEvent recipe size _ = ⊥
+-- two plans say the same
+pub record IsSamePlan (plan copy : BatchPlan) : Type 0 where
+  pub recipe : copy.recipe ≡ plan.recipe
+  pub size : copy.size ≡ plan.size
+  pub roles : copy.roles.items ≡ plan.roles.items
+
+-- a create of the plan's recipe in its size, whose roles its units take, or the start of a batch
+abbrev pub IsConsoleEvent : BatchPlan → Event → Type 0
+IsConsoleEvent plan (Create recipe size roles) = (recipe ≡ plan.recipe) × (size ≡ plan.size) × (roles.items ≡ plan.roles.items)
+IsConsoleEvent plan (Order word batch) = word ≡ command.Start
+IsConsoleEvent plan _ = ⊥
 
 -- one for a create, and for nothing else
 abbrev pub creating : Event → ℕ
@@ -61,9 +67,9 @@ completes outs = sum_by telling_complete outs
 abbrev pub refusals : List Out → ℕ
 refusals outs = sum_by telling_refused outs
 
--- a console has sent more events from its desk, and taken more outs: it sent creates of its recipe in its size, for as many
+-- a console has sent more events from its desk, and taken more outs: it sent creates by its plan, for as many
 -- batches at most, and the start of each batch at most once, and only where it was told that the batch was created
-pub record IsConsole (recipe : Name) (size batches : ℕ) (d e : DeskState) : Type 0 where
+pub record IsConsole (plan : BatchPlan) (batches : ℕ) (d e : DeskState) : Type 0 where
   -- the rings of the desk are the same
   pub events : e.events ≡ d.events
   pub outs : e.outs ≡ d.outs
@@ -71,7 +77,7 @@ pub record IsConsole (recipe : Name) (size batches : ℕ) (d e : DeskState) : Ty
   pub seen : List Out
   pub sent : e.sent ≡ d.sent ++ more
   pub taken : e.taken ≡ d.taken ++ seen
-  pub each : All (IsConsoleEvent recipe size) more
+  pub each : All (IsConsoleEvent plan) more
   pub creates : creates more ≤ batches
   pub once : (n : ℕ) → starts n more ≤ 1
   pub created : (n : ℕ) → starts n more ≤ creations n seen

@@ -1,5 +1,6 @@
 -- surface: the hub's account: its history and record, the engine that they lead to, and the ports.
 use Rattle.std.specs.Prelude.{◌≡◌, ℕ, ◌<◌, ◌≤◌, ◌++◌, List, map, length, Option, None, IfSome, slice_index_or}
+use Rattle.std.specs.List.{All}
 use Rattle.batch_model.specs.Plant.{opening}
 use Rattle.batch_model.specs.Moves.{next}
 use Rattle.batch_model.specs.Events as Events
@@ -34,6 +35,16 @@ pub record IsPort (history : List (ℕ × Event)) (outs : List Out) (port : ℕ)
 
 abbrev pub ArePorts : List (ℕ × Event) → List Out → List PortState → Type 0
 ArePorts history outs ps = (k : ℕ) (p : PortState) → k < length ps → p ≡ slice_index_or ps k p → IsPort history outs k p
+
+-- each event of a history came from one of so many ports
+abbrev pub AreFromPorts : ℕ → List (ℕ × Event) → Type 0
+AreFromPorts ports history = All (λ entry. entry.0 < ports) history
+
+-- a history has grown at its end, by events from so many ports
+pub record HasGrown (ports : ℕ) (old new : List (ℕ × Event)) : Type 0 where
+  pub more : List (ℕ × Event)
+  pub is : new ≡ old ++ more
+  pub each : AreFromPorts ports more
 
 -- the events of a history, and the outs of a record, as the machine has them
 

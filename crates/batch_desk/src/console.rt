@@ -1,13 +1,15 @@
 //! What a console keeps in mind between its turns.
-ghost use Rattle.std.specs.Prelude.{◌≡◌, ◌<◌, ℕ, List, []};
+ghost use Rattle.std.specs.Prelude.{◌≡◌, ◌<◌, []};
 ghost use Rattle.batch_desk.specs.ConsoleSteps.{GoesOn, IsTried, Minds, learned};
+ghost use Rattle.batch_desk.specs.Consoles.{IsSamePlan};
+ghost use Rattle.batch_desk.specs.declared.batch_plan.BatchPlan as planned;
 ghost use Rattle.batch_desk.specs.declared.step.Step.TheVariants.{Start as ToStart};
 
+use crate::batch_plan::BatchPlan;
 use crate::desk::Desk;
 use crate::step::Step;
 use batch_engine::{Event, Line, Out, Reply};
 use batch_matrix::{Command, State};
-use batch_text::Name;
 use std::alloc::Global;
 
 /// What a console keeps in mind between its turns.
@@ -72,7 +74,7 @@ impl Console {
     /// Tells a batch to start, where there is a place for it.
     fn start(&mut self, desk: &mut Desk, batch: u64)
         requires { self.old.step ≡ ToStart batch }
-        ensures goes { (recipe : List ℕ) (size : ℕ) → GoesOn recipe size self.old desk.old self.new desk.new }
+        ensures goes { (plan : planned.BatchPlan) → GoesOn plan self.old desk.old self.new desk.new }
         ensures tries { IsTried self.old desk.old self.new desk.new }
     {
         let command = Command::Start;
@@ -82,13 +84,17 @@ impl Console {
         }
     }
 
-    /// Sends a create that binds no roles, where there is a place for it.
-    fn create(&mut self, alloc: Global, desk: &mut Desk, recipe: Name, size: u64)
+    /// Sends a create by this copy of a plan, where there is a place for it.
+    fn create(&mut self, desk: &mut Desk, copy: BatchPlan)
         requires { 0 < self.old.to_create }
-        ensures goes { GoesOn recipe size self.old desk.old self.new desk.new }
+        ensures goes { (plan : planned.BatchPlan) → IsSamePlan plan copy → GoesOn plan self.old desk.old self.new desk.new }
         ensures tries { IsTried self.old desk.old self.new desk.new }
     {
-        let roles = Vec::new(alloc);
+        let BatchPlan {
+            recipe,
+            size,
+            roles,
+        } = copy;
         match desk.send(Event::Create {
             recipe,
             size,
@@ -103,8 +109,8 @@ impl Console {
     }
 
     /// Sends what is next, where there are memory and a place for it.
-    fn act(&mut self, alloc: Global, desk: &mut Desk, recipe: &Name, size: u64)
-        ensures goes { GoesOn recipe.now size self.old desk.old self.new desk.new }
+    fn act(&mut self, alloc: Global, desk: &mut Desk, plan: &BatchPlan)
+        ensures goes { GoesOn plan.now self.old desk.old self.new desk.new }
         ensures tries { IsTried self.old desk.old self.new desk.new }
     {
         match self.step {
@@ -112,8 +118,8 @@ impl Console {
             Step::Start(batch) => self.start(desk, batch),
             Step::Create => {
                 if self.to_create > 0 {
-                    if let Ok(recipe) = recipe.copy(alloc) {
-                        self.create(alloc, desk, recipe, size);
+                    if let Ok(copy) = plan.copy(alloc) {
+                        self.create(desk, copy);
                     }
                 }
             }
@@ -121,12 +127,12 @@ impl Console {
     }
 
     /// One turn: takes an out, if one is there, and sends what is next.
-    pub(crate) fn take_turn(&mut self, alloc: Global, desk: &mut Desk, recipe: &Name, size: u64)
-        ensures { GoesOn recipe.now size self.old desk.old self.new desk.new }
+    pub(crate) fn take_turn(&mut self, alloc: Global, desk: &mut Desk, plan: &BatchPlan)
+        ensures { GoesOn plan.now self.old desk.old self.new desk.new }
     {
         if let Some(out) = desk.take() {
             self.learn(out);
         }
-        self.act(alloc, desk, recipe, size);
+        self.act(alloc, desk, plan);
     }
 }

@@ -4,14 +4,14 @@ ghost use Rattle.batch_desk.specs.Consoles.{IsConsole, completes, refusals};
 ghost use Rattle.batch_desk.specs.Gates.{AreAsked};
 ghost use Rattle.batch_desk.specs.declared.loop_end.LoopEnd.TheVariants.{Done, Refused, TurnsOut};
 
+use crate::batch_plan::BatchPlan;
 use crate::console::Console;
 use crate::desk::Desk;
 use crate::gate::Gate;
 use crate::loop_end::LoopEnd;
-use batch_text::Name;
 use std::alloc::Global;
 
-/// Makes batches of a recipe in a size, one after the other: sends a create, starts the batch once it is told that it was created,
+/// Makes batches by a plan, one after the other: sends a create, starts the batch once it is told that it was created,
 /// and sends the next create once the start is answered, until `batches` moves were taken by which a batch became complete, or an
 /// event is refused. One
 /// turn takes at most one out and sends at most one event; an event for which there is no memory or no place is tried again at
@@ -19,13 +19,12 @@ use std::alloc::Global;
 pub fn console_loop<G: Gate>(
     alloc: Global,
     desk: &mut Desk,
-    recipe: &Name,
-    size: u64,
+    plan: &BatchPlan,
     batches: u64,
     gate: &mut G,
     limit: u64,
 ) -> LoopEnd
-    ensures console { IsConsole recipe.now size batches desk.old desk.new }
+    ensures console { IsConsole plan.now batches desk.old desk.new }
     ensures end { (result ≡ Done) ↔ (completes desk.old.taken + batches ≤ completes desk.new.taken) }
     ensures refused { (result ≡ Refused) → refusals desk.old.taken < refusals desk.new.taken }
     ensures turns { (result ≡ TurnsOut) → (refusals desk.new.taken ≡ refusals desk.old.taken) × AreAsked G.passes limit gate.old gate.new }
@@ -39,7 +38,7 @@ pub fn console_loop<G: Gate>(
             return LoopEnd::Refused;
         }
         if gate.pass(turn) {
-            console.take_turn(alloc, desk, recipe, size);
+            console.take_turn(alloc, desk, plan);
         }
     }
     if console.to_complete == 0 {

@@ -1,6 +1,7 @@
 //! Desks round one engine: events come in and outs go out by rings, one each way for each port.
 #![tactic(auto)]
 
+mod batch_plan;
 mod console;
 mod console_turns;
 mod desk;
@@ -20,6 +21,7 @@ mod step;
 mod turned;
 mod turning;
 
+pub use batch_plan::BatchPlan;
 pub use console_turns::console_loop;
 pub use desk::{Desk, Full};
 pub use fault::HubFault;

@@ -1,5 +1,5 @@
 -- What is known of the ports of a plant, and of their desks.
-use Rattle.std.proofs.Common.{◌≡◌, ℕ, zero, suc, ◌+◌, List, [], ◌∷◌, ◌++◌, length, map, Option, Some, None, IfSome, IsSome, option_map, slice_get, unwrap_or, refl, sym, ap, ◌∙◌, subst, add-one, arith, length-append}
+use Rattle.std.proofs.Common.{◌≡◌, ℕ, zero, suc, ◌+◌, List, [], ◌∷◌, ◌++◌, length, map, Option, Some, None, IfSome, option_map, slice_get, unwrap_or, refl, sym, ap, ◌∙◌, subst, add-one, arith, length-append}
 use Rattle.std.specs.List.{All, slice_set}
 use Rattle.std.proofs.lemmas.List.{length-map}
 use Rattle.std.proofs.lemmas.Option.{same_Some, slice_get-map, IfSome_then}
@@ -22,19 +22,19 @@ use Rattle.rtrb.specs.declared.AnyItems.{AnyItems}
 use Rattle.rtrb.specs.declared.finished.Finished.{Finished}
 use Rattle.std.specs.declared.alloc.Global.{Global}
 use Rattle.batch_engine.specs.declared.out.Out.{Out}
+use Rattle.batch_desk.specs.declared.batch_plan.BatchPlan.{BatchPlan}
 use Rattle.batch_desk.specs.Consoles.{IsConsole}
 use Rattle.batch_desk.specs.Due.{events_of}
 use Rattle.batch_desk.specs.Ends.{Seals}
 use Rattle.batch_desk.specs.Rings.{IsOfRing, Ring, places_of}
 use Rattle.batch_desk.specs.DeskState.{DeskState, IsNewDesk, desk_rings}
-use Rattle.batch_desk.specs.HubState.{HubState, rings}
+use Rattle.batch_desk.specs.HubState.{AreFromPorts, HasGrown, HubState, rings}
 use Rattle.batch_desk.specs.Plans.{AreOfPlans, places_free, sizes_made}
 use Rattle.batch_desk.specs.PortState.{PortState, port_rings, sealed}
 use Rattle.batch_desk.specs.declared.plan.PortPlan.{PortPlan}
 use Rattle.batch_plant.specs.Links.{Deed, took, ticked, listed, report_in, reports_made, IsLink}
 use Rattle.batch_plant.specs.Parts.{AreParts, HaveRings, IsRest, LinkRan}
 use Rattle.batch_plant.specs.Plants.{AreOfConsole, ComesFromDesks, HasEventRings, HasLink, IsReport, event_rings}
-use Rattle.batch_plant.specs.declared.plant_rests.PlantRests.{PlantRests}
 
 pub at_place : {X Y : Type 0} (f : X → Y) (xs : List X) (k : ℕ) (y : Y) → slice_get (map f xs) k ≡ Some y → IfSome (slice_get xs k) (λ x. f x ≡ y)
 at_place f [] k y is = tt
@@ -180,18 +180,25 @@ rest_left port h g token taken there rest seals all count =
 
 -- The events of the desks
 
-pub comes : {D : Type 0} (command_gives : D → ℕ → Told → D → Type 0) (tick_gives : D → Option (ℕ × Word) → D → Type 0) (cell : Cell) (units : List D) (recipe : Name) (size batches : ℕ) (h : HubState) (rests : PlantRests) (c d l e : DeskState) → c.sent ≡ [] → l.sent ≡ []
-    → IsConsole recipe size batches c d → LinkRan command_gives tick_gives cell units l e → (IsSome rests.console → events_of 0 h.history ≡ d.sent) → (IsSome rests.link → events_of 1 h.history ≡ e.sent)
-    → ComesFromDesks recipe size batches h rests
-comes command_gives tick_gives cell units recipe size batches h rests c d l e none_c none_l ran ran_l all all_l = record {
-  console = λ some. subst (AreOfConsole recipe size batches) (sym (all some ∙ ran.sent ∙ ap (λ es. es ++ ran.more) none_c)) (record { each = ran.each; creates = ran.creates; once = ran.once });
-  link = λ some. subst (All IsReport) (sym (all_l some ∙ ran_l.sent ∙ ap (λ es. es ++ ran_l.more) none_l)) ran_l.each;
+-- from a new hub on, all came from its two ports
+pub from_two : (ring : ℕ) (h g k : HubState) → HaveRings ring h → h.history ≡ [] → HasGrown (length h.ports) h.history g.history → k.history ≡ g.history → AreFromPorts 2 k.history
+from_two ring h g k made new grown same =
+    let two : length h.ports ≡ 2 = sym (length-map h.ports sizes_made) ∙ ap length made in
+    subst (AreFromPorts 2) (sym (same ∙ (grown.is ∙ ap (λ es. es ++ grown.more) new))) (subst (λ n. AreFromPorts n grown.more) two grown.each)
+
+pub comes : {D : Type 0} (command_gives : D → ℕ → Told → D → Type 0) (tick_gives : D → Option (ℕ × Word) → D → Type 0) (cell : Cell) (units : List D) (plan : BatchPlan) (batches : ℕ) (h : HubState) (c d l e : DeskState) → AreFromPorts 2 h.history → c.sent ≡ [] → l.sent ≡ []
+    → IsConsole plan batches c d → LinkRan command_gives tick_gives cell units l e → events_of 0 h.history ≡ d.sent → events_of 1 h.history ≡ e.sent
+    → ComesFromDesks plan batches h
+comes command_gives tick_gives cell units plan batches h c d l e ports none_c none_l ran ran_l all all_l = record {
+  ports = ports;
+  console = subst (AreOfConsole plan batches) (sym (all ∙ ran.sent ∙ ap (λ es. es ++ ran.more) none_c)) (record { each = ran.each; creates = ran.creates; once = ran.once });
+  link = subst (All IsReport) (sym (all_l ∙ ran_l.sent ∙ ap (λ es. es ++ ran_l.more) none_l)) ran_l.each;
 }
 
-pub linked_at_end : {D : Type 0} (command_gives : D → ℕ → Told → D → Type 0) (tick_gives : D → Option (ℕ × Word) → D → Type 0) (cell : Cell) (units : List D) (g h : HubState) (rest : Option ℕ) (l e : DeskState)
+pub linked_at_end : {D : Type 0} (command_gives : D → ℕ → Told → D → Type 0) (tick_gives : D → Option (ℕ × Word) → D → Type 0) (cell : Cell) (units : List D) (g h : HubState) (l e : DeskState)
     → l.sent ≡ [] → slice_get (rings g) 1 ≡ Some (desk_rings e) → event_rings h ≡ event_rings g → LinkRan command_gives tick_gives cell units l e
-    → (IsSome rest → events_of 1 h.history ≡ e.sent) → HasLink command_gives tick_gives cell units h rest
-linked_at_end command_gives tick_gives cell units g h rest l e new at kept ran all = record {
+    → events_of 1 h.history ≡ e.sent → HasLink command_gives tick_gives cell units h
+linked_at_end command_gives tick_gives cell units g h l e new at kept ran all = record {
   before = l;
   after = e;
   later = ran.later;

@@ -1,14 +1,15 @@
 -- private: which of several faults is told.
 use Rattle.std.specs.Prelude.{◌≡◌, ℕ, ◌≤◌, ◌⊎◌, Result, Err, IfErr}
 use Rattle.batch_plant.specs.declared.plant_fault.PlantFault.{PlantFault}
-use Rattle.batch_plant.specs.declared.plant_fault.PlantFault.TheVariants.{Memory, Thread, Refused, TurnsOut}
+use Rattle.batch_plant.specs.declared.plant_fault.PlantFault.TheVariants.{Memory, Thread, Refused, TurnsOut, Unclosed}
 
--- want of memory comes first, then a thread that can't be started, then a refusal, then turns that run out
+-- want of memory comes first, then a thread that can't be started, then a refusal, then turns that run out, last a port that isn't closed
 abbrev pub rank_of : PlantFault → ℕ
 rank_of Memory = 0
 rank_of Thread = 1
 rank_of Refused = 2
 rank_of TurnsOut = 3
+rank_of Unclosed = 4
 
 -- the fault is that of one of the two, and none of theirs comes before it
 abbrev pub IsFirst : {A B : Type 0} → PlantFault → Result A PlantFault → Result B PlantFault → Type 0

@@ -9,7 +9,7 @@ use Rattle.batch_engine.specs.declared.out.Out.{Out}
 use Rattle.batch_desk.specs.Due.{due, up_to}
 use Rattle.batch_desk.specs.DeskState.{DeskState, desk_rings}
 use Rattle.batch_desk.specs.HubDone.{AreComplete}
-use Rattle.batch_desk.specs.HubState.{HubState, rings}
+use Rattle.batch_desk.specs.HubState.{HasGrown, HubState, rings}
 use Rattle.batch_desk.specs.Plans.{sizes_made}
 use Rattle.batch_plant.specs.Links.{IsLink}
 use Rattle.batch_plant.specs.Plants.{IsReport}
@@ -28,6 +28,7 @@ pub record HubRan (batches : ℕ) (h g : HubState) : Type 0 where
   pub rings : rings g ≡ rings h
   pub cleared : g.engine.cleared ≡ h.engine.cleared
   pub complete : AreComplete batches g
+  pub history : HasGrown (length h.ports) h.history g.history
 
 -- a desk at which a link worked over these units, and that has sent reports
 pub record LinkRan {D : Type 0} (command_gives : D → ℕ → Order → D → Type 0) (tick_gives : D → Option (ℕ × Report) → D → Type 0) (cell : Cell) (units : List D) (d e : DeskState) : Type 0 where

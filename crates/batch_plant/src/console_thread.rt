@@ -23,7 +23,7 @@ pub(crate) struct ConsolePromise {
 impl Promise<(Desk, LoopEnd)> for ConsolePromise {
     ghost use Rattle.batch_desk.specs.Consoles.{IsConsole};
 
-    ghost kept_by = { λ p r. IsConsole p.task.value.recipe p.task.value.size p.task.value.batches p.desk.value r.0 };
+    ghost kept_by = { λ p r. IsConsole p.task.value.plan p.task.value.batches p.desk.value r.0 };
 }
 
 pub(crate) type ConsoleHandle = PromisedHandle<(Desk, LoopEnd), ConsolePromise>;
@@ -35,15 +35,14 @@ fn run<G: Gate + Drop>(
     task: PlantTask,
     gate: FlagGate<G>,
 ) -> (Desk, LoopEnd)
-    ensures { IsConsole task.recipe task.size task.batches desk result.0 }
+    ensures { IsConsole task.plan task.batches desk result.0 }
 {
     let mut desk = desk;
     let mut gate = gate;
     let end = console_loop(
         alloc,
         &mut desk,
-        &task.recipe,
-        task.size,
+        &task.plan,
         task.batches,
         &mut gate,
         task.limit,
@@ -75,7 +74,7 @@ pub(crate) fn join_console<R: Threads>(
     child: Option<ConsoleHandle>,
 ) -> Result<Desk, PlantFault>
     ensures unstarted { IsNone child → result ≡ Err Thread }
-    ensures ran { IfOk result (λ desk. IsSomeAnd child (λ c. IsConsole c.promise.task.value.recipe c.promise.task.value.size c.promise.task.value.batches c.promise.desk.value desk)) }
+    ensures ran { IfOk result (λ desk. IsSomeAnd child (λ c. IsConsole c.promise.task.value.plan c.promise.task.value.batches c.promise.desk.value desk)) }
 {
     let Some(child) = child else {
         return Err(PlantFault::Thread);

@@ -14,6 +14,7 @@ impl PlantFault {
             PlantFault::Thread => 1,
             PlantFault::Refused => 2,
             PlantFault::TurnsOut => 3,
+            PlantFault::Unclosed => 4,
         }
     }
 }

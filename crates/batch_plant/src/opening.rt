@@ -17,6 +17,7 @@ pub(crate) fn open(alloc: Global, cleared: Cleared, ring: usize) -> Result<Parts
     ensures fault { IfErr result (λ fault. fault ≡ Memory) }
     ensures rings { IfOk result (λ parts. HaveRings ring parts.hub) }
     ensures cleared { IfOk result (λ parts. parts.hub.engine.cleared ≡ cleared) }
+    ensures history { IfOk result (λ parts. parts.hub.history ≡ []) }
     ensures parts { IfOk result (λ parts. AreParts parts.hub parts.console parts.link) }
     ensures sent { IfOk result (λ parts. (parts.console.sent ≡ []) × (parts.link.sent ≡ [])) }
 {
@@ -32,6 +33,7 @@ fn open_hub(alloc: Global, engine: Engine, ring: usize) -> Result<Parts, PlantFa
     ensures fault { IfErr result (λ fault. fault ≡ Memory) }
     ensures rings { IfOk result (λ parts. HaveRings ring parts.hub) }
     ensures cleared { IfOk result (λ parts. parts.hub.engine.cleared ≡ engine.cleared) }
+    ensures history { IfOk result (λ parts. parts.hub.history ≡ []) }
     ensures parts { IfOk result (λ parts. AreParts parts.hub parts.console parts.link) }
     ensures sent { IfOk result (λ parts. (parts.console.sent ≡ []) × (parts.link.sent ≡ [])) }
 {

@@ -16,4 +16,7 @@ pub enum PlantFault {
     /// A loop made as many turns as it may.
     #[error("the turns ran out")]
     TurnsOut,
+    /// A port couldn't be closed or sealed at the end, so that it isn't known which events came from its desk.
+    #[error("a port can't be closed")]
+    Unclosed,
 }

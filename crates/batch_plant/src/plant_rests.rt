@@ -1,9 +1,8 @@
 //! What is left in the rings of a plant.
 
-/// How many outs are still to be taken at each port. None where that isn't known: an end of a ring was lost, or the port
-/// couldn't be closed.
+/// How many outs are still to be taken at each port.
 #[derive(Clone, Copy, Debug)]
 pub struct PlantRests {
-    pub console: Option<usize>,
-    pub link: Option<usize>,
+    pub console: usize,
+    pub link: usize,
 }

@@ -1,11 +1,10 @@
 //! What a plant is to do.
-use batch_text::Name;
+use batch_desk::BatchPlan;
 
-/// What a plant is to do: as many batches of the recipe, in this size, are created and started, and run until they are complete.
+/// What a plant is to do: as many batches are created by the plan and started, and run until they are complete.
 #[derive(Drop)]
 pub struct PlantTask {
-    pub recipe: Name,
-    pub size: u64,
+    pub plan: BatchPlan,
     pub batches: u64,
     /// How many places each ring has.
     pub ring: usize,

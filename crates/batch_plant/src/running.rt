@@ -1,5 +1,5 @@
 //! Running a plant.
-ghost use Rattle.std.specs.Prelude.{◌≡◌, Ok, IfOk, IfErr, IsSome};
+ghost use Rattle.std.specs.Prelude.{◌≡◌, Ok, Some, IfOk, IfErr};
 ghost use Rattle.batch_desk.specs.Consoles.{IsConsole};
 ghost use Rattle.batch_desk.specs.Due.{events_of};
 ghost use Rattle.batch_desk.specs.HubDone.{AreComplete};
@@ -34,7 +34,7 @@ use std::thread::Threads;
 /// The console has port 0 and the link port 1, both told of all moves; the link looks its units up in the set's cell. All threads that were started are joined, also after a fault. Then both desks finish, their ports are
 /// closed and sealed, and it is counted how many outs are still to be taken. Of several faults the first is told: want of memory,
 /// a thread that can't be started, a create or a start that is refused, a loop whose turns run out. Where one comes, the loops
-/// that run make no more turns. The units are dropped in each case.
+/// that run make no more turns. A port that can't be closed is a fault too. The units are dropped in each case.
 pub fn plant_run<
     R: Threads,
     D: UnitDriver + Send + 'static,
@@ -53,9 +53,9 @@ pub fn plant_run<
     ensures set { IfOk result (λ end. end.hub.engine.cleared ≡ cleared) }
     ensures complete { IfOk result (λ end. AreComplete task.batches end.hub) }
     ensures account { IfOk result (λ end. IsHub end.hub) }
-    ensures link { IfOk result (λ end. HasLink D.command_gives D.tick_gives cleared.cell units end.hub end.rests.link) }
+    ensures link { IfOk result (λ end. HasLink D.command_gives D.tick_gives cleared.cell units end.hub) }
     ensures rings { IfOk result (λ end. HasEventRings task.ring end.hub) }
-    ensures desks { IfOk result (λ end. ComesFromDesks task.recipe task.size task.batches end.hub end.rests) }
+    ensures desks { IfOk result (λ end. ComesFromDesks task.plan task.batches end.hub) }
 {
     let Ok(gates) = gates.with_flag(alloc) else {
         return Err(PlantFault::Memory);
@@ -65,7 +65,8 @@ pub fn plant_run<
     };
     let parts = open(alloc, cleared, task.ring)?;
     let ran = run_three(rt, alloc, parts, cell, units, task, gates)?;
-    Ok(close(ran))
+    let (hub, rests) = close(ran)?;
+    Ok(PlantEnd { hub, rests })
 }
 
 /// Runs the three loops, that of the hub in the thread that calls, and waits for all that were started.
@@ -85,7 +86,7 @@ fn run_three<
     gates: FlagGates<H, C, L>,
 ) -> Result<Parts, PlantFault>
     ensures hub { IfOk result (λ ran. HubRan task.batches parts.hub ran.hub) }
-    ensures console { IfOk result (λ ran. IsConsole task.recipe task.size task.batches parts.console ran.console) }
+    ensures console { IfOk result (λ ran. IsConsole task.plan task.batches parts.console ran.console) }
     ensures link { IfOk result (λ ran. LinkRan D.command_gives D.tick_gives cell units parts.link ran.link) }
 {
     let Parts { hub, console, link } = parts;
@@ -118,22 +119,31 @@ fn gather<H: Drop, D: Drop>(
 }
 
 /// Ends the desks, and closes their ports.
-fn close(parts: Parts) -> PlantEnd
+fn close(parts: Parts) -> Result<(Hub, PlantRests), PlantFault>
     requires { AreParts parts.hub parts.console parts.link }
-    ensures work { SameWork parts.hub result.hub }
-    ensures account { IsHub result.hub }
-    ensures rings { event_rings result.hub ≡ event_rings parts.hub }
-    ensures console { IsSome result.rests.console → events_of 0 result.hub.history ≡ parts.console.sent }
-    ensures link { IsSome result.rests.link → events_of 1 result.hub.history ≡ parts.link.sent }
+    ensures work { IfOk result (λ end. SameWork parts.hub end.0) }
+    ensures account { IfOk result (λ end. IsHub end.0) }
+    ensures rings { IfOk result (λ end. event_rings end.0 ≡ event_rings parts.hub) }
+    ensures console { IfOk result (λ end. events_of 0 end.0.history ≡ parts.console.sent) }
+    ensures link { IfOk result (λ end. events_of 1 end.0.history ≡ parts.link.sent) }
 {
     let Parts { hub, console, link } = parts;
     let mut hub = hub;
     let console = close_port(&mut hub, 0, console);
     let link = close_port(&mut hub, 1, link);
     keeps_account(&hub);
-    PlantEnd {
-        hub,
-        rests: PlantRests { console, link },
+    let rests = rests_of(console, link)?;
+    Ok((hub, rests))
+}
+
+/// What is left at both ports, where both were closed.
+fn rests_of(console: Option<usize>, link: Option<usize>) -> Result<PlantRests, PlantFault>
+    ensures console { IfOk result (λ rests. console ≡ Some rests.console) }
+    ensures link { IfOk result (λ rests. link ≡ Some rests.link) }
+{
+    match (console, link) {
+        (Some(console), Some(link)) => Ok(PlantRests { console, link }),
+        _ => Err(PlantFault::Unclosed),
     }
 }
 

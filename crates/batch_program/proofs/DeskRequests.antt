@@ -17,8 +17,8 @@ module _ {named : Option Text} {path cell certificate : Text} {recipes : List Te
   pub desks_no_audit : (beginning : Bool) (record_path : Text) (source : Source) → serve_desks named path cell certificate recipes times ≡ audit beginning record_path source → ⊥
   desks_no_audit beginning record_path source is = cc
 
-  pub desks_no_plant : (batches ticks ring : ℕ) → serve_desks named path cell certificate recipes times ≡ plant batches ticks ring → ⊥
-  desks_no_plant batches ticks ring is = cc
+  pub desks_no_plant : (planted : Source) (batches ticks ring : ℕ) → serve_desks named path cell certificate recipes times ≡ plant planted batches ticks ring → ⊥
+  desks_no_plant planted batches ticks ring is = cc
 
   pub desks_no_journal : (journal other ranks : Text) (others : List Text) (echo stamped : Bool)
       → serve_desks named path cell certificate recipes times ≡ keep journal other ranks others echo stamped → ⊥

@@ -70,7 +70,7 @@ desks_to_serve gives words output errors _ served quiet journal times (running.c
     done request _ asked (running.reads _ _ _ _) is = absurd cc
     done request _ asked (running.draws _ _ _ _) is = absurd cc
     done request _ asked (running.audits _ _ _ _ _ _) is = absurd cc
-    done request _ asked (running.plants _ _ _ _ _ _) is = absurd cc
+    done request _ asked (running.plants _ _ _ _ _ _ _) is = absurd cc
 desks_to_serve gives words output errors _ served quiet journal times (running.helps _ _ _ _) is = absurd cc
 desks_to_serve gives words output errors _ served quiet journal times (running.misuses _ _) is = absurd cc
 desks_to_serve gives words output errors _ served quiet journal times (running.starves _) is = absurd cc
@@ -170,8 +170,8 @@ module _ (gives : Gives) (holds : Holds) (files : JournalFiles) (words : List Te
   desks_ran _ asked (reads record_path _ asked2 _) is = absurd (desks_no_record record_path (same_request words _ _ asked asked2))
   desks_ran _ asked (draws record_path _ asked2 _) is = absurd (desks_no_picture record_path (same_request words _ _ asked asked2))
   desks_ran _ asked (audits beginning record_path source _ _ asked2 _ _) is = absurd (desks_no_audit beginning record_path source (same_request words _ _ asked asked2))
-  desks_ran _ asked (plants _ options _ _ asked2 _ _ _ _) is =
-      absurd (desks_no_plant options.batches options.ticks options.ring (same_request words _ _ asked asked2))
+  desks_ran _ asked (plants planted _ options _ _ asked2 _ _ _ _) is =
+      absurd (desks_no_plant planted options.batches options.ticks options.ring (same_request words _ _ asked asked2))
   desks_ran _ asked (serves_desks other p c k rs stamped desks set digits status asked2 cleared ran _) is =
       let (all, done) = same_desks gives files named other times stamped path cell certificate p c k recipes rs desks set digits (output_of ends) status
       (same_request words _ _ asked2 asked) cleared ran in

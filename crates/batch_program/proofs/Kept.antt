@@ -2,9 +2,8 @@
 use Rattle.std.proofs.Common.{◌≡◌, ℕ, Bool, List, Option, Some, inl, inr, refl, subst}
 use Rattle.std.specs.Prelude.{String, string_bytes}
 use Rattle.std.specs.Global.{Global}
-use Rattle.std.specs.Io.KnownBytes.{Keeps}
 use Rattle.clap.specs.Walk.{Text}
-use Rattle.batch_words.specs.CommandLine.{Judgement, Request, Source, audit, keep, picture, plant, remark, serve, tell, write, serve_desks}
+use Rattle.batch_words.specs.CommandLine.{Judgement, Request, Source, audit, keep, picture, remark, serve, tell, write, serve_desks}
 use Rattle.batch_commands.specs.Reading.{Gives}
 use Rattle.batch_commands.specs.Requests.{IsVerdict}
 use Rattle.batch_commands.specs.Running.{AskFor, IsDone, IsRun, IsUnwritten, Stream, ask_quiet}
@@ -35,7 +34,7 @@ done_to_write gives request quiet output errors _ path text (running.writes judg
     )
 done_to_write gives request quiet output errors _ path text (running.serves _ _ _ _ _ _) is = absurd cc
 done_to_write gives request quiet output errors _ path text (running.reads _ _ _ _) is = absurd cc
-done_to_write gives request quiet output errors _ path text (running.plants _ _ _ _ _ _) is = absurd cc
+done_to_write gives request quiet output errors _ path text (running.plants _ _ _ _ _ _ _) is = absurd cc
 done_to_write gives request quiet output errors _ path text (running.halts _ _ _ _ _) is = absurd cc
 done_to_write gives request quiet output errors _ path text (running.judges _ _ _ _ _ _ _) is = absurd cc
 done_to_write gives request quiet output errors _ path text (running.explains _ _ _ _) is = absurd cc
@@ -111,8 +110,8 @@ kept_at gives holds files words ends errors path judgement _ asked (draws record
     absurd (draws_no_file record_path path judgement (same_request words (picture record_path) (write path judgement) asked2 asked))
 kept_at gives holds files words ends errors path judgement _ asked (reads record_path _ asked2 _) is =
     absurd (reads_no_file record_path path judgement (same_request words (tell record_path) (write path judgement) asked2 asked))
-kept_at gives holds files words ends errors path judgement _ asked (plants _ options _ _ asked2 _ _ _ _) is =
-    absurd (plants_no_file options.batches options.ticks options.ring path judgement (same_request words _ (write path judgement) asked2 asked))
+kept_at gives holds files words ends errors path judgement _ asked (plants planted _ options _ _ asked2 _ _ _ _) is =
+    absurd (plants_no_file planted options.batches options.ticks options.ring path judgement (same_request words _ (write path judgement) asked2 asked))
 
 pub certificates_are_kept : (gives : Gives) (holds : Holds) (files : JournalFiles) → CertificatesAreKept gives holds files
 certificates_are_kept gives holds files words ends errors path judgement asked came =

@@ -1,16 +1,16 @@
 -- A run over a journal.
-use Rattle.std.proofs.Common.{◌≡◌, ◌⊎◌, ℕ, Bool, ◌++◌, ◌≤◌, length, List, [], Option, Some, None, Result, Ok, Err, IfErr, OnOk, IsOk, take, drop, take-append-drop, inl, inr, refl, sym, ◌∙◌, ap, subst}
+use Rattle.std.proofs.Common.{◌≡◌, ◌⊎◌, ℕ, Bool, ◌++◌, List, [], Option, Some, None, Result, Ok, Err, IfErr, OnOk, IsOk, inl, inr, refl, sym, ◌∙◌, ap, subst}
 use Rattle.std.specs.Prelude.{IfSome}
-use Rattle.std.proofs.lemmas.List.{append-nil, take_all}
+use Rattle.std.proofs.lemmas.List.{append-nil}
 use Rattle.std.proofs.KnownBytes.{Appends-kept, prepend_known-nil}
 use Rattle.std.specs.Io.KnownBytes.{Appends, Keeps, prepend_known}
 use Rattle.batch_model.specs.Plant.{Setup, Plant}
 use Rattle.batch_wire.specs.Transcript.{lines_of}
-use Rattle.batch_wire.specs.Written.{AppendsBeginning, Writes}
+use Rattle.batch_wire.specs.Written.{Writes}
 use Rattle.batch_wire.specs.WrittenTranscript.{WritesTranscript}
 use Rattle.batch_serve.specs.CleanLines.{CleanLinesServeAlike, clean_lines}
 use Rattle.batch_journal.specs.Journals.{IsJournal, recovered}
-use Rattle.batch_journal.specs.Lines.{text_of, whole_lines}
+use Rattle.batch_journal.specs.Lines.{text_of}
 use Rattle.batch_journal.specs.Readers.{IsAccounted, IsKept, IsWhole}
 use Rattle.batch_journal.specs.Recovery.{AreRests, HasNoFault, IsOfDisk, IsRecoverable, IsRefusedFor}
 use Rattle.batch_journal.proofs.TakenLemmas.{not_refused}

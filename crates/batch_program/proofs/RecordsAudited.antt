@@ -145,8 +145,8 @@ true_at gives holds files words ends errors beginning path source _ asked (reads
     absurd (audits_no_record source beginning path other (same_request words (audit beginning path source) (tell other) asked asked2))
 true_at gives holds files words ends errors beginning path source _ asked (draws other _ asked2 _) is =
     absurd (audits_no_picture source beginning path other (same_request words (audit beginning path source) (picture other) asked asked2))
-true_at gives holds files words ends errors beginning path source _ asked (plants _ options _ _ asked2 _ _ _ _) is =
-    absurd (plants_no_audit options.batches options.ticks options.ring source beginning path (same_request words _ (audit beginning path source) asked2 asked))
+true_at gives holds files words ends errors beginning path source _ asked (plants planted _ options _ _ asked2 _ _ _ _) is =
+    absurd (plants_no_audit planted options.batches options.ticks options.ring source beginning path (same_request words _ (audit beginning path source) asked2 asked))
 true_at gives holds files words ends errors beginning path source _ asked (audits wide other from set status asked2 is_set told) is =
     let same = same_request words (audit wide other from) (audit beginning path source) asked2 asked in (
       set,

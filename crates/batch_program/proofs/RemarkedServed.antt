@@ -1,5 +1,5 @@
 -- What a run that serves with comments in the record tells.
-use Rattle.std.proofs.Common.{◌≡◌, ℕ, Bool, List, Option, Some, None, Result, refl, sym, subst, ap, ◌∙◌}
+use Rattle.std.proofs.Common.{◌≡◌, ℕ, Bool, List, Option, Some, None, Result, refl, subst, ap, ◌∙◌}
 use Rattle.std.specs.Io.KnownBytes.{Keeps}
 use Rattle.clap.specs.Walk.{Text}
 use Rattle.batch_verify.specs.ClearedSet.{ClearedSet}
@@ -71,7 +71,7 @@ done_remarking gives request quiet output errors set hushed comments _ (running.
 done_remarking gives request quiet output errors set hushed comments _ (running.draws _ _ _ _) is = absurd cc
 done_remarking gives request quiet output errors set hushed comments _ (running.audits _ _ _ _ _ _) is = absurd cc
 done_remarking gives request quiet output errors set hushed comments _ (running.serves_desks _ _ _ _ _ _ _ _ _ _ _) is = absurd cc
-done_remarking gives request quiet output errors set hushed comments _ (running.plants _ _ _ _ _ _) is = absurd cc
+done_remarking gives request quiet output errors set hushed comments _ (running.plants _ _ _ _ _ _ _) is = absurd cc
 done_remarking gives request quiet output errors set hushed comments _ (running.writes _ _ _ _ _ _) is = absurd cc
 
 pub set_to_remark : (gives : Gives) (words : List Text) (output errors : Stream) (course : Course) (set : ClearedSet) (quiet : Bool) (comments : Comments)
@@ -104,8 +104,8 @@ no_record source echo times path is = cc
 no_picture : (source : Source) (echo times : Bool) (path : Option Text) → picture path ≡ remark source echo times → ⊥
 no_picture source echo times path is = cc
 
-no_plant : (source : Source) (echo times : Bool) (batches ticks ring : ℕ) → plant batches ticks ring ≡ remark source echo times → ⊥
-no_plant source echo times batches ticks ring is = cc
+no_plant : (source : Source) (echo times : Bool) (planted : Source) (batches ticks ring : ℕ) → plant planted batches ticks ring ≡ remark source echo times → ⊥
+no_plant source echo times planted batches ticks ring is = cc
 
 same_source : (a b : Source) (echo times e t : Bool) → remark a e t ≡ remark b echo times → a ≡ b
 same_source a b echo times e t is = cc
@@ -134,8 +134,8 @@ safe_at gives holds files words ends errors source echo times _ asked (reads pat
     absurd (no_record source echo times path (same_request words (tell path) (remark source echo times) asked2 asked))
 safe_at gives holds files words ends errors source echo times _ asked (draws path _ asked2 _) is =
     absurd (no_picture source echo times path (same_request words (picture path) (remark source echo times) asked2 asked))
-safe_at gives holds files words ends errors source echo times _ asked (plants _ options _ _ asked2 _ _ _ _) is =
-    absurd (no_plant source echo times options.batches options.ticks options.ring (same_request words _ (remark source echo times) asked2 asked))
+safe_at gives holds files words ends errors source echo times _ asked (plants planted _ options _ _ asked2 _ _ _ _) is =
+    absurd (no_plant source echo times planted options.batches options.ticks options.ring (same_request words _ (remark source echo times) asked2 asked))
 
 pub remarked_serving_is_safe : (gives : Gives) (holds : Holds) (files : JournalFiles) → RemarkedServingIsSafe gives holds files
 remarked_serving_is_safe gives holds files words ends errors source echo times asked came = safe_at gives holds files words ends errors source echo times 0 asked came refl

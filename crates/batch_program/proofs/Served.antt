@@ -15,7 +15,7 @@ use Rattle.batch_words.specs.CommandLine.{Request, Source, audit, plant, serve, 
 use Rattle.batch_words.specs.declared.command.AuditWords.{AuditWords}
 use Rattle.batch_words.specs.declared.plant_options.PlantOptions.{PlantOptions}
 use Rattle.batch_commands.specs.Reading.{Gives}
-use Rattle.batch_commands.specs.Requests.{IsDemoSet, IsSetOf}
+use Rattle.batch_commands.specs.Requests.{IsSetOf}
 use Rattle.batch_commands.specs.Running.{AskFor, IsAnnounced, IsDone, IsExplained, IsPrinted, IsRun, IsUnwritten, Stream, ask_quiet, fault_status, success_status, usage_status, memory_status}
 use Rattle.batch_commands.specs.Statuses.{IsSuccess}
 use Rattle.batch_commands.proofs.Successes.{done_keeping, done_serving, every_in_range, same_request, success_is_told}
@@ -157,13 +157,35 @@ set_to_serve gives words output errors _ set quiet (running.starves _) is = absu
 
 -- The plant
 
+-- a plant that is to be run, with nothing written before
+record IsPlanting (gives : Gives) (request : Request) (set : ClearedSet) (options : PlantOptions) (output errors : Stream) : Type 0 where
+  pub source : Source
+  pub asked : request ≡ plant source options.batches options.ticks options.ring
+  pub is_set : IsSetOf gives source set
+  pub unwritten : IsUnwritten output
+  pub silent : IsUnwritten errors
+
+-- the same, of what the words ask for
+pub record IsToPlant (gives : Gives) (words : List Text) (set : ClearedSet) (options : PlantOptions) (output errors : Stream) : Type 0 where
+  pub source : Source
+  pub asked : AskFor words (plant source options.batches options.ticks options.ring)
+  pub is_set : IsSetOf gives source set
+  pub unwritten : IsUnwritten output
+  pub silent : IsUnwritten errors
+
 done_to_plant : (gives : Gives) (request : Request) (quiet : Bool) (output errors : Stream) (course : Course) (set : ClearedSet) (options : PlantOptions)
     → IsDone gives request quiet output errors course → course ≡ course_of.Plants set options
-    → (request ≡ plant options.batches options.ticks options.ring) × IsDemoSet set × IsUnwritten output × IsUnwritten errors
-done_to_plant gives request quiet output errors _ set options (running.plants other own asked cleared kept silent) is =
+    → IsPlanting gives request set options output errors
+done_to_plant gives request quiet output errors _ set options (running.plants source other own asked cleared kept silent) is =
     let same : other ≡ set = cc in
     let chosen : own ≡ options = cc in
-    (subst (λ (o : PlantOptions). request ≡ plant o.batches o.ticks o.ring) chosen asked, subst IsDemoSet same cleared, kept, silent)
+    record {
+      source = source;
+      asked = subst (λ (o : PlantOptions). request ≡ plant source o.batches o.ticks o.ring) chosen asked;
+      is_set = subst (IsSetOf gives source) same cleared;
+      unwritten = kept;
+      silent = silent;
+    }
 done_to_plant gives request quiet output errors _ set options (running.serves _ _ _ _ _ _) is = absurd cc
 done_to_plant gives request quiet output errors _ set options (running.keeps _ _ _ _ _ _ _ _ _ _) is = absurd cc
 done_to_plant gives request quiet output errors _ set options (running.remarks _ _ _ _ _ _ _) is = absurd cc
@@ -176,13 +198,13 @@ done_to_plant gives request quiet output errors _ set options (running.halts _ _
 done_to_plant gives request quiet output errors _ set options (running.judges _ _ _ _ _ _ _) is = absurd cc
 done_to_plant gives request quiet output errors _ set options (running.explains _ _ _ _) is = absurd cc
 
--- the plant that is to be run is the demo's, with the options that the words have, and nothing was written
+-- the plant that is to be run is of the set that the words name, with the options that they have, and nothing was written
 pub plant_to_run : (gives : Gives) (words : List Text) (output errors : Stream) (course : Course) (set : ClearedSet) (options : PlantOptions)
     → IsRun gives words output errors course → course ≡ course_of.Plants set options
-    → AskFor words (plant options.batches options.ticks options.ring) × IsDemoSet set × IsUnwritten output × IsUnwritten errors
+    → IsToPlant gives words set options output errors
 plant_to_run gives words output errors _ set options (running.commands request course asked came) is =
-    let (planted, cleared, kept, silent) = done_to_plant gives request (ask_quiet words) output errors course set options came is in
-    (rw (← planted) asked, cleared, kept, silent)
+    let own = done_to_plant gives request (ask_quiet words) output errors course set options came is in
+    record { source = own.source; asked = rw (← own.asked) asked; is_set = own.is_set; unwritten = own.unwritten; silent = own.silent }
 plant_to_run gives words output errors _ set options (running.helps _ _ _ _) is = absurd cc
 plant_to_run gives words output errors _ set options (running.misuses _ _) is = absurd cc
 plant_to_run gives words output errors _ set options (running.starves _) is = absurd cc
@@ -210,6 +232,8 @@ told_kept before mid after quiet still loud batches (Err plant_fault.Thread) sta
     (kept_then_kept before mid after kept untouched, is)
 told_kept before mid after quiet still loud batches (Err plant_fault.Refused) status kept silent (untouched, is) =
     (kept_then_kept before mid after kept untouched, is)
+told_kept before mid after quiet still loud batches (Err plant_fault.Unclosed) status kept silent (untouched, is) =
+    (kept_then_kept before mid after kept untouched, is)
 
 -- Records
 
@@ -222,7 +246,7 @@ done_to_read gives request quiet output errors _ path (running.reads other asked
 done_to_read gives request quiet output errors _ path (running.serves _ _ _ _ _ _) is = absurd cc
 done_to_read gives request quiet output errors _ path (running.keeps _ _ _ _ _ _ _ _ _ _) is = absurd cc
 done_to_read gives request quiet output errors _ path (running.remarks _ _ _ _ _ _ _) is = absurd cc
-done_to_read gives request quiet output errors _ path (running.plants _ _ _ _ _ _) is = absurd cc
+done_to_read gives request quiet output errors _ path (running.plants _ _ _ _ _ _ _) is = absurd cc
 done_to_read gives request quiet output errors _ path (running.audits _ _ _ _ _ _) is = absurd cc
 done_to_read gives request quiet output errors _ path (running.serves_desks _ _ _ _ _ _ _ _ _ _ _) is = absurd cc
 done_to_read gives request quiet output errors _ path (running.writes _ _ _ _ _ _) is = absurd cc
@@ -276,7 +300,7 @@ done_to_draw gives request quiet output errors _ path (running.serves _ _ _ _ _ 
 done_to_draw gives request quiet output errors _ path (running.keeps _ _ _ _ _ _ _ _ _ _) is = absurd cc
 done_to_draw gives request quiet output errors _ path (running.remarks _ _ _ _ _ _ _) is = absurd cc
 done_to_draw gives request quiet output errors _ path (running.reads _ _ _ _) is = absurd cc
-done_to_draw gives request quiet output errors _ path (running.plants _ _ _ _ _ _) is = absurd cc
+done_to_draw gives request quiet output errors _ path (running.plants _ _ _ _ _ _ _) is = absurd cc
 done_to_draw gives request quiet output errors _ path (running.audits _ _ _ _ _ _) is = absurd cc
 done_to_draw gives request quiet output errors _ path (running.serves_desks _ _ _ _ _ _ _ _ _ _ _) is = absurd cc
 done_to_draw gives request quiet output errors _ path (running.halts _ _ _ _ _) is = absurd cc
@@ -338,7 +362,7 @@ done_to_audit gives words request quiet output errors _ set own asked (running.k
 done_to_audit gives words request quiet output errors _ set own asked (running.remarks _ _ _ _ _ _ _) is = absurd cc
 done_to_audit gives words request quiet output errors _ set own asked (running.reads _ _ _ _) is = absurd cc
 done_to_audit gives words request quiet output errors _ set own asked (running.draws _ _ _ _) is = absurd cc
-done_to_audit gives words request quiet output errors _ set own asked (running.plants _ _ _ _ _ _) is = absurd cc
+done_to_audit gives words request quiet output errors _ set own asked (running.plants _ _ _ _ _ _ _) is = absurd cc
 done_to_audit gives words request quiet output errors _ set own asked (running.halts _ _ _ _ _) is = absurd cc
 done_to_audit gives words request quiet output errors _ set own asked (running.judges _ _ _ _ _ _ _) is = absurd cc
 done_to_audit gives words request quiet output errors _ set own asked (running.explains _ _ _ _) is = absurd cc
@@ -450,39 +474,39 @@ serves_no_record source path is = cc
 pub serves_no_file : (source : Source) (path : Text) (judgement : Judgement) → serve source ≡ write path judgement → ⊥
 serves_no_file source path judgement is = cc
 
-pub plants_no_file : (batches ticks ring : ℕ) (path : Text) (judgement : Judgement) → plant batches ticks ring ≡ write path judgement → ⊥
-plants_no_file batches ticks ring path judgement is = cc
+pub plants_no_file : (planted : Source) (batches ticks ring : ℕ) (path : Text) (judgement : Judgement) → plant planted batches ticks ring ≡ write path judgement → ⊥
+plants_no_file planted batches ticks ring path judgement is = cc
 
-plants_no_record : (batches ticks ring : ℕ) (path : Option Text) → plant batches ticks ring ≡ tell path → ⊥
-plants_no_record batches ticks ring path is = cc
+plants_no_record : (planted : Source) (batches ticks ring : ℕ) (path : Option Text) → plant planted batches ticks ring ≡ tell path → ⊥
+plants_no_record planted batches ticks ring path is = cc
 
 pub serves_no_audit : (source other : Source) (beginning : Bool) (path : Text) → serve source ≡ audit beginning path other → ⊥
 serves_no_audit source other beginning path is = cc
 
-pub plants_no_audit : (batches ticks ring : ℕ) (source : Source) (beginning : Bool) (path : Text) → plant batches ticks ring ≡ audit beginning path source → ⊥
-plants_no_audit batches ticks ring source beginning path is = cc
+pub plants_no_audit : (planted : Source) (batches ticks ring : ℕ) (source : Source) (beginning : Bool) (path : Text) → plant planted batches ticks ring ≡ audit beginning path source → ⊥
+plants_no_audit planted batches ticks ring source beginning path is = cc
 
 serves_no_comments : (source other : Source) (echo times : Bool) → serve source ≡ remark other echo times → ⊥
 serves_no_comments source other echo times is = cc
 
-plants_no_comments : (batches ticks ring : ℕ) (source : Source) (echo times : Bool) → plant batches ticks ring ≡ remark source echo times → ⊥
-plants_no_comments batches ticks ring source echo times is = cc
+plants_no_comments : (planted : Source) (batches ticks ring : ℕ) (source : Source) (echo times : Bool) → plant planted batches ticks ring ≡ remark source echo times → ⊥
+plants_no_comments planted batches ticks ring source echo times is = cc
 
 serves_no_picture : (source : Source) (path : Option Text) → serve source ≡ picture path → ⊥
 serves_no_picture source path is = cc
 
-plants_no_picture : (batches ticks ring : ℕ) (path : Option Text) → plant batches ticks ring ≡ picture path → ⊥
-plants_no_picture batches ticks ring path is = cc
+plants_no_picture : (planted : Source) (batches ticks ring : ℕ) (path : Option Text) → plant planted batches ticks ring ≡ picture path → ⊥
+plants_no_picture planted batches ticks ring path is = cc
 
-serves_no_plant : (source : Source) (batches ticks ring : ℕ) → serve source ≡ plant batches ticks ring → ⊥
-serves_no_plant source batches ticks ring is = cc
+serves_no_plant : (source planted : Source) (batches ticks ring : ℕ) → serve source ≡ plant planted batches ticks ring → ⊥
+serves_no_plant source planted batches ticks ring is = cc
 
 serves_no_journal : (source : Source) (path cell certificate : Text) (recipes : List Text) (echo times : Bool) → serve source ≡ keep path cell certificate recipes echo times → ⊥
 serves_no_journal source path cell certificate recipes echo times is = cc
 
-plants_no_journal : (batches ticks ring : ℕ) (path cell certificate : Text) (recipes : List Text) (echo times : Bool)
-    → plant batches ticks ring ≡ keep path cell certificate recipes echo times → ⊥
-plants_no_journal batches ticks ring path cell certificate recipes echo times is = cc
+plants_no_journal : (planted : Source) (batches ticks ring : ℕ) (path cell certificate : Text) (recipes : List Text) (echo times : Bool)
+    → plant planted batches ticks ring ≡ keep path cell certificate recipes echo times → ⊥
+plants_no_journal planted batches ticks ring path cell certificate recipes echo times is = cc
 
 pub audits_no_journal : (beginning : Bool) (record_path : Text) (source : Source) (path cell certificate : Text) (recipes : List Text) (echo times : Bool)
     → audit beginning record_path source ≡ keep path cell certificate recipes echo times → ⊥
@@ -511,8 +535,8 @@ safe_at gives holds files words ends errors source _ asked (serves_desks named p
     absurd (desks_no_serving source (same_request words (serve_desks named path cell certificate recipes times) (serve source) asked2 asked))
 safe_at gives holds files words ends errors source _ asked (audits beginning path other _ _ asked2 _ _) is =
     absurd (serves_no_audit source other beginning path (same_request words (serve source) (audit beginning path other) asked asked2))
-safe_at gives holds files words ends errors source _ asked (plants _ options _ _ asked2 _ _ _ _) is =
-    absurd (serves_no_plant source options.batches options.ticks options.ring (same_request words (serve source) _ asked asked2))
+safe_at gives holds files words ends errors source _ asked (plants planted _ options _ _ asked2 _ _ _ _) is =
+    absurd (serves_no_plant source planted options.batches options.ticks options.ring (same_request words (serve source) _ asked asked2))
 
 pub serving_is_safe : (gives : Gives) (holds : Holds) (files : JournalFiles) → ServingIsSafe gives holds files
 serving_is_safe gives holds files words ends errors source asked came = safe_at gives holds files words ends errors source 0 asked came refl
@@ -548,7 +572,7 @@ done_in_range gives request quiet output errors _ status (running.reads _ _ _ _)
 done_in_range gives request quiet output errors _ status (running.draws _ _ _ _) is = absurd cc
 done_in_range gives request quiet output errors _ status (running.audits _ _ _ _ _ _) is = absurd cc
 done_in_range gives request quiet output errors _ status (running.serves_desks _ _ _ _ _ _ _ _ _ _ _) is = absurd cc
-done_in_range gives request quiet output errors _ status (running.plants _ _ _ _ _ _) is = absurd cc
+done_in_range gives request quiet output errors _ status (running.plants _ _ _ _ _ _ _) is = absurd cc
 done_in_range gives request quiet output errors _ status (running.writes _ _ _ _ _ _) is = absurd cc
 done_in_range gives request quiet output errors _ status (running.halts h told warned _ at) is =
     let same : told ≡ status = cc in
@@ -582,6 +606,7 @@ plant_in_range output errors batches (Err plant_fault.TurnsOut) status printed =
 plant_in_range output errors batches (Err plant_fault.Memory) status (_, memory) = rw memory (omega arith)
 plant_in_range output errors batches (Err plant_fault.Thread) status (_, memory) = rw memory (omega arith)
 plant_in_range output errors batches (Err plant_fault.Refused) status (_, memory) = rw memory (omega arith)
+plant_in_range output errors batches (Err plant_fault.Unclosed) status (_, memory) = rw memory (omega arith)
 
 untold_in_range : (output : Stream) (status : ℕ) → IsUntold output status → status ≤ 4
 untold_in_range output status (_, inl fault) = rw fault (omega arith)
@@ -687,7 +712,7 @@ run_in_range gives holds files words ends errors status (serves_desks named _ _ 
 run_in_range gives holds files words ends errors status (reads path _ _ told) = record_in_range holds path ends errors status told
 run_in_range gives holds files words ends errors status (draws path _ _ told) = drawn_in_range holds path ends errors status told
 run_in_range gives holds files words ends errors status (audits beginning path _ set _ _ _ told) = audit_in_range holds set beginning path ends errors status told
-run_in_range gives holds files words ends errors status (plants _ options end _ _ _ _ told _) = plant_in_range (output_of ends) errors options.batches end status told
+run_in_range gives holds files words ends errors status (plants _ _ options end _ _ _ _ told _) = plant_in_range (output_of ends) errors options.batches end status told
 
 -- What a plant tells
 
@@ -703,37 +728,38 @@ complete_at output errors set batches (Err plant_fault.TurnsOut) status ran (inr
 complete_at output errors set batches (Err plant_fault.Memory) status ran (_, memory) is = absurd cc
 complete_at output errors set batches (Err plant_fault.Thread) status ran (_, memory) is = absurd cc
 complete_at output errors set batches (Err plant_fault.Refused) status ran (_, memory) is = absurd cc
+complete_at output errors set batches (Err plant_fault.Unclosed) status ran (_, memory) is = absurd cc
 
-same_batches : (a b ticks more ring places : ℕ) → plant a ticks ring ≡ plant b more places → a ≡ b
-same_batches a b ticks more ring places is = cc
+same_plant : (from to : Source) (a b ticks more ring places : ℕ) → plant from a ticks ring ≡ plant to b more places → (from ≡ to) × (a ≡ b)
+same_plant from to a b ticks more ring places is = (cc, cc)
 
-told_plant : (gives : Gives) (holds : Holds) (files : JournalFiles) (words : List Text) (ends : serving.Ends) (errors : Stream) (batches ticks ring status : ℕ)
-    → AskFor words (plant batches ticks ring) → IsProgramRun gives holds files words ends errors status → status ≡ 0
-    → (set : ClearedSet) × (handled : ℕ) × IsDemoSet set × HasRun set batches handled × Appends ends.before ends.after (plant_text batches handled)
-told_plant gives holds files words ends errors batches ticks ring _ asked (tells status came _) is =
-    absurd (told_at_once gives words (output_of ends) errors (plant batches ticks ring) status asked came is)
-told_plant gives holds files words ends errors batches ticks ring _ asked (writes path judgement _ _ _ asked2 _ _ _ _) is =
-    absurd (plants_no_file batches ticks ring path judgement (same_request words (plant batches ticks ring) (write path judgement) asked asked2))
-told_plant gives holds files words ends errors batches ticks ring _ asked (serves source _ _ asked2 _ _ _) is =
-    absurd (serves_no_plant source batches ticks ring (same_request words (serve source) (plant batches ticks ring) asked2 asked))
-told_plant gives holds files words ends errors batches ticks ring _ asked (keeps path cell certificate recipes echo times _ _ _ asked2 _ _) is =
-    absurd (plants_no_journal batches ticks ring path cell certificate recipes echo times
-    (same_request words (plant batches ticks ring) (keep path cell certificate recipes echo times) asked asked2))
-told_plant gives holds files words ends errors batches ticks ring _ asked (remarks source echo times _ _ asked2 _ _ _) is =
-    absurd (plants_no_comments batches ticks ring source echo times (same_request words (plant batches ticks ring) (remark source echo times) asked asked2))
-told_plant gives holds files words ends errors batches ticks ring _ asked (serves_desks named path cell certificate recipes times _ _ _ _ asked2 _ _ _) is =
-    absurd (desks_no_plant batches ticks ring (same_request words (serve_desks named path cell certificate recipes times) (plant batches ticks ring) asked2 asked))
-told_plant gives holds files words ends errors batches ticks ring _ asked (reads path _ asked2 _) is =
-    absurd (plants_no_record batches ticks ring path (same_request words (plant batches ticks ring) (tell path) asked asked2))
-told_plant gives holds files words ends errors batches ticks ring _ asked (draws path _ asked2 _) is =
-    absurd (plants_no_picture batches ticks ring path (same_request words (plant batches ticks ring) (picture path) asked asked2))
-told_plant gives holds files words ends errors batches ticks ring _ asked (audits beginning path source _ _ asked2 _ _) is =
-    absurd (plants_no_audit batches ticks ring source beginning path (same_request words (plant batches ticks ring) (audit beginning path source) asked asked2))
-told_plant gives holds files words ends errors batches ticks ring status asked (plants set options end _ asked2 demo ran told _) is =
-    let same = same_batches options.batches batches options.ticks ticks options.ring ring (same_request words _ (plant batches ticks ring) asked2 asked) in
+told_plant : (gives : Gives) (holds : Holds) (files : JournalFiles) (words : List Text) (ends : serving.Ends) (errors : Stream) (planted : Source) (batches ticks ring status : ℕ)
+    → AskFor words (plant planted batches ticks ring) → IsProgramRun gives holds files words ends errors status → status ≡ 0
+    → (set : ClearedSet) × (handled : ℕ) × IsSetOf gives planted set × HasRun set batches handled × Appends ends.before ends.after (plant_text batches handled)
+told_plant gives holds files words ends errors planted batches ticks ring _ asked (tells status came _) is =
+    absurd (told_at_once gives words (output_of ends) errors (plant planted batches ticks ring) status asked came is)
+told_plant gives holds files words ends errors planted batches ticks ring _ asked (writes path judgement _ _ _ asked2 _ _ _ _) is =
+    absurd (plants_no_file planted batches ticks ring path judgement (same_request words (plant planted batches ticks ring) (write path judgement) asked asked2))
+told_plant gives holds files words ends errors planted batches ticks ring _ asked (serves source _ _ asked2 _ _ _) is =
+    absurd (serves_no_plant source planted batches ticks ring (same_request words (serve source) (plant planted batches ticks ring) asked2 asked))
+told_plant gives holds files words ends errors planted batches ticks ring _ asked (keeps path cell certificate recipes echo times _ _ _ asked2 _ _) is =
+    absurd (plants_no_journal planted batches ticks ring path cell certificate recipes echo times
+    (same_request words (plant planted batches ticks ring) (keep path cell certificate recipes echo times) asked asked2))
+told_plant gives holds files words ends errors planted batches ticks ring _ asked (remarks source echo times _ _ asked2 _ _ _) is =
+    absurd (plants_no_comments planted batches ticks ring source echo times (same_request words (plant planted batches ticks ring) (remark source echo times) asked asked2))
+told_plant gives holds files words ends errors planted batches ticks ring _ asked (serves_desks named path cell certificate recipes times _ _ _ _ asked2 _ _ _) is =
+    absurd (desks_no_plant planted batches ticks ring (same_request words (serve_desks named path cell certificate recipes times) (plant planted batches ticks ring) asked2 asked))
+told_plant gives holds files words ends errors planted batches ticks ring _ asked (reads path _ asked2 _) is =
+    absurd (plants_no_record planted batches ticks ring path (same_request words (plant planted batches ticks ring) (tell path) asked asked2))
+told_plant gives holds files words ends errors planted batches ticks ring _ asked (draws path _ asked2 _) is =
+    absurd (plants_no_picture planted batches ticks ring path (same_request words (plant planted batches ticks ring) (picture path) asked asked2))
+told_plant gives holds files words ends errors planted batches ticks ring _ asked (audits beginning path source _ _ asked2 _ _) is =
+    absurd (plants_no_audit planted batches ticks ring source beginning path (same_request words (plant planted batches ticks ring) (audit beginning path source) asked asked2))
+told_plant gives holds files words ends errors planted batches ticks ring status asked (plants source set options end _ asked2 is_set ran told _) is =
+    let (from, same) = same_plant source planted options.batches batches options.ticks ticks options.ring ring (same_request words _ (plant planted batches ticks ring) asked2 asked) in
     let (handled, came, appends) = complete_at (output_of ends) errors set options.batches end status ran told is in
-    (set, handled, demo, subst (λ n. HasRun set n handled) same came, subst (λ n. Appends ends.before ends.after (plant_text n handled)) same appends)
+    (set, handled, subst (λ s. IsSetOf gives s set) from is_set, subst (λ n. HasRun set n handled) same came, subst (λ n. Appends ends.before ends.after (plant_text n handled)) same appends)
 
 pub plants_are_complete : (gives : Gives) (holds : Holds) (files : JournalFiles) → PlantsAreComplete gives holds files
-plants_are_complete gives holds files words ends errors batches ticks ring asked came =
-    told_plant gives holds files words ends errors batches ticks ring 0 asked came refl
+plants_are_complete gives holds files words ends errors planted batches ticks ring asked came =
+    told_plant gives holds files words ends errors planted batches ticks ring 0 asked came refl

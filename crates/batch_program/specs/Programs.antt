@@ -13,7 +13,7 @@ use Rattle.batch_desks.specs.declared.desk_set.Desks.{Desks}
 use Rattle.batch_commands.specs.DeskSets.{AreDesksCleared}
 use Rattle.batch_commands.specs.Digested.{AreDigested}
 use Rattle.batch_commands.specs.Reading.{Gives}
-use Rattle.batch_commands.specs.Requests.{IsDemoSet, IsSetOf, IsVerdict}
+use Rattle.batch_commands.specs.Requests.{IsSetOf, IsVerdict}
 use Rattle.batch_commands.specs.Running.{AskFor, IsRun, IsUnwritten, Stream, ask_quiet, fault_status, memory_status}
 use Rattle.batch_commands.specs.Saying.{WritesFront, IsWarned}
 use Rattle.batch_commands.specs.VerdictTexts.{accepted_text}
@@ -105,9 +105,9 @@ pub data IsProgramRun (gives : Gives) (holds : Holds) (files : JournalFiles) (wo
   audits : (beginning : Bool) (path : Text) (source : Source) (set : ClearedSet) (status : ℕ)
       → AskFor words (audit beginning path source) → IsSetOf gives source set → IsAuditTold holds set beginning path ends errors status
       → IsProgramRun gives holds files words ends errors status
-  -- the plant of the demo is run with the options that the words have, its end is told, and the input isn't read
-  plants : (set : ClearedSet) (options : PlantOptions) (end : Result ℕ PlantFault) (status : ℕ)
-      → AskFor words (plant options.batches options.ticks options.ring) → IsDemoSet set
+  -- a plant of the set that they name is run with the options that they have, its end is told, and the input isn't read
+  plants : (source : Source) (set : ClearedSet) (options : PlantOptions) (end : Result ℕ PlantFault) (status : ℕ)
+      → AskFor words (plant source options.batches options.ticks options.ring) → IsSetOf gives source set
       → IfOk end (HasRun set options.batches) → IsPlantTold (output_of ends) errors options.batches end status → Keeps ends.unread ends.left
       → IsProgramRun gives holds files words ends errors status
 
@@ -148,13 +148,13 @@ CertificatesAreKept gives holds files =
     → (text : List ℕ) × IsVerdict gives (IsWarned (ask_quiet words) errors.before errors.after) judgement text × holds path (Some text)
     × IsUnwritten (output_of ends)
 
--- a run of `plant` that ends with status 0 has written its three lines, and a record over the demo's set, of so many events as the
--- third line says, leads to where the batches that were asked for are complete
+-- a run of `plant` that ends with status 0 has written its three lines, and a record over the set that the words name, of so many
+-- events as the third line says, leads to where the batches that were asked for are complete, all made of the set's first recipe
 abbrev pub PlantsAreComplete : Gives → Holds → JournalFiles → Type 0
 PlantsAreComplete gives holds files =
-    (words : List Text) (ends : serving.Ends) (errors : Stream) (batches ticks ring : ℕ)
-    → AskFor words (plant batches ticks ring) → IsProgramRun gives holds files words ends errors 0
-    → (set : ClearedSet) × (handled : ℕ) × IsDemoSet set × HasRun set batches handled × Appends ends.before ends.after (plant_text batches handled)
+    (words : List Text) (ends : serving.Ends) (errors : Stream) (source : Source) (batches ticks ring : ℕ)
+    → AskFor words (plant source batches ticks ring) → IsProgramRun gives holds files words ends errors 0
+    → (set : ClearedSet) × (handled : ℕ) × IsSetOf gives source set × HasRun set batches handled × Appends ends.before ends.after (plant_text batches handled)
 
 -- a run of `serve` without a journal that ends with status 0 has served the desks of its document over the set that its other documents make,
 -- cleared by their certificate; what it wrote is the text of a safe transcript of the desks' lines, in the order in which they were served

@@ -85,8 +85,9 @@ pub fn certificates_are_kept<D: Documents + Records + Journals>(documents: &D)
     let _documents = documents;
 }
 
-/// What the exit status 0 of a run of `plant` tells: the three lines were written, and a record over the demo's set, of so many
-/// events as the third line says, leads to where the batches are complete that were asked for.
+/// What the exit status 0 of a run of `plant` tells: the three lines were written, and a record over the set of the documents, or of the
+/// demo, of so many events as the third line says, leads to where the batches are complete that were asked for. Its creates are
+/// of the set's first recipe, in the size of its basis, with the first unit of its class in each role.
 pub fn plants_are_complete<D: Documents + Records + Journals>(documents: &D)
     ensures { PlantsAreComplete (D.gives documents.now) (D.holds documents.now)
         (record {

@@ -6,6 +6,7 @@ mod desk_runner;
 mod desk_serving;
 mod file_pipes;
 mod file_writing;
+mod first_plan;
 mod journal_faults;
 mod journals;
 mod keeping;

@@ -31,6 +31,7 @@ pub fn report_of_plant<W: Write, E: Write>(
         Err(PlantFault::Memory) => complain(errors, OUT_OF_MEMORY, NO_MEMORY),
         Err(PlantFault::Thread) => complain(errors, "a thread can't be started", NO_MEMORY),
         Err(PlantFault::Refused) => complain(errors, "a create was refused", NO_MEMORY),
+        Err(PlantFault::Unclosed) => complain(errors, "a port can't be closed", NO_MEMORY),
     }
 }
 

@@ -9,10 +9,11 @@ use std::alloc::Global;
 
 /// Who runs a plant: the program by threads of its process, and a test as it likes.
 pub trait PlantRunner {
-    /// Creates and starts the batches, and runs until all are complete, with rings of as many places and phases of as many ticks
-    /// as the options say. Gives how many events the hub has handled.
+    /// Creates and starts batches of the set's first recipe, in the size of its basis, each role taken by the first unit of its class,
+    /// and runs until all are complete, with rings of as many places and phases of as many ticks as the options say. Gives how many
+    /// events the hub has handled.
     ///
-    /// The errors are those of [`plant_run`](batch_plant::plant_run).
+    /// The errors are those of [`plant_run`](batch_plant::plant_run), and [`PlantFault::Refused`] where the set has no recipe.
     fn run_plant(
         &self,
         alloc: Global,

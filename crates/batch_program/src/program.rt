@@ -37,7 +37,7 @@ struct Stop {
 
 /// Does what the words ask for, and gives the exit status: judges documents, and prints the verdict or writes it into a file, serves
 /// event lines from the input over the set that they name, with a journal or without one, tells or draws what a record says, tells
-/// whether it is that of the lines that were sent, or has the demo's plant run.
+/// whether it is that of the lines that were sent, or has a plant of a set run.
 ///
 /// Verdicts, help, the record, what one tells, the picture of one, what is found of one and the lines of a plant go to the output, and all else, in a free text, to the errors. Refused
 /// events are part of the record and don't change the status. Where the input ends while batches are neither complete, stopped

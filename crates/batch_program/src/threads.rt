@@ -1,6 +1,7 @@
 //! Plants in threads of the process.
 use crate::desk_runner::DeskRunner;
 use crate::file_pipes::FilePipes;
+use crate::first_plan::first_plan;
 use crate::patient_gate::PatientGate;
 use crate::plant_runner::PlantRunner;
 use crate::steady_units::steady_units;
@@ -10,7 +11,6 @@ use batch_pipes::{DesksFault, Timing, serve_desks};
 use batch_plant::{PlantFault, PlantGates, PlantTask, plant_run};
 use batch_serve_desks::Keep;
 use batch_sim::Simulator;
-use batch_text::Name;
 use batch_verify::Cleared;
 use batch_words::PlantOptions;
 use std::alloc::Global;
@@ -19,12 +19,6 @@ use std::thread::Threads;
 
 /// How many turns each worker has.
 pub const TURNS: u64 = 10_000_000;
-
-/// The recipe of the demo.
-const RECIPE: &[u8] = b"A";
-
-/// The size of each batch.
-const SIZE: u64 = 1000;
 
 /// Runs plants: the hub in the thread that calls, and a console and a link to steady units, each in a thread that the runtime
 /// starts. All three rest by the clock of the process.
@@ -41,16 +35,13 @@ impl<R: Threads> PlantRunner for ThreadsOf<'_, R> {
         set: Cleared,
         options: PlantOptions,
     ) -> Result<u64, PlantFault> {
-        let Ok(recipe) = Name::read(alloc, RECIPE) else {
-            return Err(PlantFault::Memory);
-        };
+        let plan = first_plan(alloc, &set)?;
         let Ok(units) = steady_units(alloc, set.cell(), options.ticks) else {
             return Err(PlantFault::Memory);
         };
         let simulator = Simulator::new(units);
         let task = PlantTask {
-            recipe,
-            size: SIZE,
+            plan,
             batches: options.batches,
             ring: options.ring as usize,
             limit: TURNS,

@@ -5,7 +5,7 @@ use Rattle.clap.specs.Simple.{subcommand_of}
 use Rattle.clap.specs.Walk.{Text, Row, first_of}
 use Rattle.clap.specs.declared.error.kind.ErrorKind.TheVariants.{DisplayHelp, DisplayVersion, InvalidSubcommand, MissingRequiredArgument, UnknownArgument, ValueValidation}
 use Rattle.clap.proofs.OnLiterals.{clap_on_literals}
-use Rattle.batch_words.specs.CommandLine.{asked_by, batches_of, is_given, keep, program_app, ring_of, serve_desks, ticks_of, word_of, words_of}
+use Rattle.batch_words.specs.CommandLine.{asked_by, batches_of, demo, documents, faults_of, is_given, plant, keep, program_app, ring_of, serve_desks, ticks_of, word_of, words_of}
 
 abbrev check_line : List Text
 check_line = codes "check" ∷ codes "c" ∷ codes "r" ∷ codes "s" ∷ []
@@ -306,6 +306,35 @@ numbers_are_left_out = refl
 plant_is_taken : fault_of program_app (codes "plant" ∷ []) ≡ []
 unfolding clap_on_literals
 plant_is_taken = refl
+
+-- of documents
+
+abbrev planted_line : List Text
+planted_line = codes "plant" ∷ codes "--batches" ∷ codes "7" ∷ codes "c" ∷ codes "k" ∷ codes "r" ∷ codes "s" ∷ []
+
+documents_are_planted : asked_by (subcommand_of program_app planted_line) ≡ plant (documents (codes "c") (codes "k") (codes "r" ∷ codes "s" ∷ [])) 7 5 1
+unfolding clap_on_literals
+documents_are_planted = refl
+
+documents_are_taken : fault_of program_app planted_line ≡ []
+unfolding clap_on_literals
+documents_are_taken = refl
+
+recipes_are_missing : faults_of (codes "plant" ∷ codes "c" ∷ codes "k" ∷ []) ≡ MissingRequiredArgument ∷ []
+unfolding clap_on_literals
+recipes_are_missing = refl
+
+recipes_are_there : faults_of planted_line ≡ []
+unfolding clap_on_literals
+recipes_are_there = refl
+
+no_recipe_is_missing : faults_of (codes "plant" ∷ []) ≡ []
+unfolding clap_on_literals
+no_recipe_is_missing = refl
+
+demo_is_planted : asked_by (subcommand_of program_app (codes "plant" ∷ [])) ≡ plant demo 3 5 1
+unfolding clap_on_literals
+demo_is_planted = refl
 
 no_batch_is_refused : fault_of program_app (codes "plant" ∷ codes "--batches" ∷ codes "0" ∷ []) ≡ ValueValidation ∷ []
 unfolding clap_on_literals

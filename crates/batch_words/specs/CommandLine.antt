@@ -1,17 +1,17 @@
--- trusted: the command line: `check [--all] [--write FILE] CELL RECIPE..`, `verify CELL CERT RECIPE..`, `show CELL RECIPE..`, `run [--journal FILE] [--echo] [--times] CELL CERT RECIPE..`, `serve [--journal FILE] [--times] DESKS CELL CERT RECIPE..`, `status RECORD`, `draw RECORD`, `audit RECORD CELL CERT RECIPE..`, `plant`, `explain CODE..`, and no words at all.
-use Rattle.std.specs.Prelude.{◌≡◌, ◌≢◌, ◌⊎◌, [], ℕ, Bool, List, Option, Some, None, map, option_map, codes, true, false, ◌||◌, unwrap_or, string_bytes, if◌then◌else◌, ⊤}
+-- trusted: the command line: `check [--all] [--write FILE] CELL RECIPE..`, `verify CELL CERT RECIPE..`, `show CELL RECIPE..`, `run [--journal FILE] [--echo] [--times] CELL CERT RECIPE..`, `serve [--journal FILE] [--times] DESKS CELL CERT RECIPE..`, `status RECORD`, `draw RECORD`, `audit RECORD CELL CERT RECIPE..`, `plant [CELL CERT RECIPE..]`, `explain CODE..`, and no words at all.
+use Rattle.std.specs.Prelude.{◌≡◌, ◌≢◌, ◌⊎◌, [], ◌∷◌, ℕ, Bool, List, Option, Some, None, map, option_map, is_some, codes, true, false, ◌&&◌, ◌||◌, not, unwrap_or, string_bytes, if◌then◌else◌, ⊤}
 use Rattle.std.specs.Str.{bytes_eq}
 use Rattle.std.specs.Str.Parse.{digits_value, without_leading_plus}
 use Rattle.clap.specs.Lexer.{usize_max}
 use Rattle.clap.specs.Faults.{fault_of}
-use Rattle.clap.specs.Kinds.{Kinds, IsAmong}
+use Rattle.clap.specs.Kinds.{Kinds, IsAmong, or_else}
 use Rattle.clap.specs.ValueTests.{is_unsigned_in}
 use Rattle.clap.specs.Walk.{Row, Rule, Text, first_of, all_of}
-use Rattle.clap.specs.Simple.{App, new_app, new_rule, on_top, with_rule, with_subcommand}
+use Rattle.clap.specs.Simple.{App, new_app, new_rule, on_top, subcommand_of, with_rule, with_subcommand}
 use Rattle.clap.specs.declared.builder.action.ArgAction.TheVariants.{Set, Append, SetTrue}
 use Rattle.clap.specs.declared.builder.value_parser.ValueParser.TheVariants.{Unsigned}
 use Rattle.clap.specs.declared.error.kind.ErrorKind.{ErrorKind}
-use Rattle.clap.specs.declared.error.kind.ErrorKind.TheVariants.{DisplayHelp, DisplayVersion, OutOfMemory}
+use Rattle.clap.specs.declared.error.kind.ErrorKind.TheVariants.{DisplayHelp, DisplayVersion, MissingRequiredArgument, OutOfMemory}
 use Rattle.batch_words.specs.declared.command.Subcommand.{Subcommand}
 use Rattle.batch_words.specs.declared.command.Subcommand.TheVariants.{Judge, Serve, ServeDesks, Status, Audit, Plant, Explain, Keep, Write, Remark, Picture}
 use Rattle.batch_words.specs.declared.command.Judgement as judgements
@@ -89,7 +89,8 @@ audit_app = with_rule (with_rule (with_rule (with_rule (with_rule (with_rule (ne
     (flag_rule (codes "beginning"))) (flag_rule (codes "quiet"))
 
 abbrev pub plant_app : App
-plant_app = with_rule (with_rule (with_rule (new_app (codes "plant"))
+plant_app = with_rule (with_rule (with_rule (with_rule (with_rule (with_rule (new_app (codes "plant"))
+    (optional_rule (codes "CELL"))) (optional_rule (codes "CERT"))) (several_rule (codes "RECIPE")))
     (number_rule (codes "batches") 1 100)) (number_rule (codes "ticks") 0 1000)) (number_rule (codes "ring") 1 64)
 
 abbrev pub explain_app : App
@@ -146,7 +147,7 @@ pub data Judgement : Type 0 where
   -- to show their nodes
   show : (cell : Text) (recipes : List Text) → Judgement
 
--- whose set is to be served: the demo's, or that of the documents at these paths
+-- whose set is to be served, or whose plant is to be run: the demo's, or that of the documents at these paths
 pub data Source : Type 0 where
   demo : Source
   documents : (cell certificate : Text) (recipes : List Text) → Source
@@ -169,8 +170,8 @@ pub data Request : Type 0 where
   picture : (path : Option Text) → Request
   -- to compare the record at this path with what event lines come to over a set; a record that only begins it may be accepted
   audit : (beginning : Bool) (path : Text) (source : Source) → Request
-  -- to run the demo's plant for so many batches, with phases of so many ticks and rings of so many places
-  plant : (batches ticks ring : ℕ) → Request
+  -- to run a plant for so many batches, with phases of so many ticks and rings of so many places
+  plant : (source : Source) (batches ticks ring : ℕ) → Request
   -- to say what the first code in these texts means, or where there are none what all codes mean
   explain : (texts : List Text) → Request
 
@@ -219,6 +220,15 @@ audited_by rows =
     audit (is_given (codes "beginning") rows) (word_of (codes "RECORD") rows)
     (documents (word_of (codes "CELL") rows) (word_of (codes "CERT") rows) (words_of (codes "RECIPE") rows))
 
+-- the documents of which a plant is, or the demo's where no cell is given
+abbrev pub plant_source : Option Text → List Row → Source
+plant_source None rows = demo
+plant_source (Some cell) rows = documents cell (word_of (codes "CERT") rows) (words_of (codes "RECIPE") rows)
+
+-- what the words behind `plant` ask for
+abbrev pub planted_by : List Row → Request
+planted_by rows = plant (plant_source (first_of (codes "CELL") rows) rows) (batches_of rows) (ticks_of rows) (ring_of rows)
+
 -- what the words behind `serve` ask for
 abbrev pub desks_by : List Row → Request
 desks_by rows =
@@ -229,7 +239,7 @@ desks_by rows =
 abbrev pub named_by : Text → List Row → Request
 named_by name rows =
     if bytes_eq name (codes "explain") then explain (words_of (codes "CODE") rows)
-    else (if bytes_eq name (codes "plant") then plant (batches_of rows) (ticks_of rows) (ring_of rows)
+    else (if bytes_eq name (codes "plant") then planted_by rows
     else (if bytes_eq name (codes "status") then tell (first_of (codes "RECORD") rows)
     else (if bytes_eq name (codes "draw") then picture (first_of (codes "RECORD") rows)
     else (if bytes_eq name (codes "audit") then audited_by rows
@@ -270,16 +280,25 @@ request_of (ServeDesks words) =
 request_of (Status path) = tell (option_map string_bytes path)
 request_of (Picture path) = picture (option_map string_bytes path)
 request_of (Audit words) = audit words.beginning (string_bytes words.path) (source_of words.source)
-request_of (Plant options) = plant options.batches options.ticks options.ring
+request_of (Plant source options) = plant (source_of source) options.batches options.ticks options.ring
 request_of (Explain texts) = explain (map string_bytes texts.items)
 
 -- what is read of the words is what they ask for
 abbrev pub AreWordsOf : Option (Text × List Row) → CommandWords → Type 0
 AreWordsOf entered words = (request_of words.command ≡ asked_by entered) × (words.quiet ≡ asks_quiet entered)
 
--- the kinds of faults that the words may have: those that clap finds
+-- a plant of a cell is asked for without a recipe; where there is one, the certificate stands before it
+abbrev pub lacks_recipe : Option (Text × List Row) → Bool
+lacks_recipe None = false
+lacks_recipe (Some entered) =
+    bytes_eq entered.0 (codes "plant") && (is_some (first_of (codes "CELL") entered.1) && not (is_some (first_of (codes "RECIPE") entered.1)))
+
+abbrev pub missing_kinds : Option (Text × List Row) → Kinds
+missing_kinds entered = if lacks_recipe entered then MissingRequiredArgument ∷ [] else []
+
+-- the kinds of faults that the words may have: those that clap finds, or else that a plant lacks a recipe
 abbrev pub faults_of : List Text → Kinds
-faults_of words = fault_of program_app words
+faults_of words = or_else (fault_of program_app words) (missing_kinds (subcommand_of program_app words))
 
 -- what the user asks to be shown: help, or the version
 abbrev pub IsShown : ErrorKind → Type 0

@@ -52,8 +52,11 @@ pub enum Subcommand {
     },
     /// To compare a record with what event lines from standard input come to over a set.
     Audit(AuditWords),
-    /// To run the demo's plant: its hub in the thread that calls, its console and its link to the units in threads of their own.
-    Plant(PlantOptions),
+    /// To run the plant of a set: its hub in the thread that calls, its console and its link to the units in threads of their own.
+    Plant {
+        source: Source,
+        options: PlantOptions,
+    },
     /// To say what the first code in these texts means, or where there are none what all codes mean.
     Explain {
         texts: Vec<String>,
@@ -116,7 +119,7 @@ pub enum Judgement {
     },
 }
 
-/// Where the set comes from that is to be served.
+/// Where the set comes from that is to be served, or whose plant is to be run.
 #[derive(Drop)]
 pub enum Source {
     /// The documents that the program has built in.

@@ -1,7 +1,7 @@
 //! How large a plant is, and how long its phases run.
 ghost use Rattle.std.specs.Prelude.{◌≤◌};
 
-/// How large a plant of the demo is, and how long its phases run, each number in its range.
+/// How large a plant is, and how long its phases run, each number in its range.
 #[derive(Clone, Copy)]
 pub struct PlantOptions {
     /// How many batches are created and started, 1 to 100.

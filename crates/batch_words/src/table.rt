@@ -129,9 +129,24 @@ static COMMANDS: [CommandText<'static>; 10] = [
     },
     CommandText {
         name: "plant",
-        about: "Runs the demo's plant: its console and its link to the units in threads beside the hub's",
+        about: "Runs a plant, the demo's or that of documents: its console and its link to the units in threads beside the hub's",
         example: PLANT_HELP,
         arguments: &[
+            Argument(
+                "CELL",
+                Form::Optional,
+                "The cell document [default: the demo's]",
+            ),
+            Argument(
+                "CERT",
+                Form::Optional,
+                "The certificate, where a cell is given",
+            ),
+            Argument(
+                "RECIPE",
+                Form::Several,
+                "The master recipes, of which the first is made",
+            ),
             Argument(
                 "batches",
                 Form::Number(1, 100),
@@ -244,6 +259,9 @@ An example, of a server whose input was kept in day.lines, and its record in day
 const PLANT_HELP: &str = "\
 An example:
   batchd plant --batches 10 --ticks 20
+
+The same over documents, in examples/paint_plant:
+  batchd plant --batches 10 --ticks 20 cell.toml certificate.txt primer.toml rinse-mended.toml
 ";
 
 const EXPLAIN_HELP: &str = "\

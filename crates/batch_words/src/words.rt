@@ -1,8 +1,9 @@
 //! The words of the command line.
-ghost use Rattle.std.specs.Prelude.{◌≡◌, ◌≤◌, ◌⊎◌, IfOk, IfErr, MatchOption, Some, map, option_map, string_bytes, codes, []};
+ghost use Rattle.std.specs.Prelude.{◌≡◌, ◌≤◌, ◌⊎◌, IfOk, IfErr, is_some, MatchOption, Some, map, option_map, string_bytes, codes, []};
 ghost use Rattle.std.specs.Str.Parse.{digits_value, without_leading_plus};
 ghost use Rattle.clap.specs.Words.{FailsBy, IsUnsignedIn, fault_of, first_of, found_of, kind_of, rows_of, subcommand_of, subcommand_rows_of};
-ghost use Rattle.batch_words.specs.CommandLine.{AreWordsOf, HasOptionsOf, IsFaultOf, IsFaultOfKind, audited_by, certified_by, checked_by, desks_by, is_given, named_by, number_given, program_app, request_of, word_of, words_of, shown_by, judged_by, judgement_of, faults_of, run_by, serve_by, source_of};
+ghost use Rattle.clap.specs.declared.error.kind.ErrorKind.TheVariants.{MissingRequiredArgument};
+ghost use Rattle.batch_words.specs.CommandLine.{AreWordsOf, HasOptionsOf, IsFaultOf, IsFaultOfKind, audited_by, certified_by, checked_by, desks_by, is_given, named_by, number_given, program_app, request_of, word_of, words_of, shown_by, judged_by, judgement_of, faults_of, lacks_recipe, plant_source, planted_by, run_by, serve_by, source_of};
 
 use crate::command::{
     AuditWords, CommandFault, CommandWords, DeskWords, Judgement, Source, Subcommand,
@@ -14,17 +15,31 @@ use clap::error::ErrorKind;
 use clap::{ArgMatches, Error};
 use std::alloc::{AllocError, Global};
 
+/// What is told of a plant that lacks a recipe.
+const MISSING_RECIPE: &str = "\
+error: beside a CELL a plant needs its CERT and at least one RECIPE
+
+Usage: batchd plant [OPTIONS] [CELL] [CERT] [RECIPE]...
+
+For more information, try '--help'.
+";
+
 /// Reads the words that follow the program's name. Where there are none the program is to serve.
 ///
 /// The error is [`CommandFault::Help`] where the fault that clap gives is that help or the version is asked for, [`CommandFault::Usage`] at any
-/// other, and [`CommandFault::Memory`] where memory ran out, be it for the text of one of these.
+/// other, and where a plant of a cell lacks a recipe, and [`CommandFault::Memory`] where memory ran out, be it for the text of one of these.
 pub fn parse(alloc: Global, words: &[String]) -> Result<CommandWords, CommandFault>
     ensures words { IfOk result (AreWordsOf (subcommand_of program_app (map string_bytes words.now))) }
     ensures taken { IfOk result (λ _. faults_of (map string_bytes words.now) ≡ []) }
     ensures fault { IfErr result (IsFaultOf (faults_of (map string_bytes words.now))) }
 {
     match matches_of(alloc, words) {
-        Ok(matches) => Ok(words_of(alloc, &matches)?),
+        Ok(matches) => {
+            if lacks_recipe(&matches) {
+                return Err(missing_recipe(alloc));
+            }
+            Ok(words_of(alloc, &matches)?)
+        }
         Err(error) => Err(fault_from(alloc, &error)),
     }
 }
@@ -34,6 +49,29 @@ fn matches_of<'a>(alloc: Global, words: &'a [String]) -> Result<ArgMatches<'a>, 
     ensures kinds { FailsBy (fault_of program_app (map string_bytes words.entry.now)) result }
 {
     program(alloc)?.try_get_matches_from(words)
+}
+
+/// Whether a plant of a cell is asked for without a recipe. `clap` isn't told that they belong together, since its clauses leave such
+/// arguments out.
+fn lacks_recipe(matches: &ArgMatches<'_>) -> bool
+    ensures { result ≡ lacks_recipe (subcommand_rows_of matches.now) }
+{
+    match matches.subcommand() {
+        Some((name, words)) => {
+            name == "plant" && has_word(words, "CELL") && !has_word(words, "RECIPE")
+        }
+        None => false,
+    }
+}
+
+/// The fault of a plant that lacks a recipe.
+fn missing_recipe(alloc: Global) -> CommandFault
+    ensures { IsFaultOfKind MissingRequiredArgument result }
+{
+    match String::from_str(alloc, MISSING_RECIPE) {
+        Ok(text) => CommandFault::Usage(text),
+        Err(_) => CommandFault::Memory,
+    }
 }
 
 fn words_of(alloc: Global, matches: &ArgMatches<'_>) -> Result<CommandWords, AllocError>
@@ -59,7 +97,7 @@ fn command_of(alloc: Global, name: &str, words: &ArgMatches<'_>) -> Result<Subco
         return Ok(Subcommand::Explain { texts });
     }
     if name == "plant" {
-        return Ok(Subcommand::Plant(plant_options(words)));
+        return plant_command(alloc, words);
     }
     if name == "status" {
         let path = optional(alloc, words, "RECORD")?;
@@ -206,6 +244,30 @@ fn comments_of(words: &ArgMatches<'_>) -> Comments
     }
 }
 
+/// `plant`, of documents or of the demo.
+fn plant_command(alloc: Global, words: &ArgMatches<'_>) -> Result<Subcommand, AllocError>
+    ensures { IfOk result (λ command. request_of command ≡ planted_by (rows_of (found_of words.now))) }
+{
+    Ok(Subcommand::Plant {
+        source: plant_source(alloc, words)?,
+        options: plant_options(words),
+    })
+}
+
+/// The documents of which a plant is, or the demo's where no cell is given.
+fn plant_source(alloc: Global, words: &ArgMatches<'_>) -> Result<Source, AllocError>
+    ensures { IfOk result (λ source. source_of source ≡ plant_source (first_of (codes "CELL") (rows_of (found_of words.now))) (rows_of (found_of words.now))) }
+{
+    let Some(cell) = optional(alloc, words, "CELL")? else {
+        return Ok(Source::Demo);
+    };
+    Ok(Source::Documents {
+        cell,
+        certificate: word(alloc, words, "CERT")?,
+        recipes: several(alloc, words, "RECIPE")?,
+    })
+}
+
 fn plant_options(words: &ArgMatches<'_>) -> PlantOptions
     ensures { HasOptionsOf (rows_of (found_of words.now)) result }
 {
@@ -259,6 +321,13 @@ fn flag(words: &ArgMatches<'_>, name: &str) -> bool
         Some(text) => text == "true",
         None => false,
     }
+}
+
+/// Whether a word was given for the argument.
+fn has_word(words: &ArgMatches<'_>, name: &str) -> bool
+    ensures { result ≡ is_some (first_of name.now (rows_of (found_of words.now))) }
+{
+    words.get_str(name).is_some()
 }
 
 /// The word that was given for the argument, or an empty one where none was.

@@ -1,6 +1,6 @@
 //! Loops of a hub and of a console: so many turns at a gate, and how they end.
 use crate::words::{number_of, shown};
-use batch_desk::{Desk, Gate, Hub, LoopEnd, console_loop, hub_loop};
+use batch_desk::{BatchPlan, Desk, Gate, Hub, LoopEnd, console_loop, hub_loop};
 use batch_text::Name;
 use std::alloc::Global;
 use std::test::Fail;
@@ -27,8 +27,14 @@ fn loop_words(words: &str) -> Result<(u64, u64, Open), Fail> {
 /// How a loop of a desk's console ended, which makes A in size 1000.
 fn console_end(alloc: Global, desk: &mut Desk, words: &str) -> Result<LoopEnd, Fail> {
     let (batches, limit, mut gate) = loop_words(words)?;
-    let recipe = Name::read(alloc, b"A")?;
-    Ok(console_loop(alloc, desk, &recipe, 1000, batches, &mut gate, limit))
+    let plan = BatchPlan {
+        recipe: Name::read(alloc, b"A")?,
+        size: 1000,
+        roles: Vec::new(alloc),
+    };
+    Ok(console_loop(
+        alloc, desk, &plan, batches, &mut gate, limit,
+    ))
 }
 
 /// How a loop of the hub ended.

@@ -2,7 +2,7 @@
 use crate::documents::A;
 use crate::lines::demo_set_of;
 use crate::simulator::steady;
-use batch_desk::Gate;
+use batch_desk::{BatchPlan, Gate};
 use batch_plant::{PlantFault, PlantGates, PlantTask, plant_run};
 use batch_sim::{Simulator, SteadyUnit};
 use batch_text::Name;
@@ -45,8 +45,11 @@ fn fault_of<
     gates: PlantGates<H, C, L>,
 ) -> Option<PlantFault> {
     let task = PlantTask {
-        recipe: demo.recipe,
-        size,
+        plan: BatchPlan {
+            recipe: demo.recipe,
+            size,
+            roles: Vec::new(alloc),
+        },
         batches: 1,
         ring: 1,
         limit,

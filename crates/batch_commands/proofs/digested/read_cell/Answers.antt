@@ -1,4 +1,4 @@
-use Rattle.std.proofs.Common.{rules, ◌≡◌}
+use Rattle.std.proofs.Common.{◌≡◌}
 use Rattle.batch_commands.proofs.digested.read_cell.Goals as goal
 
 pub returns-clause-read : goal.returns-clause-read

@@ -1,4 +1,4 @@
-use Rattle.std.proofs.Common.{◌≡◌, ◌<◌, ℕ, List, ap, arith, inl, inr, length, refl, rules, subst}
+use Rattle.std.proofs.Common.{◌≡◌, ◌<◌, List, ap, arith, inl, inr, length, refl, rules, subst}
 use Rattle.std.proofs.lemmas.List.{nil_from_length}
 use Rattle.std.proofs.lemmas.Result.{err_from_is_err_and}
 use Rattle.batch_verify.proofs.RecipeLemmas.{set_length}

@@ -1,4 +1,4 @@
-use Rattle.std.proofs.Common.{◌≡◌, ◌<◌, [], List, ℕ, length, map, rules, string_bytes, subst}
+use Rattle.std.proofs.Common.{◌≡◌, ◌<◌, [], List, ℕ, length, rules, string_bytes, subst}
 use Rattle.std.proofs.lemmas.Result.{err_from_is_err_and}
 use Rattle.batch_commands.specs.Reading.{IsUnread}
 use Rattle.batch_commands.proofs.Looked.{looks_at_none, looks_next, unread_at}

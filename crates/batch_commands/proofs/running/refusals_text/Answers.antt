@@ -1,4 +1,4 @@
-use Rattle.std.proofs.Common.{◌<◌, ◌++◌, ◌∙◌, List, ℕ, [], length, ap, refl, rules, string_bytes}
+use Rattle.std.proofs.Common.{◌<◌, ◌++◌, ◌∙◌, List, ℕ, [], length, ap, rules, string_bytes}
 use Rattle.batch_commands.specs.declared.refusal.DocumentRefusal.{DocumentRefusal}
 use Rattle.batch_commands.proofs.Grown.{texts_more}
 use Rattle.batch_commands.proofs.running.refusals_text.Goals as goal

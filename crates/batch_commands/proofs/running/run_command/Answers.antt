@@ -1,10 +1,7 @@
 use Rattle.std.proofs.Common.{map, refl, string_bytes}
 use Rattle.std.proofs.KnownBytes.{Keeps-refl}
-use Rattle.batch_words.specs.CommandLine.{judgement_of, source_of}
+use Rattle.batch_words.specs.CommandLine.{judgement_of}
 use Rattle.batch_commands.specs.Running.{explains, halts, judges, reads, writes, draws}
-use Rattle.batch_commands.specs.Requests.{demo_gives}
-use Rattle.batch_commands.proofs.Successes.{plant_done}
-use Rattle.batch_commands.proofs.Warned.{silent}
 use Rattle.batch_commands.proofs.running.run_command.Goals as goal
 
 pub returns-in-Ok : goal.returns-in-Ok
@@ -47,9 +44,7 @@ pub returns-in-Audit : goal.returns-in-Audit
 returns-in-Audit g c = rw c.in-Audit.is (rw c.in-Audit.words-is at c.audit.ensures)
 
 pub returns-in-Plant : goal.returns-in-Plant
-returns-in-Plant g c =
-    let options = c.in-Plant.options in
-    rw c.in-Plant.is (plant_done demo_gives (g.D.Documents.gives c.args.documents.now) options.batches options.ticks options.ring _ c.args.words.quiet _ _ _ refl c.plant.ensures)
+returns-in-Plant g c = rw c.in-Plant.is (rw (c.in-Plant.source-is, c.in-Plant.options-is) at c.plant.ensures)
 
 pub returns : goal.returns
 returns g c =

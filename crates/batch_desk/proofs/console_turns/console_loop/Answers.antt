@@ -5,7 +5,7 @@ use Rattle.batch_desk.proofs.console_turns.console_loop.Goals as goal
 use Rattle.batch_desk.proofs.console_turns.console_loop.Goals.{then-pass, else-pass}
 
 pub loop-turn-init : goal.loop-turn-init
-loop-turn-init g c = record { follows = begins _ _ _ _ _ c.new-console.ensures; asked = refl }
+loop-turn-init g c = record { follows = begins _ _ _ _ c.new-console.ensures; asked = refl }
 
 pub loop-turn-preserved : goal.loop-turn-preserved
 loop-turn-preserved g c =

@@ -1,12 +1,12 @@
 use Rattle.std.proofs.Common.{refl, ◌∙◌}
 use Rattle.batch_desk.proofs.Gates.{asked_once_more}
-use Rattle.batch_desk.proofs.HubTurns.{history_grows, prefix_same}
+use Rattle.batch_desk.proofs.HubTurns.{as_many, history_grows, history_same, prefix_same}
 use Rattle.batch_desk.proofs.Moves.{prefix_then}
 use Rattle.batch_desk.proofs.hub_turns.hub_loop.Goals as goal
 use Rattle.batch_desk.proofs.hub_turns.hub_loop.Goals.{then-pass, else-pass}
 
 pub loop-number-init : goal.loop-number-init
-loop-number-init g c = record { rings = refl; outlines = refl; cleared = refl; history = prefix_same _; record_grows = prefix_same _; asked = refl }
+loop-number-init g c = record { rings = refl; outlines = refl; cleared = refl; history = history_same _ _; record_grows = prefix_same _; asked = refl }
 
 pub loop-number-preserved : goal.loop-number-preserved
 loop-number-preserved g c =
@@ -17,7 +17,8 @@ loop-number-preserved g c =
         rings = w.turn.ensures.rings ∙ was.rings;
         outlines = w.turn.ensures.outlines ∙ was.outlines;
         cleared = w.turn.ensures.cleared ∙ was.cleared;
-        history = history_grows c.loop-number.port _ c.loop-number.hub w.turn.new.self was.history w.turn.ensures.history;
+        history = history_grows _ c.loop-number.port _ c.loop-number.hub w.turn.new.self (as_many c.args.hub.now c.loop-number.hub was.outlines) (λ out. (w.turn.ensures.unknown out).1)
+            was.history w.turn.ensures.history;
         record_grows = prefix_then _ _ _ was.record_grows w.turn.ensures.record;
         asked = asked;
       })

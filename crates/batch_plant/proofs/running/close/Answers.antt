@@ -12,4 +12,8 @@ pub returns-clause-rings : goal.returns-clause-rings
 returns-clause-rings c = c.close_port-link.ensures.events ∙ c.close_port-console.ensures.events
 
 pub returns-clause-console : goal.returns-clause-console
-returns-clause-console c = λ some. ap (events_of 0) c.close_port-link.ensures.work.1 ∙ c.close_port-console.ensures.all some
+returns-clause-console c =
+    ap (events_of 0) c.close_port-link.ensures.work.1 ∙ c.close_port-console.ensures.all (rw c.in_ok-rests.ensures.console tt)
+
+pub returns-clause-link : goal.returns-clause-link
+returns-clause-link c = c.close_port-link.ensures.all (rw c.in_ok-rests.ensures.link tt)

@@ -11,7 +11,7 @@ returns-clause-hub g c =
 
 pub returns-clause-console : goal.returns-clause-console
 returns-clause-console g c =
-    gave_back (λ (d : DeskState). IsConsole c.args.task.recipe c.args.task.size c.args.task.batches c.args.parts.console d) c.start_console-first.result
+    gave_back (λ (d : DeskState). IsConsole c.args.task.plan c.args.task.batches c.args.parts.console d) c.start_console-first.result
     c.join_console-console.result c.in_ok-hub.console c.start_console-first.ensures c.join_console-console.ensures.ran c.in_ok-hub.ensures.console
     (λ child desk ran began. rw (began.0, began.1) at ran)
 

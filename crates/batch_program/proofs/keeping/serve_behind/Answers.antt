@@ -1,4 +1,4 @@
-use Rattle.std.proofs.Common.{◌≡◌, inl, inr, sym, ◌∙◌, ap, refl}
+use Rattle.std.proofs.Common.{inl, inr, sym, ◌∙◌}
 use Rattle.std.proofs.lemmas.Grind.{merely}
 use Rattle.batch_engine.specs.View.{setup, plant_of}
 use Rattle.batch_program.proofs.KeptRuns.{answered, where_known}

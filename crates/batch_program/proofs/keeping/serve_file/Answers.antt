@@ -1,4 +1,4 @@
-use Rattle.std.proofs.Common.{◌≡◌, inl, sym, ◌∙◌, refl}
+use Rattle.std.proofs.Common.{inl, sym, ◌∙◌, refl}
 use Rattle.std.proofs.Math.Logic.{∥∥₁_elim}
 use Rattle.std.proofs.Props.{props}
 use Rattle.batch_journal.proofs.ReaderLemmas.{begun_before}

@@ -1,4 +1,4 @@
-use Rattle.std.proofs.Common.{◌≡◌, Bool, is_some, refl, subst, sym, ap}
+use Rattle.std.proofs.Common.{Bool, is_some, refl, subst, sym, ap}
 use Rattle.batch_program.specs.JournalRuns.{IsShownAs}
 use Rattle.batch_program.proofs.keeping.serve_shown.Goals as goal
 

@@ -79,11 +79,11 @@ pub returns-in-Plants : goal.returns-in-Plants
 returns-in-Plants g c =
     let course = c.in-Plants in
     let end = c.run_plant-end in
-    let (asked, cleared, kept, silent) =
+    let is =
     plant_to_run (g.D.Documents.gives c.args.documents.now) (map string_bytes c.args.words.now) _ _ _ course.set course.options
     c.run_words.ensures course.is in
-    plants course.set course.options end.result c.report_of_plant-status.result asked cleared (has_run course.set course.options end.result end.ensures)
-    (told_kept _ _ _ _ _ _ course.options.batches end.result _ kept silent c.report_of_plant-status.ensures) (Keeps-refl _)
+    plants is.source course.set course.options end.result c.report_of_plant-status.result is.asked is.is_set (has_run course.set course.options end.result end.ensures)
+    (told_kept _ _ _ _ _ _ course.options.batches end.result _ is.unwritten is.silent c.report_of_plant-status.ensures) (Keeps-refl _)
 
 pub returns-in-ServesDesks : goal.returns-in-ServesDesks
 returns-in-ServesDesks g c =

@@ -1,5 +1,3 @@
-use Rattle.std.proofs.KnownBytes.{Keeps-refl}
-use Rattle.batch_program.specs.AuditRuns.{stops}
 use Rattle.batch_program.proofs.RecordsAudited.{told_at}
 use Rattle.batch_program.proofs.record_audit.audit_record.Goals as goal
 

@@ -1,5 +1,3 @@
-use Rattle.std.proofs.Common.{inr}
-use Rattle.std.proofs.KnownBytes.{Keeps-refl}
 use Rattle.batch_program.proofs.RecordsAudited.{finding_told}
 use Rattle.batch_program.proofs.record_audit.tell_audit.Goals as goal
 

@@ -4,9 +4,9 @@ use Rattle.batch_desk.proofs.console.Console.start.Goals as goal
 use Rattle.batch_desk.proofs.console.Console.start.Goals.{in-Ok, in-Err}
 
 pub returns-clause-goes : goal.returns-clause-goes
-returns-clause-goes c recipe size = elim c.match-send.branch [
-  | in-Ok w ↦ rw w.self-is (start_goes recipe size c.args.batch c.args.self.now _ c.args.desk.now c.send.new.self c.requires refl refl refl refl refl w.in-Ok.ensures.sent)
-  | in-Err w ↦ rw w.self-is (full_goes recipe size c.args.self.now c.args.desk.now c.send.new.self w.in-Err.ensures.full.1)
+returns-clause-goes c plan = elim c.match-send.branch [
+  | in-Ok w ↦ rw w.self-is (start_goes plan c.args.batch c.args.self.now _ c.args.desk.now c.send.new.self c.requires refl refl refl refl refl w.in-Ok.ensures.sent)
+  | in-Err w ↦ rw w.self-is (full_goes plan c.args.self.now c.args.desk.now c.send.new.self w.in-Err.ensures.full.1)
 ]
 
 pub returns-clause-tries : goal.returns-clause-tries

@@ -14,7 +14,9 @@ returns g c =
       count = ap length c.history.ensures.value;
       rings = end.ensures.rings;
       units = c.new-simulator.result;
-      ticks = subst (λ (units : List SteadyView). All (λ unit. unit.ticks ≡ c.args.options.ticks) units) (sym c.new-simulator.ensures) c.in-Ok-steady_units.ensures.ticks;
-      rest = end.end.rests.link;
+      ticks = subst (λ (units : List SteadyView). All (λ unit. unit.ticks ≡ c.args.options.ticks) units) (sym c.new-simulator.ensures) c.in-Ok.ensures.ticks;
+      plan = c.in_ok-plan.plan;
+      first = c.in_ok-plan.ensures;
+      desks = end.ensures.desks;
       link = end.ensures.link;
     }
