@@ -12,7 +12,7 @@ use Rattle.batch_reader.specs.declared.fault.DocFault.{DocFault}
 use Rattle.batch_reader.specs.declared.fault.DocFault.TheVariants as document
 use Rattle.batch_reader.specs.declared.fault.EntryFault.{EntryFault}
 use Rattle.batch_reader.specs.declared.fault.EntryFault.TheVariants.{MissingKey, WrongKind, UnknownKey, Undeclared, Duplicate, OutOfLimit, Chart}
-use Rattle.batch_sentences.specs.Shown.{shown}
+use Rattle.batch_wording.specs.Shown.{shown}
 use Rattle.batch_verify.specs.CertificateText.{Rank}
 use Rattle.batch_verify.specs.declared.certificate.CertFault.{CertFault}
 use Rattle.batch_verify.specs.declared.certificate.CertFault.TheVariants as certificate

@@ -3,7 +3,7 @@ ghost use Rattle.std.specs.Prelude.{◌≡◌};
 ghost use Rattle.batch_commands.specs.Judging.{is_for_memory, status_of};
 ghost use Rattle.batch_commands.specs.declared.refusal.Halt.TheVariants.{Memory};
 
-use batch_sentences::Sentence;
+use batch_wording::Sentence;
 use std::alloc::{AllocError, AllocFailed};
 
 /// What a refusal is for.

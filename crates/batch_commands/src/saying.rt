@@ -4,7 +4,7 @@ ghost use Rattle.std.specs.List.{flat_map};
 ghost use Rattle.batch_commands.specs.Saying.{AreSaid, IsSaid, WritesFront, line_of};
 
 use crate::refusal::DocumentRefusal;
-use batch_sentences::Sentence;
+use batch_wording::Sentence;
 use std::alloc::{AllocError, Global};
 use std::io::Write;
 

@@ -3,7 +3,7 @@ use crate::entries::{tables_of, wrong_at};
 use crate::keys::{is_word_of_several, word_of};
 use crate::lines::line_of;
 use batch_reader::{DocFault, EntryFault, MAX_DOCUMENT_LEN, Spot};
-use batch_sentences::{Sentence, header_in};
+use batch_wording::{Sentence, header_in};
 use std::alloc::{AllocError, Global};
 use toml::Table;
 use toml::de::Error;

@@ -9,7 +9,7 @@ use crate::needs::{need_out_of_limit, unreadable_need};
 use batch_grammar::is_chart_word;
 use batch_reader::{EntryFault, Spot, TableKind};
 use batch_recipe::{MAX_NODES, MAX_UNITS};
-use batch_sentences::meant_said;
+use batch_wording::meant_said;
 use std::alloc::{AllocError, Global};
 use toml::{Table, Value};
 

@@ -1,6 +1,6 @@
 //! What may have been meant where a text is no chart.
 use batch_reader::TableKind;
-use batch_sentences::meant_said;
+use batch_wording::meant_said;
 use std::alloc::{AllocError, Global};
 
 /// The words that stand before a bracket.

@@ -1,7 +1,7 @@
 //! Lines of a document.
 use crate::keys::word_of;
 use batch_reader::Spot;
-use batch_sentences::header_in;
+use batch_wording::header_in;
 
 /// The line of the key in the table at the spot, or of the table's header where there is no such line, counted from 1. An empty key
 /// has none.

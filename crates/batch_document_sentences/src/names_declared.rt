@@ -8,7 +8,7 @@ use crate::entries::{Wrong, tables_of};
 use crate::keys::namesakes_of;
 use crate::lines::line_of;
 use batch_reader::{Spot, TableKind};
-use batch_sentences::meant_or_known;
+use batch_wording::meant_or_known;
 use std::alloc::{AllocError, Global};
 use toml::Table;
 

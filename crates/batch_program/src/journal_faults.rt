@@ -7,7 +7,7 @@ ghost use Rattle.batch_program.specs.Keeping.{IsStartTold};
 use batch_commands::{FILE_FAULT, NO_MEMORY, OUT_OF_MEMORY, complain, print, tell};
 use batch_journal::{DiskError, RecoveryFault};
 use batch_keep::{BlockFault, KeepFault, StartFault};
-use batch_sentences::shown;
+use batch_wording::shown;
 use batch_serve::ServeFault;
 use batch_status::StatusFault;
 use batch_streams::Noted;

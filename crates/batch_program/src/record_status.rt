@@ -9,7 +9,7 @@ ghost use Rattle.batch_status.specs.declared.reading.StatusFault.TheVariants.{No
 use crate::program::MAX_READS;
 use crate::records::Records;
 use batch_commands::{FILE_FAULT, NO_MEMORY, OUT_OF_MEMORY, SUCCESS, complain, print, print_bytes};
-use batch_sentences::shown;
+use batch_wording::shown;
 use batch_status::{StatusFault, read_status};
 use batch_streams::Noted;
 use std::alloc::{AllocError, Global};

@@ -1,5 +1,3 @@
-mod ShownLines
-mod Growing
 pub mod Said
 pub mod ActNames
 mod ToldCircles

@@ -1,3 +1,2 @@
-pub mod Shown
 pub mod CircleSentence
 pub mod WarningWords

@@ -1,6 +1,6 @@
 //! What is wrong with a certificate.
-use crate::sentence::Sentence;
 use batch_verify::{CertFault, MAX_LINES, MAX_RANK};
+use batch_wording::Sentence;
 use std::alloc::{AllocError, Global};
 
 /// The most bytes of a certificate's file.

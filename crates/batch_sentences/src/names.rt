@@ -4,6 +4,7 @@ ghost use Rattle.batch_sentences.specs.CircleSentence.{act_name, name_at, recipe
 
 use batch_cell::Cell;
 use batch_recipe::{Recipe, act_at};
+use std::alloc::{AllocError, Global};
 
 pub(crate) fn resource_name(cell: &Cell, resource: u16) -> &str
     ensures { result.now ≡ resource_name cell.now resource }
@@ -42,4 +43,13 @@ fn name_at(recipe: &Recipe, node: u16) -> &str
         Some(act) => act.name.text(),
         None => "",
     }
+}
+
+/// The names of the cell's resources.
+pub(crate) fn resource_names(alloc: Global, cell: &Cell) -> Result<Vec<&str>, AllocError> {
+    let mut names = Vec::new(alloc);
+    for resource in 0..cell.resources() {
+        names.push(cell.name_of(resource).text())?;
+    }
+    Ok(names)
 }

@@ -1,6 +1,5 @@
 //! What is wrong at a node of a recipe.
-use crate::names::resource_name;
-use crate::near::{meant_or_known, meant_said, resource_names};
+use crate::names::{resource_name, resource_names};
 use crate::ranks::rank_said;
 use crate::roles::{class_of, unit_among, unit_of, unit_without};
 use crate::ways::{acts_to, place_said};
@@ -8,6 +7,7 @@ use batch_cell::{Cell, Module, Unit};
 use batch_recipe::{Act, Recipe, UnitChoice, Work, act_at, follows, node_count};
 use batch_text::Name;
 use batch_verify::{Broken, Certificate, Rule};
+use batch_wording::{meant_or_known, meant_said};
 use std::alloc::{AllocError, Global};
 
 /// Which rule is broken at the node of the recipe with this number, by what.

@@ -5,13 +5,13 @@ ghost use Rattle.batch_sentences.specs.CircleSentence.{IsCircleTold, IsEdgeTold,
 use crate::circles::{advice_said, asker_said, holder_said};
 use crate::names::{act_name, recipe_name, resource_name};
 use crate::nodes::broken_said;
-use crate::sentence::Sentence;
 use crate::sources::{Source, origin_said};
 use batch_cell::Cell;
 use batch_check::{CheckFault, Edge};
 use batch_model::MAX_RECIPES;
 use batch_recipe::Recipe;
 use batch_verify::{Broken, Certificate, SetRefusal};
+use batch_wording::Sentence;
 use std::alloc::{AllocError, Global};
 
 const NO_MEMORY: &str = "there is no memory to judge the recipes";

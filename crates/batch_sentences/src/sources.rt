@@ -1,6 +1,6 @@
 //! Where the acts of recipes stand.
-use crate::showing::shown;
 use batch_recipe::{Kind, LabelTable, MAX_NODES, Recipe};
+use batch_wording::{header_in, shown};
 use std::alloc::{AllocError, Global};
 
 /// The document of a recipe: its path, and in which lines the tables of its acts begin.
@@ -72,14 +72,6 @@ impl Source {
             LabelTable::Phases => &self.phases,
         }
     }
-}
-
-/// The word of the header that stands in the line, with single brackets or double ones.
-pub fn header_in(line: &str) -> Option<&str> {
-    let rest = line.strip_prefix("[")?;
-    let rest = rest.strip_prefix("[").unwrap_or(rest);
-    let (name, _) = rest.split_once(']')?;
-    Some(name.trim())
 }
 
 /// The line with this number, where there are so many lines.

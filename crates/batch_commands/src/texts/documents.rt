@@ -4,7 +4,7 @@ ghost use Rattle.batch_reader.specs.Words.{spot_text};
 ghost use Rattle.batch_commands.specs.VerdictTexts.{code_of, document_text, offset_words, refused};
 
 use batch_reader::{DocFault, EntryFault, Spot};
-use batch_sentences::shown;
+use batch_wording::shown;
 use std::alloc::{AllocError, Global};
 
 /// The line that refuses the document at this path.

@@ -1,8 +1,8 @@
 use Rattle.std.proofs.Common.{sym, ◌∙◌, append_assoc, append-nil}
 use Rattle.std.proofs.lemmas.Str.{IsUtf8-past_char, chars_past_char}
 use Rattle.std.proofs.StrCases.{chars_of_empty}
-use Rattle.batch_sentences.proofs.ShownLines.{shown_step}
-use Rattle.batch_sentences.proofs.showing.shown.Goals as goal
+use Rattle.batch_wording.proofs.ShownLines.{shown_step}
+use Rattle.batch_wording.proofs.showing.shown.Goals as goal
 
 pub loop-letter-preserved : goal.loop-letter-preserved
 loop-letter-preserved c =

@@ -1,8 +1,8 @@
 use Rattle.std.proofs.Common.{◌≡◌, ◌++◌, ◌∙◌, OnOk, ap, sym, subst, encode_utf8, encode_utf8_all, string_bytes}
-use Rattle.batch_sentences.specs.Shown.{shown_char}
-use Rattle.batch_sentences.proofs.Growing.{grown_to, one_more}
-use Rattle.batch_sentences.proofs.ShownLines.{shown_control, shown_plain}
-use Rattle.batch_sentences.proofs.showing.push_shown.Goals as goal
+use Rattle.batch_wording.specs.Shown.{shown_char}
+use Rattle.batch_wording.proofs.Growing.{grown_to, one_more}
+use Rattle.batch_wording.proofs.ShownLines.{shown_control, shown_plain}
+use Rattle.batch_wording.proofs.showing.push_shown.Goals as goal
 
 pub returns-then-code-lt32 : goal.returns-then-code-lt32
 returns-then-code-lt32 c =

@@ -3,7 +3,7 @@ use Rattle.std.proofs.Common.{◌≡◌, ◌≢◌, ◌+◌, ◌<◌, ◌==◌, 
 use Rattle.std.proofs.lemmas.Bool.Decides.{nat_tests}
 use Rattle.std.proofs.lemmas.List.Elements.{All-append, All-from_get_or}
 use Rattle.std.proofs.lemmas.Str.{encodes-append, inside_one}
-use Rattle.batch_sentences.specs.Shown.{IsOneLine, escape, hex_digit, is_control, shown, shown_char}
+use Rattle.batch_wording.specs.Shown.{IsOneLine, escape, hex_digit, is_control, shown, shown_char}
 
 -- a character that ends no line has no byte that does
 char_is_one_line : (c : ℕ) → c ≢ 10 → IsOneLine (encode_utf8 c)

@@ -1,5 +1,4 @@
 //! Names that were nearly written.
-use batch_cell::Cell;
 use std::alloc::{AllocError, Global};
 use strsim::osa_distance;
 
@@ -84,13 +83,4 @@ fn only_beginning<'a>(written: &str, names: &[&'a str]) -> Option<&'a str> {
         }
     }
     found
-}
-
-/// The names of the cell's resources.
-pub(crate) fn resource_names(alloc: Global, cell: &Cell) -> Result<Vec<&str>, AllocError> {
-    let mut names = Vec::new(alloc);
-    for resource in 0..cell.resources() {
-        names.push(cell.name_of(resource).text())?;
-    }
-    Ok(names)
 }

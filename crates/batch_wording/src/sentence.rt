@@ -1,6 +1,6 @@
 //! Sentences.
-ghost use Rattle.std.specs.Prelude.{◌≡◌, IfOk, string_bytes};
-ghost use Rattle.batch_sentences.specs.Shown.{IsOneLine, shown};
+ghost use Rattle.std.specs.Prelude.{◌≡◌, ◌++◌, IfOk, codes, string_bytes};
+ghost use Rattle.batch_wording.specs.Shown.{IsOneLine, shown};
 
 use crate::showing::shown;
 use std::alloc::{AllocError, Global};
@@ -22,8 +22,10 @@ impl Sentence {
         Ok(Sentence { text })
     }
 
-    /// What is said of the document at this path.
-    pub fn at(alloc: Global, path: &str, said: &str) -> Result<Sentence, AllocError> {
+    /// What is said of the document at this path, as one sentence.
+    pub fn at(alloc: Global, path: &str, said: &str) -> Result<Sentence, AllocError>
+        ensures { IfOk result (λ sentence. string_bytes sentence.text ≡ shown (path.now ++ codes ": " ++ said.now)) }
+    {
         let told = format!(in alloc; "{path}: {said}")?;
         Sentence::of(alloc, told.as_str())
     }

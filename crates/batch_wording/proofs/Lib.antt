@@ -1,0 +1,2 @@
+mod ShownLines
+mod Growing
