@@ -6,8 +6,8 @@ program=${1:-batchd}
 here=$(cd "$(dirname "$0")" && pwd)
 plant=$here/../paint_plant
 day=$(mktemp -d)
-links=()
-trap 'kill "${links[@]}" 2>/dev/null || true; rm -rf "$day"' EXIT
+server='' links=()
+trap 'kill $server "${links[@]}" 2>/dev/null || true; rm -rf "$day"' EXIT
 cd "$day"
 mkfifo office.in office.out mixer1.in mixer1.out mixer2.in mixer2.out
 

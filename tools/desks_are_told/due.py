@@ -1,0 +1,22 @@
+"""What a desk is due of a record of several desks, by the rules of docs/FORMATS.md."""
+
+REPLIES = (b"created ", b"ok ", b"refused ")
+
+
+def text(lines):
+    return b"".join(line + b"\n" for line in lines)
+
+
+def due(record, name, unit):
+    """What the desk of this name, the link of a unit or of none, is due of the record's lines, by its comments."""
+    own = False
+    for line in record:
+        if line.startswith(b"# from "):
+            own = line[7:] == name
+        if line.startswith(b"#"):
+            continue
+        if line.startswith(REPLIES):
+            if own:
+                yield line
+        elif unit is None or (line.startswith((b"start ", b"send ")) and line.split(b" ")[3] == unit):
+            yield line
