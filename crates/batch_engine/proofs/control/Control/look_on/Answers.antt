@@ -1,4 +1,4 @@
-use Rattle.std.proofs.Common.{◌≡◌, ◌≤◌, sym, subst, arith}
+use Rattle.std.proofs.Common.{◌≤◌, sym, subst, arith}
 use Rattle.batch_engine.specs.Steps.{IsServedNode}
 use Rattle.batch_engine.specs.View.{EngineView}
 use Rattle.batch_engine.proofs.control.Control.look_on.Goals as goal
