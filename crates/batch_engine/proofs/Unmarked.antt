@@ -119,7 +119,7 @@ first-served v k resource number node e (Some j) p = (
 )
 
 -- somebody is served of a resource that has a number alone
-served-named : (w : EngineView) (need : Need) (a : BatchAct) → is_served (setup w.cleared) (plant_of w) need a ≡ true → (q : ℕ) × (number_of w.cleared need.resource ≡ Some q)
+pub served-named : (w : EngineView) (need : Need) (a : BatchAct) → is_served (setup w.cleared) (plant_of w) need a ≡ true → (q : ℕ) × (number_of w.cleared need.resource ≡ Some q)
 served-named w need a served = go (number_of w.cleared need.resource) refl
   where
     go : (o : Option ℕ) → number_of w.cleared need.resource ≡ o → (q : ℕ) × (number_of w.cleared need.resource ≡ Some q)

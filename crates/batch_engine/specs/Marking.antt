@@ -1,9 +1,9 @@
 -- private: whose moves a move or an event may change, and which batches are marked for it.
-use Rattle.std.specs.Prelude.{◌≡◌, ◌<◌, ℕ, List, Bool, true, false, Option, Some, None, nat_eq, option_map, slice_get, slice_set, length}
+use Rattle.std.specs.Prelude.{◌≡◌, ◌<◌, ℕ, List, Bool, true, false, Option, Some, None, nat_eq, slice_get, slice_set, length}
 use Rattle.batch_recipe.specs.Conditions.{Name}
 use Rattle.batch_model.specs.Events as Events
 use Rattle.batch_model.specs.Moves.{Move, release, grant}
-use Rattle.batch_arbiter.specs.Allocation.{next_grant, batch_node, resource_count}
+use Rattle.batch_arbiter.specs.Allocation.{resource_count}
 use Rattle.batch_engine.specs.declared.batch.Batch.{Batch}
 use Rattle.batch_engine.specs.declared.line.ClaimKind.{ClaimKind}
 use Rattle.batch_engine.specs.declared.line.Line.{Line}
@@ -12,7 +12,7 @@ use Rattle.batch_engine.specs.declared.reply.Reply.TheVariants.{Created, Ordered
 use Rattle.batch_engine.specs.declared.step.Step.{Step}
 use Rattle.batch_engine.specs.Marked.{HasNoMove}
 use Rattle.batch_engine.specs.Marks.{IsUnmarked}
-use Rattle.batch_engine.specs.Steps.{IsNext, IsNextStep, index_of}
+use Rattle.batch_engine.specs.Steps.{IsNext, IsNextStep, IsServedNode, index_of}
 use Rattle.batch_engine.specs.View.{EngineView, number_of}
 
 -- Of the machine
@@ -57,7 +57,7 @@ noted_by _ holders = holders
 -- an act of the batch at an index would be served of the resource
 abbrev pub IsServedAt : EngineView → ℕ → ℕ → Type 0
 IsServedAt v resource i =
-    (b : Batch) × (slice_get v.batches i ≡ Some b) × ((node : ℕ) × (option_map batch_node (next_grant v.allocation resource) ≡ Some (b.number, node)))
+    (b : Batch) × (slice_get v.batches i ≡ Some b) × ((node : ℕ) × IsServedNode v.allocation resource b.number node)
 
 -- where the batch stands of which an act would be served of the resource
 abbrev pub IsFirstServed : EngineView → ℕ → Option ℕ → Type 0

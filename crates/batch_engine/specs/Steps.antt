@@ -1,5 +1,5 @@
 -- private: the step that the engine makes next.
-use Rattle.std.specs.Prelude.{◌≡◌, ◌<◌, ℕ, List, [], Option, Some, None, IfSome, option_map, slice_get, length, position, ⊤}
+use Rattle.std.specs.Prelude.{◌≡◌, ◌<◌, ◌≤◌, ℕ, List, [], Option, Some, None, IfSome, option_map, slice_get, length, position, ⊤}
 use Rattle.batch_model.specs.Moves as Model
 use Rattle.batch_model.specs.Moves.{next, after, least, batch_moves, grant}
 use Rattle.batch_model.specs.Plant.{batch_at}
@@ -41,6 +41,10 @@ pub record IsOwnStep (v : EngineView) (told : Model.Move → Type 0) (i : ℕ) (
   pub about : StandsFor (tree_of v.cleared batch) (remains (tree_of v.cleared batch) batch.running) m
   pub is : told (move_of (tree_of v.cleared batch) (batch_of v.cleared batch) m)
 
+-- the act at this node of the batch with this number would be served of the resource
+abbrev pub IsServedNode : Allocation → ℕ → ℕ → ℕ → Type 0
+IsServedNode a resource number node = option_map batch_node (next_grant a resource) ≡ Some (number, node)
+
 -- the act at a node of the batch is given a resource, which the arbiter would give to it
 pub record IsGrantStep (v : EngineView) (told : Model.Move → Type 0) (i node resource units : ℕ) : Type 0 where
   pub batch : Batch
@@ -51,7 +55,7 @@ pub record IsGrantStep (v : EngineView) (told : Model.Move → Type 0) (i node r
   pub asks : AsksAt (tree_of v.cleared batch) (remains (tree_of v.cleared batch) batch.running) node need
   pub number : number_of v.cleared (need_at (tree_of v.cleared batch) node need).resource ≡ Some resource
   pub units_are : (need_at (tree_of v.cleared batch) node need).units ≡ units
-  pub first : option_map batch_node (next_grant v.allocation resource) ≡ Some (batch.number, node)
+  pub first : IsServedNode v.allocation resource batch.number node
   pub is : told (grant batch.number (place_at (tree_of v.cleared batch) node) (need_at (tree_of v.cleared batch) node need))
 
 abbrev pub IsStep : EngineView → (Model.Move → Type 0) → Step → Type 0
@@ -93,6 +97,11 @@ abbrev pub IsFirstGrant : EngineView → Batch → Option (ℕ × ℕ × ℕ) �
 IsFirstGrant v b None = grants (setup v.cleared) (plant_of v) (batch_of v.cleared b) ≡ []
 IsFirstGrant v b (Some (node, resource, units)) =
     (i : ℕ) → slice_get v.batches i ≡ Some b → IsGrantStep v (λ m. least (grants (setup v.cleared) (plant_of v) (batch_of v.cleared b)) ≡ Some m) i node resource units
+
+-- from one node on up to another no act of the batch with this number would be served
+pub record AreUnserved (v : EngineView) (number from to : ℕ) : Type 0 where
+  pub on : from ≤ to
+  pub none : (resource node : ℕ) → resource < resource_count v.allocation → IsServedNode v.allocation resource number node → from ≤ node → to ≤ node
 
 -- the resource of which the move of a line gives or takes a share
 abbrev pub touched_by : Line → Option ℕ

@@ -1,10 +1,10 @@
 //! Choosing the next move.
-ghost use Rattle.std.specs.Prelude.{◌≡◌, ◌<◌, ◌↔◌, Some, length, option_map, IsTrue};
-ghost use Rattle.batch_arbiter.specs.Allocation.{batch_node, next_grant, resource_count};
+ghost use Rattle.std.specs.Prelude.{◌≡◌, ◌<◌, ◌≤◌, ◌↔◌, length, IsTrue, ℕ};
+ghost use Rattle.batch_arbiter.specs.Allocation.{resource_count};
 ghost use Rattle.batch_model.specs.Moves.{is_stopped};
 ghost use Rattle.batch_engine.specs.Marked.{AreMarked};
 ghost use Rattle.batch_engine.specs.Marking.{IsFirstStep};
-ghost use Rattle.batch_engine.specs.Steps.{IsBatch, IsBatchStep, IsFirstGrant, IsNeedAt, IsNumberAt};
+ghost use Rattle.batch_engine.specs.Steps.{AreUnserved, IsBatch, IsBatchStep, IsFirstGrant, IsNeedAt, IsNumberAt, IsServedNode};
 ghost use Rattle.batch_engine.specs.View.{EngineView};
 
 use crate::batch::Batch;
@@ -14,16 +14,45 @@ use crate::numbers::RecipeNumbers;
 use crate::step::Step;
 use batch_arbiter::Arbiter;
 use batch_matrix::State;
+use batch_recipe::MAX_NODES;
+
+/// So many acts of a batch in line are looked at before the lines themselves are.
+const FEW_ACTS: u16 = 8;
+/// A look at an act takes as long as one at so many lines.
+const LINES_AN_ACT: u16 = 4;
 
 /// Whether the arbiter would serve this act.
 fn serves(arbiter: &Arbiter, resource: u16, batch: u64, node: u16) -> bool
     requires { resource < resource_count arbiter.now }
-    ensures { IsTrue result ↔ (option_map batch_node (next_grant arbiter.now resource) ≡ Some (batch, node)) }
+    ensures { IsTrue result ↔ IsServedNode arbiter.now resource batch node }
 {
     match arbiter.first(resource) {
         Some((first, at)) => first == batch && at == node,
         None => false,
     }
+}
+
+/// The node of a batch whose act the arbiter would serve of a resource, or one past all nodes.
+fn served_node(arbiter: &Arbiter, resource: u16, batch: u64) -> u16
+    requires { resource < resource_count arbiter.now }
+    ensures { (node : ℕ) → IsServedNode arbiter.now resource batch node → result ≤ node }
+{
+    match arbiter.first(resource) {
+        Some((first, node)) if first == batch => node,
+        _ => MAX_NODES,
+    }
+}
+
+/// The least node of a batch whose act the arbiter would serve of one of the first so many resources, or one past all nodes.
+fn least_served(arbiter: &Arbiter, resources: u16, batch: u64) -> u16
+    requires { resources ≤ resource_count arbiter.now }
+    ensures { (resource node : ℕ) → resource < resources → IsServedNode arbiter.now resource batch node → result ≤ node }
+{
+    let mut least = MAX_NODES;
+    for resource in 0..resources {
+        least = least.min(served_node(arbiter, resource, batch));
+    }
+    least
 }
 
 /// Whether a batch in this state was stopped or aborted. Such a batch has no move.
@@ -50,6 +79,19 @@ pub(crate) fn resource_at(
 }
 
 impl Control {
+    /// The node from which to look on for an act of a batch that the arbiter would serve, where so many were looked at in vain and
+    /// this node comes next.
+    fn look_on(&self, batch: u64, next: u16, looked: u16) -> u16
+        ensures { AreUnserved self.now batch next result }
+    {
+        let resources = self.resources();
+        if looked < FEW_ACTS || looked < resources / LINES_AN_ACT {
+            return next;
+        }
+        // Going along all lines takes no longer with more acts in them.
+        next.max(least_served(&self.arbiter, resources, batch))
+    }
+
     /// The first act in line of a batch that the arbiter would serve: its node, its resource and how many units of it.
     fn first_grant(&self, batch: &Batch) -> Option<(u16, u16, u32)>
         requires { IsBatch self.now batch.now }
@@ -57,12 +99,14 @@ impl Control {
     {
         let chart = self.cleared.recipe(batch.recipe);
         let mut from = 0;
+        let mut looked = 0;
         while let Some((node, need)) = batch.running.waiting(chart, from) {
             let (resource, units) = resource_at(&self.numbers, batch, node, need);
             if serves(&self.arbiter, resource, batch.number, node) {
                 return Some((node, resource, units));
             }
-            from = node + 1;
+            looked += 1;
+            from = self.look_on(batch.number, node + 1, looked);
         }
         None
     }

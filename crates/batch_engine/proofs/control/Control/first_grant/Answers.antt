@@ -1,4 +1,4 @@
-use Rattle.std.proofs.Common.{◌≡◌, ◌<◌, refl, sym, ◌∙◌, ap, subst, ℕ, Some, arith, length, true, false, inl, inr}
+use Rattle.std.proofs.Common.{◌≡◌, ◌+◌, ◌<◌, refl, sym, ◌∙◌, ap, subst, ℕ, Some, arith, length, true, false, inl, inr}
 use Rattle.std.specs.Prelude.{option_map, slice_get}
 use Rattle.batch_arbiter.specs.Allocation.{batch_node, next_grant}
 use Rattle.batch_chart.specs.NodesOf.{need_at}
@@ -8,6 +8,7 @@ use Rattle.batch_engine.specs.View.{EngineView, tree_of}
 use Rattle.batch_engine.proofs.Finding.{first-grant, first-serves, first_here, goes-on, known-resource, no-grants, passed}
 use Rattle.batch_engine.proofs.Nodes.{within-or_past}
 use Rattle.batch_engine.proofs.Seats.{IsSeat, needs-there, read-own, seat-of}
+use Rattle.batch_engine.proofs.Skipping.{skipped}
 use Rattle.batch_engine.proofs.control.Control.first_grant.Goals as goal
 use Rattle.batch_engine.proofs.control.Control.first_grant.Goals.{After-recipe-chart, After-resource_at-resource}
 
@@ -62,9 +63,10 @@ loop-node-preserved c =
     let asks = c.in-Some.ensures.some.1 (tree_of v.cleared b) s.chart s.runs in
     let not_first : first_here v s.kept c.requires.0 b s.at c.resource_at-resource.result.0 c.in-Some.node → ⊥ =
     λ f. (let g = c.serves.ensures.1 (ap (λ (w : EngineView). option_map batch_node (next_grant w.allocation c.resource_at-resource.result.0)) c.self.view_is ∙ f) in absurd (let h : ◌≡◌ true false = sym g ∙ c.if-serves.false in cc)) in (
-      omega (arith, c.in-Some.ensures.small),
-      passed v s.kept c.requires.0 b s.at c.recipe-chart.result.now s.listed c.loop-node.from c.in-Some.node c.in-Some.need c.resource_at-resource.result.0 c.loop-node.invariant.1 c.in-Some.ensures.before asks
-          (number w.After-resource_at-resource s).0 not_first,
+      omega (arith, c.look_on-from.ensures.on, c.in-Some.ensures.some.0),
+      skipped v s.kept c.requires.0 b s.at (c.in-Some.node + 1) c.look_on-from.result c.look_on-from.ensures
+          (passed v s.kept c.requires.0 b s.at c.recipe-chart.result.now s.listed c.loop-node.from c.in-Some.node c.in-Some.need c.resource_at-resource.result.0 c.loop-node.invariant.1 c.in-Some.ensures.before asks
+          (number w.After-resource_at-resource s).0 not_first),
     )
 
 pub returns : goal.returns
