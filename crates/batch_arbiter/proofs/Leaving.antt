@@ -121,7 +121,7 @@ module _ (parts : ℕ → Part) (es : List Entry) (ls : List Ends) (k unused roo
         same = ap claim_of at_b ∙ same;
       }
 
-  skipped : Leads (claim_in k) (marked parts t free) (unlinked_entries es b e t f) n (ends_at ls k).first (ends_at ls k).end × (claims_from (unlinked_entries es b e t f) n (ends_at ls k).first ≡ remove (claims_from es (suc n) (ends_at ls k).first) (suc m))
+  skipped : Leads (claim_in k) (marked parts t free) (unlinked_entries es b e t f) n (ends_at ls k).first (ends_at ls k).end × (claims_from (unlinked_entries es b e t f) n (ends_at ls k).first ≡ remove (claims_from es (suc n) (ends_at ls k).first) (suc m)) × (behind (unlinked_entries es b e t f) m (ends_at ls k).first ≡ b)
   skipped = Leads-skip (claim_in k) parts (marked parts t free) es (unlinked_entries es b e t f) b t skips m n (ends_at ls k).first (ends_at ls k).end lt is_b is_t end_apart all_leads
 
   same_len : length (unlinked_entries es b e t f) ≡ length es
@@ -153,3 +153,7 @@ module _ (parts : ℕ → Part) (es : List Entry) (ls : List Ends) (k unused roo
 
   pub claims-unlinked : claims_of (unlinked_entries es b e t f) (left_ends (ends_at ls k) (ends_at ls k).first n) ≡ remove (claims_of es (ends_at ls k)) (suc m)
   claims-unlinked = skipped.1 ∙ ap (λ x. remove (claims_from es x (ends_at ls k).first) (suc m)) (sym len)
+
+  -- the entry that it stood behind is where it was
+  pub behind-unlinked : behind (unlinked_entries es b e t f) m (ends_at ls k).first ≡ b
+  behind-unlinked = skipped.2

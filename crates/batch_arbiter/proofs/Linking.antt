@@ -110,7 +110,8 @@ module _ (part : Part) (parts parts' : ℕ → Part) (es fs : List Entry) (b t :
             ∙ ap (λ cs. claim_of (at es b) ∷ cs) (claims-kept parts parts' es fs b t s.edits n (at es t).next off_b.1 off_t),
       )
 
-  pub Leads-skip : (m n first end : ℕ) → m < n → b ≡ behind es m first → t ≡ behind es (suc m) first → parts end ≢ part → Leads part parts es (suc n) first end → Leads part parts' fs n first end × (claims_from fs n first ≡ remove (claims_from es (suc n) first) (suc m))
+  pub Leads-skip : (m n first end : ℕ) → m < n → b ≡ behind es m first → t ≡ behind es (suc m) first → parts end ≢ part → Leads part parts es (suc n) first end
+      → Leads part parts' fs n first end × (claims_from fs n first ≡ remove (claims_from es (suc n) first) (suc m)) × (behind fs m first ≡ b)
   Leads-skip m zero first end lt eb et ne h = absurd (omega arith)
   Leads-skip zero (suc n) first end lt eb et ne h =
       let from_b : Leads part parts es (suc (suc n)) b end = subst (λ (k : ℕ). Leads part parts es (suc (suc n)) k end) (sym eb) h in
@@ -120,14 +121,16 @@ module _ (part : Part) (parts parts' : ℕ → Part) (es fs : List Entry) (b t :
         ap (λ k. claims_from fs (suc n) k) (sym eb) ∙ skipped.1
             ∙ ap (λ k. claim_of (at es k) ∷ claims_from es n (at es t).next) eb
             ∙ ap (λ k. claim_of (at es first) ∷ claims_from es n (at es k).next) et,
+        sym eb,
       )
   Leads-skip (suc m) (suc n) first end lt eb et ne h =
       let off : Avoids first es (suc n) (at es first).next = Avoids-first part parts es (suc n) first end ne h in
       let off_b : first ≢ b = λ e. Avoids-behind first es m (suc n) (at es first).next (omega arith) off (sym eb ∙ sym e) in
       let off_t : first ≢ t = λ e. Avoids-behind first es (suc m) (suc n) (at es first).next (omega arith) off (sym et ∙ sym e) in
       let same : at fs first ≡ at es first = s.edits.entries first off_b off_t in
-      let ih : Leads part parts' fs n (at es first).next end × (claims_from fs n (at es first).next ≡ remove (claims_from es (suc n) (at es first).next) (suc m)) =
+      let ih : Leads part parts' fs n (at es first).next end × (claims_from fs n (at es first).next ≡ remove (claims_from es (suc n) (at es first).next) (suc m)) × (behind fs m (at es first).next ≡ b) =
       Leads-skip m n (at es first).next end (omega arith) eb et ne h.2 in (
         (omega (arith, h.0, s.edits.longer), s.edits.plays first off_b off_t ∙ h.1, subst (λ (e : Entry). Leads part parts' fs n e.next end) (sym same) ih.0),
         ap (λ (e : Entry). claim_of e ∷ claims_from fs n e.next) same ∙ ap (λ cs. claim_of (at es first) ∷ cs) ih.1,
+        ap (λ (e : Entry). behind fs m e.next) same ∙ ih.2,
       )

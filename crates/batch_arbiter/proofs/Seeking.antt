@@ -1,10 +1,9 @@
 -- The claims of a list by their places, for searches along it.
 use Rattle.std.proofs.Common.{ℕ, ◌≡◌, ◌+◌, ◌-◌, ◌<◌, List, length, get_or, sym, ap, ◌∙◌, subst, arith, suc, true, false, below_more}
-use Rattle.std.specs.List.{list_any}
 use Rattle.batch_arbiter.specs.declared.entry.Entry.{Entry}
 use Rattle.batch_arbiter.specs.declared.ends.Ends.{Ends}
-use Rattle.batch_arbiter.specs.Allocation.{Claim, is_claim, is_of_batch}
-use Rattle.batch_arbiter.specs.Linked.{at, claim_of, claims_from, claims_of, IsSomeList, IsBefore, HasNone, is_claim_behind, behind, Part, Leads}
+use Rattle.batch_arbiter.specs.Allocation.{Claim, is_claim}
+use Rattle.batch_arbiter.specs.Linked.{at, claim_of, claims_from, claims_of, IsSomeList, IsBefore, HasNone, is_claim_behind, behind}
 use Rattle.batch_arbiter.proofs.Linking.{behind-within}
 use Rattle.batch_arbiter.proofs.Leaving.{behind-suc}
 use Rattle.batch_arbiter.proofs.Calls.{length-claims}
@@ -64,10 +63,3 @@ IsFirst-before es l batch node before b =
       here = λ d. ap (is_claim batch node) (claims-behind es l.len l.first (suc b.place) d b.within) ∙ b.here;
       before = λ k d h. ap (is_claim batch node) (claims-behind es l.len l.first k d (omega (arith, b.within, h))) ∙ b.others k h;
     }
-
--- the claims from entry i on are those that are left of the list, and whether the batch has one of them is as open as at first
-pub record IsRest (es : List Entry) (l : Ends) (batch counter i : ℕ) : Type 0 where
-  pub parts : ℕ → Part
-  pub part : Part
-  pub linked : Leads part parts es (l.len - counter) i l.end
-  pub same : list_any (is_of_batch batch) (claims_of es l) ≡ list_any (is_of_batch batch) (claims_from es (l.len - counter) i)

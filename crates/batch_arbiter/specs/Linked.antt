@@ -86,6 +86,13 @@ abbrev pub behind : List Entry → ℕ → ℕ → ℕ
 behind entries zero first = first
 behind entries (suc m) first = behind entries m (at entries first).next
 
+-- the entries when that behind `before` has left its list, and leads to the first free one
+abbrev pub unlinked_behind : List Entry → ℕ → ℕ → List Entry
+unlinked_behind entries before unused =
+    let next : ℕ = (at entries before).next in
+    let past : List Entry = slice_set entries before (record (at entries before) { next = (at entries next).next }) in
+    slice_set past next (record (at past next) { next = unused })
+
 -- a list is linked, whatever part its entries play
 pub record IsSomeList (entries : List Entry) (l : Ends) : Type 0 where
   pub parts : ℕ → Part

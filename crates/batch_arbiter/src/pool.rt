@@ -1,8 +1,7 @@
 //! The pool.
-ghost use Rattle.std.specs.Prelude.{◌≡◌, ◌+◌, ◌-◌, ◌<◌, ◌≤◌, ◌^◌, ◌++◌, ◌∷◌, [], ℕ, List, length, map, filter, not, drop, replicate, slice_get, option_map, Option, Some, None, MatchOption, IfSome, IfNone, IfOk, IsOk, OnOk, OnErr, Bool, true, false, vec_len, vec_capacity};
-ghost use Rattle.std.specs.List.{list_any};
-ghost use Rattle.batch_arbiter.specs.Allocation.{is_claim, is_of_batch, without_first};
-ghost use Rattle.batch_arbiter.specs.Linked.{claim_of, claims_of, at, list_at, with_list, IsSomeList, IsBefore, HasNone, IsRemoved, IsGrown};
+ghost use Rattle.std.specs.Prelude.{◌≡◌, ◌+◌, ◌-◌, ◌<◌, ◌≤◌, ◌^◌, ◌++◌, ◌∷◌, [], ℕ, List, length, map, filter, not, take, drop, replicate, slice_get, option_map, Option, Some, None, MatchOption, IfSome, IfNone, IfOk, IsOk, OnOk, OnErr, Bool, true, false, vec_len, vec_capacity};
+ghost use Rattle.batch_arbiter.specs.Allocation.{asks_of, is_claim, is_of_batch, without_first};
+ghost use Rattle.batch_arbiter.specs.Linked.{claim_of, claims_of, at, list_at, with_list, unlinked_behind, IsSomeList, IsBefore, HasNone, IsRemoved, IsGrown};
 
 use crate::ends::Ends;
 use crate::entry::Entry;
@@ -123,36 +122,52 @@ impl Pool {
         taken
     }
 
-    /// How many claims a list has.
-    fn len(&self, list: usize) -> u32
-        requires { list < length self.now.lists }
-        ensures { result ≡ length (list_at self.now list) }
-    {
-        self.lists[list].len
-    }
-
-    /// Whether a list has a claim of the batch.
-    fn has_batch(&self, list: usize, batch: u64) -> bool
-        requires { list < length self.now.lists }
-        ensures { result ≡ list_any (is_of_batch batch) (list_at self.now list) }
-    {
-        any_of_batch(&self.entries, self.lists[list], batch)
-    }
-
-    /// All claims of the batch leave a list. If it has any it goes round once: each claim that stays joins its end again.
-    pub fn remove_batch(&mut self, list: usize, batch: u64)
-        requires { list < length self.old.lists }
+    /// All claims of the batch leave a list, which has at most so many of them: it isn't looked through beyond the last.
+    pub fn remove_batch(&mut self, list: usize, batch: u64, most: u16)
+        requires known { list < length self.old.lists }
+        requires most { asks_of batch (list_at self.old list) ≤ most }
         ensures { self.new ≡ with_list self.old list
             (filter (λ c. not (is_of_batch batch c)) (list_at self.old list))
-            (self.old.room + length (filter (is_of_batch batch) (list_at self.old list))) }
+            (self.old.room + asks_of batch (list_at self.old list)) }
     {
-        if !self.has_batch(list, batch) {
+        if most == 0 {
             return;
         }
-        for _ in 0..self.len(list) {
-            let claim = self.take_first(list);
-            if claim.batch != batch {
-                self.push(list, claim);
+        let Some(first) = self.first(list) else {
+            return;
+        };
+        if first.batch == batch {
+            self.remove_behind(list, batch, most - 1);
+            let _ = self.take_first(list);
+        } else {
+            self.remove_behind(list, batch, most);
+        }
+    }
+
+    /// The same of the claims behind the first one, which stays.
+    fn remove_behind(&mut self, list: usize, batch: u64, most: u16)
+        requires known { list < length self.old.lists }
+        requires some { 0 < length (list_at self.old list) }
+        requires most { asks_of batch (drop 1 (list_at self.old list)) ≤ most }
+        ensures { self.new ≡ with_list self.old list
+            (take 1 (list_at self.old list) ++ filter (λ c. not (is_of_batch batch c)) (drop 1 (list_at self.old list)))
+            (self.old.room + asks_of batch (drop 1 (list_at self.old list))) }
+    {
+        let ends = self.lists[list];
+        let mut before = ends.first;
+        let mut left = most;
+        for _ in 1..ends.len {
+            if left == 0 {
+                return;
+            }
+            let next = self.entries[before as usize].next;
+            if self.entries[next as usize].batch == batch {
+                self.free = unlink(&mut self.entries, before, self.free);
+                self.lists[list].len -= 1;
+                self.room += 1;
+                left -= 1;
+            } else {
+                before = next;
             }
         }
     }
@@ -178,11 +193,8 @@ impl Pool {
         ensures none { IfNone result (HasNone batch node (list_at self.old list)) }
     {
         let ends = self.lists[list];
-        let before = before_act(&self.entries, ends, batch, node)? as usize;
-        let taken = self.entries[before].next;
-        let claim = self.entries[taken as usize];
-        self.entries[before].next = claim.next;
-        self.entries[taken as usize].next = self.free;
+        let before = before_act(&self.entries, ends, batch, node)?;
+        let taken = unlink(&mut self.entries, before, self.free);
         self.lists[list] = Ends {
             first: ends.first,
             len: ends.len - 1,
@@ -190,7 +202,7 @@ impl Pool {
         };
         self.free = taken;
         self.room += 1;
-        Some(claim.units)
+        Some(self.entries[taken as usize].units)
     }
 
     /// More room, where it isn't there already.
@@ -215,22 +227,6 @@ impl Pool {
     }
 }
 
-/// Whether a claim of the list is the batch's.
-fn any_of_batch(entries: &[Entry], ends: Ends, batch: u64) -> bool
-    requires { IsSomeList entries.now ends }
-    ensures { result ≡ list_any (is_of_batch batch) (claims_of entries.now ends) }
-{
-    let mut at = ends.first;
-    for _ in 0..ends.len {
-        let entry = entries[at as usize];
-        if entry.batch == batch {
-            return true;
-        }
-        at = entry.next;
-    }
-    false
-}
-
 /// The number of the entry before the first one of the act, which isn't the list's first. None where the act has none.
 fn before_act(entries: &[Entry], ends: Ends, batch: u64, node: u16) -> Option<u32>
     requires linked { IsSomeList entries.now ends }
@@ -248,6 +244,19 @@ fn before_act(entries: &[Entry], ends: Ends, batch: u64, node: u16) -> Option<u3
         before = next;
     }
     None
+}
+
+/// The entry behind another one leaves its list, and leads to the first free one; its number.
+fn unlink(entries: &mut Vec<Entry>, before: u32, free: u32) -> u32
+    requires known { before < length entries.old.items }
+    requires next { (at entries.old.items before).next < length entries.old.items }
+    ensures value { result ≡ (at entries.old.items before).next }
+    ensures after { entries.new.items ≡ unlinked_behind entries.old.items before free }
+{
+    let taken = entries[before as usize].next;
+    entries[before as usize].next = entries[taken as usize].next;
+    entries[taken as usize].next = free;
+    taken
 }
 
 /// More entries before the first free one; the number of what is the first free one then.

@@ -1,17 +1,25 @@
 //! Orders to batches.
-ghost use Rattle.std.specs.Prelude.{◌≡◌, None, nat_eq, position};
+ghost use Rattle.std.specs.Prelude.{◌≡◌, ◌≤◌, None, length, nat_eq, position};
+ghost use Rattle.batch_arbiter.specs.Allocation.{AsksAtMost, resource_count};
 ghost use Rattle.batch_matrix.specs.Matrix.{target};
 ghost use Rattle.batch_matrix.specs.declared.command.Command.TheVariants as Command;
 ghost use Rattle.batch_model.specs.Events as Events;
 ghost use Rattle.batch_model.specs.Moves.{next};
 ghost use Rattle.batch_engine.specs.Answered.{IsAnswered};
 ghost use Rattle.batch_engine.specs.Orders.{EndsAsks, IsOrder, IsOrdered, IsPlain};
+ghost use Rattle.batch_engine.specs.Steps.{IsBatch};
 ghost use Rattle.batch_engine.specs.View.{setup, plant_of};
 
+use crate::batch::Batch;
 use crate::control::Control;
+use crate::pending::resource_at;
 use crate::refusal::Refusal;
 use crate::reply::Reply;
+use batch_cell::{MAX_MODULES, MAX_SHARED, MAX_UNITS};
 use batch_matrix::{Command, State, after};
+
+/// As many as a cell may have.
+const MAX_RESOURCES: usize = MAX_UNITS + MAX_MODULES + MAX_SHARED;
 
 impl Control {
     /// Where the batch with this number stands.
@@ -32,6 +40,23 @@ impl Control {
         batch.state = state;
     }
 
+    /// How many acts of a batch wait for each resource.
+    fn asks_by_resource(&self, batch: &Batch) -> [u16; MAX_RESOURCES]
+        requires { IsBatch self.now batch.now }
+        ensures known { resource_count self.now.allocation ≤ length result }
+        ensures asks { AsksAtMost self.now.allocation batch.now.number result }
+    {
+        let chart = self.cleared.recipe(batch.recipe);
+        let mut asks = [0; MAX_RESOURCES];
+        let mut from = 0;
+        while let Some((node, need)) = batch.running.waiting(chart, from) {
+            let (resource, _units) = resource_at(&self.numbers, batch, node, need);
+            asks[usize::from(resource)] += 1;
+            from = node + 1;
+        }
+        asks
+    }
+
     /// The batch at an index is stopped or aborted.
     fn stop(&mut self, index: usize, command: Command, state: State, number: u64)
         requires order { IsOrder self.old index command number }
@@ -39,7 +64,8 @@ impl Control {
         requires target { state ≡ target command }
         ensures { IsOrdered self.old command number self.new }
     {
-        self.arbiter.withdraw(number);
+        let asks = self.asks_by_resource(&self.batches[index]);
+        self.arbiter.withdraw(number, &asks);
         let batch = &mut self.batches[index];
         batch.state = state;
         batch.running.stop_all();

@@ -28,6 +28,9 @@ made c =
     (subst (λ (x : State). Ordered v (changed v c.args.index (record b { state = x; running = c.stop_all.new.self }) (withdrawn b.number v.allocation)) c.args.command c.args.number) (sym c.requires.target)
     (stop-made v r.kept c.args.index c.args.command c.args.number o c.requires.ends c.stop_all.new.self left.0 (left.2 (batch_of v.cleared b).rest (batch_of v.cleared b).in_advance (runs-as v r.kept c.args.index b r.at))))
 
+pub asks_by_resource-asks-requires : goal.asks_by_resource-asks-requires
+asks_by_resource-asks-requires c = (c.args.index, (read-there c.self.view_is c.self.invariant.kept c.requires.order.at c.index.ensures).at)
+
 pub invariant_of-self : goal.invariant_of-self
 invariant_of-self c =
     counted-set c.args.index (own (goal.at.invariant_of-self c).After-stop_all) (withdrawn c.args.number) c.self.view_is c.self.invariant c.index_mut-batch.ensures.value refl refl c.withdraw.ensures (made (goal.at.invariant_of-self c).After-stop_all).kept
