@@ -1,4 +1,4 @@
-use Rattle.std.proofs.Common.{ap, ◌∙◌}
+use Rattle.std.proofs.Common.{ap, refl, ◌∙◌}
 use Rattle.batch_desk.specs.Due.{events_of}
 use Rattle.batch_plant.proofs.running.close.Goals as goal
 
@@ -13,7 +13,7 @@ returns-clause-rings c = c.close_port-link.ensures.events ∙ c.close_port-conso
 
 pub returns-clause-console : goal.returns-clause-console
 returns-clause-console c =
-    ap (events_of 0) c.close_port-link.ensures.work.1 ∙ c.close_port-console.ensures.all (rw c.in_ok-rests.ensures.console tt)
+    ap (events_of 0) c.close_port-link.ensures.work.1 ∙ c.close_port-console.ensures.all (rw c.in_ok-rests.ensures.console refl)
 
 pub returns-clause-link : goal.returns-clause-link
-returns-clause-link c = c.close_port-link.ensures.all (rw c.in_ok-rests.ensures.link tt)
+returns-clause-link c = c.close_port-link.ensures.all (rw c.in_ok-rests.ensures.link refl)
