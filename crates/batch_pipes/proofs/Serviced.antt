@@ -13,17 +13,21 @@ use Rattle.batch_serve_desks.specs.Turns.{IsSameBut, IsTurned}
 use Rattle.batch_serve_desks.specs.Waits.{IsAccount}
 use Rattle.batch_serve_desks.specs.declared.desk.Desk.{Desk}
 use Rattle.batch_serve_desks.specs.declared.desk_server.DeskServer.{DeskServer}
+use Rattle.batch_serve_desks.specs.declared.rounds.Reader.{Reader}
 use Rattle.batch_serve_desks.specs.declared.rounds.Writer.{Writer}
 use Rattle.batch_serve_desks.proofs.Gathering.{lines_go_on}
 use Rattle.batch_serve_desks.proofs.GoingOn.{texts_go_on}
 use Rattle.batch_serve_desks.proofs.LivesKept.{last_same, life_turned, lives_take}
 use Rattle.batch_desks.specs.DeskNames.{desk_names}
 use Rattle.batch_desks.specs.declared.desk.Desk as plans
-use Rattle.batch_pipes.specs.Kept.{AreReadersKept, ArePortsOf}
+use Rattle.batch_pipes.specs.Ended.{AreDesksEnded, given_by}
+use Rattle.batch_pipes.specs.Inputs.{AreInputsKept, AreInputsOpened}
+use Rattle.batch_pipes.specs.Kept.{AreDone, AreReadersKept, ArePortsOf}
 use Rattle.batch_pipes.specs.Opened.{IsOpened}
 use Rattle.batch_serve.specs.Comments.{time_text}
 use Rattle.batch_wire.specs.Written.{Writes}
 use Rattle.batch_pipes.specs.Service.{AppendsTime, AppendsTimed, AreDesksServed, AreTimes, IsService, IsTime, Opening, Part, beginning, told_to}
+use Rattle.batch_pipes.specs.declared.input.Input.{Input}
 use Rattle.batch_pipes.specs.declared.ports.Ports.{Ports}
 
 -- Texts with times
@@ -231,3 +235,26 @@ service_ends is_safe keeper times begun kept recorded s p service = record {
   is_kept = λ safe. service.life.is_kept safe ∙ ap (λ (n : List (List ℕ)). begun.kept ++ runs_text n None service.runs) service.names;
   is_recorded = subst (λ (n : List (List ℕ)). AppendsTimed times begun.recorded recorded (runs_text n None service.answers)) service.names service.is_recorded;
 }
+
+-- what has come of it for each desk
+pub desks_end : {K : Type 0} {P : Type 0} (is_safe : K → Type 0) (keeper : K) (times : Bool) (begun : Opening) (given : List ℕ → Option (List ℕ)) (plans : List plans.Desk) (kept : List ℕ)
+    (recorded : Option (List ℕ)) (s : DeskServer) (p : Ports) (first inputs : List (Input P)) (readers : List Reader) → IsService times begun (is_safe keeper) kept recorded s p
+    → s.group.items ≡ [] → ArePortsOf s.desks.items p → AreInputsOpened given plans first readers → AreInputsKept given first inputs p.readers.items
+    → AreDone given s.desks.items inputs p.readers.items → AreDesksEnded times begun given plans s.desks.items (is_safe keeper) kept recorded
+desks_end {K} {P} is_safe keeper times begun given plans kept recorded s p first inputs readers service group of opened input_kept done = record {
+  service = service_ends is_safe keeper times begun kept recorded s p service;
+  count = count;
+  whole = λ k plan desk within uncut bytes known.
+      let in_desks : k < length s.desks.items = omega (arith, within, count) in
+      let in_readers : k < length p.readers.items = omega (arith, in_desks, of.readers) in
+      let in_first : k < length first = omega (arith, within, opened.count) in
+      let in_inputs : k < length inputs = omega (arith, in_first, input_kept.count) in
+      let reader : Reader = one_of p.readers.items k in_readers in
+      let input : Input P = one_of inputs k in_inputs in
+      let path = input_kept.paths k input in_first ∙ opened.paths k input plan within in
+      ap (own_text k) (sym (append-nil service.runs) ∙ ap (λ g. service.runs ++ g) (sym group)) ∙ service.lines k desk reader in_desks uncut
+      ∙ (done k desk input reader in_desks uncut).1.1 bytes (ap (given_by given) path ∙ known);
+}
+  where
+    count : length s.desks.items ≡ length plans
+    count = sym of.readers ∙ sym input_kept.of.count ∙ input_kept.count ∙ opened.count

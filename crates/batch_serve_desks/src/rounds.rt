@@ -89,6 +89,7 @@ impl DeskServer {
     /// Takes what came next from the reader of a desk, if it doesn't rest and anything is there.
     fn gather_one(&mut self, desk: usize, reader: &mut Reader) -> Result<(), AllocError>
         requires { desk < length self.old.desks.items }
+        ensures ring { SameConsumer reader.old.ring reader.new.ring }
         ensures same { IsSameBut self.old self.new }
         ensures gathered { OnOk result ((other : OneDesk) → (get_or self.old.desks.items desk other).waiting.is_cut ≡ false
             → IsGathered desk reader.old reader.new self.old.group.items self.new.group.items) }

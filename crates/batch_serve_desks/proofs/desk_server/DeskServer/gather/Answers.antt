@@ -1,7 +1,7 @@
 use Rattle.std.proofs.Common.{◌≡◌, List, length-set, get_or, false, sym, subst, arith}
 use Rattle.batch_serve_desks.specs.declared.desk.Desk.{Desk}
 use Rattle.batch_serve_desks.specs.declared.rounds.Reader.{Reader}
-use Rattle.batch_serve_desks.proofs.Gathering.{gathered_more, kept_behind, own_behind, same_on}
+use Rattle.batch_serve_desks.proofs.Gathering.{gathered_more, kept_behind, own_behind, rings_more, same_on}
 use Rattle.batch_serve_desks.proofs.desk_server.DeskServer.gather.Goals as goal
 
 pub loop-desk-preserved : goal.loop-desk-preserved
@@ -12,6 +12,8 @@ loop-desk-preserved c =
     record {
       same = same_on c.args.self.now c.loop-desk.self c.gather_one.new.self so_far.same c.gather_one.ensures.same;
       count = omega (arith, length-set {A = Reader}, so_far.count);
+      rings = rings_more c.args.readers.now.items c.loop-desk.readers.items i c.index_mut.result.now c.gather_one.new.reader (omega (arith, so_far.count)) c.index_mut.ensures.value
+          c.gather_one.ensures.ring so_far.rings so_far.rest;
       gathered = gathered_more c.args.self.now.desks.items c.args.readers.now.items c.loop-desk.readers.items i c.index_mut.result.now c.gather_one.new.reader
           c.args.self.now.group.items c.loop-desk.self.group.items c.gather_one.new.self.group.items (omega (arith, so_far.count)) c.index_mut.ensures.value
           (λ other uncut. c.in_ok-gather_one.ensures.gathered other (subst (λ (l : List Desk). (get_or l i other).waiting.is_cut ≡ false) (sym so_far.same.desks) uncut))
