@@ -150,13 +150,13 @@ both_set R xs ys i x y within count here all k a b below = go (cases_lt k i)
         subst (λ u. R u (get_or (set ys i y) k b)) (sym (ap (λ n. get_or (set xs i x) n a) at ∙ get_or-set_same xs i x a within))
         (subst (λ v. R x v) (sym (ap (λ n. get_or (set ys i y) n b) at ∙ get_or-set_same ys i y b (omega (arith, within, count)))) here)
 
-    go : (k < i) ⊎ (i ≤ k) → R (get_or (set xs i x) k a) (get_or (set ys i y) k b)
-    go (inl lt) = apart_so (omega arith)
-    go (inr le) = either (cases_lt i k) le
-
     either : (i < k) ⊎ (k ≤ i) → i ≤ k → R (get_or (set xs i x) k a) (get_or (set ys i y) k b)
     either (inl lt) le = apart_so (omega arith)
     either (inr ge) le = at_so (omega arith)
+
+    go : (k < i) ⊎ (i ≤ k) → R (get_or (set xs i x) k a) (get_or (set ys i y) k b)
+    go (inl lt) = apart_so (omega arith)
+    go (inr le) = either (cases_lt i k) le
 
 -- an input beside its reader
 pub input_here : {P : Type 0} (given : List ℕ → Option (List ℕ)) (inputs : List (Input P)) (readers : List Reader) (i : ℕ) (input : Input P) (reader : Reader) → i < length inputs
@@ -170,7 +170,7 @@ pub inputs_set : {P : Type 0} (given : List ℕ → Option (List ℕ)) (inputs :
 inputs_set {P} given inputs readers i input reader within here of = record {
   count = omega (arith, of.count, length-set {A = Input P}, length-set {A = Reader});
   each = λ k other read below.
-      both_set (λ x y. IsInputOf given x y) inputs readers i input reader within of.count here of.each k other read (omega (arith, below, length-set {A = Input P}));
+      both_set (λ (x : Input P) (y : Reader). IsInputOf given x y) inputs readers i input reader within of.count here of.each k other read (omega (arith, below, length-set {A = Input P}));
 }
 
 pub paths_set : {P : Type 0} (first now : List (Input P)) (i : ℕ) (old new : Input P) → i < length now → length now ≡ length first → old ≡ get_or now i old → path_of new ≡ path_of old
@@ -181,21 +181,21 @@ paths_set first now i old new within count is same paths k other below = go (cas
     apart_so : k ≢ i → path_of (get_or (set now i new) k other) ≡ path_of (get_or first k other)
     apart_so apart = ap path_of (get_or-set_other now i k new other apart) ∙ paths k other below
 
+    in_place : get_or now i old ≡ get_or now i other
+    in_place = get_or_default now i old other within
+
     at_so : k ≡ i → path_of (get_or (set now i new) k other) ≡ path_of (get_or first k other)
     at_so at =
         ap path_of (ap (λ n. get_or (set now i new) n other) at ∙ get_or-set_same now i new other within) ∙ same ∙ ap path_of (is ∙ in_place) ∙ ap (λ n. path_of (get_or now n other)) (sym at)
         ∙ paths k other below
 
-    in_place : get_or now i old ≡ get_or now i other
-    in_place = get_or_default now i old other within
+    either : (i < k) ⊎ (k ≤ i) → i ≤ k → path_of (get_or (set now i new) k other) ≡ path_of (get_or first k other)
+    either (inl lt) le = apart_so (omega arith)
+    either (inr ge) le = at_so (omega arith)
 
     go : (k < i) ⊎ (i ≤ k) → path_of (get_or (set now i new) k other) ≡ path_of (get_or first k other)
     go (inl lt) = apart_so (omega arith)
     go (inr le) = either (cases_lt i k) le
-
-    either : (i < k) ⊎ (k ≤ i) → i ≤ k → path_of (get_or (set now i new) k other) ≡ path_of (get_or first k other)
-    either (inl lt) le = apart_so (omega arith)
-    either (inr ge) le = at_so (omega arith)
 
 pub inputs_as_they_are : {P : Type 0} (given : List ℕ → Option (List ℕ)) (inputs : List (Input P)) (readers : List Reader) → AreInputsOf given inputs readers
     → AreInputsKept given inputs inputs readers
@@ -234,12 +234,12 @@ inputs_more {P} given desks desk old new before after opened added = record {
     each = λ k i reader below.
         subst (λ (l : List (Input P)). IsInputOf given (get_or l k i) (get_or after k reader)) (sym added.inputs)
         (subst (λ (l : List Reader). IsInputOf given (get_or (old ++ added.input ∷ []) k i) (get_or l k reader)) (sym added.readers)
-        (both_more (λ x y. IsInputOf given x y) old before added.input added.reader opened.of.count added.of opened.of.each k i reader (omega (arith, below, more))));
+        (both_more (λ (x : Input P) (y : Reader). IsInputOf given x y) old before added.input added.reader opened.of.count added.of opened.of.each k i reader (omega (arith, below, more))));
   };
   count = omega (arith, opened.count, more, length_more desks desk);
   paths = λ k i other below.
       subst (λ (l : List (Input P)). path_of (get_or l k i) ≡ option_map string_bytes (get_or (desks ++ desk ∷ []) k other).input) (sym added.inputs)
-      (both_more (λ x (y : plans.Desk). path_of x ≡ option_map string_bytes y.input) old desks added.input desk opened.count added.is_path
+      (both_more (λ (x : Input P) (y : plans.Desk). path_of x ≡ option_map string_bytes y.input) old desks added.input desk opened.count added.is_path
       (λ j p q lt. opened.paths j p q (omega (arith, lt, opened.count))) k i other (omega (arith, below, opened.count, length_more desks desk)));
 }
   where
@@ -271,10 +271,10 @@ input_missing {P} given i end reader child is path new pair = record {
   ended = subst (λ (e : Option InputEnd). IfSome e (λ end. IsEndOf (bytes_of given i) end reader)) (sym is) (record { pair = pair; items = nothing });
 }
   where
+    some_same : {x y : List ℕ} → Some x ≡ Some y → x ≡ y
+    some_same same = cc
+
     nothing : AreItemsOf (is_none end.fault) (bytes_of given i) (sent end.ring)
     nothing = λ bytes known.
         let none : bytes ≡ [] = some_same (sym known ∙ ap (given_by given) path) in
         ([], ap (λ b. clean_lines (lines_of b)) none ∙ sym (append-nil (text_sent (sent end.ring)) ∙ ap text_sent new), λ t. refl)
-
-    some_same : {x y : List ℕ} → Some x ≡ Some y → x ≡ y
-    some_same same = cc
