@@ -46,7 +46,7 @@ module _ {T A P : Type 0} where
 
 task_on : (path : Option (List ℕ)) (task : InputTask) (a b : Reader) → SameConsumer a.ring b.ring → IsTaskOf path task a → IsTaskOf path task b
 task_on path task a b same of =
-    record { path = of.path; pair = pair_on task.ring.end task.ring.end a.ring.end b.ring.end (same_ring task.ring.end) same.0 of.pair; new = of.new }
+    record { is_path = of.is_path; pair = pair_on task.ring.end task.ring.end a.ring.end b.ring.end (same_ring task.ring.end) same.0 of.pair; new = of.new }
 
 pub end_on : (input : Option (List ℕ)) (old new : InputEnd) (a b : Reader) → IsEndKept old new → SameConsumer a.ring b.ring → IsEndOf input old a → IsEndOf input new b
 end_on input old new a b kept same of = record {
@@ -75,7 +75,7 @@ pub end_of_task : (given : List ℕ → Option (List ℕ)) (path : Option (List 
     → IsInputRun (given (string_bytes task.path)) task end → IsEndOf (given_by given path) end reader
 end_of_task given path task end reader of run = record {
   pair = pair_on task.ring.end end.ring.end reader.ring.end reader.ring.end run.ring.0 (same_ring reader.ring.end) of.pair;
-  items = subst (λ (input : Option (List ℕ)). AreItemsOf (is_none end.fault) input (sent end.ring)) (sym (ap (given_by given) of.path))
+  items = subst (λ (input : Option (List ℕ)). AreItemsOf (is_none end.fault) input (sent end.ring)) (sym (ap (given_by given) of.is_path))
       (items_of (is_none end.fault) (given (string_bytes task.path)) (sent task.ring) (sent end.ring) of.new run.handed);
 }
 
@@ -259,7 +259,7 @@ pub input_started : {P : Type 0} (given : List ℕ → Option (List ℕ)) (i : I
     → IfSome i.child (λ child. child.handle.promise.task.value ≡ task) → i.end ≡ None → path_of i ≡ Some (string_bytes task.path) → sent task.ring ≡ []
     → IsPair task.ring reader.ring → IsInputOf given i reader
 input_started given i task reader child end path new pair = record {
-  thread = IfSome_then i.child child (λ child is. subst (λ (t : InputTask). IsTaskOf (path_of i) t reader) (sym is) (record { path = path; pair = pair; new = new }));
+  thread = IfSome_then i.child child (λ child is. subst (λ (t : InputTask). IsTaskOf (path_of i) t reader) (sym is) (record { is_path = path; pair = pair; new = new }));
   ended = subst (λ (e : Option InputEnd). IfSome e (λ end. IsEndOf (bytes_of given i) end reader)) (sym end) tt;
 }
 

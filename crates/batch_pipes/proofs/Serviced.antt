@@ -1,13 +1,14 @@
 -- Rounds lead a service on.
 use Rattle.std.proofs.Common.{◌≡◌, ◌<◌, ℕ, zero, suc, Bool, true, false, List, [], ◌∷◌, ◌++◌, length, get_or, flat_map, Option, None, Result, Ok, Err, OnOk, codes, decimal, inl, inr, refl, sym, ap, subst, arith, append-nil, ◌∙◌}
 use Rattle.std.proofs.lemmas.Grind.{flat_map-append}
+use Rattle.std.proofs.lemmas.List.Elements.{All-append, All-nil}
 use Rattle.std.proofs.KnownBytes.{Appends-nil, Appends-trans}
 use Rattle.std.specs.Io.KnownBytes.{Appends}
 use Rattle.batch_engine.specs.View.{EngineView, plant_of, setup}
 use Rattle.rtrb.specs.Ring.{sent}
 use Rattle.batch_serve_desks.specs.Lives.{IsLife}
 use Rattle.batch_serve_desks.specs.Rounds.{AreGathered, IsHandedOver, text_sent}
-use Rattle.batch_serve_desks.specs.Runs.{Run, due_of, last_of, own_text, runs_text}
+use Rattle.batch_serve_desks.specs.Runs.{AreOfDesks, Run, due_of, last_of, own_text, runs_text}
 use Rattle.batch_serve_desks.specs.Served.{AreServed}
 use Rattle.batch_serve_desks.specs.Turns.{IsSameBut, IsTurned}
 use Rattle.batch_serve_desks.specs.Waits.{IsAccount}
@@ -100,6 +101,10 @@ service_gathered is_safe keeper times begun kept recorded old new before after s
   life = subst (λ (l : List Writer). IsLife (beginning begun) (is_safe keeper) s.runs s.answers (record { kept = kept; recorded = None; told = told_to l }) new) (sym writers)
       (lives_take is_safe keeper (beginning begun) s.runs s.answers (record { kept = kept; recorded = None; told = told_to before.writers.items }) old new s.life same);
   is_recorded = subst (λ (n : List (List ℕ)). AppendsTimed times begun.recorded recorded (runs_text n None s.answers)) (sym same.names) s.is_recorded;
+  of_desks = (
+    subst (λ (l : List Desk). AreOfDesks (length l) s.runs) (sym same.desks) s.of_desks.0,
+    subst (λ (l : List Desk). AreOfDesks (length l) new.group.items) (sym same.desks) (gathered.of_desks s.of_desks.1)
+  );
   lines = λ k desk reader within uncut.
       let is_uncut : (get_or old.desks.items k desk).waiting.is_cut ≡ false = subst (λ (l : List Desk). (get_or l k desk).waiting.is_cut ≡ false) same.desks uncut in
       let in_old : k < length old.desks.items = omega (arith, within, ap length same.desks) in
@@ -141,6 +146,11 @@ service_turned is_safe keeper after_keeper times begun kept kept_after recorded 
           (record { kept = kept; recorded = None; told = told_to ports.writers.items }) old new s.life stays untold;
       is_recorded = subst (AppendsTimed times begun.recorded recorded_after) text
           (timed_more times begun.recorded recorded recorded_after (runs_text names None s.answers) comment more s.is_recorded is_time appends);
+      of_desks = (
+        subst (λ (n : ℕ). AreOfDesks n (s.runs ++ old.group.items)) (sym turn.told.count)
+        (All-append (λ (run : Run). run.desk < length old.desks.items) s.runs old.group.items s.of_desks.0 s.of_desks.1),
+        subst (λ (l : List Run). AreOfDesks (length new.desks.items) l) (sym turn.group) (All-nil (λ (run : Run). run.desk < length new.desks.items))
+      );
       lines = λ k desk reader within uncut.
           let in_old : k < length old.desks.items = omega (arith, within, turn.told.count) in
           ap (own_text k) (ap (λ (g : List Run). (s.runs ++ old.group.items) ++ g) turn.group ∙ append-nil (s.runs ++ old.group.items))
@@ -167,6 +177,11 @@ service_handed is_safe keeper times begun kept recorded old new before after han
     each = λ desk other within. handed_on desk other (omega (arith, within, handed.handed.count));
   };
   is_recorded = subst (λ (n : List (List ℕ)). AppendsTimed times begun.recorded recorded (runs_text n None s.answers)) (sym handed.names) s.is_recorded;
+  of_desks = (
+    subst (λ (n : ℕ). AreOfDesks n s.runs) (sym handed.handed.count) s.of_desks.0,
+    subst (λ (n : ℕ). AreOfDesks n new.group.items) (sym handed.handed.count)
+    (subst (λ (l : List Run). AreOfDesks (length old.desks.items) l) (sym handed.group) s.of_desks.1)
+  );
   lines = λ k desk reader within uncut.
       let in_old : k < length old.desks.items = omega (arith, within, handed.handed.count) in
       let in_writers : k < length before.writers.items = omega (arith, in_old, of.writers) in
@@ -213,6 +228,10 @@ service_begins is_safe keeper times begun engine desks s p cleared plant named o
     };
   };
   is_recorded = timed_nothing times begun.recorded;
+  of_desks = (
+    All-nil (λ (run : Run). run.desk < length s.desks.items),
+    subst (λ (l : List Run). AreOfDesks (length s.desks.items) l) (sym opened.group) (All-nil (λ (run : Run). run.desk < length s.desks.items))
+  );
   lines = λ k desk reader within uncut. ap (own_text k) opened.group ∙ ap text_sent (sym (opened.empty.came k reader within));
 }
   where
@@ -237,13 +256,15 @@ service_ends is_safe keeper times begun kept recorded s p service = record {
 }
 
 -- what has come of it for each desk
-pub desks_end : {K : Type 0} {P : Type 0} (is_safe : K → Type 0) (keeper : K) (times : Bool) (begun : Opening) (given : List ℕ → Option (List ℕ)) (plans : List plans.Desk) (kept : List ℕ)
+pub desks_end : {K : Type 0} {P : Type 0} (is_safe : K → Type 0) (keeper : K) (times : Bool) (begun : Opening) (given : List ℕ → Option (List ℕ)) (listed : List plans.Desk) (kept : List ℕ)
     (recorded : Option (List ℕ)) (s : DeskServer) (p : Ports) (first inputs : List (Input P)) (readers : List Reader) → IsService times begun (is_safe keeper) kept recorded s p
-    → s.group.items ≡ [] → ArePortsOf s.desks.items p → AreInputsOpened given plans first readers → AreInputsKept given first inputs p.readers.items
-    → AreDone given s.desks.items inputs p.readers.items → AreDesksEnded times begun given plans s.desks.items (is_safe keeper) kept recorded
-desks_end {K} {P} is_safe keeper times begun given plans kept recorded s p first inputs readers service group of opened input_kept done = record {
+    → s.group.items ≡ [] → ArePortsOf s.desks.items p → AreInputsOpened given listed first readers → AreInputsKept given first inputs p.readers.items
+    → AreDone given s.desks.items inputs p.readers.items → AreDesksEnded times begun given listed s.desks.items (is_safe keeper) kept recorded
+unfolding service_ends
+desks_end {K} {P} is_safe keeper times begun given listed kept recorded s p first inputs readers service group of opened input_kept done = record {
   service = service_ends is_safe keeper times begun kept recorded s p service;
   count = count;
+  of_desks = subst (λ (n : ℕ). AreOfDesks n service.runs) count service.of_desks.0;
   whole = λ k plan desk within uncut bytes known.
       let in_desks : k < length s.desks.items = omega (arith, within, count) in
       let in_readers : k < length p.readers.items = omega (arith, in_desks, of.readers) in
@@ -253,8 +274,8 @@ desks_end {K} {P} is_safe keeper times begun given plans kept recorded s p first
       let input : Input P = one_of inputs k in_inputs in
       let path = input_kept.paths k input in_first ∙ opened.paths k input plan within in
       ap (own_text k) (sym (append-nil service.runs) ∙ ap (λ g. service.runs ++ g) (sym group)) ∙ service.lines k desk reader in_desks uncut
-      ∙ (done k desk input reader in_desks uncut).1.1 bytes (ap (given_by given) path ∙ known);
+      ∙ (done k desk input reader in_desks uncut).2 bytes (ap (given_by given) path ∙ known);
 }
   where
-    count : length s.desks.items ≡ length plans
+    count : length s.desks.items ≡ length listed
     count = sym of.readers ∙ sym input_kept.of.count ∙ input_kept.count ∙ opened.count

@@ -3,7 +3,7 @@ use Rattle.std.specs.Prelude.{◌≡◌, ℕ, ◌<◌, Bool, false, List, [], le
 use Rattle.batch_desks.specs.declared.desk.Desk as plans
 use Rattle.batch_wire.specs.Transcript.{lines_of}
 use Rattle.batch_serve.specs.CleanLines.{clean_lines}
-use Rattle.batch_serve_desks.specs.Runs.{Run, own_text}
+use Rattle.batch_serve_desks.specs.Runs.{AreOfDesks, Run, own_text}
 use Rattle.batch_serve_desks.specs.declared.desk.Desk.{Desk}
 use Rattle.batch_pipes.specs.Service.{AreDesksServed, Opening}
 
@@ -17,9 +17,10 @@ abbrev pub IsWhollyServed : (List ℕ → Option (List ℕ)) → ℕ → plans.D
 IsWhollyServed given k plan desk runs = desk.waiting.is_cut ≡ false → (bytes : List ℕ) → given_by given (option_map string_bytes plan.input) ≡ Some bytes
     → own_text k runs ≡ clean_lines (lines_of bytes)
 
--- runs of lines were served, and of each desk they are whole
-pub record AreDesksEnded (times : Bool) (begun : Opening) (given : List ℕ → Option (List ℕ)) (plans : List plans.Desk) (desks : List Desk) (safe : Type 0) (kept : List ℕ)
+-- runs of lines of these desks were served, and of each they are whole
+pub record AreDesksEnded (times : Bool) (begun : Opening) (given : List ℕ → Option (List ℕ)) (listed : List plans.Desk) (desks : List Desk) (safe : Type 0) (kept : List ℕ)
     (recorded : Option (List ℕ)) : Type 0 where
   pub service : AreDesksServed times begun safe kept recorded
-  pub count : length desks ≡ length plans
-  pub whole : (k : ℕ) (plan : plans.Desk) (desk : Desk) → k < length plans → IsWhollyServed given k (get_or plans k plan) (get_or desks k desk) service.runs
+  pub count : length desks ≡ length listed
+  pub of_desks : AreOfDesks (length listed) service.runs
+  pub whole : (k : ℕ) (plan : plans.Desk) (desk : Desk) → k < length listed → IsWhollyServed given k (get_or listed k plan) (get_or desks k desk) service.runs

@@ -23,7 +23,7 @@ bytes_of given i = given_by given (path_of i)
 
 -- the task is to hand over the input of this path through the reader's ring, which is new
 pub record IsTaskOf (path : Option (List ℕ)) (task : InputTask) (reader : Reader) : Type 0 where
-  pub path : path ≡ Some (string_bytes task.path)
+  pub is_path : path ≡ Some (string_bytes task.path)
   pub pair : IsPair task.ring reader.ring
   pub new : sent task.ring ≡ []
 
@@ -69,7 +69,7 @@ pub record AreInputsKept {P : Type 0} (given : List ℕ → Option (List ℕ)) (
 pub record IsInputOpened {P : Type 0} (given : List ℕ → Option (List ℕ)) (path : Option (List ℕ)) (reader : Reader) (i : Input P) : Type 0 where
   pub came : received reader.ring ≡ []
   pub of : IsInputOf given i reader
-  pub path : path_of i ≡ path
+  pub is_path : path_of i ≡ path
 
 -- one more stands behind the others, as its reader does
 pub record IsInputAdded {P : Type 0} (given : List ℕ → Option (List ℕ)) (path : Option (List ℕ)) (old new : List (Input P)) (before after : List Reader) : Type 0 where

@@ -1,5 +1,5 @@
 //! Starting the threads of desks.
-ghost use Rattle.std.specs.Prelude.{◌≡◌, [], None, Some, IfOk, OnOk, option_map, string_bytes};
+ghost use Rattle.std.specs.Prelude.{◌≡◌, [], ◌∷◌, ◌++◌, None, Some, IfOk, OnOk, option_map, string_bytes};
 ghost use Rattle.rtrb.specs.Ring.{IsPair, received, sent};
 ghost use Rattle.batch_pipes.specs.Inputs.{AreInputsOpened, IsInputAdded, IsInputOf, IsInputOpened, path_of};
 ghost use Rattle.batch_pipes.specs.Kept.{ArePortsOf};
@@ -121,7 +121,7 @@ fn open_desk<T: Threads, P: Pipes + Send + Drop + 'static>(
     let told = Told::new(alloc, unit, lag);
     add_desk(server, name, told)?;
     ports.add(reader, writer, DeskThreads::new(outlet, stop))?;
-    inputs.push(input)?;
+    add_input(inputs, input)?;
     Ok(())
 }
 
@@ -133,6 +133,19 @@ fn add_desk(server: &mut DeskServer, name: Name, desk: Told) -> Result<(), Alloc
 {
     server.names.push(name)?;
     server.desks.push(desk)?;
+    Ok(())
+}
+
+/// Adds the input of a desk.
+///
+/// The error is that there is no memory for it.
+fn add_input<P: Pipes + Drop>(
+    inputs: &mut Vec<Input<P>>,
+    input: Input<P>,
+) -> Result<(), AllocError>
+    ensures { OnOk result (inputs.new.items ≡ inputs.old.items ++ input ∷ []) }
+{
+    inputs.push(input)?;
     Ok(())
 }
 

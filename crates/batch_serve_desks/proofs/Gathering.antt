@@ -3,10 +3,11 @@ use Rattle.std.proofs.Common.{◌≡◌, ◌≢◌, ◌<◌, ◌≤◌, ◌+◌,
 use Rattle.std.proofs.lemmas.Bool.{cases_lt, ne_eqb}
 use Rattle.std.proofs.lemmas.Grind.{flat_map-append}
 use Rattle.std.proofs.lemmas.List.{get_or_default}
+use Rattle.std.proofs.lemmas.List.Elements.{All-push}
 use Rattle.std.specs.List.{list_any}
 use Rattle.rtrb.specs.Ring.{SameConsumer, received}
 use Rattle.batch_serve_desks.specs.Rounds.{IsGathered, IsHandedOn, LinesGoOn, is_end, text_of_one, text_sent}
-use Rattle.batch_serve_desks.specs.Runs.{Run, own_text}
+use Rattle.batch_serve_desks.specs.Runs.{AreOfDesks, Run, own_text}
 use Rattle.batch_serve_desks.specs.Turns.{IsSameBut}
 use Rattle.batch_serve_desks.specs.declared.desk.Desk.{Desk}
 use Rattle.batch_serve_desks.specs.declared.desk_server.DeskServer.{DeskServer}
@@ -19,6 +20,10 @@ own_other desk other group text apart =
     flat_map-append (λ (run : Run). cond (eqb run.desk other) run.text []) group (record { desk = desk; text = text } ∷ [])
     ∙ ap (λ b. own_text other group ++ (cond b text [] ++ [])) (ne_eqb desk other (λ same. apart (sym same)))
     ∙ append-nil (own_text other group)
+
+-- it is of one of the desks
+pub of_desks_more : (count desk : ℕ) (group : List Run) (text : List ℕ) → desk < count → AreOfDesks count group → AreOfDesks count (group ++ record { desk = desk; text = text } ∷ [])
+of_desks_more count desk group text within of = All-push (λ (run : Run). run.desk < count) group (record { desk = desk; text = text }) of within
 
 -- what stands in a list where one more was set, and what stood there before
 pub was_here : {T : Type 0} (first now : List T) (i : ℕ) (old other : T) → i < length now → old ≡ get_or now i old → get_or now i other ≡ get_or first i other → get_or first i other ≡ old

@@ -2,7 +2,7 @@
 use Rattle.std.specs.Prelude.{◌≡◌, ℕ, ◌<◌, Bool, true, false, ◌||◌, List, [], ◌++◌, length, get_or, flat_map}
 use Rattle.std.specs.List.{list_any}
 use Rattle.rtrb.specs.Ring.{SameConsumer, received, sent}
-use Rattle.batch_serve_desks.specs.Runs.{Run, own_text}
+use Rattle.batch_serve_desks.specs.Runs.{AreOfDesks, Run, own_text}
 use Rattle.batch_serve_desks.specs.Waits.{IsAccount}
 use Rattle.batch_serve_desks.specs.declared.desk.Desk.{Desk}
 use Rattle.batch_serve_desks.specs.declared.desk_server.DeskServer.{DeskServer}
@@ -45,6 +45,7 @@ AreSameReaders old new = (desk : ℕ) (reader : Reader) → desk < length old �
 pub record AreGathered (desks : List Desk) (old new : List Reader) (before after : List Run) : Type 0 where
   pub count : length new ≡ length old
   pub rings : AreSameReaders old new
+  pub of_desks : AreOfDesks (length desks) before → AreOfDesks (length desks) after
   pub each : (desk : ℕ) (reader : Reader) (other : Desk) → desk < length old → (get_or desks desk other).waiting.is_cut ≡ false
       → IsGathered desk (get_or old desk reader) (get_or new desk reader) before after
 

@@ -18,8 +18,8 @@ pub returns-clause-input : goal.returns-clause-input
 returns-clause-input g c = record {
   input = c.in_ok-reader.input;
   reader = c.in_ok-reader.reader;
-  inputs = c.in_ok-push.ensures;
+  inputs = c.in_ok-add_input.ensures;
   readers = c.in_ok-add.ensures.readers;
   of = c.in_ok-reader.ensures.of;
-  is_path = c.in_ok-reader.ensures.path;
+  is_path = c.in_ok-reader.ensures.is_path;
 }

@@ -30,7 +30,7 @@ loop-at-preserved g c =
           (omega (arith, so_far.count, so_far.ports.readers)) c.index_mut-reader.ensures.value c.tend-other.ensures.reader so_far.readers so_far.rest_readers;
       inputs = record {
         of = inputs_set g.P.Pipes.given c.loop-at.inputs.items c.loop-at.ports.readers.items i c.tend-other.new.input c.tend-other.new.reader in_inputs c.tend-other.ensures.input.of so_far.inputs.of;
-        count = omega (arith, length-set {A = Input g.P}, so_far.inputs.count);
+        count = omega (arith, length-set {A = Input g.row.P.Denot}, so_far.inputs.count);
         paths = paths_set c.args.inputs.now.items c.loop-at.inputs.items i c.index_mut-input.result.now c.tend-other.new.input in_inputs so_far.inputs.count c.index_mut-input.ensures.value
             c.tend-other.ensures.input.path so_far.inputs.paths;
       };

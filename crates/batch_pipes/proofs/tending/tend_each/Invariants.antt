@@ -19,7 +19,7 @@ invariant-loop-at g l = record {
   rest_writers : (k : ℕ) (writer : Writer) → l.at ≤ k → get_or l.ports.writers.items k writer ≡ get_or l.initial.ports.writers.items k writer;
   readers : (k : ℕ) (reader : Reader) → k < l.at → IsReaderKept (get_or l.initial.ports.readers.items k reader) (get_or l.ports.readers.items k reader);
   inputs : AreInputsKept g.P.Pipes.given l.initial.inputs.items l.inputs.items l.ports.readers.items;
-  done : l.outlook.sends ≡ false → l.outlook.waits ≡ false → (k : ℕ) (desk : Desk) (input : Input g.P) (reader : Reader) → k < l.at
+  done : l.outlook.sends ≡ false → l.outlook.waits ≡ false → (k : ℕ) (desk : Desk) (input : Input _) (reader : Reader) → k < l.at
       → IsDone g.P.Pipes.given (get_or l.desks.items k desk) (get_or l.inputs.items k input) (get_or l.ports.readers.items k reader);
   rest_readers : (k : ℕ) (reader : Reader) → l.at ≤ k → get_or l.ports.readers.items k reader ≡ get_or l.initial.ports.readers.items k reader;
 }

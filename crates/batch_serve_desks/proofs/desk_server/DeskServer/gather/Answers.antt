@@ -1,4 +1,5 @@
-use Rattle.std.proofs.Common.{◌≡◌, List, length-set, get_or, false, sym, subst, arith}
+use Rattle.std.proofs.Common.{◌≡◌, List, length, length-set, get_or, false, sym, subst, arith}
+use Rattle.batch_serve_desks.specs.Runs.{AreOfDesks}
 use Rattle.batch_serve_desks.specs.declared.desk.Desk.{Desk}
 use Rattle.batch_serve_desks.specs.declared.rounds.Reader.{Reader}
 use Rattle.batch_serve_desks.proofs.Gathering.{gathered_more, kept_behind, own_behind, rings_more, same_on}
@@ -18,6 +19,8 @@ loop-desk-preserved c =
           c.args.self.now.group.items c.loop-desk.self.group.items c.gather_one.new.self.group.items (omega (arith, so_far.count)) c.index_mut.ensures.value
           (λ other uncut. c.in_ok-gather_one.ensures.gathered other (subst (λ (l : List Desk). (get_or l i other).waiting.is_cut ≡ false) (sym so_far.same.desks) uncut))
           others so_far.gathered so_far.rest so_far.own;
+      of_desks = λ of. subst (λ (l : List Desk). AreOfDesks (length l) c.gather_one.new.self.group.items) so_far.same.desks
+          (c.gather_one.ensures.of_desks (subst (λ (l : List Desk). AreOfDesks (length l) c.loop-desk.self.group.items) (sym so_far.same.desks) (so_far.of_desks of)));
       rest = kept_behind c.args.readers.now.items c.loop-desk.readers.items i c.gather_one.new.reader so_far.rest;
       own = own_behind i c.args.self.now.group.items c.loop-desk.self.group.items c.gather_one.new.self.group.items others so_far.own;
     }
