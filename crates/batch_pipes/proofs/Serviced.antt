@@ -103,7 +103,7 @@ service_gathered is_safe keeper times begun kept recorded old new before after s
   is_recorded = subst (λ (n : List (List ℕ)). AppendsTimed times begun.recorded recorded (runs_text n None s.answers)) (sym same.names) s.is_recorded;
   of_desks = (
     subst (λ (l : List Desk). AreOfDesks (length l) s.runs) (sym same.desks) s.of_desks.0,
-    subst (λ (l : List Desk). AreOfDesks (length l) new.group.items) (sym same.desks) (gathered.of_desks s.of_desks.1)
+    subst (λ (l : List Desk). AreOfDesks (length l) new.group.items) (sym same.desks) (gathered.of_desks s.of_desks.1),
   );
   lines = λ k desk reader within uncut.
       let is_uncut : (get_or old.desks.items k desk).waiting.is_cut ≡ false = subst (λ (l : List Desk). (get_or l k desk).waiting.is_cut ≡ false) same.desks uncut in
@@ -148,8 +148,8 @@ service_turned is_safe keeper after_keeper times begun kept kept_after recorded 
           (timed_more times begun.recorded recorded recorded_after (runs_text names None s.answers) comment more s.is_recorded is_time appends);
       of_desks = (
         subst (λ (n : ℕ). AreOfDesks n (s.runs ++ old.group.items)) (sym turn.told.count)
-        (All-append (λ (run : Run). run.desk < length old.desks.items) s.runs old.group.items s.of_desks.0 s.of_desks.1),
-        subst (λ (l : List Run). AreOfDesks (length new.desks.items) l) (sym turn.group) (All-nil (λ (run : Run). run.desk < length new.desks.items))
+            (All-append (λ (run : Run). run.desk < length old.desks.items) s.runs old.group.items s.of_desks.0 s.of_desks.1),
+        subst (λ (l : List Run). AreOfDesks (length new.desks.items) l) (sym turn.group) (All-nil (λ (run : Run). run.desk < length new.desks.items)),
       );
       lines = λ k desk reader within uncut.
           let in_old : k < length old.desks.items = omega (arith, within, turn.told.count) in
@@ -180,7 +180,7 @@ service_handed is_safe keeper times begun kept recorded old new before after han
   of_desks = (
     subst (λ (n : ℕ). AreOfDesks n s.runs) (sym handed.handed.count) s.of_desks.0,
     subst (λ (n : ℕ). AreOfDesks n new.group.items) (sym handed.handed.count)
-    (subst (λ (l : List Run). AreOfDesks (length old.desks.items) l) (sym handed.group) s.of_desks.1)
+        (subst (λ (l : List Run). AreOfDesks (length old.desks.items) l) (sym handed.group) s.of_desks.1),
   );
   lines = λ k desk reader within uncut.
       let in_old : k < length old.desks.items = omega (arith, within, handed.handed.count) in
@@ -230,7 +230,7 @@ service_begins is_safe keeper times begun engine desks s p cleared plant named o
   is_recorded = timed_nothing times begun.recorded;
   of_desks = (
     All-nil (λ (run : Run). run.desk < length s.desks.items),
-    subst (λ (l : List Run). AreOfDesks (length s.desks.items) l) (sym opened.group) (All-nil (λ (run : Run). run.desk < length s.desks.items))
+    subst (λ (l : List Run). AreOfDesks (length s.desks.items) l) (sym opened.group) (All-nil (λ (run : Run). run.desk < length s.desks.items)),
   );
   lines = λ k desk reader within uncut. ap (own_text k) opened.group ∙ ap text_sent (sym (opened.empty.came k reader within));
 }

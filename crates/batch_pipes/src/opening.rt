@@ -1,6 +1,6 @@
 //! Starting the threads of desks.
 ghost use Rattle.std.specs.Prelude.{◌≡◌, [], ◌∷◌, ◌++◌, None, Some, IfOk, OnOk, option_map, string_bytes};
-ghost use Rattle.rtrb.specs.Ring.{IsPair, received, sent};
+ghost use Rattle.rtrb.specs.Ring.{IsPair, sent};
 ghost use Rattle.batch_pipes.specs.Inputs.{AreInputsOpened, IsInputAdded, IsInputOf, IsInputOpened, path_of};
 ghost use Rattle.batch_pipes.specs.Kept.{ArePortsOf};
 ghost use Rattle.batch_pipes.specs.Opened.{IsDeskAdded, IsOpened, IsOpenedOn};
@@ -84,9 +84,7 @@ fn open_each<T: Threads, P: Pipes + Send + Drop + 'static>(
     let mut fronts = fronts.into_iter();
     for desk in desks {
         let front = next_front(alloc, &mut fronts);
-        open_desk(
-            threads, alloc, pipes, desk, front, server, ports, inputs,
-        )?;
+        open_desk(threads, alloc, pipes, desk, front, server, ports, inputs)?;
     }
     Ok(())
 }
@@ -139,10 +137,7 @@ fn add_desk(server: &mut DeskServer, name: Name, desk: Told) -> Result<(), Alloc
 /// Adds the input of a desk.
 ///
 /// The error is that there is no memory for it.
-fn add_input<P: Pipes + Drop>(
-    inputs: &mut Vec<Input<P>>,
-    input: Input<P>,
-) -> Result<(), AllocError>
+fn add_input<P: Pipes + Drop>(inputs: &mut Vec<Input<P>>, input: Input<P>) -> Result<(), AllocError>
     ensures { OnOk result (inputs.new.items ≡ inputs.old.items ++ input ∷ []) }
 {
     inputs.push(input)?;

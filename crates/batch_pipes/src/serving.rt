@@ -69,8 +69,7 @@ pub fn serve_desks<
       again = K.again;
     }) P.given desks.desks.items end.desks.items (K.is_safe keep.new) (K.kept keep.new) (W.contents output.new)) }
 {
-    let (mut server, mut ports, mut inputs) =
-        open(threads, alloc, pipes, engine, desks, fronts)?;
+    let (mut server, mut ports, mut inputs) = open(threads, alloc, pipes, engine, desks, fronts)?;
     run_rounds(
         threads,
         alloc,

@@ -152,13 +152,7 @@ fn is_to_rest(desk: &Desk, own: &DeskThreads) -> bool {
 }
 
 /// What is still to come of a desk to which so many lines are on their way, and whose input came so far.
-fn outlook_of(
-    desk: &Desk,
-    own: &DeskThreads,
-    reader: &Reader,
-    came: Came,
-    left: usize,
-) -> Outlook
+fn outlook_of(desk: &Desk, own: &DeskThreads, reader: &Reader, came: Came, left: usize) -> Outlook
     ensures sends { result.sends ≡ false → desk.now.waiting.is_cut ≡ false → (reader.now.has_ended ≡ true) × (came ≡ Whole) }
     ensures waits { result.waits ≡ false → desk.now.waiting.is_cut ≡ false → left ≡ 0 }
 {
