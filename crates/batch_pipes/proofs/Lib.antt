@@ -1,3 +1,4 @@
+pub mod InputsKept
 pub mod Keeping
 pub mod Serviced
 pub mod RingsMade

@@ -1,29 +1,34 @@
 -- Rounds lead a service on.
 use Rattle.std.proofs.Common.{◌≡◌, ◌<◌, ℕ, zero, suc, Bool, true, false, List, [], ◌∷◌, ◌++◌, length, get_or, flat_map, Option, None, Result, Ok, Err, OnOk, codes, decimal, inl, inr, refl, sym, ap, subst, arith, append-nil, ◌∙◌}
 use Rattle.std.proofs.lemmas.Grind.{flat_map-append}
+use Rattle.std.proofs.lemmas.List.Elements.{All-append, All-nil}
 use Rattle.std.proofs.KnownBytes.{Appends-nil, Appends-trans}
 use Rattle.std.specs.Io.KnownBytes.{Appends}
 use Rattle.batch_engine.specs.View.{EngineView, plant_of, setup}
 use Rattle.rtrb.specs.Ring.{sent}
 use Rattle.batch_serve_desks.specs.Lives.{IsLife}
 use Rattle.batch_serve_desks.specs.Rounds.{AreGathered, IsHandedOver, text_sent}
-use Rattle.batch_serve_desks.specs.Runs.{Run, due_of, last_of, own_text, runs_text}
+use Rattle.batch_serve_desks.specs.Runs.{AreOfDesks, Run, due_of, last_of, own_text, runs_text}
 use Rattle.batch_serve_desks.specs.Served.{AreServed}
 use Rattle.batch_serve_desks.specs.Turns.{IsSameBut, IsTurned}
 use Rattle.batch_serve_desks.specs.Waits.{IsAccount}
 use Rattle.batch_serve_desks.specs.declared.desk.Desk.{Desk}
 use Rattle.batch_serve_desks.specs.declared.desk_server.DeskServer.{DeskServer}
+use Rattle.batch_serve_desks.specs.declared.rounds.Reader.{Reader}
 use Rattle.batch_serve_desks.specs.declared.rounds.Writer.{Writer}
 use Rattle.batch_serve_desks.proofs.Gathering.{lines_go_on}
 use Rattle.batch_serve_desks.proofs.GoingOn.{texts_go_on}
 use Rattle.batch_serve_desks.proofs.LivesKept.{last_same, life_turned, lives_take}
 use Rattle.batch_desks.specs.DeskNames.{desk_names}
 use Rattle.batch_desks.specs.declared.desk.Desk as plans
-use Rattle.batch_pipes.specs.Kept.{AreReadersKept, ArePortsOf}
+use Rattle.batch_pipes.specs.Ended.{AreDesksEnded, given_by}
+use Rattle.batch_pipes.specs.Inputs.{AreInputsKept, AreInputsOpened}
+use Rattle.batch_pipes.specs.Kept.{AreDone, AreReadersKept, ArePortsOf}
 use Rattle.batch_pipes.specs.Opened.{IsOpened}
 use Rattle.batch_serve.specs.Comments.{time_text}
 use Rattle.batch_wire.specs.Written.{Writes}
 use Rattle.batch_pipes.specs.Service.{AppendsTime, AppendsTimed, AreDesksServed, AreTimes, IsService, IsTime, Opening, Part, beginning, told_to}
+use Rattle.batch_pipes.specs.declared.input.Input.{Input}
 use Rattle.batch_pipes.specs.declared.ports.Ports.{Ports}
 
 -- Texts with times
@@ -96,6 +101,10 @@ service_gathered is_safe keeper times begun kept recorded old new before after s
   life = subst (λ (l : List Writer). IsLife (beginning begun) (is_safe keeper) s.runs s.answers (record { kept = kept; recorded = None; told = told_to l }) new) (sym writers)
       (lives_take is_safe keeper (beginning begun) s.runs s.answers (record { kept = kept; recorded = None; told = told_to before.writers.items }) old new s.life same);
   is_recorded = subst (λ (n : List (List ℕ)). AppendsTimed times begun.recorded recorded (runs_text n None s.answers)) (sym same.names) s.is_recorded;
+  of_desks = (
+    subst (λ (l : List Desk). AreOfDesks (length l) s.runs) (sym same.desks) s.of_desks.0,
+    subst (λ (l : List Desk). AreOfDesks (length l) new.group.items) (sym same.desks) (gathered.of_desks s.of_desks.1),
+  );
   lines = λ k desk reader within uncut.
       let is_uncut : (get_or old.desks.items k desk).waiting.is_cut ≡ false = subst (λ (l : List Desk). (get_or l k desk).waiting.is_cut ≡ false) same.desks uncut in
       let in_old : k < length old.desks.items = omega (arith, within, ap length same.desks) in
@@ -137,6 +146,11 @@ service_turned is_safe keeper after_keeper times begun kept kept_after recorded 
           (record { kept = kept; recorded = None; told = told_to ports.writers.items }) old new s.life stays untold;
       is_recorded = subst (AppendsTimed times begun.recorded recorded_after) text
           (timed_more times begun.recorded recorded recorded_after (runs_text names None s.answers) comment more s.is_recorded is_time appends);
+      of_desks = (
+        subst (λ (n : ℕ). AreOfDesks n (s.runs ++ old.group.items)) (sym turn.told.count)
+            (All-append (λ (run : Run). run.desk < length old.desks.items) s.runs old.group.items s.of_desks.0 s.of_desks.1),
+        subst (λ (l : List Run). AreOfDesks (length new.desks.items) l) (sym turn.group) (All-nil (λ (run : Run). run.desk < length new.desks.items)),
+      );
       lines = λ k desk reader within uncut.
           let in_old : k < length old.desks.items = omega (arith, within, turn.told.count) in
           ap (own_text k) (ap (λ (g : List Run). (s.runs ++ old.group.items) ++ g) turn.group ∙ append-nil (s.runs ++ old.group.items))
@@ -163,6 +177,11 @@ service_handed is_safe keeper times begun kept recorded old new before after han
     each = λ desk other within. handed_on desk other (omega (arith, within, handed.handed.count));
   };
   is_recorded = subst (λ (n : List (List ℕ)). AppendsTimed times begun.recorded recorded (runs_text n None s.answers)) (sym handed.names) s.is_recorded;
+  of_desks = (
+    subst (λ (n : ℕ). AreOfDesks n s.runs) (sym handed.handed.count) s.of_desks.0,
+    subst (λ (n : ℕ). AreOfDesks n new.group.items) (sym handed.handed.count)
+        (subst (λ (l : List Run). AreOfDesks (length old.desks.items) l) (sym handed.group) s.of_desks.1),
+  );
   lines = λ k desk reader within uncut.
       let in_old : k < length old.desks.items = omega (arith, within, handed.handed.count) in
       let in_writers : k < length before.writers.items = omega (arith, in_old, of.writers) in
@@ -209,6 +228,10 @@ service_begins is_safe keeper times begun engine desks s p cleared plant named o
     };
   };
   is_recorded = timed_nothing times begun.recorded;
+  of_desks = (
+    All-nil (λ (run : Run). run.desk < length s.desks.items),
+    subst (λ (l : List Run). AreOfDesks (length s.desks.items) l) (sym opened.group) (All-nil (λ (run : Run). run.desk < length s.desks.items)),
+  );
   lines = λ k desk reader within uncut. ap (own_text k) opened.group ∙ ap text_sent (sym (opened.empty.came k reader within));
 }
   where
@@ -231,3 +254,28 @@ service_ends is_safe keeper times begun kept recorded s p service = record {
   is_kept = λ safe. service.life.is_kept safe ∙ ap (λ (n : List (List ℕ)). begun.kept ++ runs_text n None service.runs) service.names;
   is_recorded = subst (λ (n : List (List ℕ)). AppendsTimed times begun.recorded recorded (runs_text n None service.answers)) service.names service.is_recorded;
 }
+
+-- what has come of it for each desk
+pub desks_end : {K : Type 0} {P : Type 0} (is_safe : K → Type 0) (keeper : K) (times : Bool) (begun : Opening) (given : List ℕ → Option (List ℕ)) (listed : List plans.Desk) (kept : List ℕ)
+    (recorded : Option (List ℕ)) (s : DeskServer) (p : Ports) (first inputs : List (Input P)) (readers : List Reader) → IsService times begun (is_safe keeper) kept recorded s p
+    → s.group.items ≡ [] → ArePortsOf s.desks.items p → AreInputsOpened given listed first readers → AreInputsKept given first inputs p.readers.items
+    → AreDone given s.desks.items inputs p.readers.items → AreDesksEnded times begun given listed s.desks.items (is_safe keeper) kept recorded
+unfolding service_ends
+desks_end {K} {P} is_safe keeper times begun given listed kept recorded s p first inputs readers service group of opened input_kept done = record {
+  service = service_ends is_safe keeper times begun kept recorded s p service;
+  count = count;
+  of_desks = subst (λ (n : ℕ). AreOfDesks n service.runs) count service.of_desks.0;
+  whole = λ k plan desk within uncut bytes known.
+      let in_desks : k < length s.desks.items = omega (arith, within, count) in
+      let in_readers : k < length p.readers.items = omega (arith, in_desks, of.readers) in
+      let in_first : k < length first = omega (arith, within, opened.count) in
+      let in_inputs : k < length inputs = omega (arith, in_first, input_kept.count) in
+      let reader : Reader = one_of p.readers.items k in_readers in
+      let input : Input P = one_of inputs k in_inputs in
+      let path = input_kept.paths k input in_first ∙ opened.paths k input plan within in
+      ap (own_text k) (sym (append-nil service.runs) ∙ ap (λ g. service.runs ++ g) (sym group)) ∙ service.lines k desk reader in_desks uncut
+      ∙ (done k desk input reader in_desks uncut).2 bytes (ap (given_by given) path ∙ known);
+}
+  where
+    count : length s.desks.items ≡ length listed
+    count = sym of.readers ∙ sym input_kept.of.count ∙ input_kept.count ∙ opened.count

@@ -1,9 +1,11 @@
 -- private: what looking after desks leaves as it was.
-use Rattle.std.specs.Prelude.{◌≡◌, ℕ, ◌<◌, true, false, List, [], length, get_or}
-use Rattle.rtrb.specs.Ring.{received}
+use Rattle.std.specs.Prelude.{◌≡◌, ℕ, ◌<◌, true, false, List, [], Option, length, get_or}
+use Rattle.rtrb.specs.Ring.{SameConsumer, received}
 use Rattle.batch_serve_desks.specs.Waits.{IsAccount}
 use Rattle.batch_serve_desks.specs.declared.desk.Desk.{Desk}
 use Rattle.batch_serve_desks.specs.declared.rounds.Reader.{Reader}
+use Rattle.batch_pipes.specs.Inputs.{HasAllCome}
+use Rattle.batch_pipes.specs.declared.input.Input.{Input}
 use Rattle.batch_pipes.specs.declared.ports.Ports.{Ports}
 
 -- the desk is as it was, or cut now
@@ -15,6 +17,7 @@ pub record IsDeskKept (old new : Desk) : Type 0 where
 
 -- nothing was taken from the reader
 pub record IsReaderKept (old new : Reader) : Type 0 where
+  pub same : SameConsumer old.ring new.ring
   pub ring : received new.ring ≡ received old.ring
   pub ended : new.has_ended ≡ old.has_ended
 
@@ -24,11 +27,12 @@ pub record AreReadersKept (old new : List Reader) : Type 0 where
   pub each : (k : ℕ) (reader : Reader) → k < length old → IsReaderKept (get_or old k reader) (get_or new k reader)
 
 -- unless it is cut, all came that the desk sends, and nothing waits for it
-abbrev pub IsDone : Desk → Reader → Type 0
-IsDone desk reader = desk.waiting.is_cut ≡ false → (reader.has_ended ≡ true) × (desk.waiting.lines ≡ [])
+abbrev pub IsDone : {P : Type 0} → (List ℕ → Option (List ℕ)) → Desk → Input P → Reader → Type 0
+IsDone given desk input reader = desk.waiting.is_cut ≡ false → (reader.has_ended ≡ true) × (desk.waiting.lines ≡ []) × HasAllCome given input reader
 
-abbrev pub AreDone : List Desk → List Reader → Type 0
-AreDone desks readers = (k : ℕ) (desk : Desk) (reader : Reader) → k < length desks → IsDone (get_or desks k desk) (get_or readers k reader)
+abbrev pub AreDone : {P : Type 0} → (List ℕ → Option (List ℕ)) → List Desk → List (Input P) → List Reader → Type 0
+AreDone {P} given desks inputs readers =
+    (k : ℕ) (desk : Desk) (input : Input P) (reader : Reader) → k < length desks → IsDone given (get_or desks k desk) (get_or inputs k input) (get_or readers k reader)
 
 -- each desk has its rings and its threads
 pub record ArePortsOf (desks : List Desk) (ports : Ports) : Type 0 where

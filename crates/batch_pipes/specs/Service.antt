@@ -8,7 +8,7 @@ use Rattle.batch_verify.specs.ClearedSet.{ClearedSet}
 use Rattle.rtrb.specs.Ring.{received, sent}
 use Rattle.batch_serve_desks.specs.Lives.{Beginning, IsLife}
 use Rattle.batch_serve_desks.specs.Rounds.{text_sent}
-use Rattle.batch_serve_desks.specs.Runs.{Run, own_text, runs_text}
+use Rattle.batch_serve_desks.specs.Runs.{AreOfDesks, Run, own_text, runs_text}
 use Rattle.batch_serve_desks.specs.Served.{AreServed, AreWhole, ShowNoWant}
 use Rattle.batch_serve_desks.specs.declared.desk.Desk.{Desk}
 use Rattle.batch_serve_desks.specs.declared.desk_server.DeskServer.{DeskServer}
@@ -71,13 +71,14 @@ told_to writers desk = get_or (map (λ (w : Writer). sent w.ring) writers) desk 
 
 -- since then these runs were served, these are the answers, all of which is recorded, and kept where what keeps it has kept all so far; what
 -- each desk was told is what went into the ring of its writer, and the rest waits; and of each desk that isn't cut what was served, or is to
--- be served next, is all that came out of the ring of its reader
+-- be served next, is all that came out of the ring of its reader. No run is of another desk
 pub record IsService (times : Bool) (begun : Opening) (safe : Type 0) (kept : List ℕ) (recorded : Option (List ℕ)) (s : DeskServer) (p : Ports) : Type 0 where
   pub runs : List Run
   pub answers : List Run
   pub names : s.names.items ≡ begun.names
   pub life : IsLife (beginning begun) safe runs answers (record { kept = kept; recorded = None; told = told_to p.writers.items }) s
   pub is_recorded : AppendsTimed times begun.recorded recorded (runs_text s.names.items None answers)
+  pub of_desks : AreOfDesks (length s.desks.items) runs × AreOfDesks (length s.desks.items) s.group.items
   pub lines : (k : ℕ) (desk : Desk) (reader : Reader) → k < length s.desks.items → (get_or s.desks.items k desk).waiting.is_cut ≡ false
       → own_text k (runs ++ s.group.items) ≡ text_sent (received (get_or p.readers.items k reader).ring)
 

@@ -1,9 +1,10 @@
 //! Cutting desks, and telling which are cut.
-ghost use Rattle.batch_pipes.specs.Kept.{IsDeskKept, IsReaderKept};
+ghost use Rattle.batch_pipes.specs.Kept.{IsDeskKept};
 
 use crate::fault::{Cut, PipeFault};
-use crate::ports::{Child, DeskThreads, Outlet};
-use batch_serve_desks::{Desk, Reader};
+use crate::input::Came;
+use crate::ports::{DeskThreads, Outlet};
+use batch_serve_desks::Desk;
 use batch_text::Name;
 use batch_wire::write_all;
 use std::alloc::Global;
@@ -17,13 +18,11 @@ pub(crate) fn cut_if_failed<T: Threads>(
     threads: &T,
     desk: &mut Desk,
     own: &mut DeskThreads,
-    reader: &mut Reader,
+    came: Came,
 )
-    ensures desk { IsDeskKept desk.old desk.new }
-    ensures reader { IsReaderKept reader.old reader.new }
+    ensures { IsDeskKept desk.old desk.new }
 {
-    let failed = failed_input(threads, own, reader);
-    cut_for(desk, own, failed);
+    cut_for(desk, own, came.fault());
     let failed = failed_output(threads, own);
     cut_for(desk, own, failed);
     if desk.is_cut() {
@@ -38,34 +37,6 @@ fn cut_for(desk: &mut Desk, own: &mut DeskThreads, fault: Option<PipeFault>)
 {
     if let Some(fault) = fault {
         cut(desk, own, fault);
-    }
-}
-
-/// Why the input failed, once all is taken that came before.
-#[tactic(auto, using(crate::proofs::Keeping::reader_kept))]
-fn failed_input<T: Threads>(
-    threads: &T,
-    own: &mut DeskThreads,
-    reader: &mut Reader,
-) -> Option<PipeFault>
-    ensures { IsReaderKept reader.old reader.new }
-{
-    // What came before the thread was done is in the ring, so that is looked at behind it.
-    let has_ended = is_done(&own.input);
-    let is_empty = reader.ring.is_empty();
-    if !has_ended || !is_empty {
-        return None;
-    }
-    match own.input.take() {
-        Some(child) => child.join(threads).err(),
-        None => None,
-    }
-}
-
-fn is_done(child: &Option<Child>) -> bool {
-    match child {
-        Some(child) => child.done.is_raised(),
-        None => false,
     }
 }
 

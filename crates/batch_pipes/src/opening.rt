@@ -1,21 +1,26 @@
 //! Starting the threads of desks.
-ghost use Rattle.std.specs.Prelude.{◌≡◌, [], IfOk, OnOk};
-ghost use Rattle.rtrb.specs.Ring.{received, sent};
+ghost use Rattle.std.specs.Prelude.{◌≡◌, [], ◌∷◌, ◌++◌, None, Some, IfOk, OnOk, option_map, string_bytes};
+ghost use Rattle.rtrb.specs.Ring.{IsPair, sent};
+ghost use Rattle.batch_pipes.specs.Inputs.{AreInputsOpened, IsInputAdded, IsInputOf, IsInputOpened, path_of};
 ghost use Rattle.batch_pipes.specs.Kept.{ArePortsOf};
 ghost use Rattle.batch_pipes.specs.Opened.{IsDeskAdded, IsOpened, IsOpenedOn};
+ghost use Rattle.batch_serve_desks.specs.declared.rounds.Reader.{Reader as OneReader};
 
 use crate::fault::{DesksFault, PipeFault};
 use crate::flag::Flag;
+use crate::input::{Input, InputChild};
+use crate::input_thread::start_input;
 use crate::pipes::Pipes;
 use crate::ports::{Child, DeskThreads, Outlet, Ports};
-use crate::reading::{InputTask, run_input};
+use crate::reading::{InputEnd, InputTask};
 use crate::writing::{OutputTask, run_output};
 use batch_desks::{Desk, Desks};
 use batch_engine::Engine;
-use batch_serve_desks::{Desk as Told, DeskServer, Reader, Writer};
+use batch_serve_desks::{Desk as Told, DeskServer, Reader, Sent, Writer};
 use batch_text::Name;
-use rtrb::{Consumer, RingBuffer};
+use rtrb::{Producer, RingBuffer};
 use std::alloc::{AllocError, Global};
+use std::snapshot::Snapshot;
 use std::thread;
 use std::thread::{JoinHandle, Threads};
 use std::vec::IntoIter;
@@ -28,7 +33,7 @@ const LINES: usize = 1_024;
 
 /// Makes a server of the desks over the machine, and starts their threads. The fronts are what is written to the desks before all else,
 /// in their order. Where a thread can't be started those before it find no other end of their rings, and end.
-#[tactic(auto, using(crate::proofs::RingsMade::opened_none))]
+#[tactic(auto, using(crate::proofs::RingsMade::opened_none, crate::proofs::InputsKept::inputs_none))]
 pub(crate) fn open<T: Threads, P: Pipes + Send + Drop + 'static>(
     threads: &T,
     alloc: Global,
@@ -36,12 +41,14 @@ pub(crate) fn open<T: Threads, P: Pipes + Send + Drop + 'static>(
     engine: Engine,
     desks: Desks,
     fronts: Vec<Vec<u8>>,
-) -> Result<(DeskServer, Ports), DesksFault>
+) -> Result<(DeskServer, Ports, Vec<Input<P>>), DesksFault>
     ensures ports { IfOk result (λ opened. ArePortsOf opened.0.desks.items opened.1) }
     ensures opened { IfOk result (λ opened. IsOpened engine desks.desks.items opened.0 opened.1) }
+    ensures inputs { IfOk result (λ opened. AreInputsOpened P.given desks.desks.items opened.2.items opened.1.readers.items) }
 {
     let mut server = DeskServer::new(alloc, engine, Vec::new(alloc), Vec::new(alloc));
     let mut ports = Ports::new(alloc);
+    let mut inputs = Vec::new(alloc);
     open_each(
         threads,
         alloc,
@@ -50,8 +57,9 @@ pub(crate) fn open<T: Threads, P: Pipes + Send + Drop + 'static>(
         fronts,
         &mut server,
         &mut ports,
+        &mut inputs,
     )?;
-    Ok((server, ports))
+    Ok((server, ports, inputs))
 }
 
 /// Adds the desks to a server that has none, and starts their threads.
@@ -63,17 +71,20 @@ fn open_each<T: Threads, P: Pipes + Send + Drop + 'static>(
     fronts: Vec<Vec<u8>>,
     server: &mut DeskServer,
     ports: &mut Ports,
+    inputs: &mut Vec<Input<P>>,
 ) -> Result<(), DesksFault>
     requires ports { ArePortsOf server.old.desks.items ports.old }
     requires opened { IsOpened server.old.engine [] server.old ports.old }
+    requires inputs { AreInputsOpened P.given [] inputs.old.items ports.old.readers.items }
     ensures ports { OnOk result (ArePortsOf server.new.desks.items ports.new) }
     ensures opened { OnOk result (IsOpened server.old.engine desks.desks.items server.new ports.new) }
+    ensures inputs { OnOk result (AreInputsOpened P.given desks.desks.items inputs.new.items ports.new.readers.items) }
 {
     let Desks { desks } = desks;
     let mut fronts = fronts.into_iter();
     for desk in desks {
         let front = next_front(alloc, &mut fronts);
-        open_desk(threads, alloc, pipes, desk, front, server, ports)?;
+        open_desk(threads, alloc, pipes, desk, front, server, ports, inputs)?;
     }
     Ok(())
 }
@@ -87,8 +98,10 @@ fn open_desk<T: Threads, P: Pipes + Send + Drop + 'static>(
     front: Vec<u8>,
     server: &mut DeskServer,
     ports: &mut Ports,
+    inputs: &mut Vec<Input<P>>,
 ) -> Result<(), DesksFault>
-    ensures { OnOk result (IsOpenedOn desk.name server.old server.new ports.old ports.new) }
+    ensures desk { OnOk result (IsOpenedOn desk.name server.old server.new ports.old ports.new) }
+    ensures input { OnOk result (IsInputAdded P.given (option_map string_bytes desk.input) inputs.old.items inputs.new.items ports.old.readers.items ports.new.readers.items) }
 {
     let Desk {
         name,
@@ -105,7 +118,8 @@ fn open_desk<T: Threads, P: Pipes + Send + Drop + 'static>(
     let (writer, outlet) = open_output(threads, alloc, pipes, output, front, &stop)?;
     let told = Told::new(alloc, unit, lag);
     add_desk(server, name, told)?;
-    ports.add(reader, writer, DeskThreads::new(input, outlet, stop))?;
+    ports.add(reader, writer, DeskThreads::new(outlet, stop))?;
+    add_input(inputs, input)?;
     Ok(())
 }
 
@@ -117,6 +131,16 @@ fn add_desk(server: &mut DeskServer, name: Name, desk: Told) -> Result<(), Alloc
 {
     server.names.push(name)?;
     server.desks.push(desk)?;
+    Ok(())
+}
+
+/// Adds the input of a desk.
+///
+/// The error is that there is no memory for it.
+fn add_input<P: Pipes + Drop>(inputs: &mut Vec<Input<P>>, input: Input<P>) -> Result<(), AllocError>
+    ensures { OnOk result (inputs.new.items ≡ inputs.old.items ++ input ∷ []) }
+{
+    inputs.push(input)?;
     Ok(())
 }
 
@@ -136,31 +160,68 @@ fn open_input<T: Threads, P: Pipes + Send + Drop + 'static>(
     path: Option<String>,
     stays: bool,
     stop: &Flag,
-) -> Result<(Reader, Option<Child>), DesksFault>
-    ensures { IfOk result (λ opened. received opened.0.ring ≡ []) }
+) -> Result<(Reader, Input<P>), DesksFault>
+    ensures { IfOk result (λ opened. IsInputOpened P.given (option_map string_bytes path) opened.0 opened.1) }
 {
     let (producer, consumer) = RingBuffer::new(alloc, TEXTS)?;
-    let mut reader = Reader {
+    let reader = Reader {
         ring: consumer,
-        has_ended: true,
+        has_ended: path.is_none(),
         rests: false,
     };
-    let Some(path) = path else {
-        return Ok((reader, None));
+    let known = Snapshot::of(&path);
+    let input = match path {
+        Some(path) => read_input(threads, alloc, pipes, path, stays, producer, stop, known)?,
+        None => no_input(producer, known),
     };
-    reader.has_ended = false;
-    let (began, done) = (Flag::new(alloc)?, Flag::new(alloc)?);
-    let own = pipes.another();
+    Ok((reader, input))
+}
+
+/// The input of this path, with the thread that reads it.
+#[tactic(auto, using(crate::proofs::InputsKept::input_started))]
+fn read_input<T: Threads, P: Pipes + Send + Drop + 'static>(
+    threads: &T,
+    alloc: Global,
+    pipes: &P,
+    path: String,
+    stays: bool,
+    ring: Producer<Sent>,
+    stop: &Flag,
+    known: Snapshot<Option<String>>,
+) -> Result<Input<P>, DesksFault>
+    requires path { option_map string_bytes known.value ≡ Some (string_bytes path) }
+    requires new { sent ring ≡ [] }
+    ensures path { IfOk result (λ input. path_of input ≡ Some (string_bytes path)) }
+    ensures input { IfOk result (λ input. (reader : OneReader) → IsPair ring reader.ring → IsInputOf P.given input reader) }
+{
+    let done = Flag::new(alloc)?;
     let task = InputTask {
         path,
         stays,
-        ring: producer,
+        ring,
         stop: stop.another()?,
         done: done.another()?,
     };
-    match thread::spawn(threads, move || run_input(alloc, own, task)) {
-        Ok(handle) => Ok((reader, Some(child_of(handle, began, done)))),
-        Err(_) => Err(DesksFault::Thread),
+    let handle = start_input(threads, alloc, pipes.another(), task)?;
+    Ok(Input {
+        path: known,
+        child: Some(InputChild { handle, done }),
+        end: None,
+    })
+}
+
+/// Of a desk that has no input nothing comes.
+#[tactic(auto, using(crate::proofs::InputsKept::input_missing))]
+fn no_input<P: Pipes + Drop>(ring: Producer<Sent>, known: Snapshot<Option<String>>) -> Input<P>
+    requires path { known.value ≡ None }
+    requires new { sent ring ≡ [] }
+    ensures path { path_of result ≡ None }
+    ensures input { (reader : OneReader) → IsPair ring reader.ring → IsInputOf P.given result reader }
+{
+    Input {
+        path: known,
+        child: None,
+        end: Some(InputEnd { ring, fault: None }),
     }
 }
 

@@ -1,4 +1,8 @@
 //! Where the inputs and outputs of desks are opened.
+ghost use Rattle.std.specs.Prelude.{is_ok, string_bytes};
+ghost use Rattle.rtrb.specs.Ring.{SameProducer, sent};
+ghost use Rattle.batch_pipes.specs.Streams.{HandsOver};
+
 use crate::fault::PipeFault;
 use crate::reading::InputTask;
 use crate::writing::OutputTask;
@@ -6,11 +10,18 @@ use std::alloc::Global;
 
 /// Where the inputs and outputs of desks are opened, and in the thread that calls read and written.
 pub trait Pipes {
+    ghost use Rattle.std.specs.Prelude.{ℕ, List, Option, None};
+
+    /// The bytes that the input of a path gives to its end, where they are known. Nobody can give those of a real file.
+    ghost given: { List ℕ → Option (List ℕ) } = { λ _. None };
+
     /// The same, for another thread.
     fn another(&self) -> Self;
 
     /// Opens the task's input, and has it read by `InputTask::read`. Both may wait for whoever is at the other end.
-    fn run_input(&self, alloc: Global, task: &mut InputTask) -> Result<(), PipeFault>;
+    fn run_input(&self, alloc: Global, task: &mut InputTask) -> Result<(), PipeFault>
+        ensures handed { HandsOver (is_ok result) (given (string_bytes task.old.path)) (sent task.old.ring) (sent task.new.ring) }
+        ensures ring { SameProducer task.old.ring task.new.ring };
 
     /// Opens the task's output, and has it written by `OutputTask::write`. Both may wait for whoever is at the other end.
     fn run_output(&self, alloc: Global, task: &mut OutputTask) -> Result<(), PipeFault>;

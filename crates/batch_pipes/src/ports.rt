@@ -10,7 +10,7 @@ use rtrb::Consumer;
 use std::alloc::{AllocError, Global};
 use std::thread::{JoinHandle, Threads};
 
-/// A thread that was started.
+/// The thread of an output.
 #[derive(Drop)]
 pub(crate) struct Child {
     pub(crate) handle: JoinHandle<Result<(), PipeFault>>,
@@ -38,10 +38,9 @@ pub(crate) enum Outlet {
     Ended,
 }
 
-/// The threads of a desk.
+/// What becomes of a desk's output, and whether the desk is cut.
 #[derive(Drop)]
 pub(crate) struct DeskThreads {
-    pub(crate) input: Option<Child>,
     pub(crate) outlet: Outlet,
     /// It is raised where the desk is cut.
     pub(crate) stop: Flag,
@@ -54,9 +53,8 @@ pub(crate) struct DeskThreads {
 
 impl DeskThreads {
     /// Of a desk that isn't cut.
-    pub(crate) fn new(input: Option<Child>, outlet: Outlet, stop: Flag) -> DeskThreads {
+    pub(crate) fn new(outlet: Outlet, stop: Flag) -> DeskThreads {
         DeskThreads {
-            input,
             outlet,
             stop,
             pace: Pace::new(),

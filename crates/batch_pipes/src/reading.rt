@@ -1,6 +1,7 @@
 //! The thread of a desk's input.
-ghost use Rattle.std.specs.Prelude.{◌<◌, length, is_ok};
-ghost use Rattle.rtrb.specs.Ring.{sent};
+ghost use Rattle.std.specs.Prelude.{◌≡◌, ◌<◌, length, is_none, is_ok, string_bytes};
+ghost use Rattle.rtrb.specs.Ring.{SameProducer, sent};
+ghost use Rattle.batch_pipes.specs.InputEnds.{IsInputRun};
 ghost use Rattle.batch_pipes.specs.Streams.{HandsOver};
 
 use crate::fault::PipeFault;
@@ -48,7 +49,8 @@ impl InputTask {
         input: R,
         rest: S,
     ) -> Result<(), PipeFault>
-        ensures { HandsOver (is_ok result) (R.remaining input) (sent self.old.ring) (sent self.new.ring) }
+        ensures handed { HandsOver (is_ok result) (R.remaining input) (sent self.old.ring) (sent self.new.ring) }
+        ensures ring { SameProducer self.old.ring self.new.ring }
     {
         let mut rest = DeskRest {
             rest,
@@ -70,7 +72,8 @@ fn hand_over<R: Read + Drop, S: Pause>(
     rest: &mut S,
 ) -> Result<(), PipeFault>
     requires { 0 < length room.old }
-    ensures { HandsOver (is_ok result) (R.remaining input) (sent ring.old) (sent ring.new) }
+    ensures handed { HandsOver (is_ok result) (R.remaining input) (sent ring.old) (sent ring.new) }
+    ensures ring { SameProducer ring.old ring.new }
 {
     let clean = CleanReader::new(input);
     let mut lines = Noted::new(clean);
@@ -91,14 +94,33 @@ fn fault_of<R: Read, S: Pause>(lines: &Noted<CleanReader<R>>, rest: &mut S) -> P
     }
 }
 
+/// What the thread of an input came to.
+#[derive(Drop)]
+pub(crate) struct InputEnd {
+    // its end of the ring
+    pub(crate) ring: Producer<Sent>,
+    // why it ended before its time
+    pub(crate) fault: Option<PipeFault>,
+}
+
 /// Opens the input and hands over its lines, to its end.
-pub(crate) fn run_input<P: Pipes + Drop>(
-    alloc: Global,
-    pipes: P,
-    task: InputTask,
-) -> Result<(), PipeFault> {
+#[tactic(auto, using(crate::proofs::InputsKept::input_run))]
+pub(crate) fn run_input<P: Pipes + Drop>(alloc: Global, pipes: P, task: InputTask) -> InputEnd
+    ensures { IsInputRun (P.given (string_bytes task.path)) task result }
+{
     let mut task = task;
     let ended = pipes.run_input(alloc, &mut task);
     task.done.raise();
-    ended
+    let fault = fault_in(ended);
+    let InputTask { ring, .. } = task;
+    InputEnd { ring, fault }
+}
+
+fn fault_in(ended: Result<(), PipeFault>) -> Option<PipeFault>
+    ensures { is_none result ≡ is_ok ended }
+{
+    match ended {
+        Ok(()) => None,
+        Err(fault) => Some(fault),
+    }
 }

@@ -1,5 +1,6 @@
 //! Rounds: what came is served, and what waits goes on.
-ghost use Rattle.std.specs.Prelude.{◌≡◌, length, OnOk};
+ghost use Rattle.std.specs.Prelude.{◌≡◌, [], length, OnOk};
+ghost use Rattle.batch_serve_desks.specs.Rounds.{AreSameReaders};
 ghost use Rattle.batch_pipes.specs.Kept.{ArePortsOf};
 ghost use Rattle.batch_pipes.specs.Service.{GoesOn, TurnsOn};
 
@@ -23,6 +24,9 @@ pub(crate) fn serve_round<C: Clock, K: Keep, W: Write>(
 ) -> Result<bool, DesksFault>
     requires { ArePortsOf server.old.desks.items ports.old }
     ensures ports { OnOk result (ArePortsOf server.new.desks.items ports.new) }
+    ensures readers { OnOk result (AreSameReaders ports.old.readers.items ports.new.readers.items) }
+    ensures count { OnOk result (length ports.new.readers.items ≡ length ports.old.readers.items) }
+    ensures group { OnOk result (server.new.group.items ≡ []) }
     ensures service { OnOk result (GoesOn timing.now.times K.again (K.is_safe keep.old) (K.is_safe keep.new) (K.kept keep.old) (K.kept keep.new)
         (W.contents output.old) (W.contents output.new) server.old server.new ports.old ports.new) }
 {
@@ -41,6 +45,7 @@ fn serve_group<C: Clock, K: Keep, W: Write>(
     output: &mut W,
 ) -> Result<bool, DesksFault>
     ensures count { OnOk result (length server.new.desks.items ≡ length server.old.desks.items) }
+    ensures group { OnOk result (server.new.group.items ≡ []) }
     ensures service { OnOk result (TurnsOn timing.now.times K.again (K.is_safe keep.old) (K.is_safe keep.new) (K.kept keep.old) (K.kept keep.new)
         (W.contents output.old) (W.contents output.new) server.old server.new) }
 {

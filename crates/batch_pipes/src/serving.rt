@@ -1,12 +1,15 @@
 //! Serving several desks over pipes.
-ghost use Rattle.std.specs.Prelude.{◌≡◌, OnOk};
+ghost use Rattle.std.specs.Prelude.{◌≡◌, [], IfOk, OnOk};
 ghost use Rattle.batch_engine.specs.View.{plant_of};
 ghost use Rattle.batch_desks.specs.DeskNames.{desk_names};
+ghost use Rattle.batch_pipes.specs.Ended.{AreDesksEnded};
+ghost use Rattle.batch_pipes.specs.Inputs.{AreInputsKept, AreInputsOf};
 ghost use Rattle.batch_pipes.specs.Kept.{AreDone, ArePortsOf};
-ghost use Rattle.batch_pipes.specs.Service.{AreDesksServed, GoesOn};
+ghost use Rattle.batch_pipes.specs.Service.{GoesOn};
 
 use crate::ending::finish;
 use crate::fault::DesksFault;
+use crate::input::Input;
 use crate::opening::open;
 use crate::pipes::Pipes;
 use crate::ports::Ports;
@@ -15,19 +18,27 @@ use crate::tending::{Outlook, tend_desks};
 use crate::timing::Timing;
 use batch_desks::Desks;
 use batch_engine::Engine;
-use batch_serve_desks::{DeskServer, Keep, Pause};
+use batch_serve_desks::{Desk, DeskServer, Keep, Pause};
 use std::alloc::Global;
 use std::io::Write;
 use std::thread::Threads;
 use std::time::Clock;
+
+/// Where desks were served to their end.
+#[derive(Drop)]
+pub struct DesksEnd {
+    /// How many batches are neither complete, stopped nor aborted.
+    pub unfinished: usize,
+    /// The desks. Of one that isn't cut all lines of its input were served.
+    pub desks: Vec<Desk>,
+}
 
 /// Serves desks until each that has an input has ended or is cut, and what waits is handed on.
 ///
 /// The input and the output of each desk are opened, read and written in threads of their own, and nobody waits for a thread that is
 /// blocked there. The fronts are what is written to the desks' outputs before all else, one for each desk in order; a desk behind the
 /// last of them has none. A desk whose input or output fails, or for which more lines wait than may, is cut, which is told on the
-/// errors. At the end an output that takes nothing for long is cut too. Gives how many batches are neither complete, stopped nor
-/// aborted.
+/// errors. At the end an output that takes nothing for long is cut too, which is told alone.
 pub fn serve_desks<
     T: Threads,
     P: Pipes + Send + Drop + 'static,
@@ -48,22 +59,23 @@ pub fn serve_desks<
     output: &mut W,
     errors: &mut E,
     rest: &mut S,
-) -> Result<usize, DesksFault>
-    ensures { OnOk result (AreDesksServed timing.now.times (record {
+) -> Result<DesksEnd, DesksFault>
+    ensures { IfOk result (λ end. AreDesksEnded timing.now.times (record {
       set = engine.cleared;
       names = desk_names desks.desks.items;
       plant = plant_of engine;
       kept = K.kept keep.old;
       recorded = W.contents output.old;
       again = K.again;
-    }) (K.is_safe keep.new) (K.kept keep.new) (W.contents output.new)) }
+    }) P.given desks.desks.items end.desks.items (K.is_safe keep.new) (K.kept keep.new) (W.contents output.new)) }
 {
-    let (mut server, mut ports) = open(threads, alloc, pipes, engine, desks, fronts)?;
+    let (mut server, mut ports, mut inputs) = open(threads, alloc, pipes, engine, desks, fronts)?;
     run_rounds(
         threads,
         alloc,
         &mut server,
         &mut ports,
+        &mut inputs,
         timing,
         keep,
         output,
@@ -71,30 +83,39 @@ pub fn serve_desks<
         rest,
     )?;
     finish(threads, alloc, &server, ports, errors, rest);
-    Ok(server.engine.unfinished())
+    let DeskServer { engine, desks, .. } = server;
+    Ok(DesksEnd {
+        unfinished: engine.unfinished(),
+        desks,
+    })
 }
 
 /// Makes rounds until nothing more comes and nothing waits.
-fn run_rounds<T: Threads, C: Clock, K: Keep, W: Write, E: Write, S: Pause>(
+fn run_rounds<T: Threads, P: Pipes + Drop, C: Clock, K: Keep, W: Write, E: Write, S: Pause>(
     threads: &T,
     alloc: Global,
     server: &mut DeskServer,
     ports: &mut Ports,
+    inputs: &mut Vec<Input<P>>,
     timing: &Timing<C>,
     keep: &mut K,
     output: &mut W,
     errors: &mut E,
     rest: &mut S,
 ) -> Result<(), DesksFault>
-    requires { ArePortsOf server.old.desks.items ports.old }
-    ensures done { OnOk result (AreDone server.new.desks.items ports.new.readers.items) }
+    requires ports { ArePortsOf server.old.desks.items ports.old }
+    requires inputs { AreInputsOf P.given inputs.old.items ports.old.readers.items }
+    ensures ports { OnOk result (ArePortsOf server.new.desks.items ports.new) }
+    ensures inputs { OnOk result (AreInputsKept P.given inputs.old.items inputs.new.items ports.new.readers.items) }
+    ensures group { OnOk result (server.new.group.items ≡ []) }
+    ensures done { OnOk result (AreDone P.given server.new.desks.items inputs.new.items ports.new.readers.items) }
     ensures service { OnOk result (GoesOn timing.now.times K.again (K.is_safe keep.old) (K.is_safe keep.new) (K.kept keep.old) (K.kept keep.new)
         (W.contents output.old) (W.contents output.new) server.old server.new ports.old ports.new) }
 {
     let mut ends = false;
     for _ in 0..u64::MAX {
         let serves = serve_round(alloc, server, ports, timing, keep, output)?;
-        let outlook = tend_desks(threads, alloc, server, ports, ends, errors);
+        let outlook = tend_desks(threads, alloc, server, ports, inputs, ends, errors);
         if outlook.is_over() {
             return Ok(());
         }

@@ -1,11 +1,15 @@
 //! Looking after the desks between turns.
 ghost use Rattle.std.specs.Prelude.{◌≡◌, ◌||◌, length, true, false, IsTrue};
 ghost use Rattle.batch_serve_desks.specs.Rounds.{AreHandedOn, IsHandedOn, IsHandedOver};
+ghost use Rattle.batch_pipes.specs.Inputs.{AreInputsKept, AreInputsOf, IsInputKept, IsInputOf};
 ghost use Rattle.batch_pipes.specs.Kept.{AreDone, AreReadersKept, ArePortsOf, IsDone, IsReaderKept};
+ghost use Rattle.batch_pipes.specs.declared.input.Came.TheVariants.{Whole};
 
 use crate::cutting::{cut_if_failed, cut_if_stalled, tell_cut};
 use crate::dropping::drop_unseen;
+use crate::input::{Came, Input};
 use crate::pace::lines_left;
+use crate::pipes::Pipes;
 use crate::ports::{DeskThreads, Ports};
 use batch_serve_desks::{Desk, DeskServer, Reader, Writer};
 use batch_text::Name;
@@ -54,19 +58,22 @@ impl Outlook {
 }
 
 /// Cuts the desks whose pipes failed, and at the end those that take nothing, and tells which are cut.
-pub(crate) fn tend_desks<T: Threads, E: Write>(
+pub(crate) fn tend_desks<T: Threads, P: Pipes + Drop, E: Write>(
     threads: &T,
     alloc: Global,
     server: &mut DeskServer,
     ports: &mut Ports,
+    inputs: &mut Vec<Input<P>>,
     ends: bool,
     errors: &mut E,
 ) -> Outlook
-    requires { ArePortsOf server.old.desks.items ports.old }
+    requires ports { ArePortsOf server.old.desks.items ports.old }
+    requires inputs { AreInputsOf P.given inputs.old.items ports.old.readers.items }
     ensures ports { ArePortsOf server.new.desks.items ports.new }
     ensures desks { IsHandedOver server.old server.new ports.old.writers.items ports.new.writers.items }
     ensures readers { AreReadersKept ports.old.readers.items ports.new.readers.items }
-    ensures done { result.sends ≡ false → result.waits ≡ false → AreDone server.new.desks.items ports.new.readers.items }
+    ensures inputs { AreInputsKept P.given inputs.old.items inputs.new.items ports.new.readers.items }
+    ensures done { result.sends ≡ false → result.waits ≡ false → AreDone P.given server.new.desks.items inputs.new.items ports.new.readers.items }
 {
     tend_each(
         threads,
@@ -74,33 +81,38 @@ pub(crate) fn tend_desks<T: Threads, E: Write>(
         &server.names,
         &mut server.desks,
         ports,
+        inputs,
         ends,
         errors,
     )
 }
 
-fn tend_each<T: Threads, E: Write>(
+fn tend_each<T: Threads, P: Pipes + Drop, E: Write>(
     threads: &T,
     alloc: Global,
     names: &[Name],
     desks: &mut Vec<Desk>,
     ports: &mut Ports,
+    inputs: &mut Vec<Input<P>>,
     ends: bool,
     errors: &mut E,
 ) -> Outlook
-    requires { ArePortsOf desks.old.items ports.old }
+    requires ports { ArePortsOf desks.old.items ports.old }
+    requires inputs { AreInputsOf P.given inputs.old.items ports.old.readers.items }
     ensures ports { ArePortsOf desks.new.items ports.new }
     ensures desks { AreHandedOn desks.old.items desks.new.items ports.old.writers.items ports.new.writers.items }
     ensures readers { AreReadersKept ports.old.readers.items ports.new.readers.items }
-    ensures done { result.sends ≡ false → result.waits ≡ false → AreDone desks.new.items ports.new.readers.items }
+    ensures inputs { AreInputsKept P.given inputs.old.items inputs.new.items ports.new.readers.items }
+    ensures done { result.sends ≡ false → result.waits ≡ false → AreDone P.given desks.new.items inputs.new.items ports.new.readers.items }
 {
     let mut outlook = Outlook::nothing();
     for at in 0..desks.len() {
+        let input = &mut inputs[at];
         let own = &mut ports.threads[at];
         let reader = &mut ports.readers[at];
         let writer = &mut ports.writers[at];
         let desk = &mut desks[at];
-        let other = tend(threads, desk, own, reader, writer, ends);
+        let other = tend(threads, desk, own, input, reader, writer, ends);
         tell_cut(alloc, desk, names.get(at), own, errors);
         outlook = outlook.with(other);
     }
@@ -109,25 +121,29 @@ fn tend_each<T: Threads, E: Write>(
 
 /// Looks after one desk, and gives what is still to come of it. While lines are on their way to it, it isn't read, unless its output
 /// takes nothing for long.
-fn tend<T: Threads>(
+fn tend<T: Threads, P: Pipes + Drop>(
     threads: &T,
     desk: &mut Desk,
     own: &mut DeskThreads,
+    input: &mut Input<P>,
     reader: &mut Reader,
     writer: &mut Writer,
     ends: bool,
 ) -> Outlook
+    requires { IsInputOf P.given input.old reader.old }
     ensures desk { IsHandedOn desk.old desk.new writer.old writer.new }
     ensures reader { IsReaderKept reader.old reader.new }
-    ensures done { result.sends ≡ false → result.waits ≡ false → IsDone desk.new reader.new }
+    ensures input { IsInputKept P.given input.old input.new reader.new }
+    ensures done { result.sends ≡ false → result.waits ≡ false → IsDone P.given desk.new input.new reader.new }
 {
     drop_unseen(desk, own, writer);
     let left = lines_left(desk, writer);
     own.pace.note(left);
-    cut_if_failed(threads, desk, own, reader);
+    let came = input.look(threads, reader);
+    cut_if_failed(threads, desk, own, came);
     cut_if_stalled(desk, own, ends);
     reader.rests = is_to_rest(desk, own);
-    outlook_of(desk, own, reader, left)
+    outlook_of(desk, own, reader, came, left)
 }
 
 /// Whether a desk isn't to be read for now.
@@ -135,9 +151,9 @@ fn is_to_rest(desk: &Desk, own: &DeskThreads) -> bool {
     desk.waiting.len() > 0 && !own.pace.is_stalled()
 }
 
-/// What is still to come of a desk to which so many lines are on their way.
-fn outlook_of(desk: &Desk, own: &DeskThreads, reader: &Reader, left: usize) -> Outlook
-    ensures sends { result.sends ≡ false → desk.now.waiting.is_cut ≡ false → reader.now.has_ended ≡ true }
+/// What is still to come of a desk to which so many lines are on their way, and whose input came so far.
+fn outlook_of(desk: &Desk, own: &DeskThreads, reader: &Reader, came: Came, left: usize) -> Outlook
+    ensures sends { result.sends ≡ false → desk.now.waiting.is_cut ≡ false → (reader.now.has_ended ≡ true) × (came ≡ Whole) }
     ensures waits { result.waits ≡ false → desk.now.waiting.is_cut ≡ false → left ≡ 0 }
 {
     if desk.is_cut() {
@@ -145,7 +161,7 @@ fn outlook_of(desk: &Desk, own: &DeskThreads, reader: &Reader, left: usize) -> O
     }
     let waits = left > 0;
     Outlook {
-        sends: !reader.has_ended,
+        sends: !(reader.has_ended && came.is_whole()),
         waits,
         goes: waits && !own.pace.is_stalled(),
     }

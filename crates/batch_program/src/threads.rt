@@ -73,7 +73,7 @@ impl<R: Threads> DeskRunner for ThreadsOf<'_, R> {
             times,
         };
         let pipes = FilePipes::new(self.clock, desks.desks.len());
-        serve_desks(
+        let end = serve_desks(
             self.threads,
             alloc,
             &pipes,
@@ -85,6 +85,7 @@ impl<R: Threads> DeskRunner for ThreadsOf<'_, R> {
             output,
             errors,
             &mut pipes.rest(),
-        )
+        )?;
+        Ok(end.unfinished)
     }
 }

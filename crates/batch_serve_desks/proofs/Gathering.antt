@@ -3,10 +3,11 @@ use Rattle.std.proofs.Common.{◌≡◌, ◌≢◌, ◌<◌, ◌≤◌, ◌+◌,
 use Rattle.std.proofs.lemmas.Bool.{cases_lt, ne_eqb}
 use Rattle.std.proofs.lemmas.Grind.{flat_map-append}
 use Rattle.std.proofs.lemmas.List.{get_or_default}
+use Rattle.std.proofs.lemmas.List.Elements.{All-push}
 use Rattle.std.specs.List.{list_any}
-use Rattle.rtrb.specs.Ring.{received}
+use Rattle.rtrb.specs.Ring.{SameConsumer, received}
 use Rattle.batch_serve_desks.specs.Rounds.{IsGathered, IsHandedOn, LinesGoOn, is_end, text_of_one, text_sent}
-use Rattle.batch_serve_desks.specs.Runs.{Run, own_text}
+use Rattle.batch_serve_desks.specs.Runs.{AreOfDesks, Run, own_text}
 use Rattle.batch_serve_desks.specs.Turns.{IsSameBut}
 use Rattle.batch_serve_desks.specs.declared.desk.Desk.{Desk}
 use Rattle.batch_serve_desks.specs.declared.desk_server.DeskServer.{DeskServer}
@@ -19,6 +20,10 @@ own_other desk other group text apart =
     flat_map-append (λ (run : Run). cond (eqb run.desk other) run.text []) group (record { desk = desk; text = text } ∷ [])
     ∙ ap (λ b. own_text other group ++ (cond b text [] ++ [])) (ne_eqb desk other (λ same. apart (sym same)))
     ∙ append-nil (own_text other group)
+
+-- it is of one of the desks
+pub of_desks_more : (count desk : ℕ) (group : List Run) (text : List ℕ) → desk < count → AreOfDesks count group → AreOfDesks count (group ++ record { desk = desk; text = text } ∷ [])
+of_desks_more count desk group text within of = All-push (λ (run : Run). run.desk < count) group (record { desk = desk; text = text }) of within
 
 -- what stands in a list where one more was set, and what stood there before
 pub was_here : {T : Type 0} (first now : List T) (i : ℕ) (old other : T) → i < length now → old ≡ get_or now i old → get_or now i other ≡ get_or first i other → get_or first i other ≡ old
@@ -64,6 +69,23 @@ gathered_more desks first now i old new start before after within is came others
           ends = ap (λ (r : Reader). r.has_ended) (get_or-set_other now i k new reader apart) ∙ g.ends;
         }
     go (inr le) = here (omega arith)
+
+-- one reader more has the end of the same ring
+pub rings_more : (first now : List Reader) (i : ℕ) (old new : Reader) → i < length now → old ≡ get_or now i old → SameConsumer old.ring new.ring
+    → ((k : ℕ) (reader : Reader) → k < i → SameConsumer (get_or first k reader).ring (get_or now k reader).ring)
+    → ((k : ℕ) (reader : Reader) → i ≤ k → get_or now k reader ≡ get_or first k reader)
+    → (k : ℕ) (reader : Reader) → k < i + 1 → SameConsumer (get_or first k reader).ring (get_or (set now i new) k reader).ring
+rings_more first now i old new within is same so_far rest k reader below = go (cases_lt k i)
+  where
+    go : (k < i) ⊎ (i ≤ k) → SameConsumer (get_or first k reader).ring (get_or (set now i new) k reader).ring
+    go (inl lt) =
+        let apart : k ≢ i = omega arith in
+        subst (λ (r : Reader). SameConsumer (get_or first k reader).ring r.ring) (sym (get_or-set_other now i k new reader apart)) (so_far k reader lt)
+    go (inr le) =
+        let at : k ≡ i = omega arith in
+        subst (λ (r : Reader). SameConsumer r.ring (get_or (set now i new) k reader).ring)
+        (sym (ap (λ n. get_or first n reader) at ∙ was_here first now i old reader within is (rest i reader (omega arith))))
+        (subst (λ (r : Reader). SameConsumer old.ring r.ring) (sym (ap (λ n. get_or (set now i new) n reader) at ∙ get_or-set_same now i new reader within)) same)
 
 -- and those of the others are as they were
 pub own_behind : (i : ℕ) (start before after : List Run) → ((k : ℕ) → (k ≡ i → ⊥) → own_text k after ≡ own_text k before)

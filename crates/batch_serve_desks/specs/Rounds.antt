@@ -1,8 +1,8 @@
 -- surface: what came through the rings of desks, and what went into them.
 use Rattle.std.specs.Prelude.{◌≡◌, ℕ, ◌<◌, Bool, true, false, ◌||◌, List, [], ◌++◌, length, get_or, flat_map}
 use Rattle.std.specs.List.{list_any}
-use Rattle.rtrb.specs.Ring.{received, sent}
-use Rattle.batch_serve_desks.specs.Runs.{Run, own_text}
+use Rattle.rtrb.specs.Ring.{SameConsumer, received, sent}
+use Rattle.batch_serve_desks.specs.Runs.{AreOfDesks, Run, own_text}
 use Rattle.batch_serve_desks.specs.Waits.{IsAccount}
 use Rattle.batch_serve_desks.specs.declared.desk.Desk.{Desk}
 use Rattle.batch_serve_desks.specs.declared.desk_server.DeskServer.{DeskServer}
@@ -37,9 +37,15 @@ pub record IsGathered (desk : ℕ) (before after : Reader) (old new : List Run) 
   pub own : own_text desk new ≡ own_text desk old ++ text_sent more
   pub ends : after.has_ended ≡ (before.has_ended || list_any is_end more)
 
+-- the readers have the ends of the same rings
+abbrev pub AreSameReaders : List Reader → List Reader → Type 0
+AreSameReaders old new = (desk : ℕ) (reader : Reader) → desk < length old → SameConsumer (get_or old desk reader).ring (get_or new desk reader).ring
+
 -- so it is of each desk that isn't cut
 pub record AreGathered (desks : List Desk) (old new : List Reader) (before after : List Run) : Type 0 where
   pub count : length new ≡ length old
+  pub rings : AreSameReaders old new
+  pub of_desks : AreOfDesks (length desks) before → AreOfDesks (length desks) after
   pub each : (desk : ℕ) (reader : Reader) (other : Desk) → desk < length old → (get_or desks desk other).waiting.is_cut ≡ false
       → IsGathered desk (get_or old desk reader) (get_or new desk reader) before after
 

@@ -1,5 +1,6 @@
 -- trusted: runs of lines that one desk sent, or of answers to them, as a text, and what of them is a desk's.
-use Rattle.std.specs.Prelude.{ℕ, Bool, false, ◌==◌, List, [], ◌∷◌, ◌++◌, filter, flat_map, get_or, Option, Some, None, cond, codes}
+use Rattle.std.specs.Prelude.{ℕ, ◌<◌, Bool, false, ◌==◌, List, [], ◌∷◌, ◌++◌, filter, flat_map, get_or, Option, Some, None, cond, codes}
+use Rattle.std.specs.List.{All}
 use Rattle.batch_wire.specs.Transcript.{whole_lines}
 use Rattle.batch_serve_desks.specs.Dues.{is_due}
 
@@ -33,3 +34,7 @@ due_of desk unit runs = flat_map (λ (run : Run). filter (is_due (run.desk == de
 -- the text of its own lines
 abbrev pub own_text : ℕ → List Run → List ℕ
 own_text desk runs = flat_map (λ (run : Run). cond (run.desk == desk) run.text []) runs
+
+-- each is of one of so many desks
+abbrev pub AreOfDesks : ℕ → List Run → Type 0
+AreOfDesks count runs = All (λ (run : Run). run.desk < count) runs

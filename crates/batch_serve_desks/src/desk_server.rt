@@ -1,7 +1,7 @@
 //! Several desks over one machine.
 ghost use Rattle.std.specs.Prelude.{◌≡◌, ◌<◌, ℕ, [], length, get_or, true, false, OnOk, OnErr, IsErrOf, IsFalse, IsTrue};
 ghost use Rattle.std.specs.Io.KnownBytes.{Appends, Keeps};
-ghost use Rattle.batch_serve_desks.specs.Runs.{own_text, runs_text};
+ghost use Rattle.batch_serve_desks.specs.Runs.{AreOfDesks, own_text, runs_text};
 ghost use Rattle.batch_serve_desks.specs.Served.{AreWhole, ShowNoWant};
 ghost use Rattle.batch_serve_desks.specs.Turns.{IsSameBut, IsTurned, MayBeKept, with_run};
 ghost use Rattle.batch_serve_desks.specs.declared.desk.Desk.{Desk as OneDesk};
@@ -57,7 +57,7 @@ impl DeskServer {
     /// Has whole lines of a desk wait to be served in the next turn. Of a desk that is cut they are dropped.
     ///
     /// The error is that there is no memory for one run more. Then nothing is taken.
-    #[tactic(auto, using(crate::proofs::Gathering::own_other))]
+    #[tactic(auto, using(crate::proofs::Gathering::own_other, crate::proofs::Gathering::of_desks_more))]
     pub fn take(&mut self, desk: usize, lines: Vec<u8>) -> Result<(), AllocError>
         requires { desk < length self.old.desks.items }
         ensures taken { OnOk result ((other : OneDesk) → (get_or self.old.desks.items desk other).waiting.is_cut ≡ false
@@ -65,6 +65,7 @@ impl DeskServer {
         ensures cut { (other : OneDesk) → (get_or self.old.desks.items desk other).waiting.is_cut ≡ true → self.new.group.items ≡ self.old.group.items }
         ensures untaken { OnErr result (self.new.group.items ≡ self.old.group.items) }
         ensures others { (other : ℕ) → (other ≡ desk → ⊥) → own_text other self.new.group.items ≡ own_text other self.old.group.items }
+        ensures of_desks { AreOfDesks (length self.old.desks.items) self.old.group.items → AreOfDesks (length self.old.desks.items) self.new.group.items }
         ensures same { IsSameBut self.old self.new }
     {
         if lines.is_empty() || self.desks[desk].is_cut() {

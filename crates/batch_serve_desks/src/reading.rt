@@ -1,6 +1,6 @@
 //! The reader of a desk: the lines of its input go into a ring.
 ghost use Rattle.std.specs.Prelude.{◌≡◌, ◌<◌, ◌++◌, ◌∷◌, [], length, true, false};
-ghost use Rattle.rtrb.specs.Ring.{known_free, sent};
+ghost use Rattle.rtrb.specs.Ring.{SameProducer, known_free, sent};
 ghost use Rattle.batch_serve_desks.specs.Threads.{IsRead, ReadsNext};
 ghost use Rattle.batch_serve_desks.specs.Pieces.{HasGot};
 
@@ -34,7 +34,8 @@ pub fn read_lines<R: Read, P: Pause>(
     pause: &mut P,
 ) -> bool
     requires { 0 < length room.old }
-    ensures { IsRead result (R.remaining input.old) (R.remaining input.new) (sent ring.old) (sent ring.new) }
+    ensures read { IsRead result (R.remaining input.old) (R.remaining input.new) (sent ring.old) (sent ring.new) }
+    ensures ring { SameProducer ring.old ring.new }
 {
     for _ in 0..u64::MAX {
         if let Some(ended) = read_next(alloc, input, room, ring, pause) {
@@ -54,7 +55,8 @@ fn read_next<R: Read, P: Pause>(
     pause: &mut P,
 ) -> Option<bool>
     requires { 0 < length room.old }
-    ensures { ReadsNext result (R.remaining input.old) (R.remaining input.new) (sent ring.old) (sent ring.new) }
+    ensures read { ReadsNext result (R.remaining input.old) (R.remaining input.new) (sent ring.old) (sent ring.new) }
+    ensures ring { SameProducer ring.old ring.new }
 {
     if pause.is_over() {
         return Some(false);
@@ -90,6 +92,7 @@ fn read_once<R: Read>(alloc: Global, input: &mut R, room: &mut [u8]) -> Got
 
 /// Puts an item into the ring, once there is place. It answers false where the other end is gone, or the pause told it to end.
 fn hand_over<P: Pause>(ring: &mut Producer<Sent>, item: Sent, pause: &mut P) -> bool
+    ensures ring { SameProducer ring.old ring.new }
     ensures went { result ≡ true → sent ring.new ≡ sent ring.old ++ item ∷ [] }
     ensures stays { result ≡ false → sent ring.new ≡ sent ring.old }
 {
@@ -103,6 +106,7 @@ fn hand_over<P: Pause>(ring: &mut Producer<Sent>, item: Sent, pause: &mut P) -> 
 
 /// Waits until the ring has a place. It answers false where the other end is gone, or the pause told it to end.
 fn wait_for_place<P: Pause>(ring: &mut Producer<Sent>, pause: &mut P) -> bool
+    ensures ring { SameProducer ring.old ring.new }
     ensures stays { sent ring.new ≡ sent ring.old }
     ensures place { result ≡ true → 0 < known_free ring.new }
 {

@@ -2,7 +2,7 @@
 ghost use Rattle.std.specs.Prelude.{◌≡◌, ◌<◌, ◌≤◌, ℕ, length, get_or, false, IfOk, OnOk};
 ghost use Rattle.rtrb.specs.Ring.{SameConsumer, received};
 ghost use Rattle.batch_serve_desks.specs.Rounds.{AreGathered, AreHandedOn, IsGathered, IsHandedOn, IsHandedOver, IsTaken};
-ghost use Rattle.batch_serve_desks.specs.Runs.{own_text};
+ghost use Rattle.batch_serve_desks.specs.Runs.{AreOfDesks, own_text};
 ghost use Rattle.batch_serve_desks.specs.Turns.{IsSameBut};
 ghost use Rattle.batch_serve_desks.specs.declared.desk.Desk.{Desk as OneDesk};
 
@@ -89,10 +89,12 @@ impl DeskServer {
     /// Takes what came next from the reader of a desk, if it doesn't rest and anything is there.
     fn gather_one(&mut self, desk: usize, reader: &mut Reader) -> Result<(), AllocError>
         requires { desk < length self.old.desks.items }
+        ensures ring { SameConsumer reader.old.ring reader.new.ring }
         ensures same { IsSameBut self.old self.new }
         ensures gathered { OnOk result ((other : OneDesk) → (get_or self.old.desks.items desk other).waiting.is_cut ≡ false
             → IsGathered desk reader.old reader.new self.old.group.items self.new.group.items) }
         ensures others { (other : ℕ) → (other ≡ desk → ⊥) → own_text other self.new.group.items ≡ own_text other self.old.group.items }
+        ensures of_desks { AreOfDesks (length self.old.desks.items) self.old.group.items → AreOfDesks (length self.old.desks.items) self.new.group.items }
     {
         if reader.rests {
             return Ok(());
@@ -110,6 +112,7 @@ impl DeskServer {
         ensures taken { IfOk result (λ ended. (other : OneDesk) → (get_or self.old.desks.items desk other).waiting.is_cut ≡ false
             → IsTaken desk (received ring.old) (received ring.new) ended self.old.group.items self.new.group.items) }
         ensures others { (other : ℕ) → (other ≡ desk → ⊥) → own_text other self.new.group.items ≡ own_text other self.old.group.items }
+        ensures of_desks { AreOfDesks (length self.old.desks.items) self.old.group.items → AreOfDesks (length self.old.desks.items) self.new.group.items }
     {
         match ring.pop() {
             Ok(Sent::Lines(lines)) => {

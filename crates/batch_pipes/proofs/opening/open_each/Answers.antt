@@ -1,6 +1,8 @@
 use Rattle.std.proofs.Common.{◌≡◌, ◌∷◌, [], length, sym, ap, subst, ◌∙◌, append_assoc, append-nil, arith}
 use Rattle.std.specs.Vec.Iter.{into_iter_items}
+use Rattle.batch_pipes.specs.Inputs.{AreInputsOpened}
 use Rattle.batch_pipes.specs.Opened.{IsOpened}
+use Rattle.batch_pipes.proofs.InputsKept.{inputs_more}
 use Rattle.batch_pipes.proofs.RingsMade.{nothing_left, opened_more, ports_more}
 use Rattle.batch_pipes.proofs.opening.open_each.Goals as goal
 
@@ -13,8 +15,10 @@ loop-desk-preserved g c =
     record {
       left = append_assoc at.yielded (desk ∷ []) _ ∙ rw (← steps) so_far.left;
       count = (let was = so_far.count in let gone = c.in-Some.ensures.steps.1 in let short = ap length steps in omega arith);
-      ports = ports_more desk.name at.server c.open_desk.new.server at.ports c.open_desk.new.ports c.in_ok-open_desk.ensures so_far.ports;
-      opened = opened_more c.args.server.now.engine at.yielded desk at.server c.open_desk.new.server at.ports c.open_desk.new.ports so_far.ports so_far.opened c.in_ok-open_desk.ensures;
+      ports = ports_more desk.name at.server c.open_desk.new.server at.ports c.open_desk.new.ports c.in_ok-open_desk.ensures.desk so_far.ports;
+      opened = opened_more c.args.server.now.engine at.yielded desk at.server c.open_desk.new.server at.ports c.open_desk.new.ports so_far.ports so_far.opened c.in_ok-open_desk.ensures.desk;
+      inputs = inputs_more g.P.Pipes.given at.yielded desk at.inputs.items c.open_desk.new.inputs.items at.ports.readers.items c.open_desk.new.ports.readers.items so_far.inputs
+          c.in_ok-open_desk.ensures.input;
     }
 
 pub returns-clause-opened : goal.returns-clause-opened
@@ -24,3 +28,11 @@ returns-clause-opened g c =
     let empty : into_iter_items at.desk-iterator ≡ [] = nothing_left _ (sym at.invariant.count ∙ none.0) in
     let all = sym (append-nil at.yielded) ∙ rw empty at at.invariant.left ∙ c.into_iter-desk-iterator.ensures.into_iter_gives.0 in
     subst (λ l. IsOpened c.args.server.now.engine l at.server at.ports) all at.invariant.opened
+
+pub returns-clause-inputs : goal.returns-clause-inputs
+returns-clause-inputs g c =
+    let at = c.loop-desk in
+    let none = c.in-None.ensures.steps in
+    let empty : into_iter_items at.desk-iterator ≡ [] = nothing_left _ (sym at.invariant.count ∙ none.0) in
+    let all = sym (append-nil at.yielded) ∙ rw empty at at.invariant.left ∙ c.into_iter-desk-iterator.ensures.into_iter_gives.0 in
+    subst (λ l. AreInputsOpened g.P.Pipes.given l at.inputs.items at.ports.readers.items) all at.invariant.inputs

@@ -14,3 +14,6 @@ returns-clause-service g c = λ ports begun again s.
     service_turned g.K.Keep.is_safe c.args.keep.now c.turn.new.keep c.args.timing.now.times begun (g.K.Keep.kept c.args.keep.now) (g.K.Keep.kept c.turn.new.keep)
     (g.W.Write.contents c.args.output.now) (g.W.Write.contents c.write_time.new.output) (g.W.Write.contents c.turn.new.output) comment c.args.server.now c.turn.new.self ports
     c.turn.ensures.stays turned is_time written s
+
+pub returns-clause-group : goal.returns-clause-group
+returns-clause-group g c = c.in_ok-turn.ensures.turned.group

@@ -1,4 +1,4 @@
-use Rattle.std.proofs.Common.{ap, arith, length, refl}
+use Rattle.std.proofs.Common.{ap, arith, length, refl, ◌∙◌}
 use Rattle.batch_pipes.proofs.Keeping.{readers_as_they_are}
 use Rattle.batch_pipes.proofs.Serviced.{service_gathered, service_handed}
 use Rattle.batch_pipes.specs.declared.ports.Ports.{Ports}
@@ -31,3 +31,9 @@ returns-clause-service g c = λ begun again s.
       threads = omega (arith, c.requires.threads, c.in_ok-serves.ensures.count, ap length c.gather.ensures.same.desks);
     })
     served
+
+pub returns-clause-readers : goal.returns-clause-readers
+returns-clause-readers g c = c.in_ok-gather.ensures.gathered.rings
+
+pub returns-clause-group : goal.returns-clause-group
+returns-clause-group g c = c.hand_on.ensures.group ∙ c.in_ok-serves.ensures.group

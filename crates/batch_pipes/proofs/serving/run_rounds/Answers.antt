@@ -1,12 +1,16 @@
+use Rattle.std.proofs.Common.{◌∙◌}
+use Rattle.batch_pipes.proofs.InputsKept.{inputs_as_they_are, inputs_on, inputs_twice}
 use Rattle.batch_pipes.proofs.Serviced.{service_handed}
 use Rattle.batch_pipes.proofs.serving.run_rounds.Goals as goal
 
 pub loop-init : goal.loop-init
-loop-init g c = record { ports = c.requires; goes = λ begun again s. s }
+loop-init g c = record { ports = c.requires.ports; inputs = inputs_as_they_are g.P.Pipes.given c.args.inputs.now.items c.args.ports.now.readers.items c.requires.inputs; goes = λ begun again s. s }
 
 pub loop-preserved : goal.loop-preserved
 loop-preserved g c = record {
   ports = c.tend_desks-outlook.ensures.ports;
+  inputs = inputs_twice g.P.Pipes.given c.args.inputs.now.items c.loop.inputs.items c.tend_desks-outlook.new.inputs.items c.loop.ports.readers.items c.tend_desks-outlook.new.ports.readers.items
+      c.loop.invariant.inputs c.tend_desks-outlook.ensures.inputs;
   goes = λ begun again s.
       service_handed g.K.Keep.is_safe c.serve_round.new.keep c.args.timing.now.times begun (g.K.Keep.kept c.serve_round.new.keep) (g.W.Write.contents c.serve_round.new.output)
       c.serve_round.new.server c.tend_desks-outlook.new.server c.serve_round.new.ports c.tend_desks-outlook.new.ports c.tend_desks-outlook.ensures.desks c.tend_desks-outlook.ensures.readers
@@ -23,3 +27,15 @@ returns-then-is_over-clause-service g c = λ begun again s.
     service_handed g.K.Keep.is_safe c.serve_round.new.keep c.args.timing.now.times begun (g.K.Keep.kept c.serve_round.new.keep) (g.W.Write.contents c.serve_round.new.output)
     c.serve_round.new.server c.tend_desks-outlook.new.server c.serve_round.new.ports c.tend_desks-outlook.new.ports c.tend_desks-outlook.ensures.desks c.tend_desks-outlook.ensures.readers
     c.in_ok-serves.ensures.ports (c.in_ok-serves.ensures.service begun again (c.loop.invariant.goes begun again s))
+
+pub tend_desks-outlook-requires-clause-inputs : goal.tend_desks-outlook-requires-clause-inputs
+tend_desks-outlook-requires-clause-inputs g c =
+    inputs_on g.P.Pipes.given c.loop.inputs.items c.loop.ports.readers.items c.serve_round.new.ports.readers.items c.in_ok-serves.ensures.count c.in_ok-serves.ensures.readers c.loop.invariant.inputs.of
+
+pub returns-then-is_over-clause-inputs : goal.returns-then-is_over-clause-inputs
+returns-then-is_over-clause-inputs g c =
+    inputs_twice g.P.Pipes.given c.args.inputs.now.items c.loop.inputs.items c.tend_desks-outlook.new.inputs.items c.loop.ports.readers.items c.tend_desks-outlook.new.ports.readers.items
+    c.loop.invariant.inputs c.tend_desks-outlook.ensures.inputs
+
+pub returns-then-is_over-clause-group : goal.returns-then-is_over-clause-group
+returns-then-is_over-clause-group g c = c.tend_desks-outlook.ensures.desks.group ∙ c.in_ok-serves.ensures.group

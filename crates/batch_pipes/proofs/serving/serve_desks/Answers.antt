@@ -1,11 +1,14 @@
 use Rattle.std.proofs.Common.{refl}
-use Rattle.batch_pipes.proofs.Serviced.{service_begins, service_ends}
+use Rattle.batch_pipes.proofs.Serviced.{desks_end, service_begins}
 use Rattle.batch_pipes.proofs.serving.serve_desks.Goals as goal
 
 pub returns : goal.returns
 returns g c =
     let opened = c.in_ok-server.ensures in
+    let ran = c.in_ok-run_rounds.ensures in
     let is_safe = g.K.Keep.is_safe in
     let times = c.args.timing.now.times in
-    service_ends is_safe c.run_rounds.new.keep times _ (g.K.Keep.kept c.run_rounds.new.keep) (g.W.Write.contents c.run_rounds.new.output) c.run_rounds.new.server c.run_rounds.new.ports
-    (c.in_ok-run_rounds.ensures.service _ refl (service_begins is_safe c.args.keep.now times _ c.args.engine c.args.desks.desks.items c.in_ok-server.server c.in_ok-server.ports refl refl refl opened.ports opened.opened))
+    desks_end is_safe c.run_rounds.new.keep times _ g.P.Pipes.given c.args.desks.desks.items (g.K.Keep.kept c.run_rounds.new.keep) (g.W.Write.contents c.run_rounds.new.output) c.run_rounds.new.server
+    c.run_rounds.new.ports c.in_ok-server.inputs.items c.run_rounds.new.inputs.items c.in_ok-server.ports.readers.items
+    (ran.service _ refl (service_begins is_safe c.args.keep.now times _ c.args.engine c.args.desks.desks.items c.in_ok-server.server c.in_ok-server.ports refl refl refl opened.ports opened.opened))
+    ran.group ran.ports opened.inputs ran.inputs ran.done

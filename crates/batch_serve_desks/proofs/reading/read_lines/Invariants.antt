@@ -1,7 +1,10 @@
-use Rattle.rtrb.specs.Ring.{sent}
+use Rattle.rtrb.specs.Ring.{SameProducer, sent}
 use Rattle.batch_serve_desks.specs.Threads.{ReadsOn}
 use Rattle.batch_serve_desks.proofs.reading.read_lines.Given as goal
 
 -- all that was read so far was handed over
 abbrev pub invariant-loop : goal.invariant-loop
-invariant-loop g l = ReadsOn (g.R.Read.remaining l.initial.input) (g.R.Read.remaining l.input) (sent l.initial.ring) (sent l.ring)
+invariant-loop g l = record {
+  read : ReadsOn (g.R.Read.remaining l.initial.input) (g.R.Read.remaining l.input) (sent l.initial.ring) (sent l.ring);
+  ring : SameProducer l.initial.ring l.ring;
+}

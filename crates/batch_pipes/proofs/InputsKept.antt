@@ -1,0 +1,280 @@
+-- Inputs that are handed over through the rings of their readers.
+use Rattle.std.proofs.Common.{◌≡◌, ◌≢◌, ◌<◌, ◌≤◌, ◌+◌, ◌⊎◌, ℕ, zero, suc, Bool, true, List, [], ◌∷◌, ◌++◌, length, get_or, set, Option, Some, None, IfSome, is_none, option_map, string_bytes, refl, sym, ap, subst, arith, inl, inr, append-nil, get_or-set_other, get_or-set_same, length-set, ◌∙◌}
+use Rattle.std.proofs.lemmas.Bool.{cases_lt}
+use Rattle.std.proofs.lemmas.List.{get_or_default}
+use Rattle.std.proofs.lemmas.Option.{IfSome_then}
+use Rattle.rtrb.specs.Ends.{SameRing}
+use Rattle.rtrb.specs.Ring.{IsPair, SameConsumer, SameProducer, received, sent}
+use Rattle.rtrb.specs.declared.end.End.{End}
+use Rattle.batch_desks.specs.declared.desk.Desk as plans
+use Rattle.batch_wire.specs.Transcript.{lines_of}
+use Rattle.batch_serve.specs.CleanLines.{clean_lines}
+use Rattle.batch_serve_desks.specs.Rounds.{AreSameReaders, text_sent}
+use Rattle.batch_serve_desks.specs.declared.rounds.Reader.{Reader}
+use Rattle.batch_serve_desks.specs.declared.rounds.Sent.{Sent}
+use Rattle.batch_pipes.specs.Ended.{given_by}
+use Rattle.batch_pipes.specs.InputEnds.{AreItemsOf, IsInputRun}
+use Rattle.batch_pipes.specs.Inputs.{AreInputsKept, AreInputsOf, AreInputsOpened, HasAllCome, IsEndKept, IsEndOf, IsInputAdded, IsInputKept, IsInputOf, IsTaskOf, bytes_of, path_of}
+use Rattle.batch_pipes.specs.Streams.{HandsOver}
+use Rattle.batch_pipes.specs.declared.input.Input.{Input}
+use Rattle.batch_pipes.specs.declared.input.InputChild.{InputChild}
+use Rattle.batch_pipes.specs.declared.reading.InputEnd.{InputEnd}
+use Rattle.batch_pipes.specs.declared.reading.InputTask.{InputTask}
+
+-- Rings
+
+module _ {T A P : Type 0} where
+  ring_on : (a b d : End T A P) → SameRing a b → SameRing b d → SameRing a d
+  ring_on a b d one other =
+      let (w, s, n, h) = one in
+      let (x, t, m, i) = other in
+      (x ∙ w, t ∙ s, m ∙ n, i ∙ h)
+
+  ring_back : (a b : End T A P) → SameRing a b → SameRing b a
+  ring_back a b same =
+      let (w, s, n, h) = same in
+      (sym w, sym s, sym n, sym h)
+
+  -- both ends may have moved on
+  pair_on : (p q a b : End T A P) → SameRing p q → SameRing a b → SameRing p a → SameRing q b
+  pair_on p q a b one other pair = ring_on q p b (ring_back p q one) (ring_on p a b pair other)
+
+  same_ring : (a : End T A P) → SameRing a a
+  same_ring a = (refl, refl, refl, refl)
+
+-- One input
+
+task_on : (path : Option (List ℕ)) (task : InputTask) (a b : Reader) → SameConsumer a.ring b.ring → IsTaskOf path task a → IsTaskOf path task b
+task_on path task a b same of =
+    record { is_path = of.is_path; pair = pair_on task.ring.end task.ring.end a.ring.end b.ring.end (same_ring task.ring.end) same.0 of.pair; new = of.new }
+
+pub end_on : (input : Option (List ℕ)) (old new : InputEnd) (a b : Reader) → IsEndKept old new → SameConsumer a.ring b.ring → IsEndOf input old a → IsEndOf input new b
+end_on input old new a b kept same of = record {
+  pair = pair_on old.ring.end new.ring.end a.ring.end b.ring.end kept.ring.0 same.0 of.pair;
+  items = subst (λ (l : List Sent). AreItemsOf (is_none new.fault) input l) (sym kept.went)
+      (subst (λ f. AreItemsOf (is_none f) input (sent old.ring)) (sym kept.fault) of.items);
+}
+
+end_as_it_is : (end : InputEnd) → IsEndKept end end
+end_as_it_is end = record { ring = (same_ring end.ring.end, refl); went = refl; fault = refl }
+
+-- nothing is taken from the reader
+pub input_on : {P : Type 0} (given : List ℕ → Option (List ℕ)) (i : Input P) (a b : Reader) → SameConsumer a.ring b.ring → IsInputOf given i a → IsInputOf given i b
+input_on given i a b same of = record {
+  thread = IfSome_then i.child of.thread (λ child h. task_on (path_of i) child.handle.promise.task.value a b same h);
+  ended = IfSome_then i.end of.ended (λ end h. end_on (bytes_of given i) end end a b (end_as_it_is end) same h);
+}
+
+items_of : (ended : Bool) (input : Option (List ℕ)) (before after : List Sent) → before ≡ [] → HandsOver ended input before after → AreItemsOf ended input after
+items_of ended input before after new handed = λ bytes known.
+    subst (λ (l : List Sent). (rest : List ℕ) × (clean_lines (lines_of bytes) ≡ text_sent l ++ rest) × (ended ≡ true → rest ≡ []))
+    (sym (handed.went ∙ ap (λ l. l ++ handed.items) new)) (handed.begun bytes known)
+
+-- what a joined thread gives back is the end of the same ring
+pub end_of_task : (given : List ℕ → Option (List ℕ)) (path : Option (List ℕ)) (task : InputTask) (end : InputEnd) (reader : Reader) → IsTaskOf path task reader
+    → IsInputRun (given (string_bytes task.path)) task end → IsEndOf (given_by given path) end reader
+end_of_task given path task end reader of run = record {
+  pair = pair_on task.ring.end end.ring.end reader.ring.end reader.ring.end run.ring.0 (same_ring reader.ring.end) of.pair;
+  items = subst (λ (input : Option (List ℕ)). AreItemsOf (is_none end.fault) input (sent end.ring)) (sym (ap (given_by given) of.is_path))
+      (items_of (is_none end.fault) (given (string_bytes task.path)) (sent task.ring) (sent end.ring) of.new run.handed);
+}
+
+-- what it gives back
+pub input_run : (input : Option (List ℕ)) (task : InputTask) (end : InputEnd) (ended : Bool) → SameProducer task.ring end.ring → HandsOver ended input (sent task.ring) (sent end.ring)
+    → is_none end.fault ≡ ended → IsInputRun input task end
+input_run input task end ended ring handed well =
+    record { ring = ring; handed = subst (λ b. HandsOver b input (sent task.ring) (sent end.ring)) (sym well) handed }
+
+-- a thread that is joined
+pub input_joined : {P : Type 0} (given : List ℕ → Option (List ℕ)) (i : Input P) (child : InputChild P) (end : InputEnd) (reader : Reader) → IsInputOf given i reader → i.child ≡ Some child
+    → IsInputRun (given (string_bytes child.handle.promise.task.value.path)) child.handle.promise.task.value end
+    → IsInputKept given i (record i { child = None; end = Some end }) reader
+input_joined {P} given i child end reader of is run = record {
+  of = record {
+    thread = tt;
+    ended = end_of_task given (path_of i) child.handle.promise.task.value end reader
+        (subst (λ (o : Option (InputChild P)). IfSome o (λ other. IsTaskOf (path_of i) other.handle.promise.task.value reader)) is of.thread) run;
+  };
+  path = refl;
+}
+
+pub input_as_it_is : {P : Type 0} (given : List ℕ → Option (List ℕ)) (i : Input P) (reader : Reader) → IsInputOf given i reader → IsInputKept given i i reader
+input_as_it_is given i reader of = record { of = of; path = refl }
+
+-- its thread's end was looked at
+pub input_looked : {P : Type 0} (given : List ℕ → Option (List ℕ)) (old mid : Input P) (end after : InputEnd) (a b : Reader) → IsInputKept given old mid a → mid.end ≡ Some end
+    → IsEndKept end after → SameConsumer a.ring b.ring → IsInputKept given old (record mid { end = Some after }) b
+input_looked {P} given old mid end after a b kept is end_kept same = record {
+  of = record {
+    thread = (input_on given mid a b same kept.of).thread;
+    ended = end_on (bytes_of given mid) end after a b end_kept same (subst (λ (o : Option InputEnd). IfSome o (λ other. IsEndOf (bytes_of given mid) other a)) is kept.of.ended);
+  };
+  path = kept.path;
+}
+
+-- nothing is left in the ring
+pub all_taken : (came known went : List Sent) → length known ≡ 0 → came ++ known ≡ went → came ≡ went
+all_taken came [] went none fifo = sym (append-nil came) ∙ fifo
+all_taken came (x ∷ known) went none fifo = absurd (omega (arith, none))
+
+-- then it is all that the input gave, where its thread ended well
+pub has_all_come : {P : Type 0} (given : List ℕ → Option (List ℕ)) (i : Input P) (end : InputEnd) (reader : Reader) → IsEndOf (bytes_of given i) end reader
+    → end.fault ≡ None → received reader.ring ≡ sent end.ring → HasAllCome given i reader
+has_all_come given i end reader of well same = λ bytes known.
+    let (rest, is, none) = of.items bytes known in
+    ap text_sent same ∙ sym (is ∙ ap (λ l. text_sent (sent end.ring) ++ l) (none (ap is_none well)) ∙ append-nil (text_sent (sent end.ring)))
+
+-- All inputs
+
+pub inputs_on : {P : Type 0} (given : List ℕ → Option (List ℕ)) (inputs : List (Input P)) (before after : List Reader) → length after ≡ length before
+    → AreSameReaders before after → AreInputsOf given inputs before → AreInputsOf given inputs after
+inputs_on given inputs before after count same of = record {
+  count = of.count ∙ sym count;
+  each = λ k i reader within.
+      input_on given (get_or inputs k i) (get_or before k reader) (get_or after k reader) (same k reader (omega (arith, within, of.count))) (of.each k i reader within);
+}
+
+-- what is so of each two is so where two were set
+both_set : {A B : Type 0} (R : A → B → Type 0) (xs : List A) (ys : List B) (i : ℕ) (x : A) (y : B) → i < length xs → length xs ≡ length ys → R x y
+    → ((k : ℕ) (a : A) (b : B) → k < length xs → R (get_or xs k a) (get_or ys k b))
+    → (k : ℕ) (a : A) (b : B) → k < length xs → R (get_or (set xs i x) k a) (get_or (set ys i y) k b)
+both_set R xs ys i x y within count here all k a b below = go (cases_lt k i)
+  where
+    apart_so : k ≢ i → R (get_or (set xs i x) k a) (get_or (set ys i y) k b)
+    apart_so apart =
+        subst (λ u. R u (get_or (set ys i y) k b)) (sym (get_or-set_other xs i k x a apart))
+        (subst (λ v. R (get_or xs k a) v) (sym (get_or-set_other ys i k y b apart)) (all k a b below))
+
+    at_so : k ≡ i → R (get_or (set xs i x) k a) (get_or (set ys i y) k b)
+    at_so at =
+        subst (λ u. R u (get_or (set ys i y) k b)) (sym (ap (λ n. get_or (set xs i x) n a) at ∙ get_or-set_same xs i x a within))
+        (subst (λ v. R x v) (sym (ap (λ n. get_or (set ys i y) n b) at ∙ get_or-set_same ys i y b (omega (arith, within, count)))) here)
+
+    either : (i < k) ⊎ (k ≤ i) → i ≤ k → R (get_or (set xs i x) k a) (get_or (set ys i y) k b)
+    either (inl lt) le = apart_so (omega arith)
+    either (inr ge) le = at_so (omega arith)
+
+    go : (k < i) ⊎ (i ≤ k) → R (get_or (set xs i x) k a) (get_or (set ys i y) k b)
+    go (inl lt) = apart_so (omega arith)
+    go (inr le) = either (cases_lt i k) le
+
+-- an input beside its reader
+pub input_here : {P : Type 0} (given : List ℕ → Option (List ℕ)) (inputs : List (Input P)) (readers : List Reader) (i : ℕ) (input : Input P) (reader : Reader) → i < length inputs
+    → input ≡ get_or inputs i input → reader ≡ get_or readers i reader → AreInputsOf given inputs readers → IsInputOf given input reader
+input_here {P} given inputs readers i input reader within is at of =
+    subst (λ (x : Input P). IsInputOf given x reader) (sym is) (subst (λ (r : Reader). IsInputOf given (get_or inputs i input) r) (sym at) (of.each i input reader within))
+
+-- one input was looked after
+pub inputs_set : {P : Type 0} (given : List ℕ → Option (List ℕ)) (inputs : List (Input P)) (readers : List Reader) (i : ℕ) (input : Input P) (reader : Reader) → i < length inputs
+    → IsInputOf given input reader → AreInputsOf given inputs readers → AreInputsOf given (set inputs i input) (set readers i reader)
+inputs_set {P} given inputs readers i input reader within here of = record {
+  count = omega (arith, of.count, length-set {A = Input P}, length-set {A = Reader});
+  each = λ k other read below.
+      both_set (λ (x : Input P) (y : Reader). IsInputOf given x y) inputs readers i input reader within of.count here of.each k other read (omega (arith, below, length-set {A = Input P}));
+}
+
+pub paths_set : {P : Type 0} (first now : List (Input P)) (i : ℕ) (old new : Input P) → i < length now → length now ≡ length first → old ≡ get_or now i old → path_of new ≡ path_of old
+    → ((k : ℕ) (other : Input P) → k < length first → path_of (get_or now k other) ≡ path_of (get_or first k other))
+    → (k : ℕ) (other : Input P) → k < length first → path_of (get_or (set now i new) k other) ≡ path_of (get_or first k other)
+paths_set first now i old new within count is same paths k other below = go (cases_lt k i)
+  where
+    apart_so : k ≢ i → path_of (get_or (set now i new) k other) ≡ path_of (get_or first k other)
+    apart_so apart = ap path_of (get_or-set_other now i k new other apart) ∙ paths k other below
+
+    in_place : get_or now i old ≡ get_or now i other
+    in_place = get_or_default now i old other within
+
+    at_so : k ≡ i → path_of (get_or (set now i new) k other) ≡ path_of (get_or first k other)
+    at_so at =
+        ap path_of (ap (λ n. get_or (set now i new) n other) at ∙ get_or-set_same now i new other within) ∙ same ∙ ap path_of (is ∙ in_place) ∙ ap (λ n. path_of (get_or now n other)) (sym at)
+        ∙ paths k other below
+
+    either : (i < k) ⊎ (k ≤ i) → i ≤ k → path_of (get_or (set now i new) k other) ≡ path_of (get_or first k other)
+    either (inl lt) le = apart_so (omega arith)
+    either (inr ge) le = at_so (omega arith)
+
+    go : (k < i) ⊎ (i ≤ k) → path_of (get_or (set now i new) k other) ≡ path_of (get_or first k other)
+    go (inl lt) = apart_so (omega arith)
+    go (inr le) = either (cases_lt i k) le
+
+pub inputs_as_they_are : {P : Type 0} (given : List ℕ → Option (List ℕ)) (inputs : List (Input P)) (readers : List Reader) → AreInputsOf given inputs readers
+    → AreInputsKept given inputs inputs readers
+inputs_as_they_are given inputs readers of = record { of = of; count = refl; paths = λ k i within. refl }
+
+pub inputs_twice : {P : Type 0} (given : List ℕ → Option (List ℕ)) (a b d : List (Input P)) (x y : List Reader) → AreInputsKept given a b x → AreInputsKept given b d y → AreInputsKept given a d y
+inputs_twice given a b d x y one other = record {
+  of = other.of;
+  count = other.count ∙ one.count;
+  paths = λ k i within. other.paths k i (omega (arith, within, one.count)) ∙ one.paths k i within;
+}
+
+-- Opening
+
+length_more : {T : Type 0} (xs : List T) (y : T) → length (xs ++ y ∷ []) ≡ length xs + 1
+length_more [] y = omega arith
+length_more (x ∷ xs) y = omega (arith, length_more xs y)
+
+-- what is so of each two is so where two more stand behind them
+both_more : {A B : Type 0} (R : A → B → Type 0) (xs : List A) (ys : List B) (x : A) (y : B) → length xs ≡ length ys → R x y
+    → ((k : ℕ) (a : A) (b : B) → k < length xs → R (get_or xs k a) (get_or ys k b))
+    → (k : ℕ) (a : A) (b : B) → k < length xs + 1 → R (get_or (xs ++ x ∷ []) k a) (get_or (ys ++ y ∷ []) k b)
+both_more R [] [] x y count last all zero a b below = last
+both_more R [] [] x y count last all (suc k) a b below = absurd (omega (arith, below))
+both_more R [] (v ∷ ys) x y count last all k a b below = absurd (omega (arith, count))
+both_more R (u ∷ xs) [] x y count last all k a b below = absurd (omega (arith, count))
+both_more R (u ∷ xs) (v ∷ ys) x y count last all zero a b below = all 0 a b (omega arith)
+both_more R (u ∷ xs) (v ∷ ys) x y count last all (suc k) a b below =
+    both_more R xs ys x y (omega (arith, count)) last (λ j p q lt. all (suc j) p q (omega (arith, lt))) k a b (omega (arith, below))
+
+pub inputs_more : {P : Type 0} (given : List ℕ → Option (List ℕ)) (desks : List plans.Desk) (desk : plans.Desk) (old new : List (Input P)) (before after : List Reader)
+    → AreInputsOpened given desks old before → IsInputAdded given (option_map string_bytes desk.input) old new before after → AreInputsOpened given (desks ++ desk ∷ []) new after
+inputs_more {P} given desks desk old new before after opened added = record {
+  of = record {
+    count = omega (arith, opened.of.count, more, ap length added.readers, length_more before added.reader);
+    each = λ k i reader below.
+        subst (λ (l : List (Input P)). IsInputOf given (get_or l k i) (get_or after k reader)) (sym added.inputs)
+        (subst (λ (l : List Reader). IsInputOf given (get_or (old ++ added.input ∷ []) k i) (get_or l k reader)) (sym added.readers)
+        (both_more (λ (x : Input P) (y : Reader). IsInputOf given x y) old before added.input added.reader opened.of.count added.of opened.of.each k i reader (omega (arith, below, more))));
+  };
+  count = omega (arith, opened.count, more, length_more desks desk);
+  paths = λ k i other below.
+      subst (λ (l : List (Input P)). path_of (get_or l k i) ≡ option_map string_bytes (get_or (desks ++ desk ∷ []) k other).input) (sym added.inputs)
+      (both_more (λ (x : Input P) (y : plans.Desk). path_of x ≡ option_map string_bytes y.input) old desks added.input desk opened.count added.is_path
+      (λ j p q lt. opened.paths j p q (omega (arith, lt, opened.count))) k i other (omega (arith, below, opened.count, length_more desks desk)));
+}
+  where
+    more : length new ≡ length old + 1
+    more = ap length added.inputs ∙ length_more old added.input
+
+-- no input of no desk
+pub inputs_none : {P : Type 0} (given : List ℕ → Option (List ℕ)) (inputs : List (Input P)) (readers : List Reader) → inputs ≡ [] → readers ≡ [] → AreInputsOpened given [] inputs readers
+inputs_none given inputs readers none nobody = record {
+  of = record { count = ap length none ∙ sym (ap length nobody); each = λ k i reader below. absurd (omega (arith, below, ap length none)) };
+  count = ap length none;
+  paths = λ k i desk below. absurd (omega (arith, below));
+}
+
+-- an input whose thread was started
+pub input_started : {P : Type 0} (given : List ℕ → Option (List ℕ)) (i : Input P) (task : InputTask) (reader : Reader)
+    → IfSome i.child (λ child. child.handle.promise.task.value ≡ task) → i.end ≡ None → path_of i ≡ Some (string_bytes task.path) → sent task.ring ≡ []
+    → IsPair task.ring reader.ring → IsInputOf given i reader
+input_started given i task reader child end path new pair = record {
+  thread = IfSome_then i.child child (λ child is. subst (λ (t : InputTask). IsTaskOf (path_of i) t reader) (sym is) (record { is_path = path; pair = pair; new = new }));
+  ended = subst (λ (e : Option InputEnd). IfSome e (λ end. IsEndOf (bytes_of given i) end reader)) (sym end) tt;
+}
+
+-- one of a desk that has none
+pub input_missing : {P : Type 0} (given : List ℕ → Option (List ℕ)) (i : Input P) (end : InputEnd) (reader : Reader) → i.child ≡ None → i.end ≡ Some end → path_of i ≡ None
+    → sent end.ring ≡ [] → IsPair end.ring reader.ring → IsInputOf given i reader
+input_missing {P} given i end reader child is path new pair = record {
+  thread = subst (λ c. IfSome c (λ child. IsTaskOf (path_of i) child.handle.promise.task.value reader)) (sym child) tt;
+  ended = subst (λ (e : Option InputEnd). IfSome e (λ end. IsEndOf (bytes_of given i) end reader)) (sym is) (record { pair = pair; items = nothing });
+}
+  where
+    some_same : {x y : List ℕ} → Some x ≡ Some y → x ≡ y
+    some_same same = cc
+
+    nothing : AreItemsOf (is_none end.fault) (bytes_of given i) (sent end.ring)
+    nothing = λ bytes known.
+        let none : bytes ≡ [] = some_same (sym known ∙ ap (given_by given) path) in
+        ([], ap (λ b. clean_lines (lines_of b)) none ∙ sym (append-nil (text_sent (sent end.ring)) ∙ ap text_sent new), λ t. refl)
