@@ -1,5 +1,5 @@
 -- How many asks of a batch stand in each line: as many as its acts that wait for the resource.
-use Rattle.std.proofs.Common.{◌≡◌, ◌⊎◌, ◌<◌, ◌≤◌, ◌+◌, ◌&&◌, refl, sym, ◌∙◌, ap, subst, subst₂, ℕ, zero, suc, List, [], ◌∷◌, Bool, true, false, Option, Some, None, inl, inr, ⊎_elim, arith, cond, length, filter, map, get_or, replicate, set, nat_eq, nat_lt}
+use Rattle.std.proofs.Common.{◌≡◌, ◌⊎◌, ◌<◌, ◌≤◌, ◌+◌, ◌&&◌, refl, sym, ◌∙◌, ap, subst, subst₂, ℕ, zero, suc, List, [], ◌∷◌, Bool, true, false, Option, Some, inl, inr, ⊎_elim, arith, cond, length, filter, map, get_or, replicate, set, nat_eq, nat_lt}
 use Rattle.std.specs.Prelude.{slice_get, slice_index}
 use Rattle.std.proofs.lemmas.Bool.{and_parts, cases_eq}
 use Rattle.std.proofs.lemmas.Bool.Decides.{nat_tests}
@@ -8,7 +8,7 @@ use Rattle.std.proofs.lemmas.List.{get_or-set_same, get_or-set_other, length-rep
 use Rattle.std.proofs.lemmas.Option.{slice_get-get_or, get_or_from_slice_get}
 use Rattle.batch_cell.proofs.Resources.{few_resources}
 use Rattle.batch_recipe.specs.Conditions.{Name}
-use Rattle.batch_recipe.specs.Tree.{Place, Step, Task, Tree}
+use Rattle.batch_recipe.specs.Tree.{Step, Task, Tree}
 use Rattle.batch_recipe.specs.declared.need.Need.{Need}
 use Rattle.batch_machine.proofs.Batches.{one_batch}
 use Rattle.batch_model.specs.Lists.{Has}
@@ -17,12 +17,12 @@ use Rattle.batch_model.specs.Plant.{BatchAct, Share}
 use Rattle.batch_model.specs.Rest.{asking, acts}
 use Rattle.batch_laws.proofs.Entries.{IsOnce}
 use Rattle.batch_arbiter.specs.Allocation.{AsksAtMost, Claim, asks_of, is_claim, is_of_batch, line_of, resource_count}
-use Rattle.batch_chart.specs.NodesOf.{need_at, no_need, place_at, step_at, task_at}
+use Rattle.batch_chart.specs.NodesOf.{need_at, no_need, place_at}
 use Rattle.batch_chart.specs.Charts.{remains}
 use Rattle.batch_chart.proofs.ActsOf.{asking-at}
 use Rattle.batch_engine.specs.declared.batch.Batch.{Batch}
 use Rattle.batch_engine.specs.Kept.{IsKept}
-use Rattle.batch_engine.specs.View.{EngineView, act_of, acts_of, batch_of, line_at, names_of, number_of, plant_of, share_of, tree_of}
+use Rattle.batch_engine.specs.View.{EngineView, act_of, batch_of, line_at, names_of, number_of, plant_of, share_of, tree_of}
 use Rattle.batch_engine.proofs.BatchPlaces.{Has-batch_of}
 use Rattle.batch_engine.proofs.Cells.{length-capacities}
 use Rattle.batch_engine.proofs.Finding.{Has-shares, asks_here, batch-runs, claim-act, has, known-resource, same-need, tree-placed}
