@@ -7,6 +7,7 @@ use Rattle.std.proofs.lemmas.Slice.Eq.{bytes_eq-Decides}
 use Rattle.std.proofs.lemmas.List.Sums.{position_or_len_is}
 use Rattle.std.proofs.lemmas.Map.Made.{AllPairs-from_IsDistinct}
 use Rattle.batch_cell.specs.Equipment.{is_free}
+use Rattle.batch_cell.proofs.Resources.{few_resources}
 use Rattle.batch_cell.specs.LookUps.{resources_of}
 use Rattle.batch_cell.specs.declared.cell.Cell.{Cell}
 use Rattle.batch_recipe.specs.Conditions.{Name, same_name}
@@ -43,6 +44,10 @@ module _ {X K : Type 0} (f : X → K) (p : X → Bool) (bs : List K) where
   unfolding IsDistinct
   IsDistinct-thin e [] xs h = IsDistinct-thin_front e xs h
   IsDistinct-thin e (a ∷ front) xs h = (AllByRecursion-thin (λ y. e a y ≡ false) front xs h.0, IsDistinct-thin e front xs h.1)
+
+-- a cell has few resources
+pub resources_few : (c : Cell) → length (resources_of c) < 385
+resources_few c = omega (arith, c.few_units, c.few_modules, c.few_shared, few_resources c.units.items c.modules.items c.shared.items)
 
 -- the resources of a cell have different names
 pub resources_distinct : (c : Cell) → IsDistinct same_name (resources_of c)

@@ -26,21 +26,21 @@ is_pair-other e i j h = grind (arith, eqb-true)
 
 -- the table says which pairs have an edge
 abbrev IsExact : ℕ → List Bool → List Edge → Type 0
-IsExact count known edges = (i j : ℕ) → i < count → j < count → get_or known (i * count + j) false ≡ has_pair edges i j
+IsExact count known edges = (i j : ℕ) → i < count → j < count → get_or known (j * count + i) false ≡ has_pair edges i j
 
 pub pushed-exact : (count : ℕ) (known : List Bool) (edges : List Edge) (e : Edge) → e.earlier < count → e.later < count → length known ≡ count * count
-    → IsExact count known edges → IsExact count (set known (e.earlier * count + e.later) true) (edges ++ e ∷ [])
+    → IsExact count known edges → IsExact count (set known (e.later * count + e.earlier) true) (edges ++ e ∷ [])
 pushed-exact count known edges e in_earlier in_later sized exact i j in_i in_j =
-    let within : e.earlier * count + e.later < length known = rw sized (mul-add-lt e.earlier count e.later count in_earlier in_later) in
-    elim (cases_eq (i * count + j) (e.earlier * count + e.later)) [
+    let within : e.later * count + e.earlier < length known = rw sized (mul-add-lt e.later count e.earlier count in_later in_earlier) in
+    elim (cases_eq (j * count + i) (e.later * count + e.earlier)) [
       | inl same ↦
-          let first : i ≡ e.earlier = sym (div-mul-add i count j in_j) ∙ (ap (λ n. n / count) same ∙ div-mul-add e.earlier count e.later in_later) in
-          let rows : i * count ≡ e.earlier * count = ap (λ n. n * count) first in
-          let second : j ≡ e.later = omega (arith, same, rows) in
-          let new : has_pair (edges ++ e ∷ []) i j ≡ true = has_pair-push edges e i j ∙ or_right (has_pair edges i j) (is_pair e i j) (is_pair-own e i j (sym first) (sym second)) in
-          (ap (λ n. get_or (set known (e.earlier * count + e.later) true) n false) same ∙ get_or-set_same known (e.earlier * count + e.later) true false within) ∙ sym new
+          let first : j ≡ e.later = sym (div-mul-add j count i in_i) ∙ (ap (λ n. n / count) same ∙ div-mul-add e.later count e.earlier in_earlier) in
+          let rows : j * count ≡ e.later * count = ap (λ n. n * count) first in
+          let second : i ≡ e.earlier = omega (arith, same, rows) in
+          let new : has_pair (edges ++ e ∷ []) i j ≡ true = has_pair-push edges e i j ∙ or_right (has_pair edges i j) (is_pair e i j) (is_pair-own e i j (sym second) (sym first)) in
+          (ap (λ n. get_or (set known (e.later * count + e.earlier) true) n false) same ∙ get_or-set_same known (e.later * count + e.earlier) true false within) ∙ sym new
       | inr ne ↦
-          let other : is_pair e i j ≡ false = is_pair-other e i j (λ p q. ne (ap (λ n. n * count + j) (sym p) ∙ ap (λ n. e.earlier * count + n) (sym q))) in
-          get_or-set_other known (e.earlier * count + e.later) (i * count + j) true false ne
+          let other : is_pair e i j ≡ false = is_pair-other e i j (λ p q. ne (ap (λ n. n * count + i) (sym q) ∙ ap (λ n. e.later * count + n) (sym p))) in
+          get_or-set_other known (e.later * count + e.earlier) (j * count + i) true false ne
           ∙ (exact i j in_i in_j ∙ (or_none (has_pair edges i j) (is_pair e i j) other ∙ sym (has_pair-push edges e i j)))
     ]

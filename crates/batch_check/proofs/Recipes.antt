@@ -1,13 +1,12 @@
 -- The edges of recipes, one recipe after another.
-use Rattle.std.proofs.Common.{◌≡◌, ℕ, ◌+◌, ◌<◌, ◌≤◌, ◌⊎◌, inl, inr, refl, ⊎_elim, List, [], ◌∷◌, ◌++◌, get_or, take, length, slice_get, IsTrue, Option, Some, None, option_map, All, sym, ap, ◌∙◌, subst}
+use Rattle.std.proofs.Common.{◌≡◌, ℕ, ◌+◌, ◌<◌, ◌≤◌, ◌⊎◌, inl, inr, refl, List, [], ◌∷◌, ◌++◌, get_or, take, length, slice_get, IsTrue, Option, Some, None, option_map, All, sym, ap, ◌∙◌, subst, arith}
 use Rattle.std.specs.List.{Contains}
 use Rattle.std.proofs.lemmas.List.{take_all, take_more}
 use Rattle.std.proofs.lemmas.List.Elements.{All-weaker, All-contains, Contains-get_or}
-use Rattle.std.proofs.lemmas.Option.{slice_get_within, slice_get-get_or, slice_get-map}
+use Rattle.std.proofs.lemmas.Option.{same_Some, slice_get_within, slice_get-get_or, slice_get-map}
 use Rattle.batch_cell.specs.LookUps.{resources_of}
 use Rattle.batch_cell.specs.declared.cell.Cell.{Cell}
 use Rattle.batch_recipe.specs.Conditions.{Name}
-use Rattle.batch_recipe.specs.Nodes.{Node}
 use Rattle.batch_recipe.specs.Procedure.{bound_nodes}
 use Rattle.batch_recipe.specs.declared.recipe.Recipe.{Recipe}
 use Rattle.batch_model.specs.Lists.{Each, Has}
@@ -15,18 +14,21 @@ use Rattle.batch_model.proofs.Members.{Each-append, Each-map, Has-split}
 use Rattle.batch_check.specs.declared.edge.Edge.{Edge}
 use Rattle.batch_check.specs.declared.edge_set.EdgeSet.{EdgeSet}
 use Rattle.batch_verify.proofs.Tried.{taken-tried}
-use Rattle.batch_check.specs.Takings.{IsShownBy, bound_by, number_for}
+use Rattle.batch_check.specs.Takings.{IsShownBy, number_for}
+use Rattle.batch_check.specs.declared.site.Site.{Site}
 use Rattle.batch_check.specs.declared.taking.Taking.{Taking}
 use Rattle.batch_check.specs.Edges.{OfNodes, Stands, Covers, CoversRecipes, AreEdgesOf, has_pair, number_of_resource, numbers_of_resources}
 use Rattle.batch_check.specs.LeastRanking.{HasEndsBelow}
 use Rattle.batch_check.specs.Pairs.{Keeps}
 use Rattle.batch_check.specs.Joining.{Grows, HasTaken}
-use Rattle.batch_check.specs.Collecting.{AreAdded, HasAllPairs, IsCollected, IsAdded, PairsAll, PairsRecipe}
+use Rattle.batch_check.specs.Collecting.{AreAdded, AreOfRoles, AreTakenIn, AreTakenOn, HasAllPairs, HasTakenBy, IsCollected, IsAdded, IsTakenAs, PairsAll, PairsRecipe}
+use Rattle.batch_check.specs.Sites.{bound_on, nodes_on, resource_count, resource_on, units_on}
 use Rattle.batch_check.proofs.Asking.{Follows-keeps}
 use Rattle.batch_check.proofs.Bound.{follows_shown, paired_shown}
 use Rattle.batch_check.proofs.Joins.{Contains-none, Grows-same, Grows-twice}
 use Rattle.batch_check.proofs.Names.{number_of_own}
 use Rattle.batch_check.proofs.Rising.{Each-get}
+use Rattle.batch_check.proofs.Roles.{resource_for-below}
 
 covers_more : (cell : Cell) (old new : List Edge) → Keeps old new → (recipes : List Recipe) → CoversRecipes cell recipes old → CoversRecipes cell recipes new
 covers_more cell old new keeps [] h = tt
@@ -120,68 +122,109 @@ module _ (cell : Cell) (recipes : List Recipe) where
 
 -- One recipe, binding by binding
 
--- the nodes of the recipe where these candidates take its roles
-abbrev nodes_by : Cell → Recipe → Taking → List Node
-nodes_by cell recipe taking = bound_nodes (bound_by cell recipe.roles.items taking) recipe.acts
-
-pub record KeepsBindings (cell : Cell) (kept : Option (List (Option ℕ))) (recipe : Recipe) (number : ℕ) (takings : List Taking) (old set : EdgeSet) (index : ℕ) : Type 0 where
+-- so far: the edges between resources are there, and all that were collected as they are in the first bindings
+pub record KeepsBindings (site : Site) (number : ℕ) (collected : List Edge) (takings : List Taking) (old set : EdgeSet) (index : ℕ) : Type 0 where
   pub grown : Grows old set
-  pub standing : (all : List Recipe) → slice_get all number ≡ Some recipe → (edge : Edge) → Contains set.edges.items edge → Contains old.edges.items edge ⊎ Stands cell all edge
-  pub covering : (final : List Edge) → Keeps set.edges.items final → (t : Taking) → Has (take index takings) t → Each (Covers cell final) (nodes_by cell recipe t)
-  pub pairing : kept ≡ Some [] → (final : List Edge) → Keeps set.edges.items final → (t : Taking) → Has (take index takings) t → Each (PairsAll cell final) (nodes_by cell recipe t)
+  pub standing : (all : List Recipe) → slice_get all number ≡ Some site.recipe.now → (edge : Edge) → Contains set.edges.items edge → Contains old.edges.items edge ⊎ Stands site.cell.now all edge
+  pub between : (edge : Edge) → Contains collected edge → edge.earlier < resource_count site → edge.later < resource_count site → IsTrue (has_pair set.edges.items edge.earlier edge.later)
+  pub taken : (t : Taking) → Has (take index takings) t → AreTakenOn site t collected set.edges.items
 
-module _ (cell : Cell) (kept : Option (List (Option ℕ))) (recipe : Recipe) (number : ℕ) (takings : List Taking) (old : EdgeSet) where
-  pub KeepsBindings-first : KeepsBindings cell kept recipe number takings old old 0
-  KeepsBindings-first = record {
-    grown = Grows-same old;
-    standing = λ all found edge stands. inl stands;
-    covering = λ final later t among. absurd among;
-    pairing = λ whole final later t among. absurd among;
+module _ (site : Site) (kept : Option (List (Option ℕ))) (number : ℕ) (collected : List Edge) (takings : List Taking) (old : EdgeSet)
+    (sized : old.count ≡ resource_count site) (is_collected : IsCollected site kept number collected) where
+  abbrev cell : Cell
+  cell = site.cell.now
+
+  abbrev recipe : Recipe
+  recipe = site.recipe.now
+
+  -- what was added as it is in one binding stands
+  stands_then : (some : List Edge) → ((edge : Edge) → Contains some edge → Contains collected edge) → (t : Taking) (set new : EdgeSet) → set.count ≡ resource_count site
+      → HasTakenBy (units_on site t) some set new → (all : List Recipe) → slice_get all number ≡ Some recipe → (edge : Edge) → Contains new.edges.items edge
+      → Contains set.edges.items edge ⊎ Stands cell all edge
+  stands_then some among t set new count_is has all found edge stands = elim (has.only edge stands) [
+    | inl known ↦ inl known
+    | inr taken ↦
+        let from : Edge = taken.0 in
+        let on = is_collected.standing from (among from taken.1) in
+        let is = subst (λ count. IsTakenAs count (units_on site t) from edge) count_is taken.2 in
+        let here = on.asked t edge.earlier edge.later is.earlier_is is.later_is in
+        inr (record {
+          recipe = recipe;
+          found = ap (slice_get all) (is.recipe_is ∙ on.recipe_is) ∙ found;
+          bound = bound_on site t;
+          tried = taken-tried cell (recipe ∷ []) recipe recipe.own_roles (number_for t);
+          node = here.node;
+          numbered = ap (slice_get (nodes_on site t)) is.node_is ∙ here.numbered;
+          asked = here.asked;
+        })
+  ]
+
+  pub KeepsBindings-first : (t : Taking) (set : EdgeSet) → HasTakenBy (units_on site t) collected old set → KeepsBindings site number collected takings old set 0
+  KeepsBindings-first t set has = record {
+    grown = has.grown;
+    standing = stands_then collected (λ edge in'. in') t old set sized has;
+    between = λ edge in' low high.
+        has.taken edge edge.earlier edge.later in'
+        (resource_for-below old.count (units_on site t) edge.earlier (omega (arith, low, sized)))
+        (resource_for-below old.count (units_on site t) edge.later (omega (arith, high, sized)));
+    taken = λ other among. absurd among;
   }
 
-  pub KeepsBindings-more : (set new : EdgeSet) (index : ℕ) (taking : Taking) → index < length takings → taking ≡ get_or takings index taking → KeepsBindings cell kept recipe number takings old set index
-      → IsCollected cell kept number (nodes_by cell recipe taking) set new → KeepsBindings cell kept recipe number takings old new (index + 1)
-  KeepsBindings-more set new index taking in' is h collected = record {
-    grown = Grows-twice old set new h.grown collected.grown;
-    standing = λ all found edge stands. elim (collected.standing edge stands) [
-      | inl known ↦ h.standing all found edge known
-      | inr here ↦ inr (record {
-        recipe = recipe;
-        found = ap (slice_get all) here.recipe_is ∙ found;
-        bound = bound_by cell recipe.roles.items taking;
-        tried = taken-tried cell (recipe ∷ []) recipe recipe.own_roles (number_for taking);
-        node = here.node;
-        numbered = here.numbered;
-        asked = here.asked;
-      })
-    ];
-    covering = λ final later t among. so_far (Covers cell final) t
-        (λ before. h.covering final (λ i j known. later i j (collected.grown.kept i j known)) t before)
-        (collected.covering final later) among;
-    pairing = λ whole final later t among. so_far (PairsAll cell final) t
-        (λ before. h.pairing whole final (λ i j known. later i j (collected.grown.kept i j known)) t before)
-        (collected.pairing whole final later) among;
-  }
-    where
-      more : take (index + 1) takings ≡ take index takings ++ taking ∷ []
-      more = take_more takings index taking in' ∙ ap (λ (t : Taking). take index takings ++ t ∷ []) (sym is)
+  module _ (of_roles : List Edge) (are_of_roles : AreOfRoles (resource_count site) collected of_roles) where
+    pub KeepsBindings-more : (set new : EdgeSet) (index : ℕ) (taking : Taking) → index < length takings → taking ≡ get_or takings index taking
+        → KeepsBindings site number collected takings old set index → HasTakenBy (units_on site taking) of_roles set new
+        → KeepsBindings site number collected takings old new (index + 1)
+    KeepsBindings-more set new index taking in' is h has = record {
+      grown = Grows-twice old set new h.grown has.grown;
+      standing = λ all found edge stands. elim (stands_then of_roles are_of_roles.among taking set new count_is has all found edge stands) [
+        | inl known ↦ h.standing all found edge known
+        | inr here ↦ inr here
+      ];
+      between = λ edge among low high. has.grown.kept edge.earlier edge.later (h.between edge among low high);
+      taken = λ t among edge i j stands earlier_is later_is. elim (Has-split (take index takings) (taking ∷ []) t (subst (λ ts. Has ts t) more among)) [
+        | inl before ↦ has.grown.kept i j (h.taken t before edge i j stands earlier_is later_is)
+        | inr last ↦ taken_now edge i j stands t (only_one t last) earlier_is later_is
+      ];
+    }
+      where
+        count_is : set.count ≡ resource_count site
+        count_is = h.grown.same_count ∙ sized
 
-      so_far : (P : Node → Type 0) (t : Taking) → (Has (take index takings) t → Each P (nodes_by cell recipe t)) → Each P (nodes_by cell recipe taking) → Has (take (index + 1) takings) t
-          → Each P (nodes_by cell recipe t)
-      so_far P t f here among =
-          ⊎_elim f (λ m. ⊎_elim (λ e. subst (λ (z : Taking). Each P (nodes_by cell recipe z)) e here) (λ e. absurd e) m)
-          (Has-split (take index takings) (taking ∷ []) t (subst (λ ts. Has ts t) more among))
+        more : take (index + 1) takings ≡ take index takings ++ taking ∷ []
+        more = take_more takings index taking in' ∙ ap (λ (t : Taking). take index takings ++ t ∷ []) (sym is)
 
-  pub added_all : (set : EdgeSet) (index : ℕ) → IsShownBy cell recipe takings → length takings ≤ index → KeepsBindings cell kept recipe number takings old set index
+        only_one : (t : Taking) → Has (taking ∷ []) t → taking ≡ t
+        only_one t (inl same) = same
+        only_one t (inr none) = absurd none
+
+        -- an edge between resources was there before
+        taken_now : (edge : Edge) (i j : ℕ) → Contains collected edge → (t : Taking) → taking ≡ t → resource_on site t edge.earlier ≡ Some i → resource_on site t edge.later ≡ Some j
+            → IsTrue (has_pair new.edges.items i j)
+        taken_now edge i j stands t same earlier_is later_is = elim (are_of_roles.rest edge stands) [
+          | inl of_role ↦
+              let all : AreTakenIn (resource_count site) (units_on site taking) of_roles new.edges.items =
+              subst (λ count. AreTakenIn count (units_on site taking) of_roles new.edges.items) count_is has.taken in
+              all edge i j of_role
+              (ap (λ (u : Taking). resource_on site u edge.earlier) same ∙ earlier_is) (ap (λ (u : Taking). resource_on site u edge.later) same ∙ later_is)
+          | inr low ↦
+              let one : edge.earlier ≡ i = same_Some edge.earlier i (sym (resource_for-below (resource_count site) (units_on site t) edge.earlier low.0) ∙ earlier_is) in
+              let other : edge.later ≡ j = same_Some edge.later j (sym (resource_for-below (resource_count site) (units_on site t) edge.later low.1) ∙ later_is) in
+              has.grown.kept i j (subst (λ n. IsTrue (has_pair set.edges.items i n)) other (subst (λ n. IsTrue (has_pair set.edges.items n edge.later)) one (h.between edge stands low.0 low.1)))
+        ]
+
+  pub added_all : (set : EdgeSet) (index : ℕ) → IsShownBy cell recipe takings → length takings ≤ index → KeepsBindings site number collected takings old set index
       → (all : List Recipe) → slice_get all number ≡ Some recipe → IsAdded cell kept all recipe old set
   added_all set index shown past h all found = record {
     grown = h.grown;
     standing = h.standing all found;
     covering = λ final later bound tried.
-        follows_shown cell recipe takings shown (recipe ∷ []) bound tried final (λ t among. h.covering final later t (subst (λ ts. Has ts t) (sym whole) among));
+        follows_shown cell recipe takings shown (recipe ∷ []) bound tried final (λ t among. is_collected.covering t final (taken_later t among final later));
     pairing = λ kept_is final later bound tried.
-        paired_shown cell recipe takings shown (recipe ∷ []) bound tried final (λ t among. h.pairing kept_is final later t (subst (λ ts. Has ts t) (sym whole) among));
+        paired_shown cell recipe takings shown (recipe ∷ []) bound tried final (λ t among. is_collected.pairing kept_is t final (taken_later t among final later));
   }
     where
       whole : take index takings ≡ takings
       whole = take_all index takings past
+
+      taken_later : (t : Taking) → Has takings t → (final : List Edge) → Keeps set.edges.items final → AreTakenOn site t collected final
+      taken_later t among final later = λ edge i j stands earlier_is later_is. later i j (h.taken t (subst (λ ts. Has ts t) (sym whole) among) edge i j stands earlier_is later_is)

@@ -16,6 +16,10 @@ use Rattle.batch_check.specs.declared.path.Reach.TheVariants.{Next, Whole}
 use Rattle.batch_check.specs.Edges.{AsksByNumber, CoversRecipes, OfNodes, Stands, has_pair, numbers_of_resources, Follows, Covers}
 use Rattle.batch_check.specs.Joining.{AreBelow, Grows, items_in, needs_in}
 use Rattle.batch_check.specs.Pairs.{ArePaired, Keeps}
+use Rattle.batch_check.specs.Sites.{nodes_on, resource_count, resource_on, units_on}
+use Rattle.batch_check.specs.Takings.{resource_for}
+use Rattle.batch_check.specs.declared.site.Site.{Site}
+use Rattle.batch_check.specs.declared.taking.Taking.{Taking}
 
 -- The needs that a path keeps
 
@@ -96,24 +100,57 @@ with_joined joined _ = joined
 
 -- Nodes
 
--- the edge stands at one of these nodes of the recipe with this number
-pub record StandsAmong (cell : Cell) (recipe : ℕ) (nodes : List Node) (edge : Edge) : Type 0 where
-  pub recipe_is : edge.recipe ≡ recipe
+-- the node with this number asks for the one resource after the other
+pub record IsAskedAt (cell : Cell) (nodes : List Node) (number earlier later : ℕ) : Type 0 where
   pub node : Node
-  pub numbered : slice_get nodes edge.node ≡ Some node
-  pub asked : AsksByNumber cell node edge.earlier edge.later
+  pub numbered : slice_get nodes number ≡ Some node
+  pub asked : AsksByNumber cell node earlier later
 
 -- each two resources on the node's path are an edge
 abbrev pub PairsAll : Cell → List Edge → Node → Type 0
 PairsAll cell edges node = ArePaired edges (numbers_of_resources cell node.asked)
 
--- the edges of these nodes were collected: each new edge stands at one of them, and whatever edges come later, the nodes are
--- covered, and their needs paired where needs are kept
-pub record IsCollected (cell : Cell) (kept : Option (List (Option ℕ))) (recipe : ℕ) (nodes : List Node) (old new : EdgeSet) : Type 0 where
+-- Edges between resources and roles
+
+-- the edge is this other one, where these units take the roles
+pub record IsTakenAs (count : ℕ) (units : List (Option ℕ)) (edge taken : Edge) : Type 0 where
+  pub recipe_is : taken.recipe ≡ edge.recipe
+  pub node_is : taken.node ≡ edge.node
+  pub earlier_is : resource_for count units edge.earlier ≡ Some taken.earlier
+  pub later_is : resource_for count units edge.later ≡ Some taken.later
+
+-- these edges are among the others then
+abbrev pub AreTakenIn : ℕ → List (Option ℕ) → List Edge → List Edge → Type 0
+AreTakenIn count units edges others = (edge : Edge) (earlier later : ℕ) → Contains edges edge
+    → resource_for count units edge.earlier ≡ Some earlier → resource_for count units edge.later ≡ Some later → IsTrue (has_pair others earlier later)
+
+-- they were added as they are then
+pub record HasTakenBy (units : List (Option ℕ)) (edges : List Edge) (old new : EdgeSet) : Type 0 where
   pub grown : Grows old new
-  pub standing : (edge : Edge) → Contains new.edges.items edge → Contains old.edges.items edge ⊎ StandsAmong cell recipe nodes edge
-  pub covering : (final : List Edge) → Keeps new.edges.items final → Each (Covers cell final) nodes
-  pub pairing : kept ≡ Some [] → (final : List Edge) → Keeps new.edges.items final → Each (PairsAll cell final) nodes
+  pub taken : AreTakenIn old.count units edges new.edges.items
+  pub only : (edge : Edge) → Contains new.edges.items edge → Contains old.edges.items edge ⊎ ((from : Edge) × Contains edges from × IsTakenAs old.count units from edge)
+
+-- the edges that lead to or from a role: the others lead from resources to resources
+pub record AreOfRoles (count : ℕ) (edges of_roles : List Edge) : Type 0 where
+  pub among : (edge : Edge) → Contains of_roles edge → Contains edges edge
+  pub rest : (edge : Edge) → Contains edges edge → Contains of_roles edge ⊎ ((edge.earlier < count) × (edge.later < count))
+
+-- they are where these candidates take the roles of the site's recipe
+abbrev pub AreTakenOn : Site → Taking → List Edge → List Edge → Type 0
+AreTakenOn site taking edges others = AreTakenIn (resource_count site) (units_on site taking) edges others
+
+-- the edge stands at a node of the recipe with this number, whatever candidates take the roles
+pub record StandsOn (site : Site) (recipe : ℕ) (edge : Edge) : Type 0 where
+  pub recipe_is : edge.recipe ≡ recipe
+  pub asked : (taking : Taking) (earlier later : ℕ) → resource_on site taking edge.earlier ≡ Some earlier → resource_on site taking edge.later ≡ Some later
+      → IsAskedAt site.cell.now (nodes_on site taking) edge.node earlier later
+
+-- the edges between resources and roles were collected: each stands at a node, and where they are among other edges, the nodes are
+-- covered, and their needs paired where needs are kept
+pub record IsCollected (site : Site) (kept : Option (List (Option ℕ))) (recipe : ℕ) (edges : List Edge) : Type 0 where
+  pub standing : (edge : Edge) → Contains edges edge → StandsOn site recipe edge
+  pub covering : (taking : Taking) (final : List Edge) → AreTakenOn site taking edges final → Each (Covers site.cell.now final) (nodes_on site taking)
+  pub pairing : kept ≡ Some [] → (taking : Taking) (final : List Edge) → AreTakenOn site taking edges final → Each (PairsAll site.cell.now final) (nodes_on site taking)
 
 -- Recipes
 

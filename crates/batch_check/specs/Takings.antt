@@ -1,7 +1,7 @@
 -- private: the bindings of roles by which edges are collected.
-use Rattle.std.specs.Prelude.{◌≡◌, ◌⊎◌, ℕ, ◌<◌, ltb, List, length, Bool, true, false, ◌||◌}
+use Rattle.std.specs.Prelude.{◌≡◌, ◌⊎◌, ℕ, ◌-◌, ◌<◌, ltb, List, map, length, Bool, true, false, ◌||◌, Option, Some, None}
 use Rattle.std.specs.Borrow.{Bor}
-use Rattle.std.specs.List.{list_any}
+use Rattle.std.specs.List.{list_any, slice_index_or}
 use Rattle.batch_cell.specs.declared.cell.Cell.{Cell}
 use Rattle.batch_recipe.specs.Conditions.{Name, same_name}
 use Rattle.batch_recipe.specs.Expanding.{Binding}
@@ -11,6 +11,7 @@ use Rattle.batch_recipe.specs.declared.recipe.Recipe.{Recipe}
 use Rattle.batch_recipe.specs.declared.role.Role.{Role}
 use Rattle.batch_model.specs.Lists.{Has}
 use Rattle.batch_verify.specs.Bindings.{binding_count, numbered}
+use Rattle.batch_check.specs.Edges.{numbers_of_resources}
 use Rattle.batch_check.specs.declared.taking.Taking.{Taking}
 use Rattle.batch_check.specs.declared.taking.Taking.TheVariants.{Alike, Apart}
 
@@ -21,6 +22,15 @@ number_for (Apart role own other) name = elim (same_name name role.now) [ true �
 
 abbrev pub bound_by : Cell → List Role → Taking → Binding
 bound_by cell roles taking name = numbered cell roles (number_for taking name) name
+
+-- of each role the number of the unit that takes it
+abbrev pub units_by : Cell → List Role → Taking → List (Option ℕ)
+units_by cell roles taking = numbers_of_resources cell (map (λ role. bound_by cell roles taking role.name) roles)
+
+-- the resource for which a number stands, where these units take the roles: so many numbers are those of the resources, and those of the
+-- roles come after them
+abbrev pub resource_for : ℕ → List (Option ℕ) → ℕ → Option ℕ
+resource_for count units number = elim (ltb number count) [ true ↦ Some number | false ↦ slice_index_or units (number - count) None ]
 
 -- the act reserves a unit procedure
 abbrev pub reserves : Act → Bool

@@ -1,22 +1,20 @@
-//! What acts ask for, by the numbers of the resources.
-ghost use Rattle.std.specs.Prelude.{◌≡◌, ℕ, map, slice_get, true, IfOk, Some};
+//! What acts ask for, by the numbers of the resources and roles.
+ghost use Rattle.std.specs.Prelude.{◌≡◌, ℕ, ◌+◌, option_map, position, slice_get, true, IfOk, Some};
 ghost use Rattle.std.specs.List.{list_all};
+ghost use Rattle.batch_recipe.specs.Conditions.{same_name};
 ghost use Rattle.batch_recipe.specs.Expanding.{unit_chosen, unit_named};
-ghost use Rattle.batch_recipe.specs.Procedure.{table_at};
 ghost use Rattle.batch_recipe.specs.declared.act.Act as act;
 ghost use Rattle.batch_verify.specs.Walking.{names_unit};
-ghost use Rattle.batch_check.specs.Edges.{number_of_resource};
-ghost use Rattle.batch_check.specs.Sites.{AreNeedsOn, bound_on, needs_at, needs_in_table, needs_of, sites_on};
-ghost use Rattle.batch_check.specs.declared.site.Site as place;
+ghost use Rattle.batch_check.specs.Sites.{AreNeedsOn, IsTableOf, StandFor, StandsForUnit, bound_on, needs_of, own_at, resource_count, sites_on, table_in};
 
 use crate::site::Site;
-use crate::taking::number_for;
-use batch_recipe::{Act, Kind, LabelTable, UnitChoice};
+use batch_recipe::{Act, Kind, LabelTable, Role, UnitChoice};
 use batch_text::Name;
-use batch_verify::{unit_reserved, unit_taking};
+use batch_verify::unit_reserved;
 use std::alloc::{AllocError, Global};
 
-/// What the acts of a recipe ask for in one binding: the numbers of the resources, in their order. Many nodes may stand for one act.
+/// What the acts of a recipe ask for, in their order: the numbers of the resources, and behind these those of the roles. Many nodes may
+/// stand for one act.
 #[derive(Drop)]
 pub(crate) struct ActNeeds {
     pub(crate) procedure: Vec<Option<u16>>,
@@ -25,26 +23,37 @@ pub(crate) struct ActNeeds {
     pub(crate) phases: Vec<Vec<Option<u16>>>,
 }
 
-/// The number of the unit that is chosen.
-fn unit_chosen(site: &Site, choice: &UnitChoice) -> Option<u16>
-    ensures { result ≡ number_of_resource site.now.cell.now (unit_chosen (bound_on site.now) choice.now) }
+/// Where the role with this name stands.
+fn place_of_role(roles: &[Role], name: &Name) -> Option<usize>
+    ensures { result ≡ position (λ role. same_name role.name name.now) roles.now }
 {
-    match choice {
-        UnitChoice::Unit(unit) => site.cell.resource_of(unit),
-        UnitChoice::Role(role) => {
-            let number = number_for(site.taking, role);
-            match unit_taking(site.cell, &site.recipe.roles, number, role) {
-                None => None,
-                Some(unit) => site.cell.resource_of(unit),
-            }
-        }
+    roles.iter().position(|role| role.name == *name)
+}
+
+/// The number of the role with this name, which comes after those of all resources.
+fn role_named(site: &Site, name: &Name) -> Option<u16>
+    ensures { result ≡ option_map (λ number. resource_count site.now + number) (position (λ role. same_name role.name name.now) site.now.recipe.now.roles.items) }
+{
+    match place_of_role(&site.recipe.roles, name) {
+        None => None,
+        Some(number) => Some(site.cell.resources() + number as u16),
     }
 }
 
-/// The number of the unit of the unit procedure with this name.
+/// The number of the unit that is chosen, or of the role that it takes.
+fn unit_chosen(site: &Site, choice: &UnitChoice) -> Option<u16>
+    ensures { StandsForUnit site.now (λ taking. unit_chosen (bound_on site.now taking) choice.now) result }
+{
+    match choice {
+        UnitChoice::Unit(unit) => site.cell.resource_of(unit),
+        UnitChoice::Role(role) => role_named(site, role),
+    }
+}
+
+/// The number of the unit of the unit procedure with this name, or of its role.
 fn unit_named(site: &Site, name: &Name) -> Option<u16>
     requires { names_unit site.now.recipe.now.acts name.now ≡ true }
-    ensures { result ≡ number_of_resource site.now.cell.now (unit_named (sites_on site.now) name.now) }
+    ensures { StandsForUnit site.now (λ taking. unit_named (sites_on site.now taking) name.now) result }
 {
     unit_chosen(site, unit_reserved(&site.recipe.acts, name))
 }
@@ -52,11 +61,12 @@ fn unit_named(site: &Site, name: &Name) -> Option<u16>
 /// What the act asks for: its unit, the units that it reserves, and its needs.
 fn needs_of(alloc: Global, site: &Site, act: &Act) -> Result<Vec<Option<u16>>, AllocError>
     requires { list_all (names_unit site.now.recipe.now.acts) act.now.reserves.items ≡ true }
-    ensures { IfOk result (λ needs. needs.items ≡ needs_of site.now act.now) }
+    ensures { IfOk result (λ needs. StandFor site.now (needs_of site.now act.now) needs.items) }
 {
     let mut needs = Vec::with_capacity(alloc, act.needs.len() + 1)?;
-    if let Some(choice) = &act.unit {
-        needs.push(unit_chosen(site, choice))?;
+    match &act.unit {
+        None => {}
+        Some(choice) => needs.push(unit_chosen(site, choice))?,
     }
     for name in &act.reserves {
         needs.push(unit_named(site, name))?;
@@ -70,7 +80,7 @@ fn needs_of(alloc: Global, site: &Site, act: &Act) -> Result<Vec<Option<u16>>, A
 /// What the acts of a table ask for, in their order.
 fn needs_in(alloc: Global, site: &Site, table: &[Act]) -> Result<Vec<Vec<Option<u16>>>, AllocError>
     requires { (number : ℕ) (a : act.Act) → slice_get table.now number ≡ Some a → list_all (names_unit site.now.recipe.now.acts) a.reserves.items ≡ true }
-    ensures { IfOk result (λ needs. needs_in_table needs.items ≡ map (needs_of site.now) table.now) }
+    ensures { IfOk result (λ needs. IsTableOf site.now table.now needs.items) }
 {
     let mut needs = Vec::with_capacity(alloc, table.len())?;
     for act in table {
@@ -96,8 +106,7 @@ impl ActNeeds {
 
     /// What the acts of the table ask for.
     fn table(&self, level: LabelTable) -> &[Vec<Option<u16>>]
-        ensures { (site : place.Site) → AreNeedsOn site self.now
-            → needs_in_table result.now ≡ map (needs_of site) (table_at site.recipe.now.acts level) }
+        ensures { result.now ≡ table_in self.now level }
     {
         match level {
             LabelTable::UnitProcedures => &self.unit_procedures,
@@ -108,7 +117,7 @@ impl ActNeeds {
 
     /// What the act at a node asks for. Where there is no act, it is nothing.
     pub(crate) fn of(&self, kind: Kind) -> &[Option<u16>]
-        ensures { (site : place.Site) → AreNeedsOn site self.now → result.now ≡ needs_at site kind }
+        ensures { result.now ≡ own_at self.now kind }
     {
         match kind {
             Kind::Procedure => &self.procedure,

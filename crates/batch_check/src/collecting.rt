@@ -1,8 +1,6 @@
 //! The edges of a recipe's nodes.
-ghost use Rattle.std.specs.Prelude.{◌≡◌, length, slice_index_or, OnOk};
-ghost use Rattle.batch_cell.specs.LookUps.{resources_of as cell_resources};
+ghost use Rattle.std.specs.Prelude.{◌≡◌, slice_index_or, IfOk};
 ghost use Rattle.batch_check.specs.Collecting.{IsCollected, is_joined, kept_at_top, with_joined};
-ghost use Rattle.batch_check.specs.Sites.{nodes_on};
 
 use crate::act_needs::ActNeeds;
 use crate::edge_set::EdgeSet;
@@ -11,17 +9,17 @@ use crate::site::Site;
 use batch_recipe::{Entry, Kind, LabelTable};
 use std::alloc::{AllocError, Global};
 
-/// Adds the edges of the nodes of the site's recipe, which has this number.
+/// The edges of the nodes of the site's recipe, which has this number, between resources and roles: the roles' numbers come after those
+/// of the resources.
 pub(crate) fn collect(
     alloc: Global,
     site: &Site,
     number: u16,
     reach: Reach,
-    edges: &mut EdgeSet,
-) -> Result<(), AllocError>
-    requires { edges.old.count ≡ length (cell_resources site.now.cell.now) }
-    ensures { OnOk result (IsCollected site.now.cell.now (kept_at_top reach) number (nodes_on site.now) edges.old edges.new) }
+) -> Result<EdgeSet, AllocError>
+    ensures { IfOk result (λ set. IsCollected site.now (kept_at_top reach) number set.edges.items) }
 {
+    let mut edges = EdgeSet::new(alloc, site.count_with_roles())?;
     let needs = ActNeeds::new(alloc, site)?;
     let top = Path::top(alloc, number, reach);
     // The path to each node so far, by number.
@@ -31,11 +29,11 @@ pub(crate) fn collect(
     for (node, entry) in site.recipe.outline.entries.iter().enumerate() {
         let above = path_above(&paths, entry, &top);
         let known = is_joined(&joined, entry.kind);
-        let path = ask_act(needs.of(entry.kind), known, above, node as u16, edges)?;
+        let path = ask_act(needs.of(entry.kind), known, above, node as u16, &mut edges)?;
         set_joined(&mut joined, entry.kind);
         paths.push(path)?;
     }
-    Ok(())
+    Ok(edges)
 }
 
 /// Whether the flag of the act is set. Only phase acts have flags: they stand at many nodes.

@@ -8,17 +8,18 @@ ghost use Rattle.batch_check.specs.declared.edge.Edge.{Edge};
 use crate::edge::Edge;
 use std::alloc::{AllocError, Global};
 
-/// Edges between the resources below a count, at most one for each pair of them, in the order in which they were added.
+/// Edges between the resources and roles below a count, at most one for each pair of them, in the order in which they were added.
 #[derive(Drop)]
 pub(crate) struct EdgeSet {
-    /// How many resources there are.
+    /// How many resources there are, and roles.
     pub(crate) count: u16,
-    /// For each earlier and each later, whether an edge leads from the one to the other.
+    /// For each later and each earlier, whether an edge leads to the one from the other. Those to one later stand side by side: many of
+    /// them are looked at together.
     pub(crate) known: Vec<bool>,
     pub(crate) edges: Vec<Edge>,
     ghost sized: { length known.items ≡ count * count },
     ghost exact: { (earlier later : ℕ) → earlier < count → later < count
-        → slice_index_or known.items (earlier * count + later) false ≡ has_pair edges.items earlier later },
+        → slice_index_or known.items (later * count + earlier) false ≡ has_pair edges.items earlier later },
 }
 
 impl EdgeSet {
@@ -44,7 +45,7 @@ impl EdgeSet {
         ensures stays { (e : Edge) → Contains self.old.edges.items e → Contains self.new.edges.items e }
         ensures only { (e : Edge) → Contains self.new.edges.items e → Contains self.old.edges.items e ⊎ (e ≡ edge) }
     {
-        let pair = usize::from(edge.earlier) * usize::from(self.count) + usize::from(edge.later);
+        let pair = usize::from(edge.later) * usize::from(self.count) + usize::from(edge.earlier);
         if !self.known[pair] {
             self.edges.push(edge)?;
             self.known[pair] = true;

@@ -2,16 +2,19 @@
 ghost use Rattle.std.specs.Prelude.{◌≡◌, ◌≤◌, List, Some, length, slice_get, IfOk, OnOk};
 ghost use Rattle.batch_cell.specs.LookUps.{resources_of};
 ghost use Rattle.batch_recipe.specs.declared.recipe.Recipe.{Recipe};
-ghost use Rattle.batch_check.specs.Collecting.{AreAdded, HasAllPairs, IsAdded, kept_at_top};
+ghost use Rattle.batch_check.specs.Collecting.{AreAdded, HasAllPairs, HasTakenBy, IsAdded, kept_at_top};
 ghost use Rattle.batch_check.specs.Edges.{AreEdgesOf};
 ghost use Rattle.batch_check.specs.LeastRanking.{HasEndsBelow};
+ghost use Rattle.batch_check.specs.Sites.{resource_count, units_on};
 ghost use Rattle.batch_model.specs.declared.limits.TheConstants.{MAX_RECIPES};
 
+use crate::binding::{add_taken, edges_of_roles, units_by};
 use crate::collecting::collect;
+use crate::edge::Edge;
 use crate::edge_set::EdgeSet;
 use crate::path::Reach;
 use crate::site::Site;
-use crate::taking::takings;
+use crate::taking::{Taking, takings};
 use batch_cell::Cell;
 use batch_recipe::Recipe;
 use std::alloc::{AllocError, Global};
@@ -67,7 +70,7 @@ fn add_all(
     Ok(())
 }
 
-/// Adds the edges of the recipe with this number, binding by binding.
+/// Adds the edges of the recipe with this number, binding by binding. Only those of roles differ from one to the next.
 fn add_edges(
     alloc: Global,
     cell: &Cell,
@@ -80,14 +83,28 @@ fn add_edges(
     ensures { OnOk result ((recipes : List Recipe) → slice_get recipes number ≡ Some recipe.now
         → IsAdded cell.now (kept_at_top reach) recipes recipe.now edges.old edges.new) }
 {
+    let site = Site { cell, recipe };
+    let collected = collect(alloc, &site, number, reach)?;
+    add_binding(alloc, &site, Taking::Alike(0), &collected.edges, edges)?;
+    let of_roles = edges_of_roles(alloc, cell.resources(), &collected.edges)?;
     let takings = takings(alloc, cell, recipe)?;
     for taking in &takings {
-        let site = Site {
-            cell,
-            recipe,
-            taking: *taking,
-        };
-        collect(alloc, &site, number, reach, edges)?;
+        add_binding(alloc, &site, *taking, &of_roles, edges)?;
     }
     Ok(())
+}
+
+/// Adds these edges as they are where the candidates take the roles.
+fn add_binding(
+    alloc: Global,
+    site: &Site,
+    taking: Taking<'_>,
+    collected: &[Edge],
+    edges: &mut EdgeSet,
+) -> Result<(), AllocError>
+    requires { edges.old.count ≡ resource_count site.now }
+    ensures { OnOk result (HasTakenBy (units_on site.now taking.entry) collected.now edges.old edges.new) }
+{
+    let units = units_by(alloc, site.cell, &site.recipe.roles, taking)?;
+    add_taken(collected, &units, edges)
 }

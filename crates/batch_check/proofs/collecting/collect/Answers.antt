@@ -2,18 +2,15 @@ use Rattle.std.proofs.Common.{◌≡◌, ℕ, ◌+◌, Bool, List, IsTrue, Optio
 use Rattle.std.specs.List.{Contains}
 use Rattle.std.proofs.lemmas.List.{with_items_is}
 use Rattle.std.proofs.lemmas.Option.{slice_get-get_or}
-use Rattle.batch_recipe.specs.Links.{asked_at}
-use Rattle.batch_recipe.specs.Needs.{resources_of}
-use Rattle.batch_recipe.specs.Outlines.{act_of}
 use Rattle.batch_recipe.specs.declared.entry.Entry.{Entry}
 use Rattle.batch_recipe.specs.declared.entry.Kind.TheVariants as kind
 use Rattle.batch_check.specs.Edges.{Follows}
 use Rattle.batch_check.specs.Collecting.{IsReady, is_joined, kept_at_top, with_joined}
-use Rattle.batch_check.specs.Sites.{bound_on, nodes_on, needs_at, sites_on}
+use Rattle.batch_check.specs.Sites.{own_at}
 use Rattle.batch_check.specs.declared.path.Path.{Path}
 use Rattle.batch_check.proofs.Asking.{Follows-alone}
-use Rattle.batch_check.proofs.Collects.{AreJoined, AreJoined-at, AreJoined-with, IsTop, KeepsPaths, KeepsPaths-more, all_collected, is_above, top_of}
-use Rattle.batch_check.proofs.Needs.{numbers_below}
+use Rattle.batch_check.proofs.Collects.{AreJoined, AreJoined-at, AreJoined-none, AreJoined-with, IsTop, KeepsPaths, KeepsPaths-first, KeepsPaths-more, all_collected, is_above, top_of}
+use Rattle.batch_check.proofs.Tables.{own_stands}
 use Rattle.batch_check.proofs.collecting.collect.Goals as goal
 use Rattle.batch_check.proofs.collecting.collect.Goals.{After-path_above-above, After-top-top}
 
@@ -30,55 +27,64 @@ is_entry c = grind (arith, slice_get-get_or)
 above_is : (c : After-path_above-above) → c.path_above-above.result.now ≡ get_or c.loop-node.paths.items (entry c).parent c.top-top.result
 above_is c = c.path_above-above.ensures ∙ ap (λ (paths : List Path). get_or paths (entry c).parent c.top-top.result) c.deref.ensures.value
 
+pub loop-node-init : goal.loop-node-init
+loop-node-init c =
+    let top = is_top (goal.at.loop-node-init c).After-top-top in
+    record {
+      paths =
+          rw c.in_ok-paths.ensures.items
+          (KeepsPaths-first c.args.site.now c.args.number (kept_at_top c.args.reach) c.top-top.result top c.in_ok-edges.edges
+          (c.in_ok-edges.ensures.0 ∙ c.count_with_roles.ensures) c.in_ok-edges.ensures.1);
+      joined = AreJoined-none c.in_ok-needs.needs c.in_ok-joined.joined.items c.len-2.result c.in_ok-edges.edges (c.in_ok-joined.ensures.items_if_clones_equal (λ y e. e));
+    }
+
 pub ask_act-requires-clause-ready : goal.ask_act-requires-clause-ready
 ask_act-requires-clause-ready c =
     let at = (goal.at.ask_act-requires-clause-ready c).After-path_above-above in
     let top = is_top (goal.at.ask_act-requires-clause-ready c).After-top-top in
-    let up = is_above c.args.site.now.cell.now c.args.number (kept_at_top c.args.reach) c.top-top.result top c.args.site.now.recipe.now (bound_on c.args.site.now)
-    c.args.edges.now c.loop-node.edges c.loop-node.paths.items c.loop-node.node c.loop-node.invariant.paths (entry at) (is_entry at) in
+    let up = is_above c.args.site.now c.args.number (kept_at_top c.args.reach) c.top-top.result top
+    c.loop-node.edges c.loop-node.paths.items c.loop-node.node c.loop-node.invariant.paths (entry at) (is_entry at) in
     subst (λ (path : Path). IsReady path c.loop-node.edges) (sym (above_is at)) up.further.ready
 
 pub ask_act-requires-clause-needs : goal.ask_act-requires-clause-needs
 ask_act-requires-clause-needs c = λ number among.
     let at = (goal.at.ask_act-requires-clause-needs c).After-path_above-above in
-    let needs_are : c.of.result.now ≡ needs_at c.args.site.now (entry at).kind = c.of.ensures c.args.site.now c.in_ok-needs.ensures in
-    let names = resources_of (asked_at (sites_on c.args.site.now) (act_of c.args.site.now.recipe.now.acts (entry at).kind)) in
-    let below = numbers_below c.args.site.now.cell.now names number (subst (λ (needs : List (Option ℕ)). Contains needs (Some number)) needs_are among) in
-    omega (arith, below, c.requires, c.loop-node.invariant.paths.grown.same_count)
+    let own = own_stands c.args.site.now c.in_ok-needs.needs c.in_ok-needs.ensures (entry at).kind in
+    omega (arith, own.below number (subst (λ (needs : List (Option ℕ)). Contains needs (Some number)) c.of.ensures among), c.loop-node.invariant.paths.sized)
 
 pub ask_act-requires-clause-joined : goal.ask_act-requires-clause-joined
 ask_act-requires-clause-joined c = λ is.
     let at = (goal.at.ask_act-requires-clause-joined c).After-path_above-above in
-    let needs_are : c.of.result.now ≡ needs_at c.args.site.now (entry at).kind = c.of.ensures c.args.site.now c.in_ok-needs.ensures in
     let flag : is_joined c.loop-node.joined.items (entry at).kind ≡ c.is_joined-known.result =
     ap (λ joined. is_joined joined (entry at).kind) (sym c.deref-in-loop-node.ensures.value) ∙ sym c.is_joined-known.ensures in
-    subst (λ (own : List (Option ℕ)). Follows c.loop-node.edges.edges.items None own) (sym needs_are)
-    (AreJoined-at c.args.site.now c.loop-node.joined.items c.loop-node.edges (entry at).kind c.loop-node.invariant.joined (subst IsTrue (sym flag) is))
+    subst (λ (own : List (Option ℕ)). Follows c.loop-node.edges.edges.items None own) (sym c.of.ensures)
+    (AreJoined-at c.in_ok-needs.needs c.loop-node.joined.items c.loop-node.edges (entry at).kind c.loop-node.invariant.joined (subst IsTrue (sym flag) is))
 
 pub loop-node-preserved : goal.loop-node-preserved
 loop-node-preserved c =
     let at = (goal.at.loop-node-preserved c).After-path_above-above in
     let top = is_top (goal.at.loop-node-preserved c).After-top-top in
-    let needs_are : c.of.result.now ≡ needs_at c.args.site.now (entry at).kind = c.of.ensures c.args.site.now c.in_ok-needs.ensures in
-    let asked = rw (above_is at, needs_are) at c.in_ok-path.ensures in
-    let joined : AreJoined c.args.site.now (with_joined c.loop-node.joined.items (entry at).kind) c.ask_act.new.edges =
-    AreJoined-with c.args.site.now c.loop-node.joined.items c.loop-node.edges c.ask_act.new.edges (entry at).kind c.loop-node.invariant.joined asked.grown.kept
-    (Follows-alone c.ask_act.new.edges.edges.items (get_or c.loop-node.paths.items (entry at).parent c.top-top.result).last (needs_at c.args.site.now (entry at).kind) asked.further.covering) in
+    let needs = c.in_ok-needs.needs in
+    let own = own_stands c.args.site.now needs c.in_ok-needs.ensures (entry at).kind in
+    let asked = rw (above_is at, c.of.ensures) at c.in_ok-path.ensures in
+    let joined : AreJoined needs (with_joined c.loop-node.joined.items (entry at).kind) c.ask_act.new.edges =
+    AreJoined-with needs c.loop-node.joined.items c.loop-node.edges c.ask_act.new.edges (entry at).kind c.loop-node.invariant.joined asked.grown.kept
+    (Follows-alone c.ask_act.new.edges.edges.items (get_or c.loop-node.paths.items (entry at).parent c.top-top.result).last (own_at needs (entry at).kind) asked.further.covering) in
     let flags : c.set_joined.new.joined ≡ with_joined c.loop-node.joined.items (entry at).kind =
     c.set_joined.ensures ∙ ap (λ joined. with_joined joined (entry at).kind) c.deref_mut.ensures.value in
     let written = with_items_is c.loop-node.joined c.set_joined.new.joined (c.set_joined.auto.joined ∙ c.deref_mut.ensures.len) in
     record {
       paths =
-          subst (λ (paths : List Path). KeepsPaths c.args.site.now.cell.now c.top-top.result (nodes_on c.args.site.now) c.args.edges.now c.ask_act.new.edges paths (c.loop-node.node + 1))
+          subst (λ (paths : List Path). KeepsPaths c.args.site.now c.top-top.result c.ask_act.new.edges paths (c.loop-node.node + 1))
           (sym c.in_ok-push.ensures.items)
-          (KeepsPaths-more c.args.site.now.cell.now c.args.number (kept_at_top c.args.reach) c.top-top.result top c.args.site.now.recipe.now (bound_on c.args.site.now)
-          c.args.edges.now c.loop-node.edges c.loop-node.paths.items c.loop-node.node c.loop-node.invariant.paths (entry at) (is_entry at) c.in_ok-path.path c.ask_act.new.edges asked);
-      joined = subst (λ (flags : List Bool). AreJoined c.args.site.now flags c.ask_act.new.edges) (sym (written ∙ flags)) joined;
+          (KeepsPaths-more c.args.site.now c.args.number (kept_at_top c.args.reach) c.top-top.result top
+          c.loop-node.edges c.loop-node.paths.items c.loop-node.node c.loop-node.invariant.paths (entry at) (is_entry at) (own_at needs (entry at).kind) own c.in_ok-path.path c.ask_act.new.edges asked);
+      joined = subst (λ (flags : List Bool). AreJoined needs flags c.ask_act.new.edges) (sym (written ∙ flags)) joined;
     }
 
 pub returns : goal.returns
 returns c =
     let top = is_top (goal.at.returns c).After-top-top in
-    all_collected c.args.site.now.cell.now c.args.number (kept_at_top c.args.reach) c.top-top.result top c.args.site.now.recipe.now (bound_on c.args.site.now)
-    c.args.edges.now c.loop-node.edges c.loop-node.paths.items c.loop-node.node c.loop-node.invariant.paths
+    all_collected c.args.site.now c.args.number (kept_at_top c.args.reach) c.top-top.result top
+    c.loop-node.edges c.loop-node.paths.items c.loop-node.node c.loop-node.invariant.paths
     (omega (arith, c.loop-node-test.false, ap length c.deref-entry-items.ensures.value))
