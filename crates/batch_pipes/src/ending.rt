@@ -8,8 +8,8 @@ use std::alloc::Global;
 use std::io::Write;
 use std::thread::Threads;
 
-/// Ends the threads of outputs: nothing more comes for them. It waits until each whose pipe is open has ended, or has had time to: to
-/// the others nothing was handed. What didn't end well is told.
+/// Ends the threads of outputs: nothing more comes for them. It waits until each has ended that has something to write, or has had
+/// time to. What didn't end well is told.
 pub(crate) fn finish<T: Threads, E: Write, S: Pause>(
     threads: &T,
     alloc: Global,
@@ -37,7 +37,7 @@ pub(crate) fn finish<T: Threads, E: Write, S: Pause>(
     }
 }
 
-/// The thread of the output of the desk at this place, if the desk isn't cut and its output is open.
+/// The thread of the output of the desk at this place, if the desk isn't cut and the thread has something to write.
 fn child_to_end(server: &DeskServer, at: usize, own: DeskThreads) -> Option<Child> {
     let DeskThreads { outlet, .. } = own;
     if !is_uncut(server, at) {
@@ -45,7 +45,7 @@ fn child_to_end(server: &DeskServer, at: usize, own: DeskThreads) -> Option<Chil
     }
     match outlet {
         Outlet::Thread(child) => {
-            if child.began.is_raised() {
+            if child.has_work() {
                 Some(child)
             } else {
                 None

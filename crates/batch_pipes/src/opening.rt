@@ -22,7 +22,7 @@ use rtrb::{Producer, RingBuffer};
 use std::alloc::{AllocError, Global};
 use std::snapshot::Snapshot;
 use std::thread;
-use std::thread::{JoinHandle, Threads};
+use std::thread::Threads;
 use std::vec::IntoIter;
 
 /// How many texts a reader may be ahead of the machine.
@@ -242,6 +242,7 @@ fn open_output<T: Threads, P: Pipes + Send + Drop + 'static>(
         return Ok((writer, Outlet::Nobody(consumer)));
     };
     let (began, done) = (Flag::new(alloc)?, Flag::new(alloc)?);
+    let has_front = !front.is_empty();
     let own = pipes.another();
     let task = OutputTask {
         path,
@@ -252,15 +253,15 @@ fn open_output<T: Threads, P: Pipes + Send + Drop + 'static>(
         done: done.another()?,
     };
     match thread::spawn(threads, move || run_output(alloc, own, task)) {
-        Ok(handle) => Ok((writer, Outlet::Thread(child_of(handle, began, done)))),
+        Ok(handle) => {
+            let child = Child {
+                handle,
+                has_front,
+                began,
+                done,
+            };
+            Ok((writer, Outlet::Thread(child)))
+        }
         Err(_) => Err(DesksFault::Thread),
-    }
-}
-
-fn child_of(handle: JoinHandle<Result<(), PipeFault>>, began: Flag, done: Flag) -> Child {
-    Child {
-        handle,
-        began,
-        done,
     }
 }

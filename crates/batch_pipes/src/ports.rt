@@ -14,6 +14,8 @@ use std::thread::{JoinHandle, Threads};
 #[derive(Drop)]
 pub(crate) struct Child {
     pub(crate) handle: JoinHandle<Result<(), PipeFault>>,
+    // something stands before all else in its output
+    pub(crate) has_front: bool,
     // it is raised where the thread's pipe is open
     pub(crate) began: Flag,
     // it is raised where the thread has nothing more to do than to end
@@ -21,6 +23,11 @@ pub(crate) struct Child {
 }
 
 impl Child {
+    /// Whether it has something to write, as far as is known: only to an output that is open, lines are handed on.
+    pub(crate) fn has_work(&self) -> bool {
+        self.has_front || self.began.is_raised()
+    }
+
     /// What it came to.
     pub(crate) fn join<T: Threads>(self, threads: &T) -> Result<(), PipeFault> {
         self.handle.join(threads)
