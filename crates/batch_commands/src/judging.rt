@@ -16,10 +16,10 @@ use batch_document_sentences::{Asked, document_sentence};
 use batch_reader::{DocFault, read_cell, read_recipe};
 use batch_recipe::Recipe;
 use batch_sentences::{Source, certificate_sentence, fault_sentence, refusal_sentence};
-use batch_wording::Sentence;
 use batch_verify::{
     CertFault, Certificate, Cleared, Rejected, SetRefusal, read_certificate, verify,
 };
+use batch_wording::Sentence;
 use std::alloc::{AllocError, Global};
 
 /// The longest file of a certificate, in bytes.

@@ -44,13 +44,7 @@ fn child_to_end(server: &DeskServer, at: usize, own: DeskThreads) -> Option<Chil
         return None;
     }
     match outlet {
-        Outlet::Thread(child) => {
-            if child.has_work() {
-                Some(child)
-            } else {
-                None
-            }
-        }
+        Outlet::Thread(child) => { if child.has_work() { Some(child) } else { None } }
         Outlet::Nobody(_ring) => None,
         Outlet::Ended => None,
     }

@@ -9,9 +9,9 @@ ghost use Rattle.batch_status.specs.declared.reading.StatusFault.TheVariants.{No
 use crate::program::MAX_READS;
 use crate::records::Records;
 use batch_commands::{FILE_FAULT, NO_MEMORY, OUT_OF_MEMORY, SUCCESS, complain, print, print_bytes};
-use batch_wording::shown;
 use batch_status::{StatusFault, read_status};
 use batch_streams::Noted;
+use batch_wording::shown;
 use std::alloc::{AllocError, Global};
 use std::io;
 use std::io::{Read, Write};

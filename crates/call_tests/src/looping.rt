@@ -32,9 +32,7 @@ fn console_end(alloc: Global, desk: &mut Desk, words: &str) -> Result<LoopEnd, F
         size: 1000,
         roles: Vec::new(alloc),
     };
-    Ok(console_loop(
-        alloc, desk, &plan, batches, &mut gate, limit,
-    ))
+    Ok(console_loop(alloc, desk, &plan, batches, &mut gate, limit))
 }
 
 /// How a loop of the hub ended.
