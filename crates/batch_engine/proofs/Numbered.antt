@@ -15,7 +15,7 @@ use Rattle.batch_cell.specs.declared.unit.Unit.{Unit}
 use Rattle.batch_recipe.specs.Conditions.{Name, same_name}
 use Rattle.batch_recipe.specs.Nodes.{Node, node_count}
 use Rattle.batch_recipe.specs.Nodes as nodes_spec
-use Rattle.batch_recipe.specs.Tree.{Phase, Tree, act, skip, seq, par, sel, loop, runs, follows}
+use Rattle.batch_recipe.specs.Tree.{Phase, Tree, act, skip, runs}
 use Rattle.batch_recipe.specs.WellFormed.{is_among}
 use Rattle.batch_recipe.specs.declared.need.Need.{Need}
 use Rattle.batch_recipe.proofs.Order.{counted_nodes}
@@ -29,12 +29,9 @@ use Rattle.batch_laws.proofs.Clearing.{control-clear}
 use Rattle.batch_laws.proofs.Entries.{name_same}
 use Rattle.batch_verify.specs.ClearedSet.{ClearedSet}
 use Rattle.batch_engine.proofs.Positions.{NonePasses, NonePasses-position}
-use Rattle.batch_chart.specs.NodesOf.{nodes_of, node_at, step_of, step_at, task_of, need_at, no_need, phase_at, phase_in, phase_named}
+use Rattle.batch_chart.specs.NodesOf.{nodes_of, node_at, step_of, step_at, need_at, no_need}
 use Rattle.batch_engine.specs.Names as Names
-use Rattle.batch_engine.specs.Numbered as Numbers
-use Rattle.batch_engine.specs.Numbered.{resource_number, phase_number, phase_among}
 use Rattle.batch_engine.specs.View.{setup, number_of}
-use Rattle.batch_engine.specs.declared.numbers.PhaseNumber.{PhaseNumber}
 use Rattle.batch_engine.proofs.Finding.{Each-at}
 
 -- Where something passes, there is a first that does
@@ -104,11 +101,6 @@ module _ (cell : Cell) (unit phase : Name) (offers : list_any (same_name phase) 
   pub phase-among : (q : ℕ) × (position (same_name phase) (phases_of cell unit-number.0) ≡ Some q)
   phase-among = any-position (same_name phase) (phases_of cell unit-number.0) offered-here
 
-  pub numbered-phase : phase_number cell unit phase ≡ (let x : PhaseNumber = record { unit = unit-number.0; phase = phase-among.0 } in x)
-  numbered-phase =
-      ap (phase_among cell phase) unit-number.1
-      ∙ ap (λ (o : Option ℕ). let x : PhaseNumber = record { unit = unit-number.0; phase = unwrap_or o 0 } in x) phase-among.1
-
 abbrev free_names : Cell → List Name
 free_names cell = map (λ (m : Module). m.name) (filter is_free cell.modules.items)
 
@@ -133,21 +125,18 @@ unit-named c u name at =
     (slice_get-front (units_of c.cell ++ free_names c.cell) (shared_names c.cell) u name (slice_get-front (units_of c.cell) (free_names c.cell) u name at))
 
 -- a phase that is offered has the unit and the name that its numbers name
-pub phase-named : (c : ClearedSet) (p : Phase) → list_any (same_name p.name) (unit_phases c.cell.modules.items p.unit) ≡ true
-    → (let x = phase_number c.cell p.unit p.name in (Names.resource_name c x.unit ≡ p.unit) × (Names.phase_name c x.unit x.phase ≡ p.name))
+pub phase-named : (c : ClearedSet) (p : Phase) (offers : list_any (same_name p.name) (unit_phases c.cell.modules.items p.unit) ≡ true)
+    → (let u = unit-number c.cell p.unit p.name offers in let q = phase-among c.cell p.unit p.name offers in
+    (Names.resource_name c u.0 ≡ p.unit) × (Names.phase_name c u.0 q.0 ≡ p.name))
 phase-named c p offers =
     let u = unit-number c.cell p.unit p.name offers in
     let q = phase-among c.cell p.unit p.name offers in
-    let at : slice_get (units_of c.cell) u.0 ≡ Some p.unit = name-at (units_of c.cell) p.unit u.0 u.1 in
-    let resource : Names.resource_name c u.0 ≡ p.unit =
-    ap (λ (o : Option Name). unwrap_or o [])
-    (slice_get-front (units_of c.cell ++ free_names c.cell) (shared_names c.cell) u.0 p.unit (slice_get-front (units_of c.cell) (free_names c.cell) u.0 p.unit at)) in
-    let named : Names.phase_name c u.0 q.0 ≡ p.name =
-    ap (λ (t : Bool). let z : Name = if t then unwrap_or (slice_get (phases_of c.cell u.0) q.0) [] else [] in z)
-    (within-yes u.0 (length (units_of c.cell)) (slice_get_within (units_of c.cell) u.0 p.unit at))
-    ∙ ap (λ (o : Option Name). unwrap_or o []) (name-at (phases_of c.cell u.0) p.name q.0 q.1) in
-    subst (λ (x : PhaseNumber). (Names.resource_name c x.unit ≡ p.unit) × (Names.phase_name c x.unit x.phase ≡ p.name))
-    (sym (numbered-phase c.cell p.unit p.name offers)) (resource, named)
+    let at : slice_get (units_of c.cell) u.0 ≡ Some p.unit = name-at (units_of c.cell) p.unit u.0 u.1 in (
+      unit-named c u.0 p.unit at,
+      ap (λ (t : Bool). let z : Name = if t then unwrap_or (slice_get (phases_of c.cell u.0) q.0) [] else [] in z)
+          (within-yes u.0 (length (units_of c.cell)) (slice_get_within (units_of c.cell) u.0 p.unit at))
+          ∙ ap (λ (o : Option Name). unwrap_or o []) (name-at (phases_of c.cell u.0) p.name q.0 q.1),
+    )
 
 -- Of each node of a cleared recipe
 
@@ -173,57 +162,15 @@ module _ (c : ClearedSet) (cleared : CanBeCleared (setup c)) (r : Model.Recipe) 
       Each-at (λ (n : Node). IsNamed c n.here) (nodes_of r.procedure) k (record { place = []; asked = []; here = skip }) all
       (omega (arith, l, counted_nodes (0 ∷ []) [] r.procedure))
 
-  -- the number that stands for a need is that of its resource
-  pub need-numbered : (k i : ℕ) → k < node_count r.procedure → i < length (step_at r.procedure k).needs
-      → number_of c (need_at r.procedure k i).resource ≡ Some (resource_number c.cell (need_at r.procedure k i).resource)
+  -- the resource of a need has a number
+  pub need-numbered : (k i : ℕ) → k < node_count r.procedure → i < length (step_at r.procedure k).needs → (q : ℕ) × (number_of c (need_at r.procedure k i).resource ≡ Some q)
   need-numbered k i l m =
       let n : Need = need_at r.procedure k i in
       let here : Each (λ (need : Need). IsTrue (is_among (resources_of c.cell) need.resource)) (step_at r.procedure k).needs =
       subst (Each (λ (need : Need). IsTrue (is_among (resources_of c.cell) need.resource))) (needs-same (node_at r.procedure k).here) (node-named k l).0 in
       let among : IsTrue (is_among (resources_of c.cell) n.resource) =
       Each-at (λ (need : Need). IsTrue (is_among (resources_of c.cell) need.resource)) (step_at r.procedure k).needs i no_need here m in
-      let q = any-position (same_name n.resource) (resources_of c.cell) among in
-      q.1 ∙ ap Some (sym (ap (λ (o : Option ℕ). unwrap_or o 0) q.1))
-
-  -- so are those that stand for a phase; at any other node they name nothing
-  pub phase-numbered : (few : length (resources_of c.cell) < 65535) (fewer : length (units_of c.cell) < 65535) (k : ℕ) → k < node_count r.procedure
-      → (let x = Numbers.phase_in c.cell (node_at r.procedure k).here in let p = phase_at r.procedure k in
-      (Names.resource_name c x.unit ≡ p.unit) × (Names.phase_name c x.unit x.phase ≡ p.name))
-  phase-numbered few fewer k l = go (node_at r.procedure k).here (node-named k l).1
-    where
-      past : (names : List Name) (q : ℕ) → length names < q → slice_get names q ≡ None
-      past [] q h = refl
-      past (x ∷ names) zero h = absurd (omega arith)
-      past (x ∷ names) (suc q) h = past names q (omega arith)
-
-      nothing : (Names.resource_name c 65535 ≡ []) × (Names.phase_name c 65535 65535 ≡ [])
-      nothing = (
-        ap (λ (o : Option Name). unwrap_or o []) (past (resources_of c.cell) 65535 few),
-        ap (λ (t : Bool). let z : Name = if t then unwrap_or (slice_get (phases_of c.cell 65535) 65535) [] else [] in z) (within-no 65535 (length (units_of c.cell)) fewer),
-      )
-
-      go : (t : Tree) → IsOffered (setup c) t
-          → (let x = Numbers.phase_in c.cell t in let p = phase_in (task_of t) in (Names.resource_name c x.unit ≡ p.unit) × (Names.phase_name c x.unit x.phase ≡ p.name))
-      go (act s (runs p)) h = phase-named c p h
-      go (act s (follows name t)) h = nothing
-      go skip h = nothing
-      go (seq ts) h = nothing
-      go (par ts) h = nothing
-      go (sel cs) h = nothing
-      go (loop n q t) h = nothing
-
-  -- where a phase is run, the number is that of its unit
-  pub unit-numbered : (k : ℕ) → k < node_count r.procedure → (names : Name × Name) → phase_named (node_at r.procedure k).here ≡ Some names
-      → position (same_name names.0) (units_of c.cell) ≡ Some (Numbers.phase_in c.cell (node_at r.procedure k).here).unit
-  unit-numbered k l names e = go (node_at r.procedure k).here (node-named k l).1 e
-    where
-      go : (t : Tree) → IsOffered (setup c) t → phase_named t ≡ Some names → position (same_name names.0) (units_of c.cell) ≡ Some (Numbers.phase_in c.cell t).unit
-      go (act s (runs p)) h f =
-          let u = unit-number c.cell p.unit p.name h in
-          let same : (let x : Name × Name = (p.unit, p.name) in x) ≡ names = cc in
-          ap (λ (x : Name × Name). position (same_name x.0) (units_of c.cell)) (sym same) ∙ u.1
-          ∙ sym (ap (λ (x : PhaseNumber). let o : Option ℕ = Some x.unit in o) (numbered-phase c.cell p.unit p.name h))
-      go t h e = absurd (grind arith)
+      any-position (same_name n.resource) (resources_of c.cell) among
 
 -- A cell has few resources
 
@@ -235,10 +182,10 @@ filtered p (m ∷ ms) = go (p m) (filtered p ms)
     go true l = omega arith
     go false l = omega arith
 
-pub few-units : (cell : Cell) → length (units_of cell) < 65535
+few-units : (cell : Cell) → length (units_of cell) < 65535
 few-units cell = omega (arith, cell.few_units, length-map cell.units.items (λ (u : Unit). u.name))
 
-pub few-resources : (cell : Cell) → length (resources_of cell) < 65535
+few-resources : (cell : Cell) → length (resources_of cell) < 65535
 few-resources cell =
     omega (
       arith,
@@ -252,3 +199,16 @@ few-resources cell =
       length-append (units_of cell ++ free_names cell) (shared_names cell),
       length-append (units_of cell) (free_names cell),
     )
+
+-- The numbers of an act that runs no phase name nothing
+
+past : (names : List Name) (q : ℕ) → length names < q → slice_get names q ≡ None
+past [] q h = refl
+past (x ∷ names) zero h = absurd (omega arith)
+past (x ∷ names) (suc q) h = past names q (omega arith)
+
+pub nothing-named : (c : ClearedSet) → (Names.resource_name c 65535 ≡ []) × (Names.phase_name c 65535 65535 ≡ [])
+nothing-named c = (
+  ap (λ (o : Option Name). unwrap_or o []) (past (resources_of c.cell) 65535 (few-resources c.cell)),
+  ap (λ (t : Bool). let z : Name = if t then unwrap_or (slice_get (phases_of c.cell 65535) 65535) [] else [] in z) (within-no 65535 (length (units_of c.cell)) (few-units c.cell)),
+)

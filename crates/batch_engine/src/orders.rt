@@ -94,7 +94,7 @@ impl Control {
             return Reply::Refused(Refusal::NotIdle(state));
         };
         let removed = self.batches.remove(index);
-        self.needs -= self.numbers[usize::from(removed.recipe)].needs;
+        self.needs -= self.numbers.recipes[usize::from(removed.recipe)].needs;
         Reply::Removed { batch: number }
     }
 }
