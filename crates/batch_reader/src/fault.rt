@@ -117,9 +117,9 @@ pub enum DocFault {
     Memory,
 }
 
-/// Why a table is refused.
+/// Why a table of a document is refused.
 #[derive(Clone, Copy, Debug, Error)]
-pub(crate) enum TableFault {
+pub enum TableFault {
     #[error("{0}: {1}")]
     Entry(Spot, EntryFault),
     #[error("out of memory")]

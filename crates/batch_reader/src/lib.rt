@@ -28,8 +28,10 @@ mod value_tables;
 
 pub use batch_grammar::{ChartFault, MAX_CHART_LEN, read_chart};
 pub use cell_document::read_cell;
-pub use document::MAX_DOCUMENT_LEN;
-pub use fault::{DocFault, EntryFault, Spot, TableKind};
+pub use document::{MAX_DOCUMENT_LEN, document_fault, table_of};
+pub use entries::{has_only_keys, member, name_at, number_at, optional_name_at, truth_at};
+pub use fault::{DocFault, EntryFault, Spot, TableFault, TableKind};
 pub use laws::worked_faults;
 pub use limits::document_limit_is_fixed;
 pub use recipe_document::read_recipe;
+pub use tables::{FromTable, tables_at};

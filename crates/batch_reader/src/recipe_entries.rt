@@ -3,7 +3,7 @@ ghost use Rattle.std.specs.Prelude.{◌≡◌, ◌≢◌, ◌≤◌, ℕ, List, 
 ghost use Rattle.std.specs.Option.{ForSome};
 ghost use Rattle.toml.specs.Data.{as_str, get_member};
 ghost use Rattle.toml.specs.View.{table_view};
-ghost use Rattle.batch_reader.specs.Entries.{HasLabel, HasNameOr, HasText, MayHaveText, HasFewNames, IsTruth, items_at};
+ghost use Rattle.batch_reader.specs.Entries.{HasLabel, HasNameOr, HasText, MayHaveText, HasFewNames, items_at};
 ghost use Rattle.batch_reader.specs.Faults.{IsToldAs, few_names_fault, missing_or_wrong, value_fault};
 
 use crate::entries::{member, name_at, names_of};
@@ -100,21 +100,6 @@ pub(crate) fn optional_text_at(
     }
     let text = text_at(alloc, table, key, most, spot)?;
     Ok(Some(text))
-}
-
-/// The truth value at a key, false where it is missing.
-pub(crate) fn truth_at(table: &Table, key: &str, spot: Spot) -> Result<bool, TableFault>
-    ensures ok { IfOk result (IsTruth key.now (table_view table.now)) }
-    ensures refused { IfErr result (λ fault. (truth : Bool) → ¬ (IsTruth key.now (table_view table.now) truth)) }
-    ensures told { IfErr result (λ fault. fault ≡ TableFault.Entry spot EntryFault.WrongKind) }
-{
-    let Some(value) = member(table, key) else {
-        return Ok(false);
-    };
-    match value.as_bool() {
-        Some(truth) => Ok(truth),
-        None => Err(TableFault::Entry(spot, EntryFault::WrongKind)),
-    }
 }
 
 /// The names in the list at a key, at most so many, and none where the key is missing.

@@ -14,7 +14,7 @@ use std::alloc::Global;
 use toml::{Table, Value};
 
 /// A value that a table of a document stands for.
-pub(crate) trait FromTable: Drop {
+pub trait FromTable: Drop {
     // the table of this kind stands for the value
     ghost stands_for: { TableKind → Members → Self → Type 0 };
 
@@ -48,8 +48,9 @@ pub(crate) fn items_at<'a>(
     }
 }
 
-/// What the tables of the array at a key stand for, in order.
-pub(crate) fn tables_at<T: FromTable>(
+/// What the tables of the array at a key stand for, in order; nothing where the key is missing. The first table that is refused ends it,
+/// and what is no list of tables is of the wrong kind.
+pub fn tables_at<T: FromTable>(
     alloc: Global,
     table: &Table,
     key: &str,

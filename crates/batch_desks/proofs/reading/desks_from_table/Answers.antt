@@ -1,12 +1,12 @@
 use Rattle.std.proofs.lemmas.Result.{err_from_is_err_and}
 use Rattle.toml.specs.View.{table_view}
-use Rattle.batch_desks.proofs.Refusing.{array_refuses, count_refuses, names_refuse}
+use Rattle.batch_desks.proofs.Refusing.{count_refuses, names_refuse}
 use Rattle.batch_desks.proofs.reading.desks_from_table.Goals as goal
 
 pub returns-in_err-desks-clause-refused : goal.returns-in_err-desks-clause-refused
 returns-in_err-desks-clause-refused c =
     let p = err_from_is_err_and c.from_residual.result c.from_residual.ensures.1 in
-    rw (p.1, p.2) (array_refuses (table_view c.args.table.now) _ c.in_err-desks.ensures.told)
+    rw (p.1, p.2) (λ known desks h. c.in_err-desks.ensures.refused known desks.desks.items h.tables)
 
 pub returns-in_err-check_count-clause-refused : goal.returns-in_err-check_count-clause-refused
 returns-in_err-check_count-clause-refused c =
