@@ -1,8 +1,8 @@
-"""A set of recipes in which ranks rise nowhere: the worst that `check` may be given, since it then looks at each two needs of each path.
+"""A set of recipes in which ranks rise nowhere: the worst case of `check`, which then looks at every two needs of each path.
 
-write_circle(folder, recipes, candidates) writes cell.toml and so many recipes. As in the wide set of bench/checkers, each recipe has
-4,050 nodes, and 16 needs at each of the four levels. All unit procedures run on a role, which so many units may take (none: they run on
-the first unit), and the last step of the last recipe asks for its needs in the reverse order.
+write_circle(folder, recipes, candidates) writes cell.toml and this number of recipes. As in the wide set of bench/checkers, each recipe has
+4,050 nodes, and 16 needs at each of the four levels. All unit procedures run on a role with this number of candidates (0: they run on the
+first unit), and the last step of the last recipe asks for its needs in the reverse order.
 
 From the command line: python3 bench/circles.py FOLDER [RECIPES [CANDIDATES]], and then
 

@@ -1,4 +1,4 @@
-"""The worst cases of bench/all: documents and event lines of legal size, in each of which one number grows while all else stays.
+"""The worst cases of bench/all: documents and event lines of legal size. In each case one number grows while all else stays.
 
 A chart is a label, a pair of `seq` or `par` and its parts, or a text of other forms, which the plain engine doesn't have.
 """

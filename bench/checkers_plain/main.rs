@@ -1,8 +1,8 @@
 //! The plain checker beside which `bench/checkers` times batchd: it decides the same question, and nothing is proved of it.
 //!
-//! It reads cells and recipes with the keys that the bench writes, and no roles. It looks at the rules that don't speak of ranks, the
-//! edges between needs along each path, and finds the least ranks, or a shortest circle; or it verifies a certificate. Documents
-//! are taken to be well formed otherwise: where one isn't, it ends with a message. Verdicts are batchd's texts, but that among
+//! It reads cells and recipes with the keys that the bench writes, and no roles. It tests the rules that don't speak of ranks, collects
+//! the edges between needs along each path, and finds the least ranks, or a shortest circle; or it verifies a certificate. It expects
+//! documents that are well formed otherwise, and ends with a message at one that isn't. Verdicts are batchd's texts, but of several
 //! circles of one length it may name another.
 //!
 //! ```text

@@ -1,4 +1,4 @@
-//! Goes along all paths of a recipe, from the procedure to each phase step, and expands the labels on the way.
+//! Walks all paths of a recipe, from the procedure to each phase step, and expands the labels on the way.
 
 use crate::reading::{Act, Cell, Chart, Need, Recipe, Task};
 use std::collections::HashMap;

@@ -4,8 +4,8 @@
 //!
 //! ```text
 //! resource NAME CAPACITY
-//! phase UNIT NAME              what a unit offers
-//! recipe NAME                  what follows are its nodes, in order of place
+//! phase UNIT NAME              a phase that a unit offers
+//! recipe NAME                  its nodes follow, in order of place
 //! DEPTH act NAME NEED..
 //! DEPTH phase UNIT NAME NEED..
 //! DEPTH seq

@@ -8,7 +8,7 @@
 //! engine_plain follow FORMS COUNT < events > more events
 //! ```
 //!
-//! `follow` takes the events and writes so many that can come after them: reports of the phases that run, the one that started first
+//! `follow` takes the events and writes COUNT events that can come after them: reports of the phases that run, the one that started first
 //! before the others, and reset and start of each batch that is complete.
 
 mod engine;

@@ -1,5 +1,5 @@
-// What a record tells, by a plain program: the batches, who holds, who waits and the live phases behind the record's last line, in the
-// lines and the order of `batchd status`. It trusts the record, and knows no recovery blocks.
+// The state at the end of a record, by a plain program: the batches, the holders, the waiters and the live phases, in the lines and the
+// order of `batchd status`. It trusts the record, and knows no recovery blocks.
 use std::collections::BTreeMap;
 use std::fs::File;
 use std::io::{BufRead, BufReader, BufWriter, Write};

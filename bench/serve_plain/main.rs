@@ -1,5 +1,5 @@
 //! Desks over named pipes without a machine, which bench/serve times beside `batchd serve`: each line of a desk is written to standard output and
-//! to the desk, behind `ok `. As there, each desk has a thread that reads and one that writes, and one thread stands between them; texts of whole
+//! to the desk, behind `ok `. As in batchd, each desk has a thread that reads and one that writes, with one thread between them. Texts of whole
 //! lines come to it by a channel with 16 places a desk, and lines go on by a channel of 1,024 for each desk. It waits for a desk that doesn't read.
 //!
 //! Usage: serve_plain FOLDER DESKS [polls], over FOLDER/D00.in, D00.out and so on. It waits at its channels; with `polls` it looks at them, and

@@ -1,4 +1,4 @@
-"""What a desk is due of a record of several desks, by the rules of docs/FORMATS.md."""
+"""The lines of a record of several desks that are due to a desk, by the rules of docs/FORMATS.md."""
 
 REPLIES = (b"created ", b"ok ", b"refused ")
 

@@ -1,4 +1,4 @@
-"""The list of what each promise reaches, as it stands in docs/DEFINITIONS.md, and what docs/PROOF.md says of it."""
+"""The list of definitions that each promise reaches, as docs/DEFINITIONS.md has it, and its summary in docs/PROOF.md."""
 from itertools import groupby
 
 from reach import PROMISES, files_of, lines_of, reached_by_promise, used_first

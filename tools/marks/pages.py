@@ -1,4 +1,4 @@
-"""What the pages of docs/ have by these tools, each part between two markers that name its tool."""
+"""The parts of docs/ that these tools write, each between two markers that name its tool."""
 from counted import table
 from listing import headline, listing
 from sources import TOP

@@ -1,4 +1,4 @@
-"""What promises and public clauses reach of the definitions, from name to name."""
+"""The definitions that promises and public clauses reach, from name to name."""
 from functools import cache
 
 from contracts import is_public_type, said_by_sources

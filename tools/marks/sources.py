@@ -1,6 +1,6 @@
 """Reads the crates: the definitions of specs/, and the types, traits and functions of src/, each with the words that it says.
 
-A word is resolved by the imports of its file. What comes from other libraries is left out.
+A word is resolved by the imports of its file. Words of other libraries are left out.
 """
 import re
 from collections import defaultdict
