@@ -1,17 +1,19 @@
 -- trusted: desks that are to be served, the set over which they are, or why there is none.
-use Rattle.std.specs.Prelude.{◌≡◌, ◌≢◌, ◌⊎◌, ℕ, List, Some}
+use Rattle.std.specs.Prelude.{◌≡◌, ◌≢◌, ◌<◌, ◌⊎◌, ℕ, List, Some, length}
 use Rattle.batch_cell.specs.LookUps.{units_of}
 use Rattle.batch_cell.specs.declared.cell.Cell.{Cell}
 use Rattle.batch_reader.specs.PartFaults.{FailsFirst}
+use Rattle.batch_reader.specs.declared.document.TheConstants.{MAX_DOCUMENT_LEN}
+use Rattle.batch_reader.specs.declared.fault.DocFault.{DocFault}
+use Rattle.batch_reader.specs.declared.fault.DocFault.TheVariants.{NotToml, Entry, Memory}
 use Rattle.batch_reader.specs.declared.fault.EntryFault.{EntryFault}
-use Rattle.batch_reader.specs.declared.fault.EntryFault.TheVariants.{Undeclared}
+use Rattle.batch_reader.specs.declared.fault.EntryFault.TheVariants.{OutOfLimit, Undeclared}
+use Rattle.batch_reader.specs.declared.fault.Spot.{Spot}
+use Rattle.batch_reader.specs.declared.fault.TableKind.TheVariants as table
 use Rattle.batch_desks.specs.DeskUnits.{HaveUnits}
 use Rattle.batch_desks.specs.DesksDocument.{IsDesksDocument}
 use Rattle.batch_desks.specs.DesksFaults.{FaultStands}
-use Rattle.batch_desks.specs.AsDocuments.{as_document}
 use Rattle.batch_desks.specs.declared.desk_set.Desks.{Desks}
-use Rattle.batch_desks.specs.declared.fault.DesksFault.{DesksFault}
-use Rattle.batch_desks.specs.declared.fault.DesksFault.TheVariants.{NotToml, Entry, Memory}
 use Rattle.batch_verify.specs.ClearedSet.{ClearedSet}
 use Rattle.batch_commands.specs.Digested.{AreDigested}
 use Rattle.batch_commands.specs.Halting.{HaltsAtCell, HaltsClearing}
@@ -19,25 +21,24 @@ use Rattle.batch_commands.specs.Judging.{HaltsWith, IsToml, document_kind}
 use Rattle.batch_commands.specs.Reading.{Gives, IsUnread, ReadsCell}
 use Rattle.batch_commands.specs.VerdictTexts.{document_text}
 use Rattle.batch_commands.specs.declared.refusal.Halt.{Halt}
+use Rattle.batch_commands.specs.declared.refusal.RefusalKind.TheVariants.{Fault}
 
--- the document of desks at this path is refused as others are
-abbrev pub HaltsAsDesks : List ℕ → DesksFault → Halt → Type 0
-HaltsAsDesks path fault h = HaltsWith (document_text path (as_document fault)) (document_kind (as_document fault)) h
-
--- the document is refused, and but for memory it stands for no desks: it is called no TOML only where it is none, and what is told of a
--- desk is wrong there
+-- the document is refused, and but for memory it stands for no desks; the rest is as for a cell, of tables of desks, the first of which stands
+-- for the top
 pub record RefusesDesks (path bytes : List ℕ) (h : Halt) : Type 0 where
-  pub fault : DesksFault
+  pub fault : DocFault
   pub stands : fault ≢ Memory → (desks : Desks) → ¬ (IsDesksDocument bytes desks)
   pub not_toml : fault ≡ NotToml → ¬ (IsToml bytes)
-  pub is_there : (entry : ℕ) (wrong : EntryFault) → fault ≡ Entry entry wrong → FaultStands bytes entry wrong
-  pub halts : HaltsAsDesks path fault h
+  pub long : MAX_DOCUMENT_LEN < length bytes → fault ≡ Entry (record { kind = table.Desk; entry = 0 }) OutOfLimit
+  pub told : (spot : Spot) (wrong : EntryFault) → fault ≡ Entry spot wrong → spot.kind ≡ table.Desk
+  pub is_there : (spot : Spot) (wrong : EntryFault) → fault ≡ Entry spot wrong → FaultStands bytes spot.entry wrong
+  pub halts : HaltsWith (document_text path fault) (document_kind fault) h
 
 -- a desk names a unit that the cell doesn't have: the first that does
 pub record RefusesUnits (path : List ℕ) (c : Cell) (desks : Desks) (h : Halt) : Type 0 where
   pub entry : ℕ
   pub first : FailsFirst (HaveUnits (units_of c)) desks.desks.items entry
-  pub halts : HaltsAsDesks path (Entry entry Undeclared) h
+  pub halts : HaltsWith (document_text path (Entry (record { kind = table.Desk; entry = entry }) Undeclared)) Fault h
 
 -- Documents
 

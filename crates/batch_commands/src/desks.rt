@@ -3,17 +3,17 @@ ghost use Rattle.std.specs.Prelude.{map, IfOk, IfErr, OnOk, string_bytes};
 ghost use Rattle.batch_cell.specs.LookUps.{units_of};
 ghost use Rattle.batch_desks.specs.DeskUnits.{HaveUnits};
 ghost use Rattle.batch_desks.specs.DesksDocument.{IsDesksDocument};
-ghost use Rattle.batch_commands.specs.DeskSets.{AreDesksCleared, HaltsAsDesks, HaltsAtDesks, HaltsDesks, ReadsDesks, RefusesDesks, RefusesUnits};
+ghost use Rattle.batch_commands.specs.DeskSets.{AreDesksCleared, HaltsAtDesks, HaltsDesks, ReadsDesks, RefusesDesks, RefusesUnits};
 
 use crate::digested::{Digested, clear_behind, read_cell};
 use crate::documents::Documents;
 use crate::judging::document_halt;
 use crate::refusal::Halt;
 use batch_cell::Cell;
-use batch_desks::{Desks, DesksFault, check_units, read_desks};
+use batch_desks::{Desks, check_units, read_desks};
 use batch_document_sentences::Asked;
 use batch_journal::DocumentsDigest;
-use batch_reader::{DocFault, MAX_DOCUMENT_LEN};
+use batch_reader::MAX_DOCUMENT_LEN;
 use std::alloc::Global;
 
 /// Desks, and the set over which they are served, with what names its documents in a journal.
@@ -78,7 +78,7 @@ fn judge_desks(alloc: Global, path: &str, bytes: &[u8]) -> Result<Desks, Halt>
 {
     match read_desks(alloc, bytes) {
         Ok(desks) => Ok(desks),
-        Err(fault) => Err(desks_halt(alloc, path, bytes, fault)),
+        Err(fault) => Err(document_halt(alloc, Asked::Desks, path, bytes, fault)),
     }
 }
 
@@ -95,12 +95,6 @@ fn judge_units(
 {
     match check_units(desks, cell) {
         Ok(()) => Ok(()),
-        Err(fault) => Err(desks_halt(alloc, path, bytes, fault)),
+        Err(fault) => Err(document_halt(alloc, Asked::Desks, path, bytes, fault)),
     }
-}
-
-fn desks_halt(alloc: Global, path: &str, bytes: &[u8], fault: DesksFault) -> Halt
-    ensures { HaltsAsDesks path.now fault result }
-{
-    document_halt(alloc, Asked::Desks, path, bytes, DocFault::from(fault))
 }

@@ -1,3 +1,3 @@
-pub mod Told
+pub mod DeskFaults
 pub mod Refusing
 pub mod DistinctDesks

@@ -1,28 +1,29 @@
 -- Where something is wrong with a document, it stands for no desks.
-use Rattle.std.proofs.Common.{◌≡◌, ◌≢◌, ℕ, ◌+◌, ◌⊎◌, inl, inr, Bool, List, [], ◌∷◌, ◌++◌, length, take, drop, nat_eq, Option, Some, None, sym, ap, subst, ◌∙◌, arith, zero, suc, pos, codes, take-append-drop, option_map, string_bytes, refl}
+use Rattle.std.proofs.Common.{◌≡◌, ◌≢◌, ℕ, ◌+◌, ◌⊎◌, inl, inr, Bool, List, ◌++◌, length, take, drop, nat_eq, Option, Some, None, sym, ap, subst, ◌∙◌, pos, codes, take-append-drop, refl}
 use Rattle.std.proofs.lemmas.Bool.{false≢true}
 use Rattle.std.proofs.lemmas.List.{length-map, map-append}
 use Rattle.std.specs.Cmp.Lexicographic.{pointwise}
 use Rattle.std.specs.List.{IsDistinct}
-use Rattle.toml.specs.Data.{Data, Items, no_items, item, Members, get_item, get_member, as_table}
+use Rattle.toml.specs.Data.{Members, get_member}
 use Rattle.batch_cell.proofs.Distinct.{IsDistinct-front}
 use Rattle.batch_reader.proofs.Items.{HasTables_same}
 use Rattle.batch_reader.proofs.OneEntry.{HasName_missing, HasName_unique}
-use Rattle.batch_reader.specs.Entries.{AllItems, HasName, HasNumber, HasTables, IsTableOf, IsTruth, MayHaveName, items_at}
+use Rattle.batch_reader.specs.Entries.{HasName, HasNumber, HasTables, IsTruth, MayHaveName}
 use Rattle.batch_reader.specs.Keys.{a_name, a_number, a_truth, needed, optional}
-use Rattle.batch_reader.specs.TableFaults.{IsArrayFault, IsKeyFault, IsNoTableOr}
+use Rattle.batch_reader.specs.TableFaults.{IsKeyFault}
+use Rattle.batch_reader.specs.Faults.{TellsAt, TellsIn}
 use Rattle.batch_reader.specs.declared.fault.EntryFault.{EntryFault}
 use Rattle.batch_reader.specs.declared.fault.EntryFault.TheVariants.{MissingKey, WrongKind, UnknownKey, Undeclared, Duplicate, OutOfLimit, Chart}
-use Rattle.batch_desks.proofs.Told.{tells_refused}
+use Rattle.batch_reader.specs.declared.fault.Spot.{Spot}
+use Rattle.batch_reader.specs.declared.fault.TableFault.{TableFault}
+use Rattle.batch_reader.specs.declared.fault.TableFault.TheVariants.{Entry, Memory}
+use Rattle.batch_reader.specs.declared.fault.TableKind.TheVariants as table
 use Rattle.batch_desks.specs.DeskNames.{HaveDistinctNames, desk_names}
 use Rattle.batch_desks.specs.DesksDocument.{HasLag, IsDeskTable, IsDesksTable, MayHavePath}
-use Rattle.batch_desks.specs.DesksFaults.{HasNameTwice, HasRightCount, HasSetFault, HasWrongCount, IsDeskFault, IsPathFault, IsRightDesk}
+use Rattle.batch_desks.specs.DesksFaults.{HasNameTwice, HasRightCount, IsPathFault}
 use Rattle.batch_desks.specs.declared.desk.Desk.{Desk}
 use Rattle.batch_desks.specs.declared.desk.TheConstants.{MAX_LAG}
-use Rattle.batch_desks.specs.Told.{Tells}
 use Rattle.batch_desks.specs.declared.desk_set.Desks.{Desks}
-use Rattle.batch_desks.specs.declared.fault.DesksFault.{DesksFault}
-use Rattle.batch_desks.specs.declared.fault.DesksFault.TheVariants.{Memory}
 
 -- nothing is wrong first, and nothing later
 pub none_first : {Wrong Right Later : Type 0} → (Wrong → ⊥) → (Later → ⊥) → Wrong ⊎ (Right × Later) → ⊥
@@ -100,42 +101,6 @@ lag_refused : (ms : Members) (wrong : EntryFault) (lag : ℕ) → HasLag ms lag 
 lag_refused ms wrong lag (inl has) h = number_refused (codes "lag") ms 1 MAX_LAG wrong lag has h
 lag_refused ms wrong lag (inr missing) h = missing_refused (codes "lag") ms 1 MAX_LAG wrong missing.0 h
 
--- ---- a table
-
-desk_refused : (ms : Members) (wrong : EntryFault) → IsDeskFault ms wrong → (desk : Desk) → IsDeskTable ms desk → ⊥
-desk_refused ms wrong fault desk h =
-    none_first (λ w. false≢true (sym w.1 ∙ h.keys))
-    (none_first (name_refused (codes "name") ms wrong desk.name h.name)
-    (none_first (path_refused (codes "input") ms wrong (option_map string_bytes desk.input) h.input)
-    (none_first (path_refused (codes "output") ms wrong (option_map string_bytes desk.output) h.output)
-    (none_first (λ w. false≢true (sym w.1 ∙ h.some_way))
-    (none_first (optional_name_refused (codes "unit") ms wrong desk.unit h.unit)
-    (none_first (truth_refused (codes "stays") ms wrong desk.stays h.stays)
-    (lag_refused ms wrong desk.lag h.lag))))))) fault
-
--- ---- the array of tables
-
--- each item of some that say values says one
-item_says : {X : Type 0} (R : Data → X → Type 0) (items : Items) (xs : List X) → AllItems R items xs → (n : ℕ) (d : Data) → get_item n items ≡ Some d → (x : X) × R d x
-item_says R no_items xs h n d found = absurd (cc found)
-item_says R (item e ds) [] h n d found = absurd h
-item_says R (item e ds) (x ∷ xs) h zero d found = let same : e ≡ d = cc found in (x, rw (← same) h.0)
-item_says R (item e ds) (x ∷ xs) h (suc n) d found = item_says R ds xs h.1 n d found
-
-right_refused : (d : Data) (found : Option Members) (wrong : EntryFault) → as_table d ≡ found → (desk : Desk) → IsTableOf IsDeskTable d desk → IsNoTableOr IsDeskFault found wrong → ⊥
-right_refused d None wrong is_table desk h fault = cc (is_table, h.is_table)
-right_refused d (Some table) wrong is_table desk h fault =
-    let same : h.members ≡ table = cc (is_table, h.is_table) in
-    desk_refused table wrong fault desk (rw same at h.stands_for)
-
-array_refused : (list : Option Items) (items : Items) (desks : List Desk) (entry : ℕ) (wrong : EntryFault) → list ≡ Some items → AllItems (IsTableOf IsDeskTable) items desks
-    → IsArrayFault IsRightDesk IsDeskFault list entry wrong → ⊥
-array_refused None items desks entry wrong found listed h = cc found
-array_refused (Some others) items desks entry wrong found listed h =
-    let same : others ≡ items = cc found in
-    let right = item_says (IsTableOf IsDeskTable) items desks listed entry h.here (rw same at h.found) in
-    right_refused h.here (as_table h.here) wrong refl right.0 right.1 h.fault
-
 -- ---- the set of desks
 
 same_names : (ms : Members) (xs ys : List Desk) → HasTables IsDeskTable (codes "desk") ms xs → HasTables IsDeskTable (codes "desk") ms ys → desk_names xs ≡ desk_names ys
@@ -156,33 +121,24 @@ front_distinct desks i distinct =
     let P : List (List ℕ) → Type 0 = λ names. IsDistinct (pointwise nat_eq) names in
     IsDistinct-front (pointwise nat_eq) (desk_names (take i desks)) (desk_names (drop i desks)) (subst P whole distinct)
 
-count_refused : (desks : List Desk) (entry : ℕ) (wrong : EntryFault) → HasRightCount desks → HasWrongCount desks entry wrong → ⊥
-count_refused desks entry wrong right h = elim h.1 [ inl few ↦ omega (arith, few.0, right.0) | inr many ↦ omega (arith, many.0, right.1) ]
-
-set_refused : (ms : Members) (entry : ℕ) (wrong : EntryFault) (desks : Desks) → IsDesksTable ms desks → HasSetFault ms entry wrong → ⊥
-set_refused ms entry wrong desks h fault =
-    let names : desk_names desks.desks.items ≡ desk_names fault.desks = same_names ms desks.desks.items fault.desks h.tables fault.tables in
-    let count : length desks.desks.items ≡ length fault.desks = same_length desks.desks.items fault.desks names in
-    let right : HasRightCount fault.desks = (rw count at h.some_desk, rw count at h.few_desks) in
-    let P : List (List ℕ) → Type 0 = λ ks. IsDistinct (pointwise nat_eq) ks in
-    let distinct : HaveDistinctNames fault.desks = subst P names h.distinct in
-    none_first (count_refused fault.desks entry wrong right) (λ twice. twice.1.fails (front_distinct fault.desks (entry + 1) distinct)) fault.fault
-
 -- ---- what is told
 
-pub array_refuses : (ms : Members) (fault : DesksFault) → Tells (IsArrayFault IsRightDesk IsDeskFault (items_at (codes "desk") ms)) fault → fault ≢ Memory
-    → (desks : Desks) → IsDesksTable ms desks → ⊥
-array_refuses ms fault told =
-    tells_refused (IsArrayFault IsRightDesk IsDeskFault (items_at (codes "desk") ms)) ((desks : Desks) → IsDesksTable ms desks → ⊥)
-    (λ entry wrong h desks table. array_refused (items_at (codes "desk") ms) table.tables.items desks.desks.items entry wrong table.tables.found table.tables.tables h) fault told
+-- where what is told of a table can't be, memory was refused
+pub lag_refuses : (spot : Spot) (ms : Members) (fault : TableFault) → TellsAt spot (IsKeyFault (optional (codes "lag") (a_number 1 MAX_LAG)) ms) fault → fault ≢ Memory
+    → (desk : Desk) → IsDeskTable ms desk → ⊥
+lag_refuses spot ms Memory told known desk h = known refl
+lag_refuses spot ms (Entry here wrong) told known desk h = lag_refused ms wrong desk.lag h.lag told.1
 
+-- where the tables of a document stand for desks, as many as there are of the set, and by the same names
 module _ (ms : Members) (desks : List Desk) (tables : HasTables IsDeskTable (codes "desk") ms desks) where
-  pub count_refuses : (fault : DesksFault) → Tells (HasWrongCount desks) fault → fault ≢ Memory → (all : Desks) → IsDesksTable ms all → ⊥
-  count_refuses fault told =
-      tells_refused (HasWrongCount desks) ((all : Desks) → IsDesksTable ms all → ⊥)
-      (λ entry wrong h all table. set_refused ms entry wrong all table (record { desks = desks; tables = tables; fault = inl h })) fault told
+  pub right_count : (all : Desks) → IsDesksTable ms all → HasRightCount desks
+  right_count all h =
+      let count : length all.desks.items ≡ length desks = same_length all.desks.items desks (same_names ms all.desks.items desks h.tables tables) in
+      (rw count at h.some_desk, rw count at h.few_desks)
 
-  pub names_refuse : HasRightCount desks → (fault : DesksFault) → Tells (HasNameTwice desks) fault → fault ≢ Memory → (all : Desks) → IsDesksTable ms all → ⊥
-  names_refuse count fault told =
-      tells_refused (HasNameTwice desks) ((all : Desks) → IsDesksTable ms all → ⊥)
-      (λ entry wrong h all table. set_refused ms entry wrong all table (record { desks = desks; tables = tables; fault = inr (count, h) })) fault told
+  pub names_refuse : (fault : TableFault) → TellsIn table.Desk (HasNameTwice desks) fault → fault ≢ Memory → (all : Desks) → IsDesksTable ms all → ⊥
+  names_refuse Memory told known all h = known refl
+  names_refuse (Entry here wrong) told known all h =
+      let P : List (List ℕ) → Type 0 = λ names. IsDistinct (pointwise nat_eq) names in
+      let distinct : HaveDistinctNames desks = subst P (same_names ms all.desks.items desks h.tables tables) h.distinct in
+      told.1.1.fails (front_distinct desks (here.entry + 1) distinct)

@@ -3,10 +3,11 @@ use Rattle.std.specs.Prelude.{◌≡◌, ℕ, Bool, true, List, Some, None, is_s
 use Rattle.std.specs.Cmp.Lexicographic.{pointwise}
 use Rattle.std.specs.List.{list_all}
 use Rattle.batch_reader.specs.PartFaults.{FailsFirst}
+use Rattle.batch_reader.specs.declared.fault.DocFault.{DocFault}
+use Rattle.batch_reader.specs.declared.fault.DocFault.TheVariants.{Entry}
 use Rattle.batch_reader.specs.declared.fault.EntryFault.TheVariants.{Undeclared}
+use Rattle.batch_reader.specs.declared.fault.TableKind.TheVariants as table
 use Rattle.batch_desks.specs.declared.desk.Desk.{Desk}
-use Rattle.batch_desks.specs.declared.fault.DesksFault.{DesksFault}
-use Rattle.batch_desks.specs.declared.fault.DesksFault.TheVariants.{Entry}
 
 -- the desk's unit, if it has one, is one of these
 abbrev pub has_unit : List (List ℕ) → Desk → Bool
@@ -16,7 +17,7 @@ abbrev pub HaveUnits : List (List ℕ) → List Desk → Type 0
 HaveUnits units desks = list_all (has_unit units) desks ≡ true
 
 -- the fault is that of a desk whose unit is none of these: the first of such desks
-pub record TellsNoUnit (units : List (List ℕ)) (desks : List Desk) (fault : DesksFault) : Type 0 where
+pub record TellsNoUnit (units : List (List ℕ)) (desks : List Desk) (fault : DocFault) : Type 0 where
   pub entry : ℕ
-  pub told : fault ≡ Entry entry Undeclared
+  pub told : fault ≡ Entry (record { kind = table.Desk; entry = entry }) Undeclared
   pub first : FailsFirst (HaveUnits units) desks entry

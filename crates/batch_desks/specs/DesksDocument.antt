@@ -1,9 +1,7 @@
 -- trusted: what a document of desks says.
-use Rattle.std.specs.Prelude.{◌≡◌, ℕ, ◌≤◌, ◌⊎◌, Bool, true, ◌||◌, List, [], ◌∷◌, Option, Some, None, is_some, option_map, string_bytes, length, codes, IsUtf8}
+use Rattle.std.specs.Prelude.{◌≡◌, ℕ, ◌≤◌, ◌⊎◌, Bool, true, ◌||◌, List, [], ◌∷◌, Option, Some, None, is_some, option_map, string_bytes, length, codes}
 use Rattle.toml.specs.Data.{Members, get_member}
-use Rattle.toml.specs.Parse.{parse_document}
-use Rattle.batch_reader.specs.Entries.{HasName, HasNumber, HasTables, HasText, IsTruth, MayHaveName, has_only_keys}
-use Rattle.batch_reader.specs.declared.document.TheConstants.{MAX_DOCUMENT_LEN}
+use Rattle.batch_reader.specs.Entries.{IsDocument, HasName, HasNumber, HasTables, HasText, IsTruth, MayHaveName, has_only_keys}
 use Rattle.batch_desks.specs.DeskNames.{HaveDistinctNames}
 use Rattle.batch_desks.specs.declared.desk.Desk.{Desk}
 use Rattle.batch_desks.specs.declared.desk.TheConstants.{MAX_LAG, MAX_PATH_LEN, USUAL_LAG}
@@ -52,9 +50,5 @@ pub record IsDesksTable (ms : Members) (desks : Desks) : Type 0 where
   pub distinct : HaveDistinctNames desks.desks.items
 
 -- the bytes are a document that stands for the desks
-pub record IsDesksDocument (bytes : List ℕ) (desks : Desks) : Type 0 where
-  pub short : length bytes ≤ MAX_DOCUMENT_LEN
-  pub is_text : IsUtf8 bytes
-  pub members : Members
-  pub parsed : parse_document bytes ≡ Some members
-  pub stands_for : IsDesksTable members desks
+abbrev pub IsDesksDocument : List ℕ → Desks → Type 0
+IsDesksDocument bytes desks = IsDocument IsDesksTable bytes desks

@@ -2,6 +2,4 @@ pub mod DeskNames
 pub mod DesksDocument
 pub mod DesksFaults
 pub mod DeskUnits
-pub mod Told
 pub mod RowsOfDesks
-pub mod AsDocuments

@@ -4,9 +4,7 @@
 mod desk;
 mod desk_set;
 mod desk_table;
-mod document;
 mod entries;
-mod fault;
 mod laws;
 mod limits;
 mod names;
@@ -15,7 +13,6 @@ mod units;
 
 pub use desk::{Desk, MAX_LAG, MAX_PATH_LEN, USUAL_LAG};
 pub use desk_set::{Desks, MAX_DESKS};
-pub use fault::DesksFault;
 pub use laws::worked_desks;
 pub use limits::desk_limits_are_fixed;
 pub use reading::read_desks;

@@ -1,41 +1,25 @@
-//! How many desks there are, and their names.
-ghost use Rattle.std.specs.Prelude.{◌≡◌, ◌≢◌, ◌≤◌, nat_eq, length, OnOk, IfErr};
+//! The names of desks.
+ghost use Rattle.std.specs.Prelude.{◌≡◌, nat_eq, OnOk, IfErr};
 ghost use Rattle.std.specs.Cmp.Lexicographic.{pointwise};
 ghost use Rattle.std.specs.List.{list_any};
+ghost use Rattle.batch_reader.specs.Faults.{TellsIn};
+ghost use Rattle.batch_reader.specs.declared.fault.TableKind.{TableKind};
 ghost use Rattle.batch_desks.specs.DeskNames.{HaveDistinctNames, desk_names};
-ghost use Rattle.batch_desks.specs.DesksFaults.{HasNameTwice, HasWrongCount};
-ghost use Rattle.batch_desks.specs.Told.{Tells};
-ghost use Rattle.batch_desks.specs.declared.desk_set.TheConstants.{MAX_DESKS};
+ghost use Rattle.batch_desks.specs.DesksFaults.{HasNameTwice};
 
 use crate::desk::Desk;
-use crate::desk_set::MAX_DESKS;
-use crate::fault::DesksFault;
-use batch_reader::EntryFault;
+use batch_reader::{EntryFault, Spot, TableFault, TableKind};
 use batch_text::Name;
 
-/// Tests how many desks there are.
-pub(crate) fn check_count(desks: &[Desk]) -> Result<(), DesksFault>
-    ensures some { OnOk result (1 ≤ length desks.now) }
-    ensures few { OnOk result (length desks.now ≤ MAX_DESKS) }
-    ensures told { IfErr result (Tells (HasWrongCount desks.now)) }
-{
-    if desks.is_empty() {
-        return Err(DesksFault::Entry(0, EntryFault::OutOfLimit));
-    }
-    if desks.len() > MAX_DESKS {
-        return Err(DesksFault::Entry(MAX_DESKS, EntryFault::OutOfLimit));
-    }
-    Ok(())
-}
-
 /// Tests that the names of desks differ. Of at most 64 each is compared with those before it, which takes no memory.
-pub(crate) fn check_names(desks: &[Desk]) -> Result<(), DesksFault>
+pub(crate) fn check_names(desks: &[Desk]) -> Result<(), TableFault>
     ensures distinct { OnOk result (HaveDistinctNames desks.now) }
-    ensures told { IfErr result (Tells (HasNameTwice desks.now)) }
+    ensures told { IfErr result (TellsIn TableKind.Desk (HasNameTwice desks.now)) }
 {
     for (entry, desk) in desks.iter().enumerate() {
         if is_name_of(&desks[..entry], &desk.name) {
-            return Err(DesksFault::Entry(entry, EntryFault::Duplicate));
+            let kind = TableKind::Desk;
+            return Err(TableFault::Entry(Spot { kind, entry }, EntryFault::Duplicate));
         }
     }
     Ok(())

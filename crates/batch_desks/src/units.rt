@@ -5,26 +5,26 @@ ghost use Rattle.batch_desks.specs.DeskUnits.{HaveUnits, TellsNoUnit, has_unit};
 
 use crate::desk::Desk;
 use crate::desk_set::Desks;
-use crate::fault::DesksFault;
 use batch_cell::Cell;
-use batch_reader::EntryFault;
+use batch_reader::{DocFault, EntryFault, Spot, TableKind};
 
 /// Looks up the units that desks name in the cell. The first desk whose unit is none of its units is refused as
 /// `Undeclared`, and nothing else is.
-pub fn check_units(desks: &Desks, cell: &Cell) -> Result<(), DesksFault>
+pub fn check_units(desks: &Desks, cell: &Cell) -> Result<(), DocFault>
     ensures ok { OnOk result (HaveUnits (units_of cell.now) desks.now.desks.items) }
     ensures refused { IfErr result (TellsNoUnit (units_of cell.now) desks.now.desks.items) }
 {
     check_each(desks.desks.as_slice(), cell)
 }
 
-fn check_each(desks: &[Desk], cell: &Cell) -> Result<(), DesksFault>
+fn check_each(desks: &[Desk], cell: &Cell) -> Result<(), DocFault>
     ensures ok { OnOk result (HaveUnits (units_of cell.now) desks.now) }
     ensures refused { IfErr result (TellsNoUnit (units_of cell.now) desks.now) }
 {
     for (entry, desk) in desks.iter().enumerate() {
         if !has_unit(desk, cell) {
-            return Err(DesksFault::Entry(entry, EntryFault::Undeclared));
+            let kind = TableKind::Desk;
+            return Err(DocFault::Entry(Spot { kind, entry }, EntryFault::Undeclared));
         }
     }
     Ok(())

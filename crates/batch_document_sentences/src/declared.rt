@@ -1,24 +1,11 @@
 //! What a document declares.
 use crate::hints::is_of_words;
-use crate::keys::word_of;
+use crate::keys::{OF_RECIPES, VALUES, word_of};
 use batch_grammar::is_chart_word;
 use batch_reader::{Spot, TableKind};
 use batch_text::is_name;
 use std::alloc::{AllocError, Global};
 use toml::{Table, Value};
-
-/// The words of the tables whose names a recipe declares.
-const DECLARING: [&str; 7] = [
-    "input",
-    "parameter",
-    "output",
-    "role",
-    "unit_procedure",
-    "operation",
-    "phase",
-];
-
-const VALUES: [&str; 3] = ["input", "parameter", "output"];
 
 /// The list that the table has under this key, as are a document's tables of a word; an empty one where it has none.
 pub(crate) fn list_at<'a>(table: &'a Table, key: &str) -> &'a [Value] {
@@ -40,9 +27,9 @@ fn name_in(table: &Value) -> Option<&str> {
 
 /// The word of the first tables of a recipe of which one has this name.
 pub(crate) fn word_declaring(document: &Table, name: &str) -> Option<&'static str> {
-    for word in DECLARING {
-        if is_among(document, word, name) {
-            return Some(word);
+    for kind in OF_RECIPES {
+        if is_among(document, kind.word(), name) {
+            return Some(kind.word());
         }
     }
     None
@@ -116,8 +103,8 @@ pub(crate) fn names_among<'a>(
 /// The names of the document's values.
 pub(crate) fn value_names(alloc: Global, document: &Table) -> Result<Vec<&str>, AllocError> {
     let mut names = Vec::new(alloc);
-    for word in VALUES {
-        for table in list_at(document, word) {
+    for kind in VALUES {
+        for table in list_at(document, kind.word()) {
             if let Some(name) = name_in(table) {
                 names.push(name)?;
             }
@@ -279,8 +266,8 @@ fn is_declared(document: &Table, below: &str, reference: Reference<'_>) -> bool 
 }
 
 fn is_value(document: &Table, name: &str) -> bool {
-    for word in VALUES {
-        if is_among(document, word, name) {
+    for kind in VALUES {
+        if is_among(document, kind.word(), name) {
             return true;
         }
     }

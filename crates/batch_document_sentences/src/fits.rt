@@ -1,6 +1,6 @@
 //! Whether values are what their keys are to have.
 use crate::keys::Shape;
-use batch_text::is_name;
+use batch_text::{MAX_NAME_LEN, is_name};
 use std::alloc::{AllocError, Global};
 use toml::Value;
 
@@ -90,9 +90,8 @@ fn name_fit(value: &Value) -> Fit {
 /// What a value of this shape is.
 pub(crate) fn shape_said(alloc: Global, shape: Shape) -> Result<String, AllocError> {
     match shape {
-        Shape::Name => String::from_str(
-            alloc,
-            "a name: 1 to 32 letters, digits, `_` and `-`, the first of them a letter",
+        Shape::Name => format!(in alloc;
+            "a name: 1 to {MAX_NAME_LEN} letters, digits, `_` and `-`, the first of them a letter"
         ),
         Shape::Text(most) => format!(in alloc; "a text of at most {most} bytes"),
         Shape::Path(most) => format!(in alloc; "a path: a text of 1 to {most} bytes"),

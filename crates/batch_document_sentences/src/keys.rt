@@ -1,7 +1,10 @@
 //! The keys that tables of documents have.
-use batch_cell::{MAX_MODULES, MAX_SHARED, MAX_UNITS};
+use batch_cell::{MAX_CAPACITY, MAX_MODULES, MAX_PHASES, MAX_SHARED, MAX_UNITS};
 use batch_reader::{MAX_CHART_LEN, TableKind};
-use batch_recipe::{MAX_ACTS, MAX_ENTRIES, MAX_ROLES};
+use batch_recipe::{
+    MAX_ACTS, MAX_ENTRIES, MAX_NEEDS, MAX_REPORTS, MAX_RESERVES, MAX_ROLES, MAX_SIZE, MAX_TEXT_LEN,
+    MAX_VALUE, MAX_VALUES, MAX_VERSION_LEN,
+};
 use std::alloc::{AllocError, Global};
 
 /// What a key's value is to be.
@@ -31,11 +34,11 @@ const NAME: Key = Key("name", true, Shape::Name);
 
 const CHART: Key = Key("chart", true, Shape::Text(MAX_CHART_LEN));
 
-const NEEDS: Key = Key("needs", false, Shape::Needs(16));
+const NEEDS: Key = Key("needs", false, Shape::Needs(MAX_NEEDS));
 
-const RESERVES: Key = Key("reserves", false, Shape::Names(0, 4));
+const RESERVES: Key = Key("reserves", false, Shape::Names(0, MAX_RESERVES));
 
-const GREATEST_VALUE: i64 = 1_000_000_000_000;
+const GREATEST_VALUE: i64 = MAX_VALUE as i64;
 
 const CELL: [Key; 4] = [
     Key("cell", true, Shape::Name),
@@ -49,18 +52,21 @@ const UNIT: [Key; 2] = [NAME, Key("class", false, Shape::Name)];
 const MODULE: [Key; 3] = [
     NAME,
     Key("unit", false, Shape::Name),
-    Key("phases", false, Shape::Names(1, 32)),
+    Key("phases", false, Shape::Names(1, MAX_PHASES)),
 ];
 
-const SHARED: [Key; 2] = [NAME, Key("capacity", true, Shape::Number(1, 1_000))];
+const SHARED: [Key; 2] = [
+    NAME,
+    Key("capacity", true, Shape::Number(1, MAX_CAPACITY as i64)),
+];
 
 const RECIPE: [Key; 14] = [
     Key("recipe", true, Shape::Name),
-    Key("version", true, Shape::Text(64)),
-    Key("basis", true, Shape::Number(1, 1_000_000_000)),
-    Key("product", false, Shape::Text(256)),
-    Key("author", false, Shape::Text(256)),
-    Key("info", false, Shape::Text(256)),
+    Key("version", true, Shape::Text(MAX_VERSION_LEN)),
+    Key("basis", true, Shape::Number(1, MAX_SIZE as i64)),
+    Key("product", false, Shape::Text(MAX_TEXT_LEN)),
+    Key("author", false, Shape::Text(MAX_TEXT_LEN)),
+    Key("info", false, Shape::Text(MAX_TEXT_LEN)),
     Key("procedure", true, Shape::Tables),
     Key("input", false, Shape::Tables),
     Key("parameter", false, Shape::Tables),
@@ -100,11 +106,12 @@ const PHASE: [Key; 6] = [
     NAME,
     Key("runs", false, Shape::Name),
     NEEDS,
-    Key("values", false, Shape::Names(0, 4)),
-    Key("reports", false, Shape::Names(0, 16)),
+    Key("values", false, Shape::Names(0, MAX_VALUES)),
+    Key("reports", false, Shape::Names(0, MAX_REPORTS)),
     RESERVES,
 ];
 
+// The limits of desks are those of batch_desks, for which this crate doesn't wait.
 const DESK: [Key; 6] = [
     NAME,
     Key("input", false, Shape::Path(4_096)),
@@ -137,18 +144,7 @@ pub(crate) fn keys_of(kind: TableKind) -> &'static [Key] {
 pub(crate) fn word_of(kind: TableKind) -> Option<&'static str> {
     match kind {
         TableKind::Cell | TableKind::Recipe => None,
-        TableKind::Unit => Some("unit"),
-        TableKind::Module => Some("module"),
-        TableKind::Shared => Some("shared"),
-        TableKind::Input => Some("input"),
-        TableKind::Parameter => Some("parameter"),
-        TableKind::Output => Some("output"),
-        TableKind::Role => Some("role"),
-        TableKind::Procedure => Some("procedure"),
-        TableKind::UnitProcedure => Some("unit_procedure"),
-        TableKind::Operation => Some("operation"),
-        TableKind::Phase => Some("phase"),
-        TableKind::Desk => Some("desk"),
+        _ => Some(kind.word()),
     }
 }
 
@@ -159,7 +155,8 @@ const OF_CELLS: [TableKind; 4] = [
     TableKind::Shared,
 ];
 
-const OF_RECIPES: [TableKind; 9] = [
+/// The kinds of tables of recipes, in the order in which they are read. The top and the procedure have no key `name`.
+pub(crate) const OF_RECIPES: [TableKind; 9] = [
     TableKind::Recipe,
     TableKind::Input,
     TableKind::Parameter,

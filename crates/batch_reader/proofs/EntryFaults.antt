@@ -17,7 +17,7 @@ use Rattle.batch_reader.specs.declared.fault.TableFault.TheVariants.{Entry, Memo
 use Rattle.batch_reader.specs.declared.fault.TableKind.{TableKind}
 
 -- what is told as this, and is refused only where that is so
-told_as : {Refused : Type 0} (Is : EntryFault → Type 0) (spot : Spot) (wrong : EntryFault) (fault : TableFault) → (Refused → Is wrong)
+pub told_as : {Refused : Type 0} (Is : EntryFault → Type 0) (spot : Spot) (wrong : EntryFault) (fault : TableFault) → (Refused → Is wrong)
     → (fault ≢ Memory → Refused) → IsToldAs spot wrong fault → TellsAt spot Is fault
 told_as Is spot wrong Memory stands refused told = tt
 told_as Is spot wrong (Entry here what) stands refused told = (told.0, subst Is (sym told.1) (stands (refused (λ e. cc e))))

@@ -1,7 +1,6 @@
 -- trusted: what a cell document says.
-use Rattle.std.specs.Prelude.{◌≡◌, ℕ, ◌<◌, ◌≤◌, ◌⊎◌, true, List, [], ◌∷◌, Some, None, length, codes, IsUtf8}
+use Rattle.std.specs.Prelude.{◌≡◌, ℕ, ◌<◌, ◌≤◌, ◌⊎◌, true, List, [], ◌∷◌, Some, None, length, codes}
 use Rattle.toml.specs.Data.{Members, get_member}
-use Rattle.toml.specs.Parse.{parse_document}
 use Rattle.batch_cell.specs.Equipment.{IsDeclaredOnce, HasDeclaredUnits, OffersPhasesOnce}
 use Rattle.batch_cell.specs.declared.cell.Cell.{Cell}
 use Rattle.batch_cell.specs.declared.cell.TheConstants.{MAX_UNITS, MAX_MODULES, MAX_SHARED}
@@ -10,8 +9,7 @@ use Rattle.batch_cell.specs.declared.module.TheConstants.{MAX_PHASES}
 use Rattle.batch_cell.specs.declared.shared.Shared.{Shared}
 use Rattle.batch_cell.specs.declared.shared.TheConstants.{MAX_CAPACITY}
 use Rattle.batch_cell.specs.declared.unit.Unit.{Unit}
-use Rattle.batch_reader.specs.Entries.{HasName, HasNames, HasNumber, HasTables, MayHaveName, has_only_keys}
-use Rattle.batch_reader.specs.declared.document.TheConstants.{MAX_DOCUMENT_LEN}
+use Rattle.batch_reader.specs.Entries.{IsDocument, HasName, HasNames, HasNumber, HasTables, MayHaveName, has_only_keys}
 
 -- the table stands for the unit
 pub record IsUnitTable (ms : Members) (unit : Unit) : Type 0 where
@@ -68,9 +66,5 @@ pub record IsCellTable (ms : Members) (cell : Cell) : Type 0 where
   pub sound : IsSoundEquipment cell.units.items cell.modules.items cell.shared.items
 
 -- the bytes are a document that stands for the cell
-pub record IsCellDocument (bytes : List ℕ) (cell : Cell) : Type 0 where
-  pub short : length bytes ≤ MAX_DOCUMENT_LEN
-  pub is_text : IsUtf8 bytes
-  pub members : Members
-  pub parsed : parse_document bytes ≡ Some members
-  pub stands_for : IsCellTable members cell
+abbrev pub IsCellDocument : List ℕ → Cell → Type 0
+IsCellDocument bytes cell = IsDocument IsCellTable bytes cell

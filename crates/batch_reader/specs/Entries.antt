@@ -1,15 +1,17 @@
--- trusted: what the entries of a table say.
-use Rattle.std.specs.Prelude.{◌≡◌, ℕ, ◌≤◌, pos, Bool, true, false, ◌&&◌, ◌⊎◌, ⊤, List, [], ◌∷◌, length, Option, Some, None, option_and_then, nat_eq}
+-- trusted: what the entries of a table say, and a document by its table.
+use Rattle.std.specs.Prelude.{◌≡◌, ℕ, ◌≤◌, pos, Bool, true, false, ◌&&◌, ◌⊎◌, ⊤, List, [], ◌∷◌, length, Option, Some, None, option_and_then, nat_eq, IsUtf8}
 use Rattle.std.specs.Cmp.Lexicographic.{pointwise}
 use Rattle.std.specs.List.{list_any}
 use Rattle.std.specs.Option.{option_map_or}
 use Rattle.toml.specs.Data.{Data, Items, no_items, item, Members, no_members, member, get_member, as_str, as_integer, as_bool, as_array, as_table}
+use Rattle.toml.specs.Parse.{parse_document}
 use Rattle.batch_text.specs.NameText.{IsName}
 use Rattle.batch_recipe.specs.Diagram.{Diagram}
 use Rattle.batch_recipe.specs.declared.need.Need.{Need}
 use Rattle.batch_grammar.specs.ChartGrammar.{IsChart, IsLabel}
 use Rattle.batch_grammar.specs.declared.reading.TheConstants.{MAX_CHART_LEN}
 use Rattle.batch_reader.specs.NeedText.{IsNeedText}
+use Rattle.batch_reader.specs.declared.document.TheConstants.{MAX_DOCUMENT_LEN}
 
 -- each key of the table is one of these
 abbrev pub has_only_keys : List (List ℕ) → Members → Bool
@@ -121,3 +123,11 @@ pub record HasTables {X : Type 0} (R : Members → X → Type 0) (key : List ℕ
   pub items : Items
   pub found : items_at key ms ≡ Some items
   pub tables : AllItems (IsTableOf R) items values
+
+-- the bytes are a document of at most so many bytes, whose table stands for x
+pub record IsDocument {X : Type 0} (R : Members → X → Type 0) (bytes : List ℕ) (x : X) : Type 0 where
+  pub short : length bytes ≤ MAX_DOCUMENT_LEN
+  pub is_text : IsUtf8 bytes
+  pub members : Members
+  pub parsed : parse_document bytes ≡ Some members
+  pub stands_for : R members x

@@ -1,4 +1,4 @@
--- trusted: what the refusal of a table tells. Private contracts alone cite all but `is_of_cell` and `is_of_recipe`.
+-- trusted: what the refusal of a table tells.
 use Rattle.std.specs.Prelude.{◌≡◌, ℕ, ◌≤◌, nat_lt, ◌⊎◌, ⊤, List, Bool, true, false, not, position, if◌then◌else◌, Option, Some, None, codes}
 use Rattle.toml.specs.Data.{Data, Items, Members}
 use Rattle.batch_text.specs.NumberText.{IsNumber, number_of}

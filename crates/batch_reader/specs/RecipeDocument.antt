@@ -1,14 +1,12 @@
 -- trusted: what a recipe document says.
-use Rattle.std.specs.Prelude.{◌≡◌, ◌≤◌, ℕ, true, List, [], ◌∷◌, Some, length, codes, IsUtf8}
+use Rattle.std.specs.Prelude.{◌≡◌, ℕ, true, List, [], ◌∷◌, codes}
 use Rattle.toml.specs.Data.{Members}
-use Rattle.toml.specs.Parse.{parse_document}
 use Rattle.batch_recipe.specs.declared.acts.Acts.{Acts}
 use Rattle.batch_recipe.specs.declared.recipe.Recipe.{Recipe}
 use Rattle.batch_recipe.specs.declared.scaling.TheConstants.{MAX_SIZE}
-use Rattle.batch_reader.specs.Entries.{HasName, HasNumber, HasTable, HasTables, has_only_keys}
+use Rattle.batch_reader.specs.Entries.{IsDocument, HasName, HasNumber, HasTable, HasTables, has_only_keys}
 use Rattle.batch_reader.specs.RecipeTables.{HasHeader, IsQuantityTable, IsOutputTable, IsRoleTable, IsProcedureTable, IsUnitProcedureTable, IsOperationTable, IsPhaseTable}
 use Rattle.batch_reader.specs.SoundRecipe.{IsSoundRecipe}
-use Rattle.batch_reader.specs.declared.document.TheConstants.{MAX_DOCUMENT_LEN}
 
 -- the keys of the top
 abbrev pub recipe_keys : List (List ℕ)
@@ -38,9 +36,5 @@ pub record IsRecipeTable (ms : Members) (recipe : Recipe) : Type 0 where
   pub sound : IsSoundRecipe recipe.inputs.items recipe.parameters.items recipe.outputs.items recipe.roles.items recipe.acts
 
 -- the bytes are a document that stands for the recipe
-pub record IsRecipeDocument (bytes : List ℕ) (recipe : Recipe) : Type 0 where
-  pub short : length bytes ≤ MAX_DOCUMENT_LEN
-  pub is_text : IsUtf8 bytes
-  pub members : Members
-  pub parsed : parse_document bytes ≡ Some members
-  pub stands_for : IsRecipeTable members recipe
+abbrev pub IsRecipeDocument : List ℕ → Recipe → Type 0
+IsRecipeDocument bytes recipe = IsDocument IsRecipeTable bytes recipe

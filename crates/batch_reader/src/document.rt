@@ -12,8 +12,11 @@ use toml::Table;
 /// The longest document, in bytes.
 pub const MAX_DOCUMENT_LEN: usize = 1_048_576;
 
-/// The table of a document. A document that is too long is refused at its top.
-pub(crate) fn table_of(alloc: Global, bytes: &[u8], top: Spot) -> Result<Table, DocFault>
+/// The table of a document. It is refused as
+/// - `NotToml`, where its bytes are no TOML in UTF-8;
+/// - `Entry`, at its top and out of limits, where it is too long;
+/// - `Memory`, where memory is refused.
+pub fn table_of(alloc: Global, bytes: &[u8], top: Spot) -> Result<Table, DocFault>
     ensures short { IfOk result (λ _. length bytes.now ≤ MAX_DOCUMENT_LEN) }
     ensures is_text { IfOk result (λ _. IsUtf8 bytes.now) }
     ensures parsed { IfOk result (λ table. parse_document bytes.now ≡ Some (table_view table)) }
@@ -38,7 +41,7 @@ pub(crate) fn table_of(alloc: Global, bytes: &[u8], top: Spot) -> Result<Table, 
 }
 
 /// The refusal of a document one of whose tables is refused.
-pub(crate) fn document_fault(fault: TableFault) -> DocFault
+pub fn document_fault(fault: TableFault) -> DocFault
     ensures entry { (spot : Spot) (wrong : EntryFault) → fault ≡ TableFault.Entry spot wrong → result ≡ DocFault.Entry spot wrong }
     ensures memory { fault ≡ TableFault.Memory → result ≡ DocFault.Memory }
     ensures is_toml { result ≢ DocFault.NotToml }

@@ -1,10 +1,11 @@
 //! The entries of a table.
-ghost use Rattle.std.specs.Prelude.{◌≡◌, ◌≢◌, ◌≤◌, ℕ, List, Option, Some, None, map, option_map, nat_eq, IfOk, IfErr};
+ghost use Rattle.std.specs.Prelude.{◌≡◌, ◌≢◌, ◌≤◌, ℕ, List, Bool, Option, Some, None, map, option_map, nat_eq, string_bytes, string_len, IfOk, IfErr};
 ghost use Rattle.std.specs.Cmp.Lexicographic.{pointwise};
 ghost use Rattle.std.specs.List.{list_any};
-ghost use Rattle.toml.specs.Data.{as_integer, get_member};
+ghost use Rattle.std.specs.Option.{ForSome};
+ghost use Rattle.toml.specs.Data.{as_integer, as_str, get_member};
 ghost use Rattle.toml.specs.View.{view, items_view, table_view};
-ghost use Rattle.batch_reader.specs.Entries.{HasName, HasNumber, HasNames, AllItems, IsNameItem, MayHaveName, has_only_keys};
+ghost use Rattle.batch_reader.specs.Entries.{HasName, HasNumber, HasNames, HasText, AllItems, IsNameItem, IsTruth, MayHaveName, MayHaveText, has_only_keys};
 ghost use Rattle.batch_reader.specs.Faults.{IsToldAs, missing_or_wrong, value_fault};
 
 use crate::fault::{EntryFault, Spot, TableFault};
@@ -13,14 +14,14 @@ use std::alloc::Global;
 use toml::{Table, Value};
 
 /// The value at a key.
-pub(crate) fn member<'a>(table: &'a Table, key: &str) -> Option<&'a Value>
+pub fn member<'a>(table: &'a Table, key: &str) -> Option<&'a Value>
     ensures { option_map (λ value. view value.now) result ≡ get_member key.now (table_view table.now) }
 {
     table.get(key)
 }
 
 /// Whether the table has no key but these.
-pub(crate) fn has_only_keys(table: &Table, known: &[&str]) -> bool
+pub fn has_only_keys(table: &Table, known: &[&str]) -> bool
     ensures { result ≡ has_only_keys (map (λ key. key.now) known.now) (table_view table.now) }
 {
     table.keys().all(|key| is_one_of(key.as_str(), known))
@@ -49,13 +50,8 @@ fn name_of(alloc: Global, value: &Value, spot: Spot) -> Result<Name, TableFault>
     }
 }
 
-/// The name at a key.
-pub(crate) fn name_at(
-    alloc: Global,
-    table: &Table,
-    key: &str,
-    spot: Spot,
-) -> Result<Name, TableFault>
+/// The name at a key of the table at the spot. It is refused there as missing, and as of the wrong kind where it is no name.
+pub fn name_at(alloc: Global, table: &Table, key: &str, spot: Spot) -> Result<Name, TableFault>
     ensures ok { IfOk result (HasName key.now (table_view table.now)) }
     ensures refused { IfErr result (λ fault. fault ≢ TableFault.Memory
         → (name : List ℕ) → ¬ (HasName key.now (table_view table.now) name)) }
@@ -67,8 +63,8 @@ pub(crate) fn name_at(
     name_of(alloc, value, spot)
 }
 
-/// The name at a key, where the key is there.
-pub(crate) fn optional_name_at(
+/// The name at a key of the table at the spot, where the key is there. It is refused as of the wrong kind where it is no name.
+pub fn optional_name_at(
     alloc: Global,
     table: &Table,
     key: &str,
@@ -86,8 +82,9 @@ pub(crate) fn optional_name_at(
     Ok(Some(name))
 }
 
-/// The number at a key, from `low` to `high`.
-pub(crate) fn number_at(
+/// The number at a key of the table at the spot. It is refused as missing, as of the wrong kind where it is no integer, and as out of
+/// limits where it isn't from `low` to `high`.
+pub fn number_at(
     table: &Table,
     key: &str,
     low: u64,
@@ -112,6 +109,69 @@ pub(crate) fn number_at(
         return Err(TableFault::Entry(spot, EntryFault::OutOfLimit));
     }
     Ok(number)
+}
+
+/// The truth value at a key of the table at the spot, false where it is missing. It is refused where it is of the wrong kind.
+pub fn truth_at(table: &Table, key: &str, spot: Spot) -> Result<bool, TableFault>
+    ensures ok { IfOk result (IsTruth key.now (table_view table.now)) }
+    ensures refused { IfErr result (λ fault. (truth : Bool) → ¬ (IsTruth key.now (table_view table.now) truth)) }
+    ensures told { IfErr result (λ fault. fault ≡ TableFault.Entry spot EntryFault.WrongKind) }
+{
+    let Some(value) = member(table, key) else {
+        return Ok(false);
+    };
+    match value.as_bool() {
+        Some(truth) => Ok(truth),
+        None => Err(TableFault::Entry(spot, EntryFault::WrongKind)),
+    }
+}
+
+/// The text at a key, of at most so many bytes.
+pub(crate) fn text_at(
+    alloc: Global,
+    table: &Table,
+    key: &str,
+    most: usize,
+    spot: Spot,
+) -> Result<String, TableFault>
+    ensures ok { IfOk result (λ text. HasText key.now (table_view table.now) most (string_bytes text)) }
+    ensures short { IfOk result (λ text. string_len text ≤ most) }
+    ensures refused { IfErr result (λ fault. fault ≢ TableFault.Memory
+        → (text : List ℕ) → ¬ (HasText key.now (table_view table.now) most text)) }
+    ensures told { IfErr result (IsToldAs spot (value_fault as_str (get_member key.now (table_view table.now)))) }
+{
+    let Some(value) = member(table, key) else {
+        return Err(TableFault::Entry(spot, EntryFault::MissingKey));
+    };
+    let Some(text) = value.as_str() else {
+        return Err(TableFault::Entry(spot, EntryFault::WrongKind));
+    };
+    if text.len() > most {
+        return Err(TableFault::Entry(spot, EntryFault::OutOfLimit));
+    }
+    Ok(String::from_str(alloc, text)?)
+}
+
+/// The text at a key of the table at the spot, of at most so many bytes, where the key is there. It is refused as of the wrong kind where it
+/// is no text, and as out of limits where it is longer.
+pub fn optional_text_at(
+    alloc: Global,
+    table: &Table,
+    key: &str,
+    most: usize,
+    spot: Spot,
+) -> Result<Option<String>, TableFault>
+    ensures ok { IfOk result (λ text. MayHaveText key.now (table_view table.now) most (option_map string_bytes text)) }
+    ensures short { IfOk result (λ text. ForSome text (λ t. string_len t ≤ most)) }
+    ensures refused { IfErr result (λ fault. fault ≢ TableFault.Memory
+        → (text : Option (List ℕ)) → ¬ (MayHaveText key.now (table_view table.now) most text)) }
+    ensures told { IfErr result (IsToldAs spot (value_fault as_str (get_member key.now (table_view table.now)))) }
+{
+    if member(table, key).is_none() {
+        return Ok(None);
+    }
+    let text = text_at(alloc, table, key, most, spot)?;
+    Ok(Some(text))
 }
 
 /// The names in the list at a key.

@@ -1,13 +1,13 @@
 //! The conditions on a cell's equipment.
-ghost use Rattle.std.specs.Prelude.{◌≢◌, ◌≤◌, IfErr, OnOk};
+ghost use Rattle.std.specs.Prelude.{◌≢◌, IfErr, OnOk};
 ghost use Rattle.batch_reader.specs.CellDocument.{IsSoundEquipment};
-ghost use Rattle.batch_reader.specs.Faults.{IsAmong, IsToldIn, Tells, is_of_cell};
-ghost use Rattle.batch_reader.specs.PartFaults.{IsCountFault, IsEquipmentFault};
-ghost use Rattle.batch_reader.specs.declared.fault.EntryFault.{EntryFault};
+ghost use Rattle.batch_reader.specs.Faults.{IsAmong, Tells, is_of_cell};
+ghost use Rattle.batch_reader.specs.PartFaults.{IsEquipmentFault};
 
-use crate::fault::{EntryFault, Spot, TableFault, TableKind};
+use crate::fault::{TableFault, TableKind};
 use crate::offered::check_offered_phases;
 use crate::resources::{check_names, check_units};
+use crate::tables::check_count;
 use batch_cell::{MAX_MODULES, MAX_SHARED, MAX_UNITS, Module, Shared, Unit};
 use std::alloc::Global;
 
@@ -30,25 +30,5 @@ pub(crate) fn check_equipment(
     check_names(alloc, units, modules, shared)?;
     check_units(units, modules)?;
     check_offered_phases(alloc, units, modules)?;
-    Ok(())
-}
-
-/// Tests how many tables of a kind there are.
-pub(crate) fn check_count(
-    count: usize,
-    least: usize,
-    most: usize,
-    kind: TableKind,
-) -> Result<(), TableFault>
-    ensures ok { OnOk result ((least ≤ count) × (count ≤ most)) }
-    ensures refused { IfErr result (λ fault. ¬ ((least ≤ count) × (count ≤ most))) }
-    ensures told { IfErr result (λ fault. IsToldIn kind EntryFault.OutOfLimit fault × Tells (λ spot _. IsCountFault least most count spot.entry) fault) }
-{
-    if count < least {
-        return Err(TableFault::Entry(Spot { kind, entry: 0 }, EntryFault::OutOfLimit));
-    }
-    if count > most {
-        return Err(TableFault::Entry(Spot { kind, entry: most }, EntryFault::OutOfLimit));
-    }
     Ok(())
 }

@@ -41,11 +41,12 @@ pub enum TableKind {
     Desk,
 }
 
-impl fmt::Display for TableKind {
-    ghost output = { λ kind. Some (table_word kind) };
-
-    fn fmt<W: fmt::Write>(&self, f: &mut fmt::Formatter<W>) -> fmt::Result {
-        f.write_str(match self {
+impl TableKind {
+    /// The word for the kind, as refusals print it.
+    pub fn word(self) -> &'static str
+        ensures { result.now ≡ table_word self }
+    {
+        match self {
             TableKind::Cell => "cell",
             TableKind::Unit => "unit",
             TableKind::Module => "module",
@@ -60,7 +61,15 @@ impl fmt::Display for TableKind {
             TableKind::Operation => "operation",
             TableKind::Phase => "phase",
             TableKind::Desk => "desk",
-        })
+        }
+    }
+}
+
+impl fmt::Display for TableKind {
+    ghost output = { λ kind. Some (table_word kind) };
+
+    fn fmt<W: fmt::Write>(&self, f: &mut fmt::Formatter<W>) -> fmt::Result {
+        f.write_str(self.word())
     }
 }
 
@@ -117,9 +126,9 @@ pub enum DocFault {
     Memory,
 }
 
-/// Why a table is refused.
+/// Why a table of a document is refused: a fault at its spot, or want of memory on the way.
 #[derive(Clone, Copy, Debug, Error)]
-pub(crate) enum TableFault {
+pub enum TableFault {
     #[error("{0}: {1}")]
     Entry(Spot, EntryFault),
     #[error("out of memory")]

@@ -1,4 +1,4 @@
-//! Readers: of chart texts, and of documents, which are cells and recipes.
+//! Readers: of chart texts, of documents, which are cells and recipes, and of the tables of any document.
 #![tactic(auto)]
 
 mod act_tables;
@@ -28,8 +28,12 @@ mod value_tables;
 
 pub use batch_grammar::{ChartFault, MAX_CHART_LEN, read_chart};
 pub use cell_document::read_cell;
-pub use document::MAX_DOCUMENT_LEN;
-pub use fault::{DocFault, EntryFault, Spot, TableKind};
+pub use document::{MAX_DOCUMENT_LEN, document_fault, table_of};
+pub use entries::{
+    has_only_keys, member, name_at, number_at, optional_name_at, optional_text_at, truth_at,
+};
+pub use fault::{DocFault, EntryFault, Spot, TableFault, TableKind};
 pub use laws::worked_faults;
 pub use limits::document_limit_is_fixed;
 pub use recipe_document::read_recipe;
+pub use tables::{FromTable, check_count, tables_at};

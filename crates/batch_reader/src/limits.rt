@@ -2,7 +2,7 @@
 ghost use Rattle.std.specs.Prelude.{◌≡◌};
 ghost use Rattle.batch_reader.specs.declared.document.TheConstants.{MAX_DOCUMENT_LEN};
 
-/// The longest document of a cell or a recipe has this many bytes.
+/// The longest document has this many bytes.
 pub fn document_limit_is_fixed()
     ensures { MAX_DOCUMENT_LEN ≡ 1048576 }
 {}

@@ -15,12 +15,12 @@ ghost use Rattle.batch_reader.specs.declared.fault.Spot.{Spot};
 ghost use Rattle.batch_reader.specs.declared.fault.TableKind.{TableKind};
 
 use crate::chart_names::is_declared;
-use crate::equipment::check_count;
 use crate::fault::{EntryFault, Spot, TableFault, TableKind};
 use crate::recipe_names::{RecipeNames, recipe_names};
 use crate::reports::check_reports;
 use crate::reserves::check_reserves;
 use crate::roles::check_roles;
+use crate::tables::check_count;
 use batch_recipe::{Act, Acts, MAX_ACTS, MAX_ENTRIES, MAX_ROLES, Quantity, Role, Work};
 use batch_text::Name;
 use indexmap::IndexSet;

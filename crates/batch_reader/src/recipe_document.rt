@@ -20,10 +20,9 @@ ghost use Rattle.batch_reader.specs.declared.fault.TableKind.{TableKind};
 
 use crate::act_tables::procedure_at;
 use crate::document::{document_fault, table_of};
-use crate::entries::{has_only_keys, name_at, number_at};
+use crate::entries::{has_only_keys, name_at, number_at, optional_text_at, text_at};
 use crate::fault::{DocFault, EntryFault, Spot, TableFault, TableKind};
 use crate::recipe_checks::check_recipe;
-use crate::recipe_entries::{optional_text_at, text_at};
 use crate::tables::tables_at;
 use batch_recipe::{
     Act, Acts, Header, MAX_SIZE, MAX_TEXT_LEN, MAX_VERSION_LEN, OutlineFault, Quantity, Recipe,

@@ -1,10 +1,9 @@
 //! The entries that tables of recipes alone have.
-ghost use Rattle.std.specs.Prelude.{◌≡◌, ◌≢◌, ◌≤◌, ℕ, List, Bool, Option, option_map, string_bytes, string_len, IfOk, IfErr};
-ghost use Rattle.std.specs.Option.{ForSome};
-ghost use Rattle.toml.specs.Data.{as_str, get_member};
+ghost use Rattle.std.specs.Prelude.{◌≢◌, ℕ, List, IfOk, IfErr};
+ghost use Rattle.toml.specs.Data.{get_member};
 ghost use Rattle.toml.specs.View.{table_view};
-ghost use Rattle.batch_reader.specs.Entries.{HasLabel, HasNameOr, HasText, MayHaveText, HasFewNames, IsTruth, items_at};
-ghost use Rattle.batch_reader.specs.Faults.{IsToldAs, few_names_fault, missing_or_wrong, value_fault};
+ghost use Rattle.batch_reader.specs.Entries.{HasLabel, HasNameOr, HasFewNames, items_at};
+ghost use Rattle.batch_reader.specs.Faults.{IsToldAs, few_names_fault, missing_or_wrong};
 
 use crate::entries::{member, name_at, names_of};
 use crate::fault::{EntryFault, Spot, TableFault};
@@ -52,68 +51,6 @@ pub(crate) fn name_or(
     match other.copy(alloc) {
         Ok(name) => Ok(name),
         Err(_) => Err(TableFault::Memory),
-    }
-}
-
-/// The text at a key, of at most so many bytes.
-pub(crate) fn text_at(
-    alloc: Global,
-    table: &Table,
-    key: &str,
-    most: usize,
-    spot: Spot,
-) -> Result<String, TableFault>
-    ensures ok { IfOk result (λ text. HasText key.now (table_view table.now) most (string_bytes text)) }
-    ensures short { IfOk result (λ text. string_len text ≤ most) }
-    ensures refused { IfErr result (λ fault. fault ≢ TableFault.Memory
-        → (text : List ℕ) → ¬ (HasText key.now (table_view table.now) most text)) }
-    ensures told { IfErr result (IsToldAs spot (value_fault as_str (get_member key.now (table_view table.now)))) }
-{
-    let Some(value) = member(table, key) else {
-        return Err(TableFault::Entry(spot, EntryFault::MissingKey));
-    };
-    let Some(text) = value.as_str() else {
-        return Err(TableFault::Entry(spot, EntryFault::WrongKind));
-    };
-    if text.len() > most {
-        return Err(TableFault::Entry(spot, EntryFault::OutOfLimit));
-    }
-    Ok(String::from_str(alloc, text)?)
-}
-
-/// The text at a key, of at most so many bytes, where the key is there.
-pub(crate) fn optional_text_at(
-    alloc: Global,
-    table: &Table,
-    key: &str,
-    most: usize,
-    spot: Spot,
-) -> Result<Option<String>, TableFault>
-    ensures ok { IfOk result (λ text. MayHaveText key.now (table_view table.now) most (option_map string_bytes text)) }
-    ensures short { IfOk result (λ text. ForSome text (λ t. string_len t ≤ most)) }
-    ensures refused { IfErr result (λ fault. fault ≢ TableFault.Memory
-        → (text : Option (List ℕ)) → ¬ (MayHaveText key.now (table_view table.now) most text)) }
-    ensures told { IfErr result (IsToldAs spot (value_fault as_str (get_member key.now (table_view table.now)))) }
-{
-    if member(table, key).is_none() {
-        return Ok(None);
-    }
-    let text = text_at(alloc, table, key, most, spot)?;
-    Ok(Some(text))
-}
-
-/// The truth value at a key, false where it is missing.
-pub(crate) fn truth_at(table: &Table, key: &str, spot: Spot) -> Result<bool, TableFault>
-    ensures ok { IfOk result (IsTruth key.now (table_view table.now)) }
-    ensures refused { IfErr result (λ fault. (truth : Bool) → ¬ (IsTruth key.now (table_view table.now) truth)) }
-    ensures told { IfErr result (λ fault. fault ≡ TableFault.Entry spot EntryFault.WrongKind) }
-{
-    let Some(value) = member(table, key) else {
-        return Ok(false);
-    };
-    match value.as_bool() {
-        Some(truth) => Ok(truth),
-        None => Err(TableFault::Entry(spot, EntryFault::WrongKind)),
     }
 }
 

@@ -1,9 +1,10 @@
 //! The tables of an array.
-ghost use Rattle.std.specs.Prelude.{◌≡◌, ◌≢◌, List, Some, None, Err, IfOk, IfErr};
+ghost use Rattle.std.specs.Prelude.{◌≡◌, ◌≢◌, ◌≤◌, List, Some, None, Err, IfOk, IfErr, OnOk};
 ghost use Rattle.toml.specs.Data.{Members};
 ghost use Rattle.toml.specs.View.{table_view, items_view};
 ghost use Rattle.batch_reader.specs.Entries.{HasTables, IsTableOf, items_at};
-ghost use Rattle.batch_reader.specs.Faults.{TellsAt, TellsIn};
+ghost use Rattle.batch_reader.specs.Faults.{IsToldIn, Tells, TellsAt, TellsIn};
+ghost use Rattle.batch_reader.specs.PartFaults.{IsCountFault};
 ghost use Rattle.batch_reader.specs.TableFaults.{IsArrayFault};
 ghost use Rattle.batch_reader.specs.declared.fault.EntryFault.{EntryFault};
 ghost use Rattle.batch_reader.specs.declared.fault.TableKind.{TableKind};
@@ -14,7 +15,7 @@ use std::alloc::Global;
 use toml::{Table, Value};
 
 /// A value that a table of a document stands for.
-pub(crate) trait FromTable: Drop {
+pub trait FromTable: Drop {
     // the table of this kind stands for the value
     ghost stands_for: { TableKind → Members → Self → Type 0 };
 
@@ -48,8 +49,9 @@ pub(crate) fn items_at<'a>(
     }
 }
 
-/// What the tables of the array at a key stand for, in order.
-pub(crate) fn tables_at<T: FromTable>(
+/// The values that the tables of the array at a key stand for, in order; none where the key is missing. It is refused by the first table that
+/// is refused, and as of the wrong kind where the value is no array, or an item no table.
+pub fn tables_at<T: FromTable>(
     alloc: Global,
     table: &Table,
     key: &str,
@@ -75,4 +77,24 @@ pub(crate) fn tables_at<T: FromTable>(
         values.push(value)?;
     }
     Ok(values)
+}
+
+/// Tests how many tables of a kind there are. Too few are refused at entry 0, too many at the first one too many, both as out of limits.
+pub fn check_count(
+    count: usize,
+    least: usize,
+    most: usize,
+    kind: TableKind,
+) -> Result<(), TableFault>
+    ensures ok { OnOk result ((least ≤ count) × (count ≤ most)) }
+    ensures refused { IfErr result (λ fault. ¬ ((least ≤ count) × (count ≤ most))) }
+    ensures told { IfErr result (λ fault. IsToldIn kind EntryFault.OutOfLimit fault × Tells (λ spot _. IsCountFault least most count spot.entry) fault) }
+{
+    if count < least {
+        return Err(TableFault::Entry(Spot { kind, entry: 0 }, EntryFault::OutOfLimit));
+    }
+    if count > most {
+        return Err(TableFault::Entry(Spot { kind, entry: most }, EntryFault::OutOfLimit));
+    }
+    Ok(())
 }

@@ -3,9 +3,9 @@ ghost use Rattle.batch_reader.specs.RecipeTables.{IsQuantityTable, IsOutputTable
 ghost use Rattle.batch_reader.specs.TableFaults.{IsTableFault};
 ghost use Rattle.batch_reader.specs.declared.fault.TableKind.{TableKind};
 
-use crate::entries::{has_only_keys, number_at};
+use crate::entries::{has_only_keys, number_at, truth_at};
 use crate::fault::{EntryFault, Spot, TableFault};
-use crate::recipe_entries::{label_at, truth_at};
+use crate::recipe_entries::label_at;
 use crate::tables::FromTable;
 use batch_recipe::{MAX_VALUE, Quantity};
 use batch_text::Name;

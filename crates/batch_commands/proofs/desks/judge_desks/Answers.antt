@@ -8,6 +8,8 @@ returns-in-Err-clause-refused c =
       fault = c.in-Err.fault;
       stands = read.refused;
       not_toml = λ is. read.not_toml (ap Err is);
-      is_there = λ entry wrong is. read.stands entry wrong (ap Err is);
-      halts = c.desks_halt.ensures;
+      long = λ beyond. let same = read.long beyond in cc;
+      told = λ spot wrong is. read.told spot wrong (ap Err is);
+      is_there = λ spot wrong is. read.stands spot wrong (ap Err is);
+      halts = c.document_halt.ensures;
     }

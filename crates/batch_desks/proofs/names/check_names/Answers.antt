@@ -10,10 +10,13 @@ loop-entry-init c = tt
 pub returns-then-is_name_of-clause-told : goal.returns-then-is_name_of-clause-told
 returns-then-is_name_of-clause-told c = (
   refl,
-  record {
-    before = c.loop-entry.invariant;
-    fails = distinct_no_more c.args.desks.now c.loop-entry.entry c.index-desks-entry.result c.loop-entry-test.true c.index-desks-entry.is c.if-is_name_of.ensures;
-  },
+  (
+    refl,
+    record {
+      before = c.loop-entry.invariant;
+      fails = distinct_no_more c.args.desks.now c.loop-entry.entry c.index-desks-entry.result c.loop-entry-test.true c.index-desks-entry.is c.if-is_name_of.ensures;
+    },
+  ),
 )
 
 pub loop-entry-preserved : goal.loop-entry-preserved
