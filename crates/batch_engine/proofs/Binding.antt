@@ -1,7 +1,7 @@
 -- The units that pairs give to the roles of a recipe.
 use Rattle.std.proofs.Common.{◌≡◌, ◌≤◌, refl, sym, ◌∙◌, ap, ap₂, subst, ℕ, zero, suc, List, [], ◌∷◌, Bool, true, false, ◌&&◌, ◌||◌, not, cond, Option, Some, None, arith, length, map, filter, find, get_or, nat_eq, inl, inr}
 use Rattle.std.specs.Prelude.{slice_get}
-use Rattle.std.specs.List.{list_all, list_any, zip}
+use Rattle.std.specs.List.{list_all, zip}
 use Rattle.std.proofs.lemmas.Bool.{and_parts}
 use Rattle.std.proofs.lemmas.Bool.Decides.{eqb_tells}
 use Rattle.batch_cell.specs.Equipment.{unit_names}
@@ -28,10 +28,6 @@ use Rattle.batch_engine.proofs.Telling.{roles-read}
 
 abbrev names_in : List document.Role → List Name
 names_in roles = map (λ (role : document.Role). role.name) roles
-
-pub any-map : {X Y : Type 0} (p : Y → Bool) (f : X → Y) (xs : List X) → list_any (λ x. p (f x)) xs ≡ list_any p (map f xs)
-any-map p f [] = refl
-any-map p f (x ∷ xs) = ap (λ b. p (f x) || b) (any-map p f xs)
 
 -- an empty name
 pub no-bytes : (name : Name) → nat_eq (length name) 0 ≡ same_name name []

@@ -1,10 +1,9 @@
 -- What a cleared recipe's acts need and run has numbers.
-use Rattle.std.proofs.Common.{◌≡◌, ◌<◌, ◌≤◌, refl, sym, ◌∙◌, ap, subst, ℕ, zero, suc, List, [], ◌∷◌, ◌++◌, Bool, true, false, ◌||◌, if◌then◌else◌, Option, Some, None, arith, length, map, filter, cond, get_or, nat_lt}
+use Rattle.std.proofs.Common.{◌≡◌, ◌<◌, refl, sym, ◌∙◌, ap, subst, ℕ, List, [], ◌∷◌, ◌++◌, Bool, true, false, ◌||◌, if◌then◌else◌, Option, Some, None, arith, length, map, filter, nat_lt}
 use Rattle.std.specs.Prelude.{slice_get, position, unwrap_or, IsTrue}
 use Rattle.std.specs.List.{list_any, list_all}
-use Rattle.std.proofs.lemmas.List.{length-map, length-append}
-use Rattle.std.proofs.lemmas.List.Quantifiers.{position-Some}
-use Rattle.std.proofs.lemmas.Option.{slice_get-get_or, get_or_from_slice_get, slice_get_within}
+use Rattle.std.proofs.lemmas.List.{length-map}
+use Rattle.std.proofs.lemmas.Option.{get_or_from_slice_get, slice_get_past, slice_get_within}
 use Rattle.std.proofs.lemmas.Bool.{and_parts}
 use Rattle.batch_cell.specs.Equipment.{is_free, belongs_to, has_declared_unit, unit_phases}
 use Rattle.batch_cell.specs.LookUps.{units_of, resources_of, phases_of}
@@ -12,13 +11,15 @@ use Rattle.batch_cell.specs.declared.cell.Cell.{Cell}
 use Rattle.batch_cell.specs.declared.module.Module.{Module}
 use Rattle.batch_cell.specs.declared.shared.Shared.{Shared}
 use Rattle.batch_cell.specs.declared.unit.Unit.{Unit}
+use Rattle.batch_cell.proofs.Resources.{few_resources}
 use Rattle.batch_recipe.specs.Conditions.{Name, same_name}
 use Rattle.batch_recipe.specs.Nodes.{Node, node_count}
 use Rattle.batch_recipe.specs.Nodes as nodes_spec
-use Rattle.batch_recipe.specs.Tree.{Phase, Tree, act, skip, seq, par, sel, loop, runs, follows}
+use Rattle.batch_recipe.specs.Tree.{Phase, Tree, skip}
 use Rattle.batch_recipe.specs.WellFormed.{is_among}
 use Rattle.batch_recipe.specs.declared.need.Need.{Need}
 use Rattle.batch_recipe.proofs.Order.{counted_nodes}
+use Rattle.batch_recipe.proofs.Slices.{slice_get-left}
 use Rattle.batch_model.specs.Cleared.{CanBeCleared, IsClear, IsOffered, NeedsResources, Part, is_procedure, procedure_parts}
 use Rattle.batch_model.specs.Lists.{Each}
 use Rattle.batch_model.specs.Plant as Model
@@ -27,38 +28,13 @@ use Rattle.batch_model.proofs.Parts.{parts-nodes}
 use Rattle.batch_model.specs.Standing.{IsControl}
 use Rattle.batch_laws.proofs.Clearing.{control-clear}
 use Rattle.batch_laws.proofs.Entries.{name_same}
+use Rattle.batch_laws.proofs.Members.{Each-image}
 use Rattle.batch_verify.specs.ClearedSet.{ClearedSet}
-use Rattle.batch_engine.proofs.Positions.{NonePasses, NonePasses-position}
-use Rattle.batch_chart.specs.NodesOf.{nodes_of, node_at, step_of, step_at, task_of, need_at, no_need, phase_at, phase_in, phase_named}
+use Rattle.batch_set.proofs.Positions.{any-position, name-at}
+use Rattle.batch_chart.specs.NodesOf.{nodes_of, node_at, step_of, step_at, need_at, no_need}
 use Rattle.batch_engine.specs.Names as Names
-use Rattle.batch_engine.specs.Numbered as Numbers
-use Rattle.batch_engine.specs.Numbered.{resource_number, phase_number, phase_among}
 use Rattle.batch_engine.specs.View.{setup, number_of}
-use Rattle.batch_engine.specs.declared.numbers.PhaseNumber.{PhaseNumber}
 use Rattle.batch_engine.proofs.Finding.{Each-at}
-
--- Where something passes, there is a first that does
-
-either-none : (a b : Bool) → a ≡ false → b ≡ false → (a || b) ≡ false
-either-none true b e f = absurd cc
-either-none false b e f = f
-
-none-any : {X : Type 0} (p : X → Bool) (xs : List X) → NonePasses p xs → list_any p xs ≡ false
-none-any p [] h = refl
-none-any p (x ∷ xs) h = either-none (p x) (list_any p xs) (h 0 x (omega arith)) (none-any p xs (λ k d l. h (suc k) d (omega arith)))
-
-pub any-position : {X : Type 0} (p : X → Bool) (xs : List X) → list_any p xs ≡ true → (q : ℕ) × (position p xs ≡ Some q)
-any-position p xs h = go (position p xs) refl
-  where
-    go : (o : Option ℕ) → position p xs ≡ o → (q : ℕ) × (position p xs ≡ Some q)
-    go None e = absurd (let f : ◌≡◌ {A = Bool} true false = sym h ∙ none-any p xs (NonePasses-position p xs e) in cc)
-    go (Some q) e = (q, e)
-
--- the name with this number
-pub name-at : (names : List Name) (name : Name) (q : ℕ) → position (same_name name) names ≡ Some q → slice_get names q ≡ Some name
-name-at names name q e =
-    let p = position-Some (same_name name) names q [] e in
-    slice_get-get_or names q [] p.0 ∙ ap Some (sym (name_same name (get_or names q []) p.1))
 
 -- A unit that offers something is declared
 
@@ -104,21 +80,11 @@ module _ (cell : Cell) (unit phase : Name) (offers : list_any (same_name phase) 
   pub phase-among : (q : ℕ) × (position (same_name phase) (phases_of cell unit-number.0) ≡ Some q)
   phase-among = any-position (same_name phase) (phases_of cell unit-number.0) offered-here
 
-  pub numbered-phase : phase_number cell unit phase ≡ (let x : PhaseNumber = record { unit = unit-number.0; phase = phase-among.0 } in x)
-  numbered-phase =
-      ap (phase_among cell phase) unit-number.1
-      ∙ ap (λ (o : Option ℕ). let x : PhaseNumber = record { unit = unit-number.0; phase = unwrap_or o 0 } in x) phase-among.1
-
 abbrev free_names : Cell → List Name
 free_names cell = map (λ (m : Module). m.name) (filter is_free cell.modules.items)
 
 abbrev shared_names : Cell → List Name
 shared_names cell = map (λ (s : Shared). s.name) cell.shared.items
-
-slice_get-front : (xs ys : List Name) (q : ℕ) (x : Name) → slice_get xs q ≡ Some x → slice_get (xs ++ ys) q ≡ Some x
-slice_get-front [] ys q x e = absurd cc
-slice_get-front (z ∷ xs) ys zero x e = e
-slice_get-front (z ∷ xs) ys (suc q) x e = slice_get-front xs ys q x e
 
 within-yes : (m n : ℕ) → m < n → nat_lt m n ≡ true
 within-yes m n l = grind arith
@@ -130,33 +96,26 @@ within-no m n l = grind arith
 pub unit-named : (c : ClearedSet) (u : ℕ) (name : Name) → slice_get (units_of c.cell) u ≡ Some name → Names.resource_name c u ≡ name
 unit-named c u name at =
     ap (λ (o : Option Name). unwrap_or o [])
-    (slice_get-front (units_of c.cell ++ free_names c.cell) (shared_names c.cell) u name (slice_get-front (units_of c.cell) (free_names c.cell) u name at))
+    (slice_get-left (units_of c.cell ++ free_names c.cell) (shared_names c.cell) u name (slice_get-left (units_of c.cell) (free_names c.cell) u name at))
 
 -- a phase that is offered has the unit and the name that its numbers name
-pub phase-named : (c : ClearedSet) (p : Phase) → list_any (same_name p.name) (unit_phases c.cell.modules.items p.unit) ≡ true
-    → (let x = phase_number c.cell p.unit p.name in (Names.resource_name c x.unit ≡ p.unit) × (Names.phase_name c x.unit x.phase ≡ p.name))
+pub phase-named : (c : ClearedSet) (p : Phase) (offers : list_any (same_name p.name) (unit_phases c.cell.modules.items p.unit) ≡ true)
+    → (let u = unit-number c.cell p.unit p.name offers in let q = phase-among c.cell p.unit p.name offers in
+    (Names.resource_name c u.0 ≡ p.unit) × (Names.phase_name c u.0 q.0 ≡ p.name))
 phase-named c p offers =
     let u = unit-number c.cell p.unit p.name offers in
     let q = phase-among c.cell p.unit p.name offers in
-    let at : slice_get (units_of c.cell) u.0 ≡ Some p.unit = name-at (units_of c.cell) p.unit u.0 u.1 in
-    let resource : Names.resource_name c u.0 ≡ p.unit =
-    ap (λ (o : Option Name). unwrap_or o [])
-    (slice_get-front (units_of c.cell ++ free_names c.cell) (shared_names c.cell) u.0 p.unit (slice_get-front (units_of c.cell) (free_names c.cell) u.0 p.unit at)) in
-    let named : Names.phase_name c u.0 q.0 ≡ p.name =
-    ap (λ (t : Bool). let z : Name = if t then unwrap_or (slice_get (phases_of c.cell u.0) q.0) [] else [] in z)
-    (within-yes u.0 (length (units_of c.cell)) (slice_get_within (units_of c.cell) u.0 p.unit at))
-    ∙ ap (λ (o : Option Name). unwrap_or o []) (name-at (phases_of c.cell u.0) p.name q.0 q.1) in
-    subst (λ (x : PhaseNumber). (Names.resource_name c x.unit ≡ p.unit) × (Names.phase_name c x.unit x.phase ≡ p.name))
-    (sym (numbered-phase c.cell p.unit p.name offers)) (resource, named)
+    let at : slice_get (units_of c.cell) u.0 ≡ Some p.unit = name-at (units_of c.cell) p.unit u.0 u.1 in (
+      unit-named c u.0 p.unit at,
+      ap (λ (t : Bool). let z : Name = if t then unwrap_or (slice_get (phases_of c.cell u.0) q.0) [] else [] in z)
+          (within-yes u.0 (length (units_of c.cell)) (slice_get_within (units_of c.cell) u.0 p.unit at))
+          ∙ ap (λ (o : Option Name). unwrap_or o []) (name-at (phases_of c.cell u.0) p.name q.0 q.1),
+    )
 
 -- Of each node of a cleared recipe
 
 abbrev pub IsNamed : ClearedSet → Tree → Type 0
 IsNamed c t = NeedsResources (resources_of c.cell) t × IsOffered (setup c) t
-
-Each-mapped : {X Y : Type 0} (P : Y → Type 0) (f : X → Y) (xs : List X) → Each (λ x. P (f x)) xs → Each P (map f xs)
-Each-mapped P f [] h = tt
-Each-mapped P f (x ∷ xs) h = (h.0, Each-mapped P f xs h.1)
 
 needs-same : (t : Tree) → nodes_spec.needs_of t ≡ (step_of t).needs
 needs-same t = grind arith
@@ -169,86 +128,32 @@ module _ (c : ClearedSet) (cleared : CanBeCleared (setup c)) (r : Model.Recipe) 
       Each-map (IsClear (setup c) cleared.0) (λ (x : Part). IsNamed c x.node.here) (λ x h. (h.known, h.offered)) (procedure_parts r) clear in
       let all : Each (λ (n : Node). IsNamed c n.here) (nodes_of r.procedure) =
       subst (Each (λ (n : Node). IsNamed c n.here)) (parts-nodes is_procedure (0 ∷ []) [] r.procedure)
-      (Each-mapped (λ (n : Node). IsNamed c n.here) (λ (x : Part). x.node) (procedure_parts r) parts-named) in
+      (Each-image (λ (n : Node). IsNamed c n.here) (λ (x : Part). x.node) (procedure_parts r) parts-named) in
       Each-at (λ (n : Node). IsNamed c n.here) (nodes_of r.procedure) k (record { place = []; asked = []; here = skip }) all
       (omega (arith, l, counted_nodes (0 ∷ []) [] r.procedure))
 
-  -- the number that stands for a need is that of its resource
-  pub need-numbered : (k i : ℕ) → k < node_count r.procedure → i < length (step_at r.procedure k).needs
-      → number_of c (need_at r.procedure k i).resource ≡ Some (resource_number c.cell (need_at r.procedure k i).resource)
+  -- the resource of a need has a number
+  pub need-numbered : (k i : ℕ) → k < node_count r.procedure → i < length (step_at r.procedure k).needs → (q : ℕ) × (number_of c (need_at r.procedure k i).resource ≡ Some q)
   need-numbered k i l m =
       let n : Need = need_at r.procedure k i in
       let here : Each (λ (need : Need). IsTrue (is_among (resources_of c.cell) need.resource)) (step_at r.procedure k).needs =
       subst (Each (λ (need : Need). IsTrue (is_among (resources_of c.cell) need.resource))) (needs-same (node_at r.procedure k).here) (node-named k l).0 in
       let among : IsTrue (is_among (resources_of c.cell) n.resource) =
       Each-at (λ (need : Need). IsTrue (is_among (resources_of c.cell) need.resource)) (step_at r.procedure k).needs i no_need here m in
-      let q = any-position (same_name n.resource) (resources_of c.cell) among in
-      q.1 ∙ ap Some (sym (ap (λ (o : Option ℕ). unwrap_or o 0) q.1))
-
-  -- so are those that stand for a phase; at any other node they name nothing
-  pub phase-numbered : (few : length (resources_of c.cell) < 65535) (fewer : length (units_of c.cell) < 65535) (k : ℕ) → k < node_count r.procedure
-      → (let x = Numbers.phase_in c.cell (node_at r.procedure k).here in let p = phase_at r.procedure k in
-      (Names.resource_name c x.unit ≡ p.unit) × (Names.phase_name c x.unit x.phase ≡ p.name))
-  phase-numbered few fewer k l = go (node_at r.procedure k).here (node-named k l).1
-    where
-      past : (names : List Name) (q : ℕ) → length names < q → slice_get names q ≡ None
-      past [] q h = refl
-      past (x ∷ names) zero h = absurd (omega arith)
-      past (x ∷ names) (suc q) h = past names q (omega arith)
-
-      nothing : (Names.resource_name c 65535 ≡ []) × (Names.phase_name c 65535 65535 ≡ [])
-      nothing = (
-        ap (λ (o : Option Name). unwrap_or o []) (past (resources_of c.cell) 65535 few),
-        ap (λ (t : Bool). let z : Name = if t then unwrap_or (slice_get (phases_of c.cell 65535) 65535) [] else [] in z) (within-no 65535 (length (units_of c.cell)) fewer),
-      )
-
-      go : (t : Tree) → IsOffered (setup c) t
-          → (let x = Numbers.phase_in c.cell t in let p = phase_in (task_of t) in (Names.resource_name c x.unit ≡ p.unit) × (Names.phase_name c x.unit x.phase ≡ p.name))
-      go (act s (runs p)) h = phase-named c p h
-      go (act s (follows name t)) h = nothing
-      go skip h = nothing
-      go (seq ts) h = nothing
-      go (par ts) h = nothing
-      go (sel cs) h = nothing
-      go (loop n q t) h = nothing
-
-  -- where a phase is run, the number is that of its unit
-  pub unit-numbered : (k : ℕ) → k < node_count r.procedure → (names : Name × Name) → phase_named (node_at r.procedure k).here ≡ Some names
-      → position (same_name names.0) (units_of c.cell) ≡ Some (Numbers.phase_in c.cell (node_at r.procedure k).here).unit
-  unit-numbered k l names e = go (node_at r.procedure k).here (node-named k l).1 e
-    where
-      go : (t : Tree) → IsOffered (setup c) t → phase_named t ≡ Some names → position (same_name names.0) (units_of c.cell) ≡ Some (Numbers.phase_in c.cell t).unit
-      go (act s (runs p)) h f =
-          let u = unit-number c.cell p.unit p.name h in
-          let same : (let x : Name × Name = (p.unit, p.name) in x) ≡ names = cc in
-          ap (λ (x : Name × Name). position (same_name x.0) (units_of c.cell)) (sym same) ∙ u.1
-          ∙ sym (ap (λ (x : PhaseNumber). let o : Option ℕ = Some x.unit in o) (numbered-phase c.cell p.unit p.name h))
-      go t h e = absurd (grind arith)
+      any-position (same_name n.resource) (resources_of c.cell) among
 
 -- A cell has few resources
 
-filtered : (p : Module → Bool) (ms : List Module) → length (filter p ms) ≤ length ms
-filtered p [] = omega arith
-filtered p (m ∷ ms) = go (p m) (filtered p ms)
-  where
-    go : (t : Bool) → length (filter p ms) ≤ length ms → length (cond t (m ∷ filter p ms) (filter p ms)) ≤ length (m ∷ ms)
-    go true l = omega arith
-    go false l = omega arith
-
-pub few-units : (cell : Cell) → length (units_of cell) < 65535
+few-units : (cell : Cell) → length (units_of cell) < 65535
 few-units cell = omega (arith, cell.few_units, length-map cell.units.items (λ (u : Unit). u.name))
 
-pub few-resources : (cell : Cell) → length (resources_of cell) < 65535
-few-resources cell =
-    omega (
-      arith,
-      cell.few_units,
-      cell.few_modules,
-      cell.few_shared,
-      filtered is_free cell.modules.items,
-      length-map cell.units.items (λ (u : Unit). u.name),
-      length-map (filter is_free cell.modules.items) (λ (m : Module). m.name),
-      length-map cell.shared.items (λ (s : Shared). s.name),
-      length-append (units_of cell ++ free_names cell) (shared_names cell),
-      length-append (units_of cell) (free_names cell),
-    )
+few-resources : (cell : Cell) → length (resources_of cell) < 65535
+few-resources cell = omega (arith, few_resources cell.units.items cell.modules.items cell.shared.items, cell.few_units, cell.few_modules, cell.few_shared)
+
+-- The numbers of an act that runs no phase name nothing
+
+pub nothing-named : (c : ClearedSet) → (Names.resource_name c 65535 ≡ []) × (Names.phase_name c 65535 65535 ≡ [])
+nothing-named c = (
+  ap (λ (o : Option Name). unwrap_or o []) (slice_get_past (resources_of c.cell) 65535 (omega (arith, few-resources c.cell))),
+  ap (λ (t : Bool). let z : Name = if t then unwrap_or (slice_get (phases_of c.cell 65535) 65535) [] else [] in z) (within-no 65535 (length (units_of c.cell)) (few-units c.cell)),
+)

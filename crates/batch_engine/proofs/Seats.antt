@@ -1,8 +1,7 @@
 -- A batch that is looked up at an index of an engine, and the recipe of its chart. Of the engine v a call sees its fields as w.
-use Rattle.std.proofs.Common.{◌≡◌, ◌<◌, refl, sym, ◌∙◌, ap, subst, ℕ, List, Some, arith, get_or, length, nat_eq}
+use Rattle.std.proofs.Common.{◌≡◌, ◌<◌, refl, sym, ◌∙◌, ap, subst, ℕ, Some, arith, get_or, length, nat_eq}
 use Rattle.std.specs.Prelude.{position, slice_get}
 use Rattle.std.proofs.lemmas.Option.{slice_get_read, slice_get_within}
-use Rattle.batch_cell.specs.declared.cell.Cell.{Cell}
 use Rattle.batch_model.specs.Moves as Moves
 use Rattle.batch_model.specs.Moves.{after}
 use Rattle.batch_model.specs.Events.{order, ordered}
@@ -10,23 +9,19 @@ use Rattle.batch_model.specs.Plant.{batch_at}
 use Rattle.batch_model.specs.Runs.{Reacts}
 use Rattle.batch_matrix.specs.Matrix.{target}
 use Rattle.batch_matrix.specs.declared.command.Command.{Command}
-use Rattle.batch_recipe.specs.Conditions.{Name}
-use Rattle.batch_recipe.specs.Expanding.{Binding}
 use Rattle.batch_recipe.specs.Nodes.{node_count}
-use Rattle.batch_recipe.specs.Tree.{Tree}
+use Rattle.batch_recipe.specs.declared.entry.Entry.{Entry}
 use Rattle.batch_recipe.specs.declared.recipe.Recipe as document
 use Rattle.batch_verify.specs.ClearedSet.{ClearedSet}
 use Rattle.batch_arbiter.specs.Allocation.{Allocation}
 use Rattle.batch_chart.specs.Charts.{CanMake, IsChartOf, IsRunning, IsRunningOf}
-use Rattle.batch_chart.specs.NodesOf.{node_at, step_at}
+use Rattle.batch_chart.specs.NodesOf.{step_at}
 use Rattle.batch_chart.specs.Passing.{IsBatchOf, IsTreeOf}
 use Rattle.batch_chart.specs.declared.chart_move.Move.{Move}
 use Rattle.batch_engine.specs.Batches.{BatchList, with_batch_at}
 use Rattle.batch_engine.specs.declared.batch.Batch.{Batch}
-use Rattle.batch_engine.specs.declared.numbers.ActNumbers.{ActNumbers}
+use Rattle.batch_engine.specs.declared.numbers.Numbers.{Numbers}
 use Rattle.batch_engine.specs.declared.numbers.RecipeNumbers.{RecipeNumbers}
-use Rattle.batch_engine.specs.Names.{roles_at}
-use Rattle.batch_engine.specs.Numbered.{AreActsNumbered, IsActNumbered}
 use Rattle.batch_engine.specs.View.{EngineView, batch_of, bound_to, plant_of, seen, setup, tree_of}
 use Rattle.batch_engine.specs.Kept.{IsCounted, IsKept}
 use Rattle.batch_engine.specs.Orders.{IsOrdered}
@@ -36,7 +31,7 @@ use Rattle.batch_engine.proofs.BatchPlaces.{made_by}
 use Rattle.batch_engine.proofs.Filing.{own-numbers-set}
 use Rattle.batch_engine.proofs.Finding.{batch-runs, chart-here, got-batch, got-chart, in-charts, runs-here}
 use Rattle.batch_engine.proofs.Made.{Becomes, same-next}
-use Rattle.batch_engine.proofs.NumbersFound.{got-numbers, in-numbers, numbers-here}
+use Rattle.batch_engine.proofs.NumbersFound.{got-numbers, in-numbers}
 use Rattle.batch_engine.proofs.Ordering.{Ordered}
 use Rattle.batch_engine.proofs.Room.{needs-set}
 use Rattle.batch_engine.proofs.Seeking.{found-at}
@@ -128,25 +123,32 @@ found-here {v} {w} {n} {i} {b} e k p h =
 
 -- The act at a node of the batch
 
--- where a move of it gives back a need, or asks for it
-pub needs-there : {v : EngineView} {ns : List RecipeNumbers} {node need : ℕ} {b : Batch} (i : ℕ) → ns ≡ v.numbers → IsKept v → slice_get v.batches i ≡ Some b
-    → node < node_count (tree_of v.cleared b) → need < length (step_at (tree_of v.cleared b) node).needs → IsNeedAt v ns b node need
-needs-there i e k at few less = record { kept = k; numbers_are = e; index = i; at = at; few = few; less = less }
+-- where a move of it gives back a need, passes it on, or asks for it
+pub needs-there : {v : EngineView} {ns : Numbers} {x : document.Recipe} {node need : ℕ} {b : Batch} (i : ℕ) → ns ≡ v.numbers → IsKept v → slice_get v.batches i ≡ Some b
+    → slice_get v.cleared.recipes b.recipe ≡ Some x → node < node_count (tree_of v.cleared b) → need < length (step_at (tree_of v.cleared b) node).needs → IsNeedAt v ns x b node need
+needs-there i e k at listed few less = record { kept = k; numbers_are = e; index = i; at = at; listed = listed; few = few; less = less }
 
 -- what is read of the numbers of its recipe
-pub acts-here : {v : EngineView} {ns : List RecipeNumbers} {i q : ℕ} {b : Batch} {x : RecipeNumbers} → ns ≡ v.numbers → IsRead v i b → q ≡ b.recipe → x ≡ get_or ns q x
-    → AreActsNumbered v.cleared.cell (roles_at v.cleared b.recipe) (bound_to v.cleared b.recipe b.units) (tree_of v.cleared b) x
-acts-here {v} {ns} {i} {q} {b} {x} e r is h = numbers-here v r.kept b.recipe x (got-numbers v ns q b.recipe x e is (in-numbers v r.kept i b r.at) h) (bound_to v.cleared b.recipe b.units)
+pub numbers-read : {v : EngineView} {ns : Numbers} {i q : ℕ} {b : Batch} {x : RecipeNumbers} → ns ≡ v.numbers → IsRead v i b → q ≡ b.recipe → x ≡ get_or ns.recipes.items q x
+    → slice_get v.numbers.recipes.items b.recipe ≡ Some x
+numbers-read {v} {ns} {i} {q} {b} {x} e r is h = got-numbers v ns q b.recipe x e is (in-numbers v r.kept i b r.at) h
 
-pub act-here : {c : Cell} {roles : List Name} {bound : Binding} {t : Tree} {x : RecipeNumbers} {node k : ℕ} {a : ActNumbers} → AreActsNumbered c roles bound t x → node < node_count t → k ≡ node → a ≡ get_or x.acts.items k a
-    → IsActNumbered c roles bound (node_at t node).here a
-act-here {c} {roles} {bound} {t} {x} {node} {k} {a} numbered few is h =
-    numbered.each node a (slice_get_read x.acts.items (length x.acts.items) node a refl (omega (arith, few, numbered.count)) (h ∙ ap (λ j. get_or x.acts.items j a) is))
+pub numbers-within : {v : EngineView} {ns : Numbers} {i : ℕ} {b : Batch} → ns ≡ v.numbers → IsRead v i b → b.recipe < length ns.recipes.items
+numbers-within {v} {ns} {i} {b} e r = subst (λ (z : Numbers). b.recipe < length z.recipes.items) (sym e) (in-numbers v r.kept i b r.at)
+
+-- and of its entries
+pub entry-within : {v : EngineView} {i node : ℕ} {b : Batch} {x : document.Recipe} → IsRead v i b → slice_get v.cleared.recipes b.recipe ≡ Some x → node < node_count (tree_of v.cleared b) → node < length x.outline.entries.items
+entry-within {v} {i} {node} {b} {x} r listed few = omega (arith, few, (chart-here v r.kept i b r.at x listed).count)
+
+pub entry-read : {v : EngineView} {i node k : ℕ} {b : Batch} {x : document.Recipe} {e : Entry} → IsRead v i b → slice_get v.cleared.recipes b.recipe ≡ Some x → node < node_count (tree_of v.cleared b)
+    → k ≡ node → e ≡ get_or x.outline.entries.items k e → slice_get x.outline.entries.items node ≡ Some e
+entry-read {v} {i} {node} {k} {b} {x} {e} r listed few is h =
+    slice_get_read x.outline.entries.items (length x.outline.entries.items) node e refl (entry-within r listed few) (h ∙ ap (λ j. get_or x.outline.entries.items j e) is)
 
 -- Once another batch of its number, its recipe and its units stands there
 
 -- what is kept of the fields, where the arbiter became what f makes of it
-pub counted-set : {v : EngineView} {c : ClearedSet} {ns : List RecipeNumbers} {r : BatchList} {n needs : ℕ} {a a' : Allocation} {b : Batch} (i : ℕ) (b' : Batch) (f : Allocation → Allocation)
+pub counted-set : {v : EngineView} {c : ClearedSet} {ns : Numbers} {r : BatchList} {n needs : ℕ} {a a' : Allocation} {b : Batch} (i : ℕ) (b' : Batch) (f : Allocation → Allocation)
     → seen c ns r.batches n a ≡ v → IsCounted r needs (seen c ns r.batches n a) → b ≡ get_or r.batches i b → b'.number ≡ b.number → made_by b' ≡ made_by b
     → a' ≡ f a → IsKept (changed v i b' (f v.allocation)) → IsCounted (with_batch_at i r b') needs (changed (seen c ns r.batches n a) i b' a')
 counted-set {v} {c} {ns} {r} {n} {needs} {a} {a'} {b} i b' f e h at number made is k =

@@ -1,8 +1,9 @@
 -- The numbers of the units that take the roles of a batch.
 use Rattle.std.proofs.Common.{◌≡◌, ◌<◌, ◌≤◌, refl, sym, ◌∙◌, ap, subst, ℕ, zero, suc, List, [], ◌∷◌, true, Option, None, Some, arith, length, map, get_or, inl, inr}
 use Rattle.std.proofs.lemmas.Bool.{cases_lt}
-use Rattle.std.specs.Prelude.{slice_get, position, unwrap_or}
+use Rattle.std.specs.Prelude.{slice_get, position, unwrap_or, option_map}
 use Rattle.std.proofs.lemmas.List.{length-map, get_or-map}
+use Rattle.std.proofs.lemmas.Option.{slice_get_within, slice_get-get_or, slice_get-map, get_or_from_slice_get}
 use Rattle.batch_cell.specs.LookUps.{units_of, resources_of}
 use Rattle.batch_cell.specs.declared.unit.Unit.{Unit}
 use Rattle.batch_cell.proofs.Resources.{length-resource_names, resource_is_no_unit, resource_is_unit}
@@ -10,28 +11,18 @@ use Rattle.batch_recipe.specs.Conditions.{Name, same_name}
 use Rattle.batch_recipe.specs.WellFormed.{are_distinct}
 use Rattle.batch_recipe.specs.declared.recipe.Recipe.{Recipe}
 use Rattle.batch_recipe.specs.declared.role.Role as document
-use Rattle.batch_recipe.specs.Nodes.{node_count}
 use Rattle.batch_verify.specs.ClearedSet.{ClearedSet}
-use Rattle.batch_chart.specs.NodesOf.{node_at, phase_named}
-use Rattle.batch_engine.specs.Kept.{AreUnits, IsKept}
+use Rattle.batch_set.specs.Looked.{number_for}
+use Rattle.batch_set.specs.Sources.{IsSource}
+use Rattle.batch_set.specs.declared.linked.Source.{Source}
+use Rattle.batch_set.specs.declared.linked.Source.TheVariants.{Resource, Role, Unknown}
+use Rattle.batch_engine.specs.Kept.{AreUnits}
 use Rattle.batch_engine.specs.Names.{resource_name, roles_at}
-use Rattle.batch_engine.specs.Numbered as Numbers
-use Rattle.batch_engine.specs.Numbered.{IsActNumbered, IsOfRoles, IsTaskNumbered, number_for, number_with, phase_on, resource_number}
-use Rattle.batch_engine.specs.Steps.{IsPhaseAt}
-use Rattle.batch_engine.specs.View.{EngineView, bound_to, number_of, recipe_made, tree_of}
-use Rattle.batch_engine.specs.declared.batch.Batch.{Batch}
-use Rattle.batch_engine.specs.declared.numbers.ActNumbers.{ActNumbers}
-use Rattle.batch_engine.specs.declared.numbers.PhaseNumber.{PhaseNumber}
-use Rattle.batch_engine.specs.declared.numbers.TaskNumber.{TaskNumber}
-use Rattle.batch_engine.specs.declared.numbers.TaskNumber.TheVariants as Tasks
-use Rattle.batch_engine.specs.declared.numbers.ResourceNumber.{ResourceNumber}
-use Rattle.batch_engine.specs.declared.numbers.ResourceNumber.TheVariants.{Resource, Role}
-use Rattle.batch_engine.proofs.Finding.{Each-at, batch-runs, is-control}
-use Rattle.batch_engine.proofs.Numbered.{few-resources, few-units, phase-numbered, unit-numbered}
-use Rattle.batch_engine.proofs.NumbersFound.{phase-taken}
+use Rattle.batch_engine.specs.View.{bound_to, number_of}
+use Rattle.batch_engine.proofs.Finding.{Each-at}
 use Rattle.batch_engine.proofs.Roles.{bound-at, names-differ}
 use Rattle.batch_engine.proofs.RoomForAsk.{number-at}
-use Rattle.batch_engine.proofs.Telling.{recipe-here, roles-read}
+use Rattle.batch_engine.proofs.Telling.{roles-read}
 
 pub name-there : (names : List Name) (q : ℕ) → q < length names → slice_get names q ≡ Some (unwrap_or (slice_get names q) [])
 name-there [] q l = absurd (omega arith)
@@ -94,56 +85,15 @@ module _ (c : ClearedSet) (recipe : ℕ) (r : Recipe) (at : slice_get c.recipes 
       subst (λ name. (number_of c name ≡ Some (get_or units role 0)) × (position (same_name name) (units_of c.cell) ≡ Some (get_or units role 0)))
       (sym (role-taken role l)) (unit-numbers c (get_or units role 0) (unit-within role l))
 
-  -- what a need's number stands for
-  pub number-taken : (x : ResourceNumber) → IsOfRoles (roles_at c recipe) x → number_for units x ≡ number_with c.cell (roles_at c recipe) (bound_to c recipe units) x
-  number-taken (Resource number) h = refl
-  number-taken (Role role) h = sym (ap (λ (o : Option ℕ). unwrap_or o 0) (role-numbers role h).0)
-
-module _ (v : EngineView) (k : IsKept v) (i : ℕ) (b : Batch) (at : slice_get v.batches i ≡ Some b) where
-  pub units-here : AreUnits v.cleared b.units
-  units-here = (batch-runs v k i b at).units
-
-  pub role-numbers-here : (role : ℕ) → role < length (roles_at v.cleared b.recipe)
-      → (number_of v.cleared (bound_to v.cleared b.recipe b.units (get_or (roles_at v.cleared b.recipe) role [])) ≡ Some (get_or b.units role 0))
-      × (position (same_name (bound_to v.cleared b.recipe b.units (get_or (roles_at v.cleared b.recipe) role []))) (units_of v.cleared.cell) ≡ Some (get_or b.units role 0))
-  role-numbers-here = (let r = recipe-here v k i b at in role-numbers v.cleared b.recipe r.0 r.1 b.units units-here)
-
-  unit-within-here : (role : ℕ) → role < length (roles_at v.cleared b.recipe) → get_or b.units role 0 < length (units_of v.cleared.cell)
-  unit-within-here = (let r = recipe-here v k i b at in unit-within v.cleared b.recipe r.0 r.1 b.units units-here)
-
-  pub number-here : (x : ResourceNumber) → IsOfRoles (roles_at v.cleared b.recipe) x
-      → number_for b.units x ≡ number_with v.cleared.cell (roles_at v.cleared b.recipe) (bound_to v.cleared b.recipe b.units) x
-  number-here = (let r = recipe-here v k i b at in number-taken v.cleared b.recipe r.0 r.1 b.units units-here)
-
-  -- where a role's unit runs it
-  role-phase : (node role : ℕ) (p : PhaseNumber) → IsTaskNumbered v.cleared.cell (roles_at v.cleared b.recipe) (bound_to v.cleared b.recipe b.units) (node_at (tree_of v.cleared b) node).here (Tasks.Role role)
-      → p ≡ phase_on v.cleared.cell (get_or b.units role 0) (phase_named (node_at (tree_of v.cleared b) node).here)
-      → p ≡ Numbers.phase_in v.cleared.cell (node_at (tree_of v.cleared b) node).here
-  role-phase node role p task is =
-      is ∙ phase-taken v.cleared.cell (node_at (tree_of v.cleared b) node).here (bound_to v.cleared b.recipe b.units (get_or (roles_at v.cleared b.recipe) role [])) task.1.0 (get_or b.units role 0)
-      task.1.1 (role-numbers-here role task.0).1
-
-  -- The phase that the act at a node runs
-
-  module _ (node : ℕ) (few : node < node_count (tree_of v.cleared b)) (a : ActNumbers)
-      (numbered : IsActNumbered v.cleared.cell (roles_at v.cleared b.recipe) (bound_to v.cleared b.recipe b.units) (node_at (tree_of v.cleared b) node).here a) where
-    task-is : (task : TaskNumber) → a.task ≡ task → IsTaskNumbered v.cleared.cell (roles_at v.cleared b.recipe) (bound_to v.cleared b.recipe b.units) (node_at (tree_of v.cleared b) node).here task
-    task-is task e = subst (IsTaskNumbered v.cleared.cell (roles_at v.cleared b.recipe) (bound_to v.cleared b.recipe b.units) (node_at (tree_of v.cleared b) node).here) e numbered.task
-
-    numbered-phase : (p : PhaseNumber) → p ≡ Numbers.phase_in v.cleared.cell (node_at (tree_of v.cleared b) node).here → IsPhaseAt v.cleared b node p.unit p.phase
-    numbered-phase p is =
-        let names = phase-numbered v.cleared k.cleared (recipe_made v.cleared b) (is-control v k i b at) (few-resources v.cleared.cell) (few-units v.cleared.cell) node few in
-        subst (λ (q : PhaseNumber). IsPhaseAt v.cleared b node q.unit q.phase) (sym is)
-        (record { unit_is = names.0; name_is = names.1; among = unit-numbered v.cleared k.cleared (recipe_made v.cleared b) (is-control v k i b at) node few })
-
-    -- one that is named
-    pub phase-named-here : (p : PhaseNumber) → a.task ≡ Tasks.Phase p → IsPhaseAt v.cleared b node p.unit p.phase
-    phase-named-here p e = numbered-phase p (task-is (Tasks.Phase p) e)
-
-    module _ (role : ℕ) (e : a.task ≡ Tasks.Role role) where
-      -- one of a role, whose unit is there
-      pub unit-there : get_or b.units role 0 < length (units_of v.cleared.cell)
-      unit-there = unit-within-here role (task-is (Tasks.Role role) e).0
-
-      pub phase-taken-here : (p : PhaseNumber) → p ≡ phase_on v.cleared.cell (get_or b.units role 0) (phase_named (node_at (tree_of v.cleared b) node).here) → IsPhaseAt v.cleared b node p.unit p.phase
-      phase-taken-here p is = numbered-phase p (role-phase node role p (task-is (Tasks.Role role) e) is)
+  -- the number of the resource that a source is of
+  pub source-number : (source : Source) (name : Name) → IsSource c.cell r.roles.items (bound_to c recipe units) source name → number_for units source ≡ number_of c name
+  source-number (Resource number) name h = sym (number-at c number name h)
+  source-number Unknown name h = sym h
+  source-number (Role number) name h =
+      let own : Name = h.0.name in
+      let there : slice_get (roles_at c recipe) number ≡ Some own =
+      ap (λ (ns : List Name). slice_get ns number) (roles-read c recipe r at) ∙ slice_get-map (λ (x : document.Role). x.name) r.roles.items number ∙ ap (option_map (λ (x : document.Role). x.name)) h.1 in
+      let known : number < length (roles_at c recipe) = slice_get_within (roles_at c recipe) number own there in
+      slice_get-get_or units number 0 (omega (arith, known, few-roles, length-map units (resource_name c)))
+      ∙ sym (role-numbers number known).0
+      ∙ ap (number_of c) (ap (bound_to c recipe units) (get_or_from_slice_get (roles_at c recipe) number own [] there) ∙ h.2)

@@ -2,11 +2,11 @@
 use Rattle.std.proofs.Common.{◌≡◌, ◌<◌, refl, sym, ◌∙◌, ap, subst, ℕ, zero, suc, List, [], ◌∷◌, ◌++◌, Option, Some, None, arith, length, map, Bool, true, false}
 use Rattle.std.specs.Prelude.{slice_get}
 use Rattle.std.proofs.lemmas.List.{map-append}
-use Rattle.std.proofs.lemmas.Option.{slice_get-get_or}
 use Rattle.batch_model.specs.Lists.{Each}
 use Rattle.batch_model.specs.Plant as Model
 use Rattle.batch_model.specs.Moves as Moves
 use Rattle.batch_model.specs.Moves.{least, batch_moves, next, is_earlier}
+use Rattle.batch_laws.proofs.Members.{Each-image}
 use Rattle.batch_chart.specs.OwnMoves.{grants, own_next}
 use Rattle.batch_chart.specs.Seen.{move_of}
 use Rattle.batch_engine.specs.declared.batch.Batch.{Batch}
@@ -48,10 +48,6 @@ all-at : {X : Type 0} (P : X → Type 0) (xs : List X) → ((j : ℕ) (y : X) �
 all-at P [] h = tt
 all-at P (x ∷ xs) h = (h 0 x refl, all-at P xs (λ j y e. h (suc j) y e))
 
-Each-mapped : {X Y : Type 0} (P : Y → Type 0) (f : X → Y) (xs : List X) → Each (λ x. P (f x)) xs → Each P (map f xs)
-Each-mapped P f [] h = tt
-Each-mapped P f (x ∷ xs) h = (h.0, Each-mapped P f xs h.1)
-
 module _ (v : EngineView) (k : IsKept v) where
   abbrev NoMoves : Batch → Type 0
   NoMoves b = batch_moves (setup v.cleared) (plant_of v) (batch_of v.cleared b) ≡ []
@@ -65,13 +61,13 @@ module _ (v : EngineView) (k : IsKept v) where
       let r = split-at (λ b. batch_moves (setup v.cleared) (plant_of v) (batch_of v.cleared b) ≡ []) v.batches i l.batch l.at (λ j b lt e. none-at j b e (before j lt)) in
       next-first (setup v.cleared) (plant_of v) (map (batch_of v.cleared) r.0) (batch_of v.cleared l.batch) (map (batch_of v.cleared) r.1) m (standing v k).numbers
       (ap (map (batch_of v.cleared)) r.2 ∙ map-append (batch_of v.cleared) r.0 (l.batch ∷ r.1))
-      (Each-mapped (λ (b : Model.Batch). batch_moves (setup v.cleared) (plant_of v) b ≡ []) (batch_of v.cleared) r.0 r.3) l.least_is
+      (Each-image (λ (b : Model.Batch). batch_moves (setup v.cleared) (plant_of v) b ≡ []) (batch_of v.cleared) r.0 r.3) l.least_is
 
   -- where no batch has a move there is none
   pub none-next : ((j : ℕ) → j < length v.batches → HasNoMove v j) → next (setup v.cleared) (plant_of v) ≡ None
   none-next h =
       next-none (setup v.cleared) (plant_of v)
-      (Each-mapped (λ (b : Model.Batch). batch_moves (setup v.cleared) (plant_of v) b ≡ []) (batch_of v.cleared) v.batches
+      (Each-image (λ (b : Model.Batch). batch_moves (setup v.cleared) (plant_of v) b ≡ []) (batch_of v.cleared) v.batches
       (all-at (λ b. batch_moves (setup v.cleared) (plant_of v) (batch_of v.cleared b) ≡ []) v.batches
       (λ j b e. none-at j b e (h j (Rattle.std.proofs.lemmas.Option.slice_get_within v.batches j b e)))))
 

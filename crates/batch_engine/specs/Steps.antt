@@ -1,5 +1,5 @@
 -- private: the step that the engine makes next.
-use Rattle.std.specs.Prelude.{◌≡◌, ◌<◌, ◌≤◌, ℕ, List, [], Option, Some, None, IfSome, option_map, slice_get, length, position, ⊤}
+use Rattle.std.specs.Prelude.{◌≡◌, ◌<◌, ◌≤◌, ℕ, [], Option, Some, None, IfSome, option_map, slice_get, length, position, ⊤}
 use Rattle.batch_model.specs.Moves as Model
 use Rattle.batch_model.specs.Moves.{next, after, least, batch_moves, grant}
 use Rattle.batch_model.specs.Plant.{batch_at}
@@ -19,7 +19,7 @@ use Rattle.batch_engine.specs.declared.line.ClaimKind.{ClaimKind}
 use Rattle.batch_engine.specs.declared.line.Line.{Line}
 use Rattle.batch_engine.specs.declared.step.Step.{Step}
 use Rattle.batch_engine.specs.declared.step.Step.TheVariants.{Own, Grant}
-use Rattle.batch_engine.specs.declared.numbers.RecipeNumbers.{RecipeNumbers}
+use Rattle.batch_engine.specs.declared.numbers.Numbers.{Numbers}
 use Rattle.batch_engine.specs.Kept.{IsKept}
 use Rattle.batch_engine.specs.Marked.{HasNoMove}
 use Rattle.batch_engine.specs.Names.{resource_name, phase_name}
@@ -123,12 +123,13 @@ pub record Makes (old new : EngineView) (m : Model.Move) : Type 0 where
 abbrev pub MakesNext : EngineView → EngineView → Type 0
 MakesNext old new = (m : Model.Move) → IsNext old m → Makes old new m
 
--- the act at the node of a batch of the engine, which has these numbers, has this need
-pub record IsNeedAt (v : EngineView) (numbers : List RecipeNumbers) (b : Batch) (node need : ℕ) : Type 0 where
+-- the act at the node of a batch of the engine, which has these numbers, has this need; the batch is one of this recipe
+pub record IsNeedAt (v : EngineView) (numbers : Numbers) (recipe : document.Recipe) (b : Batch) (node need : ℕ) : Type 0 where
   pub kept : IsKept v
   pub numbers_are : numbers ≡ v.numbers
   pub index : ℕ
   pub at : slice_get v.batches index ≡ Some b
+  pub listed : slice_get v.cleared.recipes b.recipe ≡ Some recipe
   pub few : node < node_count (tree_of v.cleared b)
   pub less : need < length (step_at (tree_of v.cleared b) node).needs
 
@@ -145,9 +146,9 @@ pub record IsMover (v : EngineView) (i : ℕ) (b : Batch) (m : Move) : Type 0 wh
   pub about : StandsFor (tree_of v.cleared b) (remains (tree_of v.cleared b) b.running) m
   pub is : IsNext v (move_of (tree_of v.cleared b) (batch_of v.cleared b) m)
 
--- these are the engine's numbers, and its arbiter
-abbrev pub IsMaking : EngineView → List RecipeNumbers → Allocation → ℕ → Batch → Move → Type 0
-IsMaking v numbers allocation i b m = IsMover v i b m × (numbers ≡ v.numbers) × (allocation ≡ v.allocation)
+-- these are the engine's numbers, the batch's recipe, and the arbiter
+abbrev pub IsMaking : EngineView → Numbers → document.Recipe → Allocation → ℕ → Batch → Move → Type 0
+IsMaking v numbers recipe allocation i b m = IsMover v i b m × (numbers ≡ v.numbers) × (slice_get v.cleared.recipes b.recipe ≡ Some recipe) × (allocation ≡ v.allocation)
 
 -- the arbiter takes what a move of the batch asks for, gives back or passes on
 abbrev pub IsClaimed : ClearedSet → Batch → Move → Allocation → Allocation → Type 0

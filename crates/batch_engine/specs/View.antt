@@ -16,18 +16,17 @@ use Rattle.batch_chart.specs.Charts.{remains}
 use Rattle.batch_chart.specs.Early.{in_advance}
 use Rattle.batch_engine.specs.Names.{roles_told}
 use Rattle.batch_engine.specs.declared.batch.Batch.{Batch}
-use Rattle.batch_engine.specs.declared.numbers.RecipeNumbers.{RecipeNumbers}
+use Rattle.batch_engine.specs.declared.numbers.Numbers.{Numbers}
 
 pub record EngineView : Type 0 where
   pub cleared : ClearedSet
-  -- of each recipe, by its number
-  pub numbers : List RecipeNumbers
+  pub numbers : Numbers
   -- by rising number
   pub batches : List Batch
   pub next_number : ℕ
   pub allocation : Allocation
 
-abbrev pub seen : ClearedSet → List RecipeNumbers → List Batch → ℕ → Allocation → EngineView
+abbrev pub seen : ClearedSet → Numbers → List Batch → ℕ → Allocation → EngineView
 seen cleared numbers batches next_number allocation =
     record { cleared = cleared; numbers = numbers; batches = batches; next_number = next_number; allocation = allocation }
 

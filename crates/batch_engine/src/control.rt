@@ -13,8 +13,8 @@ ghost use Rattle.batch_engine.specs.View.{setup, plant_of};
 use crate::batch::Batch;
 use crate::batches::Batches;
 use crate::event::Event;
-use crate::numbering::number_recipes;
-use crate::numbers::RecipeNumbers;
+use crate::numbering::number_set;
+use crate::numbers::Numbers;
 use crate::reply::Reply;
 use batch_arbiter::Arbiter;
 use batch_verify::Cleared;
@@ -26,7 +26,7 @@ use std::marker::Model;
 pub struct Control {
     pub(crate) alloc: Global,
     pub(crate) cleared: Cleared,
-    pub(crate) numbers: Vec<RecipeNumbers>,
+    pub(crate) numbers: Numbers,
     pub(crate) batches: Batches,
     /// How many needs the acts of all batches have.
     pub(crate) needs: usize,
@@ -39,7 +39,7 @@ impl Model for Control {
     ghost use Rattle.batch_arbiter.specs.contracts.arbiter.Arbiter as arbiter_contracts;
     ghost use Rattle.batch_verify.specs.contracts.cleared.Cleared as cleared_contracts;
     ghost use Rattle.batch_engine.specs.contracts.batch.Batch as batch_contracts;
-    ghost use Rattle.batch_engine.specs.contracts.numbers.RecipeNumbers as numbers_contracts;
+    ghost use Rattle.batch_engine.specs.contracts.numbers.Numbers as numbers_contracts;
     ghost use Rattle.batch_engine.specs.Kept.{IsCounted};
     ghost use Rattle.batch_engine.specs.View.{EngineView, seen};
 
@@ -47,9 +47,9 @@ impl Model for Control {
 
     ghost coded = { Prim.hlevel (codes, batch_contracts.the_row.coded, cleared_contracts.the_row.coded, arbiter_contracts.the_row.coded, numbers_contracts.the_row.coded) };
 
-    ghost view = { λ e. seen e.cleared e.numbers.items e.batches.batches e.next_number e.arbiter };
+    ghost view = { λ e. seen e.cleared e.numbers e.batches.batches e.next_number e.arbiter };
 
-    ghost invariant = { λ e. IsCounted e.batches e.needs (seen e.cleared e.numbers.items e.batches.batches e.next_number e.arbiter) };
+    ghost invariant = { λ e. IsCounted e.batches e.needs (seen e.cleared e.numbers e.batches.batches e.next_number e.arbiter) };
 }
 
 impl Control {
@@ -59,7 +59,7 @@ impl Control {
         ensures cleared { IfOk result (λ control. control.cleared ≡ cleared) }
         ensures back { IfErr result (λ fault. fault.1 ≡ cleared) }
     {
-        let Ok(numbers) = number_recipes(alloc, cleared.cell(), cleared.recipes()) else {
+        let Ok(numbers) = number_set(alloc, cleared.cell(), cleared.recipes()) else {
             return Err((AllocError, cleared));
         };
         let Ok(arbiter) = Arbiter::new(alloc, cleared.cell()) else {

@@ -106,7 +106,7 @@ impl Control {
         requires free { length self.now.batches < MAX_LIVE_BATCHES }
         ensures { (units : List ℕ) → result ≡ needs_of_all self.now.cleared self.now.batches + needs_in (tree_at self.now.cleared recipe units) }
     {
-        self.needs + self.numbers[usize::from(recipe)].needs
+        self.needs + self.numbers.recipes[usize::from(recipe)].needs
     }
 
     /// Makes a batch, once all its room is made.

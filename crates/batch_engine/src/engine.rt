@@ -21,7 +21,7 @@ impl Model for Engine {
     ghost use Rattle.batch_arbiter.specs.contracts.arbiter.Arbiter as arbiter_contracts;
     ghost use Rattle.batch_verify.specs.contracts.cleared.Cleared as cleared_contracts;
     ghost use Rattle.batch_engine.specs.contracts.batch.Batch as batch_contracts;
-    ghost use Rattle.batch_engine.specs.contracts.numbers.RecipeNumbers as numbers_contracts;
+    ghost use Rattle.batch_engine.specs.contracts.numbers.Numbers as numbers_contracts;
     ghost use Rattle.batch_engine.specs.Marked.{IsEngine};
     ghost use Rattle.batch_engine.specs.View.{EngineView};
 

@@ -11,8 +11,7 @@ ghost use Rattle.batch_engine.specs.Steps.{IsNext, IsNextStep, IsNodeAt, IsOwnSt
 use crate::batch::Batch;
 use crate::control::Control;
 use crate::line::{ClaimKind, Line};
-use crate::numbering::number_on;
-use crate::numbers::{PhaseNumber, ResourceNumber, TaskNumber};
+use crate::numbers::{NO_PHASE, PhaseNumber, phase_by};
 use crate::pending::resource_at;
 use crate::step::Step;
 use batch_chart::Move;
@@ -84,16 +83,10 @@ impl Control {
         requires { IsNodeAt self.now batch.now node }
         ensures { IsPhaseAt self.now.cleared batch.now node result.unit result.phase }
     {
-        let numbers = &self.numbers[usize::from(batch.recipe)];
-        let act = &numbers.acts[usize::from(node)];
-        match act.task {
-            TaskNumber::Phase(phase) => phase,
-            TaskNumber::Role(role) => {
-                let unit = ResourceNumber::Role(role).for_units(&batch.units);
-                let chart = self.cleared.recipe(batch.recipe);
-                number_on(self.cleared.cell(), unit, chart, node)
-            }
-        }
+        let numbers = &self.numbers.recipes[usize::from(batch.recipe)];
+        let chart = self.cleared.recipe(batch.recipe);
+        let entry = &chart.outline.entries[usize::from(node)];
+        phase_by(&numbers.linked, &self.numbers.phases, entry, &batch.units).unwrap_or(NO_PHASE)
     }
 
     /// The line of a phase of a batch that is told to do something.
@@ -137,6 +130,7 @@ impl Control {
         let batch = &self.batches[index];
         let number = batch.number;
         let recipe = batch.recipe;
+        let chart = self.cleared.recipe(recipe);
         match made {
             Move::Send { node, command } => self.send_line(batch, node, command),
             Move::State(state) => Line::State {
@@ -144,11 +138,11 @@ impl Control {
                 state,
             },
             Move::Release { node, need } => {
-                let share = resource_at(&self.numbers, batch, node, need);
+                let share = resource_at(&self.numbers, chart, batch, node, need);
                 claim_line(ClaimKind::Released, batch, node, share)
             }
             Move::Pass { node, to, need } => {
-                let share = resource_at(&self.numbers, batch, node, need);
+                let share = resource_at(&self.numbers, chart, batch, node, need);
                 pass_line(batch, node, to, share)
             }
             Move::Begin { node } => Line::Begin {
@@ -163,7 +157,7 @@ impl Control {
                 node,
             },
             Move::Ask { node, need } => {
-                let share = resource_at(&self.numbers, batch, node, need);
+                let share = resource_at(&self.numbers, chart, batch, node, need);
                 claim_line(ClaimKind::Asked, batch, node, share)
             }
         }

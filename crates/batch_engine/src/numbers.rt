@@ -1,37 +1,9 @@
 //! Numbers of what acts need and run.
 ghost use Rattle.std.specs.Prelude.{◌≡◌};
-ghost use Rattle.batch_engine.specs.Numbered.{number_for};
+ghost use Rattle.batch_engine.specs.Numbered.{phase_by};
 
-/// A resource that an act needs.
-#[derive(Clone, Copy)]
-pub enum ResourceNumber {
-    /// That with this number.
-    Resource(u16),
-    /// The unit that takes the role with this number.
-    Role(u16),
-}
-
-impl ResourceNumber {
-    /// The number of the resource, where these units take the roles.
-    pub fn for_units(self, units: &[u16]) -> u16
-        ensures { result ≡ number_for units.now self }
-    {
-        match self {
-            ResourceNumber::Resource(number) => number,
-            ResourceNumber::Role(role) => match units.get(usize::from(role)) {
-                Some(unit) => *unit,
-                None => 0,
-            },
-        }
-    }
-}
-
-/// So many units of a resource.
-#[derive(Clone, Copy)]
-pub struct NeedNumber {
-    pub resource: ResourceNumber,
-    pub units: u32,
-}
+use batch_recipe::{Entry, Kind, LabelTable};
+use batch_set::{CellPhases, LinkedRecipe};
 
 /// A phase, by its number among those that its unit offers.
 #[derive(Clone, Copy)]
@@ -46,26 +18,37 @@ pub const NO_PHASE: PhaseNumber = PhaseNumber {
     phase: u16::MAX,
 };
 
-/// What an act runs.
-#[derive(Clone, Copy)]
-pub enum TaskNumber {
-    /// This phase, or none.
-    Phase(PhaseNumber),
-    /// A phase of the unit that takes the role with this number. Its number among those of this unit isn't known before.
-    Role(u16),
-}
-
-/// What an act needs, in the order in which it asks, and what it runs.
-#[derive(Drop)]
-pub struct ActNumbers {
-    pub needs: Vec<NeedNumber>,
-    pub task: TaskNumber,
-}
-
-/// What the acts of a recipe need and run, by the numbers of their nodes.
+/// A recipe by the numbers of what its acts name.
 #[derive(Drop)]
 pub struct RecipeNumbers {
-    pub acts: Vec<ActNumbers>,
-    /// How many needs all of them have.
+    pub linked: LinkedRecipe,
+    /// How many needs the acts of all its nodes have.
     pub needs: usize,
+}
+
+/// The recipes of a set, and the phases of its cell.
+#[derive(Drop)]
+pub struct Numbers {
+    pub recipes: Vec<RecipeNumbers>,
+    pub phases: CellPhases,
+}
+
+/// The phase that the act at this entry of the recipe runs, where these units take the roles.
+#[inline(always)]
+pub fn phase_by(
+    linked: &LinkedRecipe,
+    phases: &CellPhases,
+    entry: &Entry,
+    units: &[u16],
+) -> Option<PhaseNumber>
+    ensures { result ≡ phase_by linked.now phases.now units.now entry.now.detail entry.now.kind }
+{
+    match entry.kind {
+        Kind::Act(LabelTable::Phases, step) => {
+            let unit = linked.unit(entry.detail).for_units(units)?;
+            let phase = linked.phase_on(phases, step, unit)?;
+            Some(PhaseNumber { unit, phase })
+        }
+        _ => None,
+    }
 }

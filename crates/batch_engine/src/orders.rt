@@ -50,7 +50,7 @@ impl Control {
         let mut asks = [0; MAX_RESOURCES];
         let mut from = 0;
         while let Some((node, need)) = batch.running.waiting(chart, from) {
-            let (resource, _units) = resource_at(&self.numbers, batch, node, need);
+            let (resource, _units) = resource_at(&self.numbers, chart, batch, node, need);
             asks[usize::from(resource)] += 1;
             from = node + 1;
         }
@@ -120,7 +120,7 @@ impl Control {
             return Reply::Refused(Refusal::NotIdle(state));
         };
         let removed = self.batches.remove(index);
-        self.needs -= self.numbers[usize::from(removed.recipe)].needs;
+        self.needs -= self.numbers.recipes[usize::from(removed.recipe)].needs;
         Reply::Removed { batch: number }
     }
 }

@@ -1,5 +1,5 @@
 //! Choosing the next move.
-ghost use Rattle.std.specs.Prelude.{◌≡◌, ◌<◌, ◌≤◌, ◌↔◌, length, IsTrue, ℕ};
+ghost use Rattle.std.specs.Prelude.{◌≡◌, ◌<◌, ◌≤◌, ◌↔◌, length, slice_get, IsTrue, ℕ};
 ghost use Rattle.batch_arbiter.specs.Allocation.{resource_count};
 ghost use Rattle.batch_model.specs.Moves.{is_stopped};
 ghost use Rattle.batch_engine.specs.Marked.{AreMarked};
@@ -10,11 +10,12 @@ ghost use Rattle.batch_engine.specs.View.{EngineView};
 use crate::batch::Batch;
 use crate::control::Control;
 use crate::marks::Marks;
-use crate::numbers::RecipeNumbers;
+use crate::numbers::Numbers;
 use crate::step::Step;
 use batch_arbiter::Arbiter;
 use batch_matrix::State;
-use batch_recipe::MAX_NODES;
+use batch_recipe::{MAX_NODES, Recipe};
+use batch_set::LinkedNeed;
 
 /// So many acts of a batch in line are looked at before the lines themselves are.
 const FEW_ACTS: u16 = 8;
@@ -62,20 +63,34 @@ fn is_stopped(state: State) -> bool
     matches!(state, State::Stopped | State::Aborted)
 }
 
-/// The number of the resource that an act of a batch needs, and how many units of it, by the numbers of all recipes.
+/// The need with this number.
+fn need_in(needs: &[LinkedNeed], need: u16) -> Option<LinkedNeed>
+    ensures { result ≡ slice_get needs.now need }
+{
+    needs.get(usize::from(need)).copied()
+}
+
+/// The number of the resource that an act of a batch of the recipe needs, and how many units of it.
 pub(crate) fn resource_at(
-    numbers: &[RecipeNumbers],
+    numbers: &Numbers,
+    recipe: &Recipe,
     batch: &Batch,
     node: u16,
     need: u16,
 ) -> (u16, u32)
-    requires { (v : EngineView) × IsNeedAt v numbers.now batch.now node need }
-    ensures { (v : EngineView) → IsNeedAt v numbers.now batch.now node need → IsNumberAt v.cleared batch.now node need result.0 result.1 }
+    requires { (v : EngineView) × IsNeedAt v numbers.now recipe.now batch.now node need }
+    ensures { (v : EngineView) → IsNeedAt v numbers.now recipe.now batch.now node need → IsNumberAt v.cleared batch.now node need result.0 result.1 }
 {
-    let recipe = &numbers[usize::from(batch.recipe)];
-    let act = &recipe.acts[usize::from(node)];
-    let wanted = &act.needs[usize::from(need)];
-    (wanted.resource.for_units(&batch.units), wanted.units)
+    let entry = &recipe.outline.entries[usize::from(node)];
+    let own = &numbers.recipes[usize::from(batch.recipe)];
+    let needs = own.linked.needs(entry.kind);
+    match need_in(needs, need) {
+        Some(wanted) => {
+            let resource = wanted.source.for_units(&batch.units);
+            (resource.unwrap_or(0), wanted.units)
+        }
+        None => (0, 0),
+    }
 }
 
 impl Control {
@@ -101,7 +116,7 @@ impl Control {
         let mut from = 0;
         let mut looked = 0;
         while let Some((node, need)) = batch.running.waiting(chart, from) {
-            let (resource, units) = resource_at(&self.numbers, batch, node, need);
+            let (resource, units) = resource_at(&self.numbers, chart, batch, node, need);
             if serves(&self.arbiter, resource, batch.number, node) {
                 return Some((node, resource, units));
             }

@@ -11,19 +11,20 @@ use Rattle.batch_engine.proofs.numbering.number_recipes.Goals as goal
 pub loop-index-preserved : goal.loop-index-preserved
 loop-index-preserved c =
     let cell = c.args.cell.now in
+    let phases = c.args.phases.now in
     let recipes = c.args.recipes.now in
     let i : ℕ = c.loop-index.index in
     let r : Recipe = c.index-recipes-index.result in
     let x : RecipeNumbers = c.in_ok-recipe.recipe in
     let few : i < length recipes = omega (arith, c.loop-index-test.true) in
     let at : slice_get recipes i ≡ Some r = slice_get_read recipes (length recipes) i r refl few c.index-recipes-index.is in
-    let own : (s : Recipe) → slice_get recipes i ≡ Some s → IsRecipeNumbered cell s x =
-    λ s e. subst (λ (z : Recipe). IsRecipeNumbered cell z x) (same-at recipes i r s at e) c.in_ok-recipe.ensures in
-    let each : (k : ℕ) (y : RecipeNumbers) → slice_get (c.loop-index.numbers.items ++ x ∷ []) k ≡ Some y → (s : Recipe) → slice_get recipes k ≡ Some s → IsRecipeNumbered cell s y =
-    pushed (λ k y. (s : Recipe) → slice_get recipes k ≡ Some s → IsRecipeNumbered cell s y) c.loop-index.numbers.items x c.loop-index.invariant.1
-    (subst (λ k. (s : Recipe) → slice_get recipes k ≡ Some s → IsRecipeNumbered cell s x) (sym c.loop-index.invariant.0) own) in (
+    let own : (s : Recipe) → slice_get recipes i ≡ Some s → IsRecipeNumbered cell phases s x =
+    λ s e. subst (λ (z : Recipe). IsRecipeNumbered cell phases z x) (same-at recipes i r s at e) c.in_ok-recipe.ensures in
+    let each : (k : ℕ) (y : RecipeNumbers) → slice_get (c.loop-index.numbers.items ++ x ∷ []) k ≡ Some y → (s : Recipe) → slice_get recipes k ≡ Some s → IsRecipeNumbered cell phases s y =
+    pushed (λ k y. (s : Recipe) → slice_get recipes k ≡ Some s → IsRecipeNumbered cell phases s y) c.loop-index.numbers.items x c.loop-index.invariant.1
+    (subst (λ k. (s : Recipe) → slice_get recipes k ≡ Some s → IsRecipeNumbered cell phases s x) (sym c.loop-index.invariant.0) own) in (
       omega (arith, ap (λ (xs : List RecipeNumbers). length xs) c.in_ok-push.ensures.items, length-append c.loop-index.numbers.items (x ∷ []), c.loop-index.invariant.0),
-      subst (λ (xs : List RecipeNumbers). (k : ℕ) (y : RecipeNumbers) → slice_get xs k ≡ Some y → (s : Recipe) → slice_get recipes k ≡ Some s → IsRecipeNumbered cell s y)
+      subst (λ (xs : List RecipeNumbers). (k : ℕ) (y : RecipeNumbers) → slice_get xs k ≡ Some y → (s : Recipe) → slice_get recipes k ≡ Some s → IsRecipeNumbered cell phases s y)
           (sym c.in_ok-push.ensures.items) each,
       omega (arith, few),
     )

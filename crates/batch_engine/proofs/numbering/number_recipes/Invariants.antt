@@ -8,5 +8,5 @@ use Rattle.batch_engine.proofs.numbering.number_recipes.Given as goal
 abbrev pub invariant-loop-index : goal.invariant-loop-index
 invariant-loop-index l =
     (length l.numbers.items ≡ l.index)
-    × ((k : ℕ) (x : RecipeNumbers) → slice_get l.numbers.items k ≡ Some x → (r : Recipe) → slice_get l.recipes k ≡ Some r → IsRecipeNumbered l.cell r x)
+    × ((k : ℕ) (x : RecipeNumbers) → slice_get l.numbers.items k ≡ Some x → (r : Recipe) → slice_get l.recipes k ≡ Some r → IsRecipeNumbered l.cell l.phases r x)
     × (l.index ≤ length l.recipes)

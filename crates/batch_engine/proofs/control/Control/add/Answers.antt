@@ -31,19 +31,19 @@ needs_with-needs-requires-clause-free c = few-batches c.args.self.now c.requires
 
 pub add-requires : goal.add-requires
 add-requires c =
-    let w : EngineView = seen c.self.inside.cleared c.self.inside.numbers.items c.self.inside.batches.batches c.self.inside.next_number c.self.inside.arbiter in
+    let w : EngineView = seen c.self.inside.cleared c.self.inside.numbers c.self.inside.batches.batches c.self.inside.next_number c.self.inside.arbiter in
     new-number w c.self.invariant.kept c.self.inside.batches refl c.self.invariant.numbers
 
 pub returns-in_default-add : goal.returns-in_default-add
 returns-in_default-add c = λ name pairs o.
     let v : EngineView = c.args.self.now in
-    let w : EngineView = seen c.self.inside.cleared c.self.inside.numbers.items c.self.inside.batches.batches c.self.inside.next_number c.self.inside.arbiter in
+    let w : EngineView = seen c.self.inside.cleared c.self.inside.numbers c.self.inside.batches.batches c.self.inside.next_number c.self.inside.arbiter in
     let e : w ≡ v = c.self.view_is in
     let room : ℕ = c.reserve.new.self.room in
     let arbiter : c.reserve.new.self ≡ record (c.self.inside.arbiter) { room = room } = c.in-Ok-reserve.ensures.rest in
     let items : c.add.new.self.batches ≡ c.self.inside.batches.batches = ap (λ (r : BatchList). r.batches) c.in_default-add.ensures.same in
-    let same : plant_of (seen c.self.inside.cleared c.self.inside.numbers.items c.add.new.self.batches c.self.inside.next_number c.reserve.new.self) ≡ plant_of v =
-    ap₂ (λ (bs : List Batch) (a : Allocation). plant_of (seen c.self.inside.cleared c.self.inside.numbers.items bs c.self.inside.next_number a)) items arbiter ∙ ap plant_of e in
+    let same : plant_of (seen c.self.inside.cleared c.self.inside.numbers c.add.new.self.batches c.self.inside.next_number c.reserve.new.self) ≡ plant_of v =
+    ap₂ (λ (bs : List Batch) (a : Allocation). plant_of (seen c.self.inside.cleared c.self.inside.numbers bs c.self.inside.next_number a)) items arbiter ∙ ap plant_of e in
     record {
       cleared = ap (λ (z : EngineView). z.cleared) e;
       reacts = inr (subst (λ (a : Answer). IsCreated a.0) (sym (react-create v c.args.recipe name c.args.size pairs c.args.units c.args.values o)) tt, refl, same);
@@ -53,7 +53,7 @@ pub invariant_of-self-in_default-add : goal.invariant_of-self-in_default-add
 invariant_of-self-in_default-add c =
     let v : EngineView = c.args.self.now in
     let kept : IsKept v = subst IsKept c.self.view_is c.self.invariant.kept in
-    let w : EngineView = seen c.self.inside.cleared c.self.inside.numbers.items c.self.inside.batches.batches c.self.inside.next_number c.self.inside.arbiter in
+    let w : EngineView = seen c.self.inside.cleared c.self.inside.numbers c.self.inside.batches.batches c.self.inside.next_number c.self.inside.arbiter in
     let e : w ≡ v = c.self.view_is in
     let room : ℕ = c.reserve.new.self.room in
     let more : v.allocation.room ≤ room = subst (λ (z : EngineView). z.allocation.room ≤ room) e c.in-Ok-reserve.ensures.room in
@@ -62,8 +62,8 @@ invariant_of-self-in_default-add c =
     let inside : IsKept (with w w.batches w.next_number (record (w.allocation) { room = room })) =
     subst (λ (z : EngineView). IsKept (with z z.batches z.next_number (record (z.allocation) { room = room }))) (sym e) (room-kept v kept room more) in
     record {
-      kept = subst (λ (a : Allocation). IsKept (seen c.self.inside.cleared c.self.inside.numbers.items c.add.new.self.batches c.self.inside.next_number a)) (sym arbiter)
-          (subst (λ (bs : List Batch). IsKept (seen c.self.inside.cleared c.self.inside.numbers.items bs c.self.inside.next_number (record (c.self.inside.arbiter) { room = room }))) (sym items) inside);
+      kept = subst (λ (a : Allocation). IsKept (seen c.self.inside.cleared c.self.inside.numbers c.add.new.self.batches c.self.inside.next_number a)) (sym arbiter)
+          (subst (λ (bs : List Batch). IsKept (seen c.self.inside.cleared c.self.inside.numbers bs c.self.inside.next_number (record (c.self.inside.arbiter) { room = room }))) (sym items) inside);
       numbers = subst HaveOwnNumbers (sym c.in_default-add.ensures.same) c.self.invariant.numbers;
       needs_are = c.self.invariant.needs_are ∙ sym (ap (needs_of_all c.self.inside.cleared) items);
     }
@@ -100,7 +100,7 @@ invariant_of-self-2 c =
     let v : EngineView = c.args.self.now in
     let b : Batch = own s in
     let m = made s in
-    let w : EngineView = seen c.self.inside.cleared c.self.inside.numbers.items c.self.inside.batches.batches c.self.inside.next_number c.self.inside.arbiter in
+    let w : EngineView = seen c.self.inside.cleared c.self.inside.numbers c.self.inside.batches.batches c.self.inside.next_number c.self.inside.arbiter in
     let e : w ≡ v = c.self.view_is in
     let room : ℕ = c.reserve.new.self.room in
     let items : c.add.new.self.batches ≡ c.self.inside.batches.batches ++ b ∷ [] = ap (λ (r : BatchList). r.batches) c.in-Ok-add.ensures.added in
@@ -110,8 +110,8 @@ invariant_of-self-2 c =
     subst (λ (z : EngineView). IsKept (with z (z.batches ++ b ∷ []) (z.next_number + 1) (record (z.allocation) { room = room }))) (sym e)
     (create-kept v m.kept c.args.recipe c.requires.0 c.args.size c.requires.1 c.args.units c.args.values c.requires.2 b room m.number refl m.runs m.new m.enough) in
     record {
-      kept = subst (λ (a : Allocation). IsKept (seen c.self.inside.cleared c.self.inside.numbers.items c.add.new.self.batches (c.self.inside.next_number + 1) a)) (sym c.in-Ok-reserve.ensures.rest)
-          (subst (λ (bs : List Batch). IsKept (seen c.self.inside.cleared c.self.inside.numbers.items bs (c.self.inside.next_number + 1) (record (c.self.inside.arbiter) { room = room }))) (sym items) inside);
+      kept = subst (λ (a : Allocation). IsKept (seen c.self.inside.cleared c.self.inside.numbers c.add.new.self.batches (c.self.inside.next_number + 1) a)) (sym c.in-Ok-reserve.ensures.rest)
+          (subst (λ (bs : List Batch). IsKept (seen c.self.inside.cleared c.self.inside.numbers bs (c.self.inside.next_number + 1) (record (c.self.inside.arbiter) { room = room }))) (sym items) inside);
       numbers = subst HaveOwnNumbers (sym c.in-Ok-add.ensures.added) (own-numbers-push c.self.inside.batches b c.self.invariant.numbers);
       needs_are = counted ∙ sym (ap (needs_of_all w.cleared) items);
     }
@@ -127,16 +127,16 @@ returns c = λ name pairs o.
     let reacts : Reacts (setup v.cleared) (plant_of v) (Events.create name c.args.size pairs) (Events.created v.next_number (recipe_at v.cleared c.args.recipe c.args.units).name c.args.size told)
     (plant_of (with v (v.batches ++ b ∷ []) (v.next_number + 1) (record (v.allocation) { room = room }))) =
     create-reacts v m.kept c.args.recipe name c.args.size pairs c.args.units c.args.values o b room m.number refl m.runs m.new m.enough in
-    let same : plant_of (seen c.self.inside.cleared c.self.inside.numbers.items c.add.new.self.batches (c.self.inside.next_number + 1) c.reserve.new.self)
+    let same : plant_of (seen c.self.inside.cleared c.self.inside.numbers c.add.new.self.batches (c.self.inside.next_number + 1) c.reserve.new.self)
     ≡ plant_of (with v (v.batches ++ b ∷ []) (v.next_number + 1) (record (v.allocation) { room = room })) =
-    ap₂ (λ (bs : List Batch) (a : Allocation). plant_of (seen c.self.inside.cleared c.self.inside.numbers.items bs (c.self.inside.next_number + 1) a)) (ap (λ (r : BatchList). r.batches) c.in-Ok-add.ensures.added) c.in-Ok-reserve.ensures.rest
+    ap₂ (λ (bs : List Batch) (a : Allocation). plant_of (seen c.self.inside.cleared c.self.inside.numbers bs (c.self.inside.next_number + 1) a)) (ap (λ (r : BatchList). r.batches) c.in-Ok-add.ensures.added) c.in-Ok-reserve.ensures.rest
     ∙ ap (λ (z : EngineView). plant_of (with z (z.batches ++ b ∷ []) (z.next_number + 1) (record (z.allocation) { room = room }))) c.self.view_is in
     let document = some-at v.cleared.recipes c.args.recipe c.requires.2.chosen.known in
     let called : recipe_name v.cleared c.args.recipe ≡ (recipe_at v.cleared c.args.recipe c.args.units).name = recipe-named v.cleared c.args.recipe document.0 document.1 (bound_to v.cleared c.args.recipe c.args.units) in
     record {
       cleared = ap (λ (z : EngineView). z.cleared) c.self.view_is;
-      reacts = subst (λ (called : Name). Reacts (setup v.cleared) (plant_of v) (Events.create name c.args.size pairs) (Events.created b.number called c.args.size told) (plant_of (seen c.self.inside.cleared c.self.inside.numbers.items c.add.new.self.batches (c.self.inside.next_number + 1) c.reserve.new.self))) (sym called)
-          (subst (λ n. Reacts (setup v.cleared) (plant_of v) (Events.create name c.args.size pairs) (Events.created n (recipe_at v.cleared c.args.recipe c.args.units).name c.args.size told) (plant_of (seen c.self.inside.cleared c.self.inside.numbers.items c.add.new.self.batches (c.self.inside.next_number + 1) c.reserve.new.self)))
+      reacts = subst (λ (called : Name). Reacts (setup v.cleared) (plant_of v) (Events.create name c.args.size pairs) (Events.created b.number called c.args.size told) (plant_of (seen c.self.inside.cleared c.self.inside.numbers c.add.new.self.batches (c.self.inside.next_number + 1) c.reserve.new.self))) (sym called)
+          (subst (λ n. Reacts (setup v.cleared) (plant_of v) (Events.create name c.args.size pairs) (Events.created n (recipe_at v.cleared c.args.recipe c.args.units).name c.args.size told) (plant_of (seen c.self.inside.cleared c.self.inside.numbers c.add.new.self.batches (c.self.inside.next_number + 1) c.reserve.new.self)))
           (sym m.number)
           (subst (Reacts (setup v.cleared) (plant_of v) (Events.create name c.args.size pairs) (Events.created v.next_number (recipe_at v.cleared c.args.recipe c.args.units).name c.args.size told)) (sym same) reacts));
     }

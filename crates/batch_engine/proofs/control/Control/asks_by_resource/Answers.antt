@@ -1,4 +1,4 @@
-use Rattle.std.proofs.Common.{◌<◌, ◌+◌, ◌∙◌, refl, sym, ap, subst, arith, set}
+use Rattle.std.proofs.Common.{◌<◌, ◌+◌, refl, sym, ap, subst, arith, set}
 use Rattle.std.specs.Prelude.{slice_index}
 use Rattle.batch_chart.specs.NodesOf.{need_at}
 use Rattle.batch_engine.specs.Steps.{IsNumberAt}
@@ -17,7 +17,7 @@ number : (c : After-resource_at-resource) → IsSeat c.args.self.now c.requires.
     → IsNumberAt c.args.self.now.cleared c.args.batch.now c.in-Some.node c.in-Some.need c.resource_at-resource.result.0 c.resource_at-resource.result.1
 number c s =
     let asks = c.in-Some.ensures.some.1 (tree_of c.args.self.now.cleared c.args.batch.now) s.chart s.runs in
-    c.resource_at-resource.ensures c.args.self.now (needs-there c.requires.0 (c.deref.ensures.value ∙ ap (λ (z : EngineView). z.numbers) c.self.view_is) s.kept s.at asks.0 asks.1)
+    c.resource_at-resource.ensures c.args.self.now (needs-there c.requires.0 (ap (λ (z : EngineView). z.numbers) c.self.view_is) s.kept s.at s.listed asks.0 asks.1)
 
 pub waiting-requires : goal.waiting-requires
 waiting-requires c = (seat (goal.at.waiting-requires c).After-recipe-chart).running
@@ -26,7 +26,7 @@ pub resource_at-resource-requires : goal.resource_at-resource-requires
 resource_at-resource-requires c =
     let s = seat (goal.at.resource_at-resource-requires c).After-recipe-chart in
     let asks = c.in-Some.ensures.some.1 (tree_of c.args.self.now.cleared c.args.batch.now) s.chart s.runs in
-    (c.args.self.now, needs-there c.requires.0 (c.deref.ensures.value ∙ ap (λ (z : EngineView). z.numbers) c.self.view_is) s.kept s.at asks.0 asks.1)
+    (c.args.self.now, needs-there c.requires.0 (ap (λ (z : EngineView). z.numbers) c.self.view_is) s.kept s.at s.listed asks.0 asks.1)
 
 -- there is a count of it
 within : (c : After-resource_at-resource) → IsSeat c.args.self.now c.requires.0 c.args.batch.now c.recipe-chart.result.now → c.resource_at-resource.result.0 < 384

@@ -12,9 +12,9 @@ pub overflow_add-result : goal.overflow_add-result
 overflow_add-result c =
     let v : EngineView = c.args.self.now in
     let kept : IsKept v = subst IsKept c.self.view_is c.self.invariant.kept in
-    let few : c.args.recipe < length v.numbers = omega (arith, c.requires.known, kept.numbers.count) in
+    let few : c.args.recipe < length v.numbers.recipes.items = omega (arith, c.requires.known, kept.numbers.recipes_are.count) in
     let x : RecipeNumbers = c.index.result.now in
-    let found : slice_get v.numbers c.args.recipe ≡ Some x = got-numbers v _ c.from.result c.args.recipe x (ap (λ (z : EngineView). z.numbers) c.self.view_is) c.from.ensures few c.index.ensures in
+    let found : slice_get v.numbers.recipes.items c.args.recipe ≡ Some x = got-numbers v _ c.from.result c.args.recipe x (ap (λ (z : EngineView). z.numbers) c.self.view_is) c.from.ensures few c.index.ensures in
     omega (
       arith,
       c.requires.free,
@@ -29,7 +29,7 @@ pub returns : goal.returns
 returns c units =
     let v : EngineView = c.args.self.now in
     let kept : IsKept v = subst IsKept c.self.view_is c.self.invariant.kept in
-    let few : c.args.recipe < length v.numbers = omega (arith, c.requires.known, kept.numbers.count) in
+    let few : c.args.recipe < length v.numbers.recipes.items = omega (arith, c.requires.known, kept.numbers.recipes_are.count) in
     let x : RecipeNumbers = c.index.result.now in
-    let found : slice_get v.numbers c.args.recipe ≡ Some x = got-numbers v _ c.from.result c.args.recipe x (ap (λ (z : EngineView). z.numbers) c.self.view_is) c.from.ensures few c.index.ensures in
+    let found : slice_get v.numbers.recipes.items c.args.recipe ≡ Some x = got-numbers v _ c.from.result c.args.recipe x (ap (λ (z : EngineView). z.numbers) c.self.view_is) c.from.ensures few c.index.ensures in
     omega (arith, c.self.invariant.needs_are, ap (λ (z : EngineView). needs_of_all z.cleared z.batches) c.self.view_is, needs-here v kept c.args.recipe x found units)

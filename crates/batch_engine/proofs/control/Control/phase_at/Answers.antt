@@ -1,53 +1,45 @@
-use Rattle.std.proofs.Common.{◌<◌, ◌∙◌, ap, ap₂, ℕ, arith, length}
-use Rattle.batch_cell.specs.LookUps.{units_of}
-use Rattle.batch_cell.specs.declared.cell.Cell.{Cell}
-use Rattle.batch_chart.specs.NodesOf.{node_at, phase_named}
-use Rattle.batch_engine.specs.Names.{roles_at}
-use Rattle.batch_engine.specs.Numbered.{IsActNumbered, phase_on}
-use Rattle.batch_engine.specs.View.{EngineView, bound_to, tree_of}
+use Rattle.std.proofs.Common.{◌≡◌, ◌∙◌, ap, sym, subst, arith, Option, Some}
+use Rattle.std.specs.Prelude.{slice_get, unwrap_or}
+use Rattle.batch_engine.specs.Numbered.{phase_by}
+use Rattle.batch_engine.specs.Steps.{IsPhaseAt}
+use Rattle.batch_engine.specs.View.{EngineView}
 use Rattle.batch_engine.specs.declared.batch.Batch.{Batch}
-use Rattle.batch_engine.proofs.Finding.{chart-for, got-chart}
-use Rattle.batch_engine.proofs.NumbersFound.{in-numbers}
-use Rattle.batch_engine.proofs.Seats.{act-here, acts-here}
-use Rattle.batch_engine.proofs.Taken.{phase-named-here, phase-taken-here, unit-there}
+use Rattle.batch_engine.specs.declared.numbers.PhaseNumber.{PhaseNumber}
+use Rattle.batch_engine.specs.declared.numbers.TheConstants.{NO_PHASE}
+use Rattle.batch_engine.proofs.Finding.{got-chart}
+use Rattle.batch_engine.proofs.LinkedActs.{phase-here}
+use Rattle.batch_engine.proofs.Seats.{IsRead, chart-within, entry-read, entry-within, numbers-read, numbers-within}
 use Rattle.batch_engine.proofs.control.Control.phase_at.Goals as goal
-use Rattle.batch_engine.proofs.control.Control.phase_at.Goals.{After-index-act}
+use Rattle.batch_engine.proofs.control.Control.phase_at.Goals.{After-recipe-chart}
 
--- what is read of the act
-act : (c : After-index-act) → IsActNumbered c.args.self.now.cleared.cell (roles_at c.args.self.now.cleared c.args.batch.now.recipe) (bound_to c.args.self.now.cleared c.args.batch.now.recipe c.args.batch.now.units)
-    (node_at (tree_of c.args.self.now.cleared c.args.batch.now) c.args.node).here c.index-act.result.now
-act c =
-    act-here (acts-here (ap (λ (z : EngineView). z.numbers) c.self.view_is) (record { kept = c.requires.kept; at = c.requires.at }) c.from.ensures c.index-numbers.ensures) c.requires.few c.from-2.ensures c.index-act.ensures
+listed : (c : After-recipe-chart) → slice_get c.args.self.now.cleared.recipes c.args.batch.now.recipe ≡ Some c.recipe-chart.result.now
+listed c = got-chart c.args.self.now _ c.args.batch.now.recipe c.recipe-chart.result.now c.self.view_is c.recipe-chart.ensures
 
 pub index-numbers-requires : goal.index-numbers-requires
 index-numbers-requires c =
-    let within : c.args.batch.now.recipe < length c.args.self.now.numbers = in-numbers c.args.self.now c.requires.kept c.requires.index c.args.batch.now c.requires.at in
-    omega (arith, within, c.from.ensures, c.self.inside.numbers.ok.0, ap (λ (z : EngineView). length z.numbers) c.self.view_is)
+    let r : IsRead c.args.self.now c.requires.index c.args.batch.now = record { kept = c.requires.kept; at = c.requires.at } in
+    omega (arith, c.from.ensures, numbers-within (ap (λ (z : EngineView). z.numbers) c.self.view_is) r)
 
-pub index-act-requires : goal.index-act-requires
-index-act-requires c =
-    omega (arith, c.requires.few, (acts-here (ap (λ (z : EngineView). z.numbers) c.self.view_is) (record { kept = c.requires.kept; at = c.requires.at }) c.from.ensures c.index-numbers.ensures).count, c.from-2.ensures, c.index-numbers.result.now.acts.ok.0)
+pub recipe-chart-requires : goal.recipe-chart-requires
+recipe-chart-requires c =
+    let r : IsRead c.args.self.now c.requires.index c.args.batch.now = record { kept = c.requires.kept; at = c.requires.at } in
+    chart-within c.self.view_is r
 
-pub returns-in-Phase : goal.returns-in-Phase
-returns-in-Phase c =
-    let w = goal.at.returns-in-Phase c in
-    phase-named-here c.args.self.now c.requires.kept c.requires.index c.args.batch.now c.requires.at c.args.node c.requires.few c.index-act.result.now (act w.After-index-act) c.in-Phase.phase c.in-Phase.is
+pub index-entry-requires : goal.index-entry-requires
+index-entry-requires c =
+    let r : IsRead c.args.self.now c.requires.index c.args.batch.now = record { kept = c.requires.kept; at = c.requires.at } in
+    omega (arith, c.from-2.ensures, entry-within r (listed (goal.at.index-entry-requires c).After-recipe-chart) c.requires.few)
 
-pub number_on-requires : goal.number_on-requires
-number_on-requires c =
-    let w = goal.at.number_on-requires c in
-    omega (
-      arith,
-      unit-there c.args.self.now c.requires.kept c.requires.index c.args.batch.now c.requires.at c.args.node c.requires.few c.index-act.result.now (act w.After-index-act) c.in-Role.role c.in-Role.is,
-      c.for_units-unit.ensures,
-      ap (λ (z : Cell). length (units_of z)) (c.cell.ensures.value ∙ ap (λ (z : EngineView). z.cleared.cell) c.self.view_is),
-    )
-
-pub returns-in-Role : goal.returns-in-Role
-returns-in-Role c =
-    let w = goal.at.returns-in-Role c in
+pub returns : goal.returns
+returns c =
     let v : EngineView = c.args.self.now in
     let b : Batch = c.args.batch.now in
-    phase-taken-here v c.requires.kept c.requires.index b c.requires.at c.args.node c.requires.few c.index-act.result.now (act w.After-index-act) c.in-Role.role c.in-Role.is c.number_on.result
-    (c.number_on.ensures (bound_to v.cleared b.recipe b.units) (tree_of v.cleared b) (chart-for v c.requires.kept c.requires.index b c.requires.at c.recipe-chart.result.now (got-chart v _ b.recipe c.recipe-chart.result.now c.self.view_is c.recipe-chart.ensures))
-    ∙ ap₂ (λ (z : Cell) (u : ℕ). phase_on z u (phase_named (node_at (tree_of v.cleared b) c.args.node).here)) (c.cell.ensures.value ∙ ap (λ (z : EngineView). z.cleared.cell) c.self.view_is) c.for_units-unit.ensures)
+    let r : IsRead v c.requires.index b = record { kept = c.requires.kept; at = c.requires.at } in
+    let chart = listed (goal.at.returns c).After-recipe-chart in
+    let x = c.index-numbers.result.now in
+    let e = c.index-entry.result.now in
+    let here =
+    phase-here v c.requires.kept c.requires.index b c.requires.at c.recipe-chart.result.now chart x (numbers-read (ap (λ (z : EngineView). z.numbers) c.self.view_is) r c.from.ensures c.index-numbers.ensures)
+    c.args.node c.requires.few e (entry-read r chart c.requires.few c.from-2.ensures c.index-entry.ensures) in
+    subst (λ (p : PhaseNumber). IsPhaseAt v.cleared b c.args.node p.unit p.phase)
+    (sym (c.unwrap_or.ensures ∙ ap (λ (o : Option PhaseNumber). unwrap_or o NO_PHASE) (c.phase_by.ensures ∙ ap (λ (z : EngineView). phase_by x.linked z.numbers.phases b.units e.detail e.kind) c.self.view_is))) here

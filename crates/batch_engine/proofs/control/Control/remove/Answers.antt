@@ -9,7 +9,8 @@ use Rattle.batch_engine.proofs.Filing.{own-numbers-remove}
 use Rattle.batch_engine.proofs.Reacting.{with}
 use Rattle.batch_engine.proofs.Removing.{remove-busy, remove-kept, remove-reacts, remove-unknown}
 use Rattle.batch_engine.proofs.Room.{needs-removed}
-use Rattle.batch_engine.proofs.Seats.{IsFound, IsRead, acts-here, found-here, read-there}
+use Rattle.batch_engine.proofs.NumbersFound.{needs-here}
+use Rattle.batch_engine.proofs.Seats.{IsFound, IsRead, found-here, numbers-read, read-there}
 use Rattle.batch_engine.proofs.Seeking.{none-found}
 use Rattle.batch_engine.proofs.control.Control.remove.Goals as goal
 use Rattle.batch_engine.proofs.control.Control.remove.Goals.{After-index, After-index-2}
@@ -25,7 +26,7 @@ counted c f =
     let r : IsRead v c.in-Some.index c.remove-removed.result = read-there c.self.view_is c.self.invariant.kept f.at c.remove-removed.ensures.value in
     omega (
       arith,
-      (acts-here (ap (λ (z : EngineView). z.numbers) c.self.view_is) r c.from.ensures c.index-2.ensures).needs,
+      needs-here v r.kept c.remove-removed.result.recipe c.index-2.result.now (numbers-read (ap (λ (z : EngineView). z.numbers) c.self.view_is) r c.from.ensures c.index-2.ensures) c.remove-removed.result.units,
       needs-removed v.cleared v.batches c.in-Some.index c.remove-removed.result r.at,
       c.self.invariant.needs_are,
       ap (λ (z : EngineView). needs_of_all z.cleared z.batches) c.self.view_is,
@@ -54,7 +55,7 @@ invariant_of-self c =
     let f = found w.After-index in
     let left : c.self.inside.needs - c.index-2.result.now.needs ≡ needs_of_all v.cleared (remove v.batches i) = omega (arith, counted w.After-index-2 f) in
     record {
-      kept = subst (λ (r : BatchList). IsKept (seen c.self.inside.cleared c.self.inside.numbers.items r.batches c.self.inside.next_number c.self.inside.arbiter)) (sym c.remove-removed.ensures.rest)
+      kept = subst (λ (r : BatchList). IsKept (seen c.self.inside.cleared c.self.inside.numbers r.batches c.self.inside.next_number c.self.inside.arbiter)) (sym c.remove-removed.ensures.rest)
           (subst (λ (z : EngineView). IsKept (with z (remove z.batches i) z.next_number z.allocation)) (sym c.self.view_is) (remove-kept v f.kept i c.index.result.now f.at c.in-Idle.is c.args.number c.requires f.is));
       numbers = subst HaveOwnNumbers (sym c.remove-removed.ensures.rest) (own-numbers-remove c.self.inside.batches i c.self.invariant.numbers);
       needs_are = left ∙ sym (ap (λ (z : EngineView). needs_of_all z.cleared (remove z.batches i)) c.self.view_is) ∙ sym (ap (λ (r : BatchList). needs_of_all c.self.inside.cleared r.batches) c.remove-removed.ensures.rest);
@@ -68,7 +69,7 @@ returns c =
     record {
       cleared = ap (λ (z : EngineView). z.cleared) c.self.view_is;
       reacts =
-          subst (λ (r : BatchList). Reacts (setup v.cleared) (plant_of v) (Events.remove c.args.number) (Events.removed c.args.number) (plant_of (seen c.self.inside.cleared c.self.inside.numbers.items r.batches c.self.inside.next_number c.self.inside.arbiter))) (sym c.remove-removed.ensures.rest)
+          subst (λ (r : BatchList). Reacts (setup v.cleared) (plant_of v) (Events.remove c.args.number) (Events.removed c.args.number) (plant_of (seen c.self.inside.cleared c.self.inside.numbers r.batches c.self.inside.next_number c.self.inside.arbiter))) (sym c.remove-removed.ensures.rest)
           (subst (λ (z : EngineView). Reacts (setup v.cleared) (plant_of v) (Events.remove c.args.number) (Events.removed c.args.number) (plant_of (with z (remove z.batches i) z.next_number z.allocation))) (sym c.self.view_is)
           (subst (λ n. Reacts (setup v.cleared) (plant_of v) (Events.remove c.args.number) (Events.removed n) (plant_of (with v (remove v.batches i) v.next_number v.allocation))) f.number
           (remove-reacts v f.kept i c.index.result.now f.at c.in-Idle.is c.args.number c.requires f.is)));

@@ -12,7 +12,7 @@ use Rattle.batch_engine.proofs.RoomForAsk.{room-for-ask}
 use Rattle.batch_engine.proofs.Seats.{IsSeat, chart-within, closed-makes, counted-set, mover, seat-of}
 use Rattle.batch_engine.proofs.Stepping.{changed}
 use Rattle.batch_engine.proofs.control.Control.run.Goals as goal
-use Rattle.batch_engine.proofs.control.Control.run.Goals.{After-deref, After-index_mut-batch, After-make, After-recipe-chart}
+use Rattle.batch_engine.proofs.control.Control.run.Goals.{After-index_mut-batch, After-make, After-recipe-chart}
 
 -- what the engine becomes
 becomes : {v : EngineView} {i : ℕ} {b : Batch} (m : Move) (h : IsMover v i b m) {r : Running} {a : Allocation} → IsOfAct m → IsClaimed v.cleared b m v.allocation a → MadeChart v h.kept i b h.at m r
@@ -35,16 +35,17 @@ becomes {v} {i} {b} m h {r} {a} act is made =
 moves : (c : After-index_mut-batch) → IsMover c.args.self.now c.args.index c.index_mut-batch.result.now c.args.made
 moves c = mover c.self.view_is c.self.invariant.kept c.requires.step c.index_mut-batch.ensures.value
 
--- these are the engine's numbers, and its arbiter
-makes : (c : After-deref) → IsMaking c.args.self.now c.deref.result.now c.self.inside.arbiter c.args.index c.index_mut-batch.result.now c.args.made
-makes c =
-    (mover c.self.view_is c.self.invariant.kept c.requires.step c.index_mut-batch.ensures.value, c.deref.ensures.value ∙ ap (λ (z : EngineView). z.numbers) c.self.view_is, ap (λ (z : EngineView). z.allocation) c.self.view_is)
-
-pub claim-requires : goal.claim-requires
-claim-requires c = (c.args.self.now, c.args.index, makes (goal.at.claim-requires c).After-deref)
-
 seat : (c : After-recipe-chart) → IsMover c.args.self.now c.args.index c.index_mut-batch.result.now c.args.made → IsSeat c.args.self.now c.args.index c.index_mut-batch.result.now c.recipe-chart.result.now
 seat c h = seat-of c.self.view_is (record { kept = h.kept; at = h.at }) c.recipe-chart.ensures
+
+-- these are the engine's numbers, the batch's recipe, and the arbiter
+makes : (c : After-recipe-chart) → IsMaking c.args.self.now c.self.inside.numbers c.recipe-chart.result.now c.self.inside.arbiter c.args.index c.index_mut-batch.result.now c.args.made
+makes c =
+    let h = mover c.self.view_is c.self.invariant.kept c.requires.step c.index_mut-batch.ensures.value in
+    (h, ap (λ (z : EngineView). z.numbers) c.self.view_is, (seat c h).listed, ap (λ (z : EngineView). z.allocation) c.self.view_is)
+
+pub claim-requires : goal.claim-requires
+claim-requires c = (c.args.self.now, c.args.index, makes (goal.at.claim-requires c).After-recipe-chart)
 
 pub recipe-chart-requires : goal.recipe-chart-requires
 recipe-chart-requires c = let h = moves (goal.at.recipe-chart-requires c).After-index_mut-batch in chart-within c.self.view_is (record { kept = h.kept; at = h.at })
@@ -62,22 +63,22 @@ make-requires-clause-possible c =
 abbrev own : After-make → Batch
 own c = record (c.index_mut-batch.result.now) { running = c.make.new.self }
 
-made : (c : After-make) (h : IsMaking c.args.self.now c.deref.result.now c.self.inside.arbiter c.args.index c.index_mut-batch.result.now c.args.made)
+made : (c : After-make) (h : IsMaking c.args.self.now c.self.inside.numbers c.recipe-chart.result.now c.self.inside.arbiter c.args.index c.index_mut-batch.result.now c.args.made)
     → IsSeat c.args.self.now c.args.index c.index_mut-batch.result.now c.recipe-chart.result.now
     → Becomes c.args.self.now (changed c.args.self.now c.args.index (own c) c.claim.new.arbiter) (move_of (tree_of c.args.self.now.cleared c.index_mut-batch.result.now) (batch_of c.args.self.now.cleared c.index_mut-batch.result.now) c.args.made)
 made c h s =
     becomes c.args.made h.0 c.requires.act
-    (subst (λ (z : Allocation). IsClaimed c.args.self.now.cleared c.index_mut-batch.result.now c.args.made z c.claim.new.arbiter) h.2 (c.claim.ensures c.args.self.now c.args.index h))
+    (subst (λ (z : Allocation). IsClaimed c.args.self.now.cleared c.index_mut-batch.result.now c.args.made z c.claim.new.arbiter) h.3 (c.claim.ensures c.args.self.now c.args.index h))
     (c.make.ensures (tree_of c.args.self.now.cleared c.index_mut-batch.result.now) s.chart s.runs)
 
 pub invariant_of-self : goal.invariant_of-self
 invariant_of-self c =
     let w = goal.at.invariant_of-self c in
-    let h = makes w.After-deref in
+    let h = makes w.After-recipe-chart in
     counted-set c.args.index (own w.After-make) (λ a. c.claim.new.arbiter) c.self.view_is c.self.invariant c.index_mut-batch.ensures.value refl refl refl (made w.After-make h (seat w.After-recipe-chart h.0)).kept
 
 pub returns : goal.returns
 returns c =
     let w = goal.at.returns c in
-    let h = makes w.After-deref in
+    let h = makes w.After-recipe-chart in
     closed-makes c.args.index (own w.After-make) (λ a. c.claim.new.arbiter) c.self.view_is refl (made w.After-make h (seat w.After-recipe-chart h.0)) h.0.is

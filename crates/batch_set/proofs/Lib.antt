@@ -1,0 +1,6 @@
+pub mod Counting
+pub mod Declared
+pub mod Mapped
+pub mod PhaseNumbers
+pub mod Positions
+pub mod Sources
