@@ -2,6 +2,7 @@
 #![tactic(auto)]
 
 mod act_needs;
+mod asked;
 mod binding;
 mod checking;
 mod circle;
