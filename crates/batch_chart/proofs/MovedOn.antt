@@ -1,10 +1,5 @@
 -- A move or a report, and what is taken over after it, keep a chart in order; what is held in advance after a move.
-use Rattle.std.proofs.Common.{◌≡◌, ◌≢◌, ◌⊎◌, ◌<◌, ◌≤◌, ◌||◌, ℕ, List, [], ◌∷◌, map, length, Bool, true, false, nat_eq, arith, inl, inr, refl, sym, ◌∙◌, ap, subst}
-use Rattle.std.specs.List.{list_any, AllByRecursion, IsDistinct}
-use Rattle.std.proofs.Math.Dec.{eqb}
-use Rattle.std.proofs.lemmas.Bool.Decides.{eqb_tells}
-use Rattle.std.proofs.lemmas.List.{length-map}
-use Rattle.std.proofs.lemmas.Map.Steps.{length-le_from_distinct_below}
+use Rattle.std.proofs.Common.{◌≡◌, ◌<◌, ℕ, List, ◌∷◌, length, Bool, true, false, arith, inl, inr, refl, sym, ◌∙◌, subst}
 use Rattle.batch_recipe.specs.Tree.{Tree}
 use Rattle.batch_recipe.specs.declared.entry.Entry.{Entry}
 use Rattle.batch_recipe.specs.declared.recipe.Recipe.{Recipe}
@@ -47,55 +42,20 @@ held-other held (move.Start k) f = refl
 held-other held (move.End k) f = refl
 held-other held (move.Ask k i) f = refl
 
--- one more node, which isn't among them
-none-equal : (held : List Passed) (to : ℕ) → is_early held to ≡ false → AllByRecursion (λ y. nat_eq to y ≡ false) (map (λ (p : Passed). p.to) held)
-none-equal [] to e = tt
-none-equal (p ∷ held) to e = go (eqb_tells p.to to) (none-equal held to)
+-- what is held is held of nodes after a move as well
+pub held-kept : (count most : ℕ) (held : List Passed) (room : ℕ) (m : Move) → AreHeld count most held room → PassesWithin count m → AreHeld count most (held_after held m) room
+held-kept count most held room (move.Pass k to i) h lt = go (is_early held to)
   where
-    go : ((eqb p.to to ≡ true) × (p.to ≡ to)) ⊎ ((eqb p.to to ≡ false) × (p.to ≢ to)) → (is_early held to ≡ false → AllByRecursion (λ y. nat_eq to y ≡ false) (map (λ (p : Passed). p.to) held)) → AllByRecursion (λ y. nat_eq to y ≡ false) (p.to ∷ map (λ (p : Passed). p.to) held)
-    go (inl q) later = absurd (let d : ◌≡◌ {A = Bool} true false = sym (ap (λ b. b || is_early held to) q.0) ∙ e in cc)
-    go (inr q) later = (other (eqb_tells to p.to), later (ap (λ b. b || is_early held to) (sym q.0) ∙ e))
-      where
-        other : ((eqb to p.to ≡ true) × (to ≡ p.to)) ⊎ ((eqb to p.to ≡ false) × (to ≢ p.to)) → nat_eq to p.to ≡ false
-        other (inl r) = absurd (q.1 (sym r.1))
-        other (inr r) = r.0
-
-below-all : (held : List Passed) (count : ℕ) → ((p : Passed) → Has held p → p.to < count) → (q : ℕ) → list_any (eqb q) (map (λ (p : Passed). p.to) held) ≡ true → q < count
-below-all [] count within q e = absurd (cc)
-below-all (p ∷ held) count within q e = go (eqb_tells q p.to) (below-all held count (λ x i. within x (inr i)) q)
-  where
-    go : ((eqb q p.to ≡ true) × (q ≡ p.to)) ⊎ ((eqb q p.to ≡ false) × (q ≢ p.to)) → (list_any (eqb q) (map (λ (p : Passed). p.to) held) ≡ true → q < count) → q < count
-    go (inl r) later = let lt = within p (inl refl) in omega (arith, lt, r.1)
-    go (inr r) later = later (ap (λ b. b || list_any (eqb q) (map (λ (p : Passed). p.to) held)) (sym r.0) ∙ e)
-
--- so there is room for it
-pub room-for : (count : ℕ) (held : List Passed) (room : ℕ) → AreHeld count held room → (to : ℕ) → to < count → is_early held to ≡ false → length held < room
-unfolding IsDistinct
-room-for count held room h to lt e =
-    let more : List Passed = record { to = to; node = 0; need = 0 } ∷ held in
-    let few : length (map (λ (p : Passed). p.to) more) ≤ count =
-    length-le_from_distinct_below (map (λ (p : Passed). p.to) more) count (none-equal held to e, h.apart)
-    (below-all more count (λ p i. elim i [ inl q ↦ subst (λ (z : Passed). z.to < count) q lt | inr j ↦ h.within p j ])) in
-    omega (arith, few, length-map more (λ (p : Passed). p.to), h.enough)
-
-pub held-kept : (count : ℕ) (held : List Passed) (room : ℕ) (m : Move) → AreHeld count held room → PassesWithin count m → AreHeld count (held_after held m) room
-unfolding IsDistinct
-held-kept count held room (move.Pass k to i) h lt = go (is_early held to) refl
-  where
-    go : (b : Bool) → is_early held to ≡ b → AreHeld count (elim b as (λ _. List Passed) [ true ↦ held | false ↦ record { to = to; node = k; need = i } ∷ held ]) room
-    go true e = h
-    go false e = record {
-      within = λ p j. elim j [ inl q ↦ subst (λ (z : Passed). z.to < count) q lt | inr j ↦ h.within p j ];
-      apart = (none-equal held to e, h.apart);
-      enough = h.enough;
-    }
-held-kept count held room (move.Send k c) h lt = h
-held-kept count held room (move.State x) h lt = h
-held-kept count held room (move.Release k i) h lt = h
-held-kept count held room (move.Begin k) h lt = h
-held-kept count held room (move.Start k) h lt = h
-held-kept count held room (move.End k) h lt = h
-held-kept count held room (move.Ask k i) h lt = h
+    go : (b : Bool) → AreHeld count most (elim b as (λ _. List Passed) [ true ↦ held | false ↦ record { to = to; node = k; need = i } ∷ held ]) room
+    go true = h
+    go false = record { within = λ p j. elim j [ inl q ↦ subst (λ (z : Passed). z.to < count) q lt | inr j ↦ h.within p j ]; enough = h.enough }
+held-kept count most held room (move.Send k c) h lt = h
+held-kept count most held room (move.State x) h lt = h
+held-kept count most held room (move.Release k i) h lt = h
+held-kept count most held room (move.Begin k) h lt = h
+held-kept count most held room (move.Start k) h lt = h
+held-kept count most held room (move.End k) h lt = h
+held-kept count most held room (move.Ask k i) h lt = h
 
 pub in-order-after : (ns : List Entry) (doc : Recipe) (xs ys : List Stage) (old new : List ℕ) → IsInOrder ns doc xs old → ((t : Tree) → IsLaid ns doc t → IsAlive t xs → IsAlive t ys) → IsKeptUp ns doc xs ys old new → IsInOrder ns doc ys new
 in-order-after ns doc xs ys old new h lives kept =

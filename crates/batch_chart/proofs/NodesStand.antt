@@ -1,4 +1,4 @@
--- Each node of the tree stands at its number, and how many needs they have together.
+-- Each node of the tree stands at its number.
 use Rattle.std.proofs.Common.{◌≡◌, inl, inr, ◌<◌, ◌≤◌, ℕ, zero, suc, ◌+◌, List, [], ◌∷◌, ◌++◌, length, Some, None, arith, refl, sym, ◌∙◌, subst, ap}
 use Rattle.std.specs.Prelude.{⊤, slice_get, slice_index_or, Option}
 use Rattle.std.proofs.lemmas.Bool.{cases_lt}
@@ -15,8 +15,8 @@ use Rattle.batch_chart.specs.declared.node.Kind.{Kind}
 use Rattle.batch_chart.specs.declared.node.Kind.TheVariants as kind
 use Rattle.batch_recipe.specs.declared.recipe.Recipe.{Recipe}
 use Rattle.batch_chart.specs.Outlined.{entry_at, kind_at, kind_of, unit_under, names_by, phase_name, StandsOn, StandsActOn, AreStandingOn, AreChoicesOn, Stands, AreStanding, AreChoices, names_in}
-use Rattle.batch_chart.specs.Needs.{needs_of, needs_to}
-use Rattle.batch_chart.specs.NodesOf.{nodes_of, node_at, step_of, needs_in, needs_of_each, needs_of_choices, phase_named}
+use Rattle.batch_chart.specs.Needs.{needs_of}
+use Rattle.batch_chart.specs.NodesOf.{nodes_of, node_at, step_of, phase_named}
 use Rattle.batch_chart.specs.Running.{IsLaid}
 
 pub get-or : {X : Type 0} (l : List X) (k : ℕ) (d : X) → k < length l → slice_get l k ≡ Some (slice_index_or l k d)
@@ -102,48 +102,6 @@ module _ (ns : List Entry) (doc : Recipe) where
     | inl lt ↦ needs-here k (node_at t k).here (node-stands t laid k lt)
     | inr le ↦ ap (λ (z : Entry). needs_of (kind_of z)) (past-end ns k no_entry le) ∙ sym (ap (λ (z : nodes.Node). length (step_of z.here).needs) (past-end (nodes_of t) k no_node (no-node t laid k le)))
   ]
-
-  -- the needs of all
-
-  pub needs-step : (n : ℕ) → needs_to ns (n + 1) ≡ needs_to ns n + needs_of (kind_at ns n)
-  needs-step n = let e : n + 1 ≡ suc n = omega arith in ap (needs_to ns) e
-
-  head : (n m v r : ℕ) → needs_of (kind_at ns n) ≡ v → needs_to ns m ≡ needs_to ns (n + 1) + r → needs_to ns m ≡ needs_to ns n + (v + r)
-  head n m v r k e = omega (arith, e, needs-step n, k)
-
-  above : (n m r : ℕ) → needs_of (kind_at ns n) ≡ 0 → needs_to ns m ≡ needs_to ns (n + 1) + r → needs_to ns m ≡ needs_to ns n + r
-  above n m r k e = omega (arith, e, needs-step n, k)
-
-  at-end : (i j : ℕ) → i ≡ j → needs_to ns i ≡ needs_to ns j
-  at-end i j e = ap (needs_to ns) e
-
-  mutual
-    sum-of : (c : Tree) (n : ℕ) → Stands ns doc n c → needs_to ns (n + node_count c) ≡ needs_to ns n + needs_in c
-    sum-of (act s (runs p)) n h = head n (n + (1 + 0)) (length s.needs) 0 (ap needs_of h.1.1) (omega (arith, at-end (n + (1 + 0)) (n + 1) (omega arith)))
-    sum-of (act s (follows name c)) n h =
-        head n (n + (1 + node_count c)) (length s.needs) (needs_in c) (ap needs_of h.0.1)
-        (at-end (n + (1 + node_count c)) (n + 1 + node_count c) (omega arith) ∙ sum-of c (n + 1) h.1)
-    sum-of skip n h = above n (n + 1) 0 (ap needs_of h.1) (omega arith)
-    sum-of (seq ts) n h = above n (n + node_count (seq ts)) (needs_of_each ts) (ap needs_of h.0.1) (sum-each ts (n + 1) (n + node_count (seq ts)) h.1)
-    sum-of (par ts) n h = above n (n + node_count (par ts)) (needs_of_each ts) (ap needs_of h.0.1) (sum-each ts (n + 1) (n + node_count (par ts)) h.1)
-    sum-of (sel ch) n h = above n (n + node_count (sel ch)) (needs_of_choices ch) (ap needs_of h.1.1) (sum-choices ch h.0 (n + 1) (n + node_count (sel ch)) h.2)
-    sum-of (loop i p body) n h =
-        above n (n + (1 + node_count body)) (needs_in body) (ap needs_of h.1.1)
-        (at-end (n + (1 + node_count body)) (n + 1 + node_count body) (omega arith) ∙ sum-of body (n + 1) h.3)
-
-    sum-each : (ts : Trees) (n m : ℕ) → AreStanding ns doc n m ts → needs_to ns m ≡ needs_to ns n + needs_of_each ts
-    sum-each no_trees n m h = omega (arith, at-end n m h)
-    sum-each (tree c ts) n m h = omega (arith, sum-of c n h.0, sum-each ts (n + node_count c) m h.1)
-
-    sum-choices : (ch : Choices) (d n m : ℕ) → AreChoices ns doc d n m ch → needs_to ns m ≡ needs_to ns n + needs_of_choices ch
-    sum-choices (otherwise c) d n m h = omega (arith, sum-of c n h.0, at-end (n + node_count c) m h.1)
-    sum-choices (choice p c ch) d n m h = omega (arith, sum-of c n h.1, sum-choices ch (d + 1) (n + node_count c) m h.2)
-
-  nothing-yet : needs_to ns 0 ≡ 0
-  nothing-yet = refl
-
-  pub all-needs : (t : Tree) → IsLaid ns doc t → needs_to ns (length ns) ≡ needs_in t
-  all-needs t laid = omega (arith, at-end (length ns) (0 + node_count t) (omega (arith, laid.count)), sum-of t 0 laid.stands, nothing-yet)
 
 module _ (bound : Binding) (ns : List Entry) (doc : Recipe) where
   -- which phase an act at a node of this kind runs, under this unit procedure, where the roles are bound so

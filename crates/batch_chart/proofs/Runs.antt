@@ -9,7 +9,6 @@ use Rattle.batch_recipe.specs.declared.entry.Entry.{Entry}
 use Rattle.batch_recipe.specs.declared.recipe.Recipe.{Recipe}
 use Rattle.batch_chart.specs.declared.running.Running.{Running}
 use Rattle.batch_chart.specs.declared.stage.Stage.{Stage}
-use Rattle.std.specs.List.{IsDistinct}
 use Rattle.batch_recipe.specs.Conditions.{ValueList}
 use Rattle.batch_model.specs.Rest.{Rest, withdrawn}
 use Rattle.batch_model.specs.Plant.{InAdvance}
@@ -27,7 +26,7 @@ use Rattle.batch_chart.specs.Outlined.{end_at, Stands}
 use Rattle.batch_chart.specs.Noting.{stage_signs}
 use Rattle.batch_chart.specs.Neat.{act_shows, runs_below, is_single, shown_of, AreNeat}
 use Rattle.batch_chart.specs.Nexts.{IsInOrder}
-use Rattle.batch_chart.specs.NodesOf.{node_at}
+use Rattle.batch_chart.specs.NodesOf.{most_by, node_at, own_units}
 use Rattle.batch_chart.specs.Running.{IsLaid, IsAlive}
 use Rattle.batch_chart.specs.Stages.{stage_at, is_finished}
 use Rattle.batch_chart.specs.Upkeep.{IsKeptUp}
@@ -113,8 +112,8 @@ runs-in-order chart running h =
     }
 
 -- what is held in advance is held of its nodes
-pub is-held : (chart : Recipe) (running : Running) → IsRunning chart running → AreHeld (length chart.outline.entries.items) running.held.items (deque_capacity running.held)
-is-held chart running h = subst (λ n. AreHeld n running.held.items (deque_capacity running.held)) (sym h.1.count) h.2.held
+pub is-held : (chart : Recipe) (running : Running) (h : IsRunning chart running) → AreHeld (length chart.outline.entries.items) (most_by own_units h.0) running.held.items (deque_capacity running.held)
+is-held chart running h = subst (λ n. AreHeld n (most_by own_units h.0) running.held.items (deque_capacity running.held)) (sym h.1.count) h.2.held
 
 pub held-nodes : (ns : List Entry) (held : List Passed) → ((p : Passed) → Has held p → p.to < length ns) → AreNodes ns held
 held-nodes ns [] within j lt = absurd (omega arith)
@@ -122,12 +121,11 @@ held-nodes ns (p ∷ held) within zero lt = within p (inl refl)
 held-nodes ns (p ∷ held) within (suc j) lt = held-nodes ns held (λ q i. within q (inr i)) j (omega arith)
 
 -- nothing is held in advance
-nothing-held : (count : ℕ) (held : List Passed) (room : ℕ) → held ≡ [] → count ≤ room → AreHeld count held room
-unfolding IsDistinct
-nothing-held count held room e le = subst (λ l. AreHeld count l room) (sym e) (record { within = λ p i. absurd i; apart = tt; enough = le })
+nothing-held : (count most : ℕ) (held : List Passed) (room : ℕ) → held ≡ [] → most < room → AreHeld count most held room
+nothing-held count most held room e lt = subst (λ l. AreHeld count most l room) (sym e) (record { within = λ p i. absurd i; enough = lt })
 
 -- it runs, where its stages live and its signs go by them
-pub runs-by : (chart : Recipe) (running : Running) (t : Tree) → IsChartOf t chart → IsAlive t running.stages.items → length running.signs ≡ length chart.outline.entries.items → AreHeld (node_count t) running.held.items (deque_capacity running.held)
+pub runs-by : (chart : Recipe) (running : Running) (t : Tree) → IsChartOf t chart → IsAlive t running.stages.items → length running.signs ≡ length chart.outline.entries.items → AreHeld (node_count t) (most_by own_units t) running.held.items (deque_capacity running.held)
     → AreNeat chart.outline.entries.items chart 0 (length chart.outline.entries.items) running.stages.items running.signs → IsRunningOf t running
 runs-by chart running t laid alive count held neat = record {
   alive = alive;
@@ -140,14 +138,14 @@ runs-by chart running t laid alive count held neat = record {
 pub went-on : (chart : Recipe) (old new : Running) (ys : List Stage) → new.stages.items ≡ ys → IsKeptUp chart.outline.entries.items chart old.stages.items ys old.signs new.signs → (t : Tree) → IsChartOf t chart → IsRunningOf t old → IsAlive t ys → new.held ≡ old.held
     → IsRunningOf t new
 went-on chart old new ys is up t laid ran alive same =
-    runs-by chart new t laid (subst (IsAlive t) (sym is) alive) (up.count ∙ ran.count ∙ sym laid.count) (subst (λ z. AreHeld (node_count t) z.items (deque_capacity z)) (sym same) ran.held)
+    runs-by chart new t laid (subst (IsAlive t) (sym is) alive) (up.count ∙ ran.count ∙ sym laid.count) (subst (λ z. AreHeld (node_count t) (most_by own_units t) z.items (deque_capacity z)) (sym same) ran.held)
     (subst (λ z. AreNeat chart.outline.entries.items chart 0 (length chart.outline.entries.items) z new.signs) (sym is) (up.keeps (ran.neat chart.outline.entries.items chart laid)))
 
 pub started-runs : (chart : Recipe) (running : Running) (ys : List Stage) → running.stages.items ≡ ys → HasStarted (length chart.outline.entries.items) ys → AreStarted chart.outline.entries.items ys running.signs → (t : Tree) (vs : ValueList) → IsChartOf t chart
-    → running.held.items ≡ [] → length chart.outline.entries.items ≤ deque_capacity running.held → IsRunningOf t running × (remains t running ≡ reach_by vs t) × RunsAs t running (reach_by vs t) []
+    → running.held.items ≡ [] → most_by own_units t < deque_capacity running.held → IsRunningOf t running × (remains t running ≡ reach_by vs t) × RunsAs t running (reach_by vs t) []
 started-runs chart running ys is started shown t vs laid none room =
     let h = started.means t vs laid.root laid.count in (
-      runs-by chart running t laid (subst (IsAlive t) (sym is) h.0) shown.0 (nothing-held (node_count t) running.held.items (deque_capacity running.held) none (omega (arith, room, laid.count))) (subst (λ z. AreNeat chart.outline.entries.items chart 0 (length chart.outline.entries.items) z running.signs) (sym is) (shown.1 chart t laid)),
+      runs-by chart running t laid (subst (IsAlive t) (sym is) h.0) shown.0 (nothing-held (node_count t) (most_by own_units t) running.held.items (deque_capacity running.held) none room) (subst (λ z. AreNeat chart.outline.entries.items chart 0 (length chart.outline.entries.items) z running.signs) (sym is) (shown.1 chart t laid)),
       ap (meaning t 0) is ∙ h.1,
       record {
         rest = sym (ap (meaning t 0) is ∙ h.1);
@@ -163,7 +161,7 @@ stopped-runs old new ys is stopped shown t same ran =
       record {
         alive = subst (IsAlive t) (sym is) h.0;
         count = shown.0 ∙ ran.count;
-        held = subst (λ z. AreHeld (node_count t) z.items (deque_capacity z)) (sym same) ran.held;
+        held = subst (λ z. AreHeld (node_count t) (most_by own_units t) z.items (deque_capacity z)) (sym same) ran.held;
         neat = λ ns doc laid.
             subst (λ z. AreNeat ns doc 0 (length ns) z new.signs) (sym is) (withdrawn-neat ns doc old.stages.items ys old.signs new.signs shown.1 shown.2 0 (length ns) (ran.neat ns doc laid));
       },

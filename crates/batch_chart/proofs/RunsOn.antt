@@ -26,10 +26,9 @@ use Rattle.batch_chart.specs.Charts.{Awaits, IsChartOf, IsRunningOf, RunsAs}
 use Rattle.batch_chart.specs.Early.{AreHeld, held_after, in_advance, is_early, is_ready, still_held, IsTakenBy, IsMovedOn, IsReportedOn}
 use Rattle.batch_chart.specs.declared.passed.Passed.{Passed}
 use Rattle.std.specs.VecDeque.{deque_capacity}
-use Rattle.std.specs.List.{IsDistinct, AllByRecursion}
 use Rattle.batch_chart.specs.Meaning.{meaning}
 use Rattle.batch_chart.specs.Neat.{AreNeat}
-use Rattle.batch_chart.specs.NodesOf.{need_at, place_at}
+use Rattle.batch_chart.specs.NodesOf.{most_by, need_at, own_units, place_at}
 use Rattle.batch_chart.specs.Stages.{stage_at}
 use Rattle.batch_chart.specs.Running.{Allows, IsAlive, IsLiveIn, rest_after, IsChangedOnly}
 use Rattle.batch_chart.specs.Seen.{move_of}
@@ -48,25 +47,8 @@ eqb-itself : (k : ℕ) → nat_eq k k ≡ true
 eqb-itself k = elim (eqb_tells k k) [ inl q ↦ q.0 | inr q ↦ absurd (q.1 refl) ]
 
 -- what is left of what is held is held as before
-all-left : (P : ℕ → Type 0) (f : Passed → Bool) (held : List Passed) → AllByRecursion P (map (λ (p : Passed). p.to) held) → AllByRecursion P (map (λ (p : Passed). p.to) (filter f held))
-all-left P f [] h = tt
-all-left P f (p ∷ held) h = go (f p) (all-left P f held h.1)
-  where
-    go : (t : Bool) → AllByRecursion P (map (λ (p : Passed). p.to) (filter f held)) → AllByRecursion P (map (λ (p : Passed). p.to) (cond t (p ∷ filter f held) (filter f held)))
-    go true m = (h.0, m)
-    go false m = m
-
-apart-left : (f : Passed → Bool) (held : List Passed) → IsDistinct nat_eq (map (λ (p : Passed). p.to) held) → IsDistinct nat_eq (map (λ (p : Passed). p.to) (filter f held))
-unfolding IsDistinct
-apart-left f [] h = tt
-apart-left f (p ∷ held) h = go (f p) (apart-left f held h.1)
-  where
-    go : (t : Bool) → IsDistinct nat_eq (map (λ (p : Passed). p.to) (filter f held)) → IsDistinct nat_eq (map (λ (p : Passed). p.to) (cond t (p ∷ filter f held) (filter f held)))
-    go true m = (all-left _ f held h.0, m)
-    go false m = m
-
-held-left : (count : ℕ) (held : List Passed) (room : ℕ) (f : Passed → Bool) → AreHeld count held room → AreHeld count (filter f held) room
-held-left count held room f h = record { within = λ p i. h.within p (Has-filter f held p i).0; apart = apart-left f held h.apart; enough = h.enough }
+held-left : (count most : ℕ) (held : List Passed) (room : ℕ) (f : Passed → Bool) → AreHeld count most held room → AreHeld count most (filter f held) room
+held-left count most held room f h = record { within = λ p i. h.within p (Has-filter f held p i).0; enough = h.enough }
 
 module _ (chart : Recipe) (t : Tree) (laid : IsChartOf t chart) where
   abbrev ns : List Entry
@@ -74,14 +56,14 @@ module _ (chart : Recipe) (t : Tree) (laid : IsChartOf t chart) where
 
   -- the chart has come to `mid`, what is reached has taken over what was held for it, and that is held no more
   module _ (old new : Running) (mid ys : List Stage) (signs : List ℕ) (held : List Passed) (is : new.stages.items ≡ ys) (kept : IsKeptUp ns chart old.stages.items mid old.signs signs) (over : IsTakenBy ns chart (is_early held) mid ys signs new.signs)
-      (left : new.held.items ≡ still_held ys held) (capacity : deque_capacity new.held ≡ deque_capacity old.held) (before : AreHeld (node_count t) held (deque_capacity old.held)) (ran : IsRunningOf t old) (alive : IsAlive t mid) where
+      (left : new.held.items ≡ still_held ys held) (capacity : deque_capacity new.held ≡ deque_capacity old.held) (before : AreHeld (node_count t) (most_by own_units t) held (deque_capacity old.held)) (ran : IsRunningOf t old) (alive : IsAlive t mid) where
     neat : AreNeat ns chart 0 (length ns) mid signs
     neat = kept.keeps (ran.neat ns chart laid)
 
     runs-over : IsRunningOf t new
     runs-over =
         runs-by chart new t laid (subst (IsAlive t) (sym is) (over.means t laid alive).0) (over.kept.count ∙ kept.count ∙ ran.count ∙ sym laid.count)
-        (subst (λ l. AreHeld (node_count t) l (deque_capacity new.held)) (sym left) (subst (λ n. AreHeld (node_count t) (still_held ys held) n) (sym capacity) (held-left (node_count t) held (deque_capacity old.held) (λ p. not (is_ready (stage_at ys p.to))) before)))
+        (subst (λ l. AreHeld (node_count t) (most_by own_units t) l (deque_capacity new.held)) (sym left) (subst (λ n. AreHeld (node_count t) (most_by own_units t) (still_held ys held) n) (sym capacity) (held-left (node_count t) (most_by own_units t) held (deque_capacity old.held) (λ p. not (is_ready (stage_at ys p.to))) before)))
         (subst (λ z. AreNeat ns chart 0 (length ns) z new.signs) (sym is) (over.kept.keeps neat))
 
     module _ (was : Rest) (waiting : AreWaiting (in_advance t held) was) (fresh : (a : Rest) → Has (acts (meaning t 0 mid)) a → Nowhere (place_of a) (acts was) → IsFresh a) where
@@ -159,8 +141,8 @@ module _ (chart : Recipe) (t : Tree) (laid : IsChartOf t chart) where
     made-alive : IsAlive t h.mid
     made-alive = (h.made.means t laid ran.alive).0
 
-    made-held : AreHeld (node_count t) (held_after old.held.items m) (deque_capacity old.held)
-    made-held = held-kept (node_count t) old.held.items (deque_capacity old.held) m ran.held (passes-within ns old.stages.items m (node_count t) can (sym laid.count))
+    made-held : AreHeld (node_count t) (most_by own_units t) (held_after old.held.items m) (deque_capacity old.held)
+    made-held = held-kept (node_count t) (most_by own_units t) old.held.items (deque_capacity old.held) m ran.held (passes-within ns old.stages.items m (node_count t) can (sym laid.count))
 
     pub moved-running : IsRunningOf t new
     moved-running = runs-over old new h.mid ys h.signs (held_after old.held.items m) is h.kept h.over left capacity made-held ran made-alive

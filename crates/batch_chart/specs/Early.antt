@@ -1,6 +1,6 @@
 -- trusted: nodes that hold their units in advance, and acts that take these over once they are reached.
-use Rattle.std.specs.Prelude.{◌≡◌, ◌⊎◌, ◌<◌, ℕ, ◌≤◌, List, ◌∷◌, take, map, filter, length, Bool, true, false, not, nat_eq, nat_lt, slice_index_or, ⊤}
-use Rattle.std.specs.List.{list_any, IsDistinct}
+use Rattle.std.specs.Prelude.{◌≡◌, ◌⊎◌, ◌<◌, ℕ, List, ◌∷◌, take, map, filter, length, Bool, true, false, not, nat_eq, nat_lt, slice_index_or, ⊤}
+use Rattle.std.specs.List.{list_any}
 use Rattle.batch_matrix.specs.declared.report.Report.{Report}
 use Rattle.batch_recipe.specs.Conditions.{ValueList}
 use Rattle.batch_recipe.specs.Tree.{Place, Tree}
@@ -103,11 +103,10 @@ held_after held _ = held
 abbrev pub still_held : List Stage → List Passed → List Passed
 still_held xs held = filter (λ p. not (is_ready (stage_at xs p.to))) held
 
--- of so many nodes, each once, and there is room for all
-pub record AreHeld (count : ℕ) (held : List Passed) (room : ℕ) : Type 0 where
+-- of so many nodes, and there is room for more than `most`
+pub record AreHeld (count most : ℕ) (held : List Passed) (room : ℕ) : Type 0 where
   pub within : (p : Passed) → Has held p → p.to < count
-  pub apart : IsDistinct nat_eq (map (λ (p : Passed). p.to) held)
-  pub enough : count ≤ room
+  pub enough : most < room
 
 -- what the move passes on goes to one of so many nodes
 abbrev pub PassesWithin : ℕ → Move → Type 0

@@ -1,5 +1,5 @@
 -- trusted: the nodes of an expanded tree, by number.
-use Rattle.std.specs.Prelude.{ℕ, ◌+◌, List, [], ◌∷◌, length, Option, Some, None, slice_index_or}
+use Rattle.std.specs.Prelude.{ℕ, ◌+◌, max, List, [], ◌∷◌, length, Option, Some, None, slice_index_or}
 use Rattle.batch_recipe.specs.Conditions.{Name}
 use Rattle.batch_recipe.specs.declared.need.Need.{Need}
 use Rattle.batch_recipe.specs.Tree.{Place, Step, Phase, Task, runs, follows, Tree, act, skip, seq, par, sel, loop, Trees, no_trees, tree, Choices, otherwise, choice}
@@ -65,24 +65,41 @@ abbrev pub phase_named : Tree → Option (Name × Name)
 phase_named (act s w) = phase_names w
 phase_named _ = None
 
--- how many needs all acts of the tree have
+-- how many needs an act has itself
+abbrev pub own_needs : Step → Task → ℕ
+own_needs s w = length s.needs
+
+-- how many units are held in advance for an act: one at most for an act with a chart
+abbrev pub own_units : Step → Task → ℕ
+own_units s (runs p) = 0
+own_units s (follows name c) = 1
+
+-- how much acts have together that are reached at once, where `own` says it of each: of a `seq` or `sel` one branch at a time is, of a `par` all are
 abbrev mutual
-  pub needs_in : Tree → ℕ
-  needs_in (act s w) = length s.needs + needs_below w
-  needs_in skip = 0
-  needs_in (seq ts) = needs_of_each ts
-  needs_in (par ts) = needs_of_each ts
-  needs_in (sel ch) = needs_of_choices ch
-  needs_in (loop n c body) = needs_in body
+  pub most_by : (Step → Task → ℕ) → Tree → ℕ
+  most_by own (act s w) = own s w + most_below own w
+  most_by own skip = 0
+  most_by own (seq ts) = most_of_one own ts
+  most_by own (par ts) = most_of_all own ts
+  most_by own (sel ch) = most_of_chosen own ch
+  most_by own (loop n c body) = most_by own body
 
-  pub needs_below : Task → ℕ
-  needs_below (runs p) = 0
-  needs_below (follows name c) = needs_in c
+  pub most_below : (Step → Task → ℕ) → Task → ℕ
+  most_below own (runs p) = 0
+  most_below own (follows name c) = most_by own c
 
-  pub needs_of_each : Trees → ℕ
-  needs_of_each no_trees = 0
-  needs_of_each (tree c ts) = needs_in c + needs_of_each ts
+  pub most_of_one : (Step → Task → ℕ) → Trees → ℕ
+  most_of_one own no_trees = 0
+  most_of_one own (tree c ts) = max (most_by own c) (most_of_one own ts)
 
-  pub needs_of_choices : Choices → ℕ
-  needs_of_choices (otherwise c) = needs_in c
-  needs_of_choices (choice p c ch) = needs_in c + needs_of_choices ch
+  pub most_of_all : (Step → Task → ℕ) → Trees → ℕ
+  most_of_all own no_trees = 0
+  most_of_all own (tree c ts) = most_by own c + most_of_all own ts
+
+  pub most_of_chosen : (Step → Task → ℕ) → Choices → ℕ
+  most_of_chosen own (otherwise c) = most_by own c
+  most_of_chosen own (choice p c ch) = max (most_by own c) (most_of_chosen own ch)
+
+-- how many needs a batch of the tree can hold and ask for at once, those that are held in advance among them
+abbrev pub needs_in : Tree → ℕ
+needs_in t = most_by own_needs t + most_by own_units t

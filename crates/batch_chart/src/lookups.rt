@@ -5,20 +5,12 @@ ghost use Rattle.batch_recipe.specs.Tree.{Tree};
 ghost use Rattle.batch_recipe.specs.declared.recipe.TheConstants.{MAX_NODES};
 ghost use Rattle.batch_chart.specs.Charts.{IsChartFor, IsChartOf};
 ghost use Rattle.batch_chart.specs.Outlined.{kind_at, names_in, phase_name, unit_choice, unit_under};
-ghost use Rattle.batch_chart.specs.Needs.{needs_to};
 ghost use Rattle.batch_chart.specs.Passing.{PassesTo};
-ghost use Rattle.batch_chart.specs.NodesOf.{needs_in, node_at, phase_named, step_at};
+ghost use Rattle.batch_chart.specs.NodesOf.{node_at, phase_named, step_at};
 
 use crate::node::{Kind, kind_of};
 use batch_recipe::{Act, Entry, Recipe, UnitChoice, Work, act_at, follows};
 use batch_text::Name;
-
-/// How many needs the acts of the recipe have together, which is the most that a batch of it can hold and ask for at once.
-pub fn needs(chart: &Recipe) -> usize
-    ensures { (t : Tree) → IsChartOf t chart.now → result ≡ needs_in t }
-{
-    needs_among(&chart.outline.entries)
-}
 
 /// How many needs the act at the node has, its unit among them: 0 where it is none.
 pub fn needs_at(chart: &Recipe, node: u16) -> u16
@@ -127,16 +119,4 @@ pub(crate) fn phase_name(recipe: &Recipe, step: usize) -> Option<&Name>
         },
         None => None,
     }
-}
-
-/// How many needs the acts at these nodes have together.
-fn needs_among(nodes: &[Entry]) -> usize
-    requires { length nodes.now ≤ MAX_NODES }
-    ensures { result ≡ needs_to nodes.now (length nodes.now) }
-{
-    let mut needs = 0;
-    for n in 0..nodes.len() {
-        needs += usize::from(kind_of(&nodes[n]).needs());
-    }
-    needs
 }

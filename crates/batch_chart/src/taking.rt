@@ -4,7 +4,7 @@ ghost use Rattle.std.specs.VecDeque.{deque_capacity};
 ghost use Rattle.batch_matrix.specs.Matrix.{after_report};
 ghost use Rattle.batch_matrix.specs.declared.report.PhaseEnd.{PhaseEnd};
 ghost use Rattle.batch_matrix.specs.declared.state.State.{State};
-ghost use Rattle.batch_chart.specs.Early.{AreHeld, AreNodes, IsMovedOn, IsReportedOn, IsTakenAt, IsTakenBy, PassesWithin, first_held, held_after, is_early, is_ready, still_held};
+ghost use Rattle.batch_chart.specs.Early.{AreNodes, IsMovedOn, IsReportedOn, IsTakenAt, IsTakenBy, first_held, held_after, is_early, is_ready, still_held};
 ghost use Rattle.batch_chart.specs.Nexts.{IsInOrder};
 ghost use Rattle.batch_chart.specs.Running.{Allows, IsLiveIn};
 ghost use Rattle.batch_chart.specs.Stages.{stage_at};
@@ -72,7 +72,7 @@ fn is_held(held: &VecDeque<Passed>, to: u16) -> bool
 
 /// What a move passes on is held in advance.
 pub fn hold(held: &mut VecDeque<Passed>, wanted: Move)
-    requires { (count : ℕ) × AreHeld count held.old.items (deque_capacity held.old) × PassesWithin count wanted }
+    requires { length held.old.items < deque_capacity held.old }
     ensures items { held.new.items ≡ held_after held.old.items wanted }
     ensures capacity { deque_capacity held.new ≡ deque_capacity held.old }
 {

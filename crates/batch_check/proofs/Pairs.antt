@@ -1,11 +1,10 @@
 -- Sets of numbers as bits, and one more edge in a set of edges.
-use Rattle.std.proofs.Common.{◌≡◌, ◌≢◌, ℕ, ◌+◌, ◌*◌, ◌<◌, ◌≤◌, ◌/◌, ◌%◌, Bool, true, false, ◌&&◌, ◌||◌, nat_eq, IsTrue, List, [], ◌∷◌, ◌++◌, length, replicate, set, get_or, bit_and, inl, inr, refl, sym, ap, ◌∙◌, subst, arith, get_or-set_same, get_or-set_other}
+use Rattle.std.proofs.Common.{◌≡◌, ◌≢◌, ℕ, ◌+◌, ◌*◌, ◌<◌, ◌≤◌, ◌/◌, ◌%◌, true, false, nat_eq, IsTrue, List, [], length, replicate, set, get_or, bit_and, inl, inr, sym, ap, ◌∙◌, subst, arith, get_or-set_same, get_or-set_other}
 use Rattle.std.specs.Prelude.{min}
 use Rattle.std.specs.Int.{bit_at}
-use Rattle.std.proofs.lemmas.Bool.{cases_eq, eqb-true, eq-eqb, false_from_ne_true}
+use Rattle.std.proofs.lemmas.Bool.{cases_eq, eqb-true, false_from_ne_true}
 use Rattle.std.proofs.lemmas.Nat.{div-add-mod'}
 use Rattle.std.proofs.lemmas.Nat.Bits.{bit_at-lt, bit_at-zero, bit_at_and}
-use Rattle.std.proofs.lemmas.List.Folds.{list_any-append}
 use Rattle.batch_signs.specs.Bits.{with_one}
 use Rattle.batch_signs.proofs.Bits.{with-one_same, with-one_other, zeros}
 use Rattle.batch_check.specs.declared.edge.Edge.{Edge}
@@ -47,24 +46,6 @@ bit_kept a b k whole one =
 
 -- Edges
 
-abbrev is_pair : Edge → ℕ → ℕ → Bool
-is_pair e i j = nat_eq e.earlier i && nat_eq e.later j
-
-has_pair-push : (edges : List Edge) (e : Edge) (i j : ℕ) → has_pair (edges ++ e ∷ []) i j ≡ (has_pair edges i j || (is_pair e i j || false))
-has_pair-push edges e i j = list_any-append (λ (f : Edge). is_pair f i j) edges (e ∷ [])
-
-or_right : (a b : Bool) → b ≡ true → (a || (b || false)) ≡ true
-or_right a b h = grind arith
-
-or_none : (a b : Bool) → b ≡ false → a ≡ (a || (b || false))
-or_none a b h = grind arith
-
-is_pair-own : (e : Edge) (i j : ℕ) → e.earlier ≡ i → e.later ≡ j → is_pair e i j ≡ true
-is_pair-own e i j p q = rw (eq-eqb e.earlier i p, eq-eqb e.later j q) refl
-
-is_pair-other : (e : Edge) (i j : ℕ) → (e.earlier ≡ i → e.later ≡ j → ⊥) → is_pair e i j ≡ false
-is_pair-other e i j h = grind (arith, eqb-true)
-
 -- the words say which pairs have an edge
 abbrev IsExact : ℕ → List ℕ → List Edge → Type 0
 IsExact count known edges = (i j : ℕ) → i < count → j < count → has_bit known (j * 448 + i) ≡ has_pair edges i j
@@ -80,31 +61,6 @@ row_has_each count known edges numbers i j first few exact in_i in_j begins whol
     sym (exact i j in_i in_j)
     ∙ (ap (λ k. nat_eq (bit_at (get_or known k 0) ((j * 448 + i) % 64)) 1) word
     ∙ (ap (λ k. nat_eq (bit_at (get_or known (first + i / 64) 0) k) 1) bit ∙ ap (λ b. nat_eq b 1) there))
-
--- one more edge, for which the bit of its pair is set
-module _ (count : ℕ) (known : List ℕ) (edges : List Edge) (e : Edge) (pair word : ℕ) (few : count ≤ 448) (in_earlier : e.earlier < count) (in_later : e.later < count)
-    (is : pair ≡ e.later * 448 + e.earlier) (bits : (k : ℕ) → bit_at word k ≡ with_one (pair % 64) (bit_at (get_or known (pair / 64) 0)) k) (exact : IsExact count known edges) where
-  pub pushed-exact : length known ≡ count * 7 → IsExact count (set known (pair / 64) word) (edges ++ e ∷ [])
-  pushed-exact sized i j in_i in_j =
-      let within : pair / 64 < length known = omega (arith, sized, in_later, in_earlier, few, is) in
-      elim (cases_eq (j * 448 + i) pair) [
-        | inl same ↦
-            let later : j ≡ e.later = omega (arith, same, is, in_i, in_earlier, few) in
-            let earlier : i ≡ e.earlier = omega (arith, same, is, later) in
-            let new : has_pair (edges ++ e ∷ []) i j ≡ true = has_pair-push edges e i j ∙ or_right (has_pair edges i j) (is_pair e i j) (is_pair-own e i j (sym earlier) (sym later)) in
-            ap (has_bit (set known (pair / 64) word)) same ∙ (has_bit-set known pair word within bits ∙ sym new)
-        | inr ne ↦
-            let other : is_pair e i j ≡ false = is_pair-other e i j (λ p q. ne (omega (arith, p, q, is))) in
-            has_bit-kept known pair word within bits (j * 448 + i) ne
-            ∙ (exact i j in_i in_j ∙ (or_none (has_pair edges i j) (is_pair e i j) other ∙ sym (has_pair-push edges e i j)))
-      ]
-
-  -- where it was set before, an edge leads from the one to the other
-  pub marked-joined : word ≡ get_or known (pair / 64) 0 → IsTrue (has_pair edges e.earlier e.later)
-  marked-joined same =
-      let one : bit_at (get_or known (pair / 64) 0) (pair % 64) ≡ 1 = ap (λ w. bit_at w (pair % 64)) (sym same) ∙ (bits (pair % 64) ∙ with-one_same (pair % 64) (bit_at (get_or known (pair / 64) 0))) in
-      let bit : has_bit known pair ≡ true = ap (λ b. nat_eq b 1) one in
-      sym (exact e.earlier e.later in_earlier in_later) ∙ (ap (has_bit known) (sym is) ∙ bit)
 
 -- no edge leads anywhere at first
 pub none-exact : (count words : ℕ) → IsExact count (replicate words 0) []

@@ -1,4 +1,4 @@
--- A recipe has few needs, and so have all batches.
+-- A batch needs few resources at once, and so do all batches.
 use Rattle.std.proofs.Common.{◌≡◌, ◌<◌, ◌≤◌, ◌+◌, ◌*◌, ℕ, zero, suc, List, [], ◌∷◌, Bool, true, false, Option, Some, None, arith, length, map, take, length-take, refl}
 use Rattle.std.specs.Prelude.{nat_le, nat_lt, ◌||◌}
 use Rattle.std.specs.List.{slice_index_or}
@@ -12,7 +12,7 @@ use Rattle.batch_recipe.specs.Expanding.{Binding, Sites, act_named, act_tree_wit
 use Rattle.batch_recipe.specs.Nodes.{child, count_of_choices, count_of_each, count_within, node_count}
 use Rattle.batch_recipe.specs.Needs.{one_unit}
 use Rattle.batch_recipe.specs.Procedure.{bound_tree, sites, tables_from}
-use Rattle.batch_recipe.specs.Tree.{Place, Tree, skip}
+use Rattle.batch_recipe.specs.Tree.{Place, Step, Task, runs, follows, Tree, act, skip, seq, par, sel, loop, Trees, no_trees, tree, Choices, otherwise, choice}
 use Rattle.batch_cell.specs.declared.cell.Cell.{Cell}
 use Rattle.batch_recipe.specs.declared.act.Act.{Act}
 use Rattle.batch_recipe.specs.declared.act.Work.{Work}
@@ -25,7 +25,7 @@ use Rattle.batch_model.specs.Plant.{plain}
 use Rattle.batch_model.specs.Setups.{master_of}
 use Rattle.batch_model.specs.declared.limits.TheConstants.{LAST_NUMBER, MAX_LIVE_BATCHES}
 use Rattle.batch_verify.specs.ClearedSet.{ClearedSet}
-use Rattle.batch_chart.specs.NodesOf.{needs_below, needs_in, needs_of_choices, needs_of_each}
+use Rattle.batch_chart.specs.NodesOf.{most_by, most_below, most_of_all, most_of_chosen, most_of_one, needs_in, own_needs, own_units}
 use Rattle.batch_engine.specs.declared.batch.Batch.{Batch}
 use Rattle.batch_engine.specs.Kept.{needs_of_all}
 use Rattle.batch_engine.proofs.AlikeNodes.{count-alike}
@@ -33,23 +33,47 @@ use Rattle.batch_engine.specs.View.{EngineView, batch_of, bound_to, setup, no_re
 
 -- an act needs at most 16 resources beside its unit and the four that it reserves, so the acts of a tree need at most 21 a node
 abbrev pub HasFewNeeds : Tree → Type 0
-HasFewNeeds t = needs_in t ≤ 21 * node_count t
+HasFewNeeds t = most_by own_needs t ≤ 21 * node_count t
+
+-- one branch has no more than all have
+one-all : (own : Step → Task → ℕ) (ts : Trees) → most_of_one own ts ≤ most_of_all own ts
+one-all own no_trees = omega arith
+one-all own (tree c ts) = omega (arith, one-all own ts)
+
+-- at most one unit a node is held in advance
+mutual
+  few-units : (t : Tree) → most_by own_units t ≤ node_count t
+  few-units (act s (runs p)) = omega arith
+  few-units (act s (follows name c)) = omega (arith, few-units c)
+  few-units skip = omega arith
+  few-units (seq ts) = omega (arith, one-all own_units ts, few-units_each ts)
+  few-units (par ts) = omega (arith, few-units_each ts)
+  few-units (sel ch) = omega (arith, few-units_choices ch)
+  few-units (loop n c body) = omega (arith, few-units body)
+
+  few-units_each : (ts : Trees) → most_of_all own_units ts ≤ count_of_each ts
+  few-units_each no_trees = omega arith
+  few-units_each (tree c ts) = omega (arith, few-units c, few-units_each ts)
+
+  few-units_choices : (ch : Choices) → most_of_chosen own_units ch ≤ count_of_choices ch
+  few-units_choices (otherwise c) = few-units c
+  few-units_choices (choice p c ch) = omega (arith, few-units c, few-units_choices ch)
 
 module _ (acts : Name → Place → Tree) (few : (name : Name) (p : Place) → HasFewNeeds (acts name p)) where
   mutual
     few-expanded : (p : Place) (d : Diagram) → HasFewNeeds (expanded acts p d)
     few-expanded p (chart.label name) = few name p
     few-expanded p chart.skip = omega arith
-    few-expanded p (chart.seq ds) = omega (arith, few-each p 0 ds)
+    few-expanded p (chart.seq ds) = omega (arith, one-all own_needs (expanded_each acts p 0 ds), few-each p 0 ds)
     few-expanded p (chart.par ds) = omega (arith, few-each p 0 ds)
     few-expanded p (chart.sel cs) = omega (arith, few-cases p 0 cs)
     few-expanded p (chart.loop turns until d) = omega (arith, few-expanded (child p 0) d)
 
-    few-each : (p : Place) (i : ℕ) (ds : Diagrams) → needs_of_each (expanded_each acts p i ds) ≤ 21 * count_of_each (expanded_each acts p i ds)
+    few-each : (p : Place) (i : ℕ) (ds : Diagrams) → most_of_all own_needs (expanded_each acts p i ds) ≤ 21 * count_of_each (expanded_each acts p i ds)
     few-each p i chart.none = omega arith
     few-each p i (chart.more d ds) = omega (arith, few-expanded (child p i) d, few-each p (i + 1) ds)
 
-    few-cases : (p : Place) (i : ℕ) (cs : Cases) → needs_of_choices (expanded_cases acts p i cs) ≤ 21 * count_of_choices (expanded_cases acts p i cs)
+    few-cases : (p : Place) (i : ℕ) (cs : Cases) → most_of_chosen own_needs (expanded_cases acts p i cs) ≤ 21 * count_of_choices (expanded_cases acts p i cs)
     few-cases p i (chart.otherwise d) = few-expanded (child p i) d
     few-cases p i (chart.when c d cs) = omega (arith, few-expanded (child p i) d, few-cases p (i + 1) cs)
 
@@ -58,7 +82,7 @@ few-asked None reserved needs r h = omega (arith, r, h, length-append (map one_u
 few-asked (Some unit) reserved needs r h = omega (arith, r, h, length-append (map one_unit reserved) needs, length-map reserved one_unit)
 
 few-below : (acts : Name → Place → Tree) → ((name : Name) (p : Place) → HasFewNeeds (acts name p)) → (unit name : Name) (p : Place) (work : Work)
-    → needs_below (task_of acts unit name p work) ≤ 21 * count_within (task_of acts unit name p work)
+    → most_below own_needs (task_of acts unit name p work) ≤ 21 * count_within (task_of acts unit name p work)
 few-below acts few unit name p (Follows c) = few-expanded acts few (child p 0) (diagram_of c)
 few-below acts few unit name p (Runs phase values reports) = omega arith
 
@@ -82,31 +106,32 @@ module _ (s : Sites) where
       go few (Some a) = few-act (named_tree_with s tables) few unit a p
 
 module _ (bound : Binding) where
-  few-recipe : (r : document.Recipe) → needs_in (bound_tree bound r.acts) ≤ 86016
+  few-recipe : (r : document.Recipe) → needs_in (bound_tree bound r.acts) ≤ 90112
   few-recipe r =
       let tables : List (List Act) = tables_from r.acts (Some UnitProcedures) in
       omega (
         arith,
         few-act (sites bound r.acts) (named_tree_with (sites bound r.acts) tables) (few-named (sites bound r.acts) tables) [] r.acts.procedure (0 ∷ []),
+        few-units (bound_tree bound r.acts),
         count-alike bound r.acts,
         r.small,
       )
 
-  few-among : (cell : Cell) (rs : List document.Recipe) (k : ℕ) → needs_in ((slice_index_or (map (master_of cell) rs) k (plain no_recipe)).control bound).procedure ≤ 86016
+  few-among : (cell : Cell) (rs : List document.Recipe) (k : ℕ) → needs_in ((slice_index_or (map (master_of cell) rs) k (plain no_recipe)).control bound).procedure ≤ 90112
   few-among cell [] k = omega arith
   few-among cell (r ∷ rs) zero = few-recipe r
   few-among cell (r ∷ rs) (suc k) = few-among cell rs k
 
--- 21 needs at each of 4,096 nodes
-pub few-needs : (c : ClearedSet) (recipe : ℕ) (units : List ℕ) → needs_in (tree_at c recipe units) ≤ 86016
+-- 21 needs, and one unit in advance, at each of 4,096 nodes
+pub few-needs : (c : ClearedSet) (recipe : ℕ) (units : List ℕ) → needs_in (tree_at c recipe units) ≤ 90112
 few-needs c recipe units = few-among (bound_to c recipe units) c.cell c.recipes recipe
 
-pub few-of_all : (c : ClearedSet) (bs : List Batch) → needs_of_all c bs ≤ 86016 * length bs
+pub few-of_all : (c : ClearedSet) (bs : List Batch) → needs_of_all c bs ≤ 90112 * length bs
 few-of_all c [] = omega arith
 few-of_all c (b ∷ bs) = omega (arith, sum_by-cons (λ (z : Batch). needs_in (tree_of c z)) b bs, few-needs c b.recipe b.units, few-of_all c bs)
 
 -- the batches before an index
-pub few-before : (c : ClearedSet) (bs : List Batch) (i : ℕ) → needs_of_all c (take i bs) ≤ 86016 * i
+pub few-before : (c : ClearedSet) (bs : List Batch) (i : ℕ) → needs_of_all c (take i bs) ≤ 90112 * i
 few-before c bs i = omega (arith, few-of_all c (take i bs), length-take i bs)
 
 or-first : (a b : Bool) → (a || b) ≡ false → a ≡ false

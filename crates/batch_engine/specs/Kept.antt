@@ -47,11 +47,11 @@ pub record IsRunningBatch (c : ClearedSet) (b : Batch) : Type 0 where
 abbrev pub claims : Allocation → ℕ
 claims a = sum_by (λ xs. length xs) a.shares + sum_by (λ xs. length xs) a.lines
 
--- how many needs the acts of all batches have
+-- how many needs all batches together can hold and ask for at once
 abbrev pub needs_of_all : ClearedSet → List Batch → ℕ
 needs_of_all c bs = sum_by (λ b. needs_in (tree_of c b)) bs
 
--- room is made for all needs of all batches
+-- room is made for all that they can hold and ask for at once
 abbrev pub HasRoom : EngineView → Type 0
 HasRoom v = needs_of_all v.cleared v.batches ≤ v.allocation.room + claims v.allocation
 

@@ -16,7 +16,7 @@ use Rattle.batch_engine.specs.declared.numbers.Numbers.{Numbers}
 use Rattle.batch_engine.specs.declared.numbers.PhaseNumber.{PhaseNumber}
 use Rattle.batch_engine.specs.declared.numbers.RecipeNumbers.{RecipeNumbers}
 
--- the recipe, and how many needs its acts have, whatever units take its roles
+-- the recipe, and how many needs a batch of it can hold and ask for at once, whatever units take its roles
 pub record IsRecipeNumbered (cell : Cell) (phases : CellPhases) (r : Recipe) (numbers : RecipeNumbers) : Type 0 where
   pub linked : IsLinked cell phases r numbers.linked
   pub needs : (bound : Binding) → numbers.needs ≡ needs_in (bound_tree bound r.acts)

@@ -28,7 +28,7 @@ pub struct Control {
     pub(crate) cleared: Cleared,
     pub(crate) numbers: Numbers,
     pub(crate) batches: Batches,
-    /// How many needs the acts of all batches have.
+    /// How many needs all batches together can hold and ask for at once.
     pub(crate) needs: usize,
     pub(crate) next_number: u64,
     pub(crate) arbiter: Arbiter,

@@ -100,7 +100,7 @@ fn recipe_named(recipes: &[Recipe], name: &Name) -> Option<usize>
 }
 
 impl Control {
-    /// How many needs the acts of all batches have, and those of a further batch of the recipe.
+    /// How many needs all batches and a further one of the recipe can hold and ask for at once.
     fn needs_with(&self, recipe: u16) -> usize
         requires known { recipe < length self.now.cleared.recipes }
         requires free { length self.now.batches < MAX_LIVE_BATCHES }

@@ -22,7 +22,7 @@ pub const NO_PHASE: PhaseNumber = PhaseNumber {
 #[derive(Drop)]
 pub struct RecipeNumbers {
     pub linked: LinkedRecipe,
-    /// How many needs the acts of all its nodes have.
+    /// How many needs a batch can hold and ask for at once.
     pub needs: usize,
 }
 

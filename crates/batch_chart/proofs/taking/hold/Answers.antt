@@ -1,12 +1,9 @@
 use Rattle.std.proofs.Common.{◌∙◌, arith, sym}
-use Rattle.batch_chart.proofs.MovedOn.{held-new, held-again, held-other, room-for}
+use Rattle.batch_chart.proofs.MovedOn.{held-new, held-again, held-other}
 use Rattle.batch_chart.proofs.taking.hold.Goals as goal
 
 pub push_front_reserved-requires : goal.push_front_reserved-requires
-push_front_reserved-requires c =
-    let a = c.requires in
-    let few = room-for a.0 c.args.held.now.items _ a.1 c.in-Pass.to (rw c.in-Pass.is at a.2) (sym c.if-not-is_held.ensures) in
-    omega (arith, few, c.args.held.now.ok.0)
+push_front_reserved-requires c = omega (arith, c.requires, c.args.held.now.ok.0)
 
 pub returns-then-not-is_held-clause-items : goal.returns-then-not-is_held-clause-items
 returns-then-not-is_held-clause-items c = rw c.in-Pass.is (c.push_front_reserved.ensures.items ∙ held-new c.args.held.now.items c.in-Pass.node c.in-Pass.to c.in-Pass.need (sym c.if-not-is_held.ensures))

@@ -1,5 +1,7 @@
 use Rattle.batch_chart.specs.declared.node.Kind.TheVariants as kind
 use Rattle.batch_chart.specs.Needs.{needs_of}
+use Rattle.batch_chart.specs.Outlined.{kind_at}
+use Rattle.batch_chart.proofs.FewTurns.{few-turns}
 use Rattle.std.proofs.Common.{rules, arith, ◌∙◌, ◌≡◌, ◌&&◌, true, false, refl, sym, ap, subst, ℕ, ◌⊎◌}
 use Rattle.std.proofs.Math.ListN.{length-set}
 use Rattle.batch_chart.proofs.Standing.{within, below-end, seq-standing, par-standing, sel-standing, loop-standing, first-standing, rest-standing, choice-standing, choices-standing, choices-below, end-fits}
@@ -214,3 +216,9 @@ reach_chosen-overflow_add-condition t c =
 
 pub reach-overflow_cast-end : goal.reach-overflow_cast-end
 reach-overflow_cast-end t c = let h = end-fits _ _ _ _ c.requires.standing in search rules
+
+pub reach-overflow_cast-saturating_sub : goal.reach-overflow_cast-saturating_sub
+reach-overflow_cast-saturating_sub t c =
+    let few = few-turns c.args.self.now.master.now c.args.n c.in-Loop.turns c.in-Loop.until
+    (subst (λ es. kind_at es c.args.n ≡ kind.Loop c.in-Loop.turns c.in-Loop.until) c.args.self.now.own (sym c.kind_of-kind.ensures ∙ c.in-Loop.is)) in
+    omega (arith, few, c.saturating_sub.ensures)

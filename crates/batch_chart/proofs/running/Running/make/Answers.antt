@@ -5,12 +5,9 @@ use Rattle.batch_chart.proofs.MovedOn.{held-kept, passes-within}
 use Rattle.batch_chart.proofs.RunsOn.{moved-running, moved-runs}
 use Rattle.batch_chart.proofs.running.Running.make.Goals as goal
 
-pub hold-requires : goal.hold-requires
-hold-requires c = (_, is-held c.args.chart.now c.args.self.now c.requires.running, passes-within _ _ _ _ c.requires.possible refl)
-
 pub move_on-requires : goal.move_on-requires
 move_on-requires c =
-    let held = held-kept _ _ _ c.args.wanted (is-held c.args.chart.now c.args.self.now c.requires.running) (passes-within _ _ _ _ c.requires.possible refl) in
+    let held = held-kept _ _ _ _ c.args.wanted (is-held c.args.chart.now c.args.self.now c.requires.running) (passes-within _ _ _ _ c.requires.possible refl) in
     rw (c.deref.ensures.value, c.deref_mut.ensures.value, c.hold.ensures.items)
     (record { order = runs-in-order c.args.chart.now c.args.self.now c.requires.running; allowed = c.requires.possible; nodes = held-nodes _ _ held.within })
 

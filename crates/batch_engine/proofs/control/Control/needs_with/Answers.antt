@@ -7,7 +7,7 @@ use Rattle.batch_engine.proofs.FewNeeds.{few-needs, few-of_all}
 use Rattle.batch_engine.proofs.NumbersFound.{got-numbers, needs-here}
 use Rattle.batch_engine.proofs.control.Control.needs_with.Goals as goal
 
--- at most 17 needs a node, 4,096 nodes a batch, 4,096 batches
+-- at most 22 needs a node, 4,096 nodes a batch, 4,096 batches
 pub overflow_add-result : goal.overflow_add-result
 overflow_add-result c =
     let v : EngineView = c.args.self.now in

@@ -10,6 +10,7 @@ use Rattle.batch_engine.specs.View.{EngineView, batch_of, tree_of}
 use Rattle.batch_engine.proofs.Made.{Becomes, MadeChart, ask-made, pass-made, release-made, run-quiet}
 use Rattle.batch_engine.proofs.RoomForAsk.{room-for-ask}
 use Rattle.batch_engine.proofs.Seats.{IsSeat, chart-within, closed-makes, counted-set, mover, seat-of}
+use Rattle.batch_engine.proofs.Space.{space-in-advance}
 use Rattle.batch_engine.proofs.Stepping.{changed}
 use Rattle.batch_engine.proofs.control.Control.run.Goals as goal
 use Rattle.batch_engine.proofs.control.Control.run.Goals.{After-index_mut-batch, After-make, After-recipe-chart}
@@ -58,6 +59,12 @@ make-requires-clause-possible c =
     let w = goal.at.make-requires-clause-possible c in
     let h = moves w.After-index_mut-batch in
     h.can c.recipe-chart.result.now (seat w.After-recipe-chart h).listed
+
+pub make-requires-clause-space : goal.make-requires-clause-space
+make-requires-clause-space c =
+    let w = goal.at.make-requires-clause-space c in
+    let h = moves w.After-index_mut-batch in
+    space-in-advance c.args.self.now h.kept c.args.index c.index_mut-batch.result.now h.at (seat w.After-recipe-chart h).runs
 
 -- what the move makes of the view
 abbrev own : After-make → Batch

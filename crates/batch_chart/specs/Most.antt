@@ -1,0 +1,34 @@
+-- private: how much acts have together that are reached at once, by the kinds of their nodes.
+use Rattle.std.specs.Prelude.{ℕ, ◌+◌, max, Bool, true, false}
+use Rattle.batch_recipe.specs.Tree.{Step, Task, Trees}
+use Rattle.batch_chart.specs.declared.most.Counted.{Counted}
+use Rattle.batch_chart.specs.declared.most.Counted.TheVariants.{Needs, Units}
+use Rattle.batch_chart.specs.declared.node.Kind.{Kind}
+use Rattle.batch_chart.specs.declared.node.Kind.TheVariants.{Act, Par}
+use Rattle.batch_chart.specs.Needs.{needs_of}
+use Rattle.batch_chart.specs.NodesOf.{own_needs, own_units, most_of_all, most_of_one}
+
+-- how much an act has itself
+abbrev pub own_by : Counted → Step → Task → ℕ
+own_by Needs = own_needs
+own_by Units = own_units
+
+-- the same of an act of this kind
+abbrev pub own_of : Counted → Kind → ℕ
+own_of Needs k = needs_of k
+own_of Units (Act needs) = 1
+own_of Units _ = 0
+
+abbrev pub is_par : Kind → Bool
+is_par Par = true
+is_par _ = false
+
+-- of two that are reached at once, or one after the other
+abbrev pub joined : Bool → ℕ → ℕ → ℕ
+joined true a b = a + b
+joined false a b = max a b
+
+-- of charts that are
+abbrev pub most_of : Bool → Counted → Trees → ℕ
+most_of true counted ts = most_of_all (own_by counted) ts
+most_of false counted ts = most_of_one (own_by counted) ts
