@@ -1,17 +1,15 @@
 -- Inputs that are handed over through the rings of their readers.
-use Rattle.std.proofs.Common.{◌≡◌, ◌≢◌, ◌<◌, ◌≤◌, ◌+◌, ◌⊎◌, ℕ, zero, suc, Bool, true, List, [], ◌∷◌, ◌++◌, length, get_or, set, Option, Some, None, IfSome, is_none, option_map, string_bytes, refl, sym, ap, subst, arith, inl, inr, append-nil, get_or-set_other, get_or-set_same, length-set, ◌∙◌}
-use Rattle.std.proofs.lemmas.Bool.{cases_lt}
-use Rattle.std.proofs.lemmas.List.{get_or_default}
+use Rattle.std.proofs.Common.{◌≡◌, ◌<◌, ◌+◌, ℕ, Bool, true, List, [], ◌∷◌, ◌++◌, length, get_or, set, Option, Some, None, IfSome, is_none, option_map, string_bytes, refl, sym, ap, subst, arith, append-nil, length-set, ◌∙◌}
 use Rattle.std.proofs.lemmas.Option.{IfSome_then}
-use Rattle.rtrb.specs.Ends.{SameRing}
 use Rattle.rtrb.specs.Ring.{IsPair, SameConsumer, SameProducer, received, sent}
-use Rattle.rtrb.specs.declared.end.End.{End}
 use Rattle.batch_desks.specs.declared.desk.Desk as plans
 use Rattle.batch_wire.specs.Transcript.{lines_of}
 use Rattle.batch_serve.specs.CleanLines.{clean_lines}
 use Rattle.batch_serve_desks.specs.Rounds.{AreSameReaders, text_sent}
 use Rattle.batch_serve_desks.specs.declared.rounds.Reader.{Reader}
 use Rattle.batch_serve_desks.specs.declared.rounds.Sent.{Sent}
+use Rattle.batch_pipes.proofs.Lists.{both_more, both_set, length_more}
+use Rattle.batch_pipes.proofs.Rings.{pair_on, same_ring}
 use Rattle.batch_pipes.specs.Ended.{given_by}
 use Rattle.batch_pipes.specs.InputEnds.{AreItemsOf, IsInputRun}
 use Rattle.batch_pipes.specs.Inputs.{AreInputsKept, AreInputsOf, AreInputsOpened, HasAllCome, IsEndKept, IsEndOf, IsInputAdded, IsInputKept, IsInputOf, IsTaskOf, bytes_of, path_of}
@@ -20,27 +18,6 @@ use Rattle.batch_pipes.specs.declared.input.Input.{Input}
 use Rattle.batch_pipes.specs.declared.input.InputChild.{InputChild}
 use Rattle.batch_pipes.specs.declared.reading.InputEnd.{InputEnd}
 use Rattle.batch_pipes.specs.declared.reading.InputTask.{InputTask}
-
--- Rings
-
-module _ {T A P : Type 0} where
-  ring_on : (a b d : End T A P) → SameRing a b → SameRing b d → SameRing a d
-  ring_on a b d one other =
-      let (w, s, n, h) = one in
-      let (x, t, m, i) = other in
-      (x ∙ w, t ∙ s, m ∙ n, i ∙ h)
-
-  ring_back : (a b : End T A P) → SameRing a b → SameRing b a
-  ring_back a b same =
-      let (w, s, n, h) = same in
-      (sym w, sym s, sym n, sym h)
-
-  -- both ends may have moved on
-  pair_on : (p q a b : End T A P) → SameRing p q → SameRing a b → SameRing p a → SameRing q b
-  pair_on p q a b one other pair = ring_on q p b (ring_back p q one) (ring_on p a b pair other)
-
-  same_ring : (a : End T A P) → SameRing a a
-  same_ring a = (refl, refl, refl, refl)
 
 -- One input
 
@@ -134,30 +111,6 @@ inputs_on given inputs before after count same of = record {
       input_on given (get_or inputs k i) (get_or before k reader) (get_or after k reader) (same k reader (omega (arith, within, of.count))) (of.each k i reader within);
 }
 
--- what is so of each two is so where two were set
-both_set : {A B : Type 0} (R : A → B → Type 0) (xs : List A) (ys : List B) (i : ℕ) (x : A) (y : B) → i < length xs → length xs ≡ length ys → R x y
-    → ((k : ℕ) (a : A) (b : B) → k < length xs → R (get_or xs k a) (get_or ys k b))
-    → (k : ℕ) (a : A) (b : B) → k < length xs → R (get_or (set xs i x) k a) (get_or (set ys i y) k b)
-both_set R xs ys i x y within count here all k a b below = go (cases_lt k i)
-  where
-    apart_so : k ≢ i → R (get_or (set xs i x) k a) (get_or (set ys i y) k b)
-    apart_so apart =
-        subst (λ u. R u (get_or (set ys i y) k b)) (sym (get_or-set_other xs i k x a apart))
-        (subst (λ v. R (get_or xs k a) v) (sym (get_or-set_other ys i k y b apart)) (all k a b below))
-
-    at_so : k ≡ i → R (get_or (set xs i x) k a) (get_or (set ys i y) k b)
-    at_so at =
-        subst (λ u. R u (get_or (set ys i y) k b)) (sym (ap (λ n. get_or (set xs i x) n a) at ∙ get_or-set_same xs i x a within))
-        (subst (λ v. R x v) (sym (ap (λ n. get_or (set ys i y) n b) at ∙ get_or-set_same ys i y b (omega (arith, within, count)))) here)
-
-    either : (i < k) ⊎ (k ≤ i) → i ≤ k → R (get_or (set xs i x) k a) (get_or (set ys i y) k b)
-    either (inl lt) le = apart_so (omega arith)
-    either (inr ge) le = at_so (omega arith)
-
-    go : (k < i) ⊎ (i ≤ k) → R (get_or (set xs i x) k a) (get_or (set ys i y) k b)
-    go (inl lt) = apart_so (omega arith)
-    go (inr le) = either (cases_lt i k) le
-
 -- an input beside its reader
 pub input_here : {P : Type 0} (given : List ℕ → Option (List ℕ)) (inputs : List (Input P)) (readers : List Reader) (i : ℕ) (input : Input P) (reader : Reader) → i < length inputs
     → input ≡ get_or inputs i input → reader ≡ get_or readers i reader → AreInputsOf given inputs readers → IsInputOf given input reader
@@ -173,30 +126,6 @@ inputs_set {P} given inputs readers i input reader within here of = record {
       both_set (λ (x : Input P) (y : Reader). IsInputOf given x y) inputs readers i input reader within of.count here of.each k other read (omega (arith, below, length-set {A = Input P}));
 }
 
-pub paths_set : {P : Type 0} (first now : List (Input P)) (i : ℕ) (old new : Input P) → i < length now → length now ≡ length first → old ≡ get_or now i old → path_of new ≡ path_of old
-    → ((k : ℕ) (other : Input P) → k < length first → path_of (get_or now k other) ≡ path_of (get_or first k other))
-    → (k : ℕ) (other : Input P) → k < length first → path_of (get_or (set now i new) k other) ≡ path_of (get_or first k other)
-paths_set first now i old new within count is same paths k other below = go (cases_lt k i)
-  where
-    apart_so : k ≢ i → path_of (get_or (set now i new) k other) ≡ path_of (get_or first k other)
-    apart_so apart = ap path_of (get_or-set_other now i k new other apart) ∙ paths k other below
-
-    in_place : get_or now i old ≡ get_or now i other
-    in_place = get_or_default now i old other within
-
-    at_so : k ≡ i → path_of (get_or (set now i new) k other) ≡ path_of (get_or first k other)
-    at_so at =
-        ap path_of (ap (λ n. get_or (set now i new) n other) at ∙ get_or-set_same now i new other within) ∙ same ∙ ap path_of (is ∙ in_place) ∙ ap (λ n. path_of (get_or now n other)) (sym at)
-        ∙ paths k other below
-
-    either : (i < k) ⊎ (k ≤ i) → i ≤ k → path_of (get_or (set now i new) k other) ≡ path_of (get_or first k other)
-    either (inl lt) le = apart_so (omega arith)
-    either (inr ge) le = at_so (omega arith)
-
-    go : (k < i) ⊎ (i ≤ k) → path_of (get_or (set now i new) k other) ≡ path_of (get_or first k other)
-    go (inl lt) = apart_so (omega arith)
-    go (inr le) = either (cases_lt i k) le
-
 pub inputs_as_they_are : {P : Type 0} (given : List ℕ → Option (List ℕ)) (inputs : List (Input P)) (readers : List Reader) → AreInputsOf given inputs readers
     → AreInputsKept given inputs inputs readers
 inputs_as_they_are given inputs readers of = record { of = of; count = refl; paths = λ k i within. refl }
@@ -210,22 +139,6 @@ inputs_twice given a b d x y one other = record {
 
 -- Opening
 
-length_more : {T : Type 0} (xs : List T) (y : T) → length (xs ++ y ∷ []) ≡ length xs + 1
-length_more [] y = omega arith
-length_more (x ∷ xs) y = omega (arith, length_more xs y)
-
--- what is so of each two is so where two more stand behind them
-both_more : {A B : Type 0} (R : A → B → Type 0) (xs : List A) (ys : List B) (x : A) (y : B) → length xs ≡ length ys → R x y
-    → ((k : ℕ) (a : A) (b : B) → k < length xs → R (get_or xs k a) (get_or ys k b))
-    → (k : ℕ) (a : A) (b : B) → k < length xs + 1 → R (get_or (xs ++ x ∷ []) k a) (get_or (ys ++ y ∷ []) k b)
-both_more R [] [] x y count last all zero a b below = last
-both_more R [] [] x y count last all (suc k) a b below = absurd (omega (arith, below))
-both_more R [] (v ∷ ys) x y count last all k a b below = absurd (omega (arith, count))
-both_more R (u ∷ xs) [] x y count last all k a b below = absurd (omega (arith, count))
-both_more R (u ∷ xs) (v ∷ ys) x y count last all zero a b below = all 0 a b (omega arith)
-both_more R (u ∷ xs) (v ∷ ys) x y count last all (suc k) a b below =
-    both_more R xs ys x y (omega (arith, count)) last (λ j p q lt. all (suc j) p q (omega (arith, lt))) k a b (omega (arith, below))
-
 pub inputs_more : {P : Type 0} (given : List ℕ → Option (List ℕ)) (desks : List plans.Desk) (desk : plans.Desk) (old new : List (Input P)) (before after : List Reader)
     → AreInputsOpened given desks old before → IsInputAdded given (option_map string_bytes desk.input) old new before after → AreInputsOpened given (desks ++ desk ∷ []) new after
 inputs_more {P} given desks desk old new before after opened added = record {
@@ -234,12 +147,12 @@ inputs_more {P} given desks desk old new before after opened added = record {
     each = λ k i reader below.
         subst (λ (l : List (Input P)). IsInputOf given (get_or l k i) (get_or after k reader)) (sym added.inputs)
         (subst (λ (l : List Reader). IsInputOf given (get_or (old ++ added.input ∷ []) k i) (get_or l k reader)) (sym added.readers)
-        (both_more (λ (x : Input P) (y : Reader). IsInputOf given x y) old before added.input added.reader opened.of.count added.of opened.of.each k i reader (omega (arith, below, more))));
+        (both_more (λ _ (x : Input P) (y : Reader). IsInputOf given x y) old before added.input added.reader opened.of.count added.of opened.of.each k i reader (omega (arith, below, more))));
   };
   count = omega (arith, opened.count, more, length_more desks desk);
   paths = λ k i other below.
       subst (λ (l : List (Input P)). path_of (get_or l k i) ≡ option_map string_bytes (get_or (desks ++ desk ∷ []) k other).input) (sym added.inputs)
-      (both_more (λ (x : Input P) (y : plans.Desk). path_of x ≡ option_map string_bytes y.input) old desks added.input desk opened.count added.is_path
+      (both_more (λ _ (x : Input P) (y : plans.Desk). path_of x ≡ option_map string_bytes y.input) old desks added.input desk opened.count added.is_path
       (λ j p q lt. opened.paths j p q (omega (arith, lt, opened.count))) k i other (omega (arith, below, opened.count, length_more desks desk)));
 }
   where

@@ -1,14 +1,18 @@
 -- Desks and readers that are left as they were, and desks to which more was handed on.
 use Rattle.std.proofs.Common.{◌≡◌, ◌≢◌, ◌<◌, ◌≤◌, ◌+◌, ◌⊎◌, ◌||◌, Bool, true, false, List, Option, ℕ, length, get_or, set, refl, sym, ap, ◌∙◌, subst, arith, inl, inr, get_or-set_other, get_or-set_same}
 use Rattle.std.proofs.lemmas.Bool.{cases_lt, false≢true}
-use Rattle.rtrb.specs.Ring.{SameConsumer, received, sent}
-use Rattle.batch_serve_desks.specs.Rounds.{IsHandedOn}
+use Rattle.rtrb.specs.Ring.{SameConsumer, SameProducer, received, sent}
+use Rattle.batch_serve_desks.specs.Rounds.{AreHandedOn, AreSameWriters, IsHandedOn}
+use Rattle.batch_serve_desks.specs.Runs.{Run}
+use Rattle.batch_serve_desks.specs.Told.{AreTold}
 use Rattle.batch_serve_desks.specs.Waits.{IsAccount}
 use Rattle.batch_serve_desks.specs.declared.desk.Desk.{Desk}
 use Rattle.batch_serve_desks.specs.declared.rounds.Reader.{Reader}
 use Rattle.batch_serve_desks.specs.declared.rounds.Writer.{Writer}
 use Rattle.batch_serve_desks.proofs.Gathering.{was_here}
-use Rattle.batch_pipes.specs.Kept.{AreReadersKept, IsDeskKept, IsDone, IsReaderKept}
+use Rattle.batch_pipes.proofs.Lists.{one_of}
+use Rattle.batch_pipes.proofs.Rings.{producer_on, same_ring}
+use Rattle.batch_pipes.specs.Kept.{AreReadersKept, AreSameDesks, IsDeskKept, IsDone, IsReaderKept}
 use Rattle.batch_pipes.specs.declared.input.Input.{Input}
 
 pub kept_as_it_is : (desk : Desk) → IsDeskKept desk desk
@@ -29,28 +33,30 @@ kept_twice a b d one other = record {
 }
 
 pub handed_nothing : (desk : Desk) (writer : Writer) → IsHandedOn desk desk writer writer
-handed_nothing desk writer = record { unit = refl; cut = λ uncut. uncut; account = λ all h. h }
+handed_nothing desk writer = record { ring = (same_ring writer.ring.end, refl); unit = refl; cut = λ uncut. uncut; account = λ all h. h }
 
 -- more is handed on
 pub handed_more : (a b d : Desk) (x y z : Writer) → IsHandedOn a b x y → IsHandedOn b d y z → IsHandedOn a d x z
 handed_more a b d x y z one other = record {
+  ring = producer_on x.ring y.ring z.ring one.ring other.ring;
   unit = other.unit ∙ one.unit;
   cut = λ uncut. one.cut (other.cut uncut);
   account = λ all h. other.account all (one.account all h);
 }
 
 -- and then the desk may be cut
-pub handed_then_kept : (a b d : Desk) (x y z : Writer) → IsHandedOn a b x y → sent z.ring ≡ sent y.ring → IsDeskKept b d → IsHandedOn a d x z
-handed_then_kept a b d x y z one same other = record {
+pub handed_then_kept : (a b d : Desk) (x y z : Writer) → IsHandedOn a b x y → SameProducer y.ring z.ring → sent z.ring ≡ sent y.ring → IsDeskKept b d → IsHandedOn a d x z
+handed_then_kept a b d x y z one ring same other = record {
+  ring = producer_on x.ring y.ring z.ring one.ring ring;
   unit = other.unit ∙ one.unit;
   cut = λ uncut. one.cut (other.cut uncut);
   account = λ all h. other.account all (sent z.ring) (subst (λ (l : List (List ℕ)). IsAccount all l b.waiting) (sym same) (one.account all h));
 }
 
 -- some of what waits went into the ring
-pub handed_some : (old new : Desk) (before after : Writer) → new.unit ≡ old.unit → new.waiting.is_cut ≡ old.waiting.is_cut
+pub handed_some : (old new : Desk) (before after : Writer) → SameProducer before.ring after.ring → new.unit ≡ old.unit → new.waiting.is_cut ≡ old.waiting.is_cut
     → ((all : List (List ℕ)) → IsAccount all (sent before.ring) old.waiting → IsAccount all (sent after.ring) new.waiting) → IsHandedOn old new before after
-handed_some old new before after unit same account = record { unit = unit; cut = λ uncut. sym same ∙ uncut; account = account }
+handed_some old new before after ring unit same account = record { ring = ring; unit = unit; cut = λ uncut. sym same ∙ uncut; account = account }
 
 pub reader_kept : (old new : Reader) → SameConsumer old.ring new.ring → received new.ring ≡ received old.ring → new.has_ended ≡ old.has_ended → IsReaderKept old new
 reader_kept old new same ring ended = record { same = same; ring = ring; ended = ended }
@@ -112,3 +118,30 @@ done_more {P} given desks inputs readers i desk input reader sends waits more_se
         all desk input reader (ap (λ m. get_or (set desks i desk) m d) at ∙ get_or-set_same desks i desk d in_desks)
         (ap (λ m. get_or (set inputs i input) m n) at ∙ get_or-set_same inputs i input n in_inputs)
         (ap (λ m. get_or (set readers i reader) m r) at ∙ get_or-set_same readers i reader r in_readers) (here none_sends.1 none_waits.1)
+
+-- Desks that are the same
+
+pub desks_same : (old new : List Desk) → new ≡ old → AreSameDesks old new
+desks_same old new is = record { count = ap length is; units = λ k desk within. ap (λ (l : List Desk). (get_or l k desk).unit) is }
+
+pub desks_twice : (a b d : List Desk) → AreSameDesks a b → AreSameDesks b d → AreSameDesks a d
+desks_twice a b d one other = record {
+  count = other.count ∙ one.count;
+  units = λ k desk within. other.units k desk (omega (arith, within, one.count)) ∙ one.units k desk within;
+}
+
+pub desks_told : (answers : List Run) (old new : List Desk) → AreTold answers old new → AreSameDesks old new
+desks_told answers old new told = record { count = told.count; units = λ k desk within. (told.each k desk within).unit }
+
+pub desks_handed : (old new : List Desk) (before after : List Writer) → length before ≡ length old → AreHandedOn old new before after → AreSameDesks old new
+desks_handed old new before after as_many handed = record {
+  count = handed.count;
+  units = λ k desk within.
+      let in_writers : k < length before = omega (arith, within, as_many) in
+      (handed.each k desk (one_of before k in_writers) in_writers).unit;
+}
+
+pub writers_handed : (old new : List Desk) (before after : List Writer) → length before ≡ length old → AreHandedOn old new before after → AreSameWriters before after
+writers_handed old new before after as_many handed = λ k writer within.
+    let in_desks : k < length old = omega (arith, within, as_many) in
+    (handed.each k (one_of old k in_desks) writer within).ring

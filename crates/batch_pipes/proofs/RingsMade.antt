@@ -8,6 +8,7 @@ use Rattle.batch_serve_desks.specs.declared.desk.Desk.{Desk}
 use Rattle.batch_serve_desks.specs.declared.desk_server.DeskServer.{DeskServer}
 use Rattle.batch_serve_desks.specs.declared.rounds.Reader.{Reader}
 use Rattle.batch_serve_desks.specs.declared.rounds.Writer.{Writer}
+use Rattle.batch_pipes.proofs.Lists.{both_more, length_more}
 use Rattle.batch_pipes.specs.Kept.{ArePortsOf}
 use Rattle.batch_pipes.specs.Opened.{IsOpened, IsOpenedOn}
 use Rattle.batch_pipes.specs.declared.ports.Ports.{Ports}
@@ -20,10 +21,6 @@ of_last P [] y other (suc k) all last within = absurd (omega (arith, within))
 of_last P (x ∷ xs) y other zero all last within = all 0 other (omega arith)
 of_last P (x ∷ xs) y other (suc k) all last within = of_last P xs y other k (λ j o lt. all (suc j) o (omega (arith, lt))) last (omega (arith, within))
 
-length_more : {T : Type 0} (xs : List T) (y : T) → length (xs ++ y ∷ []) ≡ length xs + 1
-length_more [] y = omega arith
-length_more (x ∷ xs) y = omega (arith, length_more xs y)
-
 pub nothing_left : {T : Type 0} (xs : List T) → length xs ≡ 0 → xs ≡ []
 nothing_left [] none = refl
 nothing_left (x ∷ xs) none = absurd (omega (arith, none))
@@ -35,8 +32,8 @@ of_each P xs new y other k n is count all last within =
     subst (λ l. P (get_or l k other)) (sym is)
     (of_last P xs y other k (λ j o lt. all j o (omega (arith, lt, count))) last (omega (arith, within, count, length_more xs y)))
 
-pub ports_more : (name : List ℕ) (old new : DeskServer) (before after : Ports) → IsOpenedOn name old new before after → ArePortsOf old.desks.items before → ArePortsOf new.desks.items after
-ports_more name old new before after on of =
+pub ports_more : (plan : plans.Desk) (old new : DeskServer) (before after : Ports) → IsOpenedOn plan old new before after → ArePortsOf old.desks.items before → ArePortsOf new.desks.items after
+ports_more plan old new before after on of =
     let desks : length new.desks.items ≡ length old.desks.items + 1 = ap length on.desks.desks ∙ length_more old.desks.items on.desk in
     let readers : length after.readers.items ≡ length before.readers.items + 1 = ap length on.ports.readers ∙ length_more before.readers.items on.reader in
     let writers : length after.writers.items ≡ length before.writers.items + 1 = ap length on.ports.writers ∙ length_more before.writers.items on.writer in
@@ -47,13 +44,16 @@ ports_more name old new before after on of =
     }
 
 pub opened_more : (engine : EngineView) (desks : List plans.Desk) (desk : plans.Desk) (old new : DeskServer) (before after : Ports) → ArePortsOf old.desks.items before
-    → IsOpened engine desks old before → IsOpenedOn desk.name old new before after → IsOpened engine (desks ++ desk ∷ []) new after
-opened_more engine desks desk old new before after of so_far on =
+    → length old.desks.items ≡ length desks → IsOpened engine desks old before → IsOpenedOn desk old new before after → IsOpened engine (desks ++ desk ∷ []) new after
+opened_more engine desks desk old new before after of as_many so_far on =
     let n : ℕ = length old.desks.items in
     let count : length new.desks.items ≡ n + 1 = ap length on.desks.desks ∙ length_more old.desks.items on.desk in
     record {
       engine_is = on.desks.engine ∙ so_far.engine_is;
       names = on.desks.names ∙ ap (λ l. l ++ desk.name ∷ []) so_far.names ∙ sym (map-append (λ (d : plans.Desk). d.name) desks (desk ∷ []));
+      units = λ k other plan within.
+          subst (λ (l : List Desk). (get_or l k other).unit ≡ (get_or (desks ++ desk ∷ []) k plan).unit) (sym on.desks.desks)
+          (both_more (λ _ (d : Desk) (p : plans.Desk). d.unit ≡ p.unit) old.desks.items desks on.desk desk as_many on.unit so_far.units k other plan (omega (arith, within, count)));
       last = on.desks.last ∙ so_far.last;
       group = on.desks.group ∙ so_far.group;
       empty = record {
@@ -71,6 +71,7 @@ pub opened_none : (s : DeskServer) (p : Ports) → s.desks.items ≡ [] → s.na
 opened_none s p none named last group = record {
   engine_is = refl;
   names = named;
+  units = λ k other plan within. absurd (omega (arith, within, ap length none));
   last = last;
   group = group;
   empty = record {

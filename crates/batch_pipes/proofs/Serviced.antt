@@ -2,6 +2,7 @@
 use Rattle.std.proofs.Common.{◌≡◌, ◌<◌, ℕ, zero, suc, Bool, true, false, List, [], ◌∷◌, ◌++◌, length, get_or, flat_map, Option, None, Result, Ok, Err, OnOk, codes, decimal, inl, inr, refl, sym, ap, subst, arith, append-nil, ◌∙◌}
 use Rattle.std.proofs.lemmas.Grind.{flat_map-append}
 use Rattle.std.proofs.lemmas.List.Elements.{All-append, All-nil}
+use Rattle.std.proofs.lemmas.Option.{IfSome_then}
 use Rattle.std.proofs.KnownBytes.{Appends-nil, Appends-trans}
 use Rattle.std.specs.Io.KnownBytes.{Appends}
 use Rattle.batch_engine.specs.View.{EngineView, plant_of, setup}
@@ -10,6 +11,7 @@ use Rattle.batch_serve_desks.specs.Lives.{IsLife}
 use Rattle.batch_serve_desks.specs.Rounds.{AreGathered, IsHandedOver, text_sent}
 use Rattle.batch_serve_desks.specs.Runs.{AreOfDesks, Run, due_of, last_of, own_text, runs_text}
 use Rattle.batch_serve_desks.specs.Served.{AreServed}
+use Rattle.batch_serve_desks.specs.Threads.{lines_text}
 use Rattle.batch_serve_desks.specs.Turns.{IsSameBut, IsTurned}
 use Rattle.batch_serve_desks.specs.Waits.{IsAccount}
 use Rattle.batch_serve_desks.specs.declared.desk.Desk.{Desk}
@@ -21,14 +23,19 @@ use Rattle.batch_serve_desks.proofs.GoingOn.{texts_go_on}
 use Rattle.batch_serve_desks.proofs.LivesKept.{last_same, life_turned, lives_take}
 use Rattle.batch_desks.specs.DeskNames.{desk_names}
 use Rattle.batch_desks.specs.declared.desk.Desk as plans
-use Rattle.batch_pipes.specs.Ended.{AreDesksEnded, given_by}
+use Rattle.batch_pipes.proofs.Lists.{one_of}
+use Rattle.batch_pipes.proofs.OutputsKept.{is_told}
+use Rattle.batch_pipes.specs.Ended.{AreDesksEnded, IsTold, given_by}
 use Rattle.batch_pipes.specs.Inputs.{AreInputsKept, AreInputsOpened}
-use Rattle.batch_pipes.specs.Kept.{AreDone, AreReadersKept, ArePortsOf}
+use Rattle.batch_pipes.specs.Kept.{AreDone, AreReadersKept, ArePortsOf, AreSameDesks}
 use Rattle.batch_pipes.specs.Opened.{IsOpened}
+use Rattle.batch_pipes.specs.Outputs.{AreOutputsKept, AreOutputsOpened, AreSettled, Asked, asked_by, asked_of}
 use Rattle.batch_serve.specs.Comments.{time_text}
 use Rattle.batch_wire.specs.Written.{Writes}
 use Rattle.batch_pipes.specs.Service.{AppendsTime, AppendsTimed, AreDesksServed, AreTimes, IsService, IsTime, Opening, Part, beginning, told_to}
 use Rattle.batch_pipes.specs.declared.input.Input.{Input}
+use Rattle.batch_pipes.specs.declared.output.Output.{Output}
+use Rattle.batch_pipes.specs.declared.written.Written.{Written}
 use Rattle.batch_pipes.specs.declared.ports.Ports.{Ports}
 
 -- Texts with times
@@ -78,11 +85,6 @@ time_joined old head mid new digits milliseconds (Ok u) begun is more ended =
 time_joined old head mid new digits milliseconds (Err e) begun is more ended = tt
 
 -- Steps of a round
-
--- an element of a list that has one
-one_of : {T : Type 0} (xs : List T) (k : ℕ) → k < length xs → T
-one_of [] k within = absurd (omega (arith, within))
-one_of (x ∷ xs) k within = x
 
 told_at : (writers : List Writer) (k : ℕ) (writer : Writer) → k < length writers → told_to writers k ≡ sent (get_or writers k writer).ring
 told_at [] k writer within = absurd (omega (arith, within))
@@ -256,26 +258,54 @@ service_ends is_safe keeper times begun kept recorded s p service = record {
 }
 
 -- what has come of it for each desk
-pub desks_end : {K : Type 0} {P : Type 0} (is_safe : K → Type 0) (keeper : K) (times : Bool) (begun : Opening) (given : List ℕ → Option (List ℕ)) (listed : List plans.Desk) (kept : List ℕ)
-    (recorded : Option (List ℕ)) (s : DeskServer) (p : Ports) (first inputs : List (Input P)) (readers : List Reader) → IsService times begun (is_safe keeper) kept recorded s p
-    → s.group.items ≡ [] → ArePortsOf s.desks.items p → AreInputsOpened given listed first readers → AreInputsKept given first inputs p.readers.items
-    → AreDone given s.desks.items inputs p.readers.items → AreDesksEnded times begun given listed s.desks.items (is_safe keeper) kept recorded
+pub desks_end : {K P W : Type 0} (is_safe : K → Type 0) (keeper : K) (times : Bool) (begun : Opening) (given stands : List ℕ → Option (List ℕ)) (contents : W → Option (List ℕ))
+    (fronts : List (List ℕ)) (listed : List plans.Desk) (kept : List ℕ) (recorded : Option (List ℕ)) (engine : EngineView) (s0 s : DeskServer) (p0 p : Ports) (first inputs : List (Input P))
+    (first_outputs outputs : List (Output W P)) (written : List (Option (Written W))) → IsService times begun (is_safe keeper) kept recorded s p
+    → s.group.items ≡ [] → ArePortsOf s.desks.items p → IsOpened engine listed s0 p0 → AreSameDesks s0.desks.items s.desks.items → AreInputsOpened given listed first p0.readers.items
+    → AreInputsKept given first inputs p.readers.items → AreOutputsOpened contents stands fronts listed first_outputs p0.writers.items
+    → AreOutputsKept contents stands first_outputs outputs p.writers.items → AreSettled contents stands outputs p.writers.items written → AreDone given s.desks.items inputs p.readers.items
+    → AreDesksEnded times begun given stands contents fronts listed s.desks.items written (is_safe keeper) kept recorded
 unfolding service_ends
-desks_end {K} {P} is_safe keeper times begun given listed kept recorded s p first inputs readers service group of opened input_kept done = record {
-  service = service_ends is_safe keeper times begun kept recorded s p service;
-  count = count;
-  of_desks = subst (λ (n : ℕ). AreOfDesks n service.runs) count service.of_desks.0;
-  whole = λ k plan desk within uncut bytes known.
-      let in_desks : k < length s.desks.items = omega (arith, within, count) in
-      let in_readers : k < length p.readers.items = omega (arith, in_desks, of.readers) in
-      let in_first : k < length first = omega (arith, within, opened.count) in
-      let in_inputs : k < length inputs = omega (arith, in_first, input_kept.count) in
-      let reader : Reader = one_of p.readers.items k in_readers in
-      let input : Input P = one_of inputs k in_inputs in
-      let path = input_kept.paths k input in_first ∙ opened.paths k input plan within in
-      ap (own_text k) (sym (append-nil service.runs) ∙ ap (λ g. service.runs ++ g) (sym group)) ∙ service.lines k desk reader in_desks uncut
-      ∙ (done k desk input reader in_desks uncut).2 bytes (ap (given_by given) path ∙ known);
-}
+desks_end {K} {P} {W} is_safe keeper times begun given stands contents fronts listed kept recorded engine s0 s p0 p first inputs first_outputs outputs written service group of opened_on same opened
+    input_kept outputs_opened output_kept settled done = record {
+      service = service_ends is_safe keeper times begun kept recorded s p service;
+      count = count;
+      of_desks = subst (λ (n : ℕ). AreOfDesks n service.runs) count service.of_desks.0;
+      whole = λ k plan desk within uncut bytes known.
+          let in_desks : k < length s.desks.items = omega (arith, within, count) in
+          let in_first : k < length first = omega (arith, within, opened.count) in
+          let reader : Reader = reader_at k within in
+          let input : Input P = input_at k within in
+          let path = input_kept.paths k input in_first ∙ opened.paths k input plan within in
+          ap (own_text k) (sym (append-nil service.runs) ∙ ap (λ g. service.runs ++ g) (sym group)) ∙ service.lines k desk reader in_desks uncut
+          ∙ (done k desk input reader in_desks uncut).2 bytes (ap (given_by given) path ∙ known);
+      outputs = settled.count ∙ output_kept.count ∙ outputs_opened.count;
+      told = λ k plan desk w within.
+          let in_desks : k < length s.desks.items = omega (arith, within, count) in
+          let in_writers : k < length p.writers.items = omega (arith, in_desks, of.writers) in
+          let in_first : k < length first_outputs = omega (arith, within, outputs_opened.count) in
+          let in_outputs : k < length outputs = omega (arith, in_first, output_kept.count) in
+          let writer : Writer = one_of p.writers.items k in_writers in
+          let o : Output W P = one_of outputs k in_outputs in
+          let output : Output W P = get_or outputs k o in
+          let at : Desk = get_or s.desks.items k desk in
+          let asked : asked_of output ≡ asked_by (get_or listed k plan) (get_or fronts k []) = output_kept.asked k o in_first ∙ outputs_opened.asked k o plan within in
+          let unit : at.unit ≡ (get_or listed k plan).unit =
+          same.units k desk (omega (arith, in_desks, same.count)) ∙ opened_on.units k desk plan (omega (arith, in_desks, same.count)) in
+          let account : IsAccount (due_of k at.unit service.answers) (sent (get_or p.writers.items k writer).ring) at.waiting =
+          subst (λ (l : List (List ℕ)). IsAccount (due_of k at.unit service.answers) l at.waiting) (told_at p.writers.items k writer in_writers) (service.life.each k desk in_desks) in
+          IfSome_then (get_or written k w) (settled.each k o writer w in_outputs) (λ x h.
+          subst (λ (a : Asked). IsTold contents (given_by stands a.path) (a.front ++ lines_text (due_of k (get_or listed k plan).unit service.answers)) at x) asked
+          (subst (λ (u : Option (List ℕ)). IsTold contents (given_by stands (asked_of output).path) ((asked_of output).front ++ lines_text (due_of k u service.answers)) at x) unit
+          (is_told contents (given_by stands (asked_of output).path) (asked_of output).front (due_of k at.unit service.answers) (sent (get_or p.writers.items k writer).ring) at x account
+          (λ uncut. (done k desk (input_at k within) (reader_at k within) in_desks uncut).1) h)));
+    }
   where
     count : length s.desks.items ≡ length listed
     count = sym of.readers ∙ sym input_kept.of.count ∙ input_kept.count ∙ opened.count
+
+    reader_at : (k : ℕ) → k < length listed → Reader
+    reader_at k within = one_of p.readers.items k (omega (arith, within, count, of.readers))
+
+    input_at : (k : ℕ) → k < length listed → Input P
+    input_at k within = one_of inputs k (omega (arith, within, opened.count, input_kept.count))

@@ -1,13 +1,17 @@
 -- surface: what serving desks to their end came to for each of them.
-use Rattle.std.specs.Prelude.{◌≡◌, ℕ, ◌<◌, Bool, false, List, [], length, get_or, Option, Some, None, option_map, string_bytes}
+use Rattle.std.specs.Prelude.{◌≡◌, ℕ, ◌<◌, Bool, false, List, [], ◌++◌, length, get_or, Option, Some, None, IfSome, option_map, string_bytes}
+use Rattle.std.specs.Io.KnownBytes.{Appends}
 use Rattle.batch_desks.specs.declared.desk.Desk as plans
 use Rattle.batch_wire.specs.Transcript.{lines_of}
 use Rattle.batch_serve.specs.CleanLines.{clean_lines}
-use Rattle.batch_serve_desks.specs.Runs.{AreOfDesks, Run, own_text}
+use Rattle.batch_serve_desks.specs.Runs.{AreOfDesks, Run, due_of, own_text}
+use Rattle.batch_serve_desks.specs.Threads.{lines_text}
 use Rattle.batch_serve_desks.specs.declared.desk.Desk.{Desk}
 use Rattle.batch_pipes.specs.Service.{AreDesksServed, Opening}
+use Rattle.batch_pipes.specs.Streams.{HoldsBeginning}
+use Rattle.batch_pipes.specs.declared.written.Written.{Written}
 
--- the bytes of the input of this path, where they are known; where there is no path, there are none
+-- the bytes of the stream of this path, where they are known; where there is no path, there are none
 abbrev pub given_by : (List ℕ → Option (List ℕ)) → Option (List ℕ) → Option (List ℕ)
 given_by given None = Some []
 given_by given (Some path) = given path
@@ -17,10 +21,24 @@ abbrev pub IsWhollyServed : (List ℕ → Option (List ℕ)) → ℕ → plans.D
 IsWhollyServed given k plan desk runs = desk.waiting.is_cut ≡ false → (bytes : List ℕ) → given_by given (option_map string_bytes plan.input) ≡ Some bytes
     → own_text k runs ≡ clean_lines (lines_of bytes)
 
--- runs of lines of these desks were served, and of each they are whole
-pub record AreDesksEnded (times : Bool) (begun : Opening) (given : List ℕ → Option (List ℕ)) (listed : List plans.Desk) (desks : List Desk) (safe : Type 0) (kept : List ℕ)
-    (recorded : Option (List ℕ)) : Type 0 where
+-- what a desk's output holds is a beginning of the text behind what stood in it when it was opened; where the desk isn't cut and its output ended
+-- well, all of it
+pub record IsTold {W : Type 0} (contents : W → Option (List ℕ)) (stood : Option (List ℕ)) (text : List ℕ) (desk : Desk) (w : Written W) : Type 0 where
+  pub begun : IfSome w.output (λ output. HoldsBeginning stood (contents output) text)
+  pub whole : desk.waiting.is_cut ≡ false → w.fault ≡ None → (output : W) × (w.output ≡ Some output) × Appends stood (contents output) text
+
+-- a desk's front, and the lines that it is due of these answers
+abbrev pub text_due : ℕ → plans.Desk → List ℕ → List Run → List ℕ
+text_due k plan front answers = front ++ lines_text (due_of k plan.unit answers)
+
+-- runs of lines of these desks were served, and of each they are whole; and each was told what it is due
+pub record AreDesksEnded {W : Type 0} (times : Bool) (begun : Opening) (given stands : List ℕ → Option (List ℕ)) (contents : W → Option (List ℕ)) (fronts : List (List ℕ))
+    (listed : List plans.Desk) (desks : List Desk) (written : List (Option (Written W))) (safe : Type 0) (kept : List ℕ) (recorded : Option (List ℕ)) : Type 0 where
   pub service : AreDesksServed times begun safe kept recorded
   pub count : length desks ≡ length listed
   pub of_desks : AreOfDesks (length listed) service.runs
   pub whole : (k : ℕ) (plan : plans.Desk) (desk : Desk) → k < length listed → IsWhollyServed given k (get_or listed k plan) (get_or desks k desk) service.runs
+  pub outputs : length written ≡ length listed
+  pub told : (k : ℕ) (plan : plans.Desk) (desk : Desk) (w : Option (Written W)) → k < length listed
+      → IfSome (get_or written k w)
+      (IsTold contents (given_by stands (option_map string_bytes (get_or listed k plan).output)) (text_due k (get_or listed k plan) (get_or fronts k []) service.answers) (get_or desks k desk))

@@ -15,6 +15,11 @@ pub record IsDeskKept (old new : Desk) : Type 0 where
   pub waits : new.waiting.is_cut ≡ false → new.waiting.lines ≡ old.waiting.lines
   pub account : (all told : List (List ℕ)) → IsAccount all told old.waiting → IsAccount all told new.waiting
 
+-- the desks are those that they were, whatever was told to them
+pub record AreSameDesks (old new : List Desk) : Type 0 where
+  pub count : length new ≡ length old
+  pub units : (k : ℕ) (desk : Desk) → k < length old → (get_or new k desk).unit ≡ (get_or old k desk).unit
+
 -- nothing was taken from the reader
 pub record IsReaderKept (old new : Reader) : Type 0 where
   pub same : SameConsumer old.ring new.ring

@@ -3,5 +3,8 @@ pub mod InputEnds
 pub mod Inputs
 pub mod Kept
 pub mod Opened
+pub mod OutputEnds
+pub mod Outputs
+pub mod RowsOfOutputs
 pub mod Service
 pub mod Streams

@@ -1,5 +1,5 @@
 -- private: desks whose rings are made.
-use Rattle.std.specs.Prelude.{◌≡◌, ℕ, ◌<◌, ◌+◌, List, [], ◌∷◌, ◌++◌, length, get_or, None}
+use Rattle.std.specs.Prelude.{◌≡◌, ℕ, ◌<◌, ◌+◌, false, List, [], ◌∷◌, ◌++◌, length, get_or, None, IsSome}
 use Rattle.rtrb.specs.Ring.{received, sent}
 use Rattle.batch_desks.specs.DeskNames.{desk_names}
 use Rattle.batch_desks.specs.declared.desk.Desk as plans
@@ -20,6 +20,7 @@ pub record AreEmpty (s : DeskServer) (p : Ports) : Type 0 where
 pub record IsOpened (engine : EngineView) (desks : List plans.Desk) (s : DeskServer) (p : Ports) : Type 0 where
   pub engine_is : s.engine ≡ engine
   pub names : s.names.items ≡ desk_names desks
+  pub units : (k : ℕ) (other : Desk) (plan : plans.Desk) → k < length s.desks.items → (get_or s.desks.items k other).unit ≡ (get_or desks k plan).unit
   pub last : s.last ≡ None
   pub group : s.group.items ≡ []
   pub empty : AreEmpty s p
@@ -38,13 +39,16 @@ pub record ArePortsAdded (reader : Reader) (writer : Writer) (before after : Por
   pub writers : after.writers.items ≡ before.writers.items ++ writer ∷ []
   pub threads : length after.threads.items ≡ length before.threads.items + 1
 
--- one desk more, for which nothing waits, and whose rings are new
-pub record IsOpenedOn (name : List ℕ) (old new : DeskServer) (before after : Ports) : Type 0 where
+-- one desk more, as it is asked for, which isn't cut and for which nothing waits, and whose rings are new; where it has no output nobody is slow
+pub record IsOpenedOn (plan : plans.Desk) (old new : DeskServer) (before after : Ports) : Type 0 where
   pub desk : Desk
   pub reader : Reader
   pub writer : Writer
-  pub desks : IsDeskAdded name desk old new
+  pub desks : IsDeskAdded plan.name desk old new
   pub ports : ArePortsAdded reader writer before after
+  pub unit : desk.unit ≡ plan.unit
+  pub lag : IsSome plan.output → desk.waiting.lag ≡ plan.lag
+  pub uncut : desk.waiting.is_cut ≡ false
   pub waits : desk.waiting.lines ≡ []
   pub came : received reader.ring ≡ []
   pub went : sent writer.ring ≡ []

@@ -1,5 +1,5 @@
 -- surface: what the thread of a desk's input hands over, and what that of its output writes.
-use Rattle.std.specs.Prelude.{◌≡◌, ℕ, Bool, true, List, [], ◌++◌, Option, Some}
+use Rattle.std.specs.Prelude.{◌≡◌, ℕ, Bool, true, List, [], ◌++◌, Option, Some, None, IfSome, ⊤}
 use Rattle.std.specs.Io.KnownBytes.{Appends}
 use Rattle.std.specs.List.{list_any}
 use Rattle.batch_wire.specs.Transcript.{lines_of}
@@ -8,6 +8,7 @@ use Rattle.batch_serve.specs.CleanLines.{clean_lines}
 use Rattle.batch_serve_desks.specs.Rounds.{is_end, text_sent}
 use Rattle.batch_serve_desks.specs.Threads.{lines_text}
 use Rattle.batch_serve_desks.specs.declared.rounds.Sent.{Sent}
+use Rattle.batch_pipes.specs.declared.written.Written.{Written}
 
 -- what was handed over is a beginning of the lines of the input, as a journal has them; where it ended well it is all of them, and the end
 pub record HandsOver (ended : Bool) (input : Option (List ℕ)) (before after : List Sent) : Type 0 where
@@ -23,3 +24,20 @@ pub record IsWrittenBehind (front : List ℕ) (ended : Bool) (before after : Lis
   pub came : after ≡ before ++ lines
   pub begun : AppendsBeginning old new (front ++ lines_text lines)
   pub written : ended ≡ true → Appends old new (front ++ lines_text lines)
+
+-- where it is known what stood in an output, what stands there now is a beginning of that and of the text behind it
+abbrev pub HoldsBeginning : Option (List ℕ) → Option (List ℕ) → List ℕ → Type 0
+HoldsBeginning None now text = ⊤
+HoldsBeginning (Some stood) None text = ⊥
+HoldsBeginning (Some stood) (Some now) text = (rest : List ℕ) × (stood ++ text ≡ now ++ rest)
+
+-- the output took a beginning of the text behind what stood in it; where that ended well, all of it
+pub record IsWrittenOf {W : Type 0} (contents : W → Option (List ℕ)) (stood : Option (List ℕ)) (text : List ℕ) (w : Written W) : Type 0 where
+  pub begun : IfSome w.output (λ output. HoldsBeginning stood (contents output) text)
+  pub whole : w.fault ≡ None → (output : W) × (w.output ≡ Some output) × Appends stood (contents output) text
+
+-- the text was the front, and then the lines that came
+pub record IsWrittenOut {W : Type 0} (contents : W → Option (List ℕ)) (stood : Option (List ℕ)) (front : List ℕ) (before after : List (List ℕ)) (w : Written W) : Type 0 where
+  pub lines : List (List ℕ)
+  pub came : after ≡ before ++ lines
+  pub written : IsWrittenOf contents stood (front ++ lines_text lines) w

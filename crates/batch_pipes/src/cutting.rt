@@ -2,29 +2,25 @@
 ghost use Rattle.batch_pipes.specs.Kept.{IsDeskKept};
 
 use crate::fault::{Cut, PipeFault};
-use crate::input::Came;
-use crate::ports::{DeskThreads, Outlet};
+use crate::ports::DeskThreads;
 use batch_serve_desks::Desk;
 use batch_text::Name;
 use batch_wire::write_all;
 use std::alloc::Global;
 use std::io::Write;
-use std::mem;
-use std::thread::Threads;
 
 /// Cuts a desk whose input or output failed.
 #[tactic(auto, using(crate::proofs::Keeping::kept_twice))]
-pub(crate) fn cut_if_failed<T: Threads>(
-    threads: &T,
+pub(crate) fn cut_if_failed(
     desk: &mut Desk,
     own: &mut DeskThreads,
-    came: Came,
+    input: Option<PipeFault>,
+    output: Option<PipeFault>,
 )
     ensures { IsDeskKept desk.old desk.new }
 {
-    cut_for(desk, own, came.fault());
-    let failed = failed_output(threads, own);
-    cut_for(desk, own, failed);
+    cut_for(desk, own, input);
+    cut_for(desk, own, output);
     if desk.is_cut() {
         own.stop.raise();
     }
@@ -37,18 +33,6 @@ fn cut_for(desk: &mut Desk, own: &mut DeskThreads, fault: Option<PipeFault>)
 {
     if let Some(fault) = fault {
         cut(desk, own, fault);
-    }
-}
-
-/// Why the output failed.
-fn failed_output<T: Threads>(threads: &T, own: &mut DeskThreads) -> Option<PipeFault> {
-    match &own.outlet {
-        Outlet::Thread(child) if child.done.is_raised() => {}
-        _ => return None,
-    }
-    match mem::replace(&mut own.outlet, Outlet::Ended) {
-        Outlet::Thread(child) => child.join(threads).err(),
-        _ => None,
     }
 }
 

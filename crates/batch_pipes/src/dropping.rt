@@ -1,16 +1,15 @@
 //! The lines of desks that have no output.
 ghost use Rattle.batch_serve_desks.specs.Rounds.{IsHandedOn};
 
-use crate::ports::{DeskThreads, Outlet};
 use batch_serve_desks::{Desk, Line, Writer};
 use rtrb::Consumer;
 
 /// Drops what waits for a desk that has no output.
 #[tactic(auto, using(crate::proofs::Keeping::handed_nothing))]
-pub(crate) fn drop_unseen(desk: &mut Desk, own: &mut DeskThreads, writer: &mut Writer)
+pub(crate) fn drop_unseen(desk: &mut Desk, unseen: &mut Option<Consumer<Line>>, writer: &mut Writer)
     ensures { IsHandedOn desk.old desk.new writer.old writer.new }
 {
-    if let Outlet::Nobody(ring) = &mut own.outlet {
+    if let Some(ring) = unseen {
         drop_all(desk, writer, ring);
     }
 }

@@ -1,59 +1,95 @@
 //! The end of serving: what is handed on is written.
+ghost use Rattle.std.specs.Prelude.{ℕ, ◌<◌, length, get_or, IfOk};
+ghost use Rattle.batch_pipes.specs.Outputs.{AreEnding, AreOutputsKept, AreOutputsOf, AreSettled, AreSettledBy, IsEnding, IsFinished, IsSettledBy};
+ghost use Rattle.batch_pipes.specs.declared.output.Output.{Output as OneOutput};
+ghost use Rattle.batch_serve_desks.specs.declared.rounds.Writer.{Writer as OneWriter};
+
 use crate::cutting::tell_line;
 use crate::fault::{Cut, PipeFault};
+use crate::output::Output;
 use crate::pace::PATIENCE;
-use crate::ports::{Child, DeskThreads, Outlet, Ports};
-use batch_serve_desks::{DeskServer, Pause};
-use std::alloc::Global;
+use crate::pipes::Outputs;
+use crate::ports::Ports;
+use crate::written::Written;
+use batch_serve_desks::{DeskServer, Pause, Writer};
+use std::alloc::{AllocError, Global};
 use std::io::Write;
 use std::thread::Threads;
 
+/// How many rounds the outputs are waited for at the end that aren't open, and may still fail.
+const UNOPENED: u32 = 50;
+
 /// Ends the threads of outputs: nothing more comes for them. It waits until each has ended that has something to write, or has had
-/// time to. What didn't end well is told.
-pub(crate) fn finish<T: Threads, E: Write, S: Pause>(
+/// time to. What didn't end well is told. It gives what came of each output whose thread has ended.
+///
+/// The error is that there is no memory for that.
+pub(crate) fn finish<T: Threads, W: Write + Drop, P: Outputs<W> + Drop, E: Write, S: Pause>(
     threads: &T,
     alloc: Global,
     server: &DeskServer,
     ports: Ports,
+    outputs: Vec<Output<W, P>>,
     errors: &mut E,
     rest: &mut S,
-) {
-    let Ports {
-        readers,
-        writers,
-        threads: owns,
-    } = ports;
-    drop(writers);
-    drop(readers);
-    let mut left = PATIENCE;
-    let mut at = 0;
-    for own in owns {
-        if let Some(child) = child_to_end(server, at, own) {
-            if let Some(fault) = end_output(threads, child, &mut left, rest) {
-                tell_at(alloc, server, at, fault, errors);
-            }
+) -> Result<Vec<Option<Written<W>>>, AllocError>
+    requires { AreOutputsOf W.contents P.stands outputs.items ports.writers.items }
+    ensures { IfOk result (λ written. AreSettled W.contents P.stands outputs.items ports.writers.items written.items) }
+{
+    let mut outputs = outputs;
+    let Ports { writers, .. } = ports;
+    finish_each(&mut outputs, writers);
+    let written = settle_each(threads, alloc, server, outputs, errors, rest)?;
+    Ok(written)
+}
+
+/// Ends the rings of outputs.
+fn finish_each<W: Write + Drop, P: Outputs<W> + Drop>(
+    outputs: &mut Vec<Output<W, P>>,
+    writers: Vec<Writer>,
+)
+    requires { AreOutputsOf W.contents P.stands outputs.old.items writers.items }
+    ensures kept { AreOutputsKept W.contents P.stands outputs.old.items outputs.new.items writers.items }
+    ensures finished { (k : ℕ) (o : OneOutput W P) (writer : OneWriter) → k < length outputs.new.items → IsFinished (get_or outputs.new.items k o) (get_or writers.items k writer) }
+{
+    let mut writers = writers.into_iter();
+    for at in 0..outputs.len() {
+        match writers.next() {
+            Some(writer) => outputs[at].finish(writer),
+            None => return,
         }
-        at = at.saturating_add(1);
     }
 }
 
-/// The thread of the output of the desk at this place, if the desk isn't cut and the thread has something to write.
-fn child_to_end(server: &DeskServer, at: usize, own: DeskThreads) -> Option<Child> {
-    let DeskThreads { outlet, .. } = own;
-    if !is_uncut(server, at) {
-        return None;
+/// Waits for outputs whose rings have ended, tells which didn't end well, and gives what came of each.
+fn settle_each<T: Threads, W: Write + Drop, P: Outputs<W> + Drop, E: Write, S: Pause>(
+    threads: &T,
+    alloc: Global,
+    server: &DeskServer,
+    outputs: Vec<Output<W, P>>,
+    errors: &mut E,
+    rest: &mut S,
+) -> Result<Vec<Option<Written<W>>>, AllocError>
+    requires { AreEnding W.contents P.stands outputs.items }
+    ensures { IfOk result (λ written. AreSettledBy W.contents P.stands outputs.items written.items) }
+{
+    let mut patience = Patience::new();
+    let mut all = Vec::new(alloc);
+    for output in outputs {
+        let at = all.len();
+        let is_cut = is_cut(server, at);
+        let (written, fault) = end_output(threads, output, is_cut, &mut patience, rest);
+        if let Some(fault) = fault {
+            tell_at(alloc, server, at, fault, errors);
+        }
+        all.push(written)?;
     }
-    match outlet {
-        Outlet::Thread(child) => { if child.has_work() { Some(child) } else { None } }
-        Outlet::Nobody(_ring) => None,
-        Outlet::Ended => None,
-    }
+    Ok(all)
 }
 
-fn is_uncut(server: &DeskServer, at: usize) -> bool {
+fn is_cut(server: &DeskServer, at: usize) -> bool {
     match server.desks.get(at) {
-        Some(desk) => !desk.is_cut(),
-        None => false,
+        Some(desk) => desk.is_cut(),
+        None => true,
     }
 }
 
@@ -69,30 +105,83 @@ fn tell_at<E: Write>(
     }
 }
 
-/// Waits for the thread of an output. It gives why that didn't end well.
-fn end_output<T: Threads, S: Pause>(
+/// What came of an output whose ring has ended, and why it didn't end well, unless its desk is cut.
+fn end_output<T: Threads, W: Write + Drop, P: Outputs<W> + Drop, S: Pause>(
     threads: &T,
-    child: Child,
-    left: &mut u32,
+    output: Output<W, P>,
+    is_cut: bool,
+    patience: &mut Patience,
     rest: &mut S,
-) -> Option<PipeFault> {
-    if wait_for(&child, left, rest) {
-        child.join(threads).err()
+) -> (Option<Written<W>>, Option<PipeFault>)
+    requires { IsEnding W.contents P.stands output }
+    ensures { IsSettledBy W.contents P.stands output result.0 }
+{
+    let mut output = output;
+    let has_work = output.has_work();
+    if !is_cut {
+        patience.wait_for(&output, rest);
+    }
+    output.join_if_done(threads);
+    let written = output.settle();
+    let fault = if is_cut {
+        None
     } else {
-        Some(PipeFault::Unread)
+        fault_of(&written, has_work)
+    };
+    (written, fault)
+}
+
+/// Why an output didn't end well that has something to write, or has not. What came of it isn't known where it goes on.
+fn fault_of<W>(written: &Option<Written<W>>, has_work: bool) -> Option<PipeFault> {
+    match written {
+        Some(written) => written.fault,
+        None if has_work => Some(PipeFault::Unread),
+        None => None,
     }
 }
 
-/// Waits until the thread has nothing more to do, and gives whether that came in time.
-fn wait_for<S: Pause>(child: &Child, left: &mut u32, rest: &mut S) -> bool {
-    for _ in 0..*left {
-        if child.done.is_raised() {
-            return true;
+/// How many rounds the threads of outputs are waited for.
+#[derive(Drop)]
+struct Patience {
+    // those that have something to write
+    written: u32,
+    // the others
+    unopened: u32,
+}
+
+impl Patience {
+    fn new() -> Patience {
+        Patience {
+            written: PATIENCE,
+            unopened: UNOPENED,
         }
-        *left = left.saturating_sub(1);
-        // Else the pauses would grow, and the rounds take minutes.
-        rest.note_work();
-        rest.pause();
     }
-    child.done.is_raised()
+
+    /// Waits until the thread of an output has nothing more to do, or has had time to.
+    fn wait_for<W: Write + Drop, P: Outputs<W> + Drop, S: Pause>(
+        &mut self,
+        output: &Output<W, P>,
+        rest: &mut S,
+    ) {
+        for _ in 0..u64::MAX {
+            if !output.goes_on() || !self.take_round(output.has_work()) {
+                return;
+            }
+            // Else the pauses would grow, and the rounds take minutes.
+            rest.note_work();
+            rest.pause();
+        }
+    }
+
+    /// Takes a round, if one is left.
+    fn take_round(&mut self, has_work: bool) -> bool {
+        let left = if has_work {
+            &mut self.written
+        } else {
+            &mut self.unopened
+        };
+        let is_left = *left > 0;
+        *left = left.saturating_sub(1);
+        is_left
+    }
 }

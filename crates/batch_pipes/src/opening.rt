@@ -1,29 +1,32 @@
 //! Starting the threads of desks.
-ghost use Rattle.std.specs.Prelude.{◌≡◌, [], ◌∷◌, ◌++◌, None, Some, IfOk, OnOk, option_map, string_bytes};
-ghost use Rattle.rtrb.specs.Ring.{IsPair, sent};
+ghost use Rattle.std.specs.Prelude.{◌≡◌, [], ◌∷◌, ◌++◌, get_or, None, Some, IfOk, IsSome, OnOk, option_map, string_bytes};
+ghost use Rattle.rtrb.specs.Ring.{IsPair, received, sent};
 ghost use Rattle.batch_pipes.specs.Inputs.{AreInputsOpened, IsInputAdded, IsInputOf, IsInputOpened, path_of};
 ghost use Rattle.batch_pipes.specs.Kept.{ArePortsOf};
 ghost use Rattle.batch_pipes.specs.Opened.{IsDeskAdded, IsOpened, IsOpenedOn};
+ghost use Rattle.batch_pipes.specs.Outputs.{AreOutputsOpened, IsOutputAdded, IsOutputOf, IsOutputOpened, asked_by, asked_of};
 ghost use Rattle.batch_serve_desks.specs.declared.rounds.Reader.{Reader as OneReader};
+ghost use Rattle.batch_serve_desks.specs.declared.rounds.Writer.{Writer as OneWriter};
 
 use crate::fault::{DesksFault, PipeFault};
 use crate::flag::Flag;
 use crate::input::{Input, InputChild};
 use crate::input_thread::start_input;
-use crate::pipes::Pipes;
-use crate::ports::{Child, DeskThreads, Outlet, Ports};
+use crate::output::{Output, OutputChild};
+use crate::output_thread::start_output;
+use crate::pipes::{Outputs, Pipes};
+use crate::ports::{DeskThreads, Ports};
 use crate::reading::{InputEnd, InputTask};
-use crate::writing::{OutputTask, run_output};
+use crate::writing::OutputTask;
 use batch_desks::{Desk, Desks};
 use batch_engine::Engine;
-use batch_serve_desks::{Desk as Told, DeskServer, Reader, Sent, Writer};
+use batch_serve_desks::{Desk as Told, DeskServer, Line, Lines, Reader, Sent, Writer};
 use batch_text::Name;
-use rtrb::{Producer, RingBuffer};
+use rtrb::{Consumer, Producer, RingBuffer};
 use std::alloc::{AllocError, Global};
+use std::io::Write;
 use std::snapshot::Snapshot;
-use std::thread;
 use std::thread::Threads;
-use std::vec::IntoIter;
 
 /// How many texts a reader may be ahead of the machine.
 const TEXTS: usize = 16;
@@ -33,22 +36,27 @@ const LINES: usize = 1_024;
 
 /// Makes a server of the desks over the machine, and starts their threads. The fronts are what is written to the desks before all else,
 /// in their order. Where a thread can't be started those before it find no other end of their rings, and end.
-#[tactic(auto, using(crate::proofs::RingsMade::opened_none, crate::proofs::InputsKept::inputs_none))]
-pub(crate) fn open<T: Threads, P: Pipes + Send + Drop + 'static>(
+pub(crate) fn open<
+    T: Threads,
+    W: Write + Send + Drop + 'static,
+    P: Pipes + Outputs<W> + Send + Drop + 'static,
+>(
     threads: &T,
     alloc: Global,
     pipes: &P,
     engine: Engine,
     desks: Desks,
-    fronts: Vec<Vec<u8>>,
-) -> Result<(DeskServer, Ports, Vec<Input<P>>), DesksFault>
+    fronts: &[Lines],
+) -> Result<(DeskServer, Ports, Vec<Input<P>>, Vec<Output<W, P>>), DesksFault>
     ensures ports { IfOk result (λ opened. ArePortsOf opened.0.desks.items opened.1) }
     ensures opened { IfOk result (λ opened. IsOpened engine desks.desks.items opened.0 opened.1) }
     ensures inputs { IfOk result (λ opened. AreInputsOpened P.given desks.desks.items opened.2.items opened.1.readers.items) }
+    ensures outputs { IfOk result (λ opened. AreOutputsOpened W.contents P.stands fronts.now desks.desks.items opened.3.items opened.1.writers.items) }
 {
     let mut server = DeskServer::new(alloc, engine, Vec::new(alloc), Vec::new(alloc));
     let mut ports = Ports::new(alloc);
     let mut inputs = Vec::new(alloc);
+    let mut outputs = Vec::new(alloc);
     open_each(
         threads,
         alloc,
@@ -58,39 +66,52 @@ pub(crate) fn open<T: Threads, P: Pipes + Send + Drop + 'static>(
         &mut server,
         &mut ports,
         &mut inputs,
+        &mut outputs,
     )?;
-    Ok((server, ports, inputs))
+    Ok((server, ports, inputs, outputs))
 }
 
 /// Adds the desks to a server that has none, and starts their threads.
-fn open_each<T: Threads, P: Pipes + Send + Drop + 'static>(
+fn open_each<
+    T: Threads,
+    W: Write + Send + Drop + 'static,
+    P: Pipes + Outputs<W> + Send + Drop + 'static,
+>(
     threads: &T,
     alloc: Global,
     pipes: &P,
     desks: Desks,
-    fronts: Vec<Vec<u8>>,
+    fronts: &[Lines],
     server: &mut DeskServer,
     ports: &mut Ports,
     inputs: &mut Vec<Input<P>>,
+    outputs: &mut Vec<Output<W, P>>,
 ) -> Result<(), DesksFault>
     requires ports { ArePortsOf server.old.desks.items ports.old }
     requires opened { IsOpened server.old.engine [] server.old ports.old }
     requires inputs { AreInputsOpened P.given [] inputs.old.items ports.old.readers.items }
+    requires outputs { AreOutputsOpened W.contents P.stands fronts.now [] outputs.old.items ports.old.writers.items }
     ensures ports { OnOk result (ArePortsOf server.new.desks.items ports.new) }
     ensures opened { OnOk result (IsOpened server.old.engine desks.desks.items server.new ports.new) }
     ensures inputs { OnOk result (AreInputsOpened P.given desks.desks.items inputs.new.items ports.new.readers.items) }
+    ensures outputs { OnOk result (AreOutputsOpened W.contents P.stands fronts.now desks.desks.items outputs.new.items ports.new.writers.items) }
 {
     let Desks { desks } = desks;
-    let mut fronts = fronts.into_iter();
     for desk in desks {
-        let front = next_front(alloc, &mut fronts);
-        open_desk(threads, alloc, pipes, desk, front, server, ports, inputs)?;
+        let front = front_at(alloc, fronts, outputs.len())?;
+        open_desk(
+            threads, alloc, pipes, desk, front, server, ports, inputs, outputs,
+        )?;
     }
     Ok(())
 }
 
 /// Adds a desk to the server, and starts its threads.
-fn open_desk<T: Threads, P: Pipes + Send + Drop + 'static>(
+fn open_desk<
+    T: Threads,
+    W: Write + Send + Drop + 'static,
+    P: Pipes + Outputs<W> + Send + Drop + 'static,
+>(
     threads: &T,
     alloc: Global,
     pipes: &P,
@@ -99,9 +120,11 @@ fn open_desk<T: Threads, P: Pipes + Send + Drop + 'static>(
     server: &mut DeskServer,
     ports: &mut Ports,
     inputs: &mut Vec<Input<P>>,
+    outputs: &mut Vec<Output<W, P>>,
 ) -> Result<(), DesksFault>
-    ensures desk { OnOk result (IsOpenedOn desk.name server.old server.new ports.old ports.new) }
+    ensures desk { OnOk result (IsOpenedOn desk server.old server.new ports.old ports.new) }
     ensures input { OnOk result (IsInputAdded P.given (option_map string_bytes desk.input) inputs.old.items inputs.new.items ports.old.readers.items ports.new.readers.items) }
+    ensures output { OnOk result (IsOutputAdded W.contents P.stands (asked_by desk front.items) outputs.old.items outputs.new.items ports.old.writers.items ports.new.writers.items) }
 {
     let Desk {
         name,
@@ -112,15 +135,22 @@ fn open_desk<T: Threads, P: Pipes + Send + Drop + 'static>(
         lag,
     } = desk;
     let stop = Flag::new(alloc)?;
-    // Nobody is slow where there is no output.
-    let lag = if output.is_some() { lag } else { usize::MAX };
+    let lag = lag_of(&output, lag);
     let (reader, input) = open_input(threads, alloc, pipes, input, stays, &stop)?;
-    let (writer, outlet) = open_output(threads, alloc, pipes, output, front, &stop)?;
+    let (writer, output) = open_output(threads, alloc, pipes, output, front, &stop)?;
     let told = Told::new(alloc, unit, lag);
     add_desk(server, name, told)?;
-    ports.add(reader, writer, DeskThreads::new(outlet, stop))?;
+    ports.add(reader, writer, DeskThreads::new(stop))?;
     add_input(inputs, input)?;
+    add_output(outputs, output)?;
     Ok(())
+}
+
+/// How many lines may wait for a desk of this output. Nobody is slow where there is none.
+fn lag_of(output: &Option<String>, lag: usize) -> usize
+    ensures { IsSome output.now → result ≡ lag }
+{
+    if output.is_some() { lag } else { usize::MAX }
 }
 
 /// Adds a desk to the server.
@@ -144,11 +174,28 @@ fn add_input<P: Pipes + Drop>(inputs: &mut Vec<Input<P>>, input: Input<P>) -> Re
     Ok(())
 }
 
-/// What is written to the next desk before all else; nothing where no front is left.
-fn next_front(alloc: Global, fronts: &mut IntoIter<Vec<u8>>) -> Vec<u8> {
-    match fronts.next() {
-        Some(front) => front,
-        None => Vec::new(alloc),
+/// Adds the output of a desk.
+///
+/// The error is that there is no memory for it.
+fn add_output<W: Write + Drop, P: Outputs<W> + Drop>(
+    outputs: &mut Vec<Output<W, P>>,
+    output: Output<W, P>,
+) -> Result<(), AllocError>
+    ensures { OnOk result (outputs.new.items ≡ outputs.old.items ++ output ∷ []) }
+{
+    outputs.push(output)?;
+    Ok(())
+}
+
+/// A copy of what is written to the desk at this place before all else; nothing where it has no front.
+///
+/// The error is that there is no memory for it.
+fn front_at(alloc: Global, fronts: &[Lines], at: usize) -> Result<Vec<u8>, AllocError>
+    ensures { IfOk result (λ front. front.items ≡ get_or fronts.now at []) }
+{
+    match fronts.get(at) {
+        Some(front) => front.as_slice().to_vec(alloc),
+        None => Ok(Vec::new(alloc)),
     }
 }
 
@@ -226,42 +273,95 @@ fn no_input<P: Pipes + Drop>(ring: Producer<Sent>, known: Snapshot<Option<String
 }
 
 /// The ring of the lines that a desk is told, and the thread that writes them behind the front, if the desk has an output.
-fn open_output<T: Threads, P: Pipes + Send + Drop + 'static>(
+fn open_output<
+    T: Threads,
+    W: Write + Send + Drop + 'static,
+    P: Pipes + Outputs<W> + Send + Drop + 'static,
+>(
     threads: &T,
     alloc: Global,
     pipes: &P,
     path: Option<String>,
     front: Vec<u8>,
     stop: &Flag,
-) -> Result<(Writer, Outlet), DesksFault>
-    ensures { IfOk result (λ opened. sent opened.0.ring ≡ []) }
+) -> Result<(Writer, Output<W, P>), DesksFault>
+    ensures { IfOk result (λ opened. IsOutputOpened W.contents P.stands (record { path = option_map string_bytes path; front = front.items }) opened.0 opened.1) }
 {
     let (producer, consumer) = RingBuffer::new(alloc, LINES)?;
     let writer = Writer { ring: producer };
-    let Some(path) = path else {
-        return Ok((writer, Outlet::Nobody(consumer)));
+    let known = Snapshot::of(&path);
+    let output = match path {
+        Some(path) => write_output(threads, alloc, pipes, path, front, consumer, stop, known)?,
+        None => no_output(consumer, front, known),
     };
+    Ok((writer, output))
+}
+
+/// The output of this path, with the thread that writes it.
+#[tactic(auto, using(crate::proofs::OutputsKept::output_started))]
+fn write_output<
+    T: Threads,
+    W: Write + Send + Drop + 'static,
+    P: Pipes + Outputs<W> + Send + Drop + 'static,
+>(
+    threads: &T,
+    alloc: Global,
+    pipes: &P,
+    path: String,
+    front: Vec<u8>,
+    ring: Consumer<Line>,
+    stop: &Flag,
+    known: Snapshot<Option<String>>,
+) -> Result<Output<W, P>, DesksFault>
+    requires path { option_map string_bytes known.value ≡ Some (string_bytes path) }
+    requires new { received ring ≡ [] }
+    ensures asked { IfOk result (λ output. asked_of output ≡ record { path = Some (string_bytes path); front = front.items }) }
+    ensures output { IfOk result (λ output. (writer : OneWriter) → IsPair writer.ring ring → IsOutputOf W.contents P.stands output writer) }
+{
     let (began, done) = (Flag::new(alloc)?, Flag::new(alloc)?);
     let has_front = !front.is_empty();
-    let own = pipes.another();
+    let first = Snapshot::of(&front);
     let task = OutputTask {
         path,
         front,
-        ring: consumer,
+        ring,
         stop: stop.another()?,
         began: began.another()?,
         done: done.another()?,
     };
-    match thread::spawn(threads, move || run_output(alloc, own, task)) {
-        Ok(handle) => {
-            let child = Child {
-                handle,
-                has_front,
-                began,
-                done,
-            };
-            Ok((writer, Outlet::Thread(child)))
-        }
-        Err(_) => Err(DesksFault::Thread),
+    let handle = start_output(threads, alloc, pipes.another(), task)?;
+    Ok(Output {
+        path: known,
+        front: first,
+        child: Some(OutputChild {
+            handle,
+            has_front,
+            began,
+            done,
+        }),
+        end: None,
+        unseen: None,
+        finished: None,
+    })
+}
+
+/// Of a desk that has no output the lines are dropped.
+#[tactic(auto, using(crate::proofs::OutputsKept::output_missing))]
+fn no_output<W: Write + Drop, P: Outputs<W> + Drop>(
+    ring: Consumer<Line>,
+    front: Vec<u8>,
+    known: Snapshot<Option<String>>,
+) -> Output<W, P>
+    requires { known.value ≡ None }
+    ensures asked { asked_of result ≡ record { path = None; front = front.items } }
+    ensures output { (writer : OneWriter) → IsOutputOf W.contents P.stands result writer }
+{
+    Output {
+        path: known,
+        front: Snapshot::of(&front),
+        child: None,
+        end: None,
+        unseen: Some(ring),
+        finished: None,
     }
 }

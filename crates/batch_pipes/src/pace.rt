@@ -1,6 +1,6 @@
 //! Whether the output of a desk goes on.
 ghost use Rattle.std.specs.Prelude.{◌≡◌, []};
-ghost use Rattle.rtrb.specs.Ring.{sent};
+ghost use Rattle.rtrb.specs.Ring.{SameProducer, sent};
 
 use batch_serve_desks::{Desk, Writer};
 
@@ -41,7 +41,8 @@ impl Pace {
 /// How many lines are on their way to a desk: those that wait, and those in the ring of its writer.
 #[tactic(auto, using(crate::proofs::RingsMade::nothing_left))]
 pub(crate) fn lines_left(desk: &Desk, writer: &mut Writer) -> usize
-    ensures ring { sent writer.new.ring ≡ sent writer.old.ring }
+    ensures ring { SameProducer writer.old.ring writer.new.ring }
+    ensures went { sent writer.new.ring ≡ sent writer.old.ring }
     ensures none { result ≡ 0 → desk.now.waiting.lines ≡ [] }
 {
     let places = writer.ring.capacity();

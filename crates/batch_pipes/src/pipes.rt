@@ -1,14 +1,16 @@
 //! Where the inputs and outputs of desks are opened.
 ghost use Rattle.std.specs.Prelude.{is_ok, string_bytes};
-ghost use Rattle.rtrb.specs.Ring.{SameProducer, sent};
-ghost use Rattle.batch_pipes.specs.Streams.{HandsOver};
+ghost use Rattle.rtrb.specs.Ring.{SameConsumer, SameProducer, received, sent};
+ghost use Rattle.batch_pipes.specs.Streams.{HandsOver, IsWrittenOut};
 
 use crate::fault::PipeFault;
 use crate::reading::InputTask;
 use crate::writing::OutputTask;
+use crate::written::Written;
 use std::alloc::Global;
+use std::io::Write;
 
-/// Where the inputs and outputs of desks are opened, and in the thread that calls read and written.
+/// Where the inputs of desks are opened, and in the thread that calls read.
 pub trait Pipes {
     ghost use Rattle.std.specs.Prelude.{ℕ, List, Option, None};
 
@@ -22,7 +24,17 @@ pub trait Pipes {
     fn run_input(&self, alloc: Global, task: &mut InputTask) -> Result<(), PipeFault>
         ensures handed { HandsOver (is_ok result) (given (string_bytes task.old.path)) (sent task.old.ring) (sent task.new.ring) }
         ensures ring { SameProducer task.old.ring task.new.ring };
+}
+
+/// Where the outputs of desks are opened, and in the thread that calls written.
+pub trait Outputs<W: Write + Drop> {
+    ghost use Rattle.std.specs.Prelude.{ℕ, List, Option, None};
+
+    /// The bytes that stand in the output of a path when it is opened, where they are known. Nobody can give those of a real file.
+    ghost stands: { List ℕ → Option (List ℕ) } = { λ _. None };
 
     /// Opens the task's output, and has it written by `OutputTask::write`. Both may wait for whoever is at the other end.
-    fn run_output(&self, alloc: Global, task: &mut OutputTask) -> Result<(), PipeFault>;
+    fn run_output(&self, alloc: Global, task: &mut OutputTask) -> Written<W>
+        ensures written { IsWrittenOut W.contents (stands (string_bytes task.old.path)) task.old.front.items (received task.old.ring) (received task.new.ring) result }
+        ensures ring { SameConsumer task.old.ring task.new.ring };
 }

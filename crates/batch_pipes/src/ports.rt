@@ -5,50 +5,12 @@ ghost use Rattle.batch_pipes.specs.Opened.{ArePortsAdded};
 use crate::fault::PipeFault;
 use crate::flag::Flag;
 use crate::pace::Pace;
-use batch_serve_desks::{Line, Reader, Writer};
-use rtrb::Consumer;
+use batch_serve_desks::{Reader, Writer};
 use std::alloc::{AllocError, Global};
-use std::thread::{JoinHandle, Threads};
 
-/// The thread of an output.
-#[derive(Drop)]
-pub(crate) struct Child {
-    pub(crate) handle: JoinHandle<Result<(), PipeFault>>,
-    // something stands before all else in its output
-    pub(crate) has_front: bool,
-    // it is raised where the thread's pipe is open
-    pub(crate) began: Flag,
-    // it is raised where the thread has nothing more to do than to end
-    pub(crate) done: Flag,
-}
-
-impl Child {
-    /// Whether it has something to write, as far as is known: only to an output that is open, lines are handed on.
-    pub(crate) fn has_work(&self) -> bool {
-        self.has_front || self.began.is_raised()
-    }
-
-    /// What it came to.
-    pub(crate) fn join<T: Threads>(self, threads: &T) -> Result<(), PipeFault> {
-        self.handle.join(threads)
-    }
-}
-
-/// Who has the other end of the ring of a desk's lines.
-#[derive(Drop)]
-pub(crate) enum Outlet {
-    /// The thread of its output.
-    Thread(Child),
-    /// Nobody: the desk has no output, and the lines are dropped.
-    Nobody(Consumer<Line>),
-    /// It has ended.
-    Ended,
-}
-
-/// What becomes of a desk's output, and whether the desk is cut.
+/// How a desk's output goes on, and whether the desk is cut.
 #[derive(Drop)]
 pub(crate) struct DeskThreads {
-    pub(crate) outlet: Outlet,
     /// It is raised where the desk is cut.
     pub(crate) stop: Flag,
     pub(crate) pace: Pace,
@@ -60,9 +22,8 @@ pub(crate) struct DeskThreads {
 
 impl DeskThreads {
     /// Of a desk that isn't cut.
-    pub(crate) fn new(outlet: Outlet, stop: Flag) -> DeskThreads {
+    pub(crate) fn new(stop: Flag) -> DeskThreads {
         DeskThreads {
-            outlet,
             stop,
             pace: Pace::new(),
             why: None,

@@ -1,7 +1,7 @@
 //! Rounds: what came is served, and what waits goes on.
 ghost use Rattle.std.specs.Prelude.{◌≡◌, [], length, OnOk};
-ghost use Rattle.batch_serve_desks.specs.Rounds.{AreSameReaders};
-ghost use Rattle.batch_pipes.specs.Kept.{ArePortsOf};
+ghost use Rattle.batch_serve_desks.specs.Rounds.{AreSameReaders, AreSameWriters};
+ghost use Rattle.batch_pipes.specs.Kept.{ArePortsOf, AreSameDesks};
 ghost use Rattle.batch_pipes.specs.Service.{GoesOn, TurnsOn};
 
 use crate::fault::DesksFault;
@@ -26,6 +26,9 @@ pub(crate) fn serve_round<C: Clock, K: Keep, W: Write>(
     ensures ports { OnOk result (ArePortsOf server.new.desks.items ports.new) }
     ensures readers { OnOk result (AreSameReaders ports.old.readers.items ports.new.readers.items) }
     ensures count { OnOk result (length ports.new.readers.items ≡ length ports.old.readers.items) }
+    ensures writers { OnOk result (AreSameWriters ports.old.writers.items ports.new.writers.items) }
+    ensures writer_count { OnOk result (length ports.new.writers.items ≡ length ports.old.writers.items) }
+    ensures desks { OnOk result (AreSameDesks server.old.desks.items server.new.desks.items) }
     ensures group { OnOk result (server.new.group.items ≡ []) }
     ensures service { OnOk result (GoesOn timing.now.times K.again (K.is_safe keep.old) (K.is_safe keep.new) (K.kept keep.old) (K.kept keep.new)
         (W.contents output.old) (W.contents output.new) server.old server.new ports.old ports.new) }
@@ -44,7 +47,7 @@ fn serve_group<C: Clock, K: Keep, W: Write>(
     keep: &mut K,
     output: &mut W,
 ) -> Result<bool, DesksFault>
-    ensures count { OnOk result (length server.new.desks.items ≡ length server.old.desks.items) }
+    ensures desks { OnOk result (AreSameDesks server.old.desks.items server.new.desks.items) }
     ensures group { OnOk result (server.new.group.items ≡ []) }
     ensures service { OnOk result (TurnsOn timing.now.times K.again (K.is_safe keep.old) (K.is_safe keep.new) (K.kept keep.old) (K.kept keep.new)
         (W.contents output.old) (W.contents output.new) server.old server.new) }

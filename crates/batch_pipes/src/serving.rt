@@ -4,21 +4,24 @@ ghost use Rattle.batch_engine.specs.View.{plant_of};
 ghost use Rattle.batch_desks.specs.DeskNames.{desk_names};
 ghost use Rattle.batch_pipes.specs.Ended.{AreDesksEnded};
 ghost use Rattle.batch_pipes.specs.Inputs.{AreInputsKept, AreInputsOf};
-ghost use Rattle.batch_pipes.specs.Kept.{AreDone, ArePortsOf};
+ghost use Rattle.batch_pipes.specs.Kept.{AreDone, ArePortsOf, AreSameDesks};
+ghost use Rattle.batch_pipes.specs.Outputs.{AreOutputsKept, AreOutputsOf};
 ghost use Rattle.batch_pipes.specs.Service.{GoesOn};
 
 use crate::ending::finish;
 use crate::fault::DesksFault;
 use crate::input::Input;
 use crate::opening::open;
-use crate::pipes::Pipes;
+use crate::output::Output;
+use crate::pipes::{Outputs, Pipes};
 use crate::ports::Ports;
 use crate::rounds::serve_round;
 use crate::tending::{Outlook, tend_desks};
 use crate::timing::Timing;
+use crate::written::Written;
 use batch_desks::Desks;
 use batch_engine::Engine;
-use batch_serve_desks::{Desk, DeskServer, Keep, Pause};
+use batch_serve_desks::{Desk, DeskServer, Keep, Lines, Pause};
 use std::alloc::Global;
 use std::io::Write;
 use std::thread::Threads;
@@ -26,11 +29,13 @@ use std::time::Clock;
 
 /// Where desks were served to their end.
 #[derive(Drop)]
-pub struct DesksEnd {
+pub struct DesksEnd<W> {
     /// How many batches are neither complete, stopped nor aborted.
     pub unfinished: usize,
     /// The desks. Of one that isn't cut all lines of its input were served.
     pub desks: Vec<Desk>,
+    /// What came of their outputs, in the order of the desks; nothing of a desk that has none, or whose output is still waited for.
+    pub outputs: Vec<Option<Written<W>>>,
 }
 
 /// Serves desks until each that has an input has ended or is cut, and what waits is handed on.
@@ -41,7 +46,8 @@ pub struct DesksEnd {
 /// errors. At the end an output that takes nothing for long is cut too, which is told alone.
 pub fn serve_desks<
     T: Threads,
-    P: Pipes + Send + Drop + 'static,
+    O: Write + Send + Drop + 'static,
+    P: Pipes + Outputs<O> + Send + Drop + 'static,
     C: Clock,
     K: Keep,
     W: Write,
@@ -53,13 +59,13 @@ pub fn serve_desks<
     pipes: &P,
     engine: Engine,
     desks: Desks,
-    fronts: Vec<Vec<u8>>,
+    fronts: &[Lines],
     timing: &Timing<C>,
     keep: &mut K,
     output: &mut W,
     errors: &mut E,
     rest: &mut S,
-) -> Result<DesksEnd, DesksFault>
+) -> Result<DesksEnd<O>, DesksFault>
     ensures { IfOk result (λ end. AreDesksEnded timing.now.times (record {
       set = engine.cleared;
       names = desk_names desks.desks.items;
@@ -67,36 +73,50 @@ pub fn serve_desks<
       kept = K.kept keep.old;
       recorded = W.contents output.old;
       again = K.again;
-    }) P.given desks.desks.items end.desks.items (K.is_safe keep.new) (K.kept keep.new) (W.contents output.new)) }
+    }) P.given P.stands O.contents fronts.now desks.desks.items end.desks.items end.outputs.items (K.is_safe keep.new) (K.kept keep.new) (W.contents output.new)) }
 {
-    let (mut server, mut ports, mut inputs) = open(threads, alloc, pipes, engine, desks, fronts)?;
+    let (mut server, mut ports, mut inputs, mut outputs) = open(
+        threads, alloc, pipes, engine, desks, fronts,
+    )?;
     run_rounds(
         threads,
         alloc,
         &mut server,
         &mut ports,
         &mut inputs,
+        &mut outputs,
         timing,
         keep,
         output,
         errors,
         rest,
     )?;
-    finish(threads, alloc, &server, ports, errors, rest);
+    let outputs = finish(threads, alloc, &server, ports, outputs, errors, rest)?;
     let DeskServer { engine, desks, .. } = server;
     Ok(DesksEnd {
         unfinished: engine.unfinished(),
         desks,
+        outputs,
     })
 }
 
 /// Makes rounds until nothing more comes and nothing waits.
-fn run_rounds<T: Threads, P: Pipes + Drop, C: Clock, K: Keep, W: Write, E: Write, S: Pause>(
+fn run_rounds<
+    T: Threads,
+    O: Write + Drop,
+    P: Pipes + Outputs<O> + Drop,
+    C: Clock,
+    K: Keep,
+    W: Write,
+    E: Write,
+    S: Pause,
+>(
     threads: &T,
     alloc: Global,
     server: &mut DeskServer,
     ports: &mut Ports,
     inputs: &mut Vec<Input<P>>,
+    outputs: &mut Vec<Output<O, P>>,
     timing: &Timing<C>,
     keep: &mut K,
     output: &mut W,
@@ -105,9 +125,12 @@ fn run_rounds<T: Threads, P: Pipes + Drop, C: Clock, K: Keep, W: Write, E: Write
 ) -> Result<(), DesksFault>
     requires ports { ArePortsOf server.old.desks.items ports.old }
     requires inputs { AreInputsOf P.given inputs.old.items ports.old.readers.items }
+    requires outputs { AreOutputsOf O.contents P.stands outputs.old.items ports.old.writers.items }
     ensures ports { OnOk result (ArePortsOf server.new.desks.items ports.new) }
     ensures inputs { OnOk result (AreInputsKept P.given inputs.old.items inputs.new.items ports.new.readers.items) }
+    ensures outputs { OnOk result (AreOutputsKept O.contents P.stands outputs.old.items outputs.new.items ports.new.writers.items) }
     ensures group { OnOk result (server.new.group.items ≡ []) }
+    ensures desks { OnOk result (AreSameDesks server.old.desks.items server.new.desks.items) }
     ensures done { OnOk result (AreDone P.given server.new.desks.items inputs.new.items ports.new.readers.items) }
     ensures service { OnOk result (GoesOn timing.now.times K.again (K.is_safe keep.old) (K.is_safe keep.new) (K.kept keep.old) (K.kept keep.new)
         (W.contents output.old) (W.contents output.new) server.old server.new ports.old ports.new) }
@@ -115,7 +138,7 @@ fn run_rounds<T: Threads, P: Pipes + Drop, C: Clock, K: Keep, W: Write, E: Write
     let mut ends = false;
     for _ in 0..u64::MAX {
         let serves = serve_round(alloc, server, ports, timing, keep, output)?;
-        let outlook = tend_desks(threads, alloc, server, ports, inputs, ends, errors);
+        let outlook = tend_desks(threads, alloc, server, ports, inputs, outputs, ends, errors);
         if outlook.is_over() {
             return Ok(());
         }

@@ -3,13 +3,15 @@ ghost use Rattle.std.specs.Prelude.{◌≡◌, ◌||◌, length, true, false, Is
 ghost use Rattle.batch_serve_desks.specs.Rounds.{AreHandedOn, IsHandedOn, IsHandedOver};
 ghost use Rattle.batch_pipes.specs.Inputs.{AreInputsKept, AreInputsOf, IsInputKept, IsInputOf};
 ghost use Rattle.batch_pipes.specs.Kept.{AreDone, AreReadersKept, ArePortsOf, IsDone, IsReaderKept};
+ghost use Rattle.batch_pipes.specs.Outputs.{AreOutputsKept, AreOutputsOf, IsOutputKept, IsOutputOf};
 ghost use Rattle.batch_pipes.specs.declared.input.Came.TheVariants.{Whole};
 
 use crate::cutting::{cut_if_failed, cut_if_stalled, tell_cut};
 use crate::dropping::drop_unseen;
 use crate::input::{Came, Input};
+use crate::output::Output;
 use crate::pace::lines_left;
-use crate::pipes::Pipes;
+use crate::pipes::{Outputs, Pipes};
 use crate::ports::{DeskThreads, Ports};
 use batch_serve_desks::{Desk, DeskServer, Reader, Writer};
 use batch_text::Name;
@@ -58,21 +60,24 @@ impl Outlook {
 }
 
 /// Cuts the desks whose pipes failed, and at the end those that take nothing, and tells which are cut.
-pub(crate) fn tend_desks<T: Threads, P: Pipes + Drop, E: Write>(
+pub(crate) fn tend_desks<T: Threads, O: Write + Drop, P: Pipes + Outputs<O> + Drop, E: Write>(
     threads: &T,
     alloc: Global,
     server: &mut DeskServer,
     ports: &mut Ports,
     inputs: &mut Vec<Input<P>>,
+    outputs: &mut Vec<Output<O, P>>,
     ends: bool,
     errors: &mut E,
 ) -> Outlook
     requires ports { ArePortsOf server.old.desks.items ports.old }
     requires inputs { AreInputsOf P.given inputs.old.items ports.old.readers.items }
+    requires outputs { AreOutputsOf O.contents P.stands outputs.old.items ports.old.writers.items }
     ensures ports { ArePortsOf server.new.desks.items ports.new }
     ensures desks { IsHandedOver server.old server.new ports.old.writers.items ports.new.writers.items }
     ensures readers { AreReadersKept ports.old.readers.items ports.new.readers.items }
     ensures inputs { AreInputsKept P.given inputs.old.items inputs.new.items ports.new.readers.items }
+    ensures outputs { AreOutputsKept O.contents P.stands outputs.old.items outputs.new.items ports.new.writers.items }
     ensures done { result.sends ≡ false → result.waits ≡ false → AreDone P.given server.new.desks.items inputs.new.items ports.new.readers.items }
 {
     tend_each(
@@ -82,37 +87,42 @@ pub(crate) fn tend_desks<T: Threads, P: Pipes + Drop, E: Write>(
         &mut server.desks,
         ports,
         inputs,
+        outputs,
         ends,
         errors,
     )
 }
 
-fn tend_each<T: Threads, P: Pipes + Drop, E: Write>(
+fn tend_each<T: Threads, O: Write + Drop, P: Pipes + Outputs<O> + Drop, E: Write>(
     threads: &T,
     alloc: Global,
     names: &[Name],
     desks: &mut Vec<Desk>,
     ports: &mut Ports,
     inputs: &mut Vec<Input<P>>,
+    outputs: &mut Vec<Output<O, P>>,
     ends: bool,
     errors: &mut E,
 ) -> Outlook
     requires ports { ArePortsOf desks.old.items ports.old }
     requires inputs { AreInputsOf P.given inputs.old.items ports.old.readers.items }
+    requires outputs { AreOutputsOf O.contents P.stands outputs.old.items ports.old.writers.items }
     ensures ports { ArePortsOf desks.new.items ports.new }
     ensures desks { AreHandedOn desks.old.items desks.new.items ports.old.writers.items ports.new.writers.items }
     ensures readers { AreReadersKept ports.old.readers.items ports.new.readers.items }
     ensures inputs { AreInputsKept P.given inputs.old.items inputs.new.items ports.new.readers.items }
+    ensures outputs { AreOutputsKept O.contents P.stands outputs.old.items outputs.new.items ports.new.writers.items }
     ensures done { result.sends ≡ false → result.waits ≡ false → AreDone P.given desks.new.items inputs.new.items ports.new.readers.items }
 {
     let mut outlook = Outlook::nothing();
     for at in 0..desks.len() {
         let input = &mut inputs[at];
+        let output = &mut outputs[at];
         let own = &mut ports.threads[at];
         let reader = &mut ports.readers[at];
         let writer = &mut ports.writers[at];
         let desk = &mut desks[at];
-        let other = tend(threads, desk, own, input, reader, writer, ends);
+        let other = tend(threads, desk, own, input, output, reader, writer, ends);
         tell_cut(alloc, desk, names.get(at), own, errors);
         outlook = outlook.with(other);
     }
@@ -121,26 +131,30 @@ fn tend_each<T: Threads, P: Pipes + Drop, E: Write>(
 
 /// Looks after one desk, and gives what is still to come of it. While lines are on their way to it, it isn't read, unless its output
 /// takes nothing for long.
-fn tend<T: Threads, P: Pipes + Drop>(
+fn tend<T: Threads, O: Write + Drop, P: Pipes + Outputs<O> + Drop>(
     threads: &T,
     desk: &mut Desk,
     own: &mut DeskThreads,
     input: &mut Input<P>,
+    output: &mut Output<O, P>,
     reader: &mut Reader,
     writer: &mut Writer,
     ends: bool,
 ) -> Outlook
-    requires { IsInputOf P.given input.old reader.old }
+    requires input { IsInputOf P.given input.old reader.old }
+    requires output { IsOutputOf O.contents P.stands output.old writer.old }
     ensures desk { IsHandedOn desk.old desk.new writer.old writer.new }
     ensures reader { IsReaderKept reader.old reader.new }
     ensures input { IsInputKept P.given input.old input.new reader.new }
+    ensures output { IsOutputKept O.contents P.stands output.old output.new writer.new }
     ensures done { result.sends ≡ false → result.waits ≡ false → IsDone P.given desk.new input.new reader.new }
 {
-    drop_unseen(desk, own, writer);
+    drop_unseen(desk, &mut output.unseen, writer);
     let left = lines_left(desk, writer);
     own.pace.note(left);
     let came = input.look(threads, reader);
-    cut_if_failed(threads, desk, own, came);
+    output.join_if_done(threads);
+    cut_if_failed(desk, own, came.fault(), output.fault());
     cut_if_stalled(desk, own, ends);
     reader.rests = is_to_rest(desk, own);
     outlook_of(desk, own, reader, came, left)

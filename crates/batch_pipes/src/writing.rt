@@ -1,11 +1,15 @@
 //! The thread of a desk's output.
-ghost use Rattle.rtrb.specs.Ring.{received};
-ghost use Rattle.batch_pipes.specs.Streams.{IsWrittenBehind};
+ghost use Rattle.std.specs.Prelude.{◌≡◌, [], true, None, IfSome, IsTrue, string_bytes};
+ghost use Rattle.std.specs.Io.Buffered.{writer_buffer, writer_contents, writer_inner};
+ghost use Rattle.rtrb.specs.Ring.{SameConsumer, received};
+ghost use Rattle.batch_pipes.specs.OutputEnds.{IsOutputRun};
+ghost use Rattle.batch_pipes.specs.Streams.{IsWrittenBehind, IsWrittenOut};
 
 use crate::fault::PipeFault;
 use crate::flag::Flag;
-use crate::pipes::Pipes;
+use crate::pipes::Outputs;
 use crate::rest::DeskRest;
+use crate::written::Written;
 use batch_serve_desks::{Line, Pause, write_lines};
 use batch_streams::Noted;
 use batch_wire::write_all;
@@ -34,33 +38,55 @@ impl OutputTask {
         self.path.as_str()
     }
 
-    /// Writes to the output, which is open, what stands before all else, and then what comes, until nothing more comes.
+    /// Writes to the output, which is open, what stands before all else, and then what comes, until nothing more comes. It gives the output
+    /// back. Where it ends before its time, what the output holds is a beginning of that; nothing is tried again.
+    ///
+    /// The faults are that it was told to end, that the output failed or took nothing, and that there is no memory.
     pub fn write<W: Write + Drop, S: Pause + Drop>(
         &mut self,
         alloc: Global,
         output: W,
         rest: S,
-    ) -> Result<(), PipeFault> {
+    ) -> Written<W>
+        ensures written { IsWrittenOut W.contents (W.contents output) self.old.front.items (received self.old.ring) (received self.new.ring) result }
+        ensures ring { SameConsumer self.old.ring self.new.ring }
+    {
         self.began.raise();
         let mut rest = DeskRest {
             rest,
             stop: &self.stop,
         };
-        let Ok(output) = BufWriter::with_capacity(alloc, ROOM, output) else {
-            return Err(PipeFault::Memory);
+        let Ok(buffered) = BufWriter::with_capacity(alloc, ROOM, output) else {
+            return Written::unopened(PipeFault::Memory);
         };
-        let mut output = Noted::new(output);
-        if write_behind(&self.front, &mut self.ring, &mut output, &mut rest) {
-            return Ok(());
-        }
-        if rest.is_over() {
-            return Err(PipeFault::Over);
-        }
-        match output.failure() {
-            Some(error) => Err(PipeFault::OutputFailed(error)),
-            None => Err(PipeFault::OutputFull),
+        let mut buffered = Noted::new(buffered);
+        let ended = write_out(&self.front, &mut self.ring, &mut buffered, &mut rest);
+        let fault = fault_of(ended, &buffered, &mut rest);
+        Written {
+            output: Some(unbuffered(buffered)),
+            fault,
         }
     }
+}
+
+/// Writes the front, and then what comes out of the ring, until nothing more comes and nothing is left in the buffer. It answers false
+/// where that ended before its time.
+#[tactic(auto, using(crate::proofs::Streaming::written_kept))]
+fn write_out<W: Write + Drop, S: Pause>(
+    front: &[u8],
+    ring: &mut Consumer<Line>,
+    output: &mut Noted<BufWriter<W>>,
+    rest: &mut S,
+) -> bool
+    ensures written { IsWrittenBehind front.now result (received ring.old) (received ring.new) (writer_contents W.contents output.old.stream)
+        (writer_contents W.contents output.new.stream) }
+    ensures empty { IsTrue result → writer_buffer output.new.stream ≡ [] }
+    ensures ring { SameConsumer ring.old ring.new }
+{
+    if !write_behind(front, ring, output, rest) {
+        return false;
+    }
+    output.stream.flush().is_ok()
 }
 
 /// Writes the front, and then what comes out of the ring, until nothing more comes. It answers false where that ended before its time.
@@ -71,7 +97,8 @@ fn write_behind<W: Write, S: Pause>(
     output: &mut W,
     rest: &mut S,
 ) -> bool
-    ensures { IsWrittenBehind front.now result (received ring.old) (received ring.new) (W.contents output.old) (W.contents output.new) }
+    ensures written { IsWrittenBehind front.now result (received ring.old) (received ring.new) (W.contents output.old) (W.contents output.new) }
+    ensures ring { SameConsumer ring.old ring.new }
 {
     match write_all(output, front) {
         Ok(()) => write_lines(ring, output, rest),
@@ -79,14 +106,50 @@ fn write_behind<W: Write, S: Pause>(
     }
 }
 
+/// Why the output ended before its time, if it did.
+fn fault_of<W: Write, S: Pause>(ended: bool, output: &Noted<W>, rest: &mut S) -> Option<PipeFault>
+    ensures { result ≡ None → ended ≡ true }
+{
+    if ended {
+        return None;
+    }
+    if rest.is_over() {
+        return Some(PipeFault::Over);
+    }
+    match output.failure() {
+        Some(error) => Some(PipeFault::OutputFailed(error)),
+        None => Some(PipeFault::OutputFull),
+    }
+}
+
+/// The output without its buffer, of which what is left isn't written.
+fn unbuffered<W: Write + Drop>(output: Noted<BufWriter<W>>) -> W
+    ensures { result ≡ writer_inner output.stream }
+{
+    let Noted { stream, .. } = output;
+    let (output, _unwritten) = stream.into_parts();
+    output
+}
+
+/// What the thread of an output came to.
+#[derive(Drop)]
+pub(crate) struct OutputEnd<W> {
+    // its end of the ring
+    pub(crate) ring: Consumer<Line>,
+    pub(crate) written: Written<W>,
+}
+
 /// Opens the output and writes what comes, until nothing more comes.
-pub(crate) fn run_output<P: Pipes + Drop>(
+pub(crate) fn run_output<W: Write + Drop, P: Outputs<W> + Drop>(
     alloc: Global,
     pipes: P,
     task: OutputTask,
-) -> Result<(), PipeFault> {
+) -> OutputEnd<W>
+    ensures { IsOutputRun W.contents (P.stands (string_bytes task.path)) task result }
+{
     let mut task = task;
-    let ended = pipes.run_output(alloc, &mut task);
+    let written = pipes.run_output(alloc, &mut task);
     task.done.raise();
-    ended
+    let OutputTask { ring, .. } = task;
+    OutputEnd { ring, written }
 }

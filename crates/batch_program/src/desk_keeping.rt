@@ -1,11 +1,10 @@
 //! Serving desks over a journal.
-ghost use Rattle.std.specs.Prelude.{◌≡◌, ◌⊎◌, [], Some, IsOk, OnOk};
+ghost use Rattle.std.specs.Prelude.{◌≡◌, ◌⊎◌, [], Some, IsOk};
 ghost use Rattle.batch_desks.specs.DeskNames.{desk_names};
 ghost use Rattle.batch_engine.specs.View.{plant_of};
 ghost use Rattle.batch_journal.specs.Journals.{recovered, sum_text};
 ghost use Rattle.batch_journal.specs.Lines.{text_of};
 ghost use Rattle.batch_journal.specs.Readers.{HasRecalled, IsKept, IsWhole};
-ghost use Rattle.batch_pipes.specs.Service.{AreDesksServed};
 ghost use Rattle.batch_commands.specs.Running.{fault_status, memory_status, success_status};
 ghost use Rattle.batch_program.specs.DeskRuns.{AreDesksOver, AreDesksRun};
 ghost use Rattle.batch_program.specs.Keeping.{AreDesksToldBehind};
@@ -23,7 +22,7 @@ use batch_engine::Engine;
 use batch_journal::{Disk, DiskError, Groups, Run};
 use batch_keep::{Journal, Started, start_desks};
 use batch_pipes::DesksFault;
-use batch_serve_desks::{Keep, Lines};
+use batch_serve_desks::Lines;
 use batch_streams::Noted;
 use batch_text::Name;
 use std::alloc::{AllocError, Global};
@@ -202,12 +201,11 @@ fn serve_behind<D: Disk, K: Clock + Drop, P: DeskRunner, W: Write, E: Write, C: 
         return (status, journal.disk);
     }
     let mut groups: Groups<D, K, C> = Groups::new(journal.disk, journal.clock, journal.sum);
-    let ended = serve_fronted(
+    let ended = runner.serve_desks(
         alloc,
-        runner,
         engine,
         desks,
-        blocks,
+        &blocks,
         times,
         &mut groups,
         output,
@@ -215,44 +213,6 @@ fn serve_behind<D: Disk, K: Clock + Drop, P: DeskRunner, W: Write, E: Write, C: 
     );
     let status = tell_kept(alloc, messages, ended, output.failure(), errors);
     (status, groups.into_disk())
-}
-
-/// Serves the desks, each behind the text of its block.
-fn serve_fronted<P: DeskRunner, K: Keep, W: Write, E: Write>(
-    alloc: Global,
-    runner: &P,
-    engine: Engine,
-    desks: Desks,
-    blocks: Vec<Lines>,
-    times: bool,
-    keep: &mut K,
-    output: &mut W,
-    errors: &mut E,
-) -> Result<usize, DesksFault>
-    ensures { OnOk result (AreDesksServed times (record {
-      set = engine.cleared;
-      names = desk_names desks.desks.items;
-      plant = plant_of engine;
-      kept = K.kept keep.old;
-      recorded = W.contents output.old;
-      again = K.again;
-    }) (K.is_safe keep.new) (K.kept keep.new) (W.contents output.new)) }
-{
-    match texts_of(alloc, blocks) {
-        Ok(fronts) => {
-            runner.serve_desks(alloc, engine, desks, fronts, times, keep, output, errors)
-        }
-        Err(_) => Err(DesksFault::Memory),
-    }
-}
-
-/// The texts of the blocks.
-fn texts_of(alloc: Global, blocks: Vec<Lines>) -> Result<Vec<Vec<u8>>, AllocError> {
-    let mut texts = Vec::new(alloc);
-    for block in blocks {
-        texts.push(block.into_text())?;
-    }
-    Ok(texts)
 }
 
 /// Tells how many batches are left, or why serving over the journal stopped, and gives the exit status.

@@ -7,7 +7,7 @@ ghost use Rattle.batch_pipes.specs.Service.{AreDesksServed};
 use batch_desks::Desks;
 use batch_engine::Engine;
 use batch_pipes::DesksFault;
-use batch_serve_desks::Keep;
+use batch_serve_desks::{Keep, Lines};
 use std::alloc::Global;
 use std::io::Write;
 
@@ -24,7 +24,7 @@ pub trait DeskRunner {
         alloc: Global,
         engine: Engine,
         desks: Desks,
-        fronts: Vec<Vec<u8>>,
+        fronts: &[Lines],
         times: bool,
         keep: &mut K,
         output: &mut W,

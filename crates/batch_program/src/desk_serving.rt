@@ -82,7 +82,7 @@ fn serve_desk_set<P: DeskRunner, W: Write, E: Write>(
         alloc,
         engine,
         desks,
-        Vec::new(alloc),
+        &[],
         times,
         &mut NoJournal,
         output,

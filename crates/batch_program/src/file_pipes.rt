@@ -1,8 +1,8 @@
 //! The pipes of the process.
-use batch_pipes::{InputTask, OutputTask, PipeFault, Pipes};
+use batch_pipes::{InputTask, OutputTask, Outputs, PipeFault, Pipes, Written};
 use batch_serve_desks::Pause;
 use std::alloc::Global;
-use std::fs::OpenOptions;
+use std::fs::{File, OpenOptions};
 use std::thread;
 use std::time::Duration;
 
@@ -53,15 +53,17 @@ impl Pipes for FilePipes {
             Err(error) => Err(PipeFault::InputUnopened(error)),
         }
     }
+}
 
+impl Outputs<File> for FilePipes {
     /// A file is written behind what it holds.
-    fn run_output(&self, alloc: Global, task: &mut OutputTask) -> Result<(), PipeFault> {
+    fn run_output(&self, alloc: Global, task: &mut OutputTask) -> Written<File> {
         let opened = OpenOptions::new()
             .append(true)
             .open(&self.clock, task.path());
         match opened {
             Ok(file) => task.write(alloc, file, self.desk_rest()),
-            Err(error) => Err(PipeFault::OutputUnopened(error)),
+            Err(error) => Written::unopened(PipeFault::OutputUnopened(error)),
         }
     }
 }

@@ -7,13 +7,14 @@ use crate::plant_runner::PlantRunner;
 use crate::steady_units::steady_units;
 use batch_desks::Desks;
 use batch_engine::Engine;
-use batch_pipes::{DesksFault, Timing, serve_desks};
+use batch_pipes::{DesksEnd, DesksFault, Timing, serve_desks};
 use batch_plant::{PlantFault, PlantGates, PlantTask, plant_run};
-use batch_serve_desks::Keep;
+use batch_serve_desks::{Keep, Lines};
 use batch_sim::Simulator;
 use batch_verify::Cleared;
 use batch_words::PlantOptions;
 use std::alloc::Global;
+use std::fs::File;
 use std::io::Write;
 use std::thread::Threads;
 
@@ -62,7 +63,7 @@ impl<R: Threads> DeskRunner for ThreadsOf<'_, R> {
         alloc: Global,
         engine: Engine,
         desks: Desks,
-        fronts: Vec<Vec<u8>>,
+        fronts: &[Lines],
         times: bool,
         keep: &mut K,
         output: &mut W,
@@ -73,7 +74,7 @@ impl<R: Threads> DeskRunner for ThreadsOf<'_, R> {
             times,
         };
         let pipes = FilePipes::new(self.clock, desks.desks.len());
-        let end = serve_desks(
+        let end: DesksEnd<File> = serve_desks(
             self.threads,
             alloc,
             &pipes,

@@ -1,14 +1,15 @@
 -- Desks whose lines are taken, and to which lines are handed on, one after the other.
-use Rattle.std.proofs.Common.{◌≡◌, ◌≢◌, ◌<◌, ◌≤◌, ◌+◌, ◌⊎◌, ℕ, false, ◌||◌, length, get_or, set, cond, eqb, List, [], ◌∷◌, ◌++◌, append-nil, append_assoc, sym, ◌∙◌, ap, subst, arith, inl, inr, get_or-set_other, get_or-set_same}
-use Rattle.std.proofs.lemmas.Bool.{cases_lt, ne_eqb}
+use Rattle.std.proofs.Common.{◌≡◌, ◌≢◌, ◌<◌, ◌≤◌, ◌+◌, ◌⊎◌, ℕ, Bool, true, false, ◌||◌, length, length-append, refl, get_or, set, cond, eqb, List, [], ◌∷◌, ◌++◌, append-nil, append_assoc, sym, ◌∙◌, ap, subst, arith, inl, inr, get_or-set_other, get_or-set_same}
+use Rattle.std.proofs.lemmas.Bool.{cases_lt, false≢true, ne_eqb}
 use Rattle.std.proofs.lemmas.Grind.{flat_map-append}
 use Rattle.std.proofs.lemmas.List.{get_or_default}
 use Rattle.std.proofs.lemmas.List.Elements.{All-push}
 use Rattle.std.specs.List.{list_any}
-use Rattle.rtrb.specs.Ring.{SameConsumer, received}
-use Rattle.batch_serve_desks.specs.Rounds.{IsGathered, IsHandedOn, LinesGoOn, is_end, text_of_one, text_sent}
+use Rattle.rtrb.specs.Ring.{SameConsumer, received, sent}
+use Rattle.batch_serve_desks.specs.Rounds.{IsCutIfLate, IsGathered, LinesGoOn, is_end, text_of_one, text_sent}
 use Rattle.batch_serve_desks.specs.Runs.{AreOfDesks, Run, own_text}
 use Rattle.batch_serve_desks.specs.Turns.{IsSameBut}
+use Rattle.batch_serve_desks.specs.Waits.{IsLate, Waits, cut_off}
 use Rattle.batch_serve_desks.specs.declared.desk.Desk.{Desk}
 use Rattle.batch_serve_desks.specs.declared.desk_server.DeskServer.{DeskServer}
 use Rattle.batch_serve_desks.specs.declared.rounds.Reader.{Reader}
@@ -94,26 +95,26 @@ own_behind i start before after others own k above =
     let apart : k ≢ i = omega arith in
     others k apart ∙ own k (omega arith)
 
--- lines were handed on to one desk more
-pub handed_more : (desks now_desks : List Desk) (writers now_writers : List Writer) (i : ℕ) (old new : Desk) (before after : Writer)
-    → i < length now_desks → i < length now_writers → old ≡ get_or now_desks i old → before ≡ get_or now_writers i before → IsHandedOn old new before after
-    → ((k : ℕ) (other : Desk) (writer : Writer) → k < i → IsHandedOn (get_or desks k other) (get_or now_desks k other) (get_or writers k writer) (get_or now_writers k writer))
+-- what is so of each desk and its writer is so of one more
+pub each_more : (R : Desk → Desk → Writer → Writer → Type 0) (desks now_desks : List Desk) (writers now_writers : List Writer) (i : ℕ) (old new : Desk) (before after : Writer)
+    → i < length now_desks → i < length now_writers → old ≡ get_or now_desks i old → before ≡ get_or now_writers i before → R old new before after
+    → ((k : ℕ) (other : Desk) (writer : Writer) → k < i → R (get_or desks k other) (get_or now_desks k other) (get_or writers k writer) (get_or now_writers k writer))
     → ((k : ℕ) (other : Desk) → i ≤ k → get_or now_desks k other ≡ get_or desks k other)
     → ((k : ℕ) (writer : Writer) → i ≤ k → get_or now_writers k writer ≡ get_or writers k writer)
     → (k : ℕ) (other : Desk) (writer : Writer) → k < i + 1
-    → IsHandedOn (get_or desks k other) (get_or (set now_desks i new) k other) (get_or writers k writer) (get_or (set now_writers i after) k writer)
-handed_more desks now_desks writers now_writers i old new before after in_desks in_writers is_old is_before handed so_far rest_desks rest_writers k other writer below = go (cases_lt k i)
+    → R (get_or desks k other) (get_or (set now_desks i new) k other) (get_or writers k writer) (get_or (set now_writers i after) k writer)
+each_more R desks now_desks writers now_writers i old new before after in_desks in_writers is_old is_before here so_far rest_desks rest_writers k other writer below = go (cases_lt k i)
   where
-    all : (a b : Desk) (x y : Writer) → a ≡ old → b ≡ new → x ≡ before → y ≡ after → IsHandedOn a b x y
+    all : (a b : Desk) (x y : Writer) → a ≡ old → b ≡ new → x ≡ before → y ≡ after → R a b x y
     all a b x y p q r s =
-        subst (λ (d : Desk). IsHandedOn d b x y) (sym p) (subst (λ (d : Desk). IsHandedOn old d x y) (sym q)
-        (subst (λ (w : Writer). IsHandedOn old new w y) (sym r) (subst (λ (w : Writer). IsHandedOn old new before w) (sym s) handed)))
+        subst (λ (d : Desk). R d b x y) (sym p) (subst (λ (d : Desk). R old d x y) (sym q)
+        (subst (λ (w : Writer). R old new w y) (sym r) (subst (λ (w : Writer). R old new before w) (sym s) here)))
 
-    go : (k < i) ⊎ (i ≤ k) → IsHandedOn (get_or desks k other) (get_or (set now_desks i new) k other) (get_or writers k writer) (get_or (set now_writers i after) k writer)
+    go : (k < i) ⊎ (i ≤ k) → R (get_or desks k other) (get_or (set now_desks i new) k other) (get_or writers k writer) (get_or (set now_writers i after) k writer)
     go (inl lt) =
         let apart : k ≢ i = omega arith in
-        subst (λ (d : Desk). IsHandedOn (get_or desks k other) d (get_or writers k writer) (get_or (set now_writers i after) k writer)) (sym (get_or-set_other now_desks i k new other apart))
-        (subst (λ (w : Writer). IsHandedOn (get_or desks k other) (get_or now_desks k other) (get_or writers k writer) w) (sym (get_or-set_other now_writers i k after writer apart)) (so_far k other writer lt))
+        subst (λ (d : Desk). R (get_or desks k other) d (get_or writers k writer) (get_or (set now_writers i after) k writer)) (sym (get_or-set_other now_desks i k new other apart))
+        (subst (λ (w : Writer). R (get_or desks k other) (get_or now_desks k other) (get_or writers k writer) w) (sym (get_or-set_other now_writers i k after writer apart)) (so_far k other writer lt))
     go (inr le) =
         let at : k ≡ i = omega arith in
         all (get_or desks k other) (get_or (set now_desks i new) k other) (get_or writers k writer) (get_or (set now_writers i after) k writer)
@@ -121,6 +122,21 @@ handed_more desks now_desks writers now_writers i old new before after in_desks 
         (ap (λ n. get_or (set now_desks i new) n other) at ∙ get_or-set_same now_desks i new other in_desks)
         (ap (λ n. get_or writers n writer) at ∙ was_here writers now_writers i before writer in_writers is_before (rest_writers i writer (omega arith)))
         (ap (λ n. get_or (set now_writers i after) n writer) at ∙ get_or-set_same now_writers i after writer in_writers)
+
+-- of what waited some went into the ring, and the desk was cut where too much was left
+pub cut_where_late : (old new : Desk) (before after : Writer) (left : Waits (List ℕ)) (cuts : Bool) → sent after.ring ++ left.lines ≡ sent before.ring ++ old.waiting.lines
+    → left.lag ≡ old.waiting.lag → left.is_cut ≡ old.waiting.is_cut → (cuts ≡ true → IsLate left) → (cuts ≡ true → new.waiting ≡ cut_off left) → (cuts ≡ false → new.waiting ≡ left)
+    → length new.waiting.lines ≤ new.waiting.lag → IsCutIfLate old new before after
+cut_where_late old new before after left true order lag same late cut stays few = record {
+  lag = ap (λ (w : Waits (List ℕ)). w.lag) (cut refl) ∙ lag;
+  few = few;
+  late = λ is_cut uncut. omega (arith, late refl, lag, ap length order, length-append (sent after.ring) left.lines, length-append (sent before.ring) old.waiting.lines);
+}
+cut_where_late old new before after left false order lag same late cut stays few = record {
+  lag = ap (λ (w : Waits (List ℕ)). w.lag) (stays refl) ∙ lag;
+  few = few;
+  late = λ is_cut uncut. absurd (false≢true (sym uncut ∙ sym same ∙ sym (ap (λ (w : Waits (List ℕ)). w.is_cut) (stays refl)) ∙ is_cut));
+}
 
 pub same_on : (a b d : DeskServer) → IsSameBut a b → IsSameBut b d → IsSameBut a d
 same_on a b d one other = record {

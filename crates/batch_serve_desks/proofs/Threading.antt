@@ -100,7 +100,7 @@ all_written ended before after old new same kept = record {
   written = λ t. Appends-kept old old new [] (Appends-nil old) kept;
 }
 
-text_both : (a b : List (List ℕ)) → lines_text (a ++ b) ≡ lines_text a ++ lines_text b
+pub text_both : (a b : List (List ℕ)) → lines_text (a ++ b) ≡ lines_text a ++ lines_text b
 text_both a b = flat_map-append (λ (line : List ℕ). line ++ 10 ∷ []) a b
 
 pub writes_twice : (x y z : List (List ℕ)) (a b d : Option (List ℕ)) → WritesOn x y a b → WritesOn y z b d → WritesOn x z a d

@@ -1,7 +1,7 @@
 -- surface: what came through the rings of desks, and what went into them.
-use Rattle.std.specs.Prelude.{◌≡◌, ℕ, ◌<◌, Bool, true, false, ◌||◌, List, [], ◌++◌, length, get_or, flat_map}
+use Rattle.std.specs.Prelude.{◌≡◌, ℕ, ◌+◌, ◌<◌, ◌≤◌, Bool, true, false, ◌||◌, List, [], ◌++◌, length, get_or, flat_map}
 use Rattle.std.specs.List.{list_any}
-use Rattle.rtrb.specs.Ring.{SameConsumer, received, sent}
+use Rattle.rtrb.specs.Ring.{SameConsumer, SameProducer, received, sent}
 use Rattle.batch_serve_desks.specs.Runs.{AreOfDesks, Run, own_text}
 use Rattle.batch_serve_desks.specs.Waits.{IsAccount}
 use Rattle.batch_serve_desks.specs.declared.desk.Desk.{Desk}
@@ -41,6 +41,10 @@ pub record IsGathered (desk : ℕ) (before after : Reader) (old new : List Run) 
 abbrev pub AreSameReaders : List Reader → List Reader → Type 0
 AreSameReaders old new = (desk : ℕ) (reader : Reader) → desk < length old → SameConsumer (get_or old desk reader).ring (get_or new desk reader).ring
 
+-- the writers have the ends of the same rings
+abbrev pub AreSameWriters : List Writer → List Writer → Type 0
+AreSameWriters old new = (desk : ℕ) (writer : Writer) → desk < length old → SameProducer (get_or old desk writer).ring (get_or new desk writer).ring
+
 -- so it is of each desk that isn't cut
 pub record AreGathered (desks : List Desk) (old new : List Reader) (before after : List Run) : Type 0 where
   pub count : length new ≡ length old
@@ -57,6 +61,7 @@ LinesGoOn =
 
 -- whatever came and went before, what went into the desk's ring now is a beginning of what waited
 pub record IsHandedOn (old new : Desk) (before after : Writer) : Type 0 where
+  pub ring : SameProducer before.ring after.ring
   pub unit : new.unit ≡ old.unit
   pub cut : new.waiting.is_cut ≡ false → old.waiting.is_cut ≡ false
   pub account : (all : List (List ℕ)) → IsAccount all (sent before.ring) old.waiting → IsAccount all (sent after.ring) new.waiting
@@ -67,6 +72,18 @@ pub record AreHandedOn (old new : List Desk) (before after : List Writer) : Type
   pub writers : length after ≡ length before
   pub each : (desk : ℕ) (other : Desk) (writer : Writer) → desk < length before
       → IsHandedOn (get_or old desk other) (get_or new desk other) (get_or before desk writer) (get_or after desk writer)
+
+-- no more lines wait for the desk than may: it is cut where more would behind those that went into its ring, and for nothing else
+pub record IsCutIfLate (old new : Desk) (before after : Writer) : Type 0 where
+  pub lag : new.waiting.lag ≡ old.waiting.lag
+  pub few : length new.waiting.lines ≤ new.waiting.lag
+  pub late : new.waiting.is_cut ≡ true → old.waiting.is_cut ≡ false → old.waiting.lag + length (sent after.ring) < length old.waiting.lines + length (sent before.ring)
+
+-- so it is of each desk
+abbrev pub AreCutIfLate : (old new : List Desk) (before after : List Writer) → Type 0
+AreCutIfLate old new before after =
+    (desk : ℕ) (other : Desk) (writer : Writer) → desk < length before
+    → IsCutIfLate (get_or old desk other) (get_or new desk other) (get_or before desk writer) (get_or after desk writer)
 
 -- what waits for desks went on to their writers, and the server is else as it was
 pub record IsHandedOver (old new : DeskServer) (before after : List Writer) : Type 0 where

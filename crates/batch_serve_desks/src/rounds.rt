@@ -1,7 +1,7 @@
 //! Rounds: what the readers of desks hand over is taken, and what waits for desks is handed to their writers.
 ghost use Rattle.std.specs.Prelude.{◌≡◌, ◌<◌, ◌≤◌, ℕ, length, get_or, false, IfOk, OnOk};
 ghost use Rattle.rtrb.specs.Ring.{SameConsumer, received};
-ghost use Rattle.batch_serve_desks.specs.Rounds.{AreGathered, AreHandedOn, IsGathered, IsHandedOn, IsHandedOver, IsTaken};
+ghost use Rattle.batch_serve_desks.specs.Rounds.{AreCutIfLate, AreGathered, AreHandedOn, IsCutIfLate, IsGathered, IsHandedOn, IsHandedOver, IsTaken};
 ghost use Rattle.batch_serve_desks.specs.Runs.{AreOfDesks, own_text};
 ghost use Rattle.batch_serve_desks.specs.Turns.{IsSameBut};
 ghost use Rattle.batch_serve_desks.specs.declared.desk.Desk.{Desk as OneDesk};
@@ -41,6 +41,13 @@ impl Lines {
         ensures { result.items ≡ self }
     {
         self.text
+    }
+
+    /// Their text.
+    pub fn as_slice(&self) -> &[u8]
+        ensures { result.now ≡ self.now }
+    {
+        &self.text
     }
 }
 
@@ -128,7 +135,8 @@ impl DeskServer {
     /// than may is cut.
     pub fn hand_on(&mut self, writers: &mut Vec<Writer>)
         requires { length writers.old.items ≤ length self.old.desks.items }
-        ensures { IsHandedOver self.old self.new writers.old.items writers.new.items }
+        ensures handed { IsHandedOver self.old self.new writers.old.items writers.new.items }
+        ensures late { AreCutIfLate self.old.desks.items self.new.desks.items writers.old.items writers.new.items }
     {
         hand_on_each(&mut self.desks, writers);
     }
@@ -136,7 +144,8 @@ impl DeskServer {
 
 fn hand_on_each(desks: &mut Vec<Desk>, writers: &mut Vec<Writer>)
     requires { length writers.old.items ≤ length desks.old.items }
-    ensures { AreHandedOn desks.old.items desks.new.items writers.old.items writers.new.items }
+    ensures handed { AreHandedOn desks.old.items desks.new.items writers.old.items writers.new.items }
+    ensures late { AreCutIfLate desks.old.items desks.new.items writers.old.items writers.new.items }
 {
     for desk in 0..writers.len() {
         let writer = &mut writers[desk];
@@ -144,8 +153,10 @@ fn hand_on_each(desks: &mut Vec<Desk>, writers: &mut Vec<Writer>)
     }
 }
 
+#[tactic(auto, using(crate::proofs::Gathering::cut_where_late))]
 fn hand_on(desk: &mut Desk, writer: &mut Writer)
-    ensures { IsHandedOn desk.old desk.new writer.old writer.new }
+    ensures handed { IsHandedOn desk.old desk.new writer.old writer.new }
+    ensures late { IsCutIfLate desk.old desk.new writer.old writer.new }
 {
     desk.waiting.hand_on(&mut writer.ring);
     if desk.waiting.cut_if_late() {

@@ -1,7 +1,7 @@
 //! The writer of a desk: what comes out of a ring is written to its output.
 ghost use Rattle.std.specs.Prelude.{◌≡◌, ◌++◌, ◌∷◌, [], true};
 ghost use Rattle.batch_wire.specs.Written.{Writes};
-ghost use Rattle.rtrb.specs.Ring.{received};
+ghost use Rattle.rtrb.specs.Ring.{SameConsumer, received};
 ghost use Rattle.batch_serve_desks.specs.Threads.{IsWritten, WritesNext};
 
 use crate::line::Line;
@@ -19,7 +19,8 @@ pub fn write_lines<W: Write, P: Pause>(
     output: &mut W,
     pause: &mut P,
 ) -> bool
-    ensures { IsWritten result (received ring.old) (received ring.new) (W.contents output.old) (W.contents output.new) }
+    ensures written { IsWritten result (received ring.old) (received ring.new) (W.contents output.old) (W.contents output.new) }
+    ensures ring { SameConsumer ring.old ring.new }
 {
     for _ in 0..u64::MAX {
         if let Some(ended) = write_next(ring, output, pause) {
@@ -36,7 +37,8 @@ fn write_next<W: Write, P: Pause>(
     output: &mut W,
     pause: &mut P,
 ) -> Option<bool>
-    ensures { WritesNext result (received ring.old) (received ring.new) (W.contents output.old) (W.contents output.new) }
+    ensures written { WritesNext result (received ring.old) (received ring.new) (W.contents output.old) (W.contents output.new) }
+    ensures ring { SameConsumer ring.old ring.new }
 {
     if pause.is_over() {
         return Some(false);

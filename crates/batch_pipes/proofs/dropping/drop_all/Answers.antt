@@ -9,4 +9,4 @@ loop-preserved c =
     let desk : Desk = record c.loop.desk { waiting = c.hand_on.new.self } in
     let writer : Writer = record c.loop.writer { ring = c.hand_on.new.ring } in
     handed_more c.args.desk.now c.loop.desk desk c.args.writer.now c.loop.writer writer c.loop.invariant
-    (handed_some c.loop.desk desk c.loop.writer writer refl c.hand_on.ensures.same_cut c.hand_on.ensures.account)
+    (handed_some c.loop.desk desk c.loop.writer writer c.hand_on.ensures.ring refl c.hand_on.ensures.same_cut c.hand_on.ensures.account)

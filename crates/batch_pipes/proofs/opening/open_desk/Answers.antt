@@ -1,4 +1,4 @@
-use Rattle.std.proofs.Common.{List, ℕ, ap}
+use Rattle.std.proofs.Common.{List, ℕ, ap, ◌∙◌}
 use Rattle.batch_serve_desks.specs.Waits.{Waits}
 use Rattle.batch_pipes.proofs.opening.open_desk.Goals as goal
 
@@ -9,9 +9,12 @@ returns-clause-desk g c = record {
   writer = c.in_ok-writer.writer;
   desks = c.in_ok-add_desk.ensures;
   ports = c.in_ok-add.ensures;
+  unit = c.new-told.ensures.unit;
+  lag = λ some. ap (λ (w : Waits (List ℕ)). w.lag) c.new-told.ensures.waiting ∙ c.lag_of-lag.ensures some;
+  uncut = ap (λ (w : Waits (List ℕ)). w.is_cut) c.new-told.ensures.waiting;
   waits = ap (λ (w : Waits (List ℕ)). w.lines) c.new-told.ensures.waiting;
   came = c.in_ok-reader.ensures.came;
-  went = c.in_ok-writer.ensures;
+  went = c.in_ok-writer.ensures.went;
 }
 
 pub returns-clause-input : goal.returns-clause-input
@@ -22,4 +25,14 @@ returns-clause-input g c = record {
   readers = c.in_ok-add.ensures.readers;
   of = c.in_ok-reader.ensures.of;
   is_path = c.in_ok-reader.ensures.is_path;
+}
+
+pub returns-clause-output : goal.returns-clause-output
+returns-clause-output g c = record {
+  output = c.in_ok-writer.output;
+  writer = c.in_ok-writer.writer;
+  outputs = c.in_ok-add_output.ensures;
+  writers = c.in_ok-add.ensures.writers;
+  of = c.in_ok-writer.ensures.of;
+  is_asked = c.in_ok-writer.ensures.is_asked;
 }

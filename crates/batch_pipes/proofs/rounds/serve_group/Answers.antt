@@ -1,5 +1,6 @@
-use Rattle.std.proofs.Common.{sym, subst}
+use Rattle.std.proofs.Common.{refl, sym, subst}
 use Rattle.batch_serve_desks.specs.Turns.{IsTurned}
+use Rattle.batch_pipes.proofs.Keeping.{desks_same, desks_told}
 use Rattle.batch_pipes.proofs.Serviced.{service_turned}
 use Rattle.batch_pipes.proofs.rounds.serve_group.Goals as goal
 
@@ -17,3 +18,9 @@ returns-clause-service g c = λ ports begun again s.
 
 pub returns-clause-group : goal.returns-clause-group
 returns-clause-group g c = c.in_ok-turn.ensures.turned.group
+
+pub returns-then-is_empty-clause-desks : goal.returns-then-is_empty-clause-desks
+returns-then-is_empty-clause-desks g c = desks_same _ _ refl
+
+pub returns-clause-desks : goal.returns-clause-desks
+returns-clause-desks g c = desks_told _ _ _ c.in_ok-turn.ensures.turned.told

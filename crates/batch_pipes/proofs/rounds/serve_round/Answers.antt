@@ -1,17 +1,17 @@
 use Rattle.std.proofs.Common.{ap, arith, length, refl, ◌∙◌}
-use Rattle.batch_pipes.proofs.Keeping.{readers_as_they_are}
+use Rattle.batch_pipes.proofs.Keeping.{desks_handed, desks_same, desks_twice, readers_as_they_are, writers_handed}
 use Rattle.batch_pipes.proofs.Serviced.{service_gathered, service_handed}
 use Rattle.batch_pipes.specs.declared.ports.Ports.{Ports}
 use Rattle.batch_pipes.proofs.rounds.serve_round.Goals as goal
 
 pub returns-clause-ports : goal.returns-clause-ports
 returns-clause-ports g c =
-    let handed = c.hand_on.ensures.handed in
+    let handed = c.hand_on.ensures.handed.handed in
     let gathered = c.in_ok-gather.ensures.gathered in
     record {
-      readers = omega (arith, c.requires.readers, gathered.count, handed.count, c.in_ok-serves.ensures.count, ap length c.gather.ensures.same.desks);
-      writers = omega (arith, c.requires.writers, handed.writers, handed.count, c.in_ok-serves.ensures.count, ap length c.gather.ensures.same.desks);
-      threads = omega (arith, c.requires.threads, handed.count, c.in_ok-serves.ensures.count, ap length c.gather.ensures.same.desks);
+      readers = omega (arith, c.requires.readers, gathered.count, handed.count, c.in_ok-serves.ensures.desks.count, ap length c.gather.ensures.same.desks);
+      writers = omega (arith, c.requires.writers, handed.writers, handed.count, c.in_ok-serves.ensures.desks.count, ap length c.gather.ensures.same.desks);
+      threads = omega (arith, c.requires.threads, handed.count, c.in_ok-serves.ensures.desks.count, ap length c.gather.ensures.same.desks);
     }
 
 pub returns-clause-service : goal.returns-clause-service
@@ -24,11 +24,11 @@ returns-clause-service g c = λ begun again s.
     c.args.ports.now gathered_ports c.gather.ensures.same c.in_ok-gather.ensures.gathered refl c.requires.readers s in
     let served = c.in_ok-serves.ensures.service gathered_ports begun again gathered in
     service_handed is_safe c.serve_group.new.keep times begun (g.K.Keep.kept c.serve_group.new.keep) (g.W.Write.contents c.serve_group.new.output) c.serve_group.new.server c.hand_on.new.self
-    gathered_ports handed_ports c.hand_on.ensures (readers_as_they_are c.gather.new.readers.items)
+    gathered_ports handed_ports c.hand_on.ensures.handed (readers_as_they_are c.gather.new.readers.items)
     (record {
-      readers = omega (arith, c.requires.readers, c.in_ok-gather.ensures.gathered.count, c.in_ok-serves.ensures.count, ap length c.gather.ensures.same.desks);
-      writers = omega (arith, c.requires.writers, c.in_ok-serves.ensures.count, ap length c.gather.ensures.same.desks);
-      threads = omega (arith, c.requires.threads, c.in_ok-serves.ensures.count, ap length c.gather.ensures.same.desks);
+      readers = omega (arith, c.requires.readers, c.in_ok-gather.ensures.gathered.count, c.in_ok-serves.ensures.desks.count, ap length c.gather.ensures.same.desks);
+      writers = omega (arith, c.requires.writers, c.in_ok-serves.ensures.desks.count, ap length c.gather.ensures.same.desks);
+      threads = omega (arith, c.requires.threads, c.in_ok-serves.ensures.desks.count, ap length c.gather.ensures.same.desks);
     })
     served
 
@@ -36,4 +36,16 @@ pub returns-clause-readers : goal.returns-clause-readers
 returns-clause-readers g c = c.in_ok-gather.ensures.gathered.rings
 
 pub returns-clause-group : goal.returns-clause-group
-returns-clause-group g c = c.hand_on.ensures.group ∙ c.in_ok-serves.ensures.group
+returns-clause-group g c = c.hand_on.ensures.handed.group ∙ c.in_ok-serves.ensures.group
+
+pub returns-clause-writers : goal.returns-clause-writers
+returns-clause-writers g c =
+    writers_handed c.serve_group.new.server.desks.items c.hand_on.new.self.desks.items c.args.ports.now.writers.items c.hand_on.new.writers.items
+    (omega (arith, c.requires.writers, c.in_ok-serves.ensures.desks.count, ap length c.gather.ensures.same.desks)) c.hand_on.ensures.handed.handed
+
+pub returns-clause-desks : goal.returns-clause-desks
+returns-clause-desks g c =
+    desks_twice c.args.server.now.desks.items c.gather.new.self.desks.items c.hand_on.new.self.desks.items (desks_same _ _ c.gather.ensures.same.desks)
+    (desks_twice _ c.serve_group.new.server.desks.items _ c.in_ok-serves.ensures.desks
+    (desks_handed _ _ c.args.ports.now.writers.items c.hand_on.new.writers.items
+    (omega (arith, c.requires.writers, c.in_ok-serves.ensures.desks.count, ap length c.gather.ensures.same.desks)) c.hand_on.ensures.handed.handed))

@@ -1,16 +1,28 @@
-use Rattle.std.proofs.Common.{◌∙◌}
+use Rattle.std.proofs.Common.{refl, ◌∙◌}
 use Rattle.batch_pipes.proofs.InputsKept.{inputs_as_they_are, inputs_on, inputs_twice}
+use Rattle.batch_pipes.proofs.Keeping.{desks_handed, desks_same, desks_twice}
+use Rattle.batch_pipes.proofs.OutputsKept.{outputs_as_they_are, outputs_on, outputs_twice}
 use Rattle.batch_pipes.proofs.Serviced.{service_handed}
 use Rattle.batch_pipes.proofs.serving.run_rounds.Goals as goal
 
 pub loop-init : goal.loop-init
-loop-init g c = record { ports = c.requires.ports; inputs = inputs_as_they_are g.P.Pipes.given c.args.inputs.now.items c.args.ports.now.readers.items c.requires.inputs; goes = λ begun again s. s }
+loop-init g c = record {
+  ports = c.requires.ports;
+  inputs = inputs_as_they_are g.P.Pipes.given c.args.inputs.now.items c.args.ports.now.readers.items c.requires.inputs;
+  outputs = outputs_as_they_are g.O.Write.contents g.P.Outputs.stands c.args.outputs.now.items c.args.ports.now.writers.items c.requires.outputs;
+  desks = desks_same _ _ refl;
+  goes = λ begun again s. s;
+}
 
 pub loop-preserved : goal.loop-preserved
 loop-preserved g c = record {
   ports = c.tend_desks-outlook.ensures.ports;
   inputs = inputs_twice g.P.Pipes.given c.args.inputs.now.items c.loop.inputs.items c.tend_desks-outlook.new.inputs.items c.loop.ports.readers.items c.tend_desks-outlook.new.ports.readers.items
       c.loop.invariant.inputs c.tend_desks-outlook.ensures.inputs;
+  outputs = outputs_twice g.O.Write.contents g.P.Outputs.stands c.args.outputs.now.items c.loop.outputs.items c.tend_desks-outlook.new.outputs.items c.loop.ports.writers.items
+      c.tend_desks-outlook.new.ports.writers.items c.loop.invariant.outputs c.tend_desks-outlook.ensures.outputs;
+  desks = desks_twice _ c.loop.server.desks.items _ c.loop.invariant.desks (desks_twice _ c.serve_round.new.server.desks.items _ c.in_ok-serves.ensures.desks
+      (desks_handed _ _ c.serve_round.new.ports.writers.items c.tend_desks-outlook.new.ports.writers.items c.in_ok-serves.ensures.ports.writers c.tend_desks-outlook.ensures.desks.handed));
   goes = λ begun again s.
       service_handed g.K.Keep.is_safe c.serve_round.new.keep c.args.timing.now.times begun (g.K.Keep.kept c.serve_round.new.keep) (g.W.Write.contents c.serve_round.new.output)
       c.serve_round.new.server c.tend_desks-outlook.new.server c.serve_round.new.ports c.tend_desks-outlook.new.ports c.tend_desks-outlook.ensures.desks c.tend_desks-outlook.ensures.readers
@@ -39,3 +51,18 @@ returns-then-is_over-clause-inputs g c =
 
 pub returns-then-is_over-clause-group : goal.returns-then-is_over-clause-group
 returns-then-is_over-clause-group g c = c.tend_desks-outlook.ensures.desks.group ∙ c.in_ok-serves.ensures.group
+
+pub tend_desks-outlook-requires-clause-outputs : goal.tend_desks-outlook-requires-clause-outputs
+tend_desks-outlook-requires-clause-outputs g c =
+    outputs_on g.O.Write.contents g.P.Outputs.stands c.loop.outputs.items c.loop.ports.writers.items c.serve_round.new.ports.writers.items c.in_ok-serves.ensures.writer_count
+    c.in_ok-serves.ensures.writers c.loop.invariant.outputs.of
+
+pub returns-then-is_over-clause-outputs : goal.returns-then-is_over-clause-outputs
+returns-then-is_over-clause-outputs g c =
+    outputs_twice g.O.Write.contents g.P.Outputs.stands c.args.outputs.now.items c.loop.outputs.items c.tend_desks-outlook.new.outputs.items c.loop.ports.writers.items
+    c.tend_desks-outlook.new.ports.writers.items c.loop.invariant.outputs c.tend_desks-outlook.ensures.outputs
+
+pub returns-then-is_over-clause-desks : goal.returns-then-is_over-clause-desks
+returns-then-is_over-clause-desks g c =
+    desks_twice _ c.loop.server.desks.items _ c.loop.invariant.desks (desks_twice _ c.serve_round.new.server.desks.items _ c.in_ok-serves.ensures.desks
+    (desks_handed _ _ c.serve_round.new.ports.writers.items c.tend_desks-outlook.new.ports.writers.items c.in_ok-serves.ensures.ports.writers c.tend_desks-outlook.ensures.desks.handed))

@@ -1,10 +1,12 @@
 use Rattle.std.proofs.Common.{refl, ◌∙◌}
 use Rattle.batch_pipes.proofs.InputsKept.{input_on}
 use Rattle.batch_pipes.proofs.Keeping.{handed_then_kept, kept_twice}
+use Rattle.batch_pipes.proofs.OutputsKept.{output_on}
+use Rattle.batch_pipes.proofs.Rings.{producer_on}
 use Rattle.batch_pipes.proofs.tending.tend.Goals as goal
 
 pub returns-clause-desk : goal.returns-clause-desk
-returns-clause-desk g c = handed_then_kept _ _ _ _ _ _ c.drop_unseen.ensures c.lines_left-left.ensures.ring (kept_twice _ _ _ c.cut_if_failed.ensures c.cut_if_stalled.ensures)
+returns-clause-desk g c = handed_then_kept _ _ _ _ _ _ c.drop_unseen.ensures c.lines_left-left.ensures.ring c.lines_left-left.ensures.went (kept_twice _ _ _ c.cut_if_failed.ensures c.cut_if_stalled.ensures)
 
 pub returns-clause-reader : goal.returns-clause-reader
 returns-clause-reader g c =
@@ -15,6 +17,14 @@ pub returns-clause-input : goal.returns-clause-input
 returns-clause-input g c =
     let kept = c.look-came.ensures.input in
     record { of = input_on g.P.Pipes.given c.look-came.new.self c.look-came.new.reader _ ((refl, refl, refl, refl), refl) kept.of; path = kept.path }
+
+pub returns-clause-output : goal.returns-clause-output
+returns-clause-output g c =
+    let writer = c.lines_left-left.new.writer in
+    let on = output_on g.O.Write.contents g.P.Outputs.stands c.args.output.now c.args.writer.now writer
+    (producer_on c.args.writer.now.ring c.drop_unseen.new.writer.ring writer.ring c.drop_unseen.ensures.ring c.lines_left-left.ensures.ring) c.requires.output in
+    let kept = c.join_if_done.ensures.kept writer (record { thread = on.thread; ended = on.ended }) in
+    record { of = kept.of; asked = kept.asked }
 
 pub returns-clause-done : goal.returns-clause-done
 returns-clause-done g c = λ no_sends no_waits uncut.

@@ -1,5 +1,5 @@
 use Rattle.std.proofs.Common.{◌≡◌, ◌<◌, ◌≤◌, ℕ, length, get_or}
-use Rattle.batch_serve_desks.specs.Rounds.{IsHandedOn}
+use Rattle.batch_serve_desks.specs.Rounds.{IsCutIfLate, IsHandedOn}
 use Rattle.batch_serve_desks.specs.declared.desk.Desk.{Desk}
 use Rattle.batch_serve_desks.specs.declared.rounds.Writer.{Writer}
 use Rattle.batch_serve_desks.proofs.rounds.hand_on_each.Given as goal
@@ -11,6 +11,8 @@ invariant-loop-desk l = record {
   writers : length l.writers.items ≡ length l.initial.writers.items;
   handed : (k : ℕ) (other : Desk) (writer : Writer) → k < l.desk
       → IsHandedOn (get_or l.initial.desks.items k other) (get_or l.desks.items k other) (get_or l.initial.writers.items k writer) (get_or l.writers.items k writer);
+  late : (k : ℕ) (other : Desk) (writer : Writer) → k < l.desk
+      → IsCutIfLate (get_or l.initial.desks.items k other) (get_or l.desks.items k other) (get_or l.initial.writers.items k writer) (get_or l.writers.items k writer);
   rest_desks : (k : ℕ) (other : Desk) → l.desk ≤ k → get_or l.desks.items k other ≡ get_or l.initial.desks.items k other;
   rest_writers : (k : ℕ) (writer : Writer) → l.desk ≤ k → get_or l.writers.items k writer ≡ get_or l.initial.writers.items k writer;
 }
