@@ -1,0 +1,32 @@
+-- Rows that are made one after another, and what is read of them.
+use Rattle.std.proofs.Common.{◌≡◌, ℕ, List, [], ◌∷◌, ◌++◌, ◌+◌, ◌<◌, ◌≤◌, suc, length, drop, get_or, map, Option, Some, Vec, slice_get, sym, ap, ◌∙◌, add-one, drop-cons, drop_of_length-le, append_assoc, append-nil}
+use Rattle.std.specs.Global.{Global}
+use Rattle.std.specs.Prelude.{option_map, unwrap_or}
+use Rattle.std.proofs.lemmas.List.{map-append}
+use Rattle.std.proofs.lemmas.Option.{slice_get-map}
+use Rattle.batch_set.specs.Linking.{table_items}
+use Rattle.batch_set.specs.Looked.{row_at}
+
+-- so far the rows are what the elements before number i come to
+abbrev pub AreMapped : {A B : Type 0} → (A → B) → List A → ℕ → List B → Type 0
+AreMapped f xs i ys = ys ++ map f (drop i xs) ≡ map f xs
+
+pub AreMapped-more : {A B : Type 0} (f : A → B) (xs : List A) (i : ℕ) (ys zs : List B) → AreMapped f xs i ys → (x : A) → i < length xs → x ≡ get_or xs i x → zs ≡ ys ++ f x ∷ []
+    → AreMapped f xs (i + 1) zs
+AreMapped-more f xs i ys zs h x within is pushed =
+    let cut : drop i xs ≡ x ∷ drop (i + 1) xs = drop-cons xs i x within ∙ (ap (λ y. y ∷ drop (suc i) xs) (sym is) ∙ ap (λ n. x ∷ drop n xs) (sym (add-one i))) in
+    ap (λ ws. ws ++ map f (drop (i + 1) xs)) pushed ∙ (append_assoc ys (f x ∷ []) (map f (drop (i + 1) xs)) ∙ (ap (λ ws. ys ++ map f ws) (sym cut) ∙ h))
+
+pub AreMapped-all : {A B : Type 0} (f : A → B) (xs : List A) (i : ℕ) (ys : List B) → AreMapped f xs i ys → length xs ≤ i → ys ≡ map f xs
+AreMapped-all f xs i ys h past = sym (append-nil ys) ∙ (ap (λ ws. ys ++ map f ws) (sym (drop_of_length-le xs past)) ∙ h)
+
+-- one more row
+pub row : {X : Type 0} (rows more : List (Vec X Global)) (own : Vec X Global) (items : List X) → more ≡ rows ++ own ∷ [] → own.items ≡ items → table_items more ≡ table_items rows ++ items ∷ []
+row rows more own items pushed is =
+    ap table_items pushed ∙ (map-append (λ r. r.items) rows (own ∷ []) ∙ ap (λ i. table_items rows ++ i ∷ []) is)
+
+-- the row of an element
+pub row-there : {A X : Type 0} (f : A → List X) (table : List (Vec X Global)) (xs : List A) → table_items table ≡ map f xs → (k : ℕ) (x : A) → slice_get xs k ≡ Some x → row_at table k ≡ f x
+row-there {A} {X} f table xs h k x at =
+    ap (λ (o : Option (List X)). unwrap_or o [])
+    (sym (slice_get-map (λ (r : Vec X Global). r.items) table k) ∙ (ap (λ (rows : List (List X)). slice_get rows k) h ∙ (slice_get-map f xs k ∙ ap (option_map f) at)))

@@ -1,0 +1,161 @@
+-- The numbers of a linked recipe say what its names say.
+use Rattle.std.proofs.Common.{◌≡◌, arith, ℕ, zero, suc, List, [], ◌∷◌, ◌++◌, map, Bool, true, false, ◌||◌, Option, Some, None, position, slice_get, get_or, refl, sym, ap, ◌∙◌, subst}
+use Rattle.std.specs.List.{list_all, list_any}
+use Rattle.std.specs.Option.{is_some}
+use Rattle.std.specs.Prelude.{option_and_then}
+use Rattle.std.specs.Cmp.Lexicographic.{bytes_decides}
+use Rattle.std.proofs.lemmas.Bool.{and_parts, false≢true}
+use Rattle.std.proofs.lemmas.Bool.Decides.{nat_tests}
+use Rattle.std.proofs.lemmas.Grind.{common_steps}
+use Rattle.std.proofs.lemmas.List.Quantifiers.{position-Some}
+use Rattle.std.proofs.lemmas.Option.{slice_get-get_or}
+use Rattle.batch_cell.specs.LookUps.{resources_of}
+use Rattle.batch_cell.specs.declared.cell.Cell.{Cell}
+use Rattle.batch_recipe.specs.Conditions.{Name, same_name}
+use Rattle.batch_recipe.specs.Expanding.{Binding, asked_by, needs_with, unit_chosen, unit_named, unit_with}
+use Rattle.batch_recipe.specs.Needs.{one_unit}
+use Rattle.batch_recipe.specs.Outlines.{act_of}
+use Rattle.batch_recipe.specs.Procedure.{sites}
+use Rattle.batch_recipe.specs.WellFormed.{act_names, is_among}
+use Rattle.batch_recipe.specs.declared.act.Act.{Act}
+use Rattle.batch_recipe.specs.declared.act.UnitChoice.{UnitChoice}
+use Rattle.batch_recipe.specs.declared.act.UnitChoice.TheVariants as Choice
+use Rattle.batch_recipe.specs.declared.acts.LabelTable.TheVariants.{UnitProcedures, Operations, Phases}
+use Rattle.batch_recipe.specs.declared.entry.Kind.{Kind}
+use Rattle.batch_recipe.specs.declared.entry.Kind.TheVariants as kind
+use Rattle.batch_recipe.specs.declared.need.Need.{Need}
+use Rattle.batch_recipe.specs.declared.recipe.Recipe.{Recipe}
+use Rattle.batch_recipe.specs.declared.role.Role.{Role}
+use Rattle.batch_set.specs.Linking.{IsLinked, by_role, chosen, need_linked, needs_linked, named, reserved, reserved_need, resource_found, role_found, unit_found, unit_needs, unit_source}
+use Rattle.batch_set.specs.Looked.{first_source, needs_by, unit_by}
+use Rattle.batch_set.specs.Sources.{IsSource, SayNeeds, NeedsSayNames, UnitsSayNames}
+use Rattle.batch_set.specs.declared.cell_phases.CellPhases.{CellPhases}
+use Rattle.batch_set.specs.declared.linked.LinkedNeed.{LinkedNeed}
+use Rattle.batch_set.specs.declared.linked.LinkedRecipe.{LinkedRecipe}
+use Rattle.batch_set.specs.declared.linked.Source.{Source}
+use Rattle.batch_set.proofs.Declared.{declared, named-unit, reserves-units, unit-declared}
+use Rattle.batch_set.proofs.Mapped.{row-there}
+
+module _ {X : Type 0} (test : X → Bool) where
+  -- what stands where the first that passes is found
+  abbrev Found : List X → ℕ → Type 0
+  Found xs number = (x : X) × (slice_get xs number ≡ Some x) × (test x ≡ true)
+
+  pub found-at : (xs : List X) (number : ℕ) → position test xs ≡ Some number → Found xs number
+  found-at [] number e = absurd cc
+  found-at (x ∷ xs) number e =
+      let found = position-Some test (x ∷ xs) number x e in
+      (get_or (x ∷ xs) number x, slice_get-get_or (x ∷ xs) number x found.0, found.1)
+
+  -- something is found where some element passes
+  pub found-any : (xs : List X) → is_some (position test xs) ≡ list_any test xs
+  found-any [] = refl
+  found-any (x ∷ xs) = grind (arith, nat_tests, common_steps, found-any xs)
+
+any-mapped : {X Y : Type 0} (p : Y → Bool) (f : X → Y) (xs : List X) → list_any p (map f xs) ≡ list_any (λ x. p (f x)) xs
+any-mapped p f [] = refl
+any-mapped p f (x ∷ xs) = ap (λ b. p (f x) || b) (any-mapped p f xs)
+
+module _ (cell : Cell) (roles : List Role) (bound : Binding) where
+  named-source : (name : Name) → IsSource cell roles bound (named cell name) name
+  named-source name = go (position (same_name name) (resources_of cell)) refl
+    where
+      go : (o : Option ℕ) → position (same_name name) (resources_of cell) ≡ o → IsSource cell roles bound (resource_found o) name
+      go None e = e
+      go (Some number) e =
+          let f = found-at (same_name name) (resources_of cell) number e in
+          f.1 ∙ ap Some (sym ((bytes_decides name f.0).0 f.2))
+
+  role-source : (name : Name) → is_among (map (λ (role : Role). role.name) roles) name ≡ true → IsSource cell roles bound (by_role roles name) (bound name)
+  role-source name among = go (position (λ (role : Role). same_name name role.name) roles) refl
+    where
+      go : (o : Option ℕ) → position (λ (role : Role). same_name name role.name) roles ≡ o → IsSource cell roles bound (role_found o) (bound name)
+      go None e = absurd (false≢true (ap is_some (sym e) ∙ (found-any (λ (role : Role). same_name name role.name) roles ∙ (sym (any-mapped (same_name name) (λ (role : Role). role.name) roles) ∙ among))))
+      go (Some number) e =
+          let f = found-at (λ (role : Role). same_name name role.name) roles number e in
+          (f.0, f.1, ap bound (sym ((bytes_decides name f.0.name).0 f.2)))
+
+  abbrev IsDeclared : UnitChoice → Type 0
+  IsDeclared choice = elim choice [ Choice.Unit unit ↦ true | Choice.Role role ↦ is_among (map (λ (role : Role). role.name) roles) role ] ≡ true
+
+  chosen-source : (choice : UnitChoice) → IsDeclared choice → IsSource cell roles bound (chosen cell roles choice) (unit_chosen bound choice)
+  chosen-source (Choice.Unit name) h = named-source name
+  chosen-source (Choice.Role name) h = role-source name h
+
+  own-says : (needs : List Need) → SayNeeds cell roles bound (map (need_linked cell) needs) needs
+  own-says [] = tt
+  own-says (need ∷ needs) = (named-source need.resource, refl, own-says needs)
+
+module _ (cell : Cell) (r : Recipe) (bound : Binding) where
+  abbrev units : List Act
+  units = r.acts.unit_procedures.items
+
+  -- the unit of a unit procedure that is reserved
+  reserved-source : (name : Name) → is_among (act_names units) name ≡ true → IsSource cell r.roles.items bound (reserved cell r.roles.items units name) (unit_named (sites bound r.acts) name)
+  reserved-source name among =
+      let u = named-unit r name among in
+      subst (λ (found : Option Act). IsSource cell r.roles.items bound (unit_found cell r.roles.items found) (elim (option_and_then (λ (a : Act). unit_with bound a.unit) found) [ None ↦ [] | Some unit ↦ unit ])) (sym u.1) (go u.0.unit u.2 u.3)
+    where
+      go : (o : Option UnitChoice) → elim o [ None ↦ false | Some unit ↦ true ] ≡ true
+          → elim o [ None ↦ true | Some choice ↦ elim choice [ Choice.Unit unit ↦ true | Choice.Role role ↦ is_among (map (λ (role : Role). role.name) r.roles.items) role ] ] ≡ true
+          → IsSource cell r.roles.items bound (unit_source cell r.roles.items o) (elim (unit_with bound o) [ None ↦ [] | Some unit ↦ unit ])
+      go None h d = absurd cc
+      go (Some choice) h d = chosen-source cell r.roles.items bound choice d
+
+  -- those, and then what is needed besides
+  reserved-say : (names : List Name) → list_all (is_among (act_names units)) names ≡ true → (more : List LinkedNeed) (needs : List Need) → SayNeeds cell r.roles.items bound more needs
+      → SayNeeds cell r.roles.items bound (map (reserved_need cell r.roles.items units) names ++ more) (map one_unit (map (unit_named (sites bound r.acts)) names) ++ needs)
+  reserved-say [] among more needs h = h
+  reserved-say (name ∷ names) among more needs h =
+      let own = and_parts (is_among (act_names units) name) (list_all (is_among (act_names units)) names) among in
+      (reserved-source name own.0, refl, reserved-say names own.1 more needs h)
+
+  act-says : (k : Kind) (a : Act) → act_of r.acts k ≡ Some a → SayNeeds cell r.roles.items bound (needs_linked cell r.roles.items units a) (needs_with (sites bound r.acts) a)
+  act-says k a is = go a.unit (declared r k a is)
+    where
+      rest : SayNeeds cell r.roles.items bound (map (reserved_need cell r.roles.items units) a.reserves.items ++ map (need_linked cell) a.needs.items) (map one_unit (map (unit_named (sites bound r.acts)) a.reserves.items) ++ a.needs.items)
+      rest = reserved-say a.reserves.items (reserves-units r k a is) (map (need_linked cell) a.needs.items) a.needs.items (own-says cell r.roles.items bound a.needs.items)
+
+      go : (o : Option UnitChoice)
+          → elim o [ None ↦ true | Some choice ↦ elim choice [ Choice.Unit unit ↦ true | Choice.Role role ↦ is_among (map (λ (role : Role). role.name) r.roles.items) role ] ] ≡ true
+          → SayNeeds cell r.roles.items bound ((unit_needs cell r.roles.items o ++ map (reserved_need cell r.roles.items units) a.reserves.items) ++ map (need_linked cell) a.needs.items)
+          (asked_by (unit_with bound o) (map (unit_named (sites bound r.acts)) a.reserves.items) a.needs.items)
+      go None d = rest
+      go (Some choice) d = (chosen-source cell r.roles.items bound choice d, refl, rest)
+
+-- the rows of a linked recipe
+module _ (cell : Cell) (phases : CellPhases) (r : Recipe) (linked : LinkedRecipe) (h : IsLinked cell phases r linked) where
+  abbrev linked_of : Act → List LinkedNeed
+  linked_of = needs_linked cell r.roles.items r.acts.unit_procedures.items
+
+  needs-linked : (k : Kind) (a : Act) → act_of r.acts k ≡ Some a → needs_by linked k ≡ linked_of a
+  needs-linked kind.Procedure a is = (let same : r.acts.procedure ≡ a = cc in h.procedure ∙ ap linked_of same)
+  needs-linked (kind.Act UnitProcedures n) a is = row-there linked_of linked.unit_procedures.items r.acts.unit_procedures.items h.unit_procedures n a is
+  needs-linked (kind.Act Operations n) a is = row-there linked_of linked.operations.items r.acts.operations.items h.operations n a is
+  needs-linked (kind.Act Phases n) a is = row-there linked_of linked.phases.items r.acts.phases.items h.phases n a is
+  needs-linked _ a is = let bad : None ≡ Some a = is in cc
+
+pub needs-said : NeedsSayNames
+needs-said cell phases r linked h bound k a is =
+    subst (λ (needs : List LinkedNeed). SayNeeds cell r.roles.items bound needs (needs_with (sites bound r.acts) a)) (sym (needs-linked cell phases r linked h k a is)) (act-says cell r bound k a is)
+
+pub units-said : UnitsSayNames
+units-said cell phases r linked h bound k a choice at e =
+    let own : unit_by linked k ≡ chosen cell r.roles.items choice =
+    ap first_source (row-there (needs_linked cell r.roles.items r.acts.unit_procedures.items) linked.unit_procedures.items r.acts.unit_procedures.items h.unit_procedures k a at)
+    ∙ ap (λ (o : Option UnitChoice). first_source ((unit_needs cell r.roles.items o ++ map (reserved_need cell r.roles.items r.acts.unit_procedures.items) a.reserves.items) ++ map (need_linked cell) a.needs.items)) e in
+    subst (λ (source : Source). IsSource cell r.roles.items bound source (unit_chosen bound choice)) (sym own)
+    (chosen-source cell r.roles.items bound choice
+    (subst (λ (o : Option UnitChoice). elim o [ None ↦ true | Some own ↦ elim own [ Choice.Unit unit ↦ true | Choice.Role role ↦ is_among (map (λ (role : Role). role.name) r.roles.items) role ] ] ≡ true) e
+    (unit-declared r k a at)))
+
+-- need i is of what number i says
+pub said-at : (cell : Cell) (roles : List Role) (bound : Binding) (links : List LinkedNeed) (needs : List Need) → SayNeeds cell roles bound links needs → (i : ℕ) (need : Need) → slice_get needs i ≡ Some need
+    → (linked : LinkedNeed) × (slice_get links i ≡ Some linked) × IsSource cell roles bound linked.source need.resource × (linked.units ≡ need.units)
+said-at cell roles bound [] [] h i need e = absurd cc
+said-at cell roles bound [] (n ∷ needs) h i need e = absurd h
+said-at cell roles bound (l ∷ links) [] h i need e = absurd h
+said-at cell roles bound (l ∷ links) (n ∷ needs) h zero need e =
+    let same : n ≡ need = cc in
+    (l, refl, subst (λ (z : Need). IsSource cell roles bound l.source z.resource) same h.0, subst (λ (z : Need). l.units ≡ z.units) same h.1)
+said-at cell roles bound (l ∷ links) (n ∷ needs) h (suc i) need e = said-at cell roles bound links needs h.2 i need e

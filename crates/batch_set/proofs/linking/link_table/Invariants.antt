@@ -1,0 +1,6 @@
+use Rattle.batch_set.specs.Linking.{needs_linked, table_items}
+use Rattle.batch_set.proofs.Mapped.{AreMapped}
+use Rattle.batch_set.proofs.linking.link_table.Given as goal
+
+abbrev pub invariant-loop-act : goal.invariant-loop-act
+invariant-loop-act l = AreMapped (needs_linked l.cell l.roles l.unit_procedures) l.table l.act-index (table_items l.needs.items)

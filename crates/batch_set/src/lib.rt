@@ -1,0 +1,14 @@
+//! The linked set: the numbers of what the acts of recipes name in a cell.
+//!
+//! Linking never refuses: a name that stands for nothing has the source `Unknown`.
+#![tactic(auto)]
+
+mod cell_phases;
+mod laws;
+mod linked;
+mod linking;
+
+pub use cell_phases::CellPhases;
+pub use laws::{needs_say_names, phases_say_names, units_say_names};
+pub use linked::{LinkedNeed, LinkedRecipe, Source};
+pub use linking::link;

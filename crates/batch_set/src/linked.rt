@@ -1,0 +1,103 @@
+//! What acts need and run, by number.
+ghost use Rattle.std.specs.Prelude.{◌≡◌};
+ghost use Rattle.batch_set.specs.Looked.{needs_by, number_for, phase_on, rows_at, unit_by};
+
+use crate::cell_phases::CellPhases;
+use batch_recipe::{Kind, LabelTable};
+
+/// Where the units of a need come from.
+#[derive(Clone, Copy)]
+pub enum Source {
+    /// The resource with this number. It is a unit where the number is below that of the cell's units.
+    Resource(u16),
+    /// The unit that takes the role with this number.
+    Role(u8),
+    /// No resource, or no role, has the name.
+    Unknown,
+}
+
+impl Source {
+    /// The number of the resource, where these units take the roles.
+    pub fn for_units(self, units: &[u16]) -> Option<u16>
+        ensures { result ≡ number_for units.now self }
+    {
+        match self {
+            Source::Resource(number) => Some(number),
+            Source::Role(role) => units.get(usize::from(role)).copied(),
+            Source::Unknown => None,
+        }
+    }
+}
+
+/// So many units of a resource.
+#[derive(Clone, Copy)]
+pub struct LinkedNeed {
+    pub source: Source,
+    pub units: u32,
+}
+
+/// A recipe, each of its tables in its order. The needs of an act begin with its own unit, if it has one, and then with the units
+/// that it reserves.
+#[derive(Drop)]
+pub struct LinkedRecipe {
+    pub procedure: Vec<LinkedNeed>,
+    pub unit_procedures: Vec<Vec<LinkedNeed>>,
+    pub operations: Vec<Vec<LinkedNeed>>,
+    pub phases: Vec<Vec<LinkedNeed>>,
+    /// Of each role the numbers of the units that may take it, in the order of the cell.
+    pub candidates: Vec<Vec<u16>>,
+    /// Of each phase step the number of its phase among the phases of the cell. None where no unit offers it.
+    pub runs: Vec<Option<usize>>,
+}
+
+impl LinkedRecipe {
+    /// The needs of the table's acts.
+    fn table(&self, level: LabelTable) -> &[Vec<LinkedNeed>]
+        ensures { result.now ≡ rows_at self.now level }
+    {
+        match level {
+            LabelTable::UnitProcedures => &self.unit_procedures,
+            LabelTable::Operations => &self.operations,
+            LabelTable::Phases => &self.phases,
+        }
+    }
+
+    /// The needs of the act of this kind. None where it is no act of the recipe.
+    #[inline(always)]
+    pub fn needs(&self, kind: Kind) -> &[LinkedNeed]
+        ensures { result.now ≡ needs_by self.now kind }
+    {
+        match kind {
+            Kind::Procedure => &self.procedure,
+            Kind::Act(level, number) => match self.table(level).get(number) {
+                Some(needs) => needs,
+                None => &[],
+            },
+            Kind::Skip | Kind::Seq | Kind::Par | Kind::Sel | Kind::Loop(_) => &[],
+        }
+    }
+
+    /// Where the unit of the unit procedure with this number comes from: its first need.
+    #[inline(always)]
+    pub fn unit(&self, unit_procedure: usize) -> Source
+        ensures { result ≡ unit_by self.now unit_procedure }
+    {
+        match self.unit_procedures.get(unit_procedure) {
+            Some(needs) => match needs.first() {
+                Some(need) => need.source,
+                None => Source::Unknown,
+            },
+            None => Source::Unknown,
+        }
+    }
+
+    /// The number of the phase that the phase step with this number runs, among those that the unit offers. None where it doesn't
+    /// offer it.
+    #[inline(always)]
+    pub fn phase_on(&self, phases: &CellPhases, step: usize, unit: u16) -> Option<u16>
+        ensures { result ≡ phase_on self.now phases.now step unit }
+    {
+        let phase = (*self.runs.get(step)?)?;
+        phases.on(phase, unit)
+    }
+}

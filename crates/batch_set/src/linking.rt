@@ -1,0 +1,234 @@
+//! Linking.
+ghost use Rattle.std.specs.Prelude.{◌≡◌, ◌≤◌, ◌++◌, length, map, position, IfOk};
+ghost use Rattle.batch_recipe.specs.Conditions.{same_name};
+ghost use Rattle.batch_recipe.specs.declared.role.TheConstants.{MAX_ROLES};
+ghost use Rattle.batch_set.specs.Linking.{IsLinked, by_role, candidate_numbers, chosen, named, need_linked, needs_linked, reserved, reserved_need, run_by, table_items, unit_needs};
+
+use crate::cell_phases::CellPhases;
+use crate::linked::{LinkedNeed, LinkedRecipe, Source};
+use batch_cell::Cell;
+use batch_recipe::{Act, Need, Recipe, Role, UnitChoice, act_named};
+use batch_text::Name;
+use std::alloc::{AllocError, Global};
+
+/// The resource with this name.
+fn named(cell: &Cell, name: &Name) -> Source
+    ensures { result ≡ named cell.now name.now }
+{
+    match cell.resource_of(name) {
+        None => Source::Unknown,
+        Some(number) => Source::Resource(number),
+    }
+}
+
+/// The number of the role with this name.
+fn role_number(roles: &[Role], name: &Name) -> Option<usize>
+    ensures { result ≡ position (λ role. same_name name.now role.name) roles.now }
+{
+    roles.iter().position(|role| *name == role.name)
+}
+
+/// The unit that takes the role with this name.
+fn by_role(roles: &[Role], name: &Name) -> Source
+    requires { length roles.now ≤ MAX_ROLES }
+    ensures { result ≡ by_role roles.now name.now }
+{
+    match role_number(roles, name) {
+        None => Source::Unknown,
+        Some(number) => Source::Role(number as u8),
+    }
+}
+
+/// The unit that is chosen.
+fn chosen(cell: &Cell, roles: &[Role], choice: &UnitChoice) -> Source
+    requires { length roles.now ≤ MAX_ROLES }
+    ensures { result ≡ chosen cell.now roles.now choice.now }
+{
+    match choice {
+        UnitChoice::Unit(name) => named(cell, name),
+        UnitChoice::Role(name) => by_role(roles, name),
+    }
+}
+
+/// The unit of the unit procedure with this name.
+fn reserved(cell: &Cell, roles: &[Role], unit_procedures: &[Act], name: &Name) -> Source
+    requires { length roles.now ≤ MAX_ROLES }
+    ensures { result ≡ reserved cell.now roles.now unit_procedures.now name.now }
+{
+    match act_named(unit_procedures, name) {
+        None => Source::Unknown,
+        Some(act) => match &act.unit {
+            None => Source::Unknown,
+            Some(choice) => chosen(cell, roles, choice),
+        },
+    }
+}
+
+/// How many needs an act has, its unit and those that it reserves among them.
+fn needs_count(act: &Act) -> usize {
+    let needs = act.needs.len() + act.reserves.len();
+    match &act.unit {
+        None => needs,
+        Some(_) => needs + 1,
+    }
+}
+
+/// The need of the unit, if there is one. It has room for all needs of the act.
+fn link_unit(
+    alloc: Global,
+    cell: &Cell,
+    roles: &[Role],
+    act: &Act,
+) -> Result<Vec<LinkedNeed>, AllocError>
+    requires { length roles.now ≤ MAX_ROLES }
+    ensures { IfOk result (λ needs. needs.items ≡ unit_needs cell.now roles.now act.now.unit) }
+{
+    let mut needs = Vec::with_capacity(alloc, needs_count(act))?;
+    if let Some(choice) = &act.unit {
+        let source = chosen(cell, roles, choice);
+        needs.push(LinkedNeed { source, units: 1 })?;
+    }
+    Ok(needs)
+}
+
+/// Adds the units that an act reserves after its own.
+fn link_reserved(
+    cell: &Cell,
+    roles: &[Role],
+    unit_procedures: &[Act],
+    needs: Vec<LinkedNeed>,
+    names: &[Name],
+) -> Result<Vec<LinkedNeed>, AllocError>
+    requires { length roles.now ≤ MAX_ROLES }
+    ensures { IfOk result (λ all. all.items ≡ needs.items ++ map (reserved_need cell.now roles.now unit_procedures.now) names.now) }
+{
+    let mut needs = needs;
+    for name in names {
+        let source = reserved(cell, roles, unit_procedures, name);
+        needs.push(LinkedNeed { source, units: 1 })?;
+    }
+    Ok(needs)
+}
+
+/// A need.
+fn link_need(cell: &Cell, need: &Need) -> LinkedNeed
+    ensures { result ≡ need_linked cell.now need.now }
+{
+    LinkedNeed {
+        source: named(cell, &need.resource),
+        units: need.units,
+    }
+}
+
+/// Adds the needs of an act that come after these units.
+fn link_each(
+    cell: &Cell,
+    needs: Vec<LinkedNeed>,
+    more: &[Need],
+) -> Result<Vec<LinkedNeed>, AllocError>
+    ensures { IfOk result (λ all. all.items ≡ needs.items ++ map (need_linked cell.now) more.now) }
+{
+    let mut needs = needs;
+    for need in more {
+        needs.push(link_need(cell, need))?;
+    }
+    Ok(needs)
+}
+
+/// All that an act needs, in the order in which it asks.
+fn link_act(
+    alloc: Global,
+    cell: &Cell,
+    roles: &[Role],
+    unit_procedures: &[Act],
+    act: &Act,
+) -> Result<Vec<LinkedNeed>, AllocError>
+    requires { length roles.now ≤ MAX_ROLES }
+    ensures { IfOk result (λ needs. needs.items ≡ needs_linked cell.now roles.now unit_procedures.now act.now) }
+{
+    let unit = link_unit(alloc, cell, roles, act)?;
+    let units = link_reserved(cell, roles, unit_procedures, unit, &act.reserves)?;
+    let needs = link_each(cell, units, &act.needs)?;
+    Ok(needs)
+}
+
+/// The needs of a table's acts.
+fn link_table(
+    alloc: Global,
+    cell: &Cell,
+    roles: &[Role],
+    unit_procedures: &[Act],
+    table: &[Act],
+) -> Result<Vec<Vec<LinkedNeed>>, AllocError>
+    requires { length roles.now ≤ MAX_ROLES }
+    ensures { IfOk result (λ needs. table_items needs.items ≡ map (needs_linked cell.now roles.now unit_procedures.now) table.now) }
+{
+    let mut needs = Vec::with_capacity(alloc, table.len())?;
+    for act in table {
+        let own = link_act(alloc, cell, roles, unit_procedures, act)?;
+        needs.push(own)?;
+    }
+    Ok(needs)
+}
+
+/// The units that may take the role, by number.
+fn link_role(alloc: Global, cell: &Cell, role: &Role) -> Result<Vec<u16>, AllocError>
+    ensures { IfOk result (λ units. units.items ≡ candidate_numbers cell.now role.now) }
+{
+    let mut units = Vec::new(alloc);
+    for number in 0..cell.units() {
+        if cell.units[usize::from(number)].is_of_class(&role.class) {
+            units.push(number)?;
+        }
+    }
+    Ok(units)
+}
+
+/// The units that may take each role.
+fn link_roles(alloc: Global, cell: &Cell, roles: &[Role]) -> Result<Vec<Vec<u16>>, AllocError>
+    ensures { IfOk result (λ units. table_items units.items ≡ map (candidate_numbers cell.now) roles.now) }
+{
+    let mut units = Vec::with_capacity(alloc, roles.len())?;
+    for role in roles {
+        let own = link_role(alloc, cell, role)?;
+        units.push(own)?;
+    }
+    Ok(units)
+}
+
+/// The phases that the phase steps of a table run.
+fn link_runs(
+    alloc: Global,
+    phases: &CellPhases,
+    table: &[Act],
+) -> Result<Vec<Option<usize>>, AllocError>
+    ensures { IfOk result (λ runs. runs.items ≡ map (run_by phases.now.names.keys) table.now) }
+{
+    let mut runs = Vec::with_capacity(alloc, table.len())?;
+    for act in table {
+        runs.push(phases.run_by(act))?;
+    }
+    Ok(runs)
+}
+
+/// The recipe by the numbers of what it names in the cell, whose phases these are.
+pub fn link(
+    alloc: Global,
+    cell: &Cell,
+    phases: &CellPhases,
+    recipe: &Recipe,
+) -> Result<LinkedRecipe, AllocError>
+    ensures { IfOk result (IsLinked cell.now phases.now recipe.now) }
+{
+    let acts = &recipe.acts;
+    let roles = &recipe.roles;
+    let units = &acts.unit_procedures;
+    Ok(LinkedRecipe {
+        procedure: link_act(alloc, cell, roles, units, &acts.procedure)?,
+        unit_procedures: link_table(alloc, cell, roles, units, units)?,
+        operations: link_table(alloc, cell, roles, units, &acts.operations)?,
+        phases: link_table(alloc, cell, roles, units, &acts.phases)?,
+        candidates: link_roles(alloc, cell, roles)?,
+        runs: link_runs(alloc, phases, &acts.phases)?,
+    })
+}
