@@ -42,7 +42,7 @@ fn greater(one: u16, other: u16) -> u16
 }
 
 /// The role with this name.
-fn role_named<'a>(roles: &'a [Role], name: &Name) -> Option<&'a Role>
+pub(crate) fn role_named<'a>(roles: &'a [Role], name: &Name) -> Option<&'a Role>
     ensures { option_copied result ≡ role_named roles.now name.now }
 {
     roles.iter().find(|role| role.name == *name)
