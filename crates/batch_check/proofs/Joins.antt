@@ -45,6 +45,17 @@ HasJoined-none recipe node later edges = record {
   only = λ edge stands. inl stands;
 }
 
+-- an edge leads from each of them already
+pub HasJoined-known : (recipe node : ℕ) (needs : List (Option ℕ)) (number : ℕ) (edges : EdgeSet) → ((i : ℕ) → Contains needs (Some i) → IsTrue (has_pair edges.edges.items i number))
+    → HasJoined recipe node needs (Some number) edges edges
+HasJoined-known recipe node needs number edges known = record {
+  grown = Grows-same edges;
+  joined = λ i j among is.
+      let same : number ≡ j = let e : Some number ≡ Some j = is in cc in
+      subst (λ k. IsTrue (has_pair edges.edges.items i k)) same (known i among);
+  only = λ edge stands. inl stands;
+}
+
 pub LeadsFrom-more : (recipe node : ℕ) (xs ys : List (Option ℕ)) (later : Option ℕ) (edge : Edge)
     → ((k : Option ℕ) → Contains xs k → Contains ys k) → LeadsFrom recipe node xs later edge → LeadsFrom recipe node ys later edge
 LeadsFrom-more recipe node xs ys later edge more h =

@@ -16,7 +16,7 @@ pub mod Collects
 pub mod Known
 pub mod Rising
 pub mod Bound
-pub mod Takings
+pub mod Taking
 pub mod Recipes
 pub mod Circles
 pub mod Spreads

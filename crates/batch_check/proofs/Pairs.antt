@@ -1,10 +1,51 @@
--- One more edge in a set of edges.
-use Rattle.std.proofs.Common.{◌≡◌, ℕ, ◌+◌, ◌*◌, ◌<◌, ◌/◌, Bool, true, false, ◌&&◌, ◌||◌, nat_eq, List, [], ◌∷◌, ◌++◌, length, set, get_or, inl, inr, refl, sym, ap, ◌∙◌, arith, get_or-set_same, get_or-set_other}
-use Rattle.std.proofs.lemmas.Bool.{cases_eq, eqb-true, eq-eqb}
-use Rattle.std.proofs.lemmas.Nat.{mul-add-lt, div-mul-add}
+-- Sets of numbers as bits, and one more edge in a set of edges.
+use Rattle.std.proofs.Common.{◌≡◌, ◌≢◌, ℕ, ◌+◌, ◌*◌, ◌<◌, ◌≤◌, ◌/◌, ◌%◌, Bool, true, false, ◌&&◌, ◌||◌, nat_eq, IsTrue, List, [], ◌∷◌, ◌++◌, length, replicate, set, get_or, bit_and, inl, inr, refl, sym, ap, ◌∙◌, subst, arith, get_or-set_same, get_or-set_other}
+use Rattle.std.specs.Prelude.{min}
+use Rattle.std.specs.Int.{bit_at}
+use Rattle.std.proofs.lemmas.Bool.{cases_eq, eqb-true, eq-eqb, false_from_ne_true}
+use Rattle.std.proofs.lemmas.Nat.{div-add-mod'}
+use Rattle.std.proofs.lemmas.Nat.Bits.{bit_at-lt, bit_at-zero, bit_at_and}
 use Rattle.std.proofs.lemmas.List.Folds.{list_any-append}
+use Rattle.batch_signs.specs.Bits.{with_one}
+use Rattle.batch_signs.proofs.Bits.{with-one_same, with-one_other, zeros}
 use Rattle.batch_check.specs.declared.edge.Edge.{Edge}
 use Rattle.batch_check.specs.Edges.{has_pair}
+use Rattle.batch_check.specs.Pairs.{has_bit}
+
+-- Bits
+
+-- one bit of the words is set
+module _ (words : List ℕ) (n word : ℕ) (within : n / 64 < length words) (bits : (k : ℕ) → bit_at word k ≡ with_one (n % 64) (bit_at (get_or words (n / 64) 0)) k) where
+  abbrev after : List ℕ
+  after = set words (n / 64) word
+
+  pub has_bit-set : has_bit after n ≡ true
+  has_bit-set =
+      ap (λ w. nat_eq (bit_at w (n % 64)) 1) (get_or-set_same words (n / 64) word 0 within)
+      ∙ ap (λ b. nat_eq b 1) (bits (n % 64) ∙ with-one_same (n % 64) (bit_at (get_or words (n / 64) 0)))
+
+  pub has_bit-kept : (m : ℕ) → m ≢ n → has_bit after m ≡ has_bit words m
+  has_bit-kept m other = elim (cases_eq (m / 64) (n / 64)) [
+    | inl same ↦
+        let apart : nat_eq (m % 64) (n % 64) ≡ false = false_from_ne_true (nat_eq (m % 64) (n % 64)) (λ e. let is : m % 64 ≡ n % 64 = eqb-true (m % 64) (n % 64) e in other (omega (arith, is, same, div-add-mod' m 64, div-add-mod' n 64))) in
+        ap (λ w. nat_eq (bit_at w (m % 64)) 1) (ap (λ k. get_or after k 0) same ∙ get_or-set_same words (n / 64) word 0 within)
+        ∙ ap (λ b. nat_eq b 1) (bits (m % 64) ∙ with-one_other (n % 64) (m % 64) (bit_at (get_or words (n / 64) 0)) apart ∙ ap (λ k. bit_at (get_or words k 0) (m % 64)) (sym same))
+    | inr apart ↦ ap (λ w. nat_eq (bit_at w (m % 64)) 1) (get_or-set_other words (n / 64) (m / 64) word 0 apart)
+  ]
+
+  pub has_bit-stays : (m : ℕ) → IsTrue (has_bit words m) → IsTrue (has_bit after m)
+  has_bit-stays m is = elim (cases_eq m n) [
+    | inl same ↦ subst (λ k. IsTrue (has_bit after k)) (sym same) has_bit-set
+    | inr other ↦ has_bit-kept m other ∙ is
+  ]
+
+-- a bit of the one word is one of the other, where the other has all of them
+bit_kept : (a b k : ℕ) → bit_and a b ≡ b → bit_at b k ≡ 1 → bit_at a k ≡ 1
+bit_kept a b k whole one =
+    let both : min (bit_at a k) (bit_at b k) ≡ 1 = sym (bit_at_and a b k) ∙ (ap (λ n. bit_at n k) whole ∙ one) in
+    omega (arith, both, one, bit_at-lt a k)
+
+-- Edges
 
 abbrev is_pair : Edge → ℕ → ℕ → Bool
 is_pair e i j = nat_eq e.earlier i && nat_eq e.later j
@@ -24,23 +65,47 @@ is_pair-own e i j p q = rw (eq-eqb e.earlier i p, eq-eqb e.later j q) refl
 is_pair-other : (e : Edge) (i j : ℕ) → (e.earlier ≡ i → e.later ≡ j → ⊥) → is_pair e i j ≡ false
 is_pair-other e i j h = grind (arith, eqb-true)
 
--- the table says which pairs have an edge
-abbrev IsExact : ℕ → List Bool → List Edge → Type 0
-IsExact count known edges = (i j : ℕ) → i < count → j < count → get_or known (j * count + i) false ≡ has_pair edges i j
+-- the words say which pairs have an edge
+abbrev IsExact : ℕ → List ℕ → List Edge → Type 0
+IsExact count known edges = (i j : ℕ) → i < count → j < count → has_bit known (j * 448 + i) ≡ has_pair edges i j
 
-pub pushed-exact : (count : ℕ) (known : List Bool) (edges : List Edge) (e : Edge) → e.earlier < count → e.later < count → length known ≡ count * count
-    → IsExact count known edges → IsExact count (set known (e.later * count + e.earlier) true) (edges ++ e ∷ [])
-pushed-exact count known edges e in_earlier in_later sized exact i j in_i in_j =
-    let within : e.later * count + e.earlier < length known = rw sized (mul-add-lt e.later count e.earlier count in_later in_earlier) in
-    elim (cases_eq (j * count + i) (e.later * count + e.earlier)) [
-      | inl same ↦
-          let first : j ≡ e.later = sym (div-mul-add j count i in_i) ∙ (ap (λ n. n / count) same ∙ div-mul-add e.later count e.earlier in_earlier) in
-          let rows : j * count ≡ e.later * count = ap (λ n. n * count) first in
-          let second : i ≡ e.earlier = omega (arith, same, rows) in
-          let new : has_pair (edges ++ e ∷ []) i j ≡ true = has_pair-push edges e i j ∙ or_right (has_pair edges i j) (is_pair e i j) (is_pair-own e i j (sym second) (sym first)) in
-          (ap (λ n. get_or (set known (e.later * count + e.earlier) true) n false) same ∙ get_or-set_same known (e.later * count + e.earlier) true false within) ∙ sym new
-      | inr ne ↦
-          let other : is_pair e i j ≡ false = is_pair-other e i j (λ p q. ne (ap (λ n. n * count + i) (sym q) ∙ ap (λ n. e.later * count + n) (sym p))) in
-          get_or-set_other known (e.later * count + e.earlier) (j * count + i) true false ne
-          ∙ (exact i j in_i in_j ∙ (or_none (has_pair edges i j) (is_pair e i j) other ∙ sym (has_pair-push edges e i j)))
-    ]
+-- an edge leads from each number whose bit is set, where the row that begins at this word has all these bits
+pub row_has_each : (count : ℕ) (known : List ℕ) (edges : List Edge) (numbers : List ℕ) (i j first : ℕ) → count ≤ 448 → IsExact count known edges → i < count → j < count → first ≡ j * 7
+    → ((k : ℕ) → k < 7 → bit_and (get_or known (first + k) 0) (get_or numbers k 0) ≡ get_or numbers k 0) → IsTrue (has_bit numbers i) → IsTrue (has_pair edges i j)
+row_has_each count known edges numbers i j first few exact in_i in_j begins whole has =
+    let number : bit_at (get_or numbers (i / 64) 0) (i % 64) ≡ 1 = eqb-true (bit_at (get_or numbers (i / 64) 0) (i % 64)) 1 has in
+    let there : bit_at (get_or known (first + i / 64) 0) (i % 64) ≡ 1 = bit_kept (get_or known (first + i / 64) 0) (get_or numbers (i / 64) 0) (i % 64) (whole (i / 64) (omega (arith, in_i, few))) number in
+    let word : (j * 448 + i) / 64 ≡ first + i / 64 = omega (arith, begins) in
+    let bit : (j * 448 + i) % 64 ≡ i % 64 = omega arith in
+    sym (exact i j in_i in_j)
+    ∙ (ap (λ k. nat_eq (bit_at (get_or known k 0) ((j * 448 + i) % 64)) 1) word
+    ∙ (ap (λ k. nat_eq (bit_at (get_or known (first + i / 64) 0) k) 1) bit ∙ ap (λ b. nat_eq b 1) there))
+
+-- one more edge, for which the bit of its pair is set
+module _ (count : ℕ) (known : List ℕ) (edges : List Edge) (e : Edge) (pair word : ℕ) (few : count ≤ 448) (in_earlier : e.earlier < count) (in_later : e.later < count)
+    (is : pair ≡ e.later * 448 + e.earlier) (bits : (k : ℕ) → bit_at word k ≡ with_one (pair % 64) (bit_at (get_or known (pair / 64) 0)) k) (exact : IsExact count known edges) where
+  pub pushed-exact : length known ≡ count * 7 → IsExact count (set known (pair / 64) word) (edges ++ e ∷ [])
+  pushed-exact sized i j in_i in_j =
+      let within : pair / 64 < length known = omega (arith, sized, in_later, in_earlier, few, is) in
+      elim (cases_eq (j * 448 + i) pair) [
+        | inl same ↦
+            let later : j ≡ e.later = omega (arith, same, is, in_i, in_earlier, few) in
+            let earlier : i ≡ e.earlier = omega (arith, same, is, later) in
+            let new : has_pair (edges ++ e ∷ []) i j ≡ true = has_pair-push edges e i j ∙ or_right (has_pair edges i j) (is_pair e i j) (is_pair-own e i j (sym earlier) (sym later)) in
+            ap (has_bit (set known (pair / 64) word)) same ∙ (has_bit-set known pair word within bits ∙ sym new)
+        | inr ne ↦
+            let other : is_pair e i j ≡ false = is_pair-other e i j (λ p q. ne (omega (arith, p, q, is))) in
+            has_bit-kept known pair word within bits (j * 448 + i) ne
+            ∙ (exact i j in_i in_j ∙ (or_none (has_pair edges i j) (is_pair e i j) other ∙ sym (has_pair-push edges e i j)))
+      ]
+
+  -- where it was set before, an edge leads from the one to the other
+  pub marked-joined : word ≡ get_or known (pair / 64) 0 → IsTrue (has_pair edges e.earlier e.later)
+  marked-joined same =
+      let one : bit_at (get_or known (pair / 64) 0) (pair % 64) ≡ 1 = ap (λ w. bit_at w (pair % 64)) (sym same) ∙ (bits (pair % 64) ∙ with-one_same (pair % 64) (bit_at (get_or known (pair / 64) 0))) in
+      let bit : has_bit known pair ≡ true = ap (λ b. nat_eq b 1) one in
+      sym (exact e.earlier e.later in_earlier in_later) ∙ (ap (has_bit known) (sym is) ∙ bit)
+
+-- no edge leads anywhere at first
+pub none-exact : (count words : ℕ) → IsExact count (replicate words 0) []
+none-exact count words i j in_i in_j = ap (λ w. nat_eq (bit_at w ((j * 448 + i) % 64)) 1) (zeros words ((j * 448 + i) / 64)) ∙ ap (λ b. nat_eq b 1) (bit_at-zero ((j * 448 + i) % 64))

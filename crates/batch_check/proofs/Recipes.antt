@@ -1,34 +1,40 @@
 -- The edges of recipes, one recipe after another.
-use Rattle.std.proofs.Common.{◌≡◌, ℕ, ◌+◌, ◌<◌, ◌≤◌, ◌⊎◌, inl, inr, refl, List, [], ◌∷◌, ◌++◌, get_or, take, length, slice_get, IsTrue, Option, Some, None, option_map, All, sym, ap, ◌∙◌, subst, arith}
+use Rattle.std.proofs.Common.{◌≡◌, ℕ, ◌+◌, ◌<◌, ◌≤◌, ◌⊎◌, true, false, nat_eq, nat_le, inl, inr, refl, List, [], ◌∷◌, ◌++◌, get_or, take, length, slice_get, IsTrue, Option, Some, None, option_map, All, sym, ap, ◌∙◌, subst, arith}
+use Rattle.std.specs.Borrow.{Bor}
 use Rattle.std.specs.List.{Contains}
-use Rattle.std.proofs.lemmas.List.{take_all, take_more}
+use Rattle.std.proofs.lemmas.Bool.{cases_eq, cases_lt, eqb-true, false_from_ne_true, le-leb, true≢false}
+use Rattle.std.proofs.lemmas.List.{take_more}
 use Rattle.std.proofs.lemmas.List.Elements.{All-weaker, All-contains, Contains-get_or}
-use Rattle.std.proofs.lemmas.Option.{same_Some, slice_get_within, slice_get-get_or, slice_get-map}
+use Rattle.std.proofs.lemmas.Option.{slice_get_within, slice_get-get_or, slice_get-map}
 use Rattle.batch_cell.specs.LookUps.{resources_of}
 use Rattle.batch_cell.specs.declared.cell.Cell.{Cell}
 use Rattle.batch_recipe.specs.Conditions.{Name}
 use Rattle.batch_recipe.specs.Procedure.{bound_nodes}
 use Rattle.batch_recipe.specs.declared.recipe.Recipe.{Recipe}
 use Rattle.batch_model.specs.Lists.{Each, Has}
-use Rattle.batch_model.proofs.Members.{Each-append, Each-map, Has-split}
+use Rattle.batch_model.proofs.Members.{Each-append, Each-map}
+use Rattle.batch_recipe.specs.declared.role.Role.{Role}
+use Rattle.batch_verify.specs.Bindings.{binding_count}
 use Rattle.batch_check.specs.declared.edge.Edge.{Edge}
 use Rattle.batch_check.specs.declared.edge_set.EdgeSet.{EdgeSet}
 use Rattle.batch_verify.proofs.Tried.{taken-tried}
-use Rattle.batch_check.specs.Takings.{IsShownBy, number_for}
+use Rattle.batch_check.specs.Takings.{IsAlike, IsApart, number_for}
 use Rattle.batch_check.specs.declared.site.Site.{Site}
 use Rattle.batch_check.specs.declared.taking.Taking.{Taking}
+use Rattle.batch_check.specs.declared.taking.Taking.TheVariants.{Alike, Apart}
 use Rattle.batch_check.specs.Edges.{OfNodes, Stands, Covers, CoversRecipes, AreEdgesOf, has_pair, number_of_resource, numbers_of_resources}
 use Rattle.batch_check.specs.LeastRanking.{HasEndsBelow}
 use Rattle.batch_check.specs.Pairs.{Keeps}
 use Rattle.batch_check.specs.Joining.{Grows, HasTaken}
-use Rattle.batch_check.specs.Collecting.{AreAdded, AreOfRoles, AreTakenIn, AreTakenOn, HasAllPairs, HasTakenBy, IsCollected, IsAdded, IsTakenAs, PairsAll, PairsRecipe}
+use Rattle.batch_check.specs.Collecting.{AreAdded, AreBetweenRoles, AreOfRoles, AreTakenBy, AreTakenIn, AreTakenOn, HasAllPairs, HasTakenBy, IsCollected, IsAdded, IsTakenAs, PairsAll, PairsRecipe, is_between_roles}
 use Rattle.batch_check.specs.Sites.{bound_on, nodes_on, resource_count, resource_on, units_on}
 use Rattle.batch_check.proofs.Asking.{Follows-keeps}
-use Rattle.batch_check.proofs.Bound.{follows_shown, paired_shown}
+use Rattle.batch_check.proofs.Bound.{IsShownBy, follows_shown, paired_shown}
 use Rattle.batch_check.proofs.Joins.{Contains-none, Grows-same, Grows-twice}
 use Rattle.batch_check.proofs.Names.{number_of_own}
 use Rattle.batch_check.proofs.Rising.{Each-get}
 use Rattle.batch_check.proofs.Roles.{resource_for-below}
+use Rattle.batch_check.proofs.Taking.{alike_at}
 
 covers_more : (cell : Cell) (old new : List Edge) → Keeps old new → (recipes : List Recipe) → CoversRecipes cell recipes old → CoversRecipes cell recipes new
 covers_more cell old new keeps [] h = tt
@@ -122,109 +128,128 @@ module _ (cell : Cell) (recipes : List Recipe) where
 
 -- One recipe, binding by binding
 
--- so far: the edges between resources are there, and all that were collected as they are in the first bindings
-pub record KeepsBindings (site : Site) (number : ℕ) (collected : List Edge) (takings : List Taking) (old set : EdgeSet) (index : ℕ) : Type 0 where
-  pub grown : Grows old set
-  pub standing : (all : List Recipe) → slice_get all number ≡ Some site.recipe.now → (edge : Edge) → Contains set.edges.items edge → Contains old.edges.items edge ⊎ Stands site.cell.now all edge
-  pub between : (edge : Edge) → Contains collected edge → edge.earlier < resource_count site → edge.later < resource_count site → IsTrue (has_pair set.edges.items edge.earlier edge.later)
-  pub taken : (t : Taking) → Has (take index takings) t → AreTakenOn site t collected set.edges.items
+-- what leads from one role to another doesn't have a resource at an end
+one_role : (count : ℕ) (edge : Edge) → is_between_roles count edge ≡ false → (edge.earlier < count) ⊎ ((edge.later < count) ⊎ (edge.earlier ≡ edge.later))
+one_role count edge no = elim (cases_lt edge.earlier count) [
+  | inl low ↦ inl low
+  | inr past ↦ elim (cases_lt edge.later count) [
+    | inl low ↦ inr (inl low)
+    | inr above ↦ elim (cases_eq edge.earlier edge.later) [
+      | inl same ↦ inr (inr same)
+      | inr differ ↦ absurd (true≢false (sym (both (le-leb count edge.earlier past) (le-leb count edge.later above) (false_from_ne_true (nat_eq edge.earlier edge.later) (λ e. differ (eqb-true edge.earlier edge.later e)))) ∙ no))
+    ]
+  ]
+]
+  where
+    both : nat_le count edge.earlier ≡ true → nat_le count edge.later ≡ true → nat_eq edge.earlier edge.later ≡ false → is_between_roles count edge ≡ true
+    both p q r = rw (p, q, r) refl
 
-module _ (site : Site) (kept : Option (List (Option ℕ))) (number : ℕ) (collected : List Edge) (takings : List Taking) (old : EdgeSet)
-    (sized : old.count ≡ resource_count site) (is_collected : IsCollected site kept number collected) where
+module _ (site : Site) (kept : Option (List (Option ℕ))) (number : ℕ) (collected : List Edge) (is_collected : IsCollected site kept number collected) where
   abbrev cell : Cell
   cell = site.cell.now
 
   abbrev recipe : Recipe
   recipe = site.recipe.now
 
-  -- what was added as it is in one binding stands
-  stands_then : (some : List Edge) → ((edge : Edge) → Contains some edge → Contains collected edge) → (t : Taking) (set new : EdgeSet) → set.count ≡ resource_count site
-      → HasTakenBy (units_on site t) some set new → (all : List Recipe) → slice_get all number ≡ Some recipe → (edge : Edge) → Contains new.edges.items edge
-      → Contains set.edges.items edge ⊎ Stands cell all edge
-  stands_then some among t set new count_is has all found edge stands = elim (has.only edge stands) [
-    | inl known ↦ inl known
-    | inr taken ↦
-        let from : Edge = taken.0 in
-        let on = is_collected.standing from (among from taken.1) in
-        let is = subst (λ count. IsTakenAs count (units_on site t) from edge) count_is taken.2 in
-        let here = on.asked t edge.earlier edge.later is.earlier_is is.later_is in
-        inr (record {
-          recipe = recipe;
-          found = ap (slice_get all) (is.recipe_is ∙ on.recipe_is) ∙ found;
-          bound = bound_on site t;
-          tried = taken-tried cell (recipe ∷ []) recipe recipe.own_roles (number_for t);
-          node = here.node;
-          numbered = ap (slice_get (nodes_on site t)) is.node_is ∙ here.numbered;
-          asked = here.asked;
-        })
-  ]
+  abbrev count : ℕ
+  count = binding_count cell recipe.roles.items
 
-  pub KeepsBindings-first : (t : Taking) (set : EdgeSet) → HasTakenBy (units_on site t) collected old set → KeepsBindings site number collected takings old set 0
-  KeepsBindings-first t set has = record {
-    grown = has.grown;
-    standing = stands_then collected (λ edge in'. in') t old set sized has;
-    between = λ edge in' low high.
-        has.taken edge edge.earlier edge.later in'
-        (resource_for-below old.count (units_on site t) edge.earlier (omega (arith, low, sized)))
-        (resource_for-below old.count (units_on site t) edge.later (omega (arith, high, sized)));
-    taken = λ other among. absurd among;
-  }
+  -- an edge that was added as it is in one binding stands
+  stands_then : (t : Taking) (from edge : Edge) → Contains collected from → IsTakenAs (resource_count site) (units_on site t) from edge → (all : List Recipe) → slice_get all number ≡ Some recipe
+      → Stands cell all edge
+  stands_then t from edge among is all found =
+      let on = is_collected.standing from among in
+      let here = on.asked t edge.earlier edge.later is.earlier_is is.later_is in
+      record {
+        recipe = recipe;
+        found = ap (slice_get all) (is.recipe_is ∙ on.recipe_is) ∙ found;
+        bound = bound_on site t;
+        tried = taken-tried cell (recipe ∷ []) recipe recipe.own_roles (number_for t);
+        node = here.node;
+        numbered = ap (slice_get (nodes_on site t)) is.node_is ∙ here.numbered;
+        asked = here.asked;
+      }
 
-  module _ (of_roles : List Edge) (are_of_roles : AreOfRoles (resource_count site) collected of_roles) where
-    pub KeepsBindings-more : (set new : EdgeSet) (index : ℕ) (taking : Taking) → index < length takings → taking ≡ get_or takings index taking
-        → KeepsBindings site number collected takings old set index → HasTakenBy (units_on site taking) of_roles set new
-        → KeepsBindings site number collected takings old new (index + 1)
-    KeepsBindings-more set new index taking in' is h has = record {
-      grown = Grows-twice old set new h.grown has.grown;
-      standing = λ all found edge stands. elim (stands_then of_roles are_of_roles.among taking set new count_is has all found edge stands) [
-        | inl known ↦ h.standing all found edge known
-        | inr here ↦ inr here
-      ];
-      between = λ edge among low high. has.grown.kept edge.earlier edge.later (h.between edge among low high);
-      taken = λ t among edge i j stands earlier_is later_is. elim (Has-split (take index takings) (taking ∷ []) t (subst (λ ts. Has ts t) more among)) [
-        | inl before ↦ has.grown.kept i j (h.taken t before edge i j stands earlier_is later_is)
-        | inr last ↦ taken_now edge i j stands t (only_one t last) earlier_is later_is
-      ];
-    }
-      where
-        count_is : set.count ≡ resource_count site
-        count_is = h.grown.same_count ∙ sized
+  -- resources stand for themselves in each binding
+  own_resource : (k i : ℕ) (t u : Taking) → k < resource_count site → resource_on site t k ≡ Some i → resource_on site u k ≡ Some i
+  own_resource k i t u low is = resource_for-below (resource_count site) (units_on site u) k low ∙ (sym (resource_for-below (resource_count site) (units_on site t) k low) ∙ is)
 
-        more : take (index + 1) takings ≡ take index takings ++ taking ∷ []
-        more = take_more takings index taking in' ∙ ap (λ (t : Taking). take index takings ++ t ∷ []) (sym is)
+  module _ (old first mid last : EdgeSet) (of_roles between : List Edge) (sized : old.count ≡ resource_count site)
+      (alone : HasTakenBy (units_on site (Alike 0)) collected old first)
+      (are_of_roles : AreOfRoles (resource_count site) collected of_roles)
+      (alike : AreTakenBy site (IsAlike count) of_roles first mid)
+      (are_between : AreBetweenRoles (resource_count site) of_roles between)
+      (apart : AreTakenBy site (IsApart recipe.roles.items count) between mid last) where
+    all_alone : AreTakenOn site (Alike 0) collected first.edges.items
+    all_alone = subst (λ n. AreTakenIn n (units_on site (Alike 0)) collected first.edges.items) sized alone.taken
 
-        only_one : (t : Taking) → Has (taking ∷ []) t → taking ≡ t
-        only_one t (inl same) = same
-        only_one t (inr none) = absurd none
+    -- between resources all edges are there from the first binding on
+    seen_low : (edge : Edge) → Contains collected edge → (edge.earlier < resource_count site) × (edge.later < resource_count site) → (t : Taking) (i j : ℕ)
+        → resource_on site t edge.earlier ≡ Some i → resource_on site t edge.later ≡ Some j → IsTrue (has_pair first.edges.items i j)
+    seen_low edge stands low t i j from into =
+        all_alone edge i j stands (own_resource edge.earlier i t (Alike 0) low.0 from) (own_resource edge.later j t (Alike 0) low.1 into)
 
-        -- an edge between resources was there before
-        taken_now : (edge : Edge) (i j : ℕ) → Contains collected edge → (t : Taking) → taking ≡ t → resource_on site t edge.earlier ≡ Some i → resource_on site t edge.later ≡ Some j
-            → IsTrue (has_pair new.edges.items i j)
-        taken_now edge i j stands t same earlier_is later_is = elim (are_of_roles.rest edge stands) [
-          | inl of_role ↦
-              let all : AreTakenIn (resource_count site) (units_on site taking) of_roles new.edges.items =
-              subst (λ count. AreTakenIn count (units_on site taking) of_roles new.edges.items) count_is has.taken in
-              all edge i j of_role
-              (ap (λ (u : Taking). resource_on site u edge.earlier) same ∙ earlier_is) (ap (λ (u : Taking). resource_on site u edge.later) same ∙ later_is)
-          | inr low ↦
-              let one : edge.earlier ≡ i = same_Some edge.earlier i (sym (resource_for-below (resource_count site) (units_on site t) edge.earlier low.0) ∙ earlier_is) in
-              let other : edge.later ≡ j = same_Some edge.later j (sym (resource_for-below (resource_count site) (units_on site t) edge.later low.1) ∙ later_is) in
-              has.grown.kept i j (subst (λ n. IsTrue (has_pair set.edges.items i n)) other (subst (λ n. IsTrue (has_pair set.edges.items n edge.later)) one (h.between edge stands low.0 low.1)))
+    seen_alike : (n : ℕ) → n < count → AreTakenOn site (Alike n) collected mid.edges.items
+    seen_alike n below edge i j stands from into = elim (are_of_roles.rest edge stands) [
+      | inl of_role ↦ alike.taken (Alike n) (n, below, refl) edge i j of_role from into
+      | inr low ↦ alike.grown.kept i j (seen_low edge stands low (Alike n) i j from into)
+    ]
+
+    module _ (name : Bor Name) (own other : ℕ) (own_lt : own < count) (other_lt : other < count) where
+      abbrev t : Taking
+      t = Apart name own other
+
+      -- an edge that doesn't lead from one role to another was there before
+      seen_before : (edge : Edge) (i j : ℕ) → Contains collected edge → is_between_roles (resource_count site) edge ≡ false → resource_on site t edge.earlier ≡ Some i → resource_on site t edge.later ≡ Some j
+          → IsTrue (has_pair mid.edges.items i j)
+      seen_before edge i j stands no from into = elim (one_role (resource_count site) edge no) [
+        | inl low ↦
+            let at = alike_at site name own other count edge.later own_lt other_lt in
+            seen_alike at.number at.below edge i j stands (own_resource edge.earlier i t (Alike at.number) low from) (at.same ∙ into)
+        | inr (inl low) ↦
+            let at = alike_at site name own other count edge.earlier own_lt other_lt in
+            seen_alike at.number at.below edge i j stands (at.same ∙ from) (own_resource edge.later j t (Alike at.number) low into)
+        | inr (inr same) ↦
+            let at = alike_at site name own other count edge.earlier own_lt other_lt in
+            seen_alike at.number at.below edge i j stands (at.same ∙ from)
+            (ap (resource_on site (Alike at.number)) (sym same) ∙ (at.same ∙ (ap (resource_on site t) same ∙ into)))
+      ]
+
+      seen_apart : IsApart recipe.roles.items count t → AreTakenOn site t collected last.edges.items
+      seen_apart is edge i j stands from into = elim (are_of_roles.rest edge stands) [
+        | inr low ↦ apart.grown.kept i j (alike.grown.kept i j (seen_low edge stands low t i j from into))
+        | inl of_role ↦ elim (are_between.rest edge of_role) [
+          | inl here ↦ apart.taken t is edge i j here from into
+          | inr no ↦ apart.grown.kept i j (seen_before edge i j stands no from into)
         ]
+      ]
 
-  pub added_all : (set : EdgeSet) (index : ℕ) → IsShownBy cell recipe takings → length takings ≤ index → KeepsBindings site number collected takings old set index
-      → (all : List Recipe) → slice_get all number ≡ Some recipe → IsAdded cell kept all recipe old set
-  added_all set index shown past h all found = record {
-    grown = h.grown;
-    standing = h.standing all found;
-    covering = λ final later bound tried.
-        follows_shown cell recipe takings shown (recipe ∷ []) bound tried final (λ t among. is_collected.covering t final (taken_later t among final later));
-    pairing = λ kept_is final later bound tried.
-        paired_shown cell recipe takings shown (recipe ∷ []) bound tried final (λ t among. is_collected.pairing kept_is t final (taken_later t among final later));
-  }
-    where
-      whole : take index takings ≡ takings
-      whole = take_all index takings past
+    shown : IsShownBy cell recipe (λ t. AreTakenOn site t collected last.edges.items)
+    shown = record {
+      alike = λ n below edge i j stands from into. apart.grown.kept i j (seen_alike n below edge i j stands from into);
+      apart = λ role has own other own_lt other_lt.
+          let name : Bor Name = record { ref_ptr = (0, 0); now = role.name } in
+          (name, seen_apart name own other own_lt other_lt (role, has, own, own_lt, name, refl, other, other_lt, refl), refl);
+    }
 
-      taken_later : (t : Taking) → Has takings t → (final : List Edge) → Keeps set.edges.items final → AreTakenOn site t collected final
-      taken_later t among final later = λ edge i j stands earlier_is later_is. later i j (h.taken t (subst (λ ts. Has ts t) (sym whole) among) edge i j stands earlier_is later_is)
+    -- all edges of the recipe
+    pub added_all : (all : List Recipe) → slice_get all number ≡ Some recipe → IsAdded cell kept all recipe old last
+    added_all all found = record {
+      grown = Grows-twice old first last alone.grown (Grows-twice first mid last alike.grown apart.grown);
+      standing = λ edge stands. elim (apart.only edge stands) [
+        | inr here ↦ inr (stands_then here.0 here.1 edge (are_of_roles.among here.1 (are_between.among here.1 here.2)) here.3 all found)
+        | inl known ↦ elim (alike.only edge known) [
+          | inr here ↦ inr (stands_then here.0 here.1 edge (are_of_roles.among here.1 here.2) here.3 all found)
+          | inl before ↦ elim (alone.only edge before) [
+            | inl old_edge ↦ inl old_edge
+            | inr here ↦ inr (stands_then (Alike 0) here.0 edge here.1 (subst (λ n. IsTakenAs n (units_on site (Alike 0)) here.0 edge) sized here.2) all found)
+          ]
+        ]
+      ];
+      covering = λ final later bound tried.
+          follows_shown cell recipe (λ t. AreTakenOn site t collected last.edges.items) shown (recipe ∷ []) bound tried final
+          (λ t seen. is_collected.covering t final (λ edge i j stands from into. later i j (seen edge i j stands from into)));
+      pairing = λ kept_is final later bound tried.
+          paired_shown cell recipe (λ t. AreTakenOn site t collected last.edges.items) shown (recipe ∷ []) bound tried final
+          (λ t seen. is_collected.pairing kept_is t final (λ edge i j stands from into. later i j (seen edge i j stands from into)));
+    }

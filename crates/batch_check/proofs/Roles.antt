@@ -30,7 +30,7 @@ use Rattle.batch_check.proofs.Rising.{edge_of}
 pub resource_for-below : (count : ℕ) (units : List (Option ℕ)) (n : ℕ) → n < count → resource_for count units n ≡ Some n
 resource_for-below count units n below = rw (lt-ltb n count below, resource_for) refl
 
-resource_for-past : (count : ℕ) (units : List (Option ℕ)) (n : ℕ) → count ≤ n → resource_for count units n ≡ get_or units (n - count) None
+pub resource_for-past : (count : ℕ) (units : List (Option ℕ)) (n : ℕ) → count ≤ n → resource_for count units n ≡ get_or units (n - count) None
 resource_for-past count units n past = rw (le-ltb n count past, resource_for) refl
 
 pub resource_for-within : (count : ℕ) (units : List (Option ℕ)) (n k : ℕ) → AreBelow count units → resource_for count units n ≡ Some k → k < count

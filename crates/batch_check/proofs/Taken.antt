@@ -1,5 +1,5 @@
 -- Edges between resources and roles, one more of which is taken as it is in a binding.
-use Rattle.std.proofs.Common.{◌≡◌, ℕ, ◌<◌, inl, inr, List, [], ◌∷◌, ◌++◌, map, Option, Some, true, ◌&&◌, ltb, refl, sym, ap, ◌∙◌, subst}
+use Rattle.std.proofs.Common.{◌≡◌, ℕ, ◌<◌, inl, inr, List, [], ◌∷◌, ◌++◌, map, Option, Some, true, false, ◌&&◌, ltb, refl, sym, ap, ◌∙◌, subst}
 use Rattle.std.proofs.lemmas.Bool.{and_parts, ltb-true}
 use Rattle.std.proofs.lemmas.List.Elements.{Contains-append_cases, Contains-append_left, Contains-append_right}
 use Rattle.batch_cell.specs.declared.cell.Cell.{Cell}
@@ -8,7 +8,7 @@ use Rattle.batch_recipe.specs.declared.role.Role.{Role}
 use Rattle.batch_check.specs.declared.edge.Edge.{Edge}
 use Rattle.batch_check.specs.declared.edge_set.EdgeSet.{EdgeSet}
 use Rattle.batch_check.specs.declared.taking.Taking.{Taking}
-use Rattle.batch_check.specs.Collecting.{AreOfRoles, HasTakenBy}
+use Rattle.batch_check.specs.Collecting.{AreBetweenRoles, AreOfRoles, HasTakenBy, is_between_roles}
 use Rattle.batch_check.specs.Edges.{number_of_resource, numbers_of_resources}
 use Rattle.batch_check.specs.Joining.{HasJoined}
 use Rattle.batch_check.specs.Takings.{bound_by, resource_for, units_by}
@@ -88,5 +88,33 @@ module _ (count : ℕ) (edges : List Edge) (e : Edge) (of_roles : List Edge) (h 
         | inr between ↦ inr between
       ]
       | inr last ↦ inl (Contains-append_right of_roles (e ∷ []) edge last)
+    ];
+  }
+
+pub AreBetweenRoles-none : (count : ℕ) → AreBetweenRoles count [] []
+AreBetweenRoles-none count = record { among = λ edge stands. stands; rest = λ edge stands. inl stands }
+
+module _ (count : ℕ) (edges : List Edge) (e : Edge) (between : List Edge) (h : AreBetweenRoles count edges between) where
+  pub AreBetweenRoles-left : is_between_roles count e ≡ false → AreBetweenRoles count (edges ++ e ∷ []) between
+  AreBetweenRoles-left no = record {
+    among = λ edge stands. Contains-append_left edges (e ∷ []) edge (h.among edge stands);
+    rest = λ edge stands. elim (Contains-append_cases edges (e ∷ []) edge stands) [
+      | inl before ↦ h.rest edge before
+      | inr last ↦ inr (subst (λ (x : Edge). is_between_roles count x ≡ false) (Contains-one e edge last) no)
+    ];
+  }
+
+  pub AreBetweenRoles-more : AreBetweenRoles count (edges ++ e ∷ []) (between ++ e ∷ [])
+  AreBetweenRoles-more = record {
+    among = λ edge stands. elim (Contains-append_cases between (e ∷ []) edge stands) [
+      | inl before ↦ Contains-append_left edges (e ∷ []) edge (h.among edge before)
+      | inr last ↦ Contains-append_right edges (e ∷ []) edge last
+    ];
+    rest = λ edge stands. elim (Contains-append_cases edges (e ∷ []) edge stands) [
+      | inl before ↦ elim (h.rest edge before) [
+        | inl here ↦ inl (Contains-append_left between (e ∷ []) edge here)
+        | inr no ↦ inr no
+      ]
+      | inr last ↦ inl (Contains-append_right between (e ∷ []) edge last)
     ];
   }

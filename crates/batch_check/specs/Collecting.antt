@@ -1,5 +1,5 @@
 -- private: what is kept while the edges of recipes are collected.
-use Rattle.std.specs.Prelude.{◌≡◌, ℕ, ◌<◌, ◌≤◌, List, [], ◌∷◌, ◌++◌, length, slice_get, Option, Some, None, ◌⊎◌, Bool, true, false, IsTrue, option_map, slice_set}
+use Rattle.std.specs.Prelude.{◌≡◌, ℕ, ◌<◌, ◌≤◌, List, [], ◌∷◌, ◌++◌, length, slice_get, Option, Some, None, ◌⊎◌, Bool, true, false, ◌&&◌, not, nat_eq, nat_le, IsTrue, option_map, slice_set}
 use Rattle.std.specs.List.{Contains, slice_index_or}
 use Rattle.batch_cell.specs.declared.cell.Cell.{Cell}
 use Rattle.batch_recipe.specs.Nodes.{Node}
@@ -135,9 +135,24 @@ pub record AreOfRoles (count : ℕ) (edges of_roles : List Edge) : Type 0 where
   pub among : (edge : Edge) → Contains of_roles edge → Contains edges edge
   pub rest : (edge : Edge) → Contains edges edge → Contains of_roles edge ⊎ ((edge.earlier < count) × (edge.later < count))
 
+-- the edges that lead from one role to another: the others have a resource at one end, or are from a role to itself
+abbrev pub is_between_roles : ℕ → Edge → Bool
+is_between_roles count edge = nat_le count edge.earlier && nat_le count edge.later && not (nat_eq edge.earlier edge.later)
+
+pub record AreBetweenRoles (count : ℕ) (edges between : List Edge) : Type 0 where
+  pub among : (edge : Edge) → Contains between edge → Contains edges edge
+  pub rest : (edge : Edge) → Contains edges edge → Contains between edge ⊎ (is_between_roles count edge ≡ false)
+
 -- they are where these candidates take the roles of the site's recipe
 abbrev pub AreTakenOn : Site → Taking → List Edge → List Edge → Type 0
 AreTakenOn site taking edges others = AreTakenIn (resource_count site) (units_on site taking) edges others
+
+-- they were added as they are where candidates that are such take the roles
+pub record AreTakenBy (site : Site) (IsSuch : Taking → Type 0) (edges : List Edge) (old new : EdgeSet) : Type 0 where
+  pub grown : Grows old new
+  pub taken : (taking : Taking) → IsSuch taking → AreTakenOn site taking edges new.edges.items
+  pub only : (edge : Edge) → Contains new.edges.items edge
+      → Contains old.edges.items edge ⊎ ((taking : Taking) × (from : Edge) × Contains edges from × IsTakenAs (resource_count site) (units_on site taking) from edge)
 
 -- the edge stands at a node of the recipe with this number, whatever candidates take the roles
 pub record StandsOn (site : Site) (recipe : ℕ) (edge : Edge) : Type 0 where

@@ -1,7 +1,7 @@
 -- private: edges that join the needs of a path to one more.
-use Rattle.std.specs.Prelude.{◌≡◌, ℕ, ◌<◌, List, [], ◌∷◌, ◌++◌, Vec, Option, Some, None, ◌⊎◌, IsTrue, option_map, unwrap_or}
-use Rattle.std.specs.Global.{Global}
+use Rattle.std.specs.Prelude.{◌≡◌, ℕ, ◌<◌, List, [], ◌∷◌, ◌++◌, Option, Some, None, ◌⊎◌, IsTrue, option_map, unwrap_or}
 use Rattle.std.specs.List.{Contains}
+use Rattle.batch_check.specs.declared.asked.Asked.{Asked}
 use Rattle.batch_check.specs.declared.edge.Edge.{Edge}
 use Rattle.batch_check.specs.declared.edge_set.EdgeSet.{EdgeSet}
 use Rattle.batch_check.specs.Edges.{HasPairsOf, has_pair}
@@ -14,9 +14,9 @@ pub record Grows (old new : EdgeSet) : Type 0 where
   pub stays : (edge : Edge) → Contains old.edges.items edge → Contains new.edges.items edge
 
 -- the needs that are kept, as a list
-abbrev pub items_in : Option (Vec (Option ℕ) Global) → Option (List (Option ℕ))
+abbrev pub items_in : Option Asked → Option (List (Option ℕ))
 items_in None = None
-items_in (Some asked) = Some asked.items
+items_in (Some asked) = Some asked.needs.items
 
 -- those from which edges lead
 abbrev pub needs_in : Option (List (Option ℕ)) → List (Option ℕ)

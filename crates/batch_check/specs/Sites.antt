@@ -19,6 +19,7 @@ use Rattle.batch_check.specs.Takings.{bound_by, resource_for, units_by}
 use Rattle.batch_check.specs.declared.act_needs.ActNeeds.{ActNeeds}
 use Rattle.batch_check.specs.declared.site.Site.{Site}
 use Rattle.batch_check.specs.declared.taking.Taking.{Taking}
+use Rattle.batch_check.specs.declared.taking.Taking.TheVariants.{Alike}
 use Rattle.batch_check.specs.Edges.{number_of_resource, numbers_of_resources}
 
 -- Where these candidates take the roles
@@ -56,6 +57,11 @@ count_with_roles site = resource_count site + length site.recipe.now.roles.items
 -- of each role the number of the unit that takes it
 abbrev pub units_on : Site → Taking → List (Option ℕ)
 units_on site taking = units_by site.cell.now site.recipe.now.roles.items taking
+
+-- those where the candidates with one number take all roles, for each number below count
+pub record AreUnitsOn (site : Site) (count : ℕ) (units : List (Vec (Option ℕ) Global)) : Type 0 where
+  pub as_many : length units ≡ count
+  pub each : (number : ℕ) (taken : Vec (Option ℕ) Global) → slice_get units number ≡ Some taken → taken.items ≡ units_on site (Alike number)
 
 -- the resource for which a number stands then, and what needs stand for
 abbrev pub resource_on : Site → Taking → ℕ → Option ℕ

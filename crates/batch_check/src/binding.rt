@@ -1,6 +1,6 @@
 //! Edges between resources and roles, where units take the roles.
 ghost use Rattle.std.specs.Prelude.{◌≡◌, ◌&&◌, ltb, IfOk, OnOk};
-ghost use Rattle.batch_check.specs.Collecting.{AreOfRoles, HasTakenBy};
+ghost use Rattle.batch_check.specs.Collecting.{AreBetweenRoles, AreOfRoles, HasTakenBy, is_between_roles};
 ghost use Rattle.batch_check.specs.Edges.{number_of_resource};
 ghost use Rattle.batch_check.specs.Joining.{AreBelow};
 ghost use Rattle.batch_check.specs.Takings.{bound_by, resource_for, units_by};
@@ -86,6 +86,30 @@ pub(crate) fn edges_of_roles(
         }
     }
     Ok(of_roles)
+}
+
+/// Those of the edges that lead from one role to another. The numbers of resources are below this count.
+pub(crate) fn edges_between_roles(
+    alloc: Global,
+    count: u16,
+    edges: &[Edge],
+) -> Result<Vec<Edge>, AllocError>
+    ensures { IfOk result (λ between. AreBetweenRoles count edges.now between.items) }
+{
+    let mut between = Vec::new(alloc);
+    for edge in edges {
+        if is_between_roles(*edge, count) {
+            between.push(*edge)?;
+        }
+    }
+    Ok(between)
+}
+
+/// Whether the edge leads from one role to another.
+fn is_between_roles(edge: Edge, count: u16) -> bool
+    ensures { result ≡ is_between_roles count edge }
+{
+    edge.earlier >= count && edge.later >= count && edge.earlier != edge.later
 }
 
 /// Whether the edge leads from one of so many resources to another.

@@ -1,36 +1,43 @@
 //! Sets of edges.
-ghost use Rattle.std.specs.Prelude.{◌≡◌, ℕ, ◌+◌, ◌*◌, ◌<◌, ◌⊎◌, [], false, length, IfOk, IsTrue, OnOk};
-ghost use Rattle.std.specs.List.{Contains, slice_index_or};
+ghost use Rattle.std.specs.Prelude.{◌≡◌, ℕ, ◌+◌, ◌*◌, ◌<◌, ◌≤◌, ◌⊎◌, [], Some, length, IfOk, IsTrue, OnOk};
+ghost use Rattle.std.specs.List.{Contains};
 ghost use Rattle.batch_check.specs.Edges.{has_pair};
-ghost use Rattle.batch_check.specs.Pairs.{Keeps};
+ghost use Rattle.batch_check.specs.Pairs.{Keeps, has_bit};
 ghost use Rattle.batch_check.specs.declared.edge.Edge.{Edge};
 
+use crate::asked::{Asked, WORDS};
 use crate::edge::Edge;
+use batch_signs::with_bit;
 use std::alloc::{AllocError, Global};
+
+/// How many bits stand in a row for the edges to one later.
+const ROW: usize = WORDS * 64;
 
 /// Edges between the resources and roles below a count, at most one for each pair of them, in the order in which they were added.
 #[derive(Drop)]
 pub(crate) struct EdgeSet {
     /// How many resources there are, and roles.
     pub(crate) count: u16,
-    /// For each later and each earlier, whether an edge leads to the one from the other. Those to one later stand side by side: many of
-    /// them are looked at together.
-    pub(crate) known: Vec<bool>,
+    /// For each later and each earlier a bit, set where an edge leads to the one from the other. Those to one later stand side by side:
+    /// many of them are looked at together.
+    pub(crate) known: Vec<u64>,
     pub(crate) edges: Vec<Edge>,
-    ghost sized: { length known.items ≡ count * count },
+    ghost few: { count ≤ 448 },
+    ghost sized: { length known.items ≡ count * 7 },
     ghost exact: { (earlier later : ℕ) → earlier < count → later < count
-        → slice_index_or known.items (later * count + earlier) false ≡ has_pair edges.items earlier later },
+        → has_bit known.items (later * 448 + earlier) ≡ has_pair edges.items earlier later },
 }
 
 impl EdgeSet {
     /// The set without edges.
     pub(crate) fn new(alloc: Global, count: u16) -> Result<EdgeSet, AllocError>
+        requires { count ≤ 448 }
         ensures { IfOk result (λ set. (set.count ≡ count) × (set.edges.items ≡ [])) }
     {
-        let pairs = usize::from(count) * usize::from(count);
+        let words = usize::from(count) * WORDS;
         Ok(EdgeSet {
             count,
-            known: vec![in alloc; false; pairs]?,
+            known: vec![in alloc; 0; words]?,
             edges: Vec::new(alloc),
         })
     }
@@ -45,11 +52,30 @@ impl EdgeSet {
         ensures stays { (e : Edge) → Contains self.old.edges.items e → Contains self.new.edges.items e }
         ensures only { (e : Edge) → Contains self.new.edges.items e → Contains self.old.edges.items e ⊎ (e ≡ edge) }
     {
-        let pair = usize::from(edge.later) * usize::from(self.count) + usize::from(edge.earlier);
-        if !self.known[pair] {
+        let pair = usize::from(edge.later) * ROW + usize::from(edge.earlier);
+        let word = pair / 64;
+        let known = self.known[word];
+        let marked = with_bit(known, pair % 64);
+        if marked != known {
             self.edges.push(edge)?;
-            self.known[pair] = true;
+            self.known[word] = marked;
         }
         Ok(())
+    }
+
+    /// Whether an edge leads to the later from each of the needs.
+    pub(crate) fn has_each(&self, asked: &Asked, later: u16) -> bool
+        requires { later < self.now.count }
+        ensures { IsTrue result → (earlier : ℕ) → earlier < self.now.count → Contains asked.now.needs.items (Some earlier)
+            → IsTrue (has_pair self.now.edges.items earlier later) }
+    {
+        let first = usize::from(later) * WORDS;
+        for word in 0..WORDS {
+            let wanted = asked.numbers[word];
+            if self.known[first + word] & wanted != wanted {
+                return false;
+            }
+        }
+        true
     }
 }

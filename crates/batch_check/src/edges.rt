@@ -2,21 +2,21 @@
 ghost use Rattle.std.specs.Prelude.{◌≡◌, ◌≤◌, List, Some, length, slice_get, IfOk, OnOk};
 ghost use Rattle.batch_cell.specs.LookUps.{resources_of};
 ghost use Rattle.batch_recipe.specs.declared.recipe.Recipe.{Recipe};
-ghost use Rattle.batch_check.specs.Collecting.{AreAdded, HasAllPairs, HasTakenBy, IsAdded, kept_at_top};
+ghost use Rattle.batch_check.specs.Collecting.{AreAdded, HasAllPairs, IsAdded, kept_at_top};
 ghost use Rattle.batch_check.specs.Edges.{AreEdgesOf};
 ghost use Rattle.batch_check.specs.LeastRanking.{HasEndsBelow};
-ghost use Rattle.batch_check.specs.Sites.{resource_count, units_on};
 ghost use Rattle.batch_model.specs.declared.limits.TheConstants.{MAX_RECIPES};
 
-use crate::binding::{add_taken, edges_of_roles, units_by};
+use crate::binding::{add_taken, edges_between_roles, edges_of_roles};
+use crate::bindings::{add_alike, add_apart, units_of_each};
 use crate::collecting::collect;
 use crate::edge::Edge;
 use crate::edge_set::EdgeSet;
 use crate::path::Reach;
 use crate::site::Site;
-use crate::taking::{Taking, takings};
 use batch_cell::Cell;
 use batch_recipe::Recipe;
+use batch_verify::binding_count;
 use std::alloc::{AllocError, Global};
 
 /// The orders in which the recipes ask for resources: an edge for each two that follow one another on a path, whatever units take
@@ -70,7 +70,8 @@ fn add_all(
     Ok(())
 }
 
-/// Adds the edges of the recipe with this number, binding by binding. Only those of roles differ from one to the next.
+/// Adds the edges of the recipe with this number, binding by binding. Only those of roles differ from one to the next, and once each
+/// candidate took each role, only those between two roles do.
 fn add_edges(
     alloc: Global,
     cell: &Cell,
@@ -85,26 +86,10 @@ fn add_edges(
 {
     let site = Site { cell, recipe };
     let collected = collect(alloc, &site, number, reach)?;
-    add_binding(alloc, &site, Taking::Alike(0), &collected.edges, edges)?;
+    let units = units_of_each(alloc, &site, binding_count(cell, &recipe.roles))?;
+    add_taken(&collected.edges, &units[0], edges)?;
     let of_roles = edges_of_roles(alloc, cell.resources(), &collected.edges)?;
-    let takings = takings(alloc, cell, recipe)?;
-    for taking in &takings {
-        add_binding(alloc, &site, *taking, &of_roles, edges)?;
-    }
-    Ok(())
-}
-
-/// Adds these edges as they are where the candidates take the roles.
-fn add_binding(
-    alloc: Global,
-    site: &Site,
-    taking: Taking<'_>,
-    collected: &[Edge],
-    edges: &mut EdgeSet,
-) -> Result<(), AllocError>
-    requires { edges.old.count ≡ resource_count site.now }
-    ensures { OnOk result (HasTakenBy (units_on site.now taking.entry) collected.now edges.old edges.new) }
-{
-    let units = units_by(alloc, site.cell, &site.recipe.roles, taking)?;
-    add_taken(collected, &units, edges)
+    add_alike(&site, &units, &of_roles, edges)?;
+    let between = edges_between_roles(alloc, cell.resources(), &of_roles)?;
+    add_apart(alloc, &site, &units, &between, edges)
 }

@@ -3,6 +3,7 @@ ghost use Rattle.std.specs.Prelude.{◌≡◌, ◌<◌, [], ◌∷◌, ◌++◌,
 ghost use Rattle.std.specs.Option.{ForSome};
 ghost use Rattle.batch_check.specs.Joining.{AreBelow, HasJoined, IsKept, items_in, needs_in};
 
+use crate::asked::Asked;
 use crate::edge::Edge;
 use crate::edge_set::EdgeSet;
 use std::alloc::AllocError;
@@ -48,24 +49,44 @@ fn join_each(
     Ok(())
 }
 
+/// Adds the edges from each of these needs to one, which the act at the node asks for, where not all of them are there.
+fn join_asked(
+    recipe: u16,
+    node: u16,
+    asked: &Asked,
+    later: Option<u16>,
+    edges: &mut EdgeSet,
+) -> Result<(), AllocError>
+    requires needs { AreBelow edges.old.count asked.now.needs.items }
+    requires later { ForSome later (λ number. number < edges.old.count) }
+    ensures { OnOk result (HasJoined recipe node asked.now.needs.items later edges.old edges.new) }
+{
+    if let Some(number) = later
+        && edges.has_each(asked, number)
+    {
+        return Ok(());
+    }
+    join_each(recipe, node, &asked.needs, later, edges)
+}
+
 /// The needs that are kept, with this one behind them. Adds the edges from each of them to it.
 pub(crate) fn keep(
     recipe: u16,
     node: u16,
-    asked: Option<Vec<Option<u16>>>,
+    asked: Option<Asked>,
     number: Option<u16>,
     edges: &mut EdgeSet,
-) -> Result<Option<Vec<Option<u16>>>, AllocError>
+) -> Result<Option<Asked>, AllocError>
     requires asked { AreBelow edges.old.count (needs_in (items_in asked)) }
     requires number { ForSome number (λ k. k < edges.old.count) }
     ensures { IfOk result (λ kept. IsKept recipe node (items_in asked) number edges.old edges.new (items_in kept)) }
 {
     match asked {
         None => Ok(None),
-        Some(mut needs) => {
-            join_each(recipe, node, &needs, number, edges)?;
-            needs.push(number)?;
-            Ok(Some(needs))
+        Some(mut asked) => {
+            join_asked(recipe, node, &asked, number, edges)?;
+            asked.push(number)?;
+            Ok(Some(asked))
         }
     }
 }

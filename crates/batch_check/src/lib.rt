@@ -2,7 +2,9 @@
 #![tactic(auto)]
 
 mod act_needs;
+mod asked;
 mod binding;
+mod bindings;
 mod checking;
 mod circle;
 mod collecting;

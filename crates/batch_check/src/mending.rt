@@ -1,8 +1,9 @@
 //! What is left of the recipes' orders without one of them.
-ghost use Rattle.std.specs.Prelude.{◌≡◌, ◌≤◌, ℕ, ◌&&◌, IfOk, IfErr, length, true, false, nat_eq};
+ghost use Rattle.std.specs.Prelude.{◌≡◌, ◌≤◌, ◌&&◌, IfOk, IfErr, length, nat_eq};
 ghost use Rattle.batch_check.specs.Checking.{IsSetFault};
+ghost use Rattle.batch_check.specs.LeastRanking.{HasEndsBelow};
 ghost use Rattle.batch_model.specs.declared.limits.TheConstants.{MAX_RECIPES};
-ghost use Rattle.batch_check.specs.Mending.{AreOthers, RiseWithout, is_same_order};
+ghost use Rattle.batch_check.specs.Mending.{AreOthers, TellRises, TellsRiseAlong, is_same_order};
 
 use crate::edge::Edge;
 use crate::edges::{add_pairs, edges_of};
@@ -13,7 +14,8 @@ use batch_recipe::Recipe;
 use batch_verify::is_recipe_set;
 use std::alloc::{AllocError, Global};
 
-/// Whether ranks could rise along the paths of the recipes, were it not for the order in which the edge has its two resources.
+/// Of each of these edges whether ranks could rise along the paths of the recipes, were it not for the order in which the edge has its
+/// two resources.
 ///
 /// Whoever asks so first, and in which recipe, doesn't matter. The faults are [`CheckFault::Recipes`] and [`CheckFault::Memory`]
 /// alone.
@@ -21,32 +23,48 @@ pub fn rise_without(
     alloc: Global,
     cell: &Cell,
     recipes: &[Recipe],
-    edge: Edge,
-) -> Result<bool, CheckFault>
-    ensures rise { IfOk result (λ rise. rise ≡ true → (rank : ℕ → ℕ) × RiseWithout cell.now recipes.now edge rank) }
-    ensures none { IfOk result (λ rise. rise ≡ false → (rank : ℕ → ℕ) → ¬ (RiseWithout cell.now recipes.now edge rank)) }
+    edges: &[Edge],
+) -> Result<Vec<bool>, CheckFault>
+    ensures told { IfOk result (λ rise. TellRises cell.now recipes.now edges.now rise.items) }
     ensures fault { IfErr result (IsSetFault cell.now recipes.now) }
 {
     if !is_recipe_set(recipes) {
         return Err(CheckFault::Recipes);
     }
-    Ok(rise_along_others(alloc, cell, recipes, edge)?)
+    Ok(rise_along_others(alloc, cell, recipes, edges)?)
 }
 
 fn rise_along_others(
     alloc: Global,
     cell: &Cell,
     recipes: &[Recipe],
-    edge: Edge,
-) -> Result<bool, AllocError>
+    edges: &[Edge],
+) -> Result<Vec<bool>, AllocError>
     requires { length recipes.now ≤ MAX_RECIPES }
-    ensures rise { IfOk result (λ rise. rise ≡ true → (rank : ℕ → ℕ) × RiseWithout cell.now recipes.now edge rank) }
-    ensures none { IfOk result (λ rise. rise ≡ false → (rank : ℕ → ℕ) → ¬ (RiseWithout cell.now recipes.now edge rank)) }
+    ensures { IfOk result (λ rise. TellRises cell.now recipes.now edges.now rise.items) }
 {
     let mut set = edges_of(alloc, cell, recipes)?;
     add_pairs(alloc, cell, recipes, &mut set)?;
-    let others = others_than(alloc, &set.edges, edge)?;
-    match least_ranks(alloc, cell.resources(), &others)? {
+    let mut rise = Vec::with_capacity(alloc, edges.len())?;
+    for edge in edges {
+        let rises = rises_along_others(alloc, cell.resources(), &set.edges, *edge)?;
+        rise.push(rises)?;
+    }
+    Ok(rise)
+}
+
+/// Whether ranks of the resources below `count` rise along those of the edges that have another order than this one.
+fn rises_along_others(
+    alloc: Global,
+    count: u16,
+    edges: &[Edge],
+    edge: Edge,
+) -> Result<bool, AllocError>
+    requires { HasEndsBelow count edges.now }
+    ensures { IfOk result (TellsRiseAlong edges.now edge) }
+{
+    let others = others_than(alloc, edges, edge)?;
+    match least_ranks(alloc, count, &others)? {
         Ranking::Ranks(_) => Ok(true),
         Ranking::Circle(_) => Ok(false),
     }

@@ -5,6 +5,7 @@ ghost use Rattle.batch_check.specs.Collecting.{HasAsked, IsCopy, IsReady, ends_i
 ghost use Rattle.batch_check.specs.Edges.{Follows};
 ghost use Rattle.batch_check.specs.Joining.{AreBelow};
 
+use crate::asked::Asked;
 use crate::edge_set::EdgeSet;
 use crate::joining::{join, keep};
 use std::alloc::{AllocError, Global};
@@ -25,8 +26,8 @@ pub(crate) struct Path {
     pub(crate) recipe: u16,
     /// The number of the resource that is asked for last.
     pub(crate) last: Option<u16>,
-    /// The numbers of the resources that are asked for, in their order, where edges are to lead from each of them.
-    pub(crate) asked: Option<Vec<Option<u16>>>,
+    /// All that is asked for, where edges are to lead from each of it.
+    pub(crate) asked: Option<Asked>,
 }
 
 impl Path {
@@ -38,7 +39,7 @@ impl Path {
     {
         let asked = match reach {
             Reach::Next => None,
-            Reach::Whole => Some(Vec::new(alloc)),
+            Reach::Whole => Some(Asked::new(alloc)),
         };
         Path {
             recipe,
@@ -52,7 +53,7 @@ impl Path {
     {
         let asked = match &self.asked {
             None => None,
-            Some(asked) => Some(asked.clone()?),
+            Some(asked) => Some(asked.copied()?),
         };
         Ok(Path {
             recipe: self.recipe,

@@ -165,8 +165,9 @@ fn mending_said(
     if edges.len() > MOST_LOOKED_AT {
         return Ok(said);
     }
-    for edge in edges {
-        if clears_without(alloc, cell, recipes, *edge)? {
+    let rise = clear_without(alloc, cell, recipes, edges)?;
+    for (edge, clears) in edges.iter().zip(&rise) {
+        if *clears {
             clearing = clearing.saturating_add(1);
             said.push_str(if clearing == 1 {
                 "; the set would be cleared without the order of "
@@ -193,14 +194,14 @@ fn mending_said(
     Ok(said)
 }
 
-/// Whether the set would be cleared, were it not for the edge's order of its two resources.
-fn clears_without(
+/// Of each of the edges whether the set would be cleared, were it not for its order of its two resources.
+fn clear_without(
     alloc: Global,
     cell: &Cell,
     recipes: &[Recipe],
-    edge: Edge,
-) -> Result<bool, AllocError> {
-    match rise_without(alloc, cell, recipes, edge) {
+    edges: &[Edge],
+) -> Result<Vec<bool>, AllocError> {
+    match rise_without(alloc, cell, recipes, edges) {
         Ok(rise) => Ok(rise),
         Err(_) => Err(AllocError),
     }

@@ -10,9 +10,13 @@ use Rattle.batch_check.specs.Sites.{own_at}
 use Rattle.batch_check.specs.declared.path.Path.{Path}
 use Rattle.batch_check.proofs.Asking.{Follows-alone}
 use Rattle.batch_check.proofs.Collects.{AreJoined, AreJoined-at, AreJoined-none, AreJoined-with, IsTop, KeepsPaths, KeepsPaths-first, KeepsPaths-more, all_collected, is_above, top_of}
+use Rattle.batch_check.proofs.Names.{resources_few}
 use Rattle.batch_check.proofs.Tables.{own_stands}
 use Rattle.batch_check.proofs.collecting.collect.Goals as goal
 use Rattle.batch_check.proofs.collecting.collect.Goals.{After-path_above-above, After-top-top}
+
+pub new-requires : goal.new-requires
+new-requires c = omega (arith, c.count_with_roles.ensures, resources_few c.args.site.now.cell.now, c.args.site.now.recipe.now.few_roles)
 
 is_top : (c : After-top-top) → IsTop c.args.number (kept_at_top c.args.reach) c.top-top.result
 is_top c = top_of c.args.number c.args.reach c.top-top.result c.top-top.ensures.recipe c.top-top.ensures.last c.top-top.ensures.kept

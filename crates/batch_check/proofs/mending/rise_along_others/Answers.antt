@@ -1,36 +1,27 @@
-use Rattle.std.proofs.Common.{length, get_or}
-use Rattle.batch_cell.specs.LookUps.{resources_of}
-use Rattle.batch_check.specs.LeastRanking.{IsEdgeCircle, IsLeastRanking}
-use Rattle.batch_check.specs.Mending.{AreOthers}
-use Rattle.batch_check.proofs.LeftOut.{circle_stays_in, others_within, ranks_rise}
+use Rattle.std.proofs.Common.{List, Bool, get_or, subst, sym, take}
+use Rattle.std.proofs.lemmas.List.{take_all, take_more}
+use Rattle.batch_check.specs.declared.edge.Edge.{Edge}
+use Rattle.batch_check.specs.Mending.{TellRises, TellsRiseAlong}
+use Rattle.batch_check.proofs.LeftOut.{TellRises-more, told_standing}
+use Rattle.batch_check.proofs.Raises.{no_edge}
 use Rattle.batch_check.proofs.mending.rise_along_others.Goals as goal
 
-pub least_ranks-requires : goal.least_ranks-requires
-least_ranks-requires c =
-    let set = c.add_pairs.new.set in
-    let are : AreOthers set.edges.items c.args.edge c.in_ok-others.others.items = rw c.deref.ensures.value at c.in_ok-others.ensures in
-    rw (c.deref-2.ensures.value, c.resources.ensures)
-    (others_within c.args.cell.now c.args.recipes.now c.in_ok-set.set set c.in_ok-add_pairs.ensures.pairs c.args.edge c.in_ok-others.others.items are
-    (length (resources_of c.args.cell.now)) c.in_ok-add_pairs.ensures.within)
+pub rises_along_others-requires : goal.rises_along_others-requires
+rises_along_others-requires c = rw (c.deref.ensures.value, c.resources.ensures) c.in_ok-add_pairs.ensures.within
 
-pub returns-in-Ranks-clause-rise : goal.returns-in-Ranks-clause-rise
-returns-in-Ranks-clause-rise c =
+pub loop-edge-preserved : goal.loop-edge-preserved
+loop-edge-preserved c =
+    let cell = c.args.cell.now in
+    let recipes = c.args.recipes.now in
+    let edges = c.args.edges.now in
+    let index = c.loop-edge.edge-index in
     let set = c.add_pairs.new.set in
-    let count = length (resources_of c.args.cell.now) in
-    let ranks = c.in-Ranks.field-0.items in
-    let are : AreOthers set.edges.items c.args.edge c.in_ok-others.others.items = rw c.deref.ensures.value at c.in_ok-others.ensures in
-    let least : IsLeastRanking count c.in_ok-others.others.items ranks =
-    rw (c.in-Ranks.is, c.resources.ensures, c.deref-2.ensures.value) at c.in_ok-least_ranks.ensures in
-    λ same. (
-      (λ k. get_or ranks k 0),
-      ranks_rise c.args.cell.now c.args.recipes.now c.in_ok-set.set set c.in_ok-add_pairs.ensures.pairs c.args.edge c.in_ok-others.others.items are count ranks least,
-    )
+    let edge : Edge = get_or edges index no_edge in
+    let told : TellsRiseAlong set.edges.items edge c.in_ok-rises.rises = rw c.deref.ensures.value at c.in_ok-rises.ensures in
+    rw c.in_ok-push.ensures.items
+    (subst (λ (es : List Edge). TellRises cell recipes es (c.loop-edge.rise.items ++ c.in_ok-rises.rises ∷ [])) (sym (take_more edges index no_edge c.loop-edge-test.true))
+    (TellRises-more cell recipes (take index edges) c.loop-edge.rise.items edge c.in_ok-rises.rises c.loop-edge.invariant
+    (told_standing cell recipes c.in_ok-set.set set c.in_ok-add_pairs.ensures.pairs edge c.in_ok-rises.rises told)))
 
-pub returns-clause-none : goal.returns-clause-none
-returns-clause-none c =
-    let set = c.add_pairs.new.set in
-    let are : AreOthers set.edges.items c.args.edge c.in_ok-others.others.items = rw c.deref.ensures.value at c.in_ok-others.ensures in
-    let circle : IsEdgeCircle c.in_ok-others.others.items c.in-Circle.field-0.items = rw (c.in-Circle.is, c.deref-2.ensures.value) at c.in_ok-least_ranks.ensures in
-    λ same rank rise.
-    circle_stays_in c.args.cell.now c.args.recipes.now c.in_ok-set.set set c.in_ok-add_pairs.ensures.pairs c.args.edge c.in_ok-others.others.items are
-    c.in-Circle.field-0.items rank circle rise
+pub returns : goal.returns
+returns c = subst (λ (es : List Edge). TellRises c.args.cell.now c.args.recipes.now es c.loop-edge.rise.items) (take_all c.loop-edge.edge-index c.args.edges.now c.loop-edge-test.false) c.loop-edge.invariant
