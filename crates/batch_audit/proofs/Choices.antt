@@ -1,5 +1,5 @@
 -- What may come of one line that was sent, and that the first line that is told of it says which.
-use Rattle.std.proofs.Common.{◌≡◌, ◌⊎◌, ℕ, Bool, true, false, not, eqb, nat_eq, List, [], ◌∷◌, ◌++◌, map, flat_map, codes, Option, Some, None, Result, Ok, Err, refl, sym, ◌∙◌, ap, subst, inl, inr, append_assoc, append-nil}
+use Rattle.std.proofs.Common.{◌≡◌, ◌⊎◌, ℕ, true, false, not, eqb, nat_eq, List, [], ◌∷◌, ◌++◌, map, flat_map, codes, Option, Some, None, Result, Ok, Err, refl, sym, ◌∙◌, ap, subst, inl, inr, append_assoc, append-nil}
 use Rattle.std.specs.Prelude.{◌≢◌}
 use Rattle.std.specs.List.{list_all, starts_with}
 use Rattle.std.proofs.lemmas.Bool.{and_parts}
@@ -20,6 +20,7 @@ use Rattle.batch_wire.specs.declared.fault.WireFault.TheVariants.{Memory}
 use Rattle.batch_serve.specs.Replays.{AnswersWell}
 use Rattle.batch_serve.specs.Serving.{HasNoFeed}
 use Rattle.batch_serve.proofs.Replays.{answers_once, takes_so}
+use Rattle.batch_serve.proofs.HoldingLemmas.{is_false}
 use Rattle.batch_audit.specs.Auditing.{IsFree}
 use Rattle.batch_audit.proofs.ComparingLemmas.{first_of_lines}
 
@@ -50,15 +51,11 @@ no_batch_want (refused no_memory) rest = inl refl
 no_batch_want (refused _) rest = inr refl
 no_batch_want _ rest = inr refl
 
-off : (t : Bool) → not t ≡ true → t ≡ false
-off true is = absurd (cc is)
-off false is = refl
-
 no_feed : (bytes : List ℕ) → list_all (λ b. not (eqb b 10)) bytes ≡ true → HasNoFeed bytes
 no_feed [] is = All-nil _
 no_feed (b ∷ bytes) is =
     let both = and_parts (not (eqb b 10)) (list_all (λ x. not (eqb x 10)) bytes) is in
-    All-cons (λ x. eqb x 10 ≡ false) b bytes (off (eqb b 10) both.0) (no_feed bytes both.1)
+    All-cons (λ x. eqb x 10 ≡ false) b bytes (is_false (eqb b 10) both.0) (no_feed bytes both.1)
 
 -- lines that end with the first line feed are one
 same_line : (a b rest more : List ℕ) → HasNoFeed a → HasNoFeed b → a ++ 10 ∷ rest ≡ b ++ 10 ∷ more → a ≡ b

@@ -118,17 +118,11 @@ line_compared start text due mid count at between rest left more before is told 
 
 -- What is due behind a line
 
-pub other_line : (line due : List ℕ) → ((rest : List ℕ) → due ≢ line ++ rest) → BeginsText (line ++ 10 ∷ []) due → ⊥
-other_line line due other begins = other (10 ∷ begins.rest) (begins.splits ∙ fed line begins.rest)
-
 pub behind_line : (line due more : List ℕ) (o : Option (Bor (List ℕ))) → due ≡ line ++ more
     → MatchOption o ((rest : List ℕ) → more ≢ (10 ∷ []) ++ rest) (λ rest. more ≡ (10 ∷ []) ++ rest.now)
     → MatchOption o (BeginsText (line ++ 10 ∷ []) due → ⊥) (λ left. due ≡ line ++ 10 ∷ left.now)
 behind_line line due more None e other = λ begins. other begins.rest (append_cancel_left line more (10 ∷ begins.rest) (sym e ∙ begins.splits ∙ fed line begins.rest))
 behind_line line due more (Some left) e f = e ∙ ap (λ l. line ++ l) f
-
-pub behind_shorter : (line due more : List ℕ) → due ≡ line ++ 10 ∷ more → length more < length due
-behind_shorter line due more is = omega (arith, ap length is, length-append line (10 ∷ more))
 
 -- What is empty
 

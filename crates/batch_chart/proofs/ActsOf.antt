@@ -1,5 +1,5 @@
 -- Each act of what remains of a tree is the act of one of its nodes.
-use Rattle.std.proofs.Common.{◌≡◌, ◌⊎◌, inl, inr, ◌<◌, ℕ, zero, suc, ◌+◌, List, [], ◌∷◌, ◌++◌, length, Some, true, false, arith, refl, sym, ◌∙◌, subst, ap}
+use Rattle.std.proofs.Common.{◌≡◌, ◌⊎◌, inl, inr, ◌<◌, ℕ, ◌+◌, List, [], ◌∷◌, ◌++◌, length, Some, true, false, arith, refl, sym, ◌∙◌, subst, ap}
 use Rattle.std.specs.Prelude.{slice_get}
 use Rattle.batch_recipe.specs.Needs.{resources_of}
 use Rattle.batch_recipe.specs.Conditions.{Name}
@@ -7,19 +7,21 @@ use Rattle.batch_recipe.specs.Nodes as nodes
 use Rattle.batch_recipe.specs.Nodes.{Node, node, nodes_of_each, nodes_of_choices, child, node_count}
 use Rattle.batch_recipe.specs.Tree.{Place, is_before, Step, Task, runs, follows, Tree, act, skip, seq, par, sel, loop, Trees, no_trees, tree, Choices, otherwise, choice}
 use Rattle.batch_recipe.proofs.Order.{counted_nodes, in_order}
+use Rattle.batch_recipe.proofs.Reaching.{in_front}
 use Rattle.batch_model.specs.Lists.{Has}
 use Rattle.batch_model.specs.Placed.{IsPlaced, ArePlaced, IsChoicePlaced}
 use Rattle.batch_model.specs.Rest.{Rest, ready, asking, open_act, live, freeing, in_seq, in_par, in_loop, done, Rests, no_rests, rest, acts, acts_of_each, place_of}
 use Rattle.batch_model.specs.Standing.{IsRestOf, IsBranch, AreBranches, IsChosen}
 use Rattle.batch_model.proofs.Members.{Has-split}
 use Rattle.batch_chart.specs.NodesOf.{nodes_of, node_at, place_at, step_at, task_at, step_of, task_of}
-use Rattle.batch_chart.proofs.Numbering.{Sits, sits-append, sits-self, order-at}
+use Rattle.batch_chart.proofs.Numbering.{Sits, sits-append, sits-self}
 use Rattle.batch_chart.proofs.Stepping.{all-has}
 use Rattle.batch_chart.proofs.NodesStand.{get-or}
 use Rattle.batch_chart.specs.declared.sign.TheConstants.{IS_ACT}
 use Rattle.batch_chart.specs.Noting.{signs_of}
 use Rattle.batch_signs.specs.Signs.{shows}
 use Rattle.batch_chart.proofs.Found.{acts-all, AllActs}
+use Rattle.batch_chart.proofs.Standing.{below-get}
 
 pub record IsActOf (ls : List Node) (a : Rest) : Type 0 where
   pub number : ℕ
@@ -87,15 +89,10 @@ module _ (ls : List Node) where
 pub of-tree : (t : Tree) (r a : Rest) → IsPlaced (0 ∷ []) t → IsRestOf t r → Has (acts r) a → IsActOf (nodes_of t) a
 of-tree t r a p h m = act-of (nodes_of t) t r a 0 (0 ∷ []) [] (sits-self (nodes_of t)) p h m
 
-below-some : {X : Type 0} (l : List X) (k : ℕ) (x : X) → slice_get l k ≡ Some x → k < length l
-below-some [] k x e = absurd (cc)
-below-some (y ∷ l) zero x e = omega arith
-below-some (y ∷ l) (suc k) x e = (let h = below-some l k x e in omega (arith, h))
-
 -- its place, step and task are those of the node
 pub node-of : (t : Tree) (a : Rest) (g : IsActOf (nodes_of t) a) → (g.number < node_count t) × (g.step.place ≡ place_at t g.number) × (g.step ≡ step_at t g.number) × (g.task ≡ task_at t g.number)
 node-of t a g =
-    let lt = below-some (nodes_of t) g.number g.at g.is_at in
+    let lt = below-get (nodes_of t) g.number g.at g.is_at in
     let same : Some g.at ≡ Some (node_at t g.number) = sym g.is_at ∙ get-or (nodes_of t) g.number (record { place = []; asked = []; here = skip }) lt in
     let at : g.at ≡ node_at t g.number = cc in (
       omega (arith, lt, counted_nodes (0 ∷ []) [] t),
@@ -134,6 +131,6 @@ stands-at t r a p h m =
 pub numbers-rise : (t : Tree) (j k : ℕ) → j < k → k < node_count t → is_before (place_at t j) (place_at t k) ≡ true
 numbers-rise t j k l m =
     let c = counted_nodes (0 ∷ []) [] t in
-    order-at (nodes_of t) (in_order (0 ∷ []) [] t).1 j k (node_at t j) (node_at t k) l
+    in_front (nodes_of t) (in_order (0 ∷ []) [] t).1 j k (node_at t j) (node_at t k) l
     (get-or (nodes_of t) j (record { place = []; asked = []; here = skip }) (omega (arith, c, l, m)))
     (get-or (nodes_of t) k (record { place = []; asked = []; here = skip }) (omega (arith, c, m)))

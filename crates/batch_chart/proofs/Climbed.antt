@@ -1,12 +1,12 @@
 -- What going on from a finished node upwards needs at each kind of node.
-use Rattle.std.proofs.Common.{◌≡◌, ◌≢◌, ◌⊎◌, inl, inr, ◌<◌, ◌≤◌, ℕ, zero, suc, ◌+◌, ◌-◌, List, [], ◌∷◌, length, Bool, true, false, ◌&&◌, Some, None, arith, refl, sym, ◌∙◌, subst, ap, ap₂}
+use Rattle.std.proofs.Common.{◌≡◌, ◌≢◌, ◌⊎◌, inl, inr, ◌<◌, ◌≤◌, ℕ, ◌+◌, ◌-◌, List, length, Bool, true, false, ◌&&◌, Some, arith, refl, sym, ◌∙◌, subst, ap, ap₂}
 use Rattle.std.specs.Prelude.{slice_set, is_none, not}
 use Rattle.std.proofs.lemmas.Bool.{cases_lt}
 use Rattle.std.proofs.lemmas.Bool.Decides.{eqb_tells}
 use Rattle.batch_recipe.specs.Conditions.{Name, ValueList}
 use Rattle.batch_recipe.specs.Nodes.{node_count}
 use Rattle.batch_recipe.specs.Tree.{Step, follows, Tree, act, skip, Trees, no_trees, tree, Choices, otherwise, choice}
-use Rattle.batch_model.specs.Rest.{in_seq, rest, is_done, all_done}
+use Rattle.batch_model.specs.Rest.{rest, is_done, all_done}
 use Rattle.batch_model.specs.Settled.{IsAdvanced}
 use Rattle.batch_machine.proofs.Advancing.{advance-advanced}
 use Rattle.batch_recipe.specs.declared.entry.Entry.{Entry}
@@ -18,20 +18,20 @@ use Rattle.batch_recipe.specs.declared.recipe.Recipe.{Recipe}
 use Rattle.batch_chart.specs.declared.stage.Stage.{Stage}
 use Rattle.batch_chart.specs.declared.stage.Stage.TheVariants.{Finished}
 use Rattle.batch_chart.specs.Stages.{stage_at, is_finished, is_begun, is_over, is_over_at, turns_of, closed_as, looped_as}
-use Rattle.batch_chart.specs.Meaning.{meaning, meaning_each, act_as, branch, chosen, AgreeOutside, AgreeWithin}
+use Rattle.batch_chart.specs.Meaning.{meaning, meaning_each, act_as, chosen, AgreeOutside, AgreeWithin}
 use Rattle.batch_chart.specs.Outlined.{end_at, kind_at, judged, Stands, AreStanding, AreChoices, HasTree, HaveTrees, HaveBranches, condition_at}
 use Rattle.batch_chart.specs.Parents.{IsAbove}
 use Rattle.batch_chart.specs.Told.{TellsWhetherOver, AreTold}
 use Rattle.batch_chart.specs.Reaching.{IsReached, IsFirstReached}
 use Rattle.batch_chart.specs.Advancing.{HasAdvanced, HasFirstAdvanced, HasEachAdvanced, HasChoiceAdvanced}
 use Rattle.batch_chart.specs.Climbing.{all_finished, AreFinished, IsRisen, HasStopped, HasPassed}
-use Rattle.batch_chart.proofs.Standing.{stood, stood-each, some-stands, nested, SkipAt, skip_at, skip-at, PhaseAt, phase_at, phase-at, ActAt, act_at, act-at, LoopAt, loop_at, loop-at, RowAt, row_at, row-at, ChoiceAt, choice_at, choice-at, seq-standing, sel-standing, rest-standing, choices-standing}
+use Rattle.batch_chart.proofs.Standing.{stood, stood-each, some-stands, nested, SkipAt, skip_at, skip-at, PhaseAt, phase_at, phase-at, ActAt, act_at, act-at, LoopAt, loop_at, loop-at, ChoiceAt, choice_at, choice-at, seq-standing, sel-standing, rest-standing, choices-standing}
 use Rattle.batch_chart.proofs.Agreeing.{meaning-agree}
 use Rattle.batch_chart.proofs.Calm.{advanced-still}
 use Rattle.batch_chart.proofs.Choosing.{chosen-false}
 use Rattle.batch_chart.proofs.Reached.{within-set}
 use Rattle.batch_chart.proofs.Telling.{nests, nests-below, told-one, told-part, told-same, told-agree}
-use Rattle.batch_chart.proofs.Advanced.{over-at, unbegun-act, advanced-act_chart, advanced-act_still, advanced-seq, advanced-par, advanced-sel, advanced-loop_over, advanced-loop_anew, not-false, moved-later, moved-on, chosen-last, chosen-later, chosen-here}
+use Rattle.batch_chart.proofs.Advanced.{unbegun-act, advanced-act_chart, advanced-act_still, advanced-seq, advanced-par, advanced-sel, advanced-loop_over, advanced-loop_anew, not-false, moved-later, moved-on, chosen-last, chosen-later, chosen-here}
 use Rattle.batch_chart.specs.ByValues.{bare, advance_by, advance_each_by}
 
 -- tests of rows
@@ -51,12 +51,6 @@ both-and x1 x2 x3 x4 x5 x6 = absurd (grind arith)
 
 pub unover-left : (κ : Kind) (x : Stage) → is_over_at κ x ≡ false → is_finished x ≡ false
 unover-left x1 x2 x3 = grind arith
-
--- a stage that is written anew
-set-again : (xs : List Stage) (n : ℕ) (v : Stage) → n < length xs → stage_at xs n ≡ v → slice_set xs n v ≡ xs
-set-again [] n v lt e = absurd (omega arith)
-set-again (x ∷ xs) zero v lt e = ap (λ z. z ∷ xs) (sym e)
-set-again (x ∷ xs) (suc n) v lt e = ap (λ z. x ∷ z) (set-again xs n v (omega arith) e)
 
 -- the branches before n, and those from n on
 
@@ -97,9 +91,6 @@ module _ (ns : List Entry) (doc : Recipe) (n : ℕ) where
 module _ (ns : List Entry) (doc : Recipe) (p n : ℕ) (ys : List Stage) (standing : HasTree ns doc ys p) (above : IsAbove ns p n) where
   p-end : end_at ns p ≡ p + node_count standing.1.0
   p-end = (stood ns doc p standing.1.0 standing.1.1).end
-
-  p-within : p < length ns
-  p-within = (stood ns doc p standing.1.0 standing.1.1).within
 
   p-fits : end_at ns p ≤ length ns
   p-fits = omega (arith, p-end, (stood ns doc p standing.1.0 standing.1.1).fits)
@@ -153,12 +144,6 @@ module _ (ns : List Entry) (doc : Recipe) (p n : ℕ) (ys : List Stage) (standin
   sel-split : (i : ℕ) → kind_at ns p ≡ Sel i → (us : Trees) × (m : ℕ) × (os : Choices) × AreStanding ns doc (p + 1) n us × AreChoices ns doc m n (end_at ns p) os
   sel-split i e = let k = sel-standing ns doc ys ys p i standing e standing.0 in split-choices ns doc n k.1.0 i (p + 1) (end_at ns p) k.1.1 (omega (arith, above.before)) above.past ends-by
 
-  pub seq-before : kind_at ns p ≡ Seq → HaveTrees ns doc ys (p + 1) n
-  seq-before e = let k = seq-split e in (standing.0, (k.0, k.2))
-
-  pub sel-before : (i : ℕ) → kind_at ns p ≡ Sel i → HaveTrees ns doc ys (p + 1) n
-  sel-before i e = let k = sel-split i e in (standing.0, (k.0, k.3))
-
   pub seq-rest : kind_at ns p ≡ Seq → HaveTrees ns doc ys (end_at ns n) (end_at ns p)
   seq-rest e =
       let k = seq-split e in
@@ -178,9 +163,6 @@ module _ (ns : List Entry) (doc : Recipe) (p n : ℕ) (ys : List Stage) (standin
 module _ (ns : List Entry) (doc : Recipe) (vs : ValueList) (p n : ℕ) (ys : List Stage) (standing : HasTree ns doc ys p) (above : IsAbove ns p n) (xs ws : List Stage) (r : IsRisen ns doc vs xs ws n ys) where
   fits-p : end_at ns p ≤ length ns
   fits-p = p-fits ns doc p n ys standing above
-
-  within-p : p < length ns
-  within-p = p-within ns doc p n ys standing above
 
   end-n : end_at ns n ≤ end_at ns p
   end-n = n-end ns doc p n ys standing above
@@ -235,25 +217,6 @@ module _ (ns : List Entry) (doc : Recipe) (vs : ValueList) (p n : ℕ) (ys : Lis
   passed zs true l a h = record { before = r.before; after = r.after; told = r.told; same = wide; left = l; advanced = a; below = whole zs true a h }
   passed zs false l a h = record { finished = false; told = r.told; same = wide; stage = was-own; kept = a.own ∙ sym l; advanced = a; below = whole zs false a h }
 
-  -- p isn't reached, or has ended
-  pub passed-over : true ≡ is_over_at (kind_at ns p) (stage_at ys p) → HasStopped ns doc vs xs ws p ys
-  passed-over o =
-      let then : true ≡ is_over_at (kind_at ns p) (stage_at ws p) = o ∙ ap (is_over_at (kind_at ns p)) is-own in
-      let before : true ≡ is_over_at (kind_at ns p) (stage_at xs p) = then ∙ ap (is_over_at (kind_at ns p)) was-own in
-      let now = over-at ns doc vs ys p standing (kind_at ns p) refl o in
-      let was = over-at ns doc vs ws p then-standing (kind_at ns p) refl then in
-      let first = over-at ns doc vs xs p (r.before, standing.1) (kind_at ns p) refl before standing.1.0 standing.1.1 in
-      let own : is_finished (stage_at xs p) ≡ true = (r.told p standing.1.0 (omega arith) within-p standing.1.1).finished ∙ ap is_done first in
-      let a : HasAdvanced ns doc vs p ws ys true = record {
-        means = λ c s. (now c s ∙ sym (ap (advance_by vs) (was c s)), sym (ap (λ z. is_done (advance_by vs z)) (was c s)));
-        own = ap is_finished (is-own ∙ was-own) ∙ own;
-        outside = wide-now;
-      } in
-      record { finished = true; told = r.told; same = wide; stage = was-own; kept = ap is_finished is-own; advanced = a; below = whole ys true a told-under }
-
-  pub passed-idle : (k i : ℕ) → kind_at ns p ≡ Loop k i → None ≡ turns_of (stage_at ys p) → HasStopped ns doc vs xs ws p ys
-  passed-idle k i e q = passed-over (ap is_none q ∙ sym (ap (λ κ. is_over_at κ (stage_at ys p)) e))
-
   -- p is left
   module _ (κ : Kind) (e : kind_at ns p ≡ κ) (o : false ≡ is_over_at κ (stage_at ys p)) where
     left-own : is_finished (stage_at ws p) ≡ false
@@ -286,12 +249,6 @@ module _ (ns : List Entry) (doc : Recipe) (vs : ValueList) (p n : ℕ) (ys : Lis
           let at : n ≡ p + 1 = only-child ns doc p n ys standing above d a f in
           passed-as (Act k) e o ys false (advanced-act_chart ns doc vs ws p then-standing ys k true e (sym q) (subst (λ z. HasAdvanced ns doc vs z ws ys true) at r.advanced)) told-under
       go _ (act_at s m d a f g) false q = passed-as (Act k) e o ys false (unbegun q) told-under
-
-  -- nothing follows of itself after a tree without branches
-  pub passed-still : (kind_at ns p ≡ Skip) ⊎ (((k : ℕ) × (i : ℕ) × (kind_at ns p ≡ kind.Phase k i)) ⊎ ((k : ℕ) × (kind_at ns p ≡ Act k))) → false ≡ is_over_at (kind_at ns p) (stage_at ys p) → HasStopped ns doc vs xs ws p ys
-  passed-still (inl e) o = absurd (no-skip ns doc p n ys standing above e)
-  passed-still (inr (inl h)) o = absurd (no-phase ns doc p n ys standing above h.0 h.1 h.2)
-  passed-still (inr (inr h)) o = passed-act h.0 h.1 (o ∙ ap (λ κ. is_over_at κ (stage_at ys p)) h.1)
 
   -- rows
 
@@ -329,36 +286,6 @@ module _ (ns : List Entry) (doc : Recipe) (vs : ValueList) (p n : ℕ) (ys : Lis
   outside-row : (i j : ℕ) → i ≤ n → end_at ns n ≤ j → AgreeOutside i j ws ys
   outside-row i j a b k (inl q) = r.advanced.outside k (inl (omega arith))
   outside-row i j a b k (inr q) = r.advanced.outside k (inr (omega arith))
-
-  -- the branch that runs comes before n
-  stuck-row : (i j : ℕ) → i ≢ j → end_at ns i ≤ n → i < n → end_at ns n ≤ j → is_finished (stage_at ys i) ≡ false → HasFirstAdvanced ns doc vs i j ws ys false
-  stuck-row i j ne le lt fits u =
-      record { means = λ ts q. go ts (row-at ns doc i j ne ts q); outside = outside-row i j (omega arith) fits }
-    where
-      go : (ts : Trees) → RowAt ns doc i j ts → (branch ts i ys ≡ advance_by vs (branch ts i ws)) × (false ≡ is_done (advance_by vs (branch ts i ws)))
-      go _ (row_at c ts s q e f) =
-          let k = stays c i s (inl (omega (arith, e))) in
-          let unfinished : is_finished (stage_at ws i) ≡ false = ap is_finished (sym (off-own i (inl lt))) ∙ u in
-          let was = chosen-false (is_finished (stage_at ws i)) (branch ts (i + node_count c) ws) (in_seq (meaning c i ws) ts) unfinished in
-          let on = ap (advance_by vs) was ∙ advanced-still (bare vs) (in_seq (meaning c i ws) ts) (sym k.1 ∙ u, k.0) in (
-            chosen-false (is_finished (stage_at ys i)) (branch ts (i + node_count c) ys) (in_seq (meaning c i ys) ts) u ∙ ap (λ z. in_seq z ts) k.2 ∙ sym on,
-            sym (ap is_done on),
-          )
-
-  not-yet : (us : Trees) (i j : ℕ) → AreStanding ns doc i n us → HaveTrees ns doc ws i j → end_at ns n ≤ j → all_finished us i ys ≡ false → HasFirstAdvanced ns doc vs i j ws ys false
-  not-yet no_trees i j h k fits f = absurd (cc)
-  not-yet (tree c us) i j h k fits f =
-      let e = (stood ns doc i c h.0).end in
-      let l : i + node_count c ≤ n = omega (arith, stood-each ns doc (i + node_count c) n us h.1) in
-      let lt : i < n = omega (arith, some_count c) in
-      let ne : i ≢ j = λ q. absurd (omega (arith, below-n)) in
-      elim (one-false (is_finished (stage_at ys i)) (all_finished us (i + node_count c) ys) f) [
-        | inl q ↦
-            moved-later ns doc vs ws i j ne k ys false (sym q.0 ∙ ap is_finished (off-own i (inl lt)))
-            (subst (λ z. HasFirstAdvanced ns doc vs z j ws ys false) (sym e)
-            (not-yet us (i + node_count c) j h.1 (subst (λ z. HaveTrees ns doc ws z j) e (rest-standing ns doc ws ws i j ne k r.after)) fits q.1))
-        | inr q ↦ stuck-row i j ne (omega (arith, e)) lt fits q
-      ]
 
   went-row : (us : Trees) (i j : ℕ) → AreStanding ns doc i n us → HaveTrees ns doc ws i j → end_at ns n ≤ j → all_finished us i ys ≡ true → (zs : List Stage) (b : Bool) → HasFirstAdvanced ns doc vs n j ws zs b → HasFirstAdvanced ns doc vs i j ws zs b
   went-row no_trees i j h k fits f zs b a = subst (λ z. HasFirstAdvanced ns doc vs z j ws zs b) (sym h) a

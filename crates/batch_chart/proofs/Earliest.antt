@@ -120,9 +120,6 @@ kind-range (ask n p r) = (omega arith, omega arith)
 kind-range (grant n p r) = (omega arith, omega arith)
 
 module _ (b : Batch) (rises : Rises (acts b.rest)) where
-  mine : List Move
-  mine = filter_map (own_move b) (acts b.rest)
-
   rising : Rising (filter_map (own_move b) (acts b.rest))
   rising = rising-moves b (acts b.rest) rises
 

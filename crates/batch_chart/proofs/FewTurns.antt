@@ -1,12 +1,12 @@
 -- A loop of a recipe has no more turns than a chart may give it, so that a stage can keep those that are left in 16 bits.
-use Rattle.std.proofs.Common.{◌≡◌, ◌≤◌, ℕ, zero, suc, ◌+◌, ◌-◌, List, [], ◌∷◌, ◌++◌, length, Bool, true, false, ◌&&◌, Option, Some, None, nat_le, nat_lt, slice_get, sym, subst, refl, arith}
+use Rattle.std.proofs.Common.{◌≡◌, ◌≤◌, ℕ, zero, suc, ◌+◌, ◌-◌, List, [], ◌∷◌, length, Bool, true, ◌&&◌, Option, Some, None, nat_le, nat_lt, slice_get, sym, subst, refl, arith}
 use Rattle.std.specs.List.{list_all}
 use Rattle.std.proofs.lemmas.Bool.{and_parts}
 use Rattle.batch_recipe.specs.Conditions.{Name, same_name}
 use Rattle.batch_recipe.specs.Diagram as diagram
 use Rattle.batch_recipe.specs.Diagram.{Diagram, Diagrams, Cases, diagram_of}
 use Rattle.batch_recipe.specs.Expanding.{act_named}
-use Rattle.batch_recipe.specs.Growing.{Head, Labels, LabelConditions, entry, plain, act_head, needs_count, bare, grown, grown_each, grown_cases, grown_work, grown_act, grown_named, conditions_of_cases, conditions_along, conditions_named, levels_from, number_in, unit_number, entries_of}
+use Rattle.batch_recipe.specs.Growing.{Labels, LabelConditions, needs_count, bare, grown, grown_each, grown_cases, grown_work, grown_act, grown_named, conditions_of_cases, conditions_along, conditions_named, levels_from, number_in, unit_number, entries_of}
 use Rattle.batch_recipe.specs.Procedure.{table_at}
 use Rattle.batch_recipe.specs.WellFormed.{act_names, are_cases, are_charts, are_distinct, follows_no_par, is_among, is_chart, is_condition, is_work, value_names}
 use Rattle.batch_recipe.specs.declared.act.Act.{Act}

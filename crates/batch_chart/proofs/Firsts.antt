@@ -1,6 +1,6 @@
 -- The first act that is found makes the first move of a kind.
 use Rattle.std.proofs.Common.{◌≡◌, ◌⊎◌, inl, inr, ◌<◌, ℕ, suc, ◌+◌, ◌-◌, List, [], ◌∷◌, length, zero, Bool, true, false, ◌&&◌, Some, None, nat_eq, nat_lt, nat_le, cond, arith, refl, sym, ◌∙◌, subst, ap, ap₂}
-use Rattle.std.specs.Prelude.{slice_index_or, Option, IfSome, not, ◌||◌, map, find, option_map, option_and_then, ◌<◌}
+use Rattle.std.specs.Prelude.{slice_index_or, Option, IfSome, not, ◌||◌, map, find, option_map, option_and_then}
 use Rattle.std.specs.List.{filter_map, cons_option}
 use Rattle.std.specs.Int.Bits.{bit_or}
 use Rattle.std.proofs.lemmas.Bool.Decides.{nat_tests}
@@ -14,10 +14,10 @@ use Rattle.batch_model.specs.Plant.{Batch, held_in}
 use Rattle.batch_model.specs.Rest.{Rest, ready, asking, open_act, live, freeing, acts, is_done}
 use Rattle.batch_model.specs.Settled.{IsAdvanced}
 use Rattle.batch_model.specs.Moves as machine
-use Rattle.batch_model.specs.Moves.{freed, kind_of, handed_values, passed_on, is_running, is_stopping, is_stopped, is_empty, is_quiet, when, entering, last_held, giving_back, reserved_place, handing_over}
+use Rattle.batch_model.specs.Moves.{handed_values, passed_on, is_running, is_stopping, is_stopped, is_empty, is_quiet, when, entering, last_held, giving_back, reserved_place, handing_over}
 use Rattle.batch_recipe.specs.declared.entry.Entry.{Entry}
 use Rattle.batch_chart.specs.declared.node.Kind.{Kind}
-use Rattle.batch_chart.specs.declared.node.Kind.TheVariants.{Skip, Act, Seq, Par, Sel, Loop}
+use Rattle.batch_chart.specs.declared.node.Kind.TheVariants.{Act}
 use Rattle.batch_chart.specs.declared.node.Kind.TheVariants as kind
 use Rattle.batch_chart.specs.declared.stage.Stage.{Stage}
 use Rattle.batch_chart.specs.declared.stage.Stage.TheVariants.{Ready, Open, Live, Freeing}

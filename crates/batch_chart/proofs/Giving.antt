@@ -45,9 +45,6 @@ module _ (ns : List Entry) (xs : List Stage) (signs : List ℕ) where
   pub gives-first : GivesNone ns xs signs 0
   gives-first k lt u = absurd (omega arith)
 
-  pub gives-end : (at : ℕ) → GivesNone ns xs signs at → IsNextShown signs HOLDS at None → IsFirstGiving ns xs signs None
-  gives-end at h n k lt u = elim (cases_lt k at) [ inl q ↦ h k q u | inr q ↦ absurd (u (n k q lt)) ]
-
   pub gives-before : (at j : ℕ) → GivesNone ns xs signs at → IsNextShown signs HOLDS at (Some j) → GivesNone ns xs signs j
   gives-before at j h n k lt u = elim (cases_lt k at) [ inl q ↦ h k q u | inr q ↦ absurd (u (n.3 k q lt)) ]
 
@@ -55,15 +52,6 @@ module _ (ns : List Entry) (xs : List Stage) (signs : List ℕ) where
   gives-next at j h n own k lt u = elim (eqb_tells k j) [
     | inl e ↦ subst (λ z. GivesAs ns signs z (stage_at xs z) false) (sym e.1) own
     | inr e ↦ let d = e.1 in gives-before at j h n k (omega (arith, lt)) u
-  ]
-
-  pub gives-here : (at j : ℕ) → GivesNone ns xs signs at → IsNextShown signs HOLDS at (Some j) → GivesAs ns signs j (stage_at xs j) true → IsFirstGiving ns xs signs (Some j)
-  gives-here at j h n g = (n.1, n.2, g, gives-before at j h n)
-
-  pub gives-more : (at j : ℕ) → GivesNone ns xs signs at → IsNextShown signs HOLDS at (Some j) → GivesAs ns signs j (stage_at xs j) false → GivesNone ns xs signs (j + 1)
-  gives-more at j h n g k lt u = elim (eqb_tells k j) [
-    | inl q ↦ subst (λ z. GivesAs ns signs z (stage_at xs z) false) (sym q.1) g
-    | inr q ↦ let ne = q.1 in gives-before at j h n k (omega arith) u
   ]
 
 -- a test of numbers by the entries of a list
@@ -106,10 +94,6 @@ gives-both needs k e = go (cases_lt 0 k) (cases_lt 0 needs)
         over : needs ≤ 0 → 0 < k → gives needs k ≡ true → ⊥
         over b a e = (let f : nat_le k needs ≡ false = grind (arith, nat_tests) in let g : nat_lt 0 k ≡ true = grind (arith, nat_tests) in let z : ◌≡◌ {A = Bool} false true = sym (ap (λ z. z && nat_le k needs) g ∙ f) ∙ e in absurd (cc))
     go (inr a) b = absurd (let g : nat_lt 0 k ≡ false = grind (arith, nat_tests) in let z : ◌≡◌ {A = Bool} false true = sym (ap (λ z. z && nat_le k needs) g) ∙ e in cc)
-
-first-true : (a b : Bool) → (a && b) ≡ true → a ≡ true
-first-true true b e = refl
-first-true false b e = absurd (cc)
 
 releasing-holds : (n : ℕ) (r : Rest) → showing HOLDS n r ≡ false → gives_back n r ≡ false
 releasing-holds n (ready s w k) e = holds-less (nat_lt 0 k) (nat_lt 0 (length s.needs)) (gives (length s.needs) k) (sym (ready-holds (length s.needs) k) ∙ e) (gives-both (length s.needs) k)

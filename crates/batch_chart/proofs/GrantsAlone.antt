@@ -1,23 +1,12 @@
 -- A batch that makes no move of its own can only be granted what it asks for.
-use Rattle.std.proofs.Common.{◌≡◌, List, [], ◌∷◌, Bool, true, false, Some, None, refl, sym, ◌∙◌, ap}
+use Rattle.std.proofs.Common.{◌≡◌, List, [], ◌∷◌, Some, None, refl, sym, ◌∙◌, ap}
 use Rattle.std.specs.Prelude.{Option, ◌++◌, option_to_list}
 use Rattle.std.specs.List.{filter_map, cons_option}
 use Rattle.batch_model.specs.Plant.{Setup, Batch, Plant}
 use Rattle.batch_model.specs.Rest.{Rest, ready, asking, open_act, live, freeing, in_seq, in_par, in_loop, done, acts}
-use Rattle.batch_model.specs.Moves.{Move, act_move, state_move, batch_moves, is_earlier, least}
+use Rattle.batch_model.specs.Moves.{Move, act_move, state_move, batch_moves}
 use Rattle.batch_chart.specs.OwnMoves.{own_move, own_moves, own_next, grant_move, grants}
-
-least-empty : (ms : List Move) → least ms ≡ None → ms ≡ []
-least-empty [] e = refl
-least-empty (m ∷ ms) e = absurd (go (least ms) e)
-  where
-    two : (b : Bool) (l : Move) → elim b as (λ _. Option Move) [ true ↦ Some l | false ↦ Some m ] ≡ None → ⊥
-    two true l e = cc
-    two false l e = cc
-
-    go : (o : Option Move) → elim o as (λ _. Option Move) [ None ↦ Some m | Some l ↦ elim (is_earlier l m) as (λ _. Option Move) [ true ↦ Some l | false ↦ Some m ] ] ≡ None → ⊥
-    go None e = cc
-    go (Some l) e = two (is_earlier l m) l e
+use Rattle.batch_machine.proofs.Ordering.{none_least}
 
 module _ (c : Setup) (s : Plant) (b : Batch) where
   abbrev Alone : List Rest → Type 0
@@ -45,7 +34,7 @@ module _ (c : Setup) (s : Plant) (b : Batch) where
   alone (done ∷ as') h = owns-nothing done as' refl refl (alone as') h
 
   pub grants-alone : own_next b ≡ None → batch_moves c s b ≡ grants c s b
-  grants-alone h = go (state_move b) (least-empty (own_moves b) h)
+  grants-alone h = go (state_move b) (none_least (own_moves b) h)
     where
       go : (o : Option Move) → option_to_list o ++ filter_map (own_move b) (acts b.rest) ≡ []
           → option_to_list o ++ filter_map (act_move c s b) (acts b.rest) ≡ grants c s b

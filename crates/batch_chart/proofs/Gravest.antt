@@ -4,7 +4,6 @@ use Rattle.std.specs.Prelude.{Option, find, ◌||◌}
 use Rattle.std.specs.List.{list_any}
 use Rattle.std.proofs.Math.Bool.{cond}
 use denote.Enum.Bare.{same_true, true_same}
-use Rattle.std.proofs.lemmas.Bool.Decides.{nat_tests}
 use Rattle.batch_matrix.specs.declared.state.State.{State}
 use Rattle.batch_matrix.specs.declared.state.State.TheVariants.{Running, Pausing, Paused, Holding, Held, Restarting, Stopping, Aborting}
 use Rattle.batch_matrix.specs.contracts.state.State.{the_type}
@@ -12,6 +11,7 @@ use Rattle.batch_matrix.specs.Matrix.{same_state}
 use Rattle.batch_model.specs.ActStates.{gravity, gravest}
 use Rattle.batch_model.specs.Lists.{Has}
 use Rattle.batch_chart.specs.Showing.{is_among}
+use Rattle.batch_chart.proofs.MoveKinds.{less, not-less}
 
 same-is : (y x : State) → same_state y x ≡ true → y ≡ x
 same-is y x e = same_true the_type tt y x e
@@ -35,12 +35,6 @@ has-among (y ∷ l) x (inr h) = go (same_state y x) (has-among l x h)
 
 gravity-most : (x : State) → gravity x ≤ 9
 gravity-most x1 = grind arith
-
-less : (m n : ℕ) → nat_lt m n ≡ true → m < n
-less m n e = grind (arith, nat_tests)
-
-not-less : (m n : ℕ) → nat_lt m n ≡ false → n ≤ m
-not-less m n e = grind (arith, nat_tests)
 
 -- what is taken of two states first
 two : (m n : ℕ) → ((nat_lt m n ≡ true) × (m < n)) ⊎ ((nat_lt m n ≡ false) × (n ≤ m))

@@ -25,21 +25,9 @@ abbrev pub live_kind : ℕ → Option Command → State → Bool
 live_kind n None x = false
 live_kind n (Some c) x = accepts x c && nat_eq 1 n
 
-pub and-false : (x : Bool) → (x && false) ≡ false
-and-false true = refl
-and-false false = refl
-
 pub and-true : (x : Bool) → (x && true) ≡ x
 and-true true = refl
 and-true false = refl
-
-pub itself : (x : Bool) → elim x as (λ _. Bool) [ true ↦ true | false ↦ false ] ≡ x
-itself true = refl
-itself false = refl
-
-pub same-arms : (x y : Bool) → elim x as (λ _. Bool) [ true ↦ y | false ↦ y ] ≡ y
-same-arms true y = refl
-same-arms false y = refl
 
 empty-append : (l m : List Rest) → is_empty (l ++ m) ≡ (is_empty l && is_empty m)
 empty-append [] m = refl
@@ -62,7 +50,7 @@ mutual
 pub less : (k n : ℕ) → nat_lt k n ≡ true → k < n
 less k n e = grind (arith, nat_tests)
 
-not-less : (k n : ℕ) → nat_lt k n ≡ false → n ≤ k
+pub not-less : (k n : ℕ) → nat_lt k n ≡ false → n ≤ k
 not-less k n e = grind (arith, nat_tests)
 
 gives-less : (n k : ℕ) → gives n (suc k) ≡ true → k < n

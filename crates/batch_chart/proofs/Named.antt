@@ -1,10 +1,9 @@
 -- The first live phase with a name, by the signs.
-use Rattle.std.proofs.Common.{◌≡◌, ◌⊎◌, inl, inr, ◌<◌, ◌≤◌, ℕ, ◌+◌, List, [], ◌∷◌, length, Bool, true, false, ◌&&◌, Some, None, nat_le, arith, refl, sym, ◌∙◌, subst, ap}
+use Rattle.std.proofs.Common.{◌≡◌, ◌⊎◌, inl, inr, ◌<◌, ◌≤◌, ℕ, ◌+◌, List, [], ◌∷◌, Bool, true, false, ◌&&◌, Some, None, nat_le, arith, refl, sym, ◌∙◌, subst, ap}
 use Rattle.std.specs.Prelude.{Option}
 use Rattle.std.specs.Int.Bits.{bit_and}
 use Rattle.std.proofs.lemmas.Bool.{cases_lt}
 use Rattle.std.proofs.lemmas.Bool.Decides.{eqb_tells, nat_tests}
-use Rattle.std.proofs.lemmas.List.{get_or_past}
 use Rattle.batch_recipe.specs.Conditions.{Name, same_name}
 use Rattle.batch_recipe.specs.Nodes.{node_count}
 use Rattle.batch_recipe.specs.Tree.{Step, Phase, Task, runs, follows, Tree, act}
@@ -25,8 +24,8 @@ use Rattle.batch_signs.specs.Signs.{shows, sign_at, IsNextShown}
 use Rattle.batch_chart.specs.Stages.{stage_at}
 use Rattle.batch_chart.proofs.Choosing.{chosen-true, chosen-false}
 use Rattle.batch_chart.proofs.Live.{looks, live-known}
-use Rattle.batch_signs.proofs.Wanting.{none-shown, nothing-shown}
-use Rattle.batch_chart.proofs.Picking.{RiseIn, rise, sign-here, sign-other, shown-not, shown-so, noted-alike}
+use Rattle.batch_signs.proofs.Wanting.{nothing-shown}
+use Rattle.batch_chart.proofs.Picking.{RiseIn, rise, sign-here, sign-other, shown-not, noted-alike}
 use Rattle.batch_chart.proofs.Sought.{any_live, said-live}
 use Rattle.batch_chart.proofs.Stepping.{entry-at}
 
@@ -129,31 +128,8 @@ module _ (ns : List Entry) (doc : Recipe) (signs : List ℕ) (from : ℕ) (phase
   hidden k e =
       ap (λ z. nat_le from k && (z && is_named (kind_at ns k) doc phase)) (shown-not LIVES (sign_at signs k) e) ∙ sym (and-not (nat_le from k) (is_named (kind_at ns k) doc phase))
 
-  pub none-named : (at : ℕ) → NoneNamed ns doc signs from phase at → IsNextShown signs LIVES at None → IsFirstNamed ns doc signs from phase None
-  none-named at h n k = elim (cases_lt k at) [
-    | inl q ↦ h k q
-    | inr q ↦ elim (cases_lt k (length signs)) [
-      | inl l ↦ hidden k (n k q l)
-      | inr l ↦ hidden k (ap (λ z. bit_and z LIVES) (get_or_past {X = ℕ} signs k 0 l) ∙ none-shown LIVES)
-    ]
-  ]
-
   before-next : (at j : ℕ) → NoneNamed ns doc signs from phase at → IsNextShown signs LIVES at (Some j) → NoneNamed ns doc signs from phase j
   before-next at j h n k lt = elim (cases_lt k at) [ inl q ↦ h k q | inr q ↦ hidden k (n.3 k q lt) ]
-
-  pub next-named : (at j : ℕ) → from ≤ at → NoneNamed ns doc signs from phase at → IsNextShown signs LIVES at (Some j) → true ≡ is_named (kind_at ns j) doc phase → IsFirstNamed ns doc signs from phase (Some j)
-  next-named at j le h n u = (n.1, there, before-next at j h n)
-    where
-      seen : shows LIVES (sign_at signs j) ≡ true
-      seen = go (shows LIVES (sign_at signs j)) refl
-        where
-          go : (b : Bool) → shows LIVES (sign_at signs j) ≡ b → shows LIVES (sign_at signs j) ≡ true
-          go true e = e
-          go false e = absurd (n.2 (shown-so LIVES (sign_at signs j) e))
-
-      there : names_at ns doc signs from phase j ≡ true
-      there = (let f : nat_le from j ≡ true = (let g : from ≤ j = omega (arith, le, n.0) in grind (arith, nat_tests)) in
-          ap (λ z. z && (shows LIVES (sign_at signs j) && is_named (kind_at ns j) doc phase)) f ∙ ap (λ z. z && is_named (kind_at ns j) doc phase) seen ∙ sym u)
 
   pub passed-named : (at j : ℕ) → NoneNamed ns doc signs from phase at → IsNextShown signs LIVES at (Some j) → false ≡ is_named (kind_at ns j) doc phase → NoneNamed ns doc signs from phase (j + 1)
   passed-named at j h n u k lt = elim (eqb_tells k j) [

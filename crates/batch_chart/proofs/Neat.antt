@@ -34,9 +34,6 @@ pub shows-same : (c : Tree) (x : Stage) (a b : Bool) → (1 < node_count c → a
 shows-same (act s (follows name c)) x a b h = unbegun-still (length s.needs) x a b (λ e. h (omega (arith, some_count c)))
 shows-same y x a b h = refl
 
-pub finished-part : (n m i j : ℕ) (xs : List Stage) → n ≤ i → j ≤ m → AllFinished n m xs → AllFinished i j xs
-finished-part n m i j xs a b h k p q = h k (omega arith) (omega arith)
-
 pub blank-part : (n m i j : ℕ) (xs : List Stage) (signs : List ℕ) → n ≤ i → j ≤ m → AreBlank n m xs signs → AreBlank i j xs signs
 blank-part n m i j xs signs a b h k p q = h k (omega arith) (omega arith)
 

@@ -6,17 +6,16 @@ use Rattle.batch_recipe.specs.Conditions.{Name}
 use Rattle.batch_recipe.specs.Expanding.{Binding}
 use Rattle.batch_recipe.specs.Needs.{resources_of}
 use Rattle.batch_recipe.specs.Nodes as nodes
-use Rattle.batch_recipe.specs.Nodes.{node_count, count_of_each, count_of_choices, nodes_within, nodes_of_each, nodes_of_choices, child}
+use Rattle.batch_recipe.specs.Nodes.{node_count, nodes_within, nodes_of_each, nodes_of_choices, child}
 use Rattle.batch_recipe.specs.Tree.{Place, Step, Task, runs, follows, Tree, act, skip, seq, par, sel, loop, Trees, no_trees, tree, Choices, otherwise, choice}
 use Rattle.batch_recipe.proofs.Order.{counted_nodes}
 use Rattle.batch_recipe.specs.declared.entry.Entry.{Entry}
 use Rattle.batch_recipe.specs.declared.entry.Kind.TheVariants as entry
-use Rattle.batch_chart.specs.declared.node.Kind.{Kind}
 use Rattle.batch_chart.specs.declared.node.Kind.TheVariants as kind
 use Rattle.batch_recipe.specs.declared.recipe.Recipe.{Recipe}
-use Rattle.batch_chart.specs.Outlined.{entry_at, kind_at, kind_of, unit_under, names_by, phase_name, StandsOn, StandsActOn, AreStandingOn, AreChoicesOn, Stands, AreStanding, AreChoices, names_in}
+use Rattle.batch_chart.specs.Outlined.{kind_at, kind_of, StandsOn, StandsActOn, AreStandingOn, AreChoicesOn, Stands}
 use Rattle.batch_chart.specs.Needs.{needs_of}
-use Rattle.batch_chart.specs.NodesOf.{nodes_of, node_at, step_of, phase_named}
+use Rattle.batch_chart.specs.NodesOf.{nodes_of, node_at, step_of}
 use Rattle.batch_chart.specs.Running.{IsLaid}
 
 pub get-or : {X : Type 0} (l : List X) (k : ℕ) (d : X) → k < length l → slice_get l k ≡ Some (slice_index_or l k d)
@@ -102,38 +101,3 @@ module _ (ns : List Entry) (doc : Recipe) where
     | inl lt ↦ needs-here k (node_at t k).here (node-stands t laid k lt)
     | inr le ↦ ap (λ (z : Entry). needs_of (kind_of z)) (past-end ns k no_entry le) ∙ sym (ap (λ (z : nodes.Node). length (step_of z.here).needs) (past-end (nodes_of t) k no_node (no-node t laid k le)))
   ]
-
-module _ (bound : Binding) (ns : List Entry) (doc : Recipe) where
-  -- which phase an act at a node of this kind runs, under this unit procedure, where the roles are bound so
-  abbrev phase_kind : Kind → ℕ → Option (Name × Name)
-  phase_kind (kind.Phase j i) o = names_in bound doc o i
-  phase_kind _ o = None
-
-  abbrev phase_of : Entry → Option (Name × Name)
-  phase_of e = phase_kind (kind_of e) e.detail
-
-  phase-here : (k : ℕ) (c : Tree) → StandsOn (Some bound) ns doc k c → phase_of (entry_at ns k) ≡ phase_named c
-  phase-here k (act s (runs p)) h =
-      ap (λ κ. phase_kind κ (unit_under ns k)) h.1.1 ∙ (ap (λ o. names_by o (phase_name doc h.0)) h.3 ∙ ap (λ o. names_by (Some p.unit) o) h.2)
-  phase-here k skip h = ap (λ κ. phase_kind κ (unit_under ns k)) h.1
-  phase-here k (sel ch) h = ap (λ κ. phase_kind κ (unit_under ns k)) h.1.1
-  phase-here k (loop n p body) h = ap (λ κ. phase_kind κ (unit_under ns k)) h.1.1
-  phase-here k x h = ap (λ κ. phase_kind κ (unit_under ns k)) h.0.1
-
-  pub phase-known : (t : Tree) → IsLaid ns doc t → StandsOn (Some bound) ns doc 0 t → (k : ℕ) → phase_of (entry_at ns k) ≡ phase_named (node_at t k).here
-  phase-known t laid h k = elim (cases_lt k (length ns)) [
-    | inl lt ↦ phase-here k (node_at t k).here (stands-at (Some bound) ns doc t laid h k lt)
-    | inr le ↦ ap phase_of (past-end ns k no_entry le) ∙ sym (ap (λ (z : nodes.Node). phase_named z.here) (past-end (nodes_of t) k no_node (no-node ns doc t laid k le)))
-  ]
-
-  pub runs-phase : (t : Tree) → IsLaid ns doc t → StandsOn (Some bound) ns doc 0 t → (j i k o : ℕ) (found : Option (Name × Name)) → kind_at ns k ≡ kind.Phase j i → o ≡ unit_under ns k → found ≡ names_in bound doc o i
-      → found ≡ phase_named (node_at t k).here
-  runs-phase t laid h j i k o found e u f =
-      f ∙ (ap (λ z. names_in bound doc z i) u ∙ (sym (ap (λ κ. phase_kind κ (unit_under ns k)) e) ∙ phase-known t laid h k))
-
-  pub runs-none : (t : Tree) → IsLaid ns doc t → StandsOn (Some bound) ns doc 0 t → (k : ℕ) (κ : Kind) → κ ≡ kind_at ns k → ((j i : ℕ) → κ ≡ kind.Phase j i → ⊥) → None ≡ phase_named (node_at t k).here
-  runs-none t laid h k κ e other = sym (none κ (unit_under ns k) other) ∙ (ap (λ z. phase_kind z (unit_under ns k)) e ∙ phase-known t laid h k)
-    where
-      none : (κ : Kind) (o : ℕ) → ((j i : ℕ) → κ ≡ kind.Phase j i → ⊥) → phase_kind κ o ≡ None
-      none (kind.Phase j i) o other = absurd (other j i refl)
-      none x o other = refl

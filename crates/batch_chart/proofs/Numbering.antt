@@ -11,12 +11,12 @@ use Rattle.batch_recipe.specs.Nodes.{Node, node, nodes, nodes_within, nodes_of_e
 use Rattle.batch_recipe.specs.Places.{AreInOrder}
 use Rattle.batch_recipe.specs.Tree.{Place, is_before, Step, Task, runs, follows, Tree, act, skip, seq, par, sel, loop, Trees, no_trees, tree, Choices, otherwise, choice}
 use Rattle.batch_recipe.proofs.Order.{counted_nodes}
+use Rattle.batch_recipe.proofs.Reaching.{in_front, not_before}
 use Rattle.batch_model.specs.Lists.{Has}
 use Rattle.batch_model.specs.Placed.{IsPlaced, IsPlacedBelow, ArePlaced, IsChoicePlaced}
 use Rattle.batch_model.specs.Rest.{same_place, Rest, ready, asking, live}
 use Rattle.batch_model.specs.Moves.{freed}
 use Rattle.batch_model.proofs.Members.{Has-split}
-use Rattle.batch_machine.proofs.Ordering.{before-irrefl}
 use Rattle.batch_machine.proofs.Changing.{to_same_place}
 use Rattle.batch_recipe.specs.declared.entry.Entry.{Entry}
 use Rattle.batch_recipe.specs.declared.recipe.Recipe.{Recipe}
@@ -55,14 +55,6 @@ all-get P [] i x h e = absurd (cc)
 all-get P (y ∷ ls) zero x h e = let same : y ≡ x = cc in subst P same h.0
 all-get P (y ∷ ls) (suc i) x h e = all-get P ls i x h.1 e
 
-pub order-at : (ls : List Node) → AreInOrder ls → (i j : ℕ) (x y : Node) → i < j → slice_get ls i ≡ Some x → slice_get ls j ≡ Some y → is_before x.place y.place ≡ true
-order-at [] h i j x y lt e f = absurd (cc)
-order-at (z ∷ ls) h zero (suc j) x y lt e f =
-    let same : z ≡ x = cc in
-    subst (λ a. is_before a.place y.place ≡ true) same (all-get (λ m. is_before z.place m.place ≡ true) ls j y h.0 f)
-order-at (z ∷ ls) h (suc i) (suc j) x y lt e f = order-at ls h.1 i j x y (omega arith) e f
-order-at z h u zero x y lt e f = absurd (omega arith)
-
 pub not-same : (q p : Place) → q ≢ p → same_place q p ≡ false
 not-same q p ne = go (same_place q p) refl
   where
@@ -72,7 +64,7 @@ not-same q p ne = go (same_place q p) refl
 
 pub before-differ : (q p : Place) → is_before q p ≡ true → q ≢ p
 before-differ q p h e =
-    let no : is_before q p ≡ false = subst (λ z. is_before q z ≡ false) e (before-irrefl q) in
+    let no : is_before q p ≡ false = subst (λ z. is_before q z ≡ false) e (not_before q) in
     absurd cc
 
 pub same-itself : (p : Place) → same_place p p ≡ true
@@ -90,8 +82,8 @@ module _ (ls : List Node) (rises : AreInOrder ls) (k : ℕ) (at : Node) (is_at :
       apart ne = either (cases_lt n k)
         where
           either : (n < k) ⊎ (k ≤ n) → x.place ≢ at.place
-          either (inl l) = before-differ x.place at.place (order-at ls rises n k x at l e is_at)
-          either (inr l) = λ q. before-differ at.place x.place (order-at ls rises k n at x (omega arith) is_at e) (sym q)
+          either (inl l) = before-differ x.place at.place (in_front ls rises n k x at l e is_at)
+          either (inr l) = λ q. before-differ at.place x.place (in_front ls rises k n at x (omega arith) is_at e) (sym q)
 
       go : ((nat_eq n k ≡ true) × (n ≡ k)) ⊎ ((nat_eq n k ≡ false) × (n ≢ k)) → same_place x.place at.place ≡ nat_eq n k
       go (inl q) = ap (λ z. same_place z.place at.place) (equal q.1) ∙ same-itself at.place ∙ sym q.0

@@ -22,6 +22,7 @@ use Rattle.batch_chart.specs.Running.{IsLaid}
 use Rattle.batch_chart.proofs.Alike.{alike, same-signs}
 use Rattle.batch_chart.proofs.Choosing.{chosen-true, chosen-false}
 use Rattle.batch_signs.proofs.Wanting.{none-shown, more-not_zero}
+use Rattle.batch_signs.proofs.Bits.{nat-self}
 use Rattle.batch_chart.proofs.Sought.{Says, says-all, showing, said-showing}
 
 -- the numbers rise from n on, and stay below m
@@ -96,9 +97,6 @@ module _ (xs : List Stage) where
 
 -- what acts show, by number
 
-same-number : (n : ℕ) → nat_eq n n ≡ true
-same-number n = grind (arith, nat_tests)
-
 pub other-number : (n k : ℕ) → n ≢ k → nat_eq n k ≡ false
 other-number n k ne = elim (eqb_tells n k) [ inl q ↦ absurd (ne q.1) | inr q ↦ q.0 ]
 
@@ -111,7 +109,7 @@ sign-before k n m (a ∷ l) none h lt =
 
 pub sign-here : (m : ℕ) (a : ℕ × Rest) (l : List (ℕ × Rest)) (none : ℕ) → RiseIn (a.0 + 1) m l → sign_in a.0 (a ∷ l) none ≡ signs_of a.1
 sign-here m a l none h =
-    ap (sign_in a.0 l) (chosen-true (nat_eq a.0 a.0) (signs_of a.1) none (same-number a.0))
+    ap (sign_in a.0 l) (chosen-true (nat_eq a.0 a.0) (signs_of a.1) none (nat-self a.0))
     ∙ sign-before a.0 (a.0 + 1) m l (signs_of a.1) h (omega arith)
 
 pub sign-other : (k : ℕ) (a : ℕ × Rest) (l : List (ℕ × Rest)) (none : ℕ) → a.0 ≢ k → sign_in k (a ∷ l) none ≡ sign_in k l none

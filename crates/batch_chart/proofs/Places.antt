@@ -1,5 +1,5 @@
 -- At which places acts stand after changes that reach nothing.
-use Rattle.std.proofs.Common.{◌≡◌, inl, inr, List, [], ◌∷◌, ◌++◌, Bool, true, false, ◌||◌, map, refl, sym, ◌∙◌, ap, ap₂, ⊎_elim}
+use Rattle.std.proofs.Common.{◌≡◌, inl, inr, List, ◌∷◌, ◌++◌, Bool, true, false, map, refl, sym, ◌∙◌, ap, ap₂, ⊎_elim}
 use Rattle.std.specs.List.{list_any}
 use Rattle.std.proofs.lemmas.List.{map-append}
 use Rattle.batch_recipe.specs.Tree.{Place}
@@ -7,7 +7,7 @@ use Rattle.batch_model.specs.Lists.{Has}
 use Rattle.batch_model.specs.Plant.{is_reached}
 use Rattle.batch_model.specs.Rest.{same_place, Rest, ready, asking, open_act, live, freeing, in_seq, in_par, in_loop, done, Rests, no_rests, rest, acts, acts_of_each, place_of, changed_at, changed_in_each, withdrawn, withdrawn_each}
 use Rattle.batch_model.proofs.Members.{Has-split, Has-left, Has-right}
-use Rattle.batch_laws.proofs.Raising.{StandsIn}
+use Rattle.batch_laws.proofs.Raising.{StandsIn, any-place}
 use Rattle.batch_laws.proofs.Steady.{Stays}
 
 -- asks are withdrawn
@@ -29,10 +29,6 @@ mutual
   withdrawn_each-places (rest r rs) =
       map-append place_of (acts (withdrawn r)) (acts_of_each (withdrawn_each rs))
       ∙ (ap₂ (λ xs ys. xs ++ ys) (withdrawn-places r) (withdrawn_each-places rs) ∙ sym (map-append place_of (acts r) (acts_of_each rs)))
-
-any-place : (xs : List Rest) (p : Place) → list_any (λ act. same_place (place_of act) p) xs ≡ list_any (λ q. same_place q p) (map place_of xs)
-any-place [] p = refl
-any-place (x ∷ xs) p = ap (λ b. same_place (place_of x) p || b) (any-place xs p)
 
 pub withdrawn-reached : (r : Rest) (p : Place) → is_reached (withdrawn r) p ≡ is_reached r p
 withdrawn-reached r p =

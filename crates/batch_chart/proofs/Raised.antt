@@ -12,7 +12,7 @@ use Rattle.batch_recipe.specs.declared.entry.Entry.{Entry}
 use Rattle.batch_recipe.specs.declared.recipe.Recipe.{Recipe}
 use Rattle.batch_model.specs.Lists.{Has}
 use Rattle.batch_model.specs.Moves as machine
-use Rattle.batch_model.specs.Moves.{act_after, sent, released, ended, asked, granted, begun, batch_after, passing}
+use Rattle.batch_model.specs.Moves.{act_after, sent, released, ended, asked, granted, batch_after, passing}
 use Rattle.batch_model.specs.Plant.{Batch, InAdvance, is_reached, with_rest}
 use Rattle.batch_model.specs.Rest.{same_place, Rest, ready, asking, open_act, live, freeing, in_seq, in_par, in_loop, done, Rests, no_rests, rest, acts, place_of}
 use Rattle.batch_machine.proofs.Changing.{to_same_place, same_test}

@@ -49,9 +49,6 @@ finished-row ns doc n m xs h = record { means = λ ts s. go ts n s h }
         ∙ sym (chosen-true (is_finished (stage_at xs i)) (all_finished ts (i + node_count c) xs) false (ap is_finished (f i (omega arith) lt)))
 
 module _ (ns : List Entry) (doc : Recipe) (p n : ℕ) (ys : List Stage) (standing : HasTree ns doc ys p) (above : IsAbove ns p n) (xs : List Stage) (ms cur : List ℕ) (r : IsNeatlyRisen ns doc xs ms n ys cur) where
-  at-p : (c : Tree) × Stands ns doc p c
-  at-p = standing.1
-
   p-end : end_at ns p ≡ p + node_count standing.1.0
   p-end = (stood ns doc p standing.1.0 standing.1.1).end
 

@@ -1,7 +1,6 @@
 -- A running chart goes on as its batch does, with what that holds in advance.
-use Rattle.std.proofs.Common.{◌≡◌, ◌⊎◌, inl, inr, ◌<◌, ℕ, List, [], ◌∷◌, length, filter, cond, Bool, true, false, Some, nat_eq, arith, refl, sym, ◌∙◌, subst, ap}
-use Rattle.std.specs.Prelude.{not, map}
-use Rattle.std.proofs.lemmas.Bool.Decides.{eqb_tells}
+use Rattle.std.proofs.Common.{◌≡◌, ◌⊎◌, inl, inr, ◌<◌, ℕ, List, [], ◌∷◌, length, filter, Bool, true, false, Some, nat_eq, arith, refl, sym, ◌∙◌, subst, ap}
+use Rattle.std.specs.Prelude.{not}
 use Rattle.batch_laws.proofs.Entries.{Has-filter}
 use Rattle.batch_chart.specs.Noting.{AreNoted}
 use Rattle.batch_matrix.specs.declared.report.PhaseEnd.{PhaseEnd}
@@ -42,9 +41,7 @@ use Rattle.batch_chart.proofs.Places.{changed-stands}
 use Rattle.batch_chart.proofs.Raised.{AreWaiting, IsActMove, act-tidy, after-raised, among, filter-all, now-raised, now-waiting, still-early, early-told, still-held, any-has, raised-none, waiting-nowhere}
 use Rattle.batch_chart.proofs.Runs.{runs-by}
 use Rattle.batch_chart.proofs.Shown.{noted}
-
-eqb-itself : (k : ℕ) → nat_eq k k ≡ true
-eqb-itself k = elim (eqb_tells k k) [ inl q ↦ q.0 | inr q ↦ absurd (q.1 refl) ]
+use Rattle.batch_signs.proofs.Bits.{nat-self}
 
 -- what is left of what is held is held as before
 held-left : (count most : ℕ) (held : List Passed) (room : ℕ) (f : Passed → Bool) → AreHeld count most held room → AreHeld count most (filter f held) room
@@ -79,7 +76,7 @@ module _ (chart : Recipe) (t : Tree) (laid : IsChartOf t chart) where
       still : (p : Passed) → Has held p → not (is_reached (raised (in_advance t held) (meaning t 0 mid)) (place_at t p.to)) ≡ not (is_ready (stage_at ys p.to))
       still p i =
           still-early ns chart t laid mid ys alive signs new.signs shown neat (is_early held) over (in_advance t held) was told waiting fresh p.to (before.within p i)
-          (any-has (λ (q : Passed). nat_eq q.to p.to) held p i (eqb-itself p.to))
+          (any-has (λ (q : Passed). nat_eq q.to p.to) held p i (nat-self p.to))
 
       -- as a batch's charts do that go on to this rest
       over-runs : RunsAs t new (raised (in_advance t held) (meaning t 0 mid)) (filter (λ x. not (is_reached (raised (in_advance t held) (meaning t 0 mid)) x.place)) (in_advance t held))

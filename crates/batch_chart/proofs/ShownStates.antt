@@ -34,7 +34,7 @@ use Rattle.batch_chart.specs.declared.sign.TheConstants.{IS_ACT, LIVES}
 use Rattle.batch_chart.specs.Numbered.{numbered, numbered_below, numbered_each, numbered_branch, numbered_chosen}
 use Rattle.batch_chart.specs.NodesOf.{nodes_of, node_at, place_at}
 use Rattle.batch_chart.specs.Nexts.{SomeNoted}
-use Rattle.batch_chart.specs.Running.{IsActTree, IsLaid, SomeLives}
+use Rattle.batch_chart.specs.Running.{IsActTree, IsLaid}
 use Rattle.batch_chart.specs.Showing.{is_among, shown_by, StandsBelow, IsFirstShown, IsShown, IsStateAt}
 use Rattle.batch_chart.proofs.Found.{nothing, numbered-acts}
 use Rattle.batch_chart.proofs.Giving.{below-told, below-first}
@@ -279,15 +279,6 @@ module _ (ns : List Entry) (doc : Recipe) (xs : List Stage) where
     shown-kind k x h = sym (ap (λ z. elim (is_act_kind z) as (λ _. Option State) [ true ↦ Some Idle | false ↦ None ]) h.1.1)
 
     module _ (b : Batch) (k : ℕ) (lt : k < length ns) (tree_is : b.recipe.procedure ≡ t) (rest_is : b.rest ≡ meaning t 0 xs) where
-      pub at-root : k ≡ 0 → state_in b (place_at t k) ≡ Some b.state
-      at-root e = ap (λ q. elim q as (λ _. Option State) [
-        | true ↦ Some b.state
-        | false ↦ elim (find (there (place_at t k)) (acts b.rest)) as (λ _. Option State) [
-          | Some a ↦ Some (act_state b.state a)
-          | None ↦ unreached (find (λ (s : Step). same_place s.place (place_at t k)) (steps b.recipe.procedure))
-        ]
-      ]) (is-root k lt ∙ ap (λ i. nat_eq i 0) e)
-
       below-root : k ≢ 0 → state_in b (place_at t k) ≡ elim (find (there (place_at t k)) (map (λ (z : ℕ × Rest). z.1) (numbered t 0 xs))) as (λ _. Option State) [
         | Some a ↦ Some (act_state b.state a)
         | None ↦ unreached (step_in (node_at t k))
@@ -384,17 +375,6 @@ module _ (ns : List Entry) (doc : Recipe) (xs : List Stage) where
     module _ (x : State) where
       only-within : (result : Option State) → k < length ns → (t : Tree) → IsLaid ns doc t → node_count t ≤ k → result ≡ None
       only-within result lt t laid le = absurd (omega (arith, lt, le, laid.count))
-
-      pub state-root : k ≡ 0 → SomeLives ns doc xs → IsStateAt ns doc xs k x (Some x)
-      state-root e lives =
-          let lt : k < length ns = omega (arith, e, lives.1.count, some_count lives.0) in
-          record {
-            means = λ t b laid alive m f g r. sym (at-root t laid b k lt f r e ∙ ap Some g);
-            past = only-within (Some x) lt;
-          }
-
-      pub state-past : length ns ≤ k → IsStateAt ns doc xs k x None
-      state-past le = record { means = λ t b laid alive m f g r. absurd (omega (arith, le, m, laid.count)); past = λ t laid m. refl }
 
       module _ (ne : k ≢ 0) (lt : k < length ns) where
         pub state-none : false ≡ is_act_kind (kind_at ns k) → IsStateAt ns doc xs k x None

@@ -173,9 +173,6 @@ module _ (doc : Recipe) (bound : Binding) where
     abbrev step : Step
     step = step_of (sites bound doc.acts) a p
 
-    is_chart : Work → Bool
-    is_chart work = elim work [ Follows c ↦ true | Runs name handed reports ↦ false ]
-
     -- one that follows a chart
     act_stands : AreLabels told named (trees own_unit) → ((q : ℕ) → kind_by k q o ≡ act_kind q) → has_chart a ≡ true → AreFrom es n (grown_act told named k o n j u i a) → AreFrom all j (conditions_below told a.work)
         → StandsAs n (grown_act told named k o n j u i a) (act_tree_with (sites bound doc.acts) trees unit a p)
@@ -303,9 +300,6 @@ module _ (doc : Recipe) (bound : Binding) where
   on_above : (unit : Name) (own : Option UnitChoice) → not (elim own as (λ _. Bool) [ None ↦ false | Some choice ↦ true ]) ≡ true → unit_below unit (unit_with bound own) ≡ unit
   on_above unit None e = refl
   on_above unit (Some choice) e = absurd (cc)
-
-  no_labels : LabelsFrom None
-  no_labels o unit on name n j u i p h c = bare_stands n u i h
 
   of_phases : LabelsFrom (Some Phases)
   of_phases o unit on name n j u i p h c = label_stands Phases o unit name n j u i p acts (number_in doc.acts.phases.items name) refl h c

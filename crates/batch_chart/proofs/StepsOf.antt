@@ -9,7 +9,7 @@ use Rattle.batch_matrix.specs.declared.state.State.TheVariants.{Idle}
 use Rattle.batch_recipe.specs.Conditions.{Name}
 use Rattle.batch_recipe.specs.Needs.{resources_of}
 use Rattle.batch_recipe.specs.Nodes as nodes
-use Rattle.batch_recipe.specs.Nodes.{node, nodes_within, nodes_of_each, nodes_of_choices, child}
+use Rattle.batch_recipe.specs.Nodes.{nodes_within, nodes_of_each, nodes_of_choices, child}
 use Rattle.batch_recipe.specs.Places.{AreInOrder}
 use Rattle.batch_recipe.specs.Tree.{Place, is_before, Step, Task, runs, follows, Tree, act, skip, seq, par, sel, loop, Trees, no_trees, tree, Choices, otherwise, choice}
 use Rattle.batch_model.specs.ActStates.{steps, steps_below, steps_of_each, steps_of_choices}

@@ -5,9 +5,10 @@ use Rattle.std.proofs.lemmas.Bool.Decides.{nat_tests}
 use Rattle.batch_recipe.specs.Needs.{resources_of}
 use Rattle.batch_recipe.specs.Conditions.{Name}
 use Rattle.batch_recipe.specs.Nodes as nodes
-use Rattle.batch_recipe.specs.Nodes.{node_count, node, nodes_within, nodes_of_each, nodes_of_choices, child}
+use Rattle.batch_recipe.specs.Nodes.{node_count, nodes_within, nodes_of_each, nodes_of_choices, child}
 use Rattle.batch_recipe.specs.Tree.{Place, is_before, Step, Task, runs, follows, Tree, act, skip, seq, par, sel, loop, Trees, no_trees, tree, Choices, otherwise, choice}
 use Rattle.batch_recipe.proofs.Order.{in_order}
+use Rattle.batch_recipe.proofs.Reaching.{in_front}
 use Rattle.batch_model.specs.Lists.{Has, Each}
 use Rattle.batch_model.specs.Placed.{IsPlaced, IsPlacedBelow, ArePlaced, IsChoicePlaced, Rises}
 use Rattle.batch_model.specs.Rest.{Rest, asking, acts, is_done, place_of}
@@ -30,7 +31,6 @@ use Rattle.batch_chart.specs.Charts.{AsksAt, IsFirstWaiting}
 use Rattle.batch_chart.specs.NodesOf.{step_of}
 use Rattle.batch_chart.proofs.Choosing.{chosen-true, chosen-false}
 use Rattle.batch_chart.proofs.Found.{numbered-acts}
-use Rattle.batch_chart.proofs.Numbering.{order-at}
 use Rattle.batch_chart.proofs.Stepping.{fits-act, fits-count, number-at-place, act-place, entry-undone}
 use Rattle.batch_chart.proofs.NodesStand.{node-got}
 use Rattle.batch_chart.proofs.Joining.{known, first-has}
@@ -136,7 +136,7 @@ module _ (ns : List Entry) (doc : Recipe) (xs : List Stage) (t : Tree) (laid : I
           let placed : place_of x.1 ≡ place_at t k =
           ap place_of g.is ∙ act-place g.step g.task (meaning_below g.task (x.0 + 1) xs) (stage_at xs x.0) (ap is_done (sym g.is) ∙ entry-undone ns doc t laid xs x g.among) ∙ sym g.place ∙ ap (place_at t) e in
           let order : is_before (place_at t j) (place_at t k) ≡ true =
-          order-at (nodes_of t) (in_order (0 ∷ []) [] t).1 j k (node_at t j) (node_at t k) l (node-got ns doc t laid j (omega (arith, lt, l))) (node-got ns doc t laid k lt) in
+          in_front (nodes_of t) (in_order (0 ∷ []) [] t).1 j k (node_at t j) (node_at t k) l (node-got ns doc t laid j (omega (arith, lt, l))) (node-got ns doc t laid k lt) in
           let d : true ≡ false = sym (subst (λ q. is_before q (place_at t j) ≡ true) placed s) ∙ before-asym (place_at t j) (place_at t k) order in
           cc
 

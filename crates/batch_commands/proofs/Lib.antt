@@ -1,5 +1,4 @@
 pub mod BytesRead
-pub mod Grown
 pub mod RecipesRead
 pub mod TextsRead
 pub mod Halted

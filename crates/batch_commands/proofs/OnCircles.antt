@@ -7,9 +7,6 @@ use Rattle.batch_check.specs.declared.edge.Edge.{Edge}
 use Rattle.batch_commands.specs.Drawing.{IsOnCircle}
 use Rattle.batch_commands.specs.Reached.{AreReached, IsReached}
 
-pub All-nothing : {X : Type 0} (P : X → Type 0) → All P []
-All-nothing P k d within = absurd (omega (arith, within))
-
 All-single : {X : Type 0} (P : X → Type 0) (x : X) → P x → All P (x ∷ [])
 All-single P x h zero d within = h
 All-single P x h (suc k) d within = absurd (omega (arith, within))
@@ -22,9 +19,6 @@ leads_more first [] e h = (sym h, refl)
 leads_more first (x ∷ xs) e h = (h.0, leads_more x.later xs e h.1)
 
 module _ (edges : List Edge) (start : ℕ) where
-  pub reached_first : IsReached edges start start
-  reached_first = record { walk = []; leads = refl; standing = All-nothing (Contains edges) }
-
   pub reached_more : (e : Edge) → Contains edges e → IsReached edges start e.earlier → IsReached edges start e.later
   reached_more e stands h = record {
     walk = h.walk ++ e ∷ [];

@@ -101,10 +101,10 @@ handed_of_tree : (s : Sites) (trees : Name → Name → Place → Tree) (unit : 
 handed_of_tree s trees unit p a (Follows chart) e = rw e refl
 handed_of_tree s trees unit p a (Runs phase values reports) e = rw e refl
 
-no_name : (t : Tree) → IsNoAct t → name_in t ≡ []
+pub no_name : (t : Tree) → IsNoAct t → name_in t ≡ []
 no_name t h = grind arith
 
-no_handed : (t : Tree) → IsNoAct t → handed_in t ≡ []
+pub no_handed : (t : Tree) → IsNoAct t → handed_in t ≡ []
 no_handed t h = grind arith
 
 module _ (bound : Binding) (acts : Acts) where

@@ -11,6 +11,7 @@ use Rattle.batch_model.specs.Moves.{ask, grant, pass, release, line_after}
 use Rattle.batch_model.specs.Runs.{move}
 use Rattle.batch_model.specs.Records.{holders_after}
 use Rattle.batch_laws.proofs.Entries.{IsOnce, act_self, once-snoc, same_act}
+use Rattle.batch_laws.proofs.Members.{map-Has}
 use Rattle.batch_verify.specs.ClearedSet.{ClearedSet}
 use Rattle.batch_arbiter.specs.Allocation.{Claim, shares_of, line_of, units_of, asked, granted, handed_over, passed, released, without_first, is_claim, next_in, batch_node, held_units}
 use Rattle.batch_engine.specs.View.{EngineView, act_of, share_of, acts_of, names_of, number_of, line_in, line_at}
@@ -19,11 +20,6 @@ use Rattle.batch_engine.proofs.BatchPlaces.{chosen-true, chosen-false}
 use Rattle.batch_engine.proofs.Making.{same-number, same-named, name-yes, name-no, without-head, without-claim}
 use Rattle.batch_engine.proofs.Finding.{named}
 use Rattle.batch_engine.proofs.Passing.{laid_down, taken_up}
-
-Has-shared : (share : Claim → Share) (xs : List Claim) (x : Claim) → Has xs x → Has (map share xs) (share x)
-Has-shared share [] x h = absurd h
-Has-shared share (y ∷ xs) x (inl e) = inl (ap share e)
-Has-shared share (y ∷ xs) x (inr h) = inr (Has-shared share xs x h)
 
 -- shares when one of them, or none, has passed to another act
 abbrev passed_on : BatchAct → Share → Bool → List Share → List Share
@@ -211,7 +207,7 @@ units-found share n node a (y ∷ xs) x once same h e = go (units-found share n 
   where
     go : (Has xs x → (share x).act ≡ a → units_of n node xs ≡ x.units) → (t : Bool) → is_claim n node y ≡ t → Has (y ∷ xs) x → (let units : ℕ = elim (cond t (Some y) (find (is_claim n node) xs)) [ None ↦ 0 | Some c ↦ c.units ] in units) ≡ x.units
     go later true f (inl g) = ap (λ (z : Claim). z.units) g
-    go later true f (inr m) = absurd (once.0 (share x) (Has-shared share xs x m) (e ∙ sym (same_act (share y).act a (sym (same y) ∙ f))))
+    go later true f (inr m) = absurd (once.0 (share x) (map-Has share xs x m) (e ∙ sym (same_act (share y).act a (sym (same y) ∙ f))))
     go later false f (inl g) =
         absurd (let is : is_same_act (share x).act a ≡ true = subst (λ (z : BatchAct). is_same_act (share x).act z ≡ true) e (act_self (share x).act) in
         let off : ◌≡◌ {A = Bool} true false = sym is ∙ sym (same x) ∙ ap (is_claim n node) (sym g) ∙ f in cc)

@@ -73,23 +73,9 @@ binding-is cell roles pairs =
 pub not-of-roles : (cell : Cell) (roles : List document.Role) (pairs : List (Name × Name)) → are_of_roles (names_in roles) pairs ≡ false → is_binding (roles_in cell roles) pairs ≡ false
 not-of-roles cell roles pairs e = binding-is cell roles pairs ∙ ap (λ (t : Bool). t && list_all (may_take cell pairs) roles) e
 
-and-false : (a : Bool) → (a && false) ≡ false
-and-false true = refl
-and-false false = refl
-
-one-fails : {X : Type 0} (p : X → Bool) (xs : List X) (k : ℕ) (x : X) → slice_get xs k ≡ Some x → p x ≡ false → list_all p xs ≡ false
-one-fails p [] k x e f = absurd cc
-one-fails p (y ∷ xs) zero x e f = let same : y ≡ x = cc in ap (λ (t : Bool). t && list_all p xs) (ap p same ∙ f)
-one-fails p (y ∷ xs) (suc k) x e f = ap (λ (t : Bool). p y && t) (one-fails p xs k x e f) ∙ and-false (p y)
-
 all-pass : {X : Type 0} (p : X → Bool) (xs : List X) → ((k : ℕ) (x : X) → slice_get xs k ≡ Some x → p x ≡ true) → list_all p xs ≡ true
 all-pass p [] h = refl
 all-pass p (x ∷ xs) h = ap₂ (λ (s t : Bool). s && t) (h 0 x refl) (all-pass p xs (λ k y e. h (suc k) y e))
-
-pub one-may-not : (cell : Cell) (roles : List document.Role) (pairs : List (Name × Name)) (k : ℕ) (role : document.Role) → slice_get roles k ≡ Some role → may_take cell pairs role ≡ false
-    → is_binding (roles_in cell roles) pairs ≡ false
-one-may-not cell roles pairs k role e f =
-    binding-is cell roles pairs ∙ ap (λ (t : Bool). are_of_roles (names_in roles) pairs && t) (one-fails (may_take cell pairs) roles k role e f) ∙ and-false (are_of_roles (names_in roles) pairs)
 
 pub all-may : (cell : Cell) (roles : List document.Role) (pairs : List (Name × Name)) → are_of_roles (names_in roles) pairs ≡ true
     → ((k : ℕ) (role : document.Role) → slice_get roles k ≡ Some role → may_take cell pairs role ≡ true) → is_binding (roles_in cell roles) pairs ≡ true

@@ -24,11 +24,11 @@ use Rattle.batch_engine.specs.declared.refusal.Refusal.TheVariants as Refusals
 use Rattle.batch_engine.specs.declared.creates.BadValues.{BadValues}
 use Rattle.batch_engine.specs.declared.creates.BadValues.TheVariants.{Size, OutOfRange, Memory}
 use Rattle.batch_engine.specs.View.{EngineView, setup, master_at, plant_of}
-use Rattle.batch_engine.proofs.Answering.{same-at}
 use Rattle.batch_engine.proofs.Binding.{units-for}
 use Rattle.batch_engine.proofs.Creating.{create-full, create-unbound, create-unknown, judge-values, react-create}
 use Rattle.batch_engine.proofs.Finding.{master-found}
 use Rattle.batch_engine.proofs.Named.{find-at, find-nowhere}
+use Rattle.batch_recipe.proofs.Setting.{same-at}
 
 same-refusal : (x y : Events.Refusal) → refused x ≡ refused y → x ≡ y
 same-refusal x y is = cc is

@@ -1,5 +1,5 @@
 -- A batch is made.
-use Rattle.std.proofs.Common.{◌≡◌, ◌<◌, ◌≤◌, ◌+◌, refl, sym, ◌∙◌, ap, ap₂, subst, ℕ, zero, suc, List, [], ◌∷◌, ◌++◌, Bool, true, false, Option, Some, None, inl, inr, ⊎_elim, arith, length, map, find, nat_eq}
+use Rattle.std.proofs.Common.{◌≡◌, ◌<◌, ◌≤◌, ◌+◌, refl, sym, ◌∙◌, ap, ap₂, subst, ℕ, suc, List, [], ◌∷◌, ◌++◌, Bool, true, false, Option, Some, None, inl, inr, ⊎_elim, arith, length, map, find, nat_eq}
 use Rattle.std.proofs.lemmas.List.{map-append}
 use Rattle.std.proofs.lemmas.List.Sums.{sum_by_push}
 use Rattle.batch_recipe.specs.Conditions.{Name, ValueList, same_name}
@@ -7,7 +7,6 @@ use Rattle.batch_recipe.specs.Expanding.{Binding}
 use Rattle.batch_recipe.specs.Tree.{Place}
 use Rattle.batch_recipe.specs.declared.need.Need.{Need}
 use Rattle.batch_model.specs.Lists.{Has}
-use Rattle.batch_model.specs.Rest.{reach}
 use Rattle.batch_model.specs.Plant as Model
 use Rattle.batch_model.specs.Plant.{Formula, scaled, Master, Share, Plant, holders}
 use Rattle.batch_model.specs.Moves.{Move, next}
@@ -15,7 +14,8 @@ use Rattle.batch_model.specs.Events.{create, created, refused, moves_pending, un
 use Rattle.batch_model.specs.Runs.{Reacts}
 use Rattle.batch_model.specs.Standing.{AreNumbered}
 use Rattle.batch_model.proofs.Members.{Each-append, Has-flat_map, Has-split}
-use Rattle.batch_laws.proofs.Entries.{IsOnce}
+use Rattle.batch_laws.proofs.Entries.{IsOnce, nat_differs}
+use Rattle.batch_laws.proofs.Members.{Has-map, map-Has}
 use Rattle.batch_verify.specs.ClearedSet.{ClearedSet}
 use Rattle.batch_arbiter.specs.Allocation.{Claim, shares_of, line_of}
 use Rattle.batch_chart.specs.NodesOf.{needs_in, place_at}
@@ -28,18 +28,7 @@ use Rattle.batch_engine.specs.Creates.{IsCreate}
 use Rattle.batch_engine.proofs.Told.{told, standing}
 use Rattle.batch_engine.proofs.BatchPlaces.{made_by, chosen-false}
 use Rattle.batch_engine.proofs.Making.{fun_ext}
-use Rattle.batch_engine.proofs.Made.{Has-mapped}
 use Rattle.batch_engine.proofs.Reacting.{with, event-kept}
-
-test-other : (m n : ℕ) → (m ≡ n → ⊥) → nat_eq m n ≡ false
-test-other m n d = go (nat_eq m n) refl
-  where
-    same : (i j : ℕ) → nat_eq i j ≡ true → i ≡ j
-    same i j e = grind arith
-
-    go : (b : Bool) → nat_eq m n ≡ b → b ≡ false
-    go true e = absurd (d (same m n e))
-    go false e = refl
 
 -- The machine's answer to a create
 
@@ -88,7 +77,7 @@ react-create v recipe name size pairs units vs o =
 
 module _ (c : ClearedSet) (b : Batch) where
   place-more : (bs : List Batch) (n j : ℕ) → (n ≡ b.number → ⊥) → place_in c (bs ++ b ∷ []) n j ≡ place_in c bs n j
-  place-more [] n j d = chosen-false (nat_eq b.number n) _ _ (test-other b.number n (λ e. d (sym e)))
+  place-more [] n j d = chosen-false (nat_eq b.number n) _ _ (nat_differs b.number n (λ e. d (sym e)))
   place-more (x ∷ bs) n j d = ap (λ r. let z : Place = elim (nat_eq x.number n) [ true ↦ place_at (tree_of c x) j | false ↦ r ] in z) (place-more bs n j d)
 
   acts-more : (bs : List Batch) (xs : List Claim) → ((x : Claim) → Has xs x → x.batch ≡ b.number → ⊥) → acts_of c (bs ++ b ∷ []) xs ≡ acts_of c bs xs
@@ -97,18 +86,13 @@ module _ (c : ClearedSet) (b : Batch) where
       ap₂ (λ y ys. y ∷ ys) (ap (λ (z : Place). let y : Share = record { act = (x.batch, z); units = x.units } in y) (place-more bs x.batch x.node (h x (inl refl))))
       (acts-more bs xs (λ y k. h y (inr k)))
 
-pub Has-acts : (f : Claim → Share) (xs : List Claim) (x : Claim) → Has xs x → Has (map f xs) (f x)
-Has-acts f [] x h = absurd h
-Has-acts f (y ∷ xs) x (inl e) = inl (ap f e)
-Has-acts f (y ∷ xs) x (inr h) = inr (Has-acts f xs x h)
-
 -- a batch's shares are its own
 share-number : (name : Name) (b : Model.Batch) (a : Share) → Has (Model.shares_of name b) a → a.act.0 ≡ b.number
 share-number name b a h =
     ⊎_elim (λ m. (let e = Has-flat_map (Model.share_in_advance name b) b.in_advance a m in early e.0 (same_name name e.0.unit.resource) e.2))
     (λ m.
     let act = Has-flat_map (Model.shares_held name b) (Rattle.batch_model.specs.Rest.acts b.rest) a m in
-    let need = Has-mapped (λ (r : Need). let z : Share = record { act = (b.number, Rattle.batch_model.specs.Rest.place_of act.0); units = r.units } in z) (Rattle.std.proofs.Common.filter (λ r. same_name name r.resource) (Model.held_by act.0)) a act.2 in
+    let need = Has-map (λ (r : Need). let z : Share = record { act = (b.number, Rattle.batch_model.specs.Rest.place_of act.0); units = r.units } in z) (Rattle.std.proofs.Common.filter (λ r. same_name name r.resource) (Model.held_by act.0)) a act.2 in
     sym (ap (λ (z : Share). z.act.0) need.2))
     (Has-split (Rattle.std.proofs.Common.flat_map (Model.share_in_advance name b) b.in_advance) (Rattle.std.proofs.Common.flat_map (Model.shares_held name b) (Rattle.batch_model.specs.Rest.acts b.rest)) a h)
   where
@@ -122,7 +106,7 @@ module _ (v : EngineView) (k : IsKept v) where
   pub waiter-below : (name : Name) (q : ℕ) → number_of v.cleared name ≡ Some q → (x : Claim) → Has (line_of v.allocation q) x → x.batch < v.next_number
   waiter-below name q e x h =
       let a : Share = share_of v.cleared v.batches x in
-      let asks = ((told v k).asks name a).0 (subst (λ (xs : List Share). Has xs a) (sym (ap (line_at v) e)) (Has-acts (share_of v.cleared v.batches) (line_of v.allocation q) x h)) in
+      let asks = ((told v k).asks name a).0 (subst (λ (xs : List Share). Has xs a) (sym (ap (line_at v) e)) (map-Has (share_of v.cleared v.batches) (line_of v.allocation q) x h)) in
       below-next v.next_number (plant_of v).batches asks.0 x.batch (standing v k).numbers asks.1 asks.2
     where
       below-next : (next : ℕ) (bs : List Model.Batch) (b : Model.Batch) (n : ℕ) → AreNumbered next bs → Has bs b → b.number ≡ n → n < next
@@ -133,7 +117,7 @@ module _ (v : EngineView) (k : IsKept v) where
   pub holder-below : (name : Name) (q : ℕ) → number_of v.cleared name ≡ Some q → (x : Claim) → Has (shares_of v.allocation q) x → x.batch < v.next_number
   holder-below name q e x h =
       let a : Share = share_of v.cleared v.batches x in
-      let t : Has (holders (plant_of v) name) a = ((told v k).held name).0 a (subst (λ (xs : List Share). Has xs a) (k.tracked.shares q name e) (Has-acts (share_of v.cleared v.batches) (shares_of v.allocation q) x h)) in
+      let t : Has (holders (plant_of v) name) a = ((told v k).held name).0 a (subst (λ (xs : List Share). Has xs a) (k.tracked.shares q name e) (map-Has (share_of v.cleared v.batches) (shares_of v.allocation q) x h)) in
       let d = Has-flat_map (Model.shares_of name) (plant_of v).batches a t in
       below-next v.next_number (plant_of v).batches d.0 x.batch (standing v k).numbers d.1 (sym (share-number name d.0 a d.2))
     where
@@ -147,9 +131,6 @@ module _ (v : EngineView) (k : IsKept v) where
       (number : b.number ≡ v.next_number) (made : made_by b ≡ (recipe, units)) (runs : IsRunningOf (tree_at v.cleared recipe units) b.running)
       (new : batch_of v.cleared b ≡ new_batch v.next_number (recipe_at v.cleared recipe units) size vs)
       (enough : needs_of_all v.cleared v.batches + needs_in (tree_at v.cleared recipe units) ≤ room) where
-    abbrev after_create : EngineView
-    after_create = with v (v.batches ++ b ∷ []) (v.next_number + 1) (record (v.allocation) { room = room })
-
     lines-more : (n : Name) (q : ℕ) → number_of v.cleared n ≡ Some q → acts_of v.cleared (v.batches ++ b ∷ []) (line_of v.allocation q) ≡ acts_of v.cleared v.batches (line_of v.allocation q)
     lines-more n q e = acts-more v.cleared b v.batches (line_of v.allocation q) (λ x h i. absurd (omega (arith, waiter-below n q e x h, i, number)))
 

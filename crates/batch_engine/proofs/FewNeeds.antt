@@ -1,5 +1,5 @@
 -- A batch needs few resources at once, and so do all batches.
-use Rattle.std.proofs.Common.{◌≡◌, ◌<◌, ◌≤◌, ◌+◌, ◌*◌, ℕ, zero, suc, List, [], ◌∷◌, Bool, true, false, Option, Some, None, arith, length, map, take, length-take, refl}
+use Rattle.std.proofs.Common.{◌≡◌, ◌<◌, ◌≤◌, ◌+◌, ◌*◌, ℕ, zero, suc, List, [], ◌∷◌, Bool, true, false, Option, Some, None, arith, length, map, refl}
 use Rattle.std.specs.Prelude.{nat_le, nat_lt, ◌||◌}
 use Rattle.std.specs.List.{slice_index_or}
 use Rattle.std.proofs.lemmas.List.{length-append, length-map}
@@ -129,10 +129,6 @@ few-needs c recipe units = few-among (bound_to c recipe units) c.cell c.recipes 
 pub few-of_all : (c : ClearedSet) (bs : List Batch) → needs_of_all c bs ≤ 90112 * length bs
 few-of_all c [] = omega arith
 few-of_all c (b ∷ bs) = omega (arith, sum_by-cons (λ (z : Batch). needs_in (tree_of c z)) b bs, few-needs c b.recipe b.units, few-of_all c bs)
-
--- the batches before an index
-pub few-before : (c : ClearedSet) (bs : List Batch) (i : ℕ) → needs_of_all c (take i bs) ≤ 90112 * i
-few-before c bs i = omega (arith, few-of_all c (take i bs), length-take i bs)
 
 or-first : (a b : Bool) → (a || b) ≡ false → a ≡ false
 or-first true b h = absurd cc

@@ -15,7 +15,7 @@ use Rattle.batch_engine.specs.Batches.{AreRising, ComesBefore, HaveOwnNumbers, I
 
 -- Each
 
-each-at : {X : Type 0} (P : X → Type 0) (xs : List X) (i : ℕ) (d : X) → Each P xs → i < length xs → P (get_or xs i d)
+pub each-at : {X : Type 0} (P : X → Type 0) (xs : List X) (i : ℕ) (d : X) → Each P xs → i < length xs → P (get_or xs i d)
 each-at P [] i d h l = absurd (omega arith)
 each-at P (x ∷ xs) zero d h l = h.0
 each-at P (x ∷ xs) (suc i) d h l = each-at P xs i d h.1 (omega arith)
@@ -24,7 +24,7 @@ each-push : {X : Type 0} (P : X → Type 0) (xs : List X) (y : X) → Each P xs 
 each-push P [] y h k = (k, tt)
 each-push P (x ∷ xs) y h k = (h.0, each-push P xs y h.1 k)
 
-each-remove : {X : Type 0} (P : X → Type 0) (xs : List X) (i : ℕ) → Each P xs → Each P (remove xs i)
+pub each-remove : {X : Type 0} (P : X → Type 0) (xs : List X) (i : ℕ) → Each P xs → Each P (remove xs i)
 each-remove P [] zero h = tt
 each-remove P [] (suc i) h = tt
 each-remove P (x ∷ xs) zero h = h.1

@@ -9,18 +9,19 @@ use Rattle.batch_recipe.specs.Conditions.{Name, same_name}
 use Rattle.batch_recipe.specs.Tree.{Place, Step, Tree}
 use Rattle.batch_recipe.specs.declared.need.Need.{Need}
 use Rattle.batch_machine.proofs.Batches.{one_batch}
-use Rattle.batch_model.specs.Lists.{Has, Each}
+use Rattle.batch_model.specs.Lists.{Has}
 use Rattle.batch_model.specs.Plant as Model
 use Rattle.batch_model.specs.Plant.{BatchAct, Master, Share, plain}
 use Rattle.batch_model.specs.Setups.{master_of}
 use Rattle.batch_model.specs.Standing.{IsControl, IsStandingBatch}
-use Rattle.batch_model.specs.Moves.{Move, grant, least, is_served}
+use Rattle.batch_model.specs.Moves.{grant, least, is_served}
 use Rattle.batch_model.specs.Placed.{IsPlaced}
 use Rattle.batch_model.specs.Rest.{asking, acts}
 use Rattle.batch_machine.proofs.Falling.{one_act}
 use Rattle.batch_machine.proofs.Rising.{acts-rise}
 use Rattle.batch_model.proofs.Members.{Each-Has}
 use Rattle.batch_laws.proofs.Entries.{name_same}
+use Rattle.batch_laws.proofs.Members.{map-Has}
 use Rattle.batch_verify.specs.ClearedSet.{ClearedSet}
 use Rattle.batch_arbiter.specs.Allocation.{Claim, shares_of, line_of, next_grant, batch_node, resource_count}
 use Rattle.batch_chart.specs.NodesOf.{no_need, place_at, need_at, step_at, task_at}
@@ -31,23 +32,19 @@ use Rattle.batch_chart.specs.Charts.{AsksAt, IsChartFor, IsChartOf, IsRunningOf,
 use Rattle.batch_engine.specs.declared.batch.Batch.{Batch}
 use Rattle.batch_engine.specs.View.{EngineView, setup, no_recipe, master_at, bound_to, recipe_made, batch_of, act_of, share_of, place_in, names_of, number_of, line_at, plant_of, tree_of}
 use Rattle.batch_engine.specs.Kept.{IsKept, IsRunningBatch}
-use Rattle.batch_engine.proofs.Cells.{length-capacities}
-use Rattle.batch_engine.proofs.Nodes.{same-node, within-or_past}
+use Rattle.batch_engine.proofs.Nodes.{same-node}
 use Rattle.batch_engine.proofs.Told.{placed, told, standing}
 use Rattle.batch_engine.proofs.Serving.{serves-next, next-serves, is-served}
 use Rattle.batch_engine.proofs.BatchPlaces.{place-in, Has-batch_of}
 use Rattle.batch_engine.proofs.Granting as Granting
 use Rattle.batch_engine.proofs.Placing.{step-place}
+use Rattle.batch_arbiter.proofs.Cells.{length-capacities}
+use Rattle.batch_signs.proofs.Bits.{within-or_past}
 
 pub Has-get : {X : Type 0} (xs : List X) (i : ℕ) (x : X) → slice_get xs i ≡ Some x → Has xs x
 Has-get [] i x e = absurd cc
 Has-get (y ∷ xs) zero x e = inl cc
 Has-get (y ∷ xs) (suc i) x e = inr (Has-get xs i x e)
-
-pub Each-at : {X : Type 0} (P : X → Type 0) (xs : List X) (i : ℕ) (d : X) → Each P xs → i < length xs → P (get_or xs i d)
-Each-at P [] i d h l = absurd (omega arith)
-Each-at P (x ∷ xs) zero d h l = h.0
-Each-at P (x ∷ xs) (suc i) d h l = Each-at P xs i d h.1 (omega arith)
 
 -- what is read at an index
 pub got-batch : (v w : EngineView) (i : ℕ) (b : Batch) → w ≡ v → i < length v.batches → b ≡ get_or w.batches i b → slice_get v.batches i ≡ Some b
@@ -76,11 +73,6 @@ pub known-resource : (v : EngineView) → IsKept v → (name : Name) (q : ℕ) �
 known-resource v k name q e =
     omega (arith, slice_get_within (names_of v.cleared) q name (named v.cleared name q e), ap (λ (xs : List ℕ). length xs) k.cell.capacities, length-capacities v.cleared.cell)
 
-pub Has-shares : {X Y : Type 0} (f : X → Y) (xs : List X) (x : X) → Has xs x → Has (map f xs) (f x)
-Has-shares f [] x h = absurd h
-Has-shares f (y ∷ xs) x (inl e) = inl (ap f e)
-Has-shares f (y ∷ xs) x (inr h) = inr (Has-shares f xs x h)
-
 module _ (v : EngineView) (k : IsKept v) (i : ℕ) (b : Batch) (at : slice_get v.batches i ≡ Some b) where
   pub has : Has v.batches b
   has = Has-get v.batches i b at
@@ -108,9 +100,6 @@ module _ (v : EngineView) (k : IsKept v) (i : ℕ) (b : Batch) (at : slice_get v
 
   pub runs-here : (x : document.Recipe) → slice_get v.cleared.recipes b.recipe ≡ Some x → IsRunning x b.running
   runs-here x e = (tree_of v.cleared b, chart-here x e, batch-runs.runs)
-
-  abbrev pub rest_here : Rattle.batch_model.specs.Rest.Rest
-  rest_here = remains (tree_of v.cleared b) b.running
 
   abbrev pub asks_here : ℕ → ℕ → Type 0
   asks_here j l = AsksAt (tree_of v.cleared b) (remains (tree_of v.cleared b) b.running) j l
@@ -142,7 +131,7 @@ module _ (v : EngineView) (k : IsKept v) (i : ℕ) (b : Batch) (at : slice_get v
       let t : Tree = tree_of v.cleared b in
       let need : Need = need_at (tree_of v.cleared b) j l in
       let share : Share = share_of v.cleared v.batches x in
-      let told_so = ((told v k).asks need.resource share).0 (subst (λ (xs : List Share). Has xs share) (sym (ap (line_at v) e)) (Has-shares (share_of v.cleared v.batches) (line_of v.allocation q) x h)) in
+      let told_so = ((told v k).asks need.resource share).0 (subst (λ (xs : List Share). Has xs share) (sym (ap (line_at v) e)) (map-Has (share_of v.cleared v.batches) (line_of v.allocation q) x h)) in
       let same : told_so.0 ≡ batch_of v.cleared b =
       one_batch v.next_number (plant_of v).batches told_so.0 (batch_of v.cleared b) (standing v k).numbers told_so.1 (Has-batch_of v.cleared v.batches b has) (told_so.2 ∙ ap (λ (z : ℕ × ℕ). z.0) at_node) in
       let there : Has (acts (remains t b.running)) (asking told_so.3 told_so.4 told_so.5) = subst (λ (d : Model.Batch). Has (acts d.rest) (asking told_so.3 told_so.4 told_so.5)) same told_so.6 in
@@ -188,12 +177,6 @@ module _ (v : EngineView) (k : IsKept v) (i : ℕ) (b : Batch) (at : slice_get v
     | inl q ↦ before j l q asks served
     | inr q ↦ between (tree_of v.cleared b) (chart-here x e) batch-runs.runs j l q lt asks
   ]
-
-  pub one-batch : (P : Batch → Option Move) (y : Option Move) (d : Batch) → slice_get v.batches i ≡ Some d → P b ≡ y → P d ≡ y
-  one-batch P y d e h = subst (λ (z : Batch). P z ≡ y) (let f : ◌≡◌ {A = Option Batch} (Some b) (Some d) = sym at ∙ e in let g : b ≡ d = cc in g) h
-
-  pub one-none : (P : Batch → List Move) (d : Batch) → slice_get v.batches i ≡ Some d → P b ≡ [] → P d ≡ []
-  one-none P d e h = subst (λ (z : Batch). P z ≡ []) (let f : ◌≡◌ {A = Option Batch} (Some b) (Some d) = sym at ∙ e in let g : b ≡ d = cc in g) h
 
   -- an act in line asks for one need
   pub same-need : (j l m : ℕ) → asks_here j l → asks_here j m → l ≡ m

@@ -1,7 +1,6 @@
 -- Moves of a batch in two plants that serve the same acts of it.
 use Rattle.std.proofs.Common.{◌≡◌, ⊎_elim, refl, sym, ◌∙◌, ap, subst, subst₂, ℕ, ◌+◌, List, [], ◌∷◌, ◌++◌, Bool, true, false, ◌&&◌, filter_map, Option, Some, None, inl, inr, slice_get}
 use Rattle.std.specs.Prelude.{nat_le, option_to_list, ⊤}
-use Rattle.std.specs.List.{cons_option}
 use Rattle.std.specs.Cmp.Derive.{both_true}
 use Rattle.std.proofs.lemmas.Bool.{and_parts}
 use Rattle.batch_recipe.specs.Conditions.{Name, same_name}
@@ -16,27 +15,14 @@ use Rattle.batch_model.specs.Records.{holders_told, holders_after}
 use Rattle.batch_machine.proofs.Falling.{Has-batch_moves}
 use Rattle.batch_machine.proofs.Ordering.{none_least}
 use Rattle.batch_machine.proofs.Telling.{holders_told-last}
+use Rattle.batch_machine.proofs.Leaving.{filter_map-Has, flat_map-Has}
 use Rattle.batch_laws.specs.Telling.{IsTold}
-use Rattle.batch_laws.proofs.Members.{flat_map-Has}
 use Rattle.batch_laws.proofs.Entries.{name_same, same_act}
 use Rattle.batch_engine.specs.Marking.{touched}
 
-no-elements : {X : Type 0} (xs : List X) → ((x : X) → Has xs x → ⊥) → xs ≡ []
+pub no-elements : {X : Type 0} (xs : List X) → ((x : X) → Has xs x → ⊥) → xs ≡ []
 no-elements [] h = refl
 no-elements (x ∷ xs) h = absurd (h x (inl refl))
-
-filter_map-Has : {X Y : Type 0} (h : X → Option Y) (xs : List X) (x : X) (y : Y) → Has xs x → h x ≡ Some y → Has (filter_map h xs) y
-filter_map-Has h [] x y m e = absurd m
-filter_map-Has {X = X} {Y = Y} h (z ∷ xs) x y (inl q) e = go (h z) (ap h q ∙ e)
-  where
-    go : (o : Option Y) → o ≡ Some y → Has (cons_option o (filter_map h xs)) y
-    go None f = absurd cc
-    go (Some w) f = inl cc
-filter_map-Has {X = X} {Y = Y} h (z ∷ xs) x y (inr m) e = go (h z) (filter_map-Has h xs x y m e)
-  where
-    go : (o : Option Y) → Has (filter_map h xs) y → Has (cons_option o (filter_map h xs)) y
-    go None f = f
-    go (Some w) f = inr f
 
 module _ (c : Setup) (s : Plant) (b : Batch) where
   act-Has : (a : Rest) (m : Move) → Has (acts b.rest) a → act_move c s b a ≡ Some m → Has (batch_moves c s b) m

@@ -1,7 +1,6 @@
 -- The least grant of a batch is that of the first act in line that the arbiter would serve.
-use Rattle.std.proofs.Common.{◌≡◌, ◌<◌, ◌≤◌, refl, sym, ◌∙◌, ap, ap₂, subst, subst₂, ℕ, zero, suc, List, [], ◌∷◌, Bool, true, false, Option, Some, None, inl, inr, arith, length, get_or, map, nat_eq}
+use Rattle.std.proofs.Common.{◌≡◌, ◌<◌, refl, sym, ◌∙◌, ap, ap₂, subst, subst₂, ℕ, [], ◌∷◌, Bool, true, false, Option, Some, None, inl, inr, arith, length, nat_eq}
 use Rattle.std.specs.Prelude.{slice_get, ◌⊎◌}
-use Rattle.std.specs.List.{filter_map, cons_option}
 use Rattle.std.proofs.lemmas.Bool.{cases_eq}
 use Rattle.std.proofs.lemmas.Option.{slice_get-get_or}
 use Rattle.batch_recipe.specs.declared.need.Need.{Need}
@@ -9,7 +8,7 @@ use Rattle.batch_recipe.specs.Tree.{Place, Step, Task, Tree, is_before}
 use Rattle.batch_model.specs.Lists.{Has}
 use Rattle.batch_model.specs.Rest.{Rest, ready, asking, open_act, live, freeing, in_seq, in_par, in_loop, done, acts}
 use Rattle.batch_model.specs.Plant as Model
-use Rattle.batch_model.specs.Plant.{Setup, BatchAct, Plant}
+use Rattle.batch_model.specs.Plant.{Setup, Plant}
 use Rattle.batch_model.specs.Moves.{Move, grant, is_earlier, least, is_served, when}
 use Rattle.batch_model.specs.Placed.{IsPlaced}
 use Rattle.batch_model.specs.Standing.{IsRestOf}
@@ -17,20 +16,13 @@ use Rattle.batch_model.proofs.Members.{Has-filter_map}
 use Rattle.batch_machine.proofs.Ordering.{least-IsFirst}
 use Rattle.batch_machine.proofs.Falling.{one_act}
 use Rattle.batch_machine.proofs.Rising.{acts-rise}
+use Rattle.batch_machine.proofs.Leaving.{filter_map-Has}
 use Rattle.batch_chart.specs.NodesOf.{no_need, place_at, step_at, task_at, need_at}
 use Rattle.batch_chart.specs.OwnMoves.{grant_move, grants}
 use Rattle.batch_chart.specs.Charts.{AsksAt}
-use Rattle.batch_engine.proofs.Nodes.{numbers-rise, either}
-use Rattle.batch_chart.proofs.ActsOf.{asking-at}
-
-filter_map-Has : {X Y : Type 0} (f : X → Option Y) (xs : List X) (x : X) (y : Y) → Has xs x → f x ≡ Some y → Has (filter_map f xs) y
-filter_map-Has f [] x y h e = absurd h
-filter_map-Has {X = X} {Y = Y} f (z ∷ xs) x y (inl q) e = subst (λ (o : Option Y). Has (cons_option o (filter_map f xs)) y) (sym (ap f q ∙ e)) (inl refl)
-filter_map-Has {X = X} {Y = Y} f (z ∷ xs) x y (inr h) e = go (f z) (filter_map-Has f xs x y h e)
-  where
-    go : (o : Option Y) → Has (filter_map f xs) y → Has (cons_option o (filter_map f xs)) y
-    go None k = k
-    go (Some w) k = inr k
+use Rattle.batch_engine.proofs.Nodes.{either}
+use Rattle.batch_engine.proofs.Frames.{no-elements}
+use Rattle.batch_chart.proofs.ActsOf.{asking-at, numbers-rise}
 
 -- the act in line that makes a grant
 pub record Granted (c : Setup) (s : Plant) (b : Model.Batch) (m : Move) : Type 0 where
@@ -68,10 +60,6 @@ grant-of c s b p w k r e f =
     ap (λ (o : Option Need). let g : Option Move = elim o [ None ↦ None | Some z ↦ when (is_served c s z (b.number, p.place)) (grant b.number p.place z) ] in g) e
     ∙ ap (λ t. when t (grant b.number p.place r)) f
 
-no_members : {X : Type 0} (xs : List X) → ((x : X) → Has xs x → ⊥) → xs ≡ []
-no_members [] h = refl
-no_members (x ∷ xs) h = absurd (h x (inl refl))
-
 module _ (c : Setup) (s : Plant) (b : Model.Batch) (t : Tree) (placed : IsPlaced (0 ∷ []) t) (stands : IsRestOf t b.rest) where
   -- the act at node k that asks for its need i is served
   abbrev pub Served : ℕ → ℕ → Type 0
@@ -96,7 +84,7 @@ module _ (c : Setup) (s : Plant) (b : Model.Batch) (t : Tree) (placed : IsPlaced
 
   -- where no act in line is served there is no grant
   pub grants-none : ((k i : ℕ) → AsksAt t b.rest k i → Served k i → ⊥) → grants c s b ≡ []
-  grants-none none = no_members (grants c s b) (λ m h.
+  grants-none none = no-elements (grants c s b) (λ m h.
       let a = Has-filter_map (grant_move c s b) (acts b.rest) m h in
       let g : Granted c s b m = granted-by c s b m a.0 a.1 a.2 in
       let n = asks-node m g in

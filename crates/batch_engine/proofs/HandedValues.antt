@@ -1,11 +1,11 @@
 -- The values that phases are handed.
-use Rattle.std.proofs.Common.{◌≡◌, ◌<◌, ◌≤◌, refl, sym, ◌∙◌, ap, ap₂, subst, ℕ, zero, suc, List, [], ◌∷◌, Bool, true, false, cond, ◌&&◌, Option, Some, None, inl, inr, arith, ◌+◌, length, get_or, set, find, nat_le}
+use Rattle.std.proofs.Common.{◌≡◌, ◌<◌, ◌≤◌, refl, sym, ◌∙◌, ap, ap₂, subst, ℕ, zero, suc, List, [], ◌∷◌, Bool, true, ◌&&◌, Option, Some, None, inl, inr, arith, ◌+◌, length, get_or, set, nat_le}
 use Rattle.std.specs.Prelude.{slice_get, unwrap_or}
 use Rattle.std.proofs.lemmas.Bool.{and_parts, cases_lt}
 use Rattle.std.proofs.lemmas.List.{get_or-set_same, get_or-set_other}
 use Rattle.std.specs.Global.{Vec}
 use Rattle.std.specs.List.{list_all, zip}
-use Rattle.batch_recipe.specs.ActsAtNodes.{ActList, AreActsAt, IsActAt, IsNoAct, StandsIn, procedure_acts}
+use Rattle.batch_recipe.specs.ActsAtNodes.{ActList, AreActsAt, IsActAt, StandsIn, procedure_acts}
 use Rattle.batch_recipe.specs.Conditions.{Name, ValueList, same_name, value_or_0}
 use Rattle.batch_recipe.specs.Diagram.{diagram_of}
 use Rattle.batch_recipe.specs.Expanding.{Sites, act_named, act_tree_with, named_tree_with, unbound}
@@ -25,6 +25,8 @@ use Rattle.batch_recipe.specs.declared.recipe.Recipe.{Recipe}
 use Rattle.batch_recipe.proofs.NodeActs.{procedure_acts_are}
 use Rattle.batch_model.specs.Moves.{handed_values}
 use Rattle.batch_engine.specs.Names.{handed_in, handed_of, node_of}
+use Rattle.batch_engine.proofs.AlikeNodes.{no_handed}
+use Rattle.batch_chart.proofs.Units.{found_passes}
 
 -- each name beside its value
 pub zip-values : (vs : ValueList) (ns : List Name) (xs : List ℕ) → length ns ≤ length xs → ((k : ℕ) → k < length ns → get_or xs k 0 ≡ value_or_0 vs (get_or ns k [])) → zip ns xs ≡ handed_values vs ns
@@ -61,9 +63,6 @@ handed_of_tree : (s : Sites) (trees : Name → Name → Place → Tree) (unit : 
 handed_of_tree s trees unit p a (Follows chart) e = rw e refl
 handed_of_tree s trees unit p a (Runs phase values reports) e = rw e refl
 
-no_handed : (t : Tree) → IsNoAct t → handed_in t ≡ []
-no_handed t h = grind arith
-
 handed_at_node : (acts : Acts) (a : Option Act) (at : Node) → IsActAt unbound acts a at → handed_in at.here ≡ act_handed a
 handed_at_node acts None at h = no_handed at.here h
 handed_at_node acts (Some a) at h = ap handed_in h.here_is ∙ handed_of_tree (sites unbound acts) (named_tree_with (sites unbound acts) (tables_from acts h.below)) h.unit at.place a a.work refl
@@ -97,14 +96,6 @@ work-few labels vs (Follows c) phase values reports e h = absurd cc
 work-few labels vs (Runs p handed told) phase values reports e h =
     let same : handed ≡ values = cc in
     subst (λ (z : Vec Name). length z.items ≤ MAX_VALUES) same (at-most (length handed.items) MAX_VALUES (and_parts (nat_le (length handed.items) MAX_VALUES) (list_all (is_among vs) handed.items) h).0)
-
-one-of : (q : Act → Bool) (x a : Act) (o : Option Act) (rest : Bool) → (o ≡ Some a → rest ≡ true → q a ≡ true) → (t : Bool) → cond t (Some x) o ≡ Some a → (q x ≡ true) × (rest ≡ true) → q a ≡ true
-one-of q x a o rest later true f k = let same : x ≡ a = cc in ap q (sym same) ∙ k.0
-one-of q x a o rest later false f k = later f k.1
-
-find-all : (p q : Act → Bool) (xs : List Act) (a : Act) → find p xs ≡ Some a → list_all q xs ≡ true → q a ≡ true
-find-all p q [] a e h = absurd cc
-find-all p q (x ∷ xs) a e h = one-of q x a (find p xs) (list_all q xs) (find-all p q xs a) (p x) e (and_parts (q x) (list_all q xs) h)
 
 abbrev IsSomeWork : List Name → Act → Type 0
 IsSomeWork vs a = (labels : List Name) × (is_work labels vs a ≡ true)
@@ -141,13 +132,13 @@ named-work : (vs : List Name) (acts : Acts) (table : LabelTable) (name : Name) (
 named-work vs acts UnitProcedures name a w f = (
   act_names acts.operations.items,
   (and_parts (is_work (act_names acts.operations.items) vs a) (follows_no_par a)
-      (find-all (λ z. same_name z.name name) (λ u. is_work (act_names acts.operations.items) vs u && follows_no_par u) acts.unit_procedures.items a f w.unit_procedures)).0,
+      (found_passes (λ z. same_name z.name name) (λ u. is_work (act_names acts.operations.items) vs u && follows_no_par u) acts.unit_procedures.items a f w.unit_procedures)).0,
 )
 named-work vs acts Operations name a w f = (
   act_names acts.phases.items,
-  find-all (λ z. same_name z.name name) (is_work (act_names acts.phases.items) vs) acts.operations.items a f w.operations,
+  found_passes (λ z. same_name z.name name) (is_work (act_names acts.phases.items) vs) acts.operations.items a f w.operations,
 )
-named-work vs acts Phases name a w f = ([], find-all (λ z. same_name z.name name) (is_work [] vs) acts.phases.items a f w.phases)
+named-work vs acts Phases name a w f = ([], found_passes (λ z. same_name z.name name) (is_work [] vs) acts.phases.items a f w.phases)
 
 stood-work : (vs : List Name) (acts : Acts) (a : Act) (below : Option LabelTable) → AreWorks vs acts → StandsIn acts a below → IsSomeWork vs a
 stood-work vs acts a below w (inl h) = (act_names acts.unit_procedures.items, ap (is_work (act_names acts.unit_procedures.items) vs) h.0 ∙ w.procedure)

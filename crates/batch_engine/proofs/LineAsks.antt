@@ -15,20 +15,23 @@ use Rattle.batch_model.specs.Lists.{Has}
 use Rattle.batch_model.specs.Plant as Model
 use Rattle.batch_model.specs.Plant.{BatchAct, Share}
 use Rattle.batch_model.specs.Rest.{asking, acts}
-use Rattle.batch_laws.proofs.Entries.{IsOnce}
+use Rattle.batch_laws.proofs.Entries.{IsOnce, nat_same}
+use Rattle.batch_laws.proofs.Members.{map-Has}
 use Rattle.batch_arbiter.specs.Allocation.{AsksAtMost, Claim, asks_of, is_claim, is_of_batch, line_of, resource_count}
 use Rattle.batch_chart.specs.NodesOf.{need_at, no_need, place_at}
 use Rattle.batch_chart.specs.Charts.{remains}
 use Rattle.batch_chart.proofs.ActsOf.{asking-at}
+use Rattle.batch_chart.proofs.MoveKinds.{less}
 use Rattle.batch_engine.specs.declared.batch.Batch.{Batch}
 use Rattle.batch_engine.specs.Kept.{IsKept}
 use Rattle.batch_engine.specs.View.{EngineView, act_of, batch_of, line_at, names_of, number_of, plant_of, share_of, tree_of}
 use Rattle.batch_engine.proofs.BatchPlaces.{Has-batch_of}
-use Rattle.batch_engine.proofs.Cells.{length-capacities}
-use Rattle.batch_engine.proofs.Finding.{Has-shares, asks_here, batch-runs, claim-act, has, known-resource, same-need, tree-placed}
-use Rattle.batch_engine.proofs.Nodes.{same-node, within-or_past}
+use Rattle.batch_engine.proofs.Finding.{asks_here, batch-runs, claim-act, has, known-resource, same-need, tree-placed}
+use Rattle.batch_engine.proofs.Nodes.{same-node}
 use Rattle.batch_engine.proofs.RoomForAsk.{number-at}
 use Rattle.batch_engine.proofs.Told.{standing, told}
+use Rattle.batch_arbiter.proofs.Cells.{length-capacities}
+use Rattle.batch_signs.proofs.Bits.{within-or_past}
 
 -- Claims that pass a test
 
@@ -65,17 +68,11 @@ one-claim share n node same (x ∷ xs) once = go (is_claim n node x) refl (one-c
     go : (t : Bool) → is_claim n node x ≡ t → length (filter (is_claim n node) xs) ≤ 1 → length (cond t (x ∷ filter (is_claim n node) xs) (filter (is_claim n node) xs)) ≤ 1
     go false e h = h
     go true e h =
-        let none : length (filter (is_claim n node) xs) ≡ 0 = none-pass (is_claim n node) xs (λ y m f. once.0 (share y) (Has-shares share xs y m) (same y x f e)) in
+        let none : length (filter (is_claim n node) xs) ≡ 0 = none-pass (is_claim n node) xs (λ y m f. once.0 (share y) (map-Has share xs y m) (same y x f e)) in
         omega (arith, none)
 
 is-lt : (a b : ℕ) → a < b → nat_lt a b ≡ true
 is-lt a b h = grind (arith, nat_tests)
-
-lt-is : (a b : ℕ) → nat_lt a b ≡ true → a < b
-lt-is a b h = grind (arith, nat_tests)
-
-eq-is : (a b : ℕ) → nat_eq a b ≡ true → a ≡ b
-eq-is a b h = grind arith
 
 is-eq : (a b : ℕ) → a ≡ b → nat_eq a b ≡ true
 is-eq a b h = grind arith
@@ -83,7 +80,7 @@ is-eq a b h = grind arith
 claim-parts : (n node : ℕ) (x : Claim) → is_claim n node x ≡ true → (x.batch ≡ n) × (x.node ≡ node)
 claim-parts n node x e =
     let h = and_parts (nat_eq x.batch n) (nat_eq x.node node) e in
-    (eq-is x.batch n h.0, eq-is x.node node h.1)
+    (nat_same x.batch n h.0, nat_same x.node node h.1)
 
 -- an ask of the batch for an act below this node
 abbrev pub is_below : ℕ → ℕ → Claim → Bool
@@ -108,7 +105,7 @@ counted-none v n =
       each = λ q l.
           (let none : length (filter (is_below n 0) (line_of v.allocation q)) ≡ 0 =
           none-pass (is_below n 0) (line_of v.allocation q)
-          (λ x m e. (let low : x.node < 0 = lt-is x.node 0 (and_parts (is_of_batch n x) (nat_lt x.node 0) e).1 in absurd (omega (arith, low)))) in
+          (λ x m e. (let low : x.node < 0 = less x.node 0 (and_parts (is_of_batch n x) (nat_lt x.node 0) e).1 in absurd (omega (arith, low)))) in
           omega (arith, none));
     }
 
@@ -139,7 +136,7 @@ module _ (v : EngineView) (k : IsKept v) (i : ℕ) (b : Batch) (at : slice_get v
       let within : q < length (names_of v.cleared) = omega (arith, few, ap (λ (xs : List ℕ). length xs) k.cell.capacities, length-capacities v.cleared.cell) in
       let e : number_of v.cleared name ≡ Some q = number-at v.cleared q name (slice_get-get_or (names_of v.cleared) q [] within) in
       let share : Share = share_of v.cleared v.batches x in
-      let told_so = ((told v k).asks name share).0 (subst (λ (xs : List Share). Has xs share) (sym (ap (line_at v) e)) (Has-shares (share_of v.cleared v.batches) (line_of v.allocation q) x h)) in
+      let told_so = ((told v k).asks name share).0 (subst (λ (xs : List Share). Has xs share) (sym (ap (line_at v) e)) (map-Has (share_of v.cleared v.batches) (line_of v.allocation q) x h)) in
       let same : told_so.0 ≡ batch_of v.cleared b =
       one_batch v.next_number (plant_of v).batches told_so.0 (batch_of v.cleared b) (standing v k).numbers told_so.1 (Has-batch_of v.cleared v.batches b (has v k i b at)) (told_so.2 ∙ own) in
       let there : Has (acts (remains t b.running)) (asking told_so.3 told_so.4 told_so.5) = subst (λ (d : Model.Batch). Has (acts d.rest) (asking told_so.3 told_so.4 told_so.5)) same told_so.6 in
@@ -168,11 +165,11 @@ module _ (v : EngineView) (k : IsKept v) (i : ℕ) (b : Batch) (at : slice_get v
         → length (filter (is_below b.number (node + 1)) (line_of v.allocation r)) ≤ length (filter (is_below b.number from) (line_of v.allocation r)) + length (filter (is_claim b.number node) (line_of v.allocation r))
     more-below r few = either-passes (is_below b.number (node + 1)) (is_below b.number from) (is_claim b.number node) (line_of v.allocation r) (λ x m e.
         (let h = and_parts (is_of_batch b.number x) (nat_lt x.node (node + 1)) e in
-        let low : x.node < node + 1 = lt-is x.node (node + 1) h.1 in
+        let low : x.node < node + 1 = less x.node (node + 1) h.1 in
         elim (within-or_past x.node from) [
           | inl lt ↦ inl (both_true h.0 (is-lt x.node from lt))
           | inr ge ↦ elim (within-or_past x.node node) [
-            | inl lt ↦ absurd (let a = claim-asks r few x m (eq-is x.batch b.number h.0) in none x.node a.0 ge lt a.1)
+            | inl lt ↦ absurd (let a = claim-asks r few x m (nat_same x.batch b.number h.0) in none x.node a.0 ge lt a.1)
             | inr up ↦ inr (both_true h.0 (is-eq x.node node (omega (arith, low, up))))
           ]
         ]))
@@ -217,6 +214,6 @@ module _ (v : EngineView) (k : IsKept v) (i : ℕ) (b : Batch) (at : slice_get v
       either-passes (is_of_batch b.number) (is_below b.number from) nothing (line_of v.allocation q) (λ x m e.
       elim (within-or_past x.node from) [
         | inl lt ↦ inl (both_true e (is-lt x.node from lt))
-        | inr ge ↦ absurd (let a = claim-asks q few x m (eq-is x.batch b.number e) in none x.node a.0 ge a.1)
+        | inr ge ↦ absurd (let a = claim-asks q few x m (nat_same x.batch b.number e) in none x.node a.0 ge a.1)
       ]) in
       omega (arith, all, none-pass nothing (line_of v.allocation q) (λ x m e. cc), counted.each q few)

@@ -12,8 +12,8 @@ use Rattle.batch_model.specs.Rest.{Rest}
 use Rattle.batch_laws.proofs.Entries.{name_same, name_self}
 use Rattle.batch_chart.specs.Looked.{live_by, live_phase_at}
 use Rattle.batch_chart.specs.NodesOf.{node_at, nodes_of, phase_at, phase_in, phase_named, task_of}
-use Rattle.batch_engine.proofs.Nodes.{within-or_past}
 use Rattle.batch_set.proofs.Positions.{name-at}
+use Rattle.batch_signs.proofs.Bits.{within-or_past}
 
 -- a node that names a phase is one of the tree
 pub phase-within : (t : Tree) (k : ℕ) (names : Name × Name) → phase_named (node_at t k).here ≡ Some names → k < node_count t

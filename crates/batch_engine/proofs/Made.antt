@@ -18,8 +18,10 @@ use Rattle.batch_model.specs.Records.{holders_after}
 use Rattle.batch_machine.proofs.Batches.{one_batch}
 use Rattle.batch_machine.proofs.Falling.{batch_moves-number, next-possible, one_act}
 use Rattle.batch_machine.proofs.Rising.{acts-rise}
-use Rattle.batch_model.proofs.Members.{Has-flat_map, Has-left, Has-right}
+use Rattle.batch_machine.proofs.Leaving.{flat_map-Has}
+use Rattle.batch_model.proofs.Members.{Has-flat_map, Has-right}
 use Rattle.batch_laws.proofs.Entries.{IsOnce, same_act, act_self, filter-Has, name_self}
+use Rattle.batch_laws.proofs.Members.{Has-map, map-Has}
 use Rattle.batch_arbiter.specs.Allocation.{Claim, shares_of, line_of, asked, granted, passed, released, units_of, is_claim, IsHeld, next_grant, batch_node, capacity_of}
 use Rattle.batch_chart.specs.NodesOf.{no_need, place_at, step_at, task_at, need_at}
 use Rattle.batch_recipe.specs.Nodes.{node_count}
@@ -105,36 +107,14 @@ Has-Contains [] x h = absurd h
 Has-Contains (y ∷ xs) x (inl e) = (0, omega arith, e)
 Has-Contains (y ∷ xs) x (inr h) = let k = Has-Contains xs x h in (suc k.0, omega (arith, k.1), k.2)
 
-pub Has-mapped : {X Y : Type 0} (f : X → Y) (xs : List X) (y : Y) → Has (map f xs) y → (x : X) × Has xs x × (f x ≡ y)
-Has-mapped f [] y h = absurd h
-Has-mapped f (x ∷ xs) y (inl e) = (x, inl refl, e)
-Has-mapped f (x ∷ xs) y (inr h) = let k = Has-mapped f xs y h in (k.0, inr k.1, k.2)
-
-Has-to-map : {X Y : Type 0} (f : X → Y) (xs : List X) (x : X) → Has xs x → Has (map f xs) (f x)
-Has-to-map f [] x h = absurd h
-Has-to-map f (y ∷ xs) x (inl e) = inl (ap f e)
-Has-to-map f (y ∷ xs) x (inr h) = inr (Has-to-map f xs x h)
-
-Has-in-flat : {X Y : Type 0} (f : X → List Y) (xs : List X) (x : X) (y : Y) → Has xs x → Has (f x) y → Has (flat_map f xs) y
-Has-in-flat f [] x y h k = absurd h
-Has-in-flat f (z ∷ xs) x y (inl e) k = Has-left (f z) (flat_map f xs) y (subst (λ w. Has (f w) y) (sym e) k)
-Has-in-flat f (z ∷ xs) x y (inr h) k = Has-right (f z) (flat_map f xs) y (Has-in-flat f xs x y h k)
-
 Has-taken : (xs : List Need) (i : ℕ) (d : Need) → i < length xs → Has (take (suc i) xs) (get_or xs i d)
 Has-taken [] i d h = absurd (omega arith)
 Has-taken (x ∷ xs) zero d h = inl refl
 Has-taken (x ∷ xs) (suc i) d h = inr (Has-taken xs i d (omega arith))
 
 module _ (v : EngineView) (k : IsKept v) (i : ℕ) (b : Batch) (at : slice_get v.batches i ≡ Some b) where
-  abbrev tree : Tree
-  tree = tree_of v.cleared b
-
   abbrev model : Model.Batch
   model = View.batch_of v.cleared b
-
-  -- the batch with another running chart
-  abbrev pub with_chart : Running → Batch
-  with_chart r = record b { running = r }
 
   -- its chart runs as the batch does
   pub runs-as : RunsAs (tree_of v.cleared b) b.running (View.batch_of v.cleared b).rest (View.batch_of v.cleared b).in_advance
@@ -303,14 +283,14 @@ module _ (v : EngineView) (k : IsKept v) (i : ℕ) (b : Batch) (at : slice_get v
       filter-Has (λ (r : Need). same_name name.resource r.resource) (held_by act) name (subst (λ (xs : List Need). Has xs name) (sym s.2.3) taken) (name_self name.resource) in
       let mine : Has (map (λ (r : Need). let z : Share = record { act = (b.number, place_of act); units = r.units } in z) (filter (λ r. same_name name.resource r.resource) (held_by act))) mineof =
       subst (λ (p : Place). Has (map (λ (r : Need). let z : Share = record { act = (b.number, place_of act); units = r.units } in z) (filter (λ r. same_name name.resource r.resource) (held_by act))) (let z : Share = record { act = (b.number, p); units = name.units } in z)) s.2.2
-      (Has-to-map (λ (r : Need). let z : Share = record { act = (b.number, place_of act); units = r.units } in z) (filter (λ r. same_name name.resource r.resource) (held_by act)) name holds) in
+      (map-Has (λ (r : Need). let z : Share = record { act = (b.number, place_of act); units = r.units } in z) (filter (λ r. same_name name.resource r.resource) (held_by act)) name holds) in
       let model : Model.Batch = View.batch_of v.cleared b in
-      let own : Has (flat_map (Model.shares_held name.resource model) (acts model.rest)) mineof = Has-in-flat (Model.shares_held name.resource model) (acts model.rest) act mineof s.2.1 mine in
+      let own : Has (flat_map (Model.shares_held name.resource model) (acts model.rest)) mineof = flat_map-Has (Model.shares_held name.resource model) (acts model.rest) act mineof s.2.1 mine in
       let held : Has (holders (plant_of v) name.resource) mineof =
-      Has-in-flat (Model.shares_of name.resource) (plant_of v).batches model mineof (Has-batch_of v.cleared v.batches b (has v k i b at))
+      flat_map-Has (Model.shares_of name.resource) (plant_of v).batches model mineof (Has-batch_of v.cleared v.batches b (has v k i b at))
       (Has-right (flat_map (Model.share_in_advance name.resource model) model.in_advance) (flat_map (Model.shares_held name.resource model) (acts model.rest)) mineof own) in
       let share : Has (acts_of v.cleared v.batches (shares_of v.allocation q)) mineof = subst (λ (xs : List Share). Has xs mineof) (sym (k.tracked.shares q name.resource e)) (((told v k).held name.resource).1 mineof held) in
-      let x = Has-mapped (share_of v.cleared v.batches) (shares_of v.allocation q) mineof share in
+      let x = Has-map (share_of v.cleared v.batches) (shares_of v.allocation q) mineof share in
       let n : batch_node x.0 ≡ (b.number, node) = act-claim v k i b at x.0 node s.0 (ap (λ (z : Share). z.act) x.2) in
       let is : x.0 ≡ record { batch = b.number; node = node; units = name.units } =
       ap₂ (λ (z : ℕ × ℕ) u. let y : Claim = record { batch = z.0; node = z.1; units = u } in y) n (ap (λ (z : Share). z.units) x.2) in

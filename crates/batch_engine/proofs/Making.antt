@@ -5,10 +5,10 @@ use Rattle.batch_recipe.specs.Conditions.{Name, same_name}
 use Rattle.batch_recipe.specs.Tree.{Place}
 use Rattle.batch_model.specs.Lists.{Has}
 use Rattle.batch_model.specs.Plant as Model
-use Rattle.batch_model.specs.Plant.{BatchAct, Share, Plant, is_same_act, without}
+use Rattle.batch_model.specs.Plant.{BatchAct, Share, is_same_act, without}
 use Rattle.batch_model.specs.Standing.{AreNumbered}
 use Rattle.batch_machine.proofs.Batches.{only}
-use Rattle.batch_laws.proofs.Entries.{IsOnce, differs, act_self, name_self, name_same}
+use Rattle.batch_laws.proofs.Entries.{IsOnce, differs, act_self, name_self, name_same, nat_self}
 use Rattle.batch_verify.specs.ClearedSet.{ClearedSet}
 use Rattle.batch_arbiter.specs.Allocation.{Claim, without_first}
 use Rattle.batch_chart.specs.NodesOf.{place_at}
@@ -24,13 +24,10 @@ map-same : {X Y : Type 0} (f g : X → Y) (xs : List X) → ((x : X) → f x ≡
 map-same f g [] h = refl
 map-same f g (x ∷ xs) h = ap₂ (λ y ys. y ∷ ys) (h x) (map-same f g xs h)
 
-test-self : (n : ℕ) → nat_eq n n ≡ true
-test-self n = grind arith
-
-test-other : (m n : ℕ) → m < n → nat_eq m n ≡ false
+pub test-other : (m n : ℕ) → m < n → nat_eq m n ≡ false
 test-other m n l = grind arith
 
-test-other' : (m n : ℕ) → n < m → nat_eq m n ≡ false
+pub test-other' : (m n : ℕ) → n < m → nat_eq m n ≡ false
 test-other' m n l = grind arith
 
 module _ (c : ClearedSet) (next : ℕ) (b' : Batch) where
@@ -63,7 +60,7 @@ module _ (c : ClearedSet) (next : ℕ) (b' : Batch) where
       let g : x ≡ b = cc in
       ap₂ (λ y ys. y ∷ ys)
       (h ∙ ap (λ (z : Batch). f (batch_of c z)) (sym g)
-      ∙ sym (chosen-true (nat_eq x.number b.number) (f (batch_of c x)) (batch_of c x) (subst (λ (z : Batch). nat_eq x.number z.number ≡ true) g (test-self x.number))))
+      ∙ sym (chosen-true (nat_eq x.number b.number) (f (batch_of c x)) (batch_of c x) (subst (λ (z : Batch). nat_eq x.number z.number ≡ true) g (nat_self x.number))))
       (others-same b.number f bs (λ d m. subst (λ (z : Batch). z.number < d.number) g (later-number c next x bs d k m)))
   batches-same (x ∷ bs) (suc i) b f k e h =
       let above : x.number < b.number = later-number c next x bs b k (Has-get bs i b e) in

@@ -31,6 +31,7 @@ use Rattle.batch_laws.proofs.Facts.{holding, performing, entries, share}
 use Rattle.batch_laws.proofs.Invariant.{IsKept, IsSound, standing-of}
 use Rattle.batch_laws.proofs.Telling.{tells_the_plant}
 use Rattle.batch_laws.proofs.Units.{performed-phase, unit-held}
+use Rattle.batch_laws.proofs.Starting.{member-units}
 use Rattle.batch_engine.specs.Marked.{AreNotedBy}
 use Rattle.batch_engine.specs.Marking.{noted, noted_for}
 use Rattle.batch_engine.proofs.Frames.{IsEven}
@@ -49,12 +50,6 @@ set-other (y ∷ xs) zero zero x d = absurd (d refl)
 set-other (y ∷ xs) zero (suc j) x d = refl
 set-other (y ∷ xs) (suc i) zero x d = refl
 set-other (y ∷ xs) (suc i) (suc j) x d = set-other xs i j x (λ e. d (ap (λ n. suc n) e))
-
--- a share is no more than all shares together
-member-units : (xs : List Share) (a : Share) → Has xs a → a.units ≤ units_in xs
-member-units [] a h = absurd h
-member-units (x ∷ xs) a (inl e) = omega (arith, units-cons x xs, ap (λ (z : Share). z.units) e)
-member-units (x ∷ xs) a (inr k) = omega (arith, units-cons x xs, member-units xs a k)
 
 -- of one unit there is one holder
 alone : (xs : List Share) (a b : Share) → units_in xs ≤ 1 → Has xs a → Has xs b → a.units ≡ 1 → b.units ≡ 1 → a.act ≡ b.act

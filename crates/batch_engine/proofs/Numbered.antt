@@ -1,5 +1,5 @@
 -- What a cleared recipe's acts need and run has numbers.
-use Rattle.std.proofs.Common.{◌≡◌, ◌<◌, refl, sym, ◌∙◌, ap, subst, ℕ, List, [], ◌∷◌, ◌++◌, Bool, true, false, ◌||◌, if◌then◌else◌, Option, Some, None, arith, length, map, filter, nat_lt}
+use Rattle.std.proofs.Common.{◌≡◌, ◌<◌, refl, sym, ◌∙◌, ap, subst, ℕ, List, [], ◌∷◌, ◌++◌, Bool, true, false, if◌then◌else◌, Option, Some, None, arith, length, map, filter, nat_lt}
 use Rattle.std.specs.Prelude.{slice_get, position, unwrap_or, IsTrue}
 use Rattle.std.specs.List.{list_any, list_all}
 use Rattle.std.proofs.lemmas.List.{length-map}
@@ -34,7 +34,7 @@ use Rattle.batch_set.proofs.Positions.{any-position, name-at}
 use Rattle.batch_chart.specs.NodesOf.{nodes_of, node_at, step_of, step_at, need_at, no_need}
 use Rattle.batch_engine.specs.Names as Names
 use Rattle.batch_engine.specs.View.{setup, number_of}
-use Rattle.batch_engine.proofs.Finding.{Each-at}
+use Rattle.batch_engine.proofs.Filing.{each-at}
 
 -- A unit that offers something is declared
 
@@ -42,10 +42,6 @@ own-unit : (units : List Name) (unit : Name) (o : Option Name) → elim o [ None
     → elim o [ None ↦ true | Some own ↦ list_any (same_name own) units ] ≡ true → list_any (same_name unit) units ≡ true
 own-unit units unit None e f = absurd cc
 own-unit units unit (Some own) e f = subst (λ z. list_any (same_name z) units ≡ true) (name_same own unit e) f
-
-or-true : (a b : Bool) → (a || b) ≡ true → a ≡ false → b ≡ true
-or-true true b e f = absurd cc
-or-true false b e f = e
 
 pub offering-unit : (units : List Name) (ms : List Module) (unit phase : Name) → list_all (has_declared_unit units) ms ≡ true
     → list_any (same_name phase) (unit_phases ms unit) ≡ true → list_any (same_name unit) units ≡ true
@@ -129,7 +125,7 @@ module _ (c : ClearedSet) (cleared : CanBeCleared (setup c)) (r : Model.Recipe) 
       let all : Each (λ (n : Node). IsNamed c n.here) (nodes_of r.procedure) =
       subst (Each (λ (n : Node). IsNamed c n.here)) (parts-nodes is_procedure (0 ∷ []) [] r.procedure)
       (Each-image (λ (n : Node). IsNamed c n.here) (λ (x : Part). x.node) (procedure_parts r) parts-named) in
-      Each-at (λ (n : Node). IsNamed c n.here) (nodes_of r.procedure) k (record { place = []; asked = []; here = skip }) all
+      each-at (λ (n : Node). IsNamed c n.here) (nodes_of r.procedure) k (record { place = []; asked = []; here = skip }) all
       (omega (arith, l, counted_nodes (0 ∷ []) [] r.procedure))
 
   -- the resource of a need has a number
@@ -139,7 +135,7 @@ module _ (c : ClearedSet) (cleared : CanBeCleared (setup c)) (r : Model.Recipe) 
       let here : Each (λ (need : Need). IsTrue (is_among (resources_of c.cell) need.resource)) (step_at r.procedure k).needs =
       subst (Each (λ (need : Need). IsTrue (is_among (resources_of c.cell) need.resource))) (needs-same (node_at r.procedure k).here) (node-named k l).0 in
       let among : IsTrue (is_among (resources_of c.cell) n.resource) =
-      Each-at (λ (need : Need). IsTrue (is_among (resources_of c.cell) need.resource)) (step_at r.procedure k).needs i no_need here m in
+      each-at (λ (need : Need). IsTrue (is_among (resources_of c.cell) need.resource)) (step_at r.procedure k).needs i no_need here m in
       any-position (same_name n.resource) (resources_of c.cell) among
 
 -- A cell has few resources

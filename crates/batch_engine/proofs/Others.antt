@@ -1,5 +1,5 @@
 -- Events: which batches stay as they are, how many there are, and whom the plant serves after them.
-use Rattle.std.proofs.Common.{◌≡◌, ⊎_elim, refl, sym, ◌∙◌, ap, subst, ℕ, ◌<◌, ◌≤◌, ◌||◌, List, [], ◌∷◌, ◌++◌, Bool, true, false, not, map, filter, find, Option, Some, None, inl, inr, length, nat_eq, nat_lt, arith}
+use Rattle.std.proofs.Common.{◌≡◌, ⊎_elim, refl, sym, ◌∙◌, ap, subst, ℕ, ◌<◌, ◌≤◌, ◌||◌, List, [], ◌∷◌, ◌++◌, Bool, true, false, not, map, find, Option, Some, None, inl, inr, length, nat_eq, nat_lt, arith}
 use Rattle.std.specs.Prelude.{nat_le}
 use Rattle.std.proofs.lemmas.List.{length-append, length-map}
 use Rattle.batch_matrix.specs.declared.state.State.TheVariants.{Idle}
@@ -18,18 +18,11 @@ use Rattle.batch_model.specs.Records.{waiters_after}
 use Rattle.batch_model.specs.declared.limits.TheConstants.{LAST_NUMBER}
 use Rattle.batch_model.proofs.Members.{Has-split}
 use Rattle.batch_machine.proofs.Telling.{waiters_told-last}
+use Rattle.batch_machine.proofs.Answering.{commanded-number}
 use Rattle.batch_laws.specs.Telling.{IsTold}
-use Rattle.batch_laws.proofs.Entries.{nat_same, Has-filter}
+use Rattle.batch_laws.proofs.Entries.{nat_same, Has-filter, length-filter_le}
 use Rattle.batch_engine.specs.Marking.{named, withdraws}
 use Rattle.batch_engine.proofs.Frames.{ServesBefore, lines-alone, settled-none, held-same, as-before}
-
-length-filter_le : {X : Type 0} (p : X → Bool) (xs : List X) → length (filter p xs) ≤ length xs
-length-filter_le p [] = omega arith
-length-filter_le p (y ∷ xs) = go (p y) (length-filter_le p xs)
-  where
-    go : (b : Bool) → length (filter p xs) ≤ length xs → length (Rattle.std.proofs.Common.cond b (y ∷ filter p xs) (filter p xs)) ≤ length (y ∷ xs)
-    go true h = omega arith
-    go false h = omega arith
 
 room : (m n : ℕ) (b : Bool) → (nat_le m n || b) ≡ false → n < m
 room m n b e = go (nat_le m n) refl e
@@ -37,9 +30,6 @@ room m n b e = go (nat_le m n) refl e
     go : (t : Bool) → nat_le m n ≡ t → (t || b) ≡ false → n < m
     go true f g = absurd cc
     go false f g = grind arith
-
-commanded-number : (command : Command) (b : Batch) → (commanded command b).number ≡ b.number
-commanded-number command b = grind arith
 
 -- a change of batch n leaves the others
 Has-other : (n : ℕ) (f : Batch → Batch) (bs : List Batch) (b : Batch) → ((c : Batch) → (f c).number ≡ c.number)

@@ -12,7 +12,7 @@ use Rattle.batch_recipe.specs.Tree.{Place, Reserve, Step, Task, runs, follows}
 use Rattle.batch_model.specs.ActStates.{steps}
 use Rattle.batch_model.specs.Cleared.{Ranking}
 use Rattle.batch_model.specs.Lists.{Has, Each}
-use Rattle.batch_model.specs.Moves.{Move, send, state, release, pass, begin, start, end, ask, grant, is_running, is_stopping, is_stopped, is_quiet, is_empty, is_served, passed_on, handed_values, beginning, entering, giving_back, reserved_place, handing_over, when, act_move, batch_moves, released, freed}
+use Rattle.batch_model.specs.Moves.{Move, send, state, release, pass, end, ask, grant, is_running, is_stopping, is_stopped, is_quiet, is_empty, is_served, passed_on, beginning, entering, giving_back, reserved_place, handing_over, when, act_move, batch_moves, released}
 use Rattle.batch_model.specs.Plant.{Setup, BatchAct, InAdvance, Batch, Share, Plant, held_in, is_reached, units_in, without}
 use Rattle.batch_model.specs.Records.{holders_after, holders_told}
 use Rattle.batch_model.specs.Rest.{Rest, Rests, ready, asking, open_act, live, freeing, in_seq, in_par, in_loop, done, no_rests, rest, is_done, acts, acts_of_each, changed_at, place_of, same_place}
@@ -29,7 +29,7 @@ use Rattle.batch_laws.proofs.Entries.{holders-Has, name_same, nat_same, sums-wit
 use Rattle.batch_laws.proofs.Facts.{Standing, entries, facts, facts_of_each, held_at, holding}
 use Rattle.batch_laws.proofs.Invariant.{IsFirstNeed, IsKept, IsSound, standing-of}
 use Rattle.batch_laws.proofs.Keeping.{not-held-yet}
-use Rattle.batch_laws.proofs.MoveSteps.{freed-facts, no_move, some_move}
+use Rattle.batch_laws.proofs.MoveSteps.{freed-facts, no_move, some_move, held-next}
 use Rattle.batch_laws.proofs.Passing.{act-step_in}
 use Rattle.batch_laws.proofs.Raising.{Nowhere, places, reached-at}
 use Rattle.batch_laws.proofs.Tops.{find-passes}
@@ -151,18 +151,6 @@ module _ (b : Batch) where
 same_need : (x y : Need) → ◌≡◌ {A = Option Need} (Some x) (Some y) → x ≡ y
 same_need x y e = cc
 
-take-one : (k : ℕ) (xs : List Need) (r : Need) → slice_get xs k ≡ Some r → take (suc k) xs ≡ take k xs ++ r ∷ []
-take-one k [] r e = absurd cc
-take-one zero (x ∷ xs) r e = ap (λ z. z ∷ []) (same_need x r e)
-take-one (suc k) (x ∷ xs) r e = ap (λ z. x ∷ z) (take-one k xs r e)
-
-held-one : (p : Place) (k : ℕ) (xs : List Need) (r : Need) → slice_get xs k ≡ Some r → held_at p (take (suc k) xs) ≡ held_at p (take k xs) ++ (p, holding r) ∷ []
-held-one p k xs r e = ap (held_at p) (take-one k xs r e) ∙ joined (take k xs)
-  where
-    joined : (ys : List Need) → held_at p (ys ++ r ∷ []) ≡ held_at p ys ++ (p, holding r) ∷ []
-    joined [] = refl
-    joined (y ∷ ys) = ap (λ z. (let e : Standing = (p, holding y) in e) ∷ z) (joined ys)
-
 -- what stands of an act stands of the rest
 mutual
   act-fact : (r a : Rest) (e : Standing) → Has (acts r) a → Has (facts a) e → Has (facts r) e
@@ -260,7 +248,7 @@ module _ (d : Setup) (rank : Ranking) (outs : List Out) (s : Plant) (sd : IsStan
       let a : Rest = freeing x (suc l) in
       let j : Has (acts b.rest) a = subst (λ (z : Rest). Has (acts b.rest) z) m.2.2 m.1 in
       let number : b.number ≡ n = sym (batch_moves-number d s b (pass n p to r) h) in
-      let own : Has (facts a) (x.place, holding r) = subst (λ zs. Has zs (x.place, holding r)) (sym (held-one x.place l x.needs r m.2.3)) (Has-right (held_at x.place (take l x.needs)) ((x.place, holding r) ∷ []) (x.place, holding r) (inl refl)) in
+      let own : Has (facts a) (x.place, holding r) = subst (λ zs. Has zs (x.place, holding r)) (sym (held-next x.place l x.needs r m.2.3)) (Has-right (held_at x.place (take l x.needs)) ((x.place, holding r) ∷ []) (x.place, holding r) (inl refl)) in
       let there : Has (entries s.batches) ((b.number, x.place), holding r) = of-entry s.batches b x.place (holding r) i (act-fact b.rest a (x.place, holding r) j own) in
       (k.held r.resource).2 (record { act = (n, p); units = r.units })
       (holders-Has r.resource (entries s.batches) (record { act = (n, p); units = r.units })
@@ -300,7 +288,7 @@ module _ (d : Setup) (rank : Ranking) (outs : List Out) (s : Plant) (sd : IsStan
       let t = is-for x l r to j m.2.3 m.2.4 in
       let free : Nowhere to (acts b.rest) = awaited-nowhere b.recipe.procedure b.rest sound.cleared.placed here.stands to t.awaited in
       let becomes : Becomes a released (take l x.needs) (also (holding r)) nothing
-      = record { was = held-one x.place l x.needs r m.2.3; is = freed-facts x l ∙ sym (append-nil (held_at x.place (take l x.needs))) } in
+      = record { was = held-next x.place l x.needs r m.2.3; is = freed-facts x l ∙ sym (append-nil (held_at x.place (take l x.needs))) } in
       let changed : IsChange b a (λ (z : Batch). record z { rest = changed_at (place_of a) released z.rest }) released = record { number = refl; recipe = refl; changed = refl; early = refl } in (
         nowhere-reached b.rest to free,
         none-any to (places b.in_advance)

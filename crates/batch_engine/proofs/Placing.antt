@@ -11,9 +11,6 @@ use Rattle.batch_chart.specs.NodesOf.{nodes_of, place_at, step_at, step_of}
 use Rattle.batch_recipe.specs.Nodes.{node_count}
 use Rattle.batch_recipe.proofs.Order.{counted_nodes}
 
-AllStand : List Node → Type 0
-AllStand ns = AllByRecursion (λ (n : Node). StandsAt n.place n.here) ns
-
 all-append : (xs ys : List Node) → AllByRecursion (λ (n : Node). StandsAt n.place n.here) xs → AllByRecursion (λ (n : Node). StandsAt n.place n.here) ys → AllByRecursion (λ (n : Node). StandsAt n.place n.here) (xs ++ ys)
 all-append [] ys h k = k
 all-append (x ∷ xs) ys h k = (h.0, all-append xs ys h.1 k)

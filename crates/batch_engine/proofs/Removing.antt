@@ -10,20 +10,21 @@ use Rattle.batch_matrix.specs.contracts.state.State.{the_type}
 use Rattle.batch_matrix.specs.Matrix.{same_state}
 use Rattle.batch_recipe.specs.Conditions.{Name}
 use Rattle.batch_recipe.specs.Tree.{Place}
-use Rattle.batch_model.specs.Lists.{Has, Each}
+use Rattle.batch_model.specs.Lists.{Has}
 use Rattle.batch_model.specs.Plant as Model
-use Rattle.batch_model.specs.Plant.{BatchAct, Share, Plant, batch_at, holders}
+use Rattle.batch_model.specs.Plant.{BatchAct, Share, Plant, batch_at}
 use Rattle.batch_model.specs.Moves.{Move, next}
 use Rattle.batch_model.specs.Events as Events
 use Rattle.batch_model.specs.Events.{removed, refused, moves_pending, unknown_batch, not_idle, removing, without_batch, judged, react, Answer}
 use Rattle.batch_model.specs.Runs.{Reacts}
 use Rattle.batch_model.specs.Standing.{AreNumbered}
 use Rattle.batch_machine.proofs.Batches.{one_batch}
-use Rattle.batch_laws.proofs.Entries.{IsOnce, Has-holders}
+use Rattle.batch_laws.proofs.Entries.{IsOnce, Has-holders, nat_differs, nat_self}
 use Rattle.batch_laws.proofs.Facts.{Fact, holding, awaiting, batch_facts, early_facts, facts, entries}
 use Rattle.batch_laws.proofs.Batches.{entry-of}
 use Rattle.batch_laws.proofs.Invariant.{IsFitting, standing-of}
 use Rattle.batch_laws.proofs.Passing.{early-none, is_under_way}
+use Rattle.batch_laws.proofs.Members.{map-Has}
 use Rattle.batch_verify.specs.ClearedSet.{ClearedSet}
 use Rattle.batch_arbiter.specs.Allocation.{Claim, shares_of, line_of}
 use Rattle.batch_chart.specs.NodesOf.{needs_in, place_at}
@@ -33,28 +34,9 @@ use Rattle.batch_engine.specs.Kept.{IsRunningBatch, IsKept, needs_of_all}
 use Rattle.batch_engine.proofs.Told.{safe, standing}
 use Rattle.batch_engine.proofs.BatchPlaces.{chosen-false, later-number, Has-batch_of}
 use Rattle.batch_engine.proofs.Finding.{Has-get}
-use Rattle.batch_engine.proofs.Making.{fun_ext}
-use Rattle.batch_engine.proofs.Creating.{Has-acts}
+use Rattle.batch_engine.proofs.Making.{fun_ext, test-other, test-other'}
 use Rattle.batch_engine.proofs.Reacting.{with, event-kept}
-
-test-self : (n : ℕ) → nat_eq n n ≡ true
-test-self n = grind arith
-
-test-less : (m n : ℕ) → m < n → nat_eq m n ≡ false
-test-less m n l = grind arith
-
-test-more : (m n : ℕ) → n < m → nat_eq m n ≡ false
-test-more m n l = grind arith
-
-test-other : (m n : ℕ) → (m ≡ n → ⊥) → nat_eq m n ≡ false
-test-other m n d = go (nat_eq m n) refl
-  where
-    same : (i j : ℕ) → nat_eq i j ≡ true → i ≡ j
-    same i j e = grind arith
-
-    go : (b : Bool) → nat_eq m n ≡ b → b ≡ false
-    go true e = absurd (d (same m n e))
-    go false e = refl
+use Rattle.batch_engine.proofs.Filing.{each-remove}
 
 -- the machine's answer to the removal of an idle batch
 pub react-remove : (v : EngineView) (n : ℕ) (d : Model.Batch) → next (setup v.cleared) (plant_of v) ≡ None → batch_at (plant_of v) n ≡ Some d → d.state ≡ Idle
@@ -77,7 +59,7 @@ module _ (c : ClearedSet) where
   later-stay n [] h = refl
   later-stay n (x ∷ bs) h =
       ap (λ zs. batch_of c x ∷ zs) (later-stay n bs (λ d k. h d (inr k)))
-      ∙ sym (kept-cond (not (nat_eq x.number n)) (batch_of c x) (filter (λ (b : Model.Batch). not (nat_eq b.number n)) (map (batch_of c) bs)) (ap not (test-more x.number n (h x (inl refl)))))
+      ∙ sym (kept-cond (not (nat_eq x.number n)) (batch_of c x) (filter (λ (b : Model.Batch). not (nat_eq b.number n)) (map (batch_of c) bs)) (ap not (test-other' x.number n (h x (inl refl)))))
 
   pub batches-less : (next : ℕ) (bs : List Batch) (i : ℕ) (b : Batch) → AreNumbered next (map (batch_of c) bs) → slice_get bs i ≡ Some b
       → map (batch_of c) (remove bs i) ≡ filter (λ (d : Model.Batch). not (nat_eq d.number b.number)) (map (batch_of c) bs)
@@ -86,17 +68,17 @@ module _ (c : ClearedSet) where
       let g : x ≡ b = cc in
       later-stay b.number bs (λ d m. subst (λ (z : Batch). z.number < d.number) g (later-number c next x bs d k m))
       ∙ sym (gone-cond (not (nat_eq x.number b.number)) (batch_of c x) (filter (λ (d : Model.Batch). not (nat_eq d.number b.number)) (map (batch_of c) bs))
-      (ap not (subst (λ (z : Batch). nat_eq x.number z.number ≡ true) g (test-self x.number))))
+      (ap not (subst (λ (z : Batch). nat_eq x.number z.number ≡ true) g (nat_self x.number))))
   batches-less next (x ∷ bs) (suc i) b k e =
       let above : x.number < b.number = later-number c next x bs b k (Has-get bs i b e) in
       ap (λ zs. batch_of c x ∷ zs) (batches-less next bs i b k.2 e)
-      ∙ sym (kept-cond (not (nat_eq x.number b.number)) (batch_of c x) (filter (λ (d : Model.Batch). not (nat_eq d.number b.number)) (map (batch_of c) bs)) (ap not (test-less x.number b.number above)))
+      ∙ sym (kept-cond (not (nat_eq x.number b.number)) (batch_of c x) (filter (λ (d : Model.Batch). not (nat_eq d.number b.number)) (map (batch_of c) bs)) (ap not (test-other x.number b.number above)))
 
   place-less : (bs : List Batch) (i : ℕ) (b : Batch) → slice_get bs i ≡ Some b → (n j : ℕ) → (n ≡ b.number → ⊥) → place_in c (remove bs i) n j ≡ place_in c bs n j
   place-less [] i b e n j d = absurd cc
   place-less (x ∷ bs) zero b e n j d =
       let g : x ≡ b = cc in
-      sym (chosen-false (nat_eq x.number n) _ _ (test-other x.number n (λ q. d (sym q ∙ ap (λ (z : Batch). z.number) g))))
+      sym (chosen-false (nat_eq x.number n) _ _ (nat_differs x.number n (λ q. d (sym q ∙ ap (λ (z : Batch). z.number) g))))
   place-less (x ∷ bs) (suc i) b e n j d = ap (λ r. let z : Place = elim (nat_eq x.number n) [ true ↦ place_at (tree_of c x) j | false ↦ r ] in z) (place-less bs i b e n j d)
 
   pub acts-less : (bs : List Batch) (i : ℕ) (b : Batch) → slice_get bs i ≡ Some b → (xs : List Claim) → ((x : Claim) → Has xs x → x.batch ≡ b.number → ⊥)
@@ -105,12 +87,6 @@ module _ (c : ClearedSet) where
   acts-less bs i b e (x ∷ xs) h =
       ap₂ (λ y ys. y ∷ ys) (ap (λ (z : Place). let y : Share = record { act = (x.batch, z); units = x.units } in y) (place-less bs i b e x.batch x.node (h x (inl refl))))
       (acts-less bs i b e xs (λ y k. h y (inr k)))
-
-Each-remove : {X : Type 0} (P : X → Type 0) (xs : List X) (i : ℕ) → Each P xs → Each P (remove xs i)
-Each-remove P [] zero h = tt
-Each-remove P [] (suc i) h = tt
-Each-remove P (x ∷ xs) zero h = h.1
-Each-remove P (x ∷ xs) (suc i) h = (h.0, Each-remove P xs i h.1)
 
 needs-less : (c : ClearedSet) (bs : List Batch) (i : ℕ) → needs_of_all c (remove bs i) ≤ needs_of_all c bs
 needs-less c [] zero = omega arith
@@ -141,14 +117,14 @@ module _ (v : EngineView) (k : IsKept v) (i : ℕ) (b : Batch) (at : slice_get v
   no-waiter name q e x h s =
       no-entry (act_of v.cleared v.batches x) (awaiting (record { resource = name; units = x.units })) s
       ((safe v k).asked name (share_of v.cleared v.batches x)
-      (subst (λ (xs : List Share). Has xs (share_of v.cleared v.batches x)) (sym (ap (line_at v) e)) (Has-acts (share_of v.cleared v.batches) (line_of v.allocation q) x h)))
+      (subst (λ (xs : List Share). Has xs (share_of v.cleared v.batches x)) (sym (ap (line_at v) e)) (map-Has (share_of v.cleared v.batches) (line_of v.allocation q) x h)))
 
   no-holder : (name : Name) (q : ℕ) → number_of v.cleared name ≡ Some q → (x : Claim) → Has (shares_of v.allocation q) x → x.batch ≡ b.number → ⊥
   no-holder name q e x h s =
       no-entry (act_of v.cleared v.batches x) (holding (record { resource = name; units = x.units })) s
       (Has-holders name (entries (plant_of v).batches) (share_of v.cleared v.batches x)
       (((safe v k).held name).1 (share_of v.cleared v.batches x)
-      (subst (λ (xs : List Share). Has xs (share_of v.cleared v.batches x)) (k.tracked.shares q name e) (Has-acts (share_of v.cleared v.batches) (shares_of v.allocation q) x h))))
+      (subst (λ (xs : List Share). Has xs (share_of v.cleared v.batches x)) (k.tracked.shares q name e) (map-Has (share_of v.cleared v.batches) (shares_of v.allocation q) x h))))
 
   lines-less : (name : Name) (q : ℕ) → number_of v.cleared name ≡ Some q → acts_of v.cleared (remove v.batches i) (line_of v.allocation q) ≡ acts_of v.cleared v.batches (line_of v.allocation q)
   lines-less name q e = acts-less v.cleared v.batches i b at (line_of v.allocation q) (no-waiter name q e)
@@ -172,7 +148,7 @@ module _ (v : EngineView) (k : IsKept v) (i : ℕ) (b : Batch) (at : slice_get v
     remove-kept =
         event-kept v k (remove v.batches i) v.next_number v.allocation (Events.remove n) (removed b.number) remove-reacts
         (λ name q e. acts-less v.cleared v.batches i b at (shares_of v.allocation q) (no-holder name q e))
-        (Each-remove (IsRunningBatch v.cleared) v.batches i k.batches) k.cell
+        (each-remove (IsRunningBatch v.cleared) v.batches i k.batches) k.cell
         (λ name q e. subst IsOnce (sym (lines-less name q e)) (k.once name q e))
         (omega (arith, k.room, needs-less v.cleared v.batches i))
 

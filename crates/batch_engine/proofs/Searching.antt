@@ -13,13 +13,7 @@ use Rattle.std.proofs.lemmas.List.Sorted.{IsNonDecreasingBy-from_default}
 use Rattle.batch_engine.specs.declared.batches.Entry.{Entry}
 use Rattle.batch_engine.specs.Batches.{AreRising, entry_number}
 use Rattle.batch_engine.proofs.Filing.{numbers-rise}
-
-differs : (m n : ℕ) → (m ≡ n → ⊥) → nat_eq m n ≡ false
-differs m n d = go (nat_eq m n) refl
-  where
-    go : (t : Bool) → nat_eq m n ≡ t → t ≡ false
-    go true e = absurd (d (grind arith))
-    go false e = refl
+use Rattle.batch_laws.proofs.Entries.{nat_differs}
 
 first-len : {X : Type 0} (p : X → Bool) (xs : List X) (i : ℕ) (d : X) → i < length xs → p (get_or xs i d) ≡ true → ((k : ℕ) → k < i → p (get_or xs k d) ≡ false) → position_or_len p xs ≡ i
 first-len p [] i d l h b = absurd (omega arith)
@@ -63,14 +57,14 @@ module _ (es : List Entry) (rising : AreRising es) (n : ℕ) where
   found-at i within here =
       sym (position-map (λ m. nat_eq m n) entry_number es
       ∙ first-found (λ (e : Entry). nat_eq e.number n) es i no_entry within (grind (arith, here))
-      (λ k lt. differs _ n (λ same. omega (arith, numbers-rise es k i no_entry rising lt within, here, same))))
+      (λ k lt. nat_differs _ n (λ same. omega (arith, numbers-rise es k i no_entry rising lt within, here, same))))
 
   pub searched : (r : Result ℕ ℕ) → IsSearchInRange r (length es) → IsBinarySearchResult (λ (e : Entry). nat_cmp e.number n) es r
       → result_ok r ≡ position (λ m. nat_eq m n) (map entry_number es)
   searched (Ok i) within equal = found-at i within (ranked _ n _ (sym (equal no_entry)))
   searched (Err i) within parted =
       sym (position-map (λ m. nat_eq m n) entry_number es
-      ∙ none-found (λ (e : Entry). nat_eq e.number n) es no_entry (λ k lt. differs _ n (λ same. elim (cases_lt k i) [
+      ∙ none-found (λ (e : Entry). nat_eq e.number n) es no_entry (λ k lt. nat_differs _ n (λ same. elim (cases_lt k i) [
         | inl below ↦ let less : (get_or es k no_entry).number < n = ranked _ n _ (sym ((parted comparisons-rise).0 k no_entry (omega arith) below)) in omega arith
         | inr above ↦ let more : n < (get_or es k no_entry).number = ranked _ n _ (sym ((parted comparisons-rise).1 k no_entry above lt)) in omega arith
       ])))

@@ -26,7 +26,6 @@ use Rattle.batch_engine.specs.View.{EngineView, batch_of, bound_to, plant_of, se
 use Rattle.batch_engine.specs.Kept.{IsCounted, IsKept}
 use Rattle.batch_engine.specs.Orders.{IsOrdered}
 use Rattle.batch_engine.specs.Steps.{IsMover, IsNeedAt, IsNext, IsOwnStep, Makes}
-use Rattle.batch_engine.proofs.Answering.{same-at}
 use Rattle.batch_engine.proofs.BatchPlaces.{made_by}
 use Rattle.batch_engine.proofs.Filing.{own-numbers-set}
 use Rattle.batch_engine.proofs.Finding.{batch-runs, chart-here, got-batch, got-chart, in-charts, runs-here}
@@ -37,6 +36,7 @@ use Rattle.batch_engine.proofs.Room.{needs-set}
 use Rattle.batch_engine.proofs.Seeking.{found-at}
 use Rattle.batch_engine.proofs.Stepping.{changed}
 use Rattle.batch_engine.proofs.Telling.{tree-is}
+use Rattle.batch_recipe.proofs.Setting.{same-at}
 
 -- the batch at an index, and what is kept of the engine
 pub record IsRead (v : EngineView) (i : ℕ) (b : Batch) : Type 0 where
@@ -53,9 +53,6 @@ read-own e k at = record { kept = subst IsKept e k; at = at }
 -- where it is known that a batch stands
 pub read-there : {v w : EngineView} {i : ℕ} {b d : Batch} → w ≡ v → IsKept w → slice_get v.batches i ≡ Some d → b ≡ get_or w.batches i b → IsRead v i b
 read-there {v} {w} {i} {b} {d} e k there h = read-at e k (slice_get_within v.batches i d there) h
-
-pub batch-within : {v w : EngineView} {i : ℕ} {b : Batch} → w ≡ v → slice_get v.batches i ≡ Some b → i < length w.batches
-batch-within {v} {w} {i} {b} e at = subst (λ (z : EngineView). i < length z.batches) (sym e) (slice_get_within v.batches i b at)
 
 pub chart-within : {v w : EngineView} {i : ℕ} {b : Batch} → w ≡ v → IsRead v i b → b.recipe < length w.cleared.recipes
 chart-within {v} {w} {i} {b} e r = subst (λ (z : EngineView). b.recipe < length z.cleared.recipes) (sym e) (in-charts v r.kept i b r.at)

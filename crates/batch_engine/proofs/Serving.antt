@@ -26,13 +26,7 @@ units-mapped act (x ∷ xs) =
 abbrev serves : ℕ → ℕ → ℕ → List Share → BatchAct → Bool
 serves held units capacity line a = nat_le (held + units) capacity && elim line [ [] ↦ false | x ∷ xs ↦ is_same_act x.act a ]
 
-IsFor : ℕ → ℕ → Option Claim → Type 0
-IsFor n node o = option_map batch_node o ≡ Some (n, node)
-
 module _ (act : Claim → BatchAct) where
-  abbrev share : Claim → Share
-  share x = record { act = act x; units = x.units }
-
   -- the first claim is for the act, and its units are free
   pub serves-next : (capacity units : ℕ) (shares line : List Claim) (n node : ℕ) (a : BatchAct)
       → ((x : Claim) → batch_node x ≡ (n, node) → act x ≡ a) → ((x : Claim) → Has line x → batch_node x ≡ (n, node) → x.units ≡ units)

@@ -9,8 +9,8 @@ use Rattle.batch_engine.specs.Kept.{IsKept}
 use Rattle.batch_engine.specs.Steps.{AreUnserved, IsServedNode}
 use Rattle.batch_engine.specs.View.{EngineView, tree_of}
 use Rattle.batch_engine.proofs.Finding.{asks_here, known-resource, served_here, serves-first}
-use Rattle.batch_engine.proofs.Nodes.{within-or_past}
 use Rattle.batch_engine.proofs.Unmarked.{served-named}
+use Rattle.batch_signs.proofs.Bits.{within-or_past}
 
 module _ (v : EngineView) (k : IsKept v) (i : ℕ) (b : Batch) (at : slice_get v.batches i ≡ Some b) where
   -- whom the plant serves the arbiter serves of some resource

@@ -16,7 +16,7 @@ use Rattle.batch_arbiter.specs.Allocation.{Allocation, shares_of, line_of}
 use Rattle.batch_chart.specs.Charts.{IsRunningOf}
 use Rattle.batch_engine.specs.declared.batch.Batch.{Batch}
 use Rattle.batch_engine.specs.View as View
-use Rattle.batch_engine.specs.View.{EngineView, setup, tree_at, act_of, acts_of, names_of, number_of, line_in, line_at, plant_of, tree_of}
+use Rattle.batch_engine.specs.View.{EngineView, setup, tree_at, acts_of, number_of, line_in, line_at, plant_of, tree_of}
 use Rattle.batch_engine.specs.Kept.{AreUnits, IsTracked, IsOfCell, IsRunningBatch, HasRoom, IsKept}
 use Rattle.batch_engine.specs.Steps.{IsNext}
 use Rattle.batch_engine.proofs.BatchPlaces.{made_by}

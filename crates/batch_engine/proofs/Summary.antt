@@ -5,8 +5,8 @@ use Rattle.std.specs.Int.{bit_at}
 use Rattle.std.proofs.lemmas.Nat.Bits.{bit_at-zero}
 use Rattle.std.proofs.lemmas.List.{get_or-set_same, get_or-set_other}
 use Rattle.std.proofs.lemmas.Nat.{div-add-mod', mod_below, div-mul-add, mod-mul-add}
-use Rattle.batch_signs.specs.Bits.{with_one, with_zero, IsLowestFrom}
-use Rattle.batch_signs.proofs.Bits.{nat-same, differs, within-or_past, one-not_zero, with-one_other, with-zero_other, no-bits}
+use Rattle.batch_signs.specs.Bits.{with_one, IsLowestFrom}
+use Rattle.batch_signs.proofs.Bits.{nat-same, differs, within-or_past, one-not_zero, with-one_other, no-bits}
 use Rattle.batch_engine.specs.Marks.{mark_at, IsNextMark, IsSummary}
 
 module _ (words : List ℕ) (summary : ℕ) (h : IsSummary words summary) (at word : ℕ) (l : at < length words) where
@@ -32,23 +32,6 @@ module _ (words : List ℕ) (summary : ℕ) (h : IsSummary words summary) (at wo
       has : (k : ℕ) → k < 64 → bit_at new k ≡ 1 → (t : Bool) → nat_eq k at ≡ t → 0 < slice_index (slice_set words at word) k
       has k q e true f = subst (λ z. 0 < z) (sym (word-same k f)) some
       has k q e false f = subst (λ z. 0 < z) (sym (word-other k f)) (h.some k q (sym (bits k ∙ with-one_other at k (bit_at summary) f) ∙ e))
-
-  -- a word that is 0 has none
-  pub summary-none : (new : ℕ) → ((k : ℕ) → bit_at new k ≡ with_zero at (bit_at summary) k) → word ≡ 0 → IsSummary (slice_set words at word) new
-  summary-none new bits none =
-      record {
-        count = Rattle.std.proofs.lemmas.List.length-set words at word ∙ h.count;
-        none = λ k q e. zero k q e (nat_eq k at) refl;
-        some = λ k q e. has k q e (nat_eq k at) refl;
-      }
-    where
-      zero : (k : ℕ) → k < 64 → bit_at new k ≡ 0 → (t : Bool) → nat_eq k at ≡ t → slice_index (slice_set words at word) k ≡ 0
-      zero k q e true f = word-same k f ∙ none
-      zero k q e false f = word-other k f ∙ h.none k q (sym (bits k ∙ with-zero_other at k (bit_at summary) f) ∙ e)
-
-      has : (k : ℕ) → k < 64 → bit_at new k ≡ 1 → (t : Bool) → nat_eq k at ≡ t → 0 < slice_index (slice_set words at word) k
-      has k q e true f = absurd (one-not_zero (bit_at new k) e (bits k ∙ ap (λ (t : Bool). let r : ℕ = elim t [ true ↦ 0 | false ↦ bit_at summary k ] in r) f))
-      has k q e false f = subst (λ z. 0 < z) (sym (word-other k f)) (h.some k q (sym (bits k ∙ with-zero_other at k (bit_at summary) f) ∙ e))
 
   -- a word that stays other than 0 keeps its bit
   pub summary-kept : 0 < slice_index words at → 0 < word → IsSummary (slice_set words at word) summary

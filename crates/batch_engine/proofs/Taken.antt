@@ -19,10 +19,10 @@ use Rattle.batch_set.specs.declared.linked.Source.TheVariants.{Resource, Role, U
 use Rattle.batch_engine.specs.Kept.{AreUnits}
 use Rattle.batch_engine.specs.Names.{resource_name, roles_at}
 use Rattle.batch_engine.specs.View.{bound_to, number_of}
-use Rattle.batch_engine.proofs.Finding.{Each-at}
 use Rattle.batch_engine.proofs.Roles.{bound-at, names-differ}
 use Rattle.batch_engine.proofs.RoomForAsk.{number-at}
 use Rattle.batch_engine.proofs.Telling.{roles-read}
+use Rattle.batch_engine.proofs.Filing.{each-at}
 
 pub name-there : (names : List Name) (q : ℕ) → q < length names → slice_get names q ≡ Some (unwrap_or (slice_get names q) [])
 name-there [] q l = absurd (omega arith)
@@ -75,7 +75,7 @@ module _ (c : ClearedSet) (recipe : ℕ) (r : Recipe) (at : slice_get c.recipes 
       ∙ get_or-map (resource_name c) units role 0 [] (omega (arith, l, few-roles, length-map units (resource_name c)))
 
   pub unit-within : (role : ℕ) → role < length (roles_at c recipe) → get_or units role 0 < length (units_of c.cell)
-  unit-within role l = Each-at (λ u. u < length (units_of c.cell)) units role 0 own.within (omega (arith, l, few-roles, length-map units (resource_name c)))
+  unit-within role l = each-at (λ u. u < length (units_of c.cell)) units role 0 own.within (omega (arith, l, few-roles, length-map units (resource_name c)))
 
   -- its number, among the resources and among the units
   pub role-numbers : (role : ℕ) → role < length (roles_at c recipe)

@@ -21,6 +21,7 @@ use Rattle.batch_model.specs.Standing.{AreNumbered}
 use Rattle.batch_machine.proofs.Leading.{Leads-move, Leads-reply}
 use Rattle.batch_laws.specs.Telling.{IsTold}
 use Rattle.batch_laws.proofs.Telling.{tells_the_plant}
+use Rattle.batch_laws.proofs.Entries.{nat_differs}
 use Rattle.batch_verify.specs.ClearedSet.{ClearedSet}
 use Rattle.batch_arbiter.specs.Allocation.{next_grant, batch_node, resource_count}
 use Rattle.batch_chart.specs.Seen.{move_of}
@@ -42,11 +43,9 @@ use Rattle.batch_engine.specs.Surface.{reply_of}
 use Rattle.batch_engine.specs.View.{EngineView, setup, batch_of, line_at, names_of, number_of, plant_of, tree_of}
 use Rattle.batch_engine.proofs.Made.{of-batch, same-next}
 use Rattle.batch_engine.proofs.BatchPlaces.{chosen-false, later-number, Has-batch_of}
-use Rattle.batch_engine.proofs.Cells.{length-capacities}
 use Rattle.batch_engine.proofs.Finding.{Has-get, batch-runs, known-resource, serves-first, tree-placed}
 use Rattle.batch_engine.proofs.Frames.{ServesBefore, first_in, lines-alone, serves, settled-none, served-before}
 use Rattle.batch_engine.proofs.Granting.{Granted, asks-node, served-node}
-use Rattle.batch_engine.proofs.Nodes.{within-or_past}
 use Rattle.batch_engine.proofs.Others.{batches-are-few, others-none}
 use Rattle.batch_engine.proofs.Noted.{next-even}
 use Rattle.batch_engine.proofs.Positions.{NonePasses-position}
@@ -54,6 +53,8 @@ use Rattle.batch_engine.proofs.RoomForAsk.{number-at}
 use Rattle.batch_engine.proofs.Seeking.{found-at}
 use Rattle.batch_engine.proofs.Taken.{name-there}
 use Rattle.batch_engine.proofs.Told.{down, told, safe, standing}
+use Rattle.batch_arbiter.proofs.Cells.{length-capacities}
+use Rattle.batch_signs.proofs.Bits.{within-or_past}
 
 -- there are marks enough
 pub few : (v : EngineView) → IsKept v → length v.batches ≤ 4096
@@ -61,16 +62,6 @@ few v k =
     let limit : length (plant_of v).batches ≤ (setup v.cleared).batch_limit = batches-are-few (setup v.cleared) k.tracked.events k.tracked.outs (plant_of v) k.tracked.leads in
     let small : (setup v.cleared).batch_limit ≤ 4096 = omega arith in
     omega (arith, limit, small, length-map v.batches (batch_of v.cleared))
-
-pub untested : (m n : ℕ) → (m ≡ n → ⊥) → nat_eq m n ≡ false
-untested m n d = go (nat_eq m n) refl
-  where
-    same : (i j : ℕ) → nat_eq i j ≡ true → i ≡ j
-    same i j e = grind arith
-
-    go : (b : Bool) → nat_eq m n ≡ b → b ≡ false
-    go true e = absurd (d (same m n e))
-    go false e = refl
 
 tested : (m n : ℕ) → m ≡ n → nat_eq m n ≡ true
 tested m n e = grind arith
@@ -176,7 +167,7 @@ module _ (v w : EngineView) (k : IsKept v) (l : IsKept w) (m : Moves.Move) (next
       there =
           sym (slice_get-map (batch_of w.cleared) w.batches i) ∙ ap (λ (s : Plant). slice_get s.batches i) makes.plant
           ∙ slice_get-map f (plant_of v).batches i ∙ ap (option_map f) (slice_get-map (batch_of v.cleared) v.batches i ∙ ap (option_map (batch_of v.cleared)) at)
-          ∙ ap Some (chosen-false (nat_eq b.number (Moves.batch_of m)) (batch_after m (batch_of v.cleared b)) (batch_of v.cleared b) (untested b.number (Moves.batch_of m) other))
+          ∙ ap Some (chosen-false (nat_eq b.number (Moves.batch_of m)) (batch_after m (batch_of v.cleared b)) (batch_of v.cleared b) (nat_differs b.number (Moves.batch_of m) other))
 
       go : (o : Option Batch) → slice_get w.batches i ≡ o → (d : Batch) × (slice_get w.batches i ≡ Some d) × (batch_of w.cleared d ≡ batch_of v.cleared b)
       go None e = absurd (let g : ◌≡◌ {A = Option Model.Batch} None (Some (batch_of v.cleared b)) = ap (option_map (batch_of w.cleared)) (sym e) ∙ there in cc)

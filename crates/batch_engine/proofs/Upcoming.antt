@@ -1,11 +1,11 @@
 -- The next step of the engine is the next move of the plant.
-use Rattle.std.proofs.Common.{◌≡◌, ◌<◌, refl, sym, ◌∙◌, ap, subst, ℕ, zero, suc, List, [], ◌∷◌, ◌++◌, Option, Some, None, arith, length, map, Bool, true, false}
+use Rattle.std.proofs.Common.{◌≡◌, ◌<◌, refl, sym, ◌∙◌, ap, subst, ℕ, zero, suc, List, [], ◌∷◌, ◌++◌, Option, Some, None, arith, length, map}
 use Rattle.std.specs.Prelude.{slice_get}
 use Rattle.std.proofs.lemmas.List.{map-append}
 use Rattle.batch_model.specs.Lists.{Each}
 use Rattle.batch_model.specs.Plant as Model
 use Rattle.batch_model.specs.Moves as Moves
-use Rattle.batch_model.specs.Moves.{least, batch_moves, next, is_earlier}
+use Rattle.batch_model.specs.Moves.{least, batch_moves, next}
 use Rattle.batch_laws.proofs.Members.{Each-image}
 use Rattle.batch_chart.specs.OwnMoves.{grants, own_next}
 use Rattle.batch_chart.specs.Seen.{move_of}
@@ -19,6 +19,7 @@ use Rattle.batch_engine.specs.Steps.{IsStep, IsLeastAt, IsNext}
 use Rattle.batch_engine.proofs.Choosing.{next-first, next-none}
 use Rattle.batch_chart.proofs.Earliest.{own-first-elim}
 use Rattle.batch_engine.proofs.Told.{standing}
+use Rattle.batch_machine.proofs.Ordering.{none_least}
 
 pub step-map : (v : EngineView) (P Q : Moves.Move → Type 0) → ((m : Moves.Move) → P m → Q m) → (s : Step) → IsStep v P s → IsStep v Q s
 step-map v P Q f (Own i m) g = record { batch = g.batch; chart = g.chart; here = g.here; can = g.can; about = g.about; is = f (move_of (tree_of v.cleared g.batch) (batch_of v.cleared g.batch) m) g.is }
@@ -71,19 +72,6 @@ module _ (v : EngineView) (k : IsKept v) where
       (all-at (λ b. batch_moves (setup v.cleared) (plant_of v) (batch_of v.cleared b) ≡ []) v.batches
       (λ j b e. none-at j b e (h j (Rattle.std.proofs.lemmas.Option.slice_get_within v.batches j b e)))))
 
--- nothing is least in an empty list alone
-least-nothing : (ms : List Moves.Move) → least ms ≡ None → ms ≡ []
-least-nothing [] e = refl
-least-nothing (m ∷ ms) e = absurd (go (least ms) e)
-  where
-    some : (t : Bool) (l : Moves.Move) → ◌≡◌ {A = Option Moves.Move} (elim t [ true ↦ Some l | false ↦ Some m ]) None → ⊥
-    some true l f = cc
-    some false l f = cc
-
-    go : (o : Option Moves.Move) → ◌≡◌ {A = Option Moves.Move} (elim o [ None ↦ Some m | Some l ↦ elim (is_earlier l m) [ true ↦ Some l | false ↦ Some m ] ]) None → ⊥
-    go None f = cc
-    go (Some l) f = some (is_earlier l m) l f
-
 pub own-least : (v : EngineView) (i : ℕ) (b : Batch) (m : Moves.Move) → slice_get v.batches i ≡ Some b → own_next (batch_of v.cleared b) ≡ Some m → IsLeastAt v i m
 own-least v i b m at e =
     record {
@@ -109,7 +97,7 @@ no-move v i b at e f =
     record {
       batch = b;
       at = at;
-      none = least-nothing (batch_moves (setup v.cleared) (plant_of v) (batch_of v.cleared b))
+      none = none_least (batch_moves (setup v.cleared) (plant_of v) (batch_of v.cleared b))
           (own-first-elim (setup v.cleared) (plant_of v) (batch_of v.cleared b)
           ∙ ap (λ (o : Option Moves.Move). let r : Option Moves.Move = elim o [ Some l ↦ Some l | None ↦ least (grants (setup v.cleared) (plant_of v) (batch_of v.cleared b)) ] in r) e
           ∙ ap least f);

@@ -1,19 +1,12 @@
 -- The recovery block.
-use Rattle.std.proofs.Common.{◌≡◌, ◌++◌, ◌∷◌, ◌+◌, ◌<◌, ℕ, List, [], length, map, take, get_or, Some, codes, sym, ◌∙◌, ap, subst}
+use Rattle.std.proofs.Common.{◌≡◌, ◌++◌, ◌∷◌, ◌+◌, ◌<◌, ℕ, List, [], length, map, take, get_or, codes, sym, ◌∙◌, ap}
 use Rattle.std.proofs.lemmas.List.{map-append, take_more}
 use Rattle.batch_model.specs.Plant.{Setup, Plant}
-use Rattle.batch_wire.specs.WrittenTranscript.{WritesTranscript}
-use Rattle.batch_serve.specs.Replays.{ShowsNoWant}
 use Rattle.batch_status.specs.Blocks.{Stage}
 use Rattle.batch_status.specs.Listing.{IsTextOf}
 use Rattle.batch_status.specs.Reading.{LeadsTo}
-use Rattle.batch_keep.specs.Blocks.{AreBlocksOf, IsReplayed, IsBlockOf, block_text}
+use Rattle.batch_keep.specs.Blocks.{AreBlocksOf, IsReplayed, block_text}
 use Rattle.batch_keep.specs.Counts.{own_lines, sent_lines}
-
-pub is_replayed : (c : Setup) (old new : Plant) (lines : List (List ℕ)) (before now : List ℕ) → before ≡ [] → WritesTranscript c old lines new (Some before) (Some now) → ShowsNoWant now → IsReplayed c old lines new now
-is_replayed c old new lines before now none w shows =
-    let is : now ≡ w.said.text = w.appends ∙ ap (λ l. l ++ w.said.text) none in
-    record { said = w.said; transcript = w.transcript; leads = w.leads; shows = subst ShowsNoWant is shows; is = is }
 
 pub are_blocks : (c : Setup) (old new : Plant) (lines names : List (List ℕ)) (told block : List ℕ) (each : List (List ℕ)) (count : ℕ) (stage : Stage) (rows : List ℕ) → IsReplayed c old lines new told → LeadsTo told stage
     → IsTextOf stage.tale (codes "# ") rows → count ≡ length (sent_lines lines) → block ≡ block_text count rows

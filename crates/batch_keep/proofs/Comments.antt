@@ -19,6 +19,7 @@ use Rattle.batch_journal.specs.Groups.{taken, last_sum, at_rest}
 use Rattle.batch_journal.specs.Journals.{journal_format, closing_start, is_time, next_sum, header, groups_in, recovered, IsJournal}
 use Rattle.batch_journal.specs.Lines.{IsLine, AreLines, text_of, whole_lines}
 use Rattle.batch_keep.proofs.Telling.{lines_of_text, no_last}
+use Rattle.batch_serve.proofs.CleanLemmas.{strip_within_if}
 
 -- Comments
 
@@ -26,16 +27,12 @@ comment_if : (b : Bool) (line : List ℕ) → 1 ≤ length line → is_comment (
 comment_if true line some = let size : length (35 ∷ line) - 1 ≡ suc (length line - 1) = omega (arith, some) in ap (λ n. is_comment (take n (35 ∷ line))) size
 comment_if false line some = refl
 
-strip_least : (b : Bool) (line : List ℕ) → length (cond b (take (length line - 1) line) line) ≤ length line
-strip_least true line = omega (arith, length-take (length line - 1) line)
-strip_least false line = omega arith
-
 -- a short comment gives nothing
 pub comment : (line : List ℕ) → 1 ≤ length line → length line < 1024 → event_of_line (35 ∷ line) ≡ Ok None
 comment line some few =
     let b = get_or (35 ∷ line) (length (35 ∷ line) - 1) 0 == 13 in
     let text = strip_carriage_return (35 ∷ line) in
-    let short : nat_lt MAX_LINE_LEN (length text) ≡ false = le-ltb MAX_LINE_LEN (length text) (omega (arith, few, strip_least b (35 ∷ line))) in
+    let short : nat_lt MAX_LINE_LEN (length text) ≡ false = le-ltb MAX_LINE_LEN (length text) (omega (arith, few, strip_within_if b (35 ∷ line))) in
     ap (λ t. cond t (Err TooLong) (cond (is_comment text) (Ok None) (event_of_words (words text)))) short
     ∙ ap (λ t. cond t (Ok None) (event_of_words (words text))) (comment_if b line some)
 

@@ -88,11 +88,6 @@ header_size documents size =
     let all : length (header documents) ≡ 19 + (length documents + 1) = length-append (codes "# batchd journal 1 ") (documents ++ 10 ∷ []) ∙ ap (λ n. 19 + n) (length-append documents (10 ∷ [])) in
     omega (arith, all, size)
 
-pub long_enough : (documents text sum : List ℕ) → IsJournal documents text sum → length documents ≡ 64 → 84 ≤ length text
-long_enough documents text sum journal size =
-    let all : length text ≡ length (header documents) + length (groups_in documents text) = ap length journal.begins ∙ length-append (header documents) (groups_in documents text) in
-    omega (arith, all, header_size documents size)
-
 pub started_behind : (all : Bool) (name documents text sum : List ℕ) → IsJournal documents text sum → AreLines (whole_lines (groups_in documents text)) → length documents ≡ 64
     → Counted all name documents text all 0 (take (length text - 84) (drop 84 text))
 started_behind all name documents text sum journal are size =

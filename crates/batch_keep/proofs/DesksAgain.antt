@@ -1,16 +1,16 @@
 -- What several desks were told is told again.
-use Rattle.std.proofs.Common.{rules, ◌≡◌, ℕ, Bool, true, false, cond, ◌+◌, ◌<◌, ◌≤◌, List, [], ◌∷◌, ◌++◌, length, length-append, get_or, Option, Some, None, Ok, codes, refl, sym, ◌∙◌, ap, subst, append_assoc, arith}
+use Rattle.std.proofs.Common.{rules, ◌≡◌, ℕ, Bool, true, false, cond, ◌+◌, List, [], ◌∷◌, ◌++◌, length, length-append, get_or, Option, Some, None, Ok, codes, refl, sym, ◌∙◌, ap, subst, append_assoc, arith}
 use Rattle.batch_model.specs.Plant.{Setup, Plant}
 use Rattle.batch_wire.specs.EventLine.{event_of_line}
 use Rattle.batch_wire.specs.Transcript.{Exchange, Transcript, lines_of, silence, followed_by}
 use Rattle.batch_serve.proofs.Exchanges.{followed-assoc}
 use Rattle.batch_serve.proofs.Replays.{answers_once}
-use Rattle.batch_serve.specs.Replays.{BeginsText, NoWantIsWell, ShowsNoWant, WellServed}
+use Rattle.batch_serve.specs.Replays.{NoWantIsWell, ShowsNoWant, WellServed}
 use Rattle.batch_journal.specs.Journals.{recovered}
 use Rattle.batch_journal.specs.Lines.{IsLine, AreLines, text_of, whole_lines}
-use Rattle.batch_journal.specs.Readers.{IsWhole, LinesBegin, StartsText}
+use Rattle.batch_journal.specs.Readers.{LinesBegin, StartsText}
 use Rattle.batch_journal.specs.Recovery.{RecoveredAreLines, WholeLinesAreLines}
-use Rattle.batch_serve_desks.specs.Runs.{Run, from_text, is_same, runs_text}
+use Rattle.batch_serve_desks.specs.Runs.{Run, is_same, runs_text}
 use Rattle.batch_serve_desks.specs.Served.{AreServed, AreWhole, ShowNoWant, plain_text}
 use Rattle.batch_keep.specs.Desks.{AreShort, DesksAreToldAgain}
 use Rattle.batch_keep.proofs.Again.{lines_both, text_both}

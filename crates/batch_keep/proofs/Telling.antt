@@ -16,6 +16,7 @@ use Rattle.std.proofs.lemmas.Bool.{cases_lt}
 use Rattle.batch_journal.specs.Lines.{IsLine, AreLines, text_of, whole_lines as whole_texts}
 use Rattle.batch_wire.specs.Transcript.{Exchange, Transcript}
 use Rattle.batch_keep.specs.Told.{TellsLines}
+use Rattle.batch_serve.proofs.ServingLemmas.{begun}
 
 -- of a transcript of the first lines that were given a beginning was written
 abbrev TellsGiven : Setup → Plant → List ℕ → Option (List ℕ) → Option (List ℕ) → Type 0
@@ -33,15 +34,6 @@ at_end (Some ys) given all is end =
     let same : given ++ ys ≡ all = cc is in
     sym (append-nil given) ∙ ap (λ l. given ++ l) (sym end) ∙ same
 
-begins : (c : Setup) (old : Plant) (lines : List (List ℕ)) (new : Plant) (before after : Option (List ℕ)) → WritesTranscript c old lines new before after → BeginsTranscript c old lines before after
-begins c old lines new before after w = record {
-  said = w.said;
-  new = new;
-  transcript = w.transcript;
-  leads = w.leads;
-  begins = record { written = w.said.text; rest = []; splits = sym (append-nil w.said.text); appends = w.appends };
-}
-
 -- the clauses of serving
 pub record IsServedBy (c : Setup) (old new : Plant) (r : Result (Unit {0}) ServeFault) (unread left before after : Option (List ℕ)) : Type 0 where
   pub served : OnOk r (IfSome unread (λ input. WritesTranscript c old (lines_of input) new before after))
@@ -54,13 +46,13 @@ whole : (c : Setup) (old new : Plant) (all given : List ℕ) (left before after 
     → WritesWholeLines c old new (Some all) left before after → TellsGiven c old given before after
 whole c old new all given left before after is w =
     let same = given_is left given w.read all is w.consumes in
-    (length (lines_of w.read) - 1, subst (λ l. BeginsTranscript c old (take (length (lines_of w.read) - 1) (lines_of l)) before after) (sym same) (begins c old (whole_lines w.read) new before after w.writes))
+    (length (lines_of w.read) - 1, subst (λ l. BeginsTranscript c old (take (length (lines_of w.read) - 1) (lines_of l)) before after) (sym same) (begun c old (whole_lines w.read) new before after w.writes))
 
 tells : (c : Setup) (old new : Plant) (r : Result (Unit {0}) ServeFault) (all given : List ℕ) (left before after : Option (List ℕ)) → prepend_known given left ≡ Some all
     → IsServedBy c old new r (Some all) left before after → TellsGiven c old given before after
 tells c old new (Ok done) all given left before after is h =
     let same = at_end left given all is h.ended in
-    (length (lines_of all), subst (λ l. BeginsTranscript c old l before after) (sym (take_all (length (lines_of all)) (lines_of given) (omega (arith, ap (λ l. length (lines_of l)) same)) ∙ ap lines_of same)) (begins c old (lines_of all) new before after h.served))
+    (length (lines_of all), subst (λ l. BeginsTranscript c old l before after) (sym (take_all (length (lines_of all)) (lines_of given) (omega (arith, ap (λ l. length (lines_of l)) same)) ∙ ap lines_of same)) (begun c old (lines_of all) new before after h.served))
 tells c old new (Err faults.Read) all given left before after is h = whole c old new all given left before after is (h.read_fault refl)
 tells c old new (Err faults.TooManyReads) all given left before after is h = whole c old new all given left before after is (h.too_many_reads refl)
 tells c old new (Err faults.Write) all given left before after is h =

@@ -1,15 +1,15 @@
 -- No phase step of a tree stands at the place of one of its unit procedures.
-use Rattle.std.proofs.Common.{◌≡◌, refl, sym, ◌∙◌, ap, subst, ℕ, ◌+◌, arith, List, [], ◌∷◌, Some, inl, inr, ⊎_elim}
+use Rattle.std.proofs.Common.{◌≡◌, refl, sym, ◌∙◌, ap, subst, ℕ, ◌+◌, arith, [], ◌∷◌, Some, inl, inr, ⊎_elim}
 use Rattle.std.specs.Prelude.{⊤}
 use Rattle.batch_recipe.specs.Conditions.{Name}
 use Rattle.batch_recipe.specs.Following.{follower}
 use Rattle.batch_recipe.specs.Nodes.{child}
-use Rattle.batch_recipe.specs.Tree.{Place, Phase, Step, Task, runs, follows, Tree, act, skip, seq, par, sel, loop, Trees, no_trees, tree, Choices, otherwise, choice}
+use Rattle.batch_recipe.specs.Tree.{Place, Phase, Step, runs, follows, Tree, act, skip, seq, par, sel, loop, Trees, no_trees, tree, Choices, otherwise, choice}
 use Rattle.batch_model.specs.Lists.{Has}
 use Rattle.batch_model.specs.Placed.{IsPlaced, ArePlaced, IsChoicePlaced}
 use Rattle.batch_model.specs.Records.{IsAtOrAbove}
 use Rattle.batch_model.specs.Rest.{Rest, ready, asking, open_act, live, freeing, in_seq, in_par, in_loop, done, Rests, no_rests, rest, acts, acts_of_each}
-use Rattle.batch_model.specs.Standing.{IsRestOf, IsRestBelow, IsBranch, AreBranches, IsChosen}
+use Rattle.batch_model.specs.Standing.{IsRestOf, IsBranch, AreBranches, IsChosen}
 use Rattle.batch_model.proofs.Members.{Has-split}
 use Rattle.batch_laws.specs.Procedures.{HasLevels}
 use Rattle.batch_laws.proofs.Framing.{at_or_above}

@@ -10,10 +10,11 @@ use Rattle.batch_model.specs.Plant.{InAdvance, Batch, BatchAct, Share, Plant, he
 use Rattle.batch_laws.proofs.Ranking.{holding-performing, holding-awaiting}
 use Rattle.batch_laws.proofs.Facts.{Fact, awaiting, performing, Standing, held_at, awaited_at, holding, facts, facts_of_each, early_facts, batch_facts, Entry, entry, entries_of, entries, holder_of, holders_among, share}
 use Rattle.batch_model.proofs.Members.{Has-split, Has-right, Has-flat_map}
-use Rattle.batch_laws.proofs.Members.{Has-map, map-Has, flat_map-Has}
+use Rattle.batch_laws.proofs.Members.{Has-map, map-Has}
 use Rattle.batch_laws.proofs.Framing.{Frame, Frames, IsElsewhere, frame-after, regroup}
 use Rattle.batch_laws.proofs.Entries.{nat_same, nat_self, holders-append}
 use Rattle.batch_recipe.specs.declared.need.Need.{Need}
+use Rattle.batch_machine.proofs.Leaving.{flat_map-Has}
 
 -- The model's holders are those among the entries
 

@@ -46,7 +46,7 @@ filter-Has p [] x h e = absurd h
 filter-Has p (y ∷ xs) x (inl q) e = grind arith
 filter-Has p (y ∷ xs) x (inr h) e = grind (arith, filter-Has p xs x h e)
 
-length-filter_le : {X : Type 0} (p : X → Bool) (xs : List X) → length (filter p xs) ≤ length xs
+pub length-filter_le : {X : Type 0} (p : X → Bool) (xs : List X) → length (filter p xs) ≤ length xs
 length-filter_le p xs = omega (arith, length-filter p xs, count_by-le-length p xs)
 
 pub length-filter_lt : {X : Type 0} (p : X → Bool) (xs : List X) (x : X) → Has xs x → p x ≡ false → length (filter p xs) < length xs

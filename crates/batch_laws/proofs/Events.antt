@@ -1,5 +1,5 @@
 -- Each event keeps what is kept.
-use Rattle.std.proofs.Common.{◌≡◌, ◌⊎◌, ⊎_elim, refl, sym, ◌∙◌, ap, ap₂, subst, subst₂, ℕ, ◌<◌, ◌≤◌, arith, List, [], ◌∷◌, ◌++◌, Bool, true, false, cond, not, map, filter, find, Option, Some, None, inl, inr, nat_eq}
+use Rattle.std.proofs.Common.{◌≡◌, ◌⊎◌, ⊎_elim, refl, sym, ◌∙◌, ap, ap₂, subst, subst₂, ℕ, ◌<◌, ◌≤◌, arith, List, [], ◌∷◌, ◌++◌, Bool, true, false, cond, not, map, filter, Option, Some, inl, inr, nat_eq}
 use Rattle.batch_matrix.specs.declared.state.State.{State}
 use Rattle.batch_matrix.specs.declared.state.State.TheVariants.{Idle, Running, Pausing, Paused, Holding, Held, Restarting, Stopping, Stopped, Aborting, Aborted, Complete}
 use Rattle.batch_matrix.specs.declared.command.Command.{Command}
@@ -38,10 +38,6 @@ use Rattle.batch_recipe.specs.declared.need.Need.{Need}
 
 abbrev pub Answered : Setup → Ranking → List Out → Answer → Type 0
 Answered d rank outs a = IsKept d rank (outs ++ reply a.0 ∷ []) a.1
-
-pub find-Has : {X : Type 0} (p : X → Bool) (xs : List X) (x : X) → find p xs ≡ Some x → Has xs x × (p x ≡ true)
-find-Has p [] x e = absurd (let f : ◌≡◌ {A = Option _} None (Some x) = e in cc)
-find-Has p (y ∷ xs) x e = grind (arith, find-Has p xs x)
 
 -- a refusal changes nothing
 pub kept-refused : (d : Setup) (rank : Ranking) (outs : List Out) (s : Plant) (x : Refusal) → IsKept d rank outs s → IsKept d rank (outs ++ reply (refused x) ∷ []) s

@@ -28,6 +28,7 @@ use Rattle.batch_laws.proofs.Invariant.{IsFitting, IsSound, IsKept, fit-fewer, f
 use Rattle.batch_laws.proofs.Changing.{changed_plant, kept-after, Tail, nothing, also, tail_at, IsApart, stays, comes, others-stay, same-holders, agrees-released, agrees-granted, tail-no_holder, IsChange, change-sound, Becomes, apart, fewer-facts, back_again, not_awaiting, not_yet_awaiting, not_performing, Lacks}
 use Rattle.batch_model.specs.Standing.{IsAwaited, IsStandingBatch, IsStanding}
 use Rattle.batch_laws.proofs.Invariant.{standing-of, numbers-of}
+use Rattle.batch_laws.proofs.Units.{same_performing}
 use Rattle.batch_recipe.specs.declared.need.Need.{Need}
 
 entries-only : (n : ℕ) (g : Batch → Batch) (bs : List Batch) → ((c : Batch) → Has bs c → entries_of (only n g c) ≡ entries_of c) → entries (map (only n g) bs) ≡ entries bs
@@ -53,9 +54,6 @@ tail-awaited_performing n p r x a h = grind (arith, awaiting-performing)
 
 tail-awaited : (n : ℕ) (p : Place) (r q : Need) (a : BatchAct) → Has (map (entry n) (tail_at p (also (awaiting r)))) (a, awaiting q) → r ≡ q
 tail-awaited n p r q a h = grind (arith, same_awaiting)
-
-same_performing : (x y : Phase) → performing x ≡ performing y → x ≡ y
-same_performing x y e = cc
 
 tail-performing : (n : ℕ) (p : Place) (x y : Phase) (a : BatchAct) → Has (map (entry n) (tail_at p (also (performing x)))) (a, performing y)
     → ◌≡◌ {A = Active} (record { act = (n, p); phase = x }) (record { act = a; phase = y })

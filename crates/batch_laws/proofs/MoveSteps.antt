@@ -47,7 +47,7 @@ use Rattle.batch_recipe.specs.declared.need.Need.{Need}
 
 -- Lists of needs
 
-take-next : (k : ℕ) (xs : List Need) (r : Need) → slice_get xs k ≡ Some r → take (suc k) xs ≡ take k xs ++ r ∷ []
+pub take-next : (k : ℕ) (xs : List Need) (r : Need) → slice_get xs k ≡ Some r → take (suc k) xs ≡ take k xs ++ r ∷ []
 take-next k [] r e = absurd cc
 take-next zero (x ∷ xs) r e = (let q : x ≡ r = cc in ap (λ z. z ∷ []) q)
 take-next (suc k) (x ∷ xs) r e = ap (λ z. x ∷ z) (take-next k xs r e)
@@ -64,7 +64,7 @@ take-length (x ∷ xs) = ap (λ z. x ∷ z) (take-length xs)
 held-append : (p : Place) (xs ys : List Need) → held_at p (xs ++ ys) ≡ held_at p xs ++ held_at p ys
 held-append p xs ys = map-append (λ r. let z : Standing = (p, holding r) in z) xs ys
 
-held-next : (p : Place) (k : ℕ) (xs : List Need) (r : Need) → slice_get xs k ≡ Some r → held_at p (take (suc k) xs) ≡ held_at p (take k xs) ++ (p, holding r) ∷ []
+pub held-next : (p : Place) (k : ℕ) (xs : List Need) (r : Need) → slice_get xs k ≡ Some r → held_at p (take (suc k) xs) ≡ held_at p (take k xs) ++ (p, holding r) ∷ []
 held-next p k xs r e = ap (held_at p) (take-next k xs r e) ∙ held-append p (take k xs) (r ∷ [])
 
 pub freed-facts : (s : Step) (k : ℕ) → facts (freed s k) ≡ held_at s.place (take k s.needs)

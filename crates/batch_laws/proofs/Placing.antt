@@ -26,9 +26,6 @@ under_child p i q h = (h.0, sym (append_assoc p (i ∷ []) h.0) ∙ h.1)
 pub under : (p : Place) (i : ℕ) (q : Place) → IsUnderChild p i q → IsAtOrAbove p q
 under p i q h = (i ∷ h.0, h.1)
 
-pub here : (p : Place) → IsAtOrAbove p p
-here p = ([], append-nil p)
-
 pub is_at : (p q : Place) → q ≡ p → IsAtOrAbove p q
 is_at p q e = ([], append-nil p ∙ sym e)
 

@@ -9,11 +9,11 @@ use Rattle.batch_model.specs.Plant.{held_by, held_in, phase_states}
 use Rattle.batch_model.specs.Moves.{is_quiet, is_empty, is_stopping}
 use Rattle.batch_laws.proofs.Facts.{holding, awaiting, performing, Standing, held_at, awaited_at, facts, facts_of_each}
 use Rattle.batch_model.proofs.Members.{Has-split, Has-left, Has-right}
-use Rattle.batch_laws.proofs.Members.{flat_map-Has}
 use Rattle.batch_laws.proofs.Ranking.{held-holding, held-performing, awaited-holding, awaited-performing, lone-holding}
 use Rattle.batch_laws.proofs.Units.{lone-performing}
 use Rattle.batch_laws.proofs.Invariant.{IsFitting, NothingAwaited, no_members}
 use Rattle.batch_recipe.specs.declared.need.Need.{Need}
+use Rattle.batch_machine.proofs.Leaving.{flat_map-Has}
 
 abbrev pub LiveAct : List Rest → Phase → Type 0
 LiveAct as' x = (s : Step) × (t : State) × Has as' (live s x t)

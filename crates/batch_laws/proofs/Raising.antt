@@ -262,7 +262,7 @@ raised-places : (xs : List InAdvance) (r : Rest) → map place_of (acts (raised 
 raised-places [] r = refl
 raised-places (held ∷ xs) r = lifted-places held.place (raised xs r) ∙ raised-places xs r
 
-any-place : (xs : List Rest) (p : Place) → list_any (λ act. same_place (place_of act) p) xs ≡ list_any (λ q. same_place q p) (map place_of xs)
+pub any-place : (xs : List Rest) (p : Place) → list_any (λ act. same_place (place_of act) p) xs ≡ list_any (λ q. same_place q p) (map place_of xs)
 any-place [] p = refl
 any-place (x ∷ xs) p = ap (λ b. same_place (place_of x) p || b) (any-place xs p)
 

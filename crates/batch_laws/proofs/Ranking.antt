@@ -17,17 +17,6 @@ use Rattle.batch_laws.proofs.Placing.{IsUnderChild, IsUnderLater, under_child, f
 use Rattle.batch_recipe.specs.declared.need.Need.{Need}
 use Rattle.batch_recipe.specs.Needs.{resources_of}
 
--- a resource that the fact is about has a rank above low
-abbrev pub IsAbove : Ranking → ℕ → Fact → Type 0
-IsAbove rank low (holding r) = low < rank r.resource
-IsAbove rank low (awaiting r) = low < rank r.resource
-IsAbove rank low (performing x) = Unit {0}
-
-abbrev pub RankOfHeld : Ranking → ℕ → Fact → Type 0
-RankOfHeld rank high (holding r) = rank r.resource ≤ high
-RankOfHeld rank high (awaiting r) = ⊥
-RankOfHeld rank high (performing x) = ⊥
-
 pub rises-above : (rank : Ranking) (low : ℕ) (needs : List Need) (r : Need) → Rises rank low (resources_of needs) → Has needs r → low < rank r.resource
 rises-above rank low [] r h k = absurd k
 rises-above rank low (q ∷ needs) r h (inl e) = subst (λ x. low < rank x.resource) e h.0

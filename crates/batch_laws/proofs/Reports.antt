@@ -30,8 +30,9 @@ use Rattle.batch_laws.proofs.Invariant.{IsFitting, IsSound, IsKept, standing-of}
 use Rattle.batch_laws.proofs.Changing.{changed_plant, IsChange, change-sound}
 use Rattle.batch_laws.proofs.Keeping.{kept-quiet, kept-finished, act_frame, TellsState}
 use Rattle.batch_laws.proofs.MoveSteps.{freed-facts, take-length}
-use Rattle.batch_laws.proofs.Events.{Answered, find-Has, kept-refused, kept-created, ordering-step, removing-step}
+use Rattle.batch_laws.proofs.Events.{Answered, kept-refused, kept-created, ordering-step, removing-step}
 use Rattle.batch_laws.proofs.Moving.{tells-other, tells-own}
+use Rattle.batch_laws.proofs.Tops.{find-passes}
 use Rattle.std.proofs.lemmas.List.{append-nil}
 use Rattle.batch_model.specs.Standing.{IsAwaited, IsControl, IsStandingBatch, IsStanding}
 
@@ -243,17 +244,17 @@ module _ (d : Setup) (rank : Ranking) (cleared : AreClearedDown d rank) (outs : 
       go : (o : Option Master) → find (λ m. bytes_eq m.name name) d.recipes ≡ o
           → Answered d rank outs (elim o [ None ↦ (refused unknown_recipe, s) | Some m ↦ elim (is_full d s) [ true ↦ (refused full, s) | false ↦ binding s m size pairs ] ])
       go None q = kept-refused d rank outs s unknown_recipe k
-      go (Some m) q = room m ((find-Has (λ m. bytes_eq m.name name) d.recipes m q).0) (is_full d s)
+      go (Some m) q = room m ((find-passes (λ m. bytes_eq m.name name) d.recipes m q).0) (is_full d s)
   judged-step (order command n) = go (batch_at s n) refl
     where
       go : (o : Option Batch) → batch_at s n ≡ o → Answered d rank outs (elim o [ None ↦ (refused unknown_batch, s) | Some b ↦ ordering s command b ])
       go None q = kept-refused d rank outs s unknown_batch k
-      go (Some b) q = ordering-step d rank outs s sd k b ((find-Has (λ b. nat_eq b.number n) s.batches b q).0) command
+      go (Some b) q = ordering-step d rank outs s sd k b ((find-passes (λ b. nat_eq b.number n) s.batches b q).0) command
   judged-step (remove n) = go (batch_at s n) refl
     where
       go : (o : Option Batch) → batch_at s n ≡ o → Answered d rank outs (elim o [ None ↦ (refused unknown_batch, s) | Some b ↦ removing s b ])
       go None q = kept-refused d rank outs s unknown_batch k
-      go (Some b) q = removing-step d rank outs s sd k b ((find-Has (λ b. nat_eq b.number n) s.batches b q).0)
+      go (Some b) q = removing-step d rank outs s sd k b ((find-passes (λ b. nat_eq b.number n) s.batches b q).0)
   judged-step (report unit name word outputs) = go (live_phase s.batches unit name) refl
     where
       go : (o : Option LivePhase) → live_phase s.batches unit name ≡ o

@@ -44,7 +44,7 @@ batch-shares u (c ∷ bs) b h =
     h
 
 -- a share is no more than all shares together
-member-units : (xs : List Share) (a : Share) → Has xs a → a.units ≤ units_in xs
+pub member-units : (xs : List Share) (a : Share) → Has xs a → a.units ≤ units_in xs
 member-units [] a h = absurd h
 member-units (x ∷ xs) a (inl e) = let c : units_in (x ∷ xs) ≡ x.units + units_in xs = units-cons x xs in let q : x.units ≡ a.units = ap (λ z. z.units) e in omega arith
 member-units (x ∷ xs) a (inr k) = let c : units_in (x ∷ xs) ≡ x.units + units_in xs = units-cons x xs in let l : a.units ≤ units_in xs = member-units xs a k in omega arith

@@ -19,7 +19,7 @@ use Rattle.batch_laws.proofs.Ranking.{held-performing, awaited-performing}
 use Rattle.batch_recipe.specs.declared.need.Need.{Need}
 use Rattle.batch_recipe.specs.Needs.{one_unit}
 
-same_performing : (x y : Phase) → performing x ≡ performing y → x ≡ y
+pub same_performing : (x y : Phase) → performing x ≡ performing y → x ≡ y
 same_performing x y e = cc
 
 pub lone-performing : (p : Place) (y : Phase) (q : Place) (x : Phase) → Has {X = Standing} ((p, performing y) ∷ []) (q, performing x) → (p ≡ q) × (y ≡ x)

@@ -80,7 +80,7 @@ mutual
 
 -- Withdrawn asks
 
-withdrawn-done : (r : Rest) → is_done (withdrawn r) ≡ is_done r
+pub withdrawn-done : (r : Rest) → is_done (withdrawn r) ≡ is_done r
 withdrawn-done r = grind arith
 
 withdrawn_each-all_done : (rs : Rests) → all_done (withdrawn_each rs) ≡ all_done rs

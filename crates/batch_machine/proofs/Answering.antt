@@ -64,7 +64,7 @@ commanded-stands c command b k none = go (same_state (target command) Idle) refl
     go true e = anew-stands c b.number b.recipe b.size (with_outputs_zero b.recipe.outputs b.values) k.known
     go false e = in_state-stands c b (target command) (ends_asks command) (commanded-busy command e) k none
 
-commanded-number : (command : Command) (b : Batch) → (commanded command b).number ≡ b.number
+pub commanded-number : (command : Command) (b : Batch) → (commanded command b).number ≡ b.number
 commanded-number command b = grind arith
 
 reported-busy : (word : Report) (x : State) → is_resting x ≡ false → is_resting (batch_state_after word x) ≡ false

@@ -11,16 +11,17 @@ use Rattle.batch_model.specs.Runs.{goes_on, toil_left, state_moves_left, batch_w
 use Rattle.batch_model.specs.Standing.{HasPlacedTrees, IsStandingBatch, IsStanding}
 use Rattle.batch_model.specs.Placed.{Rises}
 use Rattle.batch_model.proofs.Members.{Each-Has, Has-flat_map, Has-filter_map}
-use Rattle.batch_machine.proofs.Ordering.{before-irrefl, least-IsLeast}
+use Rattle.batch_machine.proofs.Ordering.{least-IsLeast}
 use Rattle.batch_machine.proofs.Rising.{acts-rise}
 use Rattle.batch_machine.proofs.Work.{advance-toil}
 use Rattle.batch_machine.proofs.Changing.{changed_at-lower}
 use Rattle.batch_machine.proofs.Lowering.{IsMoveOf, act_move-is}
 use Rattle.batch_machine.proofs.Calming.{IsStateMove, state_move-is}
 use Rattle.batch_machine.proofs.Batches.{only, sum-falls}
+use Rattle.batch_recipe.proofs.Reaching.{not_before}
 
 not_itself : (p q : Place) → p ≡ q → is_before p q ≡ true → ⊥
-not_itself p q e h = grind (arith, before-irrefl p)
+not_itself p q e h = grind (arith, not_before p)
 
 -- at each place stands one act at most
 pub one_act : (xs : List Rest) (a b : Rest) → Rises xs → Has xs a → Has xs b → place_of a ≡ place_of b → a ≡ b

@@ -1,5 +1,5 @@
 -- What is held in advance is due until its chart is reached, and what is due has a move before it.
-use Rattle.std.proofs.Common.{◌≡◌, ◌⊎◌, refl, sym, ◌∙◌, ap, subst, ℕ, zero, suc, ◌+◌, ◌<◌, ◌≤◌, length, List, [], ◌∷◌, ◌++◌, Bool, true, false, Some, None, arith, inl, inr}
+use Rattle.std.proofs.Common.{◌≡◌, ◌⊎◌, refl, sym, ◌∙◌, ap, subst, ℕ, zero, suc, ◌+◌, ◌<◌, ◌≤◌, length, List, [], ◌∷◌, ◌++◌, Bool, true, false, Some, None, arith, inl, inr, append-nil}
 use Rattle.std.specs.Prelude.{Option, find, pred, option_map}
 use Rattle.std.proofs.lemmas.List.{append_assoc}
 use Rattle.batch_recipe.specs.Conditions.{Name, same_name, holds}
@@ -218,10 +218,6 @@ pub record Leaves (level : Level) (next : List Follower) (base : Place) (c : Tre
   pub within : k ≤ length s.needs
   pub follow : (f : Follower) → Has (following_below level next c below) f → Has (due level next r) f
 
-append-nothing : (p : Place) → p ++ [] ≡ p
-append-nothing [] = refl
-append-nothing (i ∷ p) = ap (λ q. i ∷ q) (append-nothing p)
-
 -- the same below a child with this number or a later one, of which `tree_at` gives the trees and `next_at` what follows them
 pub record LeavesBranch (level : Level) (tree_at : ℕ → Option Tree) (next_at : ℕ → List Follower) (base : Place) (i : ℕ) (coming : List Follower) (s : Step) (k : ℕ) : Type 0 where
   pub number : ℕ
@@ -278,7 +274,7 @@ module _ (s : Step) (k : ℕ) where
       let number : j ≡ k = cc in
       record {
         below = [];
-        place = ap (λ z. z.place) (sym step) ∙ ap (λ z. z.place) e ∙ at ∙ sym (append-nothing base);
+        place = ap (λ z. z.place) (sym step) ∙ ap (λ z. z.place) e ∙ at ∙ sym (append-nil base);
         some = subst (λ n. 0 < n) number some;
         within = subst (λ n. n ≤ length s.needs) number (subst (λ z. j ≤ length z.needs) step within);
         follow = λ f h. h;

@@ -22,7 +22,7 @@ flat_map-Has f [] x y i j = absurd i
 flat_map-Has f (z ∷ xs) x y (inl e) j = Has-left (f z) (flat_map f xs) y (subst (λ w. Has (f w) y) (sym e) j)
 flat_map-Has f (z ∷ xs) x y (inr i) j = Has-right (f z) (flat_map f xs) y (flat_map-Has f xs x y i j)
 
-filter_map-Has : {X Y : Type 0} (h : X → Option Y) (xs : List X) (x : X) (y : Y) → Has xs x → h x ≡ Some y → Has (filter_map h xs) y
+pub filter_map-Has : {X Y : Type 0} (h : X → Option Y) (xs : List X) (x : X) (y : Y) → Has xs x → h x ≡ Some y → Has (filter_map h xs) y
 filter_map-Has h [] x y m e = absurd m
 filter_map-Has {X = X} {Y = Y} h (z ∷ xs) x y (inl q) e = go (h z) (ap h q ∙ e)
   where

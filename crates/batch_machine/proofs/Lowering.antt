@@ -56,10 +56,10 @@ own c = grind arith
 sent-once : (x t : State) (c : Command) → passed_on x ≡ Some c → accepts t c ≡ true → (sends x (target c) ≡ 0) × (sends x t ≡ 1)
 sent-once x t c e a = grind (arith, own c)
 
-running-goes_on : (x : State) → is_running x ≡ true → goes_on x ≡ true
+pub running-goes_on : (x : State) → is_running x ≡ true → goes_on x ≡ true
 running-goes_on x e = grind arith
 
-stopping-goes_no_further : (x : State) (quiet : Bool) → (is_stopping x && quiet) ≡ true → goes_on x ≡ false
+pub stopping-goes_no_further : (x : State) (quiet : Bool) → (is_stopping x && quiet) ≡ true → goes_on x ≡ false
 stopping-goes_no_further x quiet e = grind arith
 
 -- What is due

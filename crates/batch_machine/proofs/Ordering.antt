@@ -6,6 +6,7 @@ use Rattle.batch_model.specs.Lists.{Has}
 use Rattle.batch_recipe.specs.Tree.{Place, is_before}
 use Rattle.batch_model.specs.Moves.{Move, order_of, is_earlier, least}
 use Rattle.batch_machine.specs.Laws.{IsLeast, IsFirst}
+use Rattle.batch_recipe.proofs.Reaching.{not_before}
 
 not_before-head : (i j k : ℕ) (a b c : Bool) → elim (nat_eq i j) [ true ↦ a | false ↦ nat_lt i j ] ≡ false → elim (nat_eq j k) [ true ↦ b | false ↦ nat_lt j k ] ≡ false
     → (a ≡ false → b ≡ false → c ≡ false) → elim (nat_eq i k) [ true ↦ c | false ↦ nat_lt i k ] ≡ false
@@ -23,10 +24,6 @@ before-head i j a b e g = grind arith
 pub before-asym : (p q : Place) → is_before p q ≡ true → is_before q p ≡ false
 before-asym (i ∷ p) (j ∷ q) e = before-head i j (is_before p q) (is_before q p) e (before-asym p q)
 before-asym p q e = grind arith
-
-pub before-irrefl : (p : Place) → is_before p p ≡ false
-before-irrefl [] = refl
-before-irrefl (i ∷ p) = grind (arith, before-irrefl p)
 
 equal-head : (i j : ℕ) (a b : Bool) → elim (nat_eq i j) [ true ↦ a | false ↦ nat_lt i j ] ≡ false → elim (nat_eq j i) [ true ↦ b | false ↦ nat_lt j i ] ≡ false → i ≡ j
 equal-head i j a b e f = grind arith
@@ -59,7 +56,7 @@ least-IsLeast [] x e = absurd cc
 least-IsLeast (m ∷ ms) x e = go (least ms) refl (λ y h. least-IsLeast ms y h) e
   where
     here : (l : Move) → m ≡ l → is_earlier l m ≡ false
-    here l h = subst (λ y. is_earlier y m ≡ false) h (before-irrefl (order_of m))
+    here l h = subst (λ y. is_earlier y m ≡ false) h (not_before (order_of m))
 
     alone : (l : Move) → ms ≡ [] → Has (m ∷ ms) l → is_earlier l m ≡ false
     alone l none h = elim h [ inl q ↦ here l q | inr q ↦ absurd (subst (λ zs. Has zs l) none q) ]

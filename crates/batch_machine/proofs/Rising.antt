@@ -1,5 +1,5 @@
 -- The acts of a rest stand in the order of their places, so no two stand at one place.
-use Rattle.std.proofs.Common.{◌≡◌, refl, sym, ◌∙◌, ap, ℕ, ◌+◌, Bool, true, false, nat_eq, nat_lt, List, [], ◌∷◌, ◌++◌, arith, inl, inr, ◌<◌, ◌≤◌}
+use Rattle.std.proofs.Common.{◌≡◌, refl, sym, ◌∙◌, ap, ℕ, ◌+◌, Bool, true, false, nat_eq, nat_lt, List, [], ◌∷◌, ◌++◌, arith, inl, inr, ◌<◌, ◌≤◌, append-nil}
 use Rattle.std.proofs.lemmas.List.{append_assoc}
 use Rattle.batch_model.specs.Lists.{Each}
 use Rattle.batch_recipe.specs.Tree.{Place, is_before, Step, Task, runs, follows, Tree, act, seq, par, sel, loop, Trees, no_trees, tree, Choices, otherwise, choice}
@@ -17,10 +17,6 @@ Rises-append [] ys h k e = k
 Rises-append (x ∷ xs) ys h k e = (Each-append (Before x) xs ys h.0 e.0, Rises-append xs ys h.1 k e.1)
 
 -- Places
-
-append-nothing : (p : Place) → p ++ [] ≡ p
-append-nothing [] = refl
-append-nothing (i ∷ p) = ap (λ q. i ∷ q) (append-nothing p)
 
 same-head : (k : ℕ) (b : Bool) → b ≡ true → elim (nat_eq k k) [ true ↦ b | false ↦ nat_lt k k ] ≡ true
 same-head k b e = grind arith
@@ -54,7 +50,7 @@ earlier-from : (p : Place) (i : ℕ) (a : Rest) → IsUnderFrom p (i + 1) a → 
 earlier-from p i a h = (h.0, h.1, omega (arith, h.2), h.3)
 
 at_place : (s t : Step) (p : Place) → t ≡ s → s.place ≡ p → t.place ≡ p ++ []
-at_place s t p e f = ap (λ u. u.place) e ∙ f ∙ sym (append-nothing p)
+at_place s t p e f = ap (λ u. u.place) e ∙ f ∙ sym (append-nil p)
 
 mutual
   pub acts-under : (p : Place) (c : Tree) (r : Rest) → IsPlaced p c → IsRestOf c r → Each (IsUnder p) (acts r)

@@ -24,11 +24,12 @@ use Rattle.batch_model.specs.Transfers.{Kept, kept_until, passed_told, reserved_
 use Rattle.batch_model.proofs.Members.{Has-split, Each-Has}
 use Rattle.batch_laws.proofs.Batches.{only, same-batch, below-next, entry-of}
 use Rattle.batch_laws.proofs.Entries.{nat_same, nat_self, Has-filter, Has-holders}
-use Rattle.batch_laws.proofs.Events.{find-Has, reset-rests, reset-nothing}
+use Rattle.batch_laws.proofs.Events.{reset-rests, reset-nothing}
 use Rattle.batch_laws.proofs.Facts.{facts, early_facts, batch_facts, entries, holding, need}
 use Rattle.batch_laws.proofs.Invariant.{IsKept, standing-of, numbers-of}
 use Rattle.batch_laws.proofs.Members.{Has-map}
 use Rattle.batch_laws.proofs.Passing.{early-none}
+use Rattle.batch_laws.proofs.Tops.{find-passes}
 use Rattle.batch_safety.proofs.KeptUnits.{IsOfOther, Holds, passed_told-last, reserved_told-last, passed_told-others, reserved_told-others}
 use Rattle.batch_safety.proofs.Unbegun.{advance-unbegun, changed-unbegun, phase_after-unbegun}
 use Rattle.batch_safety.proofs.UnitsKept.{IsHeldFor, IsHeldByStep, IsStillKept, KeepsAs, KeepsIn, KeepsAll, keeps-on, other-keeps, still-fresh}
@@ -299,12 +300,12 @@ module _ (d : Setup) (rank : Ranking) (outs : List Out) (s : Plant) (sd : IsStan
     where
       go : (o : Option Batch) → batch_at s n ≡ o → AnsweredBy outs (elim o [ None ↦ (refused unknown_batch, s) | Some b ↦ ordering s command b ])
       go None q = refused-keeps unknown_batch
-      go (Some b) q = ordering-keeps b ((find-Has (λ b. nat_eq b.number n) s.batches b q).0) command
+      go (Some b) q = ordering-keeps b ((find-passes (λ b. nat_eq b.number n) s.batches b q).0) command
   judged-keeps (remove n) = go (batch_at s n) refl
     where
       go : (o : Option Batch) → batch_at s n ≡ o → AnsweredBy outs (elim o [ None ↦ (refused unknown_batch, s) | Some b ↦ removing s b ])
       go None q = refused-keeps unknown_batch
-      go (Some b) q = removing-keeps b ((find-Has (λ b. nat_eq b.number n) s.batches b q).0)
+      go (Some b) q = removing-keeps b ((find-passes (λ b. nat_eq b.number n) s.batches b q).0)
   judged-keeps (report unit name word outputs) = go (live_phase s.batches unit name)
     where
       go : (o : Option LivePhase) → AnsweredBy outs (elim o [ None ↦ (refused no_live_phase, s) | Some l ↦ reporting s unit name word (outputs_of word outputs) l ])

@@ -2,7 +2,6 @@
 use Rattle.std.proofs.Common.{arith, ◌≡◌, refl, sym, ◌∙◌, ap, subst, ℕ, zero, suc, length, Bool, true, false, Option, Some, None, slice_get}
 use Rattle.std.specs.Prelude.{⊤, ◌&&◌, ◌||◌, not}
 use Rattle.batch_matrix.specs.declared.command.Command.{Command}
-use Rattle.batch_matrix.specs.declared.state.State.{State}
 use Rattle.batch_matrix.specs.Matrix.{accepts}
 use Rattle.batch_recipe.specs.declared.need.Need.{Need}
 use Rattle.batch_recipe.specs.Tree.{Place, Step, Task, Tree, runs, follows}
@@ -11,6 +10,7 @@ use Rattle.batch_model.specs.Plant.{Setup, Batch, Plant, held_in}
 use Rattle.batch_model.specs.Rest.{Rest, ready, asking, open_act, live, freeing, is_done}
 use Rattle.batch_model.specs.Runs.{goes_on}
 use Rattle.batch_laws.proofs.MoveSteps.{some_move, no_move}
+use Rattle.batch_machine.proofs.Lowering.{stopping-goes_no_further}
 
 -- a step begins that holds all its needs; a batch that goes on gives back the last need of an act that has ended, where nothing that
 -- follows is reserved by it, and else passes it on
@@ -24,12 +24,6 @@ IsMade b a (pass n p to r) =
     (s : Step) × (l : ℕ) × (a ≡ freeing s (suc l)) × (slice_get s.needs l ≡ Some r) × (reserved_place b.recipe.procedure s l ≡ Some to) × (p ≡ s.place)
     × (goes_on b.state ≡ true)
 IsMade b a _ = ⊤
-
-pub running-goes_on : (x : State) → is_running x ≡ true → goes_on x ≡ true
-running-goes_on x e = grind arith
-
-halts : (x : State) (quiet : Bool) → (is_stopping x && quiet) ≡ true → goes_on x ≡ false
-halts x quiet e = grind arith
 
 module _ (b : Batch) where
   entering-made : (s : Step) (w : Task) (k : ℕ) (m : Move) → is_running b.state ≡ true → entering b s w k ≡ Some m → IsMade b (ready s w k) m
@@ -86,7 +80,7 @@ module _ (b : Batch) where
       go : (t : Bool) → is_running b.state ≡ t → (u : Bool) → (is_stopping b.state && is_quiet b.rest) ≡ u
           → ◌≡◌ {A = Option Move} (elim t [ true ↦ entering b p w k | false ↦ elim u [ true ↦ giving_back b p k | false ↦ None ] ]) (Some m) → IsMade b (ready p w k) m
       go true h u f g = entering-made p w k m h g
-      go false h true f g = back-made p k m (ready p w k) (halts b.state (is_quiet b.rest) f) g
+      go false h true f g = back-made p k m (ready p w k) (stopping-goes_no_further b.state (is_quiet b.rest) f) g
       go false h false f g = absurd (no_move m g)
   act_move-made d s (asking p w k) m e = go (slice_get p.needs k) e
     where

@@ -1,6 +1,5 @@
 -- Where no move is possible: too little is free for the oldest ask, and chains are short.
-use Rattle.std.proofs.Common.{◌≡◌, refl, sym, ◌∙◌, ap, ap₂, subst, ℕ, suc, ◌+◌, nat_le, option_to_list, ◌++◌, ◌≤◌, ◌<◌, arith, List, [], ◌∷◌, Bool, true, false, not, ◌&&◌, filter, filter_map, slice_get, Option, Some, None, inl, inr, length, bytes_eq}
-use Rattle.std.specs.List.{cons_option}
+use Rattle.std.proofs.Common.{◌≡◌, refl, sym, ap, ap₂, subst, ℕ, suc, ◌+◌, nat_le, option_to_list, ◌++◌, ◌≤◌, ◌<◌, arith, List, [], ◌∷◌, Bool, true, false, not, ◌&&◌, filter, filter_map, slice_get, Option, Some, None, inl, inr, length, bytes_eq}
 use Rattle.batch_model.specs.Lists.{Has}
 use Rattle.batch_recipe.specs.Conditions.{Name}
 use Rattle.batch_recipe.specs.Tree.{Step, Task}
@@ -10,9 +9,10 @@ use Rattle.batch_model.specs.Moves.{Move, grant, act_move, state_move, batch_mov
 use Rattle.batch_model.specs.Runs.{Out}
 use Rattle.batch_model.specs.Records.{holders_told, scene_of, Link, IsLink, IsChain, StandsUnder}
 use Rattle.batch_machine.proofs.Ordering.{none_least}
+use Rattle.batch_machine.proofs.Leaving.{filter_map-Has, flat_map-Has}
 use Rattle.batch_laws.proofs.Facts.{need}
 use Rattle.batch_model.specs.Cleared.{Ranking}
-use Rattle.batch_laws.proofs.Members.{flat_map-Has, Has-map, map-Has}
+use Rattle.batch_laws.proofs.Members.{Has-map, map-Has}
 use Rattle.batch_laws.proofs.Entries.{act_self, name_self, name_same, filter-Has, length-filter_lt}
 use Rattle.batch_laws.proofs.Batches.{holders-entries}
 use Rattle.batch_laws.proofs.Invariant.{IsKept}
@@ -23,19 +23,6 @@ use Rattle.batch_model.specs.Standing.{IsStanding}
 use Rattle.batch_recipe.specs.declared.need.Need.{Need}
 
 -- No move
-
-filter_map-Has : {X Y : Type 0} (h : X → Option Y) (xs : List X) (x : X) (y : Y) → Has xs x → h x ≡ Some y → Has (filter_map h xs) y
-filter_map-Has h [] x y m e = absurd m
-filter_map-Has {X = X} {Y = Y} h (z ∷ xs) x y (inl q) e = go (h z) (ap h q ∙ e)
-  where
-    go : (o : Option Y) → o ≡ Some y → Has (cons_option o (filter_map h xs)) y
-    go None f = absurd cc
-    go (Some w) f = inl cc
-filter_map-Has {X = X} {Y = Y} h (z ∷ xs) x y (inr m) e = go (h z) (filter_map-Has h xs x y m e)
-  where
-    go : (o : Option Y) → Has (filter_map h xs) y → Has (cons_option o (filter_map h xs)) y
-    go None f = f
-    go (Some w) f = inr f
 
 -- no act of a settled plant has a move
 pub no_act_move : (d : Setup) (s : Plant) → next d s ≡ None → (b : Batch) → Has s.batches b → (a : Rest) → Has (acts b.rest) a → (m : Move) → act_move d s b a ≡ Some m → ⊥

@@ -23,13 +23,12 @@ use Rattle.batch_machine.proofs.Calming.{IsStateMove, state_move-is}
 use Rattle.batch_machine.proofs.Changing.{to_same_place}
 use Rattle.batch_machine.proofs.Falling.{Has-batch_moves, batch_moves-number, next-possible, same-rest, same-state}
 use Rattle.batch_machine.proofs.InAdvance.{follower-due}
-use Rattle.batch_machine.proofs.Lowering.{IsComing, IsMoveOf, act_move-is}
+use Rattle.batch_machine.proofs.Lowering.{IsComing, IsMoveOf, act_move-is, running-goes_on}
 use Rattle.batch_laws.specs.Ways.{Rises}
 use Rattle.batch_laws.proofs.Avoiding.{Avoids, phase-elsewhere}
 use Rattle.batch_laws.proofs.Batches.{only, Has-only, below-next, of-entry}
 use Rattle.batch_laws.proofs.Due.{awaited-nowhere}
 use Rattle.batch_laws.proofs.Entries.{nat_same, nat_self, Has-filter, name_same, name_self, frame-middle, holders-Has}
-use Rattle.batch_laws.proofs.Events.{find-Has as found-passes}
 use Rattle.batch_laws.proofs.Facts.{Standing, holding, held_at, facts, entries, share}
 use Rattle.batch_laws.proofs.Framing.{Frame, frame, NeedsRise, needs-rise}
 use Rattle.batch_laws.proofs.Invariant.{IsSound, IsKept, standing-of, numbers-of}
@@ -39,9 +38,10 @@ use Rattle.batch_laws.proofs.Passing.{IsOfStep, act-step_in}
 use Rattle.batch_laws.proofs.Raising.{Nowhere}
 use Rattle.batch_laws.proofs.Ranking.{Has-get, rises-next}
 use Rattle.batch_laws.proofs.Reserved.{one-step}
+use Rattle.batch_laws.proofs.Tops.{find-passes}
 use Rattle.batch_model.proofs.Members.{Has-flat_map}
 use Rattle.batch_safety.proofs.KeptUnits.{IsOfOther, Holds, Takes, still-held, held-passed, passed_told-last, reserved_told-last, passed_told-others, reserved_told-others}
-use Rattle.batch_safety.proofs.Making.{IsMade, act_move-made, running-goes_on}
+use Rattle.batch_safety.proofs.Making.{IsMade, act_move-made}
 use Rattle.batch_safety.proofs.Unbegun.{IsUnbegunAt, Begins, advance-unbegun, changed-unbegun, act_after-unbegun}
 
 -- Of batch n, whose tree is c and of which r remains: a unit is held where it was passed to, and its unit procedure isn't begun
@@ -360,7 +360,7 @@ module _ (d : Setup) (rank : Ranking) (outs : List Out) (s : Plant) (sd : IsStan
         go : (o : Option Step) → find (λ step. same_place step.place p) (steps c) ≡ o → Has (elim o [ None ↦ [] | Some step ↦ reserved_by c step ]) kept → IsHeldByStep after b.number c kept
         go None f l = absurd l
         go (Some u) f l =
-            let found = found-passes (λ (step : Step). same_place step.place p) (steps c) u f in
+            let found = find-passes (λ (step : Step). same_place step.place p) (steps c) u f in
             let same : t ≡ u = one-step (0 ∷ []) c fine.cleared.placed t u known found.0 (sym at ∙ sym (to_same_place u.place p found.1)) in
             step-kept after t known holds kept (subst (λ (z : Step). Has (reserved_by c z) kept) (sym same) l)
 

@@ -160,7 +160,7 @@ clean_some line short something =
     ap (λ t. cond t (Some (replicate 1025 63)) (cond (gives_nothing (strip_carriage_return line)) None (Some (map clean_byte line)))) short
     ∙ ap (λ t. cond t None (Some (map clean_byte line))) something
 
-strip_within_if : (b : Bool) (xs : List ℕ) → length (cond b (take (length xs - 1) xs) xs) ≤ length xs
+pub strip_within_if : (b : Bool) (xs : List ℕ) → length (cond b (take (length xs - 1) xs) xs) ≤ length xs
 strip_within_if true xs = omega (arith, length-take (length xs - 1) xs)
 strip_within_if false xs = omega arith
 

@@ -1,5 +1,5 @@
 -- Texts with comments.
-use Rattle.std.proofs.Common.{◌≡◌, ℕ, zero, suc, ◌+◌, ◌/◌, ◌%◌, ◌<◌, ◌^◌, min, Bool, true, false, not, ◌&&◌, List, [], ◌∷◌, ◌++◌, length, take, take-append-drop, drop, get_or, Option, Some, None, inl, inr, decimal, refl, sym, ◌∙◌, ap, subst, append_assoc, append-nil, eqb, arith}
+use Rattle.std.proofs.Common.{◌≡◌, ℕ, zero, suc, ◌+◌, ◌<◌, ◌^◌, min, Bool, true, false, not, ◌&&◌, List, [], ◌∷◌, ◌++◌, length, take, take-append-drop, drop, get_or, Option, Some, None, inl, inr, decimal, refl, sym, ◌∙◌, ap, subst, append_assoc, append-nil, eqb, arith}
 use Rattle.std.proofs.lemmas.Bool.{and_parts, cases_lt, eqb-true, false_from_ne_true}
 use Rattle.std.proofs.lemmas.Fmt.{digits_decimal}
 use Rattle.std.proofs.lemmas.List.{drop_at, take_all, take_at, take_more}
@@ -9,15 +9,16 @@ use Rattle.std.proofs.lemmas.List.Sums.{list_all-from_AllPass}
 use Rattle.std.proofs.KnownBytes.{Keeps-refl}
 use Rattle.std.specs.Io.KnownBytes.{Appends, Keeps}
 use Rattle.std.specs.List.{list_all}
-use Rattle.std.specs.Prelude.{if◌then◌else◌, nat_lt, option_map}
+use Rattle.std.specs.Prelude.{if◌then◌else◌, option_map}
 use Rattle.memchr.specs.Find.{IsFirstByte, is_byte}
 use Rattle.std.specs.Char.{is_ascii_digit}
 use Rattle.std.specs.Str.{all_ascii_digits}
-use Rattle.batch_serve.specs.Comments.{escape, escaped_byte, hex_digit, is_hidden, is_printable, kept_from, next_spot, spot_behind, without_comments, IsRemarked}
+use Rattle.batch_serve.specs.Comments.{is_hidden, kept_from, next_spot, spot_behind, without_comments, IsRemarked}
 use Rattle.batch_serve.specs.Remarking.{IsPart, StandsAt, is_plain, uncommented}
 use Rattle.batch_serve.specs.declared.remarked.Spot.{Spot}
 use Rattle.batch_serve.specs.declared.remarked.Spot.TheVariants.{Start, Line, Comment}
-use Rattle.batch_serve.proofs.Replays.{is_other}
+use Rattle.batch_serve.proofs.Replays.{is_other, none_first}
+use Rattle.batch_serve.proofs.HoldingLemmas.{is_false}
 use Rattle.batch_wire.specs.Written.{AppendsBeginning}
 
 pub same_spot : (first x : Option (List ℕ)) (spot other : Spot) (cut whole : Bool) → (cut ≡ whole) → (spot ≡ other) → StandsAt first x spot cut → StandsAt first x other whole
@@ -44,15 +45,7 @@ kept-append spot [] b = refl
 kept-append spot (x ∷ a) b =
     kept_cons (is_hidden spot x) x (kept_from (next_spot spot x) a) (kept_from (spot_behind (next_spot spot x) a) b) (kept_from (next_spot spot x) (a ++ b)) (kept-append (next_spot spot x) a b)
 
-none_first : (a b : List ℕ) → a ++ b ≡ [] → a ≡ []
-none_first [] b is = refl
-none_first (x ∷ a) b is = absurd (cc is)
-
 -- Text without comments
-
-not_false : (t : Bool) → not t ≡ true → t ≡ false
-not_false true is = absurd (cc is)
-not_false false is = refl
 
 start_on : (feed hash : Bool) → hash ≡ false → (if feed then Start else (if hash then Comment else Line)) ≡ Comment → ⊥
 start_on true hash is same = absurd (cc same)
@@ -64,12 +57,12 @@ line_on true same = absurd (cc same)
 line_on false same = absurd (cc same)
 
 outside_on : (spot : Spot) (b : ℕ) → (spot ≡ Comment → ⊥) → is_plain b ≡ true → next_spot spot b ≡ Comment → ⊥
-outside_on Start b outside plain = start_on (eqb b 10) (eqb b 35) (not_false (eqb b 35) plain)
+outside_on Start b outside plain = start_on (eqb b 10) (eqb b 35) (is_false (eqb b 35) plain)
 outside_on Line b outside plain = line_on (eqb b 10)
 outside_on Comment b outside plain = absurd (outside refl)
 
 shown : (spot : Spot) (b : ℕ) → (spot ≡ Comment → ⊥) → is_plain b ≡ true → is_hidden spot b ≡ false
-shown Start b outside plain = not_false (eqb b 35) plain
+shown Start b outside plain = is_false (eqb b 35) plain
 shown Line b outside plain = refl
 shown Comment b outside plain = absurd (outside refl)
 
@@ -96,7 +89,7 @@ spot_on spot bytes i within = ap (spot_behind spot) (take_more bytes i 0 within)
 -- Comments
 
 comment_on : (b : ℕ) → is_other b ≡ true → next_spot Comment b ≡ Comment
-comment_on b other = go (eqb b 10) (not_false (eqb b 10) other)
+comment_on b other = go (eqb b 10) (is_false (eqb b 10) other)
   where
     go : (feed : Bool) → feed ≡ false → ◌≡◌ {A = Spot} (if feed then Start else Comment) Comment
     go true is = absurd (cc is)
@@ -145,33 +138,6 @@ decimal_part ds n is fits =
     let digits : all_ascii_digits (decimal n) ≡ true = digits_decimal (numerals_by_value _ tells_all_ascii_digits) n fits in
     comment_part ds (digits_other ds (ap all_ascii_digits is ∙ digits))
 
-hex_other : (d : ℕ) → is_other (hex_digit d) ≡ true
-hex_other d = other_byte (hex_digit d) (go (nat_lt d 10))
-  where
-    go : (small : Bool) → (if small then 48 + d else 87 + d) ≡ 10 → ⊥
-    go true is = absurd (omega (arith, is))
-    go false is = absurd (omega (arith, is))
-
-pub escape_other : (b : ℕ) → list_all is_other (escape b) ≡ true
-escape_other b = both (is_other (hex_digit (b / 16))) _ (hex_other (b / 16)) (both (is_other (hex_digit (b % 16))) true (hex_other (b % 16)) refl)
-
-pub printable_other : (b : ℕ) → is_printable b ≡ true → list_all is_other (b ∷ []) ≡ true
-printable_other b is = both (is_other b) true (passes is_printable b refl is) refl
-
-pub printable_is : (b : ℕ) → is_printable b ≡ true → escaped_byte b ≡ b ∷ []
-printable_is b is = go (is_printable b) is
-  where
-    go : (t : Bool) → t ≡ true → (if t then b ∷ [] else escape b) ≡ b ∷ []
-    go true e = refl
-    go false e = absurd (cc e)
-
-pub unprintable_is : (b : ℕ) → is_printable b ≡ false → escaped_byte b ≡ escape b
-unprintable_is b is = go (is_printable b) is
-  where
-    go : (t : Bool) → t ≡ false → (if t then b ∷ [] else escape b) ≡ escape b
-    go true e = absurd (cc e)
-    go false e = refl
-
 -- What a writer holds
 
 -- the text behind what was held first
@@ -209,16 +175,6 @@ unknown contents spot cut = record { kept = λ held is. absurd (cc is); stands =
 
 uncommented_is : (held text : List ℕ) → uncommented (Some held) (Some (held ++ text)) ≡ Some (held ++ without_comments text)
 uncommented_is held text = ap (λ l. Some (held ++ without_comments l)) (drop_at held text (length held) refl)
-
-pub stands_first : (first contents : Option (List ℕ)) → first ≡ contents → StandsAt first contents Start false
-stands_first None contents same = unknown contents Start false
-stands_first (Some held) contents same =
-    stands_at held contents Start false (record { text = []; has = sym same ∙ ap Some (sym (append-nil held)); stands = λ _. refl })
-
-pub nothing_told : (first contents : Option (List ℕ)) → first ≡ contents → uncommented first contents ≡ contents
-nothing_told None contents same = same
-nothing_told (Some held) contents same =
-    ap (uncommented (Some held)) (sym same ∙ ap Some (sym (append-nil held))) ∙ uncommented_is held [] ∙ ap Some (append-nil held) ∙ same
 
 pub remarked : (first contents : Option (List ℕ)) (spot : Spot) (cut : Bool) → StandsAt first contents spot cut → IsRemarked first contents (uncommented first contents)
 remarked None contents spot cut at = record { known = λ held is. absurd (cc is) }

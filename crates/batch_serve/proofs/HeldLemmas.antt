@@ -1,6 +1,6 @@
 -- What a writer that holds back passes on.
 use Rattle.std.proofs.Common.{◌≡◌, ◌⊎◌, ℕ, ◌+◌, ◌-◌, ◌≤◌, true, List, [], ◌∷◌, ◌++◌, length, take, drop, take-append-drop, Option, Some, None, option_map, codes, refl, sym, ◌∙◌, ap, subst, append_assoc, inl, inr, ⊎_elim, arith}
-use Rattle.std.proofs.KnownBytes.{Appends-nil, Appends-kept, append_known-moved}
+use Rattle.std.proofs.KnownBytes.{append_known-moved}
 use Rattle.std.proofs.lemmas.Bool.{eqb-true}
 use Rattle.std.proofs.lemmas.List.{take_all, drop_all, take-append-le, drop-append-le, drop-take, take-take, length-take}
 use Rattle.std.specs.List.{list_all}
@@ -103,9 +103,6 @@ passed_on first (Some x) (Some y) waiting bytes now appends is passed = record {
       ∙ ap (λ l. drop (length held) l ++ now) (sym appends ∙ text)) (passed.clear held x known refl);
 }
 
-pub passed_kept : (first old new : Option (List ℕ)) (waiting : List ℕ) → Keeps old new → IsPassed first old waiting → IsPassed first new waiting
-passed_kept first old new waiting keeps passed = passed_on first old new waiting [] waiting (Appends-kept old old new [] (Appends-nil old) keeps) refl passed
-
 pub passed_more : (first contents : Option (List ℕ)) (waiting group now : List ℕ) → IsClear group → now ≡ waiting ++ group → IsPassed first contents waiting → IsPassed first contents now
 passed_more first contents waiting group now clear is passed = record {
   kept = passed.kept;
@@ -134,10 +131,6 @@ tells_clear first (Some x) items held cleared known is =
     }
 
 -- What is waiting
-
-pub passed_longer : (first contents : Option (List ℕ)) (items more now : List ℕ) (cleared : ℕ) → cleared ≤ length items → now ≡ items ++ more
-    → IsPassed first contents (take cleared items) → IsPassed first contents (take cleared now)
-passed_longer first contents items more now cleared within is passed = subst (IsPassed first contents) (sym (ap (take cleared) is ∙ take-append-le cleared items more within)) passed
 
 -- a part of it was written, and is gone from what is held
 module _ (old new : Option (List ℕ)) (items held left : List ℕ) (cleared count : ℕ) (is : held ≡ items) (left_is : left ≡ drop count items) (few : count ≤ cleared)

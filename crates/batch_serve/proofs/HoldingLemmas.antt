@@ -147,7 +147,7 @@ same_part text at n m few =
     let parts : at ≡ n + (at - n) = omega (arith, few) in
     ap (λ k. take m (drop n (take k text))) parts ∙ ap (take m) (drop-take n (at - n) text) ∙ take-take m (at - n) (drop n text) (omega (arith, few))
 
-is_false : (b : Bool) → not b ≡ true → b ≡ false
+pub is_false : (b : Bool) → not b ≡ true → b ≡ false
 is_false false is = refl
 is_false true is = absurd (cc is)
 

@@ -81,7 +81,7 @@ none_of_both : (a b : List ℕ) → a ++ b ≡ [] → b ≡ []
 none_of_both [] b is = is
 none_of_both (x ∷ a) b is = absurd (cc is)
 
-none_first : (a b : List ℕ) → a ++ b ≡ [] → a ≡ []
+pub none_first : (a b : List ℕ) → a ++ b ≡ [] → a ≡ []
 none_first [] b is = refl
 none_first (x ∷ a) b is = absurd (cc is)
 

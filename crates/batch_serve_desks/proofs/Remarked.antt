@@ -1,5 +1,5 @@
 -- Texts of runs, as one run more is written.
-use Rattle.std.proofs.Common.{◌≡◌, ◌<◌, ◌+◌, ℕ, cond, true, false, Bool, List, [], ◌∷◌, ◌++◌, length, drop, get_or, codes, Option, Some, sym, ap, append_assoc, append-nil, ◌∙◌}
+use Rattle.std.proofs.Common.{◌≡◌, ◌<◌, ◌+◌, ℕ, List, ◌∷◌, ◌++◌, length, drop, get_or, Option, Some, sym, ap, append_assoc, ◌∙◌}
 use Rattle.std.proofs.lemmas.List.{drop_more}
 use Rattle.batch_serve_desks.specs.Runs.{Run, from_text, last_of, runs_text}
 
@@ -28,13 +28,3 @@ run_seen last before whole runs i desk run within item desk_is so_far =
     ap (λ d. last_of (Some d) (drop (i + 1) runs)) desk_is
     ∙ ap (λ (l : List Run). last_of last l) (sym (drop_more runs i run within ∙ ap (λ (r : Run). r ∷ drop (i + 1) runs) (sym item)))
     ∙ so_far
-
--- who sends was written, where it isn't the desk before
-pub from_written : (same : Bool) (text name : List ℕ) → same ≡ false
-    → ((text ++ codes "# from ") ++ name) ++ 10 ∷ [] ≡ text ++ cond same [] (codes "# from " ++ (name ++ 10 ∷ []))
-from_written true text name is = absurd (cc is)
-from_written false text name is = append_assoc (text ++ codes "# from ") name (10 ∷ []) ∙ append_assoc text (codes "# from ") (name ++ 10 ∷ [])
-
-pub from_same : (same : Bool) (text name : List ℕ) → same ≡ true → text ≡ text ++ cond same [] (codes "# from " ++ (name ++ 10 ∷ []))
-from_same true text name is = sym (append-nil text)
-from_same false text name is = absurd (cc is)

@@ -1,26 +1,15 @@
 -- Runs that are served one after the other.
-use Rattle.std.proofs.Common.{◌≡◌, ◌<◌, ◌+◌, ℕ, length, take, get_or, List, [], ◌∷◌, ◌++◌, Some, refl, sym, ◌∙◌, ap, subst}
+use Rattle.std.proofs.Common.{◌≡◌, ◌<◌, ◌+◌, ℕ, length, take, get_or, List, [], ◌∷◌, ◌++◌, refl, sym, ◌∙◌, ap, subst}
 use Rattle.std.proofs.lemmas.List.{take_more}
 use Rattle.batch_model.specs.Plant.{Setup, Plant, opening}
 use Rattle.batch_verify.specs.ClearedSet.{ClearedSet}
 use Rattle.batch_engine.specs.View.{setup}
 use Rattle.batch_wire.specs.Transcript.{lines_of, Exchange, silence, followed_by, Transcript}
-use Rattle.batch_wire.specs.WrittenTranscript.{WritesTranscript}
 use Rattle.batch_serve_desks.specs.Joined.{TranscriptsJoin}
 use Rattle.batch_serve.specs.Safe.{TranscriptsAreSafe}
 use Rattle.batch_serve_desks.specs.GoingOn.{ServiceGoesOn}
 use Rattle.batch_serve_desks.specs.Runs.{Run}
 use Rattle.batch_serve_desks.specs.Served.{AreServed, IsAnswered, ServiceIsSafe, plain_text, run_lines}
-
--- the text that was written is the run's answer
-pub answered : (c : Setup) (old new : Plant) (run answer : Run) (input before after : List ℕ) → input ≡ run.text → before ≡ []
-    → WritesTranscript c old (lines_of input) new (Some before) (Some after) → answer ≡ record { desk = run.desk; text = after } → IsAnswered c old run answer new
-answered c old new run answer input before after input_is none h is = record {
-  said = h.said;
-  transcript = subst (λ l. Transcript c old (lines_of l) h.said new) input_is h.transcript;
-  desk = ap (λ (r : Run). r.desk) is;
-  text = ap (λ (r : Run). r.text) is ∙ h.appends ∙ ap (λ l. l ++ h.said.text) none;
-}
 
 pub goes_on : ServiceGoesOn
 goes_on c old mid new [] more answers told one other =

@@ -2,5 +2,5 @@ mod Shares
 mod Lives
 mod Sorting
 mod Ordered
-mod ReadingLemmas
+pub mod ReadingLemmas
 mod Promises

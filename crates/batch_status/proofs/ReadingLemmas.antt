@@ -14,7 +14,7 @@ use Rattle.batch_status.specs.declared.reading.Reading.{Reading}
 
 -- A line more
 
-each-more : {X : Type 0} (P : X → Type 0) (xs : List X) (x : X) → Each P xs → P x → Each P (xs ++ x ∷ [])
+pub each-more : {X : Type 0} (P : X → Type 0) (xs : List X) (x : X) → Each P xs → P x → Each P (xs ++ x ∷ [])
 each-more P [] x h one = (one, tt)
 each-more P (y ∷ ys) x h one = (h.0, each-more P ys x h.1 one)
 
@@ -36,11 +36,11 @@ stages-more s [] l t u e k =
     stages-last s l u (ap (λ x. stage_after x l) same ∙ k)
 stages-more s (x ∷ xs) l t u e k = stages-on s x xs l t u (λ mid h. stages-more mid xs l t u h k) (stage_after s x) refl e
 
-text-more : (lines : List (List ℕ)) (line : List ℕ) → lines_text (lines ++ line ∷ []) ≡ lines_text lines ++ (line ++ 10 ∷ [])
+pub text-more : (lines : List (List ℕ)) (line : List ℕ) → lines_text (lines ++ line ∷ []) ≡ lines_text lines ++ (line ++ 10 ∷ [])
 text-more [] line = append-nil (line ++ 10 ∷ [])
 text-more (x ∷ lines) line = ap (λ t. (x ++ 10 ∷ []) ++ t) (text-more lines line) ∙ sym (append_assoc (x ++ 10 ∷ []) (lines_text lines) (line ++ 10 ∷ []))
 
-length-more : {X : Type 0} (xs : List X) (x : X) → length (xs ++ x ∷ []) ≡ length xs + 1
+pub length-more : {X : Type 0} (xs : List X) (x : X) → length (xs ++ x ∷ []) ≡ length xs + 1
 length-more [] x = refl
 length-more (y ∷ ys) x = omega (arith, length-more ys x)
 
@@ -49,7 +49,7 @@ split-line : (whole last read end rest : List ℕ) → read ≡ whole ++ last �
 split-line whole last read end rest e =
     ap (λ t. t ++ (end ++ 10 ∷ rest)) e ∙ append_assoc whole last (end ++ 10 ∷ rest) ∙ ap (λ t. whole ++ t) (sym (append_assoc last end (10 ∷ rest)))
 
-counted-more : (count length : ℕ) → count ≡ min length (2 ^ 64 - 1) → min (count + 1) (2 ^ 64 - 1) ≡ min (length + 1) (2 ^ 64 - 1)
+pub counted-more : (count length : ℕ) → count ≡ min length (2 ^ 64 - 1) → min (count + 1) (2 ^ 64 - 1) ≡ min (length + 1) (2 ^ 64 - 1)
 counted-more count length e = omega (arith, e)
 
 pub line-taken : (old new : Reading) (read end : List ℕ) (h : HasRead old read) → HasNoFeed end → new.line.items ≡ []

@@ -1,5 +1,5 @@
 -- Lines of a record, one after the other.
-use Rattle.std.proofs.Common.{◌≡◌, ℕ, ◌+◌, ◌-◌, ◌^◌, List, [], ◌∷◌, ◌++◌, length, take, drop, min, Option, Some, None, true, false, Bool, refl, sym, ap, ◌∙◌, append_assoc, append-nil, arith, option_map}
+use Rattle.std.proofs.Common.{◌≡◌, ℕ, ◌+◌, ◌-◌, ◌^◌, List, [], ◌∷◌, ◌++◌, length, take, drop, min, Option, Some, None, true, false, Bool, refl, sym, ap, ◌∙◌, append_assoc, option_map}
 use Rattle.std.proofs.lemmas.List.{drop_more, take-append-drop}
 use Rattle.batch_model.specs.Lists.{Each}
 use Rattle.batch_record.specs.Laws.{is_passed_over}
@@ -8,12 +8,9 @@ use Rattle.batch_model.specs.Runs.{Out}
 use Rattle.batch_status.specs.Blocks.{Stage, mark_of, marked, opening, stage_after, stages, told}
 use Rattle.batch_status.specs.Reading.{HasNoFeed, IsRefusedAt, LeadsTo, lines_text}
 use Rattle.batch_timeline.specs.Taking.{EndsLine}
+use Rattle.batch_status.proofs.ReadingLemmas.{each-more, text-more, length-more, counted-more}
 
 -- A line more
-
-each-more : {X : Type 0} (P : X → Type 0) (xs : List X) (x : X) → Each P xs → P x → Each P (xs ++ x ∷ [])
-each-more P [] x h one = (one, tt)
-each-more P (y ∷ ys) x h one = (h.0, each-more P ys x h.1 one)
 
 stages-on : (s : Stage) (x : List ℕ) (xs : List (List ℕ)) (l : List ℕ) (t u : Stage)
     → ((mid : Stage) → stages mid xs ≡ Some t → stages mid (xs ++ l ∷ []) ≡ Some u)
@@ -33,14 +30,6 @@ stages-more s [] l t u e k =
     stages-last s l u (ap (λ x. stage_after x l) same ∙ k)
 stages-more s (x ∷ xs) l t u e k = stages-on s x xs l t u (λ mid h. stages-more mid xs l t u h k) (stage_after s x) refl e
 
-text-more : (lines : List (List ℕ)) (line : List ℕ) → lines_text (lines ++ line ∷ []) ≡ lines_text lines ++ (line ++ 10 ∷ [])
-text-more [] line = append-nil (line ++ 10 ∷ [])
-text-more (x ∷ lines) line = ap (λ t. (x ++ 10 ∷ []) ++ t) (text-more lines line) ∙ sym (append_assoc (x ++ 10 ∷ []) (lines_text lines) (line ++ 10 ∷ []))
-
-length-more : {X : Type 0} (xs : List X) (x : X) → length (xs ++ x ∷ []) ≡ length xs + 1
-length-more [] x = refl
-length-more (y ∷ ys) x = omega (arith, length-more ys x)
-
 -- How far a text was taken
 
 -- the whole lines that were taken, and what is left
@@ -58,9 +47,6 @@ nothing-taken text = record { lines = []; stage = opening; whole = tt; split = r
 pub parted : (rest : List ℕ) (at : ℕ) → EndsLine at rest → rest ≡ take at rest ++ 10 ∷ drop (at + 1) rest
 parted rest at e =
     sym (take-append-drop at rest) ∙ ap (λ l. take at rest ++ l) (drop_more rest at 0 e.within ∙ ap (λ b. b ∷ drop (at + 1) rest) e.feed)
-
-counted-more : (count length : ℕ) → count ≡ min length (2 ^ 64 - 1) → min (count + 1) (2 ^ 64 - 1) ≡ min (length + 1) (2 ^ 64 - 1)
-counted-more count length e = omega (arith, e)
 
 next-number : (number told : ℕ) (lines : List (List ℕ)) (line : List ℕ) → number ≡ min (length lines) (2 ^ 64 - 1) → told ≡ min (number + 1) (2 ^ 64 - 1)
     → told ≡ min (length (lines ++ line ∷ [])) (2 ^ 64 - 1)
@@ -115,6 +101,3 @@ passed-on line is stage = (marked stage (mark_of line), after-line stage line tr
 pub told-on : (line : List ℕ) (out : Out) → is_passed_over line ≡ false → out_of_line line ≡ Some out
     → (stage : Stage) → (next : Stage) × (stage_after stage line ≡ Some next)
 told-on line out is tells stage = (told stage out, after-line stage line false is ∙ ap (option_map (told stage)) tells)
-
-pub refused-on : (line : List ℕ) → is_passed_over line ≡ false → out_of_line line ≡ None → (stage : Stage) → stage_after stage line ≡ None
-refused-on line is tells stage = after-line stage line false is ∙ ap (option_map (told stage)) tells

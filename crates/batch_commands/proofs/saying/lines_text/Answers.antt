@@ -1,8 +1,8 @@
 use Rattle.std.proofs.Common.{◌<◌, ◌++◌, ◌∙◌, List, ℕ, [], length, ap, rules, string_bytes}
 use Rattle.batch_commands.specs.Saying.{line_of}
 use Rattle.batch_commands.specs.declared.refusal.DocumentRefusal.{DocumentRefusal}
-use Rattle.batch_commands.proofs.Grown.{texts_more}
 use Rattle.batch_commands.proofs.saying.lines_text.Goals as goal
+use Rattle.batch_outline.proofs.Placed.{texts_more}
 
 pub loop-refusal-preserved : goal.loop-refusal-preserved
 loop-refusal-preserved c =

@@ -2,8 +2,8 @@ use Rattle.std.proofs.Common.{◌<◌, ◌++◌, ◌∙◌, [], length, get_or, 
 use Rattle.batch_recipe.specs.declared.acts.LabelTable.TheVariants.{UnitProcedures}
 use Rattle.batch_warnings.specs.declared.warning.RecipeWarning.TheVariants.{UnnamedAct}
 use Rattle.batch_commands.specs.WarningTexts.{recipe_line}
-use Rattle.batch_commands.proofs.Grown.{texts_more}
 use Rattle.batch_commands.proofs.warnings.recipe_text.Goals as goal
+use Rattle.batch_outline.proofs.Placed.{texts_more}
 
 pub loop-warning-preserved : goal.loop-warning-preserved
 loop-warning-preserved c =

@@ -1,7 +1,6 @@
 use Rattle.std.proofs.Common.{◌≡◌, subst, arith, inl, inr}
-use Rattle.batch_engine.specs.Marking.{IsFirstMarked}
-use Rattle.batch_engine.proofs.Nodes.{within-or_past}
 use Rattle.batch_engine.proofs.marking.mark_firsts.Goals as goal
+use Rattle.batch_signs.proofs.Bits.{within-or_past}
 
 pub loop-resource-preserved : goal.loop-resource-preserved
 loop-resource-preserved c =

@@ -4,9 +4,9 @@ use Rattle.std.proofs.lemmas.Option.{slice_get_read}
 use Rattle.batch_recipe.specs.declared.recipe.Recipe.{Recipe}
 use Rattle.batch_engine.specs.Numbered.{IsRecipeNumbered}
 use Rattle.batch_engine.specs.declared.numbers.RecipeNumbers.{RecipeNumbers}
-use Rattle.batch_engine.proofs.Answering.{same-at}
 use Rattle.batch_engine.proofs.NumbersFound.{pushed}
 use Rattle.batch_engine.proofs.numbering.number_recipes.Goals as goal
+use Rattle.batch_recipe.proofs.Setting.{same-at}
 
 pub loop-index-preserved : goal.loop-index-preserved
 loop-index-preserved c =

@@ -1,7 +1,7 @@
 use Rattle.std.proofs.Common.{◌≡◌, ◌≤◌, subst, inl, inr, arith}
 use Rattle.batch_engine.specs.Steps.{IsServedNode}
-use Rattle.batch_engine.proofs.Nodes.{within-or_past}
 use Rattle.batch_engine.proofs.pending.least_served.Goals as goal
+use Rattle.batch_signs.proofs.Bits.{within-or_past}
 
 pub loop-resource-preserved : goal.loop-resource-preserved
 loop-resource-preserved c q node lt served = elim (within-or_past q c.loop-resource.resource) [

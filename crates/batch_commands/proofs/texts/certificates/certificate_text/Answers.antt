@@ -5,8 +5,8 @@ use Rattle.std.proofs.lemmas.List.Elements.{All-push}
 use Rattle.batch_text.specs.NameText.{IsName}
 use Rattle.batch_verify.specs.CertificateText.{Rank}
 use Rattle.batch_commands.specs.VerdictTexts.{rank_text}
-use Rattle.batch_commands.proofs.Grown.{texts_more}
 use Rattle.batch_commands.proofs.texts.certificates.certificate_text.Goals as goal
+use Rattle.batch_outline.proofs.Placed.{texts_more}
 
 pub loop-name-preserved : goal.loop-name-preserved
 loop-name-preserved c =

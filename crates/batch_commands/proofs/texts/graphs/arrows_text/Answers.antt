@@ -2,8 +2,8 @@ use Rattle.std.proofs.Common.{◌<◌, ◌++◌, ◌∙◌, [], length, get_or, 
 use Rattle.batch_check.specs.declared.edge.Edge.{Edge}
 use Rattle.batch_sentences.specs.CircleSentence.{act_name}
 use Rattle.batch_commands.specs.GraphTexts.{arrow_text}
-use Rattle.batch_commands.proofs.Grown.{texts_more}
 use Rattle.batch_commands.proofs.texts.graphs.arrows_text.Goals as goal
+use Rattle.batch_outline.proofs.Placed.{texts_more}
 
 abbrev no_edge : Edge
 no_edge = record { recipe = 0; node = 0; earlier = 0; later = 0 }

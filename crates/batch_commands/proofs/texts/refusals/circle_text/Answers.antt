@@ -1,8 +1,8 @@
 use Rattle.std.proofs.Common.{◌<◌, ◌++◌, ◌∷◌, ◌∙◌, [], codes, length, get_or, ap, refl, rules, string_bytes}
 use Rattle.batch_check.specs.declared.edge.Edge.{Edge}
 use Rattle.batch_commands.specs.VerdictTexts.{edge_text, refused}
-use Rattle.batch_commands.proofs.Grown.{texts_more}
 use Rattle.batch_commands.proofs.texts.refusals.circle_text.Goals as goal
+use Rattle.batch_outline.proofs.Placed.{texts_more}
 
 abbrev no_edge : Edge
 no_edge = record { recipe = 0; node = 0; earlier = 0; later = 0 }

@@ -6,11 +6,11 @@ use Rattle.batch_engine.specs.declared.batch.Batch.{Batch}
 use Rattle.batch_engine.specs.Steps.{IsNumberAt}
 use Rattle.batch_engine.specs.View.{EngineView, tree_of}
 use Rattle.batch_engine.proofs.Finding.{first-grant, first-serves, first_here, goes-on, known-resource, no-grants, passed}
-use Rattle.batch_engine.proofs.Nodes.{within-or_past}
 use Rattle.batch_engine.proofs.Seats.{IsSeat, needs-there, read-own, seat-of}
 use Rattle.batch_engine.proofs.Skipping.{skipped}
 use Rattle.batch_engine.proofs.control.Control.first_grant.Goals as goal
 use Rattle.batch_engine.proofs.control.Control.first_grant.Goals.{After-recipe-chart, After-resource_at-resource}
+use Rattle.batch_signs.proofs.Bits.{within-or_past}
 
 seat : (c : After-recipe-chart) (i : ℕ) → slice_get c.args.self.now.batches i ≡ Some c.args.batch.now → IsSeat c.args.self.now i c.args.batch.now c.recipe-chart.result.now
 seat c i at = seat-of c.self.view_is (read-own c.self.view_is c.self.invariant.kept at) c.recipe-chart.ensures
