@@ -1,5 +1,5 @@
 -- Closing and sealing a port.
-use Rattle.std.proofs.Common.{◌≡◌, ℕ, ◌+◌, ◌<◌, List, [], ◌∷◌, ◌++◌, length, map, take, Option, Some, None, IfSome, IsSome, refl, sym, ◌∙◌, ap, arith, append-nil, inl, inr, set, get_or, slice_get, subst, Result, Ok, Err, OnOk, IfErr, false, suc, zero}
+use Rattle.std.proofs.Common.{◌≡◌, ℕ, ◌+◌, ◌<◌, List, [], ◌∷◌, ◌++◌, length, map, take, Option, Some, None, IfSome, IsSome, refl, sym, ◌∙◌, ap, arith, append-nil, inl, inr, set, get_or, slice_get, subst, take_all, Result, Ok, Err, OnOk, IfErr, false}
 use Rattle.std.specs.declared.alloc.Global.{Global}
 use Rattle.rtrb.specs.Ring.{all_sent, consumer_capacity, producer_capacity}
 use Rattle.rtrb.specs.declared.AnyItems.{AnyItems}
@@ -9,8 +9,8 @@ use Rattle.rtrb.specs.declared.producer.Producer.{Producer}
 use Rattle.std.specs.List.{All}
 use Rattle.batch_model.specs.Plant.{opening}
 use Rattle.batch_engine.specs.View.{plant_of}
-use Rattle.std.proofs.lemmas.Option.{IfSome_then}
-use Rattle.std.proofs.lemmas.List.{take_more}
+use Rattle.std.proofs.lemmas.Option.{IfSome_then, slice_get_read}
+use Rattle.std.proofs.lemmas.List.{map_push, set-get_or, take_more}
 use Rattle.batch_desk.specs.declared.plan.PortPlan.{PortPlan}
 use Rattle.batch_engine.specs.declared.event.Event.{Event}
 use Rattle.batch_engine.specs.declared.out.Out.{Out}
@@ -27,20 +27,13 @@ use Rattle.batch_desk.specs.Rings.{IsOfRing}
 use Rattle.batch_desk.specs.HubState.{HubState, IsHub, IsPort, told}
 use Rattle.batch_desk.specs.Ends.{Closes, RefusesClose, Seals}
 
-take_all : (outs : List Out) → take (length outs) outs ≡ outs
-take_all [] = refl
-take_all (x ∷ outs) = ap (λ xs. x ∷ xs) (take_all outs)
-
 closes : (h : List (ℕ × Event)) (outs : List Out) (k : ℕ) (p : PortState) (c : Option ℕ) → p.closed ≡ c → IsPort h outs k p → IsPort h outs k (closed_at c (length outs) p)
 closes h outs k p None e is = record {
   taken = is.taken;
-  told = IfSome_then p.outs is.told (λ ring t. t ∙ (ap (λ c. due p.scope k h (up_to c outs)) e ∙ ap (due p.scope k h) (sym (take_all outs))));
+  told = IfSome_then p.outs is.told (λ ring t. t ∙ (ap (λ c. due p.scope k h (up_to c outs)) e ∙ ap (due p.scope k h) (sym (take_all (length outs) outs (omega arith)))));
   closed = omega arith;
 }
 closes h outs k p (Some n) e is = is
-
-pub port_closes : (h : List (ℕ × Event)) (outs : List Out) (k : ℕ) (p q : PortState) → q ≡ close_at (length outs) p → IsPort h outs k p → IsPort h outs k q
-port_closes h outs k p q e is = rw e (closes h outs k p p.closed refl is)
 
 -- what a port that was told all has put is what it is due
 put_all : (h : List (ℕ × Event)) (outs : List Out) (k : ℕ) (p : PortState) (o : Option Ring) → p.waiting ≡ [] → IsSome o → IfSome o (λ _. told p ≡ due p.scope k h (up_to p.closed outs))
@@ -48,13 +41,8 @@ put_all : (h : List (ℕ × Event)) (outs : List Out) (k : ℕ) (p : PortState) 
 put_all h outs k p None none some is = cc
 put_all h outs k p (Some ring) none some is = sym (append-nil p.put) ∙ (ap (λ xs. p.put ++ xs) (sym none) ∙ is)
 
-pub port_put_all : (h : List (ℕ × Event)) (outs : List Out) (k : ℕ) (p : PortState) → IsSealable p → IsPort h outs k p → p.put ≡ due p.scope k h (up_to p.closed outs)
+port_put_all : (h : List (ℕ × Event)) (outs : List Out) (k : ℕ) (p : PortState) → IsSealable p → IsPort h outs k p → p.put ≡ due p.scope k h (up_to p.closed outs)
 port_put_all h outs k p can is = put_all h outs k p p.outs can.2 can.1 is.told
-
-set_same : {X : Type 0} (xs : List X) (i : ℕ) (x : X) → x ≡ get_or xs i x → set xs i x ≡ xs
-set_same [] i x at = refl
-set_same (z ∷ zs) zero x at = ap (λ w. w ∷ zs) at
-set_same (z ∷ zs) (suc i) x at = ap (λ ws. z ∷ ws) (set_same zs i x at)
 
 -- Trying to close a port: x becomes q, and r is the answer
 module _ {A : Type 0} (r : Result A (HubFault × Finished Event Global AnyItems)) (x q : PortState) (n : ℕ) (sent : List Event) where
@@ -75,19 +63,19 @@ rings_tried n x q sent (Err e) ok err = ap port_rings err.0
 
 pub port_tried : {A : Type 0} (h : List (ℕ × Event)) (outs : List Out) (k n : ℕ) (x q : PortState) (sent : List Event) (r : Result A (HubFault × Finished Event Global AnyItems)) → n ≡ length outs
     → IsClosing r x q n sent → IsRefusing r x q n sent → IsPort h outs k x → IsPort h outs k q
-port_tried h outs k n x q sent (Ok u) full ok err is = port_closes h outs k x q (ok.0 ∙ ap (λ m. close_at m x) full) is
+port_tried h outs k n x q sent (Ok u) full ok err is = rw (ok.0 ∙ ap (λ m. close_at m x) full) (closes h outs k x x.closed refl is)
 port_tried h outs k n x q sent (Err e) full ok err is = rw err.0 is
 
 pub hub_closes : {A : Type 0} (h0 h g : HubState) (k n : ℕ) (x q : PortState) (sent : List Event) (r : Result A (HubFault × Finished Event Global AnyItems))
-    → h0 ≡ h → slice_get h0.ports k ≡ Some x → IsPort h0.history h0.outs k x → n ≡ length h0.outs → g.ports ≡ set h0.ports k q → IsClosing r x q n sent
+    → h0 ≡ h → IsHub h0 → k < length h0.ports → x ≡ get_or h0.ports k x → n ≡ length h0.outs → g.ports ≡ set h0.ports k q → IsClosing r x q n sent
     → OnOk r (Closes k h g sent)
-hub_closes h0 h g k n x q sent (Err e) same at is full ports ok = tt
-hub_closes h0 h g k n x q sent (Ok u) same at is full ports ok =
+hub_closes h0 h g k n x q sent (Err e) same is lt at full ports ok = tt
+hub_closes h0 h g k n x q sent (Ok u) same is lt at full ports ok =
     subst (λ f. Closes k f g sent) same (record {
       p = x;
-      at = at;
+      at = slice_get_read h0.ports (length h0.ports) k x refl lt at;
       not_cut = ok.1;
-      all = sym is.taken ∙ ok.2;
+      all = sym (is.ports k x lt at).taken ∙ ok.2;
       ports = ports ∙ (ap (λ y. set h0.ports k y) ok.0 ∙ ap (λ m. set h0.ports k (close_at m x)) full);
     })
 
@@ -101,19 +89,19 @@ stays_open h k x sent Closed at taken why = inr (inl (refl, x, at, why))
 stays_open h k x sent NotSealable at taken why = absurd why
 
 pub hub_refuses : {A : Type 0} (h0 h g : HubState) (k n : ℕ) (x q : PortState) (sent : List Event) (r : Result A (HubFault × Finished Event Global AnyItems))
-    → h0 ≡ h → slice_get h0.ports k ≡ Some x → x ≡ get_or h0.ports k x → x.taken ≡ events_of k h0.history → g ≡ record h0 { ports = set h0.ports k q } → IsRefusing r x q n sent
+    → h0 ≡ h → IsHub h0 → k < length h0.ports → x ≡ get_or h0.ports k x → g ≡ record h0 { ports = set h0.ports k q } → IsRefusing r x q n sent
     → IfErr r (λ e. (g ≡ h) × RefusesClose k h sent e.0)
-hub_refuses h0 h g k n x q sent (Ok u) same at here taken is err = tt
-hub_refuses h0 h g k n x q sent (Err e) same at here taken is err = (
-  is ∙ (ap (λ y. record h0 { ports = set h0.ports k y }) err.0 ∙ (ap (λ ps. record h0 { ports = ps }) (set_same h0.ports k x here) ∙ same)),
-  subst (λ f. RefusesClose k f sent e.0) same (stays_open h0 k x sent e.0 at taken err.1),
+hub_refuses h0 h g k n x q sent (Ok u) same is lt at ports err = tt
+hub_refuses h0 h g k n x q sent (Err e) same is lt at ports err = (
+  ports ∙ (ap (λ y. record h0 { ports = set h0.ports k y }) err.0 ∙ (ap (λ ps. record h0 { ports = ps }) (ap (λ y. set h0.ports k y) at ∙ set-get_or h0.ports k x) ∙ same)),
+  subst (λ f. RefusesClose k f sent e.0) same (stays_open h0 k x sent e.0 (slice_get_read h0.ports (length h0.ports) k x refl lt at) (is.ports k x lt at).taken err.1),
 )
 
-pub token_back : {A : Type 0} (h0 h : HubState) (k : ℕ) (x : PortState) (sent : List Event) (r : Result A (HubFault × Finished Event Global AnyItems)) → h0 ≡ h → slice_get h0.ports k ≡ Some x
+pub token_back : {A : Type 0} (h0 h : HubState) (k : ℕ) (x : PortState) (sent : List Event) (r : Result A (HubFault × Finished Event Global AnyItems)) → h0 ≡ h → k < length h0.ports → x ≡ get_or h0.ports k x
     → IfErr r (λ e. (all_sent e.1 ≡ sent) × IsOfRing e.1 x.events) → IfErr r (λ e. (all_sent e.1 ≡ sent) × IfSome (slice_get h.ports k) (λ p. IsOfRing e.1 p.events))
-token_back h0 h k x sent (Ok u) same at back = tt
-token_back h0 h k x sent (Err e) same at back =
-    subst (λ (f : HubState). (all_sent e.1 ≡ sent) × IfSome (slice_get f.ports k) (λ p. IsOfRing e.1 p.events)) same (back.0, rw at back.1)
+token_back h0 h k x sent (Ok u) same lt at back = tt
+token_back h0 h k x sent (Err e) same lt at back =
+    subst (λ (f : HubState). (all_sent e.1 ≡ sent) × IfSome (slice_get f.ports k) (λ p. IsOfRing e.1 p.events)) same (back.0, rw (slice_get_read h0.ports (length h0.ports) k x refl lt at) back.1)
 
 -- a port that was just made, with no history and no record
 opening_port : (k : ℕ) (p : PortState) → IsNewPort p → IsPort [] [] k p
@@ -126,31 +114,24 @@ opening_port k p is = record {
   told_none None = tt
   told_none (Some ring) = let a = is.put in let b = is.waiting in rw (is.closed, a, b) refl
 
-pub opening_hub : (v : EngineView) (ps : List PortState) → plant_of v ≡ opening → All IsNewPort ps → IsHub (record { engine = v; history = []; outs = []; ports = ps })
-opening_hub v ps e each = record { leads = sym e; ports = λ k p lt at. opening_port k p (rw at (each k p lt)) }
-
-map_push : {X Y : Type 0} (f : X → Y) (xs : List X) (x : X) → map f (xs ++ x ∷ []) ≡ map f xs ++ f x ∷ []
-map_push f [] x = refl
-map_push f (z ∷ zs) x = ap (λ ys. f z ∷ ys) (map_push f zs x)
-
 pub rings_pushed : (ps : List PortState) (ds : List DeskState) (p : PortState) (d : DeskState) → map port_rings ps ≡ map desk_rings ds → port_rings p ≡ desk_rings d
     → map port_rings (ps ++ p ∷ []) ≡ map desk_rings (ds ++ d ∷ [])
 rings_pushed ps ds p d e f = map_push port_rings ps p ∙ (ap (λ ls. ls ++ port_rings p ∷ []) e ∙ (ap (λ l. map desk_rings ds ++ l ∷ []) f ∙ sym (map_push desk_rings ds d)))
 
 pub opened_hub : (s : EngineView) (h : List (ℕ × Event)) (outs : List Out) (ps : List PortState) → plant_of s ≡ opening → h ≡ [] → outs ≡ [] → All IsNewPort ps
     → IsHub (record { engine = s; history = h; outs = outs; ports = ps })
-opened_hub s h outs ps e f g each = rw (f, g) (opening_hub s ps e each)
+opened_hub s h outs ps e f g each = rw (f, g) (record { leads = sym e; ports = λ k p lt at. opening_port k p (rw at (each k p lt)) })
 
-pub port_seals : (h0 h g : HubState) (k : ℕ) (x q : PortState) (token : Option (Finished Out Global AnyItems)) → h0 ≡ h → slice_get h0.ports k ≡ Some x → IsPort h0.history h0.outs k x → IsSealable x
+pub port_seals : (h0 h g : HubState) (k : ℕ) (x q : PortState) (token : Option (Finished Out Global AnyItems)) → h0 ≡ h → IsHub h0 → k < length h0.ports → x ≡ get_or h0.ports k x → IsSealable x
     → g.ports ≡ set h0.ports k q → q ≡ sealed x → IfSome token (λ t. (all_sent t ≡ x.put) × IfSome x.outs (λ ring. IsOfRing t ring))
     → Seals k h g token
-port_seals h0 h g k x q token e at is can ports sealed shown =
+port_seals h0 h g k x q token e is lt at can ports sealed shown =
     subst (λ (f : HubState). Seals k f g token) e (record {
       p = x;
-      at = at;
+      at = slice_get_read h0.ports (length h0.ports) k x refl lt at;
       can = can;
       ports = ports ∙ ap (λ y. set h0.ports k y) sealed;
-      all = IfSome_then token shown (λ t w. w.0 ∙ port_put_all h0.history h0.outs k x can is);
+      all = IfSome_then token shown (λ t w. w.0 ∙ port_put_all h0.history h0.outs k x can (is.ports k x lt at));
       ring = IfSome_then token shown (λ t w. w.1);
     })
 

@@ -1,10 +1,8 @@
 -- What a console has sent and taken, one event or one out more.
-use Rattle.std.proofs.Common.{◌≡◌, ℕ, ◌+◌, ◌-◌, ◌<◌, ◌≤◌, List, [], ◌∷◌, ◌++◌, length, length-append, inr, true, false, cond, eqb, refl, sym, ◌∙◌, ap, arith, append_assoc, append-nil}
-use Rattle.std.proofs.lemmas.Bool.Decides.{nat_tests}
+use Rattle.std.proofs.Common.{◌≡◌, ℕ, ◌+◌, ◌-◌, ◌<◌, ◌≤◌, ◌⊎◌, List, [], ◌∷◌, ◌++◌, length, length-append, inl, inr, cond, refl, sym, ◌∙◌, ap, arith, append_assoc, append-nil}
+use Rattle.std.proofs.lemmas.Bool.Decides.{eqb_tells}
 use Rattle.std.proofs.lemmas.List.Elements.{All-push}
-use Rattle.std.proofs.lemmas.List.Sums.{sum_by_push, sum_by-append}
-use Rattle.std.specs.Global.{Vec}
-use Rattle.batch_recipe.specs.Conditions.{Name}
+use Rattle.std.proofs.lemmas.List.Sums.{sum_by_push}
 use Rattle.batch_matrix.specs.declared.command.Command.TheVariants as command
 use Rattle.batch_engine.specs.declared.event.Event.{Event}
 use Rattle.batch_engine.specs.declared.event.Event.TheVariants.{Create, Order}
@@ -13,78 +11,65 @@ use Rattle.batch_desk.specs.declared.batch_plan.BatchPlan.{BatchPlan}
 use Rattle.batch_desk.specs.declared.step.Step.TheVariants as step
 use Rattle.batch_desk.specs.declared.console.Console.{Console}
 use Rattle.batch_desk.specs.DeskState.{DeskState, Sends}
-use Rattle.batch_desk.specs.Consoles.{IsConsoleEvent, IsSamePlan, completes, creates, creating, creations, refusals, starting, starts, telling_complete, telling_created, telling_refused}
+use Rattle.batch_desk.specs.Consoles.{IsConsoleEvent, IsSamePlan, creating, creations, starting, telling_created}
 use Rattle.batch_desk.specs.ConsoleSteps.{Follows, GoesOn, IsTried, Minds, learned}
 use Rattle.batch_desk.proofs.Consoles.{learns}
 
 more_appended : {X : Type 0} (before more old new : List X) (x : X) → old ≡ before ++ more → new ≡ old ++ x ∷ [] → new ≡ before ++ (more ++ x ∷ [])
 more_appended before more old new x is grown = grown ∙ (ap (λ xs. xs ++ x ∷ []) is ∙ append_assoc before more (x ∷ []))
 
--- one more start
-starts_start : (m n : ℕ) (es : List Event) → starts m (es ++ Order command.Start n ∷ []) ≡ starts m es + cond (eqb n m) 1 0
-starts_start m n es = sum_by_push (starting m) es (Order command.Start n)
-
-creates_start : (n : ℕ) (es : List Event) → creates (es ++ Order command.Start n ∷ []) ≡ creates es + 0
-creates_start n es = sum_by_push creating es (Order command.Start n)
-
--- one more create
-starts_create : (m : ℕ) (recipe : Name) (size : ℕ) (roles : Vec (Name × Name)) (es : List Event) → starts m (es ++ Create recipe size roles ∷ []) ≡ starts m es + 0
-starts_create m recipe size roles es = sum_by_push (starting m) es (Create recipe size roles)
-
-creates_create : (recipe : Name) (size : ℕ) (roles : Vec (Name × Name)) (es : List Event) → creates (es ++ Create recipe size roles ∷ []) ≡ creates es + 1
-creates_create recipe size roles es = sum_by_push creating es (Create recipe size roles)
-
-pub start_goes : (plan : BatchPlan) (n : ℕ) (c f : Console) (d e : DeskState) → c.step ≡ step.Start n → f.step ≡ step.Wait → f.last ≡ c.last → f.to_create ≡ c.to_create → f.to_complete ≡ c.to_complete → f.refused ≡ c.refused
-    → Sends d (Order command.Start n) e → GoesOn plan c d f e
-start_goes plan n c f d e here waits last creates-left completing same sends batches before was =
-    let next = was.minds.next n here in
-    record {
-      is = record {
-        events = ap (λ (x : DeskState). x.events) sends.others ∙ was.is.events;
-        outs = ap (λ (x : DeskState). x.outs) sends.others ∙ was.is.outs;
-        more = was.is.more ++ Order command.Start n ∷ [];
-        seen = was.is.seen;
-        sent = more_appended before.sent was.is.more d.sent e.sent (Order command.Start n) was.is.sent sends.sent;
-        taken = ap (λ (x : DeskState). x.taken) sends.others ∙ was.is.taken;
-        each = All-push (IsConsoleEvent plan) was.is.more (Order command.Start n) was.is.each refl;
-        creates = omega (arith, creates_start n was.is.more, was.is.creates);
-        once = λ m. let o = was.is.once m in let unstarted = next.1 in let s = starts_start m n was.is.more in grind (arith, nat_tests);
-        created = λ m. let o = was.is.created m in let told = next.2 in let unstarted = next.1 in let s = starts_start m n was.is.more in grind (arith, nat_tests);
-      };
-      minds = record {
-        to_create = omega (arith, creates_start n was.is.more, was.minds.to_create, creates-left);
-        to_complete = completing ∙ was.minds.to_complete;
-        above = λ m up. let a = was.minds.above m (omega (arith, last, up)) in let s = starts_start m n was.is.more in let b = next.0 in grind (arith, nat_tests);
-        next = λ m at. cc;
-        refused = λ e. was.minds.refused (sym same ∙ e);
-        none_refused = λ e. was.minds.none_refused (sym same ∙ e);
-      };
-    }
-
-pub create_goes : (plan copy : BatchPlan) (c f : Console) (d e : DeskState) → IsSamePlan plan copy → 0 < c.to_create → f.step ≡ step.Wait → f.last ≡ c.last → f.to_create ≡ c.to_create - 1 → f.to_complete ≡ c.to_complete → f.refused ≡ c.refused
-    → Sends d (Create copy.recipe copy.size copy.roles) e → GoesOn plan c d f e
-create_goes plan copy c f d e same_plan some waits last creates-left completing same sends batches before was = record {
+-- an event of the plan was sent: a create of those that are to be sent, or the start that is next
+sent_goes : (plan : BatchPlan) (event : Event) (c f : Console) (d e : DeskState) → IsConsoleEvent plan event → creating event + f.to_create ≡ c.to_create
+    → ((n : ℕ) → (starting n event ≡ 0) ⊎ ((starting n event ≡ 1) × (c.step ≡ step.Start n)))
+    → f.step ≡ step.Wait → f.last ≡ c.last → f.to_complete ≡ c.to_complete → f.refused ≡ c.refused → Sends d event e → GoesOn plan c d f e
+sent_goes plan event c f d e planned left starts-one waits last completing same sends batches before was = record {
   is = record {
     events = ap (λ (x : DeskState). x.events) sends.others ∙ was.is.events;
     outs = ap (λ (x : DeskState). x.outs) sends.others ∙ was.is.outs;
-    more = was.is.more ++ Create copy.recipe copy.size copy.roles ∷ [];
+    more = was.is.more ++ event ∷ [];
     seen = was.is.seen;
-    sent = more_appended before.sent was.is.more d.sent e.sent (Create copy.recipe copy.size copy.roles) was.is.sent sends.sent;
+    sent = more_appended before.sent was.is.more d.sent e.sent event was.is.sent sends.sent;
     taken = ap (λ (x : DeskState). x.taken) sends.others ∙ was.is.taken;
-    each = All-push (IsConsoleEvent plan) was.is.more (Create copy.recipe copy.size copy.roles) was.is.each (same_plan.recipe, same_plan.size, same_plan.roles);
-    creates = omega (arith, creates_create copy.recipe copy.size copy.roles was.is.more, was.minds.to_create, some);
-    once = λ m. omega (arith, was.is.once m, starts_create m copy.recipe copy.size copy.roles was.is.more);
-    created = λ m. omega (arith, was.is.created m, starts_create m copy.recipe copy.size copy.roles was.is.more);
+    each = All-push (IsConsoleEvent plan) was.is.more event was.is.each planned;
+    creates = omega (arith, sum_by_push creating was.is.more event, was.minds.to_create, left);
+    once = λ n. elim (starts-one n) [
+      | inl none ↦ omega (arith, sum_by_push (starting n) was.is.more event, none, was.is.once n)
+      | inr one ↦ omega (arith, sum_by_push (starting n) was.is.more event, one.0, (was.minds.next n one.1).1)
+    ];
+    created = λ n. elim (starts-one n) [
+      | inl none ↦ omega (arith, sum_by_push (starting n) was.is.more event, none, was.is.created n)
+      | inr one ↦ omega (arith, sum_by_push (starting n) was.is.more event, one.0, (was.minds.next n one.1).1, (was.minds.next n one.1).2)
+    ];
   };
   minds = record {
-    to_create = omega (arith, creates_create copy.recipe copy.size copy.roles was.is.more, was.minds.to_create, creates-left, some);
+    to_create = omega (arith, sum_by_push creating was.is.more event, was.minds.to_create, left);
     to_complete = completing ∙ was.minds.to_complete;
-    above = λ m up. omega (arith, was.minds.above m (omega (arith, last, up)), starts_create m copy.recipe copy.size copy.roles was.is.more);
-    next = λ m at. cc;
+    above = λ n up. elim (starts-one n) [
+      | inl none ↦ omega (arith, sum_by_push (starting n) was.is.more event, none, was.minds.above n (omega (arith, last, up)))
+      | inr one ↦ absurd (omega (arith, last, up, (was.minds.next n one.1).0))
+    ];
+    next = λ n at. cc;
     refused = λ e. was.minds.refused (sym same ∙ e);
     none_refused = λ e. was.minds.none_refused (sym same ∙ e);
   };
 }
+
+-- the start of batch n starts this batch alone
+starts_one : (c : Console) (n m : ℕ) → c.step ≡ step.Start n → (starting m (Order command.Start n) ≡ 0) ⊎ ((starting m (Order command.Start n) ≡ 1) × (c.step ≡ step.Start m))
+starts_one c n m here = elim (eqb_tells n m) [
+  | inl same ↦ inr (ap (λ b. cond b 1 0) same.0, here ∙ ap step.Start same.1)
+  | inr other ↦ inl (ap (λ b. cond b 1 0) other.0)
+]
+
+pub start_goes : (plan : BatchPlan) (n : ℕ) (c f : Console) (d e : DeskState) → c.step ≡ step.Start n → f.step ≡ step.Wait → f.last ≡ c.last → f.to_create ≡ c.to_create → f.to_complete ≡ c.to_complete → f.refused ≡ c.refused
+    → Sends d (Order command.Start n) e → GoesOn plan c d f e
+start_goes plan n c f d e here waits last creates-left completing same sends =
+    sent_goes plan (Order command.Start n) c f d e refl (omega (arith, creates-left)) (λ m. starts_one c n m here) waits last completing same sends
+
+pub create_goes : (plan copy : BatchPlan) (c f : Console) (d e : DeskState) → IsSamePlan plan copy → 0 < c.to_create → f.step ≡ step.Wait → f.last ≡ c.last → f.to_create ≡ c.to_create - 1 → f.to_complete ≡ c.to_complete → f.refused ≡ c.refused
+    → Sends d (Create copy.recipe copy.size copy.roles) e → GoesOn plan c d f e
+create_goes plan copy c f d e same_plan some waits last creates-left completing same sends =
+    sent_goes plan (Create copy.recipe copy.size copy.roles) c f d e (same_plan.recipe, same_plan.size, same_plan.roles) (omega (arith, creates-left, some)) (λ m. inl refl) waits last completing same sends
 
 -- an event was sent
 pub sent_more : (c f : Console) (d e : DeskState) (event : Event) → Sends d event e → IsTried c d f e
@@ -146,29 +131,3 @@ begins plan batches c d minds = record {
   };
   minds = minds;
 }
-
--- nothing is left exactly where as many batches became complete
-pub completes_seen : (plan : BatchPlan) (batches : ℕ) (before d : DeskState) (c : Console) (follows : Follows plan batches before c d)
-    → completes d.taken ≡ completes before.taken + completes follows.is.seen
-completes_seen plan batches before d c follows = ap completes follows.is.taken ∙ sum_by-append telling_complete before.taken follows.is.seen
-
-pub none_left : (plan : BatchPlan) (batches : ℕ) (before d : DeskState) (c : Console) → Follows plan batches before c d → c.to_complete ≡ 0
-    → completes before.taken + batches ≤ completes d.taken
-none_left plan batches before d c follows zero = omega (arith, completes_seen plan batches before d c follows, follows.minds.to_complete, zero)
-
-pub some_left : (plan : BatchPlan) (batches : ℕ) (before d : DeskState) (c : Console) → Follows plan batches before c d → completes before.taken + batches ≤ completes d.taken
-    → c.to_complete ≡ 0
-some_left plan batches before d c follows all = omega (arith, completes_seen plan batches before d c follows, follows.minds.to_complete, all)
-
--- an event was refused where this is kept in mind
-pub refusals_seen : (plan : BatchPlan) (batches : ℕ) (before d : DeskState) (c : Console) (follows : Follows plan batches before c d)
-    → refusals d.taken ≡ refusals before.taken + refusals follows.is.seen
-refusals_seen plan batches before d c follows = ap refusals follows.is.taken ∙ sum_by-append telling_refused before.taken follows.is.seen
-
-pub some_refused : (plan : BatchPlan) (batches : ℕ) (before d : DeskState) (c : Console) → Follows plan batches before c d → c.refused ≡ true
-    → refusals before.taken < refusals d.taken
-some_refused plan batches before d c follows is = omega (arith, refusals_seen plan batches before d c follows, follows.minds.refused is)
-
-pub none_refused : (plan : BatchPlan) (batches : ℕ) (before d : DeskState) (c : Console) → Follows plan batches before c d → c.refused ≡ false
-    → refusals d.taken ≡ refusals before.taken
-none_refused plan batches before d c follows is = omega (arith, refusals_seen plan batches before d c follows, follows.minds.none_refused is)

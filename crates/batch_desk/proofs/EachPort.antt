@@ -1,12 +1,12 @@
 -- The ports of a hub, one changed or all told.
 use Rattle.std.proofs.Common.{◌≡◌, ℕ, ◌+◌, ◌<◌, ◌≢◌, List, map, length, get_or, set, sym, ◌∙◌, ap, arith, below_more, get_or-set_other, get_or-set_same, length-set, inl, inr}
-use Rattle.std.proofs.lemmas.List.{length-map}
+use Rattle.std.proofs.lemmas.List.{get_or-map, get_or_default, length-map}
 use Rattle.std.proofs.lemmas.Bool.Decides.{eqb_tells}
 use Rattle.batch_engine.specs.declared.event.Event.{Event}
 use Rattle.batch_engine.specs.declared.out.Out.{Out}
 use Rattle.batch_desk.specs.PortState.{PortState}
 use Rattle.batch_desk.specs.PortSteps.{Flushes, HasRoom, without_room}
-use Rattle.batch_desk.proofs.Lists.{get_or-map, get_or-same, map-same_length}
+use Rattle.batch_desk.proofs.Lists.{map-same_length}
 use Rattle.batch_desk.specs.HubState.{IsPort, ArePorts, HubState}
 use Rattle.batch_desk.specs.PortState.{outline}
 
@@ -31,7 +31,7 @@ pub ports_mapped : (h h' : List (ℕ × Event)) (outs outs' : List Out) (f : Por
 ports_mapped h h' outs outs' f ps are step k r lt at =
     let lt' : k < length ps = omega (arith, length-map ps f) in
     let p : PortState = get_or ps k r in
-    rw (at ∙ get_or-map f ps k r r lt') (step k p (are k p lt' (get_or-same ps k r p lt')))
+    rw (at ∙ get_or-map f ps k r r lt') (step k p (are k p lt' (get_or_default ps k r p lt')))
 
 pub roomless : (h : List (ℕ × Event)) (outs : List Out) (k : ℕ) (p q : PortState) → without_room q ≡ without_room p → IsPort h outs k p → IsPort h outs k q
 roomless h outs k p q e is =
@@ -46,7 +46,7 @@ ports_roomless h outs ps qs e are k q lt at =
     let p : PortState = get_or ps k q in
     let same : without_room q ≡ without_room p =
     ap without_room at ∙ (sym (get_or-map without_room qs k q q lt) ∙ (ap (λ xs. get_or xs k q) e ∙ get_or-map without_room ps k q q lt')) in
-    roomless h outs k p q same (are k p lt' (get_or-same ps k q p lt'))
+    roomless h outs k p q same (are k p lt' (get_or_default ps k q p lt'))
 
 module _ (history : List (ℕ × Event)) (outs : List Out) where
   pub flushed : (port : ℕ) (p q : PortState) → IsPort history outs port p → Flushes p q → IsPort history outs port q

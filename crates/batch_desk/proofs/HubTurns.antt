@@ -1,7 +1,7 @@
 -- What turns, one after the other, keep of a hub, and which of its batches are complete.
 use Rattle.std.proofs.Common.{◌≡◌, ℕ, ◌+◌, ◌-◌, ◌<◌, ◌≤◌, List, [], ◌∷◌, ◌++◌, length, sym, ◌∙◌, ap, subst, arith, append_assoc, append-nil, inl, inr, ◌⊎◌}
+use Rattle.std.proofs.lemmas.Bool.{cases_lt}
 use Rattle.std.proofs.lemmas.Bool.Decides.{nat_tests}
-use Rattle.std.proofs.lemmas.List.{length-map}
 use Rattle.std.proofs.lemmas.List.Elements.{All-nil, All-push}
 use mathlib.Core.List.{IsPrefix}
 use Rattle.batch_engine.specs.declared.event.Event.{Event}
@@ -9,6 +9,7 @@ use Rattle.batch_desk.specs.HubState.{HasGrown, HubState, outlines}
 use Rattle.batch_desk.specs.HubDone.{AreComplete, IsComplete}
 use Rattle.batch_desk.specs.PortState.{outline}
 use Rattle.batch_desk.specs.Turns.{Grows}
+use Rattle.batch_desk.proofs.Lists.{map-same_length}
 
 pub prefix_same : {X : Type 0} (xs : List X) → IsPrefix xs xs
 prefix_same xs = ([], append-nil xs)
@@ -17,10 +18,7 @@ pub history_same : (ports : ℕ) (history : List (ℕ × Event)) → HasGrown po
 history_same ports history = record { more = []; is = sym (append-nil history); each = All-nil (λ (entry : ℕ × Event). entry.0 < ports) }
 
 pub as_many : (h g : HubState) → outlines g ≡ outlines h → length g.ports ≡ length h.ports
-as_many h g same = sym (length-map g.ports outline) ∙ (ap length same ∙ length-map h.ports outline)
-
-within : (port ports : ℕ) → (port < ports) ⊎ (ports ≤ port)
-within port ports = grind (arith, nat_tests)
+as_many h g same = map-same_length outline g.ports h.ports same
 
 grown_within : (ports port : ℕ) (old : List (ℕ × Event)) (h g : HubState) → port < ports → HasGrown ports old h.history → Grows port h g → HasGrown ports old g.history
 grown_within ports port old h g below was (inl same) = subst (λ es. HasGrown ports old es) (sym same) was
@@ -33,7 +31,7 @@ grown_within ports port old h g below was (inr pops) = record {
 -- a turn of a port that isn't there changes nothing
 pub history_grows : (ports port : ℕ) (old : List (ℕ × Event)) (h g : HubState) → length h.ports ≡ ports → (length h.ports ≤ port → g ≡ h) → HasGrown ports old h.history
     → Grows port h g → HasGrown ports old g.history
-history_grows ports port old h g many unknown was grown = elim (within port (length h.ports)) [
+history_grows ports port old h g many unknown was grown = elim (cases_lt port (length h.ports)) [
   | inl below ↦ grown_within ports port old h g (subst (λ n. port < n) many below) was grown
   | inr out ↦ subst (λ (k : HubState). HasGrown ports old k.history) (sym (unknown out)) was
 ]

@@ -1,7 +1,8 @@
 -- What one event and one move do to a hub.
 use Rattle.std.proofs.Common.{◌≡◌, ℕ, ◌<◌, List, [], ◌∷◌, ◌++◌, map, length, get_or, set, Option, Some, IsNone, IfSome, slice_get, option_map, refl, sym, ◌∙◌, ap, subst, arith, inr}
-use Rattle.std.proofs.lemmas.List.{length-map}
-use Rattle.std.proofs.lemmas.Option.{slice_get-map}
+use Rattle.std.proofs.lemmas.List.{length-map, map_push}
+use Rattle.std.proofs.lemmas.Option.{slice_get-map, slice_get_read}
+use mathlib.Core.List.{map-map}
 use Rattle.batch_model.specs.Plant.{Plant, opening}
 use Rattle.batch_model.specs.Moves.{next, after}
 use Rattle.batch_model.specs.Runs.{Leads}
@@ -17,20 +18,18 @@ use Rattle.batch_engine.specs.declared.reply.Reply.{Reply as Answer}
 use Rattle.batch_engine.specs.declared.line.Line.{Line}
 use Rattle.batch_desk.specs.PortState.{PortState, outline}
 use Rattle.batch_desk.specs.PortSteps.{owe_line, answered, without_room}
-use Rattle.batch_desk.specs.HubState.{HubState, IsHub, IsEngineSettled, events_in, outs_in, outlines}
-use Rattle.batch_desk.specs.Turns.{Grows, SameWork}
+use Rattle.batch_desk.specs.HubState.{HubState, IsHub, IsEngineSettled, events_in, outs_in}
+use Rattle.batch_desk.specs.Turns.{Grows}
 use Rattle.batch_desk.specs.TurnSteps.{AnswersOne}
 use Rattle.batch_desk.proofs.Replies.{replies, replies-led}
 use Rattle.batch_desk.proofs.EachPort.{ports_step, ports_mapped, ports_roomless, roomless}
 use Rattle.batch_desk.proofs.Steps.{reply_own, reply_other, line_told, line_outline}
 
 events_in-append : (h : List (ℕ × Event)) (e : ℕ × Event) → events_in (h ++ e ∷ []) ≡ events_in h ++ event_of e.1 ∷ []
-events_in-append [] e = refl
-events_in-append (x ∷ h) e = ap (λ es. event_of x.1 ∷ es) (events_in-append h e)
+events_in-append h e = map_push (λ (entry : ℕ × Event). event_of entry.1) h e
 
 outs_in-append : (c : ClearedSet) (outs : List Out) (x : Out) → outs_in c (outs ++ x ∷ []) ≡ outs_in c outs ++ out_of c x ∷ []
-outs_in-append c [] x = refl
-outs_in-append c (y ∷ outs) x = ap (λ ys. out_of c y ∷ ys) (outs_in-append c outs x)
+outs_in-append c outs x = map_push (out_of c) outs x
 
 -- the record leads to where the engine is
 abbrev pub IsLed : EngineView → List (ℕ × Event) → List Out → Type 0
@@ -94,31 +93,22 @@ pub hub_roomless : (v : EngineView) (h : List (ℕ × Event)) (outs : List Out) 
     → IsHub (record { engine = v; history = h; outs = outs; ports = qs })
 hub_roomless v h outs ps qs is same = record { leads = is.leads; ports = ports_roomless h outs ps qs same is.ports }
 
-factors : (ps : List PortState) → map outline ps ≡ map outline (map without_room ps)
-factors [] = refl
-factors (p ∷ ps) = ap (λ ls. outline p ∷ ls) (factors ps)
-
 pub outlines_roomless : (ps qs : List PortState) → map without_room qs ≡ map without_room ps → map outline qs ≡ map outline ps
-outlines_roomless ps qs same = factors qs ∙ (ap (map outline) same ∙ sym (factors ps))
+outlines_roomless ps qs same = sym (map-map outline without_room qs) ∙ (ap (map outline) same ∙ map-map outline without_room ps)
 
 pub outlines_told : (line : Line) (ps : List PortState) → map outline (map (owe_line line) ps) ≡ map outline ps
 outlines_told line [] = refl
 outlines_told line (p ∷ ps) = rw (line_outline line p) (ap (λ ls. outline p ∷ ls) (outlines_told line ps))
 
 -- an open port
-pub opens : (ps : List PortState) (k : ℕ) (p : PortState) → slice_get ps k ≡ Some p → IsNone p.closed → IfSome (slice_get (map outline ps) k) (λ q. IsNone q.closed)
+opens : (ps : List PortState) (k : ℕ) (p : PortState) → slice_get ps k ≡ Some p → IsNone p.closed → IfSome (slice_get (map outline ps) k) (λ q. IsNone q.closed)
 opens ps k p at none = rw (slice_get-map outline ps k, at) none
 
-pub takes_one : (h0 h g : HubState) (k : ℕ) (x : PortState) (event : Event) (answer : Answer) → h0 ≡ h → slice_get h0.ports k ≡ Some x → IsNone x.closed
+pub takes_one : (h0 h g : HubState) (k : ℕ) (x : PortState) (event : Event) (answer : Answer) → h0 ≡ h → k < length h0.ports → x ≡ get_or h0.ports k x → IsNone x.closed
     → g.engine.cleared ≡ h0.engine.cleared → g.history ≡ h0.history ++ (k, event) ∷ [] → g.outs ≡ h0.outs ++ Reply answer ∷ [] → AnswersOne k h g
-takes_one h0 h g k x event answer same at none cleared history outs =
+takes_one h0 h g k x event answer same lt at none cleared history outs =
     subst (λ f. AnswersOne k f g) same
-    (record { event = event; reply = answer; was_open = opens h0.ports k x at none; cleared = cleared; history = history; outs = outs })
+    (record { event = event; reply = answer; was_open = opens h0.ports k x (slice_get_read h0.ports (length h0.ports) k x refl lt at) none; cleared = cleared; history = history; outs = outs })
 
-pub grows_taken : (port : ℕ) (h f t g : HubState) → SameWork h f → IsEngineSettled f.engine → outlines f ≡ outlines h → AnswersOne port f t → g.history ≡ t.history → Grows port h g
-grows_taken port h f t g same settled stays took later = inr (record {
-  settled = subst IsEngineSettled same.0 settled;
-  event = took.event;
-  was_open = subst (λ ps. IfSome (slice_get ps port) (λ p. IsNone p.closed)) stays took.was_open;
-  history = later ∙ (took.history ∙ ap (λ es. es ++ (port, took.event) ∷ []) same.1);
-})
+pub grows_taken : (port : ℕ) (h t g : HubState) → IsEngineSettled h.engine → AnswersOne port h t → g.history ≡ t.history → Grows port h g
+grows_taken port h t g settled took later = inr (record { event = took.event; settled = settled; was_open = took.was_open; history = later ∙ took.history })

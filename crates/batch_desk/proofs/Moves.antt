@@ -7,11 +7,10 @@ use Rattle.batch_desk.specs.declared.fault.HubFault.{HubFault}
 use Rattle.batch_desk.specs.declared.turned.Turned.{Turned}
 use Rattle.batch_desk.specs.declared.turned.Turned.TheVariants.{Idle, Handled, MovesLeft}
 use Rattle.batch_desk.specs.HubState.{HubState}
-use Rattle.batch_desk.specs.TurnSteps.{MakesMove, EndsTurn}
-use Rattle.batch_desk.specs.TurnSteps.{AnswersOne}
-use Rattle.batch_desk.specs.Turns.{SameWork, AnswersTurn, moves}
+use Rattle.batch_desk.specs.TurnSteps.{AnswersOne, EndsTurn, MakesMove}
+use Rattle.batch_desk.specs.Turns.{AnswersTurn, moves}
 
-pub moves-append : (xs ys : List Out) → moves (xs ++ ys) ≡ moves xs + moves ys
+moves-append : (xs ys : List Out) → moves (xs ++ ys) ≡ moves xs + moves ys
 moves-append [] ys = omega arith
 moves-append (Reply r ∷ xs) ys = moves-append xs ys
 moves-append (Move m ∷ xs) ys = omega (arith, moves-append xs ys)
@@ -19,7 +18,7 @@ moves-append (Move m ∷ xs) ys = omega (arith, moves-append xs ys)
 pub moves_made : (h g : HubState) → MakesMove h g → moves g.outs ≡ moves h.outs + 1
 moves_made h g made = ap moves made.outs ∙ moves-append h.outs (Move made.line ∷ [])
 
-pub moves_taken : (port : ℕ) (h g : HubState) → AnswersOne port h g → moves g.outs ≡ moves h.outs
+moves_taken : (port : ℕ) (h g : HubState) → AnswersOne port h g → moves g.outs ≡ moves h.outs
 moves_taken port h g took = omega (arith, ap moves took.outs, moves-append h.outs (Reply took.reply ∷ []))
 
 pub prefix_more : (xs ys zs : List Out) (x : Out) → IsPrefix xs ys → zs ≡ ys ++ x ∷ [] → IsPrefix xs zs
@@ -28,16 +27,15 @@ prefix_more xs ys zs x pre e = (pre.0 ++ x ∷ [], sym (append_assoc xs pre.0 (x
 pub prefix_then : (xs ys zs : List Out) → IsPrefix xs ys → IsPrefix ys zs → IsPrefix xs zs
 prefix_then xs ys zs p q = (p.0 ++ q.0, sym (append_assoc xs p.0 q.0) ∙ (ap (λ w. w ++ q.0) p.1 ∙ q.1))
 
-pub taken_more : (port : ℕ) (h g : HubState) → AnswersOne port h g → length g.history ≡ length h.history + 1
+taken_more : (port : ℕ) (h g : HubState) → AnswersOne port h g → length g.history ≡ length h.history + 1
 taken_more port h g took = omega (arith, ap length took.history, length-append h.history ((port, took.event) ∷ []))
 
-answers_taken : (port : ℕ) (h f t g : HubState) (turned : Turned) → SameWork h f → AnswersOne port f t → g.history ≡ t.history → EndsTurn turned t g → AnswersTurn turned h g
-answers_taken port h f t g Idle same took later ends = absurd ends
-answers_taken port h f t g Handled same took later ends =
-    (ends.0, omega (arith, ap length same.1, ap moves same.2, ap length later, taken_more port f t took, moves_taken port f t took, ends.1))
-answers_taken port h f t g MovesLeft same took later ends = (ends.0, omega (arith, ap moves same.2, moves_taken port f t took, ends.1))
+answers_taken : (port : ℕ) (h t g : HubState) (turned : Turned) → AnswersOne port h t → g.history ≡ t.history → EndsTurn turned t g → AnswersTurn turned h g
+answers_taken port h t g Idle took later ends = absurd ends
+answers_taken port h t g Handled took later ends = (ends.0, omega (arith, ap length later, taken_more port h t took, moves_taken port h t took, ends.1))
+answers_taken port h t g MovesLeft took later ends = (ends.0, omega (arith, moves_taken port h t took, ends.1))
 
-pub turn_answers : (port : ℕ) (h f t g : HubState) (r : Result Turned HubFault) → SameWork h f → AnswersOne port f t → g.history ≡ t.history
+pub turn_answers : (port : ℕ) (h t g : HubState) (r : Result Turned HubFault) → AnswersOne port h t → g.history ≡ t.history
     → IfOk r (λ turned. EndsTurn turned t g) → IfOk r (λ turned. AnswersTurn turned h g)
-turn_answers port h f t g (Ok turned) same took later ends = answers_taken port h f t g turned same took later ends
-turn_answers port h f t g (Err fault) same took later ends = tt
+turn_answers port h t g (Ok turned) took later ends = answers_taken port h t g turned took later ends
+turn_answers port h t g (Err fault) took later ends = tt

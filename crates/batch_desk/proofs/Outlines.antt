@@ -1,18 +1,15 @@
 -- Ports with the same outlines.
-use Rattle.std.proofs.Common.{◌≡◌, List, [], ◌∷◌, map, refl, sym, ◌∙◌, ap}
+use Rattle.std.proofs.Common.{◌≡◌, map, sym, ◌∙◌, ap}
+use mathlib.Core.List.{map-map}
 use Rattle.batch_desk.specs.PortState.{PortState, outline, port_rings}
 use Rattle.batch_desk.specs.HubState.{HubState, rings, outlines}
 
-same_rings : (ps : List PortState) → map port_rings (map outline ps) ≡ map port_rings ps
-same_rings [] = refl
-same_rings (p ∷ ps) = ap (λ ls. port_rings p ∷ ls) (same_rings ps)
-
-same_scopes : (ps : List PortState) → map (λ (p : PortState). p.scope) (map outline ps) ≡ map (λ (p : PortState). p.scope) ps
-same_scopes [] = refl
-same_scopes (p ∷ ps) = ap (λ ls. p.scope ∷ ls) (same_scopes ps)
+-- what an outline shows of a port is the same where the outlines are
+shown_stays : {X : Type 0} (f : PortState → X) (h g : HubState) → outlines g ≡ outlines h → map (λ p. f (outline p)) g.ports ≡ map (λ p. f (outline p)) h.ports
+shown_stays f h g same = sym (map-map f outline g.ports) ∙ (ap (map f) same ∙ map-map f outline h.ports)
 
 pub rings_stay : (h g : HubState) → outlines g ≡ outlines h → rings g ≡ rings h
-rings_stay h g same = sym (same_rings g.ports) ∙ (ap (map port_rings) same ∙ same_rings h.ports)
+rings_stay h g same = shown_stays port_rings h g same
 
 pub scopes_stay : (h g : HubState) → outlines g ≡ outlines h → map (λ (p : PortState). p.scope) g.ports ≡ map (λ (p : PortState). p.scope) h.ports
-scopes_stay h g same = sym (same_scopes g.ports) ∙ (ap (map (λ (p : PortState). p.scope)) same ∙ same_scopes h.ports)
+scopes_stay h g same = shown_stays (λ (p : PortState). p.scope) h g same

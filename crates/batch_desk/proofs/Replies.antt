@@ -1,5 +1,5 @@
 -- How many replies a record has.
-use Rattle.std.proofs.Common.{◌≡◌, ℕ, ◌+◌, List, [], ◌∷◌, ◌++◌, length, refl, sym, ◌∙◌, ap, arith}
+use Rattle.std.proofs.Common.{◌≡◌, ℕ, ◌+◌, List, [], ◌∷◌, length, refl, sym, ◌∙◌, ap, arith}
 use Rattle.batch_model.specs.Plant.{Setup, Plant}
 use Rattle.batch_model.specs.Moves.{after}
 use Rattle.batch_model.specs.Events as Events
@@ -15,13 +15,8 @@ replies [] = 0
 replies (Reply r ∷ outs) = 1 + replies outs
 replies (Move line ∷ outs) = replies outs
 
-pub replies-append : (xs ys : List Out) → replies (xs ++ ys) ≡ replies xs + replies ys
-replies-append [] ys = omega arith
-replies-append (Reply r ∷ xs) ys = omega (arith, replies-append xs ys)
-replies-append (Move line ∷ xs) ys = replies-append xs ys
-
 -- the replies of a record of the definitions
-abbrev pub answers : List Runs.Out → ℕ
+abbrev answers : List Runs.Out → ℕ
 answers [] = 0
 answers (reply r ∷ outs) = 1 + answers outs
 answers (move m ∷ outs) = answers outs
@@ -32,7 +27,7 @@ answers-in c (Reply r ∷ outs) = ap (λ n. 1 + n) (answers-in c outs)
 answers-in c (Move line ∷ outs) = answers-in c outs
 
 -- a record has a reply to each event
-pub Leads-answers : (c : Setup) (s t : Plant) (es : List Events.Event) (outs : List Runs.Out) → Leads c s es outs t → answers outs ≡ length es
+Leads-answers : (c : Setup) (s t : Plant) (es : List Events.Event) (outs : List Runs.Out) → Leads c s es outs t → answers outs ≡ length es
 Leads-answers c s t [] [] h = refl
 Leads-answers c s t (e ∷ es) [] h = absurd h
 Leads-answers c s t es (move m ∷ outs) h = Leads-answers c (after s m) t es outs h.1

@@ -1,19 +1,24 @@
-use Rattle.std.proofs.Common.{◌≡◌, get_or, arith}
+use Rattle.std.proofs.Common.{◌≡◌, ℕ, ◌+◌, ◌-◌, ◌<◌, ◌++◌, List, map, take, drop, length, get_or, set, ap, ◌∙◌, arith, get_or-drop, length-take-le}
+use Rattle.std.proofs.lemmas.List.{get_or-append_right, length-map}
+use Rattle.std.proofs.lemmas.List.Edits.{map_over_more}
 use Rattle.batch_desk.specs.PortSteps.{owe_line}
-use Rattle.batch_desk.proofs.Lists.{change-read, change-step, change-end}
 use Rattle.batch_desk.proofs.ports.tell_each.Goals as goal
+
+-- from its index on the loop has changed nothing yet
+untold : {X : Type 0} (f : X → X) (xs ys : List X) (i : ℕ) (x : X) → i < length xs → ys ≡ map f (take i xs) ++ drop i xs → x ≡ get_or ys i x → x ≡ get_or xs i x
+untold f xs ys i x lt is at =
+    let told : length (map f (take i xs)) ≡ i = length-map (take i xs) f ∙ length-take-le i xs (omega arith) in
+    let here : i + (i - i) ≡ i = omega arith in
+    at ∙ (ap (λ zs. get_or zs i x) is ∙ (get_or-append_right (map f (take i xs)) (drop i xs) i i x told (omega arith) ∙ (get_or-drop i xs (i - i) x ∙ ap (λ k. get_or xs k x) here)))
 
 pub tell_line-requires : goal.tell_line-requires
 tell_line-requires c =
     let x = c.index_mut-port.result.now in
     let was : x ≡ get_or c.args.ports.now.items c.loop-index.index x =
-    change-read (owe_line c.args.line) c.loop-index.index c.args.ports.now.items c.loop-index.ports.items x c.loop-index.invariant c.index_mut-port.ensures.value in
+    untold (owe_line c.args.line) c.args.ports.now.items c.loop-index.ports.items c.loop-index.index x (omega arith) c.loop-index.invariant c.index_mut-port.ensures.value in
     rw was (c.requires c.loop-index.index x (omega arith))
 
 pub loop-index-preserved : goal.loop-index-preserved
 loop-index-preserved c =
-    change-step (owe_line c.args.line) c.loop-index.index c.args.ports.now.items c.loop-index.ports.items c.index_mut-port.result.now c.tell_line.new.self
-    c.loop-index.invariant (omega arith) c.index_mut-port.ensures.value c.tell_line.ensures
-
-pub returns : goal.returns
-returns c = change-end (owe_line c.args.line) c.loop-index.index c.args.ports.now.items c.loop-index.ports.items c.loop-index.invariant (omega arith)
+    ap (λ p. set c.loop-index.ports.items c.loop-index.index p) c.tell_line.ensures
+    ∙ map_over_more (owe_line c.args.line) c.args.ports.now.items c.loop-index.ports.items c.loop-index.index _ (omega arith) c.loop-index.invariant c.index_mut-port.ensures.value

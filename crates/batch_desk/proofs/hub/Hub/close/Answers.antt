@@ -1,5 +1,4 @@
-use Rattle.std.proofs.Common.{ap, ◌∙◌, ◌≡◌, ◌<◌, length, arith, refl, slice_get, Some}
-use Rattle.std.proofs.lemmas.Option.{slice_get_read}
+use Rattle.std.proofs.Common.{ap, ◌∙◌, ◌<◌, length, arith, refl}
 use Rattle.batch_desk.proofs.EachPort.{ports_changed}
 use Rattle.batch_desk.specs.PortState.{port_rings}
 use Rattle.batch_desk.specs.HubState.{rings}
@@ -17,28 +16,18 @@ invariant_of-self c =
 
 pub returns-clause-ok : goal.returns-clause-ok
 returns-clause-ok c =
-    let h = c.self.inside in
-    let x = c.index_mut-end.result.now in
-    let lt : c.args.port < length h.ports.items = omega arith in
-    let here : slice_get h.ports.items c.args.port ≡ Some x = slice_get_read h.ports.items (length h.ports.items) c.args.port x refl lt c.index_mut-end.ensures.value in
-    hub_closes _ _ _ c.args.port c.len-recorded.result x c.close.new.self _ c.close.result c.self.view_is here (c.self.invariant.ports c.args.port x lt c.index_mut-end.ensures.value) (omega arith) refl c.close.ensures.ok
+    let lt : c.args.port < length c.self.inside.ports.items = omega arith in
+    hub_closes _ _ _ c.args.port c.len-recorded.result _ c.close.new.self _ c.close.result c.self.view_is c.self.invariant lt c.index_mut-end.ensures.value (omega arith) refl c.close.ensures.ok
 
 pub returns-clause-err : goal.returns-clause-err
 returns-clause-err c =
-    let h = c.self.inside in
-    let x = c.index_mut-end.result.now in
-    let lt : c.args.port < length h.ports.items = omega arith in
-    let here : slice_get h.ports.items c.args.port ≡ Some x = slice_get_read h.ports.items (length h.ports.items) c.args.port x refl lt c.index_mut-end.ensures.value in
-    let is = c.self.invariant.ports c.args.port x lt c.index_mut-end.ensures.value in
-    hub_refuses _ _ _ c.args.port c.len-recorded.result x c.close.new.self _ c.close.result c.self.view_is here c.index_mut-end.ensures.value is.taken refl c.close.ensures.err
+    let lt : c.args.port < length c.self.inside.ports.items = omega arith in
+    hub_refuses _ _ _ c.args.port c.len-recorded.result _ c.close.new.self _ c.close.result c.self.view_is c.self.invariant lt c.index_mut-end.ensures.value refl c.close.ensures.err
 
 pub returns-clause-back : goal.returns-clause-back
 returns-clause-back c =
-    let h = c.self.inside in
-    let x = c.index_mut-end.result.now in
-    let lt : c.args.port < length h.ports.items = omega arith in
-    let here : slice_get h.ports.items c.args.port ≡ Some x = slice_get_read h.ports.items (length h.ports.items) c.args.port x refl lt c.index_mut-end.ensures.value in
-    token_back _ _ c.args.port x _ c.close.result c.self.view_is here c.close.ensures.back
+    let lt : c.args.port < length c.self.inside.ports.items = omega arith in
+    token_back _ _ c.args.port _ _ c.close.result c.self.view_is lt c.index_mut-end.ensures.value c.close.ensures.back
 
 pub returns-clause-rings : goal.returns-clause-rings
 returns-clause-rings c =

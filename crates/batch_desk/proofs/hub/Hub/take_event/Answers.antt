@@ -1,5 +1,4 @@
-use Rattle.std.proofs.Common.{◌≡◌, ◌<◌, ap, ◌∙◌, refl, length, slice_get, Some, [], ◌∷◌, ◌++◌}
-use Rattle.std.proofs.lemmas.Option.{slice_get_read}
+use Rattle.std.proofs.Common.{ap, ◌∙◌, [], ◌∷◌, ◌++◌}
 use Rattle.batch_engine.specs.declared.out.Out.TheVariants.{Reply}
 use Rattle.batch_desk.specs.HubState.{outlines}
 use Rattle.batch_desk.specs.PortState.{outline}
@@ -32,11 +31,7 @@ returns-clause-outlines c =
 
 pub returns-clause-taken : goal.returns-clause-taken
 returns-clause-taken c =
-    let h = c.self.inside in
-    let x = c.index_mut-end.result.now in
     let done = rw c.in-Some.is at c.in_ok-event.ensures.ok in
-    let lt : c.args.port < length h.ports.items = within _ _ _ c.self.view_is c.requires in
-    let here : slice_get h.ports.items c.args.port ≡ Some x = slice_get_read h.ports.items (length h.ports.items) c.args.port x refl lt c.index_mut-end.ensures.value in
-    takes_one _ _ _ c.args.port x c.in-Some.event c.in-Some.reply c.self.view_is here done.0 done.1.cleared
+    takes_one _ _ _ c.args.port _ c.in-Some.event c.in-Some.reply c.self.view_is (within _ _ _ c.self.view_is c.requires) c.index_mut-end.ensures.value done.0 done.1.cleared
     (c.push_reserved.ensures.items ∙ ap (λ es. es ++ (c.args.port, c.in-Some.event) ∷ []) c.reserve.ensures.items)
     (c.push_reserved-2.ensures.items ∙ ap (λ xs. xs ++ Reply c.in-Some.reply ∷ []) c.reserve-else-is_err.ensures.items)
