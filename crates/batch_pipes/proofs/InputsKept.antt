@@ -1,5 +1,5 @@
 -- Inputs that are handed over through the rings of their readers.
-use Rattle.std.proofs.Common.{◌≡◌, ◌<◌, ◌+◌, ℕ, Bool, true, List, [], ◌∷◌, ◌++◌, length, get_or, set, Option, Some, None, IfSome, is_none, option_map, string_bytes, refl, sym, ap, subst, arith, append-nil, length-set, ◌∙◌}
+use Rattle.std.proofs.Common.{◌≡◌, ◌<◌, ◌+◌, ℕ, Bool, List, [], ◌∷◌, ◌++◌, length, get_or, set, Option, Some, None, IfSome, is_none, option_map, string_bytes, refl, sym, ap, subst, arith, append-nil, length-set, ◌∙◌}
 use Rattle.std.proofs.lemmas.Option.{IfSome_then}
 use Rattle.rtrb.specs.Ring.{IsPair, SameConsumer, SameProducer, received, sent}
 use Rattle.batch_desks.specs.declared.desk.Desk as plans
@@ -12,10 +12,9 @@ use Rattle.batch_pipes.proofs.Lists.{both_more, both_set, length_more}
 use Rattle.batch_pipes.proofs.Rings.{pair_on, same_ring}
 use Rattle.batch_pipes.specs.Ended.{given_by}
 use Rattle.batch_pipes.specs.InputEnds.{AreItemsOf, IsInputRun}
-use Rattle.batch_pipes.specs.Inputs.{AreInputsKept, AreInputsOf, AreInputsOpened, HasAllCome, IsEndKept, IsEndOf, IsInputAdded, IsInputKept, IsInputOf, IsTaskOf, bytes_of, path_of}
+use Rattle.batch_pipes.specs.Inputs.{AreInputsKept, AreInputsOf, AreInputsOpened, IsEndOf, IsInputAdded, IsInputOf, IsTaskOf, bytes_of, path_of}
 use Rattle.batch_pipes.specs.Streams.{HandsOver}
 use Rattle.batch_pipes.specs.declared.input.Input.{Input}
-use Rattle.batch_pipes.specs.declared.input.InputChild.{InputChild}
 use Rattle.batch_pipes.specs.declared.reading.InputEnd.{InputEnd}
 use Rattle.batch_pipes.specs.declared.reading.InputTask.{InputTask}
 
@@ -25,35 +24,14 @@ task_on : (path : Option (List ℕ)) (task : InputTask) (a b : Reader) → SameC
 task_on path task a b same of =
     record { is_path = of.is_path; pair = pair_on task.ring.end task.ring.end a.ring.end b.ring.end (same_ring task.ring.end) same.0 of.pair; new = of.new }
 
-pub end_on : (input : Option (List ℕ)) (old new : InputEnd) (a b : Reader) → IsEndKept old new → SameConsumer a.ring b.ring → IsEndOf input old a → IsEndOf input new b
-end_on input old new a b kept same of = record {
-  pair = pair_on old.ring.end new.ring.end a.ring.end b.ring.end kept.ring.0 same.0 of.pair;
-  items = subst (λ (l : List Sent). AreItemsOf (is_none new.fault) input l) (sym kept.went)
-      (subst (λ f. AreItemsOf (is_none f) input (sent old.ring)) (sym kept.fault) of.items);
-}
-
-end_as_it_is : (end : InputEnd) → IsEndKept end end
-end_as_it_is end = record { ring = (same_ring end.ring.end, refl); went = refl; fault = refl }
-
 -- nothing is taken from the reader
 pub input_on : {P : Type 0} (given : List ℕ → Option (List ℕ)) (i : Input P) (a b : Reader) → SameConsumer a.ring b.ring → IsInputOf given i a → IsInputOf given i b
 input_on given i a b same of = record {
   thread = IfSome_then i.child of.thread (λ child h. task_on (path_of i) child.handle.promise.task.value a b same h);
-  ended = IfSome_then i.end of.ended (λ end h. end_on (bytes_of given i) end end a b (end_as_it_is end) same h);
-}
-
-items_of : (ended : Bool) (input : Option (List ℕ)) (before after : List Sent) → before ≡ [] → HandsOver ended input before after → AreItemsOf ended input after
-items_of ended input before after new handed = λ bytes known.
-    subst (λ (l : List Sent). (rest : List ℕ) × (clean_lines (lines_of bytes) ≡ text_sent l ++ rest) × (ended ≡ true → rest ≡ []))
-    (sym (handed.went ∙ ap (λ l. l ++ handed.items) new)) (handed.begun bytes known)
-
--- what a joined thread gives back is the end of the same ring
-pub end_of_task : (given : List ℕ → Option (List ℕ)) (path : Option (List ℕ)) (task : InputTask) (end : InputEnd) (reader : Reader) → IsTaskOf path task reader
-    → IsInputRun (given (string_bytes task.path)) task end → IsEndOf (given_by given path) end reader
-end_of_task given path task end reader of run = record {
-  pair = pair_on task.ring.end end.ring.end reader.ring.end reader.ring.end run.ring.0 (same_ring reader.ring.end) of.pair;
-  items = subst (λ (input : Option (List ℕ)). AreItemsOf (is_none end.fault) input (sent end.ring)) (sym (ap (given_by given) of.is_path))
-      (items_of (is_none end.fault) (given (string_bytes task.path)) (sent task.ring) (sent end.ring) of.new run.handed);
+  ended = IfSome_then i.end of.ended (λ end h. record {
+    pair = pair_on end.ring.end end.ring.end a.ring.end b.ring.end (same_ring end.ring.end) same.0 h.pair;
+    items = h.items;
+  });
 }
 
 -- what it gives back
@@ -62,44 +40,10 @@ pub input_run : (input : Option (List ℕ)) (task : InputTask) (end : InputEnd) 
 input_run input task end ended ring handed well =
     record { ring = ring; handed = subst (λ b. HandsOver b input (sent task.ring) (sent end.ring)) (sym well) handed }
 
--- a thread that is joined
-pub input_joined : {P : Type 0} (given : List ℕ → Option (List ℕ)) (i : Input P) (child : InputChild P) (end : InputEnd) (reader : Reader) → IsInputOf given i reader → i.child ≡ Some child
-    → IsInputRun (given (string_bytes child.handle.promise.task.value.path)) child.handle.promise.task.value end
-    → IsInputKept given i (record i { child = None; end = Some end }) reader
-input_joined {P} given i child end reader of is run = record {
-  of = record {
-    thread = tt;
-    ended = end_of_task given (path_of i) child.handle.promise.task.value end reader
-        (subst (λ (o : Option (InputChild P)). IfSome o (λ other. IsTaskOf (path_of i) other.handle.promise.task.value reader)) is of.thread) run;
-  };
-  path = refl;
-}
-
-pub input_as_it_is : {P : Type 0} (given : List ℕ → Option (List ℕ)) (i : Input P) (reader : Reader) → IsInputOf given i reader → IsInputKept given i i reader
-input_as_it_is given i reader of = record { of = of; path = refl }
-
--- its thread's end was looked at
-pub input_looked : {P : Type 0} (given : List ℕ → Option (List ℕ)) (old mid : Input P) (end after : InputEnd) (a b : Reader) → IsInputKept given old mid a → mid.end ≡ Some end
-    → IsEndKept end after → SameConsumer a.ring b.ring → IsInputKept given old (record mid { end = Some after }) b
-input_looked {P} given old mid end after a b kept is end_kept same = record {
-  of = record {
-    thread = (input_on given mid a b same kept.of).thread;
-    ended = end_on (bytes_of given mid) end after a b end_kept same (subst (λ (o : Option InputEnd). IfSome o (λ other. IsEndOf (bytes_of given mid) other a)) is kept.of.ended);
-  };
-  path = kept.path;
-}
-
 -- nothing is left in the ring
 pub all_taken : (came known went : List Sent) → length known ≡ 0 → came ++ known ≡ went → came ≡ went
 all_taken came [] went none fifo = sym (append-nil came) ∙ fifo
 all_taken came (x ∷ known) went none fifo = absurd (omega (arith, none))
-
--- then it is all that the input gave, where its thread ended well
-pub has_all_come : {P : Type 0} (given : List ℕ → Option (List ℕ)) (i : Input P) (end : InputEnd) (reader : Reader) → IsEndOf (bytes_of given i) end reader
-    → end.fault ≡ None → received reader.ring ≡ sent end.ring → HasAllCome given i reader
-has_all_come given i end reader of well same = λ bytes known.
-    let (rest, is, none) = of.items bytes known in
-    ap text_sent same ∙ sym (is ∙ ap (λ l. text_sent (sent end.ring) ++ l) (none (ap is_none well)) ∙ append-nil (text_sent (sent end.ring)))
 
 -- All inputs
 

@@ -1,5 +1,6 @@
 -- Outputs that are written through the rings of their writers.
-use Rattle.std.proofs.Common.{◌≡◌, ◌<◌, ◌+◌, ℕ, false, List, [], ◌∷◌, ◌++◌, length, length-append, get_or, set, Option, Some, None, IfSome, string_bytes, refl, sym, ap, subst, arith, append-nil, append_assoc, length-set, ◌∙◌}
+use Rattle.std.proofs.Common.{◌≡◌, ◌<◌, ◌+◌, ℕ, false, List, [], ◌∷◌, ◌++◌, length, length-append, get_or, set, Option, Some, None, IfSome, IsSome, string_bytes, refl, sym, ap, subst, arith, append-nil, append_assoc, length-set, ◌∙◌}
+use Rattle.std.proofs.lemmas.Bool.{false≢true}
 use Rattle.std.proofs.lemmas.Option.{IfSome_then}
 use Rattle.rtrb.specs.Ring.{Finishes, IsPair, SameProducer, received, sent}
 use Rattle.batch_desks.specs.declared.desk.Desk as plans
@@ -12,11 +13,14 @@ use Rattle.batch_serve_desks.proofs.Threading.{text_both}
 use Rattle.batch_pipes.proofs.Lists.{at_place, both_more, both_set, first_set, length_more, one_of, same_set}
 use Rattle.batch_pipes.proofs.Rings.{pair_on, same_ring}
 use Rattle.batch_pipes.proofs.Streaming.{text_grown}
-use Rattle.batch_pipes.specs.Ended.{IsTold, given_by}
+use Rattle.batch_pipes.specs.Ended.{IsGivenBack, IsTold, given_by}
 use Rattle.batch_pipes.specs.OutputEnds.{IsOutputRun}
 use Rattle.batch_pipes.specs.Outputs.{AreEnding, AreOutputsKept, AreOutputsOf, AreOutputsOpened, AreSettled, AreSettledBy, Asked, IsEndOf, IsEnding, IsFinished, IsOutputAdded, IsOutputKept, IsOutputOf, IsSettled, IsSettledBy, IsTaskOf, asked_by, asked_of, stood_in}
-use Rattle.batch_pipes.specs.Streams.{HoldsBeginning, IsWrittenOf, IsWrittenOut}
+use Rattle.batch_pipes.specs.Streams.{HasNoOutput, HoldsBeginning, IsWrittenOf, IsWrittenOut}
 use Rattle.std.specs.Io.KnownBytes.{Appends}
+use Rattle.batch_pipes.specs.declared.fault.PipeFault.{PipeFault}
+use Rattle.batch_pipes.specs.declared.outcome.OutputOutcome.{OutputOutcome}
+use Rattle.batch_pipes.specs.declared.outcome.OutputOutcome.TheVariants.{Absent, Joined, Unjoined}
 use Rattle.batch_pipes.specs.declared.output.Output.{Output}
 use Rattle.batch_pipes.specs.declared.output.OutputChild.{OutputChild}
 use Rattle.batch_pipes.specs.declared.writing.OutputEnd.{OutputEnd}
@@ -39,6 +43,7 @@ output_on contents stands o a b same of = record {
     pair = pair_on a.ring.end b.ring.end end.ring.end end.ring.end same.0 (same_ring end.ring.end) h.pair;
     written = h.written;
   });
+  absent = of.absent;
 }
 
 -- what a joined thread gives back is the end of the same ring
@@ -62,6 +67,7 @@ output_joined {W} {P} contents stands o child end writer of is run = record {
     thread = tt;
     ended = end_of_task contents stands (asked_of o) child.handle.promise.task.value end writer
         (subst (λ (c : Option (OutputChild W P)). IfSome c (λ other. IsTaskOf (asked_of o) other.handle.promise.task.value writer)) is of.thread) run;
+    absent = λ none no_end. absurd cc;
   };
   asked = refl;
 }
@@ -147,20 +153,22 @@ outputs_none contents stands fronts outputs writers none nobody = record {
 
 -- an output whose thread was started
 pub output_started : {W P : Type 0} (contents : W → Option (List ℕ)) (stands : List ℕ → Option (List ℕ)) (o : Output W P) (task : OutputTask) (writer : Writer)
-    → IfSome o.child (λ child. child.handle.promise.task.value ≡ task) → o.end ≡ None → asked_of o ≡ record { path = Some (string_bytes task.path); front = task.front.items }
+    → IsSome o.child → IfSome o.child (λ child. child.handle.promise.task.value ≡ task) → o.end ≡ None → asked_of o ≡ record { path = Some (string_bytes task.path); front = task.front.items }
     → received task.ring ≡ [] → IsPair writer.ring task.ring → IsOutputOf contents stands o writer
-output_started {W} contents stands o task writer child end asked new pair = record {
+output_started {W} {P} contents stands o task writer there child end asked new pair = record {
   thread = IfSome_then o.child child (λ child is. subst (λ (t : OutputTask). IsTaskOf (asked_of o) t writer) (sym is)
       (record { is_path = ap (λ (a : Asked). a.path) asked; is_front = sym (ap (λ (a : Asked). a.front) asked); pair = pair; new = new }));
   ended = subst (λ (e : Option (OutputEnd W)). IfSome e (λ end. IsEndOf contents (stood_in stands o) (asked_of o).front end writer)) (sym end) tt;
+  absent = λ none no_end. absurd (false≢true (subst (λ (c : Option (OutputChild W P)). IsSome c) none there));
 }
 
 -- one of a desk that has none
 pub output_missing : {W P : Type 0} (contents : W → Option (List ℕ)) (stands : List ℕ → Option (List ℕ)) (o : Output W P) (writer : Writer) → o.child ≡ None → o.end ≡ None
-    → IsOutputOf contents stands o writer
-output_missing {W} {P} contents stands o writer child end = record {
+    → (asked_of o).path ≡ None → IsOutputOf contents stands o writer
+output_missing {W} {P} contents stands o writer child end path = record {
   thread = subst (λ (c : Option (OutputChild W P)). IfSome c (λ other. IsTaskOf (asked_of o) other.handle.promise.task.value writer)) (sym child) tt;
   ended = subst (λ (e : Option (OutputEnd W)). IfSome e (λ end. IsEndOf contents (stood_in stands o) (asked_of o).front end writer)) (sym end) tt;
+  absent = λ none no_end. path;
 }
 
 -- Their end
@@ -174,6 +182,7 @@ output_finished {W} {P} contents stands old new writer child end asked of = reco
         (subst (λ (a : Asked). IfSome old.child (λ other. IsTaskOf a other.handle.promise.task.value writer)) (sym asked) of.thread);
     ended = subst (λ (e : Option (OutputEnd W)). IfSome e (λ last. IsEndOf contents (stood_in stands new) (asked_of new).front last writer)) (sym end)
         (subst (λ (a : Asked). IfSome old.end (λ last. IsEndOf contents (given_by stands a.path) a.front last writer)) (sym asked) of.ended);
+    absent = λ none no_end. ap (λ (a : Asked). a.path) asked ∙ of.absent (sym child ∙ none) (sym end ∙ no_end);
   };
   asked = asked;
 }
@@ -199,11 +208,17 @@ outputs_finished {W} {P} contents stands first now writers i old new writer with
     here = kept (subst (λ (x : Output W P). IsOutputOf contents stands x writer) (sym is) (subst (λ (y : Writer). IsOutputOf contents stands (get_or now i old) y) (at writer)
         (so_far.of.each i old writer within)))
 
+-- a fault stays the reason
+missing_still : (old new : Option PipeFault) → ((fault : PipeFault) → old ≡ Some fault → new ≡ Some fault) → HasNoOutput old → HasNoOutput new
+missing_still None new kept missing = absurd missing
+missing_still (Some fault) new kept missing = subst HasNoOutput (sym (kept fault refl)) missing
+
 -- of all that went into the ring some may be left
 pub settled_so : {W : Type 0} (contents : W → Option (List ℕ)) (stood : Option (List ℕ)) (front : List ℕ) (end : OutputEnd W) (writer : Writer) (all rest : List (List ℕ)) (w : Written W)
-    → IsEndOf contents stood front end writer → all ≡ sent writer.ring → w.output ≡ end.written.output → received end.ring ++ rest ≡ all
+    → IsEndOf contents stood front end writer → all ≡ sent writer.ring → w.output ≡ end.written.output
+    → ((fault : PipeFault) → end.written.fault ≡ Some fault → w.fault ≡ Some fault) → received end.ring ++ rest ≡ all
     → (w.fault ≡ None → (end.written.fault ≡ None) × (rest ≡ [])) → IsWrittenOf contents stood (front ++ lines_text (sent writer.ring)) w
-settled_so {W} contents stood front end writer all rest w of finished same came well = record {
+settled_so {W} contents stood front end writer all rest w of finished same failed came well = record {
   begun = subst (λ (o : Option W). IfSome o (λ output. HoldsBeginning stood (contents output) (front ++ lines_text (sent writer.ring)))) (sym same)
       (IfSome_then end.written.output of.written.written.begun (λ output held. subst (λ (text : List ℕ). HoldsBeginning stood (contents output) text) (sym is)
       (text_grown stood (contents output) (front ++ lines_text of.written.lines) (lines_text rest) held)));
@@ -215,6 +230,7 @@ settled_so {W} contents stood front end writer all rest w of finished same came 
         subst (λ (text : List ℕ). Appends stood (contents output) text)
             (sym (is ∙ ap (λ (l : List (List ℕ)). (front ++ lines_text of.written.lines) ++ lines_text l) nothing ∙ append-nil (front ++ lines_text of.written.lines))) appends,
       );
+  missing = λ none. missing_still end.written.fault w.fault failed (of.written.written.missing (sym same ∙ none));
 }
   where
     is : front ++ lines_text (sent writer.ring) ≡ (front ++ lines_text of.written.lines) ++ lines_text rest
@@ -225,12 +241,13 @@ settled_so {W} contents stood front end writer all rest w of finished same came 
 pub finished_still : {W P : Type 0} (old new : Output W P) (writer : Writer) → new.finished ≡ old.finished → IsFinished old writer → IsFinished new writer
 finished_still old new writer same finished = subst (λ f. IfSome f (λ ended. Finishes writer.ring ended)) (sym same) finished
 
-pub settled_more : {W P : Type 0} (contents : W → Option (List ℕ)) (stands : List ℕ → Option (List ℕ)) (outputs : List (Output W P)) (output : Output W P) (written : List (Option (Written W)))
-    (w : Option (Written W)) → AreSettledBy contents stands outputs written → IsSettledBy contents stands output w → AreSettledBy contents stands (outputs ++ output ∷ []) (written ++ w ∷ [])
-settled_more {W} {P} contents stands outputs output written w settled here = record {
-  count = omega (arith, length_more written w, length_more outputs output, settled.count);
+pub settled_more : {W P : Type 0} (contents : W → Option (List ℕ)) (stands : List ℕ → Option (List ℕ)) (outputs : List (Output W P)) (output : Output W P)
+    (outcomes : List (OutputOutcome W P)) (w : OutputOutcome W P) → AreSettledBy contents stands outputs outcomes → IsSettledBy contents stands output w
+    → AreSettledBy contents stands (outputs ++ output ∷ []) (outcomes ++ w ∷ [])
+settled_more {W} {P} contents stands outputs output outcomes w settled here = record {
+  count = omega (arith, length_more outcomes w, length_more outputs output, settled.count);
   each = λ k o v within.
-      both_more (λ _ (x : Output W P) (y : Option (Written W)). IsSettledBy contents stands x y) outputs written output w (sym settled.count) here settled.each k o v
+      both_more (λ _ (x : Output W P) (y : OutputOutcome W P). IsSettledBy contents stands x y) outputs outcomes output w (sym settled.count) here settled.each k o v
       (omega (arith, within, length_more outputs output));
 }
 
@@ -250,19 +267,20 @@ are_ending contents stands outputs writers of finished = λ k o within.
     (get_or writers k writer, of.each k o writer within, finished k o writer within)
 
 -- what came of them is what came of those that they were
-pub settled_all : {W P : Type 0} (contents : W → Option (List ℕ)) (stands : List ℕ → Option (List ℕ)) (old new : List (Output W P)) (writers : List Writer) (written : List (Option (Written W)))
-    → AreOutputsKept contents stands old new writers → ((k : ℕ) (o : Output W P) (w : Writer) → k < length new → IsFinished (get_or new k o) (get_or writers k w))
-    → AreSettledBy contents stands new written → AreSettled contents stands old writers written
-settled_all {W} {P} contents stands old new writers written kept finished settled = record {
+pub settled_all : {W P : Type 0} (contents : W → Option (List ℕ)) (stands : List ℕ → Option (List ℕ)) (old new : List (Output W P)) (writers : List Writer)
+    (outcomes : List (OutputOutcome W P)) → AreOutputsKept contents stands old new writers
+    → ((k : ℕ) (o : Output W P) (w : Writer) → k < length new → IsFinished (get_or new k o) (get_or writers k w)) → AreSettledBy contents stands new outcomes
+    → AreSettled contents stands old writers outcomes
+settled_all {W} {P} contents stands old new writers outcomes kept finished settled = record {
   count = settled.count ∙ kept.count;
   each = λ k o writer w within.
       let in_new : k < length new = omega (arith, within, kept.count) in
-      subst (λ (a : Asked). IsSettled contents (given_by stands a.path) a.front (get_or writers k writer) (get_or written k w)) (kept.asked k o within)
+      subst (λ (a : Asked). IsSettled contents stands a (get_or writers k writer) (get_or outcomes k w)) (kept.asked k o within)
       (settled.each k o w in_new (get_or writers k writer) (kept.of.each k o writer in_new) (finished k o writer in_new));
 }
 
 -- a desk that isn't cut, for which nothing waits, was told all that it is due
-pub is_told : {W : Type 0} (contents : W → Option (List ℕ)) (stood : Option (List ℕ)) (front : List ℕ) (all told : List (List ℕ)) (desk : Desk) (w : Written W)
+is_told : {W : Type 0} (contents : W → Option (List ℕ)) (stood : Option (List ℕ)) (front : List ℕ) (all told : List (List ℕ)) (desk : Desk) (w : Written W)
     → IsAccount all told desk.waiting → (desk.waiting.is_cut ≡ false → desk.waiting.lines ≡ []) → IsWrittenOf contents stood (front ++ lines_text told) w
     → IsTold contents stood (front ++ lines_text all) desk w
 is_told {W} contents stood front all told desk w account none written = record {
@@ -275,9 +293,18 @@ is_told {W} contents stood front all told desk w account none written = record {
         subst (λ (text : List ℕ). Appends stood (contents output) text)
             (sym (is ∙ ap (λ (l : List (List ℕ)). (front ++ lines_text told) ++ lines_text l) (account.waits uncut ∙ none uncut) ∙ append-nil (front ++ lines_text told))) appends,
       );
+  missing = written.missing;
 }
   where
     is : front ++ lines_text all ≡ (front ++ lines_text told) ++ lines_text account.rest
     is =
         ap (λ (l : List (List ℕ)). front ++ lines_text l) account.begins ∙ ap (λ l. front ++ l) (text_both told account.rest)
         ∙ sym (append_assoc front (lines_text told) (lines_text account.rest))
+
+pub is_given_back : {W P : Type 0} (contents : W → Option (List ℕ)) (stands : List ℕ → Option (List ℕ)) (asked : Asked) (all : List (List ℕ)) (writer : Writer) (desk : Desk)
+    (outcome : OutputOutcome W P) → IsAccount all (sent writer.ring) desk.waiting → (desk.waiting.is_cut ≡ false → desk.waiting.lines ≡ []) → IsSettled contents stands asked writer outcome
+    → IsGivenBack contents stands asked.path (asked.front ++ lines_text all) desk outcome
+is_given_back contents stands asked all writer desk Absent account none settled = settled
+is_given_back contents stands asked all writer desk (Joined w) account none settled =
+    is_told contents (given_by stands asked.path) asked.front all (sent writer.ring) desk w account none settled
+is_given_back contents stands asked all writer desk (Unjoined thread) account none settled = settled

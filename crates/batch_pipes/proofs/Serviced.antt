@@ -2,7 +2,6 @@
 use Rattle.std.proofs.Common.{◌≡◌, ◌<◌, ℕ, zero, suc, Bool, true, false, List, [], ◌∷◌, ◌++◌, length, get_or, flat_map, Option, None, Result, Ok, Err, OnOk, codes, decimal, inl, inr, refl, sym, ap, subst, arith, append-nil, ◌∙◌}
 use Rattle.std.proofs.lemmas.Grind.{flat_map-append}
 use Rattle.std.proofs.lemmas.List.Elements.{All-append, All-nil}
-use Rattle.std.proofs.lemmas.Option.{IfSome_then}
 use Rattle.std.proofs.KnownBytes.{Appends-nil, Appends-trans}
 use Rattle.std.specs.Io.KnownBytes.{Appends}
 use Rattle.batch_engine.specs.View.{EngineView, plant_of, setup}
@@ -24,8 +23,8 @@ use Rattle.batch_serve_desks.proofs.LivesKept.{last_same, life_turned, lives_tak
 use Rattle.batch_desks.specs.DeskNames.{desk_names}
 use Rattle.batch_desks.specs.declared.desk.Desk as plans
 use Rattle.batch_pipes.proofs.Lists.{one_of}
-use Rattle.batch_pipes.proofs.OutputsKept.{is_told}
-use Rattle.batch_pipes.specs.Ended.{AreDesksEnded, IsTold, given_by}
+use Rattle.batch_pipes.proofs.OutputsKept.{is_given_back}
+use Rattle.batch_pipes.specs.Ended.{AreDesksEnded, IsGivenBack, given_by}
 use Rattle.batch_pipes.specs.Inputs.{AreInputsKept, AreInputsOpened}
 use Rattle.batch_pipes.specs.Kept.{AreDone, AreReadersKept, ArePortsOf, AreSameDesks}
 use Rattle.batch_pipes.specs.Opened.{IsOpened}
@@ -34,8 +33,8 @@ use Rattle.batch_serve.specs.Comments.{time_text}
 use Rattle.batch_wire.specs.Written.{Writes}
 use Rattle.batch_pipes.specs.Service.{AppendsTime, AppendsTimed, AreDesksServed, AreTimes, IsService, IsTime, Opening, Part, beginning, told_to}
 use Rattle.batch_pipes.specs.declared.input.Input.{Input}
+use Rattle.batch_pipes.specs.declared.outcome.OutputOutcome.{OutputOutcome}
 use Rattle.batch_pipes.specs.declared.output.Output.{Output}
-use Rattle.batch_pipes.specs.declared.written.Written.{Written}
 use Rattle.batch_pipes.specs.declared.ports.Ports.{Ports}
 
 -- Texts with times
@@ -260,13 +259,13 @@ service_ends is_safe keeper times begun kept recorded s p service = record {
 -- what has come of it for each desk
 pub desks_end : {K P W : Type 0} (is_safe : K → Type 0) (keeper : K) (times : Bool) (begun : Opening) (given stands : List ℕ → Option (List ℕ)) (contents : W → Option (List ℕ))
     (fronts : List (List ℕ)) (listed : List plans.Desk) (kept : List ℕ) (recorded : Option (List ℕ)) (engine : EngineView) (s0 s : DeskServer) (p0 p : Ports) (first inputs : List (Input P))
-    (first_outputs outputs : List (Output W P)) (written : List (Option (Written W))) → IsService times begun (is_safe keeper) kept recorded s p
+    (first_outputs outputs : List (Output W P)) (outcomes : List (OutputOutcome W P)) → IsService times begun (is_safe keeper) kept recorded s p
     → s.group.items ≡ [] → ArePortsOf s.desks.items p → IsOpened engine listed s0 p0 → AreSameDesks s0.desks.items s.desks.items → AreInputsOpened given listed first p0.readers.items
     → AreInputsKept given first inputs p.readers.items → AreOutputsOpened contents stands fronts listed first_outputs p0.writers.items
-    → AreOutputsKept contents stands first_outputs outputs p.writers.items → AreSettled contents stands outputs p.writers.items written → AreDone given s.desks.items inputs p.readers.items
-    → AreDesksEnded times begun given stands contents fronts listed s.desks.items written (is_safe keeper) kept recorded
+    → AreOutputsKept contents stands first_outputs outputs p.writers.items → AreSettled contents stands outputs p.writers.items outcomes → AreDone given s.desks.items inputs p.readers.items
+    → AreDesksEnded times begun given stands contents fronts listed s.desks.items outcomes (is_safe keeper) kept recorded
 unfolding service_ends
-desks_end {K} {P} {W} is_safe keeper times begun given stands contents fronts listed kept recorded engine s0 s p0 p first inputs first_outputs outputs written service group of opened_on same opened
+desks_end {K} {P} {W} is_safe keeper times begun given stands contents fronts listed kept recorded engine s0 s p0 p first inputs first_outputs outputs outcomes service group of opened_on same opened
     input_kept outputs_opened output_kept settled done = record {
       service = service_ends is_safe keeper times begun kept recorded s p service;
       count = count;
@@ -294,11 +293,11 @@ desks_end {K} {P} {W} is_safe keeper times begun given stands contents fronts li
           same.units k desk (omega (arith, in_desks, same.count)) ∙ opened_on.units k desk plan (omega (arith, in_desks, same.count)) in
           let account : IsAccount (due_of k at.unit service.answers) (sent (get_or p.writers.items k writer).ring) at.waiting =
           subst (λ (l : List (List ℕ)). IsAccount (due_of k at.unit service.answers) l at.waiting) (told_at p.writers.items k writer in_writers) (service.life.each k desk in_desks) in
-          IfSome_then (get_or written k w) (settled.each k o writer w in_outputs) (λ x h.
-          subst (λ (a : Asked). IsTold contents (given_by stands a.path) (a.front ++ lines_text (due_of k (get_or listed k plan).unit service.answers)) at x) asked
-          (subst (λ (u : Option (List ℕ)). IsTold contents (given_by stands (asked_of output).path) ((asked_of output).front ++ lines_text (due_of k u service.answers)) at x) unit
-          (is_told contents (given_by stands (asked_of output).path) (asked_of output).front (due_of k at.unit service.answers) (sent (get_or p.writers.items k writer).ring) at x account
-          (λ uncut. (done k desk (input_at k within) (reader_at k within) in_desks uncut).1) h)));
+          let outcome : OutputOutcome W P = get_or outcomes k w in
+          subst (λ (a : Asked). IsGivenBack contents stands a.path (a.front ++ lines_text (due_of k (get_or listed k plan).unit service.answers)) at outcome) asked
+          (subst (λ (u : Option (List ℕ)). IsGivenBack contents stands (asked_of output).path ((asked_of output).front ++ lines_text (due_of k u service.answers)) at outcome) unit
+          (is_given_back contents stands (asked_of output) (due_of k at.unit service.answers) (get_or p.writers.items k writer) at outcome account
+          (λ uncut. (done k desk (input_at k within) (reader_at k within) in_desks uncut).1) (settled.each k o writer w in_outputs)));
     }
   where
     count : length s.desks.items ≡ length listed

@@ -9,7 +9,7 @@ use Rattle.batch_serve.specs.CleanLines.{clean_lines}
 use Rattle.batch_serve_desks.specs.Rounds.{text_sent}
 use Rattle.batch_serve_desks.specs.Threads.{IsRead, IsWritten, lines_text}
 use Rattle.batch_serve_desks.specs.declared.rounds.Sent.{Sent}
-use Rattle.batch_pipes.specs.Streams.{HandsOver, HoldsBeginning, IsWrittenBehind, IsWrittenOut}
+use Rattle.batch_pipes.specs.Streams.{HandsOver, HasNoOutput, HoldsBeginning, IsWrittenBehind, IsWrittenOf, IsWrittenOut}
 use Rattle.batch_pipes.specs.declared.fault.PipeFault.{PipeFault}
 use Rattle.batch_pipes.specs.declared.written.Written.{Written}
 
@@ -122,20 +122,23 @@ written_out contents stood first front before after ended buffer output fault ne
               (subst (λ (b : List ℕ). Appends stood (append_known (contents output) b) text) (empty (well none))
               (subst (λ (o : Option (List ℕ)). Appends o (append_known (contents output) buffer) text) is (behind.written (well none)))),
         );
+        missing = λ none. absurd cc;
       };
     }
 
 -- an output that wasn't opened
-pub nothing_out : {W : Type 0} (contents : W → Option (List ℕ)) (stood : Option (List ℕ)) (front : List ℕ) (lines : List (List ℕ)) (w : Written W) (fault : PipeFault) → w.output ≡ None
-    → w.fault ≡ Some fault → IsWrittenOut contents stood front lines lines w
-nothing_out {W} contents stood front lines w fault none failed = record {
-  lines = [];
-  came = sym (append-nil lines);
-  written = record {
-    begun = subst (λ (o : Option W). IfSome o (λ output. HoldsBeginning stood (contents output) (front ++ []))) (sym none) tt;
-    whole = λ well. absurd cc;
-  };
+pub nothing_written : {W : Type 0} (contents : W → Option (List ℕ)) (stood : Option (List ℕ)) (text : List ℕ) (w : Written W) (fault : PipeFault) → w.output ≡ None → w.fault ≡ Some fault
+    → HasNoOutput (Some fault) → IsWrittenOf contents stood text w
+nothing_written {W} contents stood text w fault none failed missing = record {
+  begun = subst (λ (o : Option W). IfSome o (λ output. HoldsBeginning stood (contents output) text)) (sym none) tt;
+  whole = λ well. absurd cc;
+  missing = λ _. subst HasNoOutput (sym failed) missing;
 }
+
+pub nothing_out : {W : Type 0} (contents : W → Option (List ℕ)) (stood : Option (List ℕ)) (front : List ℕ) (lines : List (List ℕ)) (w : Written W) (fault : PipeFault) → w.output ≡ None
+    → w.fault ≡ Some fault → HasNoOutput (Some fault) → IsWrittenOut contents stood front lines lines w
+nothing_out contents stood front lines w fault none failed missing =
+    record { lines = []; came = sym (append-nil lines); written = nothing_written contents stood (front ++ []) w fault none failed missing }
 
 -- more text may be to come
 pub text_grown : (stood now : Option (List ℕ)) (text more : List ℕ) → HoldsBeginning stood now text → HoldsBeginning stood now (text ++ more)

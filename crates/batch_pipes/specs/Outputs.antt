@@ -1,15 +1,16 @@
 -- private: the outputs of desks, as the thread of the machine sees them.
-use Rattle.std.specs.Prelude.{◌≡◌, ℕ, ◌<◌, List, [], ◌++◌, ◌∷◌, length, get_or, Option, Some, IfSome, option_map, string_bytes}
+use Rattle.std.specs.Prelude.{◌≡◌, ℕ, ◌<◌, List, [], ◌++◌, ◌∷◌, length, get_or, Option, Some, None, IfSome, option_map, string_bytes}
 use Rattle.rtrb.specs.Ring.{Finishes, IsPair, received, sent}
 use Rattle.batch_desks.specs.declared.desk.Desk as plans
 use Rattle.batch_serve_desks.specs.Threads.{lines_text}
 use Rattle.batch_serve_desks.specs.declared.rounds.Writer.{Writer}
 use Rattle.batch_pipes.specs.Ended.{given_by}
 use Rattle.batch_pipes.specs.Streams.{IsWrittenOf, IsWrittenOut}
+use Rattle.batch_pipes.specs.declared.outcome.OutputOutcome.{OutputOutcome}
+use Rattle.batch_pipes.specs.declared.outcome.OutputOutcome.TheVariants.{Absent, Joined, Unjoined}
 use Rattle.batch_pipes.specs.declared.output.Output.{Output}
 use Rattle.batch_pipes.specs.declared.writing.OutputEnd.{OutputEnd}
 use Rattle.batch_pipes.specs.declared.writing.OutputTask.{OutputTask}
-use Rattle.batch_pipes.specs.declared.written.Written.{Written}
 
 -- One output
 
@@ -37,10 +38,11 @@ pub record IsEndOf {W : Type 0} (contents : W → Option (List ℕ)) (stood : Op
   pub pair : IsPair writer.ring end.ring
   pub written : IsWrittenOut contents stood front [] (received end.ring) end.written
 
--- it is written through the writer's ring
+-- it is written through the writer's ring. It has its thread or the end of it, unless the desk has no output
 pub record IsOutputOf {W P : Type 0} (contents : W → Option (List ℕ)) (stands : List ℕ → Option (List ℕ)) (o : Output W P) (writer : Writer) : Type 0 where
   pub thread : IfSome o.child (λ child. IsTaskOf (asked_of o) child.handle.promise.task.value writer)
   pub ended : IfSome o.end (λ end. IsEndOf contents (stood_in stands o) (asked_of o).front end writer)
+  pub absent : o.child ≡ None → o.end ≡ None → (asked_of o).path ≡ None
 
 -- it is so still, of the same path and front
 pub record IsOutputKept {W P : Type 0} (contents : W → Option (List ℕ)) (stands : List ℕ → Option (List ℕ)) (old new : Output W P) (writer : Writer) : Type 0 where
@@ -88,9 +90,11 @@ pub record AreOutputsOpened {W P : Type 0} (contents : W → Option (List ℕ)) 
 
 -- Their end
 
--- if anything is known of it, the output took a beginning of its front and of what went into the writer's ring
-abbrev pub IsSettled : {W : Type 0} → (W → Option (List ℕ)) → Option (List ℕ) → List ℕ → Writer → Option (Written W) → Type 0
-IsSettled contents stood front writer written = IfSome written (IsWrittenOf contents stood (front ++ lines_text (sent writer.ring)))
+-- the output took a beginning of its front and of what went into the writer's ring, or its thread is given back
+abbrev pub IsSettled : {W P : Type 0} → (W → Option (List ℕ)) → (List ℕ → Option (List ℕ)) → Asked → Writer → OutputOutcome W P → Type 0
+IsSettled contents stands asked writer Absent = asked.path ≡ None
+IsSettled contents stands asked writer (Joined w) = IsWrittenOf contents (given_by stands asked.path) (asked.front ++ lines_text (sent writer.ring)) w
+IsSettled contents stands asked writer (Unjoined thread) = asked.path ≡ Some (string_bytes thread.handle.promise.task.value.path)
 
 -- nothing more goes into the ring
 abbrev pub IsFinished : {W P : Type 0} → Output W P → Writer → Type 0
@@ -104,17 +108,17 @@ abbrev pub AreEnding : {W P : Type 0} → (W → Option (List ℕ)) → (List �
 AreEnding {W} {P} contents stands outputs = (k : ℕ) (o : Output W P) → k < length outputs → IsEnding contents stands (get_or outputs k o)
 
 -- this came of it, whichever writer's ring that was
-abbrev pub IsSettledBy : {W P : Type 0} → (W → Option (List ℕ)) → (List ℕ → Option (List ℕ)) → Output W P → Option (Written W) → Type 0
-IsSettledBy contents stands o written =
-    (writer : Writer) → IsOutputOf contents stands o writer → IsFinished o writer → IsSettled contents (stood_in stands o) (asked_of o).front writer written
+abbrev pub IsSettledBy : {W P : Type 0} → (W → Option (List ℕ)) → (List ℕ → Option (List ℕ)) → Output W P → OutputOutcome W P → Type 0
+IsSettledBy contents stands o outcome =
+    (writer : Writer) → IsOutputOf contents stands o writer → IsFinished o writer → IsSettled contents stands (asked_of o) writer outcome
 
-pub record AreSettledBy {W P : Type 0} (contents : W → Option (List ℕ)) (stands : List ℕ → Option (List ℕ)) (outputs : List (Output W P)) (written : List (Option (Written W))) : Type 0 where
-  pub count : length written ≡ length outputs
-  pub each : (k : ℕ) (o : Output W P) (w : Option (Written W)) → k < length outputs → IsSettledBy contents stands (get_or outputs k o) (get_or written k w)
+pub record AreSettledBy {W P : Type 0} (contents : W → Option (List ℕ)) (stands : List ℕ → Option (List ℕ)) (outputs : List (Output W P)) (outcomes : List (OutputOutcome W P)) : Type 0 where
+  pub count : length outcomes ≡ length outputs
+  pub each : (k : ℕ) (o : Output W P) (w : OutputOutcome W P) → k < length outputs → IsSettledBy contents stands (get_or outputs k o) (get_or outcomes k w)
 
 -- this came of each
-pub record AreSettled {W P : Type 0} (contents : W → Option (List ℕ)) (stands : List ℕ → Option (List ℕ)) (outputs : List (Output W P)) (writers : List Writer) (written : List (Option (Written W)))
+pub record AreSettled {W P : Type 0} (contents : W → Option (List ℕ)) (stands : List ℕ → Option (List ℕ)) (outputs : List (Output W P)) (writers : List Writer) (outcomes : List (OutputOutcome W P))
     : Type 0 where
-  pub count : length written ≡ length outputs
-  pub each : (k : ℕ) (o : Output W P) (writer : Writer) (w : Option (Written W)) → k < length outputs
-      → IsSettled contents (stood_in stands (get_or outputs k o)) (asked_of (get_or outputs k o)).front (get_or writers k writer) (get_or written k w)
+  pub count : length outcomes ≡ length outputs
+  pub each : (k : ℕ) (o : Output W P) (writer : Writer) (w : OutputOutcome W P) → k < length outputs
+      → IsSettled contents stands (asked_of (get_or outputs k o)) (get_or writers k writer) (get_or outcomes k w)

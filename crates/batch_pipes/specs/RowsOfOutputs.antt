@@ -1,6 +1,11 @@
 -- worked rows: what an output holds of a text behind what stood in it.
-use Rattle.std.specs.Prelude.{[], ◌∷◌, Some}
-use Rattle.batch_pipes.specs.Streams.{HoldsBeginning}
+use Rattle.std.specs.Prelude.{◌≡◌, ℕ, List, [], ◌∷◌, Option, Some, None}
+use Rattle.batch_serve_desks.specs.declared.desk.Desk.{Desk}
+use Rattle.batch_pipes.specs.Ended.{IsGivenBack}
+use Rattle.batch_pipes.specs.Streams.{HasNoOutput, HoldsBeginning}
+use Rattle.batch_pipes.specs.declared.fault.PipeFault.TheVariants.{Memory, Unread}
+use Rattle.batch_pipes.specs.declared.outcome.OutputOutcome.{OutputOutcome}
+use Rattle.batch_pipes.specs.declared.outcome.OutputOutcome.TheVariants.{Absent}
 
 -- of the text 1, 2 behind 7 the first was written
 abbrev pub FrontIsHeld : Type 0
@@ -11,3 +16,13 @@ abbrev pub NoOtherIsHeld : Type 0
 NoOtherIsHeld =
     (¬ HoldsBeginning (Some []) (Some (2 ∷ [])) (1 ∷ 2 ∷ [])) × (¬ HoldsBeginning (Some []) (Some (1 ∷ 1 ∷ [])) (1 ∷ 2 ∷ []))
     × (¬ HoldsBeginning (Some (7 ∷ [])) (Some (1 ∷ [])) (1 ∷ 2 ∷ []))
+
+-- of a desk that has an output something is given back
+abbrev pub NothingIsTooLittle : Type 0
+NothingIsTooLittle =
+    (contents : ℕ → Option (List ℕ)) (stands : List ℕ → Option (List ℕ)) (path text : List ℕ) (desk : Desk) (outcome : OutputOutcome ℕ ℕ) → outcome ≡ Absent
+    → ¬ IsGivenBack contents stands (Some path) text desk outcome
+
+-- want of memory may be why there is no output; that nobody read it isn't, nor is there none without a fault
+abbrev pub NoOutputHasCause : Type 0
+NoOutputHasCause = HasNoOutput (Some Memory) × (¬ HasNoOutput (Some Unread)) × (¬ HasNoOutput None)

@@ -8,6 +8,8 @@ use Rattle.batch_serve.specs.CleanLines.{clean_lines}
 use Rattle.batch_serve_desks.specs.Rounds.{is_end, text_sent}
 use Rattle.batch_serve_desks.specs.Threads.{lines_text}
 use Rattle.batch_serve_desks.specs.declared.rounds.Sent.{Sent}
+use Rattle.batch_pipes.specs.declared.fault.PipeFault.{PipeFault}
+use Rattle.batch_pipes.specs.declared.fault.PipeFault.TheVariants.{Memory, OutputUnopened}
 use Rattle.batch_pipes.specs.declared.written.Written.{Written}
 
 -- what was handed over is a beginning of the lines of the input, as a journal has them; where it ended well it is all of them, and the end
@@ -31,10 +33,17 @@ HoldsBeginning None now text = ⊤
 HoldsBeginning (Some stood) None text = ⊥
 HoldsBeginning (Some stood) (Some now) text = (rest : List ℕ) × (stood ++ text ≡ now ++ rest)
 
+-- the faults of a thread that has no output to give back: it couldn't be opened, or there was no memory for its buffer
+abbrev pub HasNoOutput : Option PipeFault → Type 0
+HasNoOutput (Some (OutputUnopened error)) = ⊤
+HasNoOutput (Some Memory) = ⊤
+HasNoOutput _ = ⊥
+
 -- the output took a beginning of the text behind what stood in it; where that ended well, all of it
 pub record IsWrittenOf {W : Type 0} (contents : W → Option (List ℕ)) (stood : Option (List ℕ)) (text : List ℕ) (w : Written W) : Type 0 where
   pub begun : IfSome w.output (λ output. HoldsBeginning stood (contents output) text)
   pub whole : w.fault ≡ None → (output : W) × (w.output ≡ Some output) × Appends stood (contents output) text
+  pub missing : w.output ≡ None → HasNoOutput w.fault
 
 -- the text was the front, and then the lines that came
 pub record IsWrittenOut {W : Type 0} (contents : W → Option (List ℕ)) (stood : Option (List ℕ)) (front : List ℕ) (before after : List (List ℕ)) (w : Written W) : Type 0 where

@@ -6,11 +6,11 @@ ghost use Rattle.batch_serve_desks.specs.declared.rounds.Writer.{Writer as OneWr
 
 use crate::cutting::tell_line;
 use crate::fault::{Cut, PipeFault};
+use crate::outcome::OutputOutcome;
 use crate::output::Output;
 use crate::pace::PATIENCE;
 use crate::pipes::Outputs;
 use crate::ports::Ports;
-use crate::written::Written;
 use batch_serve_desks::{DeskServer, Pause, Writer};
 use std::alloc::{AllocError, Global};
 use std::io::Write;
@@ -20,7 +20,7 @@ use std::thread::Threads;
 const UNOPENED: u32 = 50;
 
 /// Ends the threads of outputs: nothing more comes for them. It waits until each has ended that has something to write, or has had
-/// time to. What didn't end well is told. It gives what came of each output whose thread has ended.
+/// time to. What didn't end well is told. It gives what came of each output.
 ///
 /// The error is that there is no memory for that.
 pub(crate) fn finish<T: Threads, W: Write + Drop, P: Outputs<W> + Drop, E: Write, S: Pause>(
@@ -31,15 +31,15 @@ pub(crate) fn finish<T: Threads, W: Write + Drop, P: Outputs<W> + Drop, E: Write
     outputs: Vec<Output<W, P>>,
     errors: &mut E,
     rest: &mut S,
-) -> Result<Vec<Option<Written<W>>>, AllocError>
+) -> Result<Vec<OutputOutcome<W, P>>, AllocError>
     requires { AreOutputsOf W.contents P.stands outputs.items ports.writers.items }
-    ensures { IfOk result (λ written. AreSettled W.contents P.stands outputs.items ports.writers.items written.items) }
+    ensures { IfOk result (λ outcomes. AreSettled W.contents P.stands outputs.items ports.writers.items outcomes.items) }
 {
     let mut outputs = outputs;
     let Ports { writers, .. } = ports;
     finish_each(&mut outputs, writers);
-    let written = settle_each(threads, alloc, server, outputs, errors, rest)?;
-    Ok(written)
+    let outcomes = settle_each(threads, alloc, server, outputs, errors, rest)?;
+    Ok(outcomes)
 }
 
 /// Ends the rings of outputs.
@@ -68,20 +68,20 @@ fn settle_each<T: Threads, W: Write + Drop, P: Outputs<W> + Drop, E: Write, S: P
     outputs: Vec<Output<W, P>>,
     errors: &mut E,
     rest: &mut S,
-) -> Result<Vec<Option<Written<W>>>, AllocError>
+) -> Result<Vec<OutputOutcome<W, P>>, AllocError>
     requires { AreEnding W.contents P.stands outputs.items }
-    ensures { IfOk result (λ written. AreSettledBy W.contents P.stands outputs.items written.items) }
+    ensures { IfOk result (λ outcomes. AreSettledBy W.contents P.stands outputs.items outcomes.items) }
 {
     let mut patience = Patience::new();
     let mut all = Vec::new(alloc);
     for output in outputs {
         let at = all.len();
         let is_cut = is_cut(server, at);
-        let (written, fault) = end_output(threads, output, is_cut, &mut patience, rest);
+        let (outcome, fault) = end_output(threads, output, is_cut, &mut patience, rest);
         if let Some(fault) = fault {
             tell_at(alloc, server, at, fault, errors);
         }
-        all.push(written)?;
+        all.push(outcome)?;
     }
     Ok(all)
 }
@@ -112,7 +112,7 @@ fn end_output<T: Threads, W: Write + Drop, P: Outputs<W> + Drop, S: Pause>(
     is_cut: bool,
     patience: &mut Patience,
     rest: &mut S,
-) -> (Option<Written<W>>, Option<PipeFault>)
+) -> (OutputOutcome<W, P>, Option<PipeFault>)
     requires { IsEnding W.contents P.stands output }
     ensures { IsSettledBy W.contents P.stands output result.0 }
 {
@@ -122,21 +122,24 @@ fn end_output<T: Threads, W: Write + Drop, P: Outputs<W> + Drop, S: Pause>(
         patience.wait_for(&output, rest);
     }
     output.join_if_done(threads);
-    let written = output.settle();
+    let outcome = output.settle();
     let fault = if is_cut {
         None
     } else {
-        fault_of(&written, has_work)
+        fault_of(&outcome, has_work)
     };
-    (written, fault)
+    (outcome, fault)
 }
 
 /// Why an output didn't end well that has something to write, or has not. What came of it isn't known where it goes on.
-fn fault_of<W>(written: &Option<Written<W>>, has_work: bool) -> Option<PipeFault> {
-    match written {
-        Some(written) => written.fault,
-        None if has_work => Some(PipeFault::Unread),
-        None => None,
+fn fault_of<W: Write + Drop, P: Outputs<W> + Drop>(
+    outcome: &OutputOutcome<W, P>,
+    has_work: bool,
+) -> Option<PipeFault> {
+    match outcome {
+        OutputOutcome::Joined(written) => written.fault,
+        OutputOutcome::Unjoined(_) if has_work => Some(PipeFault::Unread),
+        OutputOutcome::Unjoined(_) | OutputOutcome::Absent => None,
     }
 }
 

@@ -13,6 +13,13 @@ impl Flag {
         Ok(Flag(Arc::new(alloc, AtomicU64::new(0))?))
     }
 
+    /// A flag that isn't raised, for two threads.
+    pub(crate) fn pair(alloc: Global) -> Result<(Flag, Flag), AllocError> {
+        let flag = Flag::new(alloc)?;
+        let other = flag.another()?;
+        Ok((flag, other))
+    }
+
     /// The same flag, for another thread.
     pub(crate) fn another(&self) -> Result<Flag, AllocError> {
         Ok(Flag(Arc::try_clone(&self.0)?))

@@ -1,8 +1,10 @@
-//! Worked rows of what an output holds. Nothing runs here.
-ghost use Rattle.batch_pipes.specs.RowsOfOutputs.{FrontIsHeld, NoOtherIsHeld};
+//! Worked rows of outputs. Nothing runs here.
+ghost use Rattle.batch_pipes.specs.RowsOfOutputs.{FrontIsHeld, NoOtherIsHeld, NoOutputHasCause, NothingIsTooLittle};
 
-/// Worked rows: an output holds a beginning of a text behind what stood in it, and nothing else.
+/// Worked rows: an output holds a beginning of a text behind what stood in it, and nothing else. It is given back, or its thread is.
 pub fn output_rows()
     ensures front { FrontIsHeld }
     ensures no_other { NoOtherIsHeld }
+    ensures nothing { NothingIsTooLittle }
+    ensures no_output { NoOutputHasCause }
 {}

@@ -10,6 +10,7 @@ mod input;
 mod input_thread;
 mod laws;
 mod opening;
+mod outcome;
 mod output;
 mod output_thread;
 mod pace;
@@ -27,6 +28,8 @@ mod written;
 
 pub use fault::{DesksFault, PipeFault};
 pub use laws::output_rows;
+pub use outcome::OutputOutcome;
+pub use output::OutputChild;
 pub use pipes::{Outputs, Pipes};
 pub use reading::InputTask;
 pub use serving::{DesksEnd, serve_desks};

@@ -136,13 +136,13 @@ fn open_desk<
     } = desk;
     let stop = Flag::new(alloc)?;
     let lag = lag_of(&output, lag);
-    let (reader, input) = open_input(threads, alloc, pipes, input, stays, &stop)?;
-    let (writer, output) = open_output(threads, alloc, pipes, output, front, &stop)?;
     let told = Told::new(alloc, unit, lag);
     add_desk(server, name, told)?;
-    ports.add(reader, writer, DeskThreads::new(stop))?;
+    let (reader, input) = open_input(threads, alloc, pipes, input, stays, &stop)?;
     add_input(inputs, input)?;
+    let (writer, output) = open_output(threads, alloc, pipes, output, front, &stop)?;
     add_output(outputs, output)?;
+    ports.add(reader, writer, DeskThreads::new(stop))?;
     Ok(())
 }
 
@@ -241,13 +241,13 @@ fn read_input<T: Threads, P: Pipes + Send + Drop + 'static>(
     ensures path { IfOk result (λ input. path_of input ≡ Some (string_bytes path)) }
     ensures input { IfOk result (λ input. (reader : OneReader) → IsPair ring reader.ring → IsInputOf P.given input reader) }
 {
-    let done = Flag::new(alloc)?;
+    let (done, ended) = Flag::pair(alloc)?;
     let task = InputTask {
         path,
         stays,
         ring,
         stop: stop.another()?,
-        done: done.another()?,
+        done: ended,
     };
     let handle = start_input(threads, alloc, pipes.another(), task)?;
     Ok(Input {
@@ -318,7 +318,8 @@ fn write_output<
     ensures asked { IfOk result (λ output. asked_of output ≡ record { path = Some (string_bytes path); front = front.items }) }
     ensures output { IfOk result (λ output. (writer : OneWriter) → IsPair writer.ring ring → IsOutputOf W.contents P.stands output writer) }
 {
-    let (began, done) = (Flag::new(alloc)?, Flag::new(alloc)?);
+    let (began, opened) = Flag::pair(alloc)?;
+    let (done, ended) = Flag::pair(alloc)?;
     let has_front = !front.is_empty();
     let first = Snapshot::of(&front);
     let task = OutputTask {
@@ -326,8 +327,8 @@ fn write_output<
         front,
         ring,
         stop: stop.another()?,
-        began: began.another()?,
-        done: done.another()?,
+        began: opened,
+        done: ended,
     };
     let handle = start_output(threads, alloc, pipes.another(), task)?;
     Ok(Output {

@@ -1,11 +1,13 @@
 //! The output of a desk, as the thread of the machine sees it.
-ghost use Rattle.std.specs.Prelude.{◌≡◌, ◌++◌, [], List, ℕ, None};
+ghost use Rattle.std.specs.Prelude.{◌≡◌, ◌++◌, [], List, ℕ, None, Some};
 ghost use Rattle.rtrb.specs.Ring.{IsFinishedOf, all_sent, received};
 ghost use Rattle.batch_pipes.specs.Outputs.{IsEnding, IsFinished, IsOutputKept, IsOutputOf, IsSettledBy};
+ghost use Rattle.batch_pipes.specs.declared.fault.PipeFault.{PipeFault as OneFault};
 ghost use Rattle.batch_serve_desks.specs.declared.rounds.Writer.{Writer as OneWriter};
 
 use crate::fault::PipeFault;
 use crate::flag::Flag;
+use crate::outcome::OutputOutcome;
 use crate::output_thread::OutputHandle;
 use crate::pipes::Outputs;
 use crate::writing::OutputEnd;
@@ -18,7 +20,7 @@ use std::thread::Threads;
 
 /// The thread of an output.
 #[derive(Drop)]
-pub(crate) struct OutputChild<W: Write + Drop, P: Outputs<W> + Drop> {
+pub struct OutputChild<W: Write + Drop, P: Outputs<W> + Drop> {
     pub(crate) handle: OutputHandle<W, P>,
     // something stands before all else in its output
     pub(crate) has_front: bool,
@@ -99,19 +101,28 @@ impl<W: Write + Drop, P: Outputs<W> + Drop> Output<W, P> {
         self.finished = ring.finish();
     }
 
-    /// What came of it, where its thread was joined.
-    pub(crate) fn settle(self) -> Option<Written<W>>
+    /// What came of it. A thread that wasn't joined is given back.
+    pub(crate) fn settle(self) -> OutputOutcome<W, P>
         requires { IsEnding W.contents P.stands self }
         ensures { IsSettledBy W.contents P.stands self result }
     {
-        let Output { end, finished, .. } = self;
+        let Output {
+            child,
+            end,
+            finished,
+            ..
+        } = self;
         let Some(end) = end else {
-            return None;
+            return match child {
+                Some(child) => OutputOutcome::Unjoined(child),
+                None => OutputOutcome::Absent,
+            };
         };
         let Some(finished) = finished else {
-            return None;
+            // The ring has its other end in `end`, and so was finished; no clause of a ring says so.
+            return OutputOutcome::Joined(Written::unopened(PipeFault::Memory));
         };
-        Some(settled(end, finished))
+        OutputOutcome::Joined(settled(end, finished))
     }
 }
 
@@ -119,6 +130,7 @@ impl<W: Write + Drop, P: Outputs<W> + Drop> Output<W, P> {
 fn settled<W: Write + Drop>(end: OutputEnd<W>, finished: Finished<Line>) -> Written<W>
     requires { IsFinishedOf finished end.ring }
     ensures output { result.output ≡ end.written.output }
+    ensures fault { (fault : OneFault) → end.written.fault ≡ Some fault → result.fault ≡ Some fault }
     ensures came { (rest : List (List ℕ)) × (received end.ring ++ rest ≡ all_sent finished) × (result.fault ≡ None → (end.written.fault ≡ None) × (rest ≡ [])) }
 {
     let OutputEnd { ring, written } = end;

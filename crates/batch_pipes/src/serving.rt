@@ -12,13 +12,13 @@ use crate::ending::finish;
 use crate::fault::DesksFault;
 use crate::input::Input;
 use crate::opening::open;
+use crate::outcome::OutputOutcome;
 use crate::output::Output;
 use crate::pipes::{Outputs, Pipes};
 use crate::ports::Ports;
 use crate::rounds::serve_round;
 use crate::tending::{Outlook, tend_desks};
 use crate::timing::Timing;
-use crate::written::Written;
 use batch_desks::Desks;
 use batch_engine::Engine;
 use batch_serve_desks::{Desk, DeskServer, Keep, Lines, Pause};
@@ -29,13 +29,13 @@ use std::time::Clock;
 
 /// Where desks were served to their end.
 #[derive(Drop)]
-pub struct DesksEnd<W> {
+pub struct DesksEnd<W: Write + Drop, P: Outputs<W> + Drop> {
     /// How many batches are neither complete, stopped nor aborted.
     pub unfinished: usize,
     /// The desks. Of one that isn't cut all lines of its input were served.
     pub desks: Vec<Desk>,
-    /// What came of their outputs, in the order of the desks; nothing of a desk that has none, or whose output is still waited for.
-    pub outputs: Vec<Option<Written<W>>>,
+    /// What came of their outputs, in the order of the desks.
+    pub outputs: Vec<OutputOutcome<W, P>>,
 }
 
 /// Serves desks until each that has an input has ended or is cut, and what waits is handed on.
@@ -43,7 +43,8 @@ pub struct DesksEnd<W> {
 /// The input and the output of each desk are opened, read and written in threads of their own, and nobody waits for a thread that is
 /// blocked there. The fronts are what is written to the desks' outputs before all else, one for each desk in order; a desk behind the
 /// last of them has none. A desk whose input or output fails, or for which more lines wait than may, is cut, which is told on the
-/// errors. At the end an output that takes nothing for long is cut too, which is told alone.
+/// errors. At the end an output that takes nothing for long is cut too, which is told alone. Of each desk that has an output it gives
+/// the output back, or the thread of it, which isn't joined while it has more to do.
 pub fn serve_desks<
     T: Threads,
     O: Write + Send + Drop + 'static,
@@ -65,7 +66,7 @@ pub fn serve_desks<
     output: &mut W,
     errors: &mut E,
     rest: &mut S,
-) -> Result<DesksEnd<O>, DesksFault>
+) -> Result<DesksEnd<O, P>, DesksFault>
     ensures { IfOk result (λ end. AreDesksEnded timing.now.times (record {
       set = engine.cleared;
       names = desk_names desks.desks.items;

@@ -74,7 +74,7 @@ impl<R: Threads> DeskRunner for ThreadsOf<'_, R> {
             times,
         };
         let pipes = FilePipes::new(self.clock, desks.desks.len());
-        let end: DesksEnd<File> = serve_desks(
+        let end: DesksEnd<File, FilePipes> = serve_desks(
             self.threads,
             alloc,
             &pipes,

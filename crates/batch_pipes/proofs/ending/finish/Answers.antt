@@ -7,5 +7,5 @@ settle_each-requires g c =
 
 pub returns : goal.returns
 returns g c =
-    settled_all g.W.Write.contents g.P.Outputs.stands c.args.outputs.items c.finish_each.new.outputs.items c.args.ports.writers.items c.in_ok-written.written.items c.finish_each.ensures.kept
-    c.finish_each.ensures.finished c.in_ok-written.ensures
+    settled_all g.W.Write.contents g.P.Outputs.stands c.args.outputs.items c.finish_each.new.outputs.items c.args.ports.writers.items c.in_ok-outcomes.outcomes.items c.finish_each.ensures.kept
+    c.finish_each.ensures.finished c.in_ok-outcomes.ensures

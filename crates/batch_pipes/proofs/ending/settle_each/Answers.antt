@@ -22,11 +22,11 @@ loop-output-preserved g c =
       left = append_assoc at.yielded (output ∷ []) _ ∙ rw (← steps) so_far.left;
       count = (let was = so_far.count in let gone = c.in-Some.ensures.steps.1 in let short = ap length steps in omega arith);
       settled = subst (λ l. AreSettledBy g.W.Write.contents g.P.Outputs.stands (at.yielded ++ output ∷ []) l) (sym c.in_ok-push.ensures.items)
-          (settled_more g.W.Write.contents g.P.Outputs.stands at.yielded output at.all.items c.end_output-written.result.0 so_far.settled c.end_output-written.ensures);
+          (settled_more g.W.Write.contents g.P.Outputs.stands at.yielded output at.all.items c.end_output-outcome.result.0 so_far.settled c.end_output-outcome.ensures);
     }
 
-pub end_output-written-requires : goal.end_output-written-requires
-end_output-written-requires g c =
+pub end_output-outcome-requires : goal.end_output-outcome-requires
+end_output-outcome-requires g c =
     let at = c.loop-output in
     let output = c.in-Some.output in
     let steps : into_iter_items at.output-iterator ≡ output ∷ into_iter_items c.next.new.self = c.in-Some.ensures.steps.0 in

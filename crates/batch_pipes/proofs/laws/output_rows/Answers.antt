@@ -1,4 +1,5 @@
-use Rattle.std.proofs.Common.{[], ◌∷◌, refl}
+use Rattle.std.proofs.Common.{[], ◌∷◌, Some, refl, subst}
+use Rattle.batch_pipes.specs.Ended.{IsGivenBack}
 use Rattle.batch_pipes.proofs.laws.output_rows.Goals as goal
 
 pub returns-clause-front : goal.returns-clause-front
@@ -6,3 +7,11 @@ returns-clause-front c = (2 ∷ [], refl)
 
 pub returns-clause-no_other : goal.returns-clause-no_other
 returns-clause-no_other c = (λ h. cc h.1, λ h. cc h.1, λ h. cc h.1)
+
+pub returns-clause-nothing : goal.returns-clause-nothing
+returns-clause-nothing c = λ contents stands path text desk outcome is back.
+    let none = subst (λ o. IsGivenBack contents stands (Some path) text desk o) is back in
+    absurd cc
+
+pub returns-clause-no_output : goal.returns-clause-no_output
+returns-clause-no_output c = (tt, λ h. h, λ h. h)

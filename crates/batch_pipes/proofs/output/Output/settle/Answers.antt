@@ -12,4 +12,5 @@ returns g c = λ writer of finished.
     let ended = subst (λ e. IfSome e (λ end. IsEndOf contents stood front end writer)) c.in-Some.is of.ended in
     let all = subst (λ f. IfSome f (λ last. Finishes writer.ring last)) c.in-Some-finished.is finished in
     let (rest, is, well) = c.settled.ensures.came in
-    settled_so contents stood front c.in-Some.end writer (all_sent c.in-Some-finished.finished) rest c.settled.result ended all.1 c.settled.ensures.output is well
+    settled_so contents stood front c.in-Some.end writer (all_sent c.in-Some-finished.finished) rest c.settled.result ended all.1 c.settled.ensures.output
+    c.settled.ensures.fault is well

@@ -1,0 +1,16 @@
+//! What came of the output of a desk.
+use crate::output::OutputChild;
+use crate::pipes::Outputs;
+use crate::written::Written;
+use std::io::Write;
+
+/// What came of the output of a desk. A thread is given back only if nobody joined it: whoever joins a thread uses it up.
+#[derive(Drop)]
+pub enum OutputOutcome<W: Write + Drop, P: Outputs<W> + Drop> {
+    /// The desk has no output.
+    Absent,
+    /// Its thread ended and was joined.
+    Joined(Written<W>),
+    /// Its thread wasn't joined: it may be blocked in opening or writing.
+    Unjoined(OutputChild<W, P>),
+}
