@@ -13,7 +13,7 @@ use Rattle.std.proofs.lemmas.List.Sorted.{IsNonDecreasingBy-from_default}
 use Rattle.batch_engine.specs.declared.batches.Entry.{Entry}
 use Rattle.batch_engine.specs.Batches.{AreRising, entry_number}
 use Rattle.batch_engine.proofs.Filing.{numbers-rise}
-use Rattle.batch_laws.proofs.Entries.{nat_differs}
+use Rattle.batch_record_laws.proofs.Entries.{nat_differs}
 
 first-len : {X : Type 0} (p : X → Bool) (xs : List X) (i : ℕ) (d : X) → i < length xs → p (get_or xs i d) ≡ true → ((k : ℕ) → k < i → p (get_or xs k d) ≡ false) → position_or_len p xs ≡ i
 first-len p [] i d l h b = absurd (omega arith)

@@ -6,7 +6,7 @@ use Rattle.batch_model.specs.Lists.{Each}
 use Rattle.batch_model.specs.Plant as Model
 use Rattle.batch_model.specs.Moves as Moves
 use Rattle.batch_model.specs.Moves.{least, batch_moves, next}
-use Rattle.batch_laws.proofs.Members.{Each-image}
+use Rattle.batch_record_laws.proofs.Members.{Each-image}
 use Rattle.batch_chart.specs.OwnMoves.{grants, own_next}
 use Rattle.batch_chart.specs.Seen.{move_of}
 use Rattle.batch_engine.specs.declared.batch.Batch.{Batch}
@@ -19,7 +19,7 @@ use Rattle.batch_engine.specs.Steps.{IsStep, IsLeastAt, IsNext}
 use Rattle.batch_engine.proofs.Choosing.{next-first, next-none}
 use Rattle.batch_chart.proofs.Earliest.{own-first-elim}
 use Rattle.batch_engine.proofs.Told.{standing}
-use Rattle.batch_machine.proofs.Ordering.{none_least}
+use Rattle.batch_step_laws.proofs.Ordering.{none_least}
 
 pub step-map : (v : EngineView) (P Q : Moves.Move → Type 0) → ((m : Moves.Move) → P m → Q m) → (s : Step) → IsStep v P s → IsStep v Q s
 step-map v P Q f (Own i m) g = record { batch = g.batch; chart = g.chart; here = g.here; can = g.can; about = g.about; is = f (move_of (tree_of v.cleared g.batch) (batch_of v.cleared g.batch) m) g.is }
