@@ -22,6 +22,7 @@ use std::io::Read;
 /// Reads the lines that were sent, and tells whether the record may be what the machine tells of them over the cleared set. Comments of the
 /// record are passed over. So is a line that the record says was refused for want of memory, where the machine might have done so: then it
 /// wasn't given the event.
+// claim: a record found
 pub fn audit<R: Read>(
     alloc: Global,
     cleared: Cleared,

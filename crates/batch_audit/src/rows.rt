@@ -2,6 +2,7 @@
 ghost use Rattle.batch_audit.specs.RowsOfAudits.{AuditRows};
 
 /// What the lines of a record tell, and where its whole lines end.
+// claim: worked audits
 pub fn audit_rows()
     ensures { AuditRows }
 {}

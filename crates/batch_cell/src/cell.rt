@@ -25,6 +25,7 @@ pub const MAX_SHARED: usize = 64;
 /// A process cell: its equipment in order of declaration, and two indexes over it. `Cell::new` alone makes one.
 ///
 /// The resources are the units, the free modules and the shared resources, numbered from 0 in that order.
+// claim: formed cells
 #[derive(Drop)]
 pub struct Cell {
     pub name: Name,
@@ -48,6 +49,7 @@ pub struct Cell {
 
 impl Cell {
     /// The cell of this equipment, with its indexes. It is refused only where memory is.
+    // claim: made cells
     pub fn new(
         alloc: Global,
         name: Name,

@@ -9,6 +9,7 @@ use batch_text::Name;
 
 impl Cell {
     /// How many units are of the class.
+    // claim: units of a class
     pub fn candidates(&self, class: &Name) -> u16
         ensures { result ≡ length (units_of_class self.now class.now) }
     {
@@ -22,6 +23,7 @@ impl Cell {
     }
 
     /// The number of the unit that is the one with this index among those of the class. None where they are no more than that.
+    // claim: units of a class
     pub fn candidate(&self, class: &Name, index: u16) -> Option<u16>
         ensures number { ForSome result (λ unit. unit < length (units_of self.now)) }
         ensures name { option_map (λ unit. slice_index_or (units_of self.now) unit []) result ≡ slice_get (units_of_class self.now class.now) index }

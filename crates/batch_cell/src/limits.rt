@@ -5,6 +5,7 @@ ghost use Rattle.batch_cell.specs.declared.module.TheConstants.{MAX_PHASES};
 ghost use Rattle.batch_cell.specs.declared.shared.TheConstants.{MAX_CAPACITY};
 
 /// The limits of a cell are these numbers.
+// claim: limits of a cell
 pub fn cell_limits_are_fixed()
     ensures units { MAX_UNITS ≡ 64 }
     ensures modules { MAX_MODULES ≡ 256 }

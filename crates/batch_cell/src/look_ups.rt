@@ -8,6 +8,7 @@ use batch_text::Name;
 
 impl Cell {
     /// How many units there are. Their numbers as units are their numbers as resources.
+    // claim: units and resources
     pub fn units(&self) -> u16
         ensures { result ≡ length (units_of self.now) }
     {
@@ -15,6 +16,7 @@ impl Cell {
     }
 
     /// How many resources there are.
+    // claim: units and resources
     pub fn resources(&self) -> u16
         ensures { result ≡ length (resources_of self.now) }
     {
@@ -22,6 +24,7 @@ impl Cell {
     }
 
     /// The number of the resource with this name.
+    // claim: numbers of names
     pub fn resource_of(&self, name: &Name) -> Option<u16>
         ensures { result ≡ position (pointwise nat_eq name.now) (resources_of self.now) }
     {
@@ -30,6 +33,7 @@ impl Cell {
     }
 
     /// The name of the resource with this number.
+    // claim: names of numbers
     pub fn name_of(&self, resource: u16) -> &Name
         requires { resource < length (resources_of self.now) }
         ensures { slice_get (resources_of self.now) resource ≡ Some result.now }
@@ -38,6 +42,7 @@ impl Cell {
     }
 
     /// How many steps may hold the resource at once.
+    // claim: names of numbers
     pub fn capacity(&self, resource: u16) -> u32
         requires { resource < length (resources_of self.now) }
         ensures { result ≡ slice_index (capacities_of self.now) resource }
@@ -52,6 +57,7 @@ impl Cell {
     }
 
     /// The number of the unit with this name.
+    // claim: numbers of names
     pub fn unit_of(&self, name: &Name) -> Option<u16>
         ensures { result ≡ position (pointwise nat_eq name.now) (units_of self.now) }
     {

@@ -8,6 +8,7 @@ use batch_text::Name;
 pub const MAX_PHASES: usize = 32;
 
 /// An equipment module. One that belongs to no unit is a free module: a resource of its own, without phases.
+// claim: formed cells
 #[derive(Drop)]
 pub struct Module {
     pub name: Name,
@@ -24,6 +25,7 @@ impl Module {
     ghost use Rattle.batch_cell.specs.Equipment.{belongs_to};
 
     /// Whether it belongs to the unit.
+    // claim: modules of a unit
     pub fn belongs_to(&self, unit: &Name) -> bool
         ensures { result ≡ belongs_to unit.now self.now }
     {

@@ -19,6 +19,7 @@ impl Cell {
     }
 
     /// Whether the unit offers the phase.
+    // claim: phases of a unit
     pub fn offers(&self, unit: u16, phase: &Name) -> bool
         requires { unit < length (units_of self.now) }
         ensures { result ≡ list_any (pointwise nat_eq phase.now) (phases_of self.now unit) }
@@ -27,6 +28,7 @@ impl Cell {
     }
 
     /// The number of the phase among those that the unit offers.
+    // claim: phases of a unit
     pub fn phase_number(&self, unit: u16, phase: &Name) -> Option<u16>
         requires { unit < length (units_of self.now) }
         ensures { result ≡ position (pointwise nat_eq phase.now) (phases_of self.now unit) }
@@ -36,6 +38,7 @@ impl Cell {
     }
 
     /// The name of the phase with this number among those that the unit offers.
+    // claim: phases of a unit
     pub fn phase_name(&self, unit: u16, number: u16) -> Option<&Name>
         requires { unit < length (units_of self.now) }
         ensures { option_copied result ≡ slice_get (phases_of self.now unit) number }

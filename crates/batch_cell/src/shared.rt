@@ -8,6 +8,7 @@ use batch_text::Name;
 pub const MAX_CAPACITY: u32 = 1000;
 
 /// A shared resource, which stands outside the units.
+// claim: formed cells
 #[derive(Drop)]
 pub struct Shared {
     pub name: Name,

@@ -14,6 +14,7 @@ pub struct Unit {
 
 impl Unit {
     /// Whether it is one of the class.
+    // claim: units of a class
     pub fn is_of_class(&self, class: &Name) -> bool
         ensures { result ≡ is_of_class class.now self.now }
     {

@@ -13,6 +13,7 @@ use batch_recipe::{Act, Entry, Recipe, Work, act_at, follows};
 use batch_text::Name;
 
 /// How many needs the act at the node has, its unit among them: 0 where it is none.
+// claim: needs of an act
 pub fn needs_at(chart: &Recipe, node: u16) -> u16
     ensures { (t : Tree) → IsChartOf t chart.now → result ≡ length (step_at t node).needs }
 {

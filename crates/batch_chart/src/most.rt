@@ -112,6 +112,7 @@ pub(crate) fn units(chart: &Recipe) -> usize
 }
 
 /// How many needs a batch of the recipe can hold and ask for at once, those that it holds in advance among them.
+// claim: needs at once
 pub fn needs(chart: &Recipe) -> usize
     ensures { (t : Tree) → IsChartOf t chart.now → result ≡ needs_in t }
 {

@@ -26,16 +26,23 @@ use std::alloc::Global;
 /// The least ranking that clears the recipes for the cell, in order of name, or why there is none.
 pub fn check(alloc: Global, cell: &Cell, recipes: &[Recipe]) -> Result<Certificate, CheckFault>
     // So `verify` accepts the certificate.
+    // claim: found ranks are whole
     ensures ranked { IfOk result (λ certificate. RanksAll (resources_of cell.now) certificate.ranks.items) }
+    // claim: found ranks clear
     ensures cleared { IfOk result
         (λ certificate. IsCleared (setup_of cell.now recipes.now) (rank_of certificate.ranks.items)) }
+    // claim: least ranks
     ensures least { IfOk result (λ certificate. IsLeastClearance cell.now recipes.now (rank_of certificate.ranks.items)) }
     // A resource's rank is one more than the greatest among those asked for before it on some path, and 1 where there are none.
+    // claim: tight ranks
     ensures tight { IfOk result (λ certificate. RanksTightly cell.now recipes.now (rank_of certificate.ranks.items)) }
+    // claim: found in order
     ensures in_order { IfOk result (λ certificate. AreInOrderOfName certificate.ranks.items) }
 
+    // claim: first fault; circle stands; circle closes; circle begins; circle is short
     ensures first { IfErr result (IsFault cell.now recipes.now) }
     // What a caller needs of it: but for memory, no ranking clears the recipes.
+    // claim: no clearance
     ensures none { IfErr result (λ fault. fault ≢ CheckFault.Memory → ¬ (CanBeCleared (setup_of cell.now recipes.now))) }
 {
     if !is_recipe_set(recipes) {

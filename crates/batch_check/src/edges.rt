@@ -28,6 +28,7 @@ pub(crate) fn edges_of(
 ) -> Result<EdgeSet, AllocError>
     requires { length recipes.now ≤ MAX_RECIPES }
     ensures sized { IfOk result (λ set. set.count ≡ length (resources_of cell.now)) }
+    // claim: circle stands; all paths
     ensures edges { IfOk result (λ set. AreEdgesOf cell.now recipes.now set.edges.items) }
     ensures within { IfOk result (λ set. HasEndsBelow (length (resources_of cell.now)) set.edges.items) }
 {

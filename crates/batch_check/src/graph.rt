@@ -20,6 +20,7 @@ use std::alloc::{AllocError, Global};
 ///
 /// The circle is the one that [`crate::check`] tells, or has no edge. The faults are [`CheckFault::Recipes`] and
 /// [`CheckFault::Memory`] alone: recipes that break other rules have a graph too.
+// claim: drawing
 pub fn graph_of(
     alloc: Global,
     cell: &Cell,

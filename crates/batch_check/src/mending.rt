@@ -19,6 +19,7 @@ use std::alloc::{AllocError, Global};
 ///
 /// Whoever asks so first, and in which recipe, doesn't matter. The faults are [`CheckFault::Recipes`] and [`CheckFault::Memory`]
 /// alone.
+// claim: order left out
 pub fn rise_without(
     alloc: Global,
     cell: &Cell,

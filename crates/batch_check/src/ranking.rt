@@ -18,6 +18,7 @@ pub(crate) enum Ranking {
 }
 
 /// The least ranking of the resources below `count` that rises along all edges, or a circle where there is no ranking.
+// claim: least ranks; tight ranks; circle closes
 pub(crate) fn least_ranks(alloc: Global, count: u16, edges: &[Edge]) -> Result<Ranking, AllocError>
     requires { HasEndsBelow count edges.now }
     ensures { IfOk result (IsRankingOf count edges.now) }

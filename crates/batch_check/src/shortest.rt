@@ -8,6 +8,7 @@ use crate::spreading::{Spread, spread_on};
 use std::alloc::{AllocError, Global};
 
 /// A circle of the edges between the resources below `count`, such that none has fewer edges: the one given, or one with fewer.
+// claim: circle is short
 pub(crate) fn shortest_circle(
     alloc: Global,
     count: u16,

@@ -2,6 +2,7 @@
 ghost use Rattle.std.specs.Prelude.{◌≤◌};
 
 /// How large a plant is, and how long its phases run, each number in its range.
+// claim: options of a plant
 #[derive(Clone, Copy)]
 pub struct PlantOptions {
     /// How many batches are created and started, 1 to 100.

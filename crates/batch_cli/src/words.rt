@@ -28,9 +28,12 @@ For more information, try '--help'.
 ///
 /// The error is [`CommandFault::Help`] where the fault that clap gives is that help or the version is asked for, [`CommandFault::Usage`] at any
 /// other, and where a plant of a cell lacks a recipe, and [`CommandFault::Memory`] where memory ran out, be it for the text of one of these.
+// claim: command named (words, taken)
 pub fn parse(alloc: Global, words: &[String]) -> Result<CommandWords, CommandFault>
+    // claim: options of a plant
     ensures words { IfOk result (AreWordsOf (subcommand_of program_app (map string_bytes words.now))) }
     ensures taken { IfOk result (λ _. faults_of (map string_bytes words.now) ≡ []) }
+    // claim: help asked for
     ensures fault { IfErr result (IsFaultOf (faults_of (map string_bytes words.now))) }
 {
     match matches_of(alloc, words) {

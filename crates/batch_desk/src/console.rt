@@ -111,6 +111,7 @@ impl Console {
     /// Sends what is next, where there are memory and a place for it.
     fn act(&mut self, alloc: Global, desk: &mut Desk, plan: &BatchPlan)
         ensures goes { GoesOn plan.now self.old desk.old self.new desk.new }
+        // claim: tried again
         ensures tries { IsTried self.old desk.old self.new desk.new }
     {
         match self.step {

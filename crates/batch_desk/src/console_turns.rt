@@ -16,6 +16,7 @@ use std::alloc::Global;
 /// event is refused. One
 /// turn takes at most one out and sends at most one event; an event for which there is no memory or no place is tried again at
 /// the next. At most `limit` turns are counted, among them those that the gate doesn't let pass.
+// claim: end of a console's loop (end, refused, turns)
 pub fn console_loop<G: Gate>(
     alloc: Global,
     desk: &mut Desk,
@@ -24,6 +25,7 @@ pub fn console_loop<G: Gate>(
     gate: &mut G,
     limit: u64,
 ) -> LoopEnd
+    // claim: sent by a console
     ensures console { IsConsole plan.now batches desk.old desk.new }
     ensures end { (result ≡ Done) ↔ (completes desk.old.taken + batches ≤ completes desk.new.taken) }
     ensures refused { (result ≡ Refused) → refusals desk.old.taken < refusals desk.new.taken }

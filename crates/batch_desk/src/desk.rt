@@ -39,6 +39,7 @@ impl Desk {
     }
 
     /// Sends an event to the hub. Where there is no place in the ring, the event comes back.
+    // claim: sent or given back
     pub fn send(&mut self, event: Event) -> Result<(), Full>
         ensures sent { OnOk result (Sends self.old event self.new) }
         ensures full { IfErr result (λ full. (full.0 ≡ event) × (self.new ≡ record self.old { free = 0 })) }
@@ -52,6 +53,7 @@ impl Desk {
     }
 
     /// Takes the oldest out that is there.
+    // claim: each out taken once
     pub fn take(&mut self) -> Option<Out>
         ensures { Takes self.old result self.new }
     {
@@ -60,6 +62,7 @@ impl Desk {
 
     /// Sends no more: the token shows the hub all that was sent, and what is to come is taken from the inbox. There is no
     /// token where the hub was dropped before.
+    // claim: sent or given back
     pub fn finish(self) -> (Option<Finished<Event>>, Inbox)
         ensures token { IfSome result.0 (λ token. (all_sent token ≡ self.sent) × IsOfRing token self.events) }
         ensures inbox { IsLeftOf self result.1 }

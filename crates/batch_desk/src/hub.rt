@@ -42,17 +42,22 @@ impl Model for Hub {
 
 impl Hub {
     /// Each event that was taken, with the number of its port, in the order in which the engine was given them.
+    // claim: record of a hub
     pub fn history(&self) -> &[(usize, Event)]
         ensures value { result.now ≡ self.now.history }
+        // claim: events once; outs once
         ensures account { IsHub self.now }
     {
         self.history.as_slice()
     }
 
     /// The record: all replies and moves so far. It is safe, since the set was cleared.
+    // claim: record of a hub
     pub fn record(&self) -> &[Out]
         ensures value { result.now ≡ self.now.outs }
+        // claim: events once; outs once
         ensures account { IsHub self.now }
+        // claim: safe record of a hub
         ensures safe { IsSafe (setup self.now.engine.cleared) (outs_in self.now.engine.cleared self.now.outs) }
     {
         cleared_runs_safely(self.engine.cleared());
@@ -60,6 +65,7 @@ impl Hub {
     }
 
     /// How many outs of the port wait for a place in its ring. None where there is no such port.
+    // claim: waiting outs
     pub fn waiting(&self, port: usize) -> Option<usize>
         ensures { MatchOption (slice_get self.now.ports port) (result ≡ None) (λ p. result ≡ Some (length p.waiting)) }
     {
@@ -73,12 +79,14 @@ impl Hub {
     /// waits still goes into its ring at its turns. The token is the one that the port's desk gave; a refusal gives it back.
     ///
     /// A port that is closed stays so. Refused are, in this order, an unknown port, one that was cut, and one of which events remain.
+    // claim: drained port
     pub fn close(
         &mut self,
         port: usize,
         token: Finished<Event>,
     ) -> Result<(), (HubFault, Finished<Event>)>
         requires { IfSome (slice_get self.old.ports port) (λ p. IsOfRing token p.events) }
+        // claim: rings stay
         ensures rings { rings self.new ≡ rings self.old }
         ensures work { SameWork self.old self.new }
         ensures ok { OnOk result (Closes port self.old self.new (all_sent token)) }
@@ -95,7 +103,9 @@ impl Hub {
 
     /// Closes a port whose desk was lost: no event is taken any more, whatever was sent. What waits still goes into its ring at
     /// its turns. Refused are an unknown port, and one that is closed or cut.
+    // claim: cut port
     pub fn cut(&mut self, port: usize) -> Result<(), HubFault>
+        // claim: rings stay
         ensures rings { rings self.new ≡ rings self.old }
         ensures work { SameWork self.old self.new }
         ensures ok { OnOk result (Cuts port self.old self.new) }
@@ -115,6 +125,7 @@ impl Hub {
 
     /// Ends the ring of outs of a closed port for which none wait. The token shows the port's inbox all that was put there; there
     /// is none where desk and inbox were dropped before.
+    // claim: sealed port
     pub fn seal(&mut self, port: usize) -> Result<Option<Finished<Out>>, HubFault>
         ensures work { SameWork self.old self.new }
         ensures ok { IfOk result (λ token. Seals port self.old self.new token) }
@@ -131,8 +142,10 @@ impl Hub {
     }
 
     /// Gives the engine and the history. The rings end.
+    // claim: record of a hub
     pub fn end(self) -> (Engine, Vec<(usize, Event)>)
         ensures value { (result.0 ≡ self.engine) × (result.1.items ≡ self.history) }
+        // claim: events once; outs once
         ensures account { IsHub self }
     {
         (self.engine, self.history)

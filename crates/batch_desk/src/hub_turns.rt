@@ -59,13 +59,16 @@ impl Hub {
 /// Gives each port its turn, one after the other from port 0 on, until batches 1 to `batches` are complete, no move is possible
 /// and nothing waits for an open port. A turn for which there is no memory is passed over; the next goes on with its work. At
 /// most `limit` turns are counted, among them those that the gate doesn't let pass.
+// claim: kept by a hub's loop (rings, outlines, cleared, history, record)
 pub fn hub_loop<G: Gate>(hub: &mut Hub, batches: u64, gate: &mut G, limit: u64) -> LoopEnd
     ensures rings { rings hub.new ≡ rings hub.old }
     ensures outlines { outlines hub.new ≡ outlines hub.old }
     ensures cleared { hub.new.engine.cleared ≡ hub.old.engine.cleared }
     ensures history { HasGrown (length hub.old.ports) hub.old.history hub.new.history }
     ensures record { IsPrefix hub.old.outs hub.new.outs }
+    // claim: end of a hub's loop
     ensures end { (result ≡ Done) ↔ IsHubDone batches hub.new }
+    // claim: turns of a hub's loop
     ensures turns { ¬ (result ≡ Done) → (result ≡ TurnsOut) × AreAsked G.passes limit gate.old gate.new }
 {
     let mut port = 0;

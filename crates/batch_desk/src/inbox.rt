@@ -32,6 +32,7 @@ impl Inbox {
     }
 
     /// Takes the oldest out that is there.
+    // claim: each out taken once
     pub fn take(&mut self) -> Option<Out>
         ensures some { IfSome result (λ out. TakesNext self.old out self.new) }
         ensures none { IfNone result ((self.new.outs ≡ self.old.outs) × (self.new.taken ≡ self.old.taken)) }
@@ -41,6 +42,7 @@ impl Inbox {
     }
 
     /// How many outs are still to be taken. The token is the one that sealing the port gave.
+    // claim: rest
     pub fn rest(&mut self, token: Finished<Out>) -> usize
         requires { IsOfRing token self.old.outs }
         ensures same { (self.new.outs ≡ self.old.outs) × (self.new.taken ≡ self.old.taken) }

@@ -60,6 +60,7 @@ fn open_ports(alloc: Global, plans: &[PortPlan]) -> Result<(Vec<Port>, Vec<Desk>
 impl Hub {
     /// Makes a hub of an engine in which nothing has happened, and the desk of each port at the port's place. It takes the memory
     /// of all rings. A refusal gives the engine back.
+    // claim: new hub (hub, ports); limits of ports (within, err)
     pub fn new(
         alloc: Global,
         engine: Engine,

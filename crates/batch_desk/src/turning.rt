@@ -134,14 +134,18 @@ impl Hub {
     /// outs go into the ring again. The outs of other ports wait until their turns.
     ///
     /// For want of memory no event is lost: what was done stands, and pending moves go on at the next turn of any port.
+    // claim: refused turns (unknown, fault); rings stay (rings, outlines)
     #[tactic(auto, using(crate::proofs::Outlines::rings_stay))]
     pub fn turn(&mut self, port: usize) -> Result<Turned, HubFault>
         ensures rings { rings self.new ≡ rings self.old }
         ensures outlines { outlines self.new ≡ outlines self.old }
         ensures cleared { self.new.engine.cleared ≡ self.old.engine.cleared }
+        // claim: one event a turn
         ensures history { Grows port self.old self.new }
         ensures record { IsPrefix self.old.outs self.new.outs }
+        // claim: answers of turns
         ensures answer { IfOk result (λ turned. AnswersTurn turned self.old self.new) }
+        // claim: no out waits for a free place
         ensures flushed { IsFlushed port self.new }
         ensures unknown { length self.old.ports ≤ port → (result ≡ Err UnknownPort) × (self.new ≡ self.old) }
         ensures fault { IfErr result (λ fault. (fault ≡ Memory) ⊎ ((fault ≡ UnknownPort) × (length self.old.ports ≤ port))) }

@@ -15,6 +15,7 @@ pub const USUAL_LAG: usize = 4_096;
 
 /// A console or an equipment link: which lines it sends and is written, and by which paths. A path may be that of a
 /// named pipe, a terminal or a file; it is looked at by nobody before it is opened.
+// claim: kept desks
 #[derive(Drop)]
 pub struct Desk {
     pub name: Name,

@@ -10,6 +10,7 @@ use crate::desk::Desk;
 pub const MAX_DESKS: usize = 64;
 
 /// The desks of a server, in the order of their document. Their names differ.
+// claim: kept desks
 #[derive(Drop)]
 pub struct Desks {
     pub desks: Vec<Desk>,

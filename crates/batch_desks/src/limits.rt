@@ -4,6 +4,7 @@ ghost use Rattle.batch_desks.specs.declared.desk.TheConstants.{MAX_LAG, MAX_PATH
 ghost use Rattle.batch_desks.specs.declared.desk_set.TheConstants.{MAX_DESKS};
 
 /// The limits of desks are these numbers.
+// claim: limits of desks
 pub fn desk_limits_are_fixed()
     ensures desks { MAX_DESKS ≡ 64 }
     ensures path { MAX_PATH_LEN ≡ 4096 }

@@ -34,13 +34,19 @@ const TOP: Spot = Spot {
 ///   input nor output stands behind these two), then of how many there are, then of their names;
 /// - `Memory`, where memory is refused on the way.
 pub fn read_desks(alloc: Global, bytes: &[u8]) -> Result<Desks, DocFault>
+    // claim: desks read
     ensures ok { IfOk result (IsDesksDocument bytes.now) }
+    // claim: desks not TOML
     ensures not_toml { IsErrOf result DocFault.NotToml → ¬ (IsUtf8 bytes.now × IsSome (parse_document bytes.now)) }
+    // claim: no desks
     ensures refused { IfErr result (λ fault. fault ≢ DocFault.Memory
         → (desks : Desks) → ¬ (IsDesksDocument bytes.now desks)) }
+    // claim: many bytes of desks
     ensures long { MAX_DOCUMENT_LEN < length bytes.now
         → result ≡ Err (DocFault.Entry (record { kind = TableKind.Desk; entry = 0 }) EntryFault.OutOfLimit) }
+    // claim: faults of desks
     ensures told { (spot : Spot) (wrong : EntryFault) → IsErrOf result (DocFault.Entry spot wrong) → spot.kind ≡ TableKind.Desk }
+    // claim: first fault of desks
     ensures stands { (spot : Spot) (wrong : EntryFault) → IsErrOf result (DocFault.Entry spot wrong) → FaultStands bytes.now spot.entry wrong }
 {
     let table = table_of(alloc, bytes, TOP)?;

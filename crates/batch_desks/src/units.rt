@@ -10,6 +10,7 @@ use batch_reader::{DocFault, EntryFault, Spot, TableKind};
 
 /// Looks up the units that desks name in the cell. The first desk whose unit is none of its units is refused as
 /// `Undeclared`, and nothing else is.
+// claim: units of desks
 pub fn check_units(desks: &Desks, cell: &Cell) -> Result<(), DocFault>
     ensures ok { OnOk result (HaveUnits (units_of cell.now) desks.now.desks.items) }
     ensures refused { IfErr result (TellsNoUnit (units_of cell.now) desks.now.desks.items) }

@@ -26,6 +26,7 @@ use std::io::Write;
 /// is dropped. The orders of moves that were made before are the caller's to give. What is written is handed on at the end of
 /// each round. Memory is asked for the names in a report alone; where there is none, that report is lost and driving stops, and
 /// can go on by another call. After a write fault the machine may be ahead of what is written.
+// claim: settled by driving (cleared, settled)
 pub fn drive<D: UnitDriver, W: Write>(
     alloc: Global,
     engine: &mut Engine,
@@ -34,6 +35,7 @@ pub fn drive<D: UnitDriver, W: Write>(
     rounds: u64,
 ) -> Result<(), DriveFault>
     ensures cleared { engine.new.cleared ≡ engine.old.cleared }
+    // claim: driven; driven record; lost report; driving cut off
     ensures driven { IsDriven D.command_gives D.tick_gives engine.old.cleared (in_rounds (length (units_of engine.old.cleared.cell)) rounds)
         (record { plant = plant_of engine.old; units = units.old }) result (record { plant = plant_of engine.new; units = units.new })
         (W.contents writer.old) (W.contents writer.new) }

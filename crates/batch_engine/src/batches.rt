@@ -17,6 +17,7 @@ pub struct Entry {
 }
 
 /// The batches, by rising number. An index counts them from the least number on.
+// claim: batches kept
 #[derive(Drop)]
 pub struct Batches {
     slab: Slab<Batch>,

@@ -26,8 +26,11 @@ use std::alloc::{AllocError, Global};
 impl Engine {
     /// The engine of cleared recipes, in which nothing has happened. It keeps the allocator.
     pub fn new(alloc: Global, cleared: Cleared) -> Result<Engine, (AllocError, Cleared)>
+        // claim: opening
         ensures opening { IfOk result (λ engine. plant_of engine ≡ opening) }
+        // claim: set of an engine
         ensures cleared { IfOk result (λ engine. engine.cleared ≡ cleared) }
+        // claim: set given back
         ensures back { IfErr result (λ fault. fault.1 ≡ cleared) }
     {
         let Ok(holders) = no_holders(alloc, cleared.cell()) else {
@@ -45,12 +48,14 @@ impl Engine {
     /// The recipes that the engine runs, and their cell. Whatever is promised of records that they lead to holds of every engine.
     pub fn cleared(&self) -> &Cleared
         ensures value { result.now ≡ self.now.cleared }
+        // claim: led to
         ensures led { IsLed self.now }
     {
         self.control.cleared()
     }
 
     /// Takes an event and answers it. While moves are pending every event is refused.
+    // claim: events; binding; required outputs; no memory for a create; the set stays
     pub fn accept(&mut self, event: &Event) -> Reply
         ensures { IsAnswered self.old (event_of event.now) result self.new }
     {
@@ -64,6 +69,7 @@ impl Engine {
     }
 
     /// Whether the event makes a batch where there is memory for it. Of such an event alone want of memory may be the answer.
+    // claim: events that would create
     pub fn would_create(&self, event: &Event) -> bool
         ensures { IsTrue result ↔ MayWant self.now (event_of event.now) }
     {
@@ -85,6 +91,7 @@ impl Engine {
     }
 
     /// Whether no move is possible.
+    // claim: settled
     pub fn settled(&self) -> bool
         ensures { IsTrue result ↔ (next (setup self.now.cleared) (plant_of self.now) ≡ None) }
     {
@@ -93,8 +100,11 @@ impl Engine {
 
     /// Makes the next move, if one is possible.
     pub fn next_move(&mut self) -> Option<Line>
+        // claim: next move; no next move
         ensures next { option_map (move_of self.old.cleared) result ≡ next (setup self.old.cleared) (plant_of self.old) }
+        // claim: plant after a move
         ensures plant { plant_of self.new ≡ plant_after self.old.cleared (plant_of self.old) result }
+        // claim: the set stays
         ensures cleared { self.new.cleared ≡ self.old.cleared }
     {
         let Some(step) = self.control.first_step(&self.marks) else {
@@ -111,6 +121,7 @@ impl Engine {
     }
 
     /// The state that the act at a place of the batch with this number shows. None where there is no such batch, or no act at that place.
+    // claim: state of an act
     pub fn state_of(&self, batch: u64, place: &Place) -> Option<State>
         ensures { result ≡ state_of (plant_of self.now) batch place.now }
     {
@@ -123,6 +134,7 @@ impl Engine {
     }
 
     /// The value with this name of the batch with this number. None where there is no such batch, or no such value.
+    // claim: value of a batch
     pub fn value_of(&self, batch: u64, name: &Name) -> Option<u64>
         ensures { result ≡ value_in (plant_of self.now) batch name.now }
     {
@@ -130,6 +142,7 @@ impl Engine {
     }
 
     /// The state of the batch with this number. None where there is no such batch.
+    // claim: state of a batch
     pub fn batch_state(&self, batch: u64) -> Option<State>
         ensures { result ≡ batch_state_in (plant_of self.now) batch }
     {
@@ -137,6 +150,7 @@ impl Engine {
     }
 
     /// How many batches are neither complete, stopped nor aborted.
+    // claim: batches unfinished
     pub fn unfinished(&self) -> usize
         ensures { result ≡ unfinished (plant_of self.now) }
     {

@@ -31,5 +31,6 @@ impl Model for Engine {
 
     ghost view = { λ e. e.control };
 
+    // claim: marked batches
     ghost invariant = { λ e. IsEngine e.control e.marks e.holders.items };
 }

@@ -149,6 +149,7 @@ impl Control {
     }
 
     /// The next step: that of the first marked batch that has one.
+    // claim: marked batches
     #[inline(always)]
     pub(crate) fn first_step(&self, marks: &Marks) -> Option<Step>
         requires { AreMarked self.now marks.now }

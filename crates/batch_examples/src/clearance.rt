@@ -1,4 +1,5 @@
 //! Worked rows of clearance. The functions are empty: their contracts are the rows.
+// claim: cleared rows
 ghost use Rattle.batch_examples.specs.RowsOfClearance.{
   CrossedBranchesAreCleared,
   SameResourceTwice,

@@ -39,11 +39,13 @@ pub use transfers::{
 
 /// There are documents that meet the premises of the laws on records: a cell with two recipes that are cleared, though their
 /// batches can point at each other.
+// claim: premises met
 pub fn premises_can_be_met()
     ensures { PremisesCanBeMet }
 {}
 
 /// A unit procedure asks for one unit of its unit, and not for none, nor for two.
+// claim: units of a unit procedure
 pub fn units_of_a_unit_procedure()
     ensures one { OneUnitIsAskedFor }
     ensures none { NoUnitIsAskedFor }

@@ -1,4 +1,5 @@
 //! Worked rows: what the records of some runs are. The functions are empty: their contracts are the rows.
+// claim: worked rows
 ghost use Rattle.batch_examples.specs.RowsOfMoves.{
   DemoIsExpanded,
   DemoIsPlaced,
@@ -96,6 +97,7 @@ ghost use Rattle.batch_examples.specs.RowsOfActStates.{
 /// The demo's recipe is the tree that its document expands to, and each act of it carries the place at which it stands.
 pub fn demo_is_expanded()
     ensures expanded { DemoIsExpanded }
+    // claim: placed setups
     ensures placed { DemoIsPlaced }
 {}
 
@@ -264,6 +266,7 @@ pub fn refused_events()
 {}
 
 /// Want of memory refuses a create that would make a batch, and changes nothing; it refuses nothing else.
+// claim: want of memory in rows
 pub fn want_of_memory()
     ensures refuses { MemoryRefusesACreate }
     ensures changes_nothing { MemoryMakesNoBatch }

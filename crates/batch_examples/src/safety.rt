@@ -35,12 +35,14 @@ ghost use Rattle.batch_examples.specs.RowsOfSafety.{
 };
 
 /// A step holds all units that it was granted until it gives them back.
+// claim: told in rows
 pub fn units_told()
     ensures held { AllUnitsAreHeld }
     ensures given_back { AllUnitsAreGivenBack }
 {}
 
 /// A wait ends with its grant, or with a stop or an abort of its batch, and a hold doesn't end it.
+// claim: waits end
 pub fn waits_end()
     ensures grant { GrantEndsWait }
     ensures stop { StopEndsWait }
@@ -49,12 +51,14 @@ pub fn waits_end()
 {}
 
 /// A phase is active until the report that ends it.
+// claim: told in rows
 pub fn phases_end()
     ensures ended { EndingReportsEndPhases }
     ensures held { HeldPhaseIsActive }
 {}
 
 /// A record isn't safe in which more units of a resource are held than its capacity, at its end or before.
+// claim: unsafe rows
 pub fn held_past_capacity()
     ensures holders { TwoHoldersOfOneUnit }
     ensures units { ThreeUnitsOfTwo }
@@ -62,6 +66,7 @@ pub fn held_past_capacity()
 {}
 
 /// Nor one in which a phase is active whose unit its own batch doesn't hold above it.
+// claim: unsafe rows
 pub fn unit_not_held_above()
     ensures own_step { UnitHeldByItsStep }
     ensures beside { UnitHeldBesideItsStep }
@@ -71,12 +76,14 @@ pub fn unit_not_held_above()
 {}
 
 /// Nor one in which a phase starts that is active, or that its unit doesn't offer.
+// claim: unsafe rows
 pub fn started_wrongly()
     ensures twice { StartedTwice }
     ensures not_offered { StartedWhereNotOffered }
 {}
 
 /// Nor one in which a batch is complete, stopped or aborted and holds or awaits something.
+// claim: unsafe rows
 pub fn not_empty_at_rest()
     ensures complete_holding { AtRestHolding Complete }
     ensures stopped_holding { AtRestHolding Stopped }
@@ -87,6 +94,7 @@ pub fn not_empty_at_rest()
 {}
 
 /// Nor one in which steps wait in a circle, as the machine's own record can where recipes aren't cleared.
+// claim: unsafe rows
 pub fn waiting_in_a_circle()
     ensures alone { WaitsForItself }
     ensures two { TwoWaitInACircle }
@@ -95,6 +103,7 @@ pub fn waiting_in_a_circle()
 {}
 
 /// A step waits for those that wait at or below the holder of what it asks for, and for those that asked for it before.
+// claim: steps waited for
 pub fn steps_point()
     ensures newer { NewerPointsToOlder }
     ensures older { OlderDoesNotPointToNewer }
@@ -104,6 +113,7 @@ pub fn steps_point()
 {}
 
 /// A chain of waiting goes on at or below its holder, and not beside it.
+// claim: steps waited for
 pub fn chains_go_on()
     ensures below { ChainGoesOnBelowHolder }
     ensures beside { ChainEndsBesideHolder }

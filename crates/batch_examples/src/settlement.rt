@@ -13,6 +13,7 @@ ghost use Rattle.batch_examples.specs.RowsOfSettlement.{
 };
 
 /// A holder is at work where a phase is live at or below it, or its batch isn't simply running; else it isn't.
+// claim: holders at work
 pub fn holders_at_work()
     ensures phase { LivePhaseWorks }
     ensures batch { HeldBatchWorks }
@@ -23,6 +24,7 @@ pub fn holders_at_work()
 
 /// Somebody waits for nothing where enough is free, where nobody holds what is asked for, where a chain's last holder isn't
 /// at work, or where a chain has no end.
+// claim: waits for nothing
 pub fn waits_for_nothing()
     ensures free { HeaderIsFree }
     ensures enough_is_free { OneOfTwoUnitsIsFree }

@@ -1,4 +1,5 @@
 //! Worked rows of transfers. The functions are empty: their contracts are the rows.
+// claim: transfers in rows
 ghost use Rattle.batch_examples.specs.RowsOfTransfers.{
   UnitIsHandedOver,
   HeldBatchHandsOver,

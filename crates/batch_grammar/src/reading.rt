@@ -26,8 +26,11 @@ pub struct ReadChart {
 
 /// Reads the chart of a text, as [`read_chart`] does, and tells where its first `par` opens.
 pub fn read_chart_and_par(alloc: Global, text: &[u8]) -> Result<ReadChart, ChartFault>
+    // claim: chart read; first `par`
     ensures found { IfOk result (λ read. IsRead text.now (diagram_of read.chart) read.first_par) }
+    // claim: no chart
     ensures no_chart { (n : ℕ) → result ≡ Err (ChartFault.NotAChart n) → HasFaultAt text.now n }
+    // claim: number out of range
     ensures out_of_range { (n : ℕ) → result ≡ Err (ChartFault.OutOfRange n) → IsOutsideAt text.now n }
 {
     let mut state = State {
@@ -60,8 +63,11 @@ pub fn read_chart_and_par(alloc: Global, text: &[u8]) -> Result<ReadChart, Chart
 /// Reads the chart of a text. `NotAChart`: the text is none, whatever range its numbers may have. `OutOfRange`: it is one but
 /// for the range of its numbers. Both tell an offset in bytes from 0. `Memory` may come of any text.
 pub fn read_chart(alloc: Global, text: &[u8]) -> Result<Chart, ChartFault>
+    // claim: chart read
     ensures found { IfOk result (λ chart. IsChart text.now (diagram_of chart)) }
+    // claim: no chart
     ensures no_chart { (n : ℕ) → result ≡ Err (ChartFault.NotAChart n) → HasFaultAt text.now n }
+    // claim: number out of range
     ensures out_of_range { (n : ℕ) → result ≡ Err (ChartFault.OutOfRange n) → IsOutsideAt text.now n }
 {
     let read = read_chart_and_par(alloc, text)?;

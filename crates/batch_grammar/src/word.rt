@@ -43,6 +43,7 @@ pub fn word_of(word: &[u8]) -> Word
 
 /// Whether the text is one of the six words with a meaning in charts, which name nothing: `skip`, `seq`, `par`, `sel`, `loop`
 /// and `else`.
+// claim: words of charts
 #[tactic(auto, using(crate::proofs::ChartWords::chart_word_told))]
 pub fn is_chart_word(text: &[u8]) -> bool
     ensures { result ≡ is_among chart_words text.now }

@@ -16,6 +16,7 @@ pub struct Digits {
 
 impl Digits {
     /// The digits.
+    // claim: the documents' digits
     pub fn text(self) -> [u8; 64]
         ensures digits { result ≡ self.text }
         ensures line { IsLine result }
@@ -25,6 +26,7 @@ impl Digits {
 }
 
 /// Takes the texts of documents one after the other: of each its length in decimal, a line feed, and its bytes.
+// claim: the documents' digits
 #[derive(Drop)]
 pub struct DocumentsDigest {
     hasher: Sha256,

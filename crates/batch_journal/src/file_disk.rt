@@ -40,6 +40,7 @@ impl FileDisk {
 }
 
 /// The folder that a path lies in.
+// claim: a journal's folder
 fn folder_of(path: &str) -> &str
     ensures { result.now ≡ folder_text (path_parent path.now) }
 {

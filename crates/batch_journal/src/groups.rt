@@ -27,7 +27,9 @@ pub struct Groups<D: Disk, K: Clock, C: Run> {
     ghost none_ready: { failed ≡ true → ready ≡ 0 },
     ghost kept: { D.is_disk disk → failed ≡ false → IsKept C.documents C.base (D.durable disk) (D.seen disk) (D.given disk) (not_given C.documents C.base (D.seen disk) (D.given disk)) (sum_text sum) },
     ghost rest: { D.is_disk disk → failed ≡ false → length (not_given C.documents C.base (D.seen disk) (D.given disk)) ≡ ready },
+    // claim: whole lines are given
     ghost whole: { D.is_disk disk → IsWhole (D.given disk) },
+    // claim: lines are kept
     ghost recalled: { D.is_disk disk → HasRecalled C.documents C.base C.since (D.moment disk) (D.left_since disk) },
     ghost stays: { D.is_disk disk → ∥ C.was ∥₁ },
 }
@@ -56,6 +58,7 @@ impl<D: Disk, K: Clock, C: Run> Groups<D, K, C> {
     ///
     /// The error is that a call of the disk failed, now or before, or that they aren't whole lines, or that one of them is such as a
     /// journal has for itself. Then nothing is given on.
+    // claim: kept and given (kept, unkept)
     pub fn keep(&mut self, lines: &[u8]) -> Result<(), DiskError>
         ensures kept { D.is_disk self.new.disk → OnOk result (D.given self.new.disk ≡ D.given self.old.disk ++ lines.now) }
         ensures unkept { D.is_disk self.new.disk → OnErr result (D.given self.new.disk ≡ D.given self.old.disk) }
@@ -69,12 +72,14 @@ impl<D: Disk, K: Clock, C: Run> Groups<D, K, C> {
     }
 
     /// The disk. A crash at any moment of the run leaves all that was given on by then.
+    // claim: whole lines are given (whole, lines)
     pub fn into_disk(self) -> D
     where
         K: Drop,
         ensures disk { result ≡ self.disk }
         ensures whole { D.is_disk result → IsWhole (D.given result) }
         ensures lines { D.is_disk result → AreLines (whole_lines (D.given result)) }
+        // claim: lines are kept
         ensures recalled { D.is_disk result → HasRecalled C.documents C.base C.since (D.moment result) (D.left_since result) }
         ensures stays { D.is_disk result → ∥ C.was ∥₁ }
     {

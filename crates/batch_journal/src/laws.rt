@@ -5,42 +5,50 @@ ghost use Rattle.batch_journal.specs.RowsOfRecovery.{RecoveryRows};
 ghost use Rattle.batch_journal.specs.Recovery.{CrashIsNoDamage, RecoveredAreLines, TakenIsNotRefused, WholeLinesAreLines};
 
 /// Behind groups that are taken others are taken as by themselves, whatever the sums are.
+// claim: groups go on
 pub fn groups_go_on()
     ensures { GroupsGoOn }
 {}
 
 /// A group that was written is taken whole.
+// claim: a group is taken
 pub fn group_is_taken()
     ensures { GroupIsTaken }
 {}
 
 /// Lines whose group isn't closed are left.
+// claim: a torn group is left
 pub fn torn_is_left()
     ensures { TornIsLeft }
 {}
 
 /// Where the text of a file's lines begins with that of some lines, they are the first that recovery gives.
+// claim: lines begin
 pub fn lines_begin()
     ensures { LinesBegin }
 {}
 
 /// Whatever a crash leaves of a group that was being written isn't taken for damage.
+// claim: a crash is no damage
 pub fn crash_is_no_damage()
     ensures { CrashIsNoDamage }
 {}
 
 /// No file that a start takes has a reason to be refused.
+// claim: taken isn't refused
 pub fn taken_is_not_refused()
     ensures { TakenIsNotRefused }
 {}
 
 /// Whole lines, and what recovery gives, are lines: none has a line feed or a zero byte.
+// claim: lines are recovered
 pub fn recovered_are_lines()
     ensures whole { WholeLinesAreLines }
     ensures recovered { RecoveredAreLines }
 {}
 
 /// Files that a start takes, and files that it doesn't.
+// claim: rows of files
 pub fn recovery_rows()
     ensures { RecoveryRows }
 {}

@@ -73,6 +73,7 @@ fn keep(past: &mut Vec<Past>, moment: Past) -> Result<(), DiskError>
 
 impl Memory {
     /// An empty file.
+    // claim: a disk in memory
     pub fn new(alloc: Global) -> Memory
         ensures empty { result.seen.items ≡ [] }
         ensures synced { result.durable.items ≡ [] }
@@ -88,6 +89,7 @@ impl Memory {
     }
 }
 
+// claim: a disk in memory
 impl Disk for Memory {
     ghost is_disk = { λ _. ⊤ };
 

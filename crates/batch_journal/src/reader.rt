@@ -29,6 +29,7 @@ pub struct JournalReader<R: Read, D: Disk, K: Clock, C: Run> {
     window: Window,
     ghost within: { groups.ready ≤ length (items window) },
     ghost ready: { D.is_disk groups.disk → groups.failed ≡ false → not_given C.documents C.base (D.seen groups.disk) (D.given groups.disk) ≡ take groups.ready (items window) },
+    // claim: nothing is lost on the way
     ghost accounted: { D.is_disk groups.disk → IsAccounted C.input (D.given groups.disk) (prepend_known (items window) (R.remaining inner)) },
 }
 
@@ -51,6 +52,7 @@ impl<R: Read, D: Disk, K: Clock, C: Run> JournalReader<R, D, K, C> {
     }
 
     /// The disk. A crash at any moment of the run leaves all that was given by then, and it was the input but for what is left.
+    // claim: whole lines are given (whole, lines)
     pub fn into_disk(self) -> D
     where
         R: Drop,
@@ -58,7 +60,9 @@ impl<R: Read, D: Disk, K: Clock, C: Run> JournalReader<R, D, K, C> {
         ensures disk { result ≡ self.groups.disk }
         ensures whole { D.is_disk result → IsWhole (D.given result) }
         ensures lines { D.is_disk result → AreLines (whole_lines (D.given result)) }
+        // claim: lines are kept
         ensures recalled { D.is_disk result → HasRecalled C.documents C.base C.since (D.moment result) (D.left_since result) }
+        // claim: nothing is lost on the way
         ensures accounted { D.is_disk result → IsAccounted C.input (D.given result) (prepend_known (items self.window) (R.remaining self.inner)) }
         ensures stays { D.is_disk result → ∥ C.was ∥₁ }
     {

@@ -64,6 +64,7 @@ pub(crate) struct Taken {
 /// # Errors
 ///
 /// `NoJournal`, `OtherDocuments` and `Damaged` leave the file as it is. `Disk` comes where a call failed.
+// claim: recovered lines (lines, at_rest); taken files (taken, untouched)
 pub fn recover<D: Disk>(
     alloc: Global,
     disk: &mut D,
@@ -79,8 +80,10 @@ pub fn recover<D: Disk>(
     ensures at_rest { D.is_disk disk.new → IfOk result (λ r. AreRests documents.now r.text.items (sum_text r.sum) (D.durable disk.new) (D.seen disk.new)) }
     ensures given { D.is_disk disk.new → D.given disk.new ≡ D.given disk.old }
     ensures stays { D.is_disk disk.new → D.is_disk disk.old }
+    // claim: refused files
     ensures refused { D.is_disk disk.new → IfErr result (IsRefusedFor documents.now (D.seen disk.old)) }
     // A crash at any moment leaves the same lines, and nothing was given meanwhile.
+    // claim: a crash in recovery
     ensures any_moment { D.is_disk disk.new → LeavesOnly D.moment D.left_since disk.old disk.new (KeepsLines documents.now (D.seen disk.old) (D.given disk.old)) }
 {
     let text = disk.read(alloc)?;

@@ -17,6 +17,7 @@ pub enum Sum {
 
 impl Sum {
     /// Its digits.
+    // claim: a sum's digits
     pub fn as_slice(&self) -> &[u8]
         ensures { result.now ≡ sum_text self.now }
     {

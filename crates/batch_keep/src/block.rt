@@ -52,6 +52,7 @@ impl From<AllocError> for BlockFault {
 ///
 /// `Memory` where an event or a line was refused for want of memory, or there was none for the record; `Status` where what the machine
 /// told isn't a record.
+// claim: the recovery block; recovery blocks of desks
 pub fn recovery_blocks(
     alloc: Global,
     engine: &mut Engine,
@@ -147,6 +148,7 @@ fn block_of(alloc: Global, count: usize, rows: &[u8]) -> Result<Vec<u8>, AllocEr
 }
 
 /// Recovery blocks, and which lines they count.
+// claim: rows of recovery blocks
 pub fn block_rows()
     ensures { BlockRows }
 {}

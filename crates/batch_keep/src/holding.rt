@@ -51,12 +51,15 @@ pub fn serve_holding<R: Read + Drop, D: Disk, K: Clock + Drop, W: Write>(
 ) -> (Result<(), KeepFault>, D, W)
     requires { D.is_disk journal.disk → IsAtRest journal.documents (D.durable journal.disk) (D.seen journal.disk) (D.given journal.disk) (sum_text journal.sum) }
     // A crash at any moment leaves the lines from before, and all that the machine had been given by then.
+    // claim: given lines are kept
     ensures any_moment { D.is_disk result.1 → HasRecalled journal.documents (text_of (recovered journal.documents (D.seen journal.disk))) (D.moment journal.disk) (D.moment result.1) (D.left_since result.1) }
     ensures cleared { engine.new.cleared ≡ engine.old.cleared }
     // Where the input ends, all is told.
+    // claim: served over a journal
     ensures served { OnOk result.0 (IfSome (R.remaining input) (λ all.
         WritesTranscript (setup engine.old.cleared) (plant_of engine.old) (lines_of all) (plant_of engine.new) (W.contents writer) (W.contents result.2))) }
     // Whatever was told is told again.
+    // claim: output is written again
     ensures never_lost { D.is_disk result.1 → (all : List ℕ) → R.remaining input ≡ Some all → IsNeverLost (setup engine.old.cleared) (plant_of engine.old) journal.documents (D.seen journal.disk)
         (D.durable result.1) (D.seen result.1) (D.given result.1) (W.contents writer) (W.contents result.2) }
 {
@@ -67,6 +70,7 @@ pub fn serve_holding<R: Read + Drop, D: Disk, K: Clock + Drop, W: Write>(
 
 /// The same, of a run that began at an earlier moment: whoever calls it says from which one on a crash left the journal's lines. What
 /// is remarked on a line is written behind the answers before it, which are told then.
+// claim: an earlier beginning
 pub fn serve_started<
     R: Read + Drop,
     D: Disk,

@@ -24,6 +24,7 @@ use std::time::Clock;
 /// # Errors
 ///
 /// Those of [`serve_started`].
+// claim: comments over a journal
 pub fn serve_started_remarked<R: Read + Drop, D: Disk, K: Clock + Drop, W: Write, C: Run>(
     alloc: Global,
     engine: &mut Engine,

@@ -16,6 +16,7 @@ use std::io::Write;
 /// # Errors
 ///
 /// Those of `serve`: the writer failed.
+// claim: a journal is served again
 pub fn replay<W: Write>(
     alloc: Global,
     engine: &mut Engine,

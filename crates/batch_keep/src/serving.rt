@@ -46,14 +46,18 @@ pub fn serve_journalled<R: Read + Drop, D: Disk, K: Clock + Drop, W: Write>(
 ) -> (Result<(), ServeFault>, D)
     requires { D.is_disk journal.disk → IsAtRest journal.documents (D.durable journal.disk) (D.seen journal.disk) (D.given journal.disk) (sum_text journal.sum) }
     // A crash at any moment leaves the lines from before, and all that the machine had been given by then.
+    // claim: given lines are kept
     ensures any_moment { D.is_disk result.1 → HasRecalled journal.documents (text_of (recovered journal.documents (D.seen journal.disk))) (D.moment journal.disk) (D.moment result.1) (D.left_since result.1) }
     ensures cleared { engine.new.cleared ≡ engine.old.cleared }
     // Where the input ends, the text of a transcript of all its lines is told.
+    // claim: served over a journal
     ensures served { OnOk result.0 (IfSome (R.remaining input) (λ all.
         WritesTranscript (setup engine.old.cleared) (plant_of engine.old) (lines_of all) (plant_of engine.new) (W.contents writer.old) (W.contents writer.new))) }
     // What was told is told of lines that the machine was given.
+    // claim: told of given lines
     ensures told { D.is_disk result.1 → IsTold (setup engine.old.cleared) (plant_of engine.old) (R.remaining input) (D.given result.1) (W.contents writer.old) (W.contents writer.new) }
     // And it is told again, behind what was told before.
+    // claim: output is written again
     ensures again { D.is_disk result.1 → (all : List ℕ) → R.remaining input ≡ Some all → IsToldAgain (setup engine.old.cleared) (plant_of engine.old) journal.documents (D.seen journal.disk)
         (D.durable result.1) (D.seen result.1) (D.given result.1) (W.contents writer.old) (W.contents writer.new) }
 {
@@ -78,7 +82,9 @@ pub fn serve_in_memory<K: Clock + Drop>(
     max_reads: u64,
 ) -> (Result<(), ServeFault>, Memory)
     requires { IsAtRest journal.documents (⟦<Memory as Disk>⟧.durable journal.disk) (⟦<Memory as Disk>⟧.seen journal.disk) (⟦<Memory as Disk>⟧.given journal.disk) (sum_text journal.sum) }
+    // claim: served over a journal
     ensures served { OnOk result.0 (WritesTranscript (setup engine.old.cleared) (plant_of engine.old) (lines_of input.now) (plant_of engine.new) (Some writer.old.items) (Some writer.new.items)) }
+    // claim: told of given lines
     ensures told { TellsLines (setup engine.old.cleared) (plant_of engine.old) (⟦<Memory as Disk>⟧.given result.1) (Some writer.old.items) (Some writer.new.items) }
 {
     serve_journalled(alloc, engine, input, journal, writer, max_reads)

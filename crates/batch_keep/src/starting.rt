@@ -69,6 +69,7 @@ pub struct Started {
 /// # Errors
 ///
 /// Those of `recover` and `recovery_blocks`; `Memory` where there is none for the engine.
+// claim: taken files (taken, untouched); a start
 pub fn start<D: Disk>(
     alloc: Global,
     set: Cleared,
@@ -114,6 +115,7 @@ pub fn start_desks<D: Disk>(
     // Another file stays as it is.
     ensures untouched { D.is_disk disk.new → IsRecoverable documents.text (D.seen disk.old) ⊎ (D.seen disk.new ≡ D.seen disk.old) }
     // The blocks tell of the lines that the journal had, and the engine stands where they led it.
+    // claim: recovery blocks of desks
     ensures blocks { IfOk result (λ r. (lines : List (List ℕ)) × AreBlocksOf (setup set) opening lines names.now (plant_of r.0.engine) r.0.block.items r.1.items
         × (D.is_disk disk.new → lines ≡ recovered documents.text (D.seen disk.old))) }
     ensures cleared { IfOk result (λ r. r.0.engine.cleared ≡ set) }

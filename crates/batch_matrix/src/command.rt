@@ -18,6 +18,7 @@ pub enum Command {
 }
 
 /// The state that the command leads to, or None where the state doesn't accept it and so stays.
+// claim: cells of the matrix
 pub fn after(state: State, command: Command) -> Option<State>
     ensures { result ≡ after state command }
 {

@@ -2,6 +2,7 @@
 ghost use Rattle.batch_matrix.specs.Laws.{CommandsLeadByName};
 
 /// An accepted command leads to the state of its name.
+// claim: commands' names
 pub fn commands_lead_by_name()
     ensures { CommandsLeadByName }
 {}

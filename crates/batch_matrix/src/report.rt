@@ -28,6 +28,7 @@ pub enum PhaseEnd {
 }
 
 /// What becomes of a live phase in this state, or None where it doesn't accept the report and so stays as it is.
+// claim: cells of reports
 pub fn after_report(state: State, report: Report) -> Option<PhaseEnd>
     ensures { result ≡ after_report state report }
 {

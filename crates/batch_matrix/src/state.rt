@@ -32,6 +32,7 @@ pub enum State {
 }
 
 /// The state as which this one ends by itself. The others stay until a command comes.
+// claim: own ends
 pub fn ends_as(state: State) -> Option<State>
     ensures { result ≡ ends_as state }
 {

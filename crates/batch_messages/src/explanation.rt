@@ -19,6 +19,7 @@ pub struct Explanation {
 
 /// What is to be told of these texts, in whole lines: of none, what each code means; of some, what the first code in them means and
 /// what to do. It is a word of its own, in capitals or not. None where no word of the texts is a code.
+// claim: explained code
 pub fn explain(alloc: Global, texts: &[String]) -> Result<Option<String>, AllocError>
     ensures { IfOk result (λ told. MatchOption told (HaveNoCode (map string_bytes texts.now))
         (λ text. Tells (map string_bytes texts.now) (string_bytes text))) }

@@ -27,6 +27,7 @@ pub(crate) fn recipe_name(recipes: &[Recipe], recipe: u16) -> &str
 
 /// The name of the act at the node of the recipe with this number, both counted from 0. It is empty where there is no such recipe,
 /// and where the node is no act's.
+// claim: act's name
 pub fn act_name(recipes: &[Recipe], recipe: u16, node: u16) -> &str
     ensures { result.now ≡ act_name recipes.now recipe node }
 {

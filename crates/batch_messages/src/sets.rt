@@ -134,6 +134,7 @@ fn files_said(
 }
 
 /// What it means that the recipes have no certificate. Sources are as in [`refusal_sentence`].
+// claim: circle in words
 pub fn fault_sentence(
     alloc: Global,
     cell: &Cell,

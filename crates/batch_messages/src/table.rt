@@ -5,6 +5,7 @@ ghost use Rattle.batch_messages.specs.Explaining.{refusal_codes};
 use crate::explanation::Explanation;
 
 /// The explanations of all codes of refusals, in order of letter and number.
+// claim: codes explained
 pub fn explanations() -> [Explanation; 52]
     ensures { map (λ explanation. explanation.code.now) result ≡ refusal_codes }
 {

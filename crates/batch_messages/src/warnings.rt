@@ -11,6 +11,7 @@ use batch_wording::Sentence;
 use std::alloc::{AllocError, Global};
 
 /// What it means that no module belongs to the unit with this number. The path is that of the cell's document.
+// claim: warnings in words
 pub fn unit_warning(
     alloc: Global,
     path: &str,
@@ -24,6 +25,7 @@ pub fn unit_warning(
 }
 
 /// What the warning on the recipe means. The path is that of the recipe's document.
+// claim: warnings in words
 pub fn recipe_warning(
     alloc: Global,
     path: &str,

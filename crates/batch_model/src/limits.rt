@@ -15,9 +15,12 @@ pub const LAST_NUMBER: u64 = 1_000_000_000_000;
 pub const MAX_RECIPES: usize = 256;
 
 /// The limits are these numbers, and that of live batches is the limit of every cell and all recipes.
+// claim: limits of batches (live_batches, setups)
 pub fn limits_are_fixed()
     ensures live_batches { MAX_LIVE_BATCHES ≡ 4096 }
     ensures setups { (cell : Cell) (recipes : List Recipe) → (setup_of cell recipes).batch_limit ≡ 4096 }
+    // claim: last number
     ensures last_number { LAST_NUMBER ≡ 1000000000000 }
+    // claim: limits of a set
     ensures recipes { MAX_RECIPES ≡ 256 }
 {}

@@ -10,6 +10,7 @@ use std::alloc::{AllocError, Global};
 /// The lines of the recipes: of each its name, and below that its expanded tree, a line for each node in the order of their places.
 ///
 /// An error is want of memory.
+// claim: nodes shown
 pub fn show_recipes(alloc: Global, recipes: &[Recipe]) -> Result<String, AllocError>
     ensures { IfOk result (λ text. string_bytes text ≡ shown recipes.now) }
 {

@@ -23,6 +23,7 @@ const UNOPENED: u32 = 50;
 /// time to. What didn't end well is told. It gives what came of each output.
 ///
 /// The error is that there is no memory for that.
+// claim: output of a desk
 pub(crate) fn finish<T: Threads, W: Write + Drop, P: Outputs<W> + Drop, E: Write, S: Pause>(
     threads: &T,
     alloc: Global,

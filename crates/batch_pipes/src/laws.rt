@@ -2,6 +2,7 @@
 ghost use Rattle.batch_pipes.specs.RowsOfOutputs.{FrontIsHeld, NoOtherIsHeld, NoOutputHasCause, NothingIsTooLittle};
 
 /// Worked rows: an output holds a beginning of a text behind what stood in it, and nothing else. It is given back, or its thread is.
+// claim: rows of outputs
 pub fn output_rows()
     ensures front { FrontIsHeld }
     ensures no_other { NoOtherIsHeld }

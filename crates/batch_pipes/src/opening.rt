@@ -36,6 +36,7 @@ const LINES: usize = 1_024;
 
 /// Makes a server of the desks over the machine, and starts their threads. The fronts are what is written to the desks before all else,
 /// in their order. Where a thread can't be started those before it find no other end of their rings, and end.
+// claim: pipes opened
 pub(crate) fn open<
     T: Threads,
     W: Write + Send + Drop + 'static,

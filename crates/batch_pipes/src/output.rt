@@ -48,6 +48,7 @@ pub(crate) struct Output<W: Write + Drop, P: Outputs<W> + Drop> {
 
 impl<W: Write + Drop, P: Outputs<W> + Drop> Output<W, P> {
     /// Joins the thread, if it has nothing more to do.
+    // claim: output of a desk
     pub(crate) fn join_if_done<T: Threads>(&mut self, threads: &T)
         ensures kept { (writer : OneWriter) → IsOutputOf W.contents P.stands self.old writer → IsOutputKept W.contents P.stands self.old self.new writer }
         ensures finished { self.new.finished ≡ self.old.finished }
@@ -102,6 +103,7 @@ impl<W: Write + Drop, P: Outputs<W> + Drop> Output<W, P> {
     }
 
     /// What came of it. A thread that wasn't joined is given back.
+    // claim: output of a desk
     pub(crate) fn settle(self) -> OutputOutcome<W, P>
         requires { IsEnding W.contents P.stands self }
         ensures { IsSettledBy W.contents P.stands self result }

@@ -42,6 +42,7 @@ impl InputTask {
     /// Hands over the lines of the input, to its end.
     ///
     /// The errors are that it was told to end, that the input failed, and that there is no memory.
+    // claim: thread of an input
     #[tactic(auto, using(crate::proofs::Streaming::nothing_handed))]
     pub fn read<R: Read + Drop, S: Pause + Drop>(
         &mut self,

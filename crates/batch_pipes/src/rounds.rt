@@ -14,6 +14,7 @@ use std::io::Write;
 use std::time::Clock;
 
 /// Takes what the readers handed over, serves it, and hands on what waits. It gives whether there was anything to serve.
+// claim: a round of desks
 pub(crate) fn serve_round<C: Clock, K: Keep, W: Write>(
     alloc: Global,
     server: &mut DeskServer,

@@ -45,6 +45,7 @@ pub struct DesksEnd<W: Write + Drop, P: Outputs<W> + Drop> {
 /// last of them has none. A desk whose input or output fails, or for which more lines wait than may, is cut, which is told on the
 /// errors. At the end an output that takes nothing for long is cut too, which is told alone. Of each desk that has an output it gives
 /// the output back, or the thread of it, which isn't joined while it has more to do.
+// claim: desks over pipes; whose lines are served; outputs given back; outputs of desks
 pub fn serve_desks<
     T: Threads,
     O: Write + Send + Drop + 'static,
@@ -132,6 +133,7 @@ fn run_rounds<
     ensures outputs { OnOk result (AreOutputsKept O.contents P.stands outputs.old.items outputs.new.items ports.new.writers.items) }
     ensures group { OnOk result (server.new.group.items ≡ []) }
     ensures desks { OnOk result (AreSameDesks server.old.desks.items server.new.desks.items) }
+    // claim: end of desks
     ensures done { OnOk result (AreDone P.given server.new.desks.items inputs.new.items ports.new.readers.items) }
     ensures service { OnOk result (GoesOn timing.now.times K.again (K.is_safe keep.old) (K.is_safe keep.new) (K.kept keep.old) (K.kept keep.new)
         (W.contents output.old) (W.contents output.new) server.old server.new ports.old ports.new) }

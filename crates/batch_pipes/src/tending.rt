@@ -60,6 +60,7 @@ impl Outlook {
 }
 
 /// Cuts the desks whose pipes failed, and at the end those that take nothing, and tells which are cut.
+// claim: a round of desks
 pub(crate) fn tend_desks<T: Threads, O: Write + Drop, P: Pipes + Outputs<O> + Drop, E: Write>(
     threads: &T,
     alloc: Global,
@@ -78,6 +79,7 @@ pub(crate) fn tend_desks<T: Threads, O: Write + Drop, P: Pipes + Outputs<O> + Dr
     ensures readers { AreReadersKept ports.old.readers.items ports.new.readers.items }
     ensures inputs { AreInputsKept P.given inputs.old.items inputs.new.items ports.new.readers.items }
     ensures outputs { AreOutputsKept O.contents P.stands outputs.old.items outputs.new.items ports.new.writers.items }
+    // claim: end of desks
     ensures done { result.sends ≡ false → result.waits ≡ false → AreDone P.given server.new.desks.items inputs.new.items ports.new.readers.items }
 {
     tend_each(
@@ -131,6 +133,7 @@ fn tend_each<T: Threads, O: Write + Drop, P: Pipes + Outputs<O> + Drop, E: Write
 
 /// Looks after one desk, and gives what is still to come of it. While lines are on their way to it, it isn't read, unless its output
 /// takes nothing for long.
+// claim: desks between turns
 fn tend<T: Threads, O: Write + Drop, P: Pipes + Outputs<O> + Drop>(
     threads: &T,
     desk: &mut Desk,

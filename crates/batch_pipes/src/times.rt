@@ -11,6 +11,7 @@ use std::io::Write;
 use std::time::Clock;
 
 /// Writes the time as a comment, if it is to stand in the record.
+// claim: time of a turn
 #[tactic(auto, using(crate::proofs::Serviced::no_time, crate::proofs::Serviced::time_written))]
 pub(crate) fn write_time<K: Clock, W: Write>(
     timing: &Timing<K>,

@@ -42,6 +42,7 @@ impl OutputTask {
     /// back. Where it ends before its time, what the output holds is a beginning of that; nothing is tried again.
     ///
     /// The faults are that it was told to end, that the output failed or took nothing, and that there is no memory.
+    // claim: thread of an output
     pub fn write<W: Write + Drop, S: Pause + Drop>(
         &mut self,
         alloc: Global,

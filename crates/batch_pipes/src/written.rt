@@ -14,6 +14,7 @@ pub struct Written<W> {
 
 impl<W> Written<W> {
     /// Of an output that wasn't opened, for this reason.
+    // claim: unopened output
     pub fn unopened(fault: PipeFault) -> Written<W>
         ensures output { result.output ≡ None }
         ensures fault { result.fault ≡ Some fault }

@@ -37,6 +37,7 @@ impl Model for CellUnits {
 
 impl CellUnits {
     /// The units of the cell. It is refused only where memory is.
+    // claim: cell of a link
     pub fn of(alloc: Global, cell: &Cell) -> Result<CellUnits, AllocError>
         ensures { IfOk result (λ units. units ≡ cell.now) }
     {

@@ -49,6 +49,7 @@ fn seal_port(hub: &mut Hub, port: usize, inbox: Inbox) -> Option<usize>
     ensures work { SameWork hub.old hub.new }
     ensures next { slice_get (rings hub.new) (port + 1) ≡ slice_get (rings hub.old) (port + 1) }
     ensures events { event_rings hub.new ≡ event_rings hub.old }
+    // claim: rest of a port
     ensures rest { IfSome result (λ rest. IsRest port hub.old inbox.taken rest) }
 {
     match hub.seal(port) {

@@ -7,6 +7,7 @@ use crate::plant_fault::PlantFault;
 use batch_desk::LoopEnd;
 
 /// What a loop worked at, if it ran to its end.
+// claim: fault of a plant
 pub(crate) fn ended<T: Drop>(part: T, end: LoopEnd) -> Result<T, PlantFault>
     ensures done { IfOk result (λ ran. (ran ≡ part) × (end ≡ loop.Done)) }
     ensures refused { (end ≡ loop.Refused) → (result ≡ Err fault.Refused) }

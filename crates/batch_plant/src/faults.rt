@@ -20,6 +20,7 @@ impl PlantFault {
 }
 
 /// What two parts came to, or the fault that comes first.
+// claim: fault of a plant
 pub(crate) fn both<A: Drop, B: Drop>(
     one: Result<A, PlantFault>,
     other: Result<B, PlantFault>,

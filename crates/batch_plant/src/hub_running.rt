@@ -10,6 +10,7 @@ use batch_desk::{Gate, Hub, hub_loop};
 
 /// Runs the hub to its end, in the thread that calls. Where not all threads were started it isn't run, and those that were are
 /// told to end.
+// claim: fault of a plant
 pub(crate) fn run_hub<G: Gate + Drop>(
     started: bool,
     hub: Hub,

@@ -33,7 +33,9 @@ pub fn link_loop<D: UnitDriver, G: Gate>(
     gate: &mut G,
     limit: u64,
 ) -> LoopEnd
+    // claim: linked units; reports sent
     ensures link { IsLink D.command_gives D.tick_gives cell.now desk.old desk.new units.old units.new }
+    // claim: end of a link
     ensures end { (result ≡ Done) ↔ (completes desk.old.taken + batches ≤ completes desk.new.taken) }
 {
     let mut link = Link {

@@ -30,6 +30,7 @@ pub(crate) fn open(alloc: Global, cleared: Cleared, ring: usize) -> Result<Parts
 /// Makes a hub round an engine in which nothing has happened, and its two desks.
 fn open_hub(alloc: Global, engine: Engine, ring: usize) -> Result<Parts, PlantFault>
     requires { plant_of engine ≡ opening }
+    // claim: fault of a plant
     ensures fault { IfErr result (λ fault. fault ≡ Memory) }
     ensures rings { IfOk result (λ parts. HaveRings ring parts.hub) }
     ensures cleared { IfOk result (λ parts. parts.hub.engine.cleared ≡ engine.cleared) }

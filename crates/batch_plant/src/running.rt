@@ -35,6 +35,7 @@ use std::thread::Threads;
 /// closed and sealed, and it is counted how many outs are still to be taken. Of several faults the first is told: want of memory,
 /// a thread that can't be started, a create or a start that is refused, a loop whose turns run out. Where one comes, the loops
 /// that run make no more turns. A port that can't be closed is a fault too. The units are dropped in each case.
+// claim: plant to its end (set, complete, account); events of a link (link, desks)
 pub fn plant_run<
     R: Threads,
     D: UnitDriver + Send + 'static,
@@ -54,7 +55,9 @@ pub fn plant_run<
     ensures complete { IfOk result (λ end. AreComplete task.batches end.hub) }
     ensures account { IfOk result (λ end. IsHub end.hub) }
     ensures link { IfOk result (λ end. HasLink D.command_gives D.tick_gives cleared.cell units end.hub) }
+    // claim: rings of a plant
     ensures rings { IfOk result (λ end. HasEventRings task.ring end.hub) }
+    // claim: events of a console
     ensures desks { IfOk result (λ end. ComesFromDesks task.plan task.batches end.hub) }
 {
     let Ok(gates) = gates.with_flag(alloc) else {
@@ -102,6 +105,7 @@ fn run_three<
 }
 
 /// What all three came to, or the first fault.
+// claim: fault of a plant
 fn gather<H: Drop, D: Drop>(
     hub: Result<H, PlantFault>,
     console: Result<D, PlantFault>,

@@ -19,6 +19,7 @@ pub trait DeskRunner {
     /// complete, stopped nor aborted.
     ///
     /// The errors are those of [`serve_desks`](batch_pipes::serve_desks).
+    // claim: runner of desks
     fn serve_desks<K: Keep, W: Write, E: Write>(
         &self,
         alloc: Global,

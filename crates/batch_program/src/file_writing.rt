@@ -20,6 +20,7 @@ struct OwnDocument {
 
 /// Puts a file with the text in the place of the one at the path, and gives the exit status. Where that fails the file stays as it
 /// was, and why is told on the errors. None of the documents that the words name is written over.
+// claim: file written
 pub fn write_file<D: Records, E: Write>(
     alloc: Global,
     words: &[String],

@@ -43,6 +43,7 @@ pub(crate) struct Messages<'a> {
 /// The lines that the journal has are served again first, without their answers being written, and the recovery block stands before all
 /// else on the output; comments in the record stand behind it. A file that is no journal, or one of other documents, or damaged, is
 /// refused by a line on the output.
+// claim: served over a file; behind the block; never lost
 pub fn keep_journal<J: Journals, R: Read, W: Write, E: Write>(
     alloc: Global,
     digested: Digested,

@@ -12,6 +12,7 @@ use std::io::Write;
 const REFUSED: u8 = 1;
 
 /// Prints the lines of a plant of so many batches, and gives the exit status. What has no line is told on the errors.
+// claim: plant's lines
 pub fn report_of_plant<W: Write, E: Write>(
     alloc: Global,
     batches: u64,

@@ -14,6 +14,7 @@ pub trait PlantRunner {
     /// events the hub has handled.
     ///
     /// The errors are those of [`plant_run`](batch_plant::plant_run), and [`PlantFault::Refused`] where the set has no recipe.
+    // claim: options of a run; batches of a run
     fn run_plant(
         &self,
         alloc: Global,

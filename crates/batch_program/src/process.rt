@@ -16,6 +16,7 @@ const OUTPUT_ROOM: usize = 65_536;
 
 /// Does what the words of the process ask for, over its files and streams, and gives the exit status. Plants run in threads that
 /// the second handle starts, which `main` has beside the first.
+// claim: range of statuses
 pub fn run_process<T: Threads>(rt: &HostRuntime, threads: &T) -> ExitCode
     ensures { IsExitStatus result }
 {
@@ -30,6 +31,7 @@ pub fn run_process<T: Threads>(rt: &HostRuntime, threads: &T) -> ExitCode
 }
 
 /// Does what the words ask for, over the files, streams and threads of the process, and gives the exit status.
+// claim: range of statuses
 pub fn run_on_files<T: Threads>(rt: &HostRuntime, threads: &T, words: &[String]) -> u8
     ensures { result ≤ 4 }
 {

@@ -44,6 +44,8 @@ struct Stop {
 /// nor aborted, one line on the errors says how many, unless quiet is asked for; where none is, nothing is written there.
 ///
 /// The time that stands in comments of the record, where they are asked for, is that of the journals' clock. The output is given back.
+// claim: serves; serves with comments; tells instead; record told; record drawn; record audited; served over a file; behind the block
+// claim: never lost; desks served; desks over a file; plants run; batches left; limit of reads; file written
 pub fn run_program<
     D: Documents + Records + Journals,
     P: PlantRunner + DeskRunner,
@@ -207,6 +209,7 @@ fn reason_of<R, W>(
 }
 
 /// Tells why serving stopped, or how many batches the end of the input left unfinished, and gives the exit status.
+// claim: status of serving
 fn tell_served<E: Write>(
     alloc: Global,
     quiet: bool,

@@ -32,6 +32,7 @@ struct FailedAudit {
 /// ends too soon is accepted where they say so.
 ///
 /// The record is kept in memory, and so are the lines that were sent.
+// claim: record audited
 pub fn audit_record<D: Records, R: Read, W: Write, E: Write>(
     alloc: Global,
     set: Cleared,

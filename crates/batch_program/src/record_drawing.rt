@@ -24,6 +24,7 @@ use thiserror::Error;
 struct Unread(io::Error);
 
 /// Draws what the record at the path says, or where no path is given the one on the input, and gives the exit status.
+// claim: record drawn
 pub fn draw_record_at<D: Records, R: Read, W: Write, E: Write>(
     alloc: Global,
     path: Option<String>,
@@ -53,6 +54,7 @@ pub fn draw_record_at<D: Records, R: Read, W: Write, E: Write>(
 /// Prints the picture of what the record tells that the reader gives, or which line is none of a record, and gives the exit status.
 ///
 /// The record is kept in memory, and so is its picture.
+// claim: record drawn
 pub fn draw_record_of<R: Read, W: Write, E: Write>(
     alloc: Global,
     input: &mut R,

@@ -37,6 +37,7 @@ struct FailedOpen {
 }
 
 /// Tells what the record at the path says, or where no path is given the one on the input, and gives the exit status.
+// claim: record told
 pub fn tell_record<D: Records, R: Read, W: Write, E: Write>(
     alloc: Global,
     path: Option<String>,
@@ -64,6 +65,7 @@ pub fn tell_record<D: Records, R: Read, W: Write, E: Write>(
 }
 
 /// Prints what the record tells that the reader gives, or which line is none of a record, and gives the exit status.
+// claim: record told; no record
 pub fn tell_status<R: Read, W: Write, E: Write>(
     alloc: Global,
     input: &mut Noted<R>,

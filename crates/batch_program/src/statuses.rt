@@ -6,6 +6,7 @@ use batch_serve::SetFault;
 use batch_verdicts::{FILE_FAULT, NO_MEMORY};
 
 /// The exit status after serving: 0 where the input ran to its end.
+// claim: status of serving
 pub fn serving_status(served: Result<usize, SetFault>) -> u8
     ensures { result ≡ status_of_serving served }
 {

@@ -31,13 +31,19 @@ const TOP: Spot = Spot {
 ///   names, of the units that modules name, and of the phases that each unit offers;
 /// - `Memory`, where memory is refused on the way.
 pub fn read_cell(alloc: Global, bytes: &[u8]) -> Result<Cell, DocFault>
+    // claim: cell read
     ensures ok { IfOk result (IsCellDocument bytes.now) }
+    // claim: cell not TOML
     ensures not_toml { IsErrOf result DocFault.NotToml → ¬ (IsUtf8 bytes.now × IsSome (parse_document bytes.now)) }
+    // claim: no cell
     ensures refused { IfErr result (λ fault. fault ≢ DocFault.Memory
         → (cell : Cell) → ¬ (IsCellDocument bytes.now cell)) }
+    // claim: long cell
     ensures long { MAX_DOCUMENT_LEN < length bytes.now
         → result ≡ Err (DocFault.Entry (record { kind = TableKind.Cell; entry = 0 }) EntryFault.OutOfLimit) }
+    // claim: table of a cell
     ensures told { (spot : Spot) (wrong : EntryFault) → IsErrOf result (DocFault.Entry spot wrong) → is_of_cell spot.kind ≡ true }
+    // claim: fault of a cell; first of its kind
     ensures stands { (spot : Spot) (wrong : EntryFault) → IsErrOf result (DocFault.Entry spot wrong) → FaultStands bytes.now spot wrong }
 {
     let table = table_of(alloc, bytes, TOP)?;

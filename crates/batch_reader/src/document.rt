@@ -16,6 +16,7 @@ pub const MAX_DOCUMENT_LEN: usize = 1_048_576;
 /// - `NotToml`, where its bytes are no TOML in UTF-8;
 /// - `Entry`, at its top and out of limits, where it is too long;
 /// - `Memory`, where memory is refused.
+// claim: table of a document
 pub fn table_of(alloc: Global, bytes: &[u8], top: Spot) -> Result<Table, DocFault>
     ensures short { IfOk result (λ _. length bytes.now ≤ MAX_DOCUMENT_LEN) }
     ensures is_text { IfOk result (λ _. IsUtf8 bytes.now) }
@@ -41,6 +42,7 @@ pub fn table_of(alloc: Global, bytes: &[u8], top: Spot) -> Result<Table, DocFaul
 }
 
 /// The refusal of a document one of whose tables is refused.
+// claim: refused table
 pub fn document_fault(fault: TableFault) -> DocFault
     ensures entry { (spot : Spot) (wrong : EntryFault) → fault ≡ TableFault.Entry spot wrong → result ≡ DocFault.Entry spot wrong }
     ensures memory { fault ≡ TableFault.Memory → result ≡ DocFault.Memory }

@@ -14,6 +14,7 @@ use std::alloc::Global;
 use toml::{Table, Value};
 
 /// The value at a key.
+// claim: keys of a table
 pub fn member<'a>(table: &'a Table, key: &str) -> Option<&'a Value>
     ensures { option_map (λ value. view value.now) result ≡ get_member key.now (table_view table.now) }
 {
@@ -21,6 +22,7 @@ pub fn member<'a>(table: &'a Table, key: &str) -> Option<&'a Value>
 }
 
 /// Whether the table has no key but these.
+// claim: keys of a table
 pub fn has_only_keys(table: &Table, known: &[&str]) -> bool
     ensures { result ≡ has_only_keys (map (λ key. key.now) known.now) (table_view table.now) }
 {
@@ -51,6 +53,7 @@ fn name_of(alloc: Global, value: &Value, spot: Spot) -> Result<Name, TableFault>
 }
 
 /// The name at a key of the table at the spot. It is refused there as missing, and as of the wrong kind where it is no name.
+// claim: values of a table
 pub fn name_at(alloc: Global, table: &Table, key: &str, spot: Spot) -> Result<Name, TableFault>
     ensures ok { IfOk result (HasName key.now (table_view table.now)) }
     ensures refused { IfErr result (λ fault. fault ≢ TableFault.Memory
@@ -64,6 +67,7 @@ pub fn name_at(alloc: Global, table: &Table, key: &str, spot: Spot) -> Result<Na
 }
 
 /// The name at a key of the table at the spot, where the key is there. It is refused as of the wrong kind where it is no name.
+// claim: values of a table
 pub fn optional_name_at(
     alloc: Global,
     table: &Table,
@@ -84,6 +88,7 @@ pub fn optional_name_at(
 
 /// The number at a key of the table at the spot. It is refused as missing, as of the wrong kind where it is no integer, and as out of
 /// limits where it isn't from `low` to `high`.
+// claim: values of a table
 pub fn number_at(
     table: &Table,
     key: &str,
@@ -112,6 +117,7 @@ pub fn number_at(
 }
 
 /// The truth value at a key of the table at the spot, false where it is missing. It is refused where it is of the wrong kind.
+// claim: values of a table
 pub fn truth_at(table: &Table, key: &str, spot: Spot) -> Result<bool, TableFault>
     ensures ok { IfOk result (IsTruth key.now (table_view table.now)) }
     ensures refused { IfErr result (λ fault. (truth : Bool) → ¬ (IsTruth key.now (table_view table.now) truth)) }
@@ -154,6 +160,7 @@ pub(crate) fn text_at(
 
 /// The text at a key of the table at the spot, of at most so many bytes, where the key is there. It is refused as of the wrong kind where it
 /// is no text, and as out of limits where it is longer.
+// claim: values of a table
 pub fn optional_text_at(
     alloc: Global,
     table: &Table,

@@ -43,6 +43,7 @@ pub enum TableKind {
 
 impl TableKind {
     /// The word for the kind, as refusals print it.
+    // claim: word of a table
     pub fn word(self) -> &'static str
         ensures { result.now ≡ table_word self }
     {
@@ -66,6 +67,7 @@ impl TableKind {
 }
 
 impl fmt::Display for TableKind {
+    // claim: word of a table
     ghost output = { λ kind. Some (table_word kind) };
 
     fn fmt<W: fmt::Write>(&self, f: &mut fmt::Formatter<W>) -> fmt::Result {
@@ -81,6 +83,7 @@ pub struct Spot {
 }
 
 impl fmt::Display for Spot {
+    // claim: words of a spot
     ghost output = { λ spot. Some (spot_text spot) };
 
     fn fmt<W: fmt::Write>(&self, f: &mut fmt::Formatter<W>) -> fmt::Result {

@@ -4,6 +4,7 @@ ghost use Rattle.batch_reader.specs.RowsOfFaults.{UnitLacksItsName, NoSecondUnit
 /// Worked rows: a unit without its name is told as one, and no other unit, nor an unknown key; a unit procedure has `unit` or
 /// `role`, and not both; the first byte of a chart that goes on is good; the first module whose unit isn't declared is told, and no later one; one table too many is told at its number;
 /// a unit procedure that is reserved is declared, and stands once.
+// claim: worked faults
 pub fn worked_faults()
     ensures missing { UnitLacksItsName }
     ensures no_second { NoSecondUnitLacksOne }

@@ -26,8 +26,11 @@ pub(crate) fn few_needs_at(
     most: usize,
     spot: Spot,
 ) -> Result<Vec<Need>, TableFault>
+    // claim: need read
     ensures ok { IfOk result (λ needs. HasFewNeeds key.now (table_view table.now) most needs.items) }
+    // claim: units of a need
     ensures units { IfOk result (λ needs. have_units needs.items ≡ true) }
+    // claim: no need
     ensures refused { IfErr result (λ fault. fault ≢ TableFault.Memory
         → (needs : List Need) → ¬ (HasFewNeeds key.now (table_view table.now) most needs)) }
     ensures told { IfErr result (TellsAt spot (IsKeyFault (optional key.now (some_needs most)) (table_view table.now))) }
@@ -72,7 +75,9 @@ fn need_of(alloc: Global, value: &Value, spot: Spot) -> Result<Need, TableFault>
 /// The need that a text is: a resource, of which it is one unit, or so many after a star.
 #[tactic(auto, using(crate::proofs::NeedCuts::name_is_need))]
 fn read_need(alloc: Global, text: &[u8], spot: Spot) -> Result<Need, TableFault>
+    // claim: need read
     ensures ok { IfOk result (λ need. IsNeedText text.now need) }
+    // claim: no need
     ensures refused { IfErr result (λ fault. fault ≢ TableFault.Memory → (need : Need) → ¬ (IsNeedText text.now need)) }
     ensures told { IfErr result (TellsAt spot (IsNeedTextFault text.now)) }
 {

@@ -46,13 +46,19 @@ const TOP: Spot = Spot {
 ///   procedures that acts reserve, and of the size of the expanded tree;
 /// - `Memory`, where memory is refused on the way.
 pub fn read_recipe(alloc: Global, bytes: &[u8]) -> Result<Recipe, DocFault>
+    // claim: recipe read
     ensures ok { IfOk result (IsRecipeDocument bytes.now) }
+    // claim: recipe not TOML
     ensures not_toml { IsErrOf result DocFault.NotToml → ¬ (IsUtf8 bytes.now × IsSome (parse_document bytes.now)) }
+    // claim: no recipe
     ensures refused { IfErr result (λ fault. fault ≢ DocFault.Memory
         → (recipe : Recipe) → ¬ (IsRecipeDocument bytes.now recipe)) }
+    // claim: long recipe
     ensures long { MAX_DOCUMENT_LEN < length bytes.now
         → result ≡ Err (DocFault.Entry (record { kind = TableKind.Recipe; entry = 0 }) EntryFault.OutOfLimit) }
+    // claim: table of a recipe
     ensures told { (spot : Spot) (wrong : EntryFault) → IsErrOf result (DocFault.Entry spot wrong) → is_of_recipe spot.kind ≡ true }
+    // claim: fault of a recipe; first of its kind
     ensures stands { (spot : Spot) (wrong : EntryFault) → IsErrOf result (DocFault.Entry spot wrong) → FaultStands bytes.now spot wrong }
 {
     let table = table_of(alloc, bytes, TOP)?;

@@ -51,6 +51,7 @@ pub(crate) fn items_at<'a>(
 
 /// The values that the tables of the array at a key stand for, in order; none where the key is missing. It is refused by the first table that
 /// is refused, and as of the wrong kind where the value is no array, or an item no table.
+// claim: tables of an array
 pub fn tables_at<T: FromTable>(
     alloc: Global,
     table: &Table,
@@ -80,6 +81,7 @@ pub fn tables_at<T: FromTable>(
 }
 
 /// Tests how many tables of a kind there are. Too few are refused at entry 0, too many at the first one too many, both as out of limits.
+// claim: tables counted
 pub fn check_count(
     count: usize,
     least: usize,

@@ -16,6 +16,7 @@ use batch_text::Name;
 /// The node of the unit procedure that the node reserves as number `i`, counted from 0, and that follows it.
 ///
 /// None where the node reserves no more than `i` unit procedures, where that one doesn't follow it, or where no node has the number.
+// claim: follower of a node
 pub fn follows(recipe: &Recipe, node: u16, i: usize) -> Option<u16>
     ensures some { (bound : Binding) (at : Node) → slice_get (bound_nodes bound recipe.now.acts) node ≡ Some at → IfSome result (λ to. IsFollowerAt bound recipe.now.acts at i to) }
     ensures none { (bound : Binding) (at : Node) → slice_get (bound_nodes bound recipe.now.acts) node ≡ Some at → IsNone result → follower_of (bound_tree bound recipe.now.acts) at i ≡ None }

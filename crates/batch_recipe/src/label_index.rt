@@ -87,6 +87,7 @@ impl<'a> Labels<'a> {
     }
 
     /// The number of the act that a label names in the table.
+    // claim: labels
     pub fn number_of(&self, table: LabelTable, name: &Name) -> Option<usize>
         ensures { result ≡ number_in (table_at self.now.acts.now table) name.now }
     {

@@ -29,6 +29,7 @@ impl Outline {
     pub fn new(alloc: Global, acts: &Acts) -> Result<Outline, OutlineFault>
         ensures ok { IfOk result (λ outline. outline.entries.items ≡ entries_of acts.now) }
         ensures conditions { IfOk result (λ outline. outline.conditions.items ≡ conditions_of acts.now) }
+        // claim: recipe made
         ensures many { IsErrOf result OutlineFault.TooMany → MAX_NODES < length (procedure_nodes acts.now) }
     {
         let Ok(labels) = Labels::new(alloc, acts) else {

@@ -32,6 +32,7 @@ pub struct RecipeParts {
 impl Recipe {
     /// The recipe of these parts, which are well formed. `TooMany` where it would have more than `MAX_NODES` nodes, and
     /// `Memory` where memory is refused on the way.
+    // claim: recipe made
     pub fn new(alloc: Global, parts: RecipeParts) -> Result<Recipe, OutlineFault>
         requires some_basis { 0 < parts.basis }
         requires basis_limit { parts.basis ≤ MAX_SIZE }

@@ -25,6 +25,7 @@ impl Model for Values {
 
 impl Values {
     /// Values that are looked up in this order: where a name stands twice, its first value counts.
+    // claim: values by name
     pub fn new(entries: Vec<(Name, u64)>) -> Values
         ensures { result ≡ entries.items }
     {
@@ -32,6 +33,7 @@ impl Values {
     }
 
     /// The value with this name.
+    // claim: values by name
     pub fn value_of(&self, name: &Name) -> Option<u64>
         ensures { result ≡ value_of self.now name.now }
     {
@@ -42,6 +44,7 @@ impl Values {
     }
 
     /// Sets what has this name to the value. Where nothing has it, nothing changes.
+    // claim: outputs set
     pub fn set(&mut self, name: &Name, value: u64)
         ensures { self.new ≡ with_value name.now value self.old }
     {
@@ -49,6 +52,7 @@ impl Values {
     }
 
     /// Sets each of these outputs, as a report names them.
+    // claim: outputs set
     pub fn set_outputs(&mut self, outputs: &[(Name, u64)])
         ensures { self.new ≡ with_values outputs.now self.old }
     {
@@ -58,6 +62,7 @@ impl Values {
     }
 
     /// Sets the outputs with these names to 0, as before the batch ran.
+    // claim: outputs cleared
     pub fn clear_outputs(&mut self, names: &[Name])
         ensures { self.new ≡ with_outputs_zero names.now self.old }
     {
@@ -80,6 +85,7 @@ fn set_entries(entries: &mut [(Name, u64)], name: &Name, value: u64)
 
 /// Whether a report may set these outputs of a recipe: each is one of the names, none is named twice, and no value is above
 /// `MAX_VALUE`.
+// claim: outputs allowed
 pub fn are_outputs(names: &[Name], outputs: &[(Name, u64)]) -> bool
     ensures { result ≡ are_outputs names.now outputs.now }
 {
@@ -94,6 +100,7 @@ pub fn are_outputs(names: &[Name], outputs: &[(Name, u64)]) -> bool
 }
 
 /// The number, among these names, of the first that the outputs have no value with.
+// claim: outputs left out
 pub fn first_left_out(names: &[Name], outputs: &[(Name, u64)]) -> Option<usize>
     ensures { result ≡ position (λ name. not (have_output outputs.now name)) names.now }
 {

@@ -15,6 +15,7 @@ use batch_matrix::{Command, State};
 use batch_text::is_name;
 
 /// What the line tells, which comes without its line feed, or nothing where it is the text of no out.
+// claim: lines told
 pub fn read_out(line: &[u8]) -> Option<Told<'_>>
     ensures said { Gives out_of result (out_of_line line.now) }
     ensures told { MatchOption result (TellsNothing line.now) (λ told. Tells line.now (out_of told)) }

@@ -13,6 +13,7 @@ pub struct NoRecordLine;
 
 /// What the line tells, which comes without its line feed: an out, or nothing where it is a comment or says that an event line was
 /// refused before the machine saw it.
+// claim: lines of a record
 pub fn read_record_line(line: &[u8]) -> Result<Option<Told<'_>>, NoRecordLine>
     ensures ok { IfOk result (λ told. MatchOption told
         ((is_passed_over line.now ≡ true) × TellsNothing line.now)

@@ -32,6 +32,7 @@ ghost use Rattle.batch_record.specs.RowsOfRecords.{
   NotPassed,
 };
 
+// claim: worked reading
 pub fn record_lines()
     ensures asked_units { AskedUnits }
     ensures granted_unit { GrantedUnit }
@@ -53,6 +54,7 @@ pub fn record_lines()
     ensures refused_memory { RefusedMemory }
 {}
 
+// claim: worked reading
 pub fn other_lines()
     ensures empty_line { EmptyLine }
     ensures space_at_an_end { SpaceAtAnEnd }

@@ -13,11 +13,13 @@ ghost use Rattle.batch_record_laws.specs.Ways.{WaysRise};
 
 /// A record that a cleared set of recipes leads to tells just who holds, asks for and runs what in the plant that it leads to,
 /// and the state of each batch.
+// claim: told as it is
 pub fn records_tell_the_plant()
     ensures { TellsThePlant }
 {}
 
 /// Ranks rise along the path of each node, as the rules of clearance say, exactly where they rise on the way down.
+// claim: ranks on the way
 pub fn ways_rise()
     ensures { WaysRise }
 {}
@@ -26,22 +28,26 @@ pub fn ways_rise()
 /// that asks for first.
 pub fn trees_have_units()
     ensures trees { TreesAreProcedures }
+    // claim: procedures
     ensures recipes { RecipesAreProcedures }
 {}
 
 /// What these laws ask of documents beside clearance holds of every cell and of all recipes, since their types keep it.
+// claim: types keep the rest
 pub fn sets_are_documents()
     ensures { SetsAreDocuments }
 {}
 
 /// A recipe is cleared for whatever units take its roles exactly where each unit procedure is clear on each unit that may run it,
 /// by itself: a path has one unit procedure.
+// claim: candidates
 pub fn candidates_suffice()
     ensures { CandidatesSuffice }
 {}
 
 /// Two runs of the same events, settled after each, of which none was refused for want of memory, tell the same and come to the same
 /// plant: the record is a function of the events.
+// claim: one record of the events
 pub fn replays_agree()
     ensures { ReplaysAgree }
 {}

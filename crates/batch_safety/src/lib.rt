@@ -15,6 +15,7 @@ use batch_verify::Cleared;
 
 /// Every record that a cleared set of recipes leads to is safe after each of its lines, whatever the events and however far
 /// the moves that they make possible have been made.
+// claim: capacity; idle start; unit stays held; no circle; nothing at rest
 pub fn records_are_safe()
     ensures { CanOnlyBeSafe }
 {}
@@ -22,22 +23,26 @@ pub fn records_are_safe()
 /// Where no move is possible, of each resource that is asked for less is free than its oldest ask wants, and somebody holds
 /// it; no chain has more waiting steps than the cell has resources; and where a chain can't be continued its last holder is
 /// at work.
+// claim: too few free; somebody holds; short chains; chains end at work
 pub fn nobody_waits_in_vain()
     ensures { NobodyWaitsInVain }
 {}
 
 /// A unit that was passed on to a unit procedure is held there until this begins, and one that a step reserves is held by the batch from
 /// that step's begin on until the unit procedure begins for which it is reserved, unless the batch is stopped or aborted.
+// claim: reserved units stay
 pub fn units_are_kept()
     ensures { UnitsAreKept }
 {}
 
 /// Recipes that clearance accepts for a cell run safely in it.
+// claim: accepted sets
 pub fn cleared_sets_run_safely()
     ensures { ClearedSetsRunSafely }
 {}
 
 /// Recipes that `verify` cleared run safely in their cell: whoever holds a [`Cleared`] may cite this of it.
+// claim: every `Cleared`
 pub fn cleared_runs_safely(cleared: &Cleared)
     ensures { RunsSafely cleared.now.cell cleared.now.recipes }
 {

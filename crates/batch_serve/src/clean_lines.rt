@@ -31,6 +31,7 @@ pub struct CleanReader<R: Read> {
 
 impl<R: Read> CleanReader<R> {
     /// Over an input.
+    // claim: lines as a journal has them
     pub fn new(inner: R) -> CleanReader<R>
         ensures { option_map (clean_from result.line) (R.remaining result.inner) ≡ option_map (λ input. clean_lines (lines_of input)) (R.remaining inner) }
     {
@@ -43,6 +44,7 @@ impl<R: Read> CleanReader<R> {
 }
 
 impl<R: Read> Read for CleanReader<R> {
+    // claim: lines as a journal has them
     ghost remaining = { λ r. option_map (clean_from r.line) (R.remaining r.inner) };
 
     fn read(&mut self, buf: &mut [u8]) -> io::Result<usize> {

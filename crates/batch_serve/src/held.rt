@@ -33,6 +33,7 @@ pub struct Held<W: Write, C: Start> {
     has_want: bool,
     of: PhantomData<C>,
     ghost within: { cleared ≤ length held.items },
+    // claim: want is held back
     ghost told: { IsPassed C.contents (W.contents inner) (take cleared held.items) },
 }
 
@@ -59,6 +60,7 @@ impl<W: Write, C: Start> Held<W, C> {
     }
 
     /// The writer. What it was told since the start is clear.
+    // claim: want is held back
     pub fn into_inner(self) -> W
         ensures { (held : List ℕ) → C.contents ≡ Some held → TellsClear held (W.contents result) (append_known (W.contents self.inner) self.held.items) }
     {
@@ -67,6 +69,7 @@ impl<W: Write, C: Start> Held<W, C> {
 
     /// Passes on what may be, and gives the writer. What it was told since the start is clear; where all of it was whole lines and it
     /// ended well, all was told.
+    // claim: all is told
     pub fn finish(mut self) -> (io::Result<()>, W)
         ensures clear { (held : List ℕ) → C.contents ≡ Some held → TellsClear held (W.contents result.1) (append_known (W.contents self.inner) self.held.items) }
         ensures all { OnOk result.0 (TellsAll C.contents (append_known (W.contents self.inner) self.held.items) (W.contents result.1)) }
@@ -78,6 +81,7 @@ impl<W: Write, C: Start> Held<W, C> {
     /// Has a line remarked on, behind all that it took: that is passed on first.
     ///
     /// It fails where some of that has to be held back, which is a refusal for want of memory or an unfinished line.
+    // claim: remarks on held answers
     pub(crate) fn remark<M: Remarks<W>>(
         &mut self,
         line: &[u8],
@@ -142,6 +146,7 @@ impl<W: Write, C: Start> Write for Held<W, C> {
         }
     }
 
+    // claim: nothing else is held back (passed, want)
     fn flush(&mut self) -> io::Result<()>
         ensures bytes { Keeps (append_known (W.contents self.old.inner) self.old.held.items) (append_known (W.contents self.new.inner) self.new.held.items) }
         // Nothing is held back but an unfinished line; or from a refusal for want of memory on, before which all is passed on.
@@ -221,6 +226,7 @@ fn sooner(one: Option<usize>, other: Option<usize>) -> Option<usize>
 }
 
 /// Whether a line of the text is a refusal for want of memory.
+// claim: want is seen
 pub fn shows_want(text: &[u8]) -> bool
     ensures none { IsFalse result → ShowsNoWant text.now }
     ensures some { IsTrue result → ShowsNoWant text.now → ⊥ }

@@ -22,6 +22,7 @@ impl<M> HeldRemarks<M> {
     }
 }
 
+// claim: remarks on held answers
 impl<W: Write, S: Start, M: Remarks<W>> Remarks<Held<W, S>> for HeldRemarks<M> {
     fn read_begins(&mut self) {
         self.remarks.read_begins();

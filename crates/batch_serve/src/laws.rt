@@ -12,6 +12,7 @@ use batch_verify::Cleared;
 
 /// What a transcript from the opening of a cleared set tells is a safe record, which leads to where the transcript does:
 /// whoever holds a [`Cleared`] may cite this of it.
+// claim: safe transcripts
 pub fn transcripts_are_safe(cleared: &Cleared)
     ensures { TranscriptsAreSafe cleared.now }
 {
@@ -20,6 +21,7 @@ pub fn transcripts_are_safe(cleared: &Cleared)
 
 /// After a transcript from the opening of a cleared set nobody waits in vain: of each resource that is asked for less is free
 /// than its oldest ask wants, and every chain of waiting ends at a holder that is at work.
+// claim: transcripts not in vain
 pub fn transcripts_leave_nobody_in_vain(cleared: &Cleared)
     ensures { TranscriptsLeaveNobodyInVain cleared.now }
 {
@@ -27,62 +29,74 @@ pub fn transcripts_leave_nobody_in_vain(cleared: &Cleared)
 }
 
 /// A transcript that begins where no move is possible comes to such a plant after each of its lines.
+// claim: transcripts settle
 pub fn transcripts_settle()
     ensures { TranscriptsSettle }
 {}
 
 /// In which states a batch counts among those that are neither complete, stopped nor aborted.
+// claim: states of unfinished batches
 pub fn unfinished_rows()
     ensures { UnfinishedRows }
 {}
 
 /// The same lines, served twice with memory for each event, come to the same text and the same plant: the record is a function of
 /// the lines.
+// claim: one record of the lines
 pub fn serving_agrees()
     ensures { ServingAgrees }
 {}
 
 /// A transcript whose text shows neither `refused E11` nor `refused W6` had memory for each of its lines.
+// claim: want of memory shows
 pub fn no_want_is_well()
     ensures { NoWantIsWell }
 {}
 
 /// Whatever was told of lines in two lives of a plant is told again by a replay of lines that begin with them.
+// claim: told again
 pub fn told_is_recovered()
     ensures { ToldIsRecovered }
 {}
 
 /// A line as a journal has it gives the event that it gave before, or is refused alike; one that is left out gave nothing.
+// claim: journal lines agree
 pub fn clean_lines_agree()
     ensures { CleanLinesAgree }
 {}
 
 /// Which lines are kept, changed or left out, and which text is whole lines.
+// claim: rows of journal lines
 pub fn clean_line_rows()
     ensures { CleanLineRows }
 {}
 
 /// Whatever may come of the lines of an input as a journal has them may come of the input.
+// claim: journal lines serve alike
 pub fn clean_lines_serve_alike()
     ensures { CleanLinesServeAlike }
 {}
 
 /// The same where memory may have been wanted behind what was told, if that is whole lines which show no want.
+// claim: want isn't told
 pub fn want_is_not_told()
     ensures { WantIsNotTold }
 {}
 
 /// What a transcript tells is whole lines.
+// claim: transcripts are lines
 pub fn transcripts_are_whole()
     ensures { TranscriptsAreWhole }
 {}
 
 /// What is left of a text without its comments, and which comments are written.
+// claim: rows of comments
 pub fn comment_rows()
     ensures { CommentRows }
 {}
 
 /// What is held back of a text.
+// claim: rows of held text
 pub fn held_rows()
     ensures { HeldRows }
 {}

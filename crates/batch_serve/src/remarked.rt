@@ -26,6 +26,7 @@ pub enum Spot {
 /// Writes a record, in which comments stand between lines. A contract sees it as a writer of the record without its comments.
 ///
 /// What is written as the record has no `#`; else the write fails.
+// claim: a record without its comments
 #[derive(Drop)]
 pub struct Remarked<W: Write, C: Start> {
     inner: W,
@@ -38,6 +39,7 @@ pub struct Remarked<W: Write, C: Start> {
 
 impl<W: Write, C: Start> Remarked<W, C> {
     /// Over a writer.
+    // claim: a record without its comments
     pub fn new(inner: W) -> Remarked<W, C>
         requires { C.contents ≡ W.contents inner }
         ensures { uncommented C.contents (W.contents result.inner) ≡ W.contents inner }
@@ -51,6 +53,7 @@ impl<W: Write, C: Start> Remarked<W, C> {
     }
 
     /// The writer.
+    // claim: a record without its comments
     pub fn into_inner(self) -> W
         ensures { IsRemarked C.contents (W.contents result) (uncommented C.contents (W.contents self.inner)) }
     {

@@ -14,6 +14,7 @@ use std::marker::Brand;
 use std::time::Clock;
 
 /// Serves a cleared set as [`serve_set`] does, with comments on the lines in the record. The writer is given back.
+// claim: a record without its comments
 pub fn serve_remarked<R: Read, W: Write, K: Clock + Drop>(
     alloc: Global,
     cleared: Cleared,

@@ -25,6 +25,7 @@ pub struct Remarking<K: Clock> {
 
 impl<K: Clock> Remarking<K> {
     /// Before each answer the line itself, if `echo`; before the first answer to what one read brought the clock's time, if `times`.
+    // claim: comments written
     pub fn new(clock: K, echo: bool, times: bool) -> Remarking<K>
         ensures { (result.echo ≡ echo) × (result.times ≡ times) }
     {
@@ -37,6 +38,7 @@ impl<K: Clock> Remarking<K> {
     }
 }
 
+// claim: comments written
 impl<W: Write, K: Clock, C: Start> Remarks<Remarked<W, C>> for Remarking<K> {
     fn read_begins(&mut self)
         ensures { (self.new.time_is_due ≡ self.old.times) × (self.new.echo ≡ self.old.echo) × (self.new.times ≡ self.old.times) }

@@ -9,6 +9,7 @@ use std::io::Write;
 /// Remarks on the lines that are served, in comments of the record that goes to a writer.
 ///
 /// To the contracts of serving no remark is part of what the writer holds.
+// claim: remarks are no record
 pub trait Remarks<W: Write> {
     /// A read of the input brought bytes, or its end.
     fn read_begins(&mut self);

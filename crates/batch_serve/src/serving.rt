@@ -34,6 +34,7 @@ const PIECE_LEN: usize = 65_536;
 /// is interrupted is made again, and counts among `max_reads`. Memory is asked for events alone. After
 /// a read fault, and after `max_reads` calls of the reader, the whole lines read are answered; after a
 /// write fault the machine may be ahead of what is written.
+// claim: after all reads (too_many_reads, reads_made); remarks are no record
 pub fn serve<R: Read, W: Write, M: Remarks<W>>(
     alloc: Global,
     engine: &mut Engine,
@@ -42,21 +43,29 @@ pub fn serve<R: Read, W: Write, M: Remarks<W>>(
     remarks: &mut M,
     max_reads: u64,
 ) -> Result<(), ServeFault>
+    // claim: served set stays
     ensures cleared { engine.new.cleared ≡ engine.old.cleared }
+    // claim: text of a transcript; outs are a record
     ensures served { OnOk result (IfSome (R.remaining reader.old) (λ input.
         WritesTranscript (setup engine.old.cleared) (plant_of engine.old) (lines_of input) (plant_of engine.new) (W.contents writer.old) (W.contents writer.new))) }
+    // claim: input ended
     ensures ended { OnOk result (IsAtEnd (R.remaining reader.new)) }
+    // claim: after a read fault
     ensures read_fault { IsErrOf result ServeFault.Read → WritesWholeLines (setup engine.old.cleared) (plant_of engine.old) (plant_of engine.new)
         (R.remaining reader.old) (R.remaining reader.new) (W.contents writer.old) (W.contents writer.new) }
     ensures too_many_reads { IsErrOf result ServeFault.TooManyReads → WritesWholeLines (setup engine.old.cleared) (plant_of engine.old) (plant_of engine.new)
         (R.remaining reader.old) (R.remaining reader.new) (W.contents writer.old) (W.contents writer.new) }
     ensures reads_made { IsErrOf result ServeFault.TooManyReads → IfSome (R.remaining reader.old) (λ input. max_reads ≤ length input) }
+    // claim: after a write fault
     ensures write_fault { IsErrOf result ServeFault.Write → IfSome (R.remaining reader.old) (λ input.
         (n : ℕ) × BeginsTranscript (setup engine.old.cleared) (plant_of engine.old) (take n (lines_of input)) (W.contents writer.old) (W.contents writer.new)) }
+    // claim: after a write fault, of the lines read
     ensures write_fault_read { IsErrOf result ServeFault.Write → BeginsLinesRead (setup engine.old.cleared) (plant_of engine.old)
         (R.remaining reader.old) (R.remaining reader.new) (W.contents writer.old) (W.contents writer.new) }
+    // claim: settled engine
     ensures settled { (IsErrOf result ServeFault.Write → ⊥) → IsSettledEngine engine.old → IsSettledEngine engine.new }
     // So the outs of all these transcripts are a safe record, where the engine was a new one.
+    // claim: serving is safe
     ensures safe { TranscriptsAreSafe engine.old.cleared }
 {
     transcripts_are_safe(engine.cleared());

@@ -14,6 +14,7 @@ use std::io::{Read, Write};
 /// It asks the reader at most `max_reads` times, interrupted calls among them, which no clause says: the calls of a reader aren't
 /// counted. What is written to the writer is handed on whenever the reader is about to be asked for more. Memory is taken for the engine and for events; where an event finds
 /// none, its line is refused and serving goes on. Gives how many batches are neither complete, stopped nor aborted then.
+// claim: batches left; served from its opening; no engine
 pub fn serve_set<R: Read, W: Write, M: Remarks<W>>(
     alloc: Global,
     cleared: Cleared,

@@ -27,6 +27,7 @@ pub struct Desk {
 
 impl Desk {
     /// For which so many lines may wait.
+    // claim: new desks
     pub fn new(alloc: Global, unit: Option<Name>, lag: usize) -> Desk
         ensures unit { result.unit ≡ unit }
         ensures waiting { result.waiting ≡ nothing_waits lag }

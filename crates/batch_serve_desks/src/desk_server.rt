@@ -38,6 +38,7 @@ pub struct DeskServer {
 
 impl DeskServer {
     /// Over a machine; no line was served in this life.
+    // claim: new desks
     pub fn new(alloc: Global, engine: Engine, names: Vec<Name>, desks: Vec<Desk>) -> DeskServer
         ensures engine { result.engine ≡ engine }
         ensures names { result.names ≡ names }
@@ -57,6 +58,7 @@ impl DeskServer {
     /// Has whole lines of a desk wait to be served in the next turn. Of a desk that is cut they are dropped.
     ///
     /// The error is that there is no memory for one run more. Then nothing is taken.
+    // claim: lines of desks
     #[tactic(auto, using(crate::proofs::Gathering::own_other, crate::proofs::Gathering::of_desks_more))]
     pub fn take(&mut self, desk: usize, lines: Vec<u8>) -> Result<(), AllocError>
         requires { desk < length self.old.desks.items }
@@ -79,16 +81,21 @@ impl DeskServer {
     ///
     /// Where they can't be kept, or are to be served again and aren't whole lines, nothing is answered. Where the record can't be written, or there is no memory, no desk is told; nor
     /// where a line was refused for want of it, if the lines are to be served again.
+    // claim: want ends a turn (turned, untold)
     pub fn turn<K: Keep, W: Write>(
         &mut self,
         alloc: Global,
         keep: &mut K,
         output: &mut W,
     ) -> Result<(), TurnFault>
+        // claim: a turn of desks; whole lines are kept
         ensures turned { OnOk result (IsTurned self.old self.new (K.is_safe keep.new) (K.kept keep.old) (K.kept keep.new) K.again (W.contents output.old) (W.contents output.new)) }
+        // claim: kept before
         ensures unkept { IsErrOf result TurnFault.Journal → (self.new.engine ≡ self.old.engine) × Keeps (W.contents output.old) (W.contents output.new) }
+        // claim: told last
         ensures untold { OnErr result (self.new.desks ≡ self.old.desks) }
         ensures stays { K.is_safe keep.new → K.is_safe keep.old }
+        // claim: a turn that fails
         ensures kept { K.is_safe keep.new → OnErr result (MayBeKept (K.kept keep.old) (K.kept keep.new) (runs_text self.old.names.items self.old.last self.old.group.items)) }
     {
         check_whole(keep.is_served_again(), &self.group)?;

@@ -4,6 +4,7 @@ use crate::keep::{Keep, KeepFault};
 use batch_journal::{Disk, Groups, Run};
 use std::time::Clock;
 
+// claim: turns in a journal
 impl<D: Disk, K: Clock, C: Run> Keep for Groups<D, K, C> {
     ghost use Rattle.std.specs.Prelude.{true};
 

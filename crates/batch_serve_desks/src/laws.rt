@@ -15,6 +15,7 @@ use batch_verify::Cleared;
 
 /// Worked rows: of lines that came, the first may have been told and the rest waits; no other line was, and none out of order;
 /// of a desk that is cut the rest is lost.
+// claim: rows of desks
 pub fn waiting_rows()
     ensures front { FrontIsTold }
     ensures no_other { NoOtherIsTold }
@@ -23,17 +24,20 @@ pub fn waiting_rows()
 {}
 
 /// What is due of a record is due of each run of it, in which the lines of one desk are answered, by itself.
+// claim: records sorted
 pub fn runs_are_sorted()
     ensures { RunsAreSorted }
 {}
 
 /// What a desk is due of a record, as its comments tell whose lines are answered, is what it is due of the answers.
+// claim: records sorted
 pub fn records_are_sorted()
     ensures { RecordsAreSorted }
 {}
 
 /// Worked rows: replies are due to whoever sent the line, moves to consoles, starts and sends to the link of their unit and to no
 /// other; a record of two consoles is sorted by its comments.
+// claim: rows of desks
 pub fn due_rows()
     ensures reply { ReplyIsOwn }
     ensures console { ConsoleSeesAll }
@@ -45,6 +49,7 @@ pub fn due_rows()
 
 /// The answers to runs of lines that were served from the opening of a cleared set are the text of a safe transcript of these
 /// lines, in the order in which they were served.
+// claim: service is safe
 pub fn service_is_safe(cleared: &Cleared)
     ensures { ServiceIsSafe cleared.now }
 {
@@ -54,12 +59,14 @@ pub fn service_is_safe(cleared: &Cleared)
 
 /// Runs that were served behind others were served with them; and their text, the lines of it that a desk is due, and the lines
 /// that a desk sent stand behind those of the others.
+// claim: service goes on
 pub fn service_goes_on()
     ensures served { ServiceGoesOn }
     ensures texts { TextsGoOn }
 {}
 
 /// Two transcripts, of which one comes to the plant that the other begins with, are one of the lines of both.
+// claim: transcripts join
 pub fn transcripts_join()
     ensures { TranscriptsJoin }
 {}
@@ -67,6 +74,7 @@ pub fn transcripts_join()
 /// A server's account: all runs since it began are kept, and all answers to them recorded and told, or they wait. It begins with a
 /// machine wherever it stands, each turn leads it on, lines that are taken leave it as it is, and what is handed on to the rings of
 /// writers is told.
+// claim: account of desks
 pub fn lives_go_on<K: Keep>()
     ensures begin { LivesBegin K.is_safe }
     ensures go_on { LivesGoOn K.is_safe }
@@ -76,6 +84,7 @@ pub fn lives_go_on<K: Keep>()
 
 /// The lines of a desk that were served, and those that are to be served in the next turn, are all that came out of the ring of its
 /// reader, as long as it isn't cut: so it stays as more comes.
+// claim: lines from readers
 pub fn lines_go_on()
     ensures { LinesGoOn }
 {}

@@ -25,6 +25,7 @@ enum Got {
 ///
 /// It answers true where the input has ended, and that was told; false where the input failed, there was no memory for a line, or
 /// the pause told it to end.
+// claim: reader of a desk
 #[tactic(auto, using(crate::proofs::Threading::reads_begin, crate::proofs::Threading::reads_twice, crate::proofs::Threading::reads_then, crate::proofs::Threading::reads_stop))]
 pub fn read_lines<R: Read, P: Pause>(
     alloc: Global,

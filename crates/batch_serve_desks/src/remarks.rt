@@ -10,6 +10,7 @@ use std::alloc::{AllocError, Global};
 /// desk before.
 ///
 /// The error is that there is no memory for it.
+// claim: text of runs
 pub fn runs_text(
     alloc: Global,
     names: &[Name],

@@ -82,6 +82,7 @@ impl DeskServer {
     /// Takes what came next from each reader that doesn't rest, if anything is there.
     ///
     /// The error is that there is no memory for one run more. What was handed over is lost then, and serving must end.
+    // claim: lines from readers
     pub fn gather(&mut self, readers: &mut Vec<Reader>) -> Result<(), AllocError>
         requires { length readers.old.items ≤ length self.old.desks.items }
         ensures same { IsSameBut self.old self.new }
@@ -135,7 +136,9 @@ impl DeskServer {
     /// than may is cut.
     pub fn hand_on(&mut self, writers: &mut Vec<Writer>)
         requires { length writers.old.items ≤ length self.old.desks.items }
+        // claim: lines to writers
         ensures handed { IsHandedOver self.old self.new writers.old.items writers.new.items }
+        // claim: late desks
         ensures late { AreCutIfLate self.old.desks.items self.new.desks.items writers.old.items writers.new.items }
     {
         hand_on_each(&mut self.desks, writers);

@@ -6,6 +6,7 @@ use batch_text::Name;
 
 /// Whether a desk is due a line of the record's text: of answers to its own lines the replies, and of all answers the moves
 /// that it sees. A console, which has no unit, sees each move, and the link of a unit the starts and sends of that unit.
+// claim: due to a desk
 pub fn is_due(line: &[u8], is_own: bool, unit: &Option<Name>) -> bool
     ensures { result ≡ is_due is_own unit.now line.now }
 {

@@ -30,6 +30,7 @@ impl<T: Drop> Model for Waiting<T> {
 
 impl<T: Drop> Waiting<T> {
     /// For a desk for which so many lines may wait.
+    // claim: new desks
     pub fn new(alloc: Global, lag: usize) -> Waiting<T>
         ensures value { result ≡ nothing_waits lag }
         ensures account { IsAccount [] [] result }
@@ -58,6 +59,7 @@ impl<T: Drop> Waiting<T> {
     /// Has a line wait. Of a desk that is cut it is dropped.
     ///
     /// The error is that there is no memory for it. The desk is cut then.
+    // claim: waiting for a desk
     #[tactic(auto, using(crate::proofs::Accounts::account_pushed, crate::proofs::Accounts::account_lost))]
     pub fn push(&mut self, line: T) -> Result<(), AllocError>
         ensures ok { OnOk result (self.new ≡ pushed line self.old) }
@@ -78,6 +80,7 @@ impl<T: Drop> Waiting<T> {
     }
 
     /// Cuts the desk where more lines wait than may, and gives whether it did.
+    // claim: waiting for a desk
     #[tactic(auto, using(crate::proofs::Accounts::account_cut))]
     pub fn cut_if_late(&mut self) -> bool
         ensures late { IsTrue result ↔ IsLate self.old }
@@ -94,6 +97,7 @@ impl<T: Drop> Waiting<T> {
     }
 
     /// Cuts the desk.
+    // claim: waiting for a desk
     #[tactic(auto, using(crate::proofs::Accounts::account_cut))]
     pub fn cut(&mut self)
         ensures value { self.new ≡ cut_off self.old }
@@ -104,6 +108,7 @@ impl<T: Drop> Waiting<T> {
     }
 
     /// Takes the line that has waited longest.
+    // claim: waiting for a desk
     #[tactic(auto, using(crate::proofs::Accounts::account_front))]
     pub fn take(&mut self) -> Option<T>
         ensures lines { self.old.lines ≡ option_to_list result ++ self.new.lines }
@@ -116,6 +121,7 @@ impl<T: Drop> Waiting<T> {
     }
 
     /// Puts as many of the lines into the ring as there is place for.
+    // claim: waiting for a desk
     #[tactic(auto, using(crate::proofs::Accounts::account_handed))]
     pub fn hand_on(&mut self, ring: &mut Producer<T>)
         ensures ring { SameProducer ring.old ring.new }

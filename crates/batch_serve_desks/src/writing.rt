@@ -13,6 +13,7 @@ use std::io::Write;
 /// Writes what comes out of the ring, each line with its line feed, and hands on what is written whenever the ring is empty.
 ///
 /// It answers true where nothing more comes and all was handed on; false where the output failed, or the pause told it to end.
+// claim: writer of a desk
 #[tactic(auto, using(crate::proofs::Threading::writes_begin, crate::proofs::Threading::writes_twice, crate::proofs::Threading::writes_then, crate::proofs::Threading::writes_stop))]
 pub fn write_lines<W: Write, P: Pause>(
     ring: &mut Consumer<Line>,

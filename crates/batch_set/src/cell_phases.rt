@@ -80,6 +80,7 @@ fn number_phases(
 
 impl CellPhases {
     /// The phases that the units of the cell offer.
+    // claim: phases of a cell
     pub fn new(alloc: Global, cell: &Cell) -> Result<CellPhases, AllocError>
         ensures { IfOk result (ArePhasesOf cell.now) }
     {

@@ -2,16 +2,19 @@
 ghost use Rattle.batch_set.specs.Sources.{NeedsSayNames, PhasesSayNames, UnitsSayNames};
 
 /// The numbers of an act's needs say what their names say, need by need, whatever units take the roles.
+// claim: needs by number
 pub fn needs_say_names()
     ensures { NeedsSayNames }
 {}
 
 /// The number of a unit procedure's unit says what its name or its role says, whatever units take the roles.
+// claim: units by number
 pub fn units_say_names()
     ensures { UnitsSayNames }
 {}
 
 /// A phase that a unit offers is found by the numbers of the phase step and of the unit.
+// claim: phases by number
 pub fn phases_say_names()
     ensures { PhasesSayNames }
 {}

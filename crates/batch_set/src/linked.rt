@@ -18,6 +18,7 @@ pub enum Source {
 
 impl Source {
     /// The number of the resource, where these units take the roles.
+    // claim: roles by number
     pub fn for_units(self, units: &[u16]) -> Option<u16>
         ensures { result ≡ number_for units.now self }
     {
@@ -63,6 +64,7 @@ impl LinkedRecipe {
     }
 
     /// The needs of the act of this kind: nothing where it is no act of the recipe.
+    // claim: needs by number
     #[inline(always)]
     pub fn needs(&self, kind: Kind) -> &[LinkedNeed]
         ensures { result.now ≡ needs_by self.now kind }
@@ -78,6 +80,7 @@ impl LinkedRecipe {
     }
 
     /// Where the unit of the unit procedure with this number comes from: its first need.
+    // claim: units by number
     #[inline(always)]
     pub fn unit(&self, unit_procedure: usize) -> Source
         ensures { result ≡ unit_by self.now unit_procedure }
@@ -91,6 +94,7 @@ impl LinkedRecipe {
 
     /// The number of the phase that the phase step with this number runs, among those that the unit offers. None where it doesn't
     /// offer it.
+    // claim: phases by number
     #[inline(always)]
     pub fn phase_on(&self, phases: &CellPhases, step: usize, unit: u16) -> Option<u16>
         ensures { result ≡ phase_on self.now phases.now step unit }

@@ -167,6 +167,7 @@ fn link_runs(
 }
 
 /// The recipe by the numbers of what it names in the cell, whose phases these are.
+// claim: linked recipe
 pub fn link(
     alloc: Global,
     cell: &Cell,

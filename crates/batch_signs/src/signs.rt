@@ -27,6 +27,7 @@ impl Model for Signs {
 
 impl Signs {
     /// So many nodes without a sign.
+    // claim: signs shown
     pub fn new(alloc: Global, count: usize) -> Result<Signs, AllocError>
         requires { count ≤ 4096 }
         ensures { IfOk result (λ signs. signs ≡ replicate count 0) }
@@ -38,6 +39,7 @@ impl Signs {
     }
 
     /// The signs that the node shows.
+    // claim: signs shown
     pub fn at(&self, node: usize) -> u32
         ensures { result ≡ sign_at self.now node }
     {
@@ -45,6 +47,7 @@ impl Signs {
     }
 
     /// The node shows these signs, and no others.
+    // claim: signs shown
     pub fn set(&mut self, node: usize, signs: u32)
         requires { node < length self.old }
         ensures { self.new ≡ slice_set self.old node signs }
@@ -54,6 +57,7 @@ impl Signs {
     }
 
     /// The node shows these signs instead, where it shows any.
+    // claim: signs shown
     pub fn replace(&mut self, node: usize, signs: u32)
         ensures { self.new ≡ replaced self.old node signs }
     {
@@ -63,6 +67,7 @@ impl Signs {
     }
 
     /// No node shows a sign any more.
+    // claim: signs shown
     pub fn clear(&mut self)
         ensures { self.new ≡ replicate (length self.old) 0 }
     {
@@ -71,6 +76,7 @@ impl Signs {
     }
 
     /// Whether no node from this one on, up to `end`, shows one of the signs.
+    // claim: next sign
     pub fn has_none(&self, wanted: u32, from: usize, end: usize) -> bool
         ensures { TellsNone self.now wanted from end result }
     {
@@ -81,6 +87,7 @@ impl Signs {
     }
 
     /// The first node from this one on that shows one of the signs.
+    // claim: next sign
     #[inline(always)]
     pub fn next(&self, wanted: u32, from: usize) -> Option<usize>
         ensures { IsNextShown self.now wanted from result }

@@ -4,6 +4,7 @@ ghost use Rattle.std.specs.Int.{bit_at};
 ghost use Rattle.batch_signs.specs.Bits.{IsLowestFrom, with_one, with_zero, with_told};
 
 /// The word with this bit set.
+// claim: bits of a word
 #[inline]
 pub fn with_bit(word: u64, at: usize) -> u64
     requires { at < 64 }
@@ -13,6 +14,7 @@ pub fn with_bit(word: u64, at: usize) -> u64
 }
 
 /// The word with this bit cleared.
+// claim: bits of a word
 #[inline]
 pub fn without_bit(word: u64, at: usize) -> u64
     requires { at < 64 }
@@ -35,6 +37,7 @@ pub fn with_bit_as(word: u64, at: usize, told: bool) -> u64
 }
 
 /// The lowest bit that is set, from this one on.
+// claim: bits of a word
 #[inline]
 pub fn lowest_from(word: u64, from: usize) -> Option<usize>
     requires { from < 64 }

@@ -13,6 +13,7 @@ pub struct AnyDriver {
 }
 
 impl AnyDriver {
+    // claim: driver in a box
     pub fn new(driver: Box<dyn UnitDriver + Send>) -> AnyDriver
         ensures { result.driver ≡ driver }
     {
@@ -27,10 +28,12 @@ impl UnitDriver for AnyDriver {
 
     ghost tick_gives = { λ old answer new. HoldsNext old.driver ((UnitDriver-box old.driver).tick_gives old.driver.value answer) new.driver };
 
+    // claim: driver in a box
     fn command(&mut self, phase: u16, order: Order) {
         self.driver.command(phase, order);
     }
 
+    // claim: driver in a box
     fn tick(&mut self) -> Option<(u16, Report)> {
         self.driver.tick()
     }

@@ -22,6 +22,7 @@ impl<D: Drop> Model for Simulator<D> {
 }
 
 impl<D: UnitDriver> Simulator<D> {
+    // claim: units of a simulator
     pub fn new(drivers: Vec<D>) -> Simulator<D>
         ensures { result ≡ drivers.items }
     {
@@ -29,6 +30,7 @@ impl<D: UnitDriver> Simulator<D> {
     }
 
     /// Gives an order to a phase of a unit. False, and nothing done, where there is no such unit.
+    // claim: order to a unit
     pub fn order(&mut self, unit: u16, phase: u16, order: Order) -> bool
         ensures { Takes D.command_gives unit phase order self.old result self.new }
     {
@@ -40,6 +42,7 @@ impl<D: UnitDriver> Simulator<D> {
     }
 
     /// A moment passes at a unit, and its driver may report. None, and nothing done, where there is no such unit.
+    // claim: tick of a unit
     pub fn tick(&mut self, unit: u16) -> Option<(u16, Report)>
         ensures { Ticks D.tick_gives unit self.old result self.new }
     {

@@ -32,6 +32,7 @@ impl Model for SteadyUnit {
 
 impl SteadyUnit {
     /// A unit with so many phases, none of them started, each of which will run for `ticks` ticks.
+    // claim: new steady unit
     pub fn new(alloc: Global, phases: u16, ticks: u64) -> Result<SteadyUnit, AllocError>
         ensures { IfOk result (λ unit. unit ≡ record { phases = replicate phases unstarted; ticks = ticks }) }
     {
@@ -47,12 +48,14 @@ impl UnitDriver for SteadyUnit {
 
     ghost tick_gives = { TicksSteadily };
 
+    // claim: steady orders
     fn command(&mut self, phase: u16, order: Order) {
         if let Some(phase) = self.phases.get_mut(usize::from(phase)) {
             phase.take(order, self.ticks);
         }
     }
 
+    // claim: steady ticks
     fn tick(&mut self) -> Option<(u16, Report)> {
         tick(&mut self.phases)
     }

@@ -58,7 +58,9 @@ pub fn read_status<R: Read>(
     reader: &mut R,
     max_reads: u64,
 ) -> Result<Status, StatusFault>
+    // claim: a record read
     ensures told { IfOk result (λ status. IfSome (R.remaining reader.old) (λ input. (stage : Stage) × LeadsTo input stage × Keeps status stage.tale)) }
+    // claim: no line of a record
     ensures refused { IfErr result (λ fault. (number : ℕ) → fault ≡ faults.NoRecord number → IfSome (R.remaining reader.old) (λ input. IsRefusedAt input number)) }
 {
     let mut reading = Reading::new(alloc);

@@ -1,6 +1,7 @@
 //! Records, worked out. The function is empty: its contract is what their lines tell.
 ghost use Rattle.batch_status.specs.RowsOfStatus.{ArePassedOver, HasStopped, HoldsAtTheOther, IsBrokenOff, IsElsewhere, IsHeld, IsHolding, IsRestarting, NoRecord, Removed, Rests, Runs, StopsWaiting, TakesThePlace, TellsNothingYet, Waits};
 
+// claim: worked records
 pub fn told_lines()
     ensures waits { Waits }
     ensures runs { Runs }
@@ -15,6 +16,7 @@ pub fn told_lines()
     ensures is_elsewhere { IsElsewhere }
 {}
 
+// claim: worked records
 pub fn told_blocks()
     ensures takes_the_place { TakesThePlace }
     ensures tells_nothing_yet { TellsNothingYet }

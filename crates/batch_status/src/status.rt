@@ -35,6 +35,7 @@ impl Status {
     }
 
     /// What the record tells with one out more. At Err the out may be told in part, and the record must be read anew.
+    // claim: told out by out
     pub fn tell(&mut self, alloc: Global, told: Told<'_>) -> Result<(), NoMemory>
         ensures { OnOk result ((tale : Tale) → Keeps self.old tale → Keeps self.new (tale_after tale (out_of told.entry))) }
     {

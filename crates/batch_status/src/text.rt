@@ -22,6 +22,7 @@ use std::alloc::Global;
 impl Status {
     /// The lines of what the record tells, each behind the mark: batches by number, holders by resource, number and place, those that
     /// wait by resource and then in order of asking, live phases by unit and phase.
+    // claim: lines of the state
     pub fn text(mut self, alloc: Global, mark: &[u8]) -> Result<Vec<u8>, NoMemory>
         ensures { IfOk result (λ text. (tale : Tale) → Keeps self tale → IsTextOf tale mark.now text.items) }
     {

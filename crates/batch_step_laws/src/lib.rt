@@ -29,6 +29,7 @@ pub use runs::{
 };
 
 /// The parts that clearance looks at are all nodes of the tree, in their order.
+// claim: nodes in order
 pub fn parts_are_nodes()
     ensures { (level : Level) (place : Place) (above : List Name) (whole : Tree)
         → map (λ x. x.node) (parts level place above whole) ≡ nodes place above whole }

@@ -2,6 +2,7 @@
 ghost use Rattle.batch_step_laws.specs.Laws.{LastLineTellsActive, LastLineTellsHolders, LastLineTellsState, LastLineTellsWaiters};
 
 /// What a record tells changes by its last line alone.
+// claim: last line tells
 pub fn last_line_tells()
     ensures holders { LastLineTellsHolders }
     ensures waiters { LastLineTellsWaiters }

@@ -3,17 +3,21 @@ ghost use Rattle.batch_step_laws.specs.Laws.{ActsRise, AdvancesFully, AdvancingH
 
 /// Each act of a recipe's expanded tree carries the place at which it stands, whatever units take its roles, so the setups that recipes make have placed trees.
 pub fn trees_are_placed()
+    // claim: placed trees
     ensures tree { TreesArePlaced }
+    // claim: placed setups
     ensures setups { SetupsArePlaced }
 {}
 
 /// Reaching and advancing leave nothing that could still be reached.
+// claim: reached fully
 pub fn advances_fully()
     ensures reached { ReachesFully }
     ensures advanced { AdvancesFully }
 {}
 
 /// What is reached of a chart can remain of it, and still can when it advances or its asks are withdrawn.
+// claim: stays a rest
 pub fn stands_in_its_chart()
     ensures reached { ReachingStands }
     ensures advanced { AdvancingStands }
@@ -21,6 +25,7 @@ pub fn stands_in_its_chart()
 {}
 
 /// What has just been reached holds nothing and runs no phase, and advancing leaves what is held and the phases as they are.
+// claim: nothing taken (reached, advanced); no phase changed (reached_phases, advanced_phases)
 pub fn advances_without_taking()
     ensures reached { ReachingHoldsNothing }
     ensures advanced { AdvancingHoldsTheSame }
@@ -30,6 +35,8 @@ pub fn advances_without_taking()
 
 /// The acts of what remains are in the order of their places, and one stands at a place.
 pub fn acts_rise()
+    // claim: acts in order
     ensures in_order { ActsRise }
+    // claim: one act a place
     ensures one { OneActAPlace }
 {}

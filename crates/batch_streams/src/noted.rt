@@ -5,6 +5,7 @@ use std::io;
 use std::io::{Read, Write};
 
 /// A reader or a writer, and why a call of it failed last.
+// claim: noted streams
 #[derive(Drop)]
 pub struct Noted<S> {
     pub stream: S,

@@ -15,6 +15,7 @@ pub struct Picture {
 }
 
 impl fmt::Display for Picture {
+    // claim: text of a picture
     ghost output = { λ picture. Some (picture_text picture) };
 
     fn fmt<W: fmt::Write>(&self, f: &mut fmt::Formatter<W>) -> fmt::Result {

@@ -38,6 +38,7 @@ impl From<AllocError> for RecordFault {
 /// `# at MILLISECONDS`, and where it has none the number of the line.
 ///
 /// A last line without its line feed is left out. What a recovery block lists stands from its end on, and nothing else does.
+// claim: picture of a record
 pub fn draw_record(alloc: Global, text: &[u8]) -> Result<Picture, RecordFault>
     ensures drawn { IfOk result (λ _. IsRecord text.now) }
     ensures refused { IfErr result (λ fault. (number : ℕ) → fault ≡ faults.NoRecord number → IsRefusedAt text.now number) }

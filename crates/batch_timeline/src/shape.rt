@@ -15,6 +15,7 @@ pub struct Grid {
 }
 
 impl fmt::Display for Grid {
+    // claim: text of a picture
     ghost output = { λ grid. Some (grid_text grid) };
 
     fn fmt<W: fmt::Write>(&self, f: &mut fmt::Formatter<W>) -> fmt::Result {
@@ -40,6 +41,7 @@ pub enum Anchor {
 }
 
 impl fmt::Display for Anchor {
+    // claim: text of a picture
     ghost output = { λ anchor. Some (anchor_word anchor) };
 
     fn fmt<W: fmt::Write>(&self, f: &mut fmt::Formatter<W>) -> fmt::Result {
@@ -61,6 +63,7 @@ pub struct Label {
 }
 
 impl fmt::Display for Label {
+    // claim: text of a picture
     ghost output = { λ label. Some (label_text label) };
 
     fn fmt<W: fmt::Write>(&self, f: &mut fmt::Formatter<W>) -> fmt::Result {
@@ -89,6 +92,7 @@ pub struct Block {
 }
 
 impl fmt::Display for Block {
+    // claim: text of a picture
     ghost output = { λ block. Some (block_text block) };
 
     fn fmt<W: fmt::Write>(&self, f: &mut fmt::Formatter<W>) -> fmt::Result {
@@ -196,6 +200,7 @@ pub enum Shape {
 }
 
 impl fmt::Display for Shape {
+    // claim: text of a picture
     ghost output = { λ shape. Some (shape_text shape) };
 
     fn fmt<W: fmt::Write>(&self, f: &mut fmt::Formatter<W>) -> fmt::Result {

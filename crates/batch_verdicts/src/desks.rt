@@ -35,8 +35,10 @@ pub fn clear_desks<D: Documents>(
     certificate: &str,
     recipes: &[String],
 ) -> Result<DeskSet, Halt>
+    // claim: set of desks
     ensures set { IfOk result (λ served. AreDesksCleared (D.gives documents.now) desks.now cell.now certificate.now (map string_bytes recipes.now)
         served.desks served.digested.set served.digested.documents.text) }
+    // claim: no set of desks
     ensures halted { IfErr result (HaltsDesks (D.gives documents.now) desks.now cell.now certificate.now (map string_bytes recipes.now)) }
 {
     let path = desks;

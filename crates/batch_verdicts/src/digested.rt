@@ -27,6 +27,7 @@ pub struct Digested {
 
 /// The set that the documents at these paths make, cleared by the certificate among them, with the digest of the cell and the
 /// recipes. Its errors are those of [`clear_documents`](crate::clear_documents).
+// claim: the documents' digits
 pub fn clear_digested<D: Documents>(
     alloc: Global,
     documents: &D,

@@ -40,8 +40,10 @@ pub fn check_documents<D: Documents, E: Write>(
     quiet: bool,
     errors: &mut E,
 ) -> Result<String, Halt>
+    // claim: verdict on documents
     ensures verdict { IfOk result (λ text. ChecksDocuments (D.gives documents.now) (IsWarned quiet (E.contents errors.old) (E.contents errors.new))
         cell.now (map string_bytes recipes.now) (string_bytes text)) }
+    // claim: end of a command; path of a refusal
     ensures halted { IfErr result (HaltsCheck (D.gives documents.now) (IsWarned quiet (E.contents errors.old) (E.contents errors.new))
         cell.now (map string_bytes recipes.now)) }
 {
@@ -115,8 +117,10 @@ pub fn verify_documents<D: Documents, E: Write>(
     quiet: bool,
     errors: &mut E,
 ) -> Result<String, Halt>
+    // claim: accepted text; verdict on documents
     ensures verdict { IfOk result (λ text. VerifiesDocuments (D.gives documents.now) (IsWarned quiet (E.contents errors.old) (E.contents errors.new))
         cell.now certificate.now (map string_bytes recipes.now) (string_bytes text)) }
+    // claim: end of a command; path of a refusal
     ensures halted { IfErr result (HaltsVerifying (D.gives documents.now) (IsWarned quiet (E.contents errors.old) (E.contents errors.new))
         cell.now certificate.now (map string_bytes recipes.now)) }
 {
@@ -128,6 +132,7 @@ pub fn verify_documents<D: Documents, E: Write>(
 
 /// What `show` prints of the documents at these paths: the nodes of the recipes, whether they can be cleared or not. The first
 /// document that can't be read or is refused ends it, as [`check_documents`].
+// claim: nodes shown
 pub fn show_documents<D: Documents>(
     alloc: Global,
     documents: &D,
@@ -154,7 +159,9 @@ pub fn clear_documents<D: Documents>(
     certificate: &str,
     recipes: &[String],
 ) -> Result<Cleared, Halt>
+    // claim: set of documents
     ensures cleared { IfOk result (AreCleared (D.gives documents.now) cell.now certificate.now (map string_bytes recipes.now)) }
+    // claim: no set
     ensures halted { IfErr result (HaltsClearing (D.gives documents.now) cell.now certificate.now (map string_bytes recipes.now)) }
 {
     let read = read_set(alloc, documents, cell, certificate, recipes)?;

@@ -17,6 +17,7 @@ use std::alloc::{AllocError, Global};
 
 /// What `check --dot` prints of the recipes: in place of a certificate, or of a circle, the graph of the edges, for Graphviz. Of
 /// the sources only the sentence of a refusal speaks.
+// claim: drawing
 pub fn draw_recipes(
     alloc: Global,
     cell: &Cell,
@@ -24,6 +25,7 @@ pub fn draw_recipes(
     sources: &[Source],
 ) -> Result<String, Halt>
     ensures drawn { IfOk result (λ text. IsDrawn cell.now recipes.now (string_bytes text)) }
+    // claim: refusal text
     ensures refused { IfErr result (RefusesDrawing cell.now recipes.now) }
 {
     match check(alloc, cell, recipes) {

@@ -28,6 +28,7 @@ use std::io::Write;
 /// What `check` prints of the documents at these paths. Where everything is to be told, all documents are looked at, and all that are
 /// refused are told; where none is, every recipe that breaks a rule is told, by the first that it breaks. Else it ends as
 /// [`check_documents`].
+// claim: everything told
 pub fn check_asked<D: Documents, E: Write>(
     alloc: Global,
     documents: &D,
@@ -50,6 +51,7 @@ pub fn check_asked<D: Documents, E: Write>(
 }
 
 /// The drawing that `check --dot` makes of the documents at these paths. It ends as [`check_asked`], or as [`draw_documents`].
+// claim: everything told
 pub fn draw_asked<D: Documents, E: Write>(
     alloc: Global,
     documents: &D,

@@ -29,8 +29,10 @@ pub const MAX_CERTIFICATE_LEN: usize = 32_768;
 ///
 /// A document with a fault is refused by the first that the reader meets, and want of memory for the judgement is refused as
 /// well. Where there is no memory for that text the error is [`Halt::Memory`].
+// claim: cell judged
 pub fn judge_cell(alloc: Global, path: &str, bytes: &[u8]) -> Result<Cell, Halt>
     ensures ok { IfOk result (IsCellDocument bytes.now) }
+    // claim: how refused
     ensures refused { IfErr result (RefusesCell path.now bytes.now) }
 {
     match read_cell(alloc, bytes) {
@@ -40,8 +42,10 @@ pub fn judge_cell(alloc: Global, path: &str, bytes: &[u8]) -> Result<Cell, Halt>
 }
 
 /// The recipe of the document at the path. What it names is looked up in no cell. Its errors are those of [`judge_cell`].
+// claim: recipe judged
 pub fn judge_recipe(alloc: Global, path: &str, bytes: &[u8]) -> Result<Recipe, Halt>
     ensures ok { IfOk result (IsRecipeDocument bytes.now) }
+    // claim: how refused
     ensures refused { IfErr result (RefusesRecipe path.now bytes.now) }
 {
     match read_recipe(alloc, bytes) {
@@ -91,6 +95,7 @@ fn refused(
 /// A text with a fault is refused by its first line with one, and a file longer than [`MAX_CERTIFICATE_LEN`] as one of too many
 /// lines, whatever it holds. Want of memory is refused as well; where there is none for that text the error is
 /// [`Halt::Memory`]. Of the path only the sentence speaks.
+// claim: certificate judged
 pub fn judge_certificate(alloc: Global, path: &str, text: &[u8]) -> Result<Certificate, Halt>
     ensures ok { IfOk result (λ certificate. IsCertificateText text.now certificate.ranks.items) }
     ensures short { OnOk result (length text.now ≤ MAX_CERTIFICATE_LEN) }
@@ -125,7 +130,9 @@ pub fn check_recipes(
     recipes: &[Recipe],
     sources: &[Source],
 ) -> Result<String, Halt>
+    // claim: certificate text; certificate's length
     ensures checked { IfOk result (λ text. IsChecked cell.now recipes.now (string_bytes text)) }
+    // claim: refusal text
     ensures refused { IfErr result (RefusesCheck cell.now recipes.now) }
 {
     match check(alloc, cell, recipes) {
@@ -160,6 +167,7 @@ pub(crate) fn fault_halt(
 ///
 /// Recipes that it doesn't clear are refused by the first rule that they break, and want of memory for the judgement is
 /// refused as well. Where there is no memory for that text the error is [`Halt::Memory`].
+// claim: set of documents (set, cleared)
 pub fn clear_recipes(
     alloc: Global,
     cell: Cell,
@@ -169,6 +177,7 @@ pub fn clear_recipes(
 ) -> Result<Cleared, Halt>
     ensures set { IfOk result (λ cleared. (cleared.cell ≡ cell) × (cleared.recipes ≡ recipes.items)) }
     ensures cleared { OnOk result (IsClearedBy cell recipes.items certificate.now.ranks.items) }
+    // claim: refusal text; no set
     ensures refused { IfErr result (RefusesSet cell recipes.items certificate.now.ranks.items) }
 {
     match verify(alloc, cell, recipes, certificate) {

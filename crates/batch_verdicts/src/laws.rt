@@ -6,8 +6,11 @@ use crate::documents::Documents;
 /// What [`run_words`](crate::run_words) tells, by its exit status or by the set that is to be served, of the documents and of
 /// standard output.
 pub fn statuses_tell<D: Documents>(documents: &D)
+    // claim: warnings at success; `verify`'s text; `verify`'s clearance; `check`'s certificate
     ensures success { SuccessIsTold (D.gives documents.now) }
+    // claim: only where asked
     ensures served { ServesClearedSets (D.gives documents.now) }
+    // claim: demo served
     ensures serving { NoCommandServes (D.gives documents.now) }
 {
     let _documents = documents;

@@ -4,6 +4,7 @@ ghost use Rattle.batch_verdicts.specs.declared.judging.TheConstants.{MAX_CERTIFI
 ghost use Rattle.batch_verdicts.specs.declared.reading.TheConstants.{MAX_READS, PIECE_LEN};
 
 /// The limits of reading a file are these numbers.
+// claim: limits of files
 pub fn file_limits_are_fixed()
     ensures certificate { MAX_CERTIFICATE_LEN ≡ 32768 }
     ensures reads { MAX_READS ≡ 2000000 }

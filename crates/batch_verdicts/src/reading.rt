@@ -59,7 +59,9 @@ pub fn read_document<R: Read>(
     reader: &mut R,
     limit: usize,
 ) -> Result<Vec<u8>, ReadFault>
+    // claim: file read whole
     ensures whole { IfOk result (λ bytes. IsReadWhole (R.remaining reader.old) (R.remaining reader.new) limit bytes.items) }
+    // claim: file too long
     ensures long { IfErr result (IsReadTooFar (R.remaining reader.old) limit) }
 {
     let mut bytes = Vec::new(alloc);

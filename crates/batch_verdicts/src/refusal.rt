@@ -17,6 +17,7 @@ pub enum RefusalKind {
 
 impl RefusalKind {
     /// The exit status of the program.
+    // claim: statuses of refusals
     pub fn status(self) -> u8
         ensures { result ≡ status_of self }
     {

@@ -61,6 +61,8 @@ struct FailedWrite(io::Error);
 /// Verdicts, explanations and help go to the output, and all else to the errors: what a refusal means, in one line, unless the
 /// words ask for quiet, and what failed, in a free text. Where that can't be written the exit status is the same. Without words
 /// the set is that of the demo.
+// claim: verdict written; everything told; sentences on the errors; warnings; explained code; verdict's status; failed write; help
+// claim: no command; unread file; no memory; set to be served; nothing written yet; demo's set
 pub fn run_words<D: Documents, O: Write, E: Write>(
     alloc: Global,
     words: &[String],

@@ -9,6 +9,7 @@ use std::alloc::{AllocError, Global};
 use std::io::Write;
 
 /// Says what a refusal means, unless quiet is asked for. Where the line can't be written the rest of it is left out.
+// claim: sentences on the errors
 pub(crate) fn say<E: Write>(alloc: Global, quiet: bool, sentence: &Sentence, errors: &mut E)
     ensures { IsSaid quiet sentence.now (E.contents errors.old) (E.contents errors.new) }
 {

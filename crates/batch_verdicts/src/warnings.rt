@@ -14,6 +14,7 @@ use std::io::Write;
 
 /// Says what of the cell and of the recipes can hardly be meant so, a line each, unless quiet is asked for. The paths are those of
 /// their documents. Where there is no memory for the lines, or they can't be written, they are left out.
+// claim: warnings
 pub(crate) fn warn<E: Write>(
     alloc: Global,
     quiet: bool,

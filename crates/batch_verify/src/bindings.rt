@@ -9,6 +9,7 @@ use batch_recipe::Role;
 use batch_text::Name;
 
 /// How many bindings are to be looked at: as many as there are candidates of the role that has the most, and one at least.
+// claim: numbered bindings
 pub fn binding_count(cell: &Cell, roles: &[Role]) -> u16
     ensures count { result ≡ binding_count cell.now roles.now }
     ensures some { 1 ≤ result }
@@ -23,6 +24,7 @@ pub fn binding_count(cell: &Cell, roles: &[Role]) -> u16
 
 /// The unit that takes the role in the binding with this number: the role's candidate with this number, or its first one where
 /// they are fewer. None where no unit may take it.
+// claim: numbered bindings
 pub fn unit_taking<'a>(cell: &'a Cell, roles: &[Role], number: u16, role: &Name) -> Option<&'a Name>
     ensures { MatchOption result
         (numbered cell.now roles.now number role.now ≡ nobody (resources_of cell.now))

@@ -8,6 +8,7 @@ use batch_recipe::{Acts, UnitChoice, act_named};
 use batch_text::Name;
 
 /// The unit of the unit procedure with this name.
+// claim: numbered bindings
 pub fn unit_reserved<'a>(acts: &'a Acts, name: &Name) -> &'a UnitChoice
     requires { names_unit acts.now name.now ≡ true }
     ensures { (bound : Binding) → unit_named (sites bound acts.now) name.now ≡ unit_chosen bound result.now }

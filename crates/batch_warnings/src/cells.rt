@@ -10,6 +10,7 @@ use batch_text::Name;
 use std::alloc::{AllocError, Global};
 
 /// The numbers of the units to which no module belongs, so that they offer no phase.
+// claim: kinds of warnings
 pub fn units_without_modules(alloc: Global, cell: &Cell) -> Result<Vec<usize>, AllocError>
     ensures { IfOk result (λ numbers. numbers.items ≡ units_without_modules cell.now) }
 {

@@ -13,6 +13,7 @@ use batch_text::Name;
 use std::alloc::{AllocError, Global};
 
 /// The warnings on a recipe: by kind, in the order of `RecipeWarning`, and of one kind in the order of declaration.
+// claim: kinds of warnings
 pub fn recipe_warnings(alloc: Global, recipe: &Recipe) -> Result<Vec<RecipeWarning>, AllocError>
     ensures { IfOk result (λ warnings. warnings.items ≡ warnings_of recipe.now) }
 {

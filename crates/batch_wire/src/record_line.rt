@@ -31,6 +31,7 @@ use itoa::Buffer;
 use std::io::Write;
 
 /// Writes the line of the record that tells the out. It takes no memory.
+// claim: record lines; line cut off
 pub fn write_out<W: Write>(out: &Out, cleared: &Cleared, writer: &mut W) -> Result<(), WriteFault>
     ensures { Writes (W.contents writer.old) (W.contents writer.new) result (out_text (out_of cleared.now out.now)) }
 {
@@ -42,6 +43,7 @@ pub fn write_out<W: Write>(out: &Out, cleared: &Cleared, writer: &mut W) -> Resu
 
 /// Writes the same line, in one piece where it isn't too long. The text of the place that it tells is put together from that of the
 /// recipe's last one, and is known from then on: of many lines of a batch each costs what its place differs from the one before.
+// claim: record lines
 pub fn write_out_knowing<W: Write>(
     out: &Out,
     cleared: &Cleared,

@@ -6,6 +6,7 @@ ghost use Rattle.batch_wire.specs.RowsOfText.{SentCommand, HandedValues, AskedUn
 ghost use Rattle.batch_wire.specs.declared.event_line.TheConstants.{MAX_LINE_LEN};
 ghost use Rattle.batch_wire.specs.declared.report_line.TheConstants.{MAX_PAIRS};
 
+// claim: worked lines
 pub fn create_lines()
     ensures bound_roles { BoundRoles }
     ensures role_bound_twice { RoleBoundTwice }
@@ -13,6 +14,7 @@ pub fn create_lines()
     ensures fifth_role { FifthRole }
 {}
 
+// claim: worked lines
 pub fn record_lines()
     ensures sent_command { SentCommand }
     ensures handed_values { HandedValues }
@@ -32,7 +34,9 @@ pub fn record_lines()
     ensures refused_removal { RefusedRemoval }
 {}
 
+// claim: most pairs (pairs, roles)
 pub fn limits()
+    // claim: longest line
     ensures line { MAX_LINE_LEN ≡ 1024 }
     ensures pairs { MAX_PAIRS ≡ 16 }
     ensures roles { MAX_ROLES ≡ 4 }

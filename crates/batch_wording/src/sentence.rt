@@ -10,6 +10,7 @@ use std::alloc::{AllocError, Global};
 pub struct Sentence {
     /// One line, without its line feed.
     pub text: String,
+    // claim: one line
     ghost one_line: { IsOneLine (string_bytes text) },
 }
 
@@ -23,6 +24,7 @@ impl Sentence {
     }
 
     /// What is said of the document at this path, as one sentence.
+    // claim: sentence on a document
     pub fn at(alloc: Global, path: &str, said: &str) -> Result<Sentence, AllocError>
         ensures { IfOk result (λ sentence. string_bytes sentence.text ≡ shown (path.now ++ codes ": " ++ said.now)) }
     {

@@ -8,6 +8,7 @@ use batch_verify::{CertFault, Certificate};
 use std::alloc::{AllocError, Global};
 
 /// The line that refuses the text of a certificate.
+// claim: texts of certificates
 pub fn certificate_refused(alloc: Global, fault: CertFault) -> Result<String, AllocError>
     ensures { IfOk result (λ text. string_bytes text ≡ certificate_refused fault) }
 {
@@ -21,6 +22,7 @@ pub fn certificate_refused(alloc: Global, fault: CertFault) -> Result<String, Al
 
 /// The certificate, a line for each of its entries.
 pub fn certificate_text(alloc: Global, certificate: &Certificate) -> Result<String, AllocError>
+    // claim: texts of certificates
     ensures text { IfOk result (λ text. string_bytes text ≡ certificate_text certificate.now.ranks.items) }
     ensures names { OnOk result (All (λ (rank : Rank). IsName rank.0) certificate.now.ranks.items) }
 {

@@ -8,6 +8,7 @@ use batch_wording::shown;
 use std::alloc::{AllocError, Global};
 
 /// The line that refuses the document at this path.
+// claim: texts shown; texts of documents
 pub fn document_text(alloc: Global, path: &str, fault: DocFault) -> Result<String, AllocError>
     ensures { IfOk result (λ text. string_bytes text ≡ document_text path.now fault) }
 {

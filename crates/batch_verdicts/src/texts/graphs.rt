@@ -18,6 +18,7 @@ pub const LEGEND: &str =
 
 /// The graph of the edges, an arrow for each, and red where one of the red edges leads from the same resource to the same; with all
 /// resources of the cell.
+// claim: drawing's text
 pub fn graph_text(
     alloc: Global,
     cell: &Cell,

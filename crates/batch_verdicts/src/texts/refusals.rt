@@ -10,6 +10,7 @@ use batch_verify::{Broken, Certificate, SetRefusal};
 use std::alloc::{AllocError, Global};
 
 /// The line that refuses recipes by a certificate.
+// claim: texts of refusals
 pub fn refusal_text(
     alloc: Global,
     cell: &Cell,
@@ -39,6 +40,7 @@ pub fn refusal_text(
 }
 
 /// The lines that say why recipes have no certificate.
+// claim: texts of refusals
 pub fn fault_text(
     alloc: Global,
     cell: &Cell,
