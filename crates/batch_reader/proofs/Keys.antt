@@ -1,5 +1,5 @@
 -- Keys of a table.
-use Rattle.std.proofs.Common.{arith, ◌≡◌, Bool, false, true, ◌&&◌, ◌||◌, List, [], ◌∷◌, ℕ, map, nat_eq, String, Global, string_bytes, Some, None, Ordering, nat_cmp, refl, sym, ap, ◌∙◌}
+use Rattle.std.proofs.Common.{arith, ◌≡◌, Bool, false, true, ◌&&◌, ◌||◌, List, [], ◌∷◌, ℕ, map, nat_eq, String, Global, string_bytes, Some, None, Ordering, nat_cmp, refl, sym, ap, ◌∙◌, cond, filter}
 use Rattle.std.proofs.lemmas.Bool.{false≢true}
 use Rattle.std.proofs.lemmas.Map.Lookups.{exact_bytes}
 use Rattle.std.specs.Cmp.Lexicographic.{pointwise, slice_cmp}
@@ -11,10 +11,31 @@ use Rattle.toml.specs.View.{members_view}
 use Rattle.toml.specs.declared.value.Value.{Value}
 use Rattle.batch_reader.proofs.Truth.{both_true}
 use Rattle.batch_reader.specs.Entries.{has_only_keys}
+use Rattle.batch_reader.specs.Keys.{key_said}
+use Rattle.batch_reader.specs.declared.keys.Key.{Key as KeyRow}
 
 pub list_any-map : {X Y : Type 0} (p : Y → Bool) (f : X → Y) (xs : List X) → list_any (λ x. p (f x)) xs ≡ list_any p (map f xs)
 list_any-map p f [] = refl
 list_any-map p f (x ∷ xs) = ap (λ b. p (f x) || b) (list_any-map p f xs)
+
+-- a test of the values that another test leaves
+any_step : (here kept a b : Bool) → a ≡ b → ((here && kept) || a) ≡ cond kept (here || b) b
+any_step true true a b same = refl
+any_step true false a b same = same
+any_step false true a b same = same
+any_step false false a b same = same
+
+any_cond : {X : Type 0} (p : X → Bool) (kept : Bool) (x : X) (xs : List X) → cond kept (p x || list_any p xs) (list_any p xs) ≡ list_any p (cond kept (x ∷ xs) xs)
+any_cond p true x xs = refl
+any_cond p false x xs = refl
+
+pub list_any-filter : {X : Type 0} (p q : X → Bool) (xs : List X) → list_any (λ x. p x && q x) xs ≡ list_any p (filter q xs)
+list_any-filter p q [] = refl
+list_any-filter p q (x ∷ xs) = any_step (p x) (q x) _ _ (list_any-filter p q xs) ∙ any_cond p (q x) x (filter q xs)
+
+pub words_said : (rows : List KeyRow) → map (λ row. row.0.now) rows ≡ map (λ key. key.word) (map key_said rows)
+words_said [] = refl
+words_said (row ∷ rows) = ap (λ words. row.0.now ∷ words) (words_said rows)
 
 -- the test of each key of the map is that of the table's members
 pub has_only_keys-view : (known : List (List ℕ)) (es : List (String Global × Value))

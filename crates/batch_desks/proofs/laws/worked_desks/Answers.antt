@@ -5,11 +5,11 @@ use Rattle.toml.specs.Data.{Members, no_members, member, integer, string}
 use Rattle.batch_text.specs.NameText.{IsName}
 use Rattle.batch_reader.specs.Entries.{HasName}
 use Rattle.batch_reader.specs.declared.fault.EntryFault.TheVariants.{OutOfLimit}
+use Rattle.batch_reader.specs.declared.keys.TheConstants.{MAX_LAG}
 use Rattle.batch_desks.proofs.Refusing.{missing_refused, name_refused, none_first, number_refused, optional_name_refused, path_refused, truth_refused}
 use Rattle.batch_desks.specs.DesksDocument.{HasPath}
 use Rattle.batch_desks.specs.DesksFaults.{IsDeskFault}
 use Rattle.batch_desks.specs.RowsOfDesks.{console, lag_of, named}
-use Rattle.batch_desks.specs.declared.desk.TheConstants.{MAX_LAG}
 use Rattle.batch_desks.proofs.laws.worked_desks.Goals as goal
 
 is_name : IsName (codes "CONSOLE")
