@@ -6,7 +6,7 @@ ghost use Rattle.batch_reader.specs.Faults.{IsToldAs, TellsAt, value_fault};
 ghost use Rattle.batch_reader.specs.Keys.{optional};
 ghost use Rattle.batch_reader.specs.TableFaults.{IsKeyFault};
 ghost use Rattle.batch_reader.specs.declared.keys.TheConstants.{MAX_LAG};
-ghost use Rattle.batch_reader.specs.declared.keys.ValueForm.TheVariants as form;
+ghost use Rattle.batch_reader.specs.declared.keys.ValueForm.{ValueForm};
 ghost use Rattle.batch_desks.specs.DesksDocument.{HasLag, MayHavePath};
 
 use crate::desk::USUAL_LAG;
@@ -50,7 +50,7 @@ pub(crate) fn lag_at(table: &Table, spot: Spot) -> Result<usize, TableFault>
     ensures ok { IfOk result (HasLag (table_view table.now)) }
     ensures some { IfOk result (λ lag. 1 ≤ lag) }
     ensures few { IfOk result (λ lag. lag ≤ MAX_LAG) }
-    ensures told { IfErr result (TellsAt spot (IsKeyFault (optional (codes "lag") (form.Number 1 MAX_LAG)) (table_view table.now))) }
+    ensures told { IfErr result (TellsAt spot (IsKeyFault (optional (codes "lag") (ValueForm.Number 1 MAX_LAG)) (table_view table.now))) }
 {
     if !has_key(table, "lag") {
         return Ok(USUAL_LAG);

@@ -25,10 +25,10 @@ abbrev pub key_said : KeyRow → Key
 key_said row = record { word = row.0.now; form = row.2; is_needed = row.1 }
 
 abbrev pub needed : List ℕ → ValueForm → Key
-needed word form = record { word = word; form = form; is_needed = true }
+needed word value = record { word = word; form = value; is_needed = true }
 
 abbrev pub optional : List ℕ → ValueForm → Key
-optional word form = record { word = word; form = form; is_needed = false }
+optional word value = record { word = word; form = value; is_needed = false }
 
 -- tables of this word
 abbrev pub tables : List ℕ → Key

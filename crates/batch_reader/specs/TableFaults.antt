@@ -1,5 +1,5 @@
 -- trusted: what is wrong with a table by itself, where it is refused.
-use Rattle.std.specs.Prelude.{◌≡◌, ℕ, ◌+◌, ◌<◌, ◌≤◌, ℤ, pos, ◌⊎◌, ⊤, true, false, List, length, take, drop, position, Option, Some, None, option_and_then, codes}
+use Rattle.std.specs.Prelude.{◌≡◌, ℕ, ◌+◌, ◌<◌, ◌≤◌, ℤ, pos, ◌⊎◌, ⊤, Bool, true, false, List, length, take, drop, position, Option, Some, None, option_and_then, codes}
 use Rattle.std.specs.List.{slice_get}
 use Rattle.toml.specs.Data.{Data, Items, no_items, item, get_item, Members, get_member, as_str, as_integer, as_bool, as_array, as_table}
 use Rattle.batch_text.specs.NameText.{IsName}
@@ -9,8 +9,8 @@ use Rattle.batch_recipe.specs.declared.need.TheConstants.{MAX_UNITS}
 use Rattle.batch_grammar.specs.ChartAnswer.{HasFaultAt, IsOutsideAt, IsRead}
 use Rattle.batch_grammar.specs.ChartGrammar.{IsLabel}
 use Rattle.batch_grammar.specs.declared.reading.TheConstants.{MAX_CHART_LEN}
-use Rattle.batch_reader.specs.Entries.{AllItems, IsNameItem, items_at}
-use Rattle.batch_reader.specs.Keys.{Key, has_known_keys, keys_of, may_stand}
+use Rattle.batch_reader.specs.Entries.{AllItems, IsNameItem, has_only_keys, items_at}
+use Rattle.batch_reader.specs.Keys.{Key, keys_of, known_words, may_stand}
 use Rattle.batch_reader.specs.NeedText.{is_star}
 use Rattle.batch_reader.specs.RightTables.{IsRightTable}
 use Rattle.batch_reader.specs.Words.{table_word}
@@ -152,22 +152,23 @@ IsKeyFault key table UnknownKey = ⊥
 IsKeyFault key table Undeclared = ⊥
 IsKeyFault key table Duplicate = ⊥
 
--- this is wrong with the table, of this kind, at a key that may stand there
-pub record HasKeyFault (kind : TableKind) (table : Members) (wrong : EntryFault) : Type 0 where
+-- this is wrong with the table at one of the keys, which may stand there
+pub record HasKeyFault (keys : List Key) (May : List ℕ → Bool) (table : Members) (wrong : EntryFault) : Type 0 where
   pub place : ℕ
   pub key : Key
-  pub listed : slice_get (keys_of kind) place ≡ Some key
-  pub stands : may_stand kind key.word table ≡ true
+  pub listed : slice_get keys place ≡ Some key
+  pub stands : May key.word ≡ true
   pub fault : IsKeyFault key table wrong
 
--- the table, of this kind, has a key that may not stand in it
-pub record HasUnknownKey (kind : TableKind) (table : Members) (wrong : EntryFault) : Type 0 where
-  pub unknown : has_known_keys kind table ≡ false
+-- a key of the table is none of these
+pub record HasUnknownKey (known : List (List ℕ)) (table : Members) (wrong : EntryFault) : Type 0 where
+  pub unknown : has_only_keys known table ≡ false
   pub told : wrong ≡ UnknownKey
 
 -- this is wrong with the table of this kind
 abbrev pub IsTableFault : TableKind → Members → EntryFault → Type 0
-IsTableFault kind table wrong = HasUnknownKey kind table wrong ⊎ HasKeyFault kind table wrong
+IsTableFault kind table wrong =
+    HasUnknownKey (known_words kind table) table wrong ⊎ HasKeyFault (keys_of kind) (λ word. may_stand kind word table) table wrong
 
 -- ---- the table that a refusal names
 

@@ -10,7 +10,7 @@ ghost use Rattle.batch_reader.specs.Faults.{TellsAt};
 ghost use Rattle.batch_reader.specs.Keys.{needed};
 ghost use Rattle.batch_reader.specs.TableFaults.{IsKeyFault, IsTableFault};
 ghost use Rattle.batch_reader.specs.declared.fault.TableKind.{TableKind};
-ghost use Rattle.batch_reader.specs.declared.keys.ValueForm.TheVariants as form;
+ghost use Rattle.batch_reader.specs.declared.keys.ValueForm.{ValueForm};
 
 use crate::entries::{member, name_at, names_at, number_at, optional_name_at};
 use crate::fault::{EntryFault, Spot, TableFault, TableKind};
@@ -108,7 +108,7 @@ impl FromTable for Shared {
 fn capacity_at(table: &Table, spot: Spot) -> Result<u32, TableFault>
     ensures ok { IfOk result (HasNumber (codes "capacity") (table_view table.now) 1 MAX_CAPACITY) }
     ensures refused { IfErr result (λ fault. (number : ℕ) → ¬ (HasNumber (codes "capacity") (table_view table.now) 1 MAX_CAPACITY number)) }
-    ensures told { IfErr result (TellsAt spot (IsKeyFault (needed (codes "capacity") (form.Number 1 MAX_CAPACITY)) (table_view table.now))) }
+    ensures told { IfErr result (TellsAt spot (IsKeyFault (needed (codes "capacity") (ValueForm.Number 1 MAX_CAPACITY)) (table_view table.now))) }
 {
     let capacity = number_at(table, "capacity", 1, u64::from(MAX_CAPACITY), spot)?;
     Ok(capacity as u32)

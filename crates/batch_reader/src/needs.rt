@@ -9,7 +9,7 @@ ghost use Rattle.batch_reader.specs.Faults.{IsNeedFault, IsNeedTextFault, IsNeed
 ghost use Rattle.batch_reader.specs.Keys.{optional};
 ghost use Rattle.batch_reader.specs.NeedText.{IsNeedText, IsUnits, is_star};
 ghost use Rattle.batch_reader.specs.TableFaults.{IsKeyFault};
-ghost use Rattle.batch_reader.specs.declared.keys.ValueForm.TheVariants as form;
+ghost use Rattle.batch_reader.specs.declared.keys.ValueForm.{ValueForm};
 
 use crate::fault::{EntryFault, Spot, TableFault};
 use crate::tables::items_at;
@@ -31,7 +31,7 @@ pub(crate) fn few_needs_at(
     ensures units { IfOk result (λ needs. have_units needs.items ≡ true) }
     ensures refused { IfErr result (λ fault. fault ≢ TableFault.Memory
         → (needs : List Need) → ¬ (HasFewNeeds key.now (table_view table.now) most needs)) }
-    ensures told { IfErr result (TellsAt spot (IsKeyFault (optional key.now (form.Needs most)) (table_view table.now))) }
+    ensures told { IfErr result (TellsAt spot (IsKeyFault (optional key.now (ValueForm.Needs most)) (table_view table.now))) }
 {
     let values = items_at(table, key, spot)?;
     if values.len() > most {
