@@ -153,11 +153,11 @@ IsKeyFault key table Undeclared = ⊥
 IsKeyFault key table Duplicate = ⊥
 
 -- this is wrong with the table at one of the keys, which may stand there
-pub record HasKeyFault (keys : List Key) (May : List ℕ → Bool) (table : Members) (wrong : EntryFault) : Type 0 where
+pub record HasKeyFault (keys : List Key) (may : List ℕ → Bool) (table : Members) (wrong : EntryFault) : Type 0 where
   pub place : ℕ
   pub key : Key
   pub listed : slice_get keys place ≡ Some key
-  pub stands : May key.word ≡ true
+  pub stands : may key.word ≡ true
   pub fault : IsKeyFault key table wrong
 
 -- a key of the table is none of these
