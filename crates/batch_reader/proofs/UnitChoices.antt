@@ -1,5 +1,5 @@
 -- A unit procedure's table has the unit, or the role in its place.
-use Rattle.std.proofs.Common.{arith, ◌≡◌, ◌≢◌, ℕ, nat_eq, Bool, false, true, not, ◌||◌, List, filter, map, Option, Some, None, is_some, codes, refl, sym, ◌∙◌, subst}
+use Rattle.std.proofs.Common.{arith, ◌≡◌, ℕ, nat_eq, Bool, false, true, not, ◌||◌, List, filter, map, Option, Some, None, is_some, codes, refl, sym, ◌∙◌, subst}
 use Rattle.std.proofs.lemmas.Bool.{false≢true}
 use Rattle.std.specs.Cmp.Lexicographic.{pointwise}
 use Rattle.std.specs.List.{list_any}
@@ -7,17 +7,11 @@ use Rattle.toml.specs.Data.{Data, Members, get_member}
 use Rattle.batch_recipe.specs.declared.act.Act.{Act}
 use Rattle.batch_recipe.specs.declared.act.UnitChoice.{UnitChoice}
 use Rattle.batch_recipe.specs.declared.act.UnitChoice.TheVariants.{Unit, Role}
-use Rattle.batch_reader.proofs.EntryFaults.{name_told, table_told}
 use Rattle.batch_reader.proofs.Keys.{unknown_missing}
 use Rattle.batch_reader.proofs.OneEntry.{HasName_missing, HasName_unique}
 use Rattle.batch_reader.specs.Entries.{HasName, MayHaveName}
-use Rattle.batch_reader.specs.Faults.{IsToldAs, TellsAt, missing_or_wrong}
 use Rattle.batch_reader.specs.Keys.{has_known_keys, keys_of, known_words}
 use Rattle.batch_reader.specs.RecipeTables.{IsUnitProcedureTable, choice_key, choice_name}
-use Rattle.batch_reader.specs.TableFaults.{IsTableFault}
-use Rattle.batch_reader.specs.declared.fault.Spot.{Spot}
-use Rattle.batch_reader.specs.declared.fault.TableFault.{TableFault}
-use Rattle.batch_reader.specs.declared.fault.TableFault.TheVariants.{Memory}
 use Rattle.batch_reader.specs.declared.fault.TableKind.TheVariants.{UnitProcedure}
 
 -- the key at which the choice stands: `role` where it is there, and else `unit`
@@ -61,15 +55,9 @@ pub unit_refused : (ms : Members) → get_member (codes "role") ms ≡ None → 
 unit_refused ms missing none = choice_refused ms (λ name h. none name (subst (λ role. HasName (unit_key role) ms name) missing h))
 
 -- a unit may stand where there is no role
-unit_stands : (role : Option Data) → role ≡ None → (not (pointwise nat_eq (codes "unit") (codes "unit")) || not (is_some role)) ≡ true
+pub unit_stands : (role : Option Data) → role ≡ None → (not (pointwise nat_eq (codes "unit") (codes "unit")) || not (is_some role)) ≡ true
 unit_stands None is = refl
 unit_stands (Some d) is = absurd (cc is)
-
-pub unit_told : (ms : Members) (spot : Spot) (fault : TableFault) → get_member (codes "role") ms ≡ None
-    → (fault ≢ Memory → (name : List ℕ) → HasName (codes "unit") ms name → ⊥) → IsToldAs spot (missing_or_wrong (get_member (codes "unit") ms)) fault
-    → TellsAt spot (IsTableFault UnitProcedure ms) fault
-unit_told ms spot fault missing refused told =
-    table_told UnitProcedure ms 1 _ refl (unit_stands (get_member (codes "role") ms) missing) spot fault (name_told (codes "unit") ms spot fault refused told)
 
 abbrev is_unit_key : List ℕ → Bool
 is_unit_key key = pointwise nat_eq key (codes "unit")

@@ -2,8 +2,8 @@ use Rattle.std.proofs.Common.{◌≡◌, None, codes, refl, rules}
 use Rattle.std.proofs.lemmas.Result.{err_from_is_err_and}
 use Rattle.toml.specs.Data.{get_member}
 use Rattle.toml.specs.View.{table_view}
-use Rattle.batch_reader.proofs.EntryFaults.{optional_name_told, table_told}
-use Rattle.batch_reader.proofs.UnitChoices.{role_refused, unit_refused, unit_told}
+use Rattle.batch_reader.proofs.EntryFaults.{name_told, optional_name_told, table_told}
+use Rattle.batch_reader.proofs.UnitChoices.{role_refused, unit_refused, unit_stands}
 use Rattle.batch_reader.specs.declared.fault.TableKind.TheVariants.{UnitProcedure}
 use Rattle.batch_reader.proofs.act_tables.choice_at.Goals as goal
 
@@ -27,4 +27,4 @@ pub returns-in_err-unit-clause-told : goal.returns-in_err-unit-clause-told
 returns-in_err-unit-clause-told c =
     let p = err_from_is_err_and c.from_residual-in_err-unit.result c.from_residual-in_err-unit.ensures.1 in
     let missing : get_member (codes "role") (table_view c.args.table.now) ≡ None = search rules in
-    rw (p.1, p.2) (unit_told (table_view c.args.table.now) _ _ missing c.in_err-unit.ensures.refused c.in_err-unit.ensures.told)
+    rw (p.1, p.2) (table_told UnitProcedure (table_view c.args.table.now) 1 _ refl (unit_stands _ missing) _ _ (name_told (codes "unit") (table_view c.args.table.now) _ _ c.in_err-unit.ensures.refused c.in_err-unit.ensures.told))
