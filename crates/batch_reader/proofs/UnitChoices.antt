@@ -7,7 +7,7 @@ use Rattle.toml.specs.Data.{Data, Members, get_member}
 use Rattle.batch_recipe.specs.declared.act.Act.{Act}
 use Rattle.batch_recipe.specs.declared.act.UnitChoice.{UnitChoice}
 use Rattle.batch_recipe.specs.declared.act.UnitChoice.TheVariants.{Unit, Role}
-use Rattle.batch_reader.proofs.Keys.{unknown_missing}
+use Rattle.batch_reader.proofs.KnownKeys.{unknown_missing}
 use Rattle.batch_reader.proofs.OneEntry.{HasName_missing, HasName_unique}
 use Rattle.batch_reader.specs.Entries.{HasName, MayHaveName}
 use Rattle.batch_reader.specs.Keys.{has_known_keys, keys_of, known_words}

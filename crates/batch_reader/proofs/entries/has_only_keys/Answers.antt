@@ -4,7 +4,7 @@ use Rattle.std.proofs.lemmas.Iterator.Search.{all_from_yields_List}
 use Rattle.std.specs.BTreeMap.{keys}
 use Rattle.std.specs.Cmp.Lexicographic.{pointwise}
 use Rattle.std.specs.List.{list_any}
-use Rattle.batch_reader.proofs.Keys.{has_only_keys-view}
+use Rattle.batch_reader.proofs.KnownKeys.{has_only_keys-view}
 use Rattle.batch_reader.proofs.entries.has_only_keys.Goals as goal
 
 pub returns : goal.returns

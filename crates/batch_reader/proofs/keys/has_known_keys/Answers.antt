@@ -5,7 +5,7 @@ use Rattle.std.specs.BTreeMap.{keys}
 use Rattle.std.specs.Cmp.Lexicographic.{pointwise}
 use Rattle.std.specs.List.{list_any}
 use Rattle.toml.specs.View.{table_view}
-use Rattle.batch_reader.proofs.Keys.{has_only_keys-view}
+use Rattle.batch_reader.proofs.KnownKeys.{has_only_keys-view}
 use Rattle.batch_reader.specs.Keys.{known_words}
 use Rattle.batch_reader.proofs.keys.has_known_keys.Goals as goal
 

@@ -4,7 +4,7 @@ use Rattle.std.proofs.lemmas.Iterator.Search.{any_from_yields_List}
 use Rattle.std.specs.Cmp.Lexicographic.{pointwise}
 use Rattle.std.specs.List.{list_any}
 use Rattle.toml.specs.View.{table_view}
-use Rattle.batch_reader.proofs.Keys.{list_any-filter, list_any-map, words_said}
+use Rattle.batch_reader.proofs.KnownKeys.{list_any-filter, list_any-map, words_said}
 use Rattle.batch_reader.specs.Keys.{may_stand}
 use Rattle.batch_reader.proofs.keys.is_known.Goals as goal
 
