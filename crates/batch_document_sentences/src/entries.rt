@@ -1,7 +1,7 @@
 //! What is wrong with a table of a document.
 use crate::charts::{no_chart_said, number_said};
 use crate::declared::text_at;
-use crate::fits::{Fit, given_said, form_said, suit};
+use crate::fits::{Fit, form_said, given_said, suit};
 use crate::kinds::{kind_said, kinds_beside, word_of};
 use crate::lines::line_of;
 use crate::names_declared::{duplicate, undeclared};

@@ -54,9 +54,7 @@ fn text_fit(value: &Value, least: usize, most: usize) -> Fit {
 
 fn number_fit(value: &Value, least: u64, most: u64) -> Fit {
     match value.as_integer() {
-        Some(number) => Fit::within(
-            0 <= number && least <= number as u64 && number as u64 <= most,
-        ),
+        Some(number) => Fit::within(0 <= number && least <= number as u64 && number as u64 <= most),
         None => Fit::WrongKind,
     }
 }

@@ -177,7 +177,9 @@ pub fn may_stand(kind: TableKind, word: &str, table: &Table) -> bool
 pub fn has_known_keys(table: &Table, kind: TableKind) -> bool
     ensures { result ≡ has_known_keys kind (table_view table.now) }
 {
-    table.keys().all(|word| is_known(kind, word.as_str(), table))
+    table
+        .keys()
+        .all(|word| is_known(kind, word.as_str(), table))
 }
 
 fn is_known(kind: TableKind, word: &str, table: &Table) -> bool
