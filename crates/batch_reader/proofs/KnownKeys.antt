@@ -11,7 +11,7 @@ use Rattle.toml.specs.View.{members_view}
 use Rattle.toml.specs.declared.value.Value.{Value}
 use Rattle.batch_reader.proofs.Truth.{both_true}
 use Rattle.batch_reader.specs.Entries.{has_only_keys}
-use Rattle.batch_reader.specs.Keys.{key_said}
+use Rattle.batch_reader.specs.Keys.{Key, key_said}
 use Rattle.batch_reader.specs.declared.keys.Key.{Key as KeyRow}
 
 pub list_any-map : {X Y : Type 0} (p : Y → Bool) (f : X → Y) (xs : List X) → list_any (λ x. p (f x)) xs ≡ list_any p (map f xs)
@@ -33,7 +33,7 @@ pub list_any-filter : {X : Type 0} (p q : X → Bool) (xs : List X) → list_any
 list_any-filter p q [] = refl
 list_any-filter p q (x ∷ xs) = any_step (p x) (q x) _ _ (list_any-filter p q xs) ∙ any_cond p (q x) x (filter q xs)
 
-pub words_said : (rows : List KeyRow) → map (λ row. row.0.now) rows ≡ map (λ key. key.word) (map key_said rows)
+pub words_said : (rows : List KeyRow) → map (λ (row : KeyRow). row.0.now) rows ≡ map (λ (key : Key). key.word) (map key_said rows)
 words_said [] = refl
 words_said (row ∷ rows) = ap (λ words. row.0.now ∷ words) (words_said rows)
 
