@@ -4,6 +4,7 @@ use Rattle.batch_cell.specs.LookUps.{units_of}
 use Rattle.batch_cell.specs.declared.cell.Cell.{Cell}
 use Rattle.batch_reader.specs.PartFaults.{FailsFirst}
 use Rattle.batch_reader.specs.declared.document.TheConstants.{MAX_DOCUMENT_LEN}
+use Rattle.batch_reader.specs.Spots.{key_at, spot_of}
 use Rattle.batch_reader.specs.declared.fault.DocFault.{DocFault}
 use Rattle.batch_reader.specs.declared.fault.DocFault.TheVariants.{NotToml, Entry, Memory}
 use Rattle.batch_reader.specs.declared.fault.EntryFault.{EntryFault}
@@ -29,16 +30,16 @@ pub record RefusesDesks (path bytes : List ℕ) (h : Halt) : Type 0 where
   pub fault : DocFault
   pub stands : fault ≢ Memory → (desks : Desks) → ¬ (IsDesksDocument bytes desks)
   pub not_toml : fault ≡ NotToml → ¬ (IsToml bytes)
-  pub long : MAX_DOCUMENT_LEN < length bytes → fault ≡ Entry (record { kind = table.Desk; entry = 0 }) OutOfLimit
+  pub long : MAX_DOCUMENT_LEN < length bytes → fault ≡ Entry (spot_of table.Desk 0) OutOfLimit
   pub told : (spot : Spot) (wrong : EntryFault) → fault ≡ Entry spot wrong → spot.kind ≡ table.Desk
-  pub is_there : (spot : Spot) (wrong : EntryFault) → fault ≡ Entry spot wrong → FaultStands bytes spot.entry wrong
+  pub is_there : (spot : Spot) (wrong : EntryFault) → fault ≡ Entry spot wrong → FaultStands bytes spot.entry (key_at spot) wrong
   pub halts : HaltsWith (document_text path fault) (document_kind fault) h
 
 -- a desk names a unit that the cell doesn't have: the first that does
 pub record RefusesUnits (path : List ℕ) (c : Cell) (desks : Desks) (h : Halt) : Type 0 where
   pub entry : ℕ
   pub first : FailsFirst (HaveUnits (units_of c)) desks.desks.items entry
-  pub halts : HaltsWith (document_text path (Entry (record { kind = table.Desk; entry = entry }) Undeclared)) Fault h
+  pub halts : HaltsWith (document_text path (Entry (spot_of table.Desk entry) Undeclared)) Fault h
 
 -- Documents
 

@@ -11,6 +11,7 @@ use Rattle.batch_reader.specs.FaultStands.{FaultStands}
 use Rattle.batch_reader.specs.Faults.{is_of_cell, is_of_recipe}
 use Rattle.batch_reader.specs.RecipeDocument.{IsRecipeDocument}
 use Rattle.batch_reader.specs.declared.document.TheConstants.{MAX_DOCUMENT_LEN}
+use Rattle.batch_reader.specs.Spots.{spot_of}
 use Rattle.batch_reader.specs.declared.fault.DocFault.{DocFault}
 use Rattle.batch_reader.specs.declared.fault.DocFault.TheVariants as document
 use Rattle.batch_reader.specs.declared.fault.EntryFault.{EntryFault}
@@ -77,7 +78,7 @@ pub record RefusesCell (path bytes : List ℕ) (h : Halt) : Type 0 where
   pub fault : DocFault
   pub stands : fault ≢ document.Memory → (c : Cell) → ¬ (IsCellDocument bytes c)
   pub not_toml : fault ≡ document.NotToml → ¬ (IsToml bytes)
-  pub long : MAX_DOCUMENT_LEN < length bytes → fault ≡ document.Entry (record { kind = table.Cell; entry = 0 }) OutOfLimit
+  pub long : MAX_DOCUMENT_LEN < length bytes → fault ≡ document.Entry (spot_of table.Cell 0) OutOfLimit
   pub told : (spot : Spot) (wrong : EntryFault) → fault ≡ document.Entry spot wrong → is_of_cell spot.kind ≡ true
   pub is_there : (spot : Spot) (wrong : EntryFault) → fault ≡ document.Entry spot wrong → FaultStands bytes spot wrong
   pub halts : HaltsWith (document_text path fault) (document_kind fault) h
@@ -87,7 +88,7 @@ pub record RefusesRecipe (path bytes : List ℕ) (h : Halt) : Type 0 where
   pub fault : DocFault
   pub stands : fault ≢ document.Memory → (r : Recipe) → ¬ (IsRecipeDocument bytes r)
   pub not_toml : fault ≡ document.NotToml → ¬ (IsToml bytes)
-  pub long : MAX_DOCUMENT_LEN < length bytes → fault ≡ document.Entry (record { kind = table.Recipe; entry = 0 }) OutOfLimit
+  pub long : MAX_DOCUMENT_LEN < length bytes → fault ≡ document.Entry (spot_of table.Recipe 0) OutOfLimit
   pub told : (spot : Spot) (wrong : EntryFault) → fault ≡ document.Entry spot wrong → is_of_recipe spot.kind ≡ true
   pub is_there : (spot : Spot) (wrong : EntryFault) → fault ≡ document.Entry spot wrong → FaultStands bytes spot wrong
   pub halts : HaltsWith (document_text path fault) (document_kind fault) h

@@ -1,23 +1,27 @@
 -- The faults of a desk's table are told where they stand.
-use Rattle.std.proofs.Common.{◌≡◌, ◌≢◌, ℕ, List, length, Option, Some, None, option_and_then, refl, ap, arith}
+use Rattle.std.proofs.Common.{◌≡◌, ◌≢◌, ℕ, false, List, length, Option, Some, None, option_and_then, refl, ap, arith}
+use Rattle.std.specs.Borrow.{Bor}
 use Rattle.toml.specs.Data.{Data, Members, get_member, as_str}
 use Rattle.batch_reader.proofs.EntryFaults.{told_as}
 use Rattle.batch_reader.specs.Entries.{HasText, MayHaveText}
-use Rattle.batch_reader.specs.Faults.{IsToldAs, TellsAt, kind_fault, value_fault}
-use Rattle.batch_reader.specs.TableFaults.{IsKeyFault}
+use Rattle.batch_reader.specs.Faults.{IsToldAs, TellsOf, kind_fault, value_fault}
+use Rattle.batch_reader.specs.Spots.{at_key, key_at}
+use Rattle.batch_reader.specs.TableFaults.{IsFaultAt, IsKeyFault}
 use Rattle.batch_reader.specs.declared.fault.EntryFault.{EntryFault}
 use Rattle.batch_reader.specs.declared.fault.EntryFault.TheVariants.{OutOfLimit}
 use Rattle.batch_reader.specs.declared.fault.Spot.{Spot}
 use Rattle.batch_reader.specs.declared.fault.TableFault.{TableFault}
 use Rattle.batch_reader.specs.declared.fault.TableFault.TheVariants.{Entry, Memory}
 use Rattle.batch_reader.specs.declared.keys.TheConstants.{MAX_PATH_LEN}
+use Rattle.batch_reader.specs.declared.keys.ValueForm.TheVariants as form
 use Rattle.batch_desks.specs.DesksDocument.{HasPath, MayHavePath}
 use Rattle.batch_desks.specs.DesksFaults.{path_key}
 
 -- what is told of a table is told of more
-pub at_weaker : (spot : Spot) (P Q : EntryFault → Type 0) → ((wrong : EntryFault) → P wrong → Q wrong) → (fault : TableFault) → TellsAt spot P fault → TellsAt spot Q fault
+pub at_weaker : (spot : Spot) (P Q : Option (List ℕ) → EntryFault → Type 0) → ((at : Option (List ℕ)) (wrong : EntryFault) → P at wrong → Q at wrong)
+    → (fault : TableFault) → TellsOf spot P fault → TellsOf spot Q fault
 at_weaker spot P Q f Memory told = tt
-at_weaker spot P Q f (Entry here wrong) told = (told.0, f wrong told.1)
+at_weaker spot P Q f (Entry here wrong) told = (told.0, told.1, f (key_at here) wrong told.2)
 
 -- a path is a text of the key
 pub text_of_path : (key : List ℕ) (ms : Members) (path : Option (List ℕ)) → MayHavePath key ms path → MayHaveText key ms MAX_PATH_LEN path
@@ -51,6 +55,6 @@ path_fault : (key : List ℕ) (ms : Members) (found : Option Data) → get_membe
 path_fault key ms None missing none = absurd (none None missing)
 path_fault key ms (Some d) found none = path_fault-some key ms d (as_str d) found refl (λ path h. none (Some path) h)
 
-pub path_told : (key : List ℕ) (ms : Members) (spot : Spot) (fault : TableFault) → (fault ≢ Memory → (path : Option (List ℕ)) → MayHavePath key ms path → ⊥)
-    → IsToldAs spot (value_fault as_str (get_member key ms)) fault → TellsAt spot (IsKeyFault (path_key key) ms) fault
-path_told key ms spot fault refused told = told_as (IsKeyFault (path_key key) ms) spot _ fault (path_fault key ms (get_member key ms) refl) refused told
+pub path_told : (key : Bor (List ℕ)) (ms : Members) (spot : Spot) (fault : TableFault) → (fault ≢ Memory → (path : Option (List ℕ)) → MayHavePath key.now ms path → ⊥)
+    → IsToldAs (at_key key spot) (value_fault as_str (get_member key.now ms)) fault → TellsOf spot (IsFaultAt (path_key key.now) ms) fault
+path_told key ms spot fault refused told = told_as (form.Path MAX_PATH_LEN) false key ms spot _ fault (path_fault key.now ms (get_member key.now ms) refl) refused told

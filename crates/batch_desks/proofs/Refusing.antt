@@ -10,8 +10,8 @@ use Rattle.batch_reader.proofs.Items.{HasTables_same}
 use Rattle.batch_reader.proofs.OneEntry.{HasName_missing, HasName_unique}
 use Rattle.batch_reader.specs.Entries.{HasName, HasNumber, HasTables, IsTruth, MayHaveName}
 use Rattle.batch_reader.specs.Keys.{needed, optional}
-use Rattle.batch_reader.specs.TableFaults.{IsKeyFault}
-use Rattle.batch_reader.specs.Faults.{TellsAt, TellsIn}
+use Rattle.batch_reader.specs.TableFaults.{IsFaultAt, IsKeyFault}
+use Rattle.batch_reader.specs.Faults.{TellsIn, TellsOf}
 use Rattle.batch_reader.specs.declared.fault.EntryFault.{EntryFault}
 use Rattle.batch_reader.specs.declared.fault.EntryFault.TheVariants.{MissingKey, WrongKind, UnknownKey, Undeclared, Duplicate, OutOfLimit, Chart}
 use Rattle.batch_reader.specs.declared.fault.Spot.{Spot}
@@ -32,6 +32,9 @@ none_first w l (inl wrong) = w wrong
 none_first w l (inr p) = l p.1
 
 -- ---- a key
+
+pub of_key : {Named Wrong : Type 0} → (Wrong → ⊥) → Named × Wrong → ⊥
+of_key none h = none h.1
 
 pub name_refused : (key : List ℕ) (ms : Members) (wrong : EntryFault) (name : List ℕ) → HasName key ms name → IsKeyFault (needed key form.Name) ms wrong → ⊥
 name_refused key ms MissingKey name has h = HasName_missing key ms name h.1 has
@@ -125,10 +128,10 @@ front_distinct desks i distinct =
 -- ---- what is told
 
 -- where what is told of a table can't be, memory was refused
-pub lag_refuses : (spot : Spot) (ms : Members) (fault : TableFault) → TellsAt spot (IsKeyFault (optional (codes "lag") (form.Number 1 MAX_LAG)) ms) fault → fault ≢ Memory
+pub lag_refuses : (spot : Spot) (ms : Members) (fault : TableFault) → TellsOf spot (IsFaultAt (optional (codes "lag") (form.Number 1 MAX_LAG)) ms) fault → fault ≢ Memory
     → (desk : Desk) → IsDeskTable ms desk → ⊥
 lag_refuses spot ms Memory told known desk h = known refl
-lag_refuses spot ms (Entry here wrong) told known desk h = lag_refused ms wrong desk.lag h.lag told.1
+lag_refuses spot ms (Entry here wrong) told known desk h = lag_refused ms wrong desk.lag h.lag told.2.1
 
 -- where the tables of a document stand for desks, as many as there are of the set, and by the same names
 module _ (ms : Members) (desks : List Desk) (tables : HasTables IsDeskTable (codes "desk") ms desks) where
@@ -137,7 +140,7 @@ module _ (ms : Members) (desks : List Desk) (tables : HasTables IsDeskTable (cod
       let count : length all.desks.items ≡ length desks = same_length all.desks.items desks (same_names ms all.desks.items desks h.tables tables) in
       (rw count at h.some_desk, rw count at h.few_desks)
 
-  pub names_refuse : (fault : TableFault) → TellsIn table.Desk (HasNameTwice desks) fault → fault ≢ Memory → (all : Desks) → IsDesksTable ms all → ⊥
+  pub names_refuse : (fault : TableFault) → TellsIn table.Desk (λ entry _. HasNameTwice desks entry) fault → fault ≢ Memory → (all : Desks) → IsDesksTable ms all → ⊥
   names_refuse Memory told known all h = known refl
   names_refuse (Entry here wrong) told known all h =
       let P : List (List ℕ) → Type 0 = λ names. IsDistinct (pointwise nat_eq) names in

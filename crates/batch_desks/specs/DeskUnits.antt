@@ -3,6 +3,7 @@ use Rattle.std.specs.Prelude.{◌≡◌, ℕ, Bool, true, List, Some, None, is_s
 use Rattle.std.specs.Cmp.Lexicographic.{pointwise}
 use Rattle.std.specs.List.{list_all}
 use Rattle.batch_reader.specs.PartFaults.{FailsFirst}
+use Rattle.batch_reader.specs.Spots.{spot_of}
 use Rattle.batch_reader.specs.declared.fault.DocFault.{DocFault}
 use Rattle.batch_reader.specs.declared.fault.DocFault.TheVariants.{Entry}
 use Rattle.batch_reader.specs.declared.fault.EntryFault.TheVariants.{Undeclared}
@@ -19,5 +20,5 @@ HaveUnits units desks = list_all (has_unit units) desks ≡ true
 -- the fault is that of a desk whose unit is none of these: the first of such desks
 pub record TellsNoUnit (units : List (List ℕ)) (desks : List Desk) (fault : DocFault) : Type 0 where
   pub entry : ℕ
-  pub told : fault ≡ Entry (record { kind = table.Desk; entry = entry }) Undeclared
+  pub told : fault ≡ Entry (spot_of table.Desk entry) Undeclared
   pub first : FailsFirst (HaveUnits units) desks entry

@@ -5,7 +5,7 @@ use Rattle.toml.specs.Parse.{parse_document}
 use Rattle.batch_reader.specs.Entries.{HasName, HasTables, IsTableOf, IsTruth, MayHaveName, has_only_keys, items_at}
 use Rattle.batch_reader.specs.Keys.{Key, has_known_keys, needed, optional}
 use Rattle.batch_reader.specs.PartFaults.{FailsFirst, IsCountFault}
-use Rattle.batch_reader.specs.TableFaults.{IsArrayFault, IsKeyFault}
+use Rattle.batch_reader.specs.TableFaults.{FaultOf, IsArrayFault, IsFaultAt}
 use Rattle.batch_reader.specs.declared.document.TheConstants.{MAX_DOCUMENT_LEN}
 use Rattle.batch_reader.specs.declared.fault.EntryFault.{EntryFault}
 use Rattle.batch_reader.specs.declared.fault.EntryFault.TheVariants.{MissingKey, UnknownKey, Duplicate, OutOfLimit}
@@ -24,17 +24,17 @@ First Wrong Right Later = Wrong ⊎ (Right × Later)
 abbrev pub path_key : List ℕ → Key
 path_key word = optional word (form.Path MAX_PATH_LEN)
 
--- this is the first that is wrong with the table of a desk
-abbrev pub IsDeskFault : Members → EntryFault → Type 0
-IsDeskFault ms wrong =
+-- this is the first that is wrong with the table of a desk, at this key where it is in one
+abbrev pub IsDeskFault : FaultOf
+IsDeskFault ms at wrong =
     First ((wrong ≡ UnknownKey) × (has_known_keys table.Desk ms ≡ false)) (has_known_keys table.Desk ms ≡ true)
-    (First (IsKeyFault (needed (codes "name") form.Name) ms wrong) ((name : List ℕ) × HasName (codes "name") ms name)
-    (First (IsKeyFault (path_key (codes "input")) ms wrong) ((path : Option (List ℕ)) × MayHavePath (codes "input") ms path)
-    (First (IsKeyFault (path_key (codes "output")) ms wrong) ((path : Option (List ℕ)) × MayHavePath (codes "output") ms path)
+    (First (IsFaultAt (needed (codes "name") form.Name) ms at wrong) ((name : List ℕ) × HasName (codes "name") ms name)
+    (First (IsFaultAt (path_key (codes "input")) ms at wrong) ((path : Option (List ℕ)) × MayHavePath (codes "input") ms path)
+    (First (IsFaultAt (path_key (codes "output")) ms at wrong) ((path : Option (List ℕ)) × MayHavePath (codes "output") ms path)
     (First ((wrong ≡ MissingKey) × (has_way ms ≡ false)) (has_way ms ≡ true)
-    (First (IsKeyFault (optional (codes "unit") form.Name) ms wrong) ((unit : Option (List ℕ)) × MayHaveName (codes "unit") ms unit)
-    (First (IsKeyFault (optional (codes "stays") form.Truth) ms wrong) ((stays : Bool) × IsTruth (codes "stays") ms stays)
-    (IsKeyFault (optional (codes "lag") (form.Number 1 MAX_LAG)) ms wrong)))))))
+    (First (IsFaultAt (optional (codes "unit") form.Name) ms at wrong) ((unit : Option (List ℕ)) × MayHaveName (codes "unit") ms unit)
+    (First (IsFaultAt (optional (codes "stays") form.Truth) ms at wrong) ((stays : Bool) × IsTruth (codes "stays") ms stays)
+    (IsFaultAt (optional (codes "lag") (form.Number 1 MAX_LAG)) ms at wrong)))))))
 
 -- the value is a table that stands for a desk
 abbrev pub IsRightDesk : Data → Type 0
@@ -64,10 +64,10 @@ pub record HasUnknownTable (ms : Members) (entry : ℕ) (wrong : EntryFault) : T
   pub told : wrong ≡ UnknownKey
 
 -- this is the first that is wrong with the table of a document, at the desk of this number
-abbrev pub IsDesksFault : Members → ℕ → EntryFault → Type 0
-IsDesksFault ms entry wrong =
+abbrev pub IsDesksFault : Members → ℕ → Option (List ℕ) → EntryFault → Type 0
+IsDesksFault ms entry at wrong =
     First (HasUnknownTable ms entry wrong) (has_only_keys (codes "desk" ∷ []) ms ≡ true)
-    (IsArrayFault IsRightDesk IsDeskFault (items_at (codes "desk") ms) entry wrong ⊎ HasSetFault ms entry wrong)
+    (IsArrayFault IsRightDesk IsDeskFault (items_at (codes "desk") ms) entry at wrong ⊎ HasSetFault ms entry wrong)
 
 -- the bytes are too many, which is told at number 0
 pub record IsTooLong (bytes : List ℕ) (entry : ℕ) (wrong : EntryFault) : Type 0 where
@@ -76,11 +76,11 @@ pub record IsTooLong (bytes : List ℕ) (entry : ℕ) (wrong : EntryFault) : Typ
   pub told : wrong ≡ OutOfLimit
 
 -- the bytes are a TOML document, in which this is wrong
-pub record IsWrongIn (bytes : List ℕ) (entry : ℕ) (wrong : EntryFault) : Type 0 where
+pub record IsWrongIn (bytes : List ℕ) (entry : ℕ) (at : Option (List ℕ)) (wrong : EntryFault) : Type 0 where
   pub document : Members
   pub parsed : parse_document bytes ≡ Some document
-  pub wrong_at : IsDesksFault document entry wrong
+  pub wrong_at : IsDesksFault document entry at wrong
 
 -- this is wrong with the bytes, at the desk of this number
-abbrev pub FaultStands : List ℕ → ℕ → EntryFault → Type 0
-FaultStands bytes entry wrong = IsTooLong bytes entry wrong ⊎ IsWrongIn bytes entry wrong
+abbrev pub FaultStands : List ℕ → ℕ → Option (List ℕ) → EntryFault → Type 0
+FaultStands bytes entry at wrong = IsTooLong bytes entry wrong ⊎ IsWrongIn bytes entry at wrong

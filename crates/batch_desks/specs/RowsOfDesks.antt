@@ -1,5 +1,5 @@
 -- worked rows: what a document of desks says and what it doesn't.
-use Rattle.std.specs.Prelude.{◌≡◌, pos, [], ◌∷◌, ℕ, Some, None, false, true, option_map, string_bytes, codes}
+use Rattle.std.specs.Prelude.{◌≡◌, pos, List, [], ◌∷◌, ℕ, Option, Some, None, false, true, option_map, string_bytes, codes}
 use Rattle.toml.specs.Data.{Members, no_members, member, boolean, integer, string}
 use Rattle.batch_reader.specs.TableFaults.{IsKeyFault}
 use Rattle.batch_reader.specs.declared.fault.EntryFault.{EntryFault}
@@ -44,23 +44,26 @@ StayIsRead = (desk : Desk) → desk.stays ≡ false → ¬ IsDeskTable (console 
 
 -- nothing is wrong with its table
 abbrev pub NothingIsWrong : Type 0
-NothingIsWrong = (wrong : EntryFault) → ¬ IsDeskFault (console no_members) wrong
+NothingIsWrong = (at : Option (List ℕ)) (wrong : EntryFault) → ¬ IsDeskFault (console no_members) at wrong
 
 -- a desk with neither input nor output lacks one, and nothing else is wrong with it
 abbrev pub OneWayIsMissing : Type 0
-OneWayIsMissing = IsDeskFault (named no_members) MissingKey × (¬ IsDeskFault (named no_members) OutOfLimit)
+OneWayIsMissing = IsDeskFault (named no_members) None MissingKey × ((at : Option (List ℕ)) → ¬ IsDeskFault (named no_members) at OutOfLimit)
 
 -- an unknown key is told before a name that is missing
 abbrev pub UnknownKeyIsFirst : Type 0
 UnknownKeyIsFirst =
-    IsDeskFault (member (codes "lags") (integer (pos 1)) no_members) UnknownKey × (¬ IsDeskFault (member (codes "lags") (integer (pos 1)) no_members) MissingKey)
+    IsDeskFault (member (codes "lags") (integer (pos 1)) no_members) None UnknownKey
+    × ((at : Option (List ℕ)) → ¬ IsDeskFault (member (codes "lags") (integer (pos 1)) no_members) at MissingKey)
 
 -- no line may wait for a desk, or 65,537: both are out of limits; 65,536 may
 abbrev pub lag_of : ℕ → Members
 lag_of lines = console (member (codes "lag") (integer (pos lines)) no_members)
 
 abbrev pub LagIsLimited : Type 0
-LagIsLimited = IsDeskFault (lag_of 0) OutOfLimit × IsDeskFault (lag_of 65537) OutOfLimit × (¬ IsDeskFault (lag_of 65536) OutOfLimit)
+LagIsLimited =
+    IsDeskFault (lag_of 0) (Some (codes "lag")) OutOfLimit × IsDeskFault (lag_of 65537) (Some (codes "lag")) OutOfLimit
+    × ((at : Option (List ℕ)) → ¬ IsDeskFault (lag_of 65536) at OutOfLimit)
 
 -- a path without bytes is out of limits, one of a byte isn't, and a number is no path
 abbrev pub PathIsLimited : Type 0

@@ -14,12 +14,12 @@ use batch_text::Name;
 /// Tests that the names of desks differ. Of at most 64 each is compared with those before it, which takes no memory.
 pub(crate) fn check_names(desks: &[Desk]) -> Result<(), TableFault>
     ensures distinct { OnOk result (HaveDistinctNames desks.now) }
-    ensures told { IfErr result (TellsIn TableKind.Desk (HasNameTwice desks.now)) }
+    ensures told { IfErr result (TellsIn TableKind.Desk (λ entry _. HasNameTwice desks.now entry)) }
 {
     for (entry, desk) in desks.iter().enumerate() {
         if is_name_of(&desks[..entry], &desk.name) {
             let kind = TableKind::Desk;
-            return Err(TableFault::Entry(Spot { kind, entry }, EntryFault::Duplicate));
+            return Err(TableFault::Entry(Spot::of(kind, entry), EntryFault::Duplicate));
         }
     }
     Ok(())

@@ -3,6 +3,7 @@ ghost use Rattle.std.specs.Prelude.{◌≡◌, ◌≢◌, ◌<◌, length, Err, 
 ghost use Rattle.toml.specs.Parse.{parse_document};
 ghost use Rattle.toml.specs.View.{table_view};
 ghost use Rattle.batch_reader.specs.Faults.{TellsIn};
+ghost use Rattle.batch_reader.specs.Spots.{key_at, spot_of};
 ghost use Rattle.batch_reader.specs.declared.document.TheConstants.{MAX_DOCUMENT_LEN};
 ghost use Rattle.batch_reader.specs.declared.fault.EntryFault.{EntryFault};
 ghost use Rattle.batch_reader.specs.declared.fault.Spot.{Spot};
@@ -25,6 +26,7 @@ use toml::Table;
 const TOP: Spot = Spot {
     kind: TableKind::Desk,
     entry: 0,
+    key: None,
 };
 
 /// Reads a document of desks. It is refused as
@@ -39,9 +41,9 @@ pub fn read_desks(alloc: Global, bytes: &[u8]) -> Result<Desks, DocFault>
     ensures refused { IfErr result (λ fault. fault ≢ DocFault.Memory
         → (desks : Desks) → ¬ (IsDesksDocument bytes.now desks)) }
     ensures long { MAX_DOCUMENT_LEN < length bytes.now
-        → result ≡ Err (DocFault.Entry (record { kind = TableKind.Desk; entry = 0 }) EntryFault.OutOfLimit) }
+        → result ≡ Err (DocFault.Entry (spot_of TableKind.Desk 0) EntryFault.OutOfLimit) }
     ensures told { (spot : Spot) (wrong : EntryFault) → IsErrOf result (DocFault.Entry spot wrong) → spot.kind ≡ TableKind.Desk }
-    ensures stands { (spot : Spot) (wrong : EntryFault) → IsErrOf result (DocFault.Entry spot wrong) → FaultStands bytes.now spot.entry wrong }
+    ensures stands { (spot : Spot) (wrong : EntryFault) → IsErrOf result (DocFault.Entry spot wrong) → FaultStands bytes.now spot.entry (key_at spot) wrong }
 {
     let table = table_of(alloc, bytes, TOP)?;
     match desks_from_table(alloc, &table) {

@@ -41,7 +41,7 @@ pub(crate) fn first_named(document: &Table, kinds: &[TableKind], name: &str) -> 
         let tables = list_at(document, word_of(*kind).unwrap_or(""));
         for (entry, table) in tables.iter().enumerate() {
             if name_in(table) == Some(name) {
-                return Some(Spot { kind: *kind, entry });
+                return Some(Spot::of(*kind, entry));
             }
         }
     }

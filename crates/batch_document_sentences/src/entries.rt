@@ -1,13 +1,13 @@
 //! What is wrong with a table of a document.
 use crate::charts::{no_chart_said, number_said};
 use crate::declared::text_at;
-use crate::fits::{Fit, form_said, given_said, suit};
+use crate::fits::{form_said, given_said};
 use crate::kinds::{kind_said, kinds_beside, word_of};
 use crate::lines::line_of;
 use crate::names_declared::{duplicate, undeclared};
 use crate::needs::{need_out_of_limit, unreadable_need};
 use batch_grammar::is_chart_word;
-use batch_reader::{EntryFault, Key, Spot, TableKind, keys_of, may_stand};
+use batch_reader::{EntryFault, Key, Spot, TableKind, ValueForm, keys_of};
 use batch_recipe::{MAX_NODES, MAX_UNITS};
 use batch_wording::meant_said;
 use std::alloc::{AllocError, Global};
@@ -64,19 +64,18 @@ pub(crate) fn wrong_at<'a>(
     spot: Spot,
     fault: EntryFault,
 ) -> Result<Wrong<'a>, AllocError> {
-    let keys = keys_of(spot.kind);
     let Some(table) = entry_at(document, spot) else {
         return no_table(alloc, document, spot.kind);
     };
     match fault {
-        EntryFault::MissingKey => missing(alloc, keys, table, spot.kind),
-        EntryFault::WrongKind => wrong_kind(alloc, keys, document, table, spot.kind),
-        EntryFault::UnknownKey => unknown(alloc, keys, table, spot.kind),
+        EntryFault::MissingKey => missing(alloc, spot),
+        EntryFault::WrongKind => wrong_kind(alloc, document, table, spot),
+        EntryFault::UnknownKey => unknown(alloc, keys_of(spot.kind), table, spot.kind),
         EntryFault::Undeclared => undeclared(alloc, document, table, spot.kind),
         EntryFault::Duplicate => duplicate(alloc, text, document, table, spot),
         EntryFault::OutOfLimit => {
             let line = chart_line(text, document, spot);
-            out_of_limit(alloc, keys, text, line, table, spot)
+            out_of_limit(alloc, text, line, table, spot)
         }
         EntryFault::Chart(byte) => {
             let line = chart_line(text, document, spot);
@@ -107,25 +106,13 @@ fn no_table(
     }
 }
 
-fn missing(
-    alloc: Global,
-    keys: &[Key],
-    table: &Table,
-    kind: TableKind,
-) -> Result<Wrong<'static>, AllocError> {
-    for key in keys {
-        if key.1 && may_stand(kind, key.0, table) && !table.contains_key(key.0) {
-            return Wrong::with("", missing_said(alloc, key.0, kind));
-        }
-    }
-    Wrong::told(alloc, "", "one of the keys `input` and `output` is missing")
-}
-
-fn missing_said(alloc: Global, key: &str, kind: TableKind) -> Result<String, AllocError> {
-    if kind == TableKind::UnitProcedure && key == "unit" {
-        return String::from_str(alloc, "one of the keys `unit` and `role` is missing");
-    }
-    format!(in alloc; "the key `{key}` is missing")
+fn missing(alloc: Global, spot: Spot) -> Result<Wrong<'static>, AllocError> {
+    let said = match spot.key {
+        None => String::from_str(alloc, "one of the keys `input` and `output` is missing"),
+        Some("unit") => String::from_str(alloc, "one of the keys `unit` and `role` is missing"),
+        Some(key) => format!(in alloc; "the key `{key}` is missing"),
+    };
+    Wrong::with("", said)
 }
 
 fn unknown<'a>(
@@ -212,32 +199,43 @@ fn is_known(keys: &[Key], name: &str) -> bool {
 
 fn wrong_kind(
     alloc: Global,
-    keys: &[Key],
     document: &Table,
     table: &Table,
-    kind: TableKind,
+    spot: Spot,
 ) -> Result<Wrong<'static>, AllocError> {
-    if let Some(said) = misheaded(alloc, document, kind)? {
-        return Wrong::with("", Ok(said));
-    }
-    if let Some(key) = first_unfit(keys, table, Fit::WrongKind) {
-        return unfit(alloc, key, "has to be", table);
-    }
-    if let Some(need) = unreadable_need(table) {
-        return Wrong::with(
-            "needs",
-            format!(in alloc;
+    let Some(key) = key_at(spot) else {
+        return match misheaded(alloc, document, spot.kind)? {
+            Some(said) => Wrong::with("", Ok(said)),
+            None => Wrong::told(alloc, "", "a value is of another kind than its key has"),
+        };
+    };
+    if let ValueForm::Needs(_) = key.2 {
+        if let Some(need) = unreadable_need(table) {
+            return Wrong::with(key.0, format!(in alloc;
                 "`{need}` is no need: a need is the name of a resource, with a star and a number behind it where it is of several units, as `STEAM` or `STEAM*2`, and no spaces"
-            ),
-        );
+            ));
+        }
     }
-    match text_at(table, "name") {
-        Some(name) if is_chart_word(name.as_bytes()) => Wrong::with(
-            "name",
-            format!(in alloc; "the name `{name}` is a word of charts, which names nothing else"),
-        ),
-        _ => Wrong::told(alloc, "", "a value is of another kind than its key has"),
+    match text_at(table, key.0) {
+        Some(name) if key.2 == ValueForm::FreeName && is_chart_word(name.as_bytes()) => {
+            Wrong::with(
+                key.0,
+                format!(in alloc; "the name `{name}` is a word of charts, which names nothing else"),
+            )
+        }
+        _ => unfit(alloc, key, "has to be", table),
     }
+}
+
+/// The key at the spot, where the fault is in one.
+fn key_at(spot: Spot) -> Option<&'static Key> {
+    let word = spot.key?;
+    for key in keys_of(spot.kind) {
+        if key.0 == word {
+            return Some(key);
+        }
+    }
+    None
 }
 
 /// That the header of such a table has other brackets: a procedure's single ones, each other double ones.
@@ -285,52 +283,54 @@ fn unfit(
 
 fn out_of_limit(
     alloc: Global,
-    keys: &[Key],
     text: &str,
     line: Option<usize>,
     table: &Table,
     spot: Spot,
 ) -> Result<Wrong<'static>, AllocError> {
-    if let Some(key) = first_unfit(keys, table, Fit::OutOfLimit) {
-        return unfit(alloc, key, "is out of its limits: it has to be", table);
-    }
-    if let Some(need) = need_out_of_limit(table) {
-        return Wrong::with(
-            "needs",
-            format!(in alloc; "`{need}` is out of its limits: a need is of 1 to {MAX_UNITS} units"),
-        );
-    }
-    let least = table.get("min").and_then(Value::as_integer);
-    let greatest = table.get("max").and_then(Value::as_integer);
-    match (least, greatest) {
-        (Some(least), Some(greatest)) if least > greatest => {
-            Wrong::told(alloc, "min", "`min` is above `max`")
+    let Some(key) = key_at(spot) else {
+        return Wrong::with("", count_said(alloc, spot));
+    };
+    match key.2 {
+        ValueForm::Needs(_) => {
+            if let Some(need) = need_out_of_limit(table) {
+                return Wrong::with(key.0, format!(in alloc;
+                    "`{need}` is out of its limits: a need is of 1 to {MAX_UNITS} units"
+                ));
+            }
         }
-        _ => chart_out_of_limit(alloc, text, line, table, spot),
+        ValueForm::Least(most) => {
+            if is_within(table, key.0, most) {
+                return Wrong::told(alloc, key.0, "`min` is above `max`");
+            }
+        }
+        ValueForm::Chart | ValueForm::ChartWithoutPar => {
+            let chart = text_at(table, key.0).unwrap_or("");
+            if let Some(said) = number_said(alloc, text, line, chart)? {
+                return Wrong::with(key.0, Ok(said));
+            }
+        }
+        _ => {}
+    }
+    unfit(alloc, key, "is out of its limits: it has to be", table)
+}
+
+/// Whether the number at the key is at most this one.
+fn is_within(table: &Table, key: &str, most: u64) -> bool {
+    match table.get(key).and_then(Value::as_integer) {
+        Some(number) => 0 <= number && number as u64 <= most,
+        None => false,
     }
 }
 
-/// That a number of the table's chart is out of its limits, or that the acts are too many, or the tables, of which the first one too many
-/// is told.
-fn chart_out_of_limit(
-    alloc: Global,
-    text: &str,
-    line: Option<usize>,
-    table: &Table,
-    spot: Spot,
-) -> Result<Wrong<'static>, AllocError> {
-    if let Some(chart) = text_at(table, "chart") {
-        if let Some(said) = number_said(alloc, text, line, chart)? {
-            return Wrong::with("chart", Ok(said));
-        }
-    }
-    let said = match spot.kind {
+/// That the acts come to too many nodes, or that there are too many tables, of which the first one too many is told.
+fn count_said(alloc: Global, spot: Spot) -> Result<String, AllocError> {
+    match spot.kind {
         TableKind::Procedure => format!(in alloc;
             "the acts come to more than {MAX_NODES} nodes: each label stands for its act, with the chart of that"
         ),
         _ => format!(in alloc; "a document has at most {} of these tables", spot.entry),
-    };
-    Wrong::with("", said)
+    }
 }
 
 fn no_chart(
@@ -343,16 +343,4 @@ fn no_chart(
 ) -> Result<Wrong<'static>, AllocError> {
     let chart = text_at(table, "chart").unwrap_or("");
     Wrong::with("chart", no_chart_said(alloc, text, line, chart, byte, kind))
-}
-
-/// The first of the keys whose value suits it so.
-fn first_unfit<'a>(keys: &'a [Key], table: &Table, wanted: Fit) -> Option<&'a Key> {
-    for key in keys {
-        if let Some(value) = table.get(key.0) {
-            if suit(key.2, value) == wanted {
-                return Some(key);
-            }
-        }
-    }
-    None
 }

@@ -149,7 +149,7 @@ pub(crate) fn duplicate(
     }
     if let Some(name) = text_at(table, "name") {
         if let Some(first) = first_named(document, namesakes_of(&spot.kind), name) {
-            if first != spot {
+            if first != Spot::of(spot.kind, spot.entry) {
                 return Wrong::with("name", namesake_said(alloc, text, document, name, first));
             }
         }

@@ -1,26 +1,34 @@
 -- What is told of the entry of a table stands there.
-use Rattle.std.proofs.Common.{◌≡◌, ◌≢◌, ℕ, ◌<◌, ◌≤◌, ℤ, nat_lt, Bool, true, false, inl, inr, List, [], ◌∷◌, length, Option, Some, None, Result, Ok, Err, if◌then◌else◌, IfErr, refl, sym, subst, arith, codes}
+use Rattle.std.proofs.Common.{◌≡◌, ◌≢◌, ℕ, ◌<◌, ◌≤◌, ℤ, nat_lt, Bool, true, false, inl, inr, List, [], ◌∷◌, length, Option, Some, None, Result, Ok, Err, if◌then◌else◌, IfErr, refl, sym, ap, subst, arith, codes}
 use Rattle.std.proofs.lemmas.Bool.Decides.{nat_tests}
 use Rattle.std.specs.List.{slice_get}
 use Rattle.std.specs.Option.{option_map_or}
 use Rattle.toml.specs.Data.{Data, Items, no_items, item, Members, get_member, as_str, as_integer, as_bool, as_array}
 use Rattle.batch_reader.specs.Entries.{AllItems, IsNameItem, HasName, HasLabel, HasNameOr, HasText, MayHaveName, MayHaveText, HasNumber, HasNames, HasFewNames, IsTruth, items_at}
-use Rattle.batch_reader.specs.Faults.{IsToldAs, TellsAt, missing_or_wrong, value_fault, kind_fault, few_names_fault}
+use Rattle.std.specs.Borrow.{Bor}
+use Rattle.batch_reader.specs.Faults.{IsToldAs, TellsOf, missing_or_wrong, value_fault, kind_fault, few_names_fault}
 use Rattle.batch_reader.specs.Keys.{Key, needed, optional, keys_of, may_stand}
-use Rattle.batch_reader.specs.TableFaults.{count_items, IsKeyFault, IsTableFault}
+use Rattle.batch_reader.specs.Spots.{at_key, key_at}
+use Rattle.batch_reader.specs.TableFaults.{count_items, IsFaultAt, IsKeyFault, IsTableFault}
 use Rattle.batch_reader.specs.declared.fault.EntryFault.{EntryFault}
 use Rattle.batch_reader.specs.declared.fault.EntryFault.TheVariants.{MissingKey, WrongKind, UnknownKey, Undeclared, Duplicate, OutOfLimit, Chart}
 use Rattle.batch_reader.specs.declared.fault.Spot.{Spot}
 use Rattle.batch_reader.specs.declared.fault.TableFault.{TableFault}
 use Rattle.batch_reader.specs.declared.fault.TableFault.TheVariants.{Entry, Memory}
 use Rattle.batch_reader.specs.declared.fault.TableKind.{TableKind}
+use Rattle.batch_reader.specs.declared.keys.ValueForm.{ValueForm}
 use Rattle.batch_reader.specs.declared.keys.ValueForm.TheVariants as form
 
 -- what is told as this, and is refused only where that is so
-pub told_as : {Refused : Type 0} (Is : EntryFault → Type 0) (spot : Spot) (wrong : EntryFault) (fault : TableFault) → (Refused → Is wrong)
-    → (fault ≢ Memory → Refused) → IsToldAs spot wrong fault → TellsAt spot Is fault
-told_as Is spot wrong Memory stands refused told = tt
-told_as Is spot wrong (Entry here what) stands refused told = (told.0, subst Is (sym told.1) (stands (refused (λ e. cc e))))
+pub told_as : {Refused : Type 0} (form : ValueForm) (is_needed : Bool) (key : Bor (List ℕ)) (ms : Members) (spot : Spot) (wrong : EntryFault) (fault : TableFault)
+    → (Refused → IsKeyFault (record { word = key.now; form = form; is_needed = is_needed }) ms wrong) → (fault ≢ Memory → Refused) → IsToldAs (at_key key spot) wrong fault
+    → TellsOf spot (IsFaultAt (record { word = key.now; form = form; is_needed = is_needed }) ms) fault
+told_as form is_needed key ms spot wrong Memory stands refused told = tt
+told_as form is_needed key ms spot wrong (Entry here what) stands refused told = (
+  ap (λ (s : Spot). s.kind) told.0,
+  ap (λ (s : Spot). s.entry) told.0,
+  (ap key_at told.0, subst (IsKeyFault (record { word = key.now; form = form; is_needed = is_needed }) ms) (sym told.1) (stands (refused (λ e. cc e)))),
+)
 
 -- where one thing is so of a refusal and another, a third is
 pub err_both : {T : Type 0} (r : Result T TableFault) (P Q R : TableFault → Type 0) → ((fault : TableFault) → P fault → Q fault → R fault) → IfErr r P → IfErr r Q → IfErr r R
@@ -35,9 +43,9 @@ name_fault key ms None missing none = (refl, missing)
 name_fault key ms (Some d) found none =
     record { here = d; found = found; such = λ name h. none name (record { text = rw found h.text; valid = h.valid }) }
 
-pub name_told : (key : List ℕ) (ms : Members) (spot : Spot) (fault : TableFault) → (fault ≢ Memory → (name : List ℕ) → HasName key ms name → ⊥)
-    → IsToldAs spot (missing_or_wrong (get_member key ms)) fault → TellsAt spot (IsKeyFault (needed key form.Name) ms) fault
-name_told key ms spot fault refused told = told_as (IsKeyFault (needed key form.Name) ms) spot _ fault (name_fault key ms (get_member key ms) refl) refused told
+pub name_told : (key : Bor (List ℕ)) (ms : Members) (spot : Spot) (fault : TableFault) → (fault ≢ Memory → (name : List ℕ) → HasName key.now ms name → ⊥)
+    → IsToldAs (at_key key spot) (missing_or_wrong (get_member key.now ms)) fault → TellsOf spot (IsFaultAt (needed key.now form.Name) ms) fault
+name_told key ms spot fault refused told = told_as form.Name true key ms spot _ fault (name_fault key.now ms (get_member key.now ms) refl) refused told
 
 label_fault : (key : List ℕ) (ms : Members) (found : Option Data) → get_member key ms ≡ found → ((name : List ℕ) → HasLabel key ms name → ⊥)
     → IsKeyFault (needed key form.FreeName) ms (missing_or_wrong found)
@@ -45,9 +53,9 @@ label_fault key ms None missing none = (refl, missing)
 label_fault key ms (Some d) found none =
     record { here = d; found = found; such = λ name text label. none name (record { text = rw found text; label = label }) }
 
-pub label_told : (key : List ℕ) (ms : Members) (spot : Spot) (fault : TableFault) → (fault ≢ Memory → (name : List ℕ) → HasLabel key ms name → ⊥)
-    → IsToldAs spot (missing_or_wrong (get_member key ms)) fault → TellsAt spot (IsKeyFault (needed key form.FreeName) ms) fault
-label_told key ms spot fault refused told = told_as (IsKeyFault (needed key form.FreeName) ms) spot _ fault (label_fault key ms (get_member key ms) refl) refused told
+pub label_told : (key : Bor (List ℕ)) (ms : Members) (spot : Spot) (fault : TableFault) → (fault ≢ Memory → (name : List ℕ) → HasLabel key.now ms name → ⊥)
+    → IsToldAs (at_key key spot) (missing_or_wrong (get_member key.now ms)) fault → TellsOf spot (IsFaultAt (needed key.now form.FreeName) ms) fault
+label_told key ms spot fault refused told = told_as form.FreeName true key ms spot _ fault (label_fault key.now ms (get_member key.now ms) refl) refused told
 
 name_or_fault : (key : List ℕ) (ms : Members) (other : List ℕ) (found : Option Data) → get_member key ms ≡ found → ((name : List ℕ) → HasNameOr key ms other name → ⊥)
     → IsKeyFault (optional key form.Name) ms WrongKind
@@ -55,10 +63,10 @@ name_or_fault key ms other None missing none = absurd (none other (inr (missing,
 name_or_fault key ms other (Some d) found none =
     record { here = d; found = found; such = λ name h. none name (inl (record { text = rw found h.text; valid = h.valid })) }
 
-pub name_or_told : (key : List ℕ) (ms : Members) (other : List ℕ) (spot : Spot) (fault : TableFault) → (fault ≢ Memory → (name : List ℕ) → HasNameOr key ms other name → ⊥)
-    → IsToldAs spot WrongKind fault → TellsAt spot (IsKeyFault (optional key form.Name) ms) fault
+pub name_or_told : (key : Bor (List ℕ)) (ms : Members) (other : List ℕ) (spot : Spot) (fault : TableFault) → (fault ≢ Memory → (name : List ℕ) → HasNameOr key.now ms other name → ⊥)
+    → IsToldAs (at_key key spot) WrongKind fault → TellsOf spot (IsFaultAt (optional key.now form.Name) ms) fault
 name_or_told key ms other spot fault refused told =
-    told_as (IsKeyFault (optional key form.Name) ms) spot _ fault (name_or_fault key ms other (get_member key ms) refl) refused told
+    told_as form.Name false key ms spot _ fault (name_or_fault key.now ms other (get_member key.now ms) refl) refused told
 
 optional_name_fault : (key : List ℕ) (ms : Members) (found : Option Data) → get_member key ms ≡ found → ((name : Option (List ℕ)) → MayHaveName key ms name → ⊥)
     → IsKeyFault (optional key form.Name) ms WrongKind
@@ -66,10 +74,10 @@ optional_name_fault key ms None missing none = absurd (none None missing)
 optional_name_fault key ms (Some d) found none =
     record { here = d; found = found; such = λ name h. none (Some name) (record { text = rw found h.text; valid = h.valid }) }
 
-pub optional_name_told : (key : List ℕ) (ms : Members) (spot : Spot) (fault : TableFault) → (fault ≢ Memory → (name : Option (List ℕ)) → MayHaveName key ms name → ⊥)
-    → IsToldAs spot WrongKind fault → TellsAt spot (IsKeyFault (optional key form.Name) ms) fault
+pub optional_name_told : (key : Bor (List ℕ)) (ms : Members) (spot : Spot) (fault : TableFault) → (fault ≢ Memory → (name : Option (List ℕ)) → MayHaveName key.now ms name → ⊥)
+    → IsToldAs (at_key key spot) WrongKind fault → TellsOf spot (IsFaultAt (optional key.now form.Name) ms) fault
 optional_name_told key ms spot fault refused told =
-    told_as (IsKeyFault (optional key form.Name) ms) spot _ fault (optional_name_fault key ms (get_member key ms) refl) refused told
+    told_as form.Name false key ms spot _ fault (optional_name_fault key.now ms (get_member key.now ms) refl) refused told
 
 -- texts
 
@@ -86,20 +94,20 @@ text_fault : (key : List ℕ) (ms : Members) (most : ℕ) (found : Option Data) 
 text_fault key ms most None missing none = (refl, missing)
 text_fault key ms most (Some d) found none = text_fault-some key ms most true d (as_str d) found refl none
 
-pub text_told : (key : List ℕ) (ms : Members) (most : ℕ) (spot : Spot) (fault : TableFault) → (fault ≢ Memory → (text : List ℕ) → HasText key ms most text → ⊥)
-    → IsToldAs spot (value_fault as_str (get_member key ms)) fault → TellsAt spot (IsKeyFault (needed key (form.Text most)) ms) fault
-text_told key ms most spot fault refused told = told_as (IsKeyFault (needed key (form.Text most)) ms) spot _ fault (text_fault key ms most (get_member key ms) refl) refused told
+pub text_told : (key : Bor (List ℕ)) (ms : Members) (most : ℕ) (spot : Spot) (fault : TableFault) → (fault ≢ Memory → (text : List ℕ) → HasText key.now ms most text → ⊥)
+    → IsToldAs (at_key key spot) (value_fault as_str (get_member key.now ms)) fault → TellsOf spot (IsFaultAt (needed key.now (form.Text most)) ms) fault
+text_told key ms most spot fault refused told = told_as (form.Text most) true key ms spot _ fault (text_fault key.now ms most (get_member key.now ms) refl) refused told
 
 optional_text_fault : (key : List ℕ) (ms : Members) (most : ℕ) (found : Option Data) → get_member key ms ≡ found → ((text : Option (List ℕ)) → MayHaveText key ms most text → ⊥)
     → IsKeyFault (optional key (form.Text most)) ms (value_fault as_str found)
 optional_text_fault key ms most None missing none = absurd (none None missing)
 optional_text_fault key ms most (Some d) found none = text_fault-some key ms most false d (as_str d) found refl (λ text h. none (Some text) h)
 
-pub optional_text_told : (key : List ℕ) (ms : Members) (most : ℕ) (spot : Spot) (fault : TableFault)
-    → (fault ≢ Memory → (text : Option (List ℕ)) → MayHaveText key ms most text → ⊥)
-    → IsToldAs spot (value_fault as_str (get_member key ms)) fault → TellsAt spot (IsKeyFault (optional key (form.Text most)) ms) fault
+pub optional_text_told : (key : Bor (List ℕ)) (ms : Members) (most : ℕ) (spot : Spot) (fault : TableFault)
+    → (fault ≢ Memory → (text : Option (List ℕ)) → MayHaveText key.now ms most text → ⊥)
+    → IsToldAs (at_key key spot) (value_fault as_str (get_member key.now ms)) fault → TellsOf spot (IsFaultAt (optional key.now (form.Text most)) ms) fault
 optional_text_told key ms most spot fault refused told =
-    told_as (IsKeyFault (optional key (form.Text most)) ms) spot _ fault (optional_text_fault key ms most (get_member key ms) refl) refused told
+    told_as (form.Text most) false key ms spot _ fault (optional_text_fault key.now ms most (get_member key.now ms) refl) refused told
 
 -- numbers
 
@@ -122,9 +130,9 @@ number_fault : (key : List ℕ) (ms : Members) (low high : ℕ) (found : Option 
 number_fault key ms low high None missing none = (refl, missing)
 number_fault key ms low high (Some d) found none = number_fault-some key ms low high d (as_integer d) found refl none
 
-pub number_told : (key : List ℕ) (ms : Members) (low high : ℕ) (spot : Spot) (fault : TableFault) → ((n : ℕ) → HasNumber key ms low high n → ⊥)
-    → fault ≡ Entry spot (value_fault as_integer (get_member key ms)) → TellsAt spot (IsKeyFault (needed key (form.Number low high)) ms) fault
-number_told key ms low high spot fault none told = rw told (refl, number_fault key ms low high (get_member key ms) refl none)
+pub number_told : (key : Bor (List ℕ)) (ms : Members) (low high : ℕ) (spot : Spot) (fault : TableFault) → ((n : ℕ) → HasNumber key.now ms low high n → ⊥)
+    → fault ≡ Entry (at_key key spot) (value_fault as_integer (get_member key.now ms)) → TellsOf spot (IsFaultAt (needed key.now (form.Number low high)) ms) fault
+number_told key ms low high spot fault none told = rw told (refl, refl, (refl, number_fault key.now ms low high (get_member key.now ms) refl none))
 
 -- of a number that isn't to be above another one
 least_fault : (key : List ℕ) (ms : Members) (high : ℕ) (wrong : EntryFault) → IsKeyFault (needed key (form.Number 0 high)) ms wrong
@@ -137,10 +145,10 @@ least_fault key ms high UnknownKey h = h
 least_fault key ms high Undeclared h = h
 least_fault key ms high Duplicate h = h
 
-pub least_told : (key : List ℕ) (ms : Members) (high : ℕ) (spot : Spot) (fault : TableFault) → ((n : ℕ) → HasNumber key ms 0 high n → ⊥)
-    → fault ≡ Entry spot (value_fault as_integer (get_member key ms)) → TellsAt spot (IsKeyFault (needed key (form.Least high)) ms) fault
+pub least_told : (key : Bor (List ℕ)) (ms : Members) (high : ℕ) (spot : Spot) (fault : TableFault) → ((n : ℕ) → HasNumber key.now ms 0 high n → ⊥)
+    → fault ≡ Entry (at_key key spot) (value_fault as_integer (get_member key.now ms)) → TellsOf spot (IsFaultAt (needed key.now (form.Least high)) ms) fault
 least_told key ms high spot fault none told =
-    rw told (refl, least_fault key ms high _ (number_fault key ms 0 high (get_member key ms) refl none))
+    rw told (refl, refl, (refl, least_fault key.now ms high _ (number_fault key.now ms 0 high (get_member key.now ms) refl none)))
 
 above_fault-found : (key : List ℕ) (ms : Members) (high least greatest : ℕ) (found : Option Data) → get_member key ms ≡ found → HasNumber key ms 0 high least
     → HasNumber (codes "max") ms 0 high greatest → greatest < least → IsKeyFault (needed key (form.Least high)) ms OutOfLimit
@@ -174,9 +182,9 @@ truth_fault : (key : List ℕ) (ms : Members) (found : Option Data) → get_memb
 truth_fault key ms None missing none = absurd (none false (rw missing refl))
 truth_fault key ms (Some d) found none = truth_fault-some key ms d (as_bool d) found refl none
 
-pub truth_told : (key : List ℕ) (ms : Members) (spot : Spot) (fault : TableFault) → ((truth : Bool) → IsTruth key ms truth → ⊥)
-    → fault ≡ Entry spot WrongKind → TellsAt spot (IsKeyFault (optional key form.Truth) ms) fault
-truth_told key ms spot fault none told = rw told (refl, truth_fault key ms (get_member key ms) refl none)
+pub truth_told : (key : Bor (List ℕ)) (ms : Members) (spot : Spot) (fault : TableFault) → ((truth : Bool) → IsTruth key.now ms truth → ⊥)
+    → fault ≡ Entry (at_key key spot) WrongKind → TellsOf spot (IsFaultAt (optional key.now form.Truth) ms) fault
+truth_told key ms spot fault none told = rw told (refl, refl, (refl, truth_fault key.now ms (get_member key.now ms) refl none))
 
 -- lists of names
 
@@ -197,11 +205,11 @@ names_fault : (key : List ℕ) (ms : Members) (least most : ℕ) (found : Option
 names_fault key ms least most None missing none = (refl, missing)
 names_fault key ms least most (Some d) found none = names_fault-some key ms least most d (as_array d) found refl none
 
-pub names_told : (key : List ℕ) (ms : Members) (least most : ℕ) (spot : Spot) (fault : TableFault)
-    → (fault ≢ Memory → (names : List (List ℕ)) → HasNames key ms names → ⊥)
-    → IsToldAs spot (missing_or_wrong (get_member key ms)) fault → TellsAt spot (IsKeyFault (needed key (form.Names least most)) ms) fault
+pub names_told : (key : Bor (List ℕ)) (ms : Members) (least most : ℕ) (spot : Spot) (fault : TableFault)
+    → (fault ≢ Memory → (names : List (List ℕ)) → HasNames key.now ms names → ⊥)
+    → IsToldAs (at_key key spot) (missing_or_wrong (get_member key.now ms)) fault → TellsOf spot (IsFaultAt (needed key.now (form.Names least most)) ms) fault
 names_told key ms least most spot fault refused told =
-    told_as (IsKeyFault (needed key (form.Names least most)) ms) spot _ fault (names_fault key ms least most (get_member key ms) refl) refused told
+    told_as (form.Names least most) true key ms spot _ fault (names_fault key.now ms least most (get_member key.now ms) refl) refused told
 
 count_fault-found : (key : List ℕ) (ms : Members) (least most : ℕ) (names : List (List ℕ)) (found : Option Data) → get_member key ms ≡ found → HasNames key ms names
     → (least ≤ length names → length names ≤ most → ⊥) → IsKeyFault (needed key (form.Names least most)) ms OutOfLimit
@@ -243,19 +251,19 @@ few_fault : (key : List ℕ) (ms : Members) (most : ℕ) (found : Option Data) �
 few_fault key ms most None missing none = absurd (none [] (record { items = no_items; found = rw missing refl; listed = tt; few = omega arith }))
 few_fault key ms most (Some d) found none = few_fault-list key ms most d (as_array d) found refl none
 
-pub few_told : (key : List ℕ) (ms : Members) (most : ℕ) (spot : Spot) (fault : TableFault) → (fault ≢ Memory → (names : List (List ℕ)) → HasFewNames key ms most names → ⊥)
-    → IsToldAs spot (few_names_fault most (items_at key ms)) fault → TellsAt spot (IsKeyFault (optional key (form.Names 0 most)) ms) fault
+pub few_told : (key : Bor (List ℕ)) (ms : Members) (most : ℕ) (spot : Spot) (fault : TableFault) → (fault ≢ Memory → (names : List (List ℕ)) → HasFewNames key.now ms most names → ⊥)
+    → IsToldAs (at_key key spot) (few_names_fault most (items_at key.now ms)) fault → TellsOf spot (IsFaultAt (optional key.now (form.Names 0 most)) ms) fault
 few_told key ms most spot fault refused told =
-    told_as (IsKeyFault (optional key (form.Names 0 most)) ms) spot _ fault (few_fault key ms most (get_member key ms) refl) refused told
+    told_as (form.Names 0 most) false key ms spot _ fault (few_fault key.now ms most (get_member key.now ms) refl) refused told
 
 -- ---- from an entry to its table
 
 -- the key is one of those of tables of the kind
 pub table_fault : (kind : TableKind) (ms : Members) (place : ℕ) (key : Key) → slice_get (keys_of kind) place ≡ Some key → may_stand kind key.word ms ≡ true
-    → (wrong : EntryFault) → IsKeyFault key ms wrong → IsTableFault kind ms wrong
-table_fault kind ms place key listed stands wrong h = inr (record { place = place; key = key; listed = listed; stands = stands; fault = h })
+    → (at : Option (List ℕ)) (wrong : EntryFault) → IsFaultAt key ms at wrong → IsTableFault kind ms at wrong
+table_fault kind ms place key listed stands at wrong h = inr (record { place = place; key = key; listed = listed; stands = stands; fault = h })
 
 pub table_told : (kind : TableKind) (ms : Members) (place : ℕ) (key : Key) → slice_get (keys_of kind) place ≡ Some key → may_stand kind key.word ms ≡ true
-    → (spot : Spot) (fault : TableFault) → TellsAt spot (IsKeyFault key ms) fault → TellsAt spot (IsTableFault kind ms) fault
+    → (spot : Spot) (fault : TableFault) → TellsOf spot (IsFaultAt key ms) fault → TellsOf spot (IsTableFault kind ms) fault
 table_told kind ms place key listed stands spot Memory told = tt
-table_told kind ms place key listed stands spot (Entry here wrong) told = (told.0, table_fault kind ms place key listed stands wrong told.1)
+table_told kind ms place key listed stands spot (Entry here wrong) told = (told.0, told.1, table_fault kind ms place key listed stands (key_at here) wrong told.2)

@@ -7,7 +7,7 @@ use Rattle.toml.specs.declared.value.Value.{Value}
 use Rattle.batch_reader.proofs.Items.{get_item-view}
 use Rattle.batch_reader.proofs.OneEntry.{count_items-view}
 use Rattle.batch_reader.specs.Entries.{items_at}
-use Rattle.batch_reader.specs.Faults.{IsNeedFault, IsNeedsFault, TellsAt}
+use Rattle.batch_reader.specs.Faults.{IsNeedFault, IsNeedsFault, TellsAt, TellsOf}
 use Rattle.batch_reader.specs.Keys.{optional}
 use Rattle.batch_reader.specs.TableFaults.{IsKeyFault}
 use Rattle.batch_reader.specs.declared.fault.EntryFault.{EntryFault}

@@ -1,8 +1,9 @@
 -- What is told of a table among others stands there.
-use Rattle.std.proofs.Common.{◌≡◌, ℕ, ◌+◌, ◌<◌, ◌≤◌, List, [], ◌∷◌, ◌++◌, length, map, take, get_or, nat_eq, refl, sym, ap, subst, ◌∙◌, append-nil, inl, inr, arith, Err, IsErrOf}
+use Rattle.std.proofs.Common.{◌≡◌, ℕ, ◌+◌, ◌<◌, ◌≤◌, Option, List, [], ◌∷◌, ◌++◌, length, map, take, get_or, nat_eq, refl, sym, ap, subst, ◌∙◌, append-nil, inl, inr, arith, Err, IsErrOf}
 use Rattle.std.proofs.lemmas.List.{take_more}
 use Rattle.std.proofs.lemmas.List.Elements.{All-append, All-cons, All-nil}
 use Rattle.std.proofs.lemmas.Option.{slice_get-get_or}
+use Rattle.std.specs.Borrow.{Bor}
 use Rattle.std.specs.Cmp.Lexicographic.{pointwise}
 use Rattle.std.specs.List.{IsDistinct}
 use Rattle.batch_cell.specs.Equipment.{OffersPhasesOnce, unit_phases}
@@ -35,11 +36,11 @@ pub wrong_told : (what : EntryFault) (P : Spot → Type 0) (Q : Spot → EntryFa
 wrong_told what P Q f Memory is_wrong told = tt
 wrong_told what P Q f (Entry here wrong) is_wrong told = subst (Q here) (sym is_wrong) (f here told)
 
-pub kind_told : (kind : TableKind) (what : EntryFault) (P : ℕ → Type 0) (Q : Spot → EntryFault → Type 0) → ((entry : ℕ) → P entry → Q (record { kind = kind; entry = entry }) what)
+pub kind_told : (kind : TableKind) (what : EntryFault) (P : ℕ → Type 0) (Q : Spot → EntryFault → Type 0) → ((entry : ℕ) (key : Option (Bor (List ℕ))) → P entry → Q (record { kind = kind; entry = entry; key = key }) what)
     → (fault : TableFault) → IsToldIn kind what fault → Tells (λ spot _. P spot.entry) fault → Tells Q fault
 kind_told kind what P Q f Memory is_wrong told = tt
 kind_told kind what P Q f (Entry here wrong) is_wrong told =
-    subst (Q here) (sym is_wrong.1) (subst (λ k. Q (record { kind = k; entry = here.entry }) what) (sym is_wrong.0) (f here.entry told))
+    subst (Q here) (sym is_wrong.1) (subst (λ k. Q (record { kind = k; entry = here.entry; key = here.key }) what) (sym is_wrong.0) (f here.entry here.key told))
 
 -- names that are the same ones fail at the same table
 fails_along : {X : Type 0} (f g : List X → List Name) → ((front : List X) → f front ≡ g front) → (tables : List X) (entry : ℕ)

@@ -1,20 +1,21 @@
 -- trusted: what a document's refusal names is wrong there.
-use Rattle.std.specs.Prelude.{◌≡◌, ℕ, ◌<◌, ◌⊎◌, List, Some, length}
+use Rattle.std.specs.Prelude.{◌≡◌, ℕ, ◌<◌, ◌⊎◌, List, Option, Some, length}
 use Rattle.toml.specs.Data.{Members}
 use Rattle.toml.specs.Parse.{parse_document}
 use Rattle.batch_reader.specs.PartFaults.{HasEquipmentFault, HasPartFault}
+use Rattle.batch_reader.specs.Spots.{key_at}
 use Rattle.batch_reader.specs.TableFaults.{IsFaultOfTable}
 use Rattle.batch_reader.specs.declared.document.TheConstants.{MAX_DOCUMENT_LEN}
 use Rattle.batch_reader.specs.declared.fault.EntryFault.{EntryFault}
 use Rattle.batch_reader.specs.declared.fault.EntryFault.TheVariants.{OutOfLimit}
 use Rattle.batch_reader.specs.declared.fault.Spot.{Spot}
+use Rattle.batch_reader.specs.declared.fault.TableKind.{TableKind}
 use Rattle.batch_reader.specs.declared.fault.TableKind.TheVariants.{Cell, Recipe}
 
--- in the document this is wrong at the table: with that table by itself, or among those of a cell, or of a recipe
-abbrev pub IsWrongAt : Members → Spot → EntryFault → Type 0
-IsWrongAt document spot wrong =
-    IsFaultOfTable document spot.kind spot.entry wrong
-    ⊎ (HasEquipmentFault document spot.kind spot.entry wrong ⊎ HasPartFault document spot.kind spot.entry wrong)
+-- in the document this is wrong at the table: with that table by itself, at the key where it is in one, or among those of a cell, or of a recipe
+abbrev pub IsWrongAt : Members → TableKind → ℕ → Option (List ℕ) → EntryFault → Type 0
+IsWrongAt document kind entry at wrong =
+    IsFaultOfTable document kind entry at wrong ⊎ (HasEquipmentFault document kind entry wrong ⊎ HasPartFault document kind entry wrong)
 
 -- the bytes are too many, which is told at the top
 pub record IsTooLong (bytes : List ℕ) (spot : Spot) (wrong : EntryFault) : Type 0 where
@@ -27,7 +28,7 @@ pub record IsTooLong (bytes : List ℕ) (spot : Spot) (wrong : EntryFault) : Typ
 pub record IsWrongIn (bytes : List ℕ) (spot : Spot) (wrong : EntryFault) : Type 0 where
   pub document : Members
   pub parsed : parse_document bytes ≡ Some document
-  pub wrong_at : IsWrongAt document spot wrong
+  pub wrong_at : IsWrongAt document spot.kind spot.entry (key_at spot) wrong
 
 -- this is wrong with the bytes, at the table that the spot names
 abbrev pub FaultStands : List ℕ → Spot → EntryFault → Type 0

@@ -14,7 +14,8 @@ use Rattle.batch_grammar.specs.declared.reading.TheConstants.{MAX_CHART_LEN}
 use Rattle.batch_reader.specs.Entries.{HasText}
 use Rattle.batch_reader.specs.NeedText.{is_star}
 use Rattle.batch_reader.specs.PartFaults.{HasActTwice, HasRoleTwice, HasUndeclaredName, HasUndeclaredRole, HasReportTwice, HasUndeclaredReport, HasValueTwice}
-use Rattle.batch_reader.specs.TableFaults.{count_items, HasItem, IsNoNeedCut, HasTooManyUnits, IsNoNeed, IsNeedOutOfLimits, IsTableFault}
+use Rattle.batch_reader.specs.Spots.{key_at}
+use Rattle.batch_reader.specs.TableFaults.{FaultOf, count_items, HasItem, IsNoNeedCut, HasTooManyUnits, IsNoNeed, IsNeedOutOfLimits, IsTableFault}
 use Rattle.batch_reader.specs.declared.fault.EntryFault.{EntryFault}
 use Rattle.batch_reader.specs.declared.fault.EntryFault.TheVariants.{MissingKey, WrongKind, Undeclared, Duplicate, OutOfLimit}
 use Rattle.batch_reader.specs.declared.fault.Spot.{Spot}
@@ -61,9 +62,14 @@ abbrev pub TellsAt : Spot → (EntryFault → Type 0) → TableFault → Type 0
 TellsAt spot Is (Entry here wrong) = (here ≡ spot) × Is wrong
 TellsAt spot Is Memory = ⊤
 
+-- unless memory was refused, such a thing is wrong in the table at this spot, at a key or in the whole of it
+abbrev pub TellsOf : Spot → (Option (List ℕ) → EntryFault → Type 0) → TableFault → Type 0
+TellsOf spot Is (Entry here wrong) = (here.kind ≡ spot.kind) × (here.entry ≡ spot.entry) × Is (key_at here) wrong
+TellsOf spot Is Memory = ⊤
+
 -- unless memory was refused, such a thing is wrong at an entry of a table of this kind
-abbrev pub TellsIn : TableKind → (ℕ → EntryFault → Type 0) → TableFault → Type 0
-TellsIn kind Is (Entry here wrong) = (here.kind ≡ kind) × Is here.entry wrong
+abbrev pub TellsIn : TableKind → (ℕ → Option (List ℕ) → EntryFault → Type 0) → TableFault → Type 0
+TellsIn kind Is (Entry here wrong) = (here.kind ≡ kind) × Is here.entry (key_at here) wrong
 TellsIn kind Is Memory = ⊤
 
 -- unless memory was refused, such a thing is wrong at a spot
@@ -96,11 +102,11 @@ IsNeedsFault items OutOfLimit = HasItem IsNeedOutOfLimits items
 IsNeedsFault items _ = ⊥
 
 -- this is wrong with the table of an act of this kind
-abbrev pub IsActFault : TableKind → Members → EntryFault → Type 0
-IsActFault UnitProcedure table wrong = IsTableFault UnitProcedure table wrong
-IsActFault Operation table wrong = IsTableFault Operation table wrong
-IsActFault Phase table wrong = IsTableFault Phase table wrong
-IsActFault _ table wrong = ⊤
+abbrev pub IsActFault : TableKind → FaultOf
+IsActFault UnitProcedure table at wrong = IsTableFault UnitProcedure table at wrong
+IsActFault Operation table at wrong = IsTableFault Operation table at wrong
+IsActFault Phase table at wrong = IsTableFault Phase table at wrong
+IsActFault _ table at wrong = ⊤
 
 -- this is wrong among the names of values and acts, and what acts name of them
 abbrev pub IsNamingFault : List Quantity → List Quantity → List Name → Acts → TableKind → ℕ → EntryFault → Type 0

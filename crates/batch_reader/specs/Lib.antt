@@ -1,5 +1,6 @@
 pub mod NeedText
 pub mod Entries
+pub mod Spots
 pub mod Words
 pub mod Keys
 pub mod CellDocument

@@ -1,5 +1,5 @@
 -- worked rows: what stands in a document, and what doesn't.
-use Rattle.std.specs.Prelude.{◌≡◌, [], ◌∷◌, Some, codes}
+use Rattle.std.specs.Prelude.{◌≡◌, ℕ, List, [], ◌∷◌, Option, Some, None, codes}
 use Rattle.toml.specs.Data.{Members, no_members, member, no_items, item, string, array, table}
 use Rattle.batch_cell.specs.declared.module.Module.{Module}
 use Rattle.batch_recipe.specs.declared.act.Act.{Act}
@@ -13,15 +13,15 @@ abbrev pub nameless : Members
 nameless = member (codes "cell") (string (codes "C")) (member (codes "unit") (array (item (table no_members) no_items)) no_members)
 
 abbrev pub UnitLacksItsName : Type 0
-UnitLacksItsName = IsFaultOfTable nameless table_kind.Unit 0 MissingKey
+UnitLacksItsName = IsFaultOfTable nameless table_kind.Unit 0 (Some (codes "name")) MissingKey
 
 -- there is no second unit
 abbrev pub NoSecondUnitLacksOne : Type 0
-NoSecondUnitLacksOne = ¬ IsFaultOfTable nameless table_kind.Unit 1 MissingKey
+NoSecondUnitLacksOne = (at : Option (List ℕ)) → ¬ IsFaultOfTable nameless table_kind.Unit 1 at MissingKey
 
 -- the unit has no key that is unknown
 abbrev pub NoKeyIsUnknown : Type 0
-NoKeyIsUnknown = ¬ IsFaultOfTable nameless table_kind.Unit 0 UnknownKey
+NoKeyIsUnknown = (at : Option (List ℕ)) → ¬ IsFaultOfTable nameless table_kind.Unit 0 at UnknownKey
 
 -- the table of a unit procedure, with these keys between its name and its chart
 abbrev pub with_keys : (Members → Members) → Members
@@ -39,16 +39,16 @@ for_role rest = member (codes "role") (string (codes "rx")) rest
 
 -- `unit` isn't known beside `role`, and `role` alone is
 abbrev pub UnitBesideRoleIsUnknown : Type 0
-UnitBesideRoleIsUnknown = IsFaultOfTable (one_unit_procedure (λ rest. on_unit (for_role rest))) table_kind.UnitProcedure 0 UnknownKey
+UnitBesideRoleIsUnknown = IsFaultOfTable (one_unit_procedure (λ rest. on_unit (for_role rest))) table_kind.UnitProcedure 0 None UnknownKey
 
 abbrev pub RoleAloneIsKnown : Type 0
-RoleAloneIsKnown = ¬ IsFaultOfTable (one_unit_procedure for_role) table_kind.UnitProcedure 0 UnknownKey
+RoleAloneIsKnown = (at : Option (List ℕ)) → ¬ IsFaultOfTable (one_unit_procedure for_role) table_kind.UnitProcedure 0 at UnknownKey
 
 -- with neither of them one is missing, and no key is unknown
 abbrev pub NeitherIsMissing : Type 0
 NeitherIsMissing =
-    IsFaultOfTable (one_unit_procedure (λ rest. rest)) table_kind.UnitProcedure 0 MissingKey
-    × (¬ IsFaultOfTable (one_unit_procedure (λ rest. rest)) table_kind.UnitProcedure 0 UnknownKey)
+    IsFaultOfTable (one_unit_procedure (λ rest. rest)) table_kind.UnitProcedure 0 (Some (codes "unit")) MissingKey
+    × ((at : Option (List ℕ)) → ¬ IsFaultOfTable (one_unit_procedure (λ rest. rest)) table_kind.UnitProcedure 0 at UnknownKey)
 
 -- a text that begins with `s` isn't at fault there, since `skip` does too
 abbrev pub FirstByteIsGood : Type 0

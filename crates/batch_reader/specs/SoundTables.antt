@@ -9,6 +9,7 @@ use Rattle.batch_recipe.specs.declared.quantity.Quantity.{Quantity}
 use Rattle.batch_recipe.specs.declared.recipe.TheConstants.{MAX_ENTRIES, MAX_ACTS}
 use Rattle.batch_recipe.specs.declared.role.Role.{Role}
 use Rattle.batch_recipe.specs.declared.role.TheConstants.{MAX_ROLES}
+use Rattle.batch_reader.specs.Spots.{spot_of}
 use Rattle.batch_reader.specs.declared.fault.EntryFault.TheVariants.{OutOfLimit}
 use Rattle.batch_reader.specs.declared.fault.TableFault.{TableFault}
 use Rattle.batch_reader.specs.declared.fault.TableFault.TheVariants.{Entry, Memory}
@@ -33,5 +34,5 @@ pub record HasSoundTables (inputs parameters : List Quantity) (outputs : List Na
 
 -- the size of the expanded tree is told at the procedure
 abbrev pub outline_fault : OutlineFault → TableFault
-outline_fault outline.TooMany = Entry (record { kind = Procedure; entry = 0 }) OutOfLimit
+outline_fault outline.TooMany = Entry (spot_of Procedure 0) OutOfLimit
 outline_fault outline.Memory = Memory

@@ -152,51 +152,59 @@ IsKeyFault key table UnknownKey = ⊥
 IsKeyFault key table Undeclared = ⊥
 IsKeyFault key table Duplicate = ⊥
 
--- this is wrong with the table at one of the keys, which may stand there
-pub record HasKeyFault (keys : List Key) (may : List ℕ → Bool) (table : Members) (wrong : EntryFault) : Type 0 where
+-- what is wrong with a table, and at which key
+abbrev pub FaultOf : Type 1
+FaultOf = Members → Option (List ℕ) → EntryFault → Type 0
+
+-- this is wrong with the table at this key
+abbrev pub IsFaultAt : Key → FaultOf
+IsFaultAt key table at wrong = (at ≡ Some key.word) × IsKeyFault key table wrong
+
+-- this is wrong with the table at this key, which is one of these and may stand there
+pub record HasKeyFault (keys : List Key) (may : List ℕ → Bool) (table : Members) (at : Option (List ℕ)) (wrong : EntryFault) : Type 0 where
   pub place : ℕ
   pub key : Key
   pub listed : slice_get keys place ≡ Some key
   pub stands : may key.word ≡ true
-  pub fault : IsKeyFault key table wrong
+  pub fault : IsFaultAt key table at wrong
 
 -- a key of the table is none of these
 pub record HasUnknownKey (known : List (List ℕ)) (table : Members) (wrong : EntryFault) : Type 0 where
   pub unknown : has_only_keys known table ≡ false
   pub told : wrong ≡ UnknownKey
 
--- this is wrong with the table of this kind
-abbrev pub IsTableFault : TableKind → Members → EntryFault → Type 0
-IsTableFault kind table wrong =
-    HasUnknownKey (known_words kind table) table wrong ⊎ HasKeyFault (keys_of kind) (λ word. may_stand kind word table) table wrong
+-- this is wrong with the table of this kind, at this key where it is in one
+abbrev pub IsTableFault : TableKind → FaultOf
+IsTableFault kind table at wrong =
+    HasUnknownKey (known_words kind table) table wrong ⊎ HasKeyFault (keys_of kind) (λ word. may_stand kind word table) table at wrong
 
 -- ---- the table that a refusal names
 
 -- the value is no table, or this is wrong with it
-abbrev pub IsNoTableOr : (Members → EntryFault → Type 0) → Option Members → EntryFault → Type 0
-IsNoTableOr IsFault None wrong = wrong ≡ WrongKind
-IsNoTableOr IsFault (Some table) wrong = IsFault table wrong
+abbrev pub IsNoTableOr : FaultOf → Option Members → Option (List ℕ) → EntryFault → Type 0
+IsNoTableOr IsFault None at wrong = (at ≡ None) × (wrong ≡ WrongKind)
+IsNoTableOr IsFault (Some table) at wrong = IsFault table at wrong
 
 -- the list has this entry, with which this is wrong, and those before it are right
-pub record IsEntryFault (IsRight : Data → Type 0) (IsFault : Members → EntryFault → Type 0) (items : Items) (entry : ℕ) (wrong : EntryFault) : Type 0 where
+pub record IsEntryFault (IsRight : Data → Type 0) (IsFault : FaultOf) (items : Items) (entry : ℕ) (at : Option (List ℕ)) (wrong : EntryFault) : Type 0 where
   pub here : Data
   pub found : get_item entry items ≡ Some here
-  pub fault : IsNoTableOr IsFault (as_table here) wrong
+  pub fault : IsNoTableOr IsFault (as_table here) at wrong
   pub before : (n : ℕ) (d : Data) → n < entry → get_item n items ≡ Some d → IsRight d
 
 -- what stands for the tables is no list, which is told at entry 0, or this is wrong with the entry, and with none before it
-abbrev pub IsArrayFault : (Data → Type 0) → (Members → EntryFault → Type 0) → Option Items → ℕ → EntryFault → Type 0
-IsArrayFault IsRight IsFault None entry wrong = (entry ≡ 0) × (wrong ≡ WrongKind)
-IsArrayFault IsRight IsFault (Some items) entry wrong = IsEntryFault IsRight IsFault items entry wrong
+abbrev pub IsArrayFault : (Data → Type 0) → FaultOf → Option Items → ℕ → Option (List ℕ) → EntryFault → Type 0
+IsArrayFault IsRight IsFault None entry at wrong = (entry ≡ 0) × (at ≡ None) × (wrong ≡ WrongKind)
+IsArrayFault IsRight IsFault (Some items) entry at wrong = IsEntryFault IsRight IsFault items entry at wrong
 
 -- the procedure is missing, or this is wrong with it
-abbrev pub IsProcedureFault : Option Data → EntryFault → Type 0
-IsProcedureFault None wrong = wrong ≡ MissingKey
-IsProcedureFault (Some d) wrong = IsNoTableOr (IsTableFault Procedure) (as_table d) wrong
+abbrev pub IsProcedureFault : Option Data → Option (List ℕ) → EntryFault → Type 0
+IsProcedureFault None at wrong = (at ≡ None) × (wrong ≡ MissingKey)
+IsProcedureFault (Some d) at wrong = IsNoTableOr (IsTableFault Procedure) (as_table d) at wrong
 
 -- this is wrong with the table of the document that has this number among those of its kind
-abbrev pub IsFaultOfTable : Members → TableKind → ℕ → EntryFault → Type 0
-IsFaultOfTable document Cell entry wrong = (entry ≡ 0) × IsTableFault Cell document wrong
-IsFaultOfTable document Recipe entry wrong = (entry ≡ 0) × IsTableFault Recipe document wrong
-IsFaultOfTable document Procedure entry wrong = (entry ≡ 0) × IsProcedureFault (get_member (codes "procedure") document) wrong
-IsFaultOfTable document kind entry wrong = IsArrayFault (IsRightTable kind) (IsTableFault kind) (items_at (table_word kind) document) entry wrong
+abbrev pub IsFaultOfTable : Members → TableKind → ℕ → Option (List ℕ) → EntryFault → Type 0
+IsFaultOfTable document Cell entry at wrong = (entry ≡ 0) × IsTableFault Cell document at wrong
+IsFaultOfTable document Recipe entry at wrong = (entry ≡ 0) × IsTableFault Recipe document at wrong
+IsFaultOfTable document Procedure entry at wrong = (entry ≡ 0) × IsProcedureFault (get_member (codes "procedure") document) at wrong
+IsFaultOfTable document kind entry at wrong = IsArrayFault (IsRightTable kind) (IsTableFault kind) (items_at (table_word kind) document) entry at wrong

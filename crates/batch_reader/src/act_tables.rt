@@ -5,7 +5,7 @@ ghost use Rattle.toml.specs.View.{table_view};
 ghost use Rattle.batch_recipe.specs.declared.act.Act.{Act};
 ghost use Rattle.batch_reader.specs.Entries.{HasName, HasTable};
 ghost use Rattle.batch_reader.specs.RecipeTables.{IsActTable, IsProcedureTable, IsUnitProcedureTable, IsOperationTable, IsPhaseTable, choice_key, choice_name};
-ghost use Rattle.batch_reader.specs.Faults.{IsActFault, TellsAt};
+ghost use Rattle.batch_reader.specs.Faults.{IsActFault, TellsOf};
 ghost use Rattle.batch_reader.specs.TableFaults.{IsProcedureFault, IsTableFault};
 ghost use Rattle.batch_reader.specs.declared.fault.TableKind.{TableKind};
 
@@ -24,6 +24,7 @@ use toml::Table;
 const PROCEDURE: Spot = Spot {
     kind: TableKind::Procedure,
     entry: 0,
+    key: None,
 };
 
 impl FromTable for Act {
@@ -47,7 +48,7 @@ fn choice_at(alloc: Global, table: &Table, spot: Spot) -> Result<UnitChoice, Tab
     ensures ok { IfOk result (λ choice. HasName (choice_key choice) (table_view table.now) (choice_name choice)) }
     ensures refused { IfErr result (λ fault. fault ≢ TableFault.Memory
         → (act : Act) → ¬ (IsUnitProcedureTable (table_view table.now) act)) }
-    ensures told { IfErr result (TellsAt spot (IsTableFault TableKind.UnitProcedure (table_view table.now))) }
+    ensures told { IfErr result (TellsOf spot (IsTableFault TableKind.UnitProcedure (table_view table.now))) }
 {
     let chosen = optional_name_at(alloc, table, "role", spot)?;
     if let Some(role) = chosen {
@@ -61,7 +62,7 @@ fn unit_procedure(alloc: Global, table: &Table, spot: Spot) -> Result<Act, Table
     ensures ok { IfOk result (IsUnitProcedureTable (table_view table.now)) }
     ensures refused { IfErr result (λ fault. fault ≢ TableFault.Memory
         → (act : Act) → ¬ (IsUnitProcedureTable (table_view table.now) act)) }
-    ensures told { IfErr result (TellsAt spot (IsTableFault TableKind.UnitProcedure (table_view table.now))) }
+    ensures told { IfErr result (TellsOf spot (IsTableFault TableKind.UnitProcedure (table_view table.now))) }
 {
     if !has_known_keys(table, TableKind::UnitProcedure) {
         return Err(TableFault::Entry(spot, EntryFault::UnknownKey));
@@ -84,7 +85,7 @@ fn operation(alloc: Global, table: &Table, spot: Spot) -> Result<Act, TableFault
     ensures ok { IfOk result (IsOperationTable (table_view table.now)) }
     ensures refused { IfErr result (λ fault. fault ≢ TableFault.Memory
         → (act : Act) → ¬ (IsOperationTable (table_view table.now) act)) }
-    ensures told { IfErr result (TellsAt spot (IsTableFault TableKind.Operation (table_view table.now))) }
+    ensures told { IfErr result (TellsOf spot (IsTableFault TableKind.Operation (table_view table.now))) }
 {
     if !has_known_keys(table, TableKind::Operation) {
         return Err(TableFault::Entry(spot, EntryFault::UnknownKey));
@@ -106,7 +107,7 @@ fn phase_step(alloc: Global, table: &Table, spot: Spot) -> Result<Act, TableFaul
     ensures ok { IfOk result (IsPhaseTable (table_view table.now)) }
     ensures refused { IfErr result (λ fault. fault ≢ TableFault.Memory
         → (act : Act) → ¬ (IsPhaseTable (table_view table.now) act)) }
-    ensures told { IfErr result (TellsAt spot (IsTableFault TableKind.Phase (table_view table.now))) }
+    ensures told { IfErr result (TellsOf spot (IsTableFault TableKind.Phase (table_view table.now))) }
 {
     if !has_known_keys(table, TableKind::Phase) {
         return Err(TableFault::Entry(spot, EntryFault::UnknownKey));
@@ -136,7 +137,7 @@ pub(crate) fn procedure_at(alloc: Global, table: &Table, name: Name) -> Result<A
     ensures named { IfOk result (λ act. act.name ≡ name) }
     ensures refused { IfErr result (λ fault. fault ≢ TableFault.Memory
         → (act : Act) → ¬ (HasTable IsProcedureTable (codes "procedure") (table_view table.now) act)) }
-    ensures told { IfErr result (TellsAt PROCEDURE (IsProcedureFault (get_member (codes "procedure") (table_view table.now)))) }
+    ensures told { IfErr result (TellsOf PROCEDURE (IsProcedureFault (get_member (codes "procedure") (table_view table.now)))) }
 {
     let Some(value) = member(table, "procedure") else {
         return Err(TableFault::Entry(PROCEDURE, EntryFault::MissingKey));
@@ -152,7 +153,7 @@ fn procedure(alloc: Global, table: &Table, name: Name) -> Result<Act, TableFault
     ensures named { IfOk result (λ act. act.name ≡ name) }
     ensures refused { IfErr result (λ fault. fault ≢ TableFault.Memory
         → (act : Act) → ¬ (IsProcedureTable (table_view table.now) act)) }
-    ensures told { IfErr result (TellsAt PROCEDURE (IsTableFault TableKind.Procedure (table_view table.now))) }
+    ensures told { IfErr result (TellsOf PROCEDURE (IsTableFault TableKind.Procedure (table_view table.now))) }
 {
     if !has_known_keys(table, TableKind::Procedure) {
         return Err(TableFault::Entry(PROCEDURE, EntryFault::UnknownKey));

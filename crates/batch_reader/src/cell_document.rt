@@ -6,6 +6,7 @@ ghost use Rattle.batch_cell.specs.declared.cell.Cell.{Cell};
 ghost use Rattle.batch_reader.specs.CellDocument.{IsCellTable, IsCellDocument};
 ghost use Rattle.batch_reader.specs.Faults.{IsAmong, Tells, is_of_cell};
 ghost use Rattle.batch_reader.specs.FaultStands.{FaultStands, IsWrongAt};
+ghost use Rattle.batch_reader.specs.Spots.{key_at, spot_of};
 ghost use Rattle.batch_reader.specs.declared.document.TheConstants.{MAX_DOCUMENT_LEN};
 ghost use Rattle.batch_reader.specs.declared.fault.EntryFault.{EntryFault};
 ghost use Rattle.batch_reader.specs.declared.fault.Spot.{Spot};
@@ -23,6 +24,7 @@ use toml::Table;
 const TOP: Spot = Spot {
     kind: TableKind::Cell,
     entry: 0,
+    key: None,
 };
 
 /// Reads a cell document. It is refused as
@@ -37,7 +39,7 @@ pub fn read_cell(alloc: Global, bytes: &[u8]) -> Result<Cell, DocFault>
     ensures refused { IfErr result (λ fault. fault ≢ DocFault.Memory
         → (cell : Cell) → ¬ (IsCellDocument bytes.now cell)) }
     ensures long { MAX_DOCUMENT_LEN < length bytes.now
-        → result ≡ Err (DocFault.Entry (record { kind = TableKind.Cell; entry = 0 }) EntryFault.OutOfLimit) }
+        → result ≡ Err (DocFault.Entry (spot_of TableKind.Cell 0) EntryFault.OutOfLimit) }
     ensures told { (spot : Spot) (wrong : EntryFault) → IsErrOf result (DocFault.Entry spot wrong) → is_of_cell spot.kind ≡ true }
     ensures stands { (spot : Spot) (wrong : EntryFault) → IsErrOf result (DocFault.Entry spot wrong) → FaultStands bytes.now spot wrong }
 {
@@ -53,7 +55,7 @@ fn cell_from_table(alloc: Global, table: &Table) -> Result<Cell, TableFault>
     ensures refused { IfErr result (λ fault. fault ≢ TableFault.Memory
         → (cell : Cell) → ¬ (IsCellTable (table_view table.now) cell)) }
     ensures told { IfErr result (IsAmong is_of_cell) }
-    ensures stands { IfErr result (Tells (IsWrongAt (table_view table.now))) }
+    ensures stands { IfErr result (Tells (λ spot. IsWrongAt (table_view table.now) spot.kind spot.entry (key_at spot))) }
 {
     if !has_known_keys(table, TableKind::Cell) {
         return Err(TableFault::Entry(TOP, EntryFault::UnknownKey));

@@ -6,9 +6,9 @@ ghost use Rattle.batch_cell.specs.declared.module.Module.{Module};
 ghost use Rattle.batch_reader.specs.CellDocument.{IsUnitTable, IsModuleTable, IsSharedTable};
 ghost use Rattle.batch_cell.specs.declared.shared.TheConstants.{MAX_CAPACITY};
 ghost use Rattle.batch_reader.specs.Entries.{HasNumber};
-ghost use Rattle.batch_reader.specs.Faults.{TellsAt};
+ghost use Rattle.batch_reader.specs.Faults.{TellsOf};
 ghost use Rattle.batch_reader.specs.Keys.{needed};
-ghost use Rattle.batch_reader.specs.TableFaults.{IsKeyFault, IsTableFault};
+ghost use Rattle.batch_reader.specs.TableFaults.{IsFaultAt, IsTableFault};
 ghost use Rattle.batch_reader.specs.declared.fault.TableKind.{TableKind};
 ghost use Rattle.batch_reader.specs.declared.keys.ValueForm.{ValueForm};
 
@@ -53,7 +53,7 @@ fn free_module(alloc: Global, table: &Table, spot: Spot) -> Result<Module, Table
     ensures ok { IfOk result (IsModuleTable (table_view table.now)) }
     ensures refused { IfErr result (λ fault. fault ≢ TableFault.Memory
         → (m : Module) → ¬ (IsModuleTable (table_view table.now) m)) }
-    ensures told { IfErr result (TellsAt spot (IsTableFault TableKind.Module (table_view table.now))) }
+    ensures told { IfErr result (TellsOf spot (IsTableFault TableKind.Module (table_view table.now))) }
 {
     if !has_known_keys(table, TableKind::Module) {
         return Err(TableFault::Entry(spot, EntryFault::UnknownKey));
@@ -71,7 +71,7 @@ fn unit_module(alloc: Global, table: &Table, spot: Spot) -> Result<Module, Table
     ensures ok { IfOk result (IsModuleTable (table_view table.now)) }
     ensures refused { IfErr result (λ fault. fault ≢ TableFault.Memory
         → (m : Module) → ¬ (IsModuleTable (table_view table.now) m)) }
-    ensures told { IfErr result (TellsAt spot (IsTableFault TableKind.Module (table_view table.now))) }
+    ensures told { IfErr result (TellsOf spot (IsTableFault TableKind.Module (table_view table.now))) }
 {
     if !has_known_keys(table, TableKind::Module) {
         return Err(TableFault::Entry(spot, EntryFault::UnknownKey));
@@ -80,7 +80,7 @@ fn unit_module(alloc: Global, table: &Table, spot: Spot) -> Result<Module, Table
     let unit = name_at(alloc, table, "unit", spot)?;
     let phases = names_at(alloc, table, "phases", spot)?;
     if phases.is_empty() || phases.len() > MAX_PHASES {
-        return Err(TableFault::Entry(spot, EntryFault::OutOfLimit));
+        return Err(TableFault::Entry(spot.at("phases"), EntryFault::OutOfLimit));
     }
     Ok(Module {
         name,
@@ -108,7 +108,7 @@ impl FromTable for Shared {
 fn capacity_at(table: &Table, spot: Spot) -> Result<u32, TableFault>
     ensures ok { IfOk result (HasNumber (codes "capacity") (table_view table.now) 1 MAX_CAPACITY) }
     ensures refused { IfErr result (λ fault. (number : ℕ) → ¬ (HasNumber (codes "capacity") (table_view table.now) 1 MAX_CAPACITY number)) }
-    ensures told { IfErr result (TellsAt spot (IsKeyFault (needed (codes "capacity") (ValueForm.Number 1 MAX_CAPACITY)) (table_view table.now))) }
+    ensures told { IfErr result (TellsOf spot (IsFaultAt (needed (codes "capacity") (ValueForm.Number 1 MAX_CAPACITY)) (table_view table.now))) }
 {
     let capacity = number_at(table, "capacity", 1, u64::from(MAX_CAPACITY), spot)?;
     Ok(capacity as u32)

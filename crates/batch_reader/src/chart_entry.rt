@@ -4,9 +4,9 @@ ghost use Rattle.toml.specs.View.{table_view};
 ghost use Rattle.batch_recipe.specs.Diagram.{Diagram, diagram_of};
 ghost use Rattle.batch_recipe.specs.WellFormed.{has_no_par};
 ghost use Rattle.batch_reader.specs.Entries.{HasChart};
-ghost use Rattle.batch_reader.specs.Faults.{HasReadChart, TellsAt};
+ghost use Rattle.batch_reader.specs.Faults.{HasReadChart, TellsOf};
 ghost use Rattle.batch_reader.specs.Keys.{needed};
-ghost use Rattle.batch_reader.specs.TableFaults.{IsKeyFault};
+ghost use Rattle.batch_reader.specs.TableFaults.{IsFaultAt};
 ghost use Rattle.batch_reader.specs.declared.keys.ValueForm.{ValueForm};
 
 use crate::entries::member;
@@ -22,23 +22,24 @@ fn read_chart_at(alloc: Global, table: &Table, spot: Spot) -> Result<ReadChart, 
     ensures read { IfOk result (λ read. HasReadChart (table_view table.now) (diagram_of read.chart) read.first_par) }
     ensures refused { IfErr result (λ fault. fault ≢ TableFault.Memory
         → (chart : Diagram) → ¬ (HasChart (codes "chart") (table_view table.now) chart)) }
-    ensures told { IfErr result (TellsAt spot (IsKeyFault (needed (codes "chart") ValueForm.Chart) (table_view table.now))) }
+    ensures told { IfErr result (TellsOf spot (IsFaultAt (needed (codes "chart") ValueForm.Chart) (table_view table.now))) }
 {
+    let here = spot.at("chart");
     let Some(value) = member(table, "chart") else {
-        return Err(TableFault::Entry(spot, EntryFault::MissingKey));
+        return Err(TableFault::Entry(here, EntryFault::MissingKey));
     };
     let Some(text) = value.as_str() else {
-        return Err(TableFault::Entry(spot, EntryFault::WrongKind));
+        return Err(TableFault::Entry(here, EntryFault::WrongKind));
     };
     if text.len() > MAX_CHART_LEN {
-        return Err(TableFault::Entry(spot, EntryFault::OutOfLimit));
+        return Err(TableFault::Entry(here, EntryFault::OutOfLimit));
     }
     match read_chart_and_par(alloc, text.as_bytes()) {
         Ok(read) => Ok(read),
         Err(ChartFault::NotAChart(offset)) => {
-            Err(TableFault::Entry(spot, EntryFault::Chart(offset)))
+            Err(TableFault::Entry(here, EntryFault::Chart(offset)))
         }
-        Err(ChartFault::OutOfRange(_)) => Err(TableFault::Entry(spot, EntryFault::OutOfLimit)),
+        Err(ChartFault::OutOfRange(_)) => Err(TableFault::Entry(here, EntryFault::OutOfLimit)),
         Err(ChartFault::Memory) => Err(TableFault::Memory),
     }
 }
@@ -48,7 +49,7 @@ pub(crate) fn chart_at(alloc: Global, table: &Table, spot: Spot) -> Result<Chart
     ensures ok { IfOk result (λ chart. HasChart (codes "chart") (table_view table.now) (diagram_of chart)) }
     ensures refused { IfErr result (λ fault. fault ≢ TableFault.Memory
         → (chart : Diagram) → ¬ (HasChart (codes "chart") (table_view table.now) chart)) }
-    ensures told { IfErr result (TellsAt spot (IsKeyFault (needed (codes "chart") ValueForm.Chart) (table_view table.now))) }
+    ensures told { IfErr result (TellsOf spot (IsFaultAt (needed (codes "chart") ValueForm.Chart) (table_view table.now))) }
 {
     let read = read_chart_at(alloc, table, spot)?;
     Ok(read.chart)
@@ -64,11 +65,14 @@ pub(crate) fn chart_without_par_at(
     ensures no_par { IfOk result (λ chart. has_no_par (diagram_of chart) ≡ true) }
     ensures refused { IfErr result (λ fault. fault ≢ TableFault.Memory
         → (chart : Diagram) → HasChart (codes "chart") (table_view table.now) chart → ¬ (has_no_par chart ≡ true)) }
-    ensures told { IfErr result (TellsAt spot (IsKeyFault (needed (codes "chart") ValueForm.ChartWithoutPar) (table_view table.now))) }
+    ensures told { IfErr result (TellsOf spot (IsFaultAt (needed (codes "chart") ValueForm.ChartWithoutPar) (table_view table.now))) }
 {
     let read = read_chart_at(alloc, table, spot)?;
     match read.first_par {
         None => Ok(read.chart),
-        Some(offset) => Err(TableFault::Entry(spot, EntryFault::Chart(offset))),
+        Some(offset) => Err(TableFault::Entry(
+            spot.at("chart"),
+            EntryFault::Chart(offset),
+        )),
     }
 }

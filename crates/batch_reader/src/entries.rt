@@ -7,6 +7,7 @@ ghost use Rattle.toml.specs.Data.{as_integer, as_str, get_member};
 ghost use Rattle.toml.specs.View.{view, items_view, table_view};
 ghost use Rattle.batch_reader.specs.Entries.{HasName, HasNumber, HasNames, HasText, AllItems, IsNameItem, IsTruth, MayHaveName, MayHaveText, has_only_keys};
 ghost use Rattle.batch_reader.specs.Faults.{IsToldAs, missing_or_wrong, value_fault};
+ghost use Rattle.batch_reader.specs.Spots.{at_key};
 
 use crate::fault::{EntryFault, Spot, TableFault};
 use batch_text::{Name, TextFault};
@@ -51,29 +52,30 @@ fn name_of(alloc: Global, value: &Value, spot: Spot) -> Result<Name, TableFault>
 }
 
 /// The name at a key of the table at the spot. It is refused there as missing, and as of the wrong kind where it is no name.
-pub fn name_at(alloc: Global, table: &Table, key: &str, spot: Spot) -> Result<Name, TableFault>
+pub fn name_at(alloc: Global, table: &Table, key: &'static str, spot: Spot) -> Result<Name, TableFault>
     ensures ok { IfOk result (HasName key.now (table_view table.now)) }
     ensures refused { IfErr result (λ fault. fault ≢ TableFault.Memory
         → (name : List ℕ) → ¬ (HasName key.now (table_view table.now) name)) }
-    ensures told { IfErr result (IsToldAs spot (missing_or_wrong (get_member key.now (table_view table.now)))) }
+    ensures told { IfErr result (IsToldAs (at_key key spot) (missing_or_wrong (get_member key.now (table_view table.now)))) }
 {
+    let here = spot.at(key);
     let Some(value) = member(table, key) else {
-        return Err(TableFault::Entry(spot, EntryFault::MissingKey));
+        return Err(TableFault::Entry(here, EntryFault::MissingKey));
     };
-    name_of(alloc, value, spot)
+    name_of(alloc, value, here)
 }
 
 /// The name at a key of the table at the spot, where the key is there. It is refused as of the wrong kind where it is no name.
 pub fn optional_name_at(
     alloc: Global,
     table: &Table,
-    key: &str,
+    key: &'static str,
     spot: Spot,
 ) -> Result<Option<Name>, TableFault>
     ensures ok { IfOk result (MayHaveName key.now (table_view table.now)) }
     ensures refused { IfErr result (λ fault. fault ≢ TableFault.Memory
         → (name : Option (List ℕ)) → ¬ (MayHaveName key.now (table_view table.now) name)) }
-    ensures told { IfErr result (IsToldAs spot EntryFault.WrongKind) }
+    ensures told { IfErr result (IsToldAs (at_key key spot) EntryFault.WrongKind) }
 {
     if member(table, key).is_none() {
         return Ok(None);
@@ -86,33 +88,34 @@ pub fn optional_name_at(
 /// limits where it isn't from `low` to `high`.
 pub fn number_at(
     table: &Table,
-    key: &str,
+    key: &'static str,
     low: u64,
     high: u64,
     spot: Spot,
 ) -> Result<u64, TableFault>
     ensures ok { IfOk result (HasNumber key.now (table_view table.now) low high) }
     ensures refused { IfErr result (λ fault. (number : ℕ) → ¬ (HasNumber key.now (table_view table.now) low high number)) }
-    ensures told { IfErr result (λ fault. fault ≡ TableFault.Entry spot (value_fault as_integer (get_member key.now (table_view table.now)))) }
+    ensures told { IfErr result (λ fault. fault ≡ TableFault.Entry (at_key key spot) (value_fault as_integer (get_member key.now (table_view table.now)))) }
 {
+    let here = spot.at(key);
     let Some(value) = member(table, key) else {
-        return Err(TableFault::Entry(spot, EntryFault::MissingKey));
+        return Err(TableFault::Entry(here, EntryFault::MissingKey));
     };
     let Some(integer) = value.as_integer() else {
-        return Err(TableFault::Entry(spot, EntryFault::WrongKind));
+        return Err(TableFault::Entry(here, EntryFault::WrongKind));
     };
     if integer < 0 {
-        return Err(TableFault::Entry(spot, EntryFault::OutOfLimit));
+        return Err(TableFault::Entry(here, EntryFault::OutOfLimit));
     }
     let number = integer as u64;
     if number < low || number > high {
-        return Err(TableFault::Entry(spot, EntryFault::OutOfLimit));
+        return Err(TableFault::Entry(here, EntryFault::OutOfLimit));
     }
     Ok(number)
 }
 
 /// The truth value at a key of the table at the spot, false where it is missing. It is refused where it is of the wrong kind.
-pub fn truth_at(table: &Table, key: &str, spot: Spot) -> Result<bool, TableFault>
+pub fn truth_at(table: &Table, key: &'static str, spot: Spot) -> Result<bool, TableFault>
     ensures ok { IfOk result (IsTruth key.now (table_view table.now)) }
     ensures refused { IfErr result (λ fault. (truth : Bool) → ¬ (IsTruth key.now (table_view table.now) truth)) }
     ensures told { IfErr result (λ fault. fault ≡ TableFault.Entry spot EntryFault.WrongKind) }
@@ -122,7 +125,7 @@ pub fn truth_at(table: &Table, key: &str, spot: Spot) -> Result<bool, TableFault
     };
     match value.as_bool() {
         Some(truth) => Ok(truth),
-        None => Err(TableFault::Entry(spot, EntryFault::WrongKind)),
+        None => Err(TableFault::Entry(spot.at(key), EntryFault::WrongKind)),
     }
 }
 
@@ -130,7 +133,7 @@ pub fn truth_at(table: &Table, key: &str, spot: Spot) -> Result<bool, TableFault
 pub(crate) fn text_at(
     alloc: Global,
     table: &Table,
-    key: &str,
+    key: &'static str,
     most: usize,
     spot: Spot,
 ) -> Result<String, TableFault>
@@ -138,16 +141,17 @@ pub(crate) fn text_at(
     ensures short { IfOk result (λ text. string_len text ≤ most) }
     ensures refused { IfErr result (λ fault. fault ≢ TableFault.Memory
         → (text : List ℕ) → ¬ (HasText key.now (table_view table.now) most text)) }
-    ensures told { IfErr result (IsToldAs spot (value_fault as_str (get_member key.now (table_view table.now)))) }
+    ensures told { IfErr result (IsToldAs (at_key key spot) (value_fault as_str (get_member key.now (table_view table.now)))) }
 {
+    let here = spot.at(key);
     let Some(value) = member(table, key) else {
-        return Err(TableFault::Entry(spot, EntryFault::MissingKey));
+        return Err(TableFault::Entry(here, EntryFault::MissingKey));
     };
     let Some(text) = value.as_str() else {
-        return Err(TableFault::Entry(spot, EntryFault::WrongKind));
+        return Err(TableFault::Entry(here, EntryFault::WrongKind));
     };
     if text.len() > most {
-        return Err(TableFault::Entry(spot, EntryFault::OutOfLimit));
+        return Err(TableFault::Entry(here, EntryFault::OutOfLimit));
     }
     Ok(String::from_str(alloc, text)?)
 }
@@ -157,7 +161,7 @@ pub(crate) fn text_at(
 pub fn optional_text_at(
     alloc: Global,
     table: &Table,
-    key: &str,
+    key: &'static str,
     most: usize,
     spot: Spot,
 ) -> Result<Option<String>, TableFault>
@@ -165,7 +169,7 @@ pub fn optional_text_at(
     ensures short { IfOk result (λ text. ForSome text (λ t. string_len t ≤ most)) }
     ensures refused { IfErr result (λ fault. fault ≢ TableFault.Memory
         → (text : Option (List ℕ)) → ¬ (MayHaveText key.now (table_view table.now) most text)) }
-    ensures told { IfErr result (IsToldAs spot (value_fault as_str (get_member key.now (table_view table.now)))) }
+    ensures told { IfErr result (IsToldAs (at_key key spot) (value_fault as_str (get_member key.now (table_view table.now)))) }
 {
     if member(table, key).is_none() {
         return Ok(None);
@@ -178,21 +182,22 @@ pub fn optional_text_at(
 pub(crate) fn names_at(
     alloc: Global,
     table: &Table,
-    key: &str,
+    key: &'static str,
     spot: Spot,
 ) -> Result<Vec<Name>, TableFault>
     ensures ok { IfOk result (λ names. HasNames key.now (table_view table.now) names.items) }
     ensures refused { IfErr result (λ fault. fault ≢ TableFault.Memory
         → (names : List (List ℕ)) → ¬ (HasNames key.now (table_view table.now) names)) }
-    ensures told { IfErr result (IsToldAs spot (missing_or_wrong (get_member key.now (table_view table.now)))) }
+    ensures told { IfErr result (IsToldAs (at_key key spot) (missing_or_wrong (get_member key.now (table_view table.now)))) }
 {
+    let here = spot.at(key);
     let Some(value) = member(table, key) else {
-        return Err(TableFault::Entry(spot, EntryFault::MissingKey));
+        return Err(TableFault::Entry(here, EntryFault::MissingKey));
     };
     let Some(values) = value.as_array() else {
-        return Err(TableFault::Entry(spot, EntryFault::WrongKind));
+        return Err(TableFault::Entry(here, EntryFault::WrongKind));
     };
-    names_of(alloc, values.as_slice(), spot)
+    names_of(alloc, values.as_slice(), here)
 }
 
 /// The names that some values are, in order.

@@ -1,5 +1,6 @@
 //! Why a document is refused.
 ghost use Rattle.std.specs.Prelude.{◌≡◌, Some};
+ghost use Rattle.batch_reader.specs.Spots.{at_key, spot_of};
 ghost use Rattle.batch_reader.specs.Words.{table_word, spot_text};
 ghost use Rattle.batch_reader.specs.declared.fault.TableFault.TheVariants.{Memory};
 
@@ -73,18 +74,43 @@ impl fmt::Display for TableKind {
     }
 }
 
-/// The table that a fault is in: its kind, and its number among the tables of that kind, from 0.
+/// Where a fault is: the table's kind, its number among the tables of that kind, from 0, and the key, if it is in one.
 #[derive(Clone, Copy, Debug, PartialEq, Eq)]
 pub struct Spot {
     pub kind: TableKind,
     pub entry: usize,
+    pub key: Option<&'static str>,
+}
+
+impl Spot {
+    /// The table of the kind with this number.
+    pub fn of(kind: TableKind, entry: usize) -> Spot
+        ensures { result ≡ spot_of kind entry }
+    {
+        Spot {
+            kind,
+            entry,
+            key: None,
+        }
+    }
+
+    /// The key of the table.
+    pub fn at(self, key: &'static str) -> Spot
+        ensures { result ≡ at_key key self }
+    {
+        Spot {
+            kind: self.kind,
+            entry: self.entry,
+            key: Some(key),
+        }
+    }
 }
 
 impl fmt::Display for Spot {
     ghost output = { λ spot. Some (spot_text spot) };
 
     fn fmt<W: fmt::Write>(&self, f: &mut fmt::Formatter<W>) -> fmt::Result {
-        let Spot { kind, entry } = *self;
+        let Spot { kind, entry, .. } = *self;
         write!(f, "{kind} {entry}")
     }
 }

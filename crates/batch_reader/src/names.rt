@@ -59,7 +59,7 @@ pub(crate) fn add_names<T: Named>(
         → FailsFirst (λ front. IsDistinct (pointwise nat_eq) (names.old.keys ++ map T.name_of front)) items.now spot.entry }
 {
     for (entry, item) in items.iter().enumerate() {
-        add_name(alloc, names, item.name(), Spot { kind, entry })?;
+        add_name(alloc, names, item.name(), Spot::of(kind, entry))?;
     }
     Ok(())
 }

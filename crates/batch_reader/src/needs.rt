@@ -5,10 +5,10 @@ ghost use Rattle.batch_recipe.specs.Needs.{have_units};
 ghost use Rattle.batch_recipe.specs.declared.need.Need.{Need};
 ghost use Rattle.batch_text.specs.NameText.{IsName};
 ghost use Rattle.batch_reader.specs.Entries.{AllItems, HasFewNeeds, IsNeedItem};
-ghost use Rattle.batch_reader.specs.Faults.{IsNeedFault, IsNeedTextFault, IsNeedsFault, IsToldAs, IsUnitsFault, TellsAt};
+ghost use Rattle.batch_reader.specs.Faults.{IsNeedFault, IsNeedTextFault, IsNeedsFault, IsToldAs, IsUnitsFault, TellsAt, TellsOf};
 ghost use Rattle.batch_reader.specs.Keys.{optional};
 ghost use Rattle.batch_reader.specs.NeedText.{IsNeedText, IsUnits, is_star};
-ghost use Rattle.batch_reader.specs.TableFaults.{IsKeyFault};
+ghost use Rattle.batch_reader.specs.TableFaults.{IsFaultAt};
 ghost use Rattle.batch_reader.specs.declared.keys.ValueForm.{ValueForm};
 
 use crate::fault::{EntryFault, Spot, TableFault};
@@ -23,7 +23,7 @@ use toml::{Table, Value};
 pub(crate) fn few_needs_at(
     alloc: Global,
     table: &Table,
-    key: &str,
+    key: &'static str,
     most: usize,
     spot: Spot,
 ) -> Result<Vec<Need>, TableFault>
@@ -31,13 +31,14 @@ pub(crate) fn few_needs_at(
     ensures units { IfOk result (λ needs. have_units needs.items ≡ true) }
     ensures refused { IfErr result (λ fault. fault ≢ TableFault.Memory
         → (needs : List Need) → ¬ (HasFewNeeds key.now (table_view table.now) most needs)) }
-    ensures told { IfErr result (TellsAt spot (IsKeyFault (optional key.now (ValueForm.Needs most)) (table_view table.now))) }
+    ensures told { IfErr result (TellsOf spot (IsFaultAt (optional key.now (ValueForm.Needs most)) (table_view table.now))) }
 {
-    let values = items_at(table, key, spot)?;
+    let here = spot.at(key);
+    let values = items_at(table, key, here)?;
     if values.len() > most {
-        return Err(TableFault::Entry(spot, EntryFault::OutOfLimit));
+        return Err(TableFault::Entry(here, EntryFault::OutOfLimit));
     }
-    needs_of(alloc, values, spot)
+    needs_of(alloc, values, here)
 }
 
 /// The needs that some values are, in order.

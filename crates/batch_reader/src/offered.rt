@@ -44,10 +44,7 @@ fn check_unit_phases(alloc: Global, modules: &[Module], unit: &Name) -> Result<(
     let mut phases = IndexSet::new(alloc);
     for (entry, module) in modules.iter().enumerate() {
         if module.belongs_to(unit) {
-            let spot = Spot {
-                kind: TableKind::Module,
-                entry,
-            };
+            let spot = Spot::of(TableKind::Module, entry);
             add_list(alloc, &mut phases, &module.phases, spot)?;
         }
     }

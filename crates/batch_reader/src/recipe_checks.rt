@@ -9,6 +9,7 @@ ghost use Rattle.batch_reader.specs.PartFaults.{FailsFirst, HasUndeclaredName, I
 ghost use Rattle.batch_reader.specs.Naming.{acts_are_declared};
 ghost use Rattle.batch_reader.specs.FormedActs.{AreFormed, AreFormedActs, IsFormedWork};
 ghost use Rattle.batch_reader.specs.SoundRecipe.{IsSoundRecipe};
+ghost use Rattle.batch_reader.specs.Spots.{spot_of};
 ghost use Rattle.batch_reader.specs.SoundTables.{HasSoundTables};
 ghost use Rattle.batch_reader.specs.declared.fault.EntryFault.{EntryFault};
 ghost use Rattle.batch_reader.specs.declared.fault.Spot.{Spot};
@@ -136,13 +137,10 @@ fn check_procedure(
     requires { IsFormedWork procedure.now.work }
     ensures ok { OnOk result (is_work labels.now.keys values.now.keys procedure.now ≡ true) }
     ensures refused { IfErr result (λ fault. is_work labels.now.keys values.now.keys procedure.now ≢ true) }
-    ensures told { IfErr result (λ fault. fault ≡ TableFault.Entry (record { kind = TableKind.Procedure; entry = 0 }) EntryFault.Undeclared) }
+    ensures told { IfErr result (λ fault. fault ≡ TableFault.Entry (spot_of TableKind.Procedure 0) EntryFault.Undeclared) }
 {
     if !is_work(procedure, labels, values) {
-        let spot = Spot {
-            kind: TableKind::Procedure,
-            entry: 0,
-        };
+        let spot = Spot::of(TableKind::Procedure, 0);
         return Err(TableFault::Entry(spot, EntryFault::Undeclared));
     }
     Ok(())
@@ -177,7 +175,7 @@ fn check_table(
 {
     for (entry, act) in table.iter().enumerate() {
         if !is_work(act, labels, values) {
-            let spot = Spot { kind, entry };
+            let spot = Spot::of(kind, entry);
             return Err(TableFault::Entry(spot, EntryFault::Undeclared));
         }
     }

@@ -7,8 +7,9 @@ ghost use Rattle.batch_recipe.specs.declared.header.Header.{Header};
 ghost use Rattle.batch_recipe.specs.declared.recipe.Recipe.{Recipe};
 ghost use Rattle.batch_recipe.specs.declared.scaling.TheConstants.{MAX_SIZE};
 ghost use Rattle.batch_reader.specs.Entries.{HasName, HasNumber, HasTables};
-ghost use Rattle.batch_reader.specs.Faults.{IsAmong, Tells, TellsAt, is_of_recipe};
+ghost use Rattle.batch_reader.specs.Faults.{IsAmong, Tells, TellsOf, is_of_recipe};
 ghost use Rattle.batch_reader.specs.FaultStands.{FaultStands, IsWrongAt};
+ghost use Rattle.batch_reader.specs.Spots.{key_at, spot_of};
 ghost use Rattle.batch_reader.specs.TableFaults.{IsFaultOfTable, IsTableFault};
 ghost use Rattle.batch_reader.specs.RecipeTables.{HasHeader, IsQuantityTable, IsOutputTable, IsRoleTable, IsUnitProcedureTable, IsOperationTable, IsPhaseTable};
 ghost use Rattle.batch_reader.specs.RecipeDocument.{HasActs, IsRecipeTable, IsRecipeDocument};
@@ -36,6 +37,7 @@ use toml::Table;
 const TOP: Spot = Spot {
     kind: TableKind::Recipe,
     entry: 0,
+    key: None,
 };
 
 /// Reads a recipe document. The needs, the units, the classes and the phases that it names are looked up in no cell. It is refused as
@@ -52,7 +54,7 @@ pub fn read_recipe(alloc: Global, bytes: &[u8]) -> Result<Recipe, DocFault>
     ensures refused { IfErr result (λ fault. fault ≢ DocFault.Memory
         → (recipe : Recipe) → ¬ (IsRecipeDocument bytes.now recipe)) }
     ensures long { MAX_DOCUMENT_LEN < length bytes.now
-        → result ≡ Err (DocFault.Entry (record { kind = TableKind.Recipe; entry = 0 }) EntryFault.OutOfLimit) }
+        → result ≡ Err (DocFault.Entry (spot_of TableKind.Recipe 0) EntryFault.OutOfLimit) }
     ensures told { (spot : Spot) (wrong : EntryFault) → IsErrOf result (DocFault.Entry spot wrong) → is_of_recipe spot.kind ≡ true }
     ensures stands { (spot : Spot) (wrong : EntryFault) → IsErrOf result (DocFault.Entry spot wrong) → FaultStands bytes.now spot wrong }
 {
@@ -68,7 +70,7 @@ fn recipe_from_table(alloc: Global, table: &Table) -> Result<Recipe, TableFault>
     ensures refused { IfErr result (λ fault. fault ≢ TableFault.Memory
         → (recipe : Recipe) → ¬ (IsRecipeTable (table_view table.now) recipe)) }
     ensures told { IfErr result (IsAmong is_of_recipe) }
-    ensures stands { IfErr result (Tells (IsWrongAt (table_view table.now))) }
+    ensures stands { IfErr result (Tells (λ spot. IsWrongAt (table_view table.now) spot.kind spot.entry (key_at spot))) }
 {
     if !has_known_keys(table, TableKind::Recipe) {
         return Err(TableFault::Entry(TOP, EntryFault::UnknownKey));
@@ -96,10 +98,7 @@ fn outline_fault(fault: OutlineFault) -> TableFault
 {
     match fault {
         OutlineFault::TooMany => {
-            let spot = Spot {
-                kind: TableKind::Procedure,
-                entry: 0,
-            };
+            let spot = Spot::of(TableKind::Procedure, 0);
             TableFault::Entry(spot, EntryFault::OutOfLimit)
         }
         OutlineFault::Memory => TableFault::Memory,
@@ -121,7 +120,7 @@ fn top_at(alloc: Global, table: &Table) -> Result<Top, TableFault>
     ensures basis { IfOk result (λ top. HasNumber (codes "basis") (table_view table.now) 1 MAX_SIZE top.basis) }
     ensures refused { IfErr result (λ fault. fault ≢ TableFault.Memory
         → (recipe : Recipe) → ¬ (IsRecipeTable (table_view table.now) recipe)) }
-    ensures told { IfErr result (TellsAt TOP (IsTableFault TableKind.Recipe (table_view table.now))) }
+    ensures told { IfErr result (TellsOf TOP (IsTableFault TableKind.Recipe (table_view table.now))) }
 {
     let name = name_at(alloc, table, "recipe", TOP)?;
     let header = header_at(alloc, table)?;
@@ -153,7 +152,7 @@ fn parts_at(alloc: Global, table: &Table, name: Name) -> Result<Parts, TableFaul
     ensures refused { IfErr result (λ fault. fault ≢ TableFault.Memory
         → (recipe : Recipe) → ¬ (IsRecipeTable (table_view table.now) recipe)) }
     ensures told { IfErr result (IsAmong is_of_recipe) }
-    ensures stands { IfErr result (Tells (IsWrongAt (table_view table.now))) }
+    ensures stands { IfErr result (Tells (λ spot. IsWrongAt (table_view table.now) spot.kind spot.entry (key_at spot))) }
 {
     let values = values_at(alloc, table)?;
     let roles = tables_at::<Role>(alloc, table, "role", TableKind::Role)?;
@@ -189,7 +188,7 @@ fn values_at(alloc: Global, table: &Table) -> Result<ValueTables, TableFault>
     ensures refused { IfErr result (λ fault. fault ≢ TableFault.Memory
         → (recipe : Recipe) → ¬ (IsRecipeTable (table_view table.now) recipe)) }
     ensures told { IfErr result (IsAmong is_of_recipe) }
-    ensures stands { IfErr result (Tells (λ spot. IsFaultOfTable (table_view table.now) spot.kind spot.entry)) }
+    ensures stands { IfErr result (Tells (λ spot. IsFaultOfTable (table_view table.now) spot.kind spot.entry (key_at spot))) }
 {
     let inputs = tables_at::<Quantity>(alloc, table, "input", TableKind::Input)?;
     let parameters = tables_at::<Quantity>(alloc, table, "parameter", TableKind::Parameter)?;
@@ -206,7 +205,7 @@ fn header_at(alloc: Global, table: &Table) -> Result<Header, TableFault>
     ensures ok { IfOk result (HasHeader (table_view table.now)) }
     ensures refused { IfErr result (λ fault. fault ≢ TableFault.Memory
         → (header : Header) → ¬ (HasHeader (table_view table.now) header)) }
-    ensures told { IfErr result (TellsAt TOP (IsTableFault TableKind.Recipe (table_view table.now))) }
+    ensures told { IfErr result (TellsOf TOP (IsTableFault TableKind.Recipe (table_view table.now))) }
 {
     let version = text_at(alloc, table, "version", MAX_VERSION_LEN, TOP)?;
     let product = optional_text_at(alloc, table, "product", MAX_TEXT_LEN, TOP)?;
@@ -227,7 +226,7 @@ fn acts_at(alloc: Global, table: &Table, name: Name) -> Result<Acts, TableFault>
     ensures refused { IfErr result (λ fault. fault ≢ TableFault.Memory
         → (acts : Acts) → ¬ (HasActs (table_view table.now) acts)) }
     ensures told { IfErr result (IsAmong is_of_recipe) }
-    ensures stands { IfErr result (Tells (λ spot. IsFaultOfTable (table_view table.now) spot.kind spot.entry)) }
+    ensures stands { IfErr result (Tells (λ spot. IsFaultOfTable (table_view table.now) spot.kind spot.entry (key_at spot))) }
 {
     let procedure = procedure_at(alloc, table, name)?;
     let ActTables {
@@ -259,7 +258,7 @@ fn act_tables_at(alloc: Global, table: &Table) -> Result<ActTables, TableFault>
     ensures refused { IfErr result (λ fault. fault ≢ TableFault.Memory
         → (acts : Acts) → ¬ (HasActs (table_view table.now) acts)) }
     ensures told { IfErr result (IsAmong is_of_recipe) }
-    ensures stands { IfErr result (Tells (λ spot. IsFaultOfTable (table_view table.now) spot.kind spot.entry)) }
+    ensures stands { IfErr result (Tells (λ spot. IsFaultOfTable (table_view table.now) spot.kind spot.entry (key_at spot))) }
 {
     let unit_procedures = tables_at::<Act>(
         alloc,

@@ -4,6 +4,7 @@ ghost use Rattle.toml.specs.Data.{get_member};
 ghost use Rattle.toml.specs.View.{table_view};
 ghost use Rattle.batch_reader.specs.Entries.{HasLabel, HasNameOr, HasFewNames, items_at};
 ghost use Rattle.batch_reader.specs.Faults.{IsToldAs, few_names_fault, missing_or_wrong};
+ghost use Rattle.batch_reader.specs.Spots.{at_key};
 
 use crate::entries::{member, name_at, names_of};
 use crate::fault::{EntryFault, Spot, TableFault};
@@ -17,17 +18,17 @@ use toml::Table;
 pub(crate) fn label_at(
     alloc: Global,
     table: &Table,
-    key: &str,
+    key: &'static str,
     spot: Spot,
 ) -> Result<Name, TableFault>
     ensures ok { IfOk result (HasLabel key.now (table_view table.now)) }
     ensures refused { IfErr result (λ fault. fault ≢ TableFault.Memory
         → (name : List ℕ) → ¬ (HasLabel key.now (table_view table.now) name)) }
-    ensures told { IfErr result (IsToldAs spot (missing_or_wrong (get_member key.now (table_view table.now)))) }
+    ensures told { IfErr result (IsToldAs (at_key key spot) (missing_or_wrong (get_member key.now (table_view table.now)))) }
 {
     let name = name_at(alloc, table, key, spot)?;
     if is_chart_word(name.text().as_bytes()) {
-        return Err(TableFault::Entry(spot, EntryFault::WrongKind));
+        return Err(TableFault::Entry(spot.at(key), EntryFault::WrongKind));
     }
     Ok(name)
 }
@@ -36,14 +37,14 @@ pub(crate) fn label_at(
 pub(crate) fn name_or(
     alloc: Global,
     table: &Table,
-    key: &str,
+    key: &'static str,
     other: &Name,
     spot: Spot,
 ) -> Result<Name, TableFault>
     ensures ok { IfOk result (HasNameOr key.now (table_view table.now) other.now) }
     ensures refused { IfErr result (λ fault. fault ≢ TableFault.Memory
         → (name : List ℕ) → ¬ (HasNameOr key.now (table_view table.now) other.now name)) }
-    ensures told { IfErr result (IsToldAs spot EntryFault.WrongKind) }
+    ensures told { IfErr result (IsToldAs (at_key key spot) EntryFault.WrongKind) }
 {
     if member(table, key).is_some() {
         return name_at(alloc, table, key, spot);
@@ -59,18 +60,19 @@ pub(crate) fn name_or(
 pub(crate) fn few_names_at(
     alloc: Global,
     table: &Table,
-    key: &str,
+    key: &'static str,
     most: usize,
     spot: Spot,
 ) -> Result<Vec<Name>, TableFault>
     ensures ok { IfOk result (λ names. HasFewNames key.now (table_view table.now) most names.items) }
     ensures refused { IfErr result (λ fault. fault ≢ TableFault.Memory
         → (names : List (List ℕ)) → ¬ (HasFewNames key.now (table_view table.now) most names)) }
-    ensures told { IfErr result (IsToldAs spot (few_names_fault most (items_at key.now (table_view table.now)))) }
+    ensures told { IfErr result (IsToldAs (at_key key spot) (few_names_fault most (items_at key.now (table_view table.now)))) }
 {
-    let values = items_at(table, key, spot)?;
+    let here = spot.at(key);
+    let values = items_at(table, key, here)?;
     if values.len() > most {
-        return Err(TableFault::Entry(spot, EntryFault::OutOfLimit));
+        return Err(TableFault::Entry(here, EntryFault::OutOfLimit));
     }
-    names_of(alloc, values, spot)
+    names_of(alloc, values, here)
 }

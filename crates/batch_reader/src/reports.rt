@@ -30,10 +30,7 @@ fn check_once(phases: &[Act]) -> Result<(), TableFault>
 {
     for (entry, step) in phases.iter().enumerate() {
         if !reports_once(step) {
-            let spot = Spot {
-                kind: TableKind::Phase,
-                entry,
-            };
+            let spot = Spot::of(TableKind::Phase, entry);
             return Err(TableFault::Entry(spot, EntryFault::Duplicate));
         }
     }
@@ -49,10 +46,7 @@ fn check_declared(outputs: &[Name], phases: &[Act]) -> Result<(), TableFault>
 {
     for (entry, step) in phases.iter().enumerate() {
         if !reports_among(step, outputs) {
-            let spot = Spot {
-                kind: TableKind::Phase,
-                entry,
-            };
+            let spot = Spot::of(TableKind::Phase, entry);
             return Err(TableFault::Entry(spot, EntryFault::Undeclared));
         }
     }

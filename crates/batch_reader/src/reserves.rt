@@ -32,7 +32,7 @@ pub(crate) fn check_reserves(acts: &Acts) -> Result<(), TableFault>
 fn check_table(units: &[Act], table: &[Act], kind: TableKind) -> Result<(), TableFault>
     ensures ok { OnOk result (reserve_well (act_names units.now) table.now ≡ true) }
     ensures refused { IfErr result (λ fault. reserve_well (act_names units.now) table.now ≢ true) }
-    ensures told { IfErr result (TellsIn kind (IsReserveFaultOf (act_names units.now) table.now)) }
+    ensures told { IfErr result (TellsIn kind (λ entry _. IsReserveFaultOf (act_names units.now) table.now entry)) }
 {
     check_once(table, kind)?;
     check_declared(units, table, kind)
@@ -47,7 +47,7 @@ fn check_once(table: &[Act], kind: TableKind) -> Result<(), TableFault>
 {
     for (entry, act) in table.iter().enumerate() {
         if !are_distinct(&act.reserves) {
-            let spot = Spot { kind, entry };
+            let spot = Spot::of(kind, entry);
             return Err(TableFault::Entry(spot, EntryFault::Duplicate));
         }
     }
@@ -63,7 +63,7 @@ fn check_declared(units: &[Act], table: &[Act], kind: TableKind) -> Result<(), T
 {
     for (entry, act) in table.iter().enumerate() {
         if !reserves_among(act, units) {
-            let spot = Spot { kind, entry };
+            let spot = Spot::of(kind, entry);
             return Err(TableFault::Entry(spot, EntryFault::Undeclared));
         }
     }

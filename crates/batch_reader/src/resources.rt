@@ -86,10 +86,7 @@ pub(crate) fn check_units(units: &[Unit], modules: &[Module]) -> Result<(), Tabl
 {
     for (entry, module) in modules.iter().enumerate() {
         if !has_declared_unit(units, module) {
-            let spot = Spot {
-                kind: TableKind::Module,
-                entry,
-            };
+            let spot = Spot::of(TableKind::Module, entry);
             return Err(TableFault::Entry(spot, EntryFault::Undeclared));
         }
     }

@@ -66,10 +66,7 @@ fn check_declared(unit_procedures: &[Act], roles: &IndexSet<Name>) -> Result<(),
 {
     for (entry, act) in unit_procedures.iter().enumerate() {
         if !is_role_among(act, roles) {
-            let spot = Spot {
-                kind: TableKind::UnitProcedure,
-                entry,
-            };
+            let spot = Spot::of(TableKind::UnitProcedure, entry);
             return Err(TableFault::Entry(spot, EntryFault::Undeclared));
         }
     }

@@ -3,9 +3,10 @@ ghost use Rattle.std.specs.Prelude.{◌≡◌, ◌≢◌, ◌≤◌, List, Some,
 ghost use Rattle.toml.specs.Data.{Members};
 ghost use Rattle.toml.specs.View.{table_view, items_view};
 ghost use Rattle.batch_reader.specs.Entries.{HasTables, IsTableOf, items_at};
-ghost use Rattle.batch_reader.specs.Faults.{IsToldIn, Tells, TellsAt, TellsIn};
+ghost use Rattle.batch_reader.specs.Faults.{IsToldIn, Tells, TellsIn, TellsOf};
 ghost use Rattle.batch_reader.specs.PartFaults.{IsCountFault};
-ghost use Rattle.batch_reader.specs.TableFaults.{IsArrayFault};
+ghost use Rattle.batch_reader.specs.Spots.{spot_of};
+ghost use Rattle.batch_reader.specs.TableFaults.{FaultOf, IsArrayFault};
 ghost use Rattle.batch_reader.specs.declared.fault.EntryFault.{EntryFault};
 ghost use Rattle.batch_reader.specs.declared.fault.TableKind.{TableKind};
 
@@ -19,15 +20,15 @@ pub trait FromTable: Drop {
     // the table of this kind stands for the value
     ghost stands_for: { TableKind → Members → Self → Type 0 };
 
-    // this is wrong with the table of this kind
-    ghost is_fault: { TableKind → Members → EntryFault → Type 0 };
+    // this is wrong with the table of this kind, and at this key
+    ghost is_fault: { TableKind → FaultOf };
 
     /// Reads the table that stands at the spot.
     fn from_table(alloc: Global, table: &Table, spot: Spot) -> Result<Self, TableFault>
         ensures ok { IfOk result (stands_for spot.kind (table_view table.now)) }
         ensures refused { IfErr result (λ fault. fault ≢ TableFault.Memory
             → (value : Self) → ¬ (stands_for spot.kind (table_view table.now) value)) }
-        ensures told { IfErr result (TellsAt spot (is_fault spot.kind (table_view table.now))) };
+        ensures told { IfErr result (TellsOf spot (is_fault spot.kind (table_view table.now))) };
 }
 
 /// The items of the array at a key, none where the key is missing.
@@ -62,14 +63,14 @@ pub fn tables_at<T: FromTable>(
         → (values : List T) → ¬ (HasTables (T.stands_for kind) key.now (table_view table.now) values)) }
     ensures told { IfErr result (TellsIn kind (IsArrayFault (λ d. (value : T) × IsTableOf (T.stands_for kind) d value) (T.is_fault kind) (items_at key.now (table_view table.now)))) }
     ensures no_list { items_at key.now (table_view table.now) ≡ None
-        → result ≡ Err (TableFault.Entry (record { kind = kind; entry = 0 }) EntryFault.WrongKind) }
+        → result ≡ Err (TableFault.Entry (spot_of kind 0) EntryFault.WrongKind) }
 {
     let mut values = Vec::new(alloc);
-    for (entry, item) in items_at(table, key, Spot { kind, entry: 0 })?
+    for (entry, item) in items_at(table, key, Spot::of(kind, 0))?
         .iter()
         .enumerate()
     {
-        let spot = Spot { kind, entry };
+        let spot = Spot::of(kind, entry);
         let Some(inner) = item.as_table() else {
             return Err(TableFault::Entry(spot, EntryFault::WrongKind));
         };
@@ -91,10 +92,10 @@ pub fn check_count(
     ensures told { IfErr result (λ fault. IsToldIn kind EntryFault.OutOfLimit fault × Tells (λ spot _. IsCountFault least most count spot.entry) fault) }
 {
     if count < least {
-        return Err(TableFault::Entry(Spot { kind, entry: 0 }, EntryFault::OutOfLimit));
+        return Err(TableFault::Entry(Spot::of(kind, 0), EntryFault::OutOfLimit));
     }
     if count > most {
-        return Err(TableFault::Entry(Spot { kind, entry: most }, EntryFault::OutOfLimit));
+        return Err(TableFault::Entry(Spot::of(kind, most), EntryFault::OutOfLimit));
     }
     Ok(())
 }

@@ -6,7 +6,7 @@ use Rattle.batch_text.specs.NameText.{IsName}
 use Rattle.batch_reader.specs.Entries.{HasName}
 use Rattle.batch_reader.specs.declared.fault.EntryFault.TheVariants.{OutOfLimit}
 use Rattle.batch_reader.specs.declared.keys.TheConstants.{MAX_LAG}
-use Rattle.batch_desks.proofs.Refusing.{missing_refused, name_refused, none_first, number_refused, optional_name_refused, path_refused, truth_refused}
+use Rattle.batch_desks.proofs.Refusing.{missing_refused, name_refused, none_first, number_refused, optional_name_refused, of_key, path_refused, truth_refused}
 use Rattle.batch_desks.specs.DesksDocument.{HasPath}
 use Rattle.batch_desks.specs.DesksFaults.{IsDeskFault}
 use Rattle.batch_desks.specs.RowsOfDesks.{console, lag_of, named}
@@ -43,34 +43,34 @@ pub returns-clause-stay : goal.returns-clause-stay
 returns-clause-stay c = λ desk stays h. let is = rw stays at h.stays in cc is
 
 pub returns-clause-nothing_wrong : goal.returns-clause-nothing_wrong
-returns-clause-nothing_wrong c = λ wrong.
+returns-clause-nothing_wrong c = λ at wrong.
     none_first (λ w. false≢true (sym w.1))
-    (none_first (name_refused (codes "name") (console no_members) wrong (codes "CONSOLE") (has_name (member (codes "input") (string (codes "in")) no_members)))
-    (none_first (path_refused (codes "input") (console no_members) wrong (Some (codes "in")) (has_input no_members))
-    (none_first (path_refused (codes "output") (console no_members) wrong None refl)
+    (none_first (of_key (name_refused (codes "name") (console no_members) wrong (codes "CONSOLE") (has_name (member (codes "input") (string (codes "in")) no_members))))
+    (none_first (of_key (path_refused (codes "input") (console no_members) wrong (Some (codes "in")) (has_input no_members)))
+    (none_first (of_key (path_refused (codes "output") (console no_members) wrong None refl))
     (none_first (λ w. false≢true (sym w.1))
-    (none_first (optional_name_refused (codes "unit") (console no_members) wrong None refl)
-    (none_first (truth_refused (codes "stays") (console no_members) wrong false refl)
-    (missing_refused (codes "lag") (console no_members) 1 MAX_LAG wrong refl)))))))
+    (none_first (of_key (optional_name_refused (codes "unit") (console no_members) wrong None refl))
+    (none_first (of_key (truth_refused (codes "stays") (console no_members) wrong false refl))
+    (of_key (missing_refused (codes "lag") (console no_members) 1 MAX_LAG wrong refl))))))))
 
 pub returns-clause-one_way : goal.returns-clause-one_way
 returns-clause-one_way c = (
   inr (refl, inr ((codes "CONSOLE", has_name no_members), inr ((None, refl), inr ((None, refl), inl (refl, refl))))),
-  none_first (λ w. cc w.0)
-      (none_first (name_refused (codes "name") (named no_members) OutOfLimit (codes "CONSOLE") (has_name no_members))
-      (none_first (path_refused (codes "input") (named no_members) OutOfLimit None refl)
-      (none_first (path_refused (codes "output") (named no_members) OutOfLimit None refl)
+  λ at. none_first (λ w. cc w.0)
+      (none_first (of_key (name_refused (codes "name") (named no_members) OutOfLimit (codes "CONSOLE") (has_name no_members)))
+      (none_first (of_key (path_refused (codes "input") (named no_members) OutOfLimit None refl))
+      (none_first (of_key (path_refused (codes "output") (named no_members) OutOfLimit None refl))
       (none_first (λ w. cc w.0)
-      (none_first (optional_name_refused (codes "unit") (named no_members) OutOfLimit None refl)
-      (none_first (truth_refused (codes "stays") (named no_members) OutOfLimit false refl)
-      (missing_refused (codes "lag") (named no_members) 1 MAX_LAG OutOfLimit refl))))))),
+      (none_first (of_key (optional_name_refused (codes "unit") (named no_members) OutOfLimit None refl))
+      (none_first (of_key (truth_refused (codes "stays") (named no_members) OutOfLimit false refl))
+      (of_key (missing_refused (codes "lag") (named no_members) 1 MAX_LAG OutOfLimit refl)))))))),
 )
 
 pub returns-clause-unknown_first : goal.returns-clause-unknown_first
-returns-clause-unknown_first c = (inl (refl, refl), λ h. elim h [ inl w ↦ cc w.0 | inr p ↦ false≢true p.0 ])
+returns-clause-unknown_first c = (inl (refl, refl), λ at h. elim h [ inl w ↦ cc w.0 | inr p ↦ false≢true p.0 ])
 
 -- what stands before the lag of a console is right
-lag_wrong : (lines : ℕ) → ((n : ℕ) → pos lines ≡ pos n → 1 ≤ n → n ≤ MAX_LAG → ⊥) → IsDeskFault (lag_of lines) OutOfLimit
+lag_wrong : (lines : ℕ) → ((n : ℕ) → pos lines ≡ pos n → 1 ≤ n → n ≤ MAX_LAG → ⊥) → IsDeskFault (lag_of lines) (Some (codes "lag")) OutOfLimit
 lag_wrong lines outside =
     inr (
       refl,
@@ -86,7 +86,7 @@ lag_wrong lines outside =
                 (None, refl),
                 inr (
                   (false, refl),
-                  record { here = integer (pos lines); found = refl; such = record { integer = pos lines; found = refl; outside = outside } },
+                  (refl, record { here = integer (pos lines); found = refl; such = record { integer = pos lines; found = refl; outside = outside } }),
                 ),
               ),
             ),
@@ -102,14 +102,14 @@ pub returns-clause-lag : goal.returns-clause-lag
 returns-clause-lag c = (
   lag_wrong 0 (λ n is some few. omega (arith, same_number 0 n is, some)),
   lag_wrong 65537 (λ n is some few. omega (arith, same_number 65537 n is, few)),
-  none_first (λ w. cc w.0)
-      (none_first (name_refused (codes "name") (lag_of 65536) OutOfLimit (codes "CONSOLE") (has_name (member (codes "input") (string (codes "in")) (member (codes "lag") (integer (pos 65536)) no_members))))
-      (none_first (path_refused (codes "input") (lag_of 65536) OutOfLimit (Some (codes "in")) (has_input (member (codes "lag") (integer (pos 65536)) no_members)))
-      (none_first (path_refused (codes "output") (lag_of 65536) OutOfLimit None refl)
+  λ at. none_first (λ w. cc w.0)
+      (none_first (of_key (name_refused (codes "name") (lag_of 65536) OutOfLimit (codes "CONSOLE") (has_name (member (codes "input") (string (codes "in")) (member (codes "lag") (integer (pos 65536)) no_members)))))
+      (none_first (of_key (path_refused (codes "input") (lag_of 65536) OutOfLimit (Some (codes "in")) (has_input (member (codes "lag") (integer (pos 65536)) no_members))))
+      (none_first (of_key (path_refused (codes "output") (lag_of 65536) OutOfLimit None refl))
       (none_first (λ w. cc w.0)
-      (none_first (optional_name_refused (codes "unit") (lag_of 65536) OutOfLimit None refl)
-      (none_first (truth_refused (codes "stays") (lag_of 65536) OutOfLimit false refl)
-      (number_refused (codes "lag") (lag_of 65536) 1 MAX_LAG OutOfLimit 65536 (record { integer = refl; at_least = lit≤ tt; at_most = lit≤ tt })))))))),
+      (none_first (of_key (optional_name_refused (codes "unit") (lag_of 65536) OutOfLimit None refl))
+      (none_first (of_key (truth_refused (codes "stays") (lag_of 65536) OutOfLimit false refl))
+      (of_key (number_refused (codes "lag") (lag_of 65536) 1 MAX_LAG OutOfLimit 65536 (record { integer = refl; at_least = lit≤ tt; at_most = lit≤ tt }))))))))),
 )
 
 pub returns-clause-path : goal.returns-clause-path

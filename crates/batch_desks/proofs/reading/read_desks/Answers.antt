@@ -4,6 +4,7 @@ use Rattle.toml.specs.Data.{Members}
 use Rattle.toml.specs.Parse.{parse_document}
 use Rattle.toml.specs.View.{table_view}
 use Rattle.batch_reader.specs.Faults.{TellsIn}
+use Rattle.batch_reader.specs.Spots.{key_at}
 use Rattle.batch_reader.specs.declared.fault.DocFault.{DocFault}
 use Rattle.batch_reader.specs.declared.fault.DocFault.TheVariants as document
 use Rattle.batch_reader.specs.declared.fault.EntryFault.{EntryFault}
@@ -23,13 +24,13 @@ returns-in_err-table-clause-stands c = λ spot wrong told.
 -- the document is refused as its table is
 stands : (bytes : List ℕ) (ms : Members) (fault : TableFault) (refusal : DocFault) (spot : Spot) (wrong : EntryFault) → parse_document bytes ≡ Some ms
     → TellsIn table.Desk (IsDesksFault ms) fault → ((here : Spot) (is : EntryFault) → fault ≡ Entry here is → refusal ≡ document.Entry here is)
-    → (fault ≡ Memory → refusal ≡ document.Memory) → refusal ≡ document.Entry spot wrong → FaultStands bytes spot.entry wrong
+    → (fault ≡ Memory → refusal ≡ document.Memory) → refusal ≡ document.Entry spot wrong → FaultStands bytes spot.entry (key_at spot) wrong
 stands bytes ms Memory refusal spot wrong parsed told entry memory is = let none = memory refl in absurd (cc (none, is))
 stands bytes ms (Entry here what) refusal spot wrong parsed told entry memory is =
     let e = entry here what refl in
     let place : here ≡ spot = cc (e, is) in
     let same : what ≡ wrong = cc (e, is) in
-    inr (record { document = ms; parsed = parsed; wrong_at = subst (λ (s : Spot). IsDesksFault ms s.entry wrong) place (subst (λ (w : EntryFault). IsDesksFault ms here.entry w) same told.1) })
+    inr (record { document = ms; parsed = parsed; wrong_at = subst (λ (s : Spot). IsDesksFault ms s.entry (key_at s) wrong) place (subst (λ (w : EntryFault). IsDesksFault ms here.entry (key_at here) w) same told.1) })
 
 pub returns-clause-stands : goal.returns-clause-stands
 returns-clause-stands c = λ spot wrong told.

@@ -14,7 +14,7 @@ returns-in_err-needs-clause-refused c =
 pub returns-in_err-name-clause-told : goal.returns-in_err-name-clause-told
 returns-in_err-name-clause-told c =
     let p = err_from_is_err_and c.from_residual.result c.from_residual.ensures.1 in
-    rw (p.1, p.2) (table_told UnitProcedure (table_view c.args.table.now) 0 _ refl refl _ _ (label_told (codes "name") (table_view c.args.table.now) _ _ c.in_err-name.ensures.refused c.in_err-name.ensures.told))
+    rw (p.1, p.2) (table_told UnitProcedure (table_view c.args.table.now) 0 _ refl refl _ _ (label_told _ (table_view c.args.table.now) _ _ c.in_err-name.ensures.refused c.in_err-name.ensures.told))
 
 pub returns-in_err-choice-clause-refused : goal.returns-in_err-choice-clause-refused
 returns-in_err-choice-clause-refused c =
@@ -44,4 +44,4 @@ returns-in_err-reserves-clause-refused c =
 pub returns-in_err-reserves-clause-told : goal.returns-in_err-reserves-clause-told
 returns-in_err-reserves-clause-told c =
     let p = err_from_is_err_and c.from_residual-in_err-reserves.result c.from_residual-in_err-reserves.ensures.1 in
-    rw (p.1, p.2) (table_told UnitProcedure (table_view c.args.table.now) 5 _ refl refl _ _ (few_told (codes "reserves") (table_view c.args.table.now) MAX_RESERVES _ _ c.in_err-reserves.ensures.refused c.in_err-reserves.ensures.told))
+    rw (p.1, p.2) (table_told UnitProcedure (table_view c.args.table.now) 5 _ refl refl _ _ (few_told _ (table_view c.args.table.now) MAX_RESERVES _ _ c.in_err-reserves.ensures.refused c.in_err-reserves.ensures.told))

@@ -4,6 +4,7 @@ use Rattle.batch_reader.proofs.OneCell.{unsound_refused}
 use Rattle.std.proofs.Common.{codes, inl, inr, refl}
 use Rattle.batch_reader.proofs.ArrayFaults.{at_told, in_among, in_told, tells_weaker}
 use Rattle.batch_reader.specs.FaultStands.{IsWrongAt}
+use Rattle.batch_reader.specs.Spots.{key_at}
 use Rattle.batch_reader.proofs.EntryFaults.{name_told, table_told}
 use Rattle.batch_reader.specs.declared.fault.TableKind.TheVariants.{Cell, Unit, Module, Shared}
 use Rattle.batch_reader.specs.Faults.{is_of_cell}
@@ -34,7 +35,7 @@ returns-in_err-check_equipment-clause-refused c =
 pub returns-in_err-name-clause-stands : goal.returns-in_err-name-clause-stands
 returns-in_err-name-clause-stands c =
     let p = err_from_is_err_and c.from_residual.result c.from_residual.ensures.1 in
-    rw (p.1, p.2) (at_told _ _ (IsWrongAt _) (λ wrong h. inl (refl, h)) _ (table_told Cell (table_view c.args.table.now) 0 _ refl refl _ _ (name_told (codes "cell") (table_view c.args.table.now) _ _ c.in_err-name.ensures.refused c.in_err-name.ensures.told)))
+    rw (p.1, p.2) (at_told _ _ (IsWrongAt _) (λ at wrong h. inl (refl, h)) _ (table_told Cell (table_view c.args.table.now) 0 _ refl refl _ _ (name_told _ (table_view c.args.table.now) _ _ c.in_err-name.ensures.refused c.in_err-name.ensures.told)))
 
 pub returns-in_err-units-clause-told : goal.returns-in_err-units-clause-told
 returns-in_err-units-clause-told c =
@@ -44,7 +45,7 @@ returns-in_err-units-clause-told c =
 pub returns-in_err-units-clause-stands : goal.returns-in_err-units-clause-stands
 returns-in_err-units-clause-stands c =
     let p = err_from_is_err_and c.from_residual-in_err-units.result c.from_residual-in_err-units.ensures.1 in
-    rw (p.1, p.2) (in_told Unit _ (IsWrongAt (table_view c.args.table.now)) (λ entry wrong h. inl h) _ c.in_err-units.ensures.told)
+    rw (p.1, p.2) (in_told Unit _ (IsWrongAt (table_view c.args.table.now)) (λ entry at wrong h. inl h) _ c.in_err-units.ensures.told)
 
 pub returns-in_err-modules-clause-told : goal.returns-in_err-modules-clause-told
 returns-in_err-modules-clause-told c =
@@ -54,7 +55,7 @@ returns-in_err-modules-clause-told c =
 pub returns-in_err-modules-clause-stands : goal.returns-in_err-modules-clause-stands
 returns-in_err-modules-clause-stands c =
     let p = err_from_is_err_and c.from_residual-in_err-modules.result c.from_residual-in_err-modules.ensures.1 in
-    rw (p.1, p.2) (in_told Module _ (IsWrongAt (table_view c.args.table.now)) (λ entry wrong h. inl h) _ c.in_err-modules.ensures.told)
+    rw (p.1, p.2) (in_told Module _ (IsWrongAt (table_view c.args.table.now)) (λ entry at wrong h. inl h) _ c.in_err-modules.ensures.told)
 
 pub returns-in_err-shared-clause-told : goal.returns-in_err-shared-clause-told
 returns-in_err-shared-clause-told c =
@@ -64,7 +65,7 @@ returns-in_err-shared-clause-told c =
 pub returns-in_err-shared-clause-stands : goal.returns-in_err-shared-clause-stands
 returns-in_err-shared-clause-stands c =
     let p = err_from_is_err_and c.from_residual-in_err-shared.result c.from_residual-in_err-shared.ensures.1 in
-    rw (p.1, p.2) (in_told Shared _ (IsWrongAt (table_view c.args.table.now)) (λ entry wrong h. inl h) _ c.in_err-shared.ensures.told)
+    rw (p.1, p.2) (in_told Shared _ (IsWrongAt (table_view c.args.table.now)) (λ entry at wrong h. inl h) _ c.in_err-shared.ensures.told)
 
 pub returns-in_err-check_equipment-clause-told : goal.returns-in_err-check_equipment-clause-told
 returns-in_err-check_equipment-clause-told c =
@@ -74,7 +75,7 @@ returns-in_err-check_equipment-clause-told c =
 pub returns-in_err-check_equipment-clause-stands : goal.returns-in_err-check_equipment-clause-stands
 returns-in_err-check_equipment-clause-stands c =
     let p = err_from_is_err_and c.from_residual-in_err-check_equipment.result c.from_residual-in_err-check_equipment.ensures.1 in
-    rw (p.1, p.2) (tells_weaker _ (IsWrongAt (table_view c.args.table.now)) (λ spot wrong h. inr (inl (record {
+    rw (p.1, p.2) (tells_weaker _ (λ s. IsWrongAt (table_view c.args.table.now) s.kind s.entry (key_at s)) (λ spot wrong h. inr (inl (record {
       equipment = record { units = c.in_ok-units.units.items; modules = c.in_ok-modules.modules.items; shared = c.in_ok-shared.shared.items };
       units = c.in_ok-units.ensures.ok;
       modules = c.in_ok-modules.ensures.ok;

@@ -36,4 +36,4 @@ pub returns-in_err-check_offered_phases-clause-stands : goal.returns-in_err-chec
 returns-in_err-check_offered_phases-clause-stands c =
     let p = err_from_is_err_and c.from_residual-in_err-check_offered_phases.result c.from_residual-in_err-check_offered_phases.ensures.1 in
     let e : Equipment = record { units = c.args.units.now; modules = c.args.modules.now; shared = c.args.shared.now } in
-    rw (p.1, p.2) (kind_told Module Duplicate (OffersTwice c.args.units.now c.args.modules.now) (λ spot. IsEquipmentFault e spot.kind spot.entry) (λ entry h. inr h) _ c.in_err-check_offered_phases.ensures.told c.in_err-check_offered_phases.ensures.stands)
+    rw (p.1, p.2) (kind_told Module Duplicate (OffersTwice c.args.units.now c.args.modules.now) (λ spot. IsEquipmentFault e spot.kind spot.entry) (λ entry key h. inr h) _ c.in_err-check_offered_phases.ensures.told c.in_err-check_offered_phases.ensures.stands)

@@ -19,34 +19,34 @@ unit_is_missing m unit all = grind arith
 
 pub returns-clause-missing : goal.returns-clause-missing
 returns-clause-missing c =
-    record { here = table no_members; found = refl; fault = inr (record { place = 0; key = needed (codes "name") form.Name; listed = refl; stands = refl; fault = (refl, refl) }); before = λ n d below. absurd (omega arith) }
+    record { here = table no_members; found = refl; fault = inr (record { place = 0; key = needed (codes "name") form.Name; listed = refl; stands = refl; fault = (refl, (refl, refl)) }); before = λ n d below. absurd (omega arith) }
 
 pub returns-clause-no_second : goal.returns-clause-no_second
-returns-clause-no_second c = λ h. cc h.found
+returns-clause-no_second c = λ at h. cc h.found
 
 pub returns-clause-known : goal.returns-clause-known
-returns-clause-known c = λ h.
+returns-clause-known c = λ at h.
     let same : table no_members ≡ h.here = cc h.found in
     let fault = rw (← same) at h.fault in
-    elim fault [ inl u ↦ cc u.unknown | inr k ↦ k.fault ]
+    elim fault [ inl u ↦ cc u.unknown | inr k ↦ k.fault.1 ]
 
 pub returns-clause-beside_role : goal.returns-clause-beside_role
 returns-clause-beside_role c =
     record { here = table (with_keys (λ rest. on_unit (for_role rest))); found = refl; fault = inl (record { unknown = refl; told = refl }); before = λ n d below. absurd (omega arith) }
 
 pub returns-clause-role_alone : goal.returns-clause-role_alone
-returns-clause-role_alone c = λ h.
+returns-clause-role_alone c = λ at h.
     let same : table (with_keys for_role) ≡ h.here = cc h.found in
     let fault = rw (← same) at h.fault in
-    elim fault [ inl u ↦ cc u.unknown | inr k ↦ k.fault ]
+    elim fault [ inl u ↦ cc u.unknown | inr k ↦ k.fault.1 ]
 
 pub returns-clause-neither : goal.returns-clause-neither
 returns-clause-neither c = (
-  record { here = table (with_keys (λ rest. rest)); found = refl; fault = inr (record { place = 1; key = needed (codes "unit") form.Name; listed = refl; stands = refl; fault = (refl, refl) }); before = λ n d below. absurd (omega arith) },
-  λ h.
+  record { here = table (with_keys (λ rest. rest)); found = refl; fault = inr (record { place = 1; key = needed (codes "unit") form.Name; listed = refl; stands = refl; fault = (refl, (refl, refl)) }); before = λ n d below. absurd (omega arith) },
+  λ at h.
       let same : table (with_keys (λ rest. rest)) ≡ h.here = cc h.found in
       let fault = rw (← same) at h.fault in
-      elim fault [ inl u ↦ cc u.unknown | inr k ↦ k.fault ],
+      elim fault [ inl u ↦ cc u.unknown | inr k ↦ k.fault.1 ],
 )
 
 pub returns-clause-first_byte : goal.returns-clause-first_byte

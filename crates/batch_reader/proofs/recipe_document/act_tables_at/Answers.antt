@@ -20,7 +20,7 @@ returns-in_err-unit_procedures-clause-told c =
 pub returns-in_err-unit_procedures-clause-stands : goal.returns-in_err-unit_procedures-clause-stands
 returns-in_err-unit_procedures-clause-stands c =
     let p = err_from_is_err_and c.from_residual.result c.from_residual.ensures.1 in
-    rw (p.1, p.2) (in_told UnitProcedure _ (λ spot. IsFaultOfTable (table_view c.args.table.now) spot.kind spot.entry) (λ entry wrong h. h) _ c.in_err-unit_procedures.ensures.told)
+    rw (p.1, p.2) (in_told UnitProcedure _ (IsFaultOfTable (table_view c.args.table.now)) (λ entry at wrong h. h) _ c.in_err-unit_procedures.ensures.told)
 
 pub returns-in_err-operations-clause-refused : goal.returns-in_err-operations-clause-refused
 returns-in_err-operations-clause-refused c =
@@ -35,7 +35,7 @@ returns-in_err-operations-clause-told c =
 pub returns-in_err-operations-clause-stands : goal.returns-in_err-operations-clause-stands
 returns-in_err-operations-clause-stands c =
     let p = err_from_is_err_and c.from_residual-in_err-operations.result c.from_residual-in_err-operations.ensures.1 in
-    rw (p.1, p.2) (in_told Operation _ (λ spot. IsFaultOfTable (table_view c.args.table.now) spot.kind spot.entry) (λ entry wrong h. h) _ c.in_err-operations.ensures.told)
+    rw (p.1, p.2) (in_told Operation _ (IsFaultOfTable (table_view c.args.table.now)) (λ entry at wrong h. h) _ c.in_err-operations.ensures.told)
 
 pub returns-in_err-phases-clause-refused : goal.returns-in_err-phases-clause-refused
 returns-in_err-phases-clause-refused c =
@@ -50,4 +50,4 @@ returns-in_err-phases-clause-told c =
 pub returns-in_err-phases-clause-stands : goal.returns-in_err-phases-clause-stands
 returns-in_err-phases-clause-stands c =
     let p = err_from_is_err_and c.from_residual-in_err-phases.result c.from_residual-in_err-phases.ensures.1 in
-    rw (p.1, p.2) (in_told Phase _ (λ spot. IsFaultOfTable (table_view c.args.table.now) spot.kind spot.entry) (λ entry wrong h. h) _ c.in_err-phases.ensures.told)
+    rw (p.1, p.2) (in_told Phase _ (IsFaultOfTable (table_view c.args.table.now)) (λ entry at wrong h. h) _ c.in_err-phases.ensures.told)

@@ -19,4 +19,4 @@ returns-in_err-procedure-clause-told c =
 pub returns-in_err-procedure-clause-stands : goal.returns-in_err-procedure-clause-stands
 returns-in_err-procedure-clause-stands c =
     let p = err_from_is_err_and c.from_residual.result c.from_residual.ensures.1 in
-    rw (p.1, p.2) (at_told _ _ (λ spot. IsFaultOfTable (table_view c.args.table.now) spot.kind spot.entry) (λ wrong h. (refl, h)) _ c.in_err-procedure.ensures.told)
+    rw (p.1, p.2) (at_told _ _ (IsFaultOfTable (table_view c.args.table.now)) (λ at wrong h. (refl, h)) _ c.in_err-procedure.ensures.told)

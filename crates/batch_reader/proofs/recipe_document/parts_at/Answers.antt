@@ -5,6 +5,7 @@ use Rattle.batch_reader.proofs.ArrayFaults.{in_among, in_told, tells_weaker}
 use Rattle.batch_reader.proofs.OneRecipe.{unsound_recipe_refused}
 use Rattle.batch_reader.proofs.RecipeParts.{formed_of_tables}
 use Rattle.batch_reader.specs.FaultStands.{IsWrongAt}
+use Rattle.batch_reader.specs.Spots.{key_at}
 use Rattle.batch_reader.specs.Faults.{is_of_recipe}
 use Rattle.batch_reader.specs.declared.fault.TableKind.TheVariants.{Role}
 use Rattle.batch_reader.proofs.recipe_document.parts_at.Goals as goal
@@ -22,7 +23,7 @@ returns-in_err-values-clause-told c =
 pub returns-in_err-values-clause-stands : goal.returns-in_err-values-clause-stands
 returns-in_err-values-clause-stands c =
     let p = err_from_is_err_and c.from_residual.result c.from_residual.ensures.1 in
-    rw (p.1, p.2) (tells_weaker _ (IsWrongAt (table_view c.args.table.now)) (λ spot wrong h. inl h) _ c.in_err-values.ensures.stands)
+    rw (p.1, p.2) (tells_weaker _ (λ s. IsWrongAt (table_view c.args.table.now) s.kind s.entry (key_at s)) (λ spot wrong h. inl h) _ c.in_err-values.ensures.stands)
 
 pub returns-in_err-roles-clause-refused : goal.returns-in_err-roles-clause-refused
 returns-in_err-roles-clause-refused c =
@@ -37,7 +38,7 @@ returns-in_err-roles-clause-told c =
 pub returns-in_err-roles-clause-stands : goal.returns-in_err-roles-clause-stands
 returns-in_err-roles-clause-stands c =
     let p = err_from_is_err_and c.from_residual-in_err-roles.result c.from_residual-in_err-roles.ensures.1 in
-    rw (p.1, p.2) (in_told Role _ (IsWrongAt (table_view c.args.table.now)) (λ entry wrong h. inl h) _ c.in_err-roles.ensures.told)
+    rw (p.1, p.2) (in_told Role _ (IsWrongAt (table_view c.args.table.now)) (λ entry at wrong h. inl h) _ c.in_err-roles.ensures.told)
 
 pub returns-in_err-acts-clause-refused : goal.returns-in_err-acts-clause-refused
 returns-in_err-acts-clause-refused c =
@@ -52,7 +53,7 @@ returns-in_err-acts-clause-told c =
 pub returns-in_err-acts-clause-stands : goal.returns-in_err-acts-clause-stands
 returns-in_err-acts-clause-stands c =
     let p = err_from_is_err_and c.from_residual-in_err-acts.result c.from_residual-in_err-acts.ensures.1 in
-    rw (p.1, p.2) (tells_weaker _ (IsWrongAt (table_view c.args.table.now)) (λ spot wrong h. inl h) _ c.in_err-acts.ensures.stands)
+    rw (p.1, p.2) (tells_weaker _ (λ s. IsWrongAt (table_view c.args.table.now) s.kind s.entry (key_at s)) (λ spot wrong h. inl h) _ c.in_err-acts.ensures.stands)
 
 pub check_recipe-requires : goal.check_recipe-requires
 check_recipe-requires c = formed_of_tables _ c.in_ok-acts.acts c.in_ok-acts.ensures.ok
@@ -72,7 +73,7 @@ returns-in_err-check_recipe-clause-told c =
 pub returns-in_err-check_recipe-clause-stands : goal.returns-in_err-check_recipe-clause-stands
 returns-in_err-check_recipe-clause-stands c =
     let p = err_from_is_err_and c.from_residual-in_err-check_recipe.result c.from_residual-in_err-check_recipe.ensures.1 in
-    rw (p.1, p.2) (tells_weaker _ (IsWrongAt (table_view c.args.table.now)) (λ spot wrong h. inr (inr (record {
+    rw (p.1, p.2) (tells_weaker _ (λ s. IsWrongAt (table_view c.args.table.now) s.kind s.entry (key_at s)) (λ spot wrong h. inr (inr (record {
       parts = record { inputs = c.in_ok-values.values.inputs.items; parameters = c.in_ok-values.values.parameters.items; outputs = c.in_ok-values.values.outputs.items; roles = c.in_ok-roles.roles.items; acts = c.in_ok-acts.acts };
       inputs = c.in_ok-values.ensures.inputs;
       parameters = c.in_ok-values.ensures.parameters;

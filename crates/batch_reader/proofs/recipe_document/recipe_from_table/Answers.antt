@@ -6,6 +6,7 @@ use Rattle.batch_reader.proofs.OneRecipe.{unsound_recipe_refused}
 use Rattle.batch_reader.proofs.PartsTold.{large_refused, large_told}
 use Rattle.batch_reader.proofs.RecipeParts.{kinds_of_tables, free_names_of_tables}
 use Rattle.batch_reader.specs.FaultStands.{IsWrongAt}
+use Rattle.batch_reader.specs.Spots.{key_at}
 use Rattle.batch_reader.specs.Faults.{is_of_recipe}
 use Rattle.batch_reader.specs.PartFaults.{Parts}
 use Rattle.batch_reader.proofs.recipe_document.recipe_from_table.Goals as goal
@@ -23,7 +24,7 @@ returns-in_err-top-clause-told c =
 pub returns-in_err-top-clause-stands : goal.returns-in_err-top-clause-stands
 returns-in_err-top-clause-stands c =
     let p = err_from_is_err_and c.from_residual.result c.from_residual.ensures.1 in
-    rw (p.1, p.2) (at_told _ _ (IsWrongAt (table_view c.args.table.now)) (λ wrong h. inl (refl, h)) _ c.in_err-top.ensures.told)
+    rw (p.1, p.2) (at_told _ _ (IsWrongAt (table_view c.args.table.now)) (λ at wrong h. inl (refl, h)) _ c.in_err-top.ensures.told)
 
 pub returns-in_err-parts-clause-refused : goal.returns-in_err-parts-clause-refused
 returns-in_err-parts-clause-refused c =
@@ -84,7 +85,7 @@ returns-in-Err-clause-stands c =
       acts = c.in_ok-parts.parts.acts;
     } in
     let tables = c.in_ok-parts.ensures in
-    rw c.outline_fault.ensures (tells_weaker _ (IsWrongAt (table_view c.args.table.now)) (λ spot wrong h. inr (inr (record {
+    rw c.outline_fault.ensures (tells_weaker _ (λ s. IsWrongAt (table_view c.args.table.now) s.kind s.entry (key_at s)) (λ spot wrong h. inr (inr (record {
       parts = of;
       inputs = tables.inputs;
       parameters = tables.parameters;

@@ -20,7 +20,7 @@ returns-in_err-inputs-clause-told c =
 pub returns-in_err-inputs-clause-stands : goal.returns-in_err-inputs-clause-stands
 returns-in_err-inputs-clause-stands c =
     let p = err_from_is_err_and c.from_residual.result c.from_residual.ensures.1 in
-    rw (p.1, p.2) (in_told Input _ (λ spot. IsFaultOfTable (table_view c.args.table.now) spot.kind spot.entry) (λ entry wrong h. h) _ c.in_err-inputs.ensures.told)
+    rw (p.1, p.2) (in_told Input _ (IsFaultOfTable (table_view c.args.table.now)) (λ entry at wrong h. h) _ c.in_err-inputs.ensures.told)
 
 pub returns-in_err-parameters-clause-refused : goal.returns-in_err-parameters-clause-refused
 returns-in_err-parameters-clause-refused c =
@@ -35,7 +35,7 @@ returns-in_err-parameters-clause-told c =
 pub returns-in_err-parameters-clause-stands : goal.returns-in_err-parameters-clause-stands
 returns-in_err-parameters-clause-stands c =
     let p = err_from_is_err_and c.from_residual-in_err-parameters.result c.from_residual-in_err-parameters.ensures.1 in
-    rw (p.1, p.2) (in_told Parameter _ (λ spot. IsFaultOfTable (table_view c.args.table.now) spot.kind spot.entry) (λ entry wrong h. h) _ c.in_err-parameters.ensures.told)
+    rw (p.1, p.2) (in_told Parameter _ (IsFaultOfTable (table_view c.args.table.now)) (λ entry at wrong h. h) _ c.in_err-parameters.ensures.told)
 
 pub returns-in_err-outputs-clause-refused : goal.returns-in_err-outputs-clause-refused
 returns-in_err-outputs-clause-refused c =
@@ -50,4 +50,4 @@ returns-in_err-outputs-clause-told c =
 pub returns-in_err-outputs-clause-stands : goal.returns-in_err-outputs-clause-stands
 returns-in_err-outputs-clause-stands c =
     let p = err_from_is_err_and c.from_residual-in_err-outputs.result c.from_residual-in_err-outputs.ensures.1 in
-    rw (p.1, p.2) (in_told Output _ (λ spot. IsFaultOfTable (table_view c.args.table.now) spot.kind spot.entry) (λ entry wrong h. h) _ c.in_err-outputs.ensures.told)
+    rw (p.1, p.2) (in_told Output _ (IsFaultOfTable (table_view c.args.table.now)) (λ entry at wrong h. h) _ c.in_err-outputs.ensures.told)

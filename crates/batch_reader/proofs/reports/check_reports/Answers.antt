@@ -21,7 +21,7 @@ pub returns-in_err-check_once-clause-stands : goal.returns-in_err-check_once-cla
 returns-in_err-check_once-clause-stands c =
     let p = err_from_is_err_and c.from_residual.result c.from_residual.ensures.1 in
     rw (p.1, p.2) (kind_told Phase Duplicate (λ entry. FailsFirst (λ front. list_all reports_once front ≡ true) c.args.acts.now.phases.items entry)
-    (λ spot. IsReportFault c.args.outputs.now c.args.acts.now spot.kind spot.entry) (λ entry h. h) _ c.in_err-check_once.ensures.told
+    (λ spot. IsReportFault c.args.outputs.now c.args.acts.now spot.kind spot.entry) (λ entry key h. h) _ c.in_err-check_once.ensures.told
     (rw c.deref.ensures.value at c.in_err-check_once.ensures.stands))
 
 pub returns-clause-ok : goal.returns-clause-ok
@@ -41,5 +41,5 @@ returns-clause-refused c =
 pub returns-clause-stands : goal.returns-clause-stands
 returns-clause-stands c =
     err_both c.check_declared.result _ _ _ (λ fault. kind_told Phase Undeclared (λ entry. FailsFirst (λ front. list_all (reports_among c.args.outputs.now) front ≡ true) c.args.acts.now.phases.items entry)
-    (λ spot. IsReportFault c.args.outputs.now c.args.acts.now spot.kind spot.entry) (λ entry h. h) fault)
+    (λ spot. IsReportFault c.args.outputs.now c.args.acts.now spot.kind spot.entry) (λ entry key h. h) fault)
     c.check_declared.ensures.told (rw c.deref-2.ensures.value at c.check_declared.ensures.stands)

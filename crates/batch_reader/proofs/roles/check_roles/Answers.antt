@@ -15,7 +15,7 @@ pub returns-in_err-names-clause-stands : goal.returns-in_err-names-clause-stands
 returns-in_err-names-clause-stands c =
     let p = err_from_is_err_and c.from_residual.result c.from_residual.ensures.1 in
     rw (p.1, p.2) (kind_told Role Duplicate (λ entry. FailsFirst (λ front. AreDistinct (role_names front)) c.args.roles.now entry)
-    (λ spot. IsRoleFault c.args.roles.now c.args.acts.now spot.kind spot.entry) (λ entry h. h) _ c.in_err-names.ensures.told c.in_err-names.ensures.stands)
+    (λ spot. IsRoleFault c.args.roles.now c.args.acts.now spot.kind spot.entry) (λ entry key h. h) _ c.in_err-names.ensures.told c.in_err-names.ensures.stands)
 
 pub returns-clause-ok : goal.returns-clause-ok
 returns-clause-ok c =

@@ -38,7 +38,7 @@ returns-in_err-value-clause-told g c =
     let vs = c.in_ok-item-items.item-items.now in
     let p = err_from_is_err_and c.from_residual-in_err-value.result c.from_residual-in_err-value.ensures.1 in
     let is_table : Some (table_view c.in-Some.inner.now) ≡ as_table (view (get_or vs c.loop-entry.entry c.item-item.result)) = rw (← c.item-item.is) c.in-Some.ensures in
-    rw (p.1, p.2) (array_table _ (g.T.FromTable.is_fault c.args.kind) (items_at c.args.key.now (table_view c.args.table.now)) vs c.args.kind c.loop-entry.entry c.item-item.result _ c.in_ok-item-items.ensures.ok c.loop-entry-test.true is_table (AllItems_before (IsTableOf (g.T.FromTable.stands_for c.args.kind)) vs c.loop-entry.values.items c.loop-entry.entry c.loop-entry.invariant) _ c.in_err-value.ensures.told)
+    rw (p.1, p.2) (array_table _ (g.T.FromTable.is_fault c.args.kind) (items_at c.args.key.now (table_view c.args.table.now)) vs c.args.kind c.loop-entry.entry c.item-item.result _ _ c.of-2.ensures c.in_ok-item-items.ensures.ok c.loop-entry-test.true is_table (AllItems_before (IsTableOf (g.T.FromTable.stands_for c.args.kind)) vs c.loop-entry.values.items c.loop-entry.entry c.loop-entry.invariant) _ c.in_err-value.ensures.told)
 
 pub returns-in_default-clause-no_list : goal.returns-in_default-clause-no_list
 returns-in_default-clause-no_list g c =
