@@ -187,5 +187,12 @@ fn is_known(kind: TableKind, word: &str, table: &Table) -> bool
 {
     keys_of(kind)
         .iter()
-        .any(|key| key.0 == word && may_stand(kind, key.0, table))
+        .any(|key| is_row_of(key, kind, word, table))
+}
+
+/// Whether the key has the word, and may stand in the table.
+fn is_row_of(key: &Key, kind: TableKind, word: &str, table: &Table) -> bool
+    ensures { result ≡ (pointwise nat_eq key.now.0.now word.now && may_stand kind key.now.0.now (table_view table.now)) }
+{
+    key.0 == word && may_stand(kind, key.0, table)
 }
