@@ -21,7 +21,7 @@ pub mod Spots
 pub mod WayActs
 pub mod Alike
 pub mod Alongside
-pub mod Asking
+pub mod AskedByName
 pub mod Stands
 pub mod Faults
 pub mod Paths

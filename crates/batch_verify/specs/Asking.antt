@@ -1,49 +1,131 @@
--- private: what the needs of an act come to, whatever the path to it.
-use Rattle.std.specs.Prelude.{◌≡◌, ℕ, ltb, List, [], ◌∷◌, map, Bool, true, if◌then◌else◌, Option, Some, None, Result, Ok, Err}
-use Rattle.std.specs.List.{list_all}
+-- private: what acts ask for, by number.
+use Rattle.std.specs.Prelude.{◌≡◌, ℕ, List, [], ◌∷◌, length, map, Bool, true, false, ltb, nat_le, nat_lt, if◌then◌else◌, Option, Some, None, Result, Ok, Err, position}
+use Rattle.std.specs.List.{list_all, list_any, slice_index_or}
+use Rattle.std.specs.Option.{is_some}
+use Rattle.batch_cell.specs.LookUps.{capacities_of, resources_of, units_of}
 use Rattle.batch_cell.specs.declared.cell.Cell as equipment
-use Rattle.batch_recipe.specs.Conditions.{Name}
-use Rattle.batch_recipe.specs.Needs.{resources_of}
+use Rattle.batch_recipe.specs.Conditions.{same_name}
+use Rattle.batch_recipe.specs.Expanding.{Binding, needs_with}
+use Rattle.batch_recipe.specs.Outlines.{act_of}
+use Rattle.batch_recipe.specs.Procedure.{sites}
 use Rattle.batch_recipe.specs.declared.act.Act.{Act}
-use Rattle.batch_recipe.specs.declared.acts.Acts.{Acts}
-use Rattle.batch_model.specs.Cleared.{Ranking}
-use Rattle.batch_verify.specs.Walking.{is_of_resource, is_within_capacity}
+use Rattle.batch_recipe.specs.declared.act.UnitChoice.{UnitChoice}
+use Rattle.batch_recipe.specs.declared.entry.Entry.{Entry}
+use Rattle.batch_recipe.specs.declared.entry.Kind.{Kind}
+use Rattle.batch_recipe.specs.declared.need.Need.{Need}
+use Rattle.batch_recipe.specs.declared.recipe.Recipe as document
+use Rattle.batch_recipe.specs.declared.role.Role as declared
+use Rattle.batch_set.specs.Looked.{needs_by}
+use Rattle.batch_set.specs.declared.linked.LinkedNeed.{LinkedNeed}
+use Rattle.batch_set.specs.declared.linked.LinkedRecipe.{LinkedRecipe}
+use Rattle.batch_set.specs.declared.linked.Source.{Source}
+use Rattle.batch_set.specs.declared.linked.Source.TheVariants.{Resource, Role, Unknown}
+use Rattle.batch_verify.specs.Walking.{known_unit}
 use Rattle.batch_verify.specs.declared.asks.Asks.{Asks}
-use Rattle.batch_verify.specs.declared.asks.ActAsks.{ActAsks}
 use Rattle.batch_verify.specs.declared.rule.Rule.{Rule}
-use Rattle.batch_verify.specs.declared.rule.Rule.TheVariants.{RankNotRising}
+use Rattle.batch_verify.specs.declared.rule.Rule.TheVariants.{RankNotRising, UnknownResource}
+use Rattle.batch_verify.specs.declared.site.Site as site
+
+-- a number, where it is one of the first so many
+abbrev pub among_first : ℕ → Option ℕ → Option ℕ
+among_first count None = None
+among_first count (Some number) = if nat_lt number count then Some number else None
+
+-- the number of a source's resource, where these take the roles
+abbrev pub number_by : List (Option ℕ) → Source → Option ℕ
+number_by takers (Resource number) = Some number
+number_by takers (Role role) = slice_index_or takers role None
+number_by takers Unknown = None
+
+-- the resource that is asked for, if it is one, and how many units of it
+abbrev pub Ask : Type 0
+Ask = Option ℕ × ℕ
+
+abbrev pub ask_by : equipment.Cell → List (Option ℕ) → LinkedNeed → Ask
+ask_by c takers need = (among_first (length (resources_of c)) (number_by takers need.source), need.units)
+
+abbrev pub asks_by : equipment.Cell → List (Option ℕ) → List LinkedNeed → List Ask
+asks_by c takers needs = map (ask_by c takers) needs
+
+-- the same of needs by name
+abbrev pub ask_of : equipment.Cell → Need → Ask
+ask_of c need = (position (same_name need.resource) (resources_of c), need.units)
+
+abbrev pub asks_of : equipment.Cell → List Need → List Ask
+asks_of c needs = map (ask_of c) needs
+
+-- it is of a resource
+abbrev pub is_found : Ask → Bool
+is_found ask = is_some ask.0
+
+-- and of no more units than this has
+abbrev pub is_fitting : equipment.Cell → Ask → Bool
+is_fitting c ask = nat_le ask.1 (elim ask.0 [ None ↦ 0 | Some number ↦ slice_index_or (capacities_of c) number 0 ])
+
+-- the rank of a resource by number
+abbrev pub rank_by : List ℕ → Option ℕ → ℕ
+rank_by ranks number = elim number [ None ↦ 0 | Some number ↦ slice_index_or ranks number 0 ]
+
+abbrev pub ranks_asked : List ℕ → List Ask → List ℕ
+ranks_asked ranks asks = map (λ ask. rank_by ranks ask.0) asks
+
+-- where there are ranks
+abbrev pub ranks_along : Option (List ℕ) → List Ask → List ℕ
+ranks_along None asks = []
+ranks_along (Some ranks) asks = ranks_asked ranks asks
+
+-- the first of them
+abbrev pub first_along : Option (List ℕ) → List Ask → Option ℕ
+first_along None asks = None
+first_along (Some ranks) [] = None
+first_along (Some ranks) (ask ∷ asks) = Some (rank_by ranks ask.0)
 
 abbrev pub is_above : Option ℕ → ℕ → Bool
 is_above None rank = true
 is_above (Some last) rank = ltb last rank
 
--- the last rank, where the ranks of the names rise from above the one before them
-abbrev pub climb : Ranking → Option ℕ → List Name → Result (Option ℕ) Rule
-climb rank last [] = Ok last
-climb rank last (x ∷ xs) = if is_above last (rank x) then climb rank (Some (rank x)) xs else Err RankNotRising
+-- the last of ranks that rise from above the one before them
+abbrev pub climb : Option ℕ → List ℕ → Result (Option ℕ) Rule
+climb last [] = Ok last
+climb last (rank ∷ ranks) = if is_above last rank then climb (Some rank) ranks else Err RankNotRising
 
--- the same where ranks may be left out
-abbrev pub climb_from : Option Ranking → List Name → Result (Option ℕ) Rule
-climb_from None xs = Ok None
-climb_from (Some rank) xs = climb rank None xs
-
--- the rank of the first name
-abbrev pub first_rank : Option Ranking → List Name → Option ℕ
-first_rank None xs = None
-first_rank (Some rank) [] = None
-first_rank (Some rank) (x ∷ xs) = Some (rank x)
-
-abbrev pub asks_of : equipment.Cell → Option Ranking → Act → Asks
-asks_of c ranking a = record {
-  are_resources = list_all (is_of_resource c) a.needs.items;
-  are_within_capacity = list_all (is_within_capacity c) a.needs.items;
-  first = first_rank ranking (resources_of a.needs.items);
-  last = climb_from ranking (resources_of a.needs.items);
+-- what needs come to, whatever the path to them
+abbrev pub come_to : equipment.Cell → Option (List ℕ) → List Ask → Asks
+come_to c ranks asks = record {
+  are_resources = list_all is_found asks;
+  are_within_capacity = list_all (is_fitting c) asks;
+  first = first_along ranks asks;
+  last = climb None (ranks_along ranks asks);
 }
 
--- what the needs of each act of a recipe come to
-pub record AreAsksOf (c : equipment.Cell) (ranking : Option Ranking) (acts : Acts) (t : ActAsks) : Type 0 where
-  pub procedure : t.procedure ≡ asks_of c ranking acts.procedure
-  pub unit_procedures : t.unit_procedures.items ≡ map (asks_of c ranking) acts.unit_procedures.items
-  pub operations : t.operations.items ≡ map (asks_of c ranking) acts.operations.items
-  pub phases : t.phases.items ≡ map (asks_of c ranking) acts.phases.items
+abbrev pub is_role : LinkedNeed → Bool
+is_role need = elim need.source [ Resource number ↦ false | Role role ↦ true | Unknown ↦ false ]
+
+-- what the needs at a node come to, whatever units take the roles; none where a role is among them
+abbrev pub judged_at : equipment.Cell → Option (List ℕ) → LinkedRecipe → Entry → Option Asks
+judged_at c ranks linked entry =
+    if list_any is_role (needs_by linked entry.kind) then None else Some (come_to c ranks (asks_by c [] (needs_by linked entry.kind)))
+
+-- the number of an act's own unit, the first that it asks for
+abbrev pub own_unit : equipment.Cell → List Ask → Result (Option ℕ) Rule
+own_unit c [] = Err UnknownResource
+own_unit c (ask ∷ asks) = known_unit (among_first (length (units_of c)) ask.0)
+
+-- the number of the unit below an act with this unit
+abbrev pub unit_by : equipment.Cell → Option UnitChoice → List Ask → Option ℕ → Result (Option ℕ) Rule
+unit_by c None asks number = Ok number
+unit_by c (Some choice) asks number = own_unit c asks
+
+-- who takes each role, by number
+abbrev pub takers_of : equipment.Cell → Binding → List declared.Role → List (Option ℕ)
+takers_of c bound roles = map (λ role. position (same_name (bound role.name)) (resources_of c)) roles
+
+-- what is asked for at a node
+abbrev pub asks_on : site.Site → List LinkedNeed → List Ask
+asks_on s needs = asks_by s.cell.now s.takers.now needs
+
+-- the linked recipe says of each act what it asks for, whatever units take the roles
+abbrev pub SaysAsks : equipment.Cell → document.Recipe → LinkedRecipe → Type 0
+SaysAsks c recipe linked =
+    (bound : Binding) (kind : Kind) (a : Act) → act_of recipe.acts kind ≡ Some a
+    → asks_by c (takers_of c bound recipe.roles.items) (needs_by linked kind) ≡ asks_of c (needs_with (sites bound recipe.acts) a)

@@ -1,21 +1,16 @@
-//! What the needs of acts come to, whatever the paths to them.
-ghost use Rattle.std.specs.Prelude.{◌≡◌, List, Option, Some, None, map, option_copied, IfOk, MatchResult};
-ghost use Rattle.batch_cell.specs.declared.cell.Cell as equipment;
-ghost use Rattle.batch_recipe.specs.Conditions.{Name};
-ghost use Rattle.batch_recipe.specs.Needs.{resources_of};
-ghost use Rattle.batch_recipe.specs.Outlines.{act_of};
-ghost use Rattle.batch_recipe.specs.Procedure.{table_at};
-ghost use Rattle.batch_recipe.specs.declared.act.Act as document;
-ghost use Rattle.batch_recipe.specs.declared.acts.Acts as tables;
-ghost use Rattle.batch_model.specs.Cleared.{Ranking};
-ghost use Rattle.batch_verify.specs.Asking.{AreAsksOf, asks_of, climb, climb_from, first_rank};
-ghost use Rattle.batch_verify.specs.Refusals.{ranking_in};
-ghost use Rattle.batch_verify.specs.Walking.{RisesAfter, last_of};
+//! What needs come to, whatever the path to them.
+ghost use Rattle.std.specs.Prelude.{◌≡◌, ℕ, None, Some, List, [], Option, map, IfOk, MatchResult, option_copied};
+ghost use Rattle.std.specs.List.{list_any};
+ghost use Rattle.batch_verify.specs.Asking.{Ask, asks_on, climb, come_to, first_along, is_role, judged_at, ranks_along};
+ghost use Rattle.batch_verify.specs.Walking.{Rises, last_rank};
+ghost use Rattle.batch_verify.specs.declared.asks.Asks as asked;
 
-use crate::rising::{look_up_each, rank_of, rise, rise_through};
+use crate::asking::{look_up_each, resource_by};
+use crate::rising::{rank_by, rise, rise_through};
 use crate::rule::Rule;
-use batch_cell::Cell;
-use batch_recipe::{Act, Acts, Kind, LabelTable, Need};
+use crate::site::Site;
+use batch_recipe::Entry;
+use batch_set::{LinkedNeed, Source};
 use std::alloc::{AllocError, Global};
 
 /// What the needs of an act come to.
@@ -31,80 +26,103 @@ pub(crate) struct Asks {
     pub(crate) last: Result<Option<u32>, Rule>,
 }
 
-/// What the needs of a recipe's acts come to. Many nodes may stand for one act.
-#[derive(Drop)]
-pub(crate) struct ActAsks {
-    pub(crate) procedure: Asks,
-    pub(crate) unit_procedures: Vec<Asks>,
-    pub(crate) operations: Vec<Asks>,
-    pub(crate) phases: Vec<Asks>,
-}
-
-/// What no needs come to.
-const NOTHING: Asks = Asks {
-    are_resources: true,
-    are_within_capacity: true,
-    first: None,
-    last: Ok(None),
-};
-
 /// The rank of the first need.
-fn first_rank(cell: &Cell, ranks: Option<&[u32]>, needs: &[Need]) -> Option<u32>
-    ensures { result ≡ first_rank (ranking_in cell.now (option_copied ranks.entry)) (resources_of needs.now) }
+fn first_rank(site: &Site, needs: &[LinkedNeed]) -> Option<u32>
+    ensures { result ≡ first_along (option_copied site.now.ranks) (asks_on site.now needs.now) }
 {
-    match (ranks, needs) {
-        (Some(ranks), [need, ..]) => Some(rank_of(cell, ranks, &need.resource)),
+    match (site.ranks, needs) {
+        (Some(ranks), [need, ..]) => Some(rank_by(ranks, resource_by(site, need.source))),
         _ => None,
     }
 }
 
 /// The rank of the last need, where the ranks of the needs rise.
-fn last_rank(cell: &Cell, ranks: Option<&[u32]>, needs: &[Need]) -> Result<Option<u32>, Rule>
-    ensures { result ≡ climb_from (ranking_in cell.now (option_copied ranks.entry)) (resources_of needs.now) }
+fn last_rank(site: &Site, needs: &[LinkedNeed]) -> Result<Option<u32>, Rule>
+    ensures { result ≡ climb None (ranks_along (option_copied site.now.ranks) (asks_on site.now needs.now)) }
 {
-    match ranks {
+    match site.ranks {
         None => Ok(None),
-        Some(ranks) => rise_through(cell, ranks, None, needs),
+        Some(ranks) => rise_through(site, ranks, needs),
     }
 }
 
-/// What the needs of the act come to.
-fn asks_of(cell: &Cell, ranks: Option<&[u32]>, act: &Act) -> Asks
-    ensures { result ≡ asks_of cell.now (ranking_in cell.now (option_copied ranks.entry)) act.now }
+/// What the needs come to in the binding that is tried.
+fn asks_of(site: &Site, needs: &[LinkedNeed]) -> Asks
+    ensures { result ≡ come_to site.now.cell.now (option_copied site.now.ranks) (asks_on site.now needs.now) }
 {
-    let (are_resources, are_within_capacity) = look_up_each(cell, &act.needs);
+    let (are_resources, are_within_capacity) = look_up_each(site, needs);
     Asks {
         are_resources,
         are_within_capacity,
-        first: first_rank(cell, ranks, &act.needs),
-        last: last_rank(cell, ranks, &act.needs),
+        first: first_rank(site, needs),
+        last: last_rank(site, needs),
     }
 }
 
-/// What the needs of the acts of a table come to, in their order.
-fn asks_in(
-    alloc: Global,
-    cell: &Cell,
-    ranks: Option<&[u32]>,
-    table: &[Act],
-) -> Result<Vec<Asks>, AllocError>
-    ensures { IfOk result (λ asks. asks.items ≡ map (asks_of cell.now (ranking_in cell.now (option_copied ranks.entry))) table.now) }
+/// What the needs come to, where it may have been judged before.
+pub(crate) fn asks_at(site: &Site, needs: &[LinkedNeed], judged: Option<Asks>) -> Asks
+    requires { (asks : asked.Asks) → judged ≡ Some asks → asks ≡ come_to site.now.cell.now (option_copied site.now.ranks) (asks_on site.now needs.now) }
+    ensures { result ≡ come_to site.now.cell.now (option_copied site.now.ranks) (asks_on site.now needs.now) }
 {
-    let mut asks = Vec::with_capacity(alloc, table.len())?;
-    for act in table {
-        asks.push(asks_of(cell, ranks, act))?;
+    match judged {
+        None => asks_of(site, needs),
+        Some(asks) => asks,
     }
-    Ok(asks)
+}
+
+/// Whether the need is of the unit that takes a role.
+fn is_role(need: &LinkedNeed) -> bool
+    ensures { result ≡ is_role need.now }
+{
+    match need.source {
+        Source::Role(_) => true,
+        Source::Resource(_) | Source::Unknown => false,
+    }
+}
+
+/// Whether a role is among the needs.
+fn names_role(needs: &[LinkedNeed]) -> bool
+    ensures { result ≡ list_any is_role needs.now }
+{
+    needs.iter().any(|need| is_role(need))
+}
+
+/// What the needs at a node come to, whatever units take the roles. None where a role is among them.
+fn judged_at(site: &Site, entry: &Entry) -> Option<Asks>
+    requires { site.now.takers.now ≡ [] }
+    ensures { result ≡ judged_at site.now.cell.now (option_copied site.now.ranks) site.now.linked.now entry.now }
+{
+    let needs = site.linked.needs(entry.kind);
+    if names_role(needs) {
+        return None;
+    }
+    Some(asks_of(site, needs))
+}
+
+/// The same of each node, where nobody takes a role at this site.
+pub(crate) fn judge_nodes(
+    alloc: Global,
+    site: &Site,
+    entries: &[Entry],
+) -> Result<Vec<Option<Asks>>, AllocError>
+    requires { site.now.takers.now ≡ [] }
+    ensures { IfOk result (λ judged. judged.items ≡ map (judged_at site.now.cell.now (option_copied site.now.ranks) site.now.linked.now) entries.now) }
+{
+    let mut judged = Vec::with_capacity(alloc, entries.len())?;
+    for entry in entries {
+        judged.push(judged_at(site, entry))?;
+    }
+    Ok(judged)
 }
 
 impl Asks {
     /// The last rank of a path that ended at this one, after the needs, where the ranks go on rising.
-    #[tactic(auto, using(crate::proofs::Asking::none_after, crate::proofs::Asking::first_refused))]
+    #[tactic(auto, using(crate::proofs::AskedByName::none_after, crate::proofs::AskedByName::first_refused))]
     pub(crate) fn after(self, last: Option<u32>) -> Result<Option<u32>, Rule>
-        ensures { (rank : Ranking) (names : List Name) → self.first ≡ first_rank (Some rank) names → self.last ≡ climb rank None names
+        ensures { (ranks : Option (List ℕ)) (asks : List Ask) → self.first ≡ first_along ranks asks → self.last ≡ climb None (ranks_along ranks asks)
             → MatchResult result
-            (λ next. RisesAfter rank last names × (next ≡ last_of rank last names))
-            (λ rule. (rule ≡ Rule.RankNotRising) × ¬ (RisesAfter rank last names)) }
+            (λ next. Rises last (ranks_along ranks asks) × (next ≡ last_rank last (ranks_along ranks asks)))
+            (λ rule. (rule ≡ Rule.RankNotRising) × ¬ (Rises last (ranks_along ranks asks))) }
     {
         match self.first {
             None => Ok(last),
@@ -112,53 +130,6 @@ impl Asks {
                 rise(last, first)?;
                 self.last
             }
-        }
-    }
-}
-
-impl ActAsks {
-    /// What the needs of these acts come to.
-    pub(crate) fn new(
-        alloc: Global,
-        cell: &Cell,
-        ranks: Option<&[u32]>,
-        acts: &Acts,
-    ) -> Result<ActAsks, AllocError>
-        ensures { IfOk result (AreAsksOf cell.now (ranking_in cell.now (option_copied ranks.entry)) acts.now) }
-    {
-        Ok(ActAsks {
-            procedure: asks_of(cell, ranks, &acts.procedure),
-            unit_procedures: asks_in(alloc, cell, ranks, &acts.unit_procedures)?,
-            operations: asks_in(alloc, cell, ranks, &acts.operations)?,
-            phases: asks_in(alloc, cell, ranks, &acts.phases)?,
-        })
-    }
-
-    /// What the needs of the acts of the table come to.
-    fn table(&self, level: LabelTable) -> &[Asks]
-        ensures { (cell : equipment.Cell) (ranking : Option Ranking) (acts : tables.Acts) → AreAsksOf cell ranking acts self.now
-            → result.now ≡ map (asks_of cell ranking) (table_at acts level) }
-    {
-        match level {
-            LabelTable::UnitProcedures => &self.unit_procedures,
-            LabelTable::Operations => &self.operations,
-            LabelTable::Phases => &self.phases,
-        }
-    }
-
-    /// What the needs of the act at a node come to. Where there is no act, nothing is needed.
-    #[tactic(auto, using(crate::proofs::Asking::asks_at))]
-    pub(crate) fn of(&self, kind: Kind) -> Asks
-        ensures { (cell : equipment.Cell) (ranking : Option Ranking) (acts : tables.Acts) (a : document.Act) → AreAsksOf cell ranking acts self.now
-            → act_of acts kind ≡ Some a → result ≡ asks_of cell ranking a }
-    {
-        match kind {
-            Kind::Procedure => self.procedure,
-            Kind::Act(level, number) => match self.table(level).get(number) {
-                None => NOTHING,
-                Some(asks) => *asks,
-            },
-            Kind::Skip | Kind::Seq | Kind::Par | Kind::Sel | Kind::Loop(_) => NOTHING,
         }
     }
 }

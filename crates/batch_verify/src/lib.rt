@@ -1,6 +1,7 @@
 //! The small checker: certificates, and the clearance of recipes for a cell by a certificate.
 #![tactic(auto)]
 
+mod asking;
 mod asks;
 mod bindings;
 mod branch_phases;

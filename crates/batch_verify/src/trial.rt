@@ -1,14 +1,16 @@
 //! The bindings of roles that are tried one after another: those by number, and, for ranks, those in which one role is taken at its
 //! highest rank and each other one at its lowest.
-ghost use Rattle.std.specs.Prelude.{◌≡◌, option_copied, IfOk, IfSome, IsTrue, MatchOption};
+ghost use Rattle.std.specs.Prelude.{◌≡◌, option_copied, position, IfOk, IfSome, IsTrue, MatchOption};
 ghost use Rattle.batch_cell.specs.LookUps.{resources_of, units_of_class};
+ghost use Rattle.batch_recipe.specs.Conditions.{same_name};
 ghost use Rattle.batch_recipe.specs.WellFormed.{are_distinct};
+ghost use Rattle.batch_verify.specs.Asking.{takers_of};
 ghost use Rattle.batch_verify.specs.Bindings.{nobody};
 ghost use Rattle.batch_verify.specs.Refusals.{rank_in, ranking_in};
 ghost use Rattle.batch_verify.specs.Trials.{bound_by, extremes_named, role_names, roles_raised, AreExtremes, AreExtremesBy, IsExtremeOf, IsWithUnit};
 
 use crate::bindings::{candidate_named, unit_taking};
-use crate::rising::rank_of;
+use crate::rising::rank_by;
 use batch_cell::Cell;
 use batch_recipe::Role;
 use batch_text::Name;
@@ -32,12 +34,7 @@ pub(crate) enum Trial<'a> {
 }
 
 /// The unit that takes the role. None where no unit may take it.
-pub(crate) fn unit_in<'a>(
-    cell: &'a Cell,
-    roles: &[Role],
-    trial: Trial<'a>,
-    role: &Name,
-) -> Option<&'a Name>
+fn unit_in<'a>(cell: &'a Cell, roles: &[Role], trial: Trial<'a>, role: &Name) -> Option<&'a Name>
     ensures { MatchOption result
         (bound_by cell.now roles.now trial.entry role.now ≡ nobody (resources_of cell.now))
         (λ unit. unit.now ≡ bound_by cell.now roles.now trial.entry role.now) }
@@ -53,6 +50,30 @@ pub(crate) fn unit_in<'a>(
             }
         }
     }
+}
+
+/// The number of the unit that takes the role.
+fn taker_of(cell: &Cell, roles: &[Role], trial: Trial<'_>, role: &Name) -> Option<u16>
+    ensures { result ≡ position (same_name (bound_by cell.now roles.now trial.entry role.now)) (resources_of cell.now) }
+{
+    let unit = unit_in(cell, roles, trial, role)?;
+    cell.resource_of(unit)
+}
+
+/// The numbers of the units that take the roles, in their order.
+pub(crate) fn takers_in(
+    alloc: Global,
+    cell: &Cell,
+    roles: &[Role],
+    trial: Trial<'_>,
+) -> Result<Vec<Option<u16>>, AllocError>
+    ensures { IfOk result (λ takers. takers.items ≡ takers_of cell.now (bound_by cell.now roles.now trial.entry) roles.now) }
+{
+    let mut takers = Vec::with_capacity(alloc, roles.len())?;
+    for role in roles {
+        takers.push(taker_of(cell, roles, trial, &role.name))?;
+    }
+    Ok(takers)
 }
 
 /// Those of the role with this name.
@@ -124,6 +145,13 @@ fn extremes_in<'a>(cell: &'a Cell, ranks: &[u32], role: &'a Role) -> Option<Extr
         }
     }
     Some(own)
+}
+
+/// The rank of the resource with this name.
+fn rank_of(cell: &Cell, ranks: &[u32], name: &Name) -> u32
+    ensures { result ≡ rank_in cell.now ranks.now name.now }
+{
+    rank_by(ranks, cell.resource_of(name))
 }
 
 /// The least and the greatest where this one is a candidate too.

@@ -1,5 +1,5 @@
 use Rattle.std.proofs.Common.{◌++◌, ◌∷◌, [], ap, ◌∙◌}
-use Rattle.batch_verify.proofs.Asking.{AreMapped-all, AreMapped-more}
+use Rattle.batch_set.proofs.Mapped.{AreMapped-all, AreMapped-more}
 use Rattle.batch_check.specs.Edges.{number_of_resource}
 use Rattle.batch_check.specs.Takings.{bound_by}
 use Rattle.batch_check.proofs.Taken.{units_in_turn}

@@ -1,24 +1,25 @@
-use Rattle.std.proofs.Common.{◌≡◌, ◌≤◌, ◌+◌, List, Option, Some, None, Ok, Err, length, option_copied, get_or, slice_get, sym, ap, ◌∙◌, subst, arith}
-use Rattle.std.proofs.lemmas.List.{with_items_is}
-use Rattle.std.proofs.lemmas.Option.{slice_get-get_or}
+use Rattle.std.proofs.Common.{◌≡◌, ◌≤◌, ◌+◌, ℕ, List, Option, Some, None, Ok, Err, length, map, option_copied, option_map, get_or, slice_get, sym, ap, ◌∙◌, subst, arith}
+use Rattle.std.proofs.lemmas.List.{length-map, with_items_is}
+use Rattle.std.proofs.lemmas.Option.{get_or_from_slice_get, slice_get-get_or, slice_get-map}
 use Rattle.batch_recipe.specs.Outlines.{act_of}
 use Rattle.batch_recipe.specs.declared.act.Act.{Act}
 use Rattle.batch_recipe.specs.declared.entry.Entry.{Entry}
 use Rattle.batch_recipe.specs.declared.entry.Kind.TheVariants as kind
 use Rattle.batch_recipe.specs.declared.role.Role.{Role}
 use Rattle.batch_recipe.proofs.Climbing.{as_many}
-use Rattle.batch_model.specs.Cleared.{Level}
 use Rattle.batch_model.specs.Setups.{setup_of}
+use Rattle.batch_set.specs.Looked.{needs_by}
+use Rattle.batch_verify.specs.Asking.{asks_by, judged_at, takers_of}
 use Rattle.batch_verify.specs.Trials.{bound_by}
 use Rattle.batch_verify.specs.Offers.{AreOffered, offering_unit, with_offering}
 use Rattle.batch_verify.specs.Refusals.{ranking_in, IsFirstBroken}
 use Rattle.batch_verify.specs.Ways.{bound_parts}
-use Rattle.batch_verify.specs.Walking.{IsEntered}
+use Rattle.batch_verify.specs.declared.asks.Asks.{Asks}
 use Rattle.batch_verify.specs.declared.rule.Rule.{Rule}
 use Rattle.batch_verify.specs.declared.site.Path.{Path}
+use Rattle.batch_verify.proofs.AskedByName.{judged-is}
 use Rattle.batch_verify.proofs.Offers.{AreOffered-with}
 use Rattle.batch_recipe.specs.Procedure.{bound_tree, sites}
-use Rattle.batch_verify.proofs.Reserving.{reserves_named}
 use Rattle.batch_verify.proofs.Paths.{KeepsPaths-more, number_above, looked, fault_known, path_stops, paths_end}
 use Rattle.batch_verify.proofs.walk.broken_on.Goals as goal
 
@@ -28,6 +29,18 @@ no_entry = record { kind = kind.Skip; end = 0; parent = 0; child = 0; needs = 0;
 pub bounds-faults-node : goal.bounds-faults-node
 bounds-faults-node c =
     omega (arith, c.len-node.ensures, c.loop-entry.invariant.paths.size, c.loop-entry-test.true, ap length c.deref-entry-items.ensures.value, as_many c.args.recipe.now, c.requires.faults.as_many)
+
+pub bounds-judged-node : goal.bounds-judged-node
+bounds-judged-node c =
+    omega (
+      arith,
+      c.len-node.ensures,
+      c.loop-entry.invariant.paths.size,
+      c.loop-entry-test.true,
+      ap length c.deref-entry-items.ensures.value,
+      ap length c.requires.judged,
+      length-map c.args.recipe.now.outline.entries.items (judged_at c.args.cell.now (option_copied c.args.ranks) c.args.linked.now),
+    )
 
 pub look-requires : goal.look-requires
 look-requires c =
@@ -42,9 +55,14 @@ look-requires c =
     let is : slice_get r.outline.entries.items n ≡ Some entry =
     ap (λ xs. slice_get xs n) (sym c.deref-entry-items.ensures.value) ∙ slice_get-get_or c.deref-entry-items.result.now n no_entry c.loop-entry-test.true in
     let above = c.path_above-above.result in
+    let node : n ≡ c.len-node.result = omega (arith, c.len-node.ensures, h.size) in
+    let judged : Entry → Option Asks = judged_at cell (option_copied c.args.ranks) c.args.linked.now in
+    let judged_is : get_or c.args.judged.now c.len-node.result None ≡ judged entry =
+    ap (λ xs. get_or xs c.len-node.result None) c.requires.judged
+    ∙ get_or_from_slice_get (map judged r.outline.entries.items) c.len-node.result (judged entry) None
+    (ap (slice_get (map judged r.outline.entries.items)) (sym node) ∙ (slice_get-map judged r.outline.entries.items n ∙ ap (option_map judged) is)) in
     record {
-      asks = c.requires.asks;
-      reserved = λ a act_is. reserves_named r.acts r.kinds r.own_reserves entry.kind a act_is;
+      judged = λ asks asks_is. judged-is cell c.deref-2.result.now (option_copied c.args.ranks) c.args.linked.now entry asks (sym judged_is ∙ asks_is);
       known = λ a unit act_is known_is.
           c.loop-entry.invariant.offered entry.kind a unit act_is
           (ap (λ units. offering_unit units entry.kind) (sym c.deref-in-loop-entry-2.ensures.value) ∙ (sym c.offering_unit-known.ensures ∙ known_is));
@@ -60,6 +78,7 @@ returns-in-Err c = λ recipes.
     let r = c.args.recipe.now in
     let ranking = ranking_in cell (option_copied c.args.ranks) in
     let bound = bound_by cell r.roles.items c.args.trial in
+    let takers : c.deref-2.result.now ≡ takers_of cell bound r.roles.items = c.deref-2.ensures.value ∙ (c.in_ok-takers.ensures ∙ ap (λ (roles : List Role). takers_of cell (bound_by cell roles c.args.trial) roles) c.deref.ensures.value) in
     let n = c.loop-entry.entry-index in
     let h = c.loop-entry.invariant.paths in
     let paths = c.loop-entry.paths.items in
@@ -72,8 +91,8 @@ returns-in-Err c = λ recipes.
     let fault_is : slice_get c.args.faults.now n ≡ Some fault =
     ap (slice_get c.args.faults.now) node ∙ slice_get-get_or c.args.faults.now c.len-node.result None
     (omega (arith, node, c.loop-entry-test.true, ap length c.deref-entry-items.ensures.value, as_many r, c.requires.faults.as_many)) in
-    let entered = subst (λ (roles : List Role). (a : Act) → act_of r.acts entry.kind ≡ Some a → (level : Level) → IsEntered cell (sites (bound_by cell roles c.args.trial) r.acts) ranking fault level above a (Err c.in-Err.rule))
-    c.deref.ensures.value c.in-Err.ensures.act in
+    let entered = (λ (a : Act) (act_is : act_of r.acts entry.kind ≡ Some a). c.in-Err.ensures.act a act_is (sites bound r.acts)
+    (ap (λ (takers : List (Option ℕ)). asks_by cell takers (needs_by c.args.linked.now entry.kind)) takers ∙ c.requires.linked bound entry.kind a act_is)) in
     let some = (λ (q : Path) (q_is : slice_get paths entry.parent ≡ Some q). c.path_above-above.ensures.some q (ap (λ xs. slice_get xs entry.parent) c.deref-in-loop-entry.ensures.value ∙ q_is)) in
     let none = (λ (past : length paths ≤ entry.parent). c.path_above-above.ensures.none (omega (arith, past, ap length c.deref-in-loop-entry.ensures.value))) in
     let known = fault_known cell ranking bound r paths n h entry is above some none c.args.faults.now c.requires.faults fault fault_is in
@@ -88,6 +107,7 @@ loop-entry-preserved c =
     let r = c.args.recipe.now in
     let ranking = ranking_in cell (option_copied c.args.ranks) in
     let bound = bound_by cell r.roles.items c.args.trial in
+    let takers : c.deref-2.result.now ≡ takers_of cell bound r.roles.items = c.deref-2.ensures.value ∙ (c.in_ok-takers.ensures ∙ ap (λ (roles : List Role). takers_of cell (bound_by cell roles c.args.trial) roles) c.deref.ensures.value) in
     let n = c.loop-entry.entry-index in
     let h = c.loop-entry.invariant.paths in
     let paths = c.loop-entry.paths.items in
@@ -100,8 +120,8 @@ loop-entry-preserved c =
     let fault_is : slice_get c.args.faults.now n ≡ Some fault =
     ap (slice_get c.args.faults.now) node ∙ slice_get-get_or c.args.faults.now c.len-node.result None
     (omega (arith, node, c.loop-entry-test.true, ap length c.deref-entry-items.ensures.value, as_many r, c.requires.faults.as_many)) in
-    let entered = subst (λ (roles : List Role). (a : Act) → act_of r.acts entry.kind ≡ Some a → (level : Level) → IsEntered cell (sites (bound_by cell roles c.args.trial) r.acts) ranking fault level above a (Ok c.in-Ok.path))
-    c.deref.ensures.value c.in-Ok.ensures.act in
+    let entered = (λ (a : Act) (act_is : act_of r.acts entry.kind ≡ Some a). c.in-Ok.ensures.act a act_is (sites bound r.acts)
+    (ap (λ (takers : List (Option ℕ)). asks_by cell takers (needs_by c.args.linked.now entry.kind)) takers ∙ c.requires.linked bound entry.kind a act_is)) in
     let some = (λ (q : Path) (q_is : slice_get paths entry.parent ≡ Some q). c.path_above-above.ensures.some q (ap (λ xs. slice_get xs entry.parent) c.deref-in-loop-entry.ensures.value ∙ q_is)) in
     let none = (λ (past : length paths ≤ entry.parent). c.path_above-above.ensures.none (omega (arith, past, ap length c.deref-in-loop-entry.ensures.value))) in
     let known = fault_known cell ranking bound r paths n h entry is above some none c.args.faults.now c.requires.faults fault fault_is in
