@@ -1,4 +1,4 @@
--- What acts ask for by number is what they ask for by name.
+-- The asks of acts by number are those by name.
 use Rattle.std.proofs.Common.{◌≡◌, ℕ, ◌<◌, List, [], ◌∷◌, length, map, get_or, slice_get, position, Bool, true, false, ◌&&◌, nat_lt, if◌then◌else◌, Option, Some, None, option_map, Result, Ok, Err, refl, sym, ap, ◌∙◌, subst, arith, lt-ltb}
 use Rattle.std.specs.Prelude.{MatchResult}
 use Rattle.std.specs.List.{list_all, list_any, position_or_len}
@@ -162,7 +162,7 @@ first_after last (Some ranks) (ask ∷ asks) first r some a is =
     subst (λ (r : Result (Option ℕ) Rule). IsRise last (rank_by ranks ask.0 ∷ rest) r) (sym is)
     (after_first last (rank_by ranks ask.0) rest (climb (Some (rank_by ranks ask.0)) rest) (subst (IsAbove last) same a) (climb_rises (Some (rank_by ranks ask.0)) rest))
 
--- What is asked for by names
+-- The asks by name
 
 module _ (c : equipment.Cell) (takers : List (Option ℕ)) (links : List LinkedNeed) (s : Sites) (a : Act) (e : asks_by c takers links ≡ asks_of c (needs_with s a)) where
   pub resources-known : list_all is_found (asks_by c takers links) ≡ list_all (is_of_resource c) (needs_with s a)

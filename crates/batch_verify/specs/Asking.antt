@@ -1,4 +1,4 @@
--- private: what acts ask for, by number.
+-- private: the needs of acts by number, and the judgement of them.
 use Rattle.std.specs.Prelude.{◌≡◌, ℕ, List, [], ◌∷◌, length, map, Bool, true, false, ltb, nat_le, nat_lt, if◌then◌else◌, Option, Some, None, Result, Ok, Err, position}
 use Rattle.std.specs.List.{list_all, list_any, slice_index_or}
 use Rattle.std.specs.Option.{is_some}
@@ -89,7 +89,7 @@ abbrev pub climb : Option ℕ → List ℕ → Result (Option ℕ) Rule
 climb last [] = Ok last
 climb last (rank ∷ ranks) = if is_above last rank then climb (Some rank) ranks else Err RankNotRising
 
--- what needs come to, whatever the path to them
+-- the judgement of needs, whatever the path to them
 abbrev pub come_to : equipment.Cell → Option (List ℕ) → List Ask → Asks
 come_to c ranks asks = record {
   are_resources = list_all is_found asks;
@@ -101,7 +101,7 @@ come_to c ranks asks = record {
 abbrev pub is_role : LinkedNeed → Bool
 is_role need = elim need.source [ Resource number ↦ false | Role role ↦ true | Unknown ↦ false ]
 
--- what the needs at a node come to, whatever units take the roles; none where a role is among them
+-- the judgement of the needs at a node, whatever units take the roles; none where a role is among them
 abbrev pub judged_at : equipment.Cell → Option (List ℕ) → LinkedRecipe → Entry → Option Asks
 judged_at c ranks linked entry =
     if list_any is_role (needs_by linked entry.kind) then None else Some (come_to c ranks (asks_by c [] (needs_by linked entry.kind)))
@@ -120,11 +120,11 @@ unit_by c (Some choice) asks number = own_unit c asks
 abbrev pub takers_of : equipment.Cell → Binding → List declared.Role → List (Option ℕ)
 takers_of c bound roles = map (λ role. position (same_name (bound role.name)) (resources_of c)) roles
 
--- what is asked for at a node
+-- the asks at a node
 abbrev pub asks_on : site.Site → List LinkedNeed → List Ask
 asks_on s needs = asks_by s.cell.now s.takers.now needs
 
--- the linked recipe says of each act what it asks for, whatever units take the roles
+-- the linked recipe has the asks of each act, whatever units take the roles
 abbrev pub SaysAsks : equipment.Cell → document.Recipe → LinkedRecipe → Type 0
 SaysAsks c recipe linked =
     (bound : Binding) (kind : Kind) (a : Act) → act_of recipe.acts kind ≡ Some a

@@ -1,4 +1,4 @@
-//! What acts ask for, by number.
+//! The needs of acts, by number.
 ghost use Rattle.std.specs.Prelude.{◌≡◌, ◌<◌, length, IfOk};
 ghost use Rattle.std.specs.List.{list_all};
 ghost use Rattle.std.specs.Option.{ForSome};
@@ -14,7 +14,7 @@ use batch_set::{CellPhases, LinkedNeed, LinkedRecipe, Source, link};
 use indexmap::IndexSet;
 use std::alloc::{AllocError, Global};
 
-/// The recipe by the numbers of what its acts ask for. Phases are asked of the cell, so none is linked.
+/// The linked recipe without the numbers of phases, which are looked up in the cell.
 pub(crate) fn link_needs(
     alloc: Global,
     cell: &Cell,
@@ -30,7 +30,7 @@ pub(crate) fn link_needs(
     Ok(linked)
 }
 
-/// The number of the source's resource, where these take the roles.
+/// The number of the source's resource, where these units take the roles.
 fn number_by(takers: &[Option<u16>], source: Source) -> Option<u16>
     ensures { result ≡ number_by takers.now source }
 {
@@ -44,7 +44,7 @@ fn number_by(takers: &[Option<u16>], source: Source) -> Option<u16>
     }
 }
 
-/// The number of the source's resource in the binding that is tried. None where it is none of the cell.
+/// The number of the source's resource at this site. None where it is none of the cell.
 pub(crate) fn resource_by(site: &Site, source: Source) -> Option<u16>
     ensures number { result ≡ among_first (length (resources_of site.now.cell.now)) (number_by site.now.takers.now source) }
     ensures within { ForSome result (λ number. number < length (resources_of site.now.cell.now)) }
@@ -61,7 +61,7 @@ pub(crate) fn resource_by(site: &Site, source: Source) -> Option<u16>
     }
 }
 
-/// Whether the need is of a resource, and whether it is of no more units than this has. What is no resource has none.
+/// Whether the need is of a resource, and whether it is of no more units than this has. An unknown name has no units.
 fn look_up(site: &Site, need: &LinkedNeed) -> (bool, bool)
     ensures resource { result.0 ≡ is_found (ask_by site.now.cell.now site.now.takers.now need.now) }
     ensures units { result.1 ≡ is_fitting site.now.cell.now (ask_by site.now.cell.now site.now.takers.now need.now) }

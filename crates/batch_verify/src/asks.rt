@@ -1,4 +1,4 @@
-//! What needs come to, whatever the path to them.
+//! The judgement of needs, whatever the path to them.
 ghost use Rattle.std.specs.Prelude.{◌≡◌, ℕ, None, Some, List, [], Option, map, IfOk, MatchResult, option_copied};
 ghost use Rattle.std.specs.List.{list_any};
 ghost use Rattle.batch_verify.specs.Asking.{Ask, asks_on, climb, come_to, first_along, is_role, judged_at, ranks_along};
@@ -13,7 +13,7 @@ use batch_recipe::Entry;
 use batch_set::{LinkedNeed, Source};
 use std::alloc::{AllocError, Global};
 
-/// What the needs of an act come to.
+/// The judgement of an act's needs.
 #[derive(Clone, Copy)]
 pub(crate) struct Asks {
     /// Whether each need is of a resource.
@@ -46,7 +46,7 @@ fn last_rank(site: &Site, needs: &[LinkedNeed]) -> Result<Option<u32>, Rule>
     }
 }
 
-/// What the needs come to in the binding that is tried.
+/// The judgement of the needs at this site.
 fn asks_of(site: &Site, needs: &[LinkedNeed]) -> Asks
     ensures { result ≡ come_to site.now.cell.now (option_copied site.now.ranks) (asks_on site.now needs.now) }
 {
@@ -59,7 +59,7 @@ fn asks_of(site: &Site, needs: &[LinkedNeed]) -> Asks
     }
 }
 
-/// What the needs come to, where it may have been judged before.
+/// The judgement of the needs, which may have been found before.
 pub(crate) fn asks_at(site: &Site, needs: &[LinkedNeed], judged: Option<Asks>) -> Asks
     requires { (asks : asked.Asks) → judged ≡ Some asks → asks ≡ come_to site.now.cell.now (option_copied site.now.ranks) (asks_on site.now needs.now) }
     ensures { result ≡ come_to site.now.cell.now (option_copied site.now.ranks) (asks_on site.now needs.now) }
@@ -87,7 +87,7 @@ fn names_role(needs: &[LinkedNeed]) -> bool
     needs.iter().any(|need| is_role(need))
 }
 
-/// What the needs at a node come to, whatever units take the roles. None where a role is among them.
+/// The judgement of the needs at a node, whatever units take the roles. None where a role is among the needs.
 fn judged_at(site: &Site, entry: &Entry) -> Option<Asks>
     requires { site.now.takers.now ≡ [] }
     ensures { result ≡ judged_at site.now.cell.now (option_copied site.now.ranks) site.now.linked.now entry.now }
@@ -99,7 +99,7 @@ fn judged_at(site: &Site, entry: &Entry) -> Option<Asks>
     Some(asks_of(site, needs))
 }
 
-/// The same of each node, where nobody takes a role at this site.
+/// The judgements at all nodes, where nobody takes a role at this site.
 pub(crate) fn judge_nodes(
     alloc: Global,
     site: &Site,
