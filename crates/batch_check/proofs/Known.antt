@@ -14,7 +14,8 @@ use Rattle.batch_model.specs.Lists.{Each}
 use Rattle.batch_model.proofs.Members.{Each-append}
 use Rattle.batch_verify.proofs.Covering.{Each_left, Each_right}
 use Rattle.batch_check.specs.Edges.{number_of_resource}
-use Rattle.batch_check.proofs.Names.{name_in-found, position_of_own, resources_differ}
+use Rattle.batch_check.proofs.Names.{name_in-found}
+use Rattle.batch_verify.proofs.ResourceNumbers.{number-own}
 use Rattle.batch_check.specs.ByName.{name_in}
 use Rattle.batch_recipe.specs.Needs as own
 use Rattle.batch_recipe.specs.declared.need.Need.{Need}
@@ -35,7 +36,7 @@ found c name among =
       number = any.0;
       below = any.2;
       named = named;
-      numbered = ap (λ (n : Name). position (same_name n) (resources_of c)) (sym named) ∙ position_of_own (resources_of c) any.0 (resources_differ c) any.2;
+      numbered = ap (λ (n : Name). position (same_name n) (resources_of c)) (sym named) ∙ number-own c any.0 any.2;
     }
 
 pub name_among : (c : Cell) (number : ℕ) → number < length (resources_of c) → IsTrue (is_among (resources_of c) (name_in c number))

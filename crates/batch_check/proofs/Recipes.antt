@@ -26,7 +26,7 @@ use Rattle.batch_check.specs.Sites.{bound_on, nodes_on, resource_count, resource
 use Rattle.batch_check.proofs.Asking.{Follows-keeps}
 use Rattle.batch_check.proofs.Bound.{follows_shown, paired_shown}
 use Rattle.batch_check.proofs.Joins.{Contains-none, Grows-same, Grows-twice}
-use Rattle.batch_check.proofs.Names.{number_of_own}
+use Rattle.batch_verify.proofs.ResourceNumbers.{number-at}
 use Rattle.batch_check.proofs.Rising.{Each-get}
 use Rattle.batch_check.proofs.Roles.{resource_for-below}
 
@@ -45,7 +45,7 @@ pair_stands cell recipes edges paired e s =
     let number : (name : Name) (k place : ℕ) → slice_get (resources_of cell) k ≡ Some name → slice_get s.node.asked place ≡ Some name
     → slice_get (numbers_of_resources cell s.node.asked) place ≡ Some (Some k) =
     λ name k place named at. slice_get-map (number_of_resource cell) s.node.asked place
-    ∙ (ap (option_map (number_of_resource cell)) at ∙ ap (λ (o : Option ℕ). Some o) (number_of_own cell name k named)) in
+    ∙ (ap (option_map (number_of_resource cell)) at ∙ ap (λ (o : Option ℕ). Some o) (number-at cell k name named)) in
     here s.asked.asked.before s.asked.asked.own e.earlier e.later s.asked.asked.ordered
     (number s.asked.earlier_name e.earlier s.asked.asked.before s.asked.earlier_named s.asked.asked.earlier_is)
     (number s.asked.later_name e.later s.asked.asked.own s.asked.later_named s.asked.asked.later_is)

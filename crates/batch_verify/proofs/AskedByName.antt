@@ -1,18 +1,14 @@
 -- The asks of acts by number are those by name.
-use Rattle.std.proofs.Common.{◌≡◌, ℕ, ◌<◌, List, [], ◌∷◌, length, map, get_or, slice_get, position, Bool, true, false, ◌&&◌, nat_lt, if◌then◌else◌, Option, Some, None, option_map, Result, Ok, Err, refl, sym, ap, ◌∙◌, subst, arith, lt-ltb}
+use Rattle.std.proofs.Common.{◌≡◌, ℕ, ◌<◌, List, [], ◌∷◌, length, map, slice_get, position, Bool, true, false, ◌&&◌, nat_lt, if◌then◌else◌, Option, Some, None, option_map, Result, Ok, Err, refl, sym, ap, ◌∙◌, subst, arith, lt-ltb}
 use Rattle.std.specs.Prelude.{MatchResult}
-use Rattle.std.specs.List.{list_all, list_any, position_or_len}
-use Rattle.std.specs.Cmp.Lexicographic.{bytes_decides}
+use Rattle.std.specs.List.{list_all, list_any}
 use Rattle.std.proofs.lemmas.Bool.{ltb-true, ltb-false, or_parts}
 use Rattle.std.proofs.lemmas.List.{length-map}
 use Rattle.std.proofs.lemmas.List.Folds.{list_all-map}
-use Rattle.std.proofs.lemmas.List.Sums.{position_or_len_is}
-use Rattle.std.proofs.lemmas.Map.Keys.{apart_from_distinct}
-use Rattle.std.proofs.lemmas.Option.{get_or_from_slice_get, slice_get-map, slice_get_within}
+use Rattle.std.proofs.lemmas.Option.{get_or_from_slice_get, slice_get-map}
 use Rattle.batch_cell.specs.LookUps.{resources_of, units_of}
 use Rattle.batch_cell.specs.declared.cell.Cell as equipment
 use Rattle.batch_cell.specs.declared.unit.Unit.{Unit}
-use Rattle.batch_cell.proofs.ResourceNames.{resources_once}
 use Rattle.batch_cell.proofs.Resources.{no_resource_no_unit, resource_is_no_unit, resource_is_unit}
 use Rattle.batch_recipe.specs.Conditions.{Name, same_name}
 use Rattle.batch_recipe.specs.Expanding.{Binding, Sites, asked_by, needs_with, unit_chosen, unit_named, unit_with}
@@ -40,21 +36,7 @@ use Rattle.batch_verify.specs.declared.asks.Asks.{Asks}
 use Rattle.batch_verify.specs.declared.rule.Rule.{Rule}
 use Rattle.batch_verify.specs.declared.rule.Rule.TheVariants.{RankNotRising}
 use Rattle.batch_verify.proofs.Finding.{found_below, found_is_among}
-use Rattle.batch_verify.proofs.NameLemmas.{same_name_sym}
-
--- a resource's name stands at its number alone
-number-at : (c : equipment.Cell) (k : ℕ) (name : Name) → slice_get (resources_of c) k ≡ Some name → position (same_name name) (resources_of c) ≡ Some k
-number-at c k name at =
-    let names = resources_of c in
-    let within = slice_get_within names k name at in
-    let once = resources_once c.units.items c.modules.items c.shared.items c.declared_once in
-    let first : position_or_len (same_name (get_or names k [])) names ≡ k =
-    position_or_len_is (same_name (get_or names k [])) names k [] (omega (arith, within))
-    (λ j before. same_name_sym (get_or names j []) (get_or names k []) false (apart_from_distinct same_name names j k [] once before within))
-    (λ _. (bytes_decides (get_or names k []) (get_or names k [])).1 refl) in
-    let inside : nat_lt k (length names) ≡ true = lt-ltb k (length names) within in
-    let own : position (same_name (get_or names k [])) names ≡ Some k = rw first (rw inside refl) in
-    subst (λ (n : Name). position (same_name n) names ≡ Some k) (get_or_from_slice_get names k name [] at) own
+use Rattle.batch_verify.proofs.ResourceNumbers.{number-at}
 
 among_first-all : (count : ℕ) (o : Option ℕ) → ((k : ℕ) → o ≡ Some k → k < count) → among_first count o ≡ o
 among_first-all count None h = refl

@@ -21,6 +21,7 @@ pub mod Spots
 pub mod WayActs
 pub mod Alike
 pub mod Alongside
+pub mod ResourceNumbers
 pub mod AskedByName
 pub mod Stands
 pub mod Faults
