@@ -6,7 +6,7 @@ use Rattle.std.proofs.lemmas.Bool.{and_parts}
 use Rattle.std.proofs.lemmas.List.Elements.{All-cons, All-nil}
 use Rattle.std.proofs.lemmas.Bool.Decides.{Decides-eqb}
 use Rattle.std.proofs.lemmas.Slice.Eq.{starts_is}
-use Rattle.batch_machine.proofs.Refusing.{refusal-just}
+use Rattle.batch_step_laws.proofs.Refusing.{refusal-just}
 use Rattle.batch_model.specs.Events.{Event, Reply, refused, no_memory}
 use Rattle.batch_model.specs.Moves.{Move, next}
 use Rattle.batch_model.specs.Plant.{Setup, Plant}

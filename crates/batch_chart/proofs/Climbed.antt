@@ -8,7 +8,7 @@ use Rattle.batch_recipe.specs.Nodes.{node_count}
 use Rattle.batch_recipe.specs.Tree.{Step, follows, Tree, act, skip, Trees, no_trees, tree, Choices, otherwise, choice}
 use Rattle.batch_model.specs.Rest.{in_seq, rest, is_done, all_done}
 use Rattle.batch_model.specs.Settled.{IsAdvanced}
-use Rattle.batch_machine.proofs.Advancing.{advance-advanced}
+use Rattle.batch_step_laws.proofs.Advancing.{advance-advanced}
 use Rattle.batch_recipe.specs.declared.entry.Entry.{Entry}
 use Rattle.batch_recipe.proofs.Below.{some_count}
 use Rattle.batch_chart.specs.declared.node.Kind.{Kind}

@@ -6,15 +6,15 @@ use Rattle.std.proofs.lemmas.Bool.Decides.{nat_tests}
 use Rattle.batch_recipe.specs.declared.need.Need.{Need}
 use Rattle.batch_recipe.specs.Tree.{Place, is_before}
 use Rattle.batch_model.specs.Lists.{Has, Each}
-use Rattle.batch_machine.specs.Laws.{IsFirst}
+use Rattle.batch_step_laws.specs.Laws.{IsFirst}
 use Rattle.batch_model.specs.Placed.{Rises}
 use Rattle.batch_model.specs.Plant.{Setup, Batch, Plant, opening}
 use Rattle.batch_model.specs.Rest.{Rest, ready, asking, open_act, live, freeing, in_seq, in_par, in_loop, done, acts, place_of}
 use Rattle.batch_model.specs.Moves.{Move, send, state, release, pass, begin, start, end, ask, grant, batch_of, kind_of, place_of_move, order_of, is_earlier, act_move, state_move, least, batch_moves, when, is_served}
-use Rattle.batch_machine.proofs.Calming.{IsStateMove, state_move-is}
-use Rattle.batch_machine.proofs.Lowering.{IsMoveOf, act_move-is}
+use Rattle.batch_step_laws.proofs.Calming.{IsStateMove, state_move-is}
+use Rattle.batch_step_laws.proofs.Lowering.{IsMoveOf, act_move-is}
 use Rattle.batch_model.proofs.Members.{Has-filter_map, Each-Has}
-use Rattle.batch_machine.proofs.Ordering.{least-IsFirst, least-IsLeast, before-asym}
+use Rattle.batch_step_laws.proofs.Ordering.{least-IsFirst, least-IsLeast, before-asym}
 use Rattle.batch_chart.specs.OwnMoves.{own_move, own_moves, own_next, grant_move, grants, is_kind}
 use Rattle.batch_chart.proofs.MoveKinds.{kind_in}
 use Rattle.batch_chart.proofs.Firsts.{no-state, no-grant}

@@ -16,8 +16,8 @@ use Rattle.batch_model.specs.Placed.{IsPlaced, IsPlacedBelow, ArePlaced, IsChoic
 use Rattle.batch_model.specs.Rest.{same_place, Rest, ready, asking, live}
 use Rattle.batch_model.specs.Moves.{freed}
 use Rattle.batch_model.proofs.Members.{Has-split}
-use Rattle.batch_machine.proofs.Ordering.{before-irrefl}
-use Rattle.batch_machine.proofs.Changing.{to_same_place}
+use Rattle.batch_step_laws.proofs.Ordering.{before-irrefl}
+use Rattle.batch_step_laws.proofs.Changing.{to_same_place}
 use Rattle.batch_recipe.specs.declared.entry.Entry.{Entry}
 use Rattle.batch_recipe.specs.declared.recipe.Recipe.{Recipe}
 use Rattle.batch_chart.specs.Outlined.{Stands, StandsAct, AreStanding, AreChoices}

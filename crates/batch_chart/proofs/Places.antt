@@ -7,8 +7,8 @@ use Rattle.batch_model.specs.Lists.{Has}
 use Rattle.batch_model.specs.Plant.{is_reached}
 use Rattle.batch_model.specs.Rest.{same_place, Rest, ready, asking, open_act, live, freeing, in_seq, in_par, in_loop, done, Rests, no_rests, rest, acts, acts_of_each, place_of, changed_at, changed_in_each, withdrawn, withdrawn_each}
 use Rattle.batch_model.proofs.Members.{Has-split, Has-left, Has-right}
-use Rattle.batch_laws.proofs.Raising.{StandsIn}
-use Rattle.batch_laws.proofs.Steady.{Stays}
+use Rattle.batch_record_laws.proofs.Raising.{StandsIn}
+use Rattle.batch_record_laws.proofs.Steady.{Stays}
 
 -- asks are withdrawn
 

@@ -15,10 +15,10 @@ use Rattle.batch_model.specs.Moves as machine
 use Rattle.batch_model.specs.Moves.{act_after, sent, released, ended, asked, granted, begun, batch_after, passing}
 use Rattle.batch_model.specs.Plant.{Batch, InAdvance, is_reached, with_rest}
 use Rattle.batch_model.specs.Rest.{same_place, Rest, ready, asking, open_act, live, freeing, in_seq, in_par, in_loop, done, Rests, no_rests, rest, acts, place_of}
-use Rattle.batch_machine.proofs.Changing.{to_same_place, same_test}
-use Rattle.batch_laws.proofs.Entries.{Has-filter}
-use Rattle.batch_laws.proofs.Raising.{at_moment, Nowhere, lifted, lifted_each, lifted-none, raised, places, IsSteady, IsTidy, IsFresh, moved-raised, reached-raised, reached-at, not_reached}
-use Rattle.batch_laws.proofs.Steady.{stays-steady, stays-tidy, sent-stays, released-stays, ended-stays, asked-stays, granted-stays, begun-steady, begun-tidy}
+use Rattle.batch_step_laws.proofs.Changing.{to_same_place, same_test}
+use Rattle.batch_record_laws.proofs.Entries.{Has-filter}
+use Rattle.batch_record_laws.proofs.Raising.{at_moment, Nowhere, lifted, lifted_each, lifted-none, raised, places, IsSteady, IsTidy, IsFresh, moved-raised, reached-raised, reached-at, not_reached}
+use Rattle.batch_record_laws.proofs.Steady.{stays-steady, stays-tidy, sent-stays, released-stays, ended-stays, asked-stays, granted-stays, begun-steady, begun-tidy}
 use Rattle.batch_chart.specs.Early.{is_early, is_ready, in_advance, taken_by, taken_by_each, is_of, IsTakenBy}
 use Rattle.batch_chart.specs.declared.passed.Passed.{Passed}
 use Rattle.batch_chart.specs.Meaning.{meaning, meaning_below, act_as}

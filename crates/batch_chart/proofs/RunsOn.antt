@@ -2,7 +2,7 @@
 use Rattle.std.proofs.Common.{◌≡◌, ◌⊎◌, inl, inr, ◌<◌, ℕ, List, [], ◌∷◌, length, filter, cond, Bool, true, false, Some, nat_eq, arith, refl, sym, ◌∙◌, subst, ap}
 use Rattle.std.specs.Prelude.{not, map}
 use Rattle.std.proofs.lemmas.Bool.Decides.{eqb_tells}
-use Rattle.batch_laws.proofs.Entries.{Has-filter}
+use Rattle.batch_record_laws.proofs.Entries.{Has-filter}
 use Rattle.batch_chart.specs.Noting.{AreNoted}
 use Rattle.batch_matrix.specs.declared.report.PhaseEnd.{PhaseEnd}
 use Rattle.batch_matrix.specs.declared.report.Report.{Report}
@@ -19,8 +19,8 @@ use Rattle.batch_model.specs.Moves as machine
 use Rattle.batch_model.specs.Moves.{act_after, batch_after, granted, passing, place_of_move}
 use Rattle.batch_model.specs.Plant.{Batch, InAdvance, is_reached, in_act, moment_of, with_rest}
 use Rattle.batch_model.specs.Rest.{Rest, acts, advance, changed_at, place_of}
-use Rattle.batch_laws.proofs.Raising.{at_moment, Nowhere, raised, IsFresh, moved-raised, not_reached, reached-at, fresh-where-none}
-use Rattle.batch_laws.proofs.Steady.{stays-steady, stays-tidy, granted-stays, phase_after-stays}
+use Rattle.batch_record_laws.proofs.Raising.{at_moment, Nowhere, raised, IsFresh, moved-raised, not_reached, reached-at, fresh-where-none}
+use Rattle.batch_record_laws.proofs.Steady.{stays-steady, stays-tidy, granted-stays, phase_after-stays}
 use Rattle.batch_chart.specs.ByValues.{advance_by}
 use Rattle.batch_chart.specs.Charts.{Awaits, IsChartOf, IsRunningOf, RunsAs}
 use Rattle.batch_chart.specs.Early.{AreHeld, held_after, in_advance, is_early, is_ready, still_held, IsTakenBy, IsMovedOn, IsReportedOn}

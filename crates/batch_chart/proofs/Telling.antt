@@ -7,7 +7,7 @@ use Rattle.batch_recipe.specs.Nodes.{node_count}
 use Rattle.batch_recipe.specs.Tree.{Tree, act, skip, seq, par, sel, loop, Trees, Choices}
 use Rattle.batch_model.specs.Rest.{in_par, done, is_done}
 use Rattle.batch_model.specs.Settled.{IsAdvanced}
-use Rattle.batch_machine.proofs.Advancing.{reach-advanced}
+use Rattle.batch_step_laws.proofs.Advancing.{reach-advanced}
 use Rattle.batch_recipe.specs.declared.entry.Entry.{Entry}
 use Rattle.batch_recipe.specs.declared.recipe.Recipe.{Recipe}
 use Rattle.batch_recipe.proofs.Below.{some_count}

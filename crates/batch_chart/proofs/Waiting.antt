@@ -12,8 +12,8 @@ use Rattle.batch_model.specs.Lists.{Has, Each}
 use Rattle.batch_model.specs.Placed.{IsPlaced, IsPlacedBelow, ArePlaced, IsChoicePlaced, Rises}
 use Rattle.batch_model.specs.Rest.{Rest, asking, acts, is_done, place_of}
 use Rattle.batch_model.proofs.Members.{Each-Has}
-use Rattle.batch_machine.proofs.Ordering.{before-asym}
-use Rattle.batch_machine.proofs.Rising.{acts-rise}
+use Rattle.batch_step_laws.proofs.Ordering.{before-asym}
+use Rattle.batch_step_laws.proofs.Rising.{acts-rise}
 use Rattle.batch_recipe.specs.declared.entry.Entry.{Entry}
 use Rattle.batch_recipe.specs.declared.recipe.Recipe.{Recipe}
 use Rattle.batch_chart.specs.declared.stage.Stage.{Stage}

@@ -5,7 +5,7 @@ use Rattle.std.proofs.lemmas.Option.{slice_get-map}
 use Rattle.batch_model.specs.Plant.{Plant, opening}
 use Rattle.batch_model.specs.Moves.{next, after}
 use Rattle.batch_model.specs.Runs.{Leads}
-use Rattle.batch_machine.proofs.Leading.{Leads-move, Leads-reply}
+use Rattle.batch_step_laws.proofs.Leading.{Leads-move, Leads-reply}
 use Rattle.batch_verify.specs.ClearedSet.{ClearedSet}
 use Rattle.batch_engine.specs.View.{EngineView, setup, plant_of}
 use Rattle.batch_engine.specs.Answered.{IsAnswered}

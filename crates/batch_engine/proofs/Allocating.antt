@@ -10,7 +10,7 @@ use Rattle.batch_model.specs.Plant.{BatchAct, Share, is_same_act, without}
 use Rattle.batch_model.specs.Moves.{ask, grant, pass, release, line_after}
 use Rattle.batch_model.specs.Runs.{move}
 use Rattle.batch_model.specs.Records.{holders_after}
-use Rattle.batch_laws.proofs.Entries.{IsOnce, act_self, once-snoc, same_act}
+use Rattle.batch_record_laws.proofs.Entries.{IsOnce, act_self, once-snoc, same_act}
 use Rattle.batch_verify.specs.ClearedSet.{ClearedSet}
 use Rattle.batch_arbiter.specs.Allocation.{Claim, shares_of, line_of, units_of, asked, granted, handed_over, passed, released, without_first, is_claim, next_in, batch_node, held_units}
 use Rattle.batch_engine.specs.View.{EngineView, act_of, share_of, acts_of, names_of, number_of, line_in, line_at}
@@ -57,7 +57,7 @@ is-same : (x y : Name) (P : Type 0) → (x ≡ y → P) → ((x ≡ y → ⊥) �
 is-same x y P same apart = go (same_name x y) refl
   where
     go : (t : Bool) → same_name x y ≡ t → P
-    go true e = same (Rattle.batch_laws.proofs.Entries.name_same x y e)
+    go true e = same (Rattle.batch_record_laws.proofs.Entries.name_same x y e)
     go false e = apart (λ s. absurd (let f : same_name x y ≡ true = name-yes x y s in let g : ◌≡◌ {A = Bool} true false = sym f ∙ e in cc))
 
 module _ (v : EngineView) (cell : IsOfCell v.cleared v.allocation) (q : ℕ) (need : Need) (e : number_of v.cleared need.resource ≡ Some q) where

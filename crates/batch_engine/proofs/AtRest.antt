@@ -11,8 +11,8 @@ use Rattle.batch_model.specs.Moves.{Move, act_move, batch_moves, giving_back, gr
 use Rattle.batch_model.specs.Plant.{Setup, Batch, Plant}
 use Rattle.batch_model.specs.Rest.{Rest, ready, asking, open_act, live, freeing, in_seq, in_par, in_loop, done, Rests, no_rests, rest, acts, acts_of_each}
 use Rattle.batch_model.proofs.Members.{Each-append}
-use Rattle.batch_laws.proofs.Facts.{Standing, facts, facts_of_each, held_at, awaited_at}
-use Rattle.batch_laws.proofs.Invariant.{IsFitting}
+use Rattle.batch_record_laws.proofs.Facts.{Standing, facts, facts_of_each, held_at, awaited_at}
+use Rattle.batch_record_laws.proofs.Invariant.{IsFitting}
 
 left-none : (xs ys : List Standing) → xs ++ ys ≡ [] → xs ≡ []
 left-none [] ys e = refl

@@ -15,7 +15,7 @@ use Rattle.batch_recipe.specs.declared.role.Role as document
 use Rattle.batch_model.specs.Events as Events
 use Rattle.batch_model.specs.Events.{bound_by, is_binding}
 use Rattle.batch_model.specs.Plant.{Master, Role}
-use Rattle.batch_laws.proofs.Entries.{name_same, name_self}
+use Rattle.batch_record_laws.proofs.Entries.{name_same, name_self}
 use Rattle.batch_verify.specs.ClearedSet.{ClearedSet}
 use Rattle.batch_engine.specs.Bindings.{AreTaken, are_of_roles, roles_in}
 use Rattle.batch_engine.specs.Creates.{AreUnitsFor}

@@ -4,10 +4,10 @@ use Rattle.batch_model.specs.Lists.{Has, Each}
 use Rattle.batch_model.specs.Plant.{Setup, Batch, Plant}
 use Rattle.batch_model.specs.Moves.{Move, batch_of, is_earlier, least, batch_moves, next}
 use Rattle.batch_model.specs.Standing.{AreNumbered}
-use Rattle.batch_machine.specs.Laws.{IsLeast}
+use Rattle.batch_step_laws.specs.Laws.{IsLeast}
 use Rattle.batch_model.proofs.Members.{Has-flat_map, Each-Has}
-use Rattle.batch_machine.proofs.Ordering.{none_least, least-IsLeast}
-use Rattle.batch_machine.proofs.Falling.{batch_moves-number}
+use Rattle.batch_step_laws.proofs.Ordering.{none_least, least-IsLeast}
+use Rattle.batch_step_laws.proofs.Falling.{batch_moves-number}
 
 least-one : (x : Move) (ys : List Move) → ((y : Move) → Has ys y → is_earlier y x ≡ false) → least (x ∷ ys) ≡ Some x
 least-one x ys h = go (least ys) refl

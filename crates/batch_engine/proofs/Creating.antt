@@ -15,7 +15,7 @@ use Rattle.batch_model.specs.Events.{create, created, refused, moves_pending, un
 use Rattle.batch_model.specs.Runs.{Reacts}
 use Rattle.batch_model.specs.Standing.{AreNumbered}
 use Rattle.batch_model.proofs.Members.{Each-append, Has-flat_map, Has-split}
-use Rattle.batch_laws.proofs.Entries.{IsOnce}
+use Rattle.batch_record_laws.proofs.Entries.{IsOnce}
 use Rattle.batch_verify.specs.ClearedSet.{ClearedSet}
 use Rattle.batch_arbiter.specs.Allocation.{Claim, shares_of, line_of}
 use Rattle.batch_chart.specs.NodesOf.{needs_in, place_at}

@@ -8,7 +8,7 @@ use Rattle.batch_recipe.specs.declared.recipe.Recipe as document
 use Rattle.batch_recipe.specs.Conditions.{Name, same_name}
 use Rattle.batch_recipe.specs.Tree.{Place, Step, Tree}
 use Rattle.batch_recipe.specs.declared.need.Need.{Need}
-use Rattle.batch_machine.proofs.Batches.{one_batch}
+use Rattle.batch_step_laws.proofs.Batches.{one_batch}
 use Rattle.batch_model.specs.Lists.{Has, Each}
 use Rattle.batch_model.specs.Plant as Model
 use Rattle.batch_model.specs.Plant.{BatchAct, Master, Share, plain}
@@ -17,10 +17,10 @@ use Rattle.batch_model.specs.Standing.{IsControl, IsStandingBatch}
 use Rattle.batch_model.specs.Moves.{Move, grant, least, is_served}
 use Rattle.batch_model.specs.Placed.{IsPlaced}
 use Rattle.batch_model.specs.Rest.{asking, acts}
-use Rattle.batch_machine.proofs.Falling.{one_act}
-use Rattle.batch_machine.proofs.Rising.{acts-rise}
+use Rattle.batch_step_laws.proofs.Falling.{one_act}
+use Rattle.batch_step_laws.proofs.Rising.{acts-rise}
 use Rattle.batch_model.proofs.Members.{Each-Has}
-use Rattle.batch_laws.proofs.Entries.{name_same}
+use Rattle.batch_record_laws.proofs.Entries.{name_same}
 use Rattle.batch_verify.specs.ClearedSet.{ClearedSet}
 use Rattle.batch_arbiter.specs.Allocation.{Claim, shares_of, line_of, next_grant, batch_node, resource_count}
 use Rattle.batch_chart.specs.NodesOf.{no_need, place_at, need_at, step_at, task_at}

@@ -13,12 +13,12 @@ use Rattle.batch_model.specs.Plant.{Setup, Batch, BatchAct, Share, units_in, Pla
 use Rattle.batch_model.specs.Moves.{Move, send, state, release, pass, begin, start, end, ask, grant, batch_of, act_move, state_move, batch_moves, is_served, when, after, next, possible}
 use Rattle.batch_model.specs.Runs.{Out, move}
 use Rattle.batch_model.specs.Records.{holders_told, holders_after}
-use Rattle.batch_machine.proofs.Falling.{Has-batch_moves}
-use Rattle.batch_machine.proofs.Ordering.{none_least}
-use Rattle.batch_machine.proofs.Telling.{holders_told-last}
-use Rattle.batch_laws.specs.Telling.{IsTold}
-use Rattle.batch_laws.proofs.Members.{flat_map-Has}
-use Rattle.batch_laws.proofs.Entries.{name_same, same_act}
+use Rattle.batch_step_laws.proofs.Falling.{Has-batch_moves}
+use Rattle.batch_step_laws.proofs.Ordering.{none_least}
+use Rattle.batch_step_laws.proofs.Telling.{holders_told-last}
+use Rattle.batch_record_laws.specs.Telling.{IsTold}
+use Rattle.batch_record_laws.proofs.Members.{flat_map-Has}
+use Rattle.batch_record_laws.proofs.Entries.{name_same, same_act}
 use Rattle.batch_engine.specs.Marking.{touched}
 
 no-elements : {X : Type 0} (xs : List X) → ((x : X) → Has xs x → ⊥) → xs ≡ []

@@ -14,9 +14,9 @@ use Rattle.batch_model.specs.Moves.{Move, grant, is_earlier, least, is_served, w
 use Rattle.batch_model.specs.Placed.{IsPlaced}
 use Rattle.batch_model.specs.Standing.{IsRestOf}
 use Rattle.batch_model.proofs.Members.{Has-filter_map}
-use Rattle.batch_machine.proofs.Ordering.{least-IsFirst}
-use Rattle.batch_machine.proofs.Falling.{one_act}
-use Rattle.batch_machine.proofs.Rising.{acts-rise}
+use Rattle.batch_step_laws.proofs.Ordering.{least-IsFirst}
+use Rattle.batch_step_laws.proofs.Falling.{one_act}
+use Rattle.batch_step_laws.proofs.Rising.{acts-rise}
 use Rattle.batch_chart.specs.NodesOf.{no_need, place_at, step_at, task_at, need_at}
 use Rattle.batch_chart.specs.OwnMoves.{grant_move, grants}
 use Rattle.batch_chart.specs.Charts.{AsksAt}

@@ -10,12 +10,12 @@ use Rattle.batch_cell.proofs.Resources.{few_resources}
 use Rattle.batch_recipe.specs.Conditions.{Name}
 use Rattle.batch_recipe.specs.Tree.{Step, Task, Tree}
 use Rattle.batch_recipe.specs.declared.need.Need.{Need}
-use Rattle.batch_machine.proofs.Batches.{one_batch}
+use Rattle.batch_step_laws.proofs.Batches.{one_batch}
 use Rattle.batch_model.specs.Lists.{Has}
 use Rattle.batch_model.specs.Plant as Model
 use Rattle.batch_model.specs.Plant.{BatchAct, Share}
 use Rattle.batch_model.specs.Rest.{asking, acts}
-use Rattle.batch_laws.proofs.Entries.{IsOnce}
+use Rattle.batch_record_laws.proofs.Entries.{IsOnce}
 use Rattle.batch_arbiter.specs.Allocation.{AsksAtMost, Claim, asks_of, is_claim, is_of_batch, line_of, resource_count}
 use Rattle.batch_chart.specs.NodesOf.{need_at, no_need, place_at}
 use Rattle.batch_chart.specs.Charts.{remains}

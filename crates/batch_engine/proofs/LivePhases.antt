@@ -9,7 +9,7 @@ use Rattle.batch_recipe.proofs.Order.{counted_nodes}
 use Rattle.batch_model.specs.Events.{LivePhase, live_in}
 use Rattle.batch_model.specs.Plant as Model
 use Rattle.batch_model.specs.Rest.{Rest}
-use Rattle.batch_laws.proofs.Entries.{name_same, name_self}
+use Rattle.batch_record_laws.proofs.Entries.{name_same, name_self}
 use Rattle.batch_chart.specs.Looked.{live_by, live_phase_at}
 use Rattle.batch_chart.specs.NodesOf.{node_at, nodes_of, phase_at, phase_in, phase_named, task_of}
 use Rattle.batch_engine.proofs.Nodes.{within-or_past}

@@ -15,11 +15,11 @@ use Rattle.batch_model.specs.Moves as Moves
 use Rattle.batch_model.specs.Moves.{batch_of, batch_after, batch_moves, line_after, after}
 use Rattle.batch_model.specs.Runs.{move}
 use Rattle.batch_model.specs.Records.{holders_after}
-use Rattle.batch_machine.proofs.Batches.{one_batch}
-use Rattle.batch_machine.proofs.Falling.{batch_moves-number, next-possible, one_act}
-use Rattle.batch_machine.proofs.Rising.{acts-rise}
+use Rattle.batch_step_laws.proofs.Batches.{one_batch}
+use Rattle.batch_step_laws.proofs.Falling.{batch_moves-number, next-possible, one_act}
+use Rattle.batch_step_laws.proofs.Rising.{acts-rise}
 use Rattle.batch_model.proofs.Members.{Has-flat_map, Has-left, Has-right}
-use Rattle.batch_laws.proofs.Entries.{IsOnce, same_act, act_self, filter-Has, name_self}
+use Rattle.batch_record_laws.proofs.Entries.{IsOnce, same_act, act_self, filter-Has, name_self}
 use Rattle.batch_arbiter.specs.Allocation.{Claim, shares_of, line_of, asked, granted, passed, released, units_of, is_claim, IsHeld, next_grant, batch_node, capacity_of}
 use Rattle.batch_chart.specs.NodesOf.{no_need, place_at, step_at, task_at, need_at}
 use Rattle.batch_recipe.specs.Nodes.{node_count}

@@ -7,8 +7,8 @@ use Rattle.batch_model.specs.Lists.{Has}
 use Rattle.batch_model.specs.Plant as Model
 use Rattle.batch_model.specs.Plant.{BatchAct, Share, Plant, is_same_act, without}
 use Rattle.batch_model.specs.Standing.{AreNumbered}
-use Rattle.batch_machine.proofs.Batches.{only}
-use Rattle.batch_laws.proofs.Entries.{IsOnce, differs, act_self, name_self, name_same}
+use Rattle.batch_step_laws.proofs.Batches.{only}
+use Rattle.batch_record_laws.proofs.Entries.{IsOnce, differs, act_self, name_self, name_same}
 use Rattle.batch_verify.specs.ClearedSet.{ClearedSet}
 use Rattle.batch_arbiter.specs.Allocation.{Claim, without_first}
 use Rattle.batch_chart.specs.NodesOf.{place_at}
@@ -126,6 +126,6 @@ without-claim share p a (x ∷ xs) h k = go (p x) refl (without-claim share p a 
 
     go : (t : Bool) → p x ≡ t → map share (without_first p xs) ≡ without a (map share xs) → map share (cond t xs (x ∷ without_first p xs)) ≡ without a (share x ∷ map share xs)
     go true e f =
-        let same : (share x).act ≡ a = Rattle.batch_laws.proofs.Entries.same_act (share x).act a (sym (k x) ∙ e) in
+        let same : (share x).act ≡ a = Rattle.batch_record_laws.proofs.Entries.same_act (share x).act a (sym (k x) ∙ e) in
         sym (gone (filter (λ b. not (is_same_act b.act a)) (map share xs)) (not (is_same_act (share x).act a)) (negate (p x) (is_same_act (share x).act a) (k x) true e) ∙ filter-all a (map share xs) (λ y m d. h.0 y m (d ∙ sym same)))
     go false e f = sym (later (filter (λ b. not (is_same_act b.act a)) (map share xs)) (map share (without_first p xs)) (not (is_same_act (share x).act a)) (negate (p x) (is_same_act (share x).act a) (k x) false e) (sym f))

@@ -18,19 +18,19 @@ use Rattle.batch_model.specs.Rest.{Rest, ready, asking, open_act, live, freeing,
 use Rattle.batch_model.specs.Runs.{Out, move, reply, Reacts, Leads}
 use Rattle.batch_model.specs.Standing.{IsStanding, IsStandingBatch}
 use Rattle.batch_model.proofs.Members.{Each-Has, Has-flat_map, Has-split, Has-right}
-use Rattle.batch_machine.proofs.Falling.{next-possible}
-use Rattle.batch_machine.proofs.Leading.{Leads-move, Leads-reply}
-use Rattle.batch_machine.proofs.Led.{led-stands, opening-stands}
-use Rattle.batch_machine.proofs.Telling.{holders_told-last}
-use Rattle.batch_laws.specs.Telling.{IsTold, IsLiveAt}
-use Rattle.batch_laws.proofs.Along.{kept-along, kept-at_first, placed-trees}
-use Rattle.batch_laws.proofs.Batches.{of-entry, performing-of, holders-entries}
-use Rattle.batch_laws.proofs.ClearedDown.{AreClearedDown}
-use Rattle.batch_laws.proofs.Entries.{Has-without, holders-Has, nat_same, name_same, name_self, units-cons}
-use Rattle.batch_laws.proofs.Facts.{holding, performing, entries, share}
-use Rattle.batch_laws.proofs.Invariant.{IsKept, IsSound, standing-of}
-use Rattle.batch_laws.proofs.Telling.{tells_the_plant}
-use Rattle.batch_laws.proofs.Units.{performed-phase, unit-held}
+use Rattle.batch_step_laws.proofs.Falling.{next-possible}
+use Rattle.batch_step_laws.proofs.Leading.{Leads-move, Leads-reply}
+use Rattle.batch_step_laws.proofs.Led.{led-stands, opening-stands}
+use Rattle.batch_step_laws.proofs.Telling.{holders_told-last}
+use Rattle.batch_record_laws.specs.Telling.{IsTold, IsLiveAt}
+use Rattle.batch_record_laws.proofs.Along.{kept-along, kept-at_first, placed-trees}
+use Rattle.batch_record_laws.proofs.Batches.{of-entry, performing-of, holders-entries}
+use Rattle.batch_record_laws.proofs.ClearedDown.{AreClearedDown}
+use Rattle.batch_record_laws.proofs.Entries.{Has-without, holders-Has, nat_same, name_same, name_self, units-cons}
+use Rattle.batch_record_laws.proofs.Facts.{holding, performing, entries, share}
+use Rattle.batch_record_laws.proofs.Invariant.{IsKept, IsSound, standing-of}
+use Rattle.batch_record_laws.proofs.Telling.{tells_the_plant}
+use Rattle.batch_record_laws.proofs.Units.{performed-phase, unit-held}
 use Rattle.batch_engine.specs.Marked.{AreNotedBy}
 use Rattle.batch_engine.specs.Marking.{noted, noted_for}
 use Rattle.batch_engine.proofs.Frames.{IsEven}

@@ -26,9 +26,9 @@ use Rattle.batch_model.specs.Plant as Model
 use Rattle.batch_model.proofs.Members.{Each-map}
 use Rattle.batch_model.proofs.Parts.{parts-nodes}
 use Rattle.batch_model.specs.Standing.{IsControl}
-use Rattle.batch_laws.proofs.Clearing.{control-clear}
-use Rattle.batch_laws.proofs.Entries.{name_same}
-use Rattle.batch_laws.proofs.Members.{Each-image}
+use Rattle.batch_record_laws.proofs.Clearing.{control-clear}
+use Rattle.batch_record_laws.proofs.Entries.{name_same}
+use Rattle.batch_record_laws.proofs.Members.{Each-image}
 use Rattle.batch_verify.specs.ClearedSet.{ClearedSet}
 use Rattle.batch_set.proofs.Positions.{any-position, name-at}
 use Rattle.batch_chart.specs.NodesOf.{nodes_of, node_at, step_of, step_at, need_at, no_need}

@@ -17,7 +17,7 @@ use Rattle.batch_model.specs.Plant.{Share, Plant, in_batch}
 use Rattle.batch_model.specs.Moves.{Move}
 use Rattle.batch_model.specs.Events.{order, ordered, refused, moves_pending, unknown_batch, command_not_accepted, commanded, lines_under, ordering, judged, react, Answer}
 use Rattle.batch_model.specs.Runs.{Reacts}
-use Rattle.batch_laws.proofs.Entries.{IsOnce, once-filter}
+use Rattle.batch_record_laws.proofs.Entries.{IsOnce, once-filter}
 use Rattle.batch_arbiter.specs.Allocation as Arbiter
 use Rattle.batch_arbiter.specs.Allocation.{Claim, Allocation, shares_of, line_of, is_of_batch}
 use Rattle.batch_recipe.specs.Tree.{Tree}

@@ -17,9 +17,9 @@ use Rattle.batch_model.specs.Runs.{Out, reply, move, Reacts, Leads}
 use Rattle.batch_model.specs.Records.{waiters_after}
 use Rattle.batch_model.specs.declared.limits.TheConstants.{LAST_NUMBER}
 use Rattle.batch_model.proofs.Members.{Has-split}
-use Rattle.batch_machine.proofs.Telling.{waiters_told-last}
-use Rattle.batch_laws.specs.Telling.{IsTold}
-use Rattle.batch_laws.proofs.Entries.{nat_same, Has-filter}
+use Rattle.batch_step_laws.proofs.Telling.{waiters_told-last}
+use Rattle.batch_record_laws.specs.Telling.{IsTold}
+use Rattle.batch_record_laws.proofs.Entries.{nat_same, Has-filter}
 use Rattle.batch_engine.specs.Marking.{named, withdraws}
 use Rattle.batch_engine.proofs.Frames.{ServesBefore, lines-alone, settled-none, held-same, as-before}
 

@@ -19,20 +19,20 @@ use Rattle.batch_model.specs.Rest.{Rest, Rests, ready, asking, open_act, live, f
 use Rattle.batch_model.specs.Runs.{Out, move}
 use Rattle.batch_model.specs.Standing.{IsAwaited, IsStanding, IsStandingBatch}
 use Rattle.batch_model.proofs.Members.{Each-Has, Has-left, Has-right, Has-split}
-use Rattle.batch_machine.proofs.Changing.{to_same_place}
-use Rattle.batch_machine.proofs.Falling.{Has-batch_moves, batch_moves-number}
-use Rattle.batch_machine.proofs.InAdvance.{follower-due}
-use Rattle.batch_laws.proofs.Changing.{IsChange, Becomes, also, nothing}
-use Rattle.batch_laws.proofs.Due.{awaited-nowhere}
-use Rattle.batch_laws.proofs.Batches.{of-entry}
-use Rattle.batch_laws.proofs.Entries.{holders-Has, name_same, nat_same, sums-without_once, units-append, units-one}
-use Rattle.batch_laws.proofs.Facts.{Standing, entries, facts, facts_of_each, held_at, holding}
-use Rattle.batch_laws.proofs.Invariant.{IsFirstNeed, IsKept, IsSound, standing-of}
-use Rattle.batch_laws.proofs.Keeping.{not-held-yet}
-use Rattle.batch_laws.proofs.MoveSteps.{freed-facts, no_move, some_move}
-use Rattle.batch_laws.proofs.Passing.{act-step_in}
-use Rattle.batch_laws.proofs.Raising.{Nowhere, places, reached-at}
-use Rattle.batch_laws.proofs.Tops.{find-passes}
+use Rattle.batch_step_laws.proofs.Changing.{to_same_place}
+use Rattle.batch_step_laws.proofs.Falling.{Has-batch_moves, batch_moves-number}
+use Rattle.batch_step_laws.proofs.InAdvance.{follower-due}
+use Rattle.batch_record_laws.proofs.Changing.{IsChange, Becomes, also, nothing}
+use Rattle.batch_record_laws.proofs.Due.{awaited-nowhere}
+use Rattle.batch_record_laws.proofs.Batches.{of-entry}
+use Rattle.batch_record_laws.proofs.Entries.{holders-Has, name_same, nat_same, sums-without_once, units-append, units-one}
+use Rattle.batch_record_laws.proofs.Facts.{Standing, entries, facts, facts_of_each, held_at, holding}
+use Rattle.batch_record_laws.proofs.Invariant.{IsFirstNeed, IsKept, IsSound, standing-of}
+use Rattle.batch_record_laws.proofs.Keeping.{not-held-yet}
+use Rattle.batch_record_laws.proofs.MoveSteps.{freed-facts, no_move, some_move}
+use Rattle.batch_record_laws.proofs.Passing.{act-step_in}
+use Rattle.batch_record_laws.proofs.Raising.{Nowhere, places, reached-at}
+use Rattle.batch_record_laws.proofs.Tops.{find-passes}
 
 -- The act that passes something on
 

@@ -18,12 +18,12 @@ use Rattle.batch_model.specs.Events as Events
 use Rattle.batch_model.specs.Events.{removed, refused, moves_pending, unknown_batch, not_idle, removing, without_batch, judged, react, Answer}
 use Rattle.batch_model.specs.Runs.{Reacts}
 use Rattle.batch_model.specs.Standing.{AreNumbered}
-use Rattle.batch_machine.proofs.Batches.{one_batch}
-use Rattle.batch_laws.proofs.Entries.{IsOnce, Has-holders}
-use Rattle.batch_laws.proofs.Facts.{Fact, holding, awaiting, batch_facts, early_facts, facts, entries}
-use Rattle.batch_laws.proofs.Batches.{entry-of}
-use Rattle.batch_laws.proofs.Invariant.{IsFitting, standing-of}
-use Rattle.batch_laws.proofs.Passing.{early-none, is_under_way}
+use Rattle.batch_step_laws.proofs.Batches.{one_batch}
+use Rattle.batch_record_laws.proofs.Entries.{IsOnce, Has-holders}
+use Rattle.batch_record_laws.proofs.Facts.{Fact, holding, awaiting, batch_facts, early_facts, facts, entries}
+use Rattle.batch_record_laws.proofs.Batches.{entry-of}
+use Rattle.batch_record_laws.proofs.Invariant.{IsFitting, standing-of}
+use Rattle.batch_record_laws.proofs.Passing.{early-none, is_under_way}
 use Rattle.batch_verify.specs.ClearedSet.{ClearedSet}
 use Rattle.batch_arbiter.specs.Allocation.{Claim, shares_of, line_of}
 use Rattle.batch_chart.specs.NodesOf.{needs_in, place_at}

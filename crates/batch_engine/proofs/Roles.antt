@@ -6,7 +6,7 @@ use Rattle.batch_recipe.specs.Conditions.{Name, same_name}
 use Rattle.batch_recipe.specs.WellFormed.{are_distinct, is_among, is_role_among}
 use Rattle.batch_recipe.specs.declared.recipe.Recipe.{Recipe}
 use Rattle.batch_model.specs.Events.{bound_by}
-use Rattle.batch_laws.proofs.Entries.{name_self}
+use Rattle.batch_record_laws.proofs.Entries.{name_self}
 use Rattle.batch_engine.specs.Names.{roles_of}
 
 pub names-differ : (r : Recipe) → are_distinct (roles_of r) ≡ true

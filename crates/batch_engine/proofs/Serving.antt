@@ -10,7 +10,7 @@ use Rattle.batch_model.specs.Lists.{Has}
 use Rattle.batch_model.specs.Plant.{BatchAct, Share, units_in, holders, is_same_act}
 use Rattle.batch_model.specs.Moves.{is_served}
 use Rattle.batch_cell.specs.LookUps.{capacities_of}
-use Rattle.batch_laws.proofs.Entries.{act_self, same_act, units-cons}
+use Rattle.batch_record_laws.proofs.Entries.{act_self, same_act, units-cons}
 use Rattle.batch_arbiter.specs.Allocation.{Claim, Allocation, line_of, shares_of, held_units, next_in, batch_node}
 use Rattle.batch_engine.specs.View.{EngineView, setup, act_of, acts_of, number_of, line_in, line_at, plant_of}
 use Rattle.batch_engine.specs.Kept.{IsKept}

@@ -7,8 +7,8 @@ use Rattle.batch_model.specs.Lists.{Has}
 use Rattle.batch_model.specs.Plant as Model
 use Rattle.batch_model.specs.Standing.{IsAwaited, IsStandingBatch}
 use Rattle.batch_model.proofs.Members.{Each-Has}
-use Rattle.batch_laws.proofs.Invariant as Safety
-use Rattle.batch_laws.proofs.Invariant.{standing-of}
+use Rattle.batch_record_laws.proofs.Invariant as Safety
+use Rattle.batch_record_laws.proofs.Invariant.{standing-of}
 use Rattle.batch_chart.specs.Charts.{HasSpace, IsRunningOf}
 use Rattle.batch_chart.specs.NodesOf.{most_by, need_at, own_units, place_at}
 use Rattle.batch_chart.specs.declared.passed.Passed.{Passed}

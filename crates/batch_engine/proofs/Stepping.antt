@@ -8,10 +8,10 @@ use Rattle.batch_model.specs.Plant.{Share, Plant, opening}
 use Rattle.batch_model.specs.Moves.{Move, batch_of, batch_after, line_after, after}
 use Rattle.batch_model.specs.Runs.{move, Leads}
 use Rattle.batch_model.specs.Records.{holders_after}
-use Rattle.batch_machine.proofs.Batches.{only}
-use Rattle.batch_machine.proofs.Leading.{Leads-move}
-use Rattle.batch_machine.proofs.Telling.{holders_told-last}
-use Rattle.batch_laws.proofs.Entries.{IsOnce}
+use Rattle.batch_step_laws.proofs.Batches.{only}
+use Rattle.batch_step_laws.proofs.Leading.{Leads-move}
+use Rattle.batch_step_laws.proofs.Telling.{holders_told-last}
+use Rattle.batch_record_laws.proofs.Entries.{IsOnce}
 use Rattle.batch_arbiter.specs.Allocation.{Allocation, shares_of, line_of}
 use Rattle.batch_chart.specs.Charts.{IsRunningOf}
 use Rattle.batch_engine.specs.declared.batch.Batch.{Batch}

@@ -18,9 +18,9 @@ use Rattle.batch_model.specs.Moves as Moves
 use Rattle.batch_model.specs.Moves.{is_served, batch_moves, batch_after, after, next, grant}
 use Rattle.batch_model.specs.Runs.{move, reply}
 use Rattle.batch_model.specs.Standing.{AreNumbered}
-use Rattle.batch_machine.proofs.Leading.{Leads-move, Leads-reply}
-use Rattle.batch_laws.specs.Telling.{IsTold}
-use Rattle.batch_laws.proofs.Telling.{tells_the_plant}
+use Rattle.batch_step_laws.proofs.Leading.{Leads-move, Leads-reply}
+use Rattle.batch_record_laws.specs.Telling.{IsTold}
+use Rattle.batch_record_laws.proofs.Telling.{tells_the_plant}
 use Rattle.batch_verify.specs.ClearedSet.{ClearedSet}
 use Rattle.batch_arbiter.specs.Allocation.{next_grant, batch_node, resource_count}
 use Rattle.batch_chart.specs.Seen.{move_of}

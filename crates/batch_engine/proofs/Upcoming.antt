@@ -6,7 +6,7 @@ use Rattle.batch_model.specs.Lists.{Each}
 use Rattle.batch_model.specs.Plant as Model
 use Rattle.batch_model.specs.Moves as Moves
 use Rattle.batch_model.specs.Moves.{least, batch_moves, next, is_earlier}
-use Rattle.batch_laws.proofs.Members.{Each-image}
+use Rattle.batch_record_laws.proofs.Members.{Each-image}
 use Rattle.batch_chart.specs.OwnMoves.{grants, own_next}
 use Rattle.batch_chart.specs.Seen.{move_of}
 use Rattle.batch_engine.specs.declared.batch.Batch.{Batch}

@@ -9,7 +9,7 @@ use Rattle.batch_model.specs.Plant.{opening}
 use Rattle.batch_model.specs.Events.{Event}
 use Rattle.batch_model.specs.Runs.{Out, Leads}
 use Rattle.batch_model.specs.Records.{holders_told}
-use Rattle.batch_laws.specs.Once.{IsOnce}
+use Rattle.batch_record_laws.specs.Once.{IsOnce}
 use Rattle.batch_verify.specs.ClearedSet.{ClearedSet}
 use Rattle.batch_arbiter.specs.Allocation.{Allocation, line_of, shares_of}
 use Rattle.batch_chart.specs.NodesOf.{needs_in}

@@ -1,7 +1,7 @@
 -- Who asks for desks to be served asks for nothing else.
 use Rattle.std.proofs.Common.{◌≡◌, ℕ, Bool, List, Option}
 use Rattle.clap.specs.Walk.{Text}
-use Rattle.batch_words.specs.CommandLine.{Judgement, Source, audit, keep, picture, plant, remark, serve, serve_desks, tell, write}
+use Rattle.batch_cli.specs.CommandLine.{Judgement, Source, audit, keep, picture, plant, remark, serve, serve_desks, tell, write}
 
 -- the words of one that does
 module _ {named : Option Text} {path cell certificate : Text} {recipes : List Text} {times : Bool} where

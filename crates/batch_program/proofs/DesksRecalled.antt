@@ -26,9 +26,9 @@ use Rattle.batch_desks.specs.DeskNames.{desk_names}
 use Rattle.batch_desks.specs.DesksDocument.{IsDeskTable}
 use Rattle.batch_desks.specs.declared.desk.Desk.{Desk}
 use Rattle.batch_desks.specs.declared.desk_set.Desks.{Desks}
-use Rattle.batch_commands.specs.DeskSets.{AreDesksCleared}
-use Rattle.batch_commands.specs.Reading.{Gives}
-use Rattle.batch_commands.specs.Running.{Stream}
+use Rattle.batch_verdicts.specs.DeskSets.{AreDesksCleared}
+use Rattle.batch_verdicts.specs.Reading.{Gives}
+use Rattle.batch_verdicts.specs.Running.{Stream}
 use Rattle.batch_program.specs.DeskRuns.{AreDesksKept, AreDesksOn, AreDesksOver, AreDesksRun}
 use Rattle.batch_program.specs.JournalRuns.{DiskKind, IsJournalTold, JournalFiles, fails, refuses, serves, stops}
 use Rattle.batch_program.specs.Programs.{DesksAreKept}

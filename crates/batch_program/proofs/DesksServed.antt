@@ -8,15 +8,15 @@ use Rattle.batch_model.specs.Plant.{Plant, opening}
 use Rattle.batch_engine.specs.View.{EngineView, plant_of, setup}
 use Rattle.batch_serve_desks.specs.Served.{AreServed, ServiceIsSafe}
 use Rattle.batch_verify.specs.ClearedSet.{ClearedSet}
-use Rattle.batch_words.specs.CommandLine.{Request, serve_desks}
-use Rattle.batch_commands.specs.DeskSets.{AreDesksCleared}
-use Rattle.batch_commands.specs.Reading.{Gives}
-use Rattle.batch_commands.specs.Running.{AskFor, IsDone, IsRun, Stream, ask_quiet, fault_status, memory_status, success_status}
-use Rattle.batch_commands.specs.Running as running
-use Rattle.batch_commands.specs.declared.course.Course.{Course}
-use Rattle.batch_commands.specs.declared.course.Course.TheVariants as course_of
-use Rattle.batch_commands.specs.declared.desks.DeskSet.{DeskSet}
-use Rattle.batch_commands.proofs.Successes.{same_request}
+use Rattle.batch_cli.specs.CommandLine.{Request, serve_desks}
+use Rattle.batch_verdicts.specs.DeskSets.{AreDesksCleared}
+use Rattle.batch_verdicts.specs.Reading.{Gives}
+use Rattle.batch_verdicts.specs.Running.{AskFor, IsDone, IsRun, Stream, ask_quiet, fault_status, memory_status, success_status}
+use Rattle.batch_verdicts.specs.Running as running
+use Rattle.batch_verdicts.specs.declared.course.Course.{Course}
+use Rattle.batch_verdicts.specs.declared.course.Course.TheVariants as course_of
+use Rattle.batch_verdicts.specs.declared.desks.DeskSet.{DeskSet}
+use Rattle.batch_verdicts.proofs.Successes.{same_request}
 use Rattle.batch_desks.specs.DeskNames.{desk_names}
 use Rattle.batch_desks.specs.declared.desk_set.Desks.{Desks}
 use Rattle.batch_pipes.specs.Service.{AreDesksServed}

@@ -3,16 +3,16 @@ use Rattle.std.proofs.Common.{◌≡◌, ℕ, Bool, List, Option, Some, inl, inr
 use Rattle.std.specs.Prelude.{String, string_bytes}
 use Rattle.std.specs.Global.{Global}
 use Rattle.clap.specs.Walk.{Text}
-use Rattle.batch_words.specs.CommandLine.{Judgement, Request, Source, audit, keep, picture, remark, serve, tell, write, serve_desks}
-use Rattle.batch_commands.specs.Reading.{Gives}
-use Rattle.batch_commands.specs.Requests.{IsVerdict}
-use Rattle.batch_commands.specs.Running.{AskFor, IsDone, IsRun, IsUnwritten, Stream, ask_quiet}
-use Rattle.batch_commands.specs.Running as running
-use Rattle.batch_commands.specs.Saying.{IsWarned}
-use Rattle.batch_commands.specs.declared.course.Course.{Course}
-use Rattle.batch_commands.specs.declared.course.Course.TheVariants as course_of
-use Rattle.batch_commands.proofs.Successes.{same_request}
-use Rattle.batch_commands.proofs.Warned.{verdict_more, warned_kept}
+use Rattle.batch_cli.specs.CommandLine.{Judgement, Request, Source, audit, keep, picture, remark, serve, tell, write, serve_desks}
+use Rattle.batch_verdicts.specs.Reading.{Gives}
+use Rattle.batch_verdicts.specs.Requests.{IsVerdict}
+use Rattle.batch_verdicts.specs.Running.{AskFor, IsDone, IsRun, IsUnwritten, Stream, ask_quiet}
+use Rattle.batch_verdicts.specs.Running as running
+use Rattle.batch_verdicts.specs.Saying.{IsWarned}
+use Rattle.batch_verdicts.specs.declared.course.Course.{Course}
+use Rattle.batch_verdicts.specs.declared.course.Course.TheVariants as course_of
+use Rattle.batch_verdicts.proofs.Successes.{same_request}
+use Rattle.batch_verdicts.proofs.Warned.{verdict_more, warned_kept}
 use Rattle.batch_serve.specs.Serves as serving
 use Rattle.batch_program.proofs.DeskRequests.{desks_no_file}
 use Rattle.batch_program.specs.Programs.{CertificatesAreKept, IsProgramRun, tells, writes, serves, serves_desks, remarks, keeps, reads, draws, audits, plants}

@@ -26,7 +26,7 @@ use Rattle.batch_model.specs.Plant.{opening}
 use Rattle.batch_verify.specs.ClearedSet.{ClearedSet}
 use Rattle.batch_engine.specs.View.{setup}
 use Rattle.batch_keep.specs.Blocks.{IsBlockOf}
-use Rattle.batch_commands.specs.Running.{IsPrinted, Stream, fault_status, memory_status}
+use Rattle.batch_verdicts.specs.Running.{IsPrinted, Stream, fault_status, memory_status}
 use Rattle.batch_program.specs.JournalRuns.{Behind, DiskKind, IsJournalRefused, IsJournalTold, IsShownBehind, journal_text, refuses, stops, serves, fails}
 use Rattle.batch_program.specs.PlantRuns.{refused_status}
 use Rattle.batch_program.specs.Keeping.{IsStartTold, IsToldBehind, cleaned}

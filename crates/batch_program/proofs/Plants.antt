@@ -12,7 +12,7 @@ use Rattle.batch_cell.specs.declared.cell.Cell.{Cell}
 use Rattle.batch_recipe.specs.Conditions.{Name}
 use Rattle.batch_recipe.specs.declared.recipe.Recipe.{Recipe}
 use Rattle.batch_recipe.specs.declared.role.Role.{Role}
-use Rattle.batch_words.specs.declared.plant_options.PlantOptions.{PlantOptions}
+use Rattle.batch_cli.specs.declared.plant_options.PlantOptions.{PlantOptions}
 use Rattle.batch_plant.specs.Plants.{ComesFromDesks, IsReport}
 use Rattle.batch_plant.specs.declared.plant_fault.PlantFault.{PlantFault}
 use Rattle.batch_program.specs.PlantWork.{IsPlanOf, RunsBy}

@@ -5,16 +5,16 @@ use Rattle.std.specs.Io.KnownBytes.{Appends}
 use Rattle.clap.specs.Walk.{Text}
 use Rattle.batch_verify.specs.ClearedSet.{ClearedSet}
 use Rattle.batch_wire.specs.Transcript.{lines_of}
-use Rattle.batch_words.specs.CommandLine.{Judgement, Source, audit, keep, remark, serve, tell, write, picture, serve_desks}
+use Rattle.batch_cli.specs.CommandLine.{Judgement, Source, audit, keep, remark, serve, tell, write, picture, serve_desks}
 use Rattle.batch_audit.specs.Audits as findings
 use Rattle.batch_audit.specs.Audits.{Finds, told_text}
 use Rattle.batch_audit.specs.declared.finding.Finding.{Finding}
 use Rattle.batch_audit.specs.declared.finding.Finding.TheVariants.{Agrees, Differs, EndsBefore}
-use Rattle.batch_commands.specs.Reading.{Gives}
-use Rattle.batch_commands.specs.Requests.{IsSetOf}
-use Rattle.batch_commands.specs.Running.{AskFor, IsPrinted, IsUnwritten, Stream, memory_status}
-use Rattle.batch_commands.specs.VerdictTexts.{accepted_text}
-use Rattle.batch_commands.proofs.Successes.{same_request}
+use Rattle.batch_verdicts.specs.Reading.{Gives}
+use Rattle.batch_verdicts.specs.Requests.{IsSetOf}
+use Rattle.batch_verdicts.specs.Running.{AskFor, IsPrinted, IsUnwritten, Stream, memory_status}
+use Rattle.batch_verdicts.specs.VerdictTexts.{accepted_text}
+use Rattle.batch_verdicts.proofs.Successes.{same_request}
 use Rattle.batch_serve.specs.Serves as serving
 use Rattle.batch_program.proofs.DeskRequests.{desks_no_audit}
 use Rattle.batch_program.specs.AuditRuns.{IsAccepted, IsAuditTold, finding_status, finding_text, finds, stops}

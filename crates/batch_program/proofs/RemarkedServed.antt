@@ -3,15 +3,15 @@ use Rattle.std.proofs.Common.{◌≡◌, ℕ, Bool, List, Option, Some, None, Re
 use Rattle.std.specs.Io.KnownBytes.{Keeps}
 use Rattle.clap.specs.Walk.{Text}
 use Rattle.batch_verify.specs.ClearedSet.{ClearedSet}
-use Rattle.batch_words.specs.CommandLine.{Judgement, Request, Source, audit, keep, plant, remark, serve, tell, write, picture, serve_desks}
-use Rattle.batch_words.specs.declared.comments.Comments.{Comments}
-use Rattle.batch_commands.specs.Reading.{Gives}
-use Rattle.batch_commands.specs.Requests.{IsSetOf}
-use Rattle.batch_commands.specs.Running as running
-use Rattle.batch_commands.specs.Running.{AskFor, IsDone, IsRun, IsUnwritten, Stream, ask_quiet}
-use Rattle.batch_commands.specs.declared.course.Course.{Course}
-use Rattle.batch_commands.specs.declared.course.Course.TheVariants as course_of
-use Rattle.batch_commands.proofs.Successes.{same_request}
+use Rattle.batch_cli.specs.CommandLine.{Judgement, Request, Source, audit, keep, plant, remark, serve, tell, write, picture, serve_desks}
+use Rattle.batch_cli.specs.declared.comments.Comments.{Comments}
+use Rattle.batch_verdicts.specs.Reading.{Gives}
+use Rattle.batch_verdicts.specs.Requests.{IsSetOf}
+use Rattle.batch_verdicts.specs.Running as running
+use Rattle.batch_verdicts.specs.Running.{AskFor, IsDone, IsRun, IsUnwritten, Stream, ask_quiet}
+use Rattle.batch_verdicts.specs.declared.course.Course.{Course}
+use Rattle.batch_verdicts.specs.declared.course.Course.TheVariants as course_of
+use Rattle.batch_verdicts.proofs.Successes.{same_request}
 use Rattle.batch_serve.specs.Comments.{IsRemarked}
 use Rattle.batch_serve.specs.RemarkedSet.{ServesRemarked}
 use Rattle.batch_serve.specs.Serves as serving

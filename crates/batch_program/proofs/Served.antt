@@ -10,24 +10,24 @@ use Rattle.batch_engine.specs.View.{setup}
 use Rattle.batch_wire.specs.Transcript.{lines_of, whole_lines}
 use Rattle.batch_wire.specs.Written.{AppendsBeginning}
 use Rattle.batch_serve.specs.Safe.{BeginsSafely, WritesSafely, WritesWholeSafely}
-use Rattle.batch_words.specs.declared.comments.Comments.{Comments}
-use Rattle.batch_words.specs.CommandLine.{Request, Source, audit, plant, serve, serve_desks, source_of, tell, keep, Judgement, write, remark, picture}
-use Rattle.batch_words.specs.declared.command.AuditWords.{AuditWords}
-use Rattle.batch_words.specs.declared.plant_options.PlantOptions.{PlantOptions}
-use Rattle.batch_commands.specs.Reading.{Gives}
-use Rattle.batch_commands.specs.Requests.{IsSetOf}
-use Rattle.batch_commands.specs.Running.{AskFor, IsAnnounced, IsDone, IsExplained, IsPrinted, IsRun, IsUnwritten, Stream, ask_quiet, fault_status, success_status, usage_status, memory_status}
-use Rattle.batch_commands.specs.Statuses.{IsSuccess}
-use Rattle.batch_commands.proofs.Successes.{done_keeping, done_serving, every_in_range, same_request, success_is_told}
-use Rattle.batch_commands.specs.Judging.{status_of}
-use Rattle.batch_commands.specs.Running as running
-use Rattle.batch_commands.specs.declared.course.Course.{Course}
-use Rattle.batch_commands.specs.declared.course.Course.TheVariants.{Ends}
-use Rattle.batch_commands.specs.declared.course.Course.TheVariants as course_of
-use Rattle.batch_commands.specs.declared.refusal.Halt.TheVariants as halt
-use Rattle.batch_commands.specs.declared.refusal.Halt.{Halt}
-use Rattle.batch_commands.specs.declared.refusal.RefusalKind.{RefusalKind}
-use Rattle.batch_commands.specs.declared.refusal.RefusalKind.TheVariants.{Fault, OutOfMemory}
+use Rattle.batch_cli.specs.declared.comments.Comments.{Comments}
+use Rattle.batch_cli.specs.CommandLine.{Request, Source, audit, plant, serve, serve_desks, source_of, tell, keep, Judgement, write, remark, picture}
+use Rattle.batch_cli.specs.declared.command.AuditWords.{AuditWords}
+use Rattle.batch_cli.specs.declared.plant_options.PlantOptions.{PlantOptions}
+use Rattle.batch_verdicts.specs.Reading.{Gives}
+use Rattle.batch_verdicts.specs.Requests.{IsSetOf}
+use Rattle.batch_verdicts.specs.Running.{AskFor, IsAnnounced, IsDone, IsExplained, IsPrinted, IsRun, IsUnwritten, Stream, ask_quiet, fault_status, success_status, usage_status, memory_status}
+use Rattle.batch_verdicts.specs.Statuses.{IsSuccess}
+use Rattle.batch_verdicts.proofs.Successes.{done_keeping, done_serving, every_in_range, same_request, success_is_told}
+use Rattle.batch_verdicts.specs.Judging.{status_of}
+use Rattle.batch_verdicts.specs.Running as running
+use Rattle.batch_verdicts.specs.declared.course.Course.{Course}
+use Rattle.batch_verdicts.specs.declared.course.Course.TheVariants.{Ends}
+use Rattle.batch_verdicts.specs.declared.course.Course.TheVariants as course_of
+use Rattle.batch_verdicts.specs.declared.refusal.Halt.TheVariants as halt
+use Rattle.batch_verdicts.specs.declared.refusal.Halt.{Halt}
+use Rattle.batch_verdicts.specs.declared.refusal.RefusalKind.{RefusalKind}
+use Rattle.batch_verdicts.specs.declared.refusal.RefusalKind.TheVariants.{Fault, OutOfMemory}
 use Rattle.batch_serve.specs.Serves as serving
 use Rattle.batch_serve.specs.Serves.{AnswersAll, Serves, WritesTo}
 use Rattle.batch_serve.specs.declared.fault.ServeFault.TheVariants.{Read, Write, TooManyReads}
@@ -43,8 +43,8 @@ use Rattle.batch_program.specs.AuditRuns as auditing
 use Rattle.batch_program.specs.AuditRuns.{IsAuditTold, finding_status, finding_text}
 use Rattle.batch_program.specs.JournalRuns.{Behind, DiskKind, IsJournalRefused, IsJournalRun, IsJournalTold, IsRunOver, IsShownBehind, JournalFiles}
 use Rattle.batch_program.specs.JournalRuns as journal
-use Rattle.batch_commands.specs.Digested.{AreDigested}
-use Rattle.batch_commands.specs.declared.digested.Digested.{Digested}
+use Rattle.batch_verdicts.specs.Digested.{AreDigested}
+use Rattle.batch_verdicts.specs.declared.digested.Digested.{Digested}
 use Rattle.batch_journal.specs.declared.recovery.RecoveryFault.{RecoveryFault}
 use Rattle.batch_desks.specs.DeskNames.{desk_names}
 use Rattle.batch_pipes.specs.declared.fault.DesksFault.{DesksFault}

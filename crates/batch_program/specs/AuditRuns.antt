@@ -6,8 +6,8 @@ use Rattle.batch_wire.specs.Transcript.{lines_of}
 use Rattle.batch_audit.specs.Audits.{BeginsRecordOf, Finds, HasLines, IsRecordOf, told_text}
 use Rattle.batch_audit.specs.declared.finding.Finding.{Finding}
 use Rattle.batch_audit.specs.declared.finding.Finding.TheVariants.{Agrees, Differs, EndsBefore}
-use Rattle.batch_commands.specs.Running.{IsPrinted, Stream, success_status}
-use Rattle.batch_commands.specs.VerdictTexts.{accepted_text}
+use Rattle.batch_verdicts.specs.Running.{IsPrinted, Stream, success_status}
+use Rattle.batch_verdicts.specs.VerdictTexts.{accepted_text}
 use Rattle.batch_program.specs.PlantRuns.{refused_status}
 use Rattle.batch_program.specs.RecordRuns.{Holds, IsUntold, output_of}
 use Rattle.batch_serve.specs.Serves as serving

@@ -14,7 +14,7 @@ use Rattle.batch_keep.specs.Blocks.{IsBlockOf}
 use Rattle.batch_pipes.specs.Service.{AppendsTimed, AreDesksServed}
 use Rattle.batch_pipes.specs.declared.fault.DesksFault.{DesksFault}
 use Rattle.batch_pipes.specs.declared.fault.DesksFault.TheVariants.{Memory, Thread, Journal, Record, RoundsOut}
-use Rattle.batch_commands.specs.Running.{Stream, fault_status, memory_status, success_status}
+use Rattle.batch_verdicts.specs.Running.{Stream, fault_status, memory_status, success_status}
 use Rattle.batch_program.specs.JournalRuns.{Behind, DiskKind, IsOver, IsRunOver, JournalFiles}
 
 -- runs of lines of the desks of these names were served, in this order; their answers are the text of a safe transcript over the set, and

@@ -2,7 +2,7 @@
 use Rattle.std.specs.Prelude.{◌⊎◌, ℕ, List, Option, Some, None, IfSome}
 use Rattle.std.specs.Io.KnownBytes.{Keeps}
 use Rattle.clap.specs.Walk.{Text}
-use Rattle.batch_commands.specs.Running.{IsPrinted, Stream, success_status}
+use Rattle.batch_verdicts.specs.Running.{IsPrinted, Stream, success_status}
 use Rattle.batch_program.specs.PlantRuns.{refused_status}
 use Rattle.batch_program.specs.RecordRuns.{Holds, IsUntold, no_record_text, output_of}
 use Rattle.batch_serve.specs.Serves as serving

@@ -1,6 +1,6 @@
 -- trusted: what comes of `check --write`.
 use Rattle.std.specs.Prelude.{◌≡◌, ◌⊎◌, ℕ, List, Some}
-use Rattle.batch_commands.specs.Running.{IsUnwritten, Stream, fault_status, memory_status, success_status}
+use Rattle.batch_verdicts.specs.Running.{IsUnwritten, Stream, fault_status, memory_status, success_status}
 use Rattle.batch_program.specs.RecordRuns.{Holds}
 
 -- the file at the path holds the text, where it is known what it holds, and nothing is told on the errors; or the status says that it

@@ -13,7 +13,7 @@ use Rattle.batch_journal.specs.declared.recovery.RecoveryFault.{RecoveryFault}
 use Rattle.batch_keep.specs.Told.{IsNeverLost}
 use Rattle.batch_keep.specs.declared.starting.StartFault.{StartFault}
 use Rattle.batch_keep.specs.declared.starting.StartFault.TheVariants.{Recovery}
-use Rattle.batch_commands.specs.Running.{Stream, fault_status, memory_status, success_status}
+use Rattle.batch_verdicts.specs.Running.{Stream, fault_status, memory_status, success_status}
 use Rattle.batch_program.specs.DeskRuns.{AreDesksBehind}
 use Rattle.batch_program.specs.JournalRuns.{IsJournalRefused, IsShownAs}
 use Rattle.batch_program.specs.RecordRuns.{IsUntold}

@@ -13,7 +13,7 @@ use Rattle.batch_model.specs.Plant.{Plant, batch_at, opening}
 use Rattle.batch_model.specs.Runs.{Leads, Out}
 use Rattle.batch_verify.specs.ClearedSet.{ClearedSet}
 use Rattle.batch_engine.specs.View.{setup}
-use Rattle.batch_commands.specs.Running.{IsPrinted, IsUnwritten, Stream, memory_status}
+use Rattle.batch_verdicts.specs.Running.{IsPrinted, IsUnwritten, Stream, memory_status}
 use Rattle.batch_plant.specs.declared.plant_fault.PlantFault.{PlantFault}
 use Rattle.batch_plant.specs.declared.plant_fault.PlantFault.TheVariants.{Memory, Thread, Refused, TurnsOut, Unclosed}
 

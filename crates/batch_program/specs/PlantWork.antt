@@ -4,7 +4,7 @@ use Rattle.std.specs.List.{All}
 use Rattle.batch_cell.specs.declared.cell.Cell.{Cell}
 use Rattle.batch_recipe.specs.declared.recipe.Recipe.{Recipe}
 use Rattle.batch_verify.specs.ClearedSet.{ClearedSet}
-use Rattle.batch_words.specs.declared.plant_options.PlantOptions.{PlantOptions}
+use Rattle.batch_cli.specs.declared.plant_options.PlantOptions.{PlantOptions}
 use Rattle.batch_sim.specs.SteadyUnit.{SteadyView, Commands, TicksSteadily}
 use Rattle.batch_desk.specs.declared.batch_plan.BatchPlan.{BatchPlan}
 use Rattle.batch_desk.specs.HubDone.{AreComplete}

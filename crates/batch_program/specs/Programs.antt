@@ -6,18 +6,18 @@ use Rattle.std.specs.declared.process.ExitCode.{ExitCode}
 use Rattle.clap.specs.Walk.{Text}
 use Rattle.batch_verify.specs.ClearedSet.{ClearedSet}
 use Rattle.batch_wire.specs.Transcript.{lines_of}
-use Rattle.batch_words.specs.CommandLine.{Source, audit, keep, plant, serve, serve_desks, tell, Judgement, write, remark, picture}
-use Rattle.batch_words.specs.declared.plant_options.PlantOptions.{PlantOptions}
+use Rattle.batch_cli.specs.CommandLine.{Source, audit, keep, plant, serve, serve_desks, tell, Judgement, write, remark, picture}
+use Rattle.batch_cli.specs.declared.plant_options.PlantOptions.{PlantOptions}
 use Rattle.batch_desks.specs.DeskNames.{desk_names}
 use Rattle.batch_desks.specs.declared.desk_set.Desks.{Desks}
-use Rattle.batch_commands.specs.DeskSets.{AreDesksCleared}
-use Rattle.batch_commands.specs.Digested.{AreDigested}
-use Rattle.batch_commands.specs.Reading.{Gives}
-use Rattle.batch_commands.specs.Requests.{IsSetOf, IsVerdict}
-use Rattle.batch_commands.specs.Running.{AskFor, IsRun, IsUnwritten, Stream, ask_quiet, fault_status, memory_status}
-use Rattle.batch_commands.specs.Saying.{WritesFront, IsWarned}
-use Rattle.batch_commands.specs.VerdictTexts.{accepted_text}
-use Rattle.batch_commands.specs.declared.course.Course.TheVariants.{Ends}
+use Rattle.batch_verdicts.specs.DeskSets.{AreDesksCleared}
+use Rattle.batch_verdicts.specs.Digested.{AreDigested}
+use Rattle.batch_verdicts.specs.Reading.{Gives}
+use Rattle.batch_verdicts.specs.Requests.{IsSetOf, IsVerdict}
+use Rattle.batch_verdicts.specs.Running.{AskFor, IsRun, IsUnwritten, Stream, ask_quiet, fault_status, memory_status}
+use Rattle.batch_verdicts.specs.Saying.{WritesFront, IsWarned}
+use Rattle.batch_verdicts.specs.VerdictTexts.{accepted_text}
+use Rattle.batch_verdicts.specs.declared.course.Course.TheVariants.{Ends}
 use Rattle.batch_serve.specs.Comments.{IsRemarked}
 use Rattle.batch_serve.specs.RemarkedSet.{ServesRemarked}
 use Rattle.batch_serve.specs.Serves as serving

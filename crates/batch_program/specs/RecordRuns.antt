@@ -2,7 +2,7 @@
 use Rattle.std.specs.Prelude.{◌≡◌, ◌⊎◌, ◌++◌, ℕ, List, [], Option, Some, None, IfSome, codes, decimal}
 use Rattle.std.specs.Io.KnownBytes.{Keeps}
 use Rattle.clap.specs.Walk.{Text}
-use Rattle.batch_commands.specs.Running.{IsPrinted, IsUnwritten, Stream, fault_status, memory_status, success_status}
+use Rattle.batch_verdicts.specs.Running.{IsPrinted, IsUnwritten, Stream, fault_status, memory_status, success_status}
 use Rattle.batch_program.specs.PlantRuns.{refused_status}
 use Rattle.batch_serve.specs.Serves as serving
 use Rattle.batch_status.specs.Blocks.{Stage}

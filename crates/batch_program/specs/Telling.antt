@@ -4,7 +4,7 @@ use Rattle.batch_verify.specs.ClearedSet.{ClearedSet}
 use Rattle.batch_wire.specs.Transcript.{lines_of}
 use Rattle.batch_audit.specs.Audits.{Finds}
 use Rattle.batch_audit.specs.declared.finding.Finding.{Finding}
-use Rattle.batch_commands.specs.Running.{IsPrinted, Stream}
+use Rattle.batch_verdicts.specs.Running.{IsPrinted, Stream}
 use Rattle.batch_program.specs.AuditRuns.{finding_status, finding_text}
 
 -- what is found of the text, against the lines of the input, is printed

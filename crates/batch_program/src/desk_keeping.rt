@@ -5,7 +5,7 @@ ghost use Rattle.batch_engine.specs.View.{plant_of};
 ghost use Rattle.batch_journal.specs.Journals.{recovered, sum_text};
 ghost use Rattle.batch_journal.specs.Lines.{text_of};
 ghost use Rattle.batch_journal.specs.Readers.{HasRecalled, IsKept, IsWhole};
-ghost use Rattle.batch_commands.specs.Running.{fault_status, memory_status, success_status};
+ghost use Rattle.batch_verdicts.specs.Running.{fault_status, memory_status, success_status};
 ghost use Rattle.batch_program.specs.DeskRuns.{AreDesksOver, AreDesksRun};
 ghost use Rattle.batch_program.specs.Keeping.{AreDesksToldBehind};
 
@@ -16,7 +16,6 @@ use crate::journal_faults::{
 };
 use crate::journals::Journals;
 use crate::keeping::{Messages, write_block};
-use batch_commands::{DeskSet, NO_MEMORY, OUT_OF_MEMORY, complain};
 use batch_desks::Desks;
 use batch_engine::Engine;
 use batch_journal::{Disk, DiskError, Groups, Run};
@@ -25,6 +24,7 @@ use batch_pipes::DesksFault;
 use batch_serve_desks::Lines;
 use batch_streams::Noted;
 use batch_text::Name;
+use batch_verdicts::{DeskSet, NO_MEMORY, OUT_OF_MEMORY, complain};
 use std::alloc::{AllocError, Global};
 use std::io;
 use std::io::Write;

@@ -1,11 +1,11 @@
 //! Writing the text of a verdict into a file.
 ghost use Rattle.std.specs.Prelude.{◌≡◌, ◌⊎◌};
-ghost use Rattle.batch_commands.specs.Running.{fault_status, memory_status};
+ghost use Rattle.batch_verdicts.specs.Running.{fault_status, memory_status};
 ghost use Rattle.batch_program.specs.FileWriting.{IsWritten};
 
 use crate::record_audit::complain_unread;
 use crate::records::Records;
-use batch_commands::{FILE_FAULT, NO_MEMORY, OUT_OF_MEMORY, SUCCESS, complain};
+use batch_verdicts::{FILE_FAULT, NO_MEMORY, OUT_OF_MEMORY, SUCCESS, complain};
 use batch_wording::shown;
 use std::alloc::Global;
 use std::io::Write;

@@ -1,15 +1,15 @@
 //! What is told of a journal over which nothing can be served, or served on.
 ghost use Rattle.std.specs.Prelude.{◌≡◌, ◌⊎◌, IfOk, string_bytes};
-ghost use Rattle.batch_commands.specs.Running.{fault_status, memory_status};
+ghost use Rattle.batch_verdicts.specs.Running.{fault_status, memory_status};
 ghost use Rattle.batch_program.specs.JournalRuns.{IsJournalRefused, journal_text};
 ghost use Rattle.batch_program.specs.Keeping.{IsStartTold};
 
-use batch_commands::{FILE_FAULT, NO_MEMORY, OUT_OF_MEMORY, complain, print, tell};
 use batch_journal::{DiskError, RecoveryFault};
 use batch_keep::{BlockFault, KeepFault, StartFault};
 use batch_serve::ServeFault;
 use batch_status::StatusFault;
 use batch_streams::Noted;
+use batch_verdicts::{FILE_FAULT, NO_MEMORY, OUT_OF_MEMORY, complain, print, tell};
 use batch_wording::shown;
 use std::alloc::{AllocError, Global};
 use std::fmt::Display;

@@ -1,8 +1,8 @@
 //! Where journals are opened.
 ghost use Rattle.std.specs.Prelude.{◌≡◌, ℕ, List, [], IfOk, ⊤};
 
-use batch_commands::FilesOf;
 use batch_journal::{Disk, FileDisk};
+use batch_verdicts::FilesOf;
 use std::io;
 use std::time::Clock;
 

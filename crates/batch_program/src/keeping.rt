@@ -9,7 +9,7 @@ ghost use Rattle.batch_wire.specs.WrittenTranscript.{WritesTranscript};
 ghost use Rattle.batch_journal.specs.Journals.{recovered, sum_text};
 ghost use Rattle.batch_journal.specs.Lines.{text_of};
 ghost use Rattle.batch_journal.specs.Readers.{HasRecalled, IsAccounted, IsKept, IsWhole};
-ghost use Rattle.batch_commands.specs.Running.{fault_status, memory_status, success_status};
+ghost use Rattle.batch_verdicts.specs.Running.{fault_status, memory_status, success_status};
 ghost use Rattle.batch_program.specs.JournalRuns.{IsJournalRun, IsOverFile, IsShownAs};
 ghost use Rattle.batch_program.specs.Keeping.{IsToldBehind, cleaned};
 
@@ -18,14 +18,14 @@ use crate::journal_faults::{
 };
 use crate::journals::Journals;
 use crate::program::{MAX_READS, tell_left};
-use batch_commands::{Digested, SUCCESS};
+use batch_cli::Comments;
 use batch_engine::Engine;
 use batch_journal::{Disk, Run};
 use batch_keep::{Journal, KeepFault, Started, serve_started, serve_started_remarked, start};
 use batch_serve::{CleanReader, NoRemarks, Remarking, clean_lines_serve_alike};
 use batch_streams::Noted;
+use batch_verdicts::{Digested, SUCCESS};
 use batch_wire::{WriteFault, write_all};
-use batch_words::Comments;
 use std::alloc::Global;
 use std::io::{Read, Write};
 use std::marker::Brand;

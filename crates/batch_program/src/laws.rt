@@ -3,8 +3,8 @@ ghost use Rattle.batch_program.specs.Programs.{AuditsAreTrue, CertificatesAreKep
 
 use crate::journals::Journals;
 use crate::records::Records;
-use batch_commands::Documents;
 use batch_keep::desks_are_told_again;
+use batch_verdicts::Documents;
 
 /// What the exit status 0 of a run that serves tells: the set is that of the documents, cleared by their certificate, all lines
 /// of the input were answered, and what was written is the text of a safe record.

@@ -1,10 +1,10 @@
 //! Telling how a plant ended.
 ghost use Rattle.std.specs.Prelude.{◌≡◌, IfOk, string_bytes};
-ghost use Rattle.batch_commands.specs.Running.{Stream};
+ghost use Rattle.batch_verdicts.specs.Running.{Stream};
 ghost use Rattle.batch_program.specs.PlantRuns.{IsPlantTold, plant_text};
 
-use batch_commands::{NO_MEMORY, OUT_OF_MEMORY, complain, print};
 use batch_plant::PlantFault;
+use batch_verdicts::{NO_MEMORY, OUT_OF_MEMORY, complain, print};
 use std::alloc::{AllocError, Global};
 use std::io::Write;
 

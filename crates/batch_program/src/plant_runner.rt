@@ -2,9 +2,9 @@
 ghost use Rattle.std.specs.Prelude.{IfOk};
 ghost use Rattle.batch_program.specs.PlantWork.{RunsBy};
 
+use batch_cli::PlantOptions;
 use batch_plant::PlantFault;
 use batch_verify::Cleared;
-use batch_words::PlantOptions;
 use std::alloc::Global;
 
 /// Who runs a plant: the program by threads of its process, and a test as it likes.

@@ -1,6 +1,6 @@
 //! Comparing a record with what was sent.
 ghost use Rattle.std.specs.Prelude.{◌≡◌, ◌⊎◌, ℕ, List, Option, IfOk, IfSome, string_bytes};
-ghost use Rattle.batch_commands.specs.Running.{IsPrinted, IsUnwritten, fault_status, memory_status};
+ghost use Rattle.batch_verdicts.specs.Running.{IsPrinted, IsUnwritten, fault_status, memory_status};
 ghost use Rattle.batch_program.specs.AuditRuns.{IsAuditTold, finding_status, finding_text};
 ghost use Rattle.batch_program.specs.RecordRuns.{IsUntold};
 ghost use Rattle.batch_program.specs.Telling.{IsFindingTold};
@@ -8,10 +8,10 @@ ghost use Rattle.batch_program.specs.Telling.{IsFindingTold};
 use crate::record_status::complain_unopened;
 use crate::records::Records;
 use batch_audit::{AuditFault, Finding, audit};
-use batch_commands::{FILE_FAULT, NO_MEMORY, OUT_OF_MEMORY, SUCCESS, complain, print};
+use batch_cli::AuditWords;
 use batch_streams::Noted;
+use batch_verdicts::{FILE_FAULT, NO_MEMORY, OUT_OF_MEMORY, SUCCESS, complain, print};
 use batch_verify::Cleared;
-use batch_words::AuditWords;
 use std::alloc::{AllocError, Global};
 use std::io;
 use std::io::{ErrorKind, Read, Write};

@@ -1,6 +1,6 @@
 //! Drawing what a record says.
 ghost use Rattle.std.specs.Prelude.{◌≡◌, ◌⊎◌, ℕ, IfErr, IfOk, IfSome, Some, option_map, string_bytes};
-ghost use Rattle.batch_commands.specs.Running.{fault_status, memory_status};
+ghost use Rattle.batch_verdicts.specs.Running.{fault_status, memory_status};
 ghost use Rattle.batch_program.specs.DrawingRuns.{IsDrawn, IsRecordDrawn};
 ghost use Rattle.batch_status.specs.Reading.{IsRefusedAt};
 ghost use Rattle.batch_timeline.specs.Pictures.{picture_text};
@@ -10,9 +10,9 @@ ghost use Rattle.batch_timeline.specs.declared.reading.RecordFault.TheVariants.{
 
 use crate::record_status::{complain_unopened, refuse_line};
 use crate::records::Records;
-use batch_commands::{FILE_FAULT, NO_MEMORY, OUT_OF_MEMORY, SUCCESS, complain, print};
 use batch_streams::Noted;
 use batch_timeline::{RecordFault, draw_record};
+use batch_verdicts::{FILE_FAULT, NO_MEMORY, OUT_OF_MEMORY, SUCCESS, complain, print};
 use std::alloc::Global;
 use std::io;
 use std::io::{ErrorKind, Read, Write};

@@ -1,6 +1,6 @@
 //! Telling what a record says.
 ghost use Rattle.std.specs.Prelude.{◌≡◌, ◌⊎◌, ℕ, IfErr, IfOk, IfSome, option_map, string_bytes};
-ghost use Rattle.batch_commands.specs.Running.{IsPrinted, IsUnwritten, fault_status, memory_status};
+ghost use Rattle.batch_verdicts.specs.Running.{IsPrinted, IsUnwritten, fault_status, memory_status};
 ghost use Rattle.batch_program.specs.PlantRuns.{refused_status};
 ghost use Rattle.batch_program.specs.RecordRuns.{IsRecordTold, IsStatusOf, IsStatusTold, no_record_text};
 ghost use Rattle.batch_status.specs.Reading.{IsRefusedAt};
@@ -8,9 +8,9 @@ ghost use Rattle.batch_status.specs.declared.reading.StatusFault.TheVariants.{No
 
 use crate::program::MAX_READS;
 use crate::records::Records;
-use batch_commands::{FILE_FAULT, NO_MEMORY, OUT_OF_MEMORY, SUCCESS, complain, print, print_bytes};
 use batch_status::{StatusFault, read_status};
 use batch_streams::Noted;
+use batch_verdicts::{FILE_FAULT, NO_MEMORY, OUT_OF_MEMORY, SUCCESS, complain, print, print_bytes};
 use batch_wording::shown;
 use std::alloc::{AllocError, Global};
 use std::io;

@@ -1,7 +1,7 @@
 //! Where records are opened, and certificates written.
 ghost use Rattle.std.specs.Prelude.{ℕ, List, Option, Some, IfOk, OnOk, ⊤};
 
-use batch_commands::FilesOf;
+use batch_verdicts::FilesOf;
 use std::alloc::Global;
 use std::fs::OpenFile;
 use std::io::{ErrorKind, Read, Write};

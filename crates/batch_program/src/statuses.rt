@@ -2,8 +2,8 @@
 ghost use Rattle.std.specs.Prelude.{◌≡◌};
 ghost use Rattle.batch_program.specs.Programs.{status_of_serving};
 
-use batch_commands::{FILE_FAULT, NO_MEMORY};
 use batch_serve::SetFault;
+use batch_verdicts::{FILE_FAULT, NO_MEMORY};
 
 /// The exit status after serving: 0 where the input ran to its end.
 pub fn serving_status(served: Result<usize, SetFault>) -> u8

@@ -11,9 +11,9 @@ use Rattle.batch_model.specs.Plant.{Setup}
 use Rattle.batch_model.specs.Standing.{IsRestOf, IsRestBelow, IsBranch, AreBranches, IsChosen}
 use Rattle.batch_model.specs.Cleared.{Ranking, Level, below, Part, parts, parts_within, parts_of_each, parts_of_choices, IsClear}
 use Rattle.batch_model.proofs.Members.{Has-split, Each-Has}
-use Rattle.batch_laws.proofs.Facts.{awaiting, performing, held_at, awaited_at, facts, facts_of_each}
-use Rattle.batch_laws.proofs.Members.{Each-left, Each-right}
-use Rattle.batch_laws.proofs.Ranking.{Has-get, held-awaiting, awaited-awaiting, lone-awaiting}
+use Rattle.batch_record_laws.proofs.Facts.{awaiting, performing, held_at, awaited_at, facts, facts_of_each}
+use Rattle.batch_record_laws.proofs.Members.{Each-left, Each-right}
+use Rattle.batch_record_laws.proofs.Ranking.{Has-get, held-awaiting, awaited-awaiting, lone-awaiting}
 use Rattle.batch_recipe.specs.declared.need.Need.{Need}
 use Rattle.batch_recipe.specs.Needs.{resources_of}
 

@@ -1,12 +1,12 @@
 -- The promise for the documents of a cell and recipes.
 use Rattle.batch_model.specs.Setups.{setup_of}
-use Rattle.batch_laws.specs.Premises.{IsOfDocuments}
+use Rattle.batch_record_laws.specs.Premises.{IsOfDocuments}
 use Rattle.batch_safety.specs.Sets.{ClearedSetsRunSafely}
-use Rattle.batch_laws.proofs.Clearing.{cleared-down}
-use Rattle.batch_laws.proofs.Sets.{sets_are_documents}
+use Rattle.batch_record_laws.proofs.Clearing.{cleared-down}
+use Rattle.batch_record_laws.proofs.Sets.{sets_are_documents}
 use Rattle.batch_safety.proofs.KeptAlong.{units-kept}
 use Rattle.batch_safety.proofs.Safe.{safe}
-use Rattle.batch_laws.proofs.Telling.{tells_the_plant}
+use Rattle.batch_record_laws.proofs.Telling.{tells_the_plant}
 use Rattle.batch_safety.proofs.Working.{nobody_waits_in_vain}
 
 pub cleared_sets_run_safely : ClearedSetsRunSafely

@@ -11,13 +11,13 @@ use Rattle.batch_model.specs.Standing.{IsStanding}
 use Rattle.batch_model.specs.Transfers.{Kept, passed_told, reserved_told, KeepsUnits}
 use Rattle.batch_model.proofs.Members.{Each-map}
 use Rattle.batch_model.specs.Moves.{after}
-use Rattle.batch_machine.proofs.Led.{opening-stands, reacts-stands}
-use Rattle.batch_laws.proofs.Along.{kept-at_first, moved-stands, placed-trees}
-use Rattle.batch_laws.proofs.ClearedDown.{AreClearedDown}
-use Rattle.batch_laws.proofs.Invariant.{IsKept}
-use Rattle.batch_laws.proofs.Members.{Has-Each}
-use Rattle.batch_laws.proofs.Moving.{move-step}
-use Rattle.batch_laws.proofs.Reports.{reply-step}
+use Rattle.batch_step_laws.proofs.Led.{opening-stands, reacts-stands}
+use Rattle.batch_record_laws.proofs.Along.{kept-at_first, moved-stands, placed-trees}
+use Rattle.batch_record_laws.proofs.ClearedDown.{AreClearedDown}
+use Rattle.batch_record_laws.proofs.Invariant.{IsKept}
+use Rattle.batch_record_laws.proofs.Members.{Has-Each}
+use Rattle.batch_record_laws.proofs.Moving.{move-step}
+use Rattle.batch_record_laws.proofs.Reports.{reply-step}
 use Rattle.batch_safety.proofs.KeptEvents.{reply-keeps_all}
 use Rattle.batch_safety.proofs.UnitsKept.{IsHeldFor, IsStillKept, KeepsIn, KeepsAll, move-keeps_all}
 

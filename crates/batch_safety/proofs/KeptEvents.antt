@@ -22,13 +22,13 @@ use Rattle.batch_model.specs.Runs.{Out, reply, Reacts, goes_on}
 use Rattle.batch_model.specs.Standing.{IsStanding}
 use Rattle.batch_model.specs.Transfers.{Kept, kept_until, passed_told, reserved_told}
 use Rattle.batch_model.proofs.Members.{Has-split, Each-Has}
-use Rattle.batch_laws.proofs.Batches.{only, same-batch, below-next, entry-of}
-use Rattle.batch_laws.proofs.Entries.{nat_same, nat_self, Has-filter, Has-holders}
-use Rattle.batch_laws.proofs.Events.{find-Has, reset-rests, reset-nothing}
-use Rattle.batch_laws.proofs.Facts.{facts, early_facts, batch_facts, entries, holding, need}
-use Rattle.batch_laws.proofs.Invariant.{IsKept, standing-of, numbers-of}
-use Rattle.batch_laws.proofs.Members.{Has-map}
-use Rattle.batch_laws.proofs.Passing.{early-none}
+use Rattle.batch_record_laws.proofs.Batches.{only, same-batch, below-next, entry-of}
+use Rattle.batch_record_laws.proofs.Entries.{nat_same, nat_self, Has-filter, Has-holders}
+use Rattle.batch_record_laws.proofs.Events.{find-Has, reset-rests, reset-nothing}
+use Rattle.batch_record_laws.proofs.Facts.{facts, early_facts, batch_facts, entries, holding, need}
+use Rattle.batch_record_laws.proofs.Invariant.{IsKept, standing-of, numbers-of}
+use Rattle.batch_record_laws.proofs.Members.{Has-map}
+use Rattle.batch_record_laws.proofs.Passing.{early-none}
 use Rattle.batch_safety.proofs.KeptUnits.{IsOfOther, Holds, passed_told-last, reserved_told-last, passed_told-others, reserved_told-others}
 use Rattle.batch_safety.proofs.Unbegun.{advance-unbegun, changed-unbegun, phase_after-unbegun}
 use Rattle.batch_safety.proofs.UnitsKept.{IsHeldFor, IsHeldByStep, IsStillKept, KeepsAs, KeepsIn, KeepsAll, keeps-on, other-keeps, still-fresh}

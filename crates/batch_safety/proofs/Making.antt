@@ -10,7 +10,7 @@ use Rattle.batch_model.specs.Moves.{Move, send, release, pass, begin, start, end
 use Rattle.batch_model.specs.Plant.{Setup, Batch, Plant, held_in}
 use Rattle.batch_model.specs.Rest.{Rest, ready, asking, open_act, live, freeing, is_done}
 use Rattle.batch_model.specs.Runs.{goes_on}
-use Rattle.batch_laws.proofs.MoveSteps.{some_move, no_move}
+use Rattle.batch_record_laws.proofs.MoveSteps.{some_move, no_move}
 
 -- a step begins that holds all its needs; a batch that goes on gives back the last need of an act that has ended, where nothing that
 -- follows is reserved by it, and else passes it on

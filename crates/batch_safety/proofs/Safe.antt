@@ -6,17 +6,17 @@ use Rattle.batch_model.specs.Plant.{Setup, Plant, opening}
 use Rattle.batch_model.specs.Moves.{start, after}
 use Rattle.batch_model.specs.Events.{Event, Reply}
 use Rattle.batch_model.specs.Standing.{IsStanding}
-use Rattle.batch_machine.proofs.Led.{opening-stands, reacts-stands}
+use Rattle.batch_step_laws.proofs.Led.{opening-stands, reacts-stands}
 use Rattle.batch_model.specs.Runs.{Out, move, reply, Leads}
 use Rattle.batch_model.specs.Records.{StartsIdle, IsSafeNow, IsSafe}
 use Rattle.batch_model.specs.Cleared.{Ranking}
-use Rattle.batch_laws.proofs.ClearedDown.{AreClearedDown}
-use Rattle.batch_laws.proofs.Invariant.{IsKept}
+use Rattle.batch_record_laws.proofs.ClearedDown.{AreClearedDown}
+use Rattle.batch_record_laws.proofs.Invariant.{IsKept}
 use Rattle.batch_safety.proofs.Safety.{safe-now}
-use Rattle.batch_laws.proofs.Starting.{starts-nothing}
-use Rattle.batch_laws.proofs.Moving.{move-step}
-use Rattle.batch_laws.proofs.Reports.{reply-step}
-use Rattle.batch_laws.proofs.Along.{kept-at_first, moved-stands, placed-trees}
+use Rattle.batch_record_laws.proofs.Starting.{starts-nothing}
+use Rattle.batch_record_laws.proofs.Moving.{move-step}
+use Rattle.batch_record_laws.proofs.Reports.{reply-step}
+use Rattle.batch_record_laws.proofs.Along.{kept-at_first, moved-stands, placed-trees}
 
 no_line : (before : List Out) (o : Out) → ◌≡◌ {A = List Out} [] (before ++ o ∷ []) → ⊥
 no_line [] o e = cc

@@ -9,15 +9,15 @@ use Rattle.batch_model.specs.Plant.{Setup, Batch, BatchAct, Share, units_in, act
 use Rattle.batch_model.specs.Moves.{Move, grant, act_move, state_move, batch_moves, possible, next, is_served, when}
 use Rattle.batch_model.specs.Runs.{Out}
 use Rattle.batch_model.specs.Records.{holders_told, scene_of, Link, IsLink, IsChain, StandsUnder}
-use Rattle.batch_machine.proofs.Ordering.{none_least}
-use Rattle.batch_laws.proofs.Facts.{need}
+use Rattle.batch_step_laws.proofs.Ordering.{none_least}
+use Rattle.batch_record_laws.proofs.Facts.{need}
 use Rattle.batch_model.specs.Cleared.{Ranking}
-use Rattle.batch_laws.proofs.Members.{flat_map-Has, Has-map, map-Has}
-use Rattle.batch_laws.proofs.Entries.{act_self, name_self, name_same, filter-Has, length-filter_lt}
-use Rattle.batch_laws.proofs.Batches.{holders-entries}
-use Rattle.batch_laws.proofs.Invariant.{IsKept}
-use Rattle.batch_laws.proofs.Batches.{awaiting-of}
-use Rattle.batch_laws.proofs.Asking.{awaiting-act}
+use Rattle.batch_record_laws.proofs.Members.{flat_map-Has, Has-map, map-Has}
+use Rattle.batch_record_laws.proofs.Entries.{act_self, name_self, name_same, filter-Has, length-filter_lt}
+use Rattle.batch_record_laws.proofs.Batches.{holders-entries}
+use Rattle.batch_record_laws.proofs.Invariant.{IsKept}
+use Rattle.batch_record_laws.proofs.Batches.{awaiting-of}
+use Rattle.batch_record_laws.proofs.Asking.{awaiting-act}
 use Rattle.batch_safety.proofs.Safety.{holder-rises}
 use Rattle.batch_model.specs.Standing.{IsStanding}
 use Rattle.batch_recipe.specs.declared.need.Need.{Need}

@@ -13,8 +13,8 @@ use Rattle.batch_model.specs.Lists.{Has}
 use Rattle.batch_model.specs.Moves.{Move, begin, start, send, state, release, pass, end, ask, grant, place_of_move, freed, sent, released, begun, ended, asked, granted, act_after}
 use Rattle.batch_model.specs.Rest.{Rest, Moment, ready, asking, open_act, live, freeing, in_seq, in_par, in_loop, done, Rests, no_rests, rest, same_place, is_done, all_done, turning, turned, reach, reach_first, reach_each, reach_chosen, advance, advance_each, acts, acts_of_each, place_of, changed_at, changed_in_each}
 use Rattle.batch_model.proofs.Members.{Has-split, Has-left, Has-right}
-use Rattle.batch_machine.proofs.Changing.{to_same_place}
-use Rattle.batch_laws.proofs.Raising.{either-acts}
+use Rattle.batch_step_laws.proofs.Changing.{to_same_place}
+use Rattle.batch_record_laws.proofs.Raising.{either-acts}
 
 -- the act isn't begun
 abbrev pub IsEntering : Rest → Type 0

@@ -19,26 +19,26 @@ use Rattle.batch_model.specs.Runs.{Out, move, goes_on}
 use Rattle.batch_model.specs.Standing.{IsStandingBatch, IsStanding}
 use Rattle.batch_model.specs.Transfers.{Kept, without_begun, kept_until, passed_by, passed_told, reserved_by, reserved_at, reserved_from, reserved_told}
 use Rattle.batch_model.proofs.Members.{Has-split, Has-filter_map, Each-Has, Each-map}
-use Rattle.batch_machine.proofs.Calming.{IsStateMove, state_move-is}
-use Rattle.batch_machine.proofs.Changing.{to_same_place}
-use Rattle.batch_machine.proofs.Falling.{Has-batch_moves, batch_moves-number, next-possible, same-rest, same-state}
-use Rattle.batch_machine.proofs.InAdvance.{follower-due}
-use Rattle.batch_machine.proofs.Lowering.{IsComing, IsMoveOf, act_move-is}
-use Rattle.batch_laws.specs.Ways.{Rises}
-use Rattle.batch_laws.proofs.Avoiding.{Avoids, phase-elsewhere}
-use Rattle.batch_laws.proofs.Batches.{only, Has-only, below-next, of-entry}
-use Rattle.batch_laws.proofs.Due.{awaited-nowhere}
-use Rattle.batch_laws.proofs.Entries.{nat_same, nat_self, Has-filter, name_same, name_self, frame-middle, holders-Has}
-use Rattle.batch_laws.proofs.Events.{find-Has as found-passes}
-use Rattle.batch_laws.proofs.Facts.{Standing, holding, held_at, facts, entries, share}
-use Rattle.batch_laws.proofs.Framing.{Frame, frame, NeedsRise, needs-rise}
-use Rattle.batch_laws.proofs.Invariant.{IsSound, IsKept, standing-of, numbers-of}
-use Rattle.batch_laws.proofs.Members.{map-Has, Has-Each}
-use Rattle.batch_laws.proofs.MoveSteps.{take-whole}
-use Rattle.batch_laws.proofs.Passing.{IsOfStep, act-step_in}
-use Rattle.batch_laws.proofs.Raising.{Nowhere}
-use Rattle.batch_laws.proofs.Ranking.{Has-get, rises-next}
-use Rattle.batch_laws.proofs.Reserved.{one-step}
+use Rattle.batch_step_laws.proofs.Calming.{IsStateMove, state_move-is}
+use Rattle.batch_step_laws.proofs.Changing.{to_same_place}
+use Rattle.batch_step_laws.proofs.Falling.{Has-batch_moves, batch_moves-number, next-possible, same-rest, same-state}
+use Rattle.batch_step_laws.proofs.InAdvance.{follower-due}
+use Rattle.batch_step_laws.proofs.Lowering.{IsComing, IsMoveOf, act_move-is}
+use Rattle.batch_record_laws.specs.Ways.{Rises}
+use Rattle.batch_record_laws.proofs.Avoiding.{Avoids, phase-elsewhere}
+use Rattle.batch_record_laws.proofs.Batches.{only, Has-only, below-next, of-entry}
+use Rattle.batch_record_laws.proofs.Due.{awaited-nowhere}
+use Rattle.batch_record_laws.proofs.Entries.{nat_same, nat_self, Has-filter, name_same, name_self, frame-middle, holders-Has}
+use Rattle.batch_record_laws.proofs.Events.{find-Has as found-passes}
+use Rattle.batch_record_laws.proofs.Facts.{Standing, holding, held_at, facts, entries, share}
+use Rattle.batch_record_laws.proofs.Framing.{Frame, frame, NeedsRise, needs-rise}
+use Rattle.batch_record_laws.proofs.Invariant.{IsSound, IsKept, standing-of, numbers-of}
+use Rattle.batch_record_laws.proofs.Members.{map-Has, Has-Each}
+use Rattle.batch_record_laws.proofs.MoveSteps.{take-whole}
+use Rattle.batch_record_laws.proofs.Passing.{IsOfStep, act-step_in}
+use Rattle.batch_record_laws.proofs.Raising.{Nowhere}
+use Rattle.batch_record_laws.proofs.Ranking.{Has-get, rises-next}
+use Rattle.batch_record_laws.proofs.Reserved.{one-step}
 use Rattle.batch_model.proofs.Members.{Has-flat_map}
 use Rattle.batch_safety.proofs.KeptUnits.{IsOfOther, Holds, Takes, still-held, held-passed, passed_told-last, reserved_told-last, passed_told-others, reserved_told-others}
 use Rattle.batch_safety.proofs.Making.{IsMade, act_move-made, running-goes_on}

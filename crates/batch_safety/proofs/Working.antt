@@ -11,32 +11,32 @@ use Rattle.batch_model.specs.Moves.{Move, begin, start, end, ask, release, pass,
 use Rattle.batch_model.specs.Runs.{Out}
 use Rattle.batch_model.specs.Cleared.{is_procedure, IsCleared}
 use Rattle.batch_model.specs.Standing.{HasPlacedTrees, IsStandingBatch, IsStanding}
-use Rattle.batch_machine.proofs.Led.{opening-stands, leads-stands}
+use Rattle.batch_step_laws.proofs.Led.{opening-stands, leads-stands}
 use Rattle.batch_safety.proofs.Awaiting.{among-Has, CanBeMet, awaited-known}
-use Rattle.batch_laws.proofs.Clearing.{cleared-down, control-clear, control-procedure}
+use Rattle.batch_record_laws.proofs.Clearing.{cleared-down, control-clear, control-procedure}
 use Rattle.batch_model.specs.Records.{scene_of, Waiting, IsWaiting, IsAtOrAbove, Link, IsLink, IsChain, StandsUnder}
 use Rattle.batch_model.specs.Settled.{IsAdvanced, AreAdvanced}
 use Rattle.batch_recipe.specs.Nodes.{child}
-use Rattle.batch_laws.proofs.Facts.{Fact, holding, awaiting, performing, Standing, held_at, awaited_at, facts, facts_of_each, early_facts, entries, need, share}
+use Rattle.batch_record_laws.proofs.Facts.{Fact, holding, awaiting, performing, Standing, held_at, awaited_at, facts, facts_of_each, early_facts, entries, need, share}
 use Rattle.batch_model.specs.Standing.{IsRestOf, IsRestBelow, IsBranch, AreBranches, IsChosen}
 use Rattle.batch_model.specs.Placed.{IsPlaced, IsPlacedBelow, ArePlaced, IsChoicePlaced}
 use Rattle.batch_model.specs.Cleared.{Ranking}
 use Rattle.batch_safety.specs.Settlement.{IsHalting, IsAtWork, NobodyWaitsInVain}
 use Rattle.batch_model.proofs.Members.{Has-split, Has-left, Has-right, Each-Has}
-use Rattle.batch_laws.proofs.Placing.{acts-below, under}
-use Rattle.batch_laws.proofs.Framing.{at_or_above}
-use Rattle.batch_laws.proofs.Asking.{asking-awaits}
+use Rattle.batch_record_laws.proofs.Placing.{acts-below, under}
+use Rattle.batch_record_laws.proofs.Framing.{at_or_above}
+use Rattle.batch_record_laws.proofs.Asking.{asking-awaits}
 use Rattle.batch_safety.proofs.Bounding.{IsBounded, AreBounded, rest-bounded}
-use Rattle.batch_laws.proofs.Entries.{Has-holders}
-use Rattle.batch_laws.proofs.Batches.{holders-entries}
-use Rattle.batch_laws.proofs.Invariant.{IsFitting, IsSound, IsKept}
-use Rattle.batch_laws.proofs.Batches.{entry-of, of-entry, awaiting-of}
-use Rattle.batch_machine.proofs.Leaving.{settled-none}
-use Rattle.batch_laws.proofs.Along.{kept-at_first, kept-along}
+use Rattle.batch_record_laws.proofs.Entries.{Has-holders}
+use Rattle.batch_record_laws.proofs.Batches.{holders-entries}
+use Rattle.batch_record_laws.proofs.Invariant.{IsFitting, IsSound, IsKept}
+use Rattle.batch_record_laws.proofs.Batches.{entry-of, of-entry, awaiting-of}
+use Rattle.batch_step_laws.proofs.Leaving.{settled-none}
+use Rattle.batch_record_laws.proofs.Along.{kept-at_first, kept-along}
 use Rattle.batch_safety.proofs.Settling.{no_act_move, held-by_others, short-chain}
-use Rattle.batch_laws.proofs.Invariant.{standing-of}
+use Rattle.batch_record_laws.proofs.Invariant.{standing-of}
 use Rattle.batch_recipe.specs.declared.need.Need.{Need}
-use Rattle.batch_laws.proofs.Members.{Has-map, map-Has}
+use Rattle.batch_record_laws.proofs.Members.{Has-map, map-Has}
 
 -- Acts below an open act
 
@@ -126,7 +126,7 @@ abbrev ActAt : List Rest → Place → Type 0
 ActAt as' q = (a : Rest) × Has as' a × (place_of a ≡ q)
 
 held-place : (p : Place) (names : List Need) (q : Place) (x : Fact) → Has (held_at p names) (q, x) → p ≡ q
-held-place p names q x h = let k = Rattle.batch_laws.proofs.Members.Has-map (λ r. let z : Standing = (p, holding r) in z) names (q, x) h in ap (λ z. z.0) k.2
+held-place p names q x h = let k = Rattle.batch_record_laws.proofs.Members.Has-map (λ r. let z : Standing = (p, holding r) in z) names (q, x) h in ap (λ z. z.0) k.2
 
 awaited-place : (p : Place) (o : Option Need) (q : Place) (x : Fact) → Has (awaited_at p o) (q, x) → p ≡ q
 awaited-place p (Some r) q x (inl e) = ap (λ z. z.0) e

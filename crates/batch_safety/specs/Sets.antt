@@ -12,7 +12,7 @@ use Rattle.batch_model.specs.Cleared.{CanBeCleared}
 use Rattle.batch_model.specs.Setups.{setup_of}
 use Rattle.batch_model.specs.Transfers.{KeepsUnits}
 use Rattle.batch_safety.specs.Settlement.{WaitsForSomething}
-use Rattle.batch_laws.specs.Telling.{IsTold}
+use Rattle.batch_record_laws.specs.Telling.{IsTold}
 
 -- what is promised of every record that the recipes lead to in the cell
 pub record RunsSafely (cell : equipment.Cell) (recipes : List document.Recipe) : Type 0 where

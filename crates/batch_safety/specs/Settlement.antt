@@ -13,7 +13,7 @@ use Rattle.batch_model.specs.Runs.{Out, Leads}
 use Rattle.batch_model.specs.Records.{scene_of, Waiting, IsWaiting, IsAtOrAbove, Link, IsChain, StandsUnder}
 use Rattle.batch_recipe.specs.Tree.{Step, Phase}
 use Rattle.batch_model.specs.Cleared.{Ranking, IsCleared}
-use Rattle.batch_laws.specs.Premises.{IsOfDocuments}
+use Rattle.batch_record_laws.specs.Premises.{IsOfDocuments}
 use Rattle.batch_recipe.specs.Conditions.{Name}
 
 -- the batch isn't simply running

@@ -6,7 +6,7 @@ use Rattle.batch_model.specs.Events.{Event}
 use Rattle.batch_model.specs.Runs.{Out, Leads}
 use Rattle.batch_model.specs.Transfers.{KeepsUnits}
 use Rattle.batch_model.specs.Cleared.{Ranking, IsCleared}
-use Rattle.batch_laws.specs.Premises.{IsOfDocuments}
+use Rattle.batch_record_laws.specs.Premises.{IsOfDocuments}
 
 -- after every line of a record, whatever the events, each batch of the plant keeps the units that are told to be kept for it
 abbrev pub UnitsAreKept : Type 0

@@ -8,7 +8,7 @@ ghost use Rattle.batch_safety.specs.Sets.{ClearedSetsRunSafely, RunsSafely};
 ghost use Rattle.batch_safety.specs.Settlement.{NobodyWaitsInVain};
 ghost use Rattle.batch_safety.specs.Units.{UnitsAreKept};
 
-pub use batch_laws::{
+pub use batch_record_laws::{
     candidates_suffice, records_tell_the_plant, sets_are_documents, trees_have_units, ways_rise,
 };
 use batch_verify::Cleared;

@@ -8,8 +8,8 @@ use Rattle.batch_model.specs.Events.{Event, Reply, refused, no_memory}
 use Rattle.batch_model.specs.Moves.{Move, after, next}
 use Rattle.batch_model.specs.Plant.{Setup, Plant}
 use Rattle.batch_model.specs.Runs.{Out, reply, move, Leads}
-use Rattle.batch_laws.specs.Replays.{Takes}
-use Rattle.batch_laws.proofs.Replays.{takes_once}
+use Rattle.batch_record_laws.specs.Replays.{Takes}
+use Rattle.batch_record_laws.proofs.Replays.{takes_once}
 use Rattle.batch_wire.specs.EventLine.{event_of_line}
 use Rattle.batch_wire.specs.RecordText.{out_text}
 use Rattle.batch_wire.specs.Transcript.{Exchange, handled, followed_by, Answers, Transcript, Handles, Settles}

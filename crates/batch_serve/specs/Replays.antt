@@ -4,7 +4,7 @@ use Rattle.std.specs.Prelude.{◌≡◌, ◌⊎◌, ℕ, List, [], ◌∷◌, �
 use Rattle.batch_model.specs.Events.{Event}
 use Rattle.batch_model.specs.Plant.{Setup, Plant}
 use Rattle.batch_model.specs.Runs.{Out}
-use Rattle.batch_laws.specs.Replays.{Takes}
+use Rattle.batch_record_laws.specs.Replays.{Takes}
 use Rattle.batch_wire.specs.EventLine.{event_of_line}
 use Rattle.batch_wire.specs.Transcript.{Exchange, silence, refusal, handled, followed_by, Transcript}
 use Rattle.batch_wire.specs.declared.fault.WireFault.{WireFault}

@@ -1,4 +1,4 @@
-use Rattle.batch_laws.proofs.Clearing.{cleared-down}
+use Rattle.batch_record_laws.proofs.Clearing.{cleared-down}
 use Rattle.batch_safety.proofs.KeptAlong.{units-kept}
 use Rattle.batch_safety.proofs.units_are_kept.Goals as goal
 

@@ -1,6 +1,6 @@
 use Rattle.std.proofs.Common.{map, option_map, string_bytes}
 use Rattle.std.proofs.KnownBytes.{Keeps-refl}
-use Rattle.batch_words.specs.CommandLine.{source_of}
+use Rattle.batch_cli.specs.CommandLine.{source_of}
 use Rattle.batch_program.specs.Programs.{tells, serves, keeps, reads, audits, plants, writes, remarks, draws, serves_desks}
 use Rattle.batch_program.specs.declared.program.TheConstants.{MAX_READS}
 use Rattle.batch_program.proofs.DesksServed.{desks_kept, desks_to_serve}

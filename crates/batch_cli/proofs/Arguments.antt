@@ -1,0 +1,43 @@
+-- Arguments of a command line and bare commands, as what a parse reads of them.
+use Rattle.std.proofs.Common.{◌≡◌, ◌∙◌, Bool, Some, ap, ap₂, false}
+use Rattle.clap.specs.Simple.{App, app_of, app_of_fields}
+use Rattle.clap.specs.Walk.{Rule, rule_of}
+use Rattle.clap.specs.declared.builder.action.ArgAction.{ArgAction}
+use Rattle.clap.specs.declared.builder.arg.Arg.{Arg}
+use Rattle.clap.specs.declared.builder.command.Command.{Command}
+use Rattle.clap.specs.declared.builder.command.Command.TheViews.{out-Command}
+use Rattle.clap.specs.declared.builder.texts.Texts.TheVariants.{One}
+use Rattle.batch_cli.specs.Table.{HasApp}
+
+-- what a step of an argument's builder makes of its rule
+module _ {made : Arg} {rule : Rule} where
+  pub with_help : (arg : Arg) {help : _} → made ≡ record arg { help = help } → rule_of arg ≡ rule → rule_of made ≡ rule
+  with_help arg is of = ap rule_of is ∙ of
+
+  pub with_long : (arg : Arg) {name : _} → made ≡ record arg { long = Some name } → rule_of arg ≡ rule
+      → rule_of made ≡ record rule { long = Some name.now }
+  with_long arg {name = name} is of = ap rule_of is ∙ ap {A = Rule} (λ rule. record rule { long = Some name.now }) of
+
+  pub with_required : (arg : Arg) {required : Bool} → made ≡ record arg { required = required } → rule_of arg ≡ rule
+      → rule_of made ≡ record rule { required = required }
+  with_required arg {required = required} is of = ap rule_of is ∙ ap {A = Rule} (λ rule. record rule { required = required }) of
+
+  pub with_action : (arg : Arg) {action : ArgAction} → made ≡ record arg { action = Some action } → rule_of arg ≡ rule
+      → rule_of made ≡ record rule { action = Some action }
+  with_action arg {action = action} is of = ap rule_of is ∙ ap {A = Rule} (λ rule. record rule { action = Some action }) of
+
+  pub with_value_name : (arg : Arg) {name : _} → made ≡ record arg { val_names = One name } → rule_of arg ≡ rule
+      → rule_of made ≡ record rule { value_names = 1 }
+  with_value_name arg is of = ap rule_of is ∙ ap {A = Rule} (λ rule. record rule { value_names = 1 }) of
+
+  pub with_parser : (arg : Arg) {parser : _} → made ≡ record arg { value_parser = made.value_parser } → made.value_parser ≡ parser
+      → rule_of arg ≡ rule → rule_of made ≡ record rule { parser = parser }
+  with_parser arg is given of = ap rule_of is ∙ ap₂ {A = Rule} (λ rule parser. record rule { parser = parser }) of given
+
+-- the texts of its help say nothing to a parse
+pub with_texts : (new about : Command) {made : Command} {shown after : _} {app : App} → out-Command about ≡ record (out-Command new) { about = shown }
+    → out-Command made ≡ record (out-Command about) { after_help = after } → app_of new ≡ app → (out-Command new).has_globals ≡ false → HasApp app made
+with_texts new about first then app_is no_globals = record {
+  app_is = ap app_of_fields then ∙ ap app_of_fields first ∙ app_is;
+  no_globals = ap (λ fields. fields.has_globals) then ∙ ap (λ fields. fields.has_globals) first ∙ no_globals;
+}

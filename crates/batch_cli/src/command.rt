@@ -1,0 +1,163 @@
+//! What the program is asked to do.
+ghost use Rattle.std.specs.Prelude.{◌≡◌};
+ghost use Rattle.batch_cli.specs.declared.command.CommandFault.TheVariants.{Memory};
+
+use crate::comments::Comments;
+use crate::plant_options::PlantOptions;
+use std::alloc::{AllocError, AllocFailed};
+use thiserror::Error;
+
+/// What the words ask for.
+#[derive(Drop)]
+pub struct CommandWords {
+    /// Nothing is to be said in words of a refusal.
+    pub quiet: bool,
+    pub command: Subcommand,
+}
+
+/// A command of the program.
+#[derive(Drop)]
+pub enum Subcommand {
+    /// To judge documents.
+    Judge(Judgement),
+    /// To write into the file at this path what is printed of a judgement that accepts.
+    Write {
+        path: String,
+        judgement: Judgement,
+    },
+    /// To serve event lines from standard input over a set.
+    Serve(Source),
+    /// To serve them with comments in the record.
+    Remark {
+        source: Source,
+        comments: Comments,
+    },
+    /// To serve them over the set of the documents at these paths, with a journal of them in the file at the first one.
+    Keep {
+        journal: String,
+        cell: String,
+        certificate: String,
+        recipes: Vec<String>,
+        comments: Comments,
+    },
+    /// To serve several desks.
+    ServeDesks(DeskWords),
+    /// To tell what a record says: the one at this path, or the one on standard input.
+    Status {
+        path: Option<String>,
+    },
+    /// To draw what a record says: the one at this path, or the one on standard input.
+    Picture {
+        path: Option<String>,
+    },
+    /// To compare a record with what event lines from standard input come to over a set.
+    Audit(AuditWords),
+    /// To run the plant of a set: its hub in the thread that calls, its console and its link to the units in threads of their own.
+    Plant {
+        source: Source,
+        options: PlantOptions,
+    },
+    /// To say what the first code in these texts means, or where there are none what all codes mean.
+    Explain {
+        texts: Vec<String>,
+    },
+}
+
+/// Which desks are to be served.
+#[derive(Drop)]
+pub struct DeskWords {
+    /// The path of the document of the desks.
+    pub desks: String,
+    /// The path of the document of the cell.
+    pub cell: String,
+    /// The path of the certificate.
+    pub certificate: String,
+    /// The paths of the documents of the recipes.
+    pub recipes: Vec<String>,
+    /// The path of the journal of their lines, where one is to be kept.
+    pub journal: Option<String>,
+    /// The time of each turn is to stand in the record.
+    pub times: bool,
+}
+
+/// An audit.
+#[derive(Drop)]
+pub struct AuditWords {
+    /// A record that ends too soon is accepted.
+    pub beginning: bool,
+    /// The path of the record.
+    pub path: String,
+    /// Whose set it is.
+    pub source: Source,
+}
+
+/// A judgement of documents, with their paths.
+#[derive(Drop)]
+pub enum Judgement {
+    /// To find a certificate for the recipes. Everything that is refused is to be told, or the first refusal alone.
+    Check {
+        all: bool,
+        cell: String,
+        recipes: Vec<String>,
+    },
+    /// To draw what the recipes ask for after what.
+    Draw {
+        all: bool,
+        cell: String,
+        recipes: Vec<String>,
+    },
+    /// To check a certificate for the recipes.
+    Verify {
+        cell: String,
+        certificate: String,
+        recipes: Vec<String>,
+    },
+    /// To show the nodes of the recipes.
+    Show {
+        cell: String,
+        recipes: Vec<String>,
+    },
+}
+
+/// Where the set comes from that is to be served, or whose plant is to be run.
+#[derive(Drop)]
+pub enum Source {
+    /// The documents that the program has built in.
+    Demo,
+    /// The documents at these paths.
+    Documents {
+        cell: String,
+        certificate: String,
+        recipes: Vec<String>,
+    },
+}
+
+/// Why the words are no command.
+#[derive(Debug, Error, Drop)]
+pub enum CommandFault {
+    /// Help or the version was asked for, with the text of it.
+    #[error("{0}")]
+    Help(String),
+    /// The words are no command, with a text that says what is wrong with them.
+    #[error("{0}")]
+    Usage(String),
+    /// Memory ran out while the words were read, or for the text of another fault.
+    #[error("out of memory")]
+    Memory,
+}
+
+impl From<AllocError> for CommandFault {
+    ghost from_gives = { λ _ fault. fault ≡ Memory };
+
+    fn from(_error: AllocError) -> CommandFault {
+        CommandFault::Memory
+    }
+}
+
+impl<T: Drop> From<AllocFailed<T>> for CommandFault {
+    ghost from_gives = { λ _ fault. fault ≡ Memory };
+
+    fn from(_error: AllocFailed<T>) -> CommandFault {
+        CommandFault::Memory
+    }
+}

@@ -1,0 +1,95 @@
+//! The command line that the program takes, as `clap` is told it.
+ghost use Rattle.std.specs.Prelude.{◌≡◌, IfOk};
+ghost use Rattle.clap.specs.Words.{app_of};
+ghost use Rattle.batch_cli.specs.CommandLine.{bare_app, program_app};
+ghost use Rattle.batch_cli.specs.Table.{AddsArguments, HasApp, text_app, with_commands};
+
+use crate::argument::Argument;
+use crate::table::{CommandText, commands};
+use clap::Command;
+use std::alloc::{AllocError, Global};
+
+/// The number of the program's version.
+pub const VERSION: &str = "0.2.0";
+
+const ABOUT: &str =
+    "A batch server for one process cell; without a command it serves event lines from standard input over a demo cell";
+
+const AFTER_HELP: &str = "\
+An example, in examples/paint_plant:
+  batchd check cell.toml primer.toml rinse-mended.toml > certificate.new
+  batchd verify cell.toml certificate.new primer.toml rinse-mended.toml
+  batchd run cell.toml certificate.new primer.toml rinse-mended.toml
+
+The demo, without a command; type these lines:
+  create A 1000
+  start 1
+  report R1 ADD done
+
+Exit status:
+  0  accepted, or the input ran to its end, or the plant's batches are complete, or what was asked for is told
+  1  refused: a line on standard output, and what it means on standard error
+  2  the words are no command
+  3  a file, the input or the output failed
+  4  no memory, or a thread can't be started
+";
+
+/// The whole command line.
+pub(crate) fn program<'a>(alloc: Global) -> Result<Command<'a>, AllocError>
+    ensures { IfOk result (λ program. app_of program ≡ program_app) }
+{
+    with_all(alloc, bare(alloc)?, commands())
+}
+
+/// The program without its commands.
+fn bare<'a>(alloc: Global) -> Result<Command<'a>, AllocError>
+    ensures { IfOk result (λ bare. app_of bare ≡ bare_app) }
+{
+    Command::new(alloc, "batchd")
+        .about(ABOUT)
+        .after_help(AFTER_HELP)
+        .version(VERSION)
+        .no_binary_name(true)
+        .bin_name("batchd")
+}
+
+/// The program with these commands more.
+fn with_all<'a>(
+    alloc: Global,
+    bare: Command<'a>,
+    texts: &[CommandText<'a>],
+) -> Result<Command<'a>, AllocError>
+    ensures { IfOk result (λ program. app_of program ≡ with_commands (app_of bare.entry) texts.now) }
+{
+    let mut program = bare;
+    for text in texts {
+        let added = command(alloc, text)?;
+        program = program.subcommand(added)?;
+    }
+    Ok(program)
+}
+
+/// The command of this text.
+fn command<'a>(alloc: Global, text: &CommandText<'a>) -> Result<Command<'a>, AllocError>
+    ensures { IfOk result (HasApp (text_app text.now)) }
+{
+    let bare = Command::new(alloc, text.name)
+        .about(text.about)
+        .after_help(text.example);
+    with_arguments(alloc, bare, text.arguments)
+}
+
+/// The command with these arguments more.
+fn with_arguments<'a>(
+    alloc: Global,
+    bare: Command<'a>,
+    arguments: &[Argument<'a>],
+) -> Result<Command<'a>, AllocError>
+    ensures { IfOk result (AddsArguments bare.entry arguments.now) }
+{
+    let mut command = bare;
+    for argument in arguments {
+        command = command.arg(argument.told(alloc))?;
+    }
+    Ok(command)
+}

@@ -1,6 +1,0 @@
-use Rattle.std.proofs.Common.{take}
-use Rattle.batch_commands.specs.Every.{AreRulesRefused}
-use Rattle.batch_commands.proofs.every.rule_refusals.Given as goal
-
-abbrev pub invariant-loop-number : goal.invariant-loop-number
-invariant-loop-number l = AreRulesRefused l.cell l.recipes 0 (take l.number l.recipes) l.refusals.items

@@ -1,6 +1,0 @@
-use Rattle.std.proofs.Common.{All}
-use Rattle.batch_commands.specs.Drawing.{IsOnCircle}
-use Rattle.batch_commands.proofs.rings.edges_on_circles.Given as goal
-
-abbrev pub invariant-loop-start : goal.invariant-loop-start
-invariant-loop-start l = All (IsOnCircle l.edges) l.found.items

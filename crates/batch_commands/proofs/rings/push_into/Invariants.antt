@@ -1,6 +1,0 @@
-use Rattle.std.proofs.Common.{All}
-use Rattle.batch_commands.specs.Drawing.{IsOnCircle}
-use Rattle.batch_commands.proofs.rings.push_into.Given as goal
-
-abbrev pub invariant-loop-edge : goal.invariant-loop-edge
-invariant-loop-edge l = All (IsOnCircle l.edges) l.found.items

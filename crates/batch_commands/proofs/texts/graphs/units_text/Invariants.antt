@@ -1,6 +1,0 @@
-use Rattle.std.proofs.Common.{◌≡◌, take, flat_map, string_bytes}
-use Rattle.batch_commands.specs.GraphTexts.{unit_text}
-use Rattle.batch_commands.proofs.texts.graphs.units_text.Given as goal
-
-abbrev pub invariant-loop-unit : goal.invariant-loop-unit
-invariant-loop-unit l = string_bytes l.text ≡ flat_map unit_text (take l.unit-index l.units)

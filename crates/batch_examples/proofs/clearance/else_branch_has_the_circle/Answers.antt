@@ -1,0 +1,5 @@
+use Rattle.std.proofs.Common.{arith, []}
+use Rattle.batch_examples.proofs.clearance.else_branch_has_the_circle.Goals as goal
+
+pub returns : goal.returns
+returns c = λ h. grind (arith, (h.1.recipes.0.1 (λ role. []) tt).clear)

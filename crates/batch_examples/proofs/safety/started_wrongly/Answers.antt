@@ -1,0 +1,14 @@
+use Rattle.std.proofs.Common.{◌≡◌, Bool, true, false, refl, [], ◌∷◌, codes}
+use Rattle.batch_examples.specs.RowDocuments.{add, r1}
+use Rattle.batch_examples.specs.RowParts.{p0, p00, p000, p001, grants, on, starts}
+use Rattle.batch_examples.proofs.safety.started_wrongly.Goals as goal
+
+pub returns-clause-twice : goal.returns-clause-twice
+returns-clause-twice c = λ safe.
+    ((safe (grants 1 p0 r1 ∷ starts 1 p000 r1 add ∷ starts 1 p001 r1 add ∷ []) [] refl).starts
+    (grants 1 p0 r1 ∷ starts 1 p000 r1 add ∷ []) 1 p001 (on r1 add) [] refl).1.0 (refl, refl)
+
+pub returns-clause-not_offered : goal.returns-clause-not_offered
+returns-clause-not_offered c = λ safe.
+    let offered : ◌≡◌ {A = Bool} false true = ((safe (grants 1 p0 r1 ∷ starts 1 p00 r1 (codes "MIX") ∷ []) [] refl).starts (grants 1 p0 r1 ∷ []) 1 p00 (on r1 (codes "MIX")) [] refl).0 in
+    absurd cc

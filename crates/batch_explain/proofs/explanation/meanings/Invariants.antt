@@ -1,7 +1,0 @@
-use Rattle.std.proofs.Common.{◌≡◌, take, string_bytes}
-use Rattle.std.specs.Prelude.{flat_map}
-use Rattle.batch_explain.specs.Explaining.{meant}
-use Rattle.batch_explain.proofs.explanation.meanings.Given as goal
-
-abbrev pub invariant-loop-explanation : goal.invariant-loop-explanation
-invariant-loop-explanation l = string_bytes l.text ≡ flat_map meant (take l.explanation-index l.table)

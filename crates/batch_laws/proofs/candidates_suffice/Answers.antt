@@ -1,5 +1,0 @@
-use Rattle.batch_laws.proofs.Candidates.{candidates_suffice}
-use Rattle.batch_laws.proofs.candidates_suffice.Goals as goal
-
-pub returns : goal.returns
-returns c = candidates_suffice

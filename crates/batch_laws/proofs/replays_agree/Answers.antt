@@ -1,5 +1,0 @@
-use Rattle.batch_laws.proofs.Replays.{replays_agree}
-use Rattle.batch_laws.proofs.replays_agree.Goals as goal
-
-pub returns : goal.returns
-returns c = replays_agree

@@ -1,5 +1,0 @@
-use Rattle.batch_laws.proofs.Sets.{sets_are_documents}
-use Rattle.batch_laws.proofs.sets_are_documents.Goals as goal
-
-pub returns : goal.returns
-returns c = sets_are_documents

@@ -1,5 +1,0 @@
-use Rattle.batch_laws.proofs.Ways as ways
-use Rattle.batch_laws.proofs.ways_rise.Goals as goal
-
-pub returns : goal.returns
-returns c = ways.ways_rise

@@ -1,5 +1,0 @@
-use Rattle.batch_machine.proofs.Refusing.{refusal-just}
-use Rattle.batch_machine.proofs.events.refusals_change_nothing.Goals as goal
-
-pub returns : goal.returns
-returns c = λ d s t e x h. (refusal-just d s e x t h).0

@@ -1,5 +1,0 @@
-use Rattle.batch_model.proofs.Parts.{parts-nodes}
-use Rattle.batch_machine.proofs.parts_are_nodes.Goals as goal
-
-pub returns : goal.returns
-returns c = parts-nodes

@@ -1,5 +1,0 @@
-use Rattle.batch_machine.proofs.Telling.{active_told-last, holders_told-last, state_told-last, waiters_told-last}
-use Rattle.batch_machine.proofs.records.last_line_tells.Goals as goal
-
-pub returns : goal.returns
-returns c = record { holders = holders_told-last; waiters = waiters_told-last; active = active_told-last; state = state_told-last }

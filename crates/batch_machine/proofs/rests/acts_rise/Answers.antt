@@ -1,7 +1,0 @@
-use Rattle.batch_model.specs.Rest.{acts}
-use Rattle.batch_machine.proofs.Falling.{one_act}
-use Rattle.batch_machine.proofs.Rising.{acts-rise}
-use Rattle.batch_machine.proofs.rests.acts_rise.Goals as goal
-
-pub returns : goal.returns
-returns c = record { in_order = acts-rise; one = λ p chart r placed stands a b. one_act (acts r) a b (acts-rise p chart r placed stands) }

@@ -1,5 +1,0 @@
-use Rattle.batch_machine.proofs.Advancing.{advance-advanced, reach-advanced}
-use Rattle.batch_machine.proofs.rests.advances_fully.Goals as goal
-
-pub returns : goal.returns
-returns c = record { reached = reach-advanced; advanced = advance-advanced }

@@ -1,6 +1,0 @@
-use Rattle.batch_machine.proofs.Keeping.{withdrawn-IsRestOf}
-use Rattle.batch_machine.proofs.Standing.{advance-IsRestOf, reach-IsRestOf}
-use Rattle.batch_machine.proofs.rests.stands_in_its_chart.Goals as goal
-
-pub returns : goal.returns
-returns c = record { reached = reach-IsRestOf; advanced = advance-IsRestOf; withdrawn = withdrawn-IsRestOf }

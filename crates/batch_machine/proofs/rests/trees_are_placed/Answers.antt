@@ -1,5 +1,0 @@
-use Rattle.batch_machine.proofs.Placed.{expanded-HasPlacedTrees, bound_tree-IsPlaced}
-use Rattle.batch_machine.proofs.rests.trees_are_placed.Goals as goal
-
-pub returns : goal.returns
-returns c = record { tree = bound_tree-IsPlaced; setups = expanded-HasPlacedTrees }

@@ -1,6 +1,0 @@
-use Rattle.batch_machine.proofs.Led.{led-stands}
-use Rattle.batch_machine.proofs.Settling.{settling-rests}
-use Rattle.batch_machine.proofs.runs.plants_come_to_rest.Goals as goal
-
-pub returns : goal.returns
-returns c = λ d placed events outs s h. settling-rests d placed s (led-stands d placed events outs s h)

@@ -1,5 +1,0 @@
-use Rattle.batch_machine.proofs.Leading.{Leads-move, Leads-reply}
-use Rattle.batch_machine.proofs.runs.records_go_on.Goals as goal
-
-pub returns : goal.returns
-returns c = record { by_moves = Leads-move; by_replies = Leads-reply }

@@ -1,0 +1,4 @@
+pub mod Said
+pub mod ActNames
+mod ToldCircles
+pub mod Found

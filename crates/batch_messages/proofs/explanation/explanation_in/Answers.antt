@@ -1,0 +1,38 @@
+use Rattle.std.proofs.Common.{ap, length, rules, sym, tests, ◌∙◌}
+use Rattle.std.specs.Char.{is_ascii_whitespace}
+use Rattle.std.proofs.lemmas.Iterator.Consumers.{YieldsList-at, YieldsList-end, YieldsList-so_far, YieldsList-turn}
+use Rattle.std.proofs.lemmas.Iterator.Splits.{YieldsList-from_slice_split}
+use Rattle.batch_messages.specs.Explaining.{code_of, first_of, words}
+use Rattle.batch_messages.proofs.Found.{first_at, first_of-map, none_more}
+use Rattle.batch_messages.proofs.explanation.explanation_in.Goals as goal
+
+pub returns-in-Some-explanation_of : goal.returns-in-Some-explanation_of
+returns-in-Some-explanation_of c =
+    let word = c.in-Some.word in
+    let cut = c.split-word-items.ensures in
+    let turn = YieldsList-turn
+    (YieldsList-at c.into_iter-word-iterator.ensures.into_iter_gives
+    (YieldsList-from_slice_split _ is_ascii_whitespace c.args.text.now cut.rest cut.done cut.closure (λ x r q k. search (rules, tests))))
+    c.loop-word.yielded c.loop-word.word-iterator c.loop-word.yielded_by c.next.result c.next.new.self word c.in-Some.is c.next.ensures.steps in
+    let so_far = YieldsList-so_far
+    (YieldsList-at c.into_iter-word-iterator.ensures.into_iter_gives
+    (YieldsList-from_slice_split _ is_ascii_whitespace c.args.text.now cut.rest cut.done cut.closure (λ x r q k. search (rules, tests))))
+    c.loop-word.yielded c.loop-word.word-iterator c.loop-word.yielded_by in
+    let before = ap (first_of code_of) (sym so_far) ∙ first_of-map code_of (λ x. x.now) c.loop-word.yielded ∙ c.loop-word.invariant.2 in
+    sym (first_at code_of (words c.args.text.now) (length c.loop-word.yielded) word.now c.in-Some-explanation_of.explanation.code.now turn.0 turn.1 before (sym c.in-Some-explanation_of.ensures))
+
+pub loop-word-preserved : goal.loop-word-preserved
+loop-word-preserved c = (
+  search rules,
+  search rules,
+  none_more (λ word. code_of word.now) c.loop-word.yielded c.in-Some.word c.loop-word.invariant.2 (sym c.in_default.ensures),
+)
+
+pub returns : goal.returns
+returns c =
+    let cut = c.split-word-items.ensures in
+    let end = YieldsList-end
+    (YieldsList-at c.into_iter-word-iterator.ensures.into_iter_gives
+    (YieldsList-from_slice_split _ is_ascii_whitespace c.args.text.now cut.rest cut.done cut.closure (λ x r q k. search (rules, tests))))
+    c.loop-word.yielded _ c.loop-word.yielded_by _ _ c.in-None.is c.next.ensures.steps in
+    sym (ap (first_of code_of) (sym end.0) ∙ first_of-map code_of (λ x. x.now) c.loop-word.yielded ∙ c.loop-word.invariant.2)

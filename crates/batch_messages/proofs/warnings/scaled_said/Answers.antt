@@ -1,0 +1,10 @@
+use Rattle.std.proofs.Common.{◌≡◌, IfOk, string_bytes, subst, sym}
+use Rattle.batch_messages.proofs.Said.{said_found}
+use Rattle.batch_messages.specs.WarningWords.{scaled_said}
+use Rattle.batch_messages.proofs.warnings.scaled_said.Goals as goal
+
+pub returns-in-Some : goal.returns-in-Some
+returns-in-Some c =
+    let found = c.in-Some.ensures.lookup in
+    let told = said_found scaled_said c.deref.result.now c.args.parameter c.in-Some.parameter.now found.3.0 found.1 in
+    subst (λ words. IfOk c.format.result (λ said. string_bytes said ≡ words)) (sym (rw c.deref.ensures.value at told)) c.format.ensures.ok

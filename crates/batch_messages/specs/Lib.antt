@@ -1,0 +1,3 @@
+pub mod CircleSentence
+pub mod WarningWords
+pub mod Explaining

@@ -1,0 +1,47 @@
+//! Laws of the definitions of batch_model, on which the promise and the engine both stand: what is kept along every record, and
+//! what a record so tells of the plant that it leads to.
+//!
+//! Nothing runs here. The functions are empty: their contracts are the laws.
+#![tactic(auto)]
+
+ghost use Rattle.batch_record_laws.specs.Candidates.{CandidatesSuffice};
+ghost use Rattle.batch_record_laws.specs.Procedures.{RecipesAreProcedures, TreesAreProcedures};
+ghost use Rattle.batch_record_laws.specs.Replays.{ReplaysAgree};
+ghost use Rattle.batch_record_laws.specs.Sets.{SetsAreDocuments};
+ghost use Rattle.batch_record_laws.specs.Telling.{TellsThePlant};
+ghost use Rattle.batch_record_laws.specs.Ways.{WaysRise};
+
+/// A record that a cleared set of recipes leads to tells just who holds, asks for and runs what in the plant that it leads to,
+/// and the state of each batch.
+pub fn records_tell_the_plant()
+    ensures { TellsThePlant }
+{}
+
+/// Ranks rise along the path of each node, as the rules of clearance say, exactly where they rise on the way down.
+pub fn ways_rise()
+    ensures { WaysRise }
+{}
+
+/// The expanded tree of every recipe has the levels of a procedure: each phase runs on the unit of its unit procedure, which
+/// that asks for first.
+pub fn trees_have_units()
+    ensures trees { TreesAreProcedures }
+    ensures recipes { RecipesAreProcedures }
+{}
+
+/// What these laws ask of documents beside clearance holds of every cell and of all recipes, since their types keep it.
+pub fn sets_are_documents()
+    ensures { SetsAreDocuments }
+{}
+
+/// A recipe is cleared for whatever units take its roles exactly where each unit procedure is clear on each unit that may run it,
+/// by itself: a path has one unit procedure.
+pub fn candidates_suffice()
+    ensures { CandidatesSuffice }
+{}
+
+/// Two runs of the same events, settled after each, of which none was refused for want of memory, tell the same and come to the same
+/// plant: the record is a function of the events.
+pub fn replays_agree()
+    ensures { ReplaysAgree }
+{}

@@ -1,5 +1,0 @@
-use Rattle.std.proofs.Common.{arith, []}
-use Rattle.batch_rows.proofs.clearance.phase_is_not_offered.Goals as goal
-
-pub returns : goal.returns
-returns c = λ rank h. grind (arith, (h.recipes.0.1 (λ role. []) tt).clear)

@@ -1,7 +1,0 @@
-use Rattle.std.proofs.Common.{refl, inl}
-use Rattle.batch_rows.specs.RowParts.{p001}
-use Rattle.batch_rows.proofs.transfers.unit_is_kept.Goals as goal
-
-pub returns-clause-run : goal.returns-clause-run
-returns-clause-run c =
-    (record { passed = tt; reserved = tt }, record { passed = (inl refl, tt); reserved = ((p001, inl refl), tt) })

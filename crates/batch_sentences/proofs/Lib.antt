@@ -1,3 +1,0 @@
-pub mod Said
-pub mod ActNames
-mod ToldCircles

@@ -1,6 +1,0 @@
-use Rattle.std.proofs.Common.{take, string_bytes}
-use Rattle.batch_sentences.specs.CircleSentence.{IsCircleTold}
-use Rattle.batch_sentences.proofs.sets.circle_said.Given as goal
-
-abbrev pub invariant-loop-edge : goal.invariant-loop-edge
-invariant-loop-edge l = IsCircleTold l.cell l.recipes (take l.edge-index l.edges) (string_bytes l.said)

@@ -1,2 +1,0 @@
-pub mod CircleSentence
-pub mod WarningWords

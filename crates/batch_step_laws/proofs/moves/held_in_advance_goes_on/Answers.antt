@@ -1,0 +1,18 @@
+use Rattle.batch_model.specs.Standing.{IsStandingBatch}
+use Rattle.batch_model.proofs.Members.{Each-Has}
+use Rattle.batch_step_laws.proofs.Falling.{batch_moves-number}
+use Rattle.batch_step_laws.proofs.Leaving.{flat_map-Has, holding-busy, holding-goes_on, holding-moves, each-none, settled-none}
+use Rattle.batch_model.specs.Moves.{batch_moves}
+use Rattle.batch_step_laws.proofs.moves.held_in_advance_goes_on.Goals as goal
+
+pub returns : goal.returns
+returns c = record {
+  moves = λ setup plant batch held placed stands i j.
+      let stood = Each-Has (IsStandingBatch setup) plant.batches batch stands.batches i in
+      let m = holding-moves setup plant batch held placed stood j in (
+        holding-goes_on setup batch held stood j,
+        holding-busy setup batch held stood j,
+        (m.0, flat_map-Has (batch_moves setup plant) plant.batches batch m.0 i m.1, batch_moves-number setup plant batch m.0 m.1, m.2),
+      );
+  settled = λ setup plant placed stands e. each-none plant.batches (settled-none setup placed plant stands e);
+}

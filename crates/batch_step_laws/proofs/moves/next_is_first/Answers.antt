@@ -1,0 +1,7 @@
+use Rattle.batch_model.specs.Moves.{possible}
+use Rattle.batch_step_laws.proofs.Deciding.{next-IsFirst}
+use Rattle.batch_step_laws.proofs.Ordering.{least-IsFirst}
+use Rattle.batch_step_laws.proofs.moves.next_is_first.Goals as goal
+
+pub returns : goal.returns
+returns c = record { next = λ d s m. least-IsFirst (possible d s) m; first = next-IsFirst }

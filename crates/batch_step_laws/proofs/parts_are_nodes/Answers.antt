@@ -1,0 +1,5 @@
+use Rattle.batch_model.proofs.Parts.{parts-nodes}
+use Rattle.batch_step_laws.proofs.parts_are_nodes.Goals as goal
+
+pub returns : goal.returns
+returns c = parts-nodes

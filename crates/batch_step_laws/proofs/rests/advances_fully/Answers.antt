@@ -1,0 +1,5 @@
+use Rattle.batch_step_laws.proofs.Advancing.{advance-advanced, reach-advanced}
+use Rattle.batch_step_laws.proofs.rests.advances_fully.Goals as goal
+
+pub returns : goal.returns
+returns c = record { reached = reach-advanced; advanced = advance-advanced }

@@ -1,0 +1,6 @@
+use Rattle.batch_step_laws.proofs.Keeping.{withdrawn-IsRestOf}
+use Rattle.batch_step_laws.proofs.Standing.{advance-IsRestOf, reach-IsRestOf}
+use Rattle.batch_step_laws.proofs.rests.stands_in_its_chart.Goals as goal
+
+pub returns : goal.returns
+returns c = record { reached = reach-IsRestOf; advanced = advance-IsRestOf; withdrawn = withdrawn-IsRestOf }

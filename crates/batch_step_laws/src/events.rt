@@ -1,0 +1,14 @@
+//! Replies to events.
+ghost use Rattle.batch_step_laws.specs.Laws.{RefusalsChangeNothing, RefusalsHaveCauses};
+
+/// A refused event leaves the plant as it was.
+pub fn refusals_change_nothing()
+    ensures { RefusalsChangeNothing }
+{}
+
+/// Moves pend only where there is a next one, an output is told only where it is the first that a live phase leaves out, a binding
+/// is bad only where the recipe's roles aren't bound by it, the plant is full only at a limit, and memory is wanted by a create
+/// alone.
+pub fn refusals_have_causes()
+    ensures { RefusalsHaveCauses }
+{}

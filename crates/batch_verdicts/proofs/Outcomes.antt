@@ -1,0 +1,14 @@
+-- How the demo comes out.
+use Rattle.std.proofs.Common.{◌≡◌, List, ℕ, [], ◌∷◌, subst, Result, Ok, Err, IfErr}
+use Rattle.batch_verify.specs.ClearedSet.{ClearedSet}
+use Rattle.batch_verdicts.specs.Halting.{HaltsClearing}
+use Rattle.batch_verdicts.specs.Requests.{demo_gives, HaltsDemo}
+use Rattle.batch_verdicts.specs.declared.demo.TheConstants.{CELL_PATH, CERTIFICATE_PATH, RECIPE_PATH}
+use Rattle.batch_verdicts.specs.declared.refusal.Halt.{Halt}
+
+-- the demo's documents end it, at the path of its recipe
+pub halted_by_demo : (path : List ℕ) (set : Result ClearedSet Halt) → path ≡ RECIPE_PATH.now
+    → IfErr set (HaltsClearing demo_gives CELL_PATH.now CERTIFICATE_PATH.now (path ∷ [])) → IfErr set HaltsDemo
+halted_by_demo path (Ok set) at halted = tt
+halted_by_demo path (Err h) same halted =
+    subst (λ p. HaltsClearing demo_gives CELL_PATH.now CERTIFICATE_PATH.now (p ∷ []) h) same halted

@@ -1,0 +1,12 @@
+use Rattle.std.proofs.Common.{subst}
+use Rattle.batch_reader.specs.declared.fault.DocFault.{DocFault}
+use Rattle.batch_verdicts.specs.Judging.{HaltsWith, document_kind}
+use Rattle.batch_verdicts.specs.VerdictTexts.{document_text}
+use Rattle.batch_verdicts.proofs.desks.judge_units.Goals as goal
+
+pub returns-in-Err-clause-refused : goal.returns-in-Err-clause-refused
+returns-in-Err-clause-refused c = record {
+  entry = c.in-Err.ensures.refused.entry;
+  first = c.in-Err.ensures.refused.first;
+  halts = subst (λ (fault : DocFault). HaltsWith (document_text c.args.path.now fault) (document_kind fault) c.document_halt.result) c.in-Err.ensures.refused.told c.document_halt.ensures;
+}

@@ -1,0 +1,31 @@
+use Rattle.std.proofs.Common.{◌≡◌, List, inr, map, subst, string_bytes}
+use Rattle.std.proofs.lemmas.Result.{err_from_is_err_and}
+use Rattle.batch_recipe.specs.declared.recipe.Recipe.{Recipe}
+use Rattle.batch_outline.specs.Showing.{shown}
+use Rattle.batch_verdicts.proofs.Halted.{halts_without_memory}
+use Rattle.batch_verdicts.proofs.documents.show_documents.Goals as goal
+
+pub returns-clause-verdict : goal.returns-clause-verdict
+returns-clause-verdict g c =
+    let So : List Recipe → Type 0 = λ rs. string_bytes c.in_ok-show_recipes.field-0 ≡ shown rs in
+    record {
+      equipment = c.in_ok-read_cell.field-0;
+      recipes = c.in_ok-recipes.recipes.items;
+      cell_read = c.in_ok-read_cell.ensures.read;
+      recipes_read = c.in_ok-recipes.ensures.read;
+      judged = subst So c.deref.ensures.value c.in_ok-show_recipes.ensures;
+    }
+
+pub returns-in_err-recipes-clause-halted : goal.returns-in_err-recipes-clause-halted
+returns-in_err-recipes-clause-halted g c =
+    let p = err_from_is_err_and c.from_residual-in_err-recipes.result c.from_residual-in_err-recipes.ensures.1 in
+    rw (p.1, p.2) (inr (c.in_ok-read_cell.field-0, c.in_ok-read_cell.ensures.read, c.in_err-recipes.ensures.halted))
+
+pub returns-in_err-show_recipes-clause-halted : goal.returns-in_err-show_recipes-clause-halted
+returns-in_err-show_recipes-clause-halted g c =
+    let p = err_from_is_err_and c.from_residual-in_err-show_recipes.result c.from_residual-in_err-show_recipes.ensures.1 in
+    rw (p.1, p.2) (inr (
+      c.in_ok-read_cell.field-0,
+      c.in_ok-read_cell.ensures.read,
+      halts_without_memory (g.D.Documents.gives c.args.documents.now) (map string_bytes c.args.recipes.now),
+    ))

@@ -1,0 +1,13 @@
+use Rattle.std.proofs.Common.{inl, inr, refl, subst}
+use Rattle.batch_verdicts.specs.Halting.{HaltsAtRecipe}
+use Rattle.batch_verdicts.specs.declared.refusal.Halt.{Halt}
+use Rattle.batch_verdicts.proofs.every.look_at_recipe.Goals as goal
+use Rattle.batch_verdicts.proofs.every.look_at_recipe.Goals.{in-Ok+in_ok-push-in-Ok, in-Err-Refused+in_ok-push-in-Err-Refused}
+
+pub returns-clause-looked : goal.returns-clause-looked
+returns-clause-looked g c =
+    let At : Halt → Type 0 = HaltsAtRecipe (g.D.Documents.gives c.args.documents.now) c.args.path.now in
+    elim c.match-read_recipe.branch [
+      | in-Ok+in_ok-push-in-Ok w ↦ rw w.looked-is (inl (w.in-Ok.recipe, w.in-Ok.ensures.read, w.in_ok-push-in-Ok.ensures.items, refl))
+      | in-Err-Refused+in_ok-push-in-Err-Refused w ↦ rw w.looked-is (inr (w.in-Err-Refused.refusal, subst At w.in-Err-Refused.field-0-is w.in-Err-Refused.ensures.halted, refl, w.in_ok-push-in-Err-Refused.ensures.items))
+    ]

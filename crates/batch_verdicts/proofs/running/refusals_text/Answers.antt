@@ -1,0 +1,13 @@
+use Rattle.std.proofs.Common.{◌<◌, ◌++◌, ◌∙◌, List, ℕ, [], length, ap, rules, string_bytes}
+use Rattle.batch_verdicts.specs.declared.refusal.DocumentRefusal.{DocumentRefusal}
+use Rattle.batch_verdicts.proofs.Grown.{texts_more}
+use Rattle.batch_verdicts.proofs.running.refusals_text.Goals as goal
+
+pub loop-refusal-preserved : goal.loop-refusal-preserved
+loop-refusal-preserved c =
+    let refusals = c.args.refusals.now in
+    let text : DocumentRefusal → List ℕ = λ r. string_bytes r.text in
+    let within : c.loop-refusal.refusal-index < length refusals = search rules in
+    c.in_ok-push_str.ensures.bytes ∙ ap (λ more. string_bytes c.loop-refusal.text ++ more) c.deref.ensures
+    ∙ ap (λ before. before ++ text c.refusal-item.result) c.loop-refusal.invariant
+    ∙ texts_more text [] refusals c.loop-refusal.refusal-index c.refusal-item.result c.refusal-item.result within c.refusal-item.is

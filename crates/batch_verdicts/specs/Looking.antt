@@ -1,0 +1,34 @@
+-- private: looking at one document after the other.
+use Rattle.std.specs.Prelude.{◌≡◌, ◌⊎◌, List, [], ◌∷◌, ◌++◌, ℕ, Option, Some, None}
+use Rattle.batch_cell.specs.declared.cell.Cell.{Cell}
+use Rattle.batch_recipe.specs.declared.recipe.Recipe.{Recipe}
+use Rattle.batch_verdicts.specs.Every.{AreLooked, AreRulesKept}
+use Rattle.batch_verdicts.specs.Halting.{HaltsAtCell, HaltsAtRecipe}
+use Rattle.batch_verdicts.specs.Reading.{AreReadWarned, Gives, ReadsCell, ReadsRecipe, ReadsRecipes, Warns}
+use Rattle.batch_verdicts.specs.declared.refusal.DocumentRefusal.{DocumentRefusal}
+use Rattle.batch_verdicts.specs.declared.refusal.Halt.TheVariants.{Refused}
+
+-- the cell's document is read, or its refusal is put behind the others
+abbrev pub IsCellLooked : Gives → List ℕ → List DocumentRefusal → Option Cell → List DocumentRefusal → Type 0
+IsCellLooked gives path before (Some c) after = ReadsCell gives path c × (after ≡ before)
+IsCellLooked gives path before None after =
+    (refusal : DocumentRefusal) × HaltsAtCell gives path (Refused refusal) × (after ≡ before ++ refusal ∷ [])
+
+-- a recipe more, or a refusal more
+abbrev pub IsLooked : Gives → List ℕ → List Recipe → List DocumentRefusal → List Recipe → List DocumentRefusal → Type 0
+IsLooked gives path rs refusals recipes others =
+    ((r : Recipe) × ReadsRecipe gives path r × (recipes ≡ rs ++ r ∷ []) × (others ≡ refusals))
+    ⊎ ((refusal : DocumentRefusal) × HaltsAtRecipe gives path (Refused refusal) × (recipes ≡ rs) × (others ≡ refusals ++ refusal ∷ []))
+
+-- behind the refusals before stand those of the documents at these paths
+abbrev pub LooksOn : Gives → List (List ℕ) → List DocumentRefusal → List Recipe → List DocumentRefusal → Type 0
+LooksOn gives paths before recipes after =
+    (here : List DocumentRefusal) × AreLooked gives paths recipes here × (after ≡ before ++ here)
+
+-- all documents are read
+abbrev pub AreAllRead : Gives → List ℕ → List (List ℕ) → Cell → List Recipe → Type 0
+AreAllRead gives cell paths c rs = ReadsCell gives cell c × ReadsRecipes gives paths rs
+
+-- and it is warned of them, and no rule is broken
+abbrev pub IsSoundlyRead : Gives → Warns → List ℕ → List (List ℕ) → Cell → List Recipe → Type 0
+IsSoundlyRead gives warns cell paths c rs = AreReadWarned gives warns cell paths c rs × AreRulesKept c rs

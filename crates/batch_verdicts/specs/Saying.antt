@@ -1,0 +1,35 @@
+-- trusted: what is said to a person beside a verdict.
+use Rattle.std.specs.Prelude.{◌≡◌, ◌++◌, ℕ, Bool, true, false, List, Option, codes, string_bytes}
+use Rattle.std.specs.Io.KnownBytes.{Appends, Keeps}
+use Rattle.std.specs.List.{flat_map}
+use Rattle.batch_wording.specs.declared.sentence.Sentence.{Sentence}
+use Rattle.batch_verdicts.specs.declared.refusal.DocumentRefusal.{DocumentRefusal}
+
+-- the text in a line of its own, behind the program's name
+abbrev pub told_line : List ℕ → List ℕ
+told_line text = codes "batchd: " ++ (text ++ codes "\n")
+
+abbrev pub line_of : Sentence → List ℕ
+line_of sentence = told_line (string_bytes sentence.text)
+
+-- the text was written, or a front of it, where the rest can't be written
+pub record WritesFront (before after : Option (List ℕ)) (text : List ℕ) : Type 0 where
+  pub written : List ℕ
+  pub rest : List ℕ
+  pub splits : text ≡ written ++ rest
+  pub appends : Appends before after written
+
+-- nothing is said where the words ask for quiet, and else the line of the sentence
+abbrev pub IsSaid : Bool → Sentence → Option (List ℕ) → Option (List ℕ) → Type 0
+IsSaid true sentence before after = Keeps before after
+IsSaid false sentence before after = WritesFront before after (line_of sentence)
+
+-- the same of several refusals, a line each
+abbrev pub AreSaid : Bool → List DocumentRefusal → Option (List ℕ) → Option (List ℕ) → Type 0
+AreSaid true refusals before after = Keeps before after
+AreSaid false refusals before after = WritesFront before after (flat_map (λ r. line_of r.sentence) refusals)
+
+-- what is said of this text, the lines of warnings: nothing where the words ask for quiet
+abbrev pub IsWarned : Bool → Option (List ℕ) → Option (List ℕ) → List ℕ → Type 0
+IsWarned true before after text = Keeps before after
+IsWarned false before after text = WritesFront before after text

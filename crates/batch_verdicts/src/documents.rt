@@ -1,0 +1,258 @@
+//! Reading and judging documents, each before the next.
+ghost use Rattle.std.specs.Prelude.{◌≡◌, ℕ, List, [], Option, map, IfOk, IfErr, string_bytes};
+ghost use Rattle.batch_verdicts.specs.Halting.{HaltsAtCell, HaltsAtCertificate, HaltsAtDocuments, HaltsAtRecipe, HaltsAtRecipes, HaltsCheck, HaltsClearing, HaltsDrawing, HaltsReading, HaltsVerifying};
+ghost use Rattle.batch_verdicts.specs.Reading.{AreCleared, AreRead, AreReadWarned, ChecksDocuments, DrawsDocuments, IsUnread, ReadsCell, ReadsCertificate, ReadsRecipe, ReadsRecipes, VerifiesDocuments, ShowsDocuments};
+ghost use Rattle.batch_verdicts.specs.Saying.{IsWarned};
+
+use crate::drawing::draw_recipes;
+use crate::judging::{
+    MAX_CERTIFICATE_LEN, check_recipes, clear_recipes, judge_cell, judge_certificate, judge_recipe,
+};
+use crate::refusal::Halt;
+use crate::warnings::warn;
+use batch_cell::Cell;
+use batch_messages::Source;
+use batch_outline::show_recipes;
+use batch_reader::MAX_DOCUMENT_LEN;
+use batch_recipe::Recipe;
+use batch_verify::{Certificate, Cleared};
+use std::alloc::Global;
+use std::io::Write;
+
+/// Where documents are read from.
+pub trait Documents {
+    // What reading a path may give: these bytes, or at None that nothing can be read there.
+    ghost gives: { Self → List ℕ → Option (List ℕ) → Type 0 };
+
+    /// The bytes at the path, but no more than one beyond the limit.
+    fn read(&self, alloc: Global, path: &str, limit: usize) -> Result<Vec<u8>, Halt>
+        ensures given { IfOk result (λ bytes. gives self.now path.now (Some bytes.items)) }
+        ensures unread { IfErr result (IsUnread (gives self.now) path.now) };
+}
+
+/// What `check` prints of the documents at these paths. The first document that can't be read or is refused ends it; once all are
+/// read it is warned of them on the errors, unless quiet is asked for.
+pub fn check_documents<D: Documents, E: Write>(
+    alloc: Global,
+    documents: &D,
+    cell: &str,
+    recipes: &[String],
+    quiet: bool,
+    errors: &mut E,
+) -> Result<String, Halt>
+    ensures verdict { IfOk result (λ text. ChecksDocuments (D.gives documents.now) (IsWarned quiet (E.contents errors.old) (E.contents errors.new))
+        cell.now (map string_bytes recipes.now) (string_bytes text)) }
+    ensures halted { IfErr result (HaltsCheck (D.gives documents.now) (IsWarned quiet (E.contents errors.old) (E.contents errors.new))
+        cell.now (map string_bytes recipes.now)) }
+{
+    let read = read_warned(alloc, documents, cell, recipes, quiet, errors)?;
+    check_recipes(alloc, &read.cell, &read.recipes, &read.sources)
+}
+
+/// The drawing that `check --dot` makes of the documents at these paths. It ends and warns as [`check_documents`] does, and draws
+/// a circle.
+pub fn draw_documents<D: Documents, E: Write>(
+    alloc: Global,
+    documents: &D,
+    cell: &str,
+    recipes: &[String],
+    quiet: bool,
+    errors: &mut E,
+) -> Result<String, Halt>
+    ensures verdict { IfOk result (λ text. DrawsDocuments (D.gives documents.now) (IsWarned quiet (E.contents errors.old) (E.contents errors.new))
+        cell.now (map string_bytes recipes.now) (string_bytes text)) }
+    ensures halted { IfErr result (HaltsDrawing (D.gives documents.now) (IsWarned quiet (E.contents errors.old) (E.contents errors.new))
+        cell.now (map string_bytes recipes.now)) }
+{
+    let read = read_warned(alloc, documents, cell, recipes, quiet, errors)?;
+    draw_recipes(alloc, &read.cell, &read.recipes, &read.sources)
+}
+
+/// What the documents of a cell and of its recipes say.
+#[derive(Drop)]
+pub(crate) struct CellDocuments {
+    pub(crate) cell: Cell,
+    pub(crate) recipes: Vec<Recipe>,
+    /// Where the acts of the recipes stand.
+    pub(crate) sources: Vec<Source>,
+}
+
+/// Reads the documents, and warns of them.
+fn read_warned<D: Documents, E: Write>(
+    alloc: Global,
+    documents: &D,
+    cell: &str,
+    recipes: &[String],
+    quiet: bool,
+    errors: &mut E,
+) -> Result<CellDocuments, Halt>
+    ensures read { IfOk result (λ read. AreReadWarned (D.gives documents.now) (IsWarned quiet (E.contents errors.old) (E.contents errors.new))
+        cell.now (map string_bytes recipes.now) read.cell read.recipes.items) }
+    ensures halted { IfErr result (λ halt. HaltsAtDocuments (D.gives documents.now) cell.now (map string_bytes recipes.now) halt
+        × IsWarned quiet (E.contents errors.old) (E.contents errors.new) []) }
+{
+    let path = cell;
+    let cell = read_cell(alloc, documents, path)?;
+    let paths = recipes;
+    let mut sources = Vec::new(alloc);
+    let recipes = read_recipes(alloc, documents, paths, &mut sources)?;
+    warn(alloc, quiet, path, &cell, paths, &recipes, errors);
+    Ok(CellDocuments {
+        cell,
+        recipes,
+        sources,
+    })
+}
+
+/// What `verify` prints of the documents at these paths: it accepts the set that [`clear_documents`] gives, and its errors
+/// are those of that call. It warns as [`check_documents`] does.
+pub fn verify_documents<D: Documents, E: Write>(
+    alloc: Global,
+    documents: &D,
+    cell: &str,
+    certificate: &str,
+    recipes: &[String],
+    quiet: bool,
+    errors: &mut E,
+) -> Result<String, Halt>
+    ensures verdict { IfOk result (λ text. VerifiesDocuments (D.gives documents.now) (IsWarned quiet (E.contents errors.old) (E.contents errors.new))
+        cell.now certificate.now (map string_bytes recipes.now) (string_bytes text)) }
+    ensures halted { IfErr result (HaltsVerifying (D.gives documents.now) (IsWarned quiet (E.contents errors.old) (E.contents errors.new))
+        cell.now certificate.now (map string_bytes recipes.now)) }
+{
+    let set = read_set(alloc, documents, cell, certificate, recipes)?;
+    warn(alloc, quiet, cell, &set.cell, recipes, &set.recipes, errors);
+    clear_recipes(alloc, set.cell, set.recipes, &set.sources, &set.certificate)?;
+    Ok(String::from_str(alloc, "accepted\n")?)
+}
+
+/// What `show` prints of the documents at these paths: the nodes of the recipes, whether they can be cleared or not. The first
+/// document that can't be read or is refused ends it, as [`check_documents`].
+pub fn show_documents<D: Documents>(
+    alloc: Global,
+    documents: &D,
+    cell: &str,
+    recipes: &[String],
+) -> Result<String, Halt>
+    ensures verdict { IfOk result (λ text. ShowsDocuments (D.gives documents.now) cell.now (map string_bytes recipes.now) (string_bytes text)) }
+    ensures halted { IfErr result (HaltsAtDocuments (D.gives documents.now) cell.now (map string_bytes recipes.now)) }
+{
+    read_cell(alloc, documents, cell)?;
+    let mut sources = Vec::new(alloc);
+    let recipes = read_recipes(alloc, documents, recipes, &mut sources)?;
+    Ok(show_recipes(alloc, &recipes)?)
+}
+
+/// The set that the documents at these paths make, cleared by the certificate among them: the one way from documents to a set
+/// that may be served.
+///
+/// The first document that can't be read or is refused ends it, and then recipes that aren't cleared.
+pub fn clear_documents<D: Documents>(
+    alloc: Global,
+    documents: &D,
+    cell: &str,
+    certificate: &str,
+    recipes: &[String],
+) -> Result<Cleared, Halt>
+    ensures cleared { IfOk result (AreCleared (D.gives documents.now) cell.now certificate.now (map string_bytes recipes.now)) }
+    ensures halted { IfErr result (HaltsClearing (D.gives documents.now) cell.now certificate.now (map string_bytes recipes.now)) }
+{
+    let read = read_set(alloc, documents, cell, certificate, recipes)?;
+    clear_recipes(
+        alloc,
+        read.cell,
+        read.recipes,
+        &read.sources,
+        &read.certificate,
+    )
+}
+
+/// What the documents of a set say.
+#[derive(Drop)]
+struct DocumentSet {
+    cell: Cell,
+    certificate: Certificate,
+    recipes: Vec<Recipe>,
+    /// Where the acts of the recipes stand.
+    sources: Vec<Source>,
+}
+
+fn read_set<D: Documents>(
+    alloc: Global,
+    documents: &D,
+    cell: &str,
+    certificate: &str,
+    recipes: &[String],
+) -> Result<DocumentSet, Halt>
+    ensures read { IfOk result (λ set. AreRead (D.gives documents.now) cell.now certificate.now (map string_bytes recipes.now)
+        set.cell set.certificate.ranks.items set.recipes.items) }
+    ensures halted { IfErr result (HaltsReading (D.gives documents.now) cell.now certificate.now (map string_bytes recipes.now)) }
+{
+    let cell = read_cell(alloc, documents, cell)?;
+    let certificate = read_certificate(alloc, documents, certificate)?;
+    let mut sources = Vec::new(alloc);
+    let recipes = read_recipes(alloc, documents, recipes, &mut sources)?;
+    Ok(DocumentSet {
+        cell,
+        certificate,
+        recipes,
+        sources,
+    })
+}
+
+pub(crate) fn read_cell<D: Documents>(
+    alloc: Global,
+    documents: &D,
+    path: &str,
+) -> Result<Cell, Halt>
+    ensures read { IfOk result (ReadsCell (D.gives documents.now) path.now) }
+    ensures halted { IfErr result (HaltsAtCell (D.gives documents.now) path.now) }
+{
+    let bytes = documents.read(alloc, path, MAX_DOCUMENT_LEN)?;
+    judge_cell(alloc, path, &bytes)
+}
+
+pub(crate) fn read_certificate<D: Documents>(
+    alloc: Global,
+    documents: &D,
+    path: &str,
+) -> Result<Certificate, Halt>
+    ensures read { IfOk result (λ certificate. ReadsCertificate (D.gives documents.now) path.now certificate.ranks.items) }
+    ensures halted { IfErr result (HaltsAtCertificate (D.gives documents.now) path.now) }
+{
+    let text = documents.read(alloc, path, MAX_CERTIFICATE_LEN)?;
+    judge_certificate(alloc, path, &text)
+}
+
+/// The recipe of the document at the path, whose source is put behind those of the recipes before it.
+pub(crate) fn read_recipe<D: Documents>(
+    alloc: Global,
+    documents: &D,
+    path: &str,
+    sources: &mut Vec<Source>,
+) -> Result<Recipe, Halt>
+    ensures read { IfOk result (ReadsRecipe (D.gives documents.now) path.now) }
+    ensures halted { IfErr result (HaltsAtRecipe (D.gives documents.now) path.now) }
+{
+    let bytes = documents.read(alloc, path, MAX_DOCUMENT_LEN)?;
+    let recipe = judge_recipe(alloc, path, &bytes)?;
+    sources.push(Source::of(alloc, path, &bytes)?)?;
+    Ok(recipe)
+}
+
+pub(crate) fn read_recipes<D: Documents>(
+    alloc: Global,
+    documents: &D,
+    paths: &[String],
+    sources: &mut Vec<Source>,
+) -> Result<Vec<Recipe>, Halt>
+    ensures read { IfOk result (λ recipes. ReadsRecipes (D.gives documents.now) (map string_bytes paths.now) recipes.items) }
+    ensures halted { IfErr result (HaltsAtRecipes (D.gives documents.now) (map string_bytes paths.now)) }
+{
+    let mut recipes = Vec::new(alloc);
+    for path in paths {
+        let recipe = read_recipe(alloc, documents, path.as_str(), sources)?;
+        recipes.push(recipe)?;
+    }
+    Ok(recipes)
+}

@@ -1,0 +1,262 @@
+//! Looking at all documents, and telling everything that is refused of them.
+ghost use Rattle.std.specs.Prelude.{◌≡◌, ◌≤◌, ℕ, List, OnOk, IfOk, IfErr, length, map, string_bytes};
+ghost use Rattle.batch_model.specs.declared.limits.TheConstants.{MAX_RECIPES};
+ghost use Rattle.batch_verdicts.specs.Every.{AreRulesKept, AreRulesRefused, HaltsAtAll, HaltsAtLook, HaltsChecking, HaltsDrawingOf, IsOneUnread, RefusesRules};
+ghost use Rattle.batch_verdicts.specs.Judging.{fault_kind};
+ghost use Rattle.batch_verdicts.specs.Looking.{AreAllRead, IsCellLooked, IsLooked, IsSoundlyRead, LooksOn};
+ghost use Rattle.batch_verdicts.specs.Reading.{ChecksDocuments, DrawsDocuments, IsUnread};
+ghost use Rattle.batch_verdicts.specs.Saying.{IsWarned};
+ghost use Rattle.batch_verdicts.specs.VerdictTexts.{fault_text};
+ghost use Rattle.batch_verdicts.specs.declared.refusal.Halt.TheVariants.{Memory};
+
+use crate::documents::{
+    CellDocuments, Documents, check_documents, draw_documents, read_cell, read_recipe,
+};
+use crate::drawing::draw_recipes;
+use crate::judging::{check_recipes, fault_halt};
+use crate::refusal::{DocumentRefusal, Halt};
+use crate::texts::fault_text;
+use crate::warnings::warn;
+use batch_cell::Cell;
+use batch_check::CheckFault;
+use batch_messages::Source;
+use batch_recipe::Recipe;
+use batch_verify::{first_broken, is_recipe_set};
+use std::alloc::Global;
+use std::io::Write;
+
+/// What `check` prints of the documents at these paths. Where everything is to be told, all documents are looked at, and all that are
+/// refused are told; where none is, every recipe that breaks a rule is told, by the first that it breaks. Else it ends as
+/// [`check_documents`].
+pub fn check_asked<D: Documents, E: Write>(
+    alloc: Global,
+    documents: &D,
+    all: bool,
+    cell: &str,
+    recipes: &[String],
+    quiet: bool,
+    errors: &mut E,
+) -> Result<String, Halt>
+    ensures verdict { IfOk result (λ text. ChecksDocuments (D.gives documents.now) (IsWarned quiet (E.contents errors.old) (E.contents errors.new))
+        cell.now (map string_bytes recipes.now) (string_bytes text)) }
+    ensures halted { IfErr result (HaltsChecking all (D.gives documents.now) (IsWarned quiet (E.contents errors.old) (E.contents errors.new))
+        cell.now (map string_bytes recipes.now)) }
+{
+    if !all {
+        return check_documents(alloc, documents, cell, recipes, quiet, errors);
+    }
+    let read = read_sound(alloc, documents, cell, recipes, quiet, errors)?;
+    check_recipes(alloc, &read.cell, &read.recipes, &read.sources)
+}
+
+/// The drawing that `check --dot` makes of the documents at these paths. It ends as [`check_asked`], or as [`draw_documents`].
+pub fn draw_asked<D: Documents, E: Write>(
+    alloc: Global,
+    documents: &D,
+    all: bool,
+    cell: &str,
+    recipes: &[String],
+    quiet: bool,
+    errors: &mut E,
+) -> Result<String, Halt>
+    ensures verdict { IfOk result (λ text. DrawsDocuments (D.gives documents.now) (IsWarned quiet (E.contents errors.old) (E.contents errors.new))
+        cell.now (map string_bytes recipes.now) (string_bytes text)) }
+    ensures halted { IfErr result (HaltsDrawingOf all (D.gives documents.now) (IsWarned quiet (E.contents errors.old) (E.contents errors.new))
+        cell.now (map string_bytes recipes.now)) }
+{
+    if !all {
+        return draw_documents(alloc, documents, cell, recipes, quiet, errors);
+    }
+    let read = read_sound(alloc, documents, cell, recipes, quiet, errors)?;
+    draw_recipes(alloc, &read.cell, &read.recipes, &read.sources)
+}
+
+/// Reads all documents, warns of them, and looks for rules that the recipes break.
+fn read_sound<D: Documents, E: Write>(
+    alloc: Global,
+    documents: &D,
+    cell: &str,
+    recipes: &[String],
+    quiet: bool,
+    errors: &mut E,
+) -> Result<CellDocuments, Halt>
+    ensures read { IfOk result (λ read. IsSoundlyRead (D.gives documents.now) (IsWarned quiet (E.contents errors.old) (E.contents errors.new))
+        cell.now (map string_bytes recipes.now) read.cell read.recipes.items) }
+    ensures halted { IfErr result (HaltsAtLook (D.gives documents.now) (IsWarned quiet (E.contents errors.old) (E.contents errors.new))
+        cell.now (map string_bytes recipes.now)) }
+{
+    let read = read_all(alloc, documents, cell, recipes)?;
+    warn(
+        alloc,
+        quiet,
+        cell,
+        &read.cell,
+        recipes,
+        &read.recipes,
+        errors,
+    );
+    keep_rules(alloc, &read.cell, &read.recipes, &read.sources)?;
+    Ok(read)
+}
+
+/// Reads all documents. Those that are refused are told together.
+fn read_all<D: Documents>(
+    alloc: Global,
+    documents: &D,
+    cell: &str,
+    recipes: &[String],
+) -> Result<CellDocuments, Halt>
+    ensures read { IfOk result (λ read. AreAllRead (D.gives documents.now) cell.now (map string_bytes recipes.now) read.cell read.recipes.items) }
+    ensures halted { IfErr result (HaltsAtAll (D.gives documents.now) cell.now (map string_bytes recipes.now)) }
+{
+    let mut refusals = Vec::new(alloc);
+    let cell = look_at_cell(alloc, documents, cell, &mut refusals)?;
+    let looked = look_at_recipes(alloc, documents, recipes, refusals)?;
+    let Some(cell) = cell else {
+        return Err(Halt::Every(looked.refusals));
+    };
+    if !looked.refusals.is_empty() {
+        return Err(Halt::Every(looked.refusals));
+    }
+    Ok(CellDocuments {
+        cell,
+        recipes: looked.recipes,
+        sources: looked.sources,
+    })
+}
+
+/// The cell of the document at the path. Where that is refused, its refusal is put behind the others.
+#[tactic(auto, using(crate::proofs::Looked::cell_unread))]
+fn look_at_cell<D: Documents>(
+    alloc: Global,
+    documents: &D,
+    path: &str,
+    refusals: &mut Vec<DocumentRefusal>,
+) -> Result<Option<Cell>, Halt>
+    ensures looked { IfOk result (λ cell. IsCellLooked (D.gives documents.now) path.now refusals.old.items cell refusals.new.items) }
+    ensures halted { IfErr result (IsUnread (D.gives documents.now) path.now) }
+{
+    match read_cell(alloc, documents, path) {
+        Ok(cell) => Ok(Some(cell)),
+        Err(Halt::Refused(refusal)) => {
+            refusals.push(refusal)?;
+            Ok(None)
+        }
+        Err(Halt::Unread(text)) => Err(Halt::Unread(text)),
+        Err(_) => Err(Halt::Memory),
+    }
+}
+
+/// What looking at the documents of recipes came to.
+#[derive(Drop)]
+struct Looked {
+    recipes: Vec<Recipe>,
+    /// Where the acts of the recipes stand.
+    sources: Vec<Source>,
+    refusals: Vec<DocumentRefusal>,
+}
+
+/// The recipes of the documents at these paths that aren't refused. The refusals of the others are put behind those before.
+fn look_at_recipes<D: Documents>(
+    alloc: Global,
+    documents: &D,
+    paths: &[String],
+    refusals: Vec<DocumentRefusal>,
+) -> Result<Looked, Halt>
+    ensures looked { IfOk result (λ looked. LooksOn (D.gives documents.now) (map string_bytes paths.now) refusals.items looked.recipes.items
+        looked.refusals.items) }
+    ensures halted { IfErr result (IsOneUnread (D.gives documents.now) (map string_bytes paths.now)) }
+{
+    let mut looked = Looked {
+        recipes: Vec::new(alloc),
+        sources: Vec::new(alloc),
+        refusals,
+    };
+    for path in paths {
+        look_at_recipe(alloc, documents, path.as_str(), &mut looked)?;
+    }
+    Ok(looked)
+}
+
+/// Looks at one document more.
+#[tactic(auto, using(crate::proofs::Looked::recipe_unread))]
+fn look_at_recipe<D: Documents>(
+    alloc: Global,
+    documents: &D,
+    path: &str,
+    looked: &mut Looked,
+) -> Result<(), Halt>
+    ensures looked { OnOk result (IsLooked (D.gives documents.now) path.now looked.old.recipes.items looked.old.refusals.items
+        looked.new.recipes.items looked.new.refusals.items) }
+    ensures halted { IfErr result (IsUnread (D.gives documents.now) path.now) }
+{
+    match read_recipe(alloc, documents, path, &mut looked.sources) {
+        Ok(recipe) => looked.recipes.push(recipe)?,
+        Err(Halt::Refused(refusal)) => looked.refusals.push(refusal)?,
+        Err(Halt::Unread(text)) => return Err(Halt::Unread(text)),
+        Err(_) => return Err(Halt::Memory),
+    }
+    Ok(())
+}
+
+/// Looks for rules that the recipes of a set break. All recipes that break one are told, each by the first that it breaks.
+fn keep_rules(
+    alloc: Global,
+    cell: &Cell,
+    recipes: &[Recipe],
+    sources: &[Source],
+) -> Result<(), Halt>
+    ensures kept { OnOk result (AreRulesKept cell.now recipes.now) }
+    ensures broken { IfErr result (RefusesRules cell.now recipes.now) }
+{
+    if !is_recipe_set(recipes) {
+        return Ok(());
+    }
+    let refusals = rule_refusals(alloc, cell, recipes, sources)?;
+    if refusals.is_empty() {
+        return Ok(());
+    }
+    Err(Halt::Every(refusals))
+}
+
+/// The refusals of the recipes that break a rule.
+fn rule_refusals(
+    alloc: Global,
+    cell: &Cell,
+    recipes: &[Recipe],
+    sources: &[Source],
+) -> Result<Vec<DocumentRefusal>, Halt>
+    requires { length recipes.now ≤ MAX_RECIPES }
+    ensures refused { IfOk result (λ refusals. AreRulesRefused cell.now recipes.now 0 recipes.now refusals.items) }
+    ensures memory { IfErr result (λ halt. halt ≡ Memory) }
+{
+    let mut refusals = Vec::new(alloc);
+    for (number, recipe) in recipes.iter().enumerate() {
+        if let Some(broken) = first_broken(alloc, cell, recipe, None)? {
+            let recipe = number as u16;
+            let fault = CheckFault::Recipe { recipe, broken };
+            let refusal = rule_refusal(alloc, cell, recipes, sources, &fault)?;
+            refusals.push(refusal)?;
+        }
+    }
+    Ok(refusals)
+}
+
+/// The refusal of the recipes by the fault.
+fn rule_refusal(
+    alloc: Global,
+    cell: &Cell,
+    recipes: &[Recipe],
+    sources: &[Source],
+    fault: &CheckFault,
+) -> Result<DocumentRefusal, Halt>
+    ensures text { IfOk result (λ refusal. string_bytes refusal.text ≡ fault_text cell.now recipes.now fault.now) }
+    ensures kind { IfOk result (λ refusal. refusal.kind ≡ fault_kind fault.now) }
+    ensures memory { IfErr result (λ halt. halt ≡ Memory) }
+{
+    let text = fault_text(alloc, cell, recipes, fault);
+    match fault_halt(alloc, cell, recipes, sources, text, fault) {
+        Halt::Refused(refusal) => Ok(refusal),
+        _ => Err(Halt::Memory),
+    }
+}

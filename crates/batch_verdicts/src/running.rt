@@ -1,0 +1,495 @@
+//! Running the program's commands.
+ghost use Rattle.std.specs.Prelude.{◌≡◌, IfErr, IfOk, OnOk, map, option_map, string_bytes};
+ghost use Rattle.batch_cli.specs.CommandLine.{audit, judgement_of, keep, plant, remark, request_of, serve, serve_desks, source_of};
+ghost use Rattle.std.specs.Io.KnownBytes.{Appends};
+ghost use Rattle.batch_verdicts.specs.Requests.{HaltsDemo, HaltsJudgement, HaltsSource, IsDemoSet, IsSetOf, IsVerdict};
+ghost use Rattle.std.specs.List.{flat_map, list_any};
+ghost use Rattle.batch_verdicts.specs.Judging.{is_for_memory};
+ghost use Rattle.batch_verdicts.specs.Running.{AreRefused, IsAnnounced, IsDone, IsExplained, IsPrinted, IsRefused, IsRun, fault_status, status_of_every};
+ghost use Rattle.batch_verdicts.specs.Saying.{IsWarned};
+
+use crate::course::Course;
+use crate::demo::{CELL_PATH, CERTIFICATE_PATH, Demo, RECIPE_PATH};
+use crate::desks::clear_desks;
+use crate::digested::clear_digested;
+use crate::documents::{Documents, clear_documents, show_documents, verify_documents};
+use crate::every::{check_asked, draw_asked};
+use crate::refusal::{DocumentRefusal, Halt};
+use crate::saying::{say, say_every};
+use batch_cli::{
+    AuditWords, CommandFault, CommandWords, Comments, DeskWords, Judgement, PlantOptions, Source,
+    Subcommand, parse,
+};
+use batch_messages::explain;
+use batch_verify::Cleared;
+use std::alloc::{AllocError, Global};
+use std::fmt::Display;
+use std::io;
+use std::io::Write;
+use thiserror::Error;
+
+/// The exit status where what was asked for is printed.
+pub const SUCCESS: u8 = 0;
+
+/// The exit status where something is refused.
+const REFUSED: u8 = 1;
+
+/// The exit status where the words are no command.
+pub const USAGE: u8 = 2;
+
+/// The exit status where a file or the input can't be read, or the output can't be written.
+pub const FILE_FAULT: u8 = 3;
+
+/// The exit status where memory ran out.
+pub const NO_MEMORY: u8 = 4;
+
+/// What is told of it where memory ran out.
+pub const OUT_OF_MEMORY: &str = "out of memory";
+
+/// What is told of it where texts have no code.
+const UNKNOWN_CODE: &str =
+    "there is no such code; a code is what stands behind `refused`, a letter and a number, as D5, E11 or V4, and `batchd explain` lists all";
+
+/// The output can't be written, for this reason.
+#[derive(Debug, Error, Drop)]
+#[error("the output can't be written: {0}")]
+struct FailedWrite(io::Error);
+
+/// Does what the words ask for: judges documents and tells the verdict, or hands on the text that a file is to hold, clears the
+/// set that is to be served, over which a record is to be audited or of which a plant is to be run, or names the record that is to be read.
+///
+/// Verdicts, explanations and help go to the output, and all else to the errors: what a refusal means, in one line, unless the
+/// words ask for quiet, and what failed, in a free text. Where that can't be written the exit status is the same. Without words
+/// the set is that of the demo.
+pub fn run_words<D: Documents, O: Write, E: Write>(
+    alloc: Global,
+    words: &[String],
+    documents: &D,
+    output: &mut O,
+    errors: &mut E,
+) -> Course
+    ensures { IsRun (D.gives documents.now) (map string_bytes words.now)
+        (record { before = O.contents output.old; after = O.contents output.new })
+        (record { before = E.contents errors.old; after = E.contents errors.new }) result }
+{
+    match parse(alloc, words) {
+        Ok(words) => run_command(alloc, words, documents, output, errors),
+        Err(CommandFault::Help(text)) => Course::Ends(print(output, errors, &text, SUCCESS)),
+        Err(CommandFault::Usage(text)) => Course::Ends(complain(errors, text.trim_end(), USAGE)),
+        Err(CommandFault::Memory) => Course::Ends(complain(errors, OUT_OF_MEMORY, NO_MEMORY)),
+    }
+}
+
+fn run_command<D: Documents, O: Write, E: Write>(
+    alloc: Global,
+    words: CommandWords,
+    documents: &D,
+    output: &mut O,
+    errors: &mut E,
+) -> Course
+    ensures { IsDone (D.gives documents.now) (request_of words.command) words.quiet
+        (record { before = O.contents output.old; after = O.contents output.new })
+        (record { before = E.contents errors.old; after = E.contents errors.new }) result }
+{
+    let quiet = words.quiet;
+    match words.command {
+        Subcommand::Judge(judgement) => match judge(alloc, documents, &judgement, quiet, errors) {
+            Ok(text) => Course::Ends(print(output, errors, &text, SUCCESS)),
+            Err(halt) => Course::Ends(announce(alloc, quiet, &halt, output, errors)),
+        },
+        Subcommand::Write { path, judgement } => {
+            match judge(alloc, documents, &judgement, quiet, errors) {
+                Ok(text) => Course::Writes { path, text },
+                Err(halt) => Course::Ends(announce(alloc, quiet, &halt, output, errors)),
+            }
+        }
+        Subcommand::Serve(source) => serve(alloc, quiet, &source, documents, output, errors),
+        Subcommand::Remark { source, comments } => {
+            remark(alloc, quiet, &source, comments, documents, output, errors)
+        }
+        Subcommand::Keep {
+            journal,
+            cell,
+            certificate,
+            recipes,
+            comments,
+        } => keep(
+            alloc,
+            quiet,
+            journal,
+            &cell,
+            &certificate,
+            &recipes,
+            comments,
+            documents,
+            output,
+            errors,
+        ),
+        Subcommand::ServeDesks(words) => serve_desks(
+            alloc, quiet, words, documents, output, errors,
+        ),
+        Subcommand::Status { path } => Course::Reads { path },
+        Subcommand::Picture { path } => Course::Draws { path },
+        Subcommand::Audit(words) => audit(alloc, quiet, words, documents, output, errors),
+        Subcommand::Plant { source, options } => {
+            plant(alloc, quiet, &source, options, documents, output, errors)
+        }
+        Subcommand::Explain { texts } => { Course::Ends(tell_codes(alloc, &texts, output, errors)) }
+    }
+}
+
+/// Has the set of a source served.
+fn serve<D: Documents, O: Write, E: Write>(
+    alloc: Global,
+    quiet: bool,
+    source: &Source,
+    documents: &D,
+    output: &mut O,
+    errors: &mut E,
+) -> Course
+    ensures { IsDone (D.gives documents.now) (serve (source_of source.now)) quiet
+        (record { before = O.contents output.old; after = O.contents output.new })
+        (record { before = E.contents errors.old; after = E.contents errors.new }) result }
+{
+    match clear_source(alloc, documents, source) {
+        Ok(set) => Course::Serves { set, quiet },
+        Err(halt) => Course::Ends(announce(alloc, quiet, &halt, output, errors)),
+    }
+}
+
+/// Has desks served over the set of the documents that the words name, with a journal or without one.
+fn serve_desks<D: Documents, O: Write, E: Write>(
+    alloc: Global,
+    quiet: bool,
+    words: DeskWords,
+    documents: &D,
+    output: &mut O,
+    errors: &mut E,
+) -> Course
+    ensures { IsDone (D.gives documents.now) (serve_desks (option_map string_bytes words.journal) (string_bytes words.desks) (string_bytes words.cell)
+        (string_bytes words.certificate) (map string_bytes words.recipes.items) words.times) quiet
+        (record { before = O.contents output.old; after = O.contents output.new })
+        (record { before = E.contents errors.old; after = E.contents errors.new }) result }
+{
+    let cleared = clear_desks(
+        alloc,
+        documents,
+        &words.desks,
+        &words.cell,
+        &words.certificate,
+        &words.recipes,
+    );
+    match cleared {
+        Ok(served) => Course::ServesDesks {
+            served,
+            quiet,
+            journal: words.journal,
+            times: words.times,
+        },
+        Err(halt) => Course::Ends(announce(alloc, quiet, &halt, output, errors)),
+    }
+}
+
+/// Has a record audited over the set of the documents that the words name.
+fn audit<D: Documents, O: Write, E: Write>(
+    alloc: Global,
+    quiet: bool,
+    words: AuditWords,
+    documents: &D,
+    output: &mut O,
+    errors: &mut E,
+) -> Course
+    ensures { IsDone (D.gives documents.now) (audit words.beginning (string_bytes words.path) (source_of words.source)) quiet
+        (record { before = O.contents output.old; after = O.contents output.new })
+        (record { before = E.contents errors.old; after = E.contents errors.new }) result }
+{
+    match clear_source(alloc, documents, &words.source) {
+        Ok(set) => Course::Audits { set, audit: words },
+        Err(halt) => Course::Ends(announce(alloc, quiet, &halt, output, errors)),
+    }
+}
+
+/// Has a plant of the set of a source run.
+fn plant<D: Documents, O: Write, E: Write>(
+    alloc: Global,
+    quiet: bool,
+    source: &Source,
+    options: PlantOptions,
+    documents: &D,
+    output: &mut O,
+    errors: &mut E,
+) -> Course
+    ensures { IsDone (D.gives documents.now) (plant (source_of source.now) options.batches options.ticks options.ring) quiet
+        (record { before = O.contents output.old; after = O.contents output.new })
+        (record { before = E.contents errors.old; after = E.contents errors.new }) result }
+{
+    match clear_source(alloc, documents, source) {
+        Ok(set) => Course::Plants { set, options },
+        Err(halt) => Course::Ends(announce(alloc, quiet, &halt, output, errors)),
+    }
+}
+
+/// Has the set of a source served with comments in the record.
+fn remark<D: Documents, O: Write, E: Write>(
+    alloc: Global,
+    quiet: bool,
+    source: &Source,
+    comments: Comments,
+    documents: &D,
+    output: &mut O,
+    errors: &mut E,
+) -> Course
+    ensures { IsDone (D.gives documents.now) (remark (source_of source.now) comments.echo comments.times) quiet
+        (record { before = O.contents output.old; after = O.contents output.new })
+        (record { before = E.contents errors.old; after = E.contents errors.new }) result }
+{
+    match clear_source(alloc, documents, source) {
+        Ok(set) => Course::Remarks {
+            set,
+            quiet,
+            comments,
+        },
+        Err(halt) => Course::Ends(announce(alloc, quiet, &halt, output, errors)),
+    }
+}
+
+/// Has the set of documents served with a journal in the file at the path.
+fn keep<D: Documents, O: Write, E: Write>(
+    alloc: Global,
+    quiet: bool,
+    path: String,
+    cell: &str,
+    certificate: &str,
+    recipes: &[String],
+    comments: Comments,
+    documents: &D,
+    output: &mut O,
+    errors: &mut E,
+) -> Course
+    ensures { IsDone (D.gives documents.now) (keep (string_bytes path) cell.now certificate.now (map string_bytes recipes.now) comments.echo comments.times) quiet
+        (record { before = O.contents output.old; after = O.contents output.new })
+        (record { before = E.contents errors.old; after = E.contents errors.new }) result }
+{
+    match clear_digested(alloc, documents, cell, certificate, recipes) {
+        Ok(digested) => Course::Keeps {
+            digested,
+            quiet,
+            path,
+            comments,
+        },
+        Err(halt) => Course::Ends(announce(alloc, quiet, &halt, output, errors)),
+    }
+}
+
+/// What a judgement prints. It warns of its documents unless quiet is asked for.
+fn judge<D: Documents, E: Write>(
+    alloc: Global,
+    documents: &D,
+    judgement: &Judgement,
+    quiet: bool,
+    errors: &mut E,
+) -> Result<String, Halt>
+    ensures verdict { IfOk result (λ text. IsVerdict (D.gives documents.now) (IsWarned quiet (E.contents errors.old) (E.contents errors.new))
+        (judgement_of judgement.now) (string_bytes text)) }
+    ensures halted { IfErr result (HaltsJudgement (D.gives documents.now) (IsWarned quiet (E.contents errors.old) (E.contents errors.new))
+        (judgement_of judgement.now)) }
+{
+    match judgement {
+        Judgement::Check { all, cell, recipes } => {
+            check_asked(alloc, documents, *all, cell, recipes, quiet, errors)
+        }
+        Judgement::Draw { all, cell, recipes } => {
+            draw_asked(alloc, documents, *all, cell, recipes, quiet, errors)
+        }
+        Judgement::Verify {
+            cell,
+            certificate,
+            recipes,
+        } => verify_documents(alloc, documents, cell, certificate, recipes, quiet, errors),
+        Judgement::Show { cell, recipes } => show_documents(alloc, documents, cell, recipes),
+    }
+}
+
+/// The set that is to be served, or over which a record is to be audited, or whose plant is to be run.
+fn clear_source<D: Documents>(
+    alloc: Global,
+    documents: &D,
+    source: &Source,
+) -> Result<Cleared, Halt>
+    ensures set { IfOk result (IsSetOf (D.gives documents.now) (source_of source.now)) }
+    ensures halted { IfErr result (HaltsSource (D.gives documents.now) (source_of source.now)) }
+{
+    match source {
+        Source::Demo => clear_demo(alloc),
+        Source::Documents {
+            cell,
+            certificate,
+            recipes,
+        } => clear_documents(alloc, documents, cell, certificate, recipes),
+    }
+}
+
+/// The set of the demo, read and cleared as any other.
+fn clear_demo(alloc: Global) -> Result<Cleared, Halt>
+    ensures set { IfOk result IsDemoSet }
+    ensures halted { IfErr result HaltsDemo }
+{
+    let recipes = [String::from_str(alloc, RECIPE_PATH)?];
+    clear_documents(alloc, &Demo, CELL_PATH, CERTIFICATE_PATH, &recipes)
+}
+
+/// Tells why a command ends so, and gives the exit status.
+fn announce<O: Write, E: Write>(
+    alloc: Global,
+    quiet: bool,
+    halt: &Halt,
+    output: &mut O,
+    errors: &mut E,
+) -> u8
+    ensures { IsAnnounced quiet (record { before = O.contents output.old; after = O.contents output.new })
+        (record { before = E.contents errors.old; after = E.contents errors.new }) halt.now result }
+{
+    match halt {
+        Halt::Refused(refusal) => refuse(alloc, quiet, refusal, output, errors),
+        Halt::Every(refusals) => refuse_every(alloc, quiet, refusals, output, errors),
+        Halt::Unread(text) => complain(errors, text.as_str(), FILE_FAULT),
+        Halt::Memory => complain(errors, OUT_OF_MEMORY, NO_MEMORY),
+    }
+}
+
+/// Prints the refusal, says what it means, and gives its exit status, or that of a write that fails.
+fn refuse<O: Write, E: Write>(
+    alloc: Global,
+    quiet: bool,
+    refusal: &DocumentRefusal,
+    output: &mut O,
+    errors: &mut E,
+) -> u8
+    ensures { IsRefused quiet (record { before = O.contents output.old; after = O.contents output.new })
+        (record { before = E.contents errors.old; after = E.contents errors.new }) refusal.now result }
+{
+    match write_out(output, refusal.text.as_bytes()) {
+        Ok(()) => {
+            say(alloc, quiet, &refusal.sentence, errors);
+            refusal.kind.status()
+        }
+        Err(error) => unwritten(errors, error),
+    }
+}
+
+/// Prints the refusals, says what they mean, and gives their exit status, or that of a write that fails, or of want of memory.
+fn refuse_every<O: Write, E: Write>(
+    alloc: Global,
+    quiet: bool,
+    refusals: &[DocumentRefusal],
+    output: &mut O,
+    errors: &mut E,
+) -> u8
+    ensures { AreRefused quiet (record { before = O.contents output.old; after = O.contents output.new })
+        (record { before = E.contents errors.old; after = E.contents errors.new }) refusals.now result }
+{
+    let Ok(text) = refusals_text(alloc, refusals) else {
+        return complain(errors, OUT_OF_MEMORY, NO_MEMORY);
+    };
+    match write_out(output, text.as_bytes()) {
+        Ok(()) => {
+            say_every(alloc, quiet, refusals, errors);
+            status_of_every(refusals)
+        }
+        Err(error) => unwritten(errors, error),
+    }
+}
+
+/// The lines of the refusals.
+fn refusals_text(alloc: Global, refusals: &[DocumentRefusal]) -> Result<String, AllocError>
+    ensures { IfOk result (λ text. string_bytes text ≡ flat_map (λ r. string_bytes r.text) refusals.now) }
+{
+    let mut text = String::new(alloc);
+    for refusal in refusals {
+        text.push_str(&refusal.text)?;
+    }
+    Ok(text)
+}
+
+/// The exit status of the refusals.
+fn status_of_every(refusals: &[DocumentRefusal]) -> u8
+    ensures { result ≡ status_of_every refusals.now }
+{
+    if is_one_for_memory(refusals) {
+        NO_MEMORY
+    } else {
+        REFUSED
+    }
+}
+
+/// Whether one of the refusals is for want of memory.
+fn is_one_for_memory(refusals: &[DocumentRefusal]) -> bool
+    ensures { result ≡ list_any (λ r. is_for_memory r.kind) refusals.now }
+{
+    refusals.iter().any(|refusal| refusal.kind.is_for_memory())
+}
+
+/// Prints what the first code in the texts means, or without texts what all codes mean.
+fn tell_codes<O: Write, E: Write>(
+    alloc: Global,
+    texts: &[String],
+    output: &mut O,
+    errors: &mut E,
+) -> u8
+    ensures { IsExplained (map string_bytes texts.now) (record { before = O.contents output.old; after = O.contents output.new })
+        (record { before = E.contents errors.old; after = E.contents errors.new }) result }
+{
+    match explain(alloc, texts) {
+        Ok(Some(text)) => print(output, errors, &text, SUCCESS),
+        Ok(None) => complain(errors, UNKNOWN_CODE, USAGE),
+        Err(_) => complain(errors, OUT_OF_MEMORY, NO_MEMORY),
+    }
+}
+
+/// Prints the text, and gives the wanted exit status, or that of a write that fails.
+pub fn print<O: Write, E: Write>(output: &mut O, errors: &mut E, text: &str, wanted: u8) -> u8
+    ensures { IsPrinted (record { before = O.contents output.old; after = O.contents output.new })
+        (record { before = E.contents errors.old; after = E.contents errors.new }) text.now wanted result }
+{
+    print_bytes(output, errors, text.as_bytes(), wanted)
+}
+
+/// Prints these bytes, and gives the wanted exit status, or that of a write that fails.
+pub fn print_bytes<O: Write, E: Write>(
+    output: &mut O,
+    errors: &mut E,
+    bytes: &[u8],
+    wanted: u8,
+) -> u8
+    ensures { IsPrinted (record { before = O.contents output.old; after = O.contents output.new })
+        (record { before = E.contents errors.old; after = E.contents errors.new }) bytes.now wanted result }
+{
+    match write_out(output, bytes) {
+        Ok(()) => wanted,
+        Err(error) => unwritten(errors, error),
+    }
+}
+
+/// Tells why the output can't be written, and gives the exit status of that.
+fn unwritten<E: Write>(errors: &mut E, error: io::Error) -> u8
+    ensures { result ≡ fault_status }
+{
+    complain(errors, FailedWrite(error), FILE_FAULT)
+}
+
+/// Writes the bytes and hands them on.
+fn write_out<O: Write>(output: &mut O, bytes: &[u8]) -> io::Result<()>
+    ensures { OnOk result (Appends (O.contents output.old) (O.contents output.new) bytes.now) }
+{
+    output.write_all(bytes)?;
+    output.flush()
+}
+
+/// Tells the fault if it can, behind the program's name and with a line feed at its end, and gives the exit status in any case.
+pub fn complain<E: Write, D: Display + Drop>(errors: &mut E, fault: D, status: u8) -> u8
+    ensures { result ≡ status }
+{
+    let _ = writeln!(errors, "batchd: {fault}");
+    let _ = errors.flush();
+    status
+}

@@ -1,0 +1,87 @@
+//! What is said to a person beside a verdict.
+ghost use Rattle.std.specs.Prelude.{◌≡◌, IfOk, string_bytes};
+ghost use Rattle.std.specs.List.{flat_map};
+ghost use Rattle.batch_verdicts.specs.Saying.{AreSaid, IsSaid, WritesFront, line_of};
+
+use crate::refusal::DocumentRefusal;
+use batch_wording::Sentence;
+use std::alloc::{AllocError, Global};
+use std::io::Write;
+
+/// Says what a refusal means, unless quiet is asked for. Where the line can't be written the rest of it is left out.
+pub(crate) fn say<E: Write>(alloc: Global, quiet: bool, sentence: &Sentence, errors: &mut E)
+    ensures { IsSaid quiet sentence.now (E.contents errors.old) (E.contents errors.new) }
+{
+    if !quiet {
+        write_line(alloc, sentence, errors);
+    }
+}
+
+fn write_line<E: Write>(alloc: Global, sentence: &Sentence, errors: &mut E)
+    ensures { WritesFront (E.contents errors.old) (E.contents errors.new) (line_of sentence.now) }
+{
+    if let Ok(line) = format!(in alloc; "batchd: {}\n", sentence.text) {
+        tell(errors, &line);
+    }
+}
+
+/// Says what the refusals mean, a line each, unless quiet is asked for. Where there is no memory for the lines, or they can't be
+/// written, they are left out.
+pub(crate) fn say_every<E: Write>(
+    alloc: Global,
+    quiet: bool,
+    refusals: &[DocumentRefusal],
+    errors: &mut E,
+)
+    ensures { AreSaid quiet refusals.now (E.contents errors.old) (E.contents errors.new) }
+{
+    if quiet {
+        return;
+    }
+    write_lines(alloc, refusals, errors);
+}
+
+fn write_lines<E: Write>(alloc: Global, refusals: &[DocumentRefusal], errors: &mut E)
+    ensures { WritesFront (E.contents errors.old) (E.contents errors.new) (flat_map (λ r. line_of r.sentence) refusals.now) }
+{
+    if let Ok(text) = lines_text(alloc, refusals) {
+        tell(errors, &text);
+    }
+}
+
+fn lines_text(alloc: Global, refusals: &[DocumentRefusal]) -> Result<String, AllocError>
+    ensures { IfOk result (λ text. string_bytes text ≡ flat_map (λ r. line_of r.sentence) refusals.now) }
+{
+    let mut text = String::new(alloc);
+    for refusal in refusals {
+        let line = line_of(alloc, &refusal.sentence)?;
+        text.push_str(&line)?;
+    }
+    Ok(text)
+}
+
+fn line_of(alloc: Global, sentence: &Sentence) -> Result<String, AllocError>
+    ensures { IfOk result (λ line. string_bytes line ≡ line_of sentence.now) }
+{
+    format!(in alloc; "batchd: {}\n", sentence.text)
+}
+
+/// Writes the line and hands it on. Where it can't be written the rest of it is left out.
+pub fn tell<E: Write>(errors: &mut E, line: &str)
+    ensures { WritesFront (E.contents errors.old) (E.contents errors.new) line.now }
+{
+    write_front(errors, line.as_bytes());
+    let _ = errors.flush();
+}
+
+fn write_front<E: Write>(errors: &mut E, bytes: &[u8])
+    ensures { WritesFront (E.contents errors.old) (E.contents errors.new) bytes.now }
+{
+    let mut rest = bytes;
+    while !rest.is_empty() {
+        match errors.write(rest) {
+            Ok(0) | Err(_) => return,
+            Ok(count) => rest = &rest[count..],
+        }
+    }
+}

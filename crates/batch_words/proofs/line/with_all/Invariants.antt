@@ -1,8 +1,0 @@
-use Rattle.std.proofs.Common.{◌≡◌, drop}
-use Rattle.clap.specs.Simple.{app_of}
-use Rattle.batch_words.specs.Table.{with_commands}
-use Rattle.batch_words.proofs.line.with_all.Given as goal
-
--- the commands that are left make of the program what all make of the bare one
-abbrev pub invariant-loop-text : goal.invariant-loop-text
-invariant-loop-text l = with_commands (app_of l.program) (drop l.text-index l.texts) ≡ with_commands (app_of l.fn.bare) l.texts
