@@ -1,4 +1,4 @@
-//! The program's commands: the texts of the verdicts, the files, the runs of command lines, and the set that is to be served.
+//! Verdicts on documents: their texts, the files, the runs of command lines, and the set that is to be served.
 #![tactic(auto)]
 
 mod course;
