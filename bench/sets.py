@@ -44,6 +44,7 @@ class Recipe:
     tables: list = field(default_factory=list)  # the lines of values and roles
     place: str = "unit"  # or "role"
     runs: dict = field(default_factory=dict)  # label: the phase that it runs, where that has another name
+    reserves: dict = field(default_factory=dict)  # label: the unit procedures that it reserves
 
     def document(self):
         lines = [f'recipe = "{self.name}"', 'version = "1"', "basis = 1000", *self.tables]
@@ -57,7 +58,8 @@ class Recipe:
         return "\n".join(lines) + "\n"
 
     def act(self, kind, label):
-        return [f"[[{kind}]]", f'name = "{label}"', f"needs = {listed(self.needs.get(label, []))}"]
+        reserves = [f"reserves = {listed(self.reserves[label])}"] if label in self.reserves else []
+        return [f"[[{kind}]]", f'name = "{label}"', f"needs = {listed(self.needs.get(label, []))}", *reserves]
 
     def nodes(self):
         """The lines of its nodes for the plain engine; no list where that one can't run it."""
@@ -286,28 +288,34 @@ def many(count):
     return Plant(units, phases, recipes, before, [], {"DRAIN": 1000, "HEADER": 8})
 
 
-def candidates(count, recipes, turned=False):
-    """Recipes of 4,050 nodes with 16 needs at each of four levels, on a role that so many units may take; 0: on one unit. turned: the last
-    step of the last recipe asks in the other order. No line is counted."""
+def candidates(count, recipes, turned=False, roles=1, handed=False):
+    """Recipes of 4,050 nodes with 16 needs at each of four levels, on a role that so many units may take, or on so many roles in turn;
+    0 units: on unit procedures of named units. turned: the last step of the last recipe asks in the other order. handed: each unit procedure
+    but the last has one more step, which reserves the next. No line is counted."""
     units, free = [f"UNIT_{number:02}" for number in range(UNITS)], [f"FREE_{number:03}" for number in range(192)]
     shared, phases = {f"HEADER_{number:02}": 3 for number in range(64)}, [f"PHASE_{number:02}" for number in range(STATION_PHASES)]
     chance, pools = random.Random(88), [list(shared), free[:64], free[64:128], free[128:]]
     needs = lambda level: sorted(chance.sample(pools[level], 16))
-    found = [candidate(f"R_{number:03}", count > 0, phases, needs) for number in range(recipes)]
+    places = [f"ROLE_{number}" for number in range(roles)] if count > 0 else units[:roles]
+    found = [candidate(f"R_{number:03}", count > 0, places, phases, needs) for number in range(recipes)]
     if turned:
         found[-1].needs["LAST"].reverse()
+    if handed:
+        for recipe in found:
+            hand_on(recipe, phases[0])
     return Plant(units, phases, found, [], [], shared, dict.fromkeys(units[:count], "KIND"), free)
 
 
-def candidate(name, has_role, phases, needs):
+def candidate(name, has_roles, places, phases, needs):
     """A recipe of `candidates`, with 16 needs of a level at a call. Its last step asks as its first does."""
     steps = [f"STEP_{number:02}" for number in range(60)]
     recipe = Recipe(name, seq(*(f"UP_{u}" for u in range(8))), {}, {}, [*steps, "LAST"], {name: needs(0)})
     recipe.runs = {step: phases[number % len(phases)] for number, step in enumerate(recipe.phases)}
-    if has_role:
-        recipe.place, recipe.tables = "role", ["[[role]]", 'name = "ROLE"', 'class = "KIND"']
+    if has_roles:
+        recipe.place = "role"
+        recipe.tables = [line for place in places for line in ("[[role]]", f'name = "{place}"', 'class = "KIND"')]
     for u in range(8):
-        recipe.unit_procedures[f"UP_{u}"] = ("ROLE" if has_role else "UNIT_00", seq(*(f"OP_{u}_{o}" for o in range(8))))
+        recipe.unit_procedures[f"UP_{u}"] = (places[u % len(places)], seq(*(f"OP_{u}_{o}" for o in range(8))))
         recipe.needs[f"UP_{u}"] = needs(1)
         for o in range(8):
             recipe.operations[f"OP_{u}_{o}"] = seq(*(steps[(u + o + s) % 60] for s in range(60)), "LAST")
@@ -315,3 +323,12 @@ def candidate(name, has_role, phases, needs):
     recipe.needs |= {step: needs(3) for step in steps}
     recipe.needs["LAST"] = list(recipe.needs[steps[0]])
     return recipe
+
+
+def hand_on(recipe, phase):
+    """The last operation of each unit procedure but the last ends in a step that reserves the next unit procedure."""
+    for u in range(7):
+        step, (form, steps) = f"PASS_{u}", recipe.operations[f"OP_{u}_7"]
+        recipe.phases.append(step)
+        recipe.runs[step], recipe.reserves[step] = phase, [f"UP_{u + 1}"]
+        recipe.operations[f"OP_{u}_7"] = (form, (*steps, step))

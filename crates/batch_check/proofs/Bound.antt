@@ -1,70 +1,28 @@
 -- What holds of each two needs of a path in the bindings by which edges are collected holds in every binding that is tried.
-use Rattle.std.proofs.Common.{arith, ◌≡◌, ◌⊎◌, ℕ, zero, suc, Bool, true, false, ◌||◌, ltb, List, [], ◌∷◌, length, Option, Some, None, option_map, slice_get, refl, sym, ap, ◌∙◌, subst, inl, inr, ⊎_elim}
-use Rattle.std.specs.List.{list_any}
+use Rattle.std.proofs.Common.{◌≡◌, ℕ, zero, suc, ◌<◌, Bool, true, false, List, [], ◌∷◌, Option, Some, None, option_map, slice_get, refl, sym, ap, ◌∙◌, subst, inr}
 use Rattle.std.proofs.lemmas.Option.{slice_get-map}
 use Rattle.batch_cell.specs.declared.cell.Cell as equipment
-use Rattle.batch_recipe.specs.Conditions.{Name}
+use Rattle.batch_recipe.specs.Conditions.{Name, same_name}
 use Rattle.batch_recipe.specs.Expanding.{Binding}
 use Rattle.batch_recipe.specs.Nodes.{Node}
-use Rattle.batch_recipe.specs.Outlines.{act_of}
 use Rattle.batch_recipe.specs.Procedure.{bound_nodes}
-use Rattle.batch_recipe.specs.declared.act.Act.{Act}
-use Rattle.batch_recipe.specs.declared.acts.LabelTable.TheVariants.{UnitProcedures, Operations, Phases}
-use Rattle.batch_recipe.specs.declared.entry.Kind.{Kind}
-use Rattle.batch_recipe.specs.declared.entry.Kind.TheVariants as kind
 use Rattle.batch_recipe.specs.declared.recipe.Recipe as document
 use Rattle.batch_recipe.specs.declared.role.Role.{Role}
-use Rattle.batch_model.specs.Lists.{Each, Has}
+use Rattle.batch_model.specs.Lists.{Each}
 use Rattle.batch_model.specs.Setups.{master_of, setup_of}
+use Rattle.batch_verify.specs.Bindings.{binding_count}
 use Rattle.batch_verify.specs.Refusals.{IsTried}
-use Rattle.batch_verify.proofs.Choices.{has_at, ReservesNothing}
-use Rattle.batch_verify.proofs.Pairs.{ShowPairs, apart, pairs_shown}
+use Rattle.batch_verify.proofs.Pairs.{ShowPairs, pairs_shown}
 use Rattle.batch_check.specs.Edges.{Follows, Joins, number_of_resource, numbers_of_resources}
 use Rattle.batch_check.specs.Pairs.{ArePaired}
-use Rattle.batch_check.specs.Takings.{IsShownBy, bound_by, reserve_units, reserves}
+use Rattle.batch_check.specs.Takings.{Taking, alike, apart, bound_by}
 use Rattle.batch_check.specs.declared.edge.Edge.{Edge}
-use Rattle.batch_check.specs.declared.taking.Taking.{Taking}
-use Rattle.batch_check.specs.declared.taking.Taking.TheVariants.{Alike, Apart}
 use Rattle.batch_check.proofs.Rising.{Each-get}
 
 -- what holds at each number holds of all
 pub each_at : {X : Type 0} (P : X → Type 0) (xs : List X) → ((i : ℕ) (x : X) → slice_get xs i ≡ Some x → P x) → Each P xs
 each_at P [] f = tt
 each_at P (x ∷ xs) f = (f 0 x refl, each_at P xs (λ i y is. f (suc i) y is))
-
--- Where nothing is reserved
-
-empty-list : {X : Type 0} (xs : List X) → ltb 0 (length xs) ≡ false → xs ≡ []
-empty-list [] e = refl
-empty-list (x ∷ xs) e = absurd (grind arith)
-
-none-any : (table : List Act) (a : Act) → list_any reserves table ≡ false → Has table a → reserves a ≡ false
-none-any [] a e h = absurd h
-none-any (x ∷ table) a e h = go (reserves x) refl e h (λ f k. none-any table a f k)
-  where
-    go : (t : Bool) → reserves x ≡ t → (t || list_any reserves table) ≡ false → (x ≡ a) ⊎ Has table a → (list_any reserves table ≡ false → Has table a → reserves a ≡ false) → reserves a ≡ false
-    go true q f k more = let bad : true ≡ false = f in absurd cc
-    go false q f (inl same) more = subst (λ (z : Act). reserves z ≡ false) same q
-    go false q f (inr k) more = more f k
-
-four : (p q r s : Bool) → (p || q || r || s) ≡ false → (p ≡ false) × (q ≡ false) × (r ≡ false) × (s ≡ false)
-four p q r s e = grind arith
-
-nothing-reserved : (r : document.Recipe) → reserve_units r.acts ≡ false → ReservesNothing r
-nothing-reserved r e k a is = go k is
-  where
-    all : (reserves r.acts.procedure ≡ false) × (list_any reserves r.acts.unit_procedures.items ≡ false) × (list_any reserves r.acts.operations.items ≡ false) × (list_any reserves r.acts.phases.items ≡ false)
-    all = four (reserves r.acts.procedure) (list_any reserves r.acts.unit_procedures.items) (list_any reserves r.acts.operations.items) (list_any reserves r.acts.phases.items) e
-
-    in_table : (table : List Act) → list_any reserves table ≡ false → (n : ℕ) → slice_get table n ≡ Some a → a.reserves.items ≡ []
-    in_table table none n at = empty-list a.reserves.items (none-any table a none (has_at table n a at))
-
-    go : (k : Kind) → act_of r.acts k ≡ Some a → a.reserves.items ≡ []
-    go kind.Procedure at = let same : r.acts.procedure ≡ a = cc in subst (λ (z : Act). z.reserves.items ≡ []) same (empty-list r.acts.procedure.reserves.items all.0)
-    go (kind.Act UnitProcedures n) at = in_table r.acts.unit_procedures.items all.1 n at
-    go (kind.Act Operations n) at = in_table r.acts.operations.items all.2 n at
-    go (kind.Act Phases n) at = in_table r.acts.phases.items all.3 n at
-    go _ at = let bad : None ≡ Some a = at in absurd cc
 
 -- Needs that follow one another, by their places
 
@@ -86,30 +44,36 @@ module _ (edges : List Edge) where
   pub follows_from : (xs : List (Option ℕ)) → ((i : ℕ) (x y : Option ℕ) → slice_get xs i ≡ Some x → slice_get xs (suc i) ≡ Some y → Joins edges x y) → Follows edges None xs
   follows_from xs h = follows_after None xs (λ y e. tt) h
 
-module _ (c : equipment.Cell) (r : document.Recipe) (takings : List Taking) (shown : IsShownBy c r takings) where
+module _ (c : equipment.Cell) (r : document.Recipe) where
   abbrev roles : List Role
   roles = r.roles.items
 
+  -- each role is taken by a candidate with a number
+  abbrev IsBounded : Taking → Type 0
+  IsBounded t = (name : Name) → t name < binding_count c roles
+
   -- the bindings that were looked at
   abbrev Looked : Binding → Type 0
-  Looked b = (t : Taking) × Has takings t × (b ≡ bound_by c roles t)
+  Looked b = (t : Taking) × IsBounded t × (b ≡ bound_by c roles t)
+
+  apart_bounded : (role : Name) (own other : ℕ) → own < binding_count c roles → other < binding_count c roles → IsBounded (apart role own other)
+  apart_bounded role own other own_lt other_lt name = go (same_name name role)
+    where
+      go : (b : Bool) → (let n : ℕ = elim b [ true ↦ own | false ↦ other ] in n) < binding_count c roles
+      go true = own_lt
+      go false = other_lt
 
   shows : ShowPairs c r Looked
   shows = record {
-    by_number = λ number lt. (Alike number, shown.alike number lt, refl);
-    by_two =
-        ⊎_elim (λ none. inl (nothing-reserved r none))
-        (λ two. inr (λ role m own other own_lt other_lt.
-        let w = two role m own other own_lt other_lt in
-        (Apart w.0 own other, w.1, ap (λ (name : Name). apart c roles name own other) (sym w.2))))
-        shown.apart;
+    by_number = λ number lt. (alike number, (λ name. lt), refl);
+    by_two = inr (λ role m own other own_lt other_lt. (apart role.name own other, apart_bounded role.name own other own_lt other_lt, refl));
   }
 
   module _ (all : List document.Recipe) (bound : Binding) (tried : IsTried (setup_of c all) (master_of c r) bound) where
     -- a node whose path has the same numbers at two places
     record IsSeen (node : Node) (one other : ℕ) : Type 0 where
       taking : Taking
-      has : Has takings taking
+      bounded : IsBounded taking
       number : ℕ
       at : Node
       found : slice_get (bound_nodes (bound_by c roles taking) r.acts) number ≡ Some at
@@ -124,7 +88,7 @@ module _ (c : equipment.Cell) (r : document.Recipe) (takings : List Taking) (sho
         let by = pairs_shown c all r r.own_roles Looked shows bound tried k node is one other in
         record {
           taking = by.looked.0;
-          has = by.looked.1;
+          bounded = by.looked.1;
           number = k;
           at = by.at;
           found = subst (λ (b : Binding). slice_get (bound_nodes b r.acts) k ≡ Some by.at) by.looked.2 by.found;
@@ -132,7 +96,7 @@ module _ (c : equipment.Cell) (r : document.Recipe) (takings : List Taking) (sho
           second = same_numbers node.asked by.at.asked other by.second;
         }
 
-    pub follows_shown : (edges : List Edge) → ((t : Taking) → Has takings t → Each (λ n. Follows edges None (numbers_of_resources c n.asked)) (bound_nodes (bound_by c roles t) r.acts))
+    pub follows_shown : (edges : List Edge) → ((t : Taking) → IsBounded t → Each (λ n. Follows edges None (numbers_of_resources c n.asked)) (bound_nodes (bound_by c roles t) r.acts))
         → Each (λ n. Follows edges None (numbers_of_resources c n.asked)) (bound_nodes bound r.acts)
     follows_shown edges h =
         each_at (λ (n : Node). Follows edges None (numbers_of_resources c n.asked)) (bound_nodes bound r.acts)
@@ -140,14 +104,14 @@ module _ (c : equipment.Cell) (r : document.Recipe) (takings : List Taking) (sho
         (λ i x y e f.
         let by = seen k node is i (suc i) in
         follows_at edges None (numbers_of_resources c by.at.asked) i x y
-        (Each-get (λ (n : Node). Follows edges None (numbers_of_resources c n.asked)) (bound_nodes (bound_by c roles by.taking) r.acts) by.number by.at (h by.taking by.has) by.found)
+        (Each-get (λ (n : Node). Follows edges None (numbers_of_resources c n.asked)) (bound_nodes (bound_by c roles by.taking) r.acts) by.number by.at (h by.taking by.bounded) by.found)
         (sym by.first ∙ e) (sym by.second ∙ f)))
 
-    pub paired_shown : (edges : List Edge) → ((t : Taking) → Has takings t → Each (λ n. ArePaired edges (numbers_of_resources c n.asked)) (bound_nodes (bound_by c roles t) r.acts))
+    pub paired_shown : (edges : List Edge) → ((t : Taking) → IsBounded t → Each (λ n. ArePaired edges (numbers_of_resources c n.asked)) (bound_nodes (bound_by c roles t) r.acts))
         → Each (λ n. ArePaired edges (numbers_of_resources c n.asked)) (bound_nodes bound r.acts)
     paired_shown edges h =
         each_at (λ (n : Node). ArePaired edges (numbers_of_resources c n.asked)) (bound_nodes bound r.acts)
         (λ k node is before place i j ordered e f.
         let by = seen k node is before place in
-        Each-get (λ (n : Node). ArePaired edges (numbers_of_resources c n.asked)) (bound_nodes (bound_by c roles by.taking) r.acts) by.number by.at (h by.taking by.has) by.found
+        Each-get (λ (n : Node). ArePaired edges (numbers_of_resources c n.asked)) (bound_nodes (bound_by c roles by.taking) r.acts) by.number by.at (h by.taking by.bounded) by.found
         before place i j ordered (sym by.first ∙ e) (sym by.second ∙ f))

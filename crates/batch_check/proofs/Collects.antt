@@ -27,7 +27,7 @@ use Rattle.batch_check.specs.declared.path.Path.{Path}
 use Rattle.batch_check.specs.declared.path.Reach.{Reach}
 use Rattle.batch_check.specs.declared.path.Reach.TheVariants.{Next, Whole}
 use Rattle.batch_check.specs.declared.site.Site.{Site}
-use Rattle.batch_check.specs.declared.taking.Taking.{Taking}
+use Rattle.batch_check.specs.Takings.{Taking}
 use Rattle.batch_check.specs.Edges.{Covers, Follows, number_of_resource, numbers_of_resources}
 use Rattle.batch_check.specs.Joining.{needs_in}
 use Rattle.batch_check.specs.Pairs.{ArePaired, Keeps}

@@ -14,13 +14,12 @@ use Rattle.batch_verify.proofs.Finding.{found_is_among}
 use Rattle.batch_verify.proofs.Taking.{nobody_unknown}
 use Rattle.batch_check.specs.declared.edge.Edge.{Edge}
 use Rattle.batch_check.specs.declared.site.Site.{Site}
-use Rattle.batch_check.specs.declared.taking.Taking.{Taking}
 use Rattle.batch_check.specs.Collecting.{AreTakenIn}
 use Rattle.batch_check.specs.Edges.{Follows, Joins, has_pair, number_of_resource}
 use Rattle.batch_check.specs.Joining.{AreBelow}
 use Rattle.batch_check.specs.Pairs.{ArePaired}
 use Rattle.batch_check.specs.Sites.{StandsForUnit, bound_on, resource_count, resource_on, units_on}
-use Rattle.batch_check.specs.Takings.{number_for, resource_for}
+use Rattle.batch_check.specs.Takings.{Taking, resource_for}
 use Rattle.batch_check.proofs.Joins.{Contains-at}
 use Rattle.batch_check.proofs.Needs.{number_within}
 use Rattle.batch_check.proofs.Rising.{edge_of}
@@ -30,7 +29,7 @@ use Rattle.batch_check.proofs.Rising.{edge_of}
 pub resource_for-below : (count : ℕ) (units : List (Option ℕ)) (n : ℕ) → n < count → resource_for count units n ≡ Some n
 resource_for-below count units n below = rw (lt-ltb n count below, resource_for) refl
 
-resource_for-past : (count : ℕ) (units : List (Option ℕ)) (n : ℕ) → count ≤ n → resource_for count units n ≡ get_or units (n - count) None
+pub resource_for-past : (count : ℕ) (units : List (Option ℕ)) (n : ℕ) → count ≤ n → resource_for count units n ≡ get_or units (n - count) None
 resource_for-past count units n past = rw (le-ltb n count past, resource_for) refl
 
 pub resource_for-within : (count : ℕ) (units : List (Option ℕ)) (n k : ℕ) → AreBelow count units → resource_for count units n ≡ Some k → k < count
@@ -87,8 +86,8 @@ module _ (site : Site) where
           → option_and_then (resource_on site t) (option_map (λ n. resource_count site + n) o) ≡ number_of_resource site.cell.now (bound_on site t name)
       taken t None at =
           let nowhere : find (is_named name) roles ≡ None = no_role (is_named name) roles (sym (found_is_among (is_named name) roles) ∙ ap (λ (o : Option ℕ). is_some o) at) in
-          let untaken : taking site.cell.now roles (number_for t name) name ≡ None =
-          ap (λ (o : Option Role). let r : Option Name = elim o [ None ↦ None | Some role ↦ candidate_of (units_of_class site.cell.now role.class) (number_for t name) ] in r) nowhere in
+          let untaken : taking site.cell.now roles (t name) name ≡ None =
+          ap (λ (o : Option Role). let r : Option Name = elim o [ None ↦ None | Some role ↦ candidate_of (units_of_class site.cell.now role.class) (t name) ] in r) nowhere in
           let nobody_there : bound_on site t name ≡ nobody (resources_of site.cell.now) =
           ap (λ (o : Option Name). let r : Name = elim o [ None ↦ nobody (resources_of site.cell.now) | Some unit ↦ unit ] in r) untaken in
           sym (ap (number_of_resource site.cell.now) nobody_there ∙ nobody_unknown (resources_of site.cell.now))

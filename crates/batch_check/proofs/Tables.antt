@@ -18,7 +18,7 @@ use Rattle.batch_recipe.specs.declared.need.Need.{Need}
 use Rattle.batch_recipe.proofs.Slices.{slice_get-split}
 use Rattle.batch_check.specs.declared.act_needs.ActNeeds.{ActNeeds}
 use Rattle.batch_check.specs.declared.site.Site.{Site}
-use Rattle.batch_check.specs.declared.taking.Taking.{Taking}
+use Rattle.batch_check.specs.Takings.{Taking}
 use Rattle.batch_check.specs.Edges.{number_of_resource, numbers_of_resources}
 use Rattle.batch_check.specs.Joining.{AreBelow}
 use Rattle.batch_check.specs.Sites.{AreNeedsOn, IsTableOf, StandFor, StandsForUnit, bound_on, count_with_roles, needs_at, needs_of, own_at, own_or_none, resource_on, resources_on, sites_on, table_in}

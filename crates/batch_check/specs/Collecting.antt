@@ -1,5 +1,6 @@
 -- private: what is kept while the edges of recipes are collected.
-use Rattle.std.specs.Prelude.{◌≡◌, ℕ, ◌<◌, ◌≤◌, List, [], ◌∷◌, ◌++◌, length, slice_get, Option, Some, None, ◌⊎◌, Bool, true, false, IsTrue, option_map, slice_set}
+use Rattle.std.specs.Prelude.{◌≡◌, ℕ, ◌<◌, ◌≤◌, List, [], ◌∷◌, ◌++◌, length, slice_get, Vec, Option, Some, None, ◌⊎◌, Bool, true, false, ◌&&◌, ◌||◌, not, ltb, nat_eq, IsTrue, option_map, slice_set}
+use Rattle.std.specs.Global.{Global}
 use Rattle.std.specs.List.{Contains, slice_index_or}
 use Rattle.batch_cell.specs.declared.cell.Cell.{Cell}
 use Rattle.batch_recipe.specs.Nodes.{Node}
@@ -17,9 +18,8 @@ use Rattle.batch_check.specs.Edges.{AsksByNumber, CoversRecipes, OfNodes, Stands
 use Rattle.batch_check.specs.Joining.{AreBelow, Grows, items_in, needs_in}
 use Rattle.batch_check.specs.Pairs.{ArePaired, Keeps}
 use Rattle.batch_check.specs.Sites.{nodes_on, resource_count, resource_on, units_on}
-use Rattle.batch_check.specs.Takings.{resource_for}
+use Rattle.batch_check.specs.Takings.{Taking, resource_for}
 use Rattle.batch_check.specs.declared.site.Site.{Site}
-use Rattle.batch_check.specs.declared.taking.Taking.{Taking}
 
 -- The needs that a path keeps
 
@@ -130,10 +130,42 @@ pub record HasTakenBy (units : List (Option ℕ)) (edges : List Edge) (old new :
   pub taken : AreTakenIn old.count units edges new.edges.items
   pub only : (edge : Edge) → Contains new.edges.items edge → Contains old.edges.items edge ⊎ ((from : Edge) × Contains edges from × IsTakenAs old.count units from edge)
 
--- the edges that lead to or from a role: the others lead from resources to resources
-pub record AreOfRoles (count : ℕ) (edges of_roles : List Edge) : Type 0 where
-  pub among : (edge : Edge) → Contains of_roles edge → Contains edges edge
-  pub rest : (edge : Edge) → Contains edges edge → Contains of_roles edge ⊎ ((edge.earlier < count) × (edge.later < count))
+-- those of the edges that pass the test
+pub record AreThose (passes : Edge → Bool) (edges those : List Edge) : Type 0 where
+  pub among : (edge : Edge) → Contains those edge → Contains edges edge
+  pub rest : (edge : Edge) → Contains edges edge → Contains those edge ⊎ (passes edge ≡ false)
+
+-- the edge leads to or from a role: numbers below count are those of resources
+abbrev pub is_of_role : ℕ → Edge → Bool
+is_of_role count edge = not (ltb edge.earlier count && ltb edge.later count)
+
+-- it joins the role with this number and one behind it
+abbrev pub is_behind : ℕ → Edge → Bool
+is_behind role edge = (nat_eq edge.earlier role && ltb role edge.later) || (nat_eq edge.later role && ltb role edge.earlier)
+
+-- the units of `others`, but of the role at this place that of `own`
+abbrev pub raised : ℕ → List (Option ℕ) → List (Option ℕ) → List (Option ℕ)
+raised place own others = slice_set others place (slice_index_or own place None)
+
+-- each of these has a unit for the role at this place, and all its units are resources below count
+abbrev pub AreUnitsWithin : ℕ → ℕ → List (Vec (Option ℕ) Global) → Type 0
+AreUnitsWithin place count units = (taken : Vec (Option ℕ) Global) → Contains units taken → (place < length taken.items) × AreBelow count taken.items
+
+-- the edge is one of these as it is where one of the first units takes the role at this place, and some of the second the other roles
+pub record IsRaised (place count : ℕ) (owns others : List (Vec (Option ℕ) Global)) (edges : List Edge) (edge : Edge) : Type 0 where
+  pub own : Vec (Option ℕ) Global
+  pub other : Vec (Option ℕ) Global
+  pub among_owns : Contains owns own
+  pub among_others : Contains others other
+  pub from : Edge
+  pub stands : Contains edges from
+  pub is : IsTakenAs count (raised place own.items other.items) from edge
+
+-- they were added so, for each of the first units and each of the second
+pub record HasRaised (place : ℕ) (owns others : List (Vec (Option ℕ) Global)) (edges : List Edge) (old new : EdgeSet) : Type 0 where
+  pub grown : Grows old new
+  pub taken : (own other : Vec (Option ℕ) Global) → Contains owns own → Contains others other → AreTakenIn old.count (raised place own.items other.items) edges new.edges.items
+  pub only : (edge : Edge) → Contains new.edges.items edge → Contains old.edges.items edge ⊎ IsRaised place old.count owns others edges edge
 
 -- they are where these candidates take the roles of the site's recipe
 abbrev pub AreTakenOn : Site → Taking → List Edge → List Edge → Type 0

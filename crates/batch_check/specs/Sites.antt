@@ -15,10 +15,9 @@ use Rattle.batch_recipe.specs.declared.acts.LabelTable.TheVariants.{UnitProcedur
 use Rattle.batch_recipe.specs.declared.entry.Kind.{Kind}
 use Rattle.batch_recipe.specs.declared.entry.Kind.TheVariants as kind
 use Rattle.batch_check.specs.Joining.{AreBelow}
-use Rattle.batch_check.specs.Takings.{bound_by, resource_for, units_by}
+use Rattle.batch_check.specs.Takings.{Taking, bound_by, resource_for, units_by}
 use Rattle.batch_check.specs.declared.act_needs.ActNeeds.{ActNeeds}
 use Rattle.batch_check.specs.declared.site.Site.{Site}
-use Rattle.batch_check.specs.declared.taking.Taking.{Taking}
 use Rattle.batch_check.specs.Edges.{number_of_resource, numbers_of_resources}
 
 -- Where these candidates take the roles

@@ -1,42 +1,59 @@
 //! Edges between resources and roles, where units take the roles.
-ghost use Rattle.std.specs.Prelude.{◌≡◌, ◌&&◌, ltb, IfOk, OnOk};
-ghost use Rattle.batch_check.specs.Collecting.{AreOfRoles, HasTakenBy};
+ghost use Rattle.std.specs.Prelude.{◌≡◌, ◌<◌, ◌&&◌, ltb, length, IfOk, OnOk};
+ghost use Rattle.batch_check.specs.Collecting.{AreThose, AreUnitsWithin, HasRaised, HasTakenBy, is_behind, is_of_role, raised};
 ghost use Rattle.batch_check.specs.Edges.{number_of_resource};
 ghost use Rattle.batch_check.specs.Joining.{AreBelow};
-ghost use Rattle.batch_check.specs.Takings.{bound_by, resource_for, units_by};
+ghost use Rattle.batch_check.specs.Takings.{AreUnitsOf, alike, resource_for, units_by};
+ghost use Rattle.batch_verify.specs.Bindings.{binding_count, numbered};
 
 use crate::edge::Edge;
 use crate::edge_set::EdgeSet;
 use crate::joining::join;
-use crate::taking::{Taking, number_for};
 use batch_cell::Cell;
 use batch_recipe::Role;
 use batch_text::Name;
-use batch_verify::unit_taking;
+use batch_verify::{binding_count, unit_taking};
 use std::alloc::{AllocError, Global};
 
-/// The number of the unit that takes the role.
-fn unit_by(cell: &Cell, roles: &[Role], taking: Taking<'_>, role: &Name) -> Option<u16>
-    ensures { result ≡ number_of_resource cell.now (bound_by cell.now roles.now taking.entry role.now) }
+/// The number of the unit that takes the role: its candidate with this number.
+fn unit_by(cell: &Cell, roles: &[Role], number: u16, role: &Name) -> Option<u16>
+    ensures { result ≡ number_of_resource cell.now (numbered cell.now roles.now number role.now) }
 {
-    match unit_taking(cell, roles, number_for(taking, role), role) {
+    match unit_taking(cell, roles, number, role) {
         None => None,
         Some(unit) => cell.resource_of(unit),
     }
 }
 
-/// Of each role the number of the unit that takes it.
+/// Of each role the number of the unit that takes it: its candidate with this number.
 pub(crate) fn units_by(
     alloc: Global,
     cell: &Cell,
     roles: &[Role],
-    taking: Taking<'_>,
+    number: u16,
 ) -> Result<Vec<Option<u16>>, AllocError>
-    ensures { IfOk result (λ units. units.items ≡ units_by cell.now roles.now taking.entry) }
+    ensures { IfOk result (λ units. units.items ≡ units_by cell.now roles.now (alike number)) }
 {
     let mut units = Vec::with_capacity(alloc, roles.len())?;
     for role in roles {
-        units.push(unit_by(cell, roles, taking, &role.name))?;
+        units.push(unit_by(cell, roles, number, &role.name))?;
+    }
+    Ok(units)
+}
+
+/// The same for each number of a candidate.
+pub(crate) fn units_of_each(
+    alloc: Global,
+    cell: &Cell,
+    roles: &[Role],
+) -> Result<Vec<Vec<Option<u16>>>, AllocError>
+    ensures { IfOk result (λ units. AreUnitsOf cell.now roles.now (binding_count cell.now roles.now) units.items) }
+{
+    let count = binding_count(cell, roles);
+    let mut units = Vec::with_capacity(alloc, usize::from(count))?;
+    for number in 0..count {
+        let taken = units_by(alloc, cell, roles, number)?;
+        units.push(taken)?;
     }
     Ok(units)
 }
@@ -71,13 +88,50 @@ pub(crate) fn add_taken(
     Ok(())
 }
 
+/// The units of `others`, but of the role at this place that of `own`.
+fn raised(
+    place: usize,
+    own: &[Option<u16>],
+    others: &Vec<Option<u16>>,
+) -> Result<Vec<Option<u16>>, AllocError>
+    requires own { place < length own.now }
+    requires others { place < length others.now.items }
+    ensures { IfOk result (λ taken. taken.items ≡ raised place own.now others.now.items) }
+{
+    let mut taken = others.clone()?;
+    taken[place] = own[place];
+    Ok(taken)
+}
+
+/// Adds these edges as they are where one candidate takes the role at this place, and one each other role: for each two of them.
+pub(crate) fn add_raised(
+    place: usize,
+    units: &[Vec<Option<u16>>],
+    edges: &[Edge],
+    set: &mut EdgeSet,
+) -> Result<(), AllocError>
+    requires { AreUnitsWithin place set.old.count units.now }
+    ensures { OnOk result (HasRaised place units.now units.now edges.now set.old set.new) }
+{
+    if edges.is_empty() {
+        return Ok(());
+    }
+    for own in units {
+        for other in units {
+            let taken = raised(place, own, other)?;
+            add_taken(edges, &taken, set)?;
+        }
+    }
+    Ok(())
+}
+
 /// Those of the edges that lead to or from a role. The numbers of resources are below this count.
 pub(crate) fn edges_of_roles(
     alloc: Global,
     count: u16,
     edges: &[Edge],
 ) -> Result<Vec<Edge>, AllocError>
-    ensures { IfOk result (λ of_roles. AreOfRoles count edges.now of_roles.items) }
+    ensures { IfOk result (λ of_roles. AreThose (is_of_role count) edges.now of_roles.items) }
 {
     let mut of_roles = Vec::new(alloc);
     for edge in edges {
@@ -93,4 +147,28 @@ fn is_between(edge: Edge, count: u16) -> bool
     ensures { result ≡ (ltb edge.earlier count && ltb edge.later count) }
 {
     edge.earlier < count && edge.later < count
+}
+
+/// Those of the edges that join the role with this number and one behind it.
+pub(crate) fn edges_behind(
+    alloc: Global,
+    role: u16,
+    edges: &[Edge],
+) -> Result<Vec<Edge>, AllocError>
+    ensures { IfOk result (λ behind. AreThose (is_behind role) edges.now behind.items) }
+{
+    let mut behind = Vec::new(alloc);
+    for edge in edges {
+        if is_behind(role, *edge) {
+            behind.push(*edge)?;
+        }
+    }
+    Ok(behind)
+}
+
+/// Whether the edge joins this role and one behind it.
+fn is_behind(role: u16, edge: Edge) -> bool
+    ensures { result ≡ is_behind role edge }
+{
+    (edge.earlier == role && role < edge.later) || (edge.later == role && role < edge.earlier)
 }

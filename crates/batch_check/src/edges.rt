@@ -2,19 +2,19 @@
 ghost use Rattle.std.specs.Prelude.{◌≡◌, ◌≤◌, List, Some, length, slice_get, IfOk, OnOk};
 ghost use Rattle.batch_cell.specs.LookUps.{resources_of};
 ghost use Rattle.batch_recipe.specs.declared.recipe.Recipe.{Recipe};
-ghost use Rattle.batch_check.specs.Collecting.{AreAdded, HasAllPairs, HasTakenBy, IsAdded, kept_at_top};
+ghost use Rattle.batch_check.specs.Collecting.{AreAdded, HasAllPairs, IsAdded, kept_at_top};
 ghost use Rattle.batch_check.specs.Edges.{AreEdgesOf};
 ghost use Rattle.batch_check.specs.LeastRanking.{HasEndsBelow};
-ghost use Rattle.batch_check.specs.Sites.{resource_count, units_on};
 ghost use Rattle.batch_model.specs.declared.limits.TheConstants.{MAX_RECIPES};
 
-use crate::binding::{add_taken, edges_of_roles, units_by};
+use crate::binding::{
+    add_raised, add_taken, edges_behind, edges_of_roles, units_by, units_of_each,
+};
 use crate::collecting::collect;
 use crate::edge::Edge;
 use crate::edge_set::EdgeSet;
 use crate::path::Reach;
 use crate::site::Site;
-use crate::taking::{Taking, takings};
 use batch_cell::Cell;
 use batch_recipe::Recipe;
 use std::alloc::{AllocError, Global};
@@ -70,7 +70,8 @@ fn add_all(
     Ok(())
 }
 
-/// Adds the edges of the recipe with this number, binding by binding. Only those of roles differ from one to the next.
+/// Adds the edges of the recipe with this number, whatever units take its roles. Edges of roles are added again for each candidate, and
+/// of these the ones between two roles for each two candidates.
 fn add_edges(
     alloc: Global,
     cell: &Cell,
@@ -85,26 +86,17 @@ fn add_edges(
 {
     let site = Site { cell, recipe };
     let collected = collect(alloc, &site, number, reach)?;
-    add_binding(alloc, &site, Taking::Alike(0), &collected.edges, edges)?;
+    let first = units_by(alloc, cell, &recipe.roles, 0)?;
+    add_taken(&collected.edges, &first, edges)?;
     let of_roles = edges_of_roles(alloc, cell.resources(), &collected.edges)?;
-    let takings = takings(alloc, cell, recipe)?;
-    for taking in &takings {
-        add_binding(alloc, &site, *taking, &of_roles, edges)?;
+    let units = units_of_each(alloc, cell, &recipe.roles)?;
+    for taken in &units {
+        add_taken(&of_roles, taken, edges)?;
+    }
+    for role in cell.resources()..site.count_with_roles() {
+        let behind = edges_behind(alloc, role, &of_roles)?;
+        let place = usize::from(role - site.cell.resources());
+        add_raised(place, &units, &behind, edges)?;
     }
     Ok(())
-}
-
-/// Adds these edges as they are where the candidates take the roles.
-fn add_binding(
-    alloc: Global,
-    site: &Site,
-    taking: Taking<'_>,
-    collected: &[Edge],
-    edges: &mut EdgeSet,
-) -> Result<(), AllocError>
-    requires { edges.old.count ≡ resource_count site.now }
-    ensures { OnOk result (HasTakenBy (units_on site.now taking.entry) collected.now edges.old edges.new) }
-{
-    let units = units_by(alloc, site.cell, &site.recipe.roles, taking)?;
-    add_taken(collected, &units, edges)
 }

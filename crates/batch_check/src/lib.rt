@@ -22,7 +22,6 @@ mod ranking;
 mod shortest;
 mod site;
 mod spreading;
-mod taking;
 mod turning;
 
 pub use checking::check;

@@ -1,5 +1,10 @@
+use Rattle.std.proofs.Common.{length}
+use Rattle.batch_check.specs.Sites.{resource_count}
 use Rattle.batch_check.proofs.Recipes.{KeepsBindings}
 use Rattle.batch_check.proofs.edges.add_edges.Given as goal
 
-abbrev pub invariant-loop-taking : goal.invariant-loop-taking
-invariant-loop-taking l = KeepsBindings l.site l.number l.collected.edges.items l.taking-items l.fn.edges l.edges l.taking-index
+abbrev pub invariant-loop-taken : goal.invariant-loop-taken
+invariant-loop-taken l = KeepsBindings l.site l.number l.collected.edges.items l.of_roles.items l.taken-index (resource_count l.site) l.fn.edges l.edges
+
+abbrev pub invariant-loop-role : goal.invariant-loop-role
+invariant-loop-role l = KeepsBindings l.site l.number l.collected.edges.items l.of_roles.items (length l.units.items) l.role l.fn.edges l.edges
