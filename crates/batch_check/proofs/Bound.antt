@@ -1,5 +1,5 @@
 -- What holds of each two needs of a path in the bindings by which edges are collected holds in every binding that is tried.
-use Rattle.std.proofs.Common.{◌≡◌, ℕ, zero, suc, ◌<◌, Bool, true, false, List, [], ◌∷◌, Option, Some, None, option_map, slice_get, refl, sym, ap, ◌∙◌, subst, inr}
+use Rattle.std.proofs.Common.{◌≡◌, ℕ, zero, suc, ◌<◌, Bool, true, false, List, [], ◌∷◌, Option, Some, None, option_map, slice_get, refl, sym, ap, ◌∙◌, subst}
 use Rattle.std.proofs.lemmas.Option.{slice_get-map}
 use Rattle.batch_cell.specs.declared.cell.Cell as equipment
 use Rattle.batch_recipe.specs.Conditions.{Name, same_name}
@@ -66,7 +66,7 @@ module _ (c : equipment.Cell) (r : document.Recipe) where
   shows : ShowPairs c r Looked
   shows = record {
     by_number = λ number lt. (alike number, (λ name. lt), refl);
-    by_two = inr (λ role m own other own_lt other_lt. (apart role.name own other, apart_bounded role.name own other own_lt other_lt, refl));
+    by_two = λ role m own other own_lt other_lt. (apart role.name own other, apart_bounded role.name own other own_lt other_lt, refl);
   }
 
   module _ (all : List document.Recipe) (bound : Binding) (tried : IsTried (setup_of c all) (master_of c r) bound) where

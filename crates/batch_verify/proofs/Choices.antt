@@ -126,91 +126,7 @@ has_at [] k x e = absurd cc
 has_at (y ∷ xs) zero x e = inl cc
 has_at (y ∷ xs) (suc k) x e = inr (has_at xs k x e)
 
--- Where nothing is reserved, one role at most is asked for on a path: that of its unit procedure
-
--- no role is asked for
-abbrev pub IsUnit : UnitChoice → Type 0
-IsUnit (Unit unit) = ⊤
-IsUnit (Role role) = ⊥
-
-abbrev pub NoRoles : List Ask → Type 0
-NoRoles asks = Each (λ ask. IsUnit ask.choice) asks
-
--- or this one alone
-abbrev pub IsUnitOr : Name → UnitChoice → Type 0
-IsUnitOr role (Unit unit) = ⊤
-IsUnitOr role (Role own) = own ≡ role
-
-abbrev pub OneRole : List Ask → Type 0
-OneRole asks = (role : Name) × Each (λ ask. IsUnitOr role ask.choice) asks
-
--- above the unit procedures there is none
-abbrev pub FewRoles : Level → List Ask → Type 0
-FewRoles is_procedure asks = NoRoles asks
-FewRoles in_procedure asks = NoRoles asks
-FewRoles in_unit_procedure asks = OneRole asks
-FewRoles in_operation asks = OneRole asks
-
-unit-or : (role : Name) (choice : UnitChoice) → IsUnit choice → IsUnitOr role choice
-unit-or role (Unit unit) h = tt
-unit-or role (Role own) h = absurd h
-
-units-or : (role : Name) (asks : List Ask) → NoRoles asks → Each (λ (ask : Ask). IsUnitOr role ask.choice) asks
-units-or role asks h = Each-map (λ (ask : Ask). IsUnit ask.choice) (λ ask. IsUnitOr role ask.choice) (λ ask k. unit-or role ask.choice k) asks h
-
-needs-bare : (needs : List Need) → NoRoles (map of_need needs)
-needs-bare [] = tt
-needs-bare (need ∷ needs) = (tt, needs-bare needs)
-
-later-bare : (acts : Acts) (names : List Name) (needs : List Need) → names ≡ [] → NoRoles (later_asks acts names needs)
-later-bare acts names needs e = subst (λ ns. NoRoles (later_asks acts ns needs)) (sym e) (needs-bare needs)
-
-own-bare : (o : Option UnitChoice) → elim o [ None ↦ false | Some choice ↦ true ] ≡ false → NoRoles (own_asks o)
-own-bare None e = tt
-own-bare (Some choice) e = let bad : true ≡ false = e in absurd cc
-
-own-one : (o : Option UnitChoice) → OneRole (own_asks o)
-own-one None = ([], tt)
-own-one (Some (Unit unit)) = ([], (tt, tt))
-own-one (Some (Role role)) = (role, (refl, tt))
-
-no-unit : (l : Level) (a : Act) → is_of_level l a ≡ true → l ≢ in_procedure → has_unit a ≡ false
-no-unit is_procedure a h d = not-true (has_unit a) (and_parts (not (has_unit a)) (has_chart a) h).0
-no-unit in_procedure a h d = absurd (d refl)
-no-unit in_unit_procedure a h d = not-true (has_unit a) (and_parts (not (has_unit a)) (has_chart a) h).0
-no-unit in_operation a h d = not-true (has_unit a) (and_parts (not (has_unit a)) (not (has_chart a)) h).0
-
-all-bare : (acts : Acts) (a : Act) → has_unit a ≡ false → a.reserves.items ≡ [] → NoRoles (asks_in acts a)
-all-bare acts a e none =
-    Each-append (λ (ask : Ask). IsUnit ask.choice) (own_asks a.unit) (later_asks acts a.reserves.items a.needs.items) (own-bare a.unit e) (later-bare acts a.reserves.items a.needs.items none)
-
--- an act below asks that are few
-act-few : (acts : Acts) (l : Level) (above : List Ask) (a : Act) → is_of_level l a ≡ true → a.reserves.items ≡ [] → FewRoles l above → FewRoles (below l) (above ++ asks_in acts a)
-act-few acts is_procedure above a kind none h =
-    Each-append (λ (ask : Ask). IsUnit ask.choice) above (asks_in acts a) h (all-bare acts a (no-unit is_procedure a kind (λ e. let bad : is_procedure ≡ in_procedure = e in cc)) none)
-act-few acts in_procedure above a kind none h =
-    let own = own-one a.unit in (
-      own.0,
-      Each-append (λ (ask : Ask). IsUnitOr own.0 ask.choice) above (asks_in acts a) (units-or own.0 above h)
-          (Each-append (λ (ask : Ask). IsUnitOr own.0 ask.choice) (own_asks a.unit) (later_asks acts a.reserves.items a.needs.items) own.1
-          (units-or own.0 (later_asks acts a.reserves.items a.needs.items) (later-bare acts a.reserves.items a.needs.items none))),
-    )
-act-few acts in_unit_procedure above a kind none h = (
-  h.0,
-  Each-append (λ (ask : Ask). IsUnitOr h.0 ask.choice) above (asks_in acts a) h.1
-      (units-or h.0 (asks_in acts a) (all-bare acts a (no-unit in_unit_procedure a kind (λ e. let bad : in_unit_procedure ≡ in_procedure = e in cc)) none)),
-)
-act-few acts in_operation above a kind none h = (
-  h.0,
-  Each-append (λ (ask : Ask). IsUnitOr h.0 ask.choice) above (asks_in acts a) h.1
-      (units-or h.0 (asks_in acts a) (all-bare acts a (no-unit in_operation a kind (λ e. let bad : in_operation ≡ in_procedure = e in cc)) none)),
-)
-
 module _ (r : Recipe) where
-  -- no act reserves anything
-  abbrev pub ReservesNothing : Type 0
-  ReservesNothing = (k : Kind) (a : Act) → act_of r.acts k ≡ Some a → a.reserves.items ≡ []
-
   -- a role that is chosen is declared, and the tree names it
   abbrev pub IsNamed : UnitChoice → Type 0
   IsNamed choice = (role : Name) → choice ≡ Role role → (names_it r role ≡ true) × (is_among (declared r) role ≡ true)
@@ -364,24 +280,11 @@ module _ (r : Recipe) where
           go None h = ap (λ (v : Spot). v.unit) h.1 ∙ same
           go (Some a) h = h.under_unit ∙ (ap (λ (unit : Name). unit_below unit (unit_with bound a.unit)) same ∙ below_is bound above a.unit)
 
-  -- the asks of the path to a node are few, where those above it are
-  few-here : ReservesNothing → (k : ℕ) (e : Entry) (is : slice_get r.outline.entries.items k ≡ Some e) (above : List Ask) → FewRoles (stands r unbound k e is).own.here.level above
-      → FewRoles (stands r unbound k e is).own.under.level (above ++ asks_at r.acts (act_of r.acts e.kind))
-  few-here nothing k e is above h = go (act_of r.acts e.kind) refl (stands r unbound k e is).on.here
-    where
-      go : (o : Option Act) → act_of r.acts e.kind ≡ o → IsHereOn (sites unbound r.acts) (stands r unbound k e is).own (stands r unbound k e is).x o
-          → FewRoles (stands r unbound k e is).own.under.level (above ++ asks_at r.acts o)
-      go None same w = subst (λ (l : Level). FewRoles l (above ++ [])) (ap (λ (v : Spot). v.level) (sym w.1)) (subst (FewRoles (stands r unbound k e is).own.here.level) (sym (append-nil above)) h)
-      go (Some a) same w =
-          subst (λ (l : Level). FewRoles l (above ++ asks_in r.acts a)) (sym w.under_level)
-          (act-few r.acts (stands r unbound k e is).own.here.level above a w.kind (nothing e.kind a same) h)
-
   -- the path to a node, and the unit below it
   pub record HasChoices (k : ℕ) (e : Entry) (is : slice_get r.outline.entries.items k ≡ Some e) : Type 0 where
     pub asks : List Ask
     pub asks_are_named : AreNamed asks
     pub path : (bound : Binding) → (stands r bound k e is).x.node.asked ≡ names_by bound asks
-    pub few : ReservesNothing → FewRoles (stands r unbound k e is).own.under.level asks
     pub unit : UnitChoice
     pub unit_is_named : IsNamed unit
     pub under : (bound : Binding) → (stands r bound k e is).own.under.unit ≡ unit_chosen bound unit
@@ -398,7 +301,6 @@ module _ (r : Recipe) where
       asks = own_asked;
       asks_are_named = own_asks_are_named k e is;
       path = λ bound. path_at bound (stands r bound k e is).hangs;
-      few = λ nothing. few-here nothing k e is [] (subst (λ (l : Level). FewRoles l []) (sym (top_level (stands r unbound k e is).hangs)) tt);
       unit = unit_at (Unit []) (act_of r.acts e.kind);
       unit_is_named = unit_at_named k e is (Unit []) (unit_named_by []);
       under = λ bound. unit_under k e is bound (Unit []) (stands_on bound (stands r bound k e is).hangs);
@@ -408,11 +310,6 @@ module _ (r : Recipe) where
             → (stands r bound k e is).x.node.asked ≡ names_by bound own_asked
         path_at bound (inl t) = t.asks ∙ names_here k e is bound
         path_at bound (inr b) = absurd (omega (arith, b.earlier, first))
-
-        top_level : IsTop k (stands r unbound k e is).own (stands r unbound k e is).x ⊎ IsBelow (bound_ways unbound r.acts) (bound_nodes unbound r.acts) k e (stands r unbound k e is).own (stands r unbound k e is).x
-            → (stands r unbound k e is).own.here.level ≡ is_procedure
-        top_level (inl t) = ap (λ (v : Spot). v.level) t.stands
-        top_level (inr b) = absurd (omega (arith, b.earlier, first))
 
         stands_on : (bound : Binding) → IsTop k (stands r bound k e is).own (stands r bound k e is).x ⊎ IsBelow (bound_ways bound r.acts) (bound_nodes bound r.acts) k e (stands r bound k e is).own (stands r bound k e is).x
             → (stands r bound k e is).own.here.unit ≡ []
@@ -442,21 +339,12 @@ module _ (r : Recipe) where
           let same : b.way ≡ up.own = way_same b.way up.own (sym b.way_is ∙ up.own_is) in
           ap (λ (v : Spot). v.unit) b.stands ∙ (ap (λ (w : Way). w.under.unit) same ∙ above.under bound)
 
-      node_level : IsTop k (stands r unbound k e is).own (stands r unbound k e is).x ⊎ IsBelow (bound_ways unbound r.acts) (bound_nodes unbound r.acts) k e (stands r unbound k e is).own (stands r unbound k e is).x
-          → (stands r unbound k e is).own.here.level ≡ (stands r unbound e.parent f above_is).own.under.level
-      node_level (inl t) = absurd (omega (arith, t.number, earlier))
-      node_level (inr b) =
-          let up = stands r unbound e.parent f above_is in
-          let same : b.way ≡ up.own = way_same b.way up.own (sym b.way_is ∙ up.own_is) in
-          ap (λ (v : Spot). v.level) b.stands ∙ ap (λ (w : Way). w.under.level) same
-
       below_it : HasChoices k e is
       below_it = record {
         asks = above.asks ++ own_asked;
         asks_are_named = Each-append (λ (ask : Ask). IsNamed ask.choice) above.asks own_asked above.asks_are_named (own_asks_are_named k e is);
         path = λ bound. node_asked bound (stands r bound k e is).hangs;
-        few = λ nothing. few-here nothing k e is above.asks (subst (λ (l : Level). FewRoles l above.asks) (sym (node_level (stands r unbound k e is).hangs)) (above.few nothing));
-        unit = unit_at above.unit (act_of r.acts e.kind);
+          unit = unit_at above.unit (act_of r.acts e.kind);
         unit_is_named = unit_at_named k e is above.unit above.unit_is_named;
         under = λ bound. unit_under k e is bound above.unit (node_unit bound (stands r bound k e is).hangs);
       }
