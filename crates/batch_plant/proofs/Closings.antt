@@ -32,7 +32,7 @@ use Rattle.batch_desk.specs.HubState.{AreFromPorts, HasGrown, HubState, rings}
 use Rattle.batch_desk.specs.Plans.{AreOfPlans, places_free, sizes_made}
 use Rattle.batch_desk.specs.PortState.{PortState, port_rings, sealed}
 use Rattle.batch_desk.specs.declared.plan.PortPlan.{PortPlan}
-use Rattle.batch_plant.specs.Links.{Deed, took, ticked, listed, report_in, reports_made, IsLink}
+use Rattle.batch_plant.specs.Links.{Deed, took, ticked, listed, report_in, report_named, reports_made, IsLink}
 use Rattle.batch_plant.specs.Parts.{AreParts, HaveRings, IsRest, LinkRan}
 use Rattle.batch_plant.specs.Plants.{AreOfConsole, ComesFromDesks, HasEventRings, HasLink, IsReport, event_rings}
 
@@ -55,7 +55,7 @@ abbrev pub IsReportEvent : Events.Event → Type 0
 IsReportEvent (Events.report unit phase word outputs) = Unit {0}
 IsReportEvent _ = ⊥
 
-report_alone : (o : Option Name) (unit : Name) (word : Word) → All IsReportEvent (listed (elim o [ None ↦ None | Some name ↦ Some (Events.report unit name word []) ]))
+report_alone : (o : Option Name) (unit : Name) (word : Word) → All IsReportEvent (listed (report_named unit o word))
 report_alone None unit word = All-nil IsReportEvent
 report_alone (Some name) unit word = All-cons IsReportEvent (Events.report unit name word []) [] tt (All-nil IsReportEvent)
 

@@ -1,10 +1,11 @@
 -- What a link does, one deed after another.
-use Rattle.std.proofs.Common.{◌≡◌, ℕ, ◌<◌, ◌≤◌, ◌+◌, ◌-◌, ◌⊎◌, inl, inr, List, [], ◌∷◌, ◌++◌, length, map, Option, Some, None, refl, sym, ap, ◌∙◌, subst, arith, append_assoc, append-nil}
+use Rattle.std.proofs.Common.{◌≡◌, ℕ, ◌<◌, ◌≤◌, ◌+◌, ◌-◌, ◌⊎◌, inl, inr, List, [], ◌∷◌, ◌++◌, length, map, Option, Some, None, refl, sym, ap, ap₂, ◌∙◌, subst, slice_get, unwrap_or, arith, append_assoc, append-nil}
 use Rattle.std.proofs.lemmas.List.{length-map, map-append}
 use Rattle.std.proofs.lemmas.List.Sums.{sum_by_push}
 use Rattle.batch_matrix.specs.declared.report.Report.{Report}
-use Rattle.batch_cell.specs.LookUps.{units_of}
+use Rattle.batch_cell.specs.LookUps.{units_of, resources_of, phases_of}
 use Rattle.batch_cell.specs.declared.cell.Cell.{Cell}
+use Rattle.batch_recipe.specs.Conditions.{Name}
 use Rattle.batch_model.specs.Events as Events
 use Rattle.batch_engine.specs.Surface.{event_of}
 use Rattle.batch_engine.specs.declared.event.Event.{Event}
@@ -13,7 +14,7 @@ use Rattle.batch_sim.specs.Units.{Ticks}
 use Rattle.batch_sim.specs.declared.order.Order.{Order}
 use Rattle.batch_desk.specs.Consoles.{completes, telling_complete}
 use Rattle.batch_desk.specs.DeskState.{DeskState}
-use Rattle.batch_plant.specs.Links.{report_in, Deed, took, ticked, outs_taken, reports_made, listed, unit_after, Linked, TakeOut, AreDone, Links}
+use Rattle.batch_plant.specs.Links.{report_in, report_named, Deed, took, ticked, outs_taken, reports_made, listed, unit_after, Linked, TakeOut, AreDone, Links}
 use Rattle.batch_plant.specs.LinkSteps.{Counts, KnowsUnits, SendsKept, kept_in, linked}
 use Rattle.batch_plant.specs.declared.answer.Answer.{Answer}
 use Rattle.batch_plant.specs.declared.link.Link.{Link}
@@ -74,6 +75,14 @@ first_known cell left = record { next = rw (length-map cell.units.items (λ unit
 
 pub known_unit : (cell : Cell) (l : Link) (answer : Answer) → l.kept ≡ Some answer → KnowsUnits cell l → answer.unit < length (units_of cell)
 known_unit cell l answer is h = rw is at h.kept
+
+-- Reports by names and by numbers
+
+pub report_numbered : (cell same : Cell) (unit phase : ℕ) (word : Report) (name : Name) (found : Option Name) → same ≡ cell
+    → slice_get (resources_of same) unit ≡ Some name → found ≡ slice_get (phases_of same unit) phase → report_named name found word ≡ report_in cell unit (Some (phase, word))
+report_numbered cell same unit phase word name found is of_unit of_phase =
+    ap₂ (λ (n : Name) (o : Option Name). report_named n o word) (sym (ap (λ (o : Option Name). unwrap_or o []) of_unit)) of_phase
+    ∙ ap (λ (k : Cell). report_in k unit (Some (phase, word))) is
 
 -- Reports that are kept
 

@@ -4,3 +4,6 @@ pub mod Plants
 pub mod Parts
 pub mod Faults
 pub mod UnitsOfCell
+pub mod Drive
+pub mod Written
+pub mod Handling

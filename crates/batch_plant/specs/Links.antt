@@ -3,6 +3,7 @@ use Rattle.std.specs.Prelude.{◌≡◌, ℕ, ◌+◌, ◌≤◌, cond, nat_lt, 
 use Rattle.batch_matrix.specs.declared.report.Report.{Report}
 use Rattle.batch_cell.specs.LookUps.{units_of, resources_of, phases_of}
 use Rattle.batch_cell.specs.declared.cell.Cell.{Cell}
+use Rattle.batch_recipe.specs.Conditions.{Name}
 use Rattle.batch_model.specs.Events as Events
 use Rattle.batch_engine.specs.Surface.{event_of}
 use Rattle.batch_engine.specs.declared.event.Event.{Event}
@@ -14,14 +15,16 @@ use Rattle.batch_sim.specs.declared.order.Order.{Order}
 use Rattle.batch_sim.specs.declared.order.Order.TheVariants as orders
 use Rattle.batch_desk.specs.DeskState.{DeskState}
 
+-- the report of a unit's phase, by their names: none, where the unit doesn't have the phase
+abbrev pub report_named : Name → Option Name → Report → Option Events.Event
+report_named unit None word = None
+report_named unit (Some phase) word = Some (Events.report unit phase word [])
+
 -- the report that the answer of a unit to a tick is: none, where it doesn't answer, or for a phase number that it doesn't have
 abbrev pub report_in : Cell → ℕ → Option (ℕ × Report) → Option Events.Event
 report_in cell unit None = None
 report_in cell unit (Some (phase, word)) =
-    elim (slice_get (phases_of cell unit) phase) [
-      | None ↦ None
-      | Some name ↦ Some (Events.report (unwrap_or (slice_get (resources_of cell) unit) []) name word [])
-    ]
+    report_named (unwrap_or (slice_get (resources_of cell) unit) []) (slice_get (phases_of cell unit) phase) word
 
 -- the order that an out gives: of its unit, its phase, and what the phase is told
 abbrev pub order_in : Out → Option (ℕ × ℕ × Order)

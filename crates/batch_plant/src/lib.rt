@@ -1,13 +1,17 @@
-//! A plant to run: a hub, a console, and a link to the units of the cell, each in another thread.
+//! A plant to run: a hub, a console, and a link to the units of the cell, each in another thread; and driving, by which one thread
+//! runs an engine and its units.
 #![tactic(auto)]
 
 mod answer;
 mod cell_units;
 mod closing;
 mod console_thread;
+mod drive_fault;
+mod driving;
 mod ending;
 mod faults;
 mod flag;
+mod handling;
 mod hub_running;
 mod link;
 mod link_thread;
@@ -25,6 +29,8 @@ mod running;
 mod unit_phases;
 
 pub use cell_units::CellUnits;
+pub use drive_fault::DriveFault;
+pub use driving::drive;
 pub use linking::link_loop;
 pub use plant_end::PlantEnd;
 pub use plant_fault::PlantFault;

@@ -123,7 +123,8 @@ fn send_report(alloc: Global, link: &mut Link, desk: &mut Desk, cell: &CellUnits
     ensures none { (link.new.kept ≡ None) ⊎ (link.new.kept ≡ link.old.kept) }
     ensures sends { SendsKept cell.now link.old desk.old link.new desk.new }
 {
-    match report_event(alloc, cell, answer) {
+    let phase = cell.phase_name(answer.unit, answer.phase);
+    match report_event(alloc, cell.name_of(answer.unit), phase, answer.word) {
         Ok(Some(event)) => send_event(link, desk, event),
         Ok(None) => link.kept = None,
         Err(_) => {}

@@ -2,8 +2,8 @@
 use crate::records::{Told, accept, moves, next_move};
 use crate::script::asked;
 use crate::teller::{Teller, put};
-use batch_drive::drive;
 use batch_engine::{Engine, Line};
+use batch_plant::drive;
 use batch_sim::{Order, Simulator, UnitDriver};
 use std::alloc::Global;
 use std::test::Fail;

@@ -4,8 +4,8 @@ use crate::driven::{start, steady_units};
 use crate::ends::{Failure, Narrow};
 use crate::expected::assert_none;
 use crate::records::engine_of;
-use batch_drive::{DriveFault, drive};
 use batch_engine::Engine;
+use batch_plant::{DriveFault, drive};
 use std::alloc::Global;
 use std::test::Fail;
 

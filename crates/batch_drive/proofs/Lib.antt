@@ -1,3 +1,0 @@
-pub mod Records
-pub mod OrdersGiven
-pub mod Joined
