@@ -10,7 +10,6 @@ use Rattle.batch_serve_desks.specs.Lives.{IsLife}
 use Rattle.batch_serve_desks.specs.Rounds.{AreGathered, IsHandedOver, text_sent}
 use Rattle.batch_serve_desks.specs.Runs.{AreOfDesks, Run, due_of, last_of, own_text, runs_text}
 use Rattle.batch_serve_desks.specs.Served.{AreServed}
-use Rattle.batch_serve_desks.specs.Threads.{lines_text}
 use Rattle.batch_serve_desks.specs.Turns.{IsSameBut, IsTurned}
 use Rattle.batch_serve_desks.specs.Waits.{IsAccount}
 use Rattle.batch_serve_desks.specs.declared.desk.Desk.{Desk}
@@ -28,6 +27,7 @@ use Rattle.batch_pipes.specs.Ended.{AreDesksEnded, IsGivenBack, given_by}
 use Rattle.batch_pipes.specs.Inputs.{AreInputsKept, AreInputsOpened}
 use Rattle.batch_pipes.specs.Kept.{AreDone, AreReadersKept, ArePortsOf, AreSameDesks}
 use Rattle.batch_pipes.specs.Opened.{IsOpened}
+use Rattle.batch_pipes.specs.OutputEnds.{IsHandedBack}
 use Rattle.batch_pipes.specs.Outputs.{AreOutputsKept, AreOutputsOpened, AreSettled, Asked, asked_by, asked_of}
 use Rattle.batch_serve.specs.Comments.{time_text}
 use Rattle.batch_wire.specs.Written.{Writes}
@@ -36,6 +36,7 @@ use Rattle.batch_pipes.specs.declared.input.Input.{Input}
 use Rattle.batch_pipes.specs.declared.outcome.OutputOutcome.{OutputOutcome}
 use Rattle.batch_pipes.specs.declared.output.Output.{Output}
 use Rattle.batch_pipes.specs.declared.ports.Ports.{Ports}
+use Rattle.batch_pipes.specs.declared.written.Written.{Written}
 
 -- Texts with times
 
@@ -258,14 +259,14 @@ service_ends is_safe keeper times begun kept recorded s p service = record {
 
 -- what has come of it for each desk
 pub desks_end : {K P W : Type 0} (is_safe : K → Type 0) (keeper : K) (times : Bool) (begun : Opening) (given stands : List ℕ → Option (List ℕ)) (contents : W → Option (List ℕ))
-    (fronts : List (List ℕ)) (listed : List plans.Desk) (kept : List ℕ) (recorded : Option (List ℕ)) (engine : EngineView) (s0 s : DeskServer) (p0 p : Ports) (first inputs : List (Input P))
+    (hands_back : List ℕ → Written W → Type 0) (fronts : List (List ℕ)) (listed : List plans.Desk) (kept : List ℕ) (recorded : Option (List ℕ)) (engine : EngineView) (s0 s : DeskServer) (p0 p : Ports) (first inputs : List (Input P))
     (first_outputs outputs : List (Output W P)) (outcomes : List (OutputOutcome W P)) → IsService times begun (is_safe keeper) kept recorded s p
     → s.group.items ≡ [] → ArePortsOf s.desks.items p → IsOpened engine listed s0 p0 → AreSameDesks s0.desks.items s.desks.items → AreInputsOpened given listed first p0.readers.items
-    → AreInputsKept given first inputs p.readers.items → AreOutputsOpened contents stands fronts listed first_outputs p0.writers.items
-    → AreOutputsKept contents stands first_outputs outputs p.writers.items → AreSettled contents stands outputs p.writers.items outcomes → AreDone given s.desks.items inputs p.readers.items
-    → AreDesksEnded times begun given stands contents fronts listed s.desks.items outcomes (is_safe keeper) kept recorded
+    → AreInputsKept given first inputs p.readers.items → AreOutputsOpened (IsHandedBack contents stands hands_back) fronts listed first_outputs p0.writers.items
+    → AreOutputsKept (IsHandedBack contents stands hands_back) first_outputs outputs p.writers.items → AreSettled (IsHandedBack contents stands hands_back) outputs p.writers.items outcomes → AreDone given s.desks.items inputs p.readers.items
+    → AreDesksEnded times begun given stands contents hands_back fronts listed s.desks.items outcomes (is_safe keeper) kept recorded
 unfolding service_ends
-desks_end {K} {P} {W} is_safe keeper times begun given stands contents fronts listed kept recorded engine s0 s p0 p first inputs first_outputs outputs outcomes service group of opened_on same opened
+desks_end {K} {P} {W} is_safe keeper times begun given stands contents hands_back fronts listed kept recorded engine s0 s p0 p first inputs first_outputs outputs outcomes service group of opened_on same opened
     input_kept outputs_opened output_kept settled done = record {
       service = service_ends is_safe keeper times begun kept recorded s p service;
       count = count;
@@ -294,9 +295,9 @@ desks_end {K} {P} {W} is_safe keeper times begun given stands contents fronts li
           let account : IsAccount (due_of k at.unit service.answers) (sent (get_or p.writers.items k writer).ring) at.waiting =
           subst (λ (l : List (List ℕ)). IsAccount (due_of k at.unit service.answers) l at.waiting) (told_at p.writers.items k writer in_writers) (service.life.each k desk in_desks) in
           let outcome : OutputOutcome W P = get_or outcomes k w in
-          subst (λ (a : Asked). IsGivenBack contents stands a.path (a.front ++ lines_text (due_of k (get_or listed k plan).unit service.answers)) at outcome) asked
-          (subst (λ (u : Option (List ℕ)). IsGivenBack contents stands (asked_of output).path ((asked_of output).front ++ lines_text (due_of k u service.answers)) at outcome) unit
-          (is_given_back contents stands (asked_of output) (due_of k at.unit service.answers) (get_or p.writers.items k writer) at outcome account
+          subst (λ (a : Asked). IsGivenBack contents stands hands_back a.path a.front (due_of k (get_or listed k plan).unit service.answers) at outcome) asked
+          (subst (λ (u : Option (List ℕ)). IsGivenBack contents stands hands_back (asked_of output).path (asked_of output).front (due_of k u service.answers) at outcome) unit
+          (is_given_back contents stands hands_back (asked_of output) (due_of k at.unit service.answers) (get_or p.writers.items k writer) at outcome account
           (λ uncut. (done k desk (input_at k within) (reader_at k within) in_desks uncut).1) (settled.each k o writer w in_outputs)));
     }
   where

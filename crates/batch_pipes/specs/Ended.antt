@@ -23,32 +23,33 @@ abbrev pub IsWhollyServed : (List ℕ → Option (List ℕ)) → ℕ → plans.D
 IsWhollyServed given k plan desk runs = desk.waiting.is_cut ≡ false → (bytes : List ℕ) → given_by given (option_map string_bytes plan.input) ≡ Some bytes
     → own_text k runs ≡ clean_lines (lines_of bytes)
 
--- what a desk's output holds is a beginning of the text behind what stood in it when it was opened; where the desk isn't cut and its output ended
--- well, all of it. The output is there, unless it couldn't be opened or had no memory
-pub record IsTold {W : Type 0} (contents : W → Option (List ℕ)) (stood : Option (List ℕ)) (text : List ℕ) (desk : Desk) (w : Written W) : Type 0 where
-  pub begun : IfSome w.output (λ output. HoldsBeginning stood (contents output) text)
-  pub whole : desk.waiting.is_cut ≡ false → w.fault ≡ None → (output : W) × (w.output ≡ Some output) × Appends stood (contents output) text
+-- what a desk's output holds is a beginning of the front and the lines behind what stood in it when it was opened; where the desk isn't cut and its output
+-- ended well, all of it but the last lines, so many as are left. The output is there, unless it couldn't be opened or had no memory
+pub record IsTold {W : Type 0} (contents : W → Option (List ℕ)) (stood : Option (List ℕ)) (front : List ℕ) (due : List (List ℕ)) (desk : Desk) (w : Written W) (left : ℕ)
+    : Type 0 where
+  pub begun : IfSome w.output (λ output. HoldsBeginning stood (contents output) (front ++ lines_text due))
+  pub whole : desk.waiting.is_cut ≡ false → w.fault ≡ None
+      → (output : W) × (w.output ≡ Some output) × (lines rest : List (List ℕ)) × (due ≡ lines ++ rest) × (length rest ≡ left) × Appends stood (contents output) (front ++ lines_text lines)
   pub missing : w.output ≡ None → HasNoOutput w.fault
 
--- of a desk that has an output, at this path, either the output is given back, behind its thread's end, or the thread that was given the path, which
--- nobody joined. Nothing is given back of a desk that has none
-abbrev pub IsGivenBack : {W P : Type 0} → (W → Option (List ℕ)) → (List ℕ → Option (List ℕ)) → Option (List ℕ) → List ℕ → Desk → OutputOutcome W P → Type 0
-IsGivenBack contents stands path text desk Absent = path ≡ None
-IsGivenBack contents stands path text desk (Joined w) = IsTold contents (given_by stands path) text desk w
-IsGivenBack contents stands path text desk (Unjoined thread) = path ≡ Some (string_bytes thread.handle.promise.task.value.path)
-
--- a desk's front, and the lines that it is due of these answers
-abbrev pub text_due : ℕ → plans.Desk → List ℕ → List Run → List ℕ
-text_due k plan front answers = front ++ lines_text (due_of k plan.unit answers)
+-- of a desk that has an output, at this path, either what was handed back for this path is given back, or the thread that was given the path, which nobody
+-- joined. Nothing is given back of a desk that has none
+abbrev pub IsGivenBack
+    : {W P : Type 0} → (W → Option (List ℕ)) → (List ℕ → Option (List ℕ)) → (List ℕ → Written W → Type 0) → Option (List ℕ) → List ℕ → List (List ℕ) → Desk
+    → OutputOutcome W P → Type 0
+IsGivenBack contents stands hands_back path front due desk Absent = path ≡ None
+IsGivenBack contents stands hands_back path front due desk (Joined w left) =
+    (at : List ℕ) × (path ≡ Some at) × hands_back at w × IsTold contents (stands at) front due desk w left
+IsGivenBack contents stands hands_back path front due desk (Unjoined thread) = path ≡ Some (string_bytes thread.handle.promise.task.value.path)
 
 -- runs of lines of these desks were served, and of each they are whole; and each was told what it is due
-pub record AreDesksEnded {W P : Type 0} (times : Bool) (begun : Opening) (given stands : List ℕ → Option (List ℕ)) (contents : W → Option (List ℕ)) (fronts : List (List ℕ))
-    (listed : List plans.Desk) (desks : List Desk) (outcomes : List (OutputOutcome W P)) (safe : Type 0) (kept : List ℕ) (recorded : Option (List ℕ)) : Type 0 where
+pub record AreDesksEnded {W P : Type 0} (times : Bool) (begun : Opening) (given stands : List ℕ → Option (List ℕ)) (contents : W → Option (List ℕ)) (hands_back : List ℕ → Written W → Type 0)
+    (fronts : List (List ℕ)) (listed : List plans.Desk) (desks : List Desk) (outcomes : List (OutputOutcome W P)) (safe : Type 0) (kept : List ℕ) (recorded : Option (List ℕ)) : Type 0 where
   pub service : AreDesksServed times begun safe kept recorded
   pub count : length desks ≡ length listed
   pub of_desks : AreOfDesks (length listed) service.runs
   pub whole : (k : ℕ) (plan : plans.Desk) (desk : Desk) → k < length listed → IsWhollyServed given k (get_or listed k plan) (get_or desks k desk) service.runs
   pub outputs : length outcomes ≡ length listed
   pub told : (k : ℕ) (plan : plans.Desk) (desk : Desk) (outcome : OutputOutcome W P) → k < length listed
-      → IsGivenBack contents stands (option_map string_bytes (get_or listed k plan).output) (text_due k (get_or listed k plan) (get_or fronts k []) service.answers)
+      → IsGivenBack contents stands hands_back (option_map string_bytes (get_or listed k plan).output) (get_or fronts k []) (due_of k (get_or listed k plan).unit service.answers)
       (get_or desks k desk) (get_or outcomes k outcome)

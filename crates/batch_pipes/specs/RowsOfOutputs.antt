@@ -1,11 +1,12 @@
 -- worked rows: what an output holds of a text behind what stood in it.
-use Rattle.std.specs.Prelude.{◌≡◌, ℕ, List, [], ◌∷◌, Option, Some, None}
+use Rattle.std.specs.Prelude.{◌≡◌, ℕ, List, [], ◌∷◌, Option, Some, None, ⊤}
 use Rattle.batch_serve_desks.specs.declared.desk.Desk.{Desk}
 use Rattle.batch_pipes.specs.Ended.{IsGivenBack}
 use Rattle.batch_pipes.specs.Streams.{HasNoOutput, HoldsBeginning}
 use Rattle.batch_pipes.specs.declared.fault.PipeFault.TheVariants.{Memory, Unread}
 use Rattle.batch_pipes.specs.declared.outcome.OutputOutcome.{OutputOutcome}
-use Rattle.batch_pipes.specs.declared.outcome.OutputOutcome.TheVariants.{Absent}
+use Rattle.batch_pipes.specs.declared.outcome.OutputOutcome.TheVariants.{Absent, Joined}
+use Rattle.batch_pipes.specs.declared.written.Written.{Written}
 
 -- of the text 1, 2 behind 7 the first was written
 abbrev pub FrontIsHeld : Type 0
@@ -20,8 +21,20 @@ NoOtherIsHeld =
 -- of a desk that has an output something is given back
 abbrev pub NothingIsTooLittle : Type 0
 NothingIsTooLittle =
-    (contents : ℕ → Option (List ℕ)) (stands : List ℕ → Option (List ℕ)) (path text : List ℕ) (desk : Desk) (outcome : OutputOutcome ℕ ℕ) → outcome ≡ Absent
-    → ¬ IsGivenBack contents stands (Some path) text desk outcome
+    (contents : ℕ → Option (List ℕ)) (stands : List ℕ → Option (List ℕ)) (path front : List ℕ) (due : List (List ℕ)) (desk : Desk)
+    (outcome : OutputOutcome ℕ ℕ) → outcome ≡ Absent → ¬ IsGivenBack contents stands (λ _ _. ⊤) (Some path) front due desk outcome
+
+-- and nothing of one that has none
+abbrev pub NothingOfNone : Type 0
+NothingOfNone =
+    (contents : ℕ → Option (List ℕ)) (stands : List ℕ → Option (List ℕ)) (front : List ℕ) (due : List (List ℕ)) (desk : Desk)
+    (outcome : OutputOutcome ℕ ℕ) → IsGivenBack contents stands (λ _ _. ⊤) None front due desk outcome → outcome ≡ Absent
+
+-- nor a result that wasn't handed back
+abbrev pub NoResultIsMadeUp : Type 0
+NoResultIsMadeUp =
+    (contents : ℕ → Option (List ℕ)) (stands : List ℕ → Option (List ℕ)) (path : Option (List ℕ)) (front : List ℕ) (due : List (List ℕ)) (desk : Desk) (w : Written ℕ) (left : ℕ)
+    (outcome : OutputOutcome ℕ ℕ) → outcome ≡ Joined w left → ¬ IsGivenBack contents stands (λ _ _. ⊥) path front due desk outcome
 
 -- want of memory may be why there is no output; that nobody read it isn't, nor is there none without a fault
 abbrev pub NoOutputHasCause : Type 0

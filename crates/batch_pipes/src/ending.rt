@@ -1,5 +1,6 @@
 //! The end of serving: what is handed on is written.
 ghost use Rattle.std.specs.Prelude.{ℕ, ◌<◌, length, get_or, IfOk};
+ghost use Rattle.batch_pipes.specs.OutputEnds.{IsHandedBack};
 ghost use Rattle.batch_pipes.specs.Outputs.{AreEnding, AreOutputsKept, AreOutputsOf, AreSettled, AreSettledBy, IsEnding, IsFinished, IsSettledBy};
 ghost use Rattle.batch_pipes.specs.declared.output.Output.{Output as OneOutput};
 ghost use Rattle.batch_serve_desks.specs.declared.rounds.Writer.{Writer as OneWriter};
@@ -33,8 +34,8 @@ pub(crate) fn finish<T: Threads, W: Write + Drop, P: Outputs<W> + Drop, E: Write
     errors: &mut E,
     rest: &mut S,
 ) -> Result<Vec<OutputOutcome<W, P>>, AllocError>
-    requires { AreOutputsOf W.contents P.stands outputs.items ports.writers.items }
-    ensures { IfOk result (λ outcomes. AreSettled W.contents P.stands outputs.items ports.writers.items outcomes.items) }
+    requires { AreOutputsOf (IsHandedBack W.contents P.stands P.hands_back) outputs.items ports.writers.items }
+    ensures { IfOk result (λ outcomes. AreSettled (IsHandedBack W.contents P.stands P.hands_back) outputs.items ports.writers.items outcomes.items) }
 {
     let mut outputs = outputs;
     let Ports { writers, .. } = ports;
@@ -48,8 +49,8 @@ fn finish_each<W: Write + Drop, P: Outputs<W> + Drop>(
     outputs: &mut Vec<Output<W, P>>,
     writers: Vec<Writer>,
 )
-    requires { AreOutputsOf W.contents P.stands outputs.old.items writers.items }
-    ensures kept { AreOutputsKept W.contents P.stands outputs.old.items outputs.new.items writers.items }
+    requires { AreOutputsOf (IsHandedBack W.contents P.stands P.hands_back) outputs.old.items writers.items }
+    ensures kept { AreOutputsKept (IsHandedBack W.contents P.stands P.hands_back) outputs.old.items outputs.new.items writers.items }
     ensures finished { (k : ℕ) (o : OneOutput W P) (writer : OneWriter) → k < length outputs.new.items → IsFinished (get_or outputs.new.items k o) (get_or writers.items k writer) }
 {
     let mut writers = writers.into_iter();
@@ -70,8 +71,8 @@ fn settle_each<T: Threads, W: Write + Drop, P: Outputs<W> + Drop, E: Write, S: P
     errors: &mut E,
     rest: &mut S,
 ) -> Result<Vec<OutputOutcome<W, P>>, AllocError>
-    requires { AreEnding W.contents P.stands outputs.items }
-    ensures { IfOk result (λ outcomes. AreSettledBy W.contents P.stands outputs.items outcomes.items) }
+    requires { AreEnding (IsHandedBack W.contents P.stands P.hands_back) outputs.items }
+    ensures { IfOk result (λ outcomes. AreSettledBy (IsHandedBack W.contents P.stands P.hands_back) outputs.items outcomes.items) }
 {
     let mut patience = Patience::new();
     let mut all = Vec::new(alloc);
@@ -114,16 +115,14 @@ fn end_output<T: Threads, W: Write + Drop, P: Outputs<W> + Drop, S: Pause>(
     patience: &mut Patience,
     rest: &mut S,
 ) -> (OutputOutcome<W, P>, Option<PipeFault>)
-    requires { IsEnding W.contents P.stands output }
-    ensures { IsSettledBy W.contents P.stands output result.0 }
+    requires { IsEnding (IsHandedBack W.contents P.stands P.hands_back) output }
+    ensures { IsSettledBy (IsHandedBack W.contents P.stands P.hands_back) output result.0 }
 {
-    let mut output = output;
     let has_work = output.has_work();
     if !is_cut {
         patience.wait_for(&output, rest);
     }
-    output.join_if_done(threads);
-    let outcome = output.settle();
+    let outcome = output.settle(threads);
     let fault = if is_cut {
         None
     } else {
@@ -138,7 +137,10 @@ fn fault_of<W: Write + Drop, P: Outputs<W> + Drop>(
     has_work: bool,
 ) -> Option<PipeFault> {
     match outcome {
-        OutputOutcome::Joined(written) => written.fault,
+        OutputOutcome::Joined { written, left } if *left > 0 => {
+            Some(written.fault.unwrap_or(PipeFault::Unread))
+        }
+        OutputOutcome::Joined { written, .. } => written.fault,
         OutputOutcome::Unjoined(_) if has_work => Some(PipeFault::Unread),
         OutputOutcome::Unjoined(_) | OutputOutcome::Absent => None,
     }

@@ -4,6 +4,7 @@ ghost use Rattle.rtrb.specs.Ring.{IsPair, received, sent};
 ghost use Rattle.batch_pipes.specs.Inputs.{AreInputsOpened, IsInputAdded, IsInputOf, IsInputOpened, path_of};
 ghost use Rattle.batch_pipes.specs.Kept.{ArePortsOf};
 ghost use Rattle.batch_pipes.specs.Opened.{IsDeskAdded, IsOpened, IsOpenedOn};
+ghost use Rattle.batch_pipes.specs.OutputEnds.{IsHandedBack};
 ghost use Rattle.batch_pipes.specs.Outputs.{AreOutputsOpened, IsOutputAdded, IsOutputOf, IsOutputOpened, asked_by, asked_of};
 ghost use Rattle.batch_serve_desks.specs.declared.rounds.Reader.{Reader as OneReader};
 ghost use Rattle.batch_serve_desks.specs.declared.rounds.Writer.{Writer as OneWriter};
@@ -52,7 +53,7 @@ pub(crate) fn open<
     ensures ports { IfOk result (λ opened. ArePortsOf opened.0.desks.items opened.1) }
     ensures opened { IfOk result (λ opened. IsOpened engine desks.desks.items opened.0 opened.1) }
     ensures inputs { IfOk result (λ opened. AreInputsOpened P.given desks.desks.items opened.2.items opened.1.readers.items) }
-    ensures outputs { IfOk result (λ opened. AreOutputsOpened W.contents P.stands fronts.now desks.desks.items opened.3.items opened.1.writers.items) }
+    ensures outputs { IfOk result (λ opened. AreOutputsOpened (IsHandedBack W.contents P.stands P.hands_back) fronts.now desks.desks.items opened.3.items opened.1.writers.items) }
 {
     let mut server = DeskServer::new(alloc, engine, Vec::new(alloc), Vec::new(alloc));
     let mut ports = Ports::new(alloc);
@@ -91,11 +92,11 @@ fn open_each<
     requires ports { ArePortsOf server.old.desks.items ports.old }
     requires opened { IsOpened server.old.engine [] server.old ports.old }
     requires inputs { AreInputsOpened P.given [] inputs.old.items ports.old.readers.items }
-    requires outputs { AreOutputsOpened W.contents P.stands fronts.now [] outputs.old.items ports.old.writers.items }
+    requires outputs { AreOutputsOpened (IsHandedBack W.contents P.stands P.hands_back) fronts.now [] outputs.old.items ports.old.writers.items }
     ensures ports { OnOk result (ArePortsOf server.new.desks.items ports.new) }
     ensures opened { OnOk result (IsOpened server.old.engine desks.desks.items server.new ports.new) }
     ensures inputs { OnOk result (AreInputsOpened P.given desks.desks.items inputs.new.items ports.new.readers.items) }
-    ensures outputs { OnOk result (AreOutputsOpened W.contents P.stands fronts.now desks.desks.items outputs.new.items ports.new.writers.items) }
+    ensures outputs { OnOk result (AreOutputsOpened (IsHandedBack W.contents P.stands P.hands_back) fronts.now desks.desks.items outputs.new.items ports.new.writers.items) }
 {
     let Desks { desks } = desks;
     for desk in desks {
@@ -125,7 +126,7 @@ fn open_desk<
 ) -> Result<(), DesksFault>
     ensures desk { OnOk result (IsOpenedOn desk server.old server.new ports.old ports.new) }
     ensures input { OnOk result (IsInputAdded P.given (option_map string_bytes desk.input) inputs.old.items inputs.new.items ports.old.readers.items ports.new.readers.items) }
-    ensures output { OnOk result (IsOutputAdded W.contents P.stands (asked_by desk front.items) outputs.old.items outputs.new.items ports.old.writers.items ports.new.writers.items) }
+    ensures output { OnOk result (IsOutputAdded (IsHandedBack W.contents P.stands P.hands_back) (asked_by desk front.items) outputs.old.items outputs.new.items ports.old.writers.items ports.new.writers.items) }
 {
     let Desk {
         name,
@@ -286,7 +287,7 @@ fn open_output<
     front: Vec<u8>,
     stop: &Flag,
 ) -> Result<(Writer, Output<W, P>), DesksFault>
-    ensures { IfOk result (λ opened. IsOutputOpened W.contents P.stands (record { path = option_map string_bytes path; front = front.items }) opened.0 opened.1) }
+    ensures { IfOk result (λ opened. IsOutputOpened (IsHandedBack W.contents P.stands P.hands_back) (record { path = option_map string_bytes path; front = front.items }) opened.0 opened.1) }
 {
     let (producer, consumer) = RingBuffer::new(alloc, LINES)?;
     let writer = Writer { ring: producer };
@@ -317,7 +318,7 @@ fn write_output<
     requires path { option_map string_bytes known.value ≡ Some (string_bytes path) }
     requires new { received ring ≡ [] }
     ensures asked { IfOk result (λ output. asked_of output ≡ record { path = Some (string_bytes path); front = front.items }) }
-    ensures output { IfOk result (λ output. (writer : OneWriter) → IsPair writer.ring ring → IsOutputOf W.contents P.stands output writer) }
+    ensures output { IfOk result (λ output. (writer : OneWriter) → IsPair writer.ring ring → IsOutputOf (IsHandedBack W.contents P.stands P.hands_back) output writer) }
 {
     let (began, opened) = Flag::pair(alloc)?;
     let (done, ended) = Flag::pair(alloc)?;
@@ -344,6 +345,7 @@ fn write_output<
         end: None,
         unseen: None,
         finished: None,
+        left: 0,
     })
 }
 
@@ -356,7 +358,7 @@ fn no_output<W: Write + Drop, P: Outputs<W> + Drop>(
 ) -> Output<W, P>
     requires { known.value ≡ None }
     ensures asked { asked_of result ≡ record { path = None; front = front.items } }
-    ensures output { (writer : OneWriter) → IsOutputOf W.contents P.stands result writer }
+    ensures output { (writer : OneWriter) → IsOutputOf (IsHandedBack W.contents P.stands P.hands_back) result writer }
 {
     Output {
         path: known,
@@ -365,5 +367,6 @@ fn no_output<W: Write + Drop, P: Outputs<W> + Drop>(
         end: None,
         unseen: Some(ring),
         finished: None,
+        left: 0,
     }
 }

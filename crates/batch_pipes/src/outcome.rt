@@ -10,7 +10,12 @@ pub enum OutputOutcome<W: Write + Drop, P: Outputs<W> + Drop> {
     /// The desk has no output.
     Absent,
     /// Its thread ended and was joined.
-    Joined(Written<W>),
+    Joined {
+        /// What was handed back for its path.
+        written: Written<W>,
+        /// How many lines were left on their way to it.
+        left: usize,
+    },
     /// Its thread wasn't joined: it may be blocked in opening or writing.
     Unjoined(OutputChild<W, P>),
 }

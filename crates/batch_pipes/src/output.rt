@@ -1,8 +1,7 @@
 //! The output of a desk, as the thread of the machine sees it.
-ghost use Rattle.std.specs.Prelude.{◌≡◌, ◌++◌, [], List, ℕ, None, Some};
-ghost use Rattle.rtrb.specs.Ring.{IsFinishedOf, all_sent, received};
-ghost use Rattle.batch_pipes.specs.Outputs.{IsEnding, IsFinished, IsOutputKept, IsOutputOf, IsSettledBy};
-ghost use Rattle.batch_pipes.specs.declared.fault.PipeFault.{PipeFault as OneFault};
+ghost use Rattle.rtrb.specs.Ring.{Finishes, IsFinishedOf};
+ghost use Rattle.batch_pipes.specs.OutputEnds.{IsHandedBack};
+ghost use Rattle.batch_pipes.specs.Outputs.{Asked, IsEnding, IsFinished, IsOutputKept, IsOutputOf, IsSettled, IsSettledBy, IsTaskOf};
 ghost use Rattle.batch_serve_desks.specs.declared.rounds.Writer.{Writer as OneWriter};
 
 use crate::fault::PipeFault;
@@ -11,7 +10,6 @@ use crate::outcome::OutputOutcome;
 use crate::output_thread::OutputHandle;
 use crate::pipes::Outputs;
 use crate::writing::OutputEnd;
-use crate::written::Written;
 use batch_serve_desks::{Line, Writer};
 use rtrb::{Consumer, Finished};
 use std::io::Write;
@@ -44,14 +42,34 @@ pub(crate) struct Output<W: Write + Drop, P: Outputs<W> + Drop> {
     pub(crate) unseen: Option<Consumer<Line>>,
     // all that went into the ring, where nothing more does
     pub(crate) finished: Option<Finished<Line>>,
+    // how many lines are left there, where the thread was joined before that
+    pub(crate) left: usize,
+}
+
+impl<W: Write + Drop, P: Outputs<W> + Drop> OutputChild<W, P> {
+    /// What came of the output, where nothing more goes into its ring. The thread is joined, if it has nothing more to do, or else given back.
+    fn settle<T: Threads>(self, threads: &T, finished: Finished<Line>) -> OutputOutcome<W, P>
+        requires { IsFinishedOf finished self.handle.promise.task.value.ring }
+        ensures { (asked : Asked) (writer : OneWriter) → IsTaskOf asked self.handle.promise.task.value writer → Finishes writer.ring finished
+            → IsSettled (IsHandedBack W.contents P.stands P.hands_back) asked writer result }
+    {
+        if !self.done.is_raised() {
+            return OutputOutcome::Unjoined(self);
+        }
+        let OutputEnd { ring, written } = self.handle.join(threads);
+        let (mut ring, mut finished) = (ring, finished);
+        OutputOutcome::Joined {
+            written,
+            left: ring.slots_after(&mut finished),
+        }
+    }
 }
 
 impl<W: Write + Drop, P: Outputs<W> + Drop> Output<W, P> {
     /// Joins the thread, if it has nothing more to do.
     // claim: output of a desk
     pub(crate) fn join_if_done<T: Threads>(&mut self, threads: &T)
-        ensures kept { (writer : OneWriter) → IsOutputOf W.contents P.stands self.old writer → IsOutputKept W.contents P.stands self.old self.new writer }
-        ensures finished { self.new.finished ≡ self.old.finished }
+        ensures { (writer : OneWriter) → IsOutputOf (IsHandedBack W.contents P.stands P.hands_back) self.old writer → IsOutputKept (IsHandedBack W.contents P.stands P.hands_back) self.old self.new writer }
     {
         if !self.is_done() {
             return;
@@ -93,56 +111,43 @@ impl<W: Write + Drop, P: Outputs<W> + Drop> Output<W, P> {
         }
     }
 
-    /// Ends its ring: nothing more goes into it.
+    /// Ends its ring: nothing more goes into it. What a thread left there that was joined is counted.
     pub(crate) fn finish(&mut self, writer: Writer)
-        ensures kept { IsOutputOf W.contents P.stands self.old writer → IsOutputKept W.contents P.stands self.old self.new writer }
+        requires { IsOutputOf (IsHandedBack W.contents P.stands P.hands_back) self.old writer }
+        ensures kept { IsOutputKept (IsHandedBack W.contents P.stands P.hands_back) self.old self.new writer }
         ensures finished { IsFinished self.new writer }
     {
         let Writer { ring } = writer;
-        self.finished = ring.finish();
+        let mut ring = ring;
+        match &mut self.end {
+            Some(end) => self.left = end.ring.slots_beside(&mut ring),
+            None => self.finished = ring.finish(),
+        }
     }
 
-    /// What came of it. A thread that wasn't joined is given back.
+    /// What came of it, where its ring has ended. A thread that has more to do is given back.
     // claim: output of a desk
-    pub(crate) fn settle(self) -> OutputOutcome<W, P>
-        requires { IsEnding W.contents P.stands self }
-        ensures { IsSettledBy W.contents P.stands self result }
+    pub(crate) fn settle<T: Threads>(self, threads: &T) -> OutputOutcome<W, P>
+        requires { IsEnding (IsHandedBack W.contents P.stands P.hands_back) self }
+        ensures { IsSettledBy (IsHandedBack W.contents P.stands P.hands_back) self result }
     {
         let Output {
             child,
             end,
             finished,
+            left,
             ..
         } = self;
-        let Some(end) = end else {
-            return match child {
-                Some(child) => OutputOutcome::Unjoined(child),
-                None => OutputOutcome::Absent,
-            };
+        if let Some(end) = end {
+            let OutputEnd { written, .. } = end;
+            return OutputOutcome::Joined { written, left };
+        }
+        let Some(child) = child else {
+            return OutputOutcome::Absent;
         };
-        let Some(finished) = finished else {
-            // The ring has its other end in `end`, and so was finished; no clause of a ring says so.
-            return OutputOutcome::Joined(Written::unopened(PipeFault::Memory));
-        };
-        OutputOutcome::Joined(settled(end, finished))
-    }
-}
-
-/// What a thread that has ended wrote, of all that went into its ring. Where lines are left there it didn't end well.
-fn settled<W: Write + Drop>(end: OutputEnd<W>, finished: Finished<Line>) -> Written<W>
-    requires { IsFinishedOf finished end.ring }
-    ensures output { result.output ≡ end.written.output }
-    ensures fault { (fault : OneFault) → end.written.fault ≡ Some fault → result.fault ≡ Some fault }
-    ensures came { (rest : List (List ℕ)) × (received end.ring ++ rest ≡ all_sent finished) × (result.fault ≡ None → (end.written.fault ≡ None) × (rest ≡ [])) }
-{
-    let OutputEnd { ring, written } = end;
-    let (mut ring, mut finished) = (ring, finished);
-    if ring.slots_after(&mut finished) == 0 {
-        return written;
-    }
-    let Written { output, fault } = written;
-    Written {
-        output,
-        fault: Some(fault.unwrap_or(PipeFault::Unread)),
+        match finished {
+            Some(finished) => child.settle(threads, finished),
+            None => OutputOutcome::Unjoined(child),
+        }
     }
 }

@@ -18,10 +18,9 @@ pub(crate) struct OutputPromise<P: Drop> {
 }
 
 impl<W: Write + Drop, P: Outputs<W> + Drop> Promise<OutputEnd<W>> for OutputPromise<P> {
-    ghost use Rattle.std.specs.Prelude.{string_bytes};
-    ghost use Rattle.batch_pipes.specs.OutputEnds.{IsOutputRun};
+    ghost use Rattle.batch_pipes.specs.OutputEnds.{IsHandedBack, IsOutputRun};
 
-    ghost kept_by = { λ p r. IsOutputRun W.contents (P.stands (string_bytes p.task.value.path)) p.task.value r };
+    ghost kept_by = { λ p r. IsOutputRun (IsHandedBack W.contents P.stands P.hands_back) p.task.value r };
 }
 
 pub(crate) type OutputHandle<W, P> = PromisedHandle<OutputEnd<W>, OutputPromise<P>>;

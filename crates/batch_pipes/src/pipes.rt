@@ -28,13 +28,18 @@ pub trait Pipes {
 
 /// Where the outputs of desks are opened, and in the thread that calls written.
 pub trait Outputs<W: Write + Drop> {
-    ghost use Rattle.std.specs.Prelude.{ℕ, List, Option, None};
+    ghost use Rattle.std.specs.Prelude.{ℕ, List, Option, None, ⊤};
+    ghost use Rattle.batch_pipes.specs.declared.written.Written.{Written as OneWritten};
 
     /// The bytes that stand in the output of a path when it is opened, where they are known. Nobody can give those of a real file.
     ghost stands: { List ℕ → Option (List ℕ) } = { λ _. None };
 
+    /// What may be handed back for the output of a path. Where nothing is known of it, whatever is known to be such came of `run_output`.
+    ghost hands_back: { List ℕ → OneWritten W → Type 0 } = { λ _ _. ⊤ };
+
     /// Opens the task's output, and has it written by `OutputTask::write`. Both may wait for whoever is at the other end.
     fn run_output(&self, alloc: Global, task: &mut OutputTask) -> Written<W>
         ensures written { IsWrittenOut W.contents (stands (string_bytes task.old.path)) task.old.front.items (received task.old.ring) (received task.new.ring) result }
+        ensures handed { hands_back (string_bytes task.old.path) result }
         ensures ring { SameConsumer task.old.ring task.new.ring };
 }

@@ -5,6 +5,7 @@ ghost use Rattle.batch_desks.specs.DeskNames.{desk_names};
 ghost use Rattle.batch_pipes.specs.Ended.{AreDesksEnded};
 ghost use Rattle.batch_pipes.specs.Inputs.{AreInputsKept, AreInputsOf};
 ghost use Rattle.batch_pipes.specs.Kept.{AreDone, ArePortsOf, AreSameDesks};
+ghost use Rattle.batch_pipes.specs.OutputEnds.{IsHandedBack};
 ghost use Rattle.batch_pipes.specs.Outputs.{AreOutputsKept, AreOutputsOf};
 ghost use Rattle.batch_pipes.specs.Service.{GoesOn};
 
@@ -75,7 +76,7 @@ pub fn serve_desks<
       kept = K.kept keep.old;
       recorded = W.contents output.old;
       again = K.again;
-    }) P.given P.stands O.contents fronts.now desks.desks.items end.desks.items end.outputs.items (K.is_safe keep.new) (K.kept keep.new) (W.contents output.new)) }
+    }) P.given P.stands O.contents P.hands_back fronts.now desks.desks.items end.desks.items end.outputs.items (K.is_safe keep.new) (K.kept keep.new) (W.contents output.new)) }
 {
     let (mut server, mut ports, mut inputs, mut outputs) = open(
         threads, alloc, pipes, engine, desks, fronts,
@@ -127,10 +128,10 @@ fn run_rounds<
 ) -> Result<(), DesksFault>
     requires ports { ArePortsOf server.old.desks.items ports.old }
     requires inputs { AreInputsOf P.given inputs.old.items ports.old.readers.items }
-    requires outputs { AreOutputsOf O.contents P.stands outputs.old.items ports.old.writers.items }
+    requires outputs { AreOutputsOf (IsHandedBack O.contents P.stands P.hands_back) outputs.old.items ports.old.writers.items }
     ensures ports { OnOk result (ArePortsOf server.new.desks.items ports.new) }
     ensures inputs { OnOk result (AreInputsKept P.given inputs.old.items inputs.new.items ports.new.readers.items) }
-    ensures outputs { OnOk result (AreOutputsKept O.contents P.stands outputs.old.items outputs.new.items ports.new.writers.items) }
+    ensures outputs { OnOk result (AreOutputsKept (IsHandedBack O.contents P.stands P.hands_back) outputs.old.items outputs.new.items ports.new.writers.items) }
     ensures group { OnOk result (server.new.group.items ≡ []) }
     ensures desks { OnOk result (AreSameDesks server.old.desks.items server.new.desks.items) }
     // claim: end of desks

@@ -1,8 +1,9 @@
 //! Looking after the desks between turns.
-ghost use Rattle.std.specs.Prelude.{◌≡◌, ◌||◌, length, true, false, IsTrue};
+ghost use Rattle.std.specs.Prelude.{◌≡◌, ◌||◌, true, false, IsTrue};
 ghost use Rattle.batch_serve_desks.specs.Rounds.{AreHandedOn, IsHandedOn, IsHandedOver};
 ghost use Rattle.batch_pipes.specs.Inputs.{AreInputsKept, AreInputsOf, IsInputKept, IsInputOf};
 ghost use Rattle.batch_pipes.specs.Kept.{AreDone, AreReadersKept, ArePortsOf, IsDone, IsReaderKept};
+ghost use Rattle.batch_pipes.specs.OutputEnds.{IsHandedBack};
 ghost use Rattle.batch_pipes.specs.Outputs.{AreOutputsKept, AreOutputsOf, IsOutputKept, IsOutputOf};
 ghost use Rattle.batch_pipes.specs.declared.input.Came.TheVariants.{Whole};
 
@@ -73,12 +74,12 @@ pub(crate) fn tend_desks<T: Threads, O: Write + Drop, P: Pipes + Outputs<O> + Dr
 ) -> Outlook
     requires ports { ArePortsOf server.old.desks.items ports.old }
     requires inputs { AreInputsOf P.given inputs.old.items ports.old.readers.items }
-    requires outputs { AreOutputsOf O.contents P.stands outputs.old.items ports.old.writers.items }
+    requires outputs { AreOutputsOf (IsHandedBack O.contents P.stands P.hands_back) outputs.old.items ports.old.writers.items }
     ensures ports { ArePortsOf server.new.desks.items ports.new }
     ensures desks { IsHandedOver server.old server.new ports.old.writers.items ports.new.writers.items }
     ensures readers { AreReadersKept ports.old.readers.items ports.new.readers.items }
     ensures inputs { AreInputsKept P.given inputs.old.items inputs.new.items ports.new.readers.items }
-    ensures outputs { AreOutputsKept O.contents P.stands outputs.old.items outputs.new.items ports.new.writers.items }
+    ensures outputs { AreOutputsKept (IsHandedBack O.contents P.stands P.hands_back) outputs.old.items outputs.new.items ports.new.writers.items }
     // claim: end of desks
     ensures done { result.sends ≡ false → result.waits ≡ false → AreDone P.given server.new.desks.items inputs.new.items ports.new.readers.items }
 {
@@ -108,12 +109,12 @@ fn tend_each<T: Threads, O: Write + Drop, P: Pipes + Outputs<O> + Drop, E: Write
 ) -> Outlook
     requires ports { ArePortsOf desks.old.items ports.old }
     requires inputs { AreInputsOf P.given inputs.old.items ports.old.readers.items }
-    requires outputs { AreOutputsOf O.contents P.stands outputs.old.items ports.old.writers.items }
+    requires outputs { AreOutputsOf (IsHandedBack O.contents P.stands P.hands_back) outputs.old.items ports.old.writers.items }
     ensures ports { ArePortsOf desks.new.items ports.new }
     ensures desks { AreHandedOn desks.old.items desks.new.items ports.old.writers.items ports.new.writers.items }
     ensures readers { AreReadersKept ports.old.readers.items ports.new.readers.items }
     ensures inputs { AreInputsKept P.given inputs.old.items inputs.new.items ports.new.readers.items }
-    ensures outputs { AreOutputsKept O.contents P.stands outputs.old.items outputs.new.items ports.new.writers.items }
+    ensures outputs { AreOutputsKept (IsHandedBack O.contents P.stands P.hands_back) outputs.old.items outputs.new.items ports.new.writers.items }
     ensures done { result.sends ≡ false → result.waits ≡ false → AreDone P.given desks.new.items inputs.new.items ports.new.readers.items }
 {
     let mut outlook = Outlook::nothing();
@@ -145,11 +146,11 @@ fn tend<T: Threads, O: Write + Drop, P: Pipes + Outputs<O> + Drop>(
     ends: bool,
 ) -> Outlook
     requires input { IsInputOf P.given input.old reader.old }
-    requires output { IsOutputOf O.contents P.stands output.old writer.old }
+    requires output { IsOutputOf (IsHandedBack O.contents P.stands P.hands_back) output.old writer.old }
     ensures desk { IsHandedOn desk.old desk.new writer.old writer.new }
     ensures reader { IsReaderKept reader.old reader.new }
     ensures input { IsInputKept P.given input.old input.new reader.new }
-    ensures output { IsOutputKept O.contents P.stands output.old output.new writer.new }
+    ensures output { IsOutputKept (IsHandedBack O.contents P.stands P.hands_back) output.old output.new writer.new }
     ensures done { result.sends ≡ false → result.waits ≡ false → IsDone P.given desk.new input.new reader.new }
 {
     drop_unseen(desk, &mut output.unseen, writer);

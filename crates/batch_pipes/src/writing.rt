@@ -1,8 +1,8 @@
 //! The thread of a desk's output.
-ghost use Rattle.std.specs.Prelude.{◌≡◌, [], true, None, IfSome, IsTrue, string_bytes};
+ghost use Rattle.std.specs.Prelude.{◌≡◌, [], true, None, IsTrue};
 ghost use Rattle.std.specs.Io.Buffered.{writer_buffer, writer_contents, writer_inner};
 ghost use Rattle.rtrb.specs.Ring.{SameConsumer, received};
-ghost use Rattle.batch_pipes.specs.OutputEnds.{IsOutputRun};
+ghost use Rattle.batch_pipes.specs.OutputEnds.{IsHandedBack, IsOutputRun};
 ghost use Rattle.batch_pipes.specs.Streams.{IsWrittenBehind, IsWrittenOut};
 
 use crate::fault::PipeFault;
@@ -146,7 +146,7 @@ pub(crate) fn run_output<W: Write + Drop, P: Outputs<W> + Drop>(
     pipes: P,
     task: OutputTask,
 ) -> OutputEnd<W>
-    ensures { IsOutputRun W.contents (P.stands (string_bytes task.path)) task result }
+    ensures { IsOutputRun (IsHandedBack W.contents P.stands P.hands_back) task result }
 {
     let mut task = task;
     let written = pipes.run_output(alloc, &mut task);

@@ -1,5 +1,6 @@
 use Rattle.std.proofs.Common.{◌≡◌, ◌++◌, length}
 use Rattle.std.specs.Vec.Iter.{into_iter_items, into_iter_len}
+use Rattle.batch_pipes.specs.OutputEnds.{IsHandedBack}
 use Rattle.batch_pipes.specs.Outputs.{AreSettledBy}
 use Rattle.batch_pipes.proofs.ending.settle_each.Given as goal
 
@@ -8,5 +9,5 @@ abbrev pub invariant-loop-output : goal.invariant-loop-output
 invariant-loop-output g l = record {
   left : l.yielded ++ into_iter_items l.output-iterator ≡ into_iter_items l.initial.output-iterator;
   count : into_iter_len l.output-iterator ≡ length (into_iter_items l.output-iterator);
-  settled : AreSettledBy g.W.Write.contents g.P.Outputs.stands l.yielded l.all.items;
+  settled : AreSettledBy (IsHandedBack g.W.Write.contents g.P.Outputs.stands g.P.Outputs.hands_back) l.yielded l.all.items;
 }

@@ -17,7 +17,7 @@ open_each-requires-clause-inputs g c κs within =
 
 pub open_each-requires-clause-outputs : goal.open_each-requires-clause-outputs
 open_each-requires-clause-outputs g c κs within =
-    outputs_none g.W.Write.contents g.P.Outputs.stands c.args.fronts.now c.new-outputs.result.items c.new-ports.result.writers.items c.new-outputs.ensures.items c.new-ports.ensures.writers
+    outputs_none _ c.args.fronts.now c.new-outputs.result.items c.new-ports.result.writers.items c.new-outputs.ensures.items c.new-ports.ensures.writers
 
 pub returns-clause-opened : goal.returns-clause-opened
 returns-clause-opened g c =

@@ -2,6 +2,7 @@ use Rattle.std.proofs.Common.{◌≡◌, ◌∷◌, [], length, get_or, sym, ap,
 use Rattle.std.specs.Vec.Iter.{into_iter_items}
 use Rattle.batch_pipes.specs.Inputs.{AreInputsOpened}
 use Rattle.batch_pipes.specs.Opened.{IsOpened}
+use Rattle.batch_pipes.specs.OutputEnds.{IsHandedBack}
 use Rattle.batch_pipes.specs.Outputs.{AreOutputsOpened}
 use Rattle.batch_pipes.proofs.InputsKept.{inputs_more}
 use Rattle.batch_pipes.proofs.OutputsKept.{outputs_more}
@@ -24,7 +25,7 @@ loop-desk-preserved g c =
           c.in_ok-open_desk.ensures.desk;
       inputs = inputs_more g.P.Pipes.given at.yielded desk at.inputs.items c.open_desk.new.inputs.items at.ports.readers.items c.open_desk.new.ports.readers.items so_far.inputs
           c.in_ok-open_desk.ensures.input;
-      outputs = outputs_more g.W.Write.contents g.P.Outputs.stands c.args.fronts.now at.yielded desk c.in_ok-front.front.items at.outputs.items c.open_desk.new.outputs.items
+      outputs = outputs_more _ c.args.fronts.now at.yielded desk c.in_ok-front.front.items at.outputs.items c.open_desk.new.outputs.items
           at.ports.writers.items c.open_desk.new.ports.writers.items so_far.outputs (c.in_ok-front.ensures ∙ ap (λ n. get_or c.args.fronts.now n []) as_long)
           c.in_ok-open_desk.ensures.output;
     }
@@ -51,4 +52,4 @@ returns-clause-outputs g c =
     let none = c.in-None.ensures.steps in
     let empty : into_iter_items at.desk-iterator ≡ [] = nothing_left _ (sym at.invariant.count ∙ none.0) in
     let all = sym (append-nil at.yielded) ∙ rw empty at at.invariant.left ∙ c.into_iter-desk-iterator.ensures.into_iter_gives.0 in
-    subst (λ l. AreOutputsOpened g.W.Write.contents g.P.Outputs.stands c.args.fronts.now l at.outputs.items at.ports.writers.items) all at.invariant.outputs
+    subst (λ l. AreOutputsOpened (IsHandedBack g.W.Write.contents g.P.Outputs.stands g.P.Outputs.hands_back) c.args.fronts.now l at.outputs.items at.ports.writers.items) all at.invariant.outputs

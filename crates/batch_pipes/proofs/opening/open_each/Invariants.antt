@@ -3,6 +3,7 @@ use Rattle.std.specs.Vec.Iter.{into_iter_items, into_iter_len}
 use Rattle.batch_pipes.specs.Inputs.{AreInputsOpened}
 use Rattle.batch_pipes.specs.Kept.{ArePortsOf}
 use Rattle.batch_pipes.specs.Opened.{IsOpened}
+use Rattle.batch_pipes.specs.OutputEnds.{IsHandedBack}
 use Rattle.batch_pipes.specs.Outputs.{AreOutputsOpened}
 use Rattle.batch_pipes.proofs.opening.open_each.Given as goal
 
@@ -14,5 +15,5 @@ invariant-loop-desk g l = record {
   ports : ArePortsOf l.server.desks.items l.ports;
   opened : IsOpened l.initial.server.engine l.yielded l.server l.ports;
   inputs : AreInputsOpened g.P.Pipes.given l.yielded l.inputs.items l.ports.readers.items;
-  outputs : AreOutputsOpened g.W.Write.contents g.P.Outputs.stands l.fronts l.yielded l.outputs.items l.ports.writers.items;
+  outputs : AreOutputsOpened (IsHandedBack g.W.Write.contents g.P.Outputs.stands g.P.Outputs.hands_back) l.fronts l.yielded l.outputs.items l.ports.writers.items;
 }

@@ -1,6 +1,7 @@
 use Rattle.std.proofs.Common.{rules, ◌≡◌, subst}
 use Rattle.rtrb.specs.Ring.{IsPair}
 use Rattle.batch_serve_desks.specs.declared.rounds.Writer.{Writer as OneWriter}
+use Rattle.batch_pipes.specs.OutputEnds.{IsHandedBack}
 use Rattle.batch_pipes.specs.Outputs.{IsOutputOf}
 use Rattle.batch_pipes.specs.declared.output.Output.{Output}
 use Rattle.batch_pipes.proofs.opening.open_output.Goals as goal
@@ -14,7 +15,7 @@ returns g c = elim c.match-path-2.branch [
       let same : w.in_ok-output-in-Some.output ≡ c.match-path-2.output = search rules in
       record {
         went = search rules;
-        of = subst (λ (o : Output g.row.W.Denot g.row.P.Denot). IsOutputOf g.W.Write.contents g.P.Outputs.stands o writer) same
+        of = subst (λ (o : Output g.row.W.Denot g.row.P.Denot). IsOutputOf (IsHandedBack g.W.Write.contents g.P.Outputs.stands g.P.Outputs.hands_back) o writer) same
             (w.in_ok-output-in-Some.ensures.output writer paired);
         is_asked = search rules;
       }

@@ -9,7 +9,7 @@ pub loop-init : goal.loop-init
 loop-init g c = record {
   ports = c.requires.ports;
   inputs = inputs_as_they_are g.P.Pipes.given c.args.inputs.now.items c.args.ports.now.readers.items c.requires.inputs;
-  outputs = outputs_as_they_are g.O.Write.contents g.P.Outputs.stands c.args.outputs.now.items c.args.ports.now.writers.items c.requires.outputs;
+  outputs = outputs_as_they_are _ c.args.outputs.now.items c.args.ports.now.writers.items c.requires.outputs;
   desks = desks_same _ _ refl;
   goes = λ begun again s. s;
 }
@@ -19,7 +19,7 @@ loop-preserved g c = record {
   ports = c.tend_desks-outlook.ensures.ports;
   inputs = inputs_twice g.P.Pipes.given c.args.inputs.now.items c.loop.inputs.items c.tend_desks-outlook.new.inputs.items c.loop.ports.readers.items c.tend_desks-outlook.new.ports.readers.items
       c.loop.invariant.inputs c.tend_desks-outlook.ensures.inputs;
-  outputs = outputs_twice g.O.Write.contents g.P.Outputs.stands c.args.outputs.now.items c.loop.outputs.items c.tend_desks-outlook.new.outputs.items c.loop.ports.writers.items
+  outputs = outputs_twice _ c.args.outputs.now.items c.loop.outputs.items c.tend_desks-outlook.new.outputs.items c.loop.ports.writers.items
       c.tend_desks-outlook.new.ports.writers.items c.loop.invariant.outputs c.tend_desks-outlook.ensures.outputs;
   desks = desks_twice _ c.loop.server.desks.items _ c.loop.invariant.desks (desks_twice _ c.serve_round.new.server.desks.items _ c.in_ok-serves.ensures.desks
       (desks_handed _ _ c.serve_round.new.ports.writers.items c.tend_desks-outlook.new.ports.writers.items c.in_ok-serves.ensures.ports.writers c.tend_desks-outlook.ensures.desks.handed));
@@ -54,12 +54,12 @@ returns-then-is_over-clause-group g c = c.tend_desks-outlook.ensures.desks.group
 
 pub tend_desks-outlook-requires-clause-outputs : goal.tend_desks-outlook-requires-clause-outputs
 tend_desks-outlook-requires-clause-outputs g c =
-    outputs_on g.O.Write.contents g.P.Outputs.stands c.loop.outputs.items c.loop.ports.writers.items c.serve_round.new.ports.writers.items c.in_ok-serves.ensures.writer_count
+    outputs_on _ c.loop.outputs.items c.loop.ports.writers.items c.serve_round.new.ports.writers.items c.in_ok-serves.ensures.writer_count
     c.in_ok-serves.ensures.writers c.loop.invariant.outputs.of
 
 pub returns-then-is_over-clause-outputs : goal.returns-then-is_over-clause-outputs
 returns-then-is_over-clause-outputs g c =
-    outputs_twice g.O.Write.contents g.P.Outputs.stands c.args.outputs.now.items c.loop.outputs.items c.tend_desks-outlook.new.outputs.items c.loop.ports.writers.items
+    outputs_twice _ c.args.outputs.now.items c.loop.outputs.items c.tend_desks-outlook.new.outputs.items c.loop.ports.writers.items
     c.tend_desks-outlook.new.ports.writers.items c.loop.invariant.outputs c.tend_desks-outlook.ensures.outputs
 
 pub returns-then-is_over-clause-desks : goal.returns-then-is_over-clause-desks

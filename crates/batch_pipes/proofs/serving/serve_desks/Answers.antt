@@ -8,7 +8,7 @@ returns g c =
     let ran = c.in_ok-run_rounds.ensures in
     let is_safe = g.K.Keep.is_safe in
     let times = c.args.timing.now.times in
-    desks_end is_safe c.run_rounds.new.keep times _ g.P.Pipes.given g.P.Outputs.stands g.O.Write.contents c.args.fronts.now c.args.desks.desks.items (g.K.Keep.kept c.run_rounds.new.keep)
+    desks_end is_safe c.run_rounds.new.keep times _ g.P.Pipes.given g.P.Outputs.stands g.O.Write.contents g.P.Outputs.hands_back c.args.fronts.now c.args.desks.desks.items (g.K.Keep.kept c.run_rounds.new.keep)
     (g.W.Write.contents c.run_rounds.new.output) c.args.engine c.in_ok-server.server c.run_rounds.new.server c.in_ok-server.ports c.run_rounds.new.ports c.in_ok-server.inputs.items
     c.run_rounds.new.inputs.items c.in_ok-server.outputs.items c.run_rounds.new.outputs.items c.in_ok-outputs.outputs.items
     (ran.service _ refl (service_begins is_safe c.args.keep.now times _ c.args.engine c.args.desks.desks.items c.in_ok-server.server c.in_ok-server.ports refl refl refl opened.ports opened.opened))

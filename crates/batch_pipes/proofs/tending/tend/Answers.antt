@@ -21,9 +21,9 @@ returns-clause-input g c =
 pub returns-clause-output : goal.returns-clause-output
 returns-clause-output g c =
     let writer = c.lines_left-left.new.writer in
-    let on = output_on g.O.Write.contents g.P.Outputs.stands c.args.output.now c.args.writer.now writer
+    let on = output_on _ c.args.output.now c.args.writer.now writer
     (producer_on c.args.writer.now.ring c.drop_unseen.new.writer.ring writer.ring c.drop_unseen.ensures.ring c.lines_left-left.ensures.ring) c.requires.output in
-    let kept = c.join_if_done.ensures.kept writer (record { thread = on.thread; ended = on.ended; absent = on.absent }) in
+    let kept = c.join_if_done.ensures writer (record { thread = on.thread; ended = on.ended; absent = on.absent }) in
     record { of = kept.of; asked = kept.asked }
 
 pub returns-clause-done : goal.returns-clause-done

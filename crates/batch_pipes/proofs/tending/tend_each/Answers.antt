@@ -42,7 +42,7 @@ loop-at-preserved g c =
             c.tend-other.ensures.input.path so_far.inputs.paths;
       };
       outputs = record {
-        of = outputs_set g.O.Write.contents g.P.Outputs.stands c.loop-at.outputs.items c.loop-at.ports.writers.items i c.tend-other.new.output c.tend-other.new.writer in_outputs
+        of = outputs_set _ c.loop-at.outputs.items c.loop-at.ports.writers.items i c.tend-other.new.output c.tend-other.new.writer in_outputs
             c.tend-other.ensures.output.of so_far.outputs.of;
         count = omega (arith, length-set {A = Output g.row.O.Denot g.row.P.Denot}, so_far.outputs.count);
         asked = same_set asked_of c.args.outputs.now.items c.loop-at.outputs.items i c.index_mut-output.result.now c.tend-other.new.output in_outputs so_far.outputs.count
@@ -68,5 +68,5 @@ pub tend-other-requires-clause-output : goal.tend-other-requires-clause-output
 tend-other-requires-clause-output g c =
     let so_far = c.loop-at.invariant in
     let within : c.loop-at.at < length c.loop-at.outputs.items = omega (arith, so_far.count, so_far.ports.writers, so_far.outputs.of.count) in
-    output_here g.O.Write.contents g.P.Outputs.stands c.loop-at.outputs.items c.loop-at.ports.writers.items c.loop-at.at c.index_mut-output.result.now c.index_mut-writer.result.now within
+    output_here _ c.loop-at.outputs.items c.loop-at.ports.writers.items c.loop-at.at c.index_mut-output.result.now c.index_mut-writer.result.now within
     c.index_mut-output.ensures.value c.index_mut-writer.ensures.value so_far.outputs.of

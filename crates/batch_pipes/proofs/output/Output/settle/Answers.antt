@@ -1,16 +1,11 @@
-use Rattle.std.proofs.Common.{IfSome, subst}
-use Rattle.rtrb.specs.Ring.{Finishes, all_sent}
-use Rattle.batch_pipes.specs.Outputs.{IsEndOf, asked_of, stood_in}
-use Rattle.batch_pipes.proofs.OutputsKept.{settled_so}
+use Rattle.std.proofs.Common.{rules, ◌≡◌, IfSome, None, subst}
+use Rattle.rtrb.specs.Ring.{Finishes}
+use Rattle.batch_pipes.specs.Outputs.{IsTaskOf, asked_of}
 use Rattle.batch_pipes.proofs.output.Output.settle.Goals as goal
 
-pub returns : goal.returns
-returns g c = λ writer of finished.
-    let contents = g.W.Write.contents in
-    let stood = stood_in g.P.Outputs.stands c.args.self in
-    let front = (asked_of c.args.self).front in
-    let ended = subst (λ e. IfSome e (λ end. IsEndOf contents stood front end writer)) c.in-Some.is of.ended in
-    let all = subst (λ f. IfSome f (λ last. Finishes writer.ring last)) c.in-Some-finished.is finished in
-    let (rest, is, well) = c.settled.ensures.came in
-    settled_so contents stood front c.in-Some.end writer (all_sent c.in-Some-finished.finished) rest c.settled.result ended all.1 c.settled.ensures.output
-    c.settled.ensures.fault is well
+pub returns-in-Some-finished : goal.returns-in-Some-finished
+returns-in-Some-finished g c = λ writer of ended.
+    let asked = asked_of c.args.self in
+    let none : c.args.self.end ≡ None = search rules in
+    c.settle.ensures asked writer (subst (λ o. IfSome o (λ child. IsTaskOf asked child.handle.promise.task.value writer)) c.in-Some-child.is of.thread)
+    (subst (λ o. IfSome o (λ last. Finishes writer.ring last)) c.in-Some-finished.is (ended.finished none))
