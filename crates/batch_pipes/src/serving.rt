@@ -6,7 +6,7 @@ ghost use Rattle.batch_pipes.specs.Ended.{AreDesksEnded};
 ghost use Rattle.batch_pipes.specs.Inputs.{AreInputsKept, AreInputsOf};
 ghost use Rattle.batch_pipes.specs.Kept.{AreDone, ArePortsOf, AreSameDesks};
 ghost use Rattle.batch_pipes.specs.OutputEnds.{IsHandedBack};
-ghost use Rattle.batch_pipes.specs.Outputs.{AreOutputsKept, AreOutputsOf};
+ghost use Rattle.batch_pipes.specs.Outputs.{AreOutputsKept, AreOutputsOf, AreSettled};
 ghost use Rattle.batch_pipes.specs.Service.{GoesOn};
 
 use crate::ending::finish;
@@ -23,7 +23,7 @@ use crate::timing::Timing;
 use batch_desks::Desks;
 use batch_engine::Engine;
 use batch_serve_desks::{Desk, DeskServer, Keep, Lines, Pause};
-use std::alloc::Global;
+use std::alloc::{AllocError, Global};
 use std::io::Write;
 use std::thread::Threads;
 use std::time::Clock;
@@ -94,6 +94,25 @@ pub fn serve_desks<
         errors,
         rest,
     )?;
+    Ok(end_of(
+        threads, alloc, server, ports, outputs, errors, rest,
+    )?)
+}
+
+/// The end of serving: what is handed on is written.
+fn end_of<T: Threads, O: Write + Drop, P: Outputs<O> + Drop, E: Write, S: Pause>(
+    threads: &T,
+    alloc: Global,
+    server: DeskServer,
+    ports: Ports,
+    outputs: Vec<Output<O, P>>,
+    errors: &mut E,
+    rest: &mut S,
+) -> Result<DesksEnd<O, P>, AllocError>
+    requires { AreOutputsOf (IsHandedBack O.contents P.stands P.hands_back) outputs.items ports.writers.items }
+    ensures desks { IfOk result (λ end. end.desks.items ≡ server.desks.items) }
+    ensures outputs { IfOk result (λ end. AreSettled (IsHandedBack O.contents P.stands P.hands_back) outputs.items ports.writers.items end.outputs.items) }
+{
     let outputs = finish(threads, alloc, &server, ports, outputs, errors, rest)?;
     let DeskServer { engine, desks, .. } = server;
     Ok(DesksEnd {
