@@ -1,6 +1,5 @@
 -- How a pool begins, and what it does to it when an entry more is free.
-use Rattle.std.proofs.Common.{ℕ, ◌≡◌, ◌≢◌, ◌+◌, ◌*◌, ◌<◌, ◌≤◌, ◌^◌, List, [], ◌∷◌, ◌++◌, length, refl, sym, ap, ◌∙◌, subst, arith, suc, zero, map, inl, inr, add-one}
-use Rattle.std.specs.Prelude.{sum_by, replicate}
+use Rattle.std.proofs.Common.{ℕ, ◌≡◌, ◌≢◌, ◌+◌, ◌*◌, ◌<◌, ◌≤◌, ◌^◌, List, [], ◌∷◌, ◌++◌, length, refl, sym, ap, ◌∙◌, subst, arith, suc, zero, map, inl, inr, add-one, sum_by, replicate}
 use Rattle.std.specs.List.{All}
 use Rattle.std.proofs.lemmas.List.{length-map, length_push, length-replicate, get_or-map, get_or-replicate, get_or_append_left, get_or_past, get_or_push, get_or_default, same_lists}
 use Rattle.std.proofs.lemmas.List.Sums.{sum_by-le}

@@ -1,7 +1,6 @@
 -- What it does to the pool when a claim leaves a list: the first one, or one behind another.
-use Rattle.std.proofs.Common.{ℕ, ◌≡◌, ◌≢◌, ◌<◌, List, ◌∷◌, length, drop, refl, sym, ap, ◌∙◌, subst, arith, suc, zero, set}
+use Rattle.std.proofs.Common.{ℕ, ◌≡◌, ◌≢◌, ◌<◌, List, ◌∷◌, length, drop, refl, sym, ap, ◌∙◌, subst, arith, suc, zero, set, length-set}
 use Rattle.std.specs.List.{remove}
-use Rattle.std.proofs.lemmas.List.{length-set}
 use Rattle.batch_arbiter.specs.declared.entry.Entry.{Entry}
 use Rattle.batch_arbiter.specs.declared.ends.Ends.{Ends}
 use Rattle.batch_arbiter.specs.Linked.{at, ends_at, claim_of, claims_from, claims_of, Part, bottom, free, end_of, claim_in, marked, Leads, Avoids, IsList, IsLinkedBy, behind}

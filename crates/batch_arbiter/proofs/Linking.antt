@@ -1,8 +1,6 @@
 -- What writes to entries of the pool do to the lists that are linked through it.
-use Rattle.std.proofs.Common.{ℕ, ◌≡◌, ◌≢◌, ◌<◌, ◌≤◌, List, [], ◌∷◌, ◌++◌, length, refl, sym, ap, ◌∙◌, subst, arith, suc, zero, set, cond, eq-eqb}
+use Rattle.std.proofs.Common.{ℕ, ◌≡◌, ◌≢◌, ◌<◌, ◌≤◌, List, [], ◌∷◌, ◌++◌, length, refl, sym, ap, ◌∙◌, subst, arith, suc, zero, set, cond, eq-eqb, get_or-set_same, get_or-set_other, ne_eqb}
 use Rattle.std.specs.List.{remove}
-use Rattle.std.proofs.lemmas.List.{get_or-set_same, get_or-set_other}
-use Rattle.std.proofs.lemmas.Bool.{ne_eqb}
 use Rattle.batch_arbiter.specs.declared.entry.Entry.{Entry}
 use Rattle.batch_arbiter.specs.Linked.{nowhere, at, claim_of, claims_from, Part, marked, Leads, Avoids, behind}
 

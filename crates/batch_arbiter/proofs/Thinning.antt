@@ -1,6 +1,5 @@
 -- A list is gone along once: the claims of a batch behind its first one leave it, and the others stay.
-use Rattle.std.proofs.Common.{ℕ, ◌≡◌, ◌+◌, ◌-◌, ◌<◌, ◌≤◌, List, [], ◌∷◌, ◌++◌, length, get_or, take, drop, refl, sym, ap, ap₂, ◌∙◌, arith, suc, Bool, true, false, not, cond, filter, set, map, Some, None}
-use Rattle.std.specs.Prelude.{slice_get}
+use Rattle.std.proofs.Common.{ℕ, ◌≡◌, ◌+◌, ◌-◌, ◌<◌, ◌≤◌, List, [], ◌∷◌, ◌++◌, length, get_or, take, drop, refl, sym, ap, ap₂, ◌∙◌, arith, suc, Bool, true, false, not, cond, filter, set, map, Some, None, slice_get}
 use Rattle.std.specs.List.{remove}
 use Rattle.std.proofs.lemmas.List.{append_assoc, get_or_at, get_or-set_same, length-append, length-drop, length-map, length-set, length-take-le, nil_from_length, set-get_or, set-set, take-append-drop}
 use Rattle.std.proofs.lemmas.List.Edits.{remove-append_right}

@@ -1,6 +1,5 @@
 -- The asks of a batch leave the lines of all resources in turn.
-use Rattle.std.proofs.Common.{ℕ, ◌≡◌, ◌+◌, ◌<◌, ◌≤◌, List, [], ◌∷◌, ◌++◌, length, get_or, take, drop, sym, ap, ◌∙◌, arith, map, set}
-use Rattle.std.specs.Prelude.{sum_by}
+use Rattle.std.proofs.Common.{ℕ, ◌≡◌, ◌+◌, ◌<◌, ◌≤◌, List, [], ◌∷◌, ◌++◌, length, get_or, take, drop, sym, ap, ◌∙◌, arith, map, set, sum_by}
 use Rattle.std.proofs.lemmas.List.{length-append, length-map, length-drop, length-take-le, drop_more, take_at, drop_at, map_more, get_or_at, set_at, append_assoc}
 use Rattle.std.proofs.lemmas.List.Sums.{sum_by_more}
 use Rattle.batch_arbiter.specs.Allocation.{Claim, asks_of}

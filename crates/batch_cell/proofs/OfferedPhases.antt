@@ -1,12 +1,11 @@
 -- The phases that the units of a cell offer.
-use Rattle.std.proofs.Common.{◌≡◌, ℕ, ◌*◌, ◌<◌, ◌≤◌, Bool, true, false, if◌then◌else◌, List, [], ◌∷◌, length, map, get_or, sym, ◌∙◌, ap, arith}
+use Rattle.std.proofs.Common.{◌≡◌, ℕ, ◌*◌, ◌<◌, ◌≤◌, Bool, true, false, if◌then◌else◌, List, [], ◌∷◌, length, map, get_or, sym, ◌∙◌, ap, arith, None}
 use Rattle.std.proofs.lemmas.List.{length-append, length-map, get_or-map}
 use Rattle.std.specs.HashSet.{HashSet, keys}
 use Rattle.batch_cell.specs.Equipment.{belongs_to, unit_names, phases_for, unit_phases, offered_phases}
 use Rattle.batch_cell.specs.declared.module.TheConstants.{MAX_PHASES}
 use Rattle.batch_cell.specs.declared.unit.Unit.{Unit}
 use Rattle.batch_cell.specs.declared.module.Module.{Module}
-use Rattle.std.specs.Prelude.{None}
 
 phases_for_few : (unit : List ℕ) (b : Bool) (m : Module) → length (if b then m.phases.items else []) ≤ MAX_PHASES
 phases_for_few unit true m = m.few_phases

@@ -1,8 +1,7 @@
 -- What the ways up from a node and down from it keep, whatever units take the roles.
-use Rattle.std.proofs.Common.{◌≡◌, ◌≢◌, ◌⊎◌, inl, inr, ℕ, zero, suc, ◌+◌, ◌<◌, ◌≤◌, List, [], ◌∷◌, length, Bool, true, false, Option, Some, None, get_or, slice_get, sym, ap, ◌∙◌, refl, arith, IfSome, IsNone}
-use Rattle.std.specs.Prelude.{option_map, option_and_then}
+use Rattle.std.proofs.Common.{◌≡◌, ◌≢◌, ◌⊎◌, inl, inr, ℕ, zero, suc, ◌+◌, ◌<◌, ◌≤◌, List, [], ◌∷◌, length, Bool, true, false, Option, Some, None, get_or, slice_get, sym, ap, ◌∙◌, refl, arith, IfSome, IsNone, option_map, option_and_then}
 use Rattle.std.proofs.lemmas.Option.{slice_get_within, slice_get-get_or}
-use Rattle.batch_recipe.specs.ActsAtNodes.{procedure_acts}
+use Rattle.batch_recipe.specs.ActsAtNodes.{procedure_acts, IsNoAct, IsNodeOf}
 use Rattle.batch_recipe.specs.Conditions.{Name}
 use Rattle.batch_recipe.specs.Expanding.{Binding, unbound, reserves_from, unit_count}
 use Rattle.batch_recipe.specs.Following.{Follower, firsts, following, follower}
@@ -13,7 +12,6 @@ use Rattle.batch_recipe.specs.Outlines.{Form, an_act, a_skip, a_seq, a_par, a_se
 use Rattle.batch_recipe.specs.Places.{IsNodeAt}
 use Rattle.batch_recipe.specs.Procedure.{bound_nodes, bound_tree, procedure_nodes}
 use Rattle.batch_recipe.specs.Tree.{Place, Reserve, Tree, act, skip, seq, par, sel, loop}
-use Rattle.batch_recipe.specs.ActsAtNodes.{IsNoAct, IsNodeOf}
 use Rattle.batch_recipe.specs.declared.act.Act.{Act}
 use Rattle.batch_recipe.specs.declared.acts.LabelTable.{LabelTable}
 use Rattle.batch_recipe.specs.declared.entry.Entry.{Entry}

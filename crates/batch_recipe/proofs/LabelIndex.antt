@@ -1,7 +1,6 @@
 -- The number of an act by its name, in the table and in an index of its names.
-use Rattle.std.proofs.Common.{arith, ◌≡◌, ◌+◌, List, [], ◌∷◌, Bool, cond, not, Some, None, map, refl, sym, ap, ap₂, ◌∙◌}
+use Rattle.std.proofs.Common.{arith, ◌≡◌, ◌+◌, List, [], ◌∷◌, Bool, cond, not, Some, None, map, refl, sym, ap, ap₂, ◌∙◌, nat_lt, position}
 use Rattle.std.specs.Borrow.{Bor}
-use Rattle.std.specs.Prelude.{nat_lt, position}
 use Rattle.std.specs.List.{position_or_len}
 use Rattle.std.specs.Cmp.Lexicographic.{nat_list_eq_equiv}
 use Rattle.std.proofs.lemmas.List.{length-map}

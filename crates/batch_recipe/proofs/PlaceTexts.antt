@@ -1,6 +1,5 @@
 -- The text of a place grows by a number at a time.
-use Rattle.std.proofs.Common.{◌≡◌, ℕ, zero, suc, ◌+◌, ◌<◌, ◌≤◌, ◌++◌, List, [], ◌∷◌, length, take, slice_get, Some, None, unwrap_or, option_map, codes, decimal, ap, sym, ◌∙◌, refl, subst, arith, append_assoc}
-use Rattle.std.proofs.lemmas.List.{length-take-le, take_all}
+use Rattle.std.proofs.Common.{◌≡◌, ℕ, zero, suc, ◌+◌, ◌<◌, ◌≤◌, ◌++◌, List, [], ◌∷◌, length, take, slice_get, Some, None, unwrap_or, option_map, codes, decimal, ap, sym, ◌∙◌, refl, subst, arith, append_assoc, length-take-le, take_all}
 use Rattle.batch_recipe.specs.Tree.{Place}
 use Rattle.batch_recipe.specs.Nodes.{Node}
 use Rattle.batch_recipe.specs.Texts.{dot_text, place_text}

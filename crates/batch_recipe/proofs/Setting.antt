@@ -1,9 +1,8 @@
 -- Values that are set one after another: a list of which the first so many elements are mapped.
 use Rattle.std.specs.Cmp.Lexicographic.{bytes_decides}
-use Rattle.std.proofs.Common.{◌≡◌, ◌≤◌, ◌+◌, refl, sym, ◌∙◌, ap, ℕ, zero, suc, List, [], ◌∷◌, Option, Some, true, false, arith, length, map, set, take, ◌++◌}
+use Rattle.std.proofs.Common.{◌≡◌, ◌≤◌, ◌+◌, refl, sym, ◌∙◌, ap, ℕ, zero, suc, List, [], ◌∷◌, Option, Some, true, false, arith, length, map, set, take, ◌++◌, slice_get}
 use Rattle.batch_recipe.specs.Conditions.{Name, ValueList, same_name}
 use Rattle.batch_recipe.specs.Values.{with_value, with_values}
-use Rattle.std.specs.Prelude.{slice_get}
 
 abbrev pub part : {X : Type 0} → (X → X) → ℕ → List X → List X
 part f zero xs = xs

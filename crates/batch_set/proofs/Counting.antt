@@ -1,6 +1,5 @@
 -- What is said of units one after another.
-use Rattle.std.proofs.Common.{◌≡◌, ℕ, List, [], ◌∷◌, ◌++◌, ◌+◌, ◌<◌, length, drop, get_or, Option, sym, ap, ◌∙◌, add-one, drop-cons, append_assoc, arith}
-use Rattle.std.specs.Prelude.{position}
+use Rattle.std.proofs.Common.{◌≡◌, ℕ, List, [], ◌∷◌, ◌++◌, ◌+◌, ◌<◌, length, drop, get_or, Option, sym, ap, ◌∙◌, add-one, drop-cons, append_assoc, arith, position}
 use Rattle.batch_cell.specs.LookUps.{phases_of}
 use Rattle.batch_cell.specs.declared.cell.Cell.{Cell}
 use Rattle.batch_cell.specs.declared.unit.Unit.{Unit}

@@ -1,7 +1,5 @@
 -- Rows that are made one after another, and what is read of them.
-use Rattle.std.proofs.Common.{◌≡◌, ℕ, List, [], ◌∷◌, ◌++◌, ◌+◌, ◌<◌, ◌≤◌, suc, length, drop, get_or, map, Option, Some, Vec, slice_get, sym, ap, ◌∙◌, add-one, drop-cons, drop_of_length-le, append_assoc, append-nil}
-use Rattle.std.specs.Global.{Global}
-use Rattle.std.specs.Prelude.{option_map, unwrap_or}
+use Rattle.std.proofs.Common.{◌≡◌, ℕ, List, [], ◌∷◌, ◌++◌, ◌+◌, ◌<◌, ◌≤◌, suc, length, drop, get_or, map, Option, Some, Vec, slice_get, sym, ap, ◌∙◌, add-one, drop-cons, drop_of_length-le, append_assoc, append-nil, Global, option_map, unwrap_or}
 use Rattle.std.proofs.lemmas.List.{map-append}
 use Rattle.std.proofs.lemmas.Option.{slice_get-map}
 use Rattle.batch_set.specs.Linking.{table_items}

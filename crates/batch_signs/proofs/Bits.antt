@@ -1,6 +1,5 @@
 -- Bits of words.
-use Rattle.std.proofs.Common.{◌≡◌, ◌<◌, ◌≤◌, ◌+◌, ◌-◌, ◌*◌, ◌%◌, refl, sym, ◌∙◌, ap, subst, ℕ, Bool, true, false, Option, Some, None, inl, inr, ◌⊎◌, arith, nat_eq, bit_and, bit_or, get_or, w64}
-use Rattle.std.specs.Prelude.{◌^◌, min}
+use Rattle.std.proofs.Common.{◌≡◌, ◌<◌, ◌≤◌, ◌-◌, ◌*◌, ◌%◌, refl, sym, ◌∙◌, ap, subst, ℕ, Bool, true, false, Some, inl, inr, ◌⊎◌, arith, nat_eq, bit_and, bit_or, get_or, w64, ◌^◌, min}
 use Rattle.std.specs.Int.{bit_at, bit_not, trailing_zeros}
 use Rattle.std.proofs.lemmas.Nat.Bits.{bit_at-lt, bit_at-zero, bit_at_and, bit_at_above, bit_at_set_same, bit_at_set_other, bit_at_clear_same, bit_at_clear_other, bit_at_mask_inside, bit_at_mask_below, ones_shl, bit_at-trailing_zeros, same_from_bits}
 use Rattle.batch_signs.specs.Bits.{with_one, with_zero, IsLowestFrom}

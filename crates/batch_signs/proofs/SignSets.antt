@@ -1,6 +1,5 @@
 -- Sets of nodes by sign.
-use Rattle.std.proofs.Common.{◌≡◌, ◌<◌, ◌≤◌, ◌+◌, ◌*◌, ◌/◌, ◌%◌, refl, sym, ◌∙◌, ap, ap₂, subst, ℕ, List, length, Bool, true, false, Option, Some, None, inl, inr, ◌⊎◌, arith, nat_eq, bit_and, bit_or, get_or}
-use Rattle.std.specs.Prelude.{◌^◌, min, max, not, slice_index, slice_set}
+use Rattle.std.proofs.Common.{◌≡◌, ◌<◌, ◌≤◌, ◌+◌, ◌*◌, ◌/◌, ◌%◌, refl, sym, ◌∙◌, ap, ap₂, subst, ℕ, List, length, Bool, true, false, Some, None, inl, inr, ◌⊎◌, arith, nat_eq, bit_and, bit_or, get_or, ◌^◌, min, max, not, slice_index, slice_set}
 use Rattle.std.specs.Int.{bit_at}
 use Rattle.std.specs.Int.Bits.{bit_xor}
 use Rattle.std.proofs.lemmas.Bool.{cases_lt}
@@ -9,7 +8,7 @@ use Rattle.std.proofs.lemmas.Nat.{div-add-mod', mod_below, div-mul-add, mod-mul-
 use Rattle.std.proofs.lemmas.Nat.Bits.{bit_at-lt, bit_at-zero, bit_at_or, bit_at_xor, bit_at_above}
 use Rattle.batch_signs.specs.Bits.{with_told, IsLowestFrom}
 use Rattle.batch_signs.specs.SignSets.{set_of, shown, bit_of, AreSummed, AreJoined, IsTurnedAt, IsChangedAt, ShowsNone, ShowsSome, IsFirstShown}
-use Rattle.batch_signs.proofs.Bits.{nat-same, nat-self, differs, no-bits, zeros, with-one_same, with-one_other, with-zero_same, with-zero_other}
+use Rattle.batch_signs.proofs.Bits.{nat-same, differs, no-bits, zeros, with-one_same, with-one_other, with-zero_same, with-zero_other}
 use Rattle.batch_signs.proofs.Wanting.{no-bit}
 
 not-one : (x : ℕ) → x ≡ 0 → x ≡ 1 → ⊥

@@ -1,6 +1,5 @@
 -- Whether wanted signs are among those of a node.
-use Rattle.std.proofs.Common.{◌≡◌, ◌<◌, ◌≤◌, refl, sym, ◌∙◌, ap, ℕ, List, length, Bool, true, false, Some, None, inl, inr, ◌⊎◌, arith, nat_eq, nat_le}
-use Rattle.std.specs.Prelude.{min, max, not, ◌||◌, zero, suc}
+use Rattle.std.proofs.Common.{◌≡◌, ◌<◌, ◌≤◌, refl, sym, ◌∙◌, ap, ℕ, List, length, Bool, true, false, Some, None, inl, inr, ◌⊎◌, arith, nat_eq, nat_le, min, max, not, ◌||◌, zero, suc}
 use Rattle.std.specs.Int.{bit_at}
 use Rattle.std.specs.Int.Bits.{bit_and, bit_or}
 use Rattle.std.proofs.lemmas.Bool.{cases_lt}

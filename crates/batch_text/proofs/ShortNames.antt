@@ -1,12 +1,10 @@
 -- Two short names are the same where their lengths are and all of their room is, zeroes included.
-use Rattle.std.proofs.Common.{◌≡◌, ◌≤◌, ◌<◌, ◌++◌, arith, ◌-◌, ◌∙◌, ℕ, Bool, zero, suc, true, false, nat_eq, List, [], ◌∷◌, length, refl, sym, ap, subst}
+use Rattle.std.proofs.Common.{◌≡◌, ◌≤◌, ◌<◌, ◌++◌, arith, ◌-◌, ◌∙◌, ℕ, Bool, zero, suc, true, false, nat_eq, List, [], ◌∷◌, length, refl, sym, ap, subst, length-take-le, take-append-drop, take-take, ◌≢◌, ◌&&◌, take, drop, replicate, get_or}
 use Rattle.std.proofs.lemmas.Bool.{and_parts, and_from, and_right, eqb-true, eqb-false, eq-eqb}
-use Rattle.std.proofs.lemmas.List.{length-take-le, take-append-drop, take-take}
 use Rattle.std.proofs.lemmas.Nat.{le_bytes_8}
 use Rattle.std.specs.Cmp.Lexicographic.{pointwise, nat_list_eq_equiv, bytes_decides}
 use Rattle.std.specs.Bool.{Decides, one_answer}
 use Rattle.std.specs.Int.{from_le_bytes, to_le_bytes, w64}
-use Rattle.std.specs.Prelude.{◌≢◌, ◌&&◌, take, drop, replicate, get_or}
 use Rattle.batch_text.specs.Spelling.{letters, IsWithinRoom}
 use Rattle.batch_text.specs.declared.spelling.Spelling.{Spelling}
 use Rattle.batch_text.specs.declared.spelling.Spelling.TheVariants.{Short}

@@ -1,5 +1,4 @@
-use Rattle.std.proofs.Common.{◌≡◌, ◌<◌, ◌+◌, ◌^◌, ◌++◌, ◌∷◌, [], ℕ, List, length, arith, sym, ap, ◌∙◌, subst, refl}
-use Rattle.std.specs.Prelude.{vec_len, vec_capacity}
+use Rattle.std.proofs.Common.{◌≡◌, ◌<◌, ◌+◌, ◌^◌, ◌++◌, ◌∷◌, [], ℕ, List, length, arith, sym, ap, ◌∙◌, subst, refl, vec_len, vec_capacity}
 use Rattle.std.proofs.lemmas.List.{length_push}
 use Rattle.batch_arbiter.specs.declared.entry.Entry.{Entry}
 use Rattle.batch_arbiter.specs.Linked.{IsGrown}

@@ -1,5 +1,4 @@
-use Rattle.std.proofs.Common.{◌≡◌, ◌<◌, arith, length, get_or, sym, ap}
-use Rattle.std.specs.Prelude.{slice_get}
+use Rattle.std.proofs.Common.{◌≡◌, ◌<◌, arith, length, get_or, sym, ap, slice_get}
 use Rattle.std.proofs.lemmas.List.{get_or_read, length-map}
 use Rattle.batch_arbiter.specs.declared.ends.Ends.{Ends}
 use Rattle.batch_arbiter.specs.Linked.{at, ends_at, no_list, nowhere}

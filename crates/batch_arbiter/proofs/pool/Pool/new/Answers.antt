@@ -1,5 +1,4 @@
-use Rattle.std.proofs.Common.{◌≡◌, ◌<◌, ◌+◌, ◌^◌, arith, length, ap, ◌∙◌, []}
-use Rattle.std.specs.Prelude.{replicate}
+use Rattle.std.proofs.Common.{◌≡◌, ◌<◌, ◌+◌, ◌^◌, arith, length, ap, ◌∙◌, [], replicate}
 use Rattle.batch_arbiter.proofs.Growing.{IsLinked-new, claims-new}
 use Rattle.batch_arbiter.proofs.pool.Pool.new.Goals as goal
 
