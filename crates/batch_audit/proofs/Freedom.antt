@@ -1,6 +1,5 @@
 -- Which lines of a record are no refusals for want of memory that the machine might have given.
-use Rattle.std.proofs.Common.{ℕ, false, List, codes, Option, Some, None, Result, Ok, Err, IsTrue, inl, inr}
-use Rattle.std.specs.Prelude.{◌≢◌, ◌↔◌}
+use Rattle.std.proofs.Common.{ℕ, false, List, codes, Option, Some, None, Result, Ok, Err, IsTrue, inl, inr, ◌≢◌, ◌↔◌}
 use Rattle.batch_model.specs.Events.{Event}
 use Rattle.batch_model.specs.Plant.{Setup, Plant}
 use Rattle.batch_wire.specs.declared.fault.WireFault.{WireFault}

@@ -1,5 +1,5 @@
 -- worked rows: what the lines of a record tell, and where its whole lines end.
-use Rattle.std.specs.Prelude.{◌≡◌, ◌≢◌, [], ◌∷◌, codes}
+use Rattle.std.specs.Prelude.{◌≡◌, [], ◌∷◌, codes}
 use Rattle.batch_audit.specs.Audits.{HasLines, number_behind, told_text}
 
 pub record AuditRows : Type 0 where

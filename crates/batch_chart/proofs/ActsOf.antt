@@ -1,6 +1,5 @@
 -- Each act of what remains of a tree is the act of one of its nodes.
-use Rattle.std.proofs.Common.{◌≡◌, ◌⊎◌, inl, inr, ◌<◌, ℕ, ◌+◌, List, [], ◌∷◌, ◌++◌, length, Some, true, false, arith, refl, sym, ◌∙◌, subst, ap}
-use Rattle.std.specs.Prelude.{slice_get}
+use Rattle.std.proofs.Common.{◌≡◌, ◌⊎◌, inl, inr, ◌<◌, ℕ, ◌+◌, List, [], ◌∷◌, ◌++◌, length, Some, true, false, arith, refl, sym, ◌∙◌, subst, ap, slice_get}
 use Rattle.batch_recipe.specs.Needs.{resources_of}
 use Rattle.batch_recipe.specs.Conditions.{Name}
 use Rattle.batch_recipe.specs.Nodes as nodes

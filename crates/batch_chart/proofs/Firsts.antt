@@ -1,6 +1,5 @@
 -- The first act that is found makes the first move of a kind.
-use Rattle.std.proofs.Common.{◌≡◌, ◌⊎◌, inl, inr, ◌<◌, ℕ, suc, ◌+◌, ◌-◌, List, [], ◌∷◌, length, zero, Bool, true, false, ◌&&◌, Some, None, nat_eq, nat_lt, nat_le, cond, arith, refl, sym, ◌∙◌, subst, ap, ap₂}
-use Rattle.std.specs.Prelude.{slice_index_or, Option, IfSome, not, ◌||◌, map, find, option_map, option_and_then}
+use Rattle.std.proofs.Common.{◌≡◌, ◌⊎◌, inl, inr, ◌<◌, ℕ, suc, ◌+◌, ◌-◌, List, [], ◌∷◌, length, zero, Bool, true, false, ◌&&◌, Some, None, nat_eq, nat_lt, nat_le, cond, arith, refl, sym, ◌∙◌, subst, ap, ap₂, slice_index_or, Option, IfSome, not, ◌||◌, map, find, option_map, option_and_then}
 use Rattle.std.specs.List.{filter_map, cons_option}
 use Rattle.std.specs.Int.Bits.{bit_or}
 use Rattle.std.proofs.lemmas.Bool.Decides.{nat_tests}
@@ -26,12 +25,11 @@ use Rattle.batch_chart.specs.declared.chart_move.Move.TheVariants as move
 use Rattle.batch_chart.specs.Stages.{stage_at}
 use Rattle.batch_chart.specs.Meaning.{act_as}
 use Rattle.batch_chart.specs.Outlined.{kind_at, is_act_kind}
-use Rattle.batch_chart.specs.Nexts.{first_of}
+use Rattle.batch_chart.specs.Nexts.{first_of, held_at, last_held as last, entered, releasing, handing}
 use Rattle.batch_chart.specs.Noting.{gives}
 use Rattle.batch_chart.specs.NodesOf.{no_need, no_phase, phase_in, name_in, place_at, step_at}
 use Rattle.batch_chart.specs.OwnMoves.{own_move, is_kind}
 use Rattle.batch_chart.specs.Running.{CanRelease, HasMore, Allows}
-use Rattle.batch_chart.specs.Nexts.{held_at, last_held as last, entered, releasing, handing}
 use Rattle.batch_chart.specs.Passing.{IsBatchOf, PassesTo}
 use Rattle.batch_recipe.specs.Nodes.{node_count}
 use Rattle.batch_recipe.specs.Procedure.{bound_tree}

@@ -1,6 +1,5 @@
 -- The first act that can give back a need while the batch stops, by the signs.
-use Rattle.std.proofs.Common.{◌≡◌, ◌⊎◌, inl, inr, ◌<◌, ◌≤◌, ℕ, zero, suc, ◌+◌, List, [], ◌∷◌, length, Bool, true, false, ◌&&◌, Some, None, nat_eq, nat_lt, nat_le, arith, refl, sym, ◌∙◌, subst, ap}
-use Rattle.std.specs.Prelude.{Option}
+use Rattle.std.proofs.Common.{◌≡◌, ◌⊎◌, inl, inr, ◌<◌, ◌≤◌, ℕ, zero, suc, ◌+◌, List, [], ◌∷◌, length, Bool, true, false, ◌&&◌, Some, None, nat_eq, nat_lt, nat_le, arith, refl, sym, ◌∙◌, subst, ap, Option}
 use Rattle.std.specs.Int.Bits.{bit_and}
 use Rattle.std.proofs.lemmas.Bool.{cases_lt}
 use Rattle.std.proofs.lemmas.Bool.Decides.{eqb_tells, nat_tests}
@@ -17,10 +16,9 @@ use Rattle.batch_chart.specs.declared.sign.TheConstants.{HOLDS}
 use Rattle.batch_chart.specs.declared.stage.Stage.{Stage}
 use Rattle.batch_chart.specs.declared.stage.Stage.TheVariants.{Finished, Ready, Asking, Open, Live, Freeing, Turning}
 use Rattle.batch_chart.specs.Outlined.{end_at, kind_at, Stands}
-use Rattle.batch_chart.specs.Nexts.{first_of}
+use Rattle.batch_chart.specs.Nexts.{first_of, IsFoundFirst, SomeNoted, GivesAs, GivesNone, IsFirstGiving}
 use Rattle.batch_chart.specs.Meaning.{meaning, meaning_below, act_as}
 use Rattle.batch_chart.specs.Neat.{AreNeat}
-use Rattle.batch_chart.specs.Nexts.{IsFoundFirst, SomeNoted, GivesAs, GivesNone, IsFirstGiving}
 use Rattle.batch_chart.specs.Noting.{gives, signs_of, sign_in}
 use Rattle.batch_chart.specs.Numbered.{numbered}
 use Rattle.batch_chart.specs.Running.{IsLaid}

@@ -1,6 +1,5 @@
 -- A batch that makes no move of its own can only be granted what it asks for.
-use Rattle.std.proofs.Common.{◌≡◌, List, [], ◌∷◌, Some, None, refl, sym, ◌∙◌, ap}
-use Rattle.std.specs.Prelude.{Option, ◌++◌, option_to_list}
+use Rattle.std.proofs.Common.{◌≡◌, List, [], ◌∷◌, Some, None, refl, sym, ◌∙◌, ap, Option, ◌++◌, option_to_list}
 use Rattle.std.specs.List.{filter_map, cons_option}
 use Rattle.batch_model.specs.Plant.{Setup, Batch, Plant}
 use Rattle.batch_model.specs.Rest.{Rest, ready, asking, open_act, live, freeing, in_seq, in_par, in_loop, done, acts}

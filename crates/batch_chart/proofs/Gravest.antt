@@ -1,6 +1,5 @@
 -- The gravest state of live phases is the first, in their order, that one of them has.
-use Rattle.std.proofs.Common.{◌≡◌, ◌⊎◌, inl, inr, ◌<◌, ◌≤◌, ℕ, List, [], ◌∷◌, Bool, true, false, Some, None, nat_lt, arith, refl, sym, ◌∙◌, subst, ap}
-use Rattle.std.specs.Prelude.{Option, find, ◌||◌}
+use Rattle.std.proofs.Common.{◌≡◌, ◌⊎◌, inl, inr, ◌<◌, ◌≤◌, ℕ, List, [], ◌∷◌, Bool, true, false, Some, None, nat_lt, arith, refl, sym, ◌∙◌, subst, ap, Option, find, ◌||◌}
 use Rattle.std.specs.List.{list_any}
 use Rattle.std.proofs.Math.Bool.{cond}
 use denote.Enum.Bare.{same_true, true_same}

@@ -1,6 +1,5 @@
 -- To which node an act passes on a need.
-use Rattle.std.proofs.Common.{◌≡◌, ◌<◌, ℕ, zero, suc, ◌+◌, List, [], ◌∷◌, length, Bool, true, false, Some, None, nat_eq, cond, arith, refl, sym, ◌∙◌, ap}
-use Rattle.std.specs.Prelude.{Option, IfSome, IsNone, find, slice_get, option_map, option_and_then}
+use Rattle.std.proofs.Common.{◌≡◌, ◌<◌, ℕ, zero, suc, ◌+◌, List, [], ◌∷◌, length, Bool, true, false, Some, None, nat_eq, cond, arith, refl, sym, ◌∙◌, ap, Option, IfSome, IsNone, find, slice_get, option_map, option_and_then}
 use Rattle.std.proofs.lemmas.Bool.Decides.{nat_tests}
 use Rattle.batch_recipe.specs.ActsAtNodes.{IsNoAct, procedure_acts}
 use Rattle.batch_recipe.specs.Conditions.{Name}

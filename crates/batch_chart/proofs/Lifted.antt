@@ -1,6 +1,5 @@
 -- Where the tree at p alone has gone on, and is as finished as before, all trees above it have gone on by that.
-use Rattle.std.proofs.Common.{◌≡◌, inl, inr, ℕ, zero, suc, ◌+◌, List, Bool, true, false, Some, None, refl, sym, ◌∙◌, subst, ap, ap₂}
-use Rattle.std.specs.Prelude.{Option}
+use Rattle.std.proofs.Common.{◌≡◌, inl, inr, ℕ, zero, suc, ◌+◌, List, Bool, true, false, Some, None, refl, sym, ◌∙◌, subst, ap, ap₂, Option}
 use Rattle.std.proofs.lemmas.Bool.Decides.{eqb_tells}
 use Rattle.batch_recipe.specs.Conditions.{Name, ValueList}
 use Rattle.batch_recipe.specs.declared.condition.Cond.{Cond}

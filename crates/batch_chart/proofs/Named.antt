@@ -1,6 +1,5 @@
 -- The first live phase with a name, by the signs.
-use Rattle.std.proofs.Common.{◌≡◌, ◌⊎◌, inl, inr, ◌<◌, ◌≤◌, ℕ, ◌+◌, List, [], ◌∷◌, Bool, true, false, ◌&&◌, Some, None, nat_le, arith, refl, sym, ◌∙◌, subst, ap}
-use Rattle.std.specs.Prelude.{Option}
+use Rattle.std.proofs.Common.{◌≡◌, ◌⊎◌, inl, inr, ◌<◌, ◌≤◌, ℕ, ◌+◌, List, [], ◌∷◌, Bool, true, false, ◌&&◌, Some, None, nat_le, arith, refl, sym, ◌∙◌, subst, ap, Option}
 use Rattle.std.specs.Int.Bits.{bit_and}
 use Rattle.std.proofs.lemmas.Bool.{cases_lt}
 use Rattle.std.proofs.lemmas.Bool.Decides.{eqb_tells, nat_tests}
@@ -14,9 +13,8 @@ use Rattle.batch_recipe.specs.declared.recipe.Recipe.{Recipe}
 use Rattle.batch_chart.specs.declared.sign.TheConstants.{LIVES}
 use Rattle.batch_chart.specs.declared.stage.Stage.{Stage}
 use Rattle.batch_chart.specs.Outlined.{kind_at, Stands}
-use Rattle.batch_chart.specs.Nexts.{first_of}
+use Rattle.batch_chart.specs.Nexts.{first_of, IsFoundFirst, SomeNoted, has_name, is_named, names_at, IsFirstNamed}
 use Rattle.batch_chart.specs.Meaning.{meaning_below}
-use Rattle.batch_chart.specs.Nexts.{IsFoundFirst, SomeNoted, has_name, is_named, names_at, IsFirstNamed}
 use Rattle.batch_chart.specs.Noting.{signs_of, sign_in}
 use Rattle.batch_chart.specs.Numbered.{numbered}
 use Rattle.batch_chart.specs.Running.{IsLaid}

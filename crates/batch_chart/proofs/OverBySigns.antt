@@ -1,6 +1,5 @@
 -- Where no node shows that it is an act, nothing is left of a row.
-use Rattle.std.proofs.Common.{◌≡◌, inl, inr, ◌<◌, ◌≤◌, ℕ, ◌+◌, List, [], ◌∷◌, Bool, true, false, arith, refl, sym, ◌∙◌, ap}
-use Rattle.std.specs.Prelude.{map}
+use Rattle.std.proofs.Common.{◌≡◌, inl, inr, ◌<◌, ◌≤◌, ℕ, ◌+◌, List, [], ◌∷◌, Bool, true, false, arith, refl, sym, ◌∙◌, ap, map}
 use Rattle.std.specs.Int.Bits.{bit_and}
 use Rattle.std.proofs.lemmas.Bool.{cases_lt}
 use Rattle.batch_recipe.specs.Nodes.{node_count}

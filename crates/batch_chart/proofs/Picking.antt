@@ -13,11 +13,10 @@ use Rattle.batch_recipe.specs.declared.recipe.Recipe.{Recipe}
 use Rattle.batch_chart.specs.declared.stage.Stage.{Stage}
 use Rattle.batch_chart.specs.Stages.{stage_at, is_finished, is_begun, turns_of}
 use Rattle.batch_chart.specs.Meaning.{act_as, meaning_below}
-use Rattle.batch_chart.specs.Nexts.{first_of}
+use Rattle.batch_chart.specs.Nexts.{first_of, IsFoundFirst, SomeNoted}
 use Rattle.batch_chart.specs.Numbered.{entries, entries_in, numbered, numbered_below, numbered_each, numbered_branch, numbered_chosen}
 use Rattle.batch_signs.specs.Signs.{shows, sign_at, IsNextShown}
 use Rattle.batch_chart.specs.Noting.{signs_of, sign_in, AreNoted}
-use Rattle.batch_chart.specs.Nexts.{IsFoundFirst, SomeNoted}
 use Rattle.batch_chart.specs.Running.{IsLaid}
 use Rattle.batch_chart.proofs.Alike.{alike, same-signs}
 use Rattle.batch_chart.proofs.Choosing.{chosen-true, chosen-false}

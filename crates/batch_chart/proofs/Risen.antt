@@ -1,6 +1,5 @@
 -- Going on along the path to the root is going on with the whole chart.
-use Rattle.std.proofs.Common.{◌≡◌, ◌⊎◌, inl, inr, ◌<◌, ◌≤◌, ℕ, ◌+◌, List, length, true, arith, refl, sym, ◌∙◌, subst, ap, length-set}
-use Rattle.std.specs.Prelude.{slice_set}
+use Rattle.std.proofs.Common.{◌≡◌, ◌⊎◌, inl, inr, ◌<◌, ◌≤◌, ℕ, ◌+◌, List, length, true, arith, refl, sym, ◌∙◌, subst, ap, length-set, slice_set}
 use Rattle.std.proofs.lemmas.Bool.Decides.{eqb_tells}
 use Rattle.batch_recipe.specs.Conditions.{ValueList}
 use Rattle.batch_recipe.specs.Tree.{Tree, act, skip, seq, par, sel, loop}

@@ -1,18 +1,15 @@
 -- Running charts over whichever chart of their tree.
-use Rattle.std.proofs.Common.{◌≡◌, inl, inr, ◌<◌, ◌≤◌, ◌∙◌, refl, sym, subst, ap, arith, ℕ, ◌+◌, List, length, Bool, Some, None}
-use Rattle.std.specs.Prelude.{Option, IfSome}
+use Rattle.std.proofs.Common.{◌≡◌, inl, inr, ◌<◌, ◌≤◌, ◌∙◌, refl, sym, subst, ap, arith, ℕ, ◌+◌, List, length, Bool, Some, None, Option, IfSome, [], ◌∷◌, zero, suc}
 use Rattle.batch_recipe.specs.Nodes.{node_count}
-use Rattle.batch_recipe.specs.Conditions.{Name}
+use Rattle.batch_recipe.specs.Conditions.{Name, ValueList}
 use Rattle.batch_recipe.specs.declared.condition.Cond.{Cond}
 use Rattle.batch_recipe.specs.Tree.{Step, Phase, Trees, Choices, Tree, runs, follows, act, skip, seq, par, sel, loop}
 use Rattle.batch_recipe.specs.declared.entry.Entry.{Entry}
 use Rattle.batch_recipe.specs.declared.recipe.Recipe.{Recipe}
 use Rattle.batch_chart.specs.declared.running.Running.{Running}
 use Rattle.batch_chart.specs.declared.stage.Stage.{Stage}
-use Rattle.batch_recipe.specs.Conditions.{ValueList}
 use Rattle.batch_model.specs.Rest.{Rest, withdrawn}
 use Rattle.batch_model.specs.Plant.{InAdvance}
-use Rattle.std.proofs.Common.{[], ◌∷◌, zero, suc}
 use Rattle.std.specs.VecDeque.{deque_capacity}
 use Rattle.batch_model.specs.Lists.{Has}
 use Rattle.batch_chart.specs.Early.{AreHeld, AreNodes, in_advance}

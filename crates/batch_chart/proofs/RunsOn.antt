@@ -1,6 +1,5 @@
 -- A running chart goes on as its batch does, with what that holds in advance.
-use Rattle.std.proofs.Common.{◌≡◌, ◌⊎◌, inl, inr, ◌<◌, ℕ, List, [], ◌∷◌, length, filter, Bool, true, false, Some, nat_eq, arith, refl, sym, ◌∙◌, subst, ap}
-use Rattle.std.specs.Prelude.{not}
+use Rattle.std.proofs.Common.{◌≡◌, ◌⊎◌, inl, inr, ◌<◌, ℕ, List, [], ◌∷◌, length, filter, Bool, true, false, Some, nat_eq, arith, refl, sym, ◌∙◌, subst, ap, not}
 use Rattle.batch_record_laws.proofs.Entries.{Has-filter}
 use Rattle.batch_chart.specs.Noting.{AreNoted}
 use Rattle.batch_matrix.specs.declared.report.PhaseEnd.{PhaseEnd}

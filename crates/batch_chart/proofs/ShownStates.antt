@@ -22,7 +22,7 @@ use Rattle.batch_chart.specs.declared.node.Kind.TheVariants as kind
 use Rattle.batch_recipe.specs.declared.recipe.Recipe.{Recipe}
 use Rattle.batch_chart.specs.declared.stage.Stage.{Stage}
 use Rattle.batch_chart.specs.declared.stage.Stage.TheVariants as stage
-use Rattle.batch_chart.specs.Nexts.{first_of}
+use Rattle.batch_chart.specs.Nexts.{first_of, SomeNoted}
 use Rattle.batch_chart.specs.Stages.{stage_at, is_begun, is_finished, turns_of}
 use Rattle.batch_chart.specs.Meaning.{act_as, meaning, meaning_below}
 use Rattle.batch_chart.specs.Outlined.{end_at, kind_at, is_act_kind, Stands, StandsAct, AreStanding, AreChoices}
@@ -33,7 +33,6 @@ use Rattle.batch_chart.specs.Told.{TellsWhetherOver}
 use Rattle.batch_chart.specs.declared.sign.TheConstants.{IS_ACT, LIVES}
 use Rattle.batch_chart.specs.Numbered.{numbered, numbered_below, numbered_each, numbered_branch, numbered_chosen}
 use Rattle.batch_chart.specs.NodesOf.{nodes_of, node_at, place_at}
-use Rattle.batch_chart.specs.Nexts.{SomeNoted}
 use Rattle.batch_chart.specs.Running.{IsActTree, IsLaid}
 use Rattle.batch_chart.specs.Showing.{is_among, shown_by, StandsBelow, IsFirstShown, IsShown, IsStateAt}
 use Rattle.batch_chart.proofs.Found.{nothing, numbered-acts}

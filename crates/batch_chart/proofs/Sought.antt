@@ -1,6 +1,5 @@
 -- What acts show, form by form, and the tests of acts that signs tell.
-use Rattle.std.proofs.Common.{◌≡◌, ℕ, length, Bool, true, false, ◌&&◌, arith, refl, sym, ◌∙◌, ap, nat_lt, nat_le}
-use Rattle.std.specs.Prelude.{not, ◌||◌}
+use Rattle.std.proofs.Common.{◌≡◌, ℕ, length, Bool, true, false, ◌&&◌, arith, refl, sym, ◌∙◌, ap, nat_lt, nat_le, not, ◌||◌}
 use Rattle.std.proofs.lemmas.Bool.Decides.{nat_tests}
 use Rattle.batch_matrix.specs.declared.command.Command.{Command}
 use Rattle.batch_matrix.specs.declared.state.State.{State}

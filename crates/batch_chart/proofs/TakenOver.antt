@@ -1,7 +1,6 @@
 -- Ready acts take over what is held for them in advance.
-use Rattle.std.proofs.Common.{◌≡◌, ◌≢◌, ◌⊎◌, inl, inr, ◌<◌, ◌≤◌, ℕ, zero, suc, ◌+◌, List, [], ◌∷◌, length, take, Bool, true, false, ◌||◌, nat_eq, nat_lt, arith, refl, sym, ◌∙◌, subst, ap, ap₂}
+use Rattle.std.proofs.Common.{◌≡◌, ◌≢◌, ◌⊎◌, inl, inr, ◌<◌, ◌≤◌, ℕ, zero, suc, ◌+◌, List, [], ◌∷◌, length, take, Bool, true, false, ◌||◌, nat_eq, nat_lt, arith, refl, sym, ◌∙◌, subst, ap, ap₂, slice_set, slice_index_or}
 use Rattle.std.proofs.lemmas.Bool.Decides.{eqb_tells, nat_tests}
-use Rattle.std.specs.Prelude.{slice_set, slice_index_or}
 use Rattle.std.proofs.Math.Dec.{eqb}
 use Rattle.batch_recipe.specs.Tree.{Place, Step, Task, runs, follows, Tree, act, skip, seq, par, sel, loop}
 use Rattle.batch_recipe.specs.declared.entry.Entry.{Entry}

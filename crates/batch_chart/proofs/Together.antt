@@ -1,6 +1,5 @@
 -- How much acts have together that are reached at once, counted along the nodes.
-use Rattle.std.proofs.Common.{◌≡◌, ◌≢◌, ◌<◌, ◌≤◌, ◌∙◌, ℕ, ◌+◌, List, Bool, true, false, length, arith, sym, ap, subst}
-use Rattle.std.specs.Prelude.{max}
+use Rattle.std.proofs.Common.{◌≡◌, ◌≢◌, ◌<◌, ◌≤◌, ◌∙◌, ℕ, ◌+◌, List, Bool, true, false, length, arith, sym, ap, subst, max}
 use Rattle.batch_recipe.specs.Nodes.{node_count}
 use Rattle.batch_recipe.specs.Tree.{Step, Phase, Task, runs, follows, Tree, act, skip, seq, par, sel, loop, Trees, no_trees, tree, Choices, otherwise, choice}
 use Rattle.batch_recipe.specs.Conditions.{Name}

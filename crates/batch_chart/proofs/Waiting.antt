@@ -1,6 +1,5 @@
 -- The first act in line.
-use Rattle.std.proofs.Common.{◌≡◌, ◌⊎◌, inl, inr, ◌<◌, ◌≤◌, ℕ, zero, suc, ◌+◌, List, [], ◌∷◌, ◌++◌, length, Bool, true, false, Some, None, nat_le, nat_lt, arith, refl, sym, ◌∙◌, subst, ap, ap₂}
-use Rattle.std.specs.Prelude.{map, slice_get, ◌&&◌}
+use Rattle.std.proofs.Common.{◌≡◌, ◌⊎◌, inl, inr, ◌<◌, ◌≤◌, ℕ, zero, suc, ◌+◌, List, [], ◌∷◌, ◌++◌, length, Bool, true, false, Some, None, nat_le, nat_lt, arith, refl, sym, ◌∙◌, subst, ap, ap₂, map, slice_get, ◌&&◌}
 use Rattle.std.proofs.lemmas.Bool.Decides.{nat_tests}
 use Rattle.batch_recipe.specs.Needs.{resources_of}
 use Rattle.batch_recipe.specs.Conditions.{Name}
@@ -22,13 +21,11 @@ use Rattle.batch_chart.specs.declared.stage.Stage.TheVariants as stage
 use Rattle.batch_chart.specs.Stages.{stage_at}
 use Rattle.batch_chart.specs.Meaning.{meaning, meaning_below, act_as}
 use Rattle.batch_chart.specs.Outlined.{kind_at}
-use Rattle.batch_chart.specs.Nexts.{first_of}
+use Rattle.batch_chart.specs.Nexts.{first_of, IsFoundFirst}
 use Rattle.batch_chart.specs.Numbered.{numbered}
-use Rattle.batch_chart.specs.NodesOf.{nodes_of, node_at, place_at, step_at, task_at}
-use Rattle.batch_chart.specs.Nexts.{IsFoundFirst}
+use Rattle.batch_chart.specs.NodesOf.{nodes_of, node_at, place_at, step_at, task_at, step_of}
 use Rattle.batch_chart.specs.Running.{IsLaid, IsAlive, SomeLives, IsAskingAt}
 use Rattle.batch_chart.specs.Charts.{AsksAt, IsFirstWaiting}
-use Rattle.batch_chart.specs.NodesOf.{step_of}
 use Rattle.batch_chart.proofs.Choosing.{chosen-true, chosen-false}
 use Rattle.batch_chart.proofs.Found.{numbered-acts}
 use Rattle.batch_chart.proofs.Stepping.{fits-act, fits-count, number-at-place, act-place, entry-undone}

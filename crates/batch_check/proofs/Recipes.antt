@@ -1,6 +1,5 @@
 -- The edges of recipes, one recipe after another.
-use Rattle.std.proofs.Common.{◌≡◌, ℕ, ◌+◌, ◌-◌, ◌<◌, ◌≤◌, ◌⊎◌, ◌&&◌, inl, inr, refl, List, [], ◌∷◌, ◌++◌, get_or, take, length, slice_get, ltb, nat_eq, IsTrue, Vec, Option, Some, None, option_map, All, sym, ap, ◌∙◌, subst, arith, lt-ltb}
-use Rattle.std.specs.Global.{Global}
+use Rattle.std.proofs.Common.{◌≡◌, ℕ, ◌+◌, ◌-◌, ◌<◌, ◌≤◌, ◌⊎◌, ◌&&◌, inl, inr, refl, List, [], ◌∷◌, ◌++◌, get_or, take, length, slice_get, ltb, nat_eq, IsTrue, Vec, Option, Some, None, option_map, All, sym, ap, ◌∙◌, subst, arith, lt-ltb, Global}
 use Rattle.std.specs.List.{Contains}
 use Rattle.std.proofs.lemmas.Bool.{and_from, and_parts, cases_lt, eq-eqb, ltb-true, not-false, or_left, or_right, true≢false}
 use Rattle.std.proofs.lemmas.List.{get_or_past, take_more}

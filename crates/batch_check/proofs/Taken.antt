@@ -1,9 +1,7 @@
 -- Edges between resources and roles, one more of which is taken as it is in a binding.
-use Rattle.std.proofs.Common.{◌≡◌, ◌⊎◌, ℕ, ◌<◌, inl, inr, List, [], ◌∷◌, ◌++◌, map, set, length, get_or, Vec, Option, Some, None, Bool, false, refl, sym, ap, ◌∙◌, subst, arith}
-use Rattle.std.specs.Global.{Global}
+use Rattle.std.proofs.Common.{◌≡◌, ◌⊎◌, ℕ, ◌<◌, inl, inr, List, [], ◌∷◌, ◌++◌, map, set, length, get_or, Vec, Option, Some, None, Bool, false, refl, sym, ap, ◌∙◌, subst, arith, Global, get_or-set_same, get_or-set_other, length-set}
 use Rattle.std.specs.List.{Contains}
 use Rattle.std.proofs.lemmas.Bool.{cases_eq}
-use Rattle.std.proofs.lemmas.List.{get_or-set_same, get_or-set_other, length-set}
 use Rattle.std.proofs.lemmas.Option.{slice_get-get_or}
 use Rattle.std.proofs.lemmas.List.Elements.{Contains-append_cases, Contains-append_left, Contains-append_right}
 use Rattle.batch_cell.specs.declared.cell.Cell.{Cell}

@@ -8,7 +8,7 @@ use Rattle.rtrb.specs.declared.finished.Finished.{Finished}
 use Rattle.rtrb.specs.declared.producer.Producer.{Producer}
 use Rattle.std.specs.List.{All}
 use Rattle.batch_model.specs.Plant.{opening}
-use Rattle.batch_engine.specs.View.{plant_of}
+use Rattle.batch_engine.specs.View.{plant_of, EngineView}
 use Rattle.std.proofs.lemmas.Option.{IfSome_then, slice_get_read}
 use Rattle.std.proofs.lemmas.List.{map_push, set-get_or, take_more}
 use Rattle.batch_desk.specs.declared.plan.PortPlan.{PortPlan}
@@ -18,12 +18,10 @@ use Rattle.batch_desk.specs.Due.{due, events_of, up_to}
 use Rattle.batch_desk.specs.declared.fault.HubFault.{HubFault}
 use Rattle.batch_desk.specs.declared.fault.HubFault.TheVariants.{Memory, UnknownPort, EventsRemain, Limit, Closed, NotSealable}
 use Rattle.batch_desk.specs.PortState.{PortState, IsSealable, sealed, IsNewPort, closed_at, close_at, port_rings}
-use Rattle.batch_desk.specs.Rings.{Ring, ring_of_consumer, ring_of_producer, sizes_of}
+use Rattle.batch_desk.specs.Rings.{Ring, ring_of_consumer, ring_of_producer, sizes_of, IsOfRing}
 use Rattle.batch_desk.specs.Plans.{sizes_made}
 use Rattle.batch_desk.specs.PortSteps.{StaysOpen}
-use Rattle.batch_engine.specs.View.{EngineView}
 use Rattle.batch_desk.specs.DeskState.{DeskState, desk_rings}
-use Rattle.batch_desk.specs.Rings.{IsOfRing}
 use Rattle.batch_desk.specs.HubState.{HubState, IsHub, IsPort, told}
 use Rattle.batch_desk.specs.Ends.{Closes, RefusesClose, Seals}
 

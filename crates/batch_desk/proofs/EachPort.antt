@@ -4,11 +4,10 @@ use Rattle.std.proofs.lemmas.List.{get_or-map, get_or_default, length-map}
 use Rattle.std.proofs.lemmas.Bool.Decides.{eqb_tells}
 use Rattle.batch_engine.specs.declared.event.Event.{Event}
 use Rattle.batch_engine.specs.declared.out.Out.{Out}
-use Rattle.batch_desk.specs.PortState.{PortState}
+use Rattle.batch_desk.specs.PortState.{PortState, outline}
 use Rattle.batch_desk.specs.PortSteps.{Flushes, HasRoom, without_room}
 use Rattle.batch_desk.proofs.Lists.{map-same_length}
 use Rattle.batch_desk.specs.HubState.{IsPort, ArePorts, HubState}
-use Rattle.batch_desk.specs.PortState.{outline}
 
 -- what holds of each port still holds of each where one is changed, and history and record with it
 pub ports_step : (h h' : List (ℕ × Event)) (outs outs' : List Out) (ps : List PortState) (i : ℕ) (p q : PortState) → i < length ps → p ≡ get_or ps i p → ArePorts h outs ps

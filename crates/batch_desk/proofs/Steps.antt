@@ -11,10 +11,9 @@ use Rattle.batch_engine.specs.declared.reply.Reply.{Reply as Answer}
 use Rattle.batch_engine.specs.declared.line.Line.{Line}
 use Rattle.batch_desk.specs.declared.scope.Scope.{Scope}
 use Rattle.batch_desk.specs.Due.{due, sees, events_of, up_to}
-use Rattle.batch_desk.specs.PortState.{PortState}
+use Rattle.batch_desk.specs.PortState.{PortState, outline}
 use Rattle.batch_desk.specs.PortSteps.{tell, owe_line, answered}
 use Rattle.batch_desk.specs.HubState.{IsPort, told}
-use Rattle.batch_desk.specs.PortState.{outline}
 use Rattle.batch_desk.proofs.Dues.{due-line, due-reply, due-later, replies-take, events_of-append}
 
 -- what a port is newly told

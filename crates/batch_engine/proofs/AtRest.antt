@@ -1,6 +1,5 @@
 -- A batch that was stopped or aborted has no move.
-use Rattle.std.proofs.Common.{arith, ◌≡◌, refl, ℕ, zero, suc, List, [], ◌∷◌, ◌++◌, Option, Some, None, true, take}
-use Rattle.std.specs.Prelude.{slice_get}
+use Rattle.std.proofs.Common.{arith, ◌≡◌, refl, ℕ, zero, suc, List, [], ◌∷◌, ◌++◌, Option, Some, None, true, take, slice_get}
 use Rattle.std.specs.List.{filter_map}
 use Rattle.batch_matrix.specs.declared.state.State.{State}
 use Rattle.batch_matrix.specs.declared.state.State.TheVariants.{Stopped, Aborted}

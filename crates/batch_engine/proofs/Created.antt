@@ -1,6 +1,5 @@
 -- A create of a recipe that is found.
-use Rattle.std.proofs.Common.{◌≡◌, refl, sym, ◌∙◌, ap, subst, ℕ, List, [], true, false, Option, Some, None, inl, inr, find}
-use Rattle.std.specs.Prelude.{◌↔◌, IsTrue, slice_get, option_map, position, unwrap_or, Err}
+use Rattle.std.proofs.Common.{◌≡◌, refl, sym, ◌∙◌, ap, subst, ℕ, List, [], true, false, Option, Some, None, inl, inr, find, ◌↔◌, IsTrue, slice_get, option_map, position, unwrap_or, Err}
 use Rattle.std.proofs.lemmas.Option.{slice_get_within}
 use Rattle.batch_recipe.specs.Conditions.{Name, ValueList, same_name}
 use Rattle.batch_recipe.specs.Formula.{quantities_of}

@@ -1,6 +1,5 @@
 -- What a batch holds in advance, and what its acts hold and ask for, is no more than its tree needs at once.
-use Rattle.std.proofs.Common.{◌≡◌, ◌≤◌, ◌+◌, refl, sym, ap, subst, ℕ, zero, suc, List, [], ◌∷◌, inl, inr, arith, length, map, take, slice_get}
-use Rattle.std.specs.Prelude.{sum_by}
+use Rattle.std.proofs.Common.{◌≡◌, ◌≤◌, ◌+◌, refl, sym, ap, subst, ℕ, zero, suc, List, [], ◌∷◌, inl, inr, arith, length, map, take, slice_get, sum_by}
 use Rattle.std.proofs.lemmas.List.{length-append, length-map}
 use Rattle.std.proofs.lemmas.List.Sums.{sum_by-cons}
 use Rattle.batch_recipe.specs.declared.need.Need.{Need}

@@ -1,6 +1,5 @@
 -- The least grant of a batch is that of the first act in line that the arbiter would serve.
-use Rattle.std.proofs.Common.{◌≡◌, ◌<◌, refl, sym, ◌∙◌, ap, ap₂, subst, subst₂, ℕ, [], ◌∷◌, Bool, true, false, Option, Some, None, inl, inr, arith, length, nat_eq}
-use Rattle.std.specs.Prelude.{slice_get, ◌⊎◌}
+use Rattle.std.proofs.Common.{◌≡◌, ◌<◌, refl, sym, ◌∙◌, ap, ap₂, subst, subst₂, ℕ, [], ◌∷◌, Bool, true, false, Option, Some, None, inl, inr, arith, length, nat_eq, slice_get, ◌⊎◌}
 use Rattle.std.proofs.lemmas.Bool.{cases_eq}
 use Rattle.std.proofs.lemmas.Option.{slice_get-get_or}
 use Rattle.batch_recipe.specs.declared.need.Need.{Need}

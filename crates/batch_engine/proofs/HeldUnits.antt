@@ -1,6 +1,5 @@
 -- The batch that holds a unit is found by what is noted of it.
-use Rattle.std.proofs.Common.{◌≡◌, ◌<◌, refl, sym, ◌∙◌, ap, subst, subst₂, ℕ, List, true, false, Option, Some, None, arith, get_or, length, nat_eq}
-use Rattle.std.specs.Prelude.{IfSome, slice_get, position}
+use Rattle.std.proofs.Common.{◌≡◌, ◌<◌, refl, sym, ◌∙◌, ap, subst, subst₂, ℕ, List, true, false, Option, Some, None, arith, get_or, length, nat_eq, IfSome, slice_get, position}
 use Rattle.batch_cell.specs.LookUps.{capacities_of}
 use Rattle.batch_recipe.specs.Conditions.{Name}
 use Rattle.batch_model.specs.Events.{LivePhase, live_in}

@@ -1,7 +1,6 @@
 -- What the acts of a batch need and run, by the numbers of its linked recipe.
-use Rattle.std.proofs.Common.{◌≡◌, ◌<◌, refl, sym, ◌∙◌, ap, subst, ℕ, List, true, Option, None, Some, arith, length}
+use Rattle.std.proofs.Common.{◌≡◌, ◌<◌, refl, sym, ◌∙◌, ap, subst, ℕ, List, true, Option, None, Some, arith, length, slice_get, position, unwrap_or, option_and_then, option_map}
 use Rattle.std.specs.List.{list_any}
-use Rattle.std.specs.Prelude.{slice_get, position, unwrap_or, option_and_then, option_map}
 use Rattle.std.proofs.lemmas.Option.{slice_get_within, slice_get-get_or, get_or_from_slice_get}
 use Rattle.batch_cell.specs.Equipment.{unit_phases}
 use Rattle.batch_cell.specs.LookUps.{units_of}

@@ -1,17 +1,15 @@
 -- An accepted order.
-use Rattle.std.proofs.Common.{◌≡◌, ◌<◌, ◌+◌, refl, sym, ◌∙◌, ap, ap₂, subst, ℕ, zero, suc, List, [], ◌∷◌, Bool, true, false, not, cond, Option, Some, None, inl, arith, length, map, filter, set, get_or, nat_eq}
-use Rattle.std.specs.Prelude.{sum_by}
+use Rattle.std.proofs.Common.{◌≡◌, ◌<◌, ◌+◌, refl, sym, ◌∙◌, ap, ap₂, subst, ℕ, zero, suc, List, [], ◌∷◌, Bool, true, false, not, cond, Option, Some, None, inl, arith, length, map, filter, set, get_or, nat_eq, sum_by}
 use Rattle.std.proofs.lemmas.List.{length-map}
 use Rattle.std.proofs.lemmas.List.Sums.{sum_by-cons}
 use Rattle.batch_matrix.specs.declared.command.Command.{Command}
 use Rattle.batch_matrix.specs.declared.command.Command.TheVariants.{Reset}
 use Rattle.batch_matrix.specs.Matrix.{target}
-use Rattle.batch_recipe.specs.Conditions.{Name}
+use Rattle.batch_recipe.specs.Conditions.{Name, ValueList}
 use Rattle.batch_matrix.specs.declared.state.State.TheVariants.{Idle}
-use Rattle.batch_recipe.specs.Conditions.{ValueList}
 use Rattle.batch_model.specs.Rest.{withdrawn}
 use Rattle.batch_recipe.specs.Values.{with_outputs_zero}
-use Rattle.batch_engine.specs.View.{tree_of, recipe_made}
+use Rattle.batch_engine.specs.View.{tree_of, recipe_made, EngineView, setup, tree_at, batch_of, share_of, acts_of, number_of, line_in, line_at, plant_of}
 use Rattle.batch_model.specs.Plant as Model
 use Rattle.batch_model.specs.Plant.{Share, Plant, in_batch}
 use Rattle.batch_model.specs.Moves.{Move}
@@ -26,7 +24,6 @@ use Rattle.batch_chart.specs.Charts.{IsRunningOf, RunsAs}
 use Rattle.batch_chart.specs.Early.{in_advance}
 use Rattle.batch_chart.specs.declared.running.Running.{Running}
 use Rattle.batch_engine.specs.declared.batch.Batch.{Batch}
-use Rattle.batch_engine.specs.View.{EngineView, setup, tree_at, batch_of, share_of, acts_of, number_of, line_in, line_at, plant_of}
 use Rattle.batch_engine.specs.Kept.{AreUnits, IsOfCell, IsRunningBatch, HasRoom, IsKept}
 use Rattle.batch_engine.specs.Orders.{IsOrder, IsPlain, EndsAsks}
 use Rattle.batch_engine.proofs.BatchPlaces.{made_by}

@@ -1,6 +1,5 @@
 -- Events: which batches stay as they are, how many there are, and whom the plant serves after them.
-use Rattle.std.proofs.Common.{◌≡◌, ⊎_elim, refl, sym, ◌∙◌, ap, subst, ℕ, ◌<◌, ◌≤◌, ◌||◌, List, [], ◌∷◌, ◌++◌, Bool, true, false, not, map, find, Option, Some, None, inl, inr, length, nat_eq, nat_lt, arith}
-use Rattle.std.specs.Prelude.{nat_le}
+use Rattle.std.proofs.Common.{◌≡◌, ⊎_elim, refl, sym, ◌∙◌, ap, subst, ℕ, ◌<◌, ◌≤◌, ◌||◌, List, [], ◌∷◌, ◌++◌, Bool, true, false, not, map, find, Option, Some, None, inl, inr, length, nat_eq, nat_lt, arith, nat_le}
 use Rattle.std.proofs.lemmas.List.{length-append, length-map}
 use Rattle.batch_matrix.specs.declared.state.State.TheVariants.{Idle}
 use Rattle.batch_matrix.specs.declared.command.Command.{Command}

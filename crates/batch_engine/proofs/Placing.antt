@@ -3,12 +3,11 @@ use Rattle.std.proofs.Common.{◌≡◌, ◌<◌, ℕ, zero, suc, ◌+◌, List,
 use Rattle.std.specs.List.{AllByRecursion}
 use Rattle.batch_recipe.specs.Conditions.{Name}
 use Rattle.batch_recipe.specs.Needs.{resources_of}
-use Rattle.batch_recipe.specs.Nodes.{Node, nodes, nodes_within, nodes_of_each, nodes_of_choices, child}
+use Rattle.batch_recipe.specs.Nodes.{Node, nodes, nodes_within, nodes_of_each, nodes_of_choices, child, node_count}
 use Rattle.batch_recipe.specs.Places.{StandsAt}
 use Rattle.batch_recipe.specs.Tree.{Place, Tree, act, skip, seq, par, sel, loop, Task, runs, follows, Trees, no_trees, tree, Choices, otherwise, choice}
 use Rattle.batch_model.specs.Placed.{IsPlaced, IsPlacedBelow, ArePlaced, IsChoicePlaced}
 use Rattle.batch_chart.specs.NodesOf.{nodes_of, place_at, step_at, step_of}
-use Rattle.batch_recipe.specs.Nodes.{node_count}
 use Rattle.batch_recipe.proofs.Order.{counted_nodes}
 
 all-append : (xs ys : List Node) → AllByRecursion (λ (n : Node). StandsAt n.place n.here) xs → AllByRecursion (λ (n : Node). StandsAt n.place n.here) ys → AllByRecursion (λ (n : Node). StandsAt n.place n.here) (xs ++ ys)

@@ -1,9 +1,7 @@
 -- Where no element of a list passes a test.
-use Rattle.std.proofs.Common.{ℕ, ◌≡◌, ◌<◌, ◌≤◌, List, length, get_or, refl, Bool, true, false, cond, arith, Option, Some, None}
-use Rattle.std.specs.Prelude.{nat_lt, position}
+use Rattle.std.proofs.Common.{ℕ, ◌≡◌, ◌<◌, ◌≤◌, List, length, get_or, refl, Bool, true, false, cond, arith, Option, Some, None, nat_lt, position, ltb-false}
 use Rattle.std.specs.List.{position_or_len}
 use Rattle.std.proofs.lemmas.List.Sums.{fails_before_first}
-use borrow.Author.Tests.{ltb-false}
 
 -- no element passes
 abbrev pub NonePasses : {X : Type 0} → (X → Bool) → List X → Type 0

@@ -1,6 +1,5 @@
 -- A batch that is looked up at an index of an engine, and the recipe of its chart. Of the engine v a call sees its fields as w.
-use Rattle.std.proofs.Common.{◌≡◌, ◌<◌, refl, sym, ◌∙◌, ap, subst, ℕ, Some, arith, get_or, length, nat_eq}
-use Rattle.std.specs.Prelude.{position, slice_get}
+use Rattle.std.proofs.Common.{◌≡◌, ◌<◌, refl, sym, ◌∙◌, ap, subst, ℕ, Some, arith, get_or, length, nat_eq, position, slice_get}
 use Rattle.std.proofs.lemmas.Option.{slice_get_read, slice_get_within}
 use Rattle.batch_model.specs.Moves as Moves
 use Rattle.batch_model.specs.Moves.{after}

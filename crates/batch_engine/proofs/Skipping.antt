@@ -1,6 +1,5 @@
 -- Nodes that are passed over, since the arbiter would serve no act at them.
-use Rattle.std.proofs.Common.{◌≡◌, ◌<◌, ◌≤◌, ℕ, Some, inl, inr, arith}
-use Rattle.std.specs.Prelude.{slice_get}
+use Rattle.std.proofs.Common.{◌≡◌, ◌<◌, ◌≤◌, ℕ, Some, inl, inr, arith, slice_get}
 use Rattle.batch_recipe.specs.declared.need.Need.{Need}
 use Rattle.batch_arbiter.specs.Allocation.{resource_count}
 use Rattle.batch_chart.specs.NodesOf.{need_at, place_at}

@@ -1,6 +1,5 @@
 -- There is space for one need more that is held in advance.
-use Rattle.std.proofs.Common.{◌≡◌, ◌≤◌, ℕ, Some, arith, length}
-use Rattle.std.specs.Prelude.{slice_get}
+use Rattle.std.proofs.Common.{◌≡◌, ◌≤◌, ℕ, Some, arith, length, slice_get}
 use Rattle.std.proofs.lemmas.List.{length-map}
 use Rattle.batch_recipe.specs.Tree.{Tree}
 use Rattle.batch_model.specs.Lists.{Has}

@@ -1,9 +1,7 @@
 -- A summary of words.
-use Rattle.std.proofs.Common.{◌≡◌, ◌<◌, ◌≤◌, ◌+◌, ◌*◌, ◌/◌, ◌%◌, refl, sym, ◌∙◌, ap, ap₂, subst, ℕ, List, Bool, true, false, Some, None, inl, inr, ◌⊎◌, arith, nat_eq, length}
-use Rattle.std.specs.Prelude.{slice_index, slice_set}
+use Rattle.std.proofs.Common.{◌≡◌, ◌<◌, ◌≤◌, ◌+◌, ◌*◌, ◌/◌, ◌%◌, refl, sym, ◌∙◌, ap, ap₂, subst, ℕ, List, Bool, true, false, Some, None, inl, inr, ◌⊎◌, arith, nat_eq, length, slice_index, slice_set, get_or-set_same, get_or-set_other}
 use Rattle.std.specs.Int.{bit_at}
 use Rattle.std.proofs.lemmas.Nat.Bits.{bit_at-zero}
-use Rattle.std.proofs.lemmas.List.{get_or-set_same, get_or-set_other}
 use Rattle.std.proofs.lemmas.Nat.{div-add-mod', mod_below, div-mul-add, mod-mul-add}
 use Rattle.batch_signs.specs.Bits.{with_one, IsLowestFrom}
 use Rattle.batch_signs.proofs.Bits.{nat-same, differs, within-or_past, one-not_zero, with-one_other, no-bits}

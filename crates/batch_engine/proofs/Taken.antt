@@ -1,7 +1,6 @@
 -- The numbers of the units that take the roles of a batch.
-use Rattle.std.proofs.Common.{◌≡◌, ◌<◌, ◌≤◌, refl, sym, ◌∙◌, ap, subst, ℕ, zero, suc, List, [], ◌∷◌, true, Option, None, Some, arith, length, map, get_or, inl, inr}
+use Rattle.std.proofs.Common.{◌≡◌, ◌<◌, ◌≤◌, refl, sym, ◌∙◌, ap, subst, ℕ, zero, suc, List, [], ◌∷◌, true, Option, None, Some, arith, length, map, get_or, inl, inr, slice_get, position, unwrap_or, option_map}
 use Rattle.std.proofs.lemmas.Bool.{cases_lt}
-use Rattle.std.specs.Prelude.{slice_get, position, unwrap_or, option_map}
 use Rattle.std.proofs.lemmas.List.{length-map, get_or-map}
 use Rattle.std.proofs.lemmas.Option.{slice_get_within, slice_get-get_or, slice_get-map, get_or_from_slice_get}
 use Rattle.batch_cell.specs.LookUps.{units_of, resources_of}

@@ -1,6 +1,5 @@
 -- What a line tells of a move.
-use Rattle.std.proofs.Common.{◌≡◌, ◌<◌, refl, sym, ◌∙◌, ap, ap₂, subst, ℕ, zero, suc, List, [], ◌∷◌, Option, Some, None, arith, length, get_or}
-use Rattle.std.specs.Prelude.{slice_get, option_map, unwrap_or}
+use Rattle.std.proofs.Common.{◌≡◌, ◌<◌, refl, sym, ◌∙◌, ap, ap₂, subst, ℕ, zero, suc, List, [], ◌∷◌, Option, Some, None, arith, length, get_or, slice_get, option_map, unwrap_or}
 use Rattle.std.specs.List.{zip}
 use Rattle.batch_matrix.specs.declared.command.Command.{Command}
 use Rattle.batch_matrix.specs.declared.state.State.{State}

@@ -8,19 +8,16 @@ use Rattle.batch_recipe.specs.Diagram.{Diagram, label, skip, seq, par, sel, loop
 use Rattle.batch_recipe.specs.Expanding.{reserves_from}
 use Rattle.batch_recipe.specs.Following.{following, follower}
 use Rattle.batch_recipe.specs.Needs.{one_unit}
-use Rattle.batch_recipe.specs.Nodes.{Node, nodes}
-use Rattle.batch_recipe.specs.Tree as node
 use Rattle.batch_recipe.specs.Tree.{Place, Tree, act}
-use Rattle.batch_recipe.specs.declared.need.Need.{Need}
 use Rattle.batch_model.specs.Cleared.{Ranking, IsCleared, CanBeCleared}
 use Rattle.batch_model.specs.Events.{Event, create, order, created, ordered, reported, new_batch}
-use Rattle.batch_model.specs.Moves.{send, state, pass, release, begin, end, next}
+use Rattle.batch_model.specs.Moves.{send, state, pass, begin, end}
 use Rattle.batch_model.specs.Plant.{Recipe, Setup, Batch, Share, plain, holders}
 use Rattle.batch_model.specs.Records.{holders_told}
 use Rattle.batch_model.specs.Runs.{Out, reply, move, run}
 use Rattle.batch_model.specs.Transfers.{Kept, passed_told, reserved_told, KeepsUnits}
 use Rattle.batch_examples.specs.RowDemo as demo
-use Rattle.batch_examples.specs.RowDocuments.{r1, r2, hdr, add, heat, make, charge, cook, Entry, phase_step, chart_act, recipe_with, recipe_with_x, add_step, heat_step, making, one_operation, x_is_1, x_above_0}
+use Rattle.batch_examples.specs.RowDocuments.{r1, r2, hdr, add, heat, make, charge, cook, Entry, chart_act, recipe_with, add_step, heat_step, one_operation, x_is_1, x_above_0}
 use Rattle.batch_examples.specs.RowParts.{p0, p00, p000, p001, p0000, p0010, p00000, p00100, says, starts, entered, asks, grants, releases, settled_after}
 
 -- Documents

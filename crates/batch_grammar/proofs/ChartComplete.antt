@@ -1,6 +1,5 @@
 -- The machine takes every text of a chart.
-use Rattle.std.proofs.Common.{◌≡◌, ℕ, suc, ◌+◌, ◌-◌, List, [], ◌∷◌, ◌++◌, length, true, ltb, Option, Some, None, option_and_then, refl, sym, ap, ◌∙◌, append-nil, arith, length-append}
-use Rattle.std.specs.Prelude.{codes}
+use Rattle.std.proofs.Common.{◌≡◌, ℕ, suc, ◌+◌, ◌-◌, List, [], ◌∷◌, ◌++◌, length, true, ltb, Option, Some, None, option_and_then, refl, sym, ap, ◌∙◌, append-nil, arith, length-append, codes}
 use Rattle.std.proofs.lemmas.Bool.Decides.{nat_tests}
 use Rattle.batch_text.specs.NameText.{IsName}
 use Rattle.batch_text.specs.NumberText.{number_of, IsNumber}

@@ -1,7 +1,6 @@
 -- The stack and the charts read so far as lists.
-use Rattle.std.proofs.Common.{◌≡◌, ℕ, ◌+◌, List, [], ◌∷◌, ◌++◌, length, map, reverse, get_or, set, take, Some, refl, sym, ap, ◌∙◌, arith, rules, Vec, Box}
+use Rattle.std.proofs.Common.{◌≡◌, ℕ, ◌+◌, List, [], ◌∷◌, ◌++◌, length, map, reverse, get_or, set, take, Some, refl, sym, ap, ◌∙◌, arith, rules, Vec, Box, Global}
 use Rattle.std.proofs.lemmas.List.{reverse-append, map-append, length-reverse, length-map, length-set, take_all, take_more, take_more_set}
-use Rattle.std.specs.Global.{Global}
 use Rattle.batch_recipe.specs.declared.condition.Cond.{Cond}
 use Rattle.batch_recipe.specs.declared.chart.Chart.{Chart, the_lemmas}
 use Rattle.batch_recipe.specs.declared.chart.Chart as Made

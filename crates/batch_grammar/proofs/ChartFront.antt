@@ -1,6 +1,5 @@
 -- What the machine has not refused begins a text of a chart.
-use Rattle.std.proofs.Common.{◌≡◌, ℕ, ◌+◌, ◌-◌, List, [], ◌∷◌, ◌++◌, length, Bool, true, false, ltb, Option, Some, None, option_and_then, option_map, eqb, refl, sym, ap, ◌∙◌, subst, arith}
-use Rattle.std.specs.Prelude.{codes}
+use Rattle.std.proofs.Common.{◌≡◌, ℕ, ◌+◌, ◌-◌, List, [], ◌∷◌, ◌++◌, length, Bool, true, false, ltb, Option, Some, None, option_and_then, option_map, eqb, refl, sym, ap, ◌∙◌, subst, arith, codes}
 use Rattle.std.specs.Char.{is_ascii_alphabetic, is_ascii_digit}
 use Rattle.batch_text.specs.NumberText.{number_of}
 use Rattle.batch_text.specs.declared.name.TheConstants.{MAX_NAME_LEN}

@@ -1,6 +1,5 @@
 -- Labels are the words that are none of the six.
-use Rattle.std.proofs.Common.{arith, ◌≡◌, List, ℕ, Bool, true, false, ◌||◌, sym, ap, ◌∙◌}
-use Rattle.std.specs.Prelude.{codes, if◌then◌else◌, bytes_eq}
+use Rattle.std.proofs.Common.{arith, ◌≡◌, List, ℕ, Bool, true, false, ◌||◌, sym, ap, ◌∙◌, codes, if◌then◌else◌, bytes_eq}
 use Rattle.std.proofs.lemmas.Slice.Eq.{bytes_eq-Decides}
 use Rattle.batch_text.specs.NameText.{IsName}
 use Rattle.batch_recipe.specs.Conditions.{same_name}

@@ -13,7 +13,7 @@ use Rattle.batch_recipe.specs.declared.condition.Term.TheVariants as term
 use Rattle.batch_recipe.specs.declared.condition.Cond.{Cond}
 use Rattle.batch_recipe.specs.declared.chart.TheConstants.{MAX_DEPTH, MAX_TURNS}
 use Rattle.batch_recipe.specs.declared.scaling.TheConstants.{MAX_VALUE}
-use Rattle.batch_recipe.specs.Diagram.{Diagram, Diagrams, Cases, diagrams_of, cases_of}
+use Rattle.batch_recipe.specs.Diagram.{Diagram, diagrams_of, cases_of}
 use Rattle.batch_recipe.specs.Diagram as chart
 use Rattle.batch_grammar.specs.Ascii as ascii
 use Rattle.batch_grammar.specs.ChartGrammar.{is_chart_space, Offsets, no_offsets, opens_par, ranged}

@@ -1,6 +1,5 @@
 -- Lines that close groups, counted in any text.
-use Rattle.std.proofs.Common.{◌≡◌, ◌⊎◌, ℕ, zero, suc, ◌+◌, ◌≤◌, ◌<◌, Bool, true, false, ◌==◌, List, [], ◌∷◌, ◌++◌, length, take, drop, slice_index, get_or, Option, Some, None, IfSome, IsSome, MatchOption, is_some, rules, refl, sym, ◌∙◌, ap, subst, arith, append_assoc, inl, inr}
-use Rattle.std.proofs.lemmas.List.{append-nil, drop-drop}
+use Rattle.std.proofs.Common.{◌≡◌, ◌⊎◌, ℕ, zero, suc, ◌+◌, ◌≤◌, ◌<◌, Bool, true, false, ◌==◌, List, [], ◌∷◌, ◌++◌, length, take, drop, slice_index, get_or, Option, Some, None, IfSome, IsSome, MatchOption, is_some, rules, refl, sym, ◌∙◌, ap, subst, arith, append_assoc, inl, inr, append-nil, drop-drop}
 use Rattle.batch_journal.specs.Lines.{text_of, whole_from}
 use Rattle.batch_journal.specs.Groups.{AreOthers}
 use Rattle.batch_journal.specs.Journals.{journal_format}

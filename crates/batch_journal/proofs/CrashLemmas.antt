@@ -1,6 +1,5 @@
 -- Files that a crash leaves.
-use Rattle.std.proofs.Common.{◌≡◌, ℕ, List, [], ◌∷◌, ◌++◌, refl, sym, ◌∙◌, ap, subst, append_assoc}
-use Rattle.std.proofs.lemmas.List.{append-nil}
+use Rattle.std.proofs.Common.{◌≡◌, ℕ, List, [], ◌∷◌, ◌++◌, refl, sym, ◌∙◌, ap, subst, append_assoc, append-nil}
 use Rattle.batch_journal.specs.Disks.{IsPart, Left, Begins, MayLeave}
 
 same_behind : (a b c : List ℕ) → a ++ b ≡ a ++ c → b ≡ c

@@ -1,6 +1,5 @@
 -- Digests of documents.
-use Rattle.std.proofs.Common.{◌≡◌, ℕ, suc, List, [], ◌∷◌, ◌++◌, length, decimal, sym, ◌∙◌, ap, arith, append_assoc, codes}
-use Rattle.std.proofs.lemmas.List.{append-nil}
+use Rattle.std.proofs.Common.{◌≡◌, ℕ, suc, List, [], ◌∷◌, ◌++◌, length, decimal, sym, ◌∙◌, ap, arith, append_assoc, codes, append-nil}
 use Rattle.batch_journal.specs.Digests.{IsPlain, counted}
 use Rattle.batch_journal.specs.Lines.{IsLine}
 use Rattle.batch_journal.proofs.SumLemmas.{line_byte}

@@ -1,6 +1,5 @@
 -- Whole lines of a text, and of texts one behind the other.
-use Rattle.std.proofs.Common.{◌≡◌, ◌⊎◌, ℕ, suc, ◌≤◌, List, [], ◌∷◌, ◌++◌, length, take, refl, sym, ◌∙◌, ap, subst, arith, append_assoc, inl, inr, true, false, Bool, ⊎_elim, ◌==◌, if◌then◌else◌}
-use Rattle.std.proofs.lemmas.List.{append-nil}
+use Rattle.std.proofs.Common.{◌≡◌, ◌⊎◌, ℕ, suc, ◌≤◌, List, [], ◌∷◌, ◌++◌, length, take, refl, sym, ◌∙◌, ap, subst, arith, append_assoc, inl, inr, true, false, Bool, ⊎_elim, ◌==◌, if◌then◌else◌, append-nil}
 use Rattle.batch_journal.specs.Lines.{IsLine, AreLines, text_of, until_zero, whole_from, whole_lines}
 use Rattle.batch_journal.specs.Disks.{IsPart, Begins}
 use Rattle.batch_journal.proofs.GroupLemmas.{bool_cases}

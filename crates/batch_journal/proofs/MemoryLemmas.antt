@@ -1,6 +1,5 @@
 -- Calls of an disk in memory.
-use Rattle.std.proofs.Common.{◌≡◌, ℕ, ◌≤◌, Bool, true, false, List, [], ◌∷◌, ◌++◌, length, take, drop, take-append-drop, sym, ap, subst, ◌∙◌, refl, arith, inr, append_assoc}
-use Rattle.std.proofs.lemmas.List.{take_all, take_at}
+use Rattle.std.proofs.Common.{◌≡◌, ℕ, ◌≤◌, Bool, true, false, List, [], ◌∷◌, ◌++◌, length, take, drop, take-append-drop, sym, ap, subst, ◌∙◌, refl, arith, inr, append_assoc, take_all, take_at}
 use Rattle.batch_journal.specs.Disks.{IsPart, Begins, Left, MayLeave, MayCut, Elapses}
 use Rattle.batch_journal.specs.Past.{choose, LeftBy, LeftSince, one_call}
 use Rattle.batch_journal.specs.declared.memory.Past.{Past}

@@ -1,8 +1,6 @@
 -- A reader that journals: what stays so at each of its steps.
-use Rattle.std.proofs.Common.{◌≡◌, ◌^◌, ℕ, zero, suc, ◌+◌, ◌-◌, ◌≤◌, ◌<◌, length-append, List, [], ◌∷◌, ◌++◌, length, take, drop, take-append-drop, Option, Some, None, refl, sym, ◌∙◌, ap, subst, arith, append_assoc, ⊎_elim, Bool, ◌≢◌, min, true, false}
-use Rattle.std.proofs.lemmas.List.{append-nil, take_at, length-drop, length-take, length-take-le}
+use Rattle.std.proofs.Common.{◌≡◌, ◌^◌, ℕ, zero, suc, ◌+◌, ◌-◌, ◌≤◌, ◌<◌, length-append, List, [], ◌∷◌, ◌++◌, length, take, drop, take-append-drop, Option, Some, None, refl, sym, ◌∙◌, ap, subst, arith, append_assoc, ⊎_elim, Bool, ◌≢◌, min, true, false, append-nil, take_at, length-drop, length-take, length-take-le, take-add}
 use Rattle.std.specs.Io.KnownBytes.{prepend_known, Keeps, Consumes}
-use lib.Seq.{take-add}
 use Rattle.batch_journal.specs.Lines.{IsLine, text_of, whole_lines}
 use Rattle.batch_journal.specs.Disks.{Left, Begins, MayLeave, Elapses, LeavesOnly}
 use Rattle.batch_journal.specs.Readers.{IsKept, StartsText, Recalls, HasRecalled, IsAccounted, LinesBegin}

@@ -1,7 +1,5 @@
 -- Recovery: files whose lines stay the same, whatever a crash makes of their ends.
-use Rattle.std.proofs.Common.{◌≡◌, ◌⊎◌, ℕ, zero, suc, ◌+◌, ◌-◌, ◌≤◌, ◌<◌, Bool, true, false, ◌==◌, List, [], ◌∷◌, ◌++◌, length, length-append, take, drop, take-append-drop, slice_index, codes, nat_eq, refl, sym, ◌∙◌, ap, subst, arith, append_assoc, inl, inr}
-use Rattle.std.proofs.lemmas.List.{append-nil, take_at, drop_at, drop-drop, length-drop}
-use lib.Seq.{take-add}
+use Rattle.std.proofs.Common.{◌≡◌, ◌⊎◌, ℕ, zero, suc, ◌+◌, ◌-◌, ◌≤◌, ◌<◌, Bool, true, false, ◌==◌, List, [], ◌∷◌, ◌++◌, length, length-append, take, drop, take-append-drop, slice_index, codes, nat_eq, refl, sym, ◌∙◌, ap, subst, arith, append_assoc, inl, inr, append-nil, take_at, drop_at, drop-drop, length-drop, take-add}
 use Rattle.std.specs.List.{starts_with}
 use Rattle.batch_journal.specs.Disks.{IsPart, Left, Begins, MayLeave, MayCut, Elapses, LeavesOnly}
 use Rattle.batch_journal.specs.Lines.{AreLines, until_zero, whole_from, whole_lines}

@@ -1,9 +1,7 @@
 -- Sums and closing lines are lines.
-use Rattle.std.proofs.Common.{rules, ◌≡◌, ℕ, zero, suc, ◌+◌, ◌/◌, ◌%◌, ◌^◌, ◌<◌, true, false, ◌==◌, List, [], ◌∷◌, ◌++◌, length, take, decimal, slice_index, get_or, nat_eq, refl, ◌∙◌, arith, append_assoc}
+use Rattle.std.proofs.Common.{rules, ◌≡◌, ℕ, zero, suc, ◌+◌, ◌/◌, ◌%◌, ◌^◌, ◌<◌, true, false, ◌==◌, List, [], ◌∷◌, ◌++◌, length, take, decimal, slice_index, get_or, nat_eq, refl, ◌∙◌, arith, append_assoc, drop_at, lt-ltb, le-leb}
 use Rattle.std.proofs.lemmas.Fmt.{decimal_by_steps, decimal_nonempty, length-decimal-le}
-use Rattle.std.proofs.lemmas.List.{drop_at}
 use Rattle.std.proofs.lemmas.List.Folds.{list_all-append}
-use Rattle.std.proofs.lemmas.Bool.{lt-ltb, le-leb}
 use Rattle.std.specs.Char.{is_ascii_digit}
 use Rattle.std.specs.List.{starts_with, list_all}
 use Rattle.std.proofs.lemmas.Bool.Decides.{Decides-eqb}

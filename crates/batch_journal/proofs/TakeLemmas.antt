@@ -1,7 +1,6 @@
 -- How far the groups of a text are taken, line by line.
-use Rattle.std.proofs.Common.{rules, ◌≡◌, ◌≢◌, ℕ, zero, suc, ◌+◌, ◌-◌, ◌≤◌, ◌<◌, true, false, ◌==◌, ◌||◌, List, [], ◌∷◌, ◌++◌, length, length-append, take, drop, take-append-drop, slice_range, slice_index, get_or, refl, sym, ◌∙◌, ap, subst, arith, append_assoc}
+use Rattle.std.proofs.Common.{rules, ◌≡◌, ◌≢◌, ℕ, zero, suc, ◌+◌, ◌-◌, ◌≤◌, ◌<◌, true, false, ◌==◌, ◌||◌, List, [], ◌∷◌, ◌++◌, length, length-append, take, drop, take-append-drop, slice_range, slice_index, get_or, refl, sym, ◌∙◌, ap, subst, arith, append_assoc, take-add}
 use Rattle.std.proofs.lemmas.List.{append-nil, take_at, drop_more, take_all, drop-append-le, take-append-le, drop-take, length-drop, length-take-le}
-use lib.Seq.{take-add}
 use Rattle.batch_journal.specs.Lines.{IsLine, AreLines, text_of, whole_lines}
 use Rattle.batch_journal.specs.Ends.{EndsLine}
 use Rattle.batch_journal.specs.Groups.{is_left, AreOthers}

@@ -3,7 +3,7 @@ use Rattle.std.proofs.Common.{◌≡◌, ◌⊎◌, ℕ, ◌-◌, ◌<◌, ◌�
 use Rattle.std.proofs.lemmas.List.{append-nil, append_cancel_right, take_all, length-append, take-append-le}
 use Rattle.std.specs.Io.KnownBytes.{Appends, Consumes, IsAtEnd, append_known, prepend_known}
 use Rattle.batch_model.specs.Plant.{Setup, Plant}
-use Rattle.batch_wire.specs.Transcript.{lines_of, whole_lines, silence, followed_by}
+use Rattle.batch_wire.specs.Transcript.{lines_of, whole_lines, silence, followed_by, Exchange, Transcript}
 use Rattle.batch_wire.specs.WrittenTranscript.{WritesTranscript, BeginsTranscript, WritesWholeLines}
 use Rattle.batch_serve.specs.Cut.{BeginsLinesRead}
 use Rattle.batch_serve.specs.Held.{TellsAll}
@@ -14,7 +14,6 @@ use Rattle.std.specs.List.{All}
 use Rattle.std.proofs.lemmas.List.Splits.{slice_split_at}
 use Rattle.std.proofs.lemmas.Bool.{cases_lt}
 use Rattle.batch_journal.specs.Lines.{IsLine, AreLines, text_of, whole_lines as whole_texts}
-use Rattle.batch_wire.specs.Transcript.{Exchange, Transcript}
 use Rattle.batch_keep.specs.Told.{TellsLines}
 use Rattle.batch_serve.proofs.ServingLemmas.{begun}
 

@@ -1,6 +1,5 @@
 -- Members of lists.
-use Rattle.std.proofs.Common.{◌≡◌, ◌⊎◌, refl, subst, List, [], ◌∷◌, ◌++◌, Bool, true, false, cond, Some, None, inl, inr}
-use Rattle.std.specs.Prelude.{Option, filter, find, flat_map}
+use Rattle.std.proofs.Common.{◌≡◌, ◌⊎◌, refl, subst, List, [], ◌∷◌, ◌++◌, Bool, true, false, cond, Some, None, inl, inr, Option, filter, find, flat_map}
 use Rattle.std.specs.List.{filter_map, cons_option}
 use Rattle.batch_model.specs.Lists.{Has, Each}
 

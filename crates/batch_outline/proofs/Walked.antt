@@ -12,7 +12,7 @@ use Rattle.batch_recipe.specs.Nodes.{Node, node, nodes, nodes_within, nodes_of_e
 use Rattle.batch_recipe.specs.Procedure.{level_below, sites, table_at, tables_from}
 use Rattle.batch_recipe.specs.Texts.{place_text}
 use Rattle.batch_recipe.specs.Tree as tree
-use Rattle.batch_recipe.specs.Tree.{Place, Step, Tree}
+use Rattle.batch_recipe.specs.Tree.{Place, Tree}
 use Rattle.batch_recipe.specs.declared.act.Act.{Act}
 use Rattle.batch_recipe.specs.declared.act.Work.{Work}
 use Rattle.batch_recipe.specs.declared.act.Work.TheVariants.{Follows, Runs}

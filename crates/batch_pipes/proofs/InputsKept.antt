@@ -1,7 +1,7 @@
 -- Inputs that are handed over through the rings of their readers.
 use Rattle.std.proofs.Common.{◌≡◌, ◌<◌, ◌+◌, ℕ, Bool, List, [], ◌∷◌, ◌++◌, length, get_or, set, Option, Some, None, IfSome, is_none, option_map, string_bytes, refl, sym, ap, subst, arith, append-nil, length-set, ◌∙◌}
 use Rattle.std.proofs.lemmas.Option.{IfSome_then}
-use Rattle.rtrb.specs.Ring.{IsPair, SameConsumer, SameProducer, received, sent}
+use Rattle.rtrb.specs.Ring.{IsPair, SameConsumer, SameProducer, sent}
 use Rattle.batch_desks.specs.declared.desk.Desk as plans
 use Rattle.batch_wire.specs.Transcript.{lines_of}
 use Rattle.batch_serve.specs.CleanLines.{clean_lines}

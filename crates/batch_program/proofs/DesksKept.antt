@@ -1,6 +1,5 @@
 -- Desks that are served over a journal.
-use Rattle.std.proofs.Common.{◌≡◌, ◌++◌, ◌∙◌, ℕ, Bool, true, List, [], Option, None, Result, Ok, Err, ap, inl, inr, subst}
-use Rattle.std.specs.Prelude.{IsOk, OnOk}
+use Rattle.std.proofs.Common.{◌≡◌, ◌++◌, ◌∙◌, ℕ, Bool, true, List, [], Option, None, Result, Ok, Err, ap, inl, inr, subst, IsOk, OnOk}
 use Rattle.batch_model.specs.Plant.{Plant, opening}
 use Rattle.batch_engine.specs.View.{setup}
 use Rattle.batch_journal.specs.Journals.{recovered}

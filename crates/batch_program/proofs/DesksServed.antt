@@ -1,7 +1,5 @@
 -- What a run that serves desks tells.
-use Rattle.std.proofs.Common.{◌≡◌, ◌⊎◌, ◌∙◌, ℕ, Bool, List, Option, Some, None, Result, Ok, Err, IfOk, inl, inr, refl, subst, sym}
-use Rattle.std.specs.Prelude.{IsOk, OnOk, String, option_map, string_bytes}
-use Rattle.std.specs.Global.{Global}
+use Rattle.std.proofs.Common.{◌≡◌, ◌⊎◌, ◌∙◌, ℕ, Bool, List, Option, Some, None, Result, Ok, Err, IfOk, inl, inr, refl, subst, sym, IsOk, OnOk, String, option_map, string_bytes, Global}
 use Rattle.std.specs.Io.KnownBytes.{Keeps}
 use Rattle.clap.specs.Walk.{Text}
 use Rattle.batch_model.specs.Plant.{Plant, opening}

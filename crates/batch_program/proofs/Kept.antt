@@ -1,7 +1,5 @@
 -- What a run tells that writes a file.
-use Rattle.std.proofs.Common.{◌≡◌, ℕ, Bool, List, Option, Some, inl, inr, refl, subst}
-use Rattle.std.specs.Prelude.{String, string_bytes}
-use Rattle.std.specs.Global.{Global}
+use Rattle.std.proofs.Common.{◌≡◌, ℕ, Bool, List, Option, Some, inl, inr, refl, subst, String, string_bytes, Global}
 use Rattle.clap.specs.Walk.{Text}
 use Rattle.batch_cli.specs.CommandLine.{Judgement, Request, Source, audit, keep, picture, remark, serve, tell, write, serve_desks}
 use Rattle.batch_verdicts.specs.Reading.{Gives}

@@ -1,17 +1,15 @@
 -- A run over a journal.
-use Rattle.std.proofs.Common.{◌≡◌, ◌⊎◌, ℕ, Bool, ◌++◌, List, [], Option, Some, None, Result, Ok, Err, IfErr, OnOk, IsOk, inl, inr, refl, sym, ◌∙◌, ap, subst}
-use Rattle.std.specs.Prelude.{IfSome}
-use Rattle.std.proofs.lemmas.List.{append-nil}
+use Rattle.std.proofs.Common.{◌≡◌, ◌⊎◌, ℕ, Bool, ◌++◌, List, [], Option, Some, None, Result, Ok, Err, IfErr, OnOk, IsOk, inl, inr, refl, sym, ◌∙◌, ap, subst, IfSome, append-nil}
 use Rattle.std.proofs.KnownBytes.{Appends-kept, prepend_known-nil}
 use Rattle.std.specs.Io.KnownBytes.{Appends, Keeps, prepend_known}
-use Rattle.batch_model.specs.Plant.{Setup, Plant}
+use Rattle.batch_model.specs.Plant.{Setup, Plant, opening}
 use Rattle.batch_wire.specs.Transcript.{lines_of}
 use Rattle.batch_wire.specs.Written.{Writes}
 use Rattle.batch_wire.specs.WrittenTranscript.{WritesTranscript}
 use Rattle.batch_serve.specs.CleanLines.{CleanLinesServeAlike, clean_lines}
 use Rattle.batch_journal.specs.Journals.{IsJournal, recovered}
 use Rattle.batch_journal.specs.Lines.{text_of}
-use Rattle.batch_journal.specs.Readers.{IsAccounted, IsKept, IsWhole}
+use Rattle.batch_journal.specs.Readers.{IsAccounted, IsKept, IsWhole, HasRecalled}
 use Rattle.batch_journal.specs.Recovery.{AreRests, HasNoFault, IsOfDisk, IsRecoverable, IsRefusedFor}
 use Rattle.batch_journal.proofs.TakenLemmas.{not_refused}
 use Rattle.batch_journal.specs.declared.recovery.RecoveryFault.{RecoveryFault}
@@ -21,8 +19,6 @@ use Rattle.batch_keep.specs.Starts.{IsStartRefused}
 use Rattle.batch_keep.specs.declared.starting.StartFault.{StartFault}
 use Rattle.batch_keep.specs.declared.starting.StartFault.TheVariants.{Recovery}
 use Rattle.batch_journal.specs.Disks.{Left}
-use Rattle.batch_journal.specs.Readers.{HasRecalled}
-use Rattle.batch_model.specs.Plant.{opening}
 use Rattle.batch_verify.specs.ClearedSet.{ClearedSet}
 use Rattle.batch_engine.specs.View.{setup}
 use Rattle.batch_keep.specs.Blocks.{IsBlockOf}

@@ -1,6 +1,5 @@
 -- What comes of a record that is drawn.
-use Rattle.std.proofs.Common.{◌≡◌, ◌⊎◌, ℕ, List, Option, Some, None, inl, inr, subst}
-use Rattle.std.specs.Prelude.{IfSome}
+use Rattle.std.proofs.Common.{◌≡◌, ◌⊎◌, ℕ, List, Option, Some, None, inl, inr, subst, IfSome}
 use Rattle.batch_verdicts.specs.Running.{IsPrinted, IsUnwritten, Stream, memory_status, success_status}
 use Rattle.batch_program.specs.DrawingRuns.{IsDrawn, declines, fails, pictures}
 use Rattle.batch_program.specs.PlantRuns.{refused_status}

@@ -1,6 +1,5 @@
 -- What comes of a record that was read.
-use Rattle.std.proofs.Common.{◌≡◌, ◌⊎◌, ℕ, List, [], Option, Some, None, inl, inr}
-use Rattle.std.specs.Prelude.{IfSome}
+use Rattle.std.proofs.Common.{◌≡◌, ◌⊎◌, ℕ, List, [], Option, Some, None, inl, inr, IfSome}
 use Rattle.batch_verdicts.specs.Running.{IsPrinted, IsUnwritten, Stream, memory_status}
 use Rattle.batch_program.specs.PlantRuns.{refused_status}
 use Rattle.batch_program.specs.RecordRuns.{IsStatusOf, IsStatusTold, no_record_text, refuses, stops}

@@ -1,7 +1,5 @@
 -- What a run that serves tells, and one that runs a plant.
-use Rattle.std.proofs.Common.{◌≡◌, ◌⊎◌, ℕ, zero, suc, ◌≤◌, Bool, true, false, List, Option, Some, None, Result, Ok, Err, IfOk, inl, inr, refl, subst, arith, ◌∙◌}
-use Rattle.std.specs.Prelude.{◌||◌, IfSome, String, option_map, string_bytes, take}
-use Rattle.std.specs.Global.{Global}
+use Rattle.std.proofs.Common.{◌≡◌, ◌⊎◌, ℕ, zero, suc, ◌≤◌, Bool, true, false, List, Option, Some, None, Result, Ok, Err, IfOk, inl, inr, refl, subst, arith, ◌∙◌, ◌||◌, IfSome, String, option_map, string_bytes, take, Global}
 use Rattle.std.specs.Io.KnownBytes.{Appends, Keeps}
 use Rattle.clap.specs.Walk.{Text}
 use Rattle.batch_verify.specs.ClearedSet.{ClearedSet}

@@ -1,6 +1,5 @@
 -- Names that differ: as a reader's sets tell it, and as a recipe asks it.
-use Rattle.std.proofs.Common.{arith, ◌≡◌, ◌≢◌, Bool, true, false, not, List, [], ◌∷◌, ◌++◌, map, nat_eq, refl, sym, ap, subst, append_assoc}
-use Rattle.std.proofs.lemmas.List.{map-id}
+use Rattle.std.proofs.Common.{arith, ◌≡◌, ◌≢◌, Bool, true, false, not, List, [], ◌∷◌, ◌++◌, map, nat_eq, refl, sym, ap, subst, append_assoc, map-id}
 use Rattle.std.specs.Cmp.Lexicographic.{pointwise}
 use Rattle.std.specs.List.{AllByRecursion, IsDistinct}
 use Rattle.batch_recipe.specs.Conditions.{Name, same_name}

@@ -1,6 +1,5 @@
 -- The tables of a recipe stand for one form of their parts at most.
-use Rattle.std.proofs.Common.{arith, ◌≡◌, ℕ, List, map, codes, sym, ap, ap₂, ◌∙◌}
-use Rattle.std.proofs.lemmas.List.{map-id}
+use Rattle.std.proofs.Common.{arith, ◌≡◌, ℕ, List, map, codes, sym, ap, ap₂, ◌∙◌, map-id}
 use Rattle.toml.specs.Data.{Members}
 use Rattle.batch_recipe.specs.Conditions.{Name}
 use Rattle.batch_recipe.specs.Diagram.{diagram_of}

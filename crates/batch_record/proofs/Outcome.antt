@@ -1,6 +1,5 @@
 -- What is read of a line is what the line tells.
-use Rattle.std.proofs.Common.{◌≡◌, ℕ, List, Option, Some, None, sym, subst}
-use Rattle.std.specs.Prelude.{MatchOption}
+use Rattle.std.proofs.Common.{◌≡◌, ℕ, List, Option, Some, None, sym, subst, MatchOption}
 use Rattle.batch_record.specs.RecordLine.{out_of_line}
 use Rattle.batch_record.specs.Reading.{Gives, out_of}
 use Rattle.batch_record.specs.Laws.{Tells, TellsNothing}

@@ -20,9 +20,8 @@ use Rattle.batch_record_laws.proofs.Framing.{Frame}
 use Rattle.batch_record_laws.proofs.Entries.{Agrees, Has-holders, holders-append, agrees-more, agrees-less, IsOnce, NoneBy, units-append, units-frame, units-one, Has-frame, frame-front, frame-middle, frame-back, name_self}
 use Rattle.batch_record_laws.proofs.Batches.{NumbersDiffer, only, Has-only, BatchFrame, plant-frame, AreOthers}
 use Rattle.batch_record_laws.proofs.Alike.{StandApart}
-use Rattle.batch_record_laws.proofs.Invariant.{IsFitting, AreFirstNeeds, IsSound, IsKept}
+use Rattle.batch_record_laws.proofs.Invariant.{IsFitting, AreFirstNeeds, IsSound, IsKept, numbers-of}
 use Rattle.batch_model.specs.Standing.{IsStanding}
-use Rattle.batch_record_laws.proofs.Invariant.{numbers-of}
 use Rattle.batch_recipe.specs.declared.need.Need.{Need}
 
 -- the plant in which g has changed batch n and the lines are these

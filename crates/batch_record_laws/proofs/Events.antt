@@ -1,5 +1,5 @@
 -- Each event keeps what is kept.
-use Rattle.std.proofs.Common.{◌≡◌, ◌⊎◌, ⊎_elim, refl, sym, ◌∙◌, ap, ap₂, subst, subst₂, ℕ, ◌<◌, ◌≤◌, arith, List, [], ◌∷◌, ◌++◌, Bool, true, false, cond, not, map, filter, Option, Some, inl, inr, nat_eq}
+use Rattle.std.proofs.Common.{◌≡◌, ◌⊎◌, ⊎_elim, refl, sym, ◌∙◌, ap, ap₂, subst, subst₂, ℕ, ◌<◌, ◌≤◌, arith, List, [], ◌∷◌, ◌++◌, Bool, true, false, cond, not, map, filter, Option, Some, inl, inr, nat_eq, append-nil}
 use Rattle.batch_matrix.specs.declared.state.State.{State}
 use Rattle.batch_matrix.specs.declared.state.State.TheVariants.{Idle, Running, Pausing, Paused, Holding, Held, Restarting, Stopping, Stopped, Aborting, Aborted, Complete}
 use Rattle.batch_matrix.specs.declared.command.Command.{Command}
@@ -21,17 +21,14 @@ use Rattle.batch_model.proofs.Members.{Has-split}
 use Rattle.batch_record_laws.proofs.Members.{map-Has}
 use Rattle.batch_record_laws.proofs.Reaching.{reach-facts, is_kept, withdrawn-facts}
 use Rattle.batch_record_laws.proofs.Entries.{Agrees, once-filter, Has-filter, filter-Has, nat_same, nat_self, nat_differs, holders-append}
-use Rattle.batch_record_laws.proofs.Batches.{Has-only, below-next, only, only-hit, only-miss, same-batch}
-use Rattle.batch_record_laws.proofs.Invariant.{IsFitting, NothingAwaited, IsSound, IsKept}
-use Rattle.batch_record_laws.proofs.Batches.{awaiting-of, performing-of, of-entry, append-holders}
+use Rattle.batch_record_laws.proofs.Batches.{Has-only, below-next, only, only-hit, only-miss, same-batch, awaiting-of, performing-of, of-entry, append-holders}
+use Rattle.batch_record_laws.proofs.Invariant.{IsFitting, NothingAwaited, IsSound, IsKept, standing-of, numbers-of}
 use Rattle.batch_record_laws.proofs.Passing.{is_under_way, early-none}
 use Rattle.batch_step_laws.proofs.Telling.{holders_told-last, waiters_told-last, active_told-last, state_told-last}
 use Rattle.batch_record_laws.proofs.Changing.{changed_plant, kept-after}
 use Rattle.batch_record_laws.proofs.Keeping.{kept-quiet}
 use Rattle.batch_record_laws.proofs.Moving.{tells-other, tells-own}
-use Rattle.std.proofs.lemmas.List.{append-nil}
 use Rattle.batch_model.specs.Standing.{IsStanding}
-use Rattle.batch_record_laws.proofs.Invariant.{standing-of, numbers-of}
 use Rattle.batch_recipe.specs.declared.need.Need.{Need}
 
 -- Answers: the record with the reply, and the plant

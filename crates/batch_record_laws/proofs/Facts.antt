@@ -1,5 +1,5 @@
 -- What stands in a plant: who holds, awaits and performs what.
-use Rattle.std.specs.Prelude.{ℕ, List, [], ◌∷◌, ◌++◌, take, map, flat_map, Option, Some, None, slice_get, true, false}
+use Rattle.std.proofs.Common.{ℕ, List, [], ◌∷◌, ◌++◌, take, map, flat_map, Option, Some, None, slice_get, true, false}
 use Rattle.std.specs.Str.{bytes_eq}
 use Rattle.batch_recipe.specs.Conditions.{Name}
 use Rattle.batch_recipe.specs.Tree.{Place, Phase}

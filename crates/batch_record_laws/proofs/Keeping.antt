@@ -24,10 +24,9 @@ use Rattle.batch_record_laws.proofs.Raising.{Nowhere}
 use Rattle.batch_record_laws.proofs.Starting.{alone}
 use Rattle.batch_record_laws.proofs.Due.{awaited-nowhere}
 use Rattle.batch_record_laws.proofs.Members.{Has-map, map-Has}
-use Rattle.batch_record_laws.proofs.Invariant.{IsFitting, IsSound, IsKept, fit-fewer, fit-awaited, fit-running}
+use Rattle.batch_record_laws.proofs.Invariant.{IsFitting, IsSound, IsKept, fit-fewer, fit-awaited, fit-running, standing-of, numbers-of}
 use Rattle.batch_record_laws.proofs.Changing.{changed_plant, kept-after, Tail, nothing, also, tail_at, IsApart, stays, comes, others-stay, same-holders, agrees-released, agrees-granted, tail-no_holder, IsChange, change-sound, Becomes, apart, fewer-facts, back_again, not_awaiting, not_yet_awaiting, not_performing, Lacks}
 use Rattle.batch_model.specs.Standing.{IsAwaited, IsStandingBatch, IsStanding}
-use Rattle.batch_record_laws.proofs.Invariant.{standing-of, numbers-of}
 use Rattle.batch_record_laws.proofs.Units.{same_performing}
 use Rattle.batch_recipe.specs.declared.need.Need.{Need}
 

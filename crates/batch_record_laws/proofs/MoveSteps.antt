@@ -13,7 +13,7 @@ use Rattle.batch_recipe.specs.Tree.{Place, Reserve, Step, Phase, Task, runs, fol
 use Rattle.batch_model.specs.Rest.{Rest, Moment, ready, asking, open_act, live, freeing, is_done, acts, place_of, changed_at}
 use Rattle.batch_model.specs.Plant.{Setup, InAdvance, Batch, Share, units_in, Plant, moment_of, in_act, held_in, holders}
 use Rattle.batch_model.specs.ActStates.{steps}
-use Rattle.batch_model.specs.Standing.{IsAwaited, is_resting}
+use Rattle.batch_model.specs.Standing.{IsAwaited, is_resting, IsStandingBatch, IsStanding}
 use Rattle.batch_model.specs.Moves.{Move, send, release, pass, begin, start, end, ask, grant, is_running, is_stopping, is_stopped, is_quiet, is_empty, passed_on, beginning, entering, last_held, giving_back, reserved_place, handing_over, line_after, when, is_served, act_move, freed, sent, released, begun, ended, asked, granted, batch_after, after, handed_values}
 use Rattle.batch_model.specs.Runs.{Out, move}
 use Rattle.batch_model.specs.Records.{StartsIdle}
@@ -36,13 +36,11 @@ use Rattle.batch_record_laws.proofs.Ranking.{rises-next}
 use Rattle.batch_record_laws.proofs.Framing.{Frame, frame, needs_of, NeedsRise, needs-rise}
 use Rattle.batch_record_laws.proofs.Entries.{frame-middle, nat_same}
 use Rattle.batch_record_laws.proofs.Batches.{holders-entries, only}
-use Rattle.batch_record_laws.proofs.Invariant.{IsFitting, IsFirstNeed, AreFirstNeeds, IsSound, IsKept}
+use Rattle.batch_record_laws.proofs.Invariant.{IsFitting, IsFirstNeed, AreFirstNeeds, IsSound, IsKept, standing-of}
 use Rattle.batch_record_laws.proofs.Quiet.{quiet-performs_nothing, holding-nothing, no_facts, fit-stopping}
 use Rattle.batch_record_laws.proofs.Starting.{starts-nothing, starts-idle}
 use Rattle.batch_record_laws.proofs.Changing.{changed_plant, nothing, also, IsApart, stays, comes, IsChange, change-sound, Becomes, Lacks, not_performing}
 use Rattle.batch_record_laws.proofs.Keeping.{kept-quiet, kept-started, kept-asked, kept-granted, kept-released, kept-passed, not-held-yet, act_frame, apart-here}
-use Rattle.batch_model.specs.Standing.{IsStandingBatch, IsStanding}
-use Rattle.batch_record_laws.proofs.Invariant.{standing-of}
 use Rattle.batch_recipe.specs.declared.need.Need.{Need}
 
 -- Lists of needs

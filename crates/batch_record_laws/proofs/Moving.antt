@@ -16,13 +16,12 @@ use Rattle.batch_step_laws.proofs.Falling.{next-possible}
 use Rattle.batch_model.proofs.Members.{Has-filter_map, Has-flat_map}
 use Rattle.batch_record_laws.proofs.Reaching.{done-facts}
 use Rattle.batch_record_laws.proofs.Entries.{nat_self, nat_differs}
-use Rattle.batch_record_laws.proofs.Invariant.{IsFitting, IsSound, IsKept}
+use Rattle.batch_record_laws.proofs.Invariant.{IsFitting, IsSound, IsKept, standing-of}
 use Rattle.batch_record_laws.proofs.Quiet.{quiet-performs_nothing, holding-nothing, no_facts}
 use Rattle.batch_record_laws.proofs.Starting.{starts-nothing}
 use Rattle.batch_record_laws.proofs.Keeping.{kept-quiet}
 use Rattle.batch_record_laws.proofs.MoveSteps.{Stepped, act-step, no_move, some_move}
 use Rattle.batch_model.specs.Standing.{IsStandingBatch, IsStanding}
-use Rattle.batch_record_laws.proofs.Invariant.{standing-of}
 
 -- A line that tells the state of one batch
 

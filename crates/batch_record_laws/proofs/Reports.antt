@@ -1,5 +1,5 @@
 -- Each report keeps what is kept, and so does each event.
-use Rattle.std.proofs.Common.{arith, ◌≡◌, refl, sym, ◌∙◌, ap, subst, subst₂, ℕ, List, [], ◌∷◌, ◌++◌, Bool, true, false, ◌&&◌, find, Option, Some, None, inl, inr, nat_eq, length, bytes_eq}
+use Rattle.std.proofs.Common.{arith, ◌≡◌, refl, sym, ◌∙◌, ap, subst, subst₂, ℕ, List, [], ◌∷◌, ◌++◌, Bool, true, false, ◌&&◌, find, Option, Some, None, inl, inr, nat_eq, length, bytes_eq, append-nil}
 use Rattle.batch_matrix.specs.declared.state.State.{State}
 use Rattle.batch_matrix.specs.declared.state.State.TheVariants.{Holding}
 use Rattle.batch_matrix.specs.declared.command.Command.TheVariants.{Hold}
@@ -33,7 +33,6 @@ use Rattle.batch_record_laws.proofs.MoveSteps.{freed-facts, take-length}
 use Rattle.batch_record_laws.proofs.Events.{Answered, kept-refused, kept-created, ordering-step, removing-step}
 use Rattle.batch_record_laws.proofs.Moving.{tells-other, tells-own}
 use Rattle.batch_record_laws.proofs.Tops.{find-passes}
-use Rattle.std.proofs.lemmas.List.{append-nil}
 use Rattle.batch_model.specs.Standing.{IsAwaited, IsControl, IsStandingBatch, IsStanding}
 
 -- Reports

@@ -1,6 +1,5 @@
 -- Which bindings of roles serve, and which units may so be chosen.
-use Rattle.std.proofs.Common.{arith, ◌≡◌, refl, sym, ◌∙◌, ap, subst, List, [], ◌∷◌, Bool, true, false, ◌||◌, not, map, IsTrue, inl, inr, bytes_eq, Some, None}
-use Rattle.std.specs.Prelude.{Option, option_and_then}
+use Rattle.std.proofs.Common.{arith, ◌≡◌, refl, sym, ◌∙◌, ap, subst, List, [], ◌∷◌, Bool, true, false, ◌||◌, not, map, IsTrue, inl, inr, bytes_eq, Some, None, Option, option_and_then}
 use Rattle.std.specs.List.{list_any}
 use Rattle.std.proofs.lemmas.Bool.{and_parts}
 use Rattle.batch_cell.specs.LookUps.{units_of_class}

@@ -15,11 +15,9 @@ use Rattle.batch_model.proofs.Members.{Each-Has}
 use Rattle.batch_record_laws.proofs.Members.{Has-Each}
 use Rattle.batch_record_laws.proofs.Units.{shares, shares-append, performed-phase, unit-held, twice-held}
 use Rattle.batch_record_laws.proofs.Entries.{holders-append, holders-Has, nat_same, units-append, units-cons, units-one}
-use Rattle.batch_record_laws.proofs.Batches.{same-batch}
-use Rattle.batch_record_laws.proofs.Invariant.{IsSound, IsKept}
-use Rattle.batch_record_laws.proofs.Batches.{performing-of, of-entry}
+use Rattle.batch_record_laws.proofs.Batches.{same-batch, performing-of, of-entry}
+use Rattle.batch_record_laws.proofs.Invariant.{IsSound, IsKept, standing-of, numbers-of}
 use Rattle.batch_model.specs.Standing.{IsStandingBatch, IsStanding}
-use Rattle.batch_record_laws.proofs.Invariant.{standing-of, numbers-of}
 use Rattle.batch_recipe.specs.Needs.{one_unit}
 
 -- a line that starts no phase

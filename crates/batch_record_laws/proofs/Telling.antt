@@ -16,9 +16,8 @@ use Rattle.batch_record_laws.specs.Telling.{IsTold}
 use Rattle.batch_model.proofs.Members.{Has-split, Has-left, Has-right}
 use Rattle.batch_record_laws.proofs.Ranking.{held-performing, awaited-performing}
 use Rattle.batch_record_laws.proofs.Units.{lone-performing}
-use Rattle.batch_record_laws.proofs.Batches.{holders-entries}
+use Rattle.batch_record_laws.proofs.Batches.{holders-entries, awaiting-of, performing-of, of-entry}
 use Rattle.batch_record_laws.proofs.Invariant.{IsKept}
-use Rattle.batch_record_laws.proofs.Batches.{awaiting-of, performing-of, of-entry}
 use Rattle.batch_record_laws.proofs.Asking.{awaiting-act, asking-awaits}
 use Rattle.batch_record_laws.proofs.Along.{kept-at_first, kept-along}
 use Rattle.batch_record_laws.proofs.Entries.{length-sums}

@@ -1,6 +1,5 @@
 -- The unit procedures of a tree, of which those that follow a step are some.
-use Rattle.std.proofs.Common.{arith, ◌≡◌, ◌≢◌, refl, ◌∙◌, ap, subst, ℕ, zero, suc, List, [], ◌∷◌, ◌++◌, Bool, true, find, Option, Some, None, inl, inr, ⊎_elim}
-use Rattle.std.specs.Prelude.{option_map}
+use Rattle.std.proofs.Common.{arith, ◌≡◌, ◌≢◌, refl, ◌∙◌, ap, subst, ℕ, zero, suc, List, [], ◌∷◌, ◌++◌, Bool, true, find, Option, Some, None, inl, inr, ⊎_elim, option_map}
 use Rattle.batch_recipe.specs.Conditions.{Name, same_name}
 use Rattle.batch_recipe.specs.Following.{Follower, firsts, firsts_of_each, enter, branch, choice_at, child_of, level_within, next_after, following_below, following, follower}
 use Rattle.batch_recipe.specs.Levels.{Level, is_procedure, in_procedure, in_unit_procedure, in_operation, below}

@@ -17,9 +17,8 @@ use Rattle.batch_record_laws.proofs.Due.{awaited-none_under}
 use Rattle.batch_record_laws.proofs.Passing.{is_under_way, early-none}
 use Rattle.batch_record_laws.proofs.Placing.{fact-stands}
 use Rattle.batch_model.proofs.Members.{Has-split, Each-Has}
-use Rattle.batch_record_laws.proofs.Invariant.{IsSound, IsKept, at_rest-nothing}
+use Rattle.batch_record_laws.proofs.Invariant.{IsSound, IsKept, at_rest-nothing, standing-of, numbers-of}
 use Rattle.batch_model.specs.Standing.{IsAwaited, IsStandingBatch, IsStanding}
-use Rattle.batch_record_laws.proofs.Invariant.{standing-of, numbers-of}
 use Rattle.batch_recipe.specs.Needs.{one_unit}
 use Rattle.batch_recipe.specs.Conditions.{Name}
 

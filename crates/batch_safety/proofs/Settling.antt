@@ -14,9 +14,8 @@ use Rattle.batch_record_laws.proofs.Facts.{need}
 use Rattle.batch_model.specs.Cleared.{Ranking}
 use Rattle.batch_record_laws.proofs.Members.{Has-map, map-Has}
 use Rattle.batch_record_laws.proofs.Entries.{act_self, name_self, name_same, filter-Has, length-filter_lt}
-use Rattle.batch_record_laws.proofs.Batches.{holders-entries}
+use Rattle.batch_record_laws.proofs.Batches.{holders-entries, awaiting-of}
 use Rattle.batch_record_laws.proofs.Invariant.{IsKept}
-use Rattle.batch_record_laws.proofs.Batches.{awaiting-of}
 use Rattle.batch_record_laws.proofs.Asking.{awaiting-act}
 use Rattle.batch_safety.proofs.Safety.{holder-rises}
 use Rattle.batch_model.specs.Standing.{IsStanding}

@@ -1,6 +1,5 @@
 -- What is told of units that are passed on or reserved is so, after every line.
-use Rattle.std.proofs.Common.{arith, ◌≡◌, ◌⊎◌, ⊎_elim, refl, sym, ◌∙◌, ap, subst, ℕ, zero, suc, ◌<◌, ◌≤◌, List, [], ◌∷◌, ◌++◌, Bool, true, false, not, nat_eq, map, take, find, Option, Some, None, slice_get, inl, inr, bytes_eq}
-use Rattle.std.specs.Prelude.{option_and_then, option_map}
+use Rattle.std.proofs.Common.{arith, ◌≡◌, ◌⊎◌, ⊎_elim, refl, sym, ◌∙◌, ap, subst, ℕ, zero, suc, ◌<◌, ◌≤◌, List, [], ◌∷◌, ◌++◌, Bool, true, false, not, nat_eq, map, take, find, Option, Some, None, slice_get, inl, inr, bytes_eq, option_and_then, option_map}
 use Rattle.std.proofs.lemmas.Bool.{cases_lt}
 use Rattle.std.proofs.lemmas.Slice.Eq.{bytes_eq-Decides}
 use Rattle.batch_matrix.specs.declared.state.State.{State}
@@ -18,7 +17,7 @@ use Rattle.batch_model.specs.Records.{holders_told}
 use Rattle.batch_model.specs.Runs.{Out, move, goes_on}
 use Rattle.batch_model.specs.Standing.{IsStandingBatch, IsStanding}
 use Rattle.batch_model.specs.Transfers.{Kept, without_begun, kept_until, passed_by, passed_told, reserved_by, reserved_at, reserved_from, reserved_told}
-use Rattle.batch_model.proofs.Members.{Has-split, Has-filter_map, Each-Has, Each-map}
+use Rattle.batch_model.proofs.Members.{Has-split, Has-filter_map, Each-Has, Each-map, Has-flat_map}
 use Rattle.batch_step_laws.proofs.Calming.{IsStateMove, state_move-is}
 use Rattle.batch_step_laws.proofs.Changing.{to_same_place}
 use Rattle.batch_step_laws.proofs.Falling.{Has-batch_moves, batch_moves-number, next-possible, same-rest, same-state}
@@ -39,7 +38,6 @@ use Rattle.batch_record_laws.proofs.Raising.{Nowhere}
 use Rattle.batch_record_laws.proofs.Ranking.{Has-get, rises-next}
 use Rattle.batch_record_laws.proofs.Reserved.{one-step}
 use Rattle.batch_record_laws.proofs.Tops.{find-passes}
-use Rattle.batch_model.proofs.Members.{Has-flat_map}
 use Rattle.batch_safety.proofs.KeptUnits.{IsOfOther, Holds, Takes, still-held, held-passed, passed_told-last, reserved_told-last, passed_told-others, reserved_told-others}
 use Rattle.batch_safety.proofs.Making.{IsMade, act_move-made}
 use Rattle.batch_safety.proofs.Unbegun.{IsUnbegunAt, Begins, advance-unbegun, changed-unbegun, act_after-unbegun}

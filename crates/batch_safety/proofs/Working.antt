@@ -9,8 +9,8 @@ use Rattle.batch_model.specs.Rest.{Rest, ready, asking, open_act, live, freeing,
 use Rattle.batch_model.specs.Plant.{Setup, Batch, BatchAct, Share, Plant, opening, holders}
 use Rattle.batch_model.specs.Moves.{Move, begin, start, end, ask, release, pass, reserved_place, handed_values, beginning, entering, giving_back, when, is_running, is_stopping, is_stopped, is_quiet, is_empty, act_move, next}
 use Rattle.batch_model.specs.Runs.{Out}
-use Rattle.batch_model.specs.Cleared.{is_procedure, IsCleared}
-use Rattle.batch_model.specs.Standing.{HasPlacedTrees, IsStandingBatch, IsStanding}
+use Rattle.batch_model.specs.Cleared.{is_procedure, IsCleared, Ranking}
+use Rattle.batch_model.specs.Standing.{HasPlacedTrees, IsStandingBatch, IsStanding, IsRestOf, IsRestBelow, IsBranch, AreBranches, IsChosen}
 use Rattle.batch_step_laws.proofs.Led.{opening-stands, leads-stands}
 use Rattle.batch_safety.proofs.Awaiting.{among-Has, CanBeMet, awaited-known}
 use Rattle.batch_record_laws.proofs.Clearing.{cleared-down, control-clear, control-procedure}
@@ -18,9 +18,7 @@ use Rattle.batch_model.specs.Records.{scene_of, Waiting, IsWaiting, IsAtOrAbove,
 use Rattle.batch_model.specs.Settled.{IsAdvanced, AreAdvanced}
 use Rattle.batch_recipe.specs.Nodes.{child}
 use Rattle.batch_record_laws.proofs.Facts.{Fact, holding, awaiting, performing, Standing, held_at, awaited_at, facts, facts_of_each, early_facts, entries, need, share}
-use Rattle.batch_model.specs.Standing.{IsRestOf, IsRestBelow, IsBranch, AreBranches, IsChosen}
 use Rattle.batch_model.specs.Placed.{IsPlaced, IsPlacedBelow, ArePlaced, IsChoicePlaced}
-use Rattle.batch_model.specs.Cleared.{Ranking}
 use Rattle.batch_safety.specs.Settlement.{IsHalting, IsAtWork, NobodyWaitsInVain}
 use Rattle.batch_model.proofs.Members.{Has-split, Has-left, Has-right, Each-Has}
 use Rattle.batch_record_laws.proofs.Placing.{acts-below, under}
@@ -28,13 +26,11 @@ use Rattle.batch_record_laws.proofs.Framing.{at_or_above}
 use Rattle.batch_record_laws.proofs.Asking.{asking-awaits}
 use Rattle.batch_safety.proofs.Bounding.{IsBounded, AreBounded, rest-bounded}
 use Rattle.batch_record_laws.proofs.Entries.{Has-holders}
-use Rattle.batch_record_laws.proofs.Batches.{holders-entries}
-use Rattle.batch_record_laws.proofs.Invariant.{IsFitting, IsSound, IsKept}
-use Rattle.batch_record_laws.proofs.Batches.{entry-of, of-entry, awaiting-of}
+use Rattle.batch_record_laws.proofs.Batches.{holders-entries, entry-of, of-entry, awaiting-of}
+use Rattle.batch_record_laws.proofs.Invariant.{IsFitting, IsSound, IsKept, standing-of}
 use Rattle.batch_step_laws.proofs.Leaving.{settled-none}
 use Rattle.batch_record_laws.proofs.Along.{kept-at_first, kept-along}
 use Rattle.batch_safety.proofs.Settling.{no_act_move, held-by_others, short-chain}
-use Rattle.batch_record_laws.proofs.Invariant.{standing-of}
 use Rattle.batch_recipe.specs.declared.need.Need.{Need}
 use Rattle.batch_record_laws.proofs.Members.{Has-map, map-Has}
 

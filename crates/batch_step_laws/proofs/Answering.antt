@@ -1,6 +1,5 @@
 -- A plant that stands does so after each event.
-use Rattle.std.proofs.Common.{arith, ◌≡◌, refl, sym, ◌∙◌, ap, subst, inl, inr, ◌&&◌, ℕ, List, [], ◌∷◌, Bool, true, false, Some, None}
-use Rattle.std.specs.Prelude.{Option, find, not, nat_eq}
+use Rattle.std.proofs.Common.{arith, ◌≡◌, refl, sym, ◌∙◌, ap, subst, inl, inr, ◌&&◌, ℕ, List, [], ◌∷◌, Bool, true, false, Some, None, Option, find, not, nat_eq}
 use Rattle.std.specs.Option.{option_or}
 use Rattle.batch_matrix.specs.declared.state.State.{State}
 use Rattle.batch_matrix.specs.declared.state.State.TheVariants.{Idle, Holding}

@@ -1,6 +1,5 @@
 -- Batches whose numbers rise, of which one is changed.
-use Rattle.std.proofs.Common.{◌≡◌, refl, sym, ◌∙◌, ap, ap₂, subst, ℕ, suc, ◌<◌, arith, List, [], ◌∷◌, ◌++◌, Bool, true, false, cond, inl, inr, nat_eq}
-use Rattle.std.specs.Prelude.{map, filter, sum_by}
+use Rattle.std.proofs.Common.{◌≡◌, refl, sym, ◌∙◌, ap, ap₂, subst, ℕ, suc, ◌<◌, arith, List, [], ◌∷◌, ◌++◌, Bool, true, false, cond, inl, inr, nat_eq, map, filter, sum_by}
 use Rattle.std.proofs.lemmas.List.Sums.{sum_by-cons}
 use Rattle.batch_model.specs.Lists.{Has, Each}
 use Rattle.batch_model.specs.Plant.{Batch}

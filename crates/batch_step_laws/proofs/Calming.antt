@@ -1,8 +1,7 @@
 -- A batch that changes its state by itself has less work left.
-use Rattle.std.proofs.Common.{◌≡◌, refl, sym, ◌∙◌, ap, subst, ℕ, suc, length, ◌-◌, Bool, true, false, List, [], ◌∷◌, Some, arith, inl, inr, ◌<◌, ◌≤◌, ◌+◌, ◌*◌}
+use Rattle.std.proofs.Common.{◌≡◌, refl, sym, ◌∙◌, ap, subst, ℕ, suc, length, ◌-◌, Bool, true, false, List, [], ◌∷◌, Some, arith, inl, inr, ◌<◌, ◌≤◌, ◌+◌, ◌*◌, option_and_then}
 use Rattle.std.proofs.lemmas.Bool.{and_parts}
 use Rattle.std.specs.List.{list_all}
-use Rattle.std.specs.Prelude.{option_and_then}
 use Rattle.batch_matrix.specs.declared.state.State.{State}
 use Rattle.batch_matrix.specs.declared.state.State.TheVariants.{Running, Pausing, Paused, Holding, Held, Restarting, Stopping, Stopped, Aborting, Aborted, Complete}
 use Rattle.batch_matrix.specs.Matrix.{ends_as}

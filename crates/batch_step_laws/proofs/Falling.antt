@@ -1,6 +1,5 @@
 -- Each possible move lowers the work left.
-use Rattle.std.proofs.Common.{◌≡◌, ◌⊎◌, refl, sym, ◌∙◌, ap, subst, true, List, [], ◌∷◌, Some, None, arith, inl, inr, ◌<◌, ◌+◌, false}
-use Rattle.std.specs.Prelude.{Option, ◌++◌, map, option_to_list, sum_by}
+use Rattle.std.proofs.Common.{◌≡◌, ◌⊎◌, refl, sym, ◌∙◌, ap, subst, true, List, [], ◌∷◌, Some, None, arith, inl, inr, ◌<◌, ◌+◌, false, Option, ◌++◌, map, option_to_list, sum_by}
 use Rattle.std.specs.List.{filter_map}
 use Rattle.batch_model.specs.Lists.{Has}
 use Rattle.batch_recipe.specs.Tree.{Place, is_before}

@@ -1,7 +1,5 @@
 -- What is held in advance is due until its chart is reached, and what is due has a move before it.
-use Rattle.std.proofs.Common.{◌≡◌, ◌⊎◌, refl, sym, ◌∙◌, ap, subst, ℕ, zero, suc, ◌+◌, ◌<◌, ◌≤◌, length, List, [], ◌∷◌, ◌++◌, Bool, true, false, Some, None, arith, inl, inr, append-nil}
-use Rattle.std.specs.Prelude.{Option, find, pred, option_map}
-use Rattle.std.proofs.lemmas.List.{append_assoc}
+use Rattle.std.proofs.Common.{◌≡◌, ◌⊎◌, refl, sym, ◌∙◌, ap, subst, ℕ, zero, suc, ◌+◌, ◌<◌, ◌≤◌, length, List, [], ◌∷◌, ◌++◌, Bool, true, false, Some, None, arith, inl, inr, append-nil, Option, find, pred, option_map, append_assoc}
 use Rattle.batch_recipe.specs.Conditions.{Name, same_name, holds}
 use Rattle.batch_recipe.specs.declared.condition.Cond.{Cond}
 use Rattle.batch_recipe.specs.Following.{Follower, firsts, firsts_of_each, enter, branch, choice_at, following_below, follower}

@@ -1,6 +1,5 @@
 -- A batch that holds something in advance has a move.
-use Rattle.std.proofs.Common.{◌≡◌, refl, sym, ◌∙◌, ap, subst, ℕ, zero, suc, ◌<◌, ◌≤◌, length, List, [], ◌∷◌, Bool, true, false, Some, None, arith, inl, inr}
-use Rattle.std.specs.Prelude.{Option, flat_map, option_map, option_to_list, pred, ◌&&◌, ◌||◌, not}
+use Rattle.std.proofs.Common.{◌≡◌, refl, sym, ◌∙◌, ap, subst, ℕ, zero, suc, ◌<◌, ◌≤◌, length, List, [], ◌∷◌, Bool, true, false, Some, None, arith, inl, inr, Option, flat_map, option_map, option_to_list, pred, ◌&&◌, ◌||◌, not}
 use Rattle.std.specs.List.{filter_map, cons_option}
 use Rattle.std.proofs.lemmas.Option.{slice_get_cases}
 use Rattle.batch_recipe.specs.declared.need.Need.{Need}

@@ -1,6 +1,5 @@
 -- A plant that stands does so after each possible move.
-use Rattle.std.proofs.Common.{arith, ◌≡◌, ◌⊎◌, refl, sym, ◌∙◌, ap, subst, List, [], ◌∷◌, Bool, true, false, cond, inl, inr}
-use Rattle.std.specs.Prelude.{filter, not, ◌||◌, ◌&&◌, Some, None}
+use Rattle.std.proofs.Common.{arith, ◌≡◌, ◌⊎◌, refl, sym, ◌∙◌, ap, subst, List, [], ◌∷◌, Bool, true, false, cond, inl, inr, filter, not, ◌||◌, ◌&&◌, Some, None}
 use Rattle.batch_matrix.specs.declared.state.State.{State}
 use Rattle.batch_matrix.specs.declared.state.State.TheVariants.{Idle, Complete}
 use Rattle.std.specs.List.{list_any}

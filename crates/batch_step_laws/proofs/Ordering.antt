@@ -1,7 +1,5 @@
 -- Places are in order, and the next move is the least that is possible.
-use Rattle.std.proofs.Common.{◌≡◌, refl, sym, ap, ap₂, subst, ℕ, List, [], ◌∷◌, Bool, true, false, Some, None, arith, nat_eq, nat_lt}
-use Rattle.std.specs.Prelude.{Option, ◌⊎◌}
-use Rattle.std.proofs.Common.{inl, inr}
+use Rattle.std.proofs.Common.{◌≡◌, refl, sym, ap, ap₂, subst, ℕ, List, [], ◌∷◌, Bool, true, false, Some, None, arith, nat_eq, nat_lt, Option, ◌⊎◌, inl, inr}
 use Rattle.batch_model.specs.Lists.{Has}
 use Rattle.batch_recipe.specs.Tree.{Place, is_before}
 use Rattle.batch_model.specs.Moves.{Move, order_of, is_earlier, least}

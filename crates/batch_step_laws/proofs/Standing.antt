@@ -1,8 +1,7 @@
 -- Whatever a rest reaches stands at its node of the expanded tree.
-use Rattle.std.proofs.Common.{◌≡◌, refl, sym, subst, ℕ, zero, suc, pred, Bool, true, false, arith, inl, inr, ◌≤◌, List, [], ◌∷◌, length}
+use Rattle.std.proofs.Common.{◌≡◌, refl, sym, subst, ℕ, zero, suc, pred, Bool, true, false, arith, inl, inr, ◌≤◌, List, [], ◌∷◌, length, take}
 use Rattle.batch_recipe.specs.Conditions.{holds}
 use Rattle.batch_recipe.specs.declared.condition.Cond.{Cond}
-use Rattle.std.specs.Prelude.{take}
 use Rattle.std.specs.List.{list_any}
 use Rattle.batch_recipe.specs.declared.need.Need.{Need}
 use Rattle.batch_recipe.specs.Tree.{Place, Step, Tree, act, skip, seq, par, sel, loop, Task, runs, follows, Trees, no_trees, tree, Choices, otherwise, choice}

@@ -1,6 +1,5 @@
 -- The text of a certificate is read as the ranks that it was made of.
-use Rattle.std.proofs.Common.{◌≡◌, ℕ, zero, suc, ◌-◌, ◌*◌, ◌^◌, ◌<◌, ◌≤◌, ◌==◌, ◌&&◌, ◌||◌, Bool, true, false, Some, None, List, [], ◌∷◌, ◌++◌, length, map, get_or, slice_get, codes, decimal, refl, sym, ap, subst, ◌∙◌, arith, rules, inl, inr, append_assoc, lit<, nat_lt, nat_le}
-use Rattle.std.specs.Prelude.{IsTrue, All, unwrap_or}
+use Rattle.std.proofs.Common.{◌≡◌, ℕ, zero, suc, ◌-◌, ◌*◌, ◌^◌, ◌<◌, ◌≤◌, ◌==◌, ◌&&◌, ◌||◌, Bool, true, false, Some, None, List, [], ◌∷◌, ◌++◌, length, map, get_or, slice_get, codes, decimal, refl, sym, ap, subst, ◌∙◌, arith, rules, inl, inr, append_assoc, lit<, nat_lt, nat_le, IsTrue, All, unwrap_or}
 use Rattle.std.specs.Char.{is_ascii_digit}
 use Rattle.std.specs.Cmp.Lexicographic.{nat_list_eq_equiv}
 use Rattle.std.specs.List.{list_all, slice_split}

@@ -1,8 +1,6 @@
 -- Looking at one document after the other.
-use Rattle.std.proofs.Common.{◌≡◌, ℕ, ◌+◌, ◌<◌, ◌++◌, List, [], ◌∷◌, Some, None, Result, Ok, Err, IfErr, inl, inr, length, map, take, get_or, suc, zero, refl, ap, sym, subst, arith, append_assoc, append-nil, ◌∙◌}
+use Rattle.std.proofs.Common.{◌≡◌, ℕ, ◌+◌, ◌<◌, ◌++◌, List, [], ◌∷◌, Some, None, Result, Ok, Err, IfErr, inl, inr, length, map, take, get_or, suc, zero, refl, ap, sym, subst, arith, append_assoc, append-nil, ◌∙◌, String, Global}
 use Rattle.std.proofs.lemmas.List.{map-append, take_more}
-use Rattle.std.specs.Prelude.{String}
-use Rattle.std.specs.Global.{Global}
 use Rattle.batch_cell.specs.declared.cell.Cell.{Cell}
 use Rattle.batch_recipe.specs.declared.recipe.Recipe.{Recipe}
 use Rattle.batch_verdicts.specs.Every.{AreLooked, AreRefusalsOf, HaltsAtLook, HaltsLooking, IsOneUnread, RefusesRules}

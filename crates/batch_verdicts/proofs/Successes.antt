@@ -1,5 +1,5 @@
 -- What a run tells of the documents.
-use Rattle.std.proofs.Common.{arith, ◌≡◌, ◌⊎◌, ◌≤◌, ℕ, Bool, true, false, List, inl, inr, refl, sym, subst, ◌∙◌}
+use Rattle.std.proofs.Common.{arith, ◌≡◌, ◌⊎◌, ◌≤◌, ℕ, Bool, true, false, List, inl, inr, refl, sym, subst, ◌∙◌, String, if◌then◌else◌, string_bytes, Global}
 use Rattle.std.specs.Io.KnownBytes.{Appends}
 use Rattle.clap.specs.Kinds.{IsAmong}
 use Rattle.clap.specs.Walk.{Text}
@@ -16,9 +16,7 @@ use Rattle.batch_verdicts.specs.Statuses.{AreCodesTold, IsSuccess, NoCommandServ
 use Rattle.batch_verdicts.proofs.Warned.{verdict_more, warned_kept}
 use Rattle.batch_verdicts.specs.declared.course.Course.{Course}
 use Rattle.batch_verdicts.specs.declared.course.Course.TheVariants.{Ends, Serves, Keeps}
-use Rattle.std.specs.Prelude.{String, if◌then◌else◌, string_bytes}
 use Rattle.std.specs.List.{list_any}
-use Rattle.std.specs.Global.{Global}
 use Rattle.batch_verdicts.specs.Digested.{AreDigested}
 use Rattle.batch_verdicts.specs.declared.digested.Digested.{Digested}
 use Rattle.batch_verdicts.specs.declared.refusal.DocumentRefusal.{DocumentRefusal}

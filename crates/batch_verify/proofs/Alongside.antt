@@ -1,6 +1,5 @@
 -- What follows a node is the same in all bindings.
-use Rattle.std.proofs.Common.{◌≡◌, ℕ, zero, suc, List, [], ◌∷◌, ◌++◌, Option, Some, None, refl, ap, ap₂, ◌∙◌, subst}
-use Rattle.std.specs.Prelude.{find, option_map}
+use Rattle.std.proofs.Common.{◌≡◌, ℕ, zero, suc, List, [], ◌∷◌, ◌++◌, Option, Some, None, refl, ap, ap₂, ◌∙◌, subst, find, option_map}
 use Rattle.batch_recipe.specs.Conditions.{Name, same_name}
 use Rattle.batch_recipe.specs.Following.{Follower, branch, child_of, choice_at, enter, firsts, firsts_of_each, firsts_of_first, following, following_below, level_within, next_after}
 use Rattle.batch_recipe.specs.Levels.{Level, is_procedure, in_procedure, in_unit_procedure, in_operation}

@@ -1,6 +1,5 @@
 -- The unit procedures that a node reserves, one after another, and whether they follow it.
-use Rattle.std.proofs.Common.{◌≡◌, ℕ, ◌+◌, ◌<◌, ◌≤◌, arith, false, true, List, [], length, take, take_all, subst, get_or, slice_get, Option, Some, None, refl, sym, ap, ◌∙◌}
-use Rattle.std.specs.Prelude.{option_and_then, IfSome, IsNone}
+use Rattle.std.proofs.Common.{◌≡◌, ℕ, ◌+◌, ◌<◌, ◌≤◌, arith, false, true, List, [], length, take, take_all, subst, get_or, slice_get, Option, Some, None, refl, sym, ap, ◌∙◌, option_and_then, IfSome, IsNone}
 use Rattle.std.specs.Option.{is_some}
 use Rattle.std.proofs.lemmas.Option.{slice_get-get_or}
 use Rattle.batch_recipe.specs.Followers.{follower_of}

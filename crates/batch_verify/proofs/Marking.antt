@@ -1,7 +1,6 @@
 -- Phase steps whose phases were gathered once, and the acts that run none.
-use Rattle.std.proofs.Common.{arith, ◌≡◌, ℕ, Bool, true, false, ◌||◌, List, [], get_or, set, slice_get, sym, ◌∙◌, refl, subst, ◌⊎◌, inl, inr, zero, suc, ◌∷◌}
+use Rattle.std.proofs.Common.{arith, ◌≡◌, ℕ, Bool, true, false, ◌||◌, List, [], get_or, set, slice_get, sym, ◌∙◌, refl, subst, ◌⊎◌, inl, inr, zero, suc, ◌∷◌, get_or-set_other, length-set}
 use Rattle.std.specs.List.{list_all}
-use Rattle.std.proofs.lemmas.List.{get_or-set_other, length-set}
 use Rattle.std.proofs.lemmas.Bool.{cases_eq, and_parts}
 use Rattle.batch_recipe.specs.Conditions.{Name}
 use Rattle.batch_recipe.specs.Outlines.{act_of}

@@ -1,6 +1,5 @@
 -- The roles that a recipe's tree names: those of the unit procedures on whose units its acts run, and of those that they reserve.
-use Rattle.std.proofs.Common.{◌≡◌, Bool, true, false, not, map, ◌||◌, List, [], ◌∷◌, ◌++◌, Option, Some, None, refl, sym, ap, ◌∙◌, subst, inl, inr}
-use Rattle.std.specs.Prelude.{option_and_then}
+use Rattle.std.proofs.Common.{◌≡◌, Bool, true, false, not, map, ◌||◌, List, [], ◌∷◌, ◌++◌, Option, Some, None, refl, sym, ap, ◌∙◌, subst, inl, inr, option_and_then}
 use Rattle.std.specs.List.{list_all}
 use Rattle.std.specs.Cmp.Lexicographic.{bytes_decides}
 use Rattle.std.proofs.lemmas.Bool.{and_parts, or_cases, or_left, or_right}

@@ -1,10 +1,9 @@
 -- The bindings by number are tried, and show each unit that is tried for a role.
-use Rattle.std.proofs.Common.{◌≡◌, ℕ, suc, ◌<◌, ◌≤◌, max, Bool, true, false, not, cond, ◌||◌, IsTrue, List, [], ◌∷◌, ◌++◌, length, map, slice_get, Option, Some, None, refl, sym, ap, ◌∙◌, subst, arith, inl, inr}
+use Rattle.std.proofs.Common.{◌≡◌, ℕ, suc, ◌<◌, ◌≤◌, max, Bool, true, false, not, cond, ◌||◌, IsTrue, List, [], ◌∷◌, ◌++◌, length, map, slice_get, Option, Some, None, refl, sym, ap, ◌∙◌, subst, arith, inl, inr, length-append}
 use Rattle.std.specs.List.{find, list_all}
 use Rattle.std.specs.Cmp.Lexicographic.{bytes_decides}
 use Rattle.std.proofs.Math.Nat.{le-max_left, le-max_right}
 use Rattle.std.proofs.lemmas.Bool.{false_from_ne_true, or_from, or_cases, or_left, or_right, and_parts, not-true}
-use Rattle.std.proofs.lemmas.List.{length-append}
 use Rattle.std.proofs.lemmas.Option.{slice_get_within}
 use Rattle.batch_cell.specs.LookUps.{resources_of, units_of_class}
 use Rattle.batch_cell.specs.declared.cell.Cell as equipment
@@ -14,8 +13,7 @@ use Rattle.batch_recipe.specs.WellFormed.{is_among, are_distinct, are_roles, is_
 use Rattle.batch_recipe.specs.declared.recipe.Recipe as document
 use Rattle.batch_recipe.specs.declared.role.Role.{Role}
 use Rattle.batch_model.specs.Lists.{Each, Has}
-use Rattle.batch_model.specs.Plant.{Setup}
-use Rattle.batch_model.specs.Plant.{Role as ModelRole}
+use Rattle.batch_model.specs.Plant.{Setup, Role as ModelRole}
 use Rattle.batch_model.specs.Setups.{master_of, setup_of}
 use Rattle.batch_verify.specs.Bindings.{nobody, candidate_of, numbered, binding_count}
 use Rattle.batch_verify.specs.Refusals.{IsTried, IsTriedFor}

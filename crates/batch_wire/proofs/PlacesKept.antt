@@ -1,9 +1,8 @@
 -- Places that stay known while the text of another one is put behind them.
-use Rattle.std.proofs.Common.{◌≡◌, ◌⊎◌, inl, inr, ℕ, ◌<◌, ◌≤◌, List, ◌++◌, length, take, drop, codes, decimal, Option, None, Some, ◌-◌, append_assoc, get_or, sym, ap, ◌∙◌, subst, arith, take-take, length-take-le, get_or-set_same, get_or-set_other}
+use Rattle.std.proofs.Common.{◌≡◌, ◌⊎◌, inl, inr, ℕ, ◌<◌, ◌≤◌, List, ◌++◌, length, take, drop, codes, decimal, Option, None, Some, ◌-◌, append_assoc, get_or, sym, ap, ◌∙◌, subst, arith, take-take, length-take-le, get_or-set_same, get_or-set_other, IfSome}
 use Rattle.std.proofs.Math.Nat.{eq-or-lt_of_le}
 use Rattle.std.proofs.lemmas.List.{take-append-le, drop-append-le, drop-take, length-append, length-take, length-drop, take-append-drop}
 use Rattle.std.proofs.Math.Seq.{drop-append-add, drop-append_seam, take-append_seam}
-use Rattle.std.specs.Prelude.{IfSome}
 use Rattle.batch_wire.specs.declared.recipe_places.Known.{Known}
 use Rattle.batch_wire.specs.declared.recipe_places.RecipePlaces.{RecipePlaces}
 use Rattle.batch_wire.specs.Known.{known_at, AreKnownBy, EndsAt, HoldsBatch, IsCutBack, IsAdded, IsKept}

@@ -1,8 +1,7 @@
-use Rattle.std.specs.Prelude.{not}
 use Rattle.batch_chart.specs.Early.{is_ready}
 use Rattle.batch_chart.specs.Stages.{stage_at}
 use Rattle.batch_chart.specs.declared.passed.Passed.{Passed}
-use Rattle.std.proofs.Common.{rules}
+use Rattle.std.proofs.Common.{rules, not}
 use Rattle.std.proofs.lemmas.Fn.{filter_same}
 use Rattle.batch_chart.proofs.taking.forget.Goals as goal
 

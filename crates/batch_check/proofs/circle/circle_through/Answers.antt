@@ -2,7 +2,6 @@ use Rattle.std.proofs.Common.{◌≡◌, ◌<◌, length, Some, None, subst, sym
 use Rattle.batch_check.proofs.Raises.{no_edge}
 use Rattle.batch_check.proofs.Walks.{Walks-first, Walks-more, Walks-caused, Walks-room, IsCircle-take}
 use Rattle.batch_check.proofs.circle.circle_through.Goals as goal
-use Rattle.batch_check.proofs.circle.circle_through.Goals.{In_default}
 
 pub loop-end-init : goal.loop-end-init
 loop-end-init c =

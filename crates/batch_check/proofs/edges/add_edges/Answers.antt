@@ -1,5 +1,4 @@
-use Rattle.std.proofs.Common.{◌≡◌, ◌∙◌, ◌+◌, ◌<◌, ℕ, Bool, List, get_or, Option, Some, Vec, length, refl, sym, ap, slice_get, subst, arith}
-use Rattle.std.specs.Global.{Global}
+use Rattle.std.proofs.Common.{◌≡◌, ◌∙◌, ◌+◌, ◌<◌, ℕ, Bool, List, get_or, Option, Some, Vec, length, refl, sym, ap, slice_get, subst, arith, Global}
 use Rattle.std.proofs.lemmas.Option.{slice_get_read}
 use Rattle.batch_cell.specs.declared.cell.Cell.{Cell}
 use Rattle.batch_recipe.specs.declared.role.Role.{Role}

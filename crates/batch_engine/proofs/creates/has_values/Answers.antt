@@ -1,5 +1,4 @@
-use Rattle.std.proofs.Common.{◌≡◌, refl, subst, sym}
-use Rattle.std.specs.Prelude.{◌↔◌, IsTrue}
+use Rattle.std.proofs.Common.{◌≡◌, refl, subst, sym, ◌↔◌, IsTrue}
 use Rattle.batch_recipe.specs.Conditions.{ValueList}
 use Rattle.batch_model.specs.Plant.{scaled}
 use Rattle.batch_model.specs.Recipes.{formula_of}

@@ -1,5 +1,4 @@
-use Rattle.std.proofs.Common.{◌≡◌, refl, sym, ◌∙◌, ap, subst, ℕ}
-use Rattle.std.specs.Prelude.{IsSomeAnd, Err}
+use Rattle.std.proofs.Common.{◌≡◌, refl, sym, ◌∙◌, ap, subst, ℕ, IsSomeAnd, Err}
 use Rattle.batch_recipe.specs.Conditions.{Name}
 use Rattle.batch_recipe.specs.declared.fault.FormulaFault.{FormulaFault}
 use Rattle.batch_recipe.specs.Formula.{IsOutOfRange}

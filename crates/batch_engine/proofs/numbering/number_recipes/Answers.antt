@@ -1,5 +1,4 @@
-use Rattle.std.proofs.Common.{◌≡◌, ◌<◌, refl, sym, ap, subst, arith, ℕ, length, List, [], ◌∷◌, ◌++◌, Some, slice_get}
-use Rattle.std.proofs.lemmas.List.{length-append}
+use Rattle.std.proofs.Common.{◌≡◌, ◌<◌, refl, sym, ap, subst, arith, ℕ, length, List, [], ◌∷◌, ◌++◌, Some, slice_get, length-append}
 use Rattle.std.proofs.lemmas.Option.{slice_get_read}
 use Rattle.batch_recipe.specs.declared.recipe.Recipe.{Recipe}
 use Rattle.batch_engine.specs.Numbered.{IsRecipeNumbered}

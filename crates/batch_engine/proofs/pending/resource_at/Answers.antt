@@ -1,5 +1,4 @@
-use Rattle.std.proofs.Common.{◌≡◌, ◌∙◌, ap, sym, arith, List, ℕ, Option, Some, None}
-use Rattle.std.specs.Prelude.{slice_get, unwrap_or}
+use Rattle.std.proofs.Common.{◌≡◌, ◌∙◌, ap, sym, arith, List, ℕ, Option, Some, None, slice_get, unwrap_or}
 use Rattle.batch_set.specs.Looked.{needs_by, number_for}
 use Rattle.batch_set.specs.declared.linked.LinkedNeed.{LinkedNeed}
 use Rattle.batch_engine.specs.Steps.{IsNeedAt, IsNumberAt}

@@ -1,4 +1,4 @@
-use Rattle.std.proofs.Common.{refl, arith, []}
+use Rattle.std.proofs.Common.{refl, arith, [], ◌∷◌}
 use Rattle.batch_model.specs.Lists.{Each}
 use Rattle.batch_model.specs.Cleared.{IsClear, procedure_parts}
 use Rattle.batch_model.specs.Plant.{Recipe}
@@ -6,7 +6,6 @@ use Rattle.batch_examples.specs.RowParts.{p001}
 use Rattle.batch_examples.specs.RowsOfTransfers.{cell_of, first_r1, recipe_e, e_with, make_then_keep}
 use Rattle.batch_examples.specs.RowDocuments.{heat, add}
 use Rattle.batch_recipe.specs.Diagram.{label, seq, diagrams_of}
-use Rattle.std.proofs.Common.{◌∷◌}
 use Rattle.batch_examples.proofs.transfers.follower_is_reserved.Goals as goal
 
 abbrev Clear : Recipe → Type 0

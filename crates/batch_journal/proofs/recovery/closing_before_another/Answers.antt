@@ -1,5 +1,4 @@
-use Rattle.std.proofs.Common.{rules, ◌≡◌, ◌-◌, ◌++◌, ◌∷◌, [], IsSome, true, false, length, length-append, take, drop, sym, ◌∙◌, ap, subst, arith}
-use Rattle.std.proofs.lemmas.List.{length-drop}
+use Rattle.std.proofs.Common.{rules, ◌≡◌, ◌-◌, ◌++◌, ◌∷◌, [], IsSome, true, false, length, length-append, take, drop, sym, ◌∙◌, ap, subst, arith, length-drop}
 use Rattle.batch_journal.specs.Journals.{journal_format}
 use Rattle.batch_journal.specs.Recovery.{closings}
 use Rattle.batch_journal.proofs.TakeLemmas.{line_at, to_end}

@@ -1,5 +1,4 @@
-use Rattle.std.proofs.Common.{◌≡◌, ◌+◌, ◌++◌, ◌∷◌, [], true, false, take, drop, slice_range, refl, sym, ◌∙◌, ap, subst, arith}
-use Rattle.std.proofs.lemmas.List.{length-drop}
+use Rattle.std.proofs.Common.{◌≡◌, ◌+◌, ◌++◌, ◌∷◌, [], true, false, take, drop, slice_range, refl, sym, ◌∙◌, ap, subst, arith, length-drop}
 use Rattle.batch_journal.specs.Journals.{journal_format, sum_text, IsClosed}
 use Rattle.batch_journal.specs.Ends.{EndsLine}
 use Rattle.batch_journal.specs.Lines.{IsLine, whole_lines}

@@ -1,5 +1,4 @@
-use Rattle.std.proofs.Common.{ap, ◌∙◌, List, ℕ}
-use Rattle.std.specs.Prelude.{find, option_map}
+use Rattle.std.proofs.Common.{ap, ◌∙◌, List, ℕ, find, option_map}
 use Rattle.std.specs.Str.{str_eq_ignore_ascii_case}
 use Rattle.batch_messages.specs.declared.explanation.Explanation.{Explanation}
 use Rattle.batch_messages.proofs.Found.{found_code}

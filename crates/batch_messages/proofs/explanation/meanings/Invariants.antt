@@ -1,5 +1,4 @@
-use Rattle.std.proofs.Common.{◌≡◌, take, string_bytes}
-use Rattle.std.specs.Prelude.{flat_map}
+use Rattle.std.proofs.Common.{◌≡◌, take, string_bytes, flat_map}
 use Rattle.batch_messages.specs.Explaining.{meant}
 use Rattle.batch_messages.proofs.explanation.meanings.Given as goal
 

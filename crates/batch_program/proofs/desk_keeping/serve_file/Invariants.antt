@@ -1,4 +1,4 @@
-use Rattle.std.specs.Prelude.{None}
+use Rattle.std.proofs.Common.{None}
 use Rattle.batch_program.proofs.desk_keeping.serve_file.Given as goal
 
 abbrev pub ghosts-serve_behind : goal.ghosts-serve_behind

@@ -1,5 +1,4 @@
-use Rattle.std.specs.Prelude.{length, MatchOption}
-use Rattle.std.proofs.Common.{sym, subst}
+use Rattle.std.proofs.Common.{sym, subst, length, MatchOption}
 use Rattle.batch_serve.specs.Holding.{StopsAt}
 use Rattle.batch_serve.proofs.HoldingLemmas.{stops_where}
 use Rattle.batch_serve.proofs.held.first_want.Goals as goal

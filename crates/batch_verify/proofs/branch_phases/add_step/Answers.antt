@@ -1,5 +1,4 @@
-use Rattle.std.proofs.Common.{length, Option, refl, sym, subst}
-use Rattle.std.proofs.lemmas.Bool.{ltb-true}
+use Rattle.std.proofs.Common.{length, Option, refl, sym, subst, ltb-true}
 use Rattle.std.proofs.lemmas.Option.{slice_get_read}
 use Rattle.batch_recipe.specs.declared.act.Act.{Act}
 use Rattle.batch_verify.specs.NodePhases.{phase_at}

@@ -1,5 +1,4 @@
-use Rattle.std.proofs.Common.{arith, ◌≡◌, ◌++◌, ◌∷◌, [], not, if◌then◌else◌, ap, sym, ◌∙◌}
-use Rattle.batch_recipe.specs.Procedure.{table_at}
+use Rattle.std.proofs.Common.{◌++◌, ◌∷◌, [], not, if◌then◌else◌, ap, sym, ◌∙◌}
 use Rattle.batch_warnings.specs.Warnings.{is_named}
 use Rattle.batch_warnings.specs.declared.warning.RecipeWarning.TheVariants.{UnnamedAct}
 use Rattle.batch_warnings.proofs.Numbers.{numbers_on}

@@ -1,5 +1,4 @@
-use Rattle.std.proofs.Common.{◌≡◌, ◌+◌, ◌≤◌, ◌<◌, ◌++◌, [], codes, ℕ, List, Some, get_or, slice_get, length, drop, map, refl, sym, ap, ◌∙◌, append_assoc, rules}
-use Rattle.std.specs.Prelude.{option_map}
+use Rattle.std.proofs.Common.{◌≡◌, ◌+◌, ◌≤◌, ◌<◌, ◌++◌, [], codes, ℕ, List, Some, get_or, slice_get, length, drop, map, refl, sym, ap, ◌∙◌, append_assoc, rules, option_map}
 use Rattle.std.specs.List.{zip}
 use Rattle.std.proofs.KnownBytes.{Appends-nil, Appends-trans}
 use Rattle.std.proofs.lemmas.List.{length-map}

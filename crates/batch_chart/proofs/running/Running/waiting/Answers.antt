@@ -1,4 +1,4 @@
-use Rattle.std.specs.Prelude.{◌≤◌, ◌<◌, ℕ}
+use Rattle.std.proofs.Common.{◌≤◌, ◌<◌, ℕ}
 use Rattle.batch_recipe.specs.Tree.{Tree}
 use Rattle.batch_chart.specs.Charts.{AsksAt, IsChartOf, IsRunningOf, remains}
 use Rattle.batch_chart.specs.Running.{IsAlive}

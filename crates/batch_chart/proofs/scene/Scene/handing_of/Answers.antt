@@ -1,5 +1,4 @@
-use Rattle.std.proofs.Common.{Some, None, refl, sym, ap, ◌∙◌, subst, length, ◌<◌}
-use Rattle.std.specs.Prelude.{IfSome}
+use Rattle.std.proofs.Common.{Some, None, refl, sym, ap, ◌∙◌, subst, length, ◌<◌, IfSome}
 use Rattle.batch_chart.specs.Nexts.{handed, last_held}
 use Rattle.batch_chart.specs.Passing.{PassesTo}
 use Rattle.batch_chart.specs.Stages.{stage_at}

@@ -1,5 +1,4 @@
-use Rattle.std.proofs.Common.{sym, ◌∙◌, ap}
-use Rattle.std.specs.Prelude.{◌||◌}
+use Rattle.std.proofs.Common.{sym, ◌∙◌, ap, ◌||◌}
 use Rattle.std.specs.Int.Bits.{bit_or}
 use Rattle.batch_chart.proofs.Joining.{next-entered, found-among, next-none}
 use Rattle.batch_chart.proofs.Firsts.{enters-nothing, tells-entering, tells-ending}

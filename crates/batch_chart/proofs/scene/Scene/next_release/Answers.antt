@@ -1,5 +1,4 @@
-use Rattle.std.proofs.Common.{sym, ◌∙◌, ap, true, false}
-use Rattle.std.specs.Prelude.{◌&&◌, ◌||◌}
+use Rattle.std.proofs.Common.{sym, ◌∙◌, ap, true, false, ◌&&◌, ◌||◌}
 use Rattle.batch_chart.proofs.Joining.{next-released, next-handed, found-among, quiet-told}
 use Rattle.batch_chart.proofs.Firsts.{tells-freeing, tells-releasing, stopping-others, stopped-halts}
 use Rattle.batch_model.specs.Moves.{is_running, is_stopping, is_stopped, is_quiet}

@@ -1,5 +1,4 @@
-use Rattle.std.proofs.Common.{rules, ◌∙◌, ap}
-use Rattle.std.specs.Prelude.{nat_eq, position}
+use Rattle.std.proofs.Common.{rules, ◌∙◌, ap, nat_eq, position}
 use Rattle.std.proofs.lemmas.List.Sorted.{answers_always}
 use Rattle.batch_engine.specs.Batches.{BatchList}
 use Rattle.batch_engine.proofs.Searching.{searched}

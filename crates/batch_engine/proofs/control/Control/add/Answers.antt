@@ -1,5 +1,4 @@
-use Rattle.std.proofs.Common.{◌≡◌, ◌≤◌, ◌+◌, ◌++◌, ◌∷◌, refl, sym, ◌∙◌, ap, ap₂, subst, ℕ, Some, [], arith, inr, List}
-use Rattle.std.specs.Prelude.{slice_get}
+use Rattle.std.proofs.Common.{◌≡◌, ◌≤◌, ◌+◌, ◌++◌, ◌∷◌, refl, sym, ◌∙◌, ap, ap₂, subst, ℕ, Some, [], arith, inr, List, slice_get}
 use Rattle.batch_matrix.specs.declared.state.State.TheVariants.{Idle}
 use Rattle.batch_recipe.specs.Conditions.{Name, ValueList}
 use Rattle.batch_model.specs.Plant as Model

@@ -1,5 +1,4 @@
-use Rattle.std.proofs.Common.{◌<◌, ◌+◌, refl, sym, ap, subst, arith, set}
-use Rattle.std.specs.Prelude.{slice_index}
+use Rattle.std.proofs.Common.{◌<◌, ◌+◌, refl, sym, ap, subst, arith, set, slice_index}
 use Rattle.batch_chart.specs.NodesOf.{need_at}
 use Rattle.batch_engine.specs.Steps.{IsNumberAt}
 use Rattle.batch_engine.specs.View.{EngineView, tree_of}

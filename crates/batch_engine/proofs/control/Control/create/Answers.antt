@@ -1,5 +1,4 @@
-use Rattle.std.proofs.Common.{◌≡◌, refl, sym, subst, inl, Some}
-use Rattle.std.specs.Prelude.{slice_get}
+use Rattle.std.proofs.Common.{◌≡◌, refl, sym, subst, inl, Some, slice_get}
 use Rattle.batch_model.specs.Events as Events
 use Rattle.batch_model.specs.Runs.{Reacts}
 use Rattle.batch_engine.specs.Surface.{refusal_of}

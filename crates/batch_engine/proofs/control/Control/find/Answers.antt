@@ -1,5 +1,4 @@
-use Rattle.std.proofs.Common.{sym, ◌∙◌, subst}
-use Rattle.std.specs.Prelude.{option_copied}
+use Rattle.std.proofs.Common.{sym, ◌∙◌, subst, option_copied}
 use Rattle.batch_engine.specs.Steps.{IsFoundBy}
 use Rattle.batch_engine.proofs.Seats.{IsFound, found-here}
 use Rattle.batch_engine.proofs.Seeking.{none-found}

@@ -1,5 +1,4 @@
-use Rattle.std.proofs.Common.{◌≡◌, ◌+◌, ◌<◌, refl, sym, ◌∙◌, ap, subst, ℕ, Some, arith, length, true, false, inl, inr}
-use Rattle.std.specs.Prelude.{option_map, slice_get}
+use Rattle.std.proofs.Common.{◌≡◌, ◌+◌, ◌<◌, refl, sym, ◌∙◌, ap, subst, ℕ, Some, arith, length, true, false, inl, inr, option_map, slice_get}
 use Rattle.batch_arbiter.specs.Allocation.{batch_node, next_grant}
 use Rattle.batch_chart.specs.NodesOf.{need_at}
 use Rattle.batch_engine.specs.declared.batch.Batch.{Batch}

@@ -1,5 +1,4 @@
-use Rattle.std.proofs.Common.{sym, ◌∙◌, ap, subst}
-use Rattle.std.specs.Prelude.{option_map}
+use Rattle.std.proofs.Common.{sym, ◌∙◌, ap, subst, option_map}
 use Rattle.batch_arbiter.specs.Allocation.{next_grant, batch_node}
 use Rattle.batch_engine.specs.View.{EngineView}
 use Rattle.batch_engine.specs.Kept.{IsKept}

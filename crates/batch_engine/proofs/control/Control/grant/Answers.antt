@@ -1,5 +1,4 @@
-use Rattle.std.proofs.Common.{◌≡◌, refl, subst, Some}
-use Rattle.std.specs.Prelude.{slice_get, option_map}
+use Rattle.std.proofs.Common.{◌≡◌, refl, subst, Some, slice_get, option_map}
 use Rattle.batch_model.specs.Moves as Moves
 use Rattle.batch_arbiter.specs.Allocation.{Allocation, batch_node, granted, next_grant}
 use Rattle.batch_chart.specs.Charts.{AsksAt, IsWaitingAt, remains}

@@ -1,5 +1,4 @@
-use Rattle.std.proofs.Common.{◌≡◌, refl, sym, ◌∙◌, ap, subst, ℕ, List, Some, None, arith}
-use Rattle.std.specs.Prelude.{position}
+use Rattle.std.proofs.Common.{◌≡◌, refl, sym, ◌∙◌, ap, subst, ℕ, List, Some, None, arith, position}
 use Rattle.batch_cell.specs.LookUps.{units_of}
 use Rattle.batch_chart.specs.Charts.{IsLive, remains_from}
 use Rattle.batch_chart.specs.NodesOf.{node_at, phase_at, phase_named}

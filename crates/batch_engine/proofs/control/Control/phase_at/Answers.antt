@@ -1,5 +1,4 @@
-use Rattle.std.proofs.Common.{◌≡◌, ◌∙◌, ap, sym, subst, arith, Option, Some}
-use Rattle.std.specs.Prelude.{slice_get, unwrap_or}
+use Rattle.std.proofs.Common.{◌≡◌, ◌∙◌, ap, sym, subst, arith, Option, Some, slice_get, unwrap_or}
 use Rattle.batch_engine.specs.Numbered.{phase_by}
 use Rattle.batch_engine.specs.Steps.{IsPhaseAt}
 use Rattle.batch_engine.specs.View.{EngineView}

@@ -1,5 +1,4 @@
-use Rattle.std.proofs.Common.{◌<◌, ◌≤◌, ◌∙◌, sym, subst, subst₂, ℕ, Option}
-use Rattle.std.specs.Prelude.{IfSome, length}
+use Rattle.std.proofs.Common.{◌<◌, ◌≤◌, ◌∙◌, sym, subst, subst₂, ℕ, Option, IfSome, length}
 use Rattle.batch_engine.specs.Marking.{AreMoveMarked, IsTouched}
 use Rattle.batch_engine.specs.Steps.{touched_by}
 use Rattle.batch_engine.specs.View.{EngineView}

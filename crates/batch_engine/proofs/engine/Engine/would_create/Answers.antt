@@ -1,5 +1,4 @@
-use Rattle.std.proofs.Common.{sym, subst, List}
-use Rattle.std.specs.Prelude.{◌↔◌, IsTrue}
+use Rattle.std.proofs.Common.{sym, subst, List, ◌↔◌, IsTrue}
 use Rattle.batch_recipe.specs.Conditions.{Name}
 use Rattle.batch_model.specs.Events as Events
 use Rattle.batch_engine.specs.Answered.{MayWant}

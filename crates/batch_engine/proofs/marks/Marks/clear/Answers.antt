@@ -1,5 +1,4 @@
-use Rattle.std.proofs.Common.{◌<◌, arith}
-use Rattle.std.specs.Prelude.{◌/◌, ◌%◌, slice_index}
+use Rattle.std.proofs.Common.{◌<◌, arith, ◌/◌, ◌%◌, slice_index}
 use Rattle.batch_signs.proofs.Bits.{some-before, not-zero}
 use Rattle.batch_engine.proofs.Summary.{summary-kept}
 use Rattle.batch_engine.proofs.marks.Marks.clear.Goals as goal

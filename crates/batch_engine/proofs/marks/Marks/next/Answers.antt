@@ -1,5 +1,4 @@
-use Rattle.std.proofs.Common.{◌*◌, ◌+◌, subst, ℕ, List, arith, Some}
-use Rattle.std.specs.Prelude.{◌/◌, slice_index}
+use Rattle.std.proofs.Common.{◌*◌, ◌+◌, subst, ℕ, List, arith, Some, ◌/◌, slice_index}
 use Rattle.batch_signs.specs.Bits.{IsLowestFrom}
 use Rattle.batch_engine.specs.Marks.{IsNextMark}
 use Rattle.batch_engine.proofs.Summary.{never, next-later}

@@ -1,5 +1,4 @@
-use Rattle.std.proofs.Common.{◌≡◌, ◌≤◌, ℕ, List, ◌++◌, length, take, refl, sym, ◌∙◌, ap, arith}
-use Rattle.std.proofs.lemmas.List.{length-take-le}
+use Rattle.std.proofs.Common.{◌≡◌, ◌≤◌, ℕ, List, ◌++◌, length, take, refl, sym, ◌∙◌, ap, arith, length-take-le}
 use Rattle.batch_journal.specs.Windows.{items}
 use Rattle.batch_journal.proofs.GivenLemmas.{group_front, ready_either, within_either}
 use Rattle.batch_journal.proofs.ReaderLemmas.{none_of, keeps_more, accounted_keeps}

@@ -1,5 +1,4 @@
-use Rattle.std.proofs.Common.{◌≡◌, ◌≤◌, ℕ, List, ◌++◌, length, take, ◌∙◌, ap, arith}
-use Rattle.std.proofs.lemmas.List.{length-take-le}
+use Rattle.std.proofs.Common.{◌≡◌, ◌≤◌, ℕ, List, ◌++◌, length, take, ◌∙◌, ap, arith, length-take-le}
 use Rattle.batch_journal.specs.Windows.{items}
 use Rattle.batch_journal.proofs.GivenLemmas.{ready_rest, whole_front, within_rest}
 use Rattle.batch_journal.proofs.ReaderLemmas.{accounted_as, accounted_gives, gives_front, part_within, least_above, not_failed}

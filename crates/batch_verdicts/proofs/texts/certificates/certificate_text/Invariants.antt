@@ -1,5 +1,4 @@
-use Rattle.std.proofs.Common.{◌≡◌, take, string_bytes}
-use Rattle.std.specs.Prelude.{All}
+use Rattle.std.proofs.Common.{◌≡◌, take, string_bytes, All}
 use Rattle.batch_text.specs.NameText.{IsName}
 use Rattle.batch_verify.specs.CertificateText.{Rank}
 use Rattle.batch_verdicts.specs.VerdictTexts.{certificate_text}
