@@ -4,19 +4,14 @@ use Rattle.toml.specs.Data.{Data, Members, get_member, as_str}
 use Rattle.batch_reader.proofs.EntryFaults.{told_as}
 use Rattle.batch_reader.specs.Entries.{HasText, MayHaveText}
 use Rattle.batch_reader.specs.Faults.{IsToldAs, TellsAt, kind_fault, value_fault}
-use Rattle.batch_reader.specs.declared.fault.EntryFault.{EntryFault}
+use Rattle.batch_reader.specs.TableFaults.{IsKeyFault}
 use Rattle.batch_reader.specs.declared.fault.EntryFault.TheVariants.{OutOfLimit}
 use Rattle.batch_reader.specs.declared.fault.Spot.{Spot}
 use Rattle.batch_reader.specs.declared.fault.TableFault.{TableFault}
-use Rattle.batch_reader.specs.declared.fault.TableFault.TheVariants.{Entry, Memory}
+use Rattle.batch_reader.specs.declared.fault.TableFault.TheVariants.{Memory}
+use Rattle.batch_reader.specs.declared.keys.TheConstants.{MAX_PATH_LEN}
 use Rattle.batch_desks.specs.DesksDocument.{HasPath, MayHavePath}
-use Rattle.batch_desks.specs.DesksFaults.{IsPathFault}
-use Rattle.batch_desks.specs.declared.desk.TheConstants.{MAX_PATH_LEN}
-
--- what is told of a table is told of more
-pub at_weaker : (spot : Spot) (P Q : EntryFault → Type 0) → ((wrong : EntryFault) → P wrong → Q wrong) → (fault : TableFault) → TellsAt spot P fault → TellsAt spot Q fault
-at_weaker spot P Q f Memory told = tt
-at_weaker spot P Q f (Entry here wrong) told = (told.0, f wrong told.1)
+use Rattle.batch_desks.specs.DesksFaults.{path_key}
 
 -- a path is a text of the key
 pub text_of_path : (key : List ℕ) (ms : Members) (path : Option (List ℕ)) → MayHavePath key ms path → MayHaveText key ms MAX_PATH_LEN path
@@ -36,7 +31,7 @@ text_fault None text is_text = absurd (cc is_text)
 text_fault (Some d) text is_text = rw is_text refl
 
 path_fault-some : (key : List ℕ) (ms : Members) (d : Data) (text : Option (List ℕ)) → get_member key ms ≡ Some d → as_str d ≡ text
-    → ((path : List ℕ) → HasPath key ms path → ⊥) → IsPathFault key ms (kind_fault text)
+    → ((path : List ℕ) → HasPath key ms path → ⊥) → IsKeyFault (path_key key) ms (kind_fault text)
 path_fault-some key ms d None found none refused = record { here = d; found = found; such = none }
 path_fault-some key ms d (Some text) found is_text refused =
     record {
@@ -46,10 +41,10 @@ path_fault-some key ms d (Some text) found is_text refused =
     }
 
 path_fault : (key : List ℕ) (ms : Members) (found : Option Data) → get_member key ms ≡ found → ((path : Option (List ℕ)) → MayHavePath key ms path → ⊥)
-    → IsPathFault key ms (value_fault as_str found)
+    → IsKeyFault (path_key key) ms (value_fault as_str found)
 path_fault key ms None missing none = absurd (none None missing)
 path_fault key ms (Some d) found none = path_fault-some key ms d (as_str d) found refl (λ path h. none (Some path) h)
 
 pub path_told : (key : List ℕ) (ms : Members) (spot : Spot) (fault : TableFault) → (fault ≢ Memory → (path : Option (List ℕ)) → MayHavePath key ms path → ⊥)
-    → IsToldAs spot (value_fault as_str (get_member key ms)) fault → TellsAt spot (IsPathFault key ms) fault
-path_told key ms spot fault refused told = told_as (IsPathFault key ms) spot _ fault (path_fault key ms (get_member key ms) refl) refused told
+    → IsToldAs spot (value_fault as_str (get_member key ms)) fault → TellsAt spot (IsKeyFault (path_key key) ms) fault
+path_told key ms spot fault refused told = told_as (IsKeyFault (path_key key) ms) spot _ fault (path_fault key ms (get_member key ms) refl) refused told

@@ -9,7 +9,7 @@ use Rattle.batch_cell.proofs.Distinct.{IsDistinct-front}
 use Rattle.batch_reader.proofs.Items.{HasTables_same}
 use Rattle.batch_reader.proofs.OneEntry.{HasName_missing, HasName_unique}
 use Rattle.batch_reader.specs.Entries.{HasName, HasNumber, HasTables, IsTruth, MayHaveName}
-use Rattle.batch_reader.specs.Keys.{a_name, a_number, a_truth, needed, optional}
+use Rattle.batch_reader.specs.Keys.{needed, optional}
 use Rattle.batch_reader.specs.TableFaults.{IsKeyFault}
 use Rattle.batch_reader.specs.Faults.{TellsAt, TellsIn}
 use Rattle.batch_reader.specs.declared.fault.EntryFault.{EntryFault}
@@ -18,11 +18,12 @@ use Rattle.batch_reader.specs.declared.fault.Spot.{Spot}
 use Rattle.batch_reader.specs.declared.fault.TableFault.{TableFault}
 use Rattle.batch_reader.specs.declared.fault.TableFault.TheVariants.{Entry, Memory}
 use Rattle.batch_reader.specs.declared.fault.TableKind.TheVariants as table
+use Rattle.batch_reader.specs.declared.keys.TheConstants.{MAX_LAG}
+use Rattle.batch_reader.specs.declared.keys.ValueForm.TheVariants as form
 use Rattle.batch_desks.specs.DeskNames.{HaveDistinctNames, desk_names}
 use Rattle.batch_desks.specs.DesksDocument.{HasLag, IsDeskTable, IsDesksTable, MayHavePath}
-use Rattle.batch_desks.specs.DesksFaults.{HasNameTwice, HasRightCount, IsPathFault}
+use Rattle.batch_desks.specs.DesksFaults.{HasNameTwice, HasRightCount, path_key}
 use Rattle.batch_desks.specs.declared.desk.Desk.{Desk}
-use Rattle.batch_desks.specs.declared.desk.TheConstants.{MAX_LAG}
 use Rattle.batch_desks.specs.declared.desk_set.Desks.{Desks}
 
 -- nothing is wrong first, and nothing later
@@ -32,7 +33,7 @@ none_first w l (inr p) = l p.1
 
 -- ---- a key
 
-pub name_refused : (key : List ℕ) (ms : Members) (wrong : EntryFault) (name : List ℕ) → HasName key ms name → IsKeyFault (needed key a_name) ms wrong → ⊥
+pub name_refused : (key : List ℕ) (ms : Members) (wrong : EntryFault) (name : List ℕ) → HasName key ms name → IsKeyFault (needed key form.Name) ms wrong → ⊥
 name_refused key ms MissingKey name has h = HasName_missing key ms name h.1 has
 name_refused key ms WrongKind name has h = h.such name (record { text = rw h.found at has.text; valid = has.valid })
 name_refused key ms OutOfLimit name has h = h.such
@@ -41,7 +42,7 @@ name_refused key ms UnknownKey name has h = h
 name_refused key ms Undeclared name has h = h
 name_refused key ms Duplicate name has h = h
 
-pub optional_name_refused : (key : List ℕ) (ms : Members) (wrong : EntryFault) (name : Option (List ℕ)) → MayHaveName key ms name → IsKeyFault (optional key a_name) ms wrong → ⊥
+pub optional_name_refused : (key : List ℕ) (ms : Members) (wrong : EntryFault) (name : Option (List ℕ)) → MayHaveName key ms name → IsKeyFault (optional key form.Name) ms wrong → ⊥
 optional_name_refused key ms MissingKey name has h = false≢true h.0
 optional_name_refused key ms WrongKind None has h = let none = rw has at h.found in cc none
 optional_name_refused key ms WrongKind (Some name) has h = h.such name (record { text = rw h.found at has.text; valid = has.valid })
@@ -51,7 +52,7 @@ optional_name_refused key ms UnknownKey name has h = h
 optional_name_refused key ms Undeclared name has h = h
 optional_name_refused key ms Duplicate name has h = h
 
-pub path_refused : (key : List ℕ) (ms : Members) (wrong : EntryFault) (path : Option (List ℕ)) → MayHavePath key ms path → IsPathFault key ms wrong → ⊥
+pub path_refused : (key : List ℕ) (ms : Members) (wrong : EntryFault) (path : Option (List ℕ)) → MayHavePath key ms path → IsKeyFault (path_key key) ms wrong → ⊥
 path_refused key ms WrongKind None has h = let none = rw has at h.found in cc none
 path_refused key ms WrongKind (Some path) has h = let found = rw h.found at has.text.found in cc (found, h.such)
 path_refused key ms OutOfLimit None has h = let none = rw has at h.found in cc none
@@ -59,13 +60,13 @@ path_refused key ms OutOfLimit (Some path) has h =
     let found = rw h.found at has.text.found in
     let same : h.such.text ≡ path = cc (found, h.such.found) in
     h.such.such (rw same has.some) (rw same has.text.short)
-path_refused key ms MissingKey path has h = h
-path_refused key ms (Chart offset) path has h = h
+path_refused key ms MissingKey path has h = false≢true h.0
+path_refused key ms (Chart offset) path has h = h.such
 path_refused key ms UnknownKey path has h = h
 path_refused key ms Undeclared path has h = h
 path_refused key ms Duplicate path has h = h
 
-pub truth_refused : (key : List ℕ) (ms : Members) (wrong : EntryFault) (truth : Bool) → IsTruth key ms truth → IsKeyFault (optional key a_truth) ms wrong → ⊥
+pub truth_refused : (key : List ℕ) (ms : Members) (wrong : EntryFault) (truth : Bool) → IsTruth key ms truth → IsKeyFault (optional key form.Truth) ms wrong → ⊥
 truth_refused key ms MissingKey truth has h = false≢true h.0
 truth_refused key ms WrongKind truth has h = let found = rw h.found at has in cc (found, h.such)
 truth_refused key ms OutOfLimit truth has h = h.such
@@ -75,7 +76,7 @@ truth_refused key ms Undeclared truth has h = h
 truth_refused key ms Duplicate truth has h = h
 
 pub number_refused : (key : List ℕ) (ms : Members) (low high : ℕ) (wrong : EntryFault) (number : ℕ) → HasNumber key ms low high number
-    → IsKeyFault (optional key (a_number low high)) ms wrong → ⊥
+    → IsKeyFault (optional key (form.Number low high)) ms wrong → ⊥
 number_refused key ms low high MissingKey number has h = false≢true h.0
 number_refused key ms low high WrongKind number has h = let found = rw h.found at has.integer in cc (found, h.such)
 number_refused key ms low high OutOfLimit number has h =
@@ -88,7 +89,7 @@ number_refused key ms low high Undeclared number has h = h
 number_refused key ms low high Duplicate number has h = h
 
 -- a key that is missing has nothing wrong
-pub missing_refused : (key : List ℕ) (ms : Members) (low high : ℕ) (wrong : EntryFault) → get_member key ms ≡ None → IsKeyFault (optional key (a_number low high)) ms wrong → ⊥
+pub missing_refused : (key : List ℕ) (ms : Members) (low high : ℕ) (wrong : EntryFault) → get_member key ms ≡ None → IsKeyFault (optional key (form.Number low high)) ms wrong → ⊥
 missing_refused key ms low high MissingKey missing h = false≢true h.0
 missing_refused key ms low high WrongKind missing h = let none = rw missing at h.found in cc none
 missing_refused key ms low high OutOfLimit missing h = let none = rw missing at h.found in cc none
@@ -97,7 +98,7 @@ missing_refused key ms low high UnknownKey missing h = h
 missing_refused key ms low high Undeclared missing h = h
 missing_refused key ms low high Duplicate missing h = h
 
-lag_refused : (ms : Members) (wrong : EntryFault) (lag : ℕ) → HasLag ms lag → IsKeyFault (optional (codes "lag") (a_number 1 MAX_LAG)) ms wrong → ⊥
+lag_refused : (ms : Members) (wrong : EntryFault) (lag : ℕ) → HasLag ms lag → IsKeyFault (optional (codes "lag") (form.Number 1 MAX_LAG)) ms wrong → ⊥
 lag_refused ms wrong lag (inl has) h = number_refused (codes "lag") ms 1 MAX_LAG wrong lag has h
 lag_refused ms wrong lag (inr missing) h = missing_refused (codes "lag") ms 1 MAX_LAG wrong missing.0 h
 
@@ -124,7 +125,7 @@ front_distinct desks i distinct =
 -- ---- what is told
 
 -- where what is told of a table can't be, memory was refused
-pub lag_refuses : (spot : Spot) (ms : Members) (fault : TableFault) → TellsAt spot (IsKeyFault (optional (codes "lag") (a_number 1 MAX_LAG)) ms) fault → fault ≢ Memory
+pub lag_refuses : (spot : Spot) (ms : Members) (fault : TableFault) → TellsAt spot (IsKeyFault (optional (codes "lag") (form.Number 1 MAX_LAG)) ms) fault → fault ≢ Memory
     → (desk : Desk) → IsDeskTable ms desk → ⊥
 lag_refuses spot ms Memory told known desk h = known refl
 lag_refuses spot ms (Entry here wrong) told known desk h = lag_refused ms wrong desk.lag h.lag told.1

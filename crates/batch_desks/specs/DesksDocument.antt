@@ -1,10 +1,13 @@
 -- trusted: what a document of desks says.
-use Rattle.std.specs.Prelude.{◌≡◌, ℕ, ◌≤◌, ◌⊎◌, Bool, true, ◌||◌, List, [], ◌∷◌, Option, Some, None, is_some, option_map, string_bytes, length, codes}
+use Rattle.std.specs.Prelude.{◌≡◌, ℕ, ◌≤◌, ◌⊎◌, Bool, true, ◌||◌, List, Option, Some, None, is_some, option_map, string_bytes, length, codes}
 use Rattle.toml.specs.Data.{Members, get_member}
-use Rattle.batch_reader.specs.Entries.{IsDocument, HasName, HasNumber, HasTables, HasText, IsTruth, MayHaveName, has_only_keys}
+use Rattle.batch_reader.specs.Entries.{IsDocument, HasName, HasNumber, HasTables, HasText, IsTruth, MayHaveName, has_only_key}
+use Rattle.batch_reader.specs.Keys.{has_known_keys}
+use Rattle.batch_reader.specs.declared.fault.TableKind.TheVariants as table
+use Rattle.batch_reader.specs.declared.keys.TheConstants.{MAX_LAG, MAX_PATH_LEN}
 use Rattle.batch_desks.specs.DeskNames.{HaveDistinctNames}
 use Rattle.batch_desks.specs.declared.desk.Desk.{Desk}
-use Rattle.batch_desks.specs.declared.desk.TheConstants.{MAX_LAG, MAX_PATH_LEN, USUAL_LAG}
+use Rattle.batch_desks.specs.declared.desk.TheConstants.{USUAL_LAG}
 use Rattle.batch_desks.specs.declared.desk_set.Desks.{Desks}
 use Rattle.batch_desks.specs.declared.desk_set.TheConstants.{MAX_DESKS}
 
@@ -26,13 +29,9 @@ HasLag ms lag = HasNumber (codes "lag") ms 1 MAX_LAG lag ⊎ ((get_member (codes
 abbrev pub has_way : Members → Bool
 has_way ms = is_some (get_member (codes "input") ms) || is_some (get_member (codes "output") ms)
 
--- the keys of a desk
-abbrev pub desk_words : List (List ℕ)
-desk_words = codes "name" ∷ codes "input" ∷ codes "output" ∷ codes "unit" ∷ codes "stays" ∷ codes "lag" ∷ []
-
 -- the table stands for the desk
 pub record IsDeskTable (ms : Members) (desk : Desk) : Type 0 where
-  pub keys : has_only_keys desk_words ms ≡ true
+  pub keys : has_known_keys table.Desk ms ≡ true
   pub name : HasName (codes "name") ms desk.name
   pub input : MayHavePath (codes "input") ms (option_map string_bytes desk.input)
   pub output : MayHavePath (codes "output") ms (option_map string_bytes desk.output)
@@ -43,7 +42,7 @@ pub record IsDeskTable (ms : Members) (desk : Desk) : Type 0 where
 
 -- the table of a whole document stands for the desks
 pub record IsDesksTable (ms : Members) (desks : Desks) : Type 0 where
-  pub keys : has_only_keys (codes "desk" ∷ []) ms ≡ true
+  pub keys : has_only_key (codes "desk") ms ≡ true
   pub tables : HasTables IsDeskTable (codes "desk") ms desks.desks.items
   pub some_desk : 1 ≤ length desks.desks.items
   pub few_desks : length desks.desks.items ≤ MAX_DESKS

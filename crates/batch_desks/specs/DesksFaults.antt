@@ -1,41 +1,40 @@
 -- trusted: what is wrong with a document of desks where it is refused: the first fault, in the order in which they are looked for.
-use Rattle.std.specs.Prelude.{◌≡◌, ℕ, ◌<◌, ◌≤◌, ◌⊎◌, Bool, true, false, List, [], ◌∷◌, Option, Some, None, length, codes}
-use Rattle.toml.specs.Data.{Data, Members, as_str}
+use Rattle.std.specs.Prelude.{◌≡◌, ℕ, ◌<◌, ◌≤◌, ◌⊎◌, Bool, true, false, List, Option, Some, length, codes}
+use Rattle.toml.specs.Data.{Data, Members}
 use Rattle.toml.specs.Parse.{parse_document}
-use Rattle.batch_reader.specs.Entries.{HasName, HasTables, IsTableOf, IsTruth, MayHaveName, has_only_keys, items_at}
-use Rattle.batch_reader.specs.Keys.{needed, optional, a_name, a_number, a_truth}
+use Rattle.batch_reader.specs.Entries.{HasName, HasTables, IsTableOf, IsTruth, MayHaveName, has_only_key, items_at}
+use Rattle.batch_reader.specs.Keys.{Key, has_known_keys, needed, optional}
 use Rattle.batch_reader.specs.PartFaults.{FailsFirst, IsCountFault}
-use Rattle.batch_reader.specs.TableFaults.{HasValue, IsArrayFault, IsKeyFault, IsTextThat}
+use Rattle.batch_reader.specs.TableFaults.{IsArrayFault, IsKeyFault}
 use Rattle.batch_reader.specs.declared.document.TheConstants.{MAX_DOCUMENT_LEN}
 use Rattle.batch_reader.specs.declared.fault.EntryFault.{EntryFault}
-use Rattle.batch_reader.specs.declared.fault.EntryFault.TheVariants.{MissingKey, WrongKind, UnknownKey, Duplicate, OutOfLimit}
+use Rattle.batch_reader.specs.declared.fault.EntryFault.TheVariants.{MissingKey, UnknownKey, Duplicate, OutOfLimit}
+use Rattle.batch_reader.specs.declared.fault.TableKind.TheVariants as table
+use Rattle.batch_reader.specs.declared.keys.TheConstants.{MAX_LAG, MAX_PATH_LEN}
+use Rattle.batch_reader.specs.declared.keys.ValueForm.TheVariants as form
 use Rattle.batch_desks.specs.DeskNames.{HaveDistinctNames}
-use Rattle.batch_desks.specs.DesksDocument.{IsDeskTable, MayHavePath, desk_words, has_way}
+use Rattle.batch_desks.specs.DesksDocument.{IsDeskTable, MayHavePath, has_way}
 use Rattle.batch_desks.specs.declared.desk.Desk.{Desk}
-use Rattle.batch_desks.specs.declared.desk.TheConstants.{MAX_LAG, MAX_PATH_LEN}
 use Rattle.batch_desks.specs.declared.desk_set.TheConstants.{MAX_DESKS}
 
 -- one thing is wrong, or it is right and a later one is wrong
 abbrev pub First : Type 0 → Type 0 → Type 0 → Type 0
 First Wrong Right Later = Wrong ⊎ (Right × Later)
 
--- this is wrong with the path at the key, where the key is there
-abbrev pub IsPathFault : List ℕ → Members → EntryFault → Type 0
-IsPathFault key ms WrongKind = HasValue (λ d. as_str d ≡ None) key ms
-IsPathFault key ms OutOfLimit = HasValue (IsTextThat (λ text. 1 ≤ length text → length text ≤ MAX_PATH_LEN → ⊥)) key ms
-IsPathFault key ms _ = ⊥
+abbrev pub path_key : List ℕ → Key
+path_key word = optional word (form.Path MAX_PATH_LEN)
 
 -- this is the first that is wrong with the table of a desk
 abbrev pub IsDeskFault : Members → EntryFault → Type 0
 IsDeskFault ms wrong =
-    First ((wrong ≡ UnknownKey) × (has_only_keys desk_words ms ≡ false)) (has_only_keys desk_words ms ≡ true)
-    (First (IsKeyFault (needed (codes "name") a_name) ms wrong) ((name : List ℕ) × HasName (codes "name") ms name)
-    (First (IsPathFault (codes "input") ms wrong) ((path : Option (List ℕ)) × MayHavePath (codes "input") ms path)
-    (First (IsPathFault (codes "output") ms wrong) ((path : Option (List ℕ)) × MayHavePath (codes "output") ms path)
+    First ((wrong ≡ UnknownKey) × (has_known_keys table.Desk ms ≡ false)) (has_known_keys table.Desk ms ≡ true)
+    (First (IsKeyFault (needed (codes "name") form.Name) ms wrong) ((name : List ℕ) × HasName (codes "name") ms name)
+    (First (IsKeyFault (path_key (codes "input")) ms wrong) ((path : Option (List ℕ)) × MayHavePath (codes "input") ms path)
+    (First (IsKeyFault (path_key (codes "output")) ms wrong) ((path : Option (List ℕ)) × MayHavePath (codes "output") ms path)
     (First ((wrong ≡ MissingKey) × (has_way ms ≡ false)) (has_way ms ≡ true)
-    (First (IsKeyFault (optional (codes "unit") a_name) ms wrong) ((unit : Option (List ℕ)) × MayHaveName (codes "unit") ms unit)
-    (First (IsKeyFault (optional (codes "stays") a_truth) ms wrong) ((stays : Bool) × IsTruth (codes "stays") ms stays)
-    (IsKeyFault (optional (codes "lag") (a_number 1 MAX_LAG)) ms wrong)))))))
+    (First (IsKeyFault (optional (codes "unit") form.Name) ms wrong) ((unit : Option (List ℕ)) × MayHaveName (codes "unit") ms unit)
+    (First (IsKeyFault (optional (codes "stays") form.Truth) ms wrong) ((stays : Bool) × IsTruth (codes "stays") ms stays)
+    (IsKeyFault (optional (codes "lag") (form.Number 1 MAX_LAG)) ms wrong)))))))
 
 -- the value is a table that stands for a desk
 abbrev pub IsRightDesk : Data → Type 0
@@ -60,14 +59,14 @@ pub record HasSetFault (ms : Members) (entry : ℕ) (wrong : EntryFault) : Type 
 
 -- the document has another key than `desk`, which is told at number 0
 pub record HasUnknownTable (ms : Members) (entry : ℕ) (wrong : EntryFault) : Type 0 where
-  pub unknown : has_only_keys (codes "desk" ∷ []) ms ≡ false
+  pub unknown : has_only_key (codes "desk") ms ≡ false
   pub first : entry ≡ 0
   pub told : wrong ≡ UnknownKey
 
 -- this is the first that is wrong with the table of a document, at the desk of this number
 abbrev pub IsDesksFault : Members → ℕ → EntryFault → Type 0
 IsDesksFault ms entry wrong =
-    First (HasUnknownTable ms entry wrong) (has_only_keys (codes "desk" ∷ []) ms ≡ true)
+    First (HasUnknownTable ms entry wrong) (has_only_key (codes "desk") ms ≡ true)
     (IsArrayFault IsRightDesk IsDeskFault (items_at (codes "desk") ms) entry wrong ⊎ HasSetFault ms entry wrong)
 
 -- the bytes are too many, which is told at number 0

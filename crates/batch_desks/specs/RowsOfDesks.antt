@@ -1,12 +1,13 @@
 -- worked rows: what a document of desks says and what it doesn't.
 use Rattle.std.specs.Prelude.{◌≡◌, pos, [], ◌∷◌, ℕ, Some, None, false, true, option_map, string_bytes, codes}
 use Rattle.toml.specs.Data.{Members, no_members, member, boolean, integer, string}
+use Rattle.batch_reader.specs.TableFaults.{IsKeyFault}
 use Rattle.batch_reader.specs.declared.fault.EntryFault.{EntryFault}
 use Rattle.batch_reader.specs.declared.fault.EntryFault.TheVariants.{Duplicate, MissingKey, OutOfLimit, UnknownKey, WrongKind}
 use Rattle.batch_desks.specs.DeskNames.{HaveDistinctNames}
 use Rattle.batch_desks.specs.DeskUnits.{HaveUnits}
 use Rattle.batch_desks.specs.DesksDocument.{IsDeskTable}
-use Rattle.batch_desks.specs.DesksFaults.{HasNameTwice, HasUnknownTable, HasWrongCount, IsDeskFault, IsPathFault}
+use Rattle.batch_desks.specs.DesksFaults.{HasNameTwice, HasUnknownTable, HasWrongCount, IsDeskFault, path_key}
 use Rattle.batch_desks.specs.declared.desk.Desk.{Desk}
 
 -- ---- one table
@@ -64,9 +65,9 @@ LagIsLimited = IsDeskFault (lag_of 0) OutOfLimit × IsDeskFault (lag_of 65537) O
 -- a path without bytes is out of limits, one of a byte isn't, and a number is no path
 abbrev pub PathIsLimited : Type 0
 PathIsLimited =
-    IsPathFault (codes "input") (member (codes "input") (string []) no_members) OutOfLimit
-    × (¬ IsPathFault (codes "input") (member (codes "input") (string (codes "i")) no_members) OutOfLimit)
-    × IsPathFault (codes "input") (member (codes "input") (integer (pos 1)) no_members) WrongKind
+    IsKeyFault (path_key (codes "input")) (member (codes "input") (string []) no_members) OutOfLimit
+    × (¬ IsKeyFault (path_key (codes "input")) (member (codes "input") (string (codes "i")) no_members) OutOfLimit)
+    × IsKeyFault (path_key (codes "input")) (member (codes "input") (integer (pos 1)) no_members) WrongKind
 
 -- ---- all tables
 

@@ -1,14 +1,8 @@
 //! One desk.
 ghost use Rattle.std.specs.Prelude.{◌≤◌};
-ghost use Rattle.batch_desks.specs.declared.desk.TheConstants.{MAX_LAG};
+ghost use Rattle.batch_reader.specs.declared.keys.TheConstants.{MAX_LAG};
 
 use batch_text::Name;
-
-/// The longest path of a desk, in bytes.
-pub const MAX_PATH_LEN: usize = 4_096;
-
-/// The most lines that may wait for a desk.
-pub const MAX_LAG: usize = 65_536;
 
 /// How many lines may wait for a desk that doesn't say it.
 pub const USUAL_LAG: usize = 4_096;

@@ -7,7 +7,8 @@ ghost use Rattle.batch_desks.specs.DesksFaults.{IsDeskFault};
 use crate::desk::Desk;
 use crate::entries::{has_key, lag_at, path_at};
 use batch_reader::{
-    EntryFault, FromTable, Spot, TableFault, has_only_keys, name_at, optional_name_at, truth_at,
+    EntryFault, FromTable, Spot, TableFault, TableKind, has_known_keys, name_at, optional_name_at,
+    truth_at,
 };
 use std::alloc::Global;
 use toml::Table;
@@ -25,7 +26,7 @@ impl FromTable for Desk {
     ghost is_fault = { λ _. IsDeskFault };
 
     fn from_table(alloc: Global, table: &Table, spot: Spot) -> Result<Desk, TableFault> {
-        if !has_only_keys(table, &["name", "input", "output", "unit", "stays", "lag"]) {
+        if !has_known_keys(table, TableKind::Desk) {
             return Err(TableFault::Entry(spot, EntryFault::UnknownKey));
         }
         let name = name_at(alloc, table, "name", spot)?;

@@ -3,13 +3,16 @@ ghost use Rattle.std.specs.Prelude.{◌≡◌, ◌≢◌, ◌≤◌, ℕ, List, 
 ghost use Rattle.toml.specs.Data.{as_str, get_member};
 ghost use Rattle.toml.specs.View.{table_view};
 ghost use Rattle.batch_reader.specs.Faults.{IsToldAs, TellsAt, value_fault};
-ghost use Rattle.batch_reader.specs.Keys.{optional, a_number};
+ghost use Rattle.batch_reader.specs.Keys.{optional};
 ghost use Rattle.batch_reader.specs.TableFaults.{IsKeyFault};
+ghost use Rattle.batch_reader.specs.declared.keys.TheConstants.{MAX_LAG};
+ghost use Rattle.batch_reader.specs.declared.keys.ValueForm.{ValueForm};
 ghost use Rattle.batch_desks.specs.DesksDocument.{HasLag, MayHavePath};
-ghost use Rattle.batch_desks.specs.declared.desk.TheConstants.{MAX_LAG};
 
-use crate::desk::{MAX_LAG, MAX_PATH_LEN, USUAL_LAG};
-use batch_reader::{EntryFault, Spot, TableFault, member, number_at, optional_text_at};
+use crate::desk::USUAL_LAG;
+use batch_reader::{
+    EntryFault, MAX_LAG, MAX_PATH_LEN, Spot, TableFault, member, number_at, optional_text_at,
+};
 use std::alloc::Global;
 use toml::Table;
 
@@ -47,7 +50,7 @@ pub(crate) fn lag_at(table: &Table, spot: Spot) -> Result<usize, TableFault>
     ensures ok { IfOk result (HasLag (table_view table.now)) }
     ensures some { IfOk result (λ lag. 1 ≤ lag) }
     ensures few { IfOk result (λ lag. lag ≤ MAX_LAG) }
-    ensures told { IfErr result (TellsAt spot (IsKeyFault (optional (codes "lag") (a_number 1 MAX_LAG)) (table_view table.now))) }
+    ensures told { IfErr result (TellsAt spot (IsKeyFault (optional (codes "lag") (ValueForm.Number 1 MAX_LAG)) (table_view table.now))) }
 {
     if !has_key(table, "lag") {
         return Ok(USUAL_LAG);

@@ -11,7 +11,7 @@ mod names;
 mod reading;
 mod units;
 
-pub use desk::{Desk, MAX_LAG, MAX_PATH_LEN, USUAL_LAG};
+pub use desk::{Desk, USUAL_LAG};
 pub use desk_set::{Desks, MAX_DESKS};
 pub use laws::worked_desks;
 pub use limits::desk_limits_are_fixed;

@@ -1,13 +1,11 @@
 //! The limits of desks.
 ghost use Rattle.std.specs.Prelude.{◌≡◌};
-ghost use Rattle.batch_desks.specs.declared.desk.TheConstants.{MAX_LAG, MAX_PATH_LEN, USUAL_LAG};
+ghost use Rattle.batch_desks.specs.declared.desk.TheConstants.{USUAL_LAG};
 ghost use Rattle.batch_desks.specs.declared.desk_set.TheConstants.{MAX_DESKS};
 
 /// The limits of desks are these numbers.
 // claim: limits of desks
 pub fn desk_limits_are_fixed()
     ensures desks { MAX_DESKS ≡ 64 }
-    ensures path { MAX_PATH_LEN ≡ 4096 }
-    ensures lag { MAX_LAG ≡ 65536 }
     ensures usual_lag { USUAL_LAG ≡ 4096 }
 {}

@@ -15,7 +15,7 @@ use crate::desk::Desk;
 use crate::desk_set::{Desks, MAX_DESKS};
 use crate::names::check_names;
 use batch_reader::{
-    DocFault, EntryFault, Spot, TableFault, TableKind, check_count, document_fault, has_only_keys,
+    DocFault, EntryFault, Spot, TableFault, TableKind, check_count, document_fault, has_only_key,
     table_of, tables_at,
 };
 use std::alloc::Global;
@@ -62,7 +62,7 @@ fn desks_from_table(alloc: Global, table: &Table) -> Result<Desks, TableFault>
         → (desks : Desks) → ¬ (IsDesksTable (table_view table.now) desks)) }
     ensures told { IfErr result (TellsIn TableKind.Desk (IsDesksFault (table_view table.now))) }
 {
-    if !has_only_keys(table, &["desk"]) {
+    if !has_only_key(table, "desk") {
         return Err(TableFault::Entry(TOP, EntryFault::UnknownKey));
     }
     let desks = tables_at::<Desk>(alloc, table, "desk", TableKind::Desk)?;

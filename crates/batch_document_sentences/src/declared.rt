@@ -1,6 +1,6 @@
 //! What a document declares.
 use crate::hints::is_of_words;
-use crate::keys::{OF_RECIPES, VALUES, word_of};
+use crate::kinds::{OF_RECIPES, VALUES, word_of};
 use batch_grammar::is_chart_word;
 use batch_reader::{Spot, TableKind};
 use batch_text::is_name;

@@ -1,6 +1,6 @@
 //! What is wrong with a document.
 use crate::entries::{tables_of, wrong_at};
-use crate::keys::{is_word_of_several, word_of};
+use crate::kinds::{is_word_of_several, word_of};
 use crate::lines::line_of;
 use batch_reader::{DocFault, EntryFault, MAX_DOCUMENT_LEN, Spot};
 use batch_wording::{Sentence, header_in};

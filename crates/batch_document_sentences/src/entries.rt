@@ -1,13 +1,13 @@
 //! What is wrong with a table of a document.
 use crate::charts::{no_chart_said, number_said};
 use crate::declared::text_at;
-use crate::fits::{Fit, given_said, shape_said, suit};
-use crate::keys::{Key, keys_of, kind_said, kinds_beside, most_of, word_of};
+use crate::fits::{Fit, form_said, given_said, suit};
+use crate::kinds::{kind_said, kinds_beside, word_of};
 use crate::lines::line_of;
 use crate::names_declared::{duplicate, undeclared};
 use crate::needs::{need_out_of_limit, unreadable_need};
 use batch_grammar::is_chart_word;
-use batch_reader::{EntryFault, Spot, TableKind};
+use batch_reader::{EntryFault, Key, Spot, TableKind, keys_of, may_stand};
 use batch_recipe::{MAX_NODES, MAX_UNITS};
 use batch_wording::meant_said;
 use std::alloc::{AllocError, Global};
@@ -114,19 +114,16 @@ fn missing(
     kind: TableKind,
 ) -> Result<Wrong<'static>, AllocError> {
     for key in keys {
-        if key.1 && !table.contains_key(key.0) {
+        if key.1 && key.0 != "unit" && may_stand(kind, key.0, table) && !table.contains_key(key.0) {
             return Wrong::with("", format!(in alloc; "the key `{}` is missing", key.0));
         }
     }
-    // A unit procedure and a desk need one of these, and a module with a unit its phases.
+    // A unit procedure and a desk need one of two keys.
     match kind {
         TableKind::Desk => {
             Wrong::told(alloc, "", "one of the keys `input` and `output` is missing")
         }
-        TableKind::UnitProcedure => {
-            Wrong::told(alloc, "", "one of the keys `unit` and `role` is missing")
-        }
-        _ => Wrong::told(alloc, "", "the key `phases` is missing"),
+        _ => Wrong::told(alloc, "", "one of the keys `unit` and `role` is missing"),
     }
 }
 
@@ -274,14 +271,14 @@ fn unfit(
     front: &str,
     table: &Table,
 ) -> Result<Wrong<'static>, AllocError> {
-    let shape = shape_said(alloc, key.2)?;
+    let form = form_said(alloc, key.2)?;
     let given = match table.get(key.0) {
         Some(value) => given_said(alloc, key.2, value)?,
         None => String::new(alloc),
     };
     Wrong::with(
         key.0,
-        format!(in alloc; "`{}` {front} {shape}{given}", key.0),
+        format!(in alloc; "`{}` {front} {form}{given}", key.0),
     )
 }
 
@@ -296,13 +293,6 @@ fn out_of_limit(
     if let Some(key) = first_unfit(keys, table, Fit::OutOfLimit) {
         return unfit(alloc, key, "is out of its limits: it has to be", table);
     }
-    let most = most_of(spot.kind);
-    if spot.entry == most {
-        return Wrong::with(
-            "",
-            format!(in alloc; "a document has at most {most} of these tables"),
-        );
-    }
     if let Some(need) = need_out_of_limit(table) {
         return Wrong::with(
             "needs",
@@ -315,28 +305,31 @@ fn out_of_limit(
         (Some(least), Some(greatest)) if least > greatest => {
             Wrong::told(alloc, "min", "`min` is above `max`")
         }
-        _ => chart_out_of_limit(alloc, text, line, table),
+        _ => chart_out_of_limit(alloc, text, line, table, spot),
     }
 }
 
-/// That a number of the table's chart is out of its limits, or that the acts are too many.
+/// That a number of the table's chart is out of its limits, or that the acts are too many, or the tables, of which the first one too many
+/// is told.
 fn chart_out_of_limit(
     alloc: Global,
     text: &str,
     line: Option<usize>,
     table: &Table,
+    spot: Spot,
 ) -> Result<Wrong<'static>, AllocError> {
     if let Some(chart) = text_at(table, "chart") {
         if let Some(said) = number_said(alloc, text, line, chart)? {
             return Wrong::with("chart", Ok(said));
         }
     }
-    Wrong::with(
-        "",
-        format!(in alloc;
+    let said = match spot.kind {
+        TableKind::Procedure => format!(in alloc;
             "the acts come to more than {MAX_NODES} nodes: each label stands for its act, with the chart of that"
         ),
-    )
+        _ => format!(in alloc; "a document has at most {} of these tables", spot.entry),
+    };
+    Wrong::with("", said)
 }
 
 fn no_chart(

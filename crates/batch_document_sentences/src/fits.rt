@@ -1,5 +1,5 @@
 //! Whether values are what their keys are to have.
-use crate::keys::Shape;
+use batch_reader::{MAX_CHART_LEN, ValueForm};
 use batch_text::{MAX_NAME_LEN, is_name};
 use std::alloc::{AllocError, Global};
 use toml::Value;
@@ -22,16 +22,26 @@ impl Fit {
     }
 }
 
-pub(crate) fn suit(shape: Shape, value: &Value) -> Fit {
-    match shape {
-        Shape::Name => name_fit(value),
-        Shape::Text(most) => text_fit(value, 0, most),
-        Shape::Path(most) => text_fit(value, 1, most),
-        Shape::Number(least, most) => number_fit(value, least, most),
-        Shape::Truth => truth_fit(value),
-        Shape::Names(least, most) => names_fit(value, least, most),
-        Shape::Needs(most) => needs_fit(value, most),
-        Shape::Tables => Fit::Good,
+/// The form without that which sentences of their own tell: a chart is a text, and any name a name.
+fn plain(form: ValueForm) -> ValueForm {
+    match form {
+        ValueForm::FreeName => ValueForm::Name,
+        ValueForm::Chart | ValueForm::ChartWithoutPar => ValueForm::Text(MAX_CHART_LEN),
+        ValueForm::Least(most) => ValueForm::Number(0, most),
+        other => other,
+    }
+}
+
+pub(crate) fn suit(form: ValueForm, value: &Value) -> Fit {
+    match plain(form) {
+        ValueForm::Name => name_fit(value),
+        ValueForm::Text(most) => text_fit(value, 0, most),
+        ValueForm::Path(most) => text_fit(value, 1, most),
+        ValueForm::Number(least, most) => number_fit(value, least, most),
+        ValueForm::Truth => truth_fit(value),
+        ValueForm::Names(least, most) => names_fit(value, least, most),
+        ValueForm::Needs(most) => needs_fit(value, most),
+        _ => Fit::Good,
     }
 }
 
@@ -42,9 +52,9 @@ fn text_fit(value: &Value, least: usize, most: usize) -> Fit {
     }
 }
 
-fn number_fit(value: &Value, least: i64, most: i64) -> Fit {
+fn number_fit(value: &Value, least: u64, most: u64) -> Fit {
     match value.as_integer() {
-        Some(number) => Fit::within(least <= number && number <= most),
+        Some(number) => Fit::within(0 <= number && least <= number as u64 && number as u64 <= most),
         None => Fit::WrongKind,
     }
 }
@@ -87,43 +97,49 @@ fn name_fit(value: &Value) -> Fit {
     }
 }
 
-/// What a value of this shape is.
-pub(crate) fn shape_said(alloc: Global, shape: Shape) -> Result<String, AllocError> {
-    match shape {
-        Shape::Name => format!(in alloc;
+/// What a value of this form is.
+pub(crate) fn form_said(alloc: Global, form: ValueForm) -> Result<String, AllocError> {
+    match plain(form) {
+        ValueForm::Name => format!(in alloc;
             "a name: 1 to {MAX_NAME_LEN} letters, digits, `_` and `-`, the first of them a letter"
         ),
-        Shape::Text(most) => format!(in alloc; "a text of at most {most} bytes"),
-        Shape::Path(most) => format!(in alloc; "a path: a text of 1 to {most} bytes"),
-        Shape::Number(least, most) => format!(in alloc; "a whole number of {least} to {most}"),
-        Shape::Truth => String::from_str(alloc, "true or false"),
-        Shape::Names(least, most) => format!(in alloc; "a list of {least} to {most} names"),
-        Shape::Needs(most) => {
+        ValueForm::Text(most) => format!(in alloc; "a text of at most {most} bytes"),
+        ValueForm::Path(most) => format!(in alloc; "a path: a text of 1 to {most} bytes"),
+        ValueForm::Number(least, most) => {
+            format!(in alloc; "a whole number of {least} to {most}")
+        }
+        ValueForm::Truth => String::from_str(alloc, "true or false"),
+        ValueForm::Names(least, most) => format!(in alloc; "a list of {least} to {most} names"),
+        ValueForm::Needs(most) => {
             format!(in alloc; "a list of at most {most} needs, as \"STEAM\" or \"STEAM*2\"")
         }
-        Shape::Tables => String::from_str(alloc, "tables"),
+        _ => String::from_str(alloc, "tables"),
     }
 }
 
-/// What is wrong with the value that stands where one of this shape is to be, if that can be told.
-pub(crate) fn given_said(alloc: Global, shape: Shape, value: &Value) -> Result<String, AllocError> {
-    match (shape, value) {
-        (Shape::Name, Value::String(text)) => format!(in alloc; ", and `{text}` is none"),
-        (Shape::Names(_, _), Value::Array(items)) => item_said(alloc, items),
-        (Shape::Number(_, _), Value::Float(_)) => {
+/// What is wrong with the value that stands where one of this form is to be, if that can be told.
+pub(crate) fn given_said(
+    alloc: Global,
+    form: ValueForm,
+    value: &Value,
+) -> Result<String, AllocError> {
+    match (plain(form), value) {
+        (ValueForm::Name, Value::String(text)) => format!(in alloc; ", and `{text}` is none"),
+        (ValueForm::Names(_, _), Value::Array(items)) => item_said(alloc, items),
+        (ValueForm::Number(_, _), Value::Float(_)) => {
             String::from_str(
                 alloc,
                 "; numbers are whole, so that 4.5 is written as 45 tenths",
             )
         }
-        (Shape::Number(_, _), Value::String(_)) => {
+        (ValueForm::Number(_, _), Value::String(_)) => {
             String::from_str(alloc, "; a number stands without quotes")
         }
-        (Shape::Truth, Value::String(_)) => {
+        (ValueForm::Truth, Value::String(_)) => {
             String::from_str(alloc, "; true and false stand without quotes")
         }
         (
-            Shape::Name | Shape::Text(_) | Shape::Path(_),
+            ValueForm::Name | ValueForm::Text(_) | ValueForm::Path(_),
             Value::Integer(_) | Value::Float(_) | Value::Boolean(_),
         ) => String::from_str(alloc, "; a text stands in quotes"),
         _ => Ok(String::new(alloc)),

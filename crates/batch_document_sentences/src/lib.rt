@@ -7,7 +7,7 @@ mod documents;
 mod entries;
 mod fits;
 mod hints;
-mod keys;
+mod kinds;
 mod lines;
 mod names_declared;
 mod needs;

@@ -1,5 +1,5 @@
 //! Lines of a document.
-use crate::keys::word_of;
+use crate::kinds::word_of;
 use batch_reader::Spot;
 use batch_wording::header_in;
 

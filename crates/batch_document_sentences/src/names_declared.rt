@@ -5,7 +5,7 @@ use crate::declared::{
 };
 use crate::documents::table_said;
 use crate::entries::{Wrong, tables_of};
-use crate::keys::namesakes_of;
+use crate::kinds::namesakes_of;
 use crate::lines::line_of;
 use batch_reader::{Spot, TableKind};
 use batch_wording::meant_or_known;

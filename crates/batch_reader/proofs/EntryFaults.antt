@@ -1,13 +1,12 @@
 -- What is told of the entry of a table stands there.
-use Rattle.std.proofs.Common.{◌≡◌, ◌≢◌, ℕ, ◌<◌, ◌≤◌, ℤ, nat_lt, Bool, true, false, inl, inr, List, [], ◌∷◌, length, Option, Some, None, Result, Ok, Err, if◌then◌else◌, IfErr, refl, sym, subst, arith, codes, IsSome}
+use Rattle.std.proofs.Common.{◌≡◌, ◌≢◌, ℕ, ◌<◌, ◌≤◌, ℤ, nat_lt, Bool, true, false, inl, inr, List, [], ◌∷◌, length, Option, Some, None, Result, Ok, Err, if◌then◌else◌, is_some, IfErr, refl, sym, ap, ◌∙◌, subst, arith, codes}
 use Rattle.std.proofs.lemmas.Bool.Decides.{nat_tests}
 use Rattle.std.specs.List.{slice_get}
 use Rattle.std.specs.Option.{option_map_or}
 use Rattle.toml.specs.Data.{Data, Items, no_items, item, Members, get_member, as_str, as_integer, as_bool, as_array}
-use Rattle.batch_cell.specs.declared.module.TheConstants.{MAX_PHASES}
 use Rattle.batch_reader.specs.Entries.{AllItems, IsNameItem, HasName, HasLabel, HasNameOr, HasText, MayHaveName, MayHaveText, HasNumber, HasNames, HasFewNames, IsTruth, items_at}
 use Rattle.batch_reader.specs.Faults.{IsToldAs, TellsAt, missing_or_wrong, value_fault, kind_fault, few_names_fault}
-use Rattle.batch_reader.specs.Keys.{a_name, a_free_name, a_text, a_number, a_least, a_truth, some_names, Key, needed, optional, keys_of, module_keys}
+use Rattle.batch_reader.specs.Keys.{Key, needed, optional, keys_of, may_stand}
 use Rattle.batch_reader.specs.TableFaults.{count_items, IsKeyFault, IsTableFault}
 use Rattle.batch_reader.specs.declared.fault.EntryFault.{EntryFault}
 use Rattle.batch_reader.specs.declared.fault.EntryFault.TheVariants.{MissingKey, WrongKind, UnknownKey, Undeclared, Duplicate, OutOfLimit, Chart}
@@ -15,6 +14,7 @@ use Rattle.batch_reader.specs.declared.fault.Spot.{Spot}
 use Rattle.batch_reader.specs.declared.fault.TableFault.{TableFault}
 use Rattle.batch_reader.specs.declared.fault.TableFault.TheVariants.{Entry, Memory}
 use Rattle.batch_reader.specs.declared.fault.TableKind.{TableKind}
+use Rattle.batch_reader.specs.declared.keys.ValueForm.TheVariants as form
 
 -- what is told as this, and is refused only where that is so
 pub told_as : {Refused : Type 0} (Is : EntryFault → Type 0) (spot : Spot) (wrong : EntryFault) (fault : TableFault) → (Refused → Is wrong)
@@ -30,81 +30,92 @@ err_both (Err y) P Q R f p q = f y p q
 -- names
 
 name_fault : (key : List ℕ) (ms : Members) (found : Option Data) → get_member key ms ≡ found → ((name : List ℕ) → HasName key ms name → ⊥)
-    → IsKeyFault (needed key a_name) ms (missing_or_wrong found)
+    → IsKeyFault (needed key form.Name) ms (missing_or_wrong found)
 name_fault key ms None missing none = (refl, missing)
 name_fault key ms (Some d) found none =
     record { here = d; found = found; such = λ name h. none name (record { text = rw found h.text; valid = h.valid }) }
 
 pub name_told : (key : List ℕ) (ms : Members) (spot : Spot) (fault : TableFault) → (fault ≢ Memory → (name : List ℕ) → HasName key ms name → ⊥)
-    → IsToldAs spot (missing_or_wrong (get_member key ms)) fault → TellsAt spot (IsKeyFault (needed key a_name) ms) fault
-name_told key ms spot fault refused told = told_as (IsKeyFault (needed key a_name) ms) spot _ fault (name_fault key ms (get_member key ms) refl) refused told
+    → IsToldAs spot (missing_or_wrong (get_member key ms)) fault → TellsAt spot (IsKeyFault (needed key form.Name) ms) fault
+name_told key ms spot fault refused told = told_as (IsKeyFault (needed key form.Name) ms) spot _ fault (name_fault key ms (get_member key ms) refl) refused told
+
+-- where the key is there it needn't be needed
+pub optional_fault : (key : List ℕ) (ms : Members) → is_some (get_member key ms) ≡ true → (wrong : EntryFault) → IsKeyFault (needed key form.Name) ms wrong
+    → IsKeyFault (optional key form.Name) ms wrong
+optional_fault key ms some MissingKey h = (sym (ap is_some h.1) ∙ some, h.1)
+optional_fault key ms some WrongKind h = h
+optional_fault key ms some OutOfLimit h = h
+optional_fault key ms some (Chart offset) h = h
+optional_fault key ms some UnknownKey h = h
+optional_fault key ms some Undeclared h = h
+optional_fault key ms some Duplicate h = h
 
 label_fault : (key : List ℕ) (ms : Members) (found : Option Data) → get_member key ms ≡ found → ((name : List ℕ) → HasLabel key ms name → ⊥)
-    → IsKeyFault (needed key a_free_name) ms (missing_or_wrong found)
+    → IsKeyFault (needed key form.FreeName) ms (missing_or_wrong found)
 label_fault key ms None missing none = (refl, missing)
 label_fault key ms (Some d) found none =
     record { here = d; found = found; such = λ name text label. none name (record { text = rw found text; label = label }) }
 
 pub label_told : (key : List ℕ) (ms : Members) (spot : Spot) (fault : TableFault) → (fault ≢ Memory → (name : List ℕ) → HasLabel key ms name → ⊥)
-    → IsToldAs spot (missing_or_wrong (get_member key ms)) fault → TellsAt spot (IsKeyFault (needed key a_free_name) ms) fault
-label_told key ms spot fault refused told = told_as (IsKeyFault (needed key a_free_name) ms) spot _ fault (label_fault key ms (get_member key ms) refl) refused told
+    → IsToldAs spot (missing_or_wrong (get_member key ms)) fault → TellsAt spot (IsKeyFault (needed key form.FreeName) ms) fault
+label_told key ms spot fault refused told = told_as (IsKeyFault (needed key form.FreeName) ms) spot _ fault (label_fault key ms (get_member key ms) refl) refused told
 
 name_or_fault : (key : List ℕ) (ms : Members) (other : List ℕ) (found : Option Data) → get_member key ms ≡ found → ((name : List ℕ) → HasNameOr key ms other name → ⊥)
-    → IsKeyFault (optional key a_name) ms WrongKind
+    → IsKeyFault (optional key form.Name) ms WrongKind
 name_or_fault key ms other None missing none = absurd (none other (inr (missing, refl)))
 name_or_fault key ms other (Some d) found none =
     record { here = d; found = found; such = λ name h. none name (inl (record { text = rw found h.text; valid = h.valid })) }
 
 pub name_or_told : (key : List ℕ) (ms : Members) (other : List ℕ) (spot : Spot) (fault : TableFault) → (fault ≢ Memory → (name : List ℕ) → HasNameOr key ms other name → ⊥)
-    → IsToldAs spot WrongKind fault → TellsAt spot (IsKeyFault (optional key a_name) ms) fault
+    → IsToldAs spot WrongKind fault → TellsAt spot (IsKeyFault (optional key form.Name) ms) fault
 name_or_told key ms other spot fault refused told =
-    told_as (IsKeyFault (optional key a_name) ms) spot _ fault (name_or_fault key ms other (get_member key ms) refl) refused told
+    told_as (IsKeyFault (optional key form.Name) ms) spot _ fault (name_or_fault key ms other (get_member key ms) refl) refused told
 
 optional_name_fault : (key : List ℕ) (ms : Members) (found : Option Data) → get_member key ms ≡ found → ((name : Option (List ℕ)) → MayHaveName key ms name → ⊥)
-    → IsKeyFault (optional key a_name) ms WrongKind
+    → IsKeyFault (optional key form.Name) ms WrongKind
 optional_name_fault key ms None missing none = absurd (none None missing)
 optional_name_fault key ms (Some d) found none =
     record { here = d; found = found; such = λ name h. none (Some name) (record { text = rw found h.text; valid = h.valid }) }
 
 pub optional_name_told : (key : List ℕ) (ms : Members) (spot : Spot) (fault : TableFault) → (fault ≢ Memory → (name : Option (List ℕ)) → MayHaveName key ms name → ⊥)
-    → IsToldAs spot WrongKind fault → TellsAt spot (IsKeyFault (optional key a_name) ms) fault
+    → IsToldAs spot WrongKind fault → TellsAt spot (IsKeyFault (optional key form.Name) ms) fault
 optional_name_told key ms spot fault refused told =
-    told_as (IsKeyFault (optional key a_name) ms) spot _ fault (optional_name_fault key ms (get_member key ms) refl) refused told
+    told_as (IsKeyFault (optional key form.Name) ms) spot _ fault (optional_name_fault key ms (get_member key ms) refl) refused told
 
 -- texts
 
 text_fault-some : (key : List ℕ) (ms : Members) (most : ℕ) (is_needed : Bool) (d : Data) (text : Option (List ℕ)) → get_member key ms ≡ Some d → as_str d ≡ text
     → ((bytes : List ℕ) → HasText key ms most bytes → ⊥)
-    → IsKeyFault (record { word = key; form = a_text most; is_needed = is_needed }) ms (kind_fault text)
+    → IsKeyFault (record { word = key; form = form.Text most; is_needed = is_needed }) ms (kind_fault text)
 text_fault-some key ms most is_needed d None found none refused = record { here = d; found = found; such = none }
 text_fault-some key ms most is_needed d (Some text) found is_text refused =
     let long : length text ≤ most → ⊥ = λ short. refused text (record { found = rw found is_text; short = short }) in
     record { here = d; found = found; such = record { text = text; found = is_text; such = omega (arith, long) } }
 
 text_fault : (key : List ℕ) (ms : Members) (most : ℕ) (found : Option Data) → get_member key ms ≡ found → ((text : List ℕ) → HasText key ms most text → ⊥)
-    → IsKeyFault (needed key (a_text most)) ms (value_fault as_str found)
+    → IsKeyFault (needed key (form.Text most)) ms (value_fault as_str found)
 text_fault key ms most None missing none = (refl, missing)
 text_fault key ms most (Some d) found none = text_fault-some key ms most true d (as_str d) found refl none
 
 pub text_told : (key : List ℕ) (ms : Members) (most : ℕ) (spot : Spot) (fault : TableFault) → (fault ≢ Memory → (text : List ℕ) → HasText key ms most text → ⊥)
-    → IsToldAs spot (value_fault as_str (get_member key ms)) fault → TellsAt spot (IsKeyFault (needed key (a_text most)) ms) fault
-text_told key ms most spot fault refused told = told_as (IsKeyFault (needed key (a_text most)) ms) spot _ fault (text_fault key ms most (get_member key ms) refl) refused told
+    → IsToldAs spot (value_fault as_str (get_member key ms)) fault → TellsAt spot (IsKeyFault (needed key (form.Text most)) ms) fault
+text_told key ms most spot fault refused told = told_as (IsKeyFault (needed key (form.Text most)) ms) spot _ fault (text_fault key ms most (get_member key ms) refl) refused told
 
 optional_text_fault : (key : List ℕ) (ms : Members) (most : ℕ) (found : Option Data) → get_member key ms ≡ found → ((text : Option (List ℕ)) → MayHaveText key ms most text → ⊥)
-    → IsKeyFault (optional key (a_text most)) ms (value_fault as_str found)
+    → IsKeyFault (optional key (form.Text most)) ms (value_fault as_str found)
 optional_text_fault key ms most None missing none = absurd (none None missing)
 optional_text_fault key ms most (Some d) found none = text_fault-some key ms most false d (as_str d) found refl (λ text h. none (Some text) h)
 
 pub optional_text_told : (key : List ℕ) (ms : Members) (most : ℕ) (spot : Spot) (fault : TableFault)
     → (fault ≢ Memory → (text : Option (List ℕ)) → MayHaveText key ms most text → ⊥)
-    → IsToldAs spot (value_fault as_str (get_member key ms)) fault → TellsAt spot (IsKeyFault (optional key (a_text most)) ms) fault
+    → IsToldAs spot (value_fault as_str (get_member key ms)) fault → TellsAt spot (IsKeyFault (optional key (form.Text most)) ms) fault
 optional_text_told key ms most spot fault refused told =
-    told_as (IsKeyFault (optional key (a_text most)) ms) spot _ fault (optional_text_fault key ms most (get_member key ms) refl) refused told
+    told_as (IsKeyFault (optional key (form.Text most)) ms) spot _ fault (optional_text_fault key ms most (get_member key ms) refl) refused told
 
 -- numbers
 
 number_fault-some : (key : List ℕ) (ms : Members) (low high : ℕ) (d : Data) (z : Option ℤ) → get_member key ms ≡ Some d → as_integer d ≡ z
-    → ((n : ℕ) → HasNumber key ms low high n → ⊥) → IsKeyFault (needed key (a_number low high)) ms (kind_fault z)
+    → ((n : ℕ) → HasNumber key ms low high n → ⊥) → IsKeyFault (needed key (form.Number low high)) ms (kind_fault z)
 number_fault-some key ms low high d None found none refused = record { here = d; found = found; such = none }
 number_fault-some key ms low high d (Some z) found is_integer refused =
     record {
@@ -118,34 +129,34 @@ number_fault-some key ms low high d (Some z) found is_integer refused =
     }
 
 number_fault : (key : List ℕ) (ms : Members) (low high : ℕ) (found : Option Data) → get_member key ms ≡ found → ((n : ℕ) → HasNumber key ms low high n → ⊥)
-    → IsKeyFault (needed key (a_number low high)) ms (value_fault as_integer found)
+    → IsKeyFault (needed key (form.Number low high)) ms (value_fault as_integer found)
 number_fault key ms low high None missing none = (refl, missing)
 number_fault key ms low high (Some d) found none = number_fault-some key ms low high d (as_integer d) found refl none
 
 pub number_told : (key : List ℕ) (ms : Members) (low high : ℕ) (spot : Spot) (fault : TableFault) → ((n : ℕ) → HasNumber key ms low high n → ⊥)
-    → fault ≡ Entry spot (value_fault as_integer (get_member key ms)) → TellsAt spot (IsKeyFault (needed key (a_number low high)) ms) fault
+    → fault ≡ Entry spot (value_fault as_integer (get_member key ms)) → TellsAt spot (IsKeyFault (needed key (form.Number low high)) ms) fault
 number_told key ms low high spot fault none told = rw told (refl, number_fault key ms low high (get_member key ms) refl none)
 
 -- of a number that isn't to be above another one
-least_fault : (key other : List ℕ) (ms : Members) (high : ℕ) (wrong : EntryFault) → IsKeyFault (needed key (a_number 0 high)) ms wrong
-    → IsKeyFault (needed key (a_least high other)) ms wrong
-least_fault key other ms high MissingKey h = h
-least_fault key other ms high WrongKind h = h
-least_fault key other ms high OutOfLimit h = record { here = h.here; found = h.found; such = inl h.such }
-least_fault key other ms high (Chart offset) h = record { here = h.here; found = h.found; such = h.such }
-least_fault key other ms high UnknownKey h = h
-least_fault key other ms high Undeclared h = h
-least_fault key other ms high Duplicate h = h
+least_fault : (key : List ℕ) (ms : Members) (high : ℕ) (wrong : EntryFault) → IsKeyFault (needed key (form.Number 0 high)) ms wrong
+    → IsKeyFault (needed key (form.Least high)) ms wrong
+least_fault key ms high MissingKey h = h
+least_fault key ms high WrongKind h = h
+least_fault key ms high OutOfLimit h = record { here = h.here; found = h.found; such = inl h.such }
+least_fault key ms high (Chart offset) h = record { here = h.here; found = h.found; such = h.such }
+least_fault key ms high UnknownKey h = h
+least_fault key ms high Undeclared h = h
+least_fault key ms high Duplicate h = h
 
-pub least_told : (key other : List ℕ) (ms : Members) (high : ℕ) (spot : Spot) (fault : TableFault) → ((n : ℕ) → HasNumber key ms 0 high n → ⊥)
-    → fault ≡ Entry spot (value_fault as_integer (get_member key ms)) → TellsAt spot (IsKeyFault (needed key (a_least high other)) ms) fault
-least_told key other ms high spot fault none told =
-    rw told (refl, least_fault key other ms high _ (number_fault key ms 0 high (get_member key ms) refl none))
+pub least_told : (key : List ℕ) (ms : Members) (high : ℕ) (spot : Spot) (fault : TableFault) → ((n : ℕ) → HasNumber key ms 0 high n → ⊥)
+    → fault ≡ Entry spot (value_fault as_integer (get_member key ms)) → TellsAt spot (IsKeyFault (needed key (form.Least high)) ms) fault
+least_told key ms high spot fault none told =
+    rw told (refl, least_fault key ms high _ (number_fault key ms 0 high (get_member key ms) refl none))
 
-above_fault-found : (key other : List ℕ) (ms : Members) (high least greatest : ℕ) (found : Option Data) → get_member key ms ≡ found → HasNumber key ms 0 high least
-    → HasNumber other ms 0 high greatest → greatest < least → IsKeyFault (needed key (a_least high other)) ms OutOfLimit
-above_fault-found key other ms high least greatest None missing h k above = let none = rw missing at h.integer in absurd (cc none)
-above_fault-found key other ms high least greatest (Some d) found h k above =
+above_fault-found : (key : List ℕ) (ms : Members) (high least greatest : ℕ) (found : Option Data) → get_member key ms ≡ found → HasNumber key ms 0 high least
+    → HasNumber (codes "max") ms 0 high greatest → greatest < least → IsKeyFault (needed key (form.Least high)) ms OutOfLimit
+above_fault-found key ms high least greatest None missing h k above = let none = rw missing at h.integer in absurd (cc none)
+above_fault-found key ms high least greatest (Some d) found h k above =
     record {
       here = d;
       found = found;
@@ -158,24 +169,24 @@ above_fault-found key other ms high least greatest (Some d) found h k above =
       });
     }
 
-pub above_fault : (key other : List ℕ) (ms : Members) (high least greatest : ℕ) → HasNumber key ms 0 high least
-    → HasNumber other ms 0 high greatest → greatest < least → IsKeyFault (needed key (a_least high other)) ms OutOfLimit
-above_fault key other ms high least greatest h k above = above_fault-found key other ms high least greatest (get_member key ms) refl h k above
+pub above_fault : (key : List ℕ) (ms : Members) (high least greatest : ℕ) → HasNumber key ms 0 high least
+    → HasNumber (codes "max") ms 0 high greatest → greatest < least → IsKeyFault (needed key (form.Least high)) ms OutOfLimit
+above_fault key ms high least greatest h k above = above_fault-found key ms high least greatest (get_member key ms) refl h k above
 
 -- truth values
 
 truth_fault-some : (key : List ℕ) (ms : Members) (d : Data) (b : Option Bool) → get_member key ms ≡ Some d → as_bool d ≡ b
-    → ((truth : Bool) → IsTruth key ms truth → ⊥) → IsKeyFault (optional key a_truth) ms WrongKind
+    → ((truth : Bool) → IsTruth key ms truth → ⊥) → IsKeyFault (optional key form.Truth) ms WrongKind
 truth_fault-some key ms d None found none refused = record { here = d; found = found; such = none }
 truth_fault-some key ms d (Some b) found is_truth refused = absurd (refused b (rw found is_truth))
 
 truth_fault : (key : List ℕ) (ms : Members) (found : Option Data) → get_member key ms ≡ found → ((truth : Bool) → IsTruth key ms truth → ⊥)
-    → IsKeyFault (optional key a_truth) ms WrongKind
+    → IsKeyFault (optional key form.Truth) ms WrongKind
 truth_fault key ms None missing none = absurd (none false (rw missing refl))
 truth_fault key ms (Some d) found none = truth_fault-some key ms d (as_bool d) found refl none
 
 pub truth_told : (key : List ℕ) (ms : Members) (spot : Spot) (fault : TableFault) → ((truth : Bool) → IsTruth key ms truth → ⊥)
-    → fault ≡ Entry spot WrongKind → TellsAt spot (IsKeyFault (optional key a_truth) ms) fault
+    → fault ≡ Entry spot WrongKind → TellsAt spot (IsKeyFault (optional key form.Truth) ms) fault
 truth_told key ms spot fault none told = rw told (refl, truth_fault key ms (get_member key ms) refl none)
 
 -- lists of names
@@ -187,36 +198,36 @@ count_of_names R (item d ds) [] h = absurd h
 count_of_names R (item d ds) (x ∷ xs) h = omega (arith, count_of_names R ds xs h.1)
 
 names_fault-some : (key : List ℕ) (ms : Members) (least most : ℕ) (d : Data) (list : Option Items) → get_member key ms ≡ Some d → as_array d ≡ list
-    → ((names : List (List ℕ)) → HasNames key ms names → ⊥) → IsKeyFault (needed key (some_names least most)) ms WrongKind
+    → ((names : List (List ℕ)) → HasNames key ms names → ⊥) → IsKeyFault (needed key (form.Names least most)) ms WrongKind
 names_fault-some key ms least most d None found none refused = record { here = d; found = found; such = rw none tt }
 names_fault-some key ms least most d (Some items) found is_list refused =
     record { here = d; found = found; such = rw is_list (λ names listed. refused names (record { items = items; found = rw found is_list; listed = listed })) }
 
 names_fault : (key : List ℕ) (ms : Members) (least most : ℕ) (found : Option Data) → get_member key ms ≡ found → ((names : List (List ℕ)) → HasNames key ms names → ⊥)
-    → IsKeyFault (needed key (some_names least most)) ms (missing_or_wrong found)
+    → IsKeyFault (needed key (form.Names least most)) ms (missing_or_wrong found)
 names_fault key ms least most None missing none = (refl, missing)
 names_fault key ms least most (Some d) found none = names_fault-some key ms least most d (as_array d) found refl none
 
 pub names_told : (key : List ℕ) (ms : Members) (least most : ℕ) (spot : Spot) (fault : TableFault)
     → (fault ≢ Memory → (names : List (List ℕ)) → HasNames key ms names → ⊥)
-    → IsToldAs spot (missing_or_wrong (get_member key ms)) fault → TellsAt spot (IsKeyFault (needed key (some_names least most)) ms) fault
+    → IsToldAs spot (missing_or_wrong (get_member key ms)) fault → TellsAt spot (IsKeyFault (needed key (form.Names least most)) ms) fault
 names_told key ms least most spot fault refused told =
-    told_as (IsKeyFault (needed key (some_names least most)) ms) spot _ fault (names_fault key ms least most (get_member key ms) refl) refused told
+    told_as (IsKeyFault (needed key (form.Names least most)) ms) spot _ fault (names_fault key ms least most (get_member key ms) refl) refused told
 
 count_fault-found : (key : List ℕ) (ms : Members) (least most : ℕ) (names : List (List ℕ)) (found : Option Data) → get_member key ms ≡ found → HasNames key ms names
-    → (least ≤ length names → length names ≤ most → ⊥) → IsKeyFault (needed key (some_names least most)) ms OutOfLimit
+    → (least ≤ length names → length names ≤ most → ⊥) → IsKeyFault (needed key (form.Names least most)) ms OutOfLimit
 count_fault-found key ms least most names None missing h outside = let none = rw missing at h.found in absurd (cc none)
 count_fault-found key ms least most names (Some d) found h outside =
     let count = count_of_names IsNameItem h.items names h.listed in
     record { here = d; found = found; such = record { items = h.items; found = rw found at h.found; such = λ at_least at_most. outside (rw count at at_least) (rw count at at_most) } }
 
 pub count_fault : (key : List ℕ) (ms : Members) (least most : ℕ) (names : List (List ℕ)) → HasNames key ms names
-    → (least ≤ length names → length names ≤ most → ⊥) → IsKeyFault (needed key (some_names least most)) ms OutOfLimit
+    → (least ≤ length names → length names ≤ most → ⊥) → IsKeyFault (needed key (form.Names least most)) ms OutOfLimit
 count_fault key ms least most names h outside = count_fault-found key ms least most names (get_member key ms) refl h outside
 
 few_fault-test : (key : List ℕ) (ms : Members) (most : ℕ) (d : Data) (items : Items) (b : Bool) → get_member key ms ≡ Some d → as_array d ≡ Some items
     → nat_lt most (count_items items) ≡ b → ((names : List (List ℕ)) → HasFewNames key ms most names → ⊥)
-    → IsKeyFault (optional key (some_names 0 most)) ms (if b then OutOfLimit else WrongKind)
+    → IsKeyFault (optional key (form.Names 0 most)) ms (if b then OutOfLimit else WrongKind)
 few_fault-test key ms most d items true found is_list many refused =
     let above : most < count_items items = grind (arith, nat_tests, many) in
     record { here = d; found = found; such = record { items = items; found = is_list; such = λ at_least at_most. omega (arith, above, at_most) } }
@@ -234,41 +245,28 @@ few_fault-test key ms most d items false found is_list few refused =
     }
 
 few_fault-list : (key : List ℕ) (ms : Members) (most : ℕ) (d : Data) (list : Option Items) → get_member key ms ≡ Some d → as_array d ≡ list
-    → ((names : List (List ℕ)) → HasFewNames key ms most names → ⊥) → IsKeyFault (optional key (some_names 0 most)) ms (few_names_fault most list)
+    → ((names : List (List ℕ)) → HasFewNames key ms most names → ⊥) → IsKeyFault (optional key (form.Names 0 most)) ms (few_names_fault most list)
 few_fault-list key ms most d None found none refused = record { here = d; found = found; such = rw none tt }
 few_fault-list key ms most d (Some items) found is_list refused = few_fault-test key ms most d items (nat_lt most (count_items items)) found is_list refl refused
 
 few_fault : (key : List ℕ) (ms : Members) (most : ℕ) (found : Option Data) → get_member key ms ≡ found → ((names : List (List ℕ)) → HasFewNames key ms most names → ⊥)
-    → IsKeyFault (optional key (some_names 0 most)) ms (few_names_fault most (option_map_or as_array found (Some no_items)))
+    → IsKeyFault (optional key (form.Names 0 most)) ms (few_names_fault most (option_map_or as_array found (Some no_items)))
 few_fault key ms most None missing none = absurd (none [] (record { items = no_items; found = rw missing refl; listed = tt; few = omega arith }))
 few_fault key ms most (Some d) found none = few_fault-list key ms most d (as_array d) found refl none
 
 pub few_told : (key : List ℕ) (ms : Members) (most : ℕ) (spot : Spot) (fault : TableFault) → (fault ≢ Memory → (names : List (List ℕ)) → HasFewNames key ms most names → ⊥)
-    → IsToldAs spot (few_names_fault most (items_at key ms)) fault → TellsAt spot (IsKeyFault (optional key (some_names 0 most)) ms) fault
+    → IsToldAs spot (few_names_fault most (items_at key ms)) fault → TellsAt spot (IsKeyFault (optional key (form.Names 0 most)) ms) fault
 few_told key ms most spot fault refused told =
-    told_as (IsKeyFault (optional key (some_names 0 most)) ms) spot _ fault (few_fault key ms most (get_member key ms) refl) refused told
+    told_as (IsKeyFault (optional key (form.Names 0 most)) ms) spot _ fault (few_fault key ms most (get_member key ms) refl) refused told
 
 -- ---- from an entry to its table
 
 -- the key is one of those of tables of the kind
-pub table_told : (kind : TableKind) (ms : Members) (place : ℕ) (key : Key) → slice_get (keys_of kind ms) place ≡ Some key → (spot : Spot) (fault : TableFault)
-    → TellsAt spot (IsKeyFault key ms) fault → TellsAt spot (IsTableFault kind ms) fault
-table_told kind ms place key listed spot Memory told = tt
-table_told kind ms place key listed spot (Entry here wrong) told = (told.0, inr (record { place = place; key = key; listed = listed; fault = told.1 }))
-
--- the same where it is known what the keys are
-pub table_fault_by : (kind : TableKind) (ms : Members) (keys : List Key) (place : ℕ) (key : Key) → keys_of kind ms ≡ keys → slice_get keys place ≡ Some key
+pub table_fault : (kind : TableKind) (ms : Members) (place : ℕ) (key : Key) → slice_get (keys_of kind) place ≡ Some key → may_stand kind key.word ms ≡ true
     → (wrong : EntryFault) → IsKeyFault key ms wrong → IsTableFault kind ms wrong
-table_fault_by kind ms keys place key same listed wrong h = inr (record { place = place; key = key; listed = rw same listed; fault = h })
+table_fault kind ms place key listed stands wrong h = inr (record { place = place; key = key; listed = listed; stands = stands; fault = h })
 
-pub table_told_by : (kind : TableKind) (ms : Members) (keys : List Key) (place : ℕ) (key : Key) → keys_of kind ms ≡ keys → slice_get keys place ≡ Some key
+pub table_told : (kind : TableKind) (ms : Members) (place : ℕ) (key : Key) → slice_get (keys_of kind) place ≡ Some key → may_stand kind key.word ms ≡ true
     → (spot : Spot) (fault : TableFault) → TellsAt spot (IsKeyFault key ms) fault → TellsAt spot (IsTableFault kind ms) fault
-table_told_by kind ms keys place key same listed = table_told kind ms place key (rw same listed)
-
--- the keys of modules
-pub free_module_keys : (unit : Option Data) → unit ≡ None → module_keys unit ≡ needed (codes "name") a_name ∷ []
-free_module_keys unit h = grind arith
-
-pub unit_module_keys : (unit : Option Data) → IsSome unit
-    → module_keys unit ≡ needed (codes "name") a_name ∷ needed (codes "unit") a_name ∷ needed (codes "phases") (some_names 1 MAX_PHASES) ∷ []
-unit_module_keys unit h = grind arith
+table_told kind ms place key listed stands spot Memory told = tt
+table_told kind ms place key listed stands spot (Entry here wrong) told = (told.0, table_fault kind ms place key listed stands wrong told.1)

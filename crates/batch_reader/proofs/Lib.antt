@@ -1,4 +1,4 @@
-pub mod Keys
+pub mod KnownKeys
 pub mod Items
 pub mod Distinct
 pub mod CellNames

@@ -8,13 +8,14 @@ use Rattle.batch_reader.proofs.Items.{get_item-view}
 use Rattle.batch_reader.proofs.OneEntry.{count_items-view}
 use Rattle.batch_reader.specs.Entries.{items_at}
 use Rattle.batch_reader.specs.Faults.{IsNeedFault, IsNeedsFault, TellsAt}
-use Rattle.batch_reader.specs.Keys.{optional, some_needs}
+use Rattle.batch_reader.specs.Keys.{optional}
 use Rattle.batch_reader.specs.TableFaults.{IsKeyFault}
 use Rattle.batch_reader.specs.declared.fault.EntryFault.{EntryFault}
 use Rattle.batch_reader.specs.declared.fault.EntryFault.TheVariants.{MissingKey, WrongKind, UnknownKey, Undeclared, Duplicate, OutOfLimit, Chart}
 use Rattle.batch_reader.specs.declared.fault.Spot.{Spot}
 use Rattle.batch_reader.specs.declared.fault.TableFault.{TableFault}
 use Rattle.batch_reader.specs.declared.fault.TableFault.TheVariants.{Entry, Memory}
+use Rattle.batch_reader.specs.declared.keys.ValueForm.TheVariants as form
 
 pub tells_at : (P Q : EntryFault → Type 0) → ((wrong : EntryFault) → P wrong → Q wrong) → (spot : Spot) (fault : TableFault) → TellsAt spot P fault → TellsAt spot Q fault
 tells_at P Q f spot Memory told = tt
@@ -32,7 +33,7 @@ list_of_item vs i d v same below (Chart offset) h = h
 
 -- there are too many items
 too_many-found : (key : List ℕ) (ms : Members) (most : ℕ) (vs : List Value) (found : Option Data) → get_member key ms ≡ found → option_map_or as_array found (Some no_items) ≡ Some (items_view vs)
-    → most < length vs → IsKeyFault (optional key (some_needs most)) ms OutOfLimit
+    → most < length vs → IsKeyFault (optional key (form.Needs most)) ms OutOfLimit
 too_many-found key ms most vs None missing listed many =
     let none : items_view vs ≡ no_items = cc listed in
     let count = count_items-view vs in
@@ -41,5 +42,5 @@ too_many-found key ms most vs (Some d) found listed many =
     record { here = d; found = found; such = record { items = items_view vs; found = listed; such = inl (rw (count_items-view vs) many) } }
 
 pub too_many_needs : (key : List ℕ) (ms : Members) (most : ℕ) (vs : List Value) → items_at key ms ≡ Some (items_view vs) → most < length vs
-    → IsKeyFault (optional key (some_needs most)) ms OutOfLimit
+    → IsKeyFault (optional key (form.Needs most)) ms OutOfLimit
 too_many_needs key ms most vs listed many = too_many-found key ms most vs (get_member key ms) refl listed many

@@ -1,51 +1,49 @@
 -- A unit procedure's table has the unit, or the role in its place.
-use Rattle.std.proofs.Common.{arith, ◌≡◌, ◌≢◌, ℕ, nat_eq, Bool, false, true, List, [], ◌∷◌, Option, codes, sym, ◌∙◌, subst}
+use Rattle.std.proofs.Common.{arith, ◌≡◌, ℕ, true, List, Option, Some, None, codes, refl, sym, ◌∙◌, subst}
 use Rattle.std.proofs.lemmas.Bool.{false≢true}
-use Rattle.std.specs.Cmp.Lexicographic.{pointwise}
 use Rattle.toml.specs.Data.{Data, Members, get_member}
 use Rattle.batch_recipe.specs.declared.act.Act.{Act}
 use Rattle.batch_recipe.specs.declared.act.UnitChoice.{UnitChoice}
-use Rattle.batch_reader.proofs.EntryFaults.{name_told}
-use Rattle.batch_reader.proofs.Keys.{unknown_missing}
-use Rattle.batch_reader.proofs.OneEntry.{HasName_unique}
-use Rattle.batch_reader.specs.Entries.{HasName, has_only_keys}
-use Rattle.batch_reader.specs.Faults.{IsToldAs, TellsAt, missing_or_wrong}
-use Rattle.batch_reader.specs.Keys.{a_name, needed, unit_key}
+use Rattle.batch_recipe.specs.declared.act.UnitChoice.TheVariants.{Unit, Role}
+use Rattle.batch_reader.proofs.KnownKeys.{unknown_missing}
+use Rattle.batch_reader.proofs.OneEntry.{HasName_missing, HasName_unique}
+use Rattle.batch_reader.specs.Entries.{HasName, MayHaveName}
+use Rattle.batch_reader.specs.Keys.{has_known_keys, is_known}
 use Rattle.batch_reader.specs.RecipeTables.{IsUnitProcedureTable, choice_key, choice_name}
-use Rattle.batch_reader.specs.TableFaults.{IsKeyFault}
-use Rattle.batch_reader.specs.declared.fault.Spot.{Spot}
-use Rattle.batch_reader.specs.declared.fault.TableFault.{TableFault}
-use Rattle.batch_reader.specs.declared.fault.TableFault.TheVariants.{Memory}
+use Rattle.batch_reader.specs.declared.fault.TableKind.TheVariants.{UnitProcedure}
 
--- the keys of a unit procedure's table where its unit, or its role, stands at this one
-abbrev pub keys_with : List ℕ → List (List ℕ)
-keys_with key = codes "name" ∷ key ∷ codes "needs" ∷ codes "chart" ∷ codes "reserves" ∷ []
+-- the key at which the choice stands: `role` where it is there, and else `unit`
+abbrev unit_key : Option Data → List ℕ
+unit_key None = codes "unit"
+unit_key (Some role) = codes "role"
 
-role_key : (ms : Members) (name : List ℕ) (found : Option Data) → get_member (codes "role") ms ≡ found → HasName (codes "role") ms name → codes "role" ≡ unit_key found
-role_key ms name found e h = grind arith
+-- the choice stands at that key, since beside a role no unit is known
+key_of_choice : (ms : Members) (choice : UnitChoice) (role : Option Data) → get_member (codes "role") ms ≡ role → has_known_keys UnitProcedure ms ≡ true
+    → HasName (choice_key choice) ms (choice_name choice) → choice_key choice ≡ unit_key role
+unfolding is_known
+key_of_choice ms (Unit unit) None missing only chosen = refl
+key_of_choice ms (Unit unit) (Some d) found only chosen =
+    absurd (HasName_missing (codes "unit") ms unit (unknown_missing (is_known UnitProcedure ms) (codes "unit") ms only (rw found refl)) chosen)
+key_of_choice ms (Role role) None missing only chosen = absurd (HasName_missing (codes "role") ms role missing chosen)
+key_of_choice ms (Role role) (Some d) found only chosen = refl
 
-key_of_choice : (ms : Members) (choice : UnitChoice) → has_only_keys (keys_with (choice_key choice)) ms ≡ true → HasName (choice_key choice) ms (choice_name choice)
-    → choice_key choice ≡ unit_key (get_member (codes "role") ms)
-key_of_choice ms choice only h = grind (arith, unknown_missing, role_key)
+key_of_table : (ms : Members) (a : Act) (h : IsUnitProcedureTable ms a) → choice_key h.choice ≡ unit_key (get_member (codes "role") ms)
+key_of_table ms a h = key_of_choice ms h.choice (get_member (codes "role") ms) refl h.keys h.chosen
 
-pub key_of_table : (ms : Members) (a : Act) (h : IsUnitProcedureTable ms a) → choice_key h.choice ≡ unit_key (get_member (codes "role") ms)
-key_of_table ms a h = key_of_choice ms h.choice h.keys h.chosen
-
--- what is told of that key stands there
-pub unit_told : (key : List ℕ) (ms : Members) (spot : Spot) (fault : TableFault) → key ≡ unit_key (get_member (codes "role") ms)
-    → (fault ≢ Memory → (name : List ℕ) → HasName key ms name → ⊥) → IsToldAs spot (missing_or_wrong (get_member key ms)) fault
-    → TellsAt spot (IsKeyFault (needed (unit_key (get_member (codes "role") ms)) a_name) ms) fault
-unit_told key ms spot fault same refused told = subst (λ k. TellsAt spot (IsKeyFault (needed k a_name) ms) fault) same (name_told key ms spot fault refused told)
-
--- a table with other keys, or without a name at that key, stands for none
-pub keys_refused : (ms : Members) → has_only_keys (keys_with (unit_key (get_member (codes "role") ms))) ms ≡ false → (a : Act) → IsUnitProcedureTable ms a → ⊥
-keys_refused ms unknown a h = grind (arith, key_of_table ms a h, false≢true)
-
-pub choice_refused : (ms : Members) → ((name : List ℕ) → HasName (unit_key (get_member (codes "role") ms)) ms name → ⊥) → (a : Act) → IsUnitProcedureTable ms a → ⊥
+-- a table without a name at that key stands for none
+choice_refused : (ms : Members) → ((name : List ℕ) → HasName (unit_key (get_member (codes "role") ms)) ms name → ⊥) → (a : Act) → IsUnitProcedureTable ms a → ⊥
 choice_refused ms none a h = none (choice_name h.choice) (subst (λ key. HasName key ms (choice_name h.choice)) (key_of_table ms a h) h.chosen)
 
-abbrev is_unit_key : List ℕ → Bool
-is_unit_key key = pointwise nat_eq key (codes "unit")
+no_role : (ms : Members) (role : Option Data) → get_member (codes "role") ms ≡ role → ((name : Option (List ℕ)) → MayHaveName (codes "role") ms name → ⊥)
+    → (name : List ℕ) → HasName (unit_key role) ms name → ⊥
+no_role ms None missing none name h = none None missing
+no_role ms (Some d) found none name h = none (Some name) h
+
+pub role_refused : (ms : Members) → ((name : Option (List ℕ)) → MayHaveName (codes "role") ms name → ⊥) → (a : Act) → IsUnitProcedureTable ms a → ⊥
+role_refused ms none = choice_refused ms (no_role ms (get_member (codes "role") ms) refl none)
+
+pub unit_refused : (ms : Members) → get_member (codes "role") ms ≡ None → ((name : List ℕ) → HasName (codes "unit") ms name → ⊥) → (a : Act) → IsUnitProcedureTable ms a → ⊥
+unit_refused ms missing none = choice_refused ms (λ name h. none name (subst (λ role. HasName (unit_key role) ms name) missing h))
 
 -- the table has one choice at most
 same_choice : (ms : Members) (c d : UnitChoice) → choice_key c ≡ choice_key d → HasName (choice_key c) ms (choice_name c) → HasName (choice_key d) ms (choice_name d) → c ≡ d

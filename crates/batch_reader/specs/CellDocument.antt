@@ -1,5 +1,5 @@
 -- trusted: what a cell document says.
-use Rattle.std.specs.Prelude.{◌≡◌, ℕ, ◌<◌, ◌≤◌, ◌⊎◌, true, List, [], ◌∷◌, Some, None, length, codes}
+use Rattle.std.specs.Prelude.{◌≡◌, ℕ, ◌<◌, ◌≤◌, ◌⊎◌, true, List, [], Some, None, length, codes}
 use Rattle.toml.specs.Data.{Members, get_member}
 use Rattle.batch_cell.specs.Equipment.{IsDeclaredOnce, HasDeclaredUnits, OffersPhasesOnce}
 use Rattle.batch_cell.specs.declared.cell.Cell.{Cell}
@@ -9,17 +9,19 @@ use Rattle.batch_cell.specs.declared.module.TheConstants.{MAX_PHASES}
 use Rattle.batch_cell.specs.declared.shared.Shared.{Shared}
 use Rattle.batch_cell.specs.declared.shared.TheConstants.{MAX_CAPACITY}
 use Rattle.batch_cell.specs.declared.unit.Unit.{Unit}
-use Rattle.batch_reader.specs.Entries.{IsDocument, HasName, HasNames, HasNumber, HasTables, MayHaveName, has_only_keys}
+use Rattle.batch_reader.specs.Entries.{IsDocument, HasName, HasNames, HasNumber, HasTables, MayHaveName}
+use Rattle.batch_reader.specs.Keys.{has_known_keys}
+use Rattle.batch_reader.specs.declared.fault.TableKind.TheVariants as table_kind
 
 -- the table stands for the unit
 pub record IsUnitTable (ms : Members) (unit : Unit) : Type 0 where
-  pub keys : has_only_keys (codes "name" ∷ codes "class" ∷ []) ms ≡ true
+  pub keys : has_known_keys table_kind.Unit ms ≡ true
   pub name : HasName (codes "name") ms unit.name
   pub class : MayHaveName (codes "class") ms unit.class
 
 -- the table has no unit, and stands for the free module
 pub record IsFreeModuleTable (ms : Members) (m : Module) : Type 0 where
-  pub keys : has_only_keys (codes "name" ∷ []) ms ≡ true
+  pub keys : has_known_keys table_kind.Module ms ≡ true
   pub no_unit : get_member (codes "unit") ms ≡ None
   pub name : HasName (codes "name") ms m.name
   pub is_free : m.unit ≡ None
@@ -27,7 +29,7 @@ pub record IsFreeModuleTable (ms : Members) (m : Module) : Type 0 where
 
 -- the table has a unit and phases, and stands for the module of that unit
 pub record IsUnitModuleTable (ms : Members) (m : Module) : Type 0 where
-  pub keys : has_only_keys (codes "name" ∷ codes "unit" ∷ codes "phases" ∷ []) ms ≡ true
+  pub keys : has_known_keys table_kind.Module ms ≡ true
   pub name : HasName (codes "name") ms m.name
   pub unit : List ℕ
   pub has_unit : HasName (codes "unit") ms unit
@@ -42,7 +44,7 @@ IsModuleTable ms m = IsFreeModuleTable ms m ⊎ IsUnitModuleTable ms m
 
 -- the table stands for the shared resource
 pub record IsSharedTable (ms : Members) (shared : Shared) : Type 0 where
-  pub keys : has_only_keys (codes "name" ∷ codes "capacity" ∷ []) ms ≡ true
+  pub keys : has_known_keys table_kind.Shared ms ≡ true
   pub name : HasName (codes "name") ms shared.name
   pub capacity : HasNumber (codes "capacity") ms 1 MAX_CAPACITY shared.capacity
 
@@ -58,7 +60,7 @@ pub record IsSoundEquipment (units : List Unit) (modules : List Module) (shared 
 
 -- the table of a whole document stands for the cell
 pub record IsCellTable (ms : Members) (cell : Cell) : Type 0 where
-  pub keys : has_only_keys (codes "cell" ∷ codes "unit" ∷ codes "module" ∷ codes "shared" ∷ []) ms ≡ true
+  pub keys : has_known_keys table_kind.Cell ms ≡ true
   pub name : HasName (codes "cell") ms cell.name
   pub units : HasTables IsUnitTable (codes "unit") ms cell.units.items
   pub modules : HasTables IsModuleTable (codes "module") ms cell.modules.items

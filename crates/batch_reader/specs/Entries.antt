@@ -1,7 +1,6 @@
 -- trusted: what the entries of a table say, and a document by its table.
 use Rattle.std.specs.Prelude.{◌≡◌, ℕ, ◌≤◌, pos, Bool, true, false, ◌&&◌, ◌⊎◌, ⊤, List, [], ◌∷◌, length, Option, Some, None, option_and_then, nat_eq, IsUtf8}
 use Rattle.std.specs.Cmp.Lexicographic.{pointwise}
-use Rattle.std.specs.List.{list_any}
 use Rattle.std.specs.Option.{option_map_or}
 use Rattle.toml.specs.Data.{Data, Items, no_items, item, Members, no_members, member, get_member, as_str, as_integer, as_bool, as_array, as_table}
 use Rattle.toml.specs.Parse.{parse_document}
@@ -13,10 +12,14 @@ use Rattle.batch_grammar.specs.declared.reading.TheConstants.{MAX_CHART_LEN}
 use Rattle.batch_reader.specs.NeedText.{IsNeedText}
 use Rattle.batch_reader.specs.declared.document.TheConstants.{MAX_DOCUMENT_LEN}
 
--- each key of the table is one of these
-abbrev pub has_only_keys : List (List ℕ) → Members → Bool
-has_only_keys known no_members = true
-has_only_keys known (member key d ms) = list_any (λ word. pointwise nat_eq word key) known && has_only_keys known ms
+-- each key of the table is so
+abbrev pub all_keys : (List ℕ → Bool) → Members → Bool
+all_keys is_so no_members = true
+all_keys is_so (member key d ms) = is_so key && all_keys is_so ms
+
+-- each key of the table is this one
+abbrev pub has_only_key : List ℕ → Members → Bool
+has_only_key key ms = all_keys (λ word. pointwise nat_eq word key) ms
 
 -- the value is a text, which is the name
 pub record IsNameItem (d : Data) (name : List ℕ) : Type 0 where

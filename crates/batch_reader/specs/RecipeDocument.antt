@@ -1,19 +1,14 @@
 -- trusted: what a recipe document says.
-use Rattle.std.specs.Prelude.{◌≡◌, ℕ, true, List, [], ◌∷◌, codes}
+use Rattle.std.specs.Prelude.{◌≡◌, ℕ, true, List, codes}
 use Rattle.toml.specs.Data.{Members}
 use Rattle.batch_recipe.specs.declared.acts.Acts.{Acts}
 use Rattle.batch_recipe.specs.declared.recipe.Recipe.{Recipe}
 use Rattle.batch_recipe.specs.declared.scaling.TheConstants.{MAX_SIZE}
-use Rattle.batch_reader.specs.Entries.{IsDocument, HasName, HasNumber, HasTable, HasTables, has_only_keys}
+use Rattle.batch_reader.specs.Entries.{IsDocument, HasName, HasNumber, HasTable, HasTables}
+use Rattle.batch_reader.specs.Keys.{has_known_keys}
 use Rattle.batch_reader.specs.RecipeTables.{HasHeader, IsQuantityTable, IsOutputTable, IsRoleTable, IsProcedureTable, IsUnitProcedureTable, IsOperationTable, IsPhaseTable}
 use Rattle.batch_reader.specs.SoundRecipe.{IsSoundRecipe}
-
--- the keys of the top
-abbrev pub recipe_keys : List (List ℕ)
-recipe_keys =
-    codes "recipe" ∷ codes "version" ∷ codes "product" ∷ codes "author" ∷ codes "info" ∷ codes "basis"
-    ∷ codes "input" ∷ codes "parameter" ∷ codes "output"
-    ∷ codes "role" ∷ codes "procedure" ∷ codes "unit_procedure" ∷ codes "operation" ∷ codes "phase" ∷ []
+use Rattle.batch_reader.specs.declared.fault.TableKind.TheVariants as table_kind
 
 -- the document has the acts; the recipe's name is that of its procedure
 pub record HasActs (ms : Members) (acts : Acts) : Type 0 where
@@ -25,7 +20,7 @@ pub record HasActs (ms : Members) (acts : Acts) : Type 0 where
 
 -- the table of a whole document stands for the recipe
 pub record IsRecipeTable (ms : Members) (recipe : Recipe) : Type 0 where
-  pub keys : has_only_keys recipe_keys ms ≡ true
+  pub keys : has_known_keys table_kind.Recipe ms ≡ true
   pub header : HasHeader ms recipe.header
   pub basis : HasNumber (codes "basis") ms 1 MAX_SIZE recipe.basis
   pub inputs : HasTables IsQuantityTable (codes "input") ms recipe.inputs.items

@@ -1,5 +1,5 @@
 -- trusted: what the tables of a recipe document stand for.
-use Rattle.std.specs.Prelude.{◌≡◌, ◌≤◌, ℕ, true, List, [], ◌∷◌, Some, None, codes, option_map, string_bytes}
+use Rattle.std.specs.Prelude.{◌≡◌, ◌≤◌, ℕ, true, List, [], Some, None, codes, option_map, string_bytes}
 use Rattle.std.specs.Global.{Vec}
 use Rattle.toml.specs.Data.{Members}
 use Rattle.batch_recipe.specs.Conditions.{Name}
@@ -16,9 +16,11 @@ use Rattle.batch_recipe.specs.declared.header.TheConstants.{MAX_VERSION_LEN, MAX
 use Rattle.batch_recipe.specs.declared.quantity.Quantity.{Quantity}
 use Rattle.batch_recipe.specs.declared.role.Role.{Role as RecipeRole}
 use Rattle.batch_recipe.specs.declared.scaling.TheConstants.{MAX_VALUE}
-use Rattle.batch_reader.specs.Entries.{HasName, HasLabel, HasNameOr, HasNumber, HasText, MayHaveText, HasChart, HasFewNames, HasFewNeeds, IsTruth, has_only_keys}
+use Rattle.batch_reader.specs.Entries.{HasName, HasLabel, HasNameOr, HasNumber, HasText, MayHaveText, HasChart, HasFewNames, HasFewNeeds, IsTruth}
+use Rattle.batch_reader.specs.Keys.{has_known_keys}
 use Rattle.batch_reader.specs.declared.fault.TableKind.{TableKind}
-use Rattle.batch_reader.specs.declared.fault.TableKind.TheVariants.{UnitProcedure, Operation, Phase}
+use Rattle.batch_reader.specs.declared.fault.TableKind.TheVariants.{Input, Output, Procedure, UnitProcedure, Operation, Phase}
+use Rattle.batch_reader.specs.declared.fault.TableKind.TheVariants as table_kind
 
 -- the top of the document has the header
 pub record HasHeader (ms : Members) (header : Header) : Type 0 where
@@ -29,7 +31,7 @@ pub record HasHeader (ms : Members) (header : Header) : Type 0 where
 
 -- the table of an input or a parameter stands for it
 pub record IsQuantityTable (ms : Members) (q : Quantity) : Type 0 where
-  pub keys : has_only_keys (codes "name" ∷ codes "value" ∷ codes "min" ∷ codes "max" ∷ codes "fixed" ∷ []) ms ≡ true
+  pub keys : has_known_keys Input ms ≡ true
   pub name : HasLabel (codes "name") ms q.name
   pub value : HasNumber (codes "value") ms 0 MAX_VALUE q.value
   pub least : HasNumber (codes "min") ms 0 MAX_VALUE q.min
@@ -39,12 +41,12 @@ pub record IsQuantityTable (ms : Members) (q : Quantity) : Type 0 where
 
 -- the table of an output has its name
 pub record IsOutputTable (ms : Members) (output : Name) : Type 0 where
-  pub keys : has_only_keys (codes "name" ∷ []) ms ≡ true
+  pub keys : has_known_keys Output ms ≡ true
   pub name : HasLabel (codes "name") ms output
 
 -- the table stands for the role
 pub record IsRoleTable (ms : Members) (role : RecipeRole) : Type 0 where
-  pub keys : has_only_keys (codes "name" ∷ codes "class" ∷ []) ms ≡ true
+  pub keys : has_known_keys table_kind.Role ms ≡ true
   pub name : HasName (codes "name") ms role.name
   pub class : HasName (codes "class") ms role.class
 
@@ -64,7 +66,7 @@ HasReserves ms a = HasFewNames (codes "reserves") ms MAX_RESERVES a.reserves.ite
 
 -- the table of the procedure stands for it
 pub record IsProcedureTable (ms : Members) (a : Act) : Type 0 where
-  pub keys : has_only_keys (codes "needs" ∷ codes "chart" ∷ []) ms ≡ true
+  pub keys : has_known_keys Procedure ms ≡ true
   pub no_unit : a.unit ≡ None
   pub no_reserves : a.reserves.items ≡ []
   pub needs : HasNeeds ms a
@@ -83,7 +85,7 @@ choice_name (Role role) = role
 pub record IsUnitProcedureTable (ms : Members) (a : Act) : Type 0 where
   pub choice : UnitChoice
   pub runs_on : a.unit ≡ Some choice
-  pub keys : has_only_keys (codes "name" ∷ choice_key choice ∷ codes "needs" ∷ codes "chart" ∷ codes "reserves" ∷ []) ms ≡ true
+  pub keys : has_known_keys UnitProcedure ms ≡ true
   pub chosen : HasName (choice_key choice) ms (choice_name choice)
   pub name : HasLabel (codes "name") ms a.name
   pub needs : HasNeeds ms a
@@ -93,7 +95,7 @@ pub record IsUnitProcedureTable (ms : Members) (a : Act) : Type 0 where
 
 -- the table stands for the operation
 pub record IsOperationTable (ms : Members) (a : Act) : Type 0 where
-  pub keys : has_only_keys (codes "name" ∷ codes "needs" ∷ codes "chart" ∷ codes "reserves" ∷ []) ms ≡ true
+  pub keys : has_known_keys Operation ms ≡ true
   pub name : HasLabel (codes "name") ms a.name
   pub no_unit : a.unit ≡ None
   pub needs : HasNeeds ms a
@@ -102,7 +104,7 @@ pub record IsOperationTable (ms : Members) (a : Act) : Type 0 where
 
 -- the table stands for the phase step
 pub record IsPhaseTable (ms : Members) (a : Act) : Type 0 where
-  pub keys : has_only_keys (codes "name" ∷ codes "runs" ∷ codes "needs" ∷ codes "values" ∷ codes "reports" ∷ codes "reserves" ∷ []) ms ≡ true
+  pub keys : has_known_keys Phase ms ≡ true
   pub name : HasLabel (codes "name") ms a.name
   pub no_unit : a.unit ≡ None
   pub needs : HasNeeds ms a

@@ -1,5 +1,5 @@
 -- trusted: what is wrong with a table by itself, where it is refused.
-use Rattle.std.specs.Prelude.{◌≡◌, ℕ, ◌+◌, ◌<◌, ◌≤◌, ℤ, pos, ◌⊎◌, ⊤, true, false, List, map, length, take, drop, position, Option, Some, None, option_and_then, codes}
+use Rattle.std.specs.Prelude.{◌≡◌, ℕ, ◌+◌, ◌<◌, ◌≤◌, ℤ, pos, ◌⊎◌, ⊤, Bool, true, false, List, length, take, drop, position, Option, Some, None, option_and_then, codes}
 use Rattle.std.specs.List.{slice_get}
 use Rattle.toml.specs.Data.{Data, Items, no_items, item, get_item, Members, get_member, as_str, as_integer, as_bool, as_array, as_table}
 use Rattle.batch_text.specs.NameText.{IsName}
@@ -9,8 +9,8 @@ use Rattle.batch_recipe.specs.declared.need.TheConstants.{MAX_UNITS}
 use Rattle.batch_grammar.specs.ChartAnswer.{HasFaultAt, IsOutsideAt, IsRead}
 use Rattle.batch_grammar.specs.ChartGrammar.{IsLabel}
 use Rattle.batch_grammar.specs.declared.reading.TheConstants.{MAX_CHART_LEN}
-use Rattle.batch_reader.specs.Entries.{AllItems, IsNameItem, has_only_keys, items_at}
-use Rattle.batch_reader.specs.Keys.{ValueForm, a_name, a_free_name, a_text, a_number, a_least, a_truth, some_names, some_needs, a_chart, a_chart_without_par, some_tables, Key, keys_of}
+use Rattle.batch_reader.specs.Entries.{AllItems, IsNameItem, items_at}
+use Rattle.batch_reader.specs.Keys.{Key, has_known_keys, keys_of, may_stand}
 use Rattle.batch_reader.specs.NeedText.{is_star}
 use Rattle.batch_reader.specs.RightTables.{IsRightTable}
 use Rattle.batch_reader.specs.Words.{table_word}
@@ -18,6 +18,8 @@ use Rattle.batch_reader.specs.declared.fault.EntryFault.{EntryFault}
 use Rattle.batch_reader.specs.declared.fault.EntryFault.TheVariants.{MissingKey, WrongKind, UnknownKey, Undeclared, Duplicate, OutOfLimit, Chart}
 use Rattle.batch_reader.specs.declared.fault.TableKind.{TableKind}
 use Rattle.batch_reader.specs.declared.fault.TableKind.TheVariants.{Cell, Recipe, Procedure}
+use Rattle.batch_reader.specs.declared.keys.ValueForm.{ValueForm}
+use Rattle.batch_reader.specs.declared.keys.ValueForm.TheVariants as form
 
 abbrev pub count_items : Items → ℕ
 count_items no_items = 0
@@ -66,17 +68,18 @@ AreNoNames items = (names : List (List ℕ)) → ¬ (AllItems IsNameItem items n
 
 -- the value is none of the form, whatever the limits
 abbrev pub IsOfWrongKind : ValueForm → Data → Type 0
-IsOfWrongKind a_name d = (name : List ℕ) → ¬ (IsNameItem d name)
-IsOfWrongKind a_free_name d = (name : List ℕ) → as_str d ≡ Some name → ¬ (IsLabel name)
-IsOfWrongKind (a_text most) d = as_str d ≡ None
-IsOfWrongKind (a_number low high) d = as_integer d ≡ None
-IsOfWrongKind (a_least high greatest) d = as_integer d ≡ None
-IsOfWrongKind a_truth d = as_bool d ≡ None
-IsOfWrongKind (some_names least most) d = IsNoListOr AreNoNames (as_array d)
-IsOfWrongKind (some_needs most) d = IsNoListOr (HasItem IsNoNeed) (as_array d)
-IsOfWrongKind a_chart d = as_str d ≡ None
-IsOfWrongKind a_chart_without_par d = as_str d ≡ None
-IsOfWrongKind some_tables d = ⊥
+IsOfWrongKind form.Name d = (name : List ℕ) → ¬ (IsNameItem d name)
+IsOfWrongKind form.FreeName d = (name : List ℕ) → as_str d ≡ Some name → ¬ (IsLabel name)
+IsOfWrongKind (form.Text most) d = as_str d ≡ None
+IsOfWrongKind (form.Path most) d = as_str d ≡ None
+IsOfWrongKind (form.Number low high) d = as_integer d ≡ None
+IsOfWrongKind (form.Least high) d = as_integer d ≡ None
+IsOfWrongKind form.Truth d = as_bool d ≡ None
+IsOfWrongKind (form.Names least most) d = IsNoListOr AreNoNames (as_array d)
+IsOfWrongKind (form.Needs most) d = IsNoListOr (HasItem IsNoNeed) (as_array d)
+IsOfWrongKind form.Chart d = as_str d ≡ None
+IsOfWrongKind form.ChartWithoutPar d = as_str d ≡ None
+IsOfWrongKind form.Tables d = ⊥
 
 -- the value is an integer, and none of low to high
 pub record IsIntegerOutside (low high : ℕ) (d : Data) : Type 0 where
@@ -104,17 +107,18 @@ IsChartOutOfLimits text = (MAX_CHART_LEN < length text) ⊎ ((offset : ℕ) × I
 
 -- the value in this table is of the form but for its limits
 abbrev pub IsOutOfLimits : ValueForm → Members → Data → Type 0
-IsOutOfLimits a_name table d = ⊥
-IsOutOfLimits a_free_name table d = ⊥
-IsOutOfLimits (a_text most) table d = IsTextThat (λ text. most < length text) d
-IsOutOfLimits (a_number low high) table d = IsIntegerOutside low high d
-IsOutOfLimits (a_least high greatest) table d = IsIntegerOutside 0 high d ⊎ IsAbove greatest table d
-IsOutOfLimits a_truth table d = ⊥
-IsOutOfLimits (some_names least most) table d = IsListThat (λ items. least ≤ count_items items → count_items items ≤ most → ⊥) d
-IsOutOfLimits (some_needs most) table d = IsListThat (λ items. (most < count_items items) ⊎ HasItem IsNeedOutOfLimits items) d
-IsOutOfLimits a_chart table d = IsTextThat IsChartOutOfLimits d
-IsOutOfLimits a_chart_without_par table d = IsTextThat IsChartOutOfLimits d
-IsOutOfLimits some_tables table d = ⊥
+IsOutOfLimits form.Name table d = ⊥
+IsOutOfLimits form.FreeName table d = ⊥
+IsOutOfLimits (form.Text most) table d = IsTextThat (λ text. most < length text) d
+IsOutOfLimits (form.Path most) table d = IsTextThat (λ text. 1 ≤ length text → length text ≤ most → ⊥) d
+IsOutOfLimits (form.Number low high) table d = IsIntegerOutside low high d
+IsOutOfLimits (form.Least high) table d = IsIntegerOutside 0 high d ⊎ IsAbove (codes "max") table d
+IsOutOfLimits form.Truth table d = ⊥
+IsOutOfLimits (form.Names least most) table d = IsListThat (λ items. least ≤ count_items items → count_items items ≤ most → ⊥) d
+IsOutOfLimits (form.Needs most) table d = IsListThat (λ items. (most < count_items items) ⊎ HasItem IsNeedOutOfLimits items) d
+IsOutOfLimits form.Chart table d = IsTextThat IsChartOutOfLimits d
+IsOutOfLimits form.ChartWithoutPar table d = IsTextThat IsChartOutOfLimits d
+IsOutOfLimits form.Tables table d = ⊥
 
 -- the text isn't too long, and is of no chart: at the offset its longest front ends that begins a text of a chart
 abbrev pub IsNoChartAt : ℕ → List ℕ → Type 0
@@ -126,8 +130,8 @@ OpensParAt offset text = (chart : Diagram) × IsRead text chart (Some offset)
 
 -- the text at the key is refused for what stands at the offset
 abbrev pub HasChartFaultAt : ValueForm → ℕ → Data → Type 0
-HasChartFaultAt a_chart offset d = IsTextThat (IsNoChartAt offset) d
-HasChartFaultAt a_chart_without_par offset d = IsTextThat (λ text. IsNoChartAt offset text ⊎ OpensParAt offset text) d
+HasChartFaultAt form.Chart offset d = IsTextThat (IsNoChartAt offset) d
+HasChartFaultAt form.ChartWithoutPar offset d = IsTextThat (λ text. IsNoChartAt offset text ⊎ OpensParAt offset text) d
 HasChartFaultAt _ offset d = ⊥
 
 -- ---- keys and tables
@@ -148,21 +152,17 @@ IsKeyFault key table UnknownKey = ⊥
 IsKeyFault key table Undeclared = ⊥
 IsKeyFault key table Duplicate = ⊥
 
--- this is wrong with the table at one of the keys
-pub record HasKeyFault (keys : List Key) (table : Members) (wrong : EntryFault) : Type 0 where
+-- this is wrong with the table at one of these keys, which may stand there
+pub record HasKeyFault (keys : List Key) (stands_there : List ℕ → Bool) (table : Members) (wrong : EntryFault) : Type 0 where
   pub place : ℕ
   pub key : Key
   pub listed : slice_get keys place ≡ Some key
+  pub stands : stands_there key.word ≡ true
   pub fault : IsKeyFault key table wrong
 
--- a key of the table is none of these
-pub record HasUnknownKey (keys : List Key) (table : Members) (wrong : EntryFault) : Type 0 where
-  pub unknown : has_only_keys (map (λ key. key.word) keys) table ≡ false
-  pub told : wrong ≡ UnknownKey
-
--- this is wrong with the table of this kind
+-- the table, of this kind, has another key, or this is wrong with it at one of its keys
 abbrev pub IsTableFault : TableKind → Members → EntryFault → Type 0
-IsTableFault kind table wrong = HasUnknownKey (keys_of kind table) table wrong ⊎ HasKeyFault (keys_of kind table) table wrong
+IsTableFault kind table wrong = ((wrong ≡ UnknownKey) × (has_known_keys kind table ≡ false)) ⊎ HasKeyFault (keys_of kind) (λ word. may_stand kind word table) table wrong
 
 -- ---- the table that a refusal names
 

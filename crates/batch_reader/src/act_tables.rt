@@ -1,18 +1,18 @@
 //! The tables of a recipe's acts.
-ghost use Rattle.std.specs.Prelude.{◌≡◌, ◌≢◌, ℕ, List, [], ◌∷◌, codes, IfOk, IfErr};
+ghost use Rattle.std.specs.Prelude.{◌≡◌, ◌≢◌, codes, IfOk, IfErr};
 ghost use Rattle.toml.specs.Data.{get_member};
 ghost use Rattle.toml.specs.View.{table_view};
 ghost use Rattle.batch_recipe.specs.declared.act.Act.{Act};
-ghost use Rattle.batch_reader.specs.Entries.{HasName, HasTable, has_only_keys};
+ghost use Rattle.batch_reader.specs.Entries.{HasName, HasTable};
 ghost use Rattle.batch_reader.specs.RecipeTables.{IsActTable, IsProcedureTable, IsUnitProcedureTable, IsOperationTable, IsPhaseTable, choice_key, choice_name};
 ghost use Rattle.batch_reader.specs.Faults.{IsActFault, TellsAt};
-ghost use Rattle.batch_reader.specs.Keys.{a_name, needed, unit_key};
-ghost use Rattle.batch_reader.specs.TableFaults.{IsKeyFault, IsProcedureFault, IsTableFault};
+ghost use Rattle.batch_reader.specs.TableFaults.{IsProcedureFault, IsTableFault};
 ghost use Rattle.batch_reader.specs.declared.fault.TableKind.{TableKind};
 
 use crate::chart_entry::{chart_at, chart_without_par_at};
-use crate::entries::{has_only_keys, member, name_at};
+use crate::entries::{member, name_at, optional_name_at};
 use crate::fault::{EntryFault, Spot, TableFault, TableKind};
+use crate::keys::has_known_keys;
 use crate::needs::few_needs_at;
 use crate::recipe_entries::{few_names_at, label_at, name_or};
 use crate::tables::FromTable;
@@ -45,27 +45,16 @@ impl FromTable for Act {
 /// The unit of a unit procedure, or the role that stands in its place.
 fn choice_at(alloc: Global, table: &Table, spot: Spot) -> Result<UnitChoice, TableFault>
     ensures ok { IfOk result (λ choice. HasName (choice_key choice) (table_view table.now) (choice_name choice)) }
-    ensures key { IfOk result (λ choice. choice_key choice ≡ unit_key (get_member (codes "role") (table_view table.now))) }
     ensures refused { IfErr result (λ fault. fault ≢ TableFault.Memory
-        → (name : List ℕ) → ¬ (HasName (unit_key (get_member (codes "role") (table_view table.now))) (table_view table.now) name)) }
-    ensures told { IfErr result (TellsAt spot (IsKeyFault (needed (unit_key (get_member (codes "role") (table_view table.now))) a_name) (table_view table.now))) }
+        → (act : Act) → ¬ (IsUnitProcedureTable (table_view table.now) act)) }
+    ensures told { IfErr result (TellsAt spot (IsTableFault TableKind.UnitProcedure (table_view table.now))) }
 {
-    if member(table, "role").is_some() {
-        let role = name_at(alloc, table, "role", spot)?;
+    let chosen = optional_name_at(alloc, table, "role", spot)?;
+    if let Some(role) = chosen {
         return Ok(UnitChoice::Role(role));
     }
     let unit = name_at(alloc, table, "unit", spot)?;
     Ok(UnitChoice::Unit(unit))
-}
-
-/// Whether the table has no keys but those of a unit procedure: `role`, or `unit` where that is missing.
-fn has_unit_procedure_keys(table: &Table) -> bool
-    ensures { result ≡ has_only_keys (codes "name" ∷ unit_key (get_member (codes "role") (table_view table.now)) ∷ codes "needs" ∷ codes "chart" ∷ codes "reserves" ∷ []) (table_view table.now) }
-{
-    if member(table, "role").is_some() {
-        return has_only_keys(table, &["name", "role", "needs", "chart", "reserves"]);
-    }
-    has_only_keys(table, &["name", "unit", "needs", "chart", "reserves"])
 }
 
 fn unit_procedure(alloc: Global, table: &Table, spot: Spot) -> Result<Act, TableFault>
@@ -74,7 +63,7 @@ fn unit_procedure(alloc: Global, table: &Table, spot: Spot) -> Result<Act, Table
         → (act : Act) → ¬ (IsUnitProcedureTable (table_view table.now) act)) }
     ensures told { IfErr result (TellsAt spot (IsTableFault TableKind.UnitProcedure (table_view table.now))) }
 {
-    if !has_unit_procedure_keys(table) {
+    if !has_known_keys(table, TableKind::UnitProcedure) {
         return Err(TableFault::Entry(spot, EntryFault::UnknownKey));
     }
     let name = label_at(alloc, table, "name", spot)?;
@@ -97,7 +86,7 @@ fn operation(alloc: Global, table: &Table, spot: Spot) -> Result<Act, TableFault
         → (act : Act) → ¬ (IsOperationTable (table_view table.now) act)) }
     ensures told { IfErr result (TellsAt spot (IsTableFault TableKind.Operation (table_view table.now))) }
 {
-    if !has_only_keys(table, &["name", "needs", "chart", "reserves"]) {
+    if !has_known_keys(table, TableKind::Operation) {
         return Err(TableFault::Entry(spot, EntryFault::UnknownKey));
     }
     let name = label_at(alloc, table, "name", spot)?;
@@ -119,10 +108,7 @@ fn phase_step(alloc: Global, table: &Table, spot: Spot) -> Result<Act, TableFaul
         → (act : Act) → ¬ (IsPhaseTable (table_view table.now) act)) }
     ensures told { IfErr result (TellsAt spot (IsTableFault TableKind.Phase (table_view table.now))) }
 {
-    if !has_only_keys(
-        table,
-        &["name", "runs", "needs", "values", "reports", "reserves"],
-    ) {
+    if !has_known_keys(table, TableKind::Phase) {
         return Err(TableFault::Entry(spot, EntryFault::UnknownKey));
     }
     let name = label_at(alloc, table, "name", spot)?;
@@ -168,7 +154,7 @@ fn procedure(alloc: Global, table: &Table, name: Name) -> Result<Act, TableFault
         → (act : Act) → ¬ (IsProcedureTable (table_view table.now) act)) }
     ensures told { IfErr result (TellsAt PROCEDURE (IsTableFault TableKind.Procedure (table_view table.now))) }
 {
-    if !has_only_keys(table, &["needs", "chart"]) {
+    if !has_known_keys(table, TableKind::Procedure) {
         return Err(TableFault::Entry(PROCEDURE, EntryFault::UnknownKey));
     }
     let needs = few_needs_at(alloc, table, "needs", MAX_NEEDS, PROCEDURE)?;

@@ -11,9 +11,10 @@ ghost use Rattle.batch_reader.specs.declared.fault.EntryFault.{EntryFault};
 ghost use Rattle.batch_reader.specs.declared.fault.Spot.{Spot};
 
 use crate::document::{document_fault, table_of};
-use crate::entries::{has_only_keys, name_at};
+use crate::entries::name_at;
 use crate::equipment::check_equipment;
 use crate::fault::{DocFault, EntryFault, Spot, TableFault, TableKind};
+use crate::keys::has_known_keys;
 use crate::tables::tables_at;
 use batch_cell::{Cell, Module, Shared, Unit};
 use std::alloc::Global;
@@ -60,7 +61,7 @@ fn cell_from_table(alloc: Global, table: &Table) -> Result<Cell, TableFault>
     ensures told { IfErr result (IsAmong is_of_cell) }
     ensures stands { IfErr result (Tells (IsWrongAt (table_view table.now))) }
 {
-    if !has_only_keys(table, &["cell", "unit", "module", "shared"]) {
+    if !has_known_keys(table, TableKind::Cell) {
         return Err(TableFault::Entry(TOP, EntryFault::UnknownKey));
     }
     let name = name_at(alloc, table, "cell", TOP)?;

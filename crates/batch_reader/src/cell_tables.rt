@@ -7,12 +7,14 @@ ghost use Rattle.batch_reader.specs.CellDocument.{IsUnitTable, IsModuleTable, Is
 ghost use Rattle.batch_cell.specs.declared.shared.TheConstants.{MAX_CAPACITY};
 ghost use Rattle.batch_reader.specs.Entries.{HasNumber};
 ghost use Rattle.batch_reader.specs.Faults.{TellsAt};
-ghost use Rattle.batch_reader.specs.Keys.{needed, a_number};
+ghost use Rattle.batch_reader.specs.Keys.{needed};
 ghost use Rattle.batch_reader.specs.TableFaults.{IsKeyFault, IsTableFault};
 ghost use Rattle.batch_reader.specs.declared.fault.TableKind.{TableKind};
+ghost use Rattle.batch_reader.specs.declared.keys.ValueForm.{ValueForm};
 
-use crate::entries::{has_only_keys, member, name_at, names_at, number_at, optional_name_at};
-use crate::fault::{EntryFault, Spot, TableFault};
+use crate::entries::{member, name_at, names_at, number_at, optional_name_at};
+use crate::fault::{EntryFault, Spot, TableFault, TableKind};
+use crate::keys::has_known_keys;
 use crate::tables::FromTable;
 use batch_cell::{MAX_CAPACITY, MAX_PHASES, Module, Shared, Unit};
 use std::alloc::Global;
@@ -24,7 +26,7 @@ impl FromTable for Unit {
     ghost is_fault = { λ _. IsTableFault TableKind.Unit };
 
     fn from_table(alloc: Global, table: &Table, spot: Spot) -> Result<Unit, TableFault> {
-        if !has_only_keys(table, &["name", "class"]) {
+        if !has_known_keys(table, TableKind::Unit) {
             return Err(TableFault::Entry(spot, EntryFault::UnknownKey));
         }
         let name = name_at(alloc, table, "name", spot)?;
@@ -53,7 +55,7 @@ fn free_module(alloc: Global, table: &Table, spot: Spot) -> Result<Module, Table
         → (m : Module) → ¬ (IsModuleTable (table_view table.now) m)) }
     ensures told { IfErr result (TellsAt spot (IsTableFault TableKind.Module (table_view table.now))) }
 {
-    if !has_only_keys(table, &["name"]) {
+    if !has_known_keys(table, TableKind::Module) {
         return Err(TableFault::Entry(spot, EntryFault::UnknownKey));
     }
     let name = name_at(alloc, table, "name", spot)?;
@@ -71,7 +73,7 @@ fn unit_module(alloc: Global, table: &Table, spot: Spot) -> Result<Module, Table
         → (m : Module) → ¬ (IsModuleTable (table_view table.now) m)) }
     ensures told { IfErr result (TellsAt spot (IsTableFault TableKind.Module (table_view table.now))) }
 {
-    if !has_only_keys(table, &["name", "unit", "phases"]) {
+    if !has_known_keys(table, TableKind::Module) {
         return Err(TableFault::Entry(spot, EntryFault::UnknownKey));
     }
     let name = name_at(alloc, table, "name", spot)?;
@@ -93,7 +95,7 @@ impl FromTable for Shared {
     ghost is_fault = { λ _. IsTableFault TableKind.Shared };
 
     fn from_table(alloc: Global, table: &Table, spot: Spot) -> Result<Shared, TableFault> {
-        if !has_only_keys(table, &["name", "capacity"]) {
+        if !has_known_keys(table, TableKind::Shared) {
             return Err(TableFault::Entry(spot, EntryFault::UnknownKey));
         }
         let name = name_at(alloc, table, "name", spot)?;
@@ -106,7 +108,7 @@ impl FromTable for Shared {
 fn capacity_at(table: &Table, spot: Spot) -> Result<u32, TableFault>
     ensures ok { IfOk result (HasNumber (codes "capacity") (table_view table.now) 1 MAX_CAPACITY) }
     ensures refused { IfErr result (λ fault. (number : ℕ) → ¬ (HasNumber (codes "capacity") (table_view table.now) 1 MAX_CAPACITY number)) }
-    ensures told { IfErr result (TellsAt spot (IsKeyFault (needed (codes "capacity") (a_number 1 MAX_CAPACITY)) (table_view table.now))) }
+    ensures told { IfErr result (TellsAt spot (IsKeyFault (needed (codes "capacity") (ValueForm.Number 1 MAX_CAPACITY)) (table_view table.now))) }
 {
     let capacity = number_at(table, "capacity", 1, u64::from(MAX_CAPACITY), spot)?;
     Ok(capacity as u32)

@@ -5,8 +5,9 @@ ghost use Rattle.batch_recipe.specs.Diagram.{Diagram, diagram_of};
 ghost use Rattle.batch_recipe.specs.WellFormed.{has_no_par};
 ghost use Rattle.batch_reader.specs.Entries.{HasChart};
 ghost use Rattle.batch_reader.specs.Faults.{HasReadChart, TellsAt};
-ghost use Rattle.batch_reader.specs.Keys.{needed, a_chart, a_chart_without_par};
+ghost use Rattle.batch_reader.specs.Keys.{needed};
 ghost use Rattle.batch_reader.specs.TableFaults.{IsKeyFault};
+ghost use Rattle.batch_reader.specs.declared.keys.ValueForm.{ValueForm};
 
 use crate::entries::member;
 use crate::fault::{EntryFault, Spot, TableFault};
@@ -21,7 +22,7 @@ fn read_chart_at(alloc: Global, table: &Table, spot: Spot) -> Result<ReadChart, 
     ensures read { IfOk result (λ read. HasReadChart (table_view table.now) (diagram_of read.chart) read.first_par) }
     ensures refused { IfErr result (λ fault. fault ≢ TableFault.Memory
         → (chart : Diagram) → ¬ (HasChart (codes "chart") (table_view table.now) chart)) }
-    ensures told { IfErr result (TellsAt spot (IsKeyFault (needed (codes "chart") a_chart) (table_view table.now))) }
+    ensures told { IfErr result (TellsAt spot (IsKeyFault (needed (codes "chart") ValueForm.Chart) (table_view table.now))) }
 {
     let Some(value) = member(table, "chart") else {
         return Err(TableFault::Entry(spot, EntryFault::MissingKey));
@@ -47,7 +48,7 @@ pub(crate) fn chart_at(alloc: Global, table: &Table, spot: Spot) -> Result<Chart
     ensures ok { IfOk result (λ chart. HasChart (codes "chart") (table_view table.now) (diagram_of chart)) }
     ensures refused { IfErr result (λ fault. fault ≢ TableFault.Memory
         → (chart : Diagram) → ¬ (HasChart (codes "chart") (table_view table.now) chart)) }
-    ensures told { IfErr result (TellsAt spot (IsKeyFault (needed (codes "chart") a_chart) (table_view table.now))) }
+    ensures told { IfErr result (TellsAt spot (IsKeyFault (needed (codes "chart") ValueForm.Chart) (table_view table.now))) }
 {
     let read = read_chart_at(alloc, table, spot)?;
     Ok(read.chart)
@@ -63,7 +64,7 @@ pub(crate) fn chart_without_par_at(
     ensures no_par { IfOk result (λ chart. has_no_par (diagram_of chart) ≡ true) }
     ensures refused { IfErr result (λ fault. fault ≢ TableFault.Memory
         → (chart : Diagram) → HasChart (codes "chart") (table_view table.now) chart → ¬ (has_no_par chart ≡ true)) }
-    ensures told { IfErr result (TellsAt spot (IsKeyFault (needed (codes "chart") a_chart_without_par) (table_view table.now))) }
+    ensures told { IfErr result (TellsAt spot (IsKeyFault (needed (codes "chart") ValueForm.ChartWithoutPar) (table_view table.now))) }
 {
     let read = read_chart_at(alloc, table, spot)?;
     match read.first_par {

@@ -1,11 +1,9 @@
 //! The entries of a table.
-ghost use Rattle.std.specs.Prelude.{◌≡◌, ◌≢◌, ◌≤◌, ℕ, List, Bool, Option, Some, None, map, option_map, nat_eq, string_bytes, string_len, IfOk, IfErr};
-ghost use Rattle.std.specs.Cmp.Lexicographic.{pointwise};
-ghost use Rattle.std.specs.List.{list_any};
+ghost use Rattle.std.specs.Prelude.{◌≡◌, ◌≢◌, ◌≤◌, ℕ, List, Bool, Option, Some, None, option_map, string_bytes, string_len, IfOk, IfErr};
 ghost use Rattle.std.specs.Option.{ForSome};
 ghost use Rattle.toml.specs.Data.{as_integer, as_str, get_member};
 ghost use Rattle.toml.specs.View.{view, items_view, table_view};
-ghost use Rattle.batch_reader.specs.Entries.{HasName, HasNumber, HasNames, HasText, AllItems, IsNameItem, IsTruth, MayHaveName, MayHaveText, has_only_keys};
+ghost use Rattle.batch_reader.specs.Entries.{HasName, HasNumber, HasNames, HasText, AllItems, IsNameItem, IsTruth, MayHaveName, MayHaveText, has_only_key};
 ghost use Rattle.batch_reader.specs.Faults.{IsToldAs, missing_or_wrong, value_fault};
 
 use crate::fault::{EntryFault, Spot, TableFault};
@@ -21,18 +19,12 @@ pub fn member<'a>(table: &'a Table, key: &str) -> Option<&'a Value>
     table.get(key)
 }
 
-/// Whether the table has no key but these.
+/// Whether the table has no key but this one.
 // claim: keys of a table
-pub fn has_only_keys(table: &Table, known: &[&str]) -> bool
-    ensures { result ≡ has_only_keys (map (λ key. key.now) known.now) (table_view table.now) }
+pub fn has_only_key(table: &Table, key: &str) -> bool
+    ensures { result ≡ has_only_key key.now (table_view table.now) }
 {
-    table.keys().all(|key| is_one_of(key.as_str(), known))
-}
-
-fn is_one_of(key: &str, known: &[&str]) -> bool
-    ensures { result ≡ list_any (λ word. pointwise nat_eq word key.now) (map (λ word. word.now) known.now) }
-{
-    known.iter().any(|word| *word == key)
+    table.keys().all(|word| word.as_str() == key)
 }
 
 /// The name that a value is.

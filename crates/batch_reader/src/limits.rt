@@ -1,9 +1,12 @@
-//! The limit of documents.
+//! The limits of documents, and of the keys of desks.
 ghost use Rattle.std.specs.Prelude.{◌≡◌};
 ghost use Rattle.batch_reader.specs.declared.document.TheConstants.{MAX_DOCUMENT_LEN};
+ghost use Rattle.batch_reader.specs.declared.keys.TheConstants.{MAX_LAG, MAX_PATH_LEN};
 
-/// The longest document has this many bytes.
-// claim: limit of a document
-pub fn document_limit_is_fixed()
-    ensures { MAX_DOCUMENT_LEN ≡ 1048576 }
+/// The limits are these numbers.
+// claim: limits of documents
+pub fn document_limits_are_fixed()
+    ensures document { MAX_DOCUMENT_LEN ≡ 1048576 }
+    ensures path { MAX_PATH_LEN ≡ 4096 }
+    ensures lag { MAX_LAG ≡ 65536 }
 {}

@@ -6,9 +6,10 @@ ghost use Rattle.batch_recipe.specs.declared.need.Need.{Need};
 ghost use Rattle.batch_text.specs.NameText.{IsName};
 ghost use Rattle.batch_reader.specs.Entries.{AllItems, HasFewNeeds, IsNeedItem};
 ghost use Rattle.batch_reader.specs.Faults.{IsNeedFault, IsNeedTextFault, IsNeedsFault, IsToldAs, IsUnitsFault, TellsAt};
-ghost use Rattle.batch_reader.specs.Keys.{optional, some_needs};
+ghost use Rattle.batch_reader.specs.Keys.{optional};
 ghost use Rattle.batch_reader.specs.NeedText.{IsNeedText, IsUnits, is_star};
 ghost use Rattle.batch_reader.specs.TableFaults.{IsKeyFault};
+ghost use Rattle.batch_reader.specs.declared.keys.ValueForm.{ValueForm};
 
 use crate::fault::{EntryFault, Spot, TableFault};
 use crate::tables::items_at;
@@ -33,7 +34,7 @@ pub(crate) fn few_needs_at(
     // claim: no need
     ensures refused { IfErr result (λ fault. fault ≢ TableFault.Memory
         → (needs : List Need) → ¬ (HasFewNeeds key.now (table_view table.now) most needs)) }
-    ensures told { IfErr result (TellsAt spot (IsKeyFault (optional key.now (some_needs most)) (table_view table.now))) }
+    ensures told { IfErr result (TellsAt spot (IsKeyFault (optional key.now (ValueForm.Needs most)) (table_view table.now))) }
 {
     let values = items_at(table, key, spot)?;
     if values.len() > most {

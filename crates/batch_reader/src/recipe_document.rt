@@ -6,12 +6,12 @@ ghost use Rattle.batch_recipe.specs.declared.acts.Acts.{Acts};
 ghost use Rattle.batch_recipe.specs.declared.header.Header.{Header};
 ghost use Rattle.batch_recipe.specs.declared.recipe.Recipe.{Recipe};
 ghost use Rattle.batch_recipe.specs.declared.scaling.TheConstants.{MAX_SIZE};
-ghost use Rattle.batch_reader.specs.Entries.{HasName, HasNumber, HasTables, has_only_keys};
+ghost use Rattle.batch_reader.specs.Entries.{HasName, HasNumber, HasTables};
 ghost use Rattle.batch_reader.specs.Faults.{IsAmong, Tells, TellsAt, is_of_recipe};
 ghost use Rattle.batch_reader.specs.FaultStands.{FaultStands, IsWrongAt};
 ghost use Rattle.batch_reader.specs.TableFaults.{IsFaultOfTable, IsTableFault};
 ghost use Rattle.batch_reader.specs.RecipeTables.{HasHeader, IsQuantityTable, IsOutputTable, IsRoleTable, IsUnitProcedureTable, IsOperationTable, IsPhaseTable};
-ghost use Rattle.batch_reader.specs.RecipeDocument.{HasActs, IsRecipeTable, IsRecipeDocument, recipe_keys};
+ghost use Rattle.batch_reader.specs.RecipeDocument.{HasActs, IsRecipeTable, IsRecipeDocument};
 ghost use Rattle.batch_reader.specs.SoundTables.{HasSoundTables, outline_fault};
 ghost use Rattle.batch_reader.specs.declared.document.TheConstants.{MAX_DOCUMENT_LEN};
 ghost use Rattle.batch_reader.specs.declared.fault.EntryFault.{EntryFault};
@@ -20,8 +20,9 @@ ghost use Rattle.batch_reader.specs.declared.fault.TableKind.{TableKind};
 
 use crate::act_tables::procedure_at;
 use crate::document::{document_fault, table_of};
-use crate::entries::{has_only_keys, name_at, number_at, optional_text_at, text_at};
+use crate::entries::{name_at, number_at, optional_text_at, text_at};
 use crate::fault::{DocFault, EntryFault, Spot, TableFault, TableKind};
+use crate::keys::has_known_keys;
 use crate::recipe_checks::check_recipe;
 use crate::tables::tables_at;
 use batch_recipe::{
@@ -75,7 +76,7 @@ fn recipe_from_table(alloc: Global, table: &Table) -> Result<Recipe, TableFault>
     ensures told { IfErr result (IsAmong is_of_recipe) }
     ensures stands { IfErr result (Tells (IsWrongAt (table_view table.now))) }
 {
-    if !has_recipe_keys(table) {
+    if !has_known_keys(table, TableKind::Recipe) {
         return Err(TableFault::Entry(TOP, EntryFault::UnknownKey));
     }
     let top = top_at(alloc, table)?;
@@ -204,31 +205,6 @@ fn values_at(alloc: Global, table: &Table) -> Result<ValueTables, TableFault>
         parameters,
         outputs,
     })
-}
-
-/// Whether the top has no keys but those of a recipe.
-fn has_recipe_keys(table: &Table) -> bool
-    ensures { result ≡ has_only_keys recipe_keys (table_view table.now) }
-{
-    has_only_keys(
-        table,
-        &[
-            "recipe",
-            "version",
-            "product",
-            "author",
-            "info",
-            "basis",
-            "input",
-            "parameter",
-            "output",
-            "role",
-            "procedure",
-            "unit_procedure",
-            "operation",
-            "phase",
-        ],
-    )
 }
 
 /// What the recipe tells its readers.

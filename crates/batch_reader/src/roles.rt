@@ -10,8 +10,9 @@ ghost use Rattle.batch_reader.specs.declared.fault.EntryFault.{EntryFault};
 ghost use Rattle.batch_reader.specs.declared.fault.Spot.{Spot};
 ghost use Rattle.batch_reader.specs.declared.fault.TableKind.{TableKind};
 
-use crate::entries::{has_only_keys, name_at};
+use crate::entries::name_at;
 use crate::fault::{EntryFault, Spot, TableFault, TableKind};
+use crate::keys::has_known_keys;
 use crate::names::Named;
 use crate::recipe_names::distinct_names;
 use crate::tables::FromTable;
@@ -27,7 +28,7 @@ impl FromTable for Role {
     ghost is_fault = { λ _. IsTableFault TableKind.Role };
 
     fn from_table(alloc: Global, table: &Table, spot: Spot) -> Result<Role, TableFault> {
-        if !has_only_keys(table, &["name", "class"]) {
+        if !has_known_keys(table, TableKind::Role) {
             return Err(TableFault::Entry(spot, EntryFault::UnknownKey));
         }
         let name = name_at(alloc, table, "name", spot)?;

@@ -3,8 +3,9 @@ ghost use Rattle.batch_reader.specs.RecipeTables.{IsQuantityTable, IsOutputTable
 ghost use Rattle.batch_reader.specs.TableFaults.{IsTableFault};
 ghost use Rattle.batch_reader.specs.declared.fault.TableKind.{TableKind};
 
-use crate::entries::{has_only_keys, number_at, truth_at};
-use crate::fault::{EntryFault, Spot, TableFault};
+use crate::entries::{number_at, truth_at};
+use crate::fault::{EntryFault, Spot, TableFault, TableKind};
+use crate::keys::has_known_keys;
 use crate::recipe_entries::label_at;
 use crate::tables::FromTable;
 use batch_recipe::{MAX_VALUE, Quantity};
@@ -18,7 +19,7 @@ impl FromTable for Quantity {
     ghost is_fault = { λ _. IsTableFault TableKind.Input };
 
     fn from_table(alloc: Global, table: &Table, spot: Spot) -> Result<Quantity, TableFault> {
-        if !has_only_keys(table, &["name", "value", "min", "max", "fixed"]) {
+        if !has_known_keys(table, TableKind::Input) {
             return Err(TableFault::Entry(spot, EntryFault::UnknownKey));
         }
         let name = label_at(alloc, table, "name", spot)?;
@@ -46,7 +47,7 @@ impl FromTable for Name {
     ghost is_fault = { λ _. IsTableFault TableKind.Output };
 
     fn from_table(alloc: Global, table: &Table, spot: Spot) -> Result<Name, TableFault> {
-        if !has_only_keys(table, &["name"]) {
+        if !has_known_keys(table, TableKind::Output) {
             return Err(TableFault::Entry(spot, EntryFault::UnknownKey));
         }
         label_at(alloc, table, "name", spot)

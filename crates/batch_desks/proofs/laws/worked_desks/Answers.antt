@@ -4,12 +4,13 @@ use Rattle.std.specs.List.{IsDistinct}
 use Rattle.toml.specs.Data.{Members, no_members, member, integer, string}
 use Rattle.batch_text.specs.NameText.{IsName}
 use Rattle.batch_reader.specs.Entries.{HasName}
+use Rattle.batch_reader.specs.Keys.{is_known}
 use Rattle.batch_reader.specs.declared.fault.EntryFault.TheVariants.{OutOfLimit}
+use Rattle.batch_reader.specs.declared.keys.TheConstants.{MAX_LAG}
 use Rattle.batch_desks.proofs.Refusing.{missing_refused, name_refused, none_first, number_refused, optional_name_refused, path_refused, truth_refused}
 use Rattle.batch_desks.specs.DesksDocument.{HasPath}
 use Rattle.batch_desks.specs.DesksFaults.{IsDeskFault}
 use Rattle.batch_desks.specs.RowsOfDesks.{console, lag_of, named}
-use Rattle.batch_desks.specs.declared.desk.TheConstants.{MAX_LAG}
 use Rattle.batch_desks.proofs.laws.worked_desks.Goals as goal
 
 is_name : IsName (codes "CONSOLE")
@@ -22,6 +23,7 @@ has_input : (more : Members) → HasPath (codes "input") (console more) (codes "
 has_input more = record { text = record { found = refl; short = lit≤ tt }; some = lit≤ tt }
 
 pub returns-clause-console : goal.returns-clause-console
+unfolding is_known
 returns-clause-console c = λ desk is lag. record {
   keys = refl;
   name = rw (is.name) (has_name (member (codes "input") (string (codes "in")) no_members));
@@ -43,6 +45,7 @@ pub returns-clause-stay : goal.returns-clause-stay
 returns-clause-stay c = λ desk stays h. let is = rw stays at h.stays in cc is
 
 pub returns-clause-nothing_wrong : goal.returns-clause-nothing_wrong
+unfolding is_known
 returns-clause-nothing_wrong c = λ wrong.
     none_first (λ w. false≢true (sym w.1))
     (none_first (name_refused (codes "name") (console no_members) wrong (codes "CONSOLE") (has_name (member (codes "input") (string (codes "in")) no_members)))
@@ -54,6 +57,7 @@ returns-clause-nothing_wrong c = λ wrong.
     (missing_refused (codes "lag") (console no_members) 1 MAX_LAG wrong refl)))))))
 
 pub returns-clause-one_way : goal.returns-clause-one_way
+unfolding is_known
 returns-clause-one_way c = (
   inr (refl, inr ((codes "CONSOLE", has_name no_members), inr ((None, refl), inr ((None, refl), inl (refl, refl))))),
   none_first (λ w. cc w.0)
@@ -67,10 +71,12 @@ returns-clause-one_way c = (
 )
 
 pub returns-clause-unknown_first : goal.returns-clause-unknown_first
+unfolding is_known
 returns-clause-unknown_first c = (inl (refl, refl), λ h. elim h [ inl w ↦ cc w.0 | inr p ↦ false≢true p.0 ])
 
 -- what stands before the lag of a console is right
 lag_wrong : (lines : ℕ) → ((n : ℕ) → pos lines ≡ pos n → 1 ≤ n → n ≤ MAX_LAG → ⊥) → IsDeskFault (lag_of lines) OutOfLimit
+unfolding is_known
 lag_wrong lines outside =
     inr (
       refl,

@@ -20,17 +20,17 @@ returns-in_err-chart-clause-refused c =
 pub returns-in_err-name-clause-told : goal.returns-in_err-name-clause-told
 returns-in_err-name-clause-told c =
     let p = err_from_is_err_and c.from_residual.result c.from_residual.ensures.1 in
-    rw (p.1, p.2) (table_told Operation (table_view c.args.table.now) 0 _ refl _ _ (label_told (codes "name") (table_view c.args.table.now) _ _ c.in_err-name.ensures.refused c.in_err-name.ensures.told))
+    rw (p.1, p.2) (table_told Operation (table_view c.args.table.now) 0 _ refl refl _ _ (label_told (codes "name") (table_view c.args.table.now) _ _ c.in_err-name.ensures.refused c.in_err-name.ensures.told))
 
 pub returns-in_err-needs-clause-told : goal.returns-in_err-needs-clause-told
 returns-in_err-needs-clause-told c =
     let p = err_from_is_err_and c.from_residual-in_err-needs.result c.from_residual-in_err-needs.ensures.1 in
-    rw (p.1, p.2) (table_told Operation (table_view c.args.table.now) 1 _ refl _ _ (c.in_err-needs.ensures.told))
+    rw (p.1, p.2) (table_told Operation (table_view c.args.table.now) 2 _ refl refl _ _ (c.in_err-needs.ensures.told))
 
 pub returns-in_err-chart-clause-told : goal.returns-in_err-chart-clause-told
 returns-in_err-chart-clause-told c =
     let p = err_from_is_err_and c.from_residual-in_err-chart.result c.from_residual-in_err-chart.ensures.1 in
-    rw (p.1, p.2) (table_told Operation (table_view c.args.table.now) 2 _ refl _ _ (c.in_err-chart.ensures.told))
+    rw (p.1, p.2) (table_told Operation (table_view c.args.table.now) 1 _ refl refl _ _ (c.in_err-chart.ensures.told))
 
 pub returns-in_err-reserves-clause-refused : goal.returns-in_err-reserves-clause-refused
 returns-in_err-reserves-clause-refused c =
@@ -40,4 +40,4 @@ returns-in_err-reserves-clause-refused c =
 pub returns-in_err-reserves-clause-told : goal.returns-in_err-reserves-clause-told
 returns-in_err-reserves-clause-told c =
     let p = err_from_is_err_and c.from_residual-in_err-reserves.result c.from_residual-in_err-reserves.ensures.1 in
-    rw (p.1, p.2) (table_told Operation (table_view c.args.table.now) 3 _ refl _ _ (few_told (codes "reserves") (table_view c.args.table.now) MAX_RESERVES _ _ c.in_err-reserves.ensures.refused c.in_err-reserves.ensures.told))
+    rw (p.1, p.2) (table_told Operation (table_view c.args.table.now) 3 _ refl refl _ _ (few_told (codes "reserves") (table_view c.args.table.now) MAX_RESERVES _ _ c.in_err-reserves.ensures.refused c.in_err-reserves.ensures.told))

@@ -19,9 +19,9 @@ returns-in_err-chart-clause-refused c =
 pub returns-in_err-needs-clause-told : goal.returns-in_err-needs-clause-told
 returns-in_err-needs-clause-told c =
     let p = err_from_is_err_and c.from_residual.result c.from_residual.ensures.1 in
-    rw (p.1, p.2) (table_told Procedure (table_view c.args.table.now) 0 _ refl _ _ (c.in_err-needs.ensures.told))
+    rw (p.1, p.2) (table_told Procedure (table_view c.args.table.now) 1 _ refl refl _ _ (c.in_err-needs.ensures.told))
 
 pub returns-in_err-chart-clause-told : goal.returns-in_err-chart-clause-told
 returns-in_err-chart-clause-told c =
     let p = err_from_is_err_and c.from_residual-in_err-chart.result c.from_residual-in_err-chart.ensures.1 in
-    rw (p.1, p.2) (table_told Procedure (table_view c.args.table.now) 1 _ refl _ _ (c.in_err-chart.ensures.told))
+    rw (p.1, p.2) (table_told Procedure (table_view c.args.table.now) 0 _ refl refl _ _ (c.in_err-chart.ensures.told))

@@ -1,12 +1,8 @@
 use Rattle.std.proofs.lemmas.Result.{err_from_is_err_and}
-use Rattle.std.proofs.Common.{◌≡◌, false, codes, refl, rules}
-use Rattle.toml.specs.Data.{get_member}
+use Rattle.std.proofs.Common.{codes, refl}
 use Rattle.batch_recipe.specs.declared.act.TheConstants.{MAX_RESERVES}
 use Rattle.toml.specs.View.{table_view}
 use Rattle.batch_reader.proofs.EntryFaults.{few_told, label_told, table_told}
-use Rattle.batch_reader.proofs.UnitChoices.{choice_refused, keys_refused, keys_with}
-use Rattle.batch_reader.specs.Entries.{has_only_keys}
-use Rattle.batch_reader.specs.Keys.{unit_key}
 use Rattle.batch_reader.specs.declared.fault.TableKind.TheVariants.{UnitProcedure}
 use Rattle.batch_reader.proofs.act_tables.unit_procedure.Goals as goal
 
@@ -18,33 +14,27 @@ returns-in_err-needs-clause-refused c =
 pub returns-in_err-name-clause-told : goal.returns-in_err-name-clause-told
 returns-in_err-name-clause-told c =
     let p = err_from_is_err_and c.from_residual.result c.from_residual.ensures.1 in
-    rw (p.1, p.2) (table_told UnitProcedure (table_view c.args.table.now) 0 _ refl _ _ (label_told (codes "name") (table_view c.args.table.now) _ _ c.in_err-name.ensures.refused c.in_err-name.ensures.told))
-
-pub returns-then-not-has_unit_procedure_keys-clause-refused : goal.returns-then-not-has_unit_procedure_keys-clause-refused
-returns-then-not-has_unit_procedure_keys-clause-refused c =
-    let ms = table_view c.args.table.now in
-    let unknown : has_only_keys (keys_with (unit_key (get_member (codes "role") ms))) ms ≡ false = search rules in
-    λ known. keys_refused ms unknown
+    rw (p.1, p.2) (table_told UnitProcedure (table_view c.args.table.now) 0 _ refl refl _ _ (label_told (codes "name") (table_view c.args.table.now) _ _ c.in_err-name.ensures.refused c.in_err-name.ensures.told))
 
 pub returns-in_err-choice-clause-refused : goal.returns-in_err-choice-clause-refused
 returns-in_err-choice-clause-refused c =
     let p = err_from_is_err_and c.from_residual-in_err-choice.result c.from_residual-in_err-choice.ensures.1 in
-    rw (p.1, p.2) (λ known. choice_refused (table_view c.args.table.now) (c.in_err-choice.ensures.refused known))
+    rw (p.1, p.2) c.in_err-choice.ensures.refused
 
 pub returns-in_err-choice-clause-told : goal.returns-in_err-choice-clause-told
 returns-in_err-choice-clause-told c =
     let p = err_from_is_err_and c.from_residual-in_err-choice.result c.from_residual-in_err-choice.ensures.1 in
-    rw (p.1, p.2) (table_told UnitProcedure (table_view c.args.table.now) 1 _ refl _ _ c.in_err-choice.ensures.told)
+    rw (p.1, p.2) c.in_err-choice.ensures.told
 
 pub returns-in_err-needs-clause-told : goal.returns-in_err-needs-clause-told
 returns-in_err-needs-clause-told c =
     let p = err_from_is_err_and c.from_residual-in_err-needs.result c.from_residual-in_err-needs.ensures.1 in
-    rw (p.1, p.2) (table_told UnitProcedure (table_view c.args.table.now) 2 _ refl _ _ (c.in_err-needs.ensures.told))
+    rw (p.1, p.2) (table_told UnitProcedure (table_view c.args.table.now) 4 _ refl refl _ _ (c.in_err-needs.ensures.told))
 
 pub returns-in_err-chart-clause-told : goal.returns-in_err-chart-clause-told
 returns-in_err-chart-clause-told c =
     let p = err_from_is_err_and c.from_residual-in_err-chart.result c.from_residual-in_err-chart.ensures.1 in
-    rw (p.1, p.2) (table_told UnitProcedure (table_view c.args.table.now) 3 _ refl _ _ (c.in_err-chart.ensures.told))
+    rw (p.1, p.2) (table_told UnitProcedure (table_view c.args.table.now) 3 _ refl refl _ _ (c.in_err-chart.ensures.told))
 
 pub returns-in_err-reserves-clause-refused : goal.returns-in_err-reserves-clause-refused
 returns-in_err-reserves-clause-refused c =
@@ -54,4 +44,4 @@ returns-in_err-reserves-clause-refused c =
 pub returns-in_err-reserves-clause-told : goal.returns-in_err-reserves-clause-told
 returns-in_err-reserves-clause-told c =
     let p = err_from_is_err_and c.from_residual-in_err-reserves.result c.from_residual-in_err-reserves.ensures.1 in
-    rw (p.1, p.2) (table_told UnitProcedure (table_view c.args.table.now) 4 _ refl _ _ (few_told (codes "reserves") (table_view c.args.table.now) MAX_RESERVES _ _ c.in_err-reserves.ensures.refused c.in_err-reserves.ensures.told))
+    rw (p.1, p.2) (table_told UnitProcedure (table_view c.args.table.now) 5 _ refl refl _ _ (few_told (codes "reserves") (table_view c.args.table.now) MAX_RESERVES _ _ c.in_err-reserves.ensures.refused c.in_err-reserves.ensures.told))

@@ -34,7 +34,7 @@ returns-in_err-check_equipment-clause-refused c =
 pub returns-in_err-name-clause-stands : goal.returns-in_err-name-clause-stands
 returns-in_err-name-clause-stands c =
     let p = err_from_is_err_and c.from_residual.result c.from_residual.ensures.1 in
-    rw (p.1, p.2) (at_told _ _ (IsWrongAt _) (λ wrong h. inl (refl, h)) _ (table_told Cell (table_view c.args.table.now) 0 _ refl _ _ (name_told (codes "cell") (table_view c.args.table.now) _ _ c.in_err-name.ensures.refused c.in_err-name.ensures.told)))
+    rw (p.1, p.2) (at_told _ _ (IsWrongAt _) (λ wrong h. inl (refl, h)) _ (table_told Cell (table_view c.args.table.now) 0 _ refl refl _ _ (name_told (codes "cell") (table_view c.args.table.now) _ _ c.in_err-name.ensures.refused c.in_err-name.ensures.told)))
 
 pub returns-in_err-units-clause-told : goal.returns-in_err-units-clause-told
 returns-in_err-units-clause-told c =

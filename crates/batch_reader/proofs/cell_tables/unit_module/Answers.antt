@@ -2,9 +2,9 @@ use Rattle.std.proofs.Common.{◌≡◌, ◌<◌, length, arith, rules, codes, r
 use Rattle.std.proofs.lemmas.Result.{err_from_is_err_and}
 use Rattle.batch_cell.specs.declared.module.TheConstants.{MAX_PHASES}
 use Rattle.toml.specs.View.{table_view}
-use Rattle.toml.specs.Data.{get_member}
 use Rattle.batch_reader.proofs.OneCell.{refused_phases, refused_phase_count}
-use Rattle.batch_reader.proofs.EntryFaults.{count_fault, name_told, names_told, table_fault_by, table_told_by, unit_module_keys}
+use Rattle.batch_reader.proofs.EntryFaults.{count_fault, name_told, names_told, optional_fault, table_fault, table_told}
+use Rattle.batch_reader.proofs.NeedFaults.{tells_at}
 use Rattle.batch_reader.specs.declared.fault.TableKind.TheVariants.{Module}
 use Rattle.batch_reader.proofs.cell_tables.unit_module.Goals as goal
 use Rattle.batch_reader.proofs.cell_tables.unit_module.Goals.{then-is_empty-via-then-is_empty, then-is_empty-via-else-is_empty+then-len-gt-MAX_PHASES}
@@ -24,22 +24,23 @@ returns-then-is_empty-clause-refused c = λ _. refused_phase_count _ _ c.require
 pub returns-in_err-name-clause-told : goal.returns-in_err-name-clause-told
 returns-in_err-name-clause-told c =
     let p = err_from_is_err_and c.from_residual.result c.from_residual.ensures.1 in
-    rw (p.1, p.2) (table_told_by Module (table_view c.args.table.now) _ 0 _ (unit_module_keys (get_member (codes "unit") (table_view c.args.table.now)) c.requires) refl _ _ (name_told (codes "name") (table_view c.args.table.now) _ _ c.in_err-name.ensures.refused c.in_err-name.ensures.told))
+    rw (p.1, p.2) (table_told Module (table_view c.args.table.now) 0 _ refl refl _ _ (name_told (codes "name") (table_view c.args.table.now) _ _ c.in_err-name.ensures.refused c.in_err-name.ensures.told))
 
 pub returns-in_err-unit-clause-told : goal.returns-in_err-unit-clause-told
 returns-in_err-unit-clause-told c =
     let p = err_from_is_err_and c.from_residual-in_err-unit.result c.from_residual-in_err-unit.ensures.1 in
-    rw (p.1, p.2) (table_told_by Module (table_view c.args.table.now) _ 1 _ (unit_module_keys (get_member (codes "unit") (table_view c.args.table.now)) c.requires) refl _ _ (name_told (codes "unit") (table_view c.args.table.now) _ _ c.in_err-unit.ensures.refused c.in_err-unit.ensures.told))
+    rw (p.1, p.2) (table_told Module (table_view c.args.table.now) 1 _ refl refl _ _ (tells_at _ _ (optional_fault (codes "unit") (table_view c.args.table.now) c.requires) _ _
+    (name_told (codes "unit") (table_view c.args.table.now) _ _ c.in_err-unit.ensures.refused c.in_err-unit.ensures.told)))
 
 pub returns-in_err-phases-clause-told : goal.returns-in_err-phases-clause-told
 returns-in_err-phases-clause-told c =
     let p = err_from_is_err_and c.from_residual-in_err-phases.result c.from_residual-in_err-phases.ensures.1 in
-    rw (p.1, p.2) (table_told_by Module (table_view c.args.table.now) _ 2 _ (unit_module_keys (get_member (codes "unit") (table_view c.args.table.now)) c.requires) refl _ _ (names_told (codes "phases") (table_view c.args.table.now) 1 MAX_PHASES _ _ c.in_err-phases.ensures.refused c.in_err-phases.ensures.told))
+    rw (p.1, p.2) (table_told Module (table_view c.args.table.now) 2 _ refl c.requires _ _ (names_told (codes "phases") (table_view c.args.table.now) 1 MAX_PHASES _ _ c.in_err-phases.ensures.refused c.in_err-phases.ensures.told))
 
 pub returns-then-is_empty-clause-told : goal.returns-then-is_empty-clause-told
 returns-then-is_empty-clause-told c = (
   refl,
-  table_fault_by Module (table_view c.args.table.now) _ 2 _ (unit_module_keys (get_member (codes "unit") (table_view c.args.table.now)) c.requires) refl _ (count_fault (codes "phases") (table_view c.args.table.now) 1 MAX_PHASES c.in_ok-phases.phases.items c.in_ok-phases.ensures.ok (λ some few.
+  table_fault Module (table_view c.args.table.now) 2 _ refl c.requires _ (count_fault (codes "phases") (table_view c.args.table.now) 1 MAX_PHASES c.in_ok-phases.phases.items c.in_ok-phases.ensures.ok (λ some few.
       elim c.then-is_empty.branch [
         | then-is_empty-via-then-is_empty w ↦ (let none : length c.in_ok-phases.phases.items ≡ 0 = search rules in omega (arith, some))
         | then-is_empty-via-else-is_empty+then-len-gt-MAX_PHASES w ↦ (let many : MAX_PHASES < length c.in_ok-phases.phases.items = search rules in omega (arith, few))

@@ -8,7 +8,8 @@ use Rattle.batch_grammar.specs.ChartGrammar.{here, no_offsets, whole, skip as re
 use Rattle.batch_recipe.specs.Diagram.{skip}
 use Rattle.batch_recipe.specs.WellFormed.{are_distinct, is_among, reserves_among, reserves_once}
 use Rattle.batch_recipe.specs.declared.act.Act.{Act}
-use Rattle.batch_reader.specs.Keys.{needed, a_name}
+use Rattle.batch_reader.specs.Keys.{is_known, needed}
+use Rattle.batch_reader.specs.declared.keys.ValueForm.TheVariants as form
 use Rattle.batch_reader.specs.RowsOfFaults.{on_unit, for_role, with_keys}
 use Rattle.batch_reader.proofs.laws.worked_faults.Goals as goal
 
@@ -18,34 +19,38 @@ unit_is_missing m unit all = grind arith
 
 pub returns-clause-missing : goal.returns-clause-missing
 returns-clause-missing c =
-    record { here = table no_members; found = refl; fault = inr (record { place = 0; key = needed (codes "name") a_name; listed = refl; fault = (refl, refl) }); before = λ n d below. absurd (omega arith) }
+    record { here = table no_members; found = refl; fault = inr (record { place = 0; key = needed (codes "name") form.Name; listed = refl; stands = refl; fault = (refl, refl) }); before = λ n d below. absurd (omega arith) }
 
 pub returns-clause-no_second : goal.returns-clause-no_second
 returns-clause-no_second c = λ h. cc h.found
 
 pub returns-clause-known : goal.returns-clause-known
+unfolding is_known
 returns-clause-known c = λ h.
     let same : table no_members ≡ h.here = cc h.found in
     let fault = rw (← same) at h.fault in
-    elim fault [ inl u ↦ cc u.unknown | inr k ↦ k.fault ]
+    elim fault [ inl u ↦ cc u.1 | inr k ↦ k.fault ]
 
 pub returns-clause-beside_role : goal.returns-clause-beside_role
+unfolding is_known
 returns-clause-beside_role c =
-    record { here = table (with_keys (λ rest. on_unit (for_role rest))); found = refl; fault = inl (record { unknown = refl; told = refl }); before = λ n d below. absurd (omega arith) }
+    record { here = table (with_keys (λ rest. on_unit (for_role rest))); found = refl; fault = inl (refl, refl); before = λ n d below. absurd (omega arith) }
 
 pub returns-clause-role_alone : goal.returns-clause-role_alone
+unfolding is_known
 returns-clause-role_alone c = λ h.
     let same : table (with_keys for_role) ≡ h.here = cc h.found in
     let fault = rw (← same) at h.fault in
-    elim fault [ inl u ↦ cc u.unknown | inr k ↦ k.fault ]
+    elim fault [ inl u ↦ cc u.1 | inr k ↦ k.fault ]
 
 pub returns-clause-neither : goal.returns-clause-neither
+unfolding is_known
 returns-clause-neither c = (
-  record { here = table (with_keys (λ rest. rest)); found = refl; fault = inr (record { place = 1; key = needed (codes "unit") a_name; listed = refl; fault = (refl, refl) }); before = λ n d below. absurd (omega arith) },
+  record { here = table (with_keys (λ rest. rest)); found = refl; fault = inr (record { place = 1; key = needed (codes "unit") form.Name; listed = refl; stands = refl; fault = (refl, refl) }); before = λ n d below. absurd (omega arith) },
   λ h.
       let same : table (with_keys (λ rest. rest)) ≡ h.here = cc h.found in
       let fault = rw (← same) at h.fault in
-      elim fault [ inl u ↦ cc u.unknown | inr k ↦ k.fault ],
+      elim fault [ inl u ↦ cc u.1 | inr k ↦ k.fault ],
 )
 
 pub returns-clause-first_byte : goal.returns-clause-first_byte

@@ -2,6 +2,7 @@ use Rattle.std.proofs.Common.{refl}
 use Rattle.std.proofs.lemmas.Result.{err_from_is_err_and}
 use Rattle.batch_reader.proofs.ArrayFaults.{in_among, in_told}
 use Rattle.batch_reader.specs.Faults.{is_of_recipe}
+use Rattle.batch_reader.specs.Keys.{is_known}
 use Rattle.batch_reader.specs.TableFaults.{IsFaultOfTable}
 use Rattle.batch_reader.specs.declared.fault.TableKind.TheVariants.{Input, Parameter, Output}
 use Rattle.toml.specs.View.{table_view}
@@ -33,6 +34,7 @@ returns-in_err-parameters-clause-told c =
     rw (p.1, p.2) (in_among is_of_recipe Parameter _ refl _ c.in_err-parameters.ensures.told)
 
 pub returns-in_err-parameters-clause-stands : goal.returns-in_err-parameters-clause-stands
+unfolding is_known
 returns-in_err-parameters-clause-stands c =
     let p = err_from_is_err_and c.from_residual-in_err-parameters.result c.from_residual-in_err-parameters.ensures.1 in
     rw (p.1, p.2) (in_told Parameter _ (λ spot. IsFaultOfTable (table_view c.args.table.now) spot.kind spot.entry) (λ entry wrong h. h) _ c.in_err-parameters.ensures.told)

@@ -2,7 +2,7 @@ use Rattle.std.proofs.Common.{rules, ◌∙◌, nat_eq}
 use Rattle.std.proofs.lemmas.Iterator.{YieldsList-from_slice}
 use Rattle.std.proofs.lemmas.Iterator.Search.{any_from_yields_List}
 use Rattle.std.specs.Cmp.Lexicographic.{pointwise}
-use Rattle.batch_reader.proofs.Keys.{list_any-map}
+use Rattle.batch_reader.proofs.KnownKeys.{list_any-map}
 use Rattle.batch_reader.proofs.resources.is_unit.Goals as goal
 
 pub returns : goal.returns

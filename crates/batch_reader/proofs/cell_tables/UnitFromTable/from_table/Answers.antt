@@ -8,7 +8,7 @@ use Rattle.batch_reader.proofs.cell_tables.UnitFromTable.from_table.Goals as goa
 pub returns-in_err-name-clause-told : goal.returns-in_err-name-clause-told
 returns-in_err-name-clause-told c =
     let p = err_from_is_err_and c.from_residual.result c.from_residual.ensures.1 in
-    rw (p.1, p.2) (table_told Unit (table_view c.args.table.now) 0 _ refl _ _ (name_told (codes "name") (table_view c.args.table.now) _ _ c.in_err-name.ensures.refused c.in_err-name.ensures.told))
+    rw (p.1, p.2) (table_told Unit (table_view c.args.table.now) 0 _ refl refl _ _ (name_told (codes "name") (table_view c.args.table.now) _ _ c.in_err-name.ensures.refused c.in_err-name.ensures.told))
 
 pub returns-in_err-class-clause-refused : goal.returns-in_err-class-clause-refused
 returns-in_err-class-clause-refused c =
@@ -18,4 +18,4 @@ returns-in_err-class-clause-refused c =
 pub returns-in_err-class-clause-told : goal.returns-in_err-class-clause-told
 returns-in_err-class-clause-told c =
     let p = err_from_is_err_and c.from_residual-in_err-class.result c.from_residual-in_err-class.ensures.1 in
-    rw (p.1, p.2) (table_told Unit (table_view c.args.table.now) 1 _ refl _ _ (optional_name_told (codes "class") (table_view c.args.table.now) _ _ c.in_err-class.ensures.refused c.in_err-class.ensures.told))
+    rw (p.1, p.2) (table_told Unit (table_view c.args.table.now) 1 _ refl refl _ _ (optional_name_told (codes "class") (table_view c.args.table.now) _ _ c.in_err-class.ensures.refused c.in_err-class.ensures.told))
