@@ -1,8 +1,8 @@
 -- The asks of acts by number are those by name.
-use Rattle.std.proofs.Common.{◌≡◌, ℕ, ◌<◌, List, [], ◌∷◌, length, map, slice_get, position, Bool, true, false, ◌&&◌, nat_lt, if◌then◌else◌, Option, Some, None, option_map, Result, Ok, Err, refl, sym, ap, ◌∙◌, subst, arith, lt-ltb}
+use Rattle.std.proofs.Common.{◌≡◌, ℕ, ◌<◌, List, [], ◌∷◌, length, map, position, Bool, true, false, ◌&&◌, nat_lt, if◌then◌else◌, Option, Some, None, option_map, Result, refl, sym, ap, ◌∙◌, subst, arith, lt-ltb}
 use Rattle.std.specs.Prelude.{MatchResult}
-use Rattle.std.specs.List.{list_all, list_any}
-use Rattle.std.proofs.lemmas.Bool.{ltb-true, ltb-false, or_parts}
+use Rattle.std.specs.List.{list_all}
+use Rattle.std.proofs.lemmas.Bool.{ltb-true, ltb-false}
 use Rattle.std.proofs.lemmas.List.{length-map}
 use Rattle.std.proofs.lemmas.List.Folds.{list_all-map}
 use Rattle.std.proofs.lemmas.Option.{get_or_from_slice_get, slice_get-map}
@@ -16,7 +16,6 @@ use Rattle.batch_recipe.specs.Needs as needs
 use Rattle.batch_recipe.specs.Procedure.{sites}
 use Rattle.batch_recipe.specs.declared.act.Act.{Act}
 use Rattle.batch_recipe.specs.declared.act.UnitChoice.{UnitChoice}
-use Rattle.batch_recipe.specs.declared.entry.Entry.{Entry}
 use Rattle.batch_recipe.specs.declared.need.Need.{Need}
 use Rattle.batch_recipe.specs.declared.recipe.Recipe as document
 use Rattle.batch_recipe.specs.declared.role.Role as declared
@@ -29,16 +28,15 @@ use Rattle.batch_set.specs.declared.linked.LinkedRecipe.{LinkedRecipe}
 use Rattle.batch_set.specs.declared.linked.Source.{Source}
 use Rattle.batch_set.specs.declared.linked.Source.TheVariants.{Resource, Role, Unknown}
 use Rattle.batch_set.proofs.Sources.{needs-said}
-use Rattle.batch_verify.specs.Asking.{Ask, SaysAsks, among_first, ask_by, ask_of, asks_by, asks_of, climb, come_to, first_along, is_above, is_fitting, is_found, is_role, judged_at, number_by, rank_by, ranks_along, ranks_asked, takers_of, unit_by}
+use Rattle.batch_verify.specs.Asking.{Ask, IsRise, SaysAsks, among_first, ask_by, ask_of, asks_by, asks_of, is_fitting, is_found, number_by, ranks_along, ranks_asked, takers_of, unit_by}
 use Rattle.batch_verify.specs.Refusals.{rank_in, ranking_in}
-use Rattle.batch_verify.specs.Walking.{IsAbove, Rises, RisesFrom, is_of_resource, is_within_capacity, known_unit, last_from, last_rank, unit_under}
-use Rattle.batch_verify.specs.declared.asks.Asks.{Asks}
+use Rattle.batch_verify.specs.Walking.{RisesFrom, is_of_resource, is_within_capacity, known_unit, last_from, unit_under}
 use Rattle.batch_verify.specs.declared.rule.Rule.{Rule}
 use Rattle.batch_verify.specs.declared.rule.Rule.TheVariants.{RankNotRising}
 use Rattle.batch_verify.proofs.Finding.{found_below, found_is_among}
 use Rattle.batch_verify.proofs.ResourceNumbers.{number-at}
 
-among_first-all : (count : ℕ) (o : Option ℕ) → ((k : ℕ) → o ≡ Some k → k < count) → among_first count o ≡ o
+pub among_first-all : (count : ℕ) (o : Option ℕ) → ((k : ℕ) → o ≡ Some k → k < count) → among_first count o ≡ o
 among_first-all count None h = refl
 among_first-all count (Some k) h = ap (λ b. let o : Option ℕ = if b then Some k else None in o) (lt-ltb k count (h k refl))
 
@@ -86,64 +84,6 @@ unit-number c p = go (position p (resources_of c)) refl
         by true lt = sym (resource_is_unit p c.units.items c.modules.items c.shared.items k e (omega (arith, few, ltb-true k (length (units_of c)) lt)))
         by false le = sym (resource_is_no_unit p c.units.items c.modules.items c.shared.items k e (omega (arith, few, ltb-false k (length (units_of c)) le)))
 
--- Ranks that rise
-
--- the ranks rise from above the last one to the one that is given, or don't
-abbrev pub IsRise : Option ℕ → List ℕ → Result (Option ℕ) Rule → Type 0
-IsRise last ranks r =
-    MatchResult r (λ next. Rises last ranks × (next ≡ last_rank last ranks)) (λ rule. (rule ≡ RankNotRising) × (Rises last ranks → ⊥))
-
-above : (last : Option ℕ) (n : ℕ) → is_above last n ≡ true → IsAbove last n
-above None n h = tt
-above (Some m) n h = ltb-true m n h
-
-not_above : (last : Option ℕ) (n : ℕ) → is_above last n ≡ false → IsAbove last n → ⊥
-not_above last n h a = grind (arith, ltb-false)
-
-after_first : (last : Option ℕ) (rank : ℕ) (ranks : List ℕ) (r : Result (Option ℕ) Rule) → IsAbove last rank → IsRise (Some rank) ranks r → IsRise last (rank ∷ ranks) r
-after_first last rank ranks (Ok next) a h = ((a, h.0), h.1)
-after_first last rank ranks (Err rule) a h = (h.0, (λ rises. h.1 rises.1))
-
-refused : (last : Option ℕ) (rank : ℕ) (ranks : List ℕ) (r : Result (Option ℕ) Rule) → (IsAbove last rank → ⊥) → IsRise last (rank ∷ ranks) r → r ≡ Err RankNotRising
-refused last rank ranks r below h = grind arith
-
--- what rises so is the climb
-pub climb_is : (last : Option ℕ) (ranks : List ℕ) (r : Result (Option ℕ) Rule) → IsRise last ranks r → r ≡ climb last ranks
-climb_is last [] (Ok next) h = ap Ok h.1
-climb_is last [] (Err rule) h = absurd (h.1 tt)
-climb_is last (rank ∷ ranks) r h = grind (arith, climb_is (Some rank) ranks r, above, refused)
-
-climb_rises : (last : Option ℕ) (ranks : List ℕ) → IsRise last ranks (climb last ranks)
-climb_rises last [] = (tt, refl)
-climb_rises last (rank ∷ ranks) = by (climb_rises (Some rank) ranks) (is_above last rank) refl
-  where
-    by : IsRise (Some rank) ranks (climb (Some rank) ranks) → (t : Bool) → is_above last rank ≡ t → IsRise last (rank ∷ ranks) (if t then climb (Some rank) ranks else Err RankNotRising)
-    by others true e = after_first last rank ranks (climb (Some rank) ranks) (above last rank e) others
-    by others false e = (refl, (λ rises. not_above last rank e rises.0))
-
--- without a first one the path stays
-pub none_after : (last : Option ℕ) (ranks : Option (List ℕ)) (asks : List Ask) → None ≡ first_along ranks asks → IsRise last (ranks_along ranks asks) (Ok last)
-none_after last None asks none = (tt, refl)
-none_after last (Some ranks) [] none = (tt, refl)
-none_after last (Some ranks) (ask ∷ asks) none = absurd cc
-
--- the first isn't above that of the path
-pub first_refused : (last : Option ℕ) (ranks : Option (List ℕ)) (asks : List Ask) (first : ℕ) → Some first ≡ first_along ranks asks → (IsAbove last first → ⊥) → Rises last (ranks_along ranks asks) → ⊥
-first_refused last None asks first some below rises = absurd cc
-first_refused last (Some ranks) [] first some below rises = absurd cc
-first_refused last (Some ranks) (ask ∷ asks) first some below rises = (let same : first ≡ rank_by ranks ask.0 = cc in below (subst (IsAbove last) (sym same) rises.0))
-
--- it is above it
-pub first_after : (last : Option ℕ) (ranks : Option (List ℕ)) (asks : List Ask) (first : ℕ) (r : Result (Option ℕ) Rule) → Some first ≡ first_along ranks asks → IsAbove last first
-    → r ≡ climb None (ranks_along ranks asks) → IsRise last (ranks_along ranks asks) r
-first_after last None asks first r some a is = absurd cc
-first_after last (Some ranks) [] first r some a is = absurd cc
-first_after last (Some ranks) (ask ∷ asks) first r some a is =
-    let same : first ≡ rank_by ranks ask.0 = cc in
-    let rest : List ℕ = ranks_asked ranks asks in
-    subst (λ (r : Result (Option ℕ) Rule). IsRise last (rank_by ranks ask.0 ∷ rest) r) (sym is)
-    (after_first last (rank_by ranks ask.0) rest (climb (Some (rank_by ranks ask.0)) rest) (subst (IsAbove last) same a) (climb_rises (Some (rank_by ranks ask.0)) rest))
-
 -- The asks by name
 
 module _ (c : equipment.Cell) (takers : List (Option ℕ)) (links : List LinkedNeed) (s : Sites) (a : Act) (e : asks_by c takers links ≡ asks_of c (needs_with s a)) where
@@ -174,28 +114,3 @@ module _ (c : equipment.Cell) (takers : List (Option ℕ)) (links : List LinkedN
       named : (own : List Need) → ranks_asked ranks (asks_of c own) ≡ map (rank_in c ranks) (needs.resources_of own)
       named [] = refl
       named (need ∷ own) = ap (λ rs. rank_in c ranks need.resource ∷ rs) (named own)
-
--- Needs among which there is no role
-
-module _ (c : equipment.Cell) (takers : List (Option ℕ)) where
-  same-number : (source : Source) → elim source [ Resource number ↦ false | Role role ↦ true | Unknown ↦ false ] ≡ false → number_by [] source ≡ number_by takers source
-  same-number (Resource number) h = refl
-  same-number (Role role) h = let bad : true ≡ false = h in absurd cc
-  same-number Unknown h = refl
-
-  same-asks : (links : List LinkedNeed) → list_any is_role links ≡ false → asks_by c [] links ≡ asks_by c takers links
-  same-asks [] h = refl
-  same-asks (link ∷ links) h =
-      let parts = or_parts (is_role link) (list_any is_role links) h in
-      ap (λ (o : Option ℕ). let asks : List Ask = (among_first (length (resources_of c)) o, link.units) ∷ asks_by c [] links in asks) (same-number link.source parts.0)
-      ∙ ap (λ (asks : List Ask). ask_by c takers link ∷ asks) (same-asks links parts.1)
-
-  judged-from : (ranks : Option (List ℕ)) (links : List LinkedNeed) (asks : Asks) (b : Bool) → list_any is_role links ≡ b
-      → ◌≡◌ {A = Option Asks} (if b then None else Some (come_to c ranks (asks_by c [] links))) (Some asks) → asks ≡ come_to c ranks (asks_by c takers links)
-  judged-from ranks links asks true h f = absurd cc
-  judged-from ranks links asks false h f = (let same : asks ≡ come_to c ranks (asks_by c [] links) = cc in same) ∙ ap (come_to c ranks) (same-asks links h)
-
-  -- they come to the same whatever units take the roles
-  pub judged-is : (ranks : Option (List ℕ)) (linked : LinkedRecipe) (entry : Entry) (asks : Asks) → judged_at c ranks linked entry ≡ Some asks
-      → asks ≡ come_to c ranks (asks_by c takers (needs_by linked entry.kind))
-  judged-is ranks linked entry asks is = judged-from ranks (needs_by linked entry.kind) asks (list_any is_role (needs_by linked entry.kind)) refl is

@@ -37,6 +37,9 @@ pub mod Bound
 pub mod Serving
 pub mod Extremes
 pub mod Trials
+pub mod Spans
+pub mod Clears
+pub mod Between
 pub mod Taking
 pub mod RunningAt
 pub mod RunningBranches

@@ -168,6 +168,11 @@ module _ (c : equipment.Cell) where
           go rest (λ other m. h other (inr m)),
         )
 
+    -- whether the tree names the role or not
+    pub numbered-gives : (number : ℕ) (role : Role) → Has roles role → IsTriedFor setup (units_of_class c role.class) (numbered c roles number role.name)
+    numbered-gives number role m =
+        subst (λ found. IsTriedFor setup (units_of_class c role.class) (who found number)) (sym (own_role roles differ role m)) (numbered_for setup (units_of_class c role.class) number)
+
     pub numbered-tried : (number : ℕ) → IsTried setup (master_of c recipe) (numbered c roles number)
     numbered-tried number = taken-tried (λ name. number)
 

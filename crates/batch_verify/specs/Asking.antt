@@ -1,6 +1,6 @@
--- private: the needs of acts by number, and the judgement of them.
-use Rattle.std.specs.Prelude.{◌≡◌, ℕ, List, [], ◌∷◌, length, map, Bool, true, false, ltb, nat_le, nat_lt, if◌then◌else◌, Option, Some, None, Result, Ok, Err, position}
-use Rattle.std.specs.List.{list_all, list_any, slice_index_or}
+-- private: the needs of acts by number.
+use Rattle.std.specs.Prelude.{◌≡◌, ℕ, List, [], ◌∷◌, length, map, Bool, nat_le, nat_lt, if◌then◌else◌, Option, Some, None, Result, Ok, Err, position, MatchResult}
+use Rattle.std.specs.List.{slice_index_or}
 use Rattle.std.specs.Option.{is_some}
 use Rattle.batch_cell.specs.LookUps.{capacities_of, resources_of, units_of}
 use Rattle.batch_cell.specs.declared.cell.Cell as equipment
@@ -10,7 +10,6 @@ use Rattle.batch_recipe.specs.Outlines.{act_of}
 use Rattle.batch_recipe.specs.Procedure.{sites}
 use Rattle.batch_recipe.specs.declared.act.Act.{Act}
 use Rattle.batch_recipe.specs.declared.act.UnitChoice.{UnitChoice}
-use Rattle.batch_recipe.specs.declared.entry.Entry.{Entry}
 use Rattle.batch_recipe.specs.declared.entry.Kind.{Kind}
 use Rattle.batch_recipe.specs.declared.need.Need.{Need}
 use Rattle.batch_recipe.specs.declared.recipe.Recipe as document
@@ -20,8 +19,7 @@ use Rattle.batch_set.specs.declared.linked.LinkedNeed.{LinkedNeed}
 use Rattle.batch_set.specs.declared.linked.LinkedRecipe.{LinkedRecipe}
 use Rattle.batch_set.specs.declared.linked.Source.{Source}
 use Rattle.batch_set.specs.declared.linked.Source.TheVariants.{Resource, Role, Unknown}
-use Rattle.batch_verify.specs.Walking.{known_unit}
-use Rattle.batch_verify.specs.declared.asks.Asks.{Asks}
+use Rattle.batch_verify.specs.Walking.{Rises, known_unit, last_rank}
 use Rattle.batch_verify.specs.declared.rule.Rule.{Rule}
 use Rattle.batch_verify.specs.declared.rule.Rule.TheVariants.{RankNotRising, UnknownResource}
 use Rattle.batch_verify.specs.declared.site.Site as site
@@ -74,37 +72,10 @@ abbrev pub ranks_along : Option (List ℕ) → List Ask → List ℕ
 ranks_along None asks = []
 ranks_along (Some ranks) asks = ranks_asked ranks asks
 
--- the first of them
-abbrev pub first_along : Option (List ℕ) → List Ask → Option ℕ
-first_along None asks = None
-first_along (Some ranks) [] = None
-first_along (Some ranks) (ask ∷ asks) = Some (rank_by ranks ask.0)
-
-abbrev pub is_above : Option ℕ → ℕ → Bool
-is_above None rank = true
-is_above (Some last) rank = ltb last rank
-
--- the last of ranks that rise from above the one before them
-abbrev pub climb : Option ℕ → List ℕ → Result (Option ℕ) Rule
-climb last [] = Ok last
-climb last (rank ∷ ranks) = if is_above last rank then climb (Some rank) ranks else Err RankNotRising
-
--- the judgement of needs, whatever the path to them
-abbrev pub come_to : equipment.Cell → Option (List ℕ) → List Ask → Asks
-come_to c ranks asks = record {
-  are_resources = list_all is_found asks;
-  are_within_capacity = list_all (is_fitting c) asks;
-  first = first_along ranks asks;
-  last = climb None (ranks_along ranks asks);
-}
-
-abbrev pub is_role : LinkedNeed → Bool
-is_role need = elim need.source [ Resource number ↦ false | Role role ↦ true | Unknown ↦ false ]
-
--- the judgement of the needs at a node, whatever units take the roles; none where a role is among them
-abbrev pub judged_at : equipment.Cell → Option (List ℕ) → LinkedRecipe → Entry → Option Asks
-judged_at c ranks linked entry =
-    if list_any is_role (needs_by linked entry.kind) then None else Some (come_to c ranks (asks_by c [] (needs_by linked entry.kind)))
+-- the ranks rise from above the last one to the one that is given, or don't
+abbrev pub IsRise : Option ℕ → List ℕ → Result (Option ℕ) Rule → Type 0
+IsRise last ranks r =
+    MatchResult r (λ next. Rises last ranks × (next ≡ last_rank last ranks)) (λ rule. (rule ≡ RankNotRising) × ¬ (Rises last ranks))
 
 -- the number of an act's own unit, the first that it asks for
 abbrev pub own_unit : equipment.Cell → List Ask → Result (Option ℕ) Rule

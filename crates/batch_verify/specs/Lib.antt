@@ -11,6 +11,7 @@ pub mod Offers
 pub mod Ranked
 pub mod Refusals
 pub mod RunningNodes
+pub mod Spans
 pub mod Trials
 pub mod Verifying
 pub mod Walking

@@ -1,5 +1,5 @@
--- private: units that are known to offer what phase steps run.
-use Rattle.std.specs.Prelude.{◌≡◌, ℕ, List, Option, Some, None, true, slice_set}
+-- private: where units come from that are known to offer what phase steps run.
+use Rattle.std.specs.Prelude.{◌≡◌, List, Option, Some, None, slice_set}
 use Rattle.std.specs.List.{slice_index_or}
 use Rattle.batch_cell.specs.declared.cell.Cell as equipment
 use Rattle.batch_recipe.specs.Outlines.{act_of}
@@ -8,18 +8,20 @@ use Rattle.batch_recipe.specs.declared.acts.Acts.{Acts}
 use Rattle.batch_recipe.specs.declared.acts.LabelTable.TheVariants.{Phases}
 use Rattle.batch_recipe.specs.declared.entry.Kind.{Kind}
 use Rattle.batch_recipe.specs.declared.entry.Kind.TheVariants as kind
-use Rattle.batch_verify.specs.Walking.{offers_work}
+use Rattle.batch_recipe.specs.declared.role.Role.{Role}
+use Rattle.batch_set.specs.declared.linked.Source.{Source}
+use Rattle.batch_verify.specs.Spans.{SourceOffers}
 
 -- the unit noted for the act, of those that are noted for the phase steps
-abbrev pub offering_unit : List (Option ℕ) → Kind → Option ℕ
+abbrev pub offering_unit : List (Option Source) → Kind → Option Source
 offering_unit units (kind.Act Phases number) = slice_index_or units number None
 offering_unit units _ = None
 
 -- those noted after the act's is
-abbrev pub with_offering : List (Option ℕ) → Kind → Option ℕ → List (Option ℕ)
+abbrev pub with_offering : List (Option Source) → Kind → Option Source → List (Option Source)
 with_offering units (kind.Act Phases number) unit = slice_set units number unit
 with_offering units _ unit = units
 
--- each unit that is noted offers what the act runs
-abbrev pub AreOffered : equipment.Cell → Acts → List (Option ℕ) → Type 0
-AreOffered c acts units = (k : Kind) (a : Act) (unit : ℕ) → act_of acts k ≡ Some a → offering_unit units k ≡ Some unit → offers_work c (Some unit) a.work ≡ true
+-- each unit that comes from where is noted offers what the act runs
+abbrev pub AreOffered : equipment.Cell → List Role → Acts → List (Option Source) → Type 0
+AreOffered c roles acts units = (k : Kind) (a : Act) (unit : Source) → act_of acts k ≡ Some a → offering_unit units k ≡ Some unit → SourceOffers c roles (Some unit) a.work

@@ -31,7 +31,7 @@ pub(crate) fn link_needs(
 }
 
 /// The number of the source's resource, where these units take the roles.
-fn number_by(takers: &[Option<u16>], source: Source) -> Option<u16>
+pub(crate) fn number_by(takers: &[Option<u16>], source: Source) -> Option<u16>
     ensures { result ≡ number_by takers.now source }
 {
     match source {
@@ -62,7 +62,7 @@ pub(crate) fn resource_by(site: &Site, source: Source) -> Option<u16>
 }
 
 /// Whether the need is of a resource, and whether it is of no more units than this has. An unknown name has no units.
-fn look_up(site: &Site, need: &LinkedNeed) -> (bool, bool)
+pub(crate) fn look_up(site: &Site, need: &LinkedNeed) -> (bool, bool)
     ensures resource { result.0 ≡ is_found (ask_by site.now.cell.now site.now.takers.now need.now) }
     ensures units { result.1 ≡ is_fitting site.now.cell.now (ask_by site.now.cell.now site.now.takers.now need.now) }
 {
@@ -88,7 +88,7 @@ pub(crate) fn look_up_each(site: &Site, needs: &[LinkedNeed]) -> (bool, bool)
 }
 
 /// The number of the unit that the source is.
-fn unit_from(site: &Site, source: Source) -> Result<Option<u16>, Rule>
+pub(crate) fn unit_from(site: &Site, source: Source) -> Result<Option<u16>, Rule>
     ensures unit { result ≡ known_unit (among_first (length (units_of site.now.cell.now)) (among_first (length (resources_of site.now.cell.now)) (number_by site.now.takers.now source))) }
     ensures within { IfOk result (λ unit. ForSome unit (λ number. number < length (units_of site.now.cell.now))) }
 {

@@ -44,14 +44,14 @@ fn greater(one: u16, other: u16) -> u16
 }
 
 /// The role with this name.
-fn role_named<'a>(roles: &'a [Role], name: &Name) -> Option<&'a Role>
+pub(crate) fn role_named<'a>(roles: &'a [Role], name: &Name) -> Option<&'a Role>
     ensures { option_copied result ≡ role_named roles.now name.now }
 {
     roles.iter().find(|role| role.name == *name)
 }
 
 /// The name of the unit that is the one with this index among those of the class.
-pub(crate) fn candidate_named<'a>(cell: &'a Cell, class: &Name, index: u16) -> Option<&'a Name>
+fn candidate_named<'a>(cell: &'a Cell, class: &Name, index: u16) -> Option<&'a Name>
     ensures { option_copied result ≡ slice_get (units_of_class cell.now class.now) index }
 {
     match cell.candidate(class, index) {

@@ -2,7 +2,6 @@
 #![tactic(auto)]
 
 mod asking;
-mod asks;
 mod bindings;
 mod branch_phases;
 mod certificate;
@@ -26,6 +25,7 @@ mod rising;
 mod rule;
 mod running_nodes;
 mod site;
+mod span;
 mod trial;
 mod walk;
 

@@ -1,6 +1,5 @@
-use Rattle.std.proofs.Common.{◌≡◌, ◌≤◌, ◌+◌, ℕ, List, Option, Some, None, Ok, Err, length, map, option_copied, option_map, get_or, slice_get, sym, ap, ◌∙◌, subst, arith}
-use Rattle.std.proofs.lemmas.List.{length-map, with_items_is}
-use Rattle.std.proofs.lemmas.Option.{get_or_from_slice_get, slice_get-get_or, slice_get-map}
+use Rattle.std.proofs.Common.{◌≡◌, ◌≤◌, ◌+◌, ℕ, List, Option, Some, None, Ok, Err, length, option_copied, get_or, slice_get, sym, ap, ◌∙◌, subst, arith}
+use Rattle.std.proofs.lemmas.Option.{slice_get-get_or}
 use Rattle.batch_recipe.specs.Outlines.{act_of}
 use Rattle.batch_recipe.specs.declared.act.Act.{Act}
 use Rattle.batch_recipe.specs.declared.entry.Entry.{Entry}
@@ -9,16 +8,12 @@ use Rattle.batch_recipe.specs.declared.role.Role.{Role}
 use Rattle.batch_recipe.proofs.Climbing.{as_many}
 use Rattle.batch_model.specs.Setups.{setup_of}
 use Rattle.batch_set.specs.Looked.{needs_by}
-use Rattle.batch_verify.specs.Asking.{asks_by, judged_at, takers_of}
+use Rattle.batch_verify.specs.Asking.{asks_by, takers_of}
 use Rattle.batch_verify.specs.Trials.{bound_by}
-use Rattle.batch_verify.specs.Offers.{AreOffered, offering_unit, with_offering}
 use Rattle.batch_verify.specs.Refusals.{ranking_in, IsFirstBroken}
 use Rattle.batch_verify.specs.Ways.{bound_parts}
-use Rattle.batch_verify.specs.declared.asks.Asks.{Asks}
 use Rattle.batch_verify.specs.declared.rule.Rule.{Rule}
 use Rattle.batch_verify.specs.declared.site.Path.{Path}
-use Rattle.batch_verify.proofs.AskedByName.{judged-is}
-use Rattle.batch_verify.proofs.Offers.{AreOffered-with}
 use Rattle.batch_recipe.specs.Procedure.{bound_tree, sites}
 use Rattle.batch_verify.proofs.Paths.{KeepsPaths-more, number_above, looked, fault_known, path_stops, paths_end}
 use Rattle.batch_verify.proofs.walk.broken_on.Goals as goal
@@ -28,19 +23,7 @@ no_entry = record { kind = kind.Skip; end = 0; parent = 0; child = 0; needs = 0;
 
 pub bounds-faults-node : goal.bounds-faults-node
 bounds-faults-node c =
-    omega (arith, c.len-node.ensures, c.loop-entry.invariant.paths.size, c.loop-entry-test.true, ap length c.deref-entry-items.ensures.value, as_many c.args.recipe.now, c.requires.faults.as_many)
-
-pub bounds-judged-node : goal.bounds-judged-node
-bounds-judged-node c =
-    omega (
-      arith,
-      c.len-node.ensures,
-      c.loop-entry.invariant.paths.size,
-      c.loop-entry-test.true,
-      ap length c.deref-entry-items.ensures.value,
-      ap length c.requires.judged,
-      length-map c.args.recipe.now.outline.entries.items (judged_at c.args.cell.now (option_copied c.args.ranks) c.args.linked.now),
-    )
+    omega (arith, c.len-node.ensures, c.loop-entry.invariant.size, c.loop-entry-test.true, ap length c.deref-entry-items.ensures.value, as_many c.args.recipe.now, c.requires.faults.as_many)
 
 pub look-requires : goal.look-requires
 look-requires c =
@@ -49,28 +32,15 @@ look-requires c =
     let ranking = ranking_in cell (option_copied c.args.ranks) in
     let bound = bound_by cell r.roles.items c.args.trial in
     let n = c.loop-entry.entry-index in
-    let h = c.loop-entry.invariant.paths in
+    let h = c.loop-entry.invariant in
     let paths = c.loop-entry.paths.items in
     let entry : Entry = get_or c.deref-entry-items.result.now n no_entry in
     let is : slice_get r.outline.entries.items n ≡ Some entry =
     ap (λ xs. slice_get xs n) (sym c.deref-entry-items.ensures.value) ∙ slice_get-get_or c.deref-entry-items.result.now n no_entry c.loop-entry-test.true in
     let above = c.path_above-above.result in
-    let node : n ≡ c.len-node.result = omega (arith, c.len-node.ensures, h.size) in
-    let judged : Entry → Option Asks = judged_at cell (option_copied c.args.ranks) c.args.linked.now in
-    let judged_is : get_or c.args.judged.now c.len-node.result None ≡ judged entry =
-    ap (λ xs. get_or xs c.len-node.result None) c.requires.judged
-    ∙ get_or_from_slice_get (map judged r.outline.entries.items) c.len-node.result (judged entry) None
-    (ap (slice_get (map judged r.outline.entries.items)) (sym node) ∙ (slice_get-map judged r.outline.entries.items n ∙ ap (option_map judged) is)) in
-    record {
-      judged = λ asks asks_is. judged-is cell c.deref-2.result.now (option_copied c.args.ranks) c.args.linked.now entry asks (sym judged_is ∙ asks_is);
-      known = λ a unit act_is known_is.
-          c.loop-entry.invariant.offered entry.kind a unit act_is
-          (ap (λ units. offering_unit units entry.kind) (sym c.deref-in-loop-entry-2.ensures.value) ∙ (sym c.offering_unit-known.ensures ∙ known_is));
-      unit =
-          number_above cell ranking bound r paths n h entry is above
-          (λ q q_is. c.path_above-above.ensures.some q (ap (λ xs. slice_get xs entry.parent) c.deref-in-loop-entry.ensures.value ∙ q_is))
-          (λ past. c.path_above-above.ensures.none (omega (arith, past, ap length c.deref-in-loop-entry.ensures.value)));
-    }
+    number_above cell ranking bound r paths n h entry is above
+    (λ q q_is. c.path_above-above.ensures.some q (ap (λ xs. slice_get xs entry.parent) c.deref-in-loop-entry.ensures.value ∙ q_is))
+    (λ past. c.path_above-above.ensures.none (omega (arith, past, ap length c.deref-in-loop-entry.ensures.value)))
 
 pub returns-in-Err : goal.returns-in-Err
 returns-in-Err c = λ recipes.
@@ -80,7 +50,7 @@ returns-in-Err c = λ recipes.
     let bound = bound_by cell r.roles.items c.args.trial in
     let takers : c.deref-2.result.now ≡ takers_of cell bound r.roles.items = c.deref-2.ensures.value ∙ (c.in_ok-takers.ensures ∙ ap (λ (roles : List Role). takers_of cell (bound_by cell roles c.args.trial) roles) c.deref.ensures.value) in
     let n = c.loop-entry.entry-index in
-    let h = c.loop-entry.invariant.paths in
+    let h = c.loop-entry.invariant in
     let paths = c.loop-entry.paths.items in
     let entry : Entry = get_or c.deref-entry-items.result.now n no_entry in
     let is : slice_get r.outline.entries.items n ≡ Some entry =
@@ -109,7 +79,7 @@ loop-entry-preserved c =
     let bound = bound_by cell r.roles.items c.args.trial in
     let takers : c.deref-2.result.now ≡ takers_of cell bound r.roles.items = c.deref-2.ensures.value ∙ (c.in_ok-takers.ensures ∙ ap (λ (roles : List Role). takers_of cell (bound_by cell roles c.args.trial) roles) c.deref.ensures.value) in
     let n = c.loop-entry.entry-index in
-    let h = c.loop-entry.invariant.paths in
+    let h = c.loop-entry.invariant in
     let paths = c.loop-entry.paths.items in
     let entry : Entry = get_or c.deref-entry-items.result.now n no_entry in
     let is : slice_get r.outline.entries.items n ≡ Some entry =
@@ -126,17 +96,9 @@ loop-entry-preserved c =
     let none = (λ (past : length paths ≤ entry.parent). c.path_above-above.ensures.none (omega (arith, past, ap length c.deref-in-loop-entry.ensures.value))) in
     let known = fault_known cell ranking bound r paths n h entry is above some none c.args.faults.now c.requires.faults fault fault_is in
     let good = looked cell ranking bound r paths n h entry is above some none (Ok c.in-Ok.path) fault known entered c.in-Ok.ensures.chart in
-    let offered : AreOffered cell r.acts (with_offering c.loop-entry.offering.items entry.kind c.in-Ok.path.unit) =
-    AreOffered-with cell r.acts c.loop-entry.offering.items entry.kind c.in-Ok.path.unit c.loop-entry.invariant.offered c.in-Ok.ensures.offered in
-    let noted : c.note_unit.new.units ≡ with_offering c.loop-entry.offering.items entry.kind c.in-Ok.path.unit =
-    c.note_unit.ensures ∙ ap (λ units. with_offering units entry.kind c.in-Ok.path.unit) c.deref_mut.ensures.value in
-    let written = with_items_is c.loop-entry.offering c.note_unit.new.units (c.note_unit.auto.units ∙ c.deref_mut.ensures.len) in
-    record {
-      paths = rw c.in_ok-push-in-Ok.ensures.items (KeepsPaths-more cell ranking bound r paths n h entry is above some none c.in-Ok.path good c.in-Ok.ensures.number);
-      offered = subst (AreOffered cell r.acts) (sym (written ∙ noted)) offered;
-    }
+    rw c.in_ok-push-in-Ok.ensures.items (KeepsPaths-more cell ranking bound r paths n h entry is above some none c.in-Ok.path good c.in-Ok.ensures.number)
 
 pub returns : goal.returns
 returns c = λ recipes.
     paths_end c.args.cell.now (ranking_in c.args.cell.now (option_copied c.args.ranks)) (bound_by c.args.cell.now c.args.recipe.now.roles.items c.args.trial) c.args.recipe.now
-    c.loop-entry.paths.items c.loop-entry.entry-index c.loop-entry.invariant.paths (omega (arith, c.loop-entry-test.false, ap length c.deref-entry-items.ensures.value)) recipes
+    c.loop-entry.paths.items c.loop-entry.entry-index c.loop-entry.invariant (omega (arith, c.loop-entry-test.false, ap length c.deref-entry-items.ensures.value)) recipes

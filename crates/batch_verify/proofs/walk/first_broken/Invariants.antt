@@ -3,7 +3,7 @@ use Rattle.std.specs.Option.{option_copied}
 use Rattle.batch_recipe.specs.declared.recipe.Recipe as document
 use Rattle.batch_model.specs.Setups.{master_of, setup_of}
 use Rattle.batch_verify.specs.Refusals.{ranking_in}
-use Rattle.batch_verify.specs.Trials.{roles_raised}
+use Rattle.batch_verify.specs.Trials.{rank_or_0, roles_raised}
 use Rattle.batch_verify.proofs.Least.{IsLeast}
 use Rattle.batch_verify.proofs.Trials.{Both, ByNumber}
 use Rattle.batch_verify.proofs.walk.first_broken.Given as goal
@@ -16,4 +16,4 @@ abbrev pub invariant-loop-role : goal.invariant-loop-role
 invariant-loop-role l =
     (recipes : List document.Recipe)
     → IsLeast (setup_of l.cell recipes) (ranking_in l.cell (option_copied l.ranks)) (master_of l.cell l.recipe)
-    (Both l.cell recipes l.recipe (roles_raised (option_copied l.ranks) l.recipe.roles.items) l.extremes.items l.role-index) l.found
+    (Both l.cell recipes l.recipe (roles_raised (option_copied l.ranks) l.recipe.roles.items) (rank_or_0 l.cell (option_copied l.ranks)) l.role-index) l.found

@@ -4,18 +4,10 @@ use Rattle.batch_recipe.specs.declared.act.Act.{Act}
 use Rattle.batch_model.specs.Cleared.{Level}
 use Rattle.batch_verify.specs.Asking.{asks_of, asks_on}
 use Rattle.batch_verify.specs.Walking.{IsEntered, ranks_on}
-use Rattle.batch_verify.proofs.Offers.{offered_by_name}
 use Rattle.batch_verify.proofs.walk.look.Goals as goal
 
 some_is : (a b : Act) → Some a ≡ Some b → a ≡ b
 some_is a b e = cc
-
-pub enter-requires : goal.enter-requires
-enter-requires c = record {
-  unit = c.requires.unit;
-  asks = c.asks_at-asks.ensures;
-  known = λ unit is. c.requires.known c.in-Some.act.now unit (sym c.act.ensures ∙ ap option_copied c.in-Some.is) is;
-}
 
 pub returns-in-Some-clause-act : goal.returns-in-Some-clause-act
 returns-in-Some-clause-act c = λ a is s asked.
@@ -23,8 +15,3 @@ returns-in-Some-clause-act c = λ a is s asked.
     let same = some_is c.in-Some.act.now a (sym (ap option_copied c.in-Some.is) ∙ (c.act.ensures ∙ is)) in
     subst (λ (x : Act). asks_on site c.needs-needs.result.now ≡ asks_of site.cell.now (needs_with s x) → (level : Level) → IsEntered site.cell.now s (ranks_on site) c.args.fault level c.args.path x c.enter.result) same
     (c.enter.ensures.rules s) (ap (asks_on site) c.needs-needs.ensures ∙ asked)
-
-pub returns-in-Some-clause-offered : goal.returns-in-Some-clause-offered
-returns-in-Some-clause-offered c =
-    let site = c.args.site.now in
-    offered_by_name site.cell.now site.acts.now c.args.entry.now.kind c.in-Some.act.now (sym c.act.ensures ∙ ap option_copied c.in-Some.is) c.enter.result c.enter.ensures.offered

@@ -1,0 +1,109 @@
+use Rattle.std.proofs.Common.{◌≡◌, ◌≤◌, ℕ, List, [], Option, Some, None, false, true, length, option_copied, get_or, replicate, slice_get, refl, sym, ap, ◌∙◌, subst, arith}
+use Rattle.std.proofs.lemmas.List.{with_items_is}
+use Rattle.std.proofs.lemmas.Option.{slice_get-get_or}
+use Rattle.batch_recipe.specs.Outlines.{act_of}
+use Rattle.batch_recipe.specs.declared.act.Act.{Act}
+use Rattle.batch_recipe.specs.declared.entry.Entry.{Entry}
+use Rattle.batch_recipe.specs.declared.entry.Kind.TheVariants as kind
+use Rattle.batch_recipe.specs.declared.role.Role.{Role}
+use Rattle.batch_recipe.proofs.Climbing.{as_many}
+use Rattle.batch_set.specs.Looked.{needs_by}
+use Rattle.batch_set.specs.declared.linked.Source.{Source}
+use Rattle.batch_verify.specs.Asking.{takers_of}
+use Rattle.batch_verify.specs.Offers.{AreOffered, offering_unit, with_offering}
+use Rattle.batch_verify.specs.Refusals.{ranking_in}
+use Rattle.batch_verify.specs.Spans.{AreBetween, IsPassed}
+use Rattle.batch_verify.specs.Trials.{bound_by}
+use Rattle.batch_verify.specs.declared.rule.Rule.{Rule}
+use Rattle.batch_verify.specs.declared.span.Span.{Span}
+use Rattle.batch_verify.specs.declared.trial.Trial.TheVariants.{Leveled}
+use Rattle.batch_verify.proofs.Between.{between}
+use Rattle.batch_verify.proofs.Clears.{Clears-none, Clears-more}
+use Rattle.batch_verify.proofs.Offers.{AreOffered-none, AreOffered-with}
+use Rattle.batch_verify.proofs.Paths.{paths_end}
+use Rattle.batch_verify.proofs.Tried.{differ, own_role}
+use Rattle.batch_verify.proofs.span.is_clear.Goals as goal
+
+abbrev no_entry : Entry
+no_entry = record { kind = kind.Skip; end = 0; parent = 0; child = 0; needs = 0; detail = 0 }
+
+-- all are None, where no other clone of None is one
+are_none : (P : Option Source → Type 0) (units : List (Option Source)) (n : ℕ) → (((unit : Option Source) → P unit → unit ≡ None) → units ≡ replicate n None) → ((unit : Source) → ¬ (P (Some unit)))
+    → units ≡ replicate n None
+are_none P units n clones bad = clones only
+  where
+    only : (unit : Option Source) → P unit → unit ≡ None
+    only None h = refl
+    only (Some unit) h = absurd (bad unit h)
+
+pub loop-entry-init : goal.loop-entry-init
+loop-entry-init c =
+    let cell = c.args.cell.now in
+    let r = c.args.recipe.now in
+    record {
+      clears =
+          rw c.in_ok-spans.ensures.items
+          (Clears-none cell (option_copied c.args.ranks) r c.args.linked.now (takers_of cell (bound_by cell r.roles.items (Leveled false c.args.ranks)) r.roles.items) c.in_ok-highest.highest.items);
+      offered = subst (AreOffered cell r.roles.items r.acts) (sym (are_none _ _ _ c.in_ok-offering.ensures.items_if_clones_equal (λ unit bad. bad))) (AreOffered-none cell r.roles.items r.acts c.len-2.result);
+    }
+
+pub bounds-faults-len : goal.bounds-faults-len
+bounds-faults-len c =
+    omega (arith, c.len-in-loop-entry.ensures, c.loop-entry.invariant.clears.size, c.loop-entry-test.true, ap length c.deref-entry-items.ensures.value, as_many c.args.recipe.now, c.requires.faults.as_many)
+
+pub span_below-requires : goal.span_below-requires
+span_below-requires c = λ a source act_is known.
+    let entry : Entry = get_or c.deref-entry-items.result.now c.loop-entry.entry-index no_entry in
+    rw c.deref-in-loop-entry-4.ensures.value
+    (c.loop-entry.invariant.offered entry.kind a source act_is (ap (λ units. offering_unit units entry.kind) (sym c.deref-in-loop-entry.ensures.value) ∙ (sym c.offering_unit-known.ensures ∙ known)))
+
+pub loop-entry-preserved : goal.loop-entry-preserved
+loop-entry-preserved c =
+    let cell = c.args.cell.now in
+    let r = c.args.recipe.now in
+    let ranks = option_copied c.args.ranks in
+    let low = takers_of cell (bound_by cell r.roles.items (Leveled false c.args.ranks)) r.roles.items in
+    let high = c.in_ok-highest.highest.items in
+    let lowest : c.deref-3.result.now ≡ low = c.deref-3.ensures.value ∙ (c.in_ok-lowest.ensures ∙ ap (λ (roles : List Role). takers_of cell (bound_by cell roles (Leveled false c.args.ranks)) roles) c.deref.ensures.value) in
+    let n = c.loop-entry.entry-index in
+    let h = c.loop-entry.invariant.clears in
+    let spans = c.loop-entry.spans.items in
+    let offering = c.loop-entry.offering.items in
+    let entry : Entry = get_or c.deref-entry-items.result.now n no_entry in
+    let is : slice_get r.outline.entries.items n ≡ Some entry =
+    ap (λ xs. slice_get xs n) (sym c.deref-entry-items.ensures.value) ∙ slice_get-get_or c.deref-entry-items.result.now n no_entry c.loop-entry-test.true in
+    let above = c.span_above-above.result in
+    let below = c.in-Some.span in
+    let node : n ≡ c.len-in-loop-entry.result = omega (arith, c.len-in-loop-entry.ensures, h.size) in
+    let fault : Option Rule = get_or c.args.faults.now c.len-in-loop-entry.result None in
+    let fault_is : slice_get c.args.faults.now n ≡ Some fault =
+    ap (slice_get c.args.faults.now) node ∙ slice_get-get_or c.args.faults.now c.len-in-loop-entry.result None
+    (omega (arith, node, c.loop-entry-test.true, ap length c.deref-entry-items.ensures.value, as_many r, c.requires.faults.as_many)) in
+    let some = (λ (o : Span) (o_is : slice_get spans entry.parent ≡ Some o). c.span_above-above.ensures.some o (ap (λ xs. slice_get xs entry.parent) c.deref-in-loop-entry-2.ensures.value ∙ o_is)) in
+    let none = (λ (past : length spans ≤ entry.parent). c.span_above-above.ensures.none (omega (arith, past, ap length c.deref-in-loop-entry-2.ensures.value))) in
+    let passed : (a : Act) → act_of r.acts entry.kind ≡ Some a → IsPassed cell ranks r.roles.items low high (needs_by c.args.linked.now entry.kind) a above below =
+    (λ a act_is. rw (lowest, c.deref-in-loop-entry-3.ensures.value, c.deref-in-loop-entry-4.ensures.value) at (c.in-Some.ensures.act a act_is)) in
+    let noted : c.note_unit.new.units ≡ with_offering offering entry.kind below.unit = c.note_unit.ensures ∙ ap (λ units. with_offering units entry.kind below.unit) c.deref_mut.ensures.value in
+    let written = with_items_is c.loop-entry.offering c.note_unit.new.units (c.note_unit.auto.units ∙ c.deref_mut.ensures.len) in
+    record {
+      clears =
+          rw c.in_ok-push-in-Some.ensures.items
+          (Clears-more cell ranks r c.args.linked.now low high c.requires.linked c.args.faults.now c.requires.faults spans n h entry is above some none fault fault_is c.in-Some.ensures.fault below passed
+          c.in-Some.ensures.chart);
+      offered =
+          subst (AreOffered cell r.roles.items r.acts) (sym (written ∙ noted))
+          (AreOffered-with cell r.roles.items r.acts offering entry.kind below.unit c.loop-entry.invariant.offered (λ a act_is. (passed a act_is).offered));
+    }
+
+pub returns : goal.returns
+returns c = λ _ bound gives recipes.
+    let cell = c.args.cell.now in
+    let r = c.args.recipe.now in
+    let ranks = option_copied c.args.ranks in
+    let roles = r.roles.items in
+    let highest = c.in_ok-highest.ensures ∙ ap (λ (of : List Role). takers_of cell (bound_by cell of (Leveled true c.args.ranks)) of) c.deref-2.ensures.value in
+    let low = takers_of cell (bound_by cell roles (Leveled false c.args.ranks)) roles in
+    let stands : AreBetween cell ranks roles low (takers_of cell bound roles) c.in_ok-highest.highest.items =
+    subst (AreBetween cell ranks roles low (takers_of cell bound roles)) (sym highest) (between cell ranks roles (own_role roles (differ cell [] r r.own_roles)) bound gives) in
+    let v = c.loop-entry.invariant.clears.covers bound stands in
+    paths_end cell (ranking_in cell ranks) bound r v.paths c.loop-entry.entry-index v.kept (omega (arith, c.loop-entry-test.false, ap length c.deref-entry-items.ensures.value)) recipes

@@ -1,0 +1,258 @@
+//! One walk over the nodes of a recipe for all bindings of its roles at once.
+ghost use Rattle.std.specs.Prelude.{◌≡◌, ◌<◌, ◌≤◌, ◌∷◌, ℕ, [], List, None, Option, Some, length, option_copied, slice_get, true, IfOk, IfSome};
+ghost use Rattle.batch_recipe.specs.Expanding.{Binding};
+ghost use Rattle.batch_recipe.specs.Outlines.{act_of};
+ghost use Rattle.batch_recipe.specs.declared.act.Act as act;
+ghost use Rattle.batch_recipe.specs.declared.recipe.Recipe as document;
+ghost use Rattle.batch_recipe.specs.declared.role.Role as declared;
+ghost use Rattle.batch_model.specs.Recipes.{recipe_of};
+ghost use Rattle.batch_model.specs.Setups.{setup_of};
+ghost use Rattle.batch_set.specs.Looked.{needs_by};
+ghost use Rattle.batch_set.specs.declared.linked.Source as place;
+ghost use Rattle.batch_verify.specs.Asking.{SaysAsks};
+ghost use Rattle.batch_verify.specs.Charts.{AreFaults};
+ghost use Rattle.batch_verify.specs.Refusals.{IsVerdict, ranking_in};
+ghost use Rattle.batch_verify.specs.Spans.{AreAskedInEach, ClassOffers, ComesBelow, GivesUnits, IsPassed, PhaseOffered, SourceOffers, no_span};
+ghost use Rattle.batch_verify.specs.declared.span.Span as span;
+
+use crate::asking::{look_up, number_by, resource_by, unit_from};
+use crate::offering::{note_unit, offering_unit};
+use crate::rising::{rank_by, rise};
+use crate::rule::Rule;
+use crate::site::Site;
+use crate::trial::{Trial, takers_in};
+use batch_cell::Cell;
+use batch_recipe::{Act, Entry, Recipe, Role, Work};
+use batch_set::{LinkedNeed, LinkedRecipe, Source};
+use batch_text::Name;
+use std::alloc::{AllocError, Global};
+
+/// What is known of the path from the root, whatever units take the roles: where the unit comes from on which it runs, below a unit
+/// procedure, and the greatest rank that its last need can have.
+#[derive(Clone, Copy)]
+pub(crate) struct Span {
+    pub(crate) unit: Option<Source>,
+    pub(crate) last: Option<u32>,
+}
+
+/// Whether no node breaks a rule, whatever units take the roles. If not, nothing is known. `faults` are the rules that the nodes break
+/// whatever units do.
+pub(crate) fn is_clear(
+    alloc: Global,
+    cell: &Cell,
+    recipe: &Recipe,
+    ranks: Option<&[u32]>,
+    faults: &[Option<Rule>],
+    linked: &LinkedRecipe,
+) -> Result<bool, AllocError>
+    requires faults { AreFaults recipe.now.acts faults.now }
+    requires linked { SaysAsks cell.now recipe.now linked.now }
+    ensures { IfOk result (λ clear. clear ≡ true → (bound : Binding) → GivesUnits cell.now recipe.now.roles.items bound → (recipes : List document.Recipe)
+        → IsVerdict (setup_of cell.now recipes) (ranking_in cell.now (option_copied ranks.entry)) (recipe_of recipe.now bound) None) }
+{
+    let lowest = takers_in(alloc, cell, &recipe.roles, Trial::Leveled(false, ranks))?;
+    let highest = takers_in(alloc, cell, &recipe.roles, Trial::Leveled(true, ranks))?;
+    let low = Site {
+        cell,
+        acts: &recipe.acts,
+        linked,
+        takers: &lowest,
+        ranks,
+    };
+    let mut spans = Vec::with_capacity(alloc, recipe.outline.entries.len())?;
+    let mut offering = vec![in alloc; None; recipe.acts.phases.len()]?;
+    for entry in &recipe.outline.entries {
+        let known = offering_unit(&offering, entry.kind);
+        let above = span_above(&spans, entry);
+        let fault = faults[spans.len()];
+        match span_below(&low, &highest, &recipe.roles, entry, fault, known, above) {
+            None => return Ok(false),
+            Some(span) => {
+                note_unit(&mut offering, entry.kind, span.unit);
+                spans.push(span)?;
+            }
+        }
+    }
+    Ok(true)
+}
+
+/// What is known of the path above a node, where these are those to the nodes before it. Nothing is above the first.
+fn span_above(spans: &[Span], entry: &Entry) -> Span
+    ensures some { (above : span.Span) → slice_get spans.now entry.now.parent ≡ Some above → result ≡ above }
+    ensures none { length spans.now ≤ entry.now.parent → result ≡ no_span }
+{
+    match spans.get(usize::from(entry.parent)) {
+        None => Span {
+            unit: None,
+            last: None,
+        },
+        Some(span) => *span,
+    }
+}
+
+/// What is known of the path below the node. None where the node may break a rule.
+fn span_below(
+    low: &Site,
+    highest: &[Option<u16>],
+    roles: &[Role],
+    entry: &Entry,
+    fault: Option<Rule>,
+    known: Option<Source>,
+    above: Span,
+) -> Option<Span>
+    requires { (a : act.Act) (source : place.Source) → act_of low.now.acts.now entry.now.kind ≡ Some a → known ≡ Some source → SourceOffers low.now.cell.now roles.now (Some source) a.work }
+    ensures fault { IfSome result (λ within. fault ≡ None) }
+    ensures act { IfSome result (λ within. (a : act.Act) → act_of low.now.acts.now entry.now.kind ≡ Some a
+        → IsPassed low.now.cell.now (option_copied low.now.ranks) roles.now low.now.takers.now highest.now (needs_by low.now.linked.now entry.now.kind) a above within) }
+    ensures chart { act_of low.now.acts.now entry.now.kind ≡ None → IfSome result (λ within. within ≡ above) }
+{
+    if fault.is_some() {
+        return None;
+    }
+    match entry.kind.act(low.acts) {
+        None => Some(above),
+        Some(act) => {
+            let needs = low.linked.needs(entry.kind);
+            span_within(low, highest, roles, act, needs, known, above)
+        }
+    }
+}
+
+/// What is known of the path below the act with these needs.
+fn span_within(
+    low: &Site,
+    highest: &[Option<u16>],
+    roles: &[Role],
+    act: &Act,
+    needs: &[LinkedNeed],
+    known: Option<Source>,
+    above: Span,
+) -> Option<Span>
+    requires { (source : place.Source) → known ≡ Some source → SourceOffers low.now.cell.now roles.now (Some source) act.now.work }
+    ensures { IfSome result (IsPassed low.now.cell.now (option_copied low.now.ranks) roles.now low.now.takers.now highest.now needs.now act.now above) }
+{
+    let unit = source_under(low, act, needs, above.unit)?;
+    let last = after_needs(low, highest, needs, above.last)?;
+    if !each_offers(low.cell, roles, unit, known, &act.work) {
+        return None;
+    }
+    Some(Span { unit, last })
+}
+
+/// Where the unit below the act comes from. An act's own unit is the first of its needs.
+fn source_under(
+    low: &Site,
+    act: &Act,
+    needs: &[LinkedNeed],
+    unit: Option<Source>,
+) -> Option<Option<Source>>
+    ensures { IfSome result (λ source. (roles : List declared.Role) (highest : List (Option ℕ))
+        → ComesBelow low.now.cell.now (option_copied low.now.ranks) roles low.now.takers.now highest act.now.unit needs.now unit source) }
+{
+    match (&act.unit, needs) {
+        (None, _) => Some(unit),
+        (Some(_), [own, ..]) => match unit_from(low, own.source) {
+            Ok(_) => Some(Some(own.source)),
+            Err(_) => None,
+        },
+        (Some(_), []) => None,
+    }
+}
+
+/// The greatest rank that the last of the needs can have, where each is of a resource that has so many units, and the ranks rise.
+fn after_needs(
+    low: &Site,
+    highest: &[Option<u16>],
+    needs: &[LinkedNeed],
+    last: Option<u32>,
+) -> Option<Option<u32>>
+    ensures { IfSome result (λ greatest. (roles : List declared.Role)
+        → AreAskedInEach low.now.cell.now (option_copied low.now.ranks) roles low.now.takers.now highest.now needs.now last greatest) }
+{
+    let mut greatest = last;
+    for need in needs {
+        greatest = after_need(low, highest, need, greatest)?;
+    }
+    Some(greatest)
+}
+
+/// The same of one need.
+fn after_need(
+    low: &Site,
+    highest: &[Option<u16>],
+    need: &LinkedNeed,
+    last: Option<u32>,
+) -> Option<Option<u32>>
+    ensures { IfSome result (λ greatest. (roles : List declared.Role)
+        → AreAskedInEach low.now.cell.now (option_copied low.now.ranks) roles low.now.takers.now highest.now (need.now ∷ []) last greatest) }
+{
+    let (is_resource, is_within_capacity) = look_up(low, need);
+    if !is_resource || !is_within_capacity {
+        return None;
+    }
+    let Some(ranks) = low.ranks else {
+        return Some(last);
+    };
+    match rise(last, rank_by(ranks, resource_by(low, need.source))) {
+        Ok(_) => Some(Some(rank_by(ranks, number_by(highest, need.source)))),
+        Err(_) => None,
+    }
+}
+
+/// Whether each unit that may come from there offers what is run. Where it is known of where the unit comes from, nothing is looked up.
+fn each_offers(
+    cell: &Cell,
+    roles: &[Role],
+    unit: Option<Source>,
+    known: Option<Source>,
+    work: &Work,
+) -> bool
+    requires { (source : place.Source) → known ≡ Some source → SourceOffers cell.now roles.now (Some source) work.now }
+    ensures { result ≡ true → SourceOffers cell.now roles.now unit work.now }
+{
+    match (work, unit) {
+        (Work::Follows(_), _) => true,
+        (Work::Runs { .. }, None) => false,
+        (Work::Runs { phase, .. }, Some(source)) => {
+            is_known(known, source) || source_offers(cell, roles, source, phase)
+        }
+    }
+}
+
+/// Whether it is the one that is known.
+fn is_known(known: Option<Source>, source: Source) -> bool
+    ensures { result ≡ true → known ≡ Some source }
+{
+    match (known, source) {
+        (Some(Source::Resource(one)), Source::Resource(other)) => one == other,
+        (Some(Source::Role(one)), Source::Role(other)) => one == other,
+        _ => false,
+    }
+}
+
+/// Whether each unit that may come from there offers the phase.
+fn source_offers(cell: &Cell, roles: &[Role], source: Source, phase: &Name) -> bool
+    ensures { result ≡ true → PhaseOffered cell.now roles.now source phase.now }
+{
+    match source {
+        Source::Resource(number) => number < cell.units() && cell.offers(number, phase),
+        Source::Role(number) => match roles.get(usize::from(number)) {
+            None => false,
+            Some(role) => class_offers(cell, &role.class, phase),
+        },
+        Source::Unknown => false,
+    }
+}
+
+/// Whether each unit of the class offers the phase.
+fn class_offers(cell: &Cell, class: &Name, phase: &Name) -> bool
+    ensures { result ≡ true → ClassOffers cell.now class.now phase.now }
+{
+    for number in 0..cell.units() {
+        let unit = &cell.units[usize::from(number)];
+        if unit.is_of_class(class) && !cell.offers(number, phase) {
+            return false;
+        }
+    }
+    true
+}
