@@ -1,7 +1,6 @@
 -- Each node of the tree stands at its number.
-use Rattle.std.proofs.Common.{◌≡◌, inl, inr, ◌<◌, ◌≤◌, ℕ, zero, suc, ◌+◌, List, [], ◌∷◌, ◌++◌, length, Some, None, arith, refl, sym, ◌∙◌, subst, ap}
+use Rattle.std.proofs.Common.{◌≡◌, ◌<◌, ℕ, zero, suc, ◌+◌, List, [], ◌∷◌, ◌++◌, length, Some, None, arith, refl, sym, subst}
 use Rattle.std.specs.Prelude.{⊤, slice_get, slice_index_or, Option}
-use Rattle.std.proofs.lemmas.Bool.{cases_lt}
 use Rattle.batch_recipe.specs.Conditions.{Name}
 use Rattle.batch_recipe.specs.Expanding.{Binding}
 use Rattle.batch_recipe.specs.Needs.{resources_of}
@@ -13,9 +12,8 @@ use Rattle.batch_recipe.specs.declared.entry.Entry.{Entry}
 use Rattle.batch_recipe.specs.declared.entry.Kind.TheVariants as entry
 use Rattle.batch_chart.specs.declared.node.Kind.TheVariants as kind
 use Rattle.batch_recipe.specs.declared.recipe.Recipe.{Recipe}
-use Rattle.batch_chart.specs.Outlined.{kind_at, kind_of, StandsOn, StandsActOn, AreStandingOn, AreChoicesOn, Stands}
-use Rattle.batch_chart.specs.Needs.{needs_of}
-use Rattle.batch_chart.specs.NodesOf.{nodes_of, node_at, step_of}
+use Rattle.batch_chart.specs.Outlined.{StandsOn, StandsActOn, AreStandingOn, AreChoicesOn, Stands}
+use Rattle.batch_chart.specs.NodesOf.{nodes_of, node_at}
 use Rattle.batch_chart.specs.Running.{IsLaid}
 
 pub get-or : {X : Type 0} (l : List X) (k : ℕ) (d : X) → k < length l → slice_get l k ≡ Some (slice_index_or l k d)
@@ -25,17 +23,6 @@ get-or (x ∷ l) (suc k) d h = get-or l k d (omega arith)
 
 pub node-got : (ns : List Entry) (doc : Recipe) (t : Tree) → IsLaid ns doc t → (k : ℕ) → k < length ns → slice_get (nodes_of t) k ≡ Some (node_at t k)
 node-got ns doc t laid k lt = get-or (nodes_of t) k (record { place = []; asked = []; here = skip }) (omega (arith, laid.count, counted_nodes (0 ∷ []) [] t))
-
-abbrev no_entry : Entry
-no_entry = record { kind = entry.Skip; end = 0; parent = 0; child = 0; needs = 0; detail = 0 }
-
-abbrev no_node : nodes.Node
-no_node = record { place = []; asked = []; here = skip }
-
-past-end : {X : Type 0} (l : List X) (k : ℕ) (d : X) → length l ≤ k → slice_index_or l k d ≡ d
-past-end [] k d h = refl
-past-end (x ∷ l) zero d h = absurd (omega arith)
-past-end (x ∷ l) (suc k) d h = past-end l k d (omega arith)
 
 module _ (some : Option Binding) (ns : List Entry) (doc : Recipe) where
   abbrev AllStand : ℕ → List nodes.Node → Type 0
@@ -82,22 +69,5 @@ module _ (some : Option Binding) (ns : List Entry) (doc : Recipe) where
       subst (λ i. StandsOn some ns doc i (node_at t k).here) z (got (nodes_of t) 0 k (node_at t k) (all-stand t 0 (0 ∷ []) [] h) (node-got ns doc t laid k lt))
 
 module _ (ns : List Entry) (doc : Recipe) where
-  no-node : (t : Tree) → IsLaid ns doc t → (k : ℕ) → length ns ≤ k → length (nodes_of t) ≤ k
-  no-node t laid k le = omega (arith, le, laid.count, counted_nodes (0 ∷ []) [] t)
-
   pub node-stands : (t : Tree) → IsLaid ns doc t → (k : ℕ) → k < length ns → Stands ns doc k (node_at t k).here
   node-stands t laid k lt = stands-at None ns doc t laid laid.stands k lt
-
-  -- how many needs an act at a node has
-  needs-here : (k : ℕ) (c : Tree) → Stands ns doc k c → needs_of (kind_at ns k) ≡ length (step_of c).needs
-  needs-here k (act s (follows name c)) h = ap needs_of h.0.1
-  needs-here k skip h = ap needs_of h.1
-  needs-here k (seq ts) h = ap needs_of h.0.1
-  needs-here k (par ts) h = ap needs_of h.0.1
-  needs-here k x h = ap needs_of h.1.1
-
-  pub needs-known : (t : Tree) → IsLaid ns doc t → (k : ℕ) → needs_of (kind_at ns k) ≡ length (step_of (node_at t k).here).needs
-  needs-known t laid k = elim (cases_lt k (length ns)) [
-    | inl lt ↦ needs-here k (node_at t k).here (node-stands t laid k lt)
-    | inr le ↦ ap (λ (z : Entry). needs_of (kind_of z)) (past-end ns k no_entry le) ∙ sym (ap (λ (z : nodes.Node). length (step_of z.here).needs) (past-end (nodes_of t) k no_node (no-node t laid k le)))
-  ]

@@ -1,24 +1,11 @@
 //! What a recipe's nodes ask for, and what its phase steps run.
-ghost use Rattle.std.specs.Prelude.{◌≡◌, ◌<◌, ◌≤◌, IfSome, length, option_copied};
+ghost use Rattle.std.specs.Prelude.{◌≡◌, ◌<◌, IfSome, length, option_copied};
 ghost use Rattle.batch_recipe.specs.Expanding.{unit_count};
-ghost use Rattle.batch_recipe.specs.Tree.{Tree};
-ghost use Rattle.batch_recipe.specs.declared.recipe.TheConstants.{MAX_NODES};
-ghost use Rattle.batch_chart.specs.Charts.{IsChartOf};
-ghost use Rattle.batch_chart.specs.Outlined.{kind_at, phase_name};
+ghost use Rattle.batch_chart.specs.Outlined.{phase_name};
 ghost use Rattle.batch_chart.specs.Passing.{PassesTo};
-ghost use Rattle.batch_chart.specs.NodesOf.{step_at};
 
-use crate::node::{Kind, kind_of};
-use batch_recipe::{Act, Entry, Recipe, Work, act_at, follows};
+use batch_recipe::{Act, Recipe, Work, act_at, follows};
 use batch_text::Name;
-
-/// How many needs the act at the node has, its unit among them: 0 where it is none.
-// claim: needs of an act
-pub fn needs_at(chart: &Recipe, node: u16) -> u16
-    ensures { (t : Tree) → IsChartOf t chart.now → result ≡ length (step_at t node).needs }
-{
-    kind_at(&chart.outline.entries, node).needs()
-}
 
 /// The node of the unit procedure to which the act at the node passes on its need with this number, once it has ended.
 ///
@@ -46,16 +33,6 @@ fn own_units(act: &Act) -> u16
     match act.unit {
         Some(_) => 1,
         None => 0,
-    }
-}
-
-/// What stands at the node: `Skip` where the number is past all.
-fn kind_at(nodes: &[Entry], node: u16) -> Kind
-    ensures { result ≡ kind_at nodes.now node }
-{
-    match nodes.get(usize::from(node)) {
-        Some(entry) => kind_of(entry),
-        None => Kind::Skip,
     }
 }
 

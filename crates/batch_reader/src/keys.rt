@@ -19,7 +19,7 @@ pub const MAX_PATH_LEN: usize = 4_096;
 pub const MAX_LAG: usize = 65_536;
 
 /// What the value at a key has to be.
-#[derive(Clone, Copy, Debug, PartialEq, Eq)]
+#[derive(Clone, Copy)]
 pub enum ValueForm {
     Name,
     /// A name that is none of the words of charts.
