@@ -25,11 +25,6 @@ module _ (n batch i : ℕ) (p : Lists) (twice : length p.lists ≡ n + n) (withi
       length-append (take n p.lists) (map (staying batch) (take i (drop n p.lists)))
       ∙ omega (arith, length-take-le n p.lists (omega (arith, twice)), length-map (take i (drop n p.lists)) (staying batch), length-take-le i (drop n p.lists) (omega (arith, line_count)))
 
-  pub withdrawn-twice : length (withdrawn_to n batch i p).lists ≡ n + n
-  withdrawn-twice =
-      length-append (take n p.lists ++ map (staying batch) (take i (drop n p.lists))) (drop i (drop n p.lists))
-      ∙ omega (arith, front, length-drop i (drop n p.lists), line_count)
-
   module _ (lt : i < n) where
     rest : drop i (drop n p.lists) ≡ get_or (drop n p.lists) i [] ∷ drop (i + 1) (drop n p.lists)
     rest = drop_more (drop n p.lists) i [] (omega (arith, line_count))

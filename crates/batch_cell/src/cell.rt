@@ -26,7 +26,6 @@ pub const MAX_SHARED: usize = 64;
 ///
 /// The resources are the units, the free modules and the shared resources, numbered from 0 in that order.
 // claim: formed cells
-#[derive(Drop)]
 pub struct Cell {
     pub name: Name,
     pub units: Vec<Unit>,
@@ -79,5 +78,19 @@ impl Cell {
             names,
             offered,
         })
+    }
+}
+
+// Not derived: each function that drops one would have a proof that drops field by field.
+impl Drop for Cell {
+    fn drop(self) {
+        let Cell {
+            name: _,
+            units: _,
+            modules: _,
+            shared: _,
+            names: _,
+            offered: _,
+        } = self;
     }
 }

@@ -18,9 +18,6 @@ All-single : {X : Type 0} (P : X → Type 0) (x : X) → P x → All P (x ∷ []
 All-single P x h zero d within = h
 All-single P x h (suc k) d within = absurd (omega (arith, within))
 
-pub others_none : (edge : Edge) → AreOthers [] edge []
-others_none edge = record { among = λ k d within. absurd (omega (arith, within)); differ = λ k d within. absurd (omega (arith, within)); whole = λ other stands new. stands }
-
 module _ (edges : List Edge) (edge e : Edge) (others : List Edge) (h : AreOthers edges edge others) where
   pub others_same : is_same_order edge e ≡ true → AreOthers (edges ++ e ∷ []) edge others
   others_same same = record {

@@ -28,7 +28,7 @@ use Rattle.batch_check.specs.Collecting.{AreAdded, AreTakenIn, AreTakenOn, AreTh
 use Rattle.batch_check.specs.Sites.{bound_on, count_with_roles, nodes_on, resource_count, resource_on, units_on}
 use Rattle.batch_check.proofs.Asking.{Follows-keeps}
 use Rattle.batch_check.proofs.Bound.{follows_shown, paired_shown}
-use Rattle.batch_check.proofs.Joins.{Contains-at, Contains-none, Grows-same, Grows-twice, at-Contains}
+use Rattle.batch_check.proofs.Joins.{Contains-at, Contains-none, Grows-twice, at-Contains}
 use Rattle.batch_verify.proofs.ResourceNumbers.{number-at}
 use Rattle.batch_check.proofs.Rising.{Each-get}
 use Rattle.batch_check.proofs.Roles.{resource_for-below, resource_for-past}
@@ -64,9 +64,6 @@ module _ (cell : Cell) (recipes : List Recipe) where
       )) edges standing
 
   module _ (kept : Option (List (Option ℕ))) (old : EdgeSet) where
-    pub AreAdded-none : AreAdded cell kept recipes [] old old
-    AreAdded-none = record { grown = Grows-same old; standing = λ edge stands. inl stands; covering = λ final later. tt; pairing = λ whole final later. tt }
-
     pub AreAdded-more : (set new : EdgeSet) (index : ℕ) (recipe : Recipe) → AreAdded cell kept recipes (take index recipes) old set → index < length recipes
         → recipe ≡ get_or recipes index recipe → ((all : List Recipe) → slice_get all index ≡ Some recipe → IsAdded cell kept all recipe set new)
         → AreAdded cell kept recipes (take (index + 1) recipes) old new

@@ -95,34 +95,23 @@ fn words_of(alloc: Global, matches: &ArgMatches<'_>) -> Result<CommandWords, All
 fn command_of(alloc: Global, name: &str, words: &ArgMatches<'_>) -> Result<Subcommand, AllocError>
     ensures { IfOk result (λ command. request_of command ≡ named_by name.now (rows_of (found_of words.now))) }
 {
-    if name == "explain" {
-        let texts = several(alloc, words, "CODE")?;
-        return Ok(Subcommand::Explain { texts });
+    match name {
+        "explain" => Ok(Subcommand::Explain {
+            texts: several(alloc, words, "CODE")?,
+        }),
+        "plant" => plant_command(alloc, words),
+        "status" => Ok(Subcommand::Status {
+            path: optional(alloc, words, "RECORD")?,
+        }),
+        "draw" => Ok(Subcommand::Picture {
+            path: optional(alloc, words, "RECORD")?,
+        }),
+        "audit" => audit_command(alloc, words),
+        "serve" => desks_command(alloc, words),
+        "check" => check_command(alloc, words),
+        "show" => show_command(alloc, words),
+        _ => certified_command(alloc, name, words),
     }
-    if name == "plant" {
-        return plant_command(alloc, words);
-    }
-    if name == "status" {
-        let path = optional(alloc, words, "RECORD")?;
-        return Ok(Subcommand::Status { path });
-    }
-    if name == "draw" {
-        let path = optional(alloc, words, "RECORD")?;
-        return Ok(Subcommand::Picture { path });
-    }
-    if name == "audit" {
-        return audit_command(alloc, words);
-    }
-    if name == "serve" {
-        return desks_command(alloc, words);
-    }
-    if name == "check" {
-        return check_command(alloc, words);
-    }
-    if name == "show" {
-        return show_command(alloc, words);
-    }
-    certified_command(alloc, name, words)
 }
 
 /// `audit`, of a record that has to be whole or of one that may end too soon.

@@ -16,7 +16,6 @@ use rtrb::Finished;
 use std::marker::Model;
 
 /// The one owner of the engine, with its end of each port. It keeps all events that it took and all outs.
-#[derive(Drop)]
 pub struct Hub {
     pub(crate) engine: Engine,
     /// Each event that was taken, with its port.
@@ -148,6 +147,24 @@ impl Hub {
         // claim: events once; outs once
         ensures account { IsHub self }
     {
-        (self.engine, self.history)
+        let Hub {
+            engine,
+            history,
+            outs: _,
+            ports: _,
+        } = self;
+        (engine, history)
+    }
+}
+
+// Not derived: each function that drops one would have a proof that drops field by field.
+impl Drop for Hub {
+    fn drop(self) {
+        let Hub {
+            engine: _,
+            history: _,
+            outs: _,
+            ports: _,
+        } = self;
     }
 }

@@ -7,7 +7,6 @@ use std::marker::Model;
 ///
 /// It looks for the next move at marked batches alone. A batch is marked by its own moves and events, and where an act of it may
 /// be the next that is served of a resource: after a release or a grant of that resource, and after a stop or an abort.
-#[derive(Drop)]
 pub struct Engine {
     pub(crate) control: Control,
     /// Of the indices of batches: one that isn't marked has no move.
@@ -33,4 +32,15 @@ impl Model for Engine {
 
     // claim: marked batches
     ghost invariant = { λ e. IsEngine e.control e.marks e.holders.items };
+}
+
+// Not derived: each function that drops one would have a proof that drops field by field.
+impl Drop for Engine {
+    fn drop(self) {
+        let Engine {
+            control: _,
+            marks: _,
+            holders: _,
+        } = self;
+    }
 }

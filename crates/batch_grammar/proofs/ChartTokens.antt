@@ -16,7 +16,7 @@ use Rattle.batch_grammar.specs.declared.firsts.Firsts.{Firsts}
 use Rattle.batch_grammar.specs.ChartGrammar.{Skips, here, space, ReadsOp}
 use Rattle.batch_grammar.specs.ChartGrammar as spec
 use Rattle.batch_grammar.specs.ChartMachine.{Frame, Test, Want, an_operator, an_operand, Lexeme, letters, digits, less, more, State, between, in_token, begin, end_token, continues, step, finish, with_want, takes_word, takes_number, take_word, take_number, end_number, noted, number_offsets, sign_offsets}
-use Rattle.batch_grammar.proofs.ChartBytes.{letter-no_space, digit-no_space, digit-no_letter, space-no_name_byte, no_name_byte-no_digit, space-not_equals}
+use Rattle.batch_grammar.proofs.ChartBytes.{letter-no_space, digit-no_space, digit-no_letter, space-no_name_byte, space-not_equals}
 use Rattle.batch_grammar.proofs.ChartTexts.{IsNameFrom, name_from, no_name, number_first}
 
 -- the machine, over what is left of a text of length total
@@ -105,10 +105,6 @@ IsFree (b ∷ s) = is_name_byte b ≡ false
 free-letters : (bytes t : List ℕ) → IsFree t → Ends (letters bytes) t
 free-letters bytes [] free = tt
 free-letters bytes (b ∷ s) free = free
-
-free-digits : (bytes t : List ℕ) → IsFree t → Ends (digits bytes) t
-free-digits bytes [] free = tt
-free-digits bytes (b ∷ s) free = no_name_byte-no_digit b free
 
 pub free-skips : {s t : List ℕ} → Skips s t → IsFree t → IsFree s
 free-skips here free = free

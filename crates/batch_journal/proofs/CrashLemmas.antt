@@ -1,7 +1,7 @@
 -- Files that a crash leaves.
-use Rattle.std.proofs.Common.{◌≡◌, ℕ, List, [], ◌∷◌, ◌++◌, refl, sym, ◌∙◌, ap, subst, append_assoc}
+use Rattle.std.proofs.Common.{◌≡◌, ℕ, List, [], ◌∷◌, ◌++◌, refl, sym, ◌∙◌, ap, subst}
 use Rattle.std.proofs.lemmas.List.{append-nil}
-use Rattle.batch_journal.specs.Disks.{IsPart, Left, Begins, MayLeave}
+use Rattle.batch_journal.specs.Disks.{IsPart, Left, MayLeave}
 
 same_behind : (a b c : List ℕ) → a ++ b ≡ a ++ c → b ≡ c
 same_behind [] b c e = e
@@ -15,9 +15,6 @@ part_of_more (y ∷ t) (z ∷ b) x part = (part.0, part_of_more t b x part.1)
 part_of_none : (t : List ℕ) → IsPart t [] → t ≡ []
 part_of_none [] part = refl
 part_of_none (y ∷ t) part = absurd part
-
-begins_more : (a b c : List ℕ) → Begins a b → Begins a (b ++ c)
-begins_more a b c begins = record { rest = begins.rest ++ c; splits = ap (λ l. l ++ c) begins.splits ∙ append_assoc a begins.rest c }
 
 pub as_of : {durable seen given d s t : List ℕ} (left : Left) → durable ≡ d → seen ≡ s → given ≡ t → MayLeave durable seen given left → MayLeave d s t left
 as_of {durable = durable} {seen = seen} {given = given} {d = d} {s = s} {t = t} left is_d is_s is_t may =

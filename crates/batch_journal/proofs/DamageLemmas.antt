@@ -1,5 +1,5 @@
 -- What a crash leaves isn't damage.
-use Rattle.std.proofs.Common.{◌≡◌, ◌⊎◌, ℕ, ◌+◌, ◌-◌, ◌≤◌, ◌<◌, true, false, ◌==◌, if◌then◌else◌, List, [], ◌∷◌, ◌++◌, length, take, drop, take-append-drop, Some, None, codes, refl, sym, ◌∙◌, ap, subst, arith, append_assoc, inl, inr}
+use Rattle.std.proofs.Common.{◌≡◌, ◌⊎◌, ℕ, ◌+◌, ◌-◌, ◌≤◌, ◌<◌, true, false, ◌==◌, List, [], ◌∷◌, ◌++◌, length, take, drop, take-append-drop, Some, None, codes, refl, sym, ◌∙◌, ap, subst, arith, append_assoc, inl, inr, if◌then◌else◌}
 use Rattle.std.proofs.lemmas.Bool.{cases_lt}
 use Rattle.std.proofs.lemmas.Bool.Decides.{Decides-eqb}
 use Rattle.std.proofs.lemmas.Slice.Eq.{starts_is}
@@ -25,9 +25,6 @@ tally line = if journal_format.own line then 1 else 0
 abbrev count : List ℕ → List ℕ → ℕ
 count begun [] = tally begun
 count begun (b ∷ text) = if b == 10 then tally begun + count [] text else count (begun ++ b ∷ []) text
-
-tally_own : (line : List ℕ) → journal_format.own line ≡ true → tally line ≡ 1
-tally_own line own = rw own refl
 
 tally_few : (line : List ℕ) → tally line ≤ 1
 tally_few line = elim (bool_cases (journal_format.own line)) [ inl own ↦ rw own (omega arith) | inr other ↦ rw other (omega arith) ]

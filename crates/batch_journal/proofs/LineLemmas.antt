@@ -2,7 +2,7 @@
 use Rattle.std.proofs.Common.{◌≡◌, ◌⊎◌, ℕ, suc, ◌≤◌, List, [], ◌∷◌, ◌++◌, length, take, refl, sym, ◌∙◌, ap, subst, arith, append_assoc, inl, inr, true, false, Bool, ⊎_elim, ◌==◌, if◌then◌else◌}
 use Rattle.std.proofs.lemmas.List.{append-nil}
 use Rattle.batch_journal.specs.Lines.{IsLine, AreLines, text_of, until_zero, whole_from, whole_lines}
-use Rattle.batch_journal.specs.Disks.{IsPart, Begins}
+use Rattle.batch_journal.specs.Disks.{Begins}
 use Rattle.batch_journal.proofs.GroupLemmas.{bool_cases}
 
 -- no byte of the text is zero
@@ -26,16 +26,6 @@ until_zero_behind (x ∷ a) b has = rw has.0 (ap (λ l. x ∷ l) (until_zero_beh
 begins_if : (is_zero : Bool) (x : ℕ) (bs xs : List ℕ) → Begins bs xs → Begins (if is_zero then [] else x ∷ bs) (x ∷ xs)
 begins_if true x bs xs begins = record { rest = x ∷ xs; splits = refl }
 begins_if false x bs xs begins = record { rest = begins.rest; splits = ap (λ l. x ∷ l) begins.splits }
-
-part_one : (b x : ℕ) (bs xs : List ℕ) → (b ≡ 0) ⊎ (b ≡ x) → Begins (until_zero bs) xs → Begins (until_zero (b ∷ bs)) (x ∷ xs)
-part_one b x bs xs (inl zero) begins = rw zero (record { rest = x ∷ xs; splits = refl })
-part_one b x bs xs (inr same) begins = rw same (begins_if (x == 0) x (until_zero bs) xs begins)
-
--- what stands before the first zero of a part begins the whole
-pub part_begins : (tail rest : List ℕ) → IsPart tail rest → Begins (until_zero tail) rest
-part_begins [] rest part = record { rest = rest; splits = refl }
-part_begins (b ∷ bs) [] part = absurd part
-part_begins (b ∷ bs) (x ∷ xs) part = part_one b x bs xs part.0 (part_begins bs xs part.1)
 
 -- a line's bytes are read, and it goes on behind its line feed
 pub reads_line : (begun line rest : List ℕ) → IsLine line → whole_from begun (line ++ 10 ∷ rest) ≡ (begun ++ line) ∷ whole_from [] rest

@@ -1,6 +1,6 @@
 -- Calls of an disk in memory.
-use Rattle.std.proofs.Common.{◌≡◌, ℕ, ◌≤◌, Bool, true, false, List, [], ◌∷◌, ◌++◌, length, take, drop, take-append-drop, sym, ap, subst, ◌∙◌, refl, arith, inr, append_assoc}
-use Rattle.std.proofs.lemmas.List.{take_all, take_at}
+use Rattle.std.proofs.Common.{◌≡◌, ℕ, ◌≤◌, Bool, true, false, List, [], ◌∷◌, ◌++◌, length, take, drop, take-append-drop, sym, ap, subst, ◌∙◌, refl, arith, inr}
+use Rattle.std.proofs.lemmas.List.{take_all}
 use Rattle.batch_journal.specs.Disks.{IsPart, Begins, Left, MayLeave, MayCut, Elapses}
 use Rattle.batch_journal.specs.Past.{choose, LeftBy, LeftSince, one_call}
 use Rattle.batch_journal.specs.declared.memory.Past.{Past}
@@ -70,11 +70,3 @@ after_sync durable seen given later left begins is may = record {
 
 pub begins_from : (a b : List ℕ) → take (length a) b ≡ a → Begins a b
 begins_from a b front = record { rest = drop (length a) b; splits = sym (take-append-drop (length a) b) ∙ ap (λ l. l ++ drop (length a) b) front }
-
-pub front_all : (a b : List ℕ) → a ≡ b → take (length a) b ≡ a
-front_all a b is = subst (λ l. take (length a) l ≡ a) is (take_all (length a) a (omega arith))
-
-pub front_more : (a b c d : List ℕ) → take (length a) b ≡ a → d ≡ b ++ c → take (length a) d ≡ a
-front_more a b c d front is =
-    let begins = begins_from a b front in
-    ap (take (length a)) (is ∙ ap (λ l. l ++ c) begins.splits ∙ append_assoc a begins.rest c) ∙ take_at a (begins.rest ++ c) (length a) refl

@@ -25,15 +25,6 @@ may_more before now past later may more time on = record {
   keeps = time.keeps;
 }
 
--- two calls, one after the other
-pub then_call : (before mid now : ℕ) (past since later : ℕ → Left → Type 0) (may : Left → Type 0)
-    → Elapses before mid past since may → Elapses mid now since later may → Elapses before now past later may
-then_call before mid now past since later may first second = record {
-  later = omega (arith, first.later, second.later);
-  nothing_else = λ t left le had. ⊎_elim (first.nothing_else t left le) (λ so. inr so) (second.nothing_else t left (omega (arith, le, first.later)) had);
-  keeps = λ t left le was. second.keeps t left (omega (arith, le, first.later)) (first.keeps t left le was);
-}
-
 -- two runs, one after the other
 pub then_run : {D : Type 0} (moment : D → ℕ) (left_since : D → ℕ → Left → Type 0) (old mid new : D) (P Q : Left → Type 0) → LeavesOnly moment left_since old mid P
     → LeavesOnly moment left_since mid new Q → ((left : Left) → Q left → P left) → LeavesOnly moment left_since old new P

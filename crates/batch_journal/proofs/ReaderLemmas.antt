@@ -1,8 +1,7 @@
 -- A reader that journals: what stays so at each of its steps.
-use Rattle.std.proofs.Common.{◌≡◌, ◌^◌, ℕ, zero, suc, ◌+◌, ◌-◌, ◌≤◌, ◌<◌, length-append, List, [], ◌∷◌, ◌++◌, length, take, drop, take-append-drop, Option, Some, None, refl, sym, ◌∙◌, ap, subst, arith, append_assoc, ⊎_elim, Bool, ◌≢◌, min, true, false}
-use Rattle.std.proofs.lemmas.List.{append-nil, take_at, length-drop, length-take, length-take-le}
+use Rattle.std.proofs.Common.{◌≡◌, ℕ, zero, suc, ◌+◌, ◌≤◌, List, [], ◌∷◌, ◌++◌, length, take, drop, take-append-drop, Option, Some, None, refl, sym, ◌∙◌, ap, subst, arith, append_assoc, ⊎_elim, Bool, ◌≢◌, min, true, false}
+use Rattle.std.proofs.lemmas.List.{append-nil, take_at, length-take, length-take-le}
 use Rattle.std.specs.Io.KnownBytes.{prepend_known, Keeps, Consumes}
-use lib.Seq.{take-add}
 use Rattle.batch_journal.specs.Lines.{IsLine, text_of, whole_lines}
 use Rattle.batch_journal.specs.Disks.{Left, Begins, MayLeave, Elapses, LeavesOnly}
 use Rattle.batch_journal.specs.Readers.{IsKept, StartsText, Recalls, HasRecalled, IsAccounted, LinesBegin}
@@ -10,8 +9,7 @@ use Rattle.batch_journal.specs.Groups.{AreOthers, taken}
 use Rattle.batch_journal.specs.Recovery.{KeepsLines}
 use Rattle.batch_journal.specs.Journals.{journal_format, next_sum, recovered, IsJournal}
 use Rattle.batch_journal.specs.Writing.{closing_line, group_text}
-use Rattle.batch_journal.proofs.LineLemmas.{text_both, are_whole_lines, whole_text}
-use Rattle.batch_journal.proofs.SumLemmas.{closing_is_line, closing_is_own, closing_closes}
+use Rattle.batch_journal.proofs.LineLemmas.{text_both, are_whole_lines}
 use Rattle.batch_journal.proofs.JournalLemmas.{recovered_behind, journal_with, recovered_with, are_recovered, lines_of_text, lines_behind}
 
 -- Crashes
@@ -75,34 +73,6 @@ kept_more documents base durable seen given sum lines next new_durable new_seen 
           ∙ ap (λ l. base ++ (l ++ lines)) (sym is_given);
     }
 
-pub group_kept : (documents base durable seen given sum bytes items next new_durable new_seen new_given : List ℕ) (end milliseconds : ℕ)
-    → IsKept documents base durable seen given [] sum → bytes ≡ items → take end bytes ≡ text_of (whole_lines bytes)
-    → AreOthers journal_format (whole_lines (take end bytes)) → next ≡ next_sum sum (take end bytes) → IsLine next → milliseconds < 2 ^ 64
-    → new_seen ≡ seen ++ group_text (take end bytes) next milliseconds → new_durable ≡ new_seen → new_given ≡ given
-    → IsKept documents base new_durable new_seen new_given (take end items) next
-group_kept documents base durable seen given sum bytes items next new_durable new_seen new_given end milliseconds kept bytes_are text others next_is is_line fits is_seen is_durable is_given =
-    subst (λ l. IsKept documents base new_durable new_seen new_given (take end l) next) bytes_are
-    (kept_more documents base durable seen given sum (take end bytes) next new_durable new_seen new_given milliseconds kept
-    (whole_text (take end bytes) (whole_lines bytes) (are_whole_lines bytes) text) others next_is is_seen is_durable is_given
-    (closing_is_line next milliseconds is_line fits) (closing_is_own next milliseconds) (closing_closes next milliseconds fits))
-
-pub part_of : (count ready : ℕ) (l : List ℕ) → count ≤ ready → take ready l ≡ take count l ++ take (ready - count) (drop count l)
-part_of count ready l le =
-    let sum : ready ≡ count + (ready - count) = omega arith in
-    ap (λ n. take n l) sum ∙ take-add count (ready - count) l
-
--- after some of it is given
-pub kept_given : (documents base durable seen given l sum new_durable new_seen new_given : List ℕ) (count ready : ℕ) → count ≤ ready
-    → IsKept documents base durable seen given (take ready l) sum → new_given ≡ given ++ take count l → new_durable ≡ durable → new_seen ≡ seen
-    → IsKept documents base new_durable new_seen new_given (take (ready - count) (drop count l)) sum
-kept_given documents base durable seen given l sum new_durable new_seen new_given count ready le kept is_given is_durable is_seen = record {
-  journal = subst (λ f. IsJournal documents f sum) (sym is_seen) kept.journal;
-  synced = is_durable ∙ kept.synced ∙ sym is_seen;
-  holds = ap (λ f. text_of (recovered documents f)) is_seen ∙ kept.holds ∙ ap (λ x. base ++ (given ++ x)) (part_of count ready l le)
-      ∙ ap (λ x. base ++ x) (sym (append_assoc given (take count l) (take (ready - count) (drop count l))))
-      ∙ ap (λ x. base ++ (x ++ take (ready - count) (drop count l))) (sym is_given);
-}
-
 -- What is left
 
 pub keeps_more : (items more now : List ℕ) (old new : Option (List ℕ)) → now ≡ items ++ more → Consumes old new more → Keeps (prepend_known items old) (prepend_known now new)
@@ -149,22 +119,6 @@ pub not_failed : (failed : Bool) (ready : ℕ) → (failed ≡ true → ready �
 not_failed true ready none some = absurd (some (none refl))
 not_failed false ready none some = refl
 
-pub recalls_given : (documents base durable seen given l sum : List ℕ) (count ready : ℕ) (left : Left) → count ≤ ready
-    → IsKept documents base durable seen given (take ready l) sum → MayLeave durable seen (given ++ take count l) left → Recalls documents base left
-recalls_given documents base durable seen given l sum count ready left le kept may =
-    recalls documents base durable seen (given ++ take count l) (take (ready - count) (drop count l)) sum left
-    (subst (λ f. IsJournal documents f sum) (sym kept.synced) kept.journal)
-    (ap (λ f. text_of (recovered documents f)) kept.synced ∙ kept.holds ∙ ap (λ x. base ++ (given ++ x)) (part_of count ready l le)
-    ∙ ap (λ x. base ++ x) (sym (append_assoc given (take count l) (take (ready - count) (drop count l)))))
-    may
-
-pub keeps_itself : (known : Option (List ℕ)) → Keeps known known
-keeps_itself None = tt
-keeps_itself (Some xs) = refl
-
-pub least_left : (count ready : ℕ) (l rest : List ℕ) → ready ≤ length l → rest ≡ drop count l → ready - count ≤ length rest
-least_left count ready l rest within is = omega (arith, within, ap length is, length-drop count l)
-
 pub accounted_as : (input : Option (List ℕ)) (given l rest : List ℕ) (known : Option (List ℕ)) → rest ≡ l
     → IsAccounted input given (prepend_known l known) → IsAccounted input given (prepend_known rest known)
 accounted_as input given l rest known is has = subst (λ x. IsAccounted input given (prepend_known x known)) (sym is) has
@@ -178,11 +132,6 @@ gives_front items rest put buf count known le is_put is_rest =
     let size : length put ≡ count = ap length is_put ∙ length-take-le count items le in
     subst (λ l. Consumes (prepend_known items known) (prepend_known l known) (take count (put ++ drop count buf))) (sym is_rest)
     (gives items (take count (put ++ drop count buf)) count known (take_at put (drop count buf) count size ∙ is_put))
-
-pub no_room : (items put buf : List ℕ) (count ready : ℕ) → ready ≢ 0 → count ≡ min (length buf) ready → put ≡ take count items → count ≡ 0 → 0 < length (put ++ drop count buf) → ⊥
-no_room items put buf count ready some least is_put none room =
-    let short : length put ≤ count = omega (arith, ap length is_put, length-take count items) in
-    omega (arith, some, least, none, short, room, length-append put (drop count buf), length-drop count buf)
 
 -- Beginnings
 
@@ -213,10 +162,6 @@ begun_before moment_of left_of old new documents file given base since leaves is
 prepend_none : (known : Option (List ℕ)) → prepend_known [] known ≡ known
 prepend_none None = refl
 prepend_none (Some xs) = refl
-
-pub accounted_new : (input : Option (List ℕ)) (given none : List ℕ) (known : Option (List ℕ)) → none ≡ []
-    → IsAccounted input given known → IsAccounted input given (prepend_known none known)
-accounted_new input given none known is has = subst (λ x. IsAccounted input given x) (sym (ap (λ l. prepend_known l known) is ∙ prepend_none known)) has
 
 pub whole_as : (given now : List ℕ) → now ≡ given → given ≡ text_of (whole_lines given) → now ≡ text_of (whole_lines now)
 whole_as given now same whole = subst (λ l. l ≡ text_of (whole_lines l)) (sym same) whole

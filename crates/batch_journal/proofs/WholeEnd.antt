@@ -1,5 +1,5 @@
 -- Where the whole lines end.
-use Rattle.std.proofs.Common.{rules, ◌≡◌, ◌⊎◌, ℕ, ◌+◌, ◌-◌, ◌≤◌, zero, suc, take-append-drop, List, [], ◌∷◌, ◌++◌, length, take, drop, get_or, ◌<◌, ◌≢◌, refl, sym, ◌∙◌, ap, subst, arith, append_assoc, inl, inr, true, false, ◌==◌, length-append}
+use Rattle.std.proofs.Common.{rules, ◌≡◌, ◌⊎◌, ℕ, ◌+◌, ◌-◌, ◌≤◌, zero, suc, List, [], ◌∷◌, ◌++◌, length, take, drop, get_or, ◌<◌, ◌≢◌, refl, sym, ◌∙◌, ap, subst, arith, append_assoc, inl, inr, true, false, ◌==◌, length-append}
 use Rattle.std.proofs.lemmas.List.{append-nil, take_at, drop_at, drop_more, at_drop_all}
 use Rattle.std.proofs.Math.Seq.{take-append-add}
 use Rattle.batch_journal.specs.Lines.{IsLine, AreLines, text_of, until_zero, whole_from, whole_lines}
@@ -64,9 +64,6 @@ lines_are lines line rest are is none =
     ∙ append-nil lines
 
 module _ (bytes : List ℕ) (end at : ℕ) (rest : List ℕ) (s : Stands bytes end at rest) (none : until_zero rest ≡ []) where
-  pub all_within : end ≤ length bytes
-  all_within = omega (arith, s.size, ap length s.splits, length-append (text_of s.lines) (s.line ++ rest))
-
   pub text_found : take end bytes ≡ text_of (whole_lines bytes)
   text_found =
       ap (take end) s.splits ∙ take_at (text_of s.lines) (s.line ++ rest) end (sym s.size)
@@ -122,25 +119,7 @@ none_in_front begun [] (suc n) none = refl
 none_in_front begun (b ∷ bytes) zero none = refl
 none_in_front begun (b ∷ bytes) (suc n) none = one_in_front begun b bytes n none (none_in_front (begun ++ b ∷ []) bytes n) (bool_cases (b == 0)) (bool_cases (b == 10))
 
-length-take_min : (n : ℕ) (l : List ℕ) → n ≤ length l → length (take n l) ≡ n
-length-take_min n l le = search rules
-
 take_over : (p q : List ℕ) (n m : ℕ) → length p ≡ m → m ≤ n → take n (p ++ q) ≡ p ++ take (n - m) q
 take_over p q n m size le =
     let split : n ≡ length p + (n - m) = omega (arith, size) in
     ap (λ k. take k (p ++ q)) split ∙ take-append-add p q (n - m)
-
--- a file that is cut behind its whole lines has the same
-pub cut_keeps : (file : List ℕ) (end kept : ℕ) → end ≤ length file → take end file ≡ text_of (whole_lines file) → whole_from [] (until_zero (drop end file)) ≡ []
-    → AreLines (whole_lines file) → end ≤ kept → whole_lines (take kept file) ≡ whole_lines file
-cut_keeps file end kept within text rest are le =
-    let lines = whole_lines file in
-    let behind = drop end file in
-    let size : length (text_of lines) ≡ end = sym (ap length text) ∙ length-take_min end file within in
-    let whole : file ≡ text_of lines ++ behind = sym (take-append-drop end file) ∙ ap (λ (l : List ℕ). l ++ behind) text in
-    let cut : take kept file ≡ text_of lines ++ take (kept - end) behind = ap (λ (l : List ℕ). take kept l) whole ∙ take_over (text_of lines) behind kept end size le in
-    ap whole_lines cut
-    ∙ ap (whole_from []) (until_zero_behind (text_of lines) (take (kept - end) behind) (no_zero lines are))
-    ∙ reads_lines lines (until_zero (take (kept - end) behind)) are
-    ∙ ap (λ l. lines ++ l) (none_in_front [] behind (kept - end) rest)
-    ∙ append-nil lines

@@ -1,5 +1,5 @@
 -- Branches that are written one by one.
-use Rattle.std.proofs.Common.{◌≡◌, ◌<◌, ◌≤◌, ◌+◌, ◌++◌, ℕ, suc, List, [], ◌∷◌, map, drop, length, get_or, sym, ap, ◌∙◌, add-one, drop-cons, drop_of_length-le, append_assoc, append-nil, codes}
+use Rattle.std.proofs.Common.{◌≡◌, ◌<◌, ◌≤◌, ◌+◌, ◌++◌, ℕ, suc, List, [], ◌∷◌, map, drop, length, get_or, sym, ap, ◌∙◌, add-one, drop-cons, drop_of_length-le, append_assoc, codes}
 use Rattle.batch_recipe.specs.Diagram.{diagram_of, diagrams_of, cases_of}
 use Rattle.batch_recipe.specs.declared.chart.Chart.{Chart}
 use Rattle.batch_recipe.specs.declared.condition.Cond.{Cond}
@@ -25,9 +25,6 @@ module _ (named : Labels) (p h : List ℕ) where
   parts_more ds i d before after whole within is before_is grown =
       more before after (along named (seat_below p h i []) (diagram_of d)) (parts (i + 1) (drop (i + 1) ds)) (parts i (drop i ds)) whole grown
       (ap (parts i) (cut ds i d within is)) before_is
-
-  pub parts_all : (ds : List Chart) (i : ℕ) (text whole : List ℕ) → length ds ≤ i → text ++ parts i (drop i ds) ≡ whole → text ≡ whole
-  parts_all ds i text whole past is = sym (append-nil text) ∙ (ap (λ ps. text ++ parts i ps) (sym (drop_of_length-le ds past)) ∙ is)
 
   pub cases_more : (cs : List (Cond × Chart)) (last : Chart) (i : ℕ) (c : Cond × Chart) (before after whole : List ℕ) → i < length cs → c ≡ get_or cs i c
       → before ++ cases i (drop i cs) last ≡ whole → after ≡ before ++ along named (seat_below p h i (if_text c.0)) (diagram_of c.1) → after ++ cases (i + 1) (drop (i + 1) cs) last ≡ whole

@@ -135,11 +135,6 @@ nothing_written {W} contents stood text w fault none failed missing = record {
   missing = λ _. subst HasNoOutput (sym failed) missing;
 }
 
-pub nothing_out : {W : Type 0} (contents : W → Option (List ℕ)) (stood : Option (List ℕ)) (front : List ℕ) (lines : List (List ℕ)) (w : Written W) (fault : PipeFault) → w.output ≡ None
-    → w.fault ≡ Some fault → HasNoOutput (Some fault) → IsWrittenOut contents stood front lines lines w
-nothing_out contents stood front lines w fault none failed missing =
-    record { lines = []; came = sym (append-nil lines); written = nothing_written contents stood (front ++ []) w fault none failed missing }
-
 -- more text may be to come
 pub text_grown : (stood now : Option (List ℕ)) (text more : List ℕ) → HoldsBeginning stood now text → HoldsBeginning stood now (text ++ more)
 text_grown None now text more held = tt

@@ -1,5 +1,5 @@
 -- What a link does, one deed after another.
-use Rattle.std.proofs.Common.{◌≡◌, ℕ, ◌<◌, ◌≤◌, ◌+◌, ◌-◌, ◌⊎◌, inl, inr, List, [], ◌∷◌, ◌++◌, length, map, Option, Some, None, refl, sym, ap, ap₂, ◌∙◌, subst, slice_get, unwrap_or, arith, append_assoc, append-nil}
+use Rattle.std.proofs.Common.{◌≡◌, ℕ, ◌<◌, ◌+◌, ◌-◌, ◌⊎◌, inl, inr, List, [], ◌∷◌, ◌++◌, length, map, Option, Some, None, refl, sym, ap, ap₂, ◌∙◌, subst, slice_get, unwrap_or, arith, append_assoc, append-nil}
 use Rattle.std.proofs.lemmas.List.{length-map, map-append}
 use Rattle.std.proofs.lemmas.List.Sums.{sum_by_push}
 use Rattle.batch_matrix.specs.declared.report.Report.{Report}
@@ -30,14 +30,6 @@ reports-append cell (took out ∷ a) b = reports-append cell a b
 reports-append cell (ticked unit answer ∷ a) b =
     ap (λ l. listed (report_in cell unit answer) ++ l) (reports-append cell a b)
     ∙ sym (append_assoc (listed (report_in cell unit answer)) (reports_made cell a) (reports_made cell b))
-
-few_listed : (o : Option Events.Event) → length (listed o) ≤ 1
-few_listed None = omega arith
-few_listed (Some e) = omega arith
-
-pub few_kept : (cell : Cell) (o : Option Answer) → length (kept_in cell o) ≤ 1
-few_kept cell None = omega arith
-few_kept cell (Some a) = few_listed (report_in cell a.unit (Some (a.phase, a.word)))
 
 -- Batches that are counted
 
@@ -122,18 +114,6 @@ report_dropped cell old new d answer is told left next none = record {
   more = [];
   sent = sym (append-nil d.sent);
   reports = ap (kept_in cell) none ∙ ap listed told ∙ ap (kept_in cell) (sym is);
-}
-
-pub report_waits : (cell : Cell) (old : Link) (d : DeskState) → SendsKept cell old d old d
-report_waits cell old d = record {
-  left = refl;
-  next = refl;
-  events = refl;
-  outs = refl;
-  taken = refl;
-  more = [];
-  sent = sym (append-nil d.sent);
-  reports = refl;
 }
 
 module _ {D : Type 0} (command_gives : D → ℕ → Order → D → Type 0) (tick_gives : D → Option (ℕ × Report) → D → Type 0) where

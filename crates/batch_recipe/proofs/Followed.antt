@@ -44,9 +44,6 @@ module _ (r : Recipe) where
     pub same : (bound : Binding) (x : Node) → slice_get (bound_nodes bound r.acts) node ≡ Some x
         → (y : Node) × (slice_get (bound_nodes bound r.acts) at ≡ Some y) × (following (bound_tree bound r.acts) x.place ≡ following (bound_tree bound r.acts) y.place)
 
-  pub IsUp-first : (node : ℕ) → node < length (procedure_nodes r.acts) → IsUp node node
-  IsUp-first node in' = record { within = in'; same = λ bound x is. (x, is, refl) }
-
   pub parent_within : (at : ℕ) (e : Entry) → at < length (procedure_nodes r.acts) → slice_get Entries at ≡ Some e → at ≢ 0 → e.parent < length (procedure_nodes r.acts)
   parent_within at e in' known later =
       let x = node_there unbound at in' in
@@ -142,9 +139,6 @@ module _ (r : Recipe) where
     pub same : (bound : Binding) (x : Node) → slice_get (bound_nodes bound r.acts) node ≡ Some x
         → (y : Node) × (slice_get (bound_nodes bound r.acts) at ≡ Some y) × (level_at (bound_tree bound r.acts) x.place ≡ level_at (bound_tree bound r.acts) y.place)
 
-  pub IsLevel-first : (node : ℕ) → node < length (procedure_nodes r.acts) → IsLevel node node
-  IsLevel-first node in' = record { within = in'; same = λ bound x is. (x, is, refl) }
-
   module _ (node at : ℕ) (h : IsLevel node at) (e above_e : Entry) (known : slice_get Entries at ≡ Some e) (above_known : slice_get Entries e.parent ≡ Some above_e) (later : at ≢ 0) where
     pub IsLevel-next : form_of above_e.kind ≢ an_act → IsLevel node e.parent
     IsLevel-next other = record {
@@ -237,9 +231,6 @@ module _ (r : Recipe) where
       record { some = tt; none = λ _. ap (named_among name) (s.none past) }
 
   -- What a node reserves
-
-  reserve_names : List Name → ℕ → List Reserve
-  reserve_names names from = reserves_from from names
 
   reserve_at : (names : List Name) (from i : ℕ) (name : Name) → slice_get names i ≡ Some name → (x : Reserve) × (slice_get (reserves_from from names) i ≡ Some x) × (x.name ≡ name)
   reserve_at [] from i name is = let bad : None ≡ Some name = is in absurd cc

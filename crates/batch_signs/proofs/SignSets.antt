@@ -1,5 +1,5 @@
 -- Sets of nodes by sign.
-use Rattle.std.proofs.Common.{◌≡◌, ◌<◌, ◌≤◌, ◌+◌, ◌*◌, ◌/◌, ◌%◌, refl, sym, ◌∙◌, ap, ap₂, subst, ℕ, List, length, Bool, true, false, Option, Some, None, inl, inr, ◌⊎◌, arith, nat_eq, bit_and, bit_or, get_or}
+use Rattle.std.proofs.Common.{◌≡◌, ◌<◌, ◌≤◌, ◌+◌, ◌*◌, ◌/◌, ◌%◌, refl, sym, ◌∙◌, ap, ap₂, subst, ℕ, List, length, Bool, true, false, Some, None, inl, inr, ◌⊎◌, arith, nat_eq, bit_and, bit_or, get_or}
 use Rattle.std.specs.Prelude.{◌^◌, min, max, not, slice_index, slice_set}
 use Rattle.std.specs.Int.{bit_at}
 use Rattle.std.specs.Int.Bits.{bit_xor}
@@ -9,7 +9,7 @@ use Rattle.std.proofs.lemmas.Nat.{div-add-mod', mod_below, div-mul-add, mod-mul-
 use Rattle.std.proofs.lemmas.Nat.Bits.{bit_at-lt, bit_at-zero, bit_at_or, bit_at_xor, bit_at_above}
 use Rattle.batch_signs.specs.Bits.{with_told, IsLowestFrom}
 use Rattle.batch_signs.specs.SignSets.{set_of, shown, bit_of, AreSummed, AreJoined, IsTurnedAt, IsChangedAt, ShowsNone, ShowsSome, IsFirstShown}
-use Rattle.batch_signs.proofs.Bits.{nat-same, nat-self, differs, no-bits, zeros, with-one_same, with-one_other, with-zero_same, with-zero_other}
+use Rattle.batch_signs.proofs.Bits.{nat-same, differs, no-bits, zeros, with-one_same, with-one_other, with-zero_same, with-zero_other}
 use Rattle.batch_signs.proofs.Wanting.{no-bit}
 
 not-one : (x : ℕ) → x ≡ 0 → x ≡ 1 → ⊥
@@ -68,13 +68,6 @@ joined-more words first wanted from set sign word j below is small same = record
         go (inr q) _ = j.some b q
         go (inl q) (inr r) = (sign, small, is, ap (λ z. bit_at z b) (sym same) ∙ r)
         go (inl q) (inl r) = absurd (not-one (bit_at (bit_or set word) b) (bit_at_or set word b ∙ max-none (bit_at set b) (bit_at word b) q r) e)
-
-pub joined-all : (words : List ℕ) (first wanted from set : ℕ) → AreJoined words first wanted from set → ((k : ℕ) → from ≤ k → bit_at wanted k ≡ 0) → AreJoined words first wanted 32 set
-joined-all words first wanted from set j rest = record { none = λ b s e l w. go b s e w (cases_lt s from); some = j.some }
-  where
-    go : (b s : ℕ) → bit_at set b ≡ 0 → bit_at wanted s ≡ 1 → (s < from) ⊎ (from ≤ s) → bit_at (slice_index words (first + s)) b ≡ 0
-    go b s e w (inl q) = j.none b s e q w
-    go b s e w (inr q) = absurd (not-one (bit_at wanted s) (rest s q) w)
 
 -- a bit written
 
@@ -238,9 +231,6 @@ pub record AreChangedTo (old new : List ℕ) (node was signs count : ℕ) : Type
   pub left : (s : ℕ) → s < 32 → count ≤ s → shown new node s ≡ bit_at was s
   pub others : (k s : ℕ) → s < 32 → (k ≡ node → ⊥) → shown new k s ≡ shown old k s
 
-pub changed-none : (words : List ℕ) (node was signs : ℕ) → ((s : ℕ) → s < 32 → shown words node s ≡ bit_at was s) → AreChangedTo words words node was signs 0
-changed-none words node was signs h = record { long = refl; done = λ s l q. absurd (omega (arith, q)); left = λ s l q. h s l; others = λ k s l q. refl }
-
 even : (a b : ℕ) → a < 2 → b < 2 → (a + b) % 2 ≡ 0 → a ≡ b
 even a b l m e = omega arith
 
@@ -341,13 +331,6 @@ module _ (words : List ℕ) (wanted from set : ℕ) (j : AreJoined words (from /
       some-later =
           let one = joint.some later found.2 in
           (one.0, one.1, one.2, h.some later one.0 one.1 (subst (λ z. bit_at (slice_index summary z) later ≡ 1) (omega arith) one.3))
-
-      pub later-room : later * 32 + 32 ≤ length words
-      later-room = go (cases_lt (later * 32) (length words))
-        where
-          go : (later * 32 < length words) ⊎ (length words ≤ later * 32) → later * 32 + 32 ≤ length words
-          go (inl q) = omega (arith, q, h.whole)
-          go (inr q) = absurd (let one = some-later in let none : set_of words later one.0 ≡ 0 = get_or_past {X = ℕ} words (later * 32 + one.0) 0 (omega (arith, q)) in omega (arith, none, one.3))
 
       module _ (later-set : ℕ) (there : AreJoined words (later * 32) wanted 32 later-set) where
         pub not-empty : IsLowestFrom later-set 0 None → ⊥

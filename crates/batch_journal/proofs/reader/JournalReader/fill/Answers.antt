@@ -18,8 +18,7 @@ invariant_of-self-then-end-eq0 g c =
 
 pub returns-then-end-eq0-clause-keeps : goal.returns-then-end-eq0-clause-keeps
 returns-then-end-eq0-clause-keeps g c =
-    let ok = c.in_ok-count.ensures.ok in
-    keeps_more _ _ _ _ _ (ok.2 ∙ ap (λ l. l ++ ok.0) c.move_to_front.ensures.items) ok.3
+    let ok = c.in_ok-count.ensures.ok in keeps_more _ _ _ _ _ (ok.2 ∙ ap (λ l. l ++ ok.0) c.move_to_front.ensures.items) ok.3
 
 pub invariant_of-self-then-has_own : goal.invariant_of-self-then-has_own
 invariant_of-self-then-has_own g c =
@@ -31,6 +30,10 @@ invariant_of-self-then-has_own g c =
       ready = λ d f. now.ready d f ∙ none_of _ _ none ∙ sym (none_of _ _ none);
       accounted = λ d. accounted_keeps _ _ _ _ _ refl (keeps_more _ _ _ _ _ (ok.2 ∙ ap (λ l. l ++ ok.0) c.move_to_front.ensures.items) ok.3) (now.accounted d);
     }
+
+pub returns-then-has_own-clause-keeps : goal.returns-then-has_own-clause-keeps
+returns-then-has_own-clause-keeps g c =
+    let ok = c.in_ok-count.ensures.ok in keeps_more _ _ _ _ _ (ok.2 ∙ ap (λ l. l ++ ok.0) c.move_to_front.ensures.items) ok.3
 
 pub write-requires-clause-lines : goal.write-requires-clause-lines
 write-requires-clause-lines g c = record { whole = group_front _ _ c.end_of-end.ensures.text; others = c.has_own.ensures c.if-has_own.false }
@@ -51,7 +54,10 @@ invariant_of-self-2 g c =
       accounted = λ d. accounted_keeps _ _ _ _ _ (c.write.ensures.given d) (keeps_more _ _ _ _ _ (ok.2 ∙ ap (λ l. l ++ ok.0) c.move_to_front.ensures.items) ok.3) (now.accounted (c.write.ensures.stays d));
     }
 
+pub returns-in_err-write-clause-keeps : goal.returns-in_err-write-clause-keeps
+returns-in_err-write-clause-keeps g c =
+    let ok = c.in_ok-count.ensures.ok in keeps_more _ _ _ _ _ (ok.2 ∙ ap (λ l. l ++ ok.0) c.move_to_front.ensures.items) ok.3
+
 pub returns-clause-keeps : goal.returns-clause-keeps
 returns-clause-keeps g c =
-    let ok = c.in_ok-count.ensures.ok in
-    keeps_more _ _ _ _ _ (ok.2 ∙ ap (λ l. l ++ ok.0) c.move_to_front.ensures.items) ok.3
+    let ok = c.in_ok-count.ensures.ok in keeps_more _ _ _ _ _ (ok.2 ∙ ap (λ l. l ++ ok.0) c.move_to_front.ensures.items) ok.3
