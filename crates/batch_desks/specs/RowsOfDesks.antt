@@ -90,9 +90,9 @@ OtherNamesDiffer = (one two : Desk) → one.name ≡ codes "A" → two.name ≡ 
 
 -- ---- units
 
--- a desk of the unit R9 in a cell of R1, one of R1, and one of all units
+-- a desk of the unit MIXER in a cell of R1, one of R1, and one of all units
 abbrev pub UnitIsLookedUp : Type 0
-UnitIsLookedUp = (desk : Desk) → desk.unit ≡ Some (codes "R9") → ¬ HaveUnits (codes "R1" ∷ []) (desk ∷ [])
+UnitIsLookedUp = (desk : Desk) → desk.unit ≡ Some (codes "MIXER") → ¬ HaveUnits (codes "R1" ∷ []) (desk ∷ [])
 
 abbrev pub UnitIsFound : Type 0
 UnitIsFound = (desk : Desk) → desk.unit ≡ Some (codes "R1") → HaveUnits (codes "R1" ∷ []) (desk ∷ [])

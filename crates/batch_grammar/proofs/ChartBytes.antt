@@ -14,9 +14,6 @@ digit-no_space b h = grind (arith, nat_tests)
 pub digit-no_letter : (b : ℕ) → is_ascii_digit b ≡ true → is_ascii_alphabetic b ≡ false
 digit-no_letter b h = grind (arith, nat_tests)
 
-pub no_name_byte-no_digit : (b : ℕ) → is_name_byte b ≡ false → is_ascii_digit b ≡ false
-no_name_byte-no_digit b h = grind (arith, nat_tests)
-
 pub space-no_name_byte : (b : ℕ) → is_chart_space b ≡ true → is_name_byte b ≡ false
 space-no_name_byte b h = grind (arith, nat_tests)
 

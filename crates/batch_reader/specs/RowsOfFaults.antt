@@ -54,12 +54,12 @@ NeitherIsMissing =
 abbrev pub FirstByteIsGood : Type 0
 FirstByteIsGood = ¬ IsNoChartAt 0 (codes "seq(ADD")
 
--- a module of the unit R9 in a cell without it, and no module after it
+-- a module of the unit MIXER in a cell without it, and no module after it
 abbrev pub FirstModuleIsUndeclared : Type 0
-FirstModuleIsUndeclared = (m : Module) → m.unit ≡ Some (codes "R9") → HasUndeclaredUnit (record { units = []; modules = m ∷ []; shared = [] }) table_kind.Module 0
+FirstModuleIsUndeclared = (m : Module) → m.unit ≡ Some (codes "MIXER") → HasUndeclaredUnit (record { units = []; modules = m ∷ []; shared = [] }) table_kind.Module 0
 
 abbrev pub NoLaterModuleIsTold : Type 0
-NoLaterModuleIsTold = (m : Module) → m.unit ≡ Some (codes "R9") → ¬ HasUndeclaredUnit (record { units = []; modules = m ∷ []; shared = [] }) table_kind.Module 1
+NoLaterModuleIsTold = (m : Module) → m.unit ≡ Some (codes "MIXER") → ¬ HasUndeclaredUnit (record { units = []; modules = m ∷ []; shared = [] }) table_kind.Module 1
 
 -- of 65 tables where 64 may stand the last one is too many, and of 64 none
 abbrev pub CountsAreTold : Type 0

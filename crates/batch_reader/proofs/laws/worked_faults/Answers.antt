@@ -13,8 +13,8 @@ use Rattle.batch_reader.specs.declared.keys.ValueForm.TheVariants as form
 use Rattle.batch_reader.specs.RowsOfFaults.{on_unit, for_role, with_keys}
 use Rattle.batch_reader.proofs.laws.worked_faults.Goals as goal
 
--- no unit of a cell without any is R9
-unit_is_missing : (m : Module) → m.unit ≡ Some (codes "R9") → HasDeclaredUnits [] (m ∷ []) → ⊥
+-- no unit of a cell without any is MIXER
+unit_is_missing : (m : Module) → m.unit ≡ Some (codes "MIXER") → HasDeclaredUnits [] (m ∷ []) → ⊥
 unit_is_missing m unit all = grind arith
 
 pub returns-clause-missing : goal.returns-clause-missing
