@@ -1,4 +1,4 @@
--- What each call of the pool makes of its fields, and of the lists that are seen.
+-- The effect of each call of the pool on its fields, and on the lists that are seen.
 use Rattle.std.proofs.Common.{ℕ, ◌≡◌, ◌+◌, ◌-◌, ◌<◌, List, [], ◌∷◌, ◌++◌, length, get_or, drop, refl, sym, ap, ◌∙◌, subst, arith, suc, zero, set, map}
 use Rattle.std.proofs.lemmas.List.{get_or-map}
 use Rattle.std.proofs.lemmas.List.Sums.{get_or-le-sum_by}

@@ -1,4 +1,4 @@
--- How a pool begins, and what it does to it when an entry more is free.
+-- A new pool, and the effect of one more free entry on a pool.
 use Rattle.std.proofs.Common.{ℕ, ◌≡◌, ◌≢◌, ◌+◌, ◌*◌, ◌<◌, ◌≤◌, ◌^◌, List, [], ◌∷◌, ◌++◌, length, refl, sym, ap, ◌∙◌, subst, arith, suc, zero, map, inl, inr, add-one}
 use Rattle.std.specs.Prelude.{sum_by, replicate}
 use Rattle.std.specs.List.{All}

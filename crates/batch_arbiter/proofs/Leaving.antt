@@ -1,4 +1,4 @@
--- What it does to the pool when a claim leaves a list: the first one, or one behind another.
+-- The effect on the pool when a claim leaves a list: the first one, or one behind another.
 use Rattle.std.proofs.Common.{ℕ, ◌≡◌, ◌≢◌, ◌<◌, List, ◌∷◌, length, drop, refl, sym, ap, ◌∙◌, subst, arith, suc, zero, set}
 use Rattle.std.specs.List.{remove}
 use Rattle.std.proofs.lemmas.List.{length-set}

@@ -1,4 +1,4 @@
--- What writes to entries of the pool do to the lists that are linked through it.
+-- The effect of writes to entries of the pool on the lists that are linked through it.
 use Rattle.std.proofs.Common.{ℕ, ◌≡◌, ◌≢◌, ◌<◌, ◌≤◌, List, [], ◌∷◌, ◌++◌, length, refl, sym, ap, ◌∙◌, subst, arith, suc, zero, set, cond, eq-eqb}
 use Rattle.std.specs.List.{remove}
 use Rattle.std.proofs.lemmas.List.{get_or-set_same, get_or-set_other}
@@ -36,7 +36,7 @@ Avoids-past part parts i es zero first end past h = tt
 Avoids-past part parts i es (suc n) first end past h =
     ((λ e. absurd (omega (arith, h.0))), Avoids-past part parts i es n (at es first).next end past h.2)
 
--- what changes elsewhere leaves a list as it is
+-- changes elsewhere leave a list as it is
 pub Leads-kept : (part : Part) (parts parts' : ℕ → Part) (es fs : List Entry) (i j : ℕ) → Edits parts parts' es fs i j → (n first end : ℕ) → Avoids i es n first → Avoids j es n first → Leads part parts es n first end → Leads part parts' fs n first end
 Leads-kept part parts parts' es fs i j d zero first end a b h = h
 Leads-kept part parts parts' es fs i j d (suc n) first end a b h =

@@ -1,4 +1,4 @@
--- What joining and leaving a list does to the pool as a whole.
+-- The effect of joining and leaving a list on the pool as a whole.
 use Rattle.std.proofs.Common.{ℕ, ◌≡◌, ◌≢◌, ◌+◌, ◌<◌, List, [], ◌∷◌, ◌++◌, length, get_or, refl, sym, ap, ◌∙◌, subst, arith, suc, set, map, inl, inr}
 use Rattle.std.specs.Prelude.{sum_by}
 use Rattle.std.proofs.lemmas.List.{length-set, length-map, get_or-map, get_or-set_same, get_or-set_other, same_lists}
@@ -15,7 +15,7 @@ map_here f g xs k i x d y e h here same =
     let b : k < length (map f xs) = rw (length-map xs f) h in
     rw (same, get_or-map g (set xs k x) k d e a, get_or-set_same xs k x d h, get_or-set_same (map f xs) k y e b) here
 
--- the views of all lists, where one list changed and the others are seen as before
+-- the views of all lists, if one list changed and the others are seen as before
 pub map-set_changed : {X Y : Type 0} (f g : X → Y) (xs : List X) (k : ℕ) (x d : X) (y : Y) → k < length xs → g x ≡ y → ((j : ℕ) → j < length xs → j ≢ k → g (get_or xs j d) ≡ f (get_or xs j d)) → map g (set xs k x) ≡ set (map f xs) k y
 map-set_changed f g xs k x d y h here others =
     same_lists _ _
@@ -104,7 +104,7 @@ module _ (parts parts' : ℕ → Part) (es fs : List Entry) (ls : List Ends) (i 
         numbered = omega (arith, s.same, s.linked.numbered);
       }
 
-  -- what a caller sees: list k is another one
+  -- the view of a caller: list k is another one
   pub claims-step : map (claims_of fs) (set ls k l) ≡ set (map (claims_of es) ls) k (claims_of fs l)
   claims-step = map-set_changed (claims_of es) (claims_of fs) ls k l no_list (claims_of fs l) s.known refl (λ q w ne. (other q w ne).1)
 

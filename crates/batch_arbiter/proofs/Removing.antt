@@ -1,4 +1,4 @@
--- What it does to a list when the first claim of an act leaves it.
+-- The effect on a list when the first claim of an act leaves it.
 use Rattle.std.proofs.Common.{ℕ, ◌≡◌, ◌≢◌, ◌+◌, ◌-◌, ◌<◌, List, [], length, get_or, refl, sym, ap, ◌∙◌, subst, arith, suc, set, map, false}
 use Rattle.std.specs.Prelude.{slice_get, MatchOption}
 use Rattle.std.specs.List.{remove}
@@ -71,7 +71,7 @@ module _ (es : List Entry) (ls : List Ends) (k unused room m b : ℕ) (known : k
         ap (λ (e : Entry). e.units) (at-set_same (set es b (past es b)) (at es b).next (gone es b unused) set_long) ∙ ap (λ (e : Entry). e.units) (at-set_other es b (at es b).next (past es b) (λ q. apart (sym q))),
       )
 
--- the same where it is the act's
+-- the same if it is the act's
 module _ (es : List Entry) (ls : List Ends) (k unused room batch node b : ℕ) (known : k < length ls) (linked : IsLinked es ls unused room) (s : IsBefore es (ends_at ls k) batch node b) where
   first-of_act : IsFirst (is_claim batch node) (claims_of es (ends_at ls k)) (suc s.place)
   first-of_act = IsFirst-before es (ends_at ls k) batch node b s

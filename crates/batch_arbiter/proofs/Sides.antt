@@ -1,4 +1,4 @@
--- The lists of the pool as shares and lines: what an edit of one list does to the allocation.
+-- The lists of the pool as shares and lines: the effect of an edit of one list on the allocation.
 use Rattle.std.proofs.Common.{ℕ, ◌≡◌, ◌≢◌, Bool, true, false, cond, find, refl, ◌+◌, ◌-◌, ◌<◌, ◌≤◌, ◌^◌, List, [], ◌∷◌, ◌++◌, length, drop, sym, ap, ◌∙◌, subst, arith, set, Some, None, inl, inr}
 use Rattle.std.specs.Prelude.{slice_index, replicate}
 use Rattle.std.specs.List.{All}
@@ -34,7 +34,7 @@ pub seen-release : (capacities : List ℕ) (p : Lists) (r batch node : ℕ) → 
     → seen capacities (with_list p r (without_first (is_claim batch node) (list_at p r)) (p.room + 1)) ≡ released r batch node (seen capacities p)
 seen-release capacities p r batch node h = grind (arith, seen-share capacities p r (p.room + 1) (without_first (is_claim batch node) (list_at p r)) h, shares-seen capacities p r h)
 
--- nobody holds or waits for anything
+-- no act holds or waits for anything
 pub seen-new : (capacities : List ℕ) (p : Lists) (m : ℕ) → m ≡ length capacities + length capacities → p ≡ record { lists = replicate m []; room = 0 } → seen capacities p ≡ idle capacities
 seen-new capacities p m twice new =
     let less : m - length capacities ≡ length capacities = omega arith in
@@ -54,7 +54,7 @@ IsSound-new capacities held p m none twice new counted =
       counted = counted;
     }
 
--- what is granted next is free
+-- the units of the next grant are free
 next-free : (capacity : ℕ) (shares line : List Claim) (c : Claim) → next_in capacity shares line ≡ Some c → held_units shares + c.units ≤ capacity
 next-free capacity shares line c e = grind (arith, leb-true)
 

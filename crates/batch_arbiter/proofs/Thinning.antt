@@ -16,7 +16,7 @@ use Rattle.batch_arbiter.proofs.Removing.{with_one_less, here-within, next-is, n
 abbrev pub staying : ℕ → List Claim → List Claim
 staying batch claims = filter (λ c. not (is_of_batch batch c)) claims
 
--- where no claim is the batch's, all stay
+-- if no claim is the batch's, all stay
 all-stay : (batch : ℕ) (cs : List Claim) → asks_of batch cs ≡ 0 → staying batch cs ≡ cs
 all-stay batch [] e = refl
 all-stay batch (c ∷ cs) e = go (is_of_batch batch c) (all-stay batch cs) e
@@ -178,7 +178,7 @@ module _ (p : Lists) (k batch most i before left : ℕ) (es : List Entry) (ls : 
 
 -- The first claim, when those behind it are gone
 
--- the list is what it was made, and once it is another, only that counts
+-- list k is the one that was put there last
 list-with : (p : Lists) (k room : ℕ) (claims : List Claim) → k < length p.lists → list_at (with_list p k claims room) k ≡ claims
 list-with p k room claims h = get_or-set_same p.lists k claims [] h
 

@@ -1,11 +1,11 @@
--- surface: lists of claims whose entries stand in one pool, each with the number of the next.
+-- surface: lists of claims whose entries are in one pool, each with the number of the next.
 use Rattle.std.specs.Prelude.{ℕ, zero, suc, ◌≡◌, ◌≢◌, ◌+◌, ◌<◌, ◌≤◌, ◌^◌, List, [], ◌∷◌, length, slice_index_or, slice_set, map, sum_by, cond, nat_eq, Bool, true, false, ⊤}
 use Rattle.std.specs.List.{All}
 use Rattle.batch_arbiter.specs.Allocation.{Claim, is_claim, held_units, without_first}
 use Rattle.batch_arbiter.specs.declared.entry.Entry.{Entry}
 use Rattle.batch_arbiter.specs.declared.ends.Ends.{Ends}
 
--- what a caller sees: each list, and how many claims can still be taken without memory
+-- the view of a caller: each list, and the number of claims that can still be taken without memory
 pub record Lists : Type 0 where
   pub lists : List (List Claim)
   pub room : ℕ
@@ -40,7 +40,7 @@ claims_from entries (suc n) first = claim_of (at entries first) ∷ claims_from 
 abbrev pub claims_of : List Entry → Ends → List Claim
 claims_of entries l = claims_from entries l.len l.first
 
--- what part an entry plays: it ends the free ones, is free, ends a list, or has a claim of a list
+-- the part of an entry: it ends the free ones, is free, ends a list, or has a claim of a list
 pub data Part : Type 0 where
   bottom : Part
   free : Part
@@ -81,7 +81,7 @@ pub record IsLinked (entries : List Entry) (lists : List Ends) (unused room : �
   pub parts : ℕ → Part
   pub by_parts : IsLinkedBy parts entries lists unused room
 
--- the number of the entry that stands m places behind the first
+-- the number of the entry m places behind the first
 abbrev pub behind : List Entry → ℕ → ℕ → ℕ
 behind entries zero first = first
 behind entries (suc m) first = behind entries m (at entries first).next
@@ -103,7 +103,7 @@ pub record IsSomeList (entries : List Entry) (l : Ends) : Type 0 where
 abbrev pub is_claim_behind : List Entry → Ends → ℕ → ℕ → ℕ → Bool
 is_claim_behind entries l batch node m = is_claim batch node (claim_of (at entries (behind entries m l.first)))
 
--- this entry stands before the first one of the act
+-- this entry is the one before the first of the act
 pub record IsBefore (entries : List Entry) (l : Ends) (batch node before : ℕ) : Type 0 where
   pub place : ℕ
   pub is : before ≡ behind entries place l.first

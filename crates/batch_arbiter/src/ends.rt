@@ -1,6 +1,6 @@
 //! Lists of claims.
 
-/// Where a list of claims begins and ends in the pool.
+/// The ends of a list of claims in the pool.
 #[derive(Clone, Copy)]
 pub struct Ends {
     /// The number of its first entry.

@@ -11,7 +11,7 @@ use std::marker::Model;
 /// As many as a `u32` numbers.
 const MAX_ENTRIES: usize = 1 << 32;
 
-/// Lists of claims whose entries stand in one table. Only `new` and `reserve` take memory.
+/// Lists of claims whose entries are in one table. Only `new` and `reserve` take memory.
 #[derive(Drop)]
 pub struct Pool {
     /// The first one is never used: the free entries lead to it.
@@ -122,7 +122,7 @@ impl Pool {
         taken
     }
 
-    /// All claims of the batch leave a list, which has at most so many of them: it isn't looked through beyond the last.
+    /// All claims of the batch leave a list, which has at most so many of them: it isn't searched beyond the last.
     pub fn remove_batch(&mut self, list: usize, batch: u64, most: u16)
         requires known { list < length self.old.lists }
         requires most { asks_of batch (list_at self.old list) ≤ most }
@@ -172,7 +172,7 @@ impl Pool {
         }
     }
 
-    /// The first claim of the act leaves a list, and its units are told. None where the act has none there.
+    /// Removes the first claim of the act from a list, and returns its units. None where the act has none there.
     pub fn remove(&mut self, list: usize, batch: u64, node: u16) -> Option<u32>
         requires { list < length self.old.lists }
         ensures some { IfSome result (λ units. IsRemoved self.old list batch node units self.new) }
@@ -185,7 +185,7 @@ impl Pool {
         self.remove_later(list, batch, node)
     }
 
-    /// The same where the first claim of the list is another act's.
+    /// The same if the first claim of the list is another act's.
     fn remove_later(&mut self, list: usize, batch: u64, node: u16) -> Option<u32>
         requires known { list < length self.old.lists }
         requires later { MatchOption (slice_get (list_at self.old list) 0) ⊥ (λ c. is_claim batch node c ≡ false) }
@@ -205,7 +205,7 @@ impl Pool {
         Some(self.entries[taken as usize].units)
     }
 
-    /// More room, where it isn't there already.
+    /// Makes room for `n` more claims, if it isn't there already.
     pub fn reserve(&mut self, n: usize) -> Result<(), AllocError>
         ensures ok { OnOk result (n ≤ self.new.room) }
         ensures room { self.old.room ≤ self.new.room }
@@ -246,7 +246,7 @@ fn before_act(entries: &[Entry], ends: Ends, batch: u64, node: u16) -> Option<u3
     None
 }
 
-/// The entry behind another one leaves its list, and leads to the first free one; its number.
+/// Moves the entry behind another one from its list to the front of the free ones. Returns its number.
 fn unlink(entries: &mut Vec<Entry>, before: u32, free: u32) -> u32
     requires known { before < length entries.old.items }
     requires next { (at entries.old.items before).next < length entries.old.items }
@@ -259,7 +259,7 @@ fn unlink(entries: &mut Vec<Entry>, before: u32, free: u32) -> u32
     taken
 }
 
-/// More entries before the first free one; the number of what is the first free one then.
+/// Adds so many entries before the first free one. Returns the number of the first free one after that.
 fn add_free(entries: &mut Vec<Entry>, free: u32, more: usize) -> u32
     requires fits { vec_len entries.old + more ≤ vec_capacity entries.old }
     requires numbered { vec_len entries.old + more ≤ 2 ^ 32 }

@@ -1,4 +1,4 @@
--- How an audit goes on by a line that was sent, and what it finds.
+-- The step of an audit by a line that was sent, and its finding.
 use Rattle.std.proofs.Common.{◌≡◌, ◌⊎◌, ℕ, ◌+◌, ◌-◌, ◌^◌, true, false, not, List, [], ◌∷◌, ◌++◌, Option, Some, None, Result, Ok, Err, length, min, take, drop, refl, sym, ap, subst, ◌∙◌, append_assoc, append-nil, codes, IfSome, inl, inr, arith}
 use Rattle.std.specs.Prelude.{◌≢◌}
 use Rattle.std.specs.List.{list_all}
@@ -28,7 +28,7 @@ use Rattle.batch_audit.proofs.ComparingLemmas.{comments_tell, last_of, lines_apa
 
 -- Transcripts
 
--- whatever the lines say, each that gives an event may be refused for want of memory
+-- each line has an answer that leaves the plant: one that gives an event may be refused for want of memory
 may_be_refused : (c : Setup) (plant : Plant) (says : Result (Option Event) WireFault) → (said : Exchange) × Answers c plant says said plant
 may_be_refused c plant (Ok None) = (silence, (refl, refl))
 may_be_refused c plant (Err fault) = (refusal fault, (refl, refl))
@@ -53,7 +53,7 @@ reaches_so : (c : Setup) (all left : List (List ℕ)) (plant : Plant) (text othe
 reaches_so c all left plant text other is r = subst (Reaches c all left plant) is r
 
 module _ (c : Setup) (all left : List (List ℕ)) (line : List ℕ) (plant : Plant) (text : List ℕ) (so_far : Reaches c all (line ∷ left) plant text) where
-  -- what a transcript of all lines tells behind the text is an answer to the line, and what comes of the others
+  -- the text of a transcript of all lines, behind this text, is an answer to the line and a transcript of the others
   record Behind (told : List ℕ) (last : Plant) : Type 0 where
     first : Exchange
     others : Exchange
@@ -128,7 +128,7 @@ last_line (line ∷ other ∷ lines) some =
     let on = last_line (other ∷ lines) (λ is. absurd (cc is)) in
     (line ∷ on.0, on.1, ap (λ l. line ∷ l) on.2)
 
--- the first of lines behind which others stand ends with a line feed
+-- the first of lines that others follow ends with a line feed
 record IsFirst (c : Setup) (plant : Plant) (says : Result (Option Event) WireFault) (line : List ℕ) : Type 0 where
   plain : HasNoFeed line
   words : is_comment line ≡ false
@@ -148,7 +148,7 @@ has_more : (lines : List (List ℕ)) (rest : List ℕ) → lines ++ lines_of res
 has_more [] rest is = some_lines rest is
 has_more (line ∷ lines) rest is = absurd (cc is)
 
--- no line feed stands in a line
+-- a line has no line feed
 fed_not : (line : List ℕ) → HasNoFeed line → list_all is_other line ≡ true
 fed_not line plain = list_all-from_AllPass is_other line (λ k d l. ap not (plain k d l))
 
@@ -307,7 +307,7 @@ module _ (set : ClearedSet) (all left : List (List ℕ)) (line : List ℕ) (plan
         wrong : List ℕ
         wrong = take at last ++ 10 ∷ []
 
-        -- the first line that was to be told, and what stands behind it
+        -- the first line that was due, and the rest behind it
         clash : (lines : List (List ℕ)) → said.text ≡ told_text lines ++ left_due → (other_said : Exchange) (s more : List ℕ) → other_said.text ≡ said.text
             → other_said.text ++ s ≡ told_text lines ++ (wrong ++ more) → ⊥
         clash lines told other_said s more same tells =
@@ -391,10 +391,10 @@ module _ (set : ClearedSet) (all left : List (List ℕ)) (line : List ℕ) (plan
         by _ left_due a (comparing.differs number at here some other is) = line_differs left_due number at a here some other is
         by _ left_due a (comparing.ends number none some is) = record_ends left_due number a none some is
 
--- The end of what was sent
+-- The end of the lines that were sent
 
 module _ (set : ClearedSet) (all : List (List ℕ)) (plant : Plant) (text : List ℕ) (count : ℕ) (rest : List ℕ) (so_far : IsAudited set all [] plant text count rest) where
-  -- nothing more is told
+  -- no more answers are due
   last_of_all : (whole : Exchange) (last : Plant) → Transcript (setup set) opening all whole last → BeginsText (told_text so_far.lines) whole.text → whole.text ≡ told_text so_far.lines
   last_of_all whole last t begins =
       let on = so_far.reaches.only whole last t begins in
@@ -444,7 +444,7 @@ module _ (set : ClearedSet) (all : List (List ℕ)) (plant : Plant) (text : List
       by _ then_on last a (comparing.part number none some is) =
           ends_so set all text (so_far.lines ++ a.lines) then_on number last (takes then_on last a) none is (begins then_on last a) (inl some)
 
--- What comes of a line
+-- The outcome of a line
 
 module _ (set : ClearedSet) (all left : List (List ℕ)) (line : List ℕ) (plant : Plant) (text : List ℕ) (count : ℕ) (rest : List ℕ)
     (so_far : IsAudited set all (line ∷ left) plant text count rest) (mid then_on : ℕ) (between last : List ℕ) (comments : IsCompared count rest [] mid between []) where

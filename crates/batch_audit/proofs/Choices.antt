@@ -1,4 +1,4 @@
--- What may come of one line that was sent, and that the first line that is told of it says which.
+-- The outcomes of one line that was sent, and that the first line of the answer says which it was.
 use Rattle.std.proofs.Common.{◌≡◌, ◌⊎◌, ℕ, true, false, not, eqb, nat_eq, List, [], ◌∷◌, ◌++◌, map, flat_map, codes, Option, Some, None, Result, Ok, Err, refl, sym, ◌∙◌, ap, subst, inl, inr, append_assoc, append-nil}
 use Rattle.std.specs.Prelude.{◌≢◌}
 use Rattle.std.specs.List.{list_all, starts_with}
@@ -63,7 +63,7 @@ same_line a b rest more plain other is =
     let lines = sym (first_of_lines a rest plain) ∙ ap lines_of is ∙ first_of_lines b more other in
     cc lines
 
--- What may come of an event
+-- The outcomes of an event
 
 module _ (c : Setup) (old : Plant) where
   rests : (moves : List Move) (new : Plant) → next c old ≡ None → Settles c old moves new → (moves ≡ []) × (new ≡ old)
@@ -102,7 +102,7 @@ module _ (c : Setup) (old : Plant) where
           let clash : true ≡ false = subst (λ a. starts_with nat_eq (out_text (reply a) ++ []) wants_batch ≡ false) wants other in
           absurd (cc clash)
 
-  -- with memory neither is told
+  -- with memory neither refusal is given
   well_tells : (event : Event) (said : Exchange) (new : Plant) (s more : List ℕ) → AnswersWell c old (Ok (Some event)) said new
       → (said.text ++ s ≡ wants_line ++ more → ⊥) × (said.text ++ s ≡ wants_batch ++ more → ⊥)
   well_tells event said new s more (outs, takes, is) =
@@ -135,7 +135,7 @@ module _ (c : Setup) (old : Plant) where
   free_answers (Ok None) line free = absurd free
   free_answers (Err fault) line free = absurd free
 
-  -- and where it is told, no other answer was given
+  -- and if the answer begins with it, no other answer was given
   pub free_once : (says : Result (Option Event) WireFault) (line : List ℕ) (said : Exchange) (new : Plant) (s more : List ℕ) → IsFree c old says line
       → Answers c old says said new → said.text ++ s ≡ (line ++ 10 ∷ []) ++ more → (said.text ≡ line ++ 10 ∷ []) × (new ≡ old)
   free_once (Ok None) line said new s more free answers is = absurd free
@@ -155,7 +155,7 @@ module _ (c : Setup) (old : Plant) where
         | inr (inr well) ↦ absurd ((well_tells event said new s more well).1 told)
       ]
 
-  -- an answer that begins with a line that isn't such a refusal was given with memory
+  -- an answer that begins with a line other than a refusal for want of memory was given with memory
   had_memory : (says : Result (Option Event) WireFault) (line : List ℕ) (said : Exchange) (new : Plant) (s more : List ℕ) → (IsFree c old says line → ⊥) → HasNoFeed line
       → Answers c old says said new → said.text ++ s ≡ line ++ 10 ∷ more → AnswersWell c old says said new
   had_memory (Ok None) line said new s more other plain answers is = answers
@@ -173,7 +173,7 @@ module _ (c : Setup) (old : Plant) where
       let same = answers_once c old says one other new then_on well (had_memory says line other then_on s more not_free plain answers is) in
       (ap (λ (x : Exchange). x.text) (sym same.0), sym same.1)
 
-  -- the engine's own answer, where it isn't such a refusal
+  -- the engine's own answer, if it isn't a refusal for want of memory
   pub well_told : (says : Result (Option Event) WireFault) (said : Exchange) (new : Plant)
       → ((more : List ℕ) → (said.text ≢ wants_line ++ more) × (said.text ≢ wants_batch ++ more)) → Answers c old says said new → AnswersWell c old says said new
   well_told (Ok None) said new other answers = answers
@@ -185,7 +185,7 @@ module _ (c : Setup) (old : Plant) where
         | inr (inr well) ↦ well
       ]
 
-  -- a line of which nothing is told gives nothing, so nothing else is told of it
+  -- a line with an empty answer gives no event, so it has no other answer
   pub silent_once : (says : Result (Option Event) WireFault) (one other : Exchange) (new then_on : Plant) → one.text ≡ []
       → Answers c old says one new → Answers c old says other then_on → (other.text ≡ one.text) × (then_on ≡ new)
   silent_once (Ok None) one other new then_on none a b = (ap (λ (x : Exchange). x.text) b.0 ∙ sym none, b.1 ∙ sym a.1)

@@ -18,7 +18,7 @@ is_end b = eqb b 10
 
 -- A line
 
--- the line that ends there, and what stands behind it
+-- the line that ends there, and the rest behind it
 pub line_apart : (rest : List ℕ) (at : ℕ) → EndsLine at rest → rest ≡ take at rest ++ 10 ∷ drop (at + 1) rest
 line_apart rest at here =
     sym (take-append-drop at rest) ∙ ap (λ l. take at rest ++ l) (drop_more rest at 0 here.within ∙ ap (λ b. b ∷ drop (at + 1) rest) here.feed)
@@ -40,7 +40,7 @@ some_lines text none =
     let counted : length (lines_of text) ≡ count_by is_end text + 1 = length-slice_split is_end text in
     absurd (omega (arith, ap length none, counted))
 
--- What lines tell
+-- The text of lines
 
 fed : (line rest : List ℕ) → (line ++ 10 ∷ []) ++ rest ≡ line ++ 10 ∷ rest
 fed line rest = append_assoc line (10 ∷ []) rest
@@ -92,11 +92,11 @@ none_first : (a b : List ℕ) → [] ≡ a ++ b → a ≡ []
 none_first [] b is = refl
 none_first (x ∷ a) b is = absurd (cc is)
 
--- comments may be taken whatever is due
+-- comments may be taken before any due text
 pub comments_compared : (start : ℕ) (text : List ℕ) (count : ℕ) (rest due : List ℕ) → IsCompared start text [] count rest [] → IsCompared start text due count rest due
 comments_compared start text count rest due a = record { lines = a.lines; takes = a.takes; told = ap (λ l. l ++ due) (sym (none_first (told_text a.lines) [] a.told)) }
 
--- what the comments tell
+-- the text of the comments is empty
 pub comments_tell : (start : ℕ) (text : List ℕ) (count : ℕ) (rest : List ℕ) (a : IsCompared start text [] count rest []) → told_text a.lines ≡ []
 comments_tell start text count rest a = none_first (told_text a.lines) [] a.told
 
@@ -116,7 +116,7 @@ line_compared start text due mid count at between rest left more before is told 
       told = told ∙ sym (fed (take at between) more) ∙ ap (λ l. l ++ more) (sym (told_first (take at between) [] is));
     })
 
--- What is due behind a line
+-- The due text behind a line
 
 pub behind_line : (line due more : List ℕ) (o : Option (Bor (List ℕ))) → due ≡ line ++ more
     → MatchOption o ((rest : List ℕ) → more ≢ (10 ∷ []) ++ rest) (λ rest. more ≡ (10 ∷ []) ++ rest.now)
@@ -124,7 +124,7 @@ pub behind_line : (line due more : List ℕ) (o : Option (Bor (List ℕ))) → d
 behind_line line due more None e other = λ begins. other begins.rest (append_cancel_left line more (10 ∷ begins.rest) (sym e ∙ begins.splits ∙ fed line begins.rest))
 behind_line line due more (Some left) e f = e ∙ ap (λ l. line ++ l) f
 
--- What is empty
+-- Empty lists
 
 pub nothing_left : (l : List ℕ) → (length l == 0) ≡ true → l ≡ []
 nothing_left l is = nil_from_length l (eqb-true (length l) 0 is)

@@ -1,4 +1,4 @@
--- trusted: what an audit finds of a record, against the lines that were sent.
+-- trusted: the finding of an audit on a record, against the lines that were sent.
 use Rattle.std.specs.Prelude.{◌≡◌, ◌≢◌, ◌⊎◌, ℕ, ◌+◌, ◌-◌, ◌^◌, List, [], ◌∷◌, ◌++◌, length, flat_map, min, if◌then◌else◌}
 use Rattle.batch_model.specs.Plant.{Plant, opening}
 use Rattle.batch_verify.specs.ClearedSet.{ClearedSet}
@@ -16,11 +16,11 @@ use Rattle.batch_audit.specs.declared.finding.Finding.TheVariants.{Agrees, Diffe
 abbrev pub HasLines : List ℕ → List (List ℕ) → List ℕ → Type 0
 HasLines text lines last = lines_of text ≡ lines ++ last ∷ []
 
--- what a line tells: a comment tells nothing
+-- the text of a line, with its line feed: that of a comment is empty
 abbrev pub told_line : List ℕ → List ℕ
 told_line line = if is_comment line then [] else line ++ 10 ∷ []
 
--- what lines tell without their comments
+-- the text of lines without their comments
 abbrev pub told_text : List (List ℕ) → List ℕ
 told_text lines = flat_map told_line lines
 
@@ -52,14 +52,14 @@ IsRecordOfNone set sent text = (said : Exchange) (new : Plant) → Transcript (s
 abbrev pub BeginsNoRecord : ClearedSet → List (List ℕ) → List ℕ → Type 0
 BeginsNoRecord set sent text = (said : Exchange) (new : Plant) → Transcript (setup set) opening sent said new → BeginsText text said.text → ⊥
 
--- what is found of a record
+-- the finding on a record
 pub data Finds (set : ClearedSet) (sent : List (List ℕ)) (text : List ℕ) : Finding → Type 0 where
   agrees : (lines : List (List ℕ)) → HasLines text lines [] → IsRecordOf set sent (told_text lines) → Finds set sent text Agrees
-  -- what stands before the line begins a record, and with it that begins none
+  -- the text before the line begins a record, and with the line it begins none
   differs : (before others : List (List ℕ)) (line last : List ℕ) → HasLines text (before ++ line ∷ others) last
       → BeginsRecordOf set sent (told_text before) → BeginsNoRecord set sent (told_text before ++ told_line line)
       → Finds set sent text (Differs (number_behind before))
-  -- all whole lines begin a record, and aren't one, or behind them stands a part of a line
+  -- all whole lines begin a record; they aren't one, or a part of a line follows them
   ends : (lines : List (List ℕ)) (last : List ℕ) → HasLines text lines last
       → BeginsRecordOf set sent (told_text lines) → (last ≢ []) ⊎ IsRecordOfNone set sent (told_text lines)
       → Finds set sent text (EndsBefore (number_behind lines))

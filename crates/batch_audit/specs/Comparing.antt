@@ -1,4 +1,4 @@
--- private: how far a record was compared with what is told.
+-- private: how far a record was compared with the due answers.
 use Rattle.std.specs.Prelude.{◌≡◌, ◌≢◌, ℕ, ◌+◌, ◌-◌, ◌^◌, List, [], ◌∷◌, ◌++◌, length, take, min, Option, Some, None, false}
 use Rattle.batch_wire.specs.EventLine.{is_comment}
 use Rattle.batch_wire.specs.Transcript.{lines_of}
@@ -13,31 +13,31 @@ pub record TakesLines (start : ℕ) (text : List ℕ) (lines : List (List ℕ)) 
   pub read : lines_of text ≡ lines ++ lines_of rest
   pub counted : min count (2 ^ 64 - 1) ≡ min (start + length lines) (2 ^ 64 - 1)
 
--- the lines that were taken of the text tell what was due, but for what is left of that
+-- the lines that were taken of the text are, without comments, the due text but for the rest that is left of it
 pub record IsCompared (start : ℕ) (text due : List ℕ) (count : ℕ) (rest left : List ℕ) : Type 0 where
   pub lines : List (List ℕ)
   pub takes : TakesLines start text lines count rest
   pub told : due ≡ told_text lines ++ left
 
--- the line that comes next ends there, and is no comment; None where no line feed ends it
+-- the next line ends there, and is no comment; None if no line feed ends it
 abbrev pub IsNextLine : List ℕ → Option ℕ → Type 0
 IsNextLine rest None = HasNoFeed rest
 IsNextLine rest (Some at) = EndsLine at rest × (is_comment (take at rest) ≡ false)
 
--- why no further line was taken: all is told; the line that comes next is another than what is left begins with; or there is none
+-- why no further line was taken: nothing is left; the next line isn't the one with which the rest begins; or there is no next line
 pub data Halts (count : ℕ) (rest left : List ℕ) : Option Finding → Type 0 where
   all_told : left ≡ [] → Halts count rest left None
   differs : (number at : ℕ) → IsNextLine rest (Some at) → left ≢ [] → (BeginsText (take at rest ++ 10 ∷ []) left → ⊥)
       → number ≡ min (count + 1) (2 ^ 64 - 1) → Halts count rest left (Some (Differs number))
   ends : (number : ℕ) → HasNoFeed rest → left ≢ [] → number ≡ min (count + 1) (2 ^ 64 - 1) → Halts count rest left (Some (EndsBefore number))
 
--- the text was compared with what is due
+-- the text was compared with the due text
 pub record Compares (start : ℕ) (text due : List ℕ) (count : ℕ) (rest : List ℕ) (found : Option Finding) : Type 0 where
   pub left : List ℕ
   pub compared : IsCompared start text due count rest left
   pub halts : Halts count rest left found
 
--- what is found of the rest of a record where nothing more is due: it is empty, or a line stands there, or a part of one
+-- the finding on the rest of a record if nothing more is due: it is empty, or has a line, or a part of one
 pub data IsEnd (count : ℕ) (rest : List ℕ) : Finding → Type 0 where
   empty : rest ≡ [] → IsEnd count rest Agrees
   more : (number at : ℕ) → IsNextLine rest (Some at) → number ≡ min (count + 1) (2 ^ 64 - 1) → IsEnd count rest (Differs number)

@@ -1,11 +1,11 @@
--- worked rows: what the lines of a record tell, and where its whole lines end.
+-- worked rows: the text of a record's lines without comments, and where its whole lines end.
 use Rattle.std.specs.Prelude.{◌≡◌, ◌≢◌, [], ◌∷◌, codes}
 use Rattle.batch_audit.specs.Audits.{HasLines, number_behind, told_text}
 
 pub record AuditRows : Type 0 where
-  -- comments tell nothing
+  -- comments are left out
   pub comments : told_text (codes "# at 17" ∷ codes "created 1 A 7" ∷ codes "#" ∷ codes "ok start 1 running" ∷ []) ≡ codes "created 1 A 7\nok start 1 running\n"
-  -- an empty line, and one whose mark stands behind a space, are none
+  -- an empty line, and one whose mark is behind a space, are none
   pub others : told_text (codes "" ∷ codes " # at 17" ∷ []) ≡ codes "\n # at 17\n"
   pub nothing : told_text [] ≡ []
   -- whole lines

@@ -19,9 +19,9 @@ use batch_wire::KnownPlaces;
 use std::alloc::Global;
 use std::io::Read;
 
-/// Reads the lines that were sent, and tells whether the record may be what the machine tells of them over the cleared set. Comments of the
-/// record are passed over. So is a line that the record says was refused for want of memory, where the machine might have done so: then it
-/// wasn't given the event.
+/// Reads the lines that were sent, and gives whether the record may be the machine's record of them over the cleared set. Comments of
+/// the record are passed over. So is a line that the record says was refused for want of memory, if the machine might have done so:
+/// then it wasn't given the event.
 // claim: a record found
 pub fn audit<R: Read>(
     alloc: Global,
@@ -86,7 +86,7 @@ fn audit_each(
     }
 }
 
-/// Goes on by one of the lines that were sent, or tells what is found of the record.
+/// Audits one more of the lines that were sent, or gives the finding on the record.
 fn audit_line(
     alloc: Global,
     engine: &mut Engine,
@@ -115,7 +115,8 @@ fn audit_line(
     Ok(audited.compare(answer))
 }
 
-/// Where the record's next line ends, behind its comments, if that is a refusal for want of memory with which the engine might have answered.
+/// Where the record's next line ends, behind its comments, if that is a refusal for want of memory with which the engine might have
+/// answered.
 fn passed_over(
     alloc: Global,
     engine: &Engine,

@@ -1,10 +1,10 @@
-//! What is found of a record, or why nothing is.
+//! The finding on a record, or why there is none.
 use batch_wire::WriteFault;
 use std::io;
 use std::io::ErrorKind;
 use thiserror::Error;
 
-/// What is found of a record.
+/// The finding on a record.
 #[derive(Clone, Copy)]
 pub enum Finding {
     /// It is the record of the lines that were sent.
@@ -15,10 +15,10 @@ pub enum Finding {
     EndsBefore(u64),
 }
 
-/// Why nothing is found of a record.
+/// Why there is no finding on a record.
 #[derive(Clone, Copy, Debug, Error)]
 pub enum AuditFault {
-    /// What was sent can't be read.
+    /// The lines that were sent can't be read.
     #[error("the input can't be read")]
     Read,
     /// Memory was refused.

@@ -1,4 +1,4 @@
-//! Audits: a record is compared with what the machine tells of the lines that were sent.
+//! Audits: a record is compared with the machine's record of the lines that were sent.
 #![tactic(auto)]
 
 mod auditing;

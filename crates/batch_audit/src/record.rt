@@ -1,4 +1,4 @@
-//! A record, compared with what is told.
+//! A record, compared with the due answers.
 ghost use Rattle.std.specs.Prelude.{◌≡◌, ◌≢◌, ◌+◌, ◌-◌, ◌^◌, ◌<◌, ◌++◌, ◌∷◌, [], ℕ, List, MatchOption, length, min, take};
 ghost use Rattle.batch_serve.specs.Replays.{BeginsText};
 ghost use Rattle.batch_serve.specs.Serving.{EndsLine, HasNoFeed};
@@ -8,7 +8,7 @@ ghost use Rattle.batch_audit.specs.Comparing.{Compares, Finishes, IsCompared, Is
 use crate::finding::Finding;
 use memchr::memchr;
 
-/// What is left of a record, and how many of its lines were taken, as far as 64 bits count them.
+/// The rest of a record, and how many of its lines were taken, as far as 64 bits count them.
 #[derive(Clone, Copy)]
 pub(crate) struct Record<'a> {
     pub(crate) rest: &'a [u8],
@@ -27,7 +27,7 @@ impl<'a> Record<'a> {
         }
     }
 
-    /// The number of the line that comes next.
+    /// The number of the next line.
     fn next_number(&self) -> u64
         ensures { result ≡ min (self.now.count + 1) (2 ^ 64 - 1) }
     {
@@ -44,7 +44,7 @@ impl<'a> Record<'a> {
         self.rest = &self.rest[at + 1..];
     }
 
-    /// Takes the comments that come next, and gives where the line behind them ends, if a line feed ends it.
+    /// Takes the next comments, and gives the end of the line behind them, if a line feed ends it.
     pub(crate) fn next_line(&mut self) -> Option<usize>
         ensures passed { IsCompared self.old.count self.old.rest.now [] self.new.count self.new.rest.now [] }
         ensures next { IsNextLine self.new.rest.now result }
@@ -58,7 +58,7 @@ impl<'a> Record<'a> {
         None
     }
 
-    /// Compares the lines that come next with what is due, and takes them as far as they are alike.
+    /// Compares the next lines with the due text, and takes them as far as they are alike.
     pub(crate) fn compare(&mut self, due: &[u8]) -> Option<Finding>
         ensures { Compares self.old.count self.old.rest.now due.now self.new.count self.new.rest.now result }
     {
@@ -76,7 +76,7 @@ impl<'a> Record<'a> {
         None
     }
 
-    /// What is found where nothing more is due.
+    /// The finding if nothing more is due.
     pub(crate) fn finish(&mut self) -> Finding
         ensures { Finishes self.old.count self.old.rest.now result }
     {
@@ -90,14 +90,14 @@ impl<'a> Record<'a> {
     }
 }
 
-/// What stands in the text behind the line and its line feed, if that is its front.
+/// The rest of the text behind the line and its line feed, if it begins with these.
 fn left_behind<'a>(text: &'a [u8], line: &[u8]) -> Option<&'a [u8]>
     ensures { MatchOption result (BeginsText (line.now ++ 10 ∷ []) text.now → ⊥) (λ left. text.now ≡ line.now ++ 10 ∷ left.now) }
 {
     behind(behind(text, line)?, b"\n")
 }
 
-/// What stands in the text behind this front.
+/// The rest of the text behind this prefix, if it begins with it.
 fn behind<'a>(text: &'a [u8], front: &[u8]) -> Option<&'a [u8]>
     ensures { MatchOption result ((rest : List ℕ) → text.now ≢ front.now ++ rest) (λ rest. text.now ≡ front.now ++ rest.now) }
 {
@@ -110,7 +110,7 @@ fn is_comment(line: &[u8]) -> bool
     line.starts_with(b"#")
 }
 
-/// Where the first line feed stands.
+/// The place of the first line feed.
 pub(crate) fn line_feed(bytes: &[u8]) -> Option<usize>
     ensures { MatchOption result (HasNoFeed bytes.now) (λ at. EndsLine at bytes.now) }
 {

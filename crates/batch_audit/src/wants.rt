@@ -10,7 +10,7 @@ use batch_engine::{Engine, Event};
 use batch_wire::{WireFault, read_event};
 use std::alloc::Global;
 
-/// What memory was wanted for.
+/// A purpose for which memory was wanted.
 #[derive(Clone, Copy)]
 enum Want {
     /// To read a line.
@@ -19,7 +19,7 @@ enum Want {
     Batch,
 }
 
-/// What the line of a record says that memory was wanted for.
+/// The purpose for which memory was wanted, as the line of a record says it.
 fn want_of(told: &[u8]) -> Option<Want>
     ensures { MatchOption result ((told.now ≢ codes "refused W6") × (told.now ≢ codes "refused E11")) (λ want. told.now ≡ want_line want) }
 {
@@ -32,7 +32,7 @@ fn want_of(told: &[u8]) -> Option<Want>
     None
 }
 
-/// Whether memory might have been wanted for that, where the engine was to be given the event.
+/// Whether memory might have been wanted for that when the engine was to be given the event.
 fn might_want(want: Want, engine: &Engine, event: &Event) -> bool
     ensures { IsTrue result ↔ MightWant (setup engine.now.cleared) (plant_of engine.now) (event_of event.now) want }
 {
@@ -42,7 +42,7 @@ fn might_want(want: Want, engine: &Engine, event: &Event) -> bool
     }
 }
 
-/// Whether the engine might have refused the line with the line that is told, for want of memory.
+/// Whether the engine might have refused the line with this line of a record, for want of memory.
 pub(crate) fn is_free(
     alloc: Global,
     engine: &Engine,

@@ -1,4 +1,4 @@
--- trusted: what is looked up in a cell.
+-- trusted: look-ups in a cell.
 use Rattle.std.specs.Prelude.{ℕ, List, [], filter, Bool, false, Some, None, nat_eq}
 use Rattle.std.specs.Cmp.Lexicographic.{pointwise}
 use Rattle.std.specs.List.{slice_index_or}

@@ -47,7 +47,7 @@ pub struct Cell {
 }
 
 impl Cell {
-    /// The cell of this equipment, with its indexes. It is refused only where memory is.
+    /// The cell of this equipment, with its indexes. It is refused only if memory is.
     // claim: made cells
     pub fn new(
         alloc: Global,

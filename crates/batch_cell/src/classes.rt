@@ -22,7 +22,7 @@ impl Cell {
         count
     }
 
-    /// The number of the unit that is the one with this index among those of the class. None where they are no more than that.
+    /// The number of the unit with this index among those of the class. None where the index is past them.
     // claim: units of a class
     pub fn candidate(&self, class: &Name, index: u16) -> Option<u16>
         ensures number { ForSome result (λ unit. unit < length (units_of self.now)) }

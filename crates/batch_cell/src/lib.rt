@@ -1,4 +1,4 @@
-//! The process cell: its units, equipment modules and shared resources, and what is looked up in them.
+//! The process cell: its units, equipment modules and shared resources, and look-ups in them.
 #![tactic(auto)]
 
 mod cell;

@@ -1,4 +1,4 @@
--- Each act of what remains of a tree is the act of one of its nodes.
+-- Each act of a rest of a tree is the act of one of the tree's nodes.
 use Rattle.std.proofs.Common.{◌≡◌, ◌⊎◌, inl, inr, ◌<◌, ℕ, ◌+◌, List, [], ◌∷◌, ◌++◌, length, Some, true, false, arith, refl, sym, ◌∙◌, subst, ap}
 use Rattle.std.specs.Prelude.{slice_get}
 use Rattle.batch_recipe.specs.Needs.{resources_of}

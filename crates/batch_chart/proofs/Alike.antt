@@ -20,7 +20,7 @@ use Rattle.batch_chart.specs.Noting.{signs_of, ready_signs, asking_signs, freein
 use Rattle.batch_chart.proofs.Standing.{SkipAt, skip_at, skip-at, PhaseAt, phase_at, phase-at, ActAt, act_at, act-at, SeqAt, seq_at, seq-at, ParAt, par_at, par-at, SelAt, sel_at, sel-at, LoopAt, loop_at, loop-at, RowAt, row_at, row-at, row-end, LastAt, last_at, last-at, ChoiceAt, choice_at, choice-at, stood, stood-each, stood-choices, choices-pos}
 use Rattle.batch_chart.proofs.Found.{numbered-acts}
 
--- what each act shows, with its number
+-- the signs of each act, with its number
 abbrev pub marks : List (ℕ × Rest) → List (ℕ × ℕ)
 marks [] = []
 marks (a ∷ more) = (a.0, signs_of a.1) ∷ marks more
@@ -71,7 +71,7 @@ alike-in None l m e = refl
 alike-in (Some k) l m e = e
 
 module _ (ns : List Entry) (doc : Recipe) (xs : List Stage) where
-  -- a tree shows what any other at its nodes does
+  -- a tree has the signs of any other at its nodes
   abbrev SameTree : ℕ → Tree → Type 0
   SameTree n c = (d : Tree) → Stands ns doc n d → marks (numbered c n xs) ≡ marks (numbered d n xs)
 

@@ -1,4 +1,4 @@
--- What going on from a finished node upwards needs at each kind of node.
+-- Going on from a finished node upwards: the conditions at each kind of node.
 use Rattle.std.proofs.Common.{◌≡◌, ◌≢◌, ◌⊎◌, inl, inr, ◌<◌, ◌≤◌, ℕ, ◌+◌, ◌-◌, List, length, Bool, true, false, ◌&&◌, Some, arith, refl, sym, ◌∙◌, subst, ap, ap₂}
 use Rattle.std.specs.Prelude.{slice_set, is_none, not}
 use Rattle.std.proofs.lemmas.Bool.{cases_lt}

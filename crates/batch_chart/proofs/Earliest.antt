@@ -126,7 +126,7 @@ module _ (b : Batch) (rises : Rises (acts b.rest)) where
   abbrev Kinds : ℕ → Type 0
   Kinds n = (l : Move) → Has (filter_map (own_move b) (acts b.rest)) l → is_kind n l ≡ false
 
-  -- what an own move is
+  -- the properties of an own move
   of-own : (l : Move) → Has (filter_map (own_move b) (acts b.rest)) l → (batch_of l ≡ b.number) × (kind_of l ≢ 2) × (kind_of l ≢ 6)
   of-own l h =
       let d = Has-filter_map (own_move b) (acts b.rest) l h in (

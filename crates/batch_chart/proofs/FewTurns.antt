@@ -71,7 +71,7 @@ few-table Phases k needs o = few-phase needs k
 few-bare : (n u i : ℕ) → HaveFew (bare n u i)
 few-bare n u i = (few-skip, tt)
 
--- Charts whose labels stand for such entries
+-- Charts whose labels stand for entries with few turns
 
 module _ (told : LabelConditions) (named : Labels) (few : (name : Name) (n j u i : ℕ) → HaveFew (named name n j u i)) (labels values : List Name) where
   mutual
@@ -123,7 +123,7 @@ module _ (r : Recipe) where
   abbrev FewFrom : List LabelTable → Type 0
   FewFrom levels = (o : ℕ) (name : Name) (n j u i : ℕ) → HaveFew (grown_named r.acts levels o name n j u i)
 
-  -- the acts of a table, whose labels stand for such entries
+  -- the acts of a table, whose labels stand for entries with few turns
   module _ (level : LabelTable) (levels : List LabelTable) (labels : List Name) (below : FewFrom levels) (works : (name : Name) (a : Act) → act_named (table_at r.acts level) name ≡ Some a → is_work labels names a ≡ true) (o : ℕ) (name : Name) (n j u i : ℕ) where
     few-found : (k : ℕ) (found : Option Act) → act_named (table_at r.acts level) name ≡ found
         → HaveFew (elim found [ None ↦ bare n u i | Some a ↦ grown_act (conditions_named r.acts levels) (grown_named r.acts levels (unit_number level k o)) (entry_kind.Act level k) (unit_number level k o) n j u i a ])

@@ -233,7 +233,7 @@ own-closing b s r e f g =
 gives-step : (n h : ℕ) → gives n h ≡ true → h ≡ (h - 1) + 1
 gives-step n h e = grind (arith, nat_tests)
 
--- what an act's move of a kind says of the batch
+-- the batch's state, by an act's move of a kind
 
 gave : (run lt stop quiet give : Bool) → elim run as (λ _. Bool) [ true ↦ elim lt as (λ _. Bool) [ true ↦ false | false ↦ false ] | false ↦ (stop && quiet) && (give && true) ] ≡ true
     → (run ≡ false) × (stop ≡ true) × (quiet ≡ true) × (give ≡ true)

@@ -1,4 +1,4 @@
--- The numbered acts are those of what remains, and what finding none tells.
+-- The numbered acts are those of the rest, and the meaning of finding none.
 use Rattle.std.proofs.Common.{rules, ◌≡◌, ℕ, zero, suc, ◌+◌, List, [], ◌∷◌, ◌++◌, length, take, Bool, true, false, ◌&&◌, Some, None, refl, ◌∙◌, ap, nat_lt}
 use Rattle.std.specs.Prelude.{Option, map, flat_map, not, ⊤}
 use Rattle.batch_recipe.specs.declared.need.Need.{Need}
@@ -78,7 +78,7 @@ module _ (xs : List Stage) where
         picked (is_finished (stage_at xs n)) (numbered_chosen ch (n + node_count c) xs) (numbered c n xs) (chosen ch (n + node_count c) xs) (meaning c n xs)
         (numbered_chosen-acts ch (n + node_count c)) (numbered-acts c n)
 
--- What is told by finding nothing
+-- The meaning of finding nothing
 
 abbrev pub nothing : Option ℕ → Bool
 nothing None = true

@@ -84,7 +84,7 @@ act-ends ns doc xs lives k lt =
     let at = some-stands ns doc k lives.0 0 lives.1.stands (omega arith) (omega (arith, lives.1.count)) in
     omega (arith, (stood ns doc k at.0 at.1).end, (stood ns doc k at.0 at.1).fits)
 
--- what stood below the act has been given up
+-- the descendants of the act have been given up
 
 module _ (ns : List Entry) (doc : Recipe) (vs : ValueList) (xs : List Stage) (lives : SomeLives ns doc xs) (k : ℕ) (lt : k < length ns) (acting : is_act_kind (kind_at ns k) ≡ true) (left : is_finished (stage_at xs k) ≡ false)
     (ms : List ℕ) (count : length ms ≡ length ns) (neat : AreNeat ns doc 0 (length ns) xs ms) (mid : List Stage) (sg : List ℕ) (fits : length mid ≡ length xs) (given : HasGivenUp ns k xs mid ms sg) where
@@ -106,7 +106,7 @@ module _ (ns : List Entry) (doc : Recipe) (vs : ValueList) (xs : List Stage) (li
   given-signs : SignsOutside (k + 1) (end_at ns k) ms sg
   given-signs = elim given [ inl h ↦ h.signs | inr h ↦ λ j q. ap (λ l. sign_at l j) h.1 ]
 
-  -- nothing stands below a chart that is over
+  -- the nodes of a chart that is over are blank
   over-blank : (k + 1 < end_at ns k → is_finished (stage_at xs (k + 1)) ≡ true) → AreBlank (k + 1) (end_at ns k) xs ms
   over-blank u = go at-k.0 at-k.1 (act-here ns doc k at-k.0 acting at-k.1).is
     where

@@ -76,7 +76,7 @@ tested-none p (a ∷ l) k h = elim (eqb_tells a.0 k) [
   | inr q ↦ chosen-false (nat_eq a.0 k) (p a.0 a.1) (tested p l k) q.0 ∙ tested-none p l k (λ r i. h r (inr i))
 ]
 
--- what can be given back is held
+-- a need that can be given back is held
 
 holds-less : (a b c : Bool) → (a && b) ≡ false → ((c ≡ true) → (a ≡ true) × (b ≡ true)) → c ≡ false
 holds-less a b false e f = refl

@@ -1,4 +1,4 @@
--- A batch that makes no move of its own can only be granted what it asks for.
+-- A batch without a move of its own can make grants alone.
 use Rattle.std.proofs.Common.{◌≡◌, List, [], ◌∷◌, Some, None, refl, sym, ◌∙◌, ap}
 use Rattle.std.specs.Prelude.{Option, ◌++◌, option_to_list}
 use Rattle.std.specs.List.{filter_map, cons_option}

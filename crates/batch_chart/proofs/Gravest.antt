@@ -36,7 +36,7 @@ has-among (y ∷ l) x (inr h) = go (same_state y x) (has-among l x h)
 gravity-most : (x : State) → gravity x ≤ 9
 gravity-most x1 = grind arith
 
--- what is taken of two states first
+-- the first of two numbers is less, or it isn't
 two : (m n : ℕ) → ((nat_lt m n ≡ true) × (m < n)) ⊎ ((nat_lt m n ≡ false) × (n ≤ m))
 two m n = go (nat_lt m n) refl
   where

@@ -93,7 +93,7 @@ module _ (doc : Recipe) (n : ℕ) where
     module _ (i j : ℕ) (is : unit_count a.unit + j ≡ i) (result : Option ℕ)
         (some : (bound : Binding) (at : Node) → slice_get (bound_nodes bound doc.acts) n ≡ Some at → IfSome result (λ to. IsFollowerAt bound doc.acts at j to))
         (none : (bound : Binding) (at : Node) → slice_get (bound_nodes bound doc.acts) n ≡ Some at → IsNone result → follower_of (bound_tree bound doc.acts) at j ≡ None) where
-      -- what follows the node as number j
+      -- the follower of the node with number j
       follows-so : (bound : Binding) (lt : n < node_count (bound_tree bound doc.acts))
           → reserved_place (bound_tree bound doc.acts) (step_at (bound_tree bound doc.acts) n) i ≡ follower_of (bound_tree bound doc.acts) (node_at (bound_tree bound doc.acts) n) j
       follows-so bound lt =

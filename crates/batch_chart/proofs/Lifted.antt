@@ -22,7 +22,7 @@ use Rattle.batch_chart.proofs.Calm.{turned-still}
 use Rattle.batch_chart.proofs.Choosing.{chosen-false}
 use Rattle.batch_chart.specs.ByValues.{bare, continued_by, turned_by, reach_first_by, advance_by, advance_each_by}
 
--- r is what q goes on to, where nothing of r is left to be reached
+-- q goes on to r, if nothing of r is left to be reached
 abbrev Went : ValueList → Rest → Rest → Type 0
 Went vs r q = IsAdvanced r → r ≡ advance_by vs q
 

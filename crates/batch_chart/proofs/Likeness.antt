@@ -68,7 +68,7 @@ like-act s t m n c d r u Open a = (refl, a.1)
 like-act s t m n c d r u (Freeing k) a = like-freed s t k
 like-act s t m n c d r u x a = (refl, λ h. tt)
 
--- what else stands at a node of the kind
+-- the other trees at a node of the kind
 
 module _ (ns : List Entry) (doc : Recipe) (n : ℕ) where
   phase-like : (k i : ℕ) (d : Tree) → PhaseAt ns doc n k i d → (s : Step) × (q : Phase) × (d ≡ act s (runs q))

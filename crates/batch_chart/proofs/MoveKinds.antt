@@ -33,7 +33,7 @@ empty-append : (l m : List Rest) → is_empty (l ++ m) ≡ (is_empty l && is_emp
 empty-append [] m = refl
 empty-append (x ∷ l) m = refl
 
--- what remains has no act just where it is done
+-- an advanced rest has no act just where it is done
 mutual
   pub empty-done : (r : Rest) → IsAdvanced r → is_done r ≡ is_empty (acts r)
   empty-done (in_seq r cs) h = sym h.0 ∙ empty-done r h.1

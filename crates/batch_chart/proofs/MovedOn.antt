@@ -1,4 +1,4 @@
--- A move or a report, and what is taken over after it, keep a chart in order; what is held in advance after a move.
+-- A move or a report, and the taking over after it, keep a chart in order; the needs held in advance after a move.
 use Rattle.std.proofs.Common.{◌≡◌, ◌<◌, ℕ, List, ◌∷◌, length, Bool, true, false, arith, inl, inr, refl, sym, ◌∙◌, subst}
 use Rattle.batch_recipe.specs.Tree.{Tree}
 use Rattle.batch_recipe.specs.declared.entry.Entry.{Entry}
@@ -41,7 +41,7 @@ held-other held (move.Start k) f = refl
 held-other held (move.End k) f = refl
 held-other held (move.Ask k i) f = refl
 
--- what is held is held of nodes after a move as well
+-- the needs held in advance are held by nodes after a move as well
 pub held-kept : (count most : ℕ) (held : List Passed) (room : ℕ) (m : Move) → AreHeld count most held room → PassesWithin count m → AreHeld count most (held_after held m) room
 held-kept count most held room (move.Pass k to i) h lt = go (is_early held to)
   where

@@ -63,7 +63,7 @@ module _ (p : ℕ → Rest → Bool) (test : ℕ → Bool) where
       let lt : a.0 < j = (let e = beyond l (a.0 + 1) m j r rs.2 q in omega arith) in
       first-some l (a.0 + 1) m rs.2 (λ e z. h e (inr z)) j t b r q ∙ sym (chosen-false (p a.0 a.1) (Some a.0) (first_of p l) (h a (inl refl) ∙ b a.0 lt))
 
--- what is shown at an entry's node
+-- the signs at an entry's node
 pub sign-entry : (l : List (ℕ × Rest)) (n m : ℕ) → RiseIn n m l → (e : ℕ × Rest) → Has l e → sign_in e.0 l 0 ≡ signs_of e.1
 sign-entry [] n m h e i = absurd i
 sign-entry (a ∷ l) n m h e (inl q) = subst (λ (z : ℕ × Rest). sign_in z.0 (a ∷ l) 0 ≡ signs_of z.1) q (sign-here m a l 0 h.2)

@@ -18,7 +18,7 @@ use Rattle.batch_chart.specs.Stages.{stage_at, is_finished}
 use Rattle.batch_chart.proofs.Standing.{stood, some-stands, nested}
 use Rattle.batch_chart.proofs.Telling.{AreNested}
 
--- what stands at a node shows nothing once it is finished
+-- a finished node has no signs
 pub finished-shows : (c : Tree) (b : Bool) → shown_of c Finished b ≡ 0
 finished-shows x1 x2 = grind arith
 
@@ -72,7 +72,7 @@ module _ (ns : List Entry) (doc : Recipe) where
       let inner = nest j c a b s in
       neat-agree c j xs ys old new (λ k p q. same k (omega arith) (omega arith)) (signs j a b) (h j c a b s)
 
-  -- where nothing stands and nothing is shown
+  -- blank nodes are neat
   pub blank-neat : (n m : ℕ) (xs : List Stage) (signs : List ℕ) → AreNested ns doc n m → AreBlank n m xs signs → AreNeat ns doc n m xs signs
   blank-neat n m xs signs nest h j c a b s =
       let inner = nest j c a b s in
@@ -82,7 +82,7 @@ module _ (ns : List Entry) (doc : Recipe) where
         shown = (h j a b).1 ∙ sym (finished-shows c (is_finished (stage_at xs (j + 1)))) ∙ ap (λ x. shown_of c x (is_finished (stage_at xs (j + 1)))) (sym (h j a b).0);
       }
 
-  -- nothing stands below a finished node, and nothing is shown
+  -- all nodes below a finished node are finished
   pub neat-finished : (n : ℕ) (c : Tree) (xs : List Stage) (signs : List ℕ) → Stands ns doc n c → IsNeat ns c n xs signs → stage_at xs n ≡ Finished → AllFinished n (n + node_count c) xs
   neat-finished n c xs signs s h e k a b = elim (eqb_tells k n) [
     | inl q ↦ ap (stage_at xs) q.1 ∙ e
@@ -97,7 +97,7 @@ module _ (ns : List Entry) (doc : Recipe) where
       let own = h k at.0 a b at.1 in
       (all k a b, own.shown ∙ ap (λ x. shown_of at.0 x (is_finished (stage_at xs (k + 1)))) (all k a b) ∙ finished-shows at.0 (is_finished (stage_at xs (k + 1))))
 
-  -- the part from p to e has come to other stages, and p is finished neither before nor after
+  -- the stages from p to e have changed, and p is finished neither before nor after
   module _ (p e : ℕ) (xs ys : List Stage) (old new : List ℕ) (p_ends : end_at ns p ≡ e) (below : p < e) (inner : (i : ℕ) → i ≤ p → p < end_at ns i → e ≤ end_at ns i) (outside : AgreeOutside p e xs ys) (signs : SignsOutside p e old new)
       (was : is_finished (stage_at xs p) ≡ false) (now : is_finished (stage_at ys p) ≡ false) where
     -- a node around it
@@ -167,7 +167,7 @@ signs-wider n m i j old new a b f k (inr p) = f k (inr (omega arith))
 pub signs-same : (n m : ℕ) (old : List ℕ) → SignsOutside n m old old
 signs-same n m old k h = refl
 
--- the part at p has come to other stages in a whole chart, and p is finished neither before nor after
+-- the stages of the subtree at p have changed in a whole chart, and p is finished neither before nor after
 pub neat-after : (ns : List Entry) (doc : Recipe) (t : Tree) → IsLaid ns doc t → (p : ℕ) → p < length ns → (xs ys : List Stage) (old new : List ℕ) → AgreeOutside p (end_at ns p) xs ys → SignsOutside p (end_at ns p) old new
     → is_finished (stage_at xs p) ≡ false → is_finished (stage_at ys p) ≡ false → AreNeat ns doc 0 (length ns) xs old → AreNeat ns doc p (end_at ns p) ys new → AreNeat ns doc 0 (length ns) ys new
 neat-after ns doc t laid p lt xs ys old new outside signs was now before own j c a b s = go (cases_lt j p) (cases_lt j (end_at ns p))

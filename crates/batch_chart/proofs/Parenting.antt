@@ -15,7 +15,7 @@ use Rattle.batch_chart.proofs.Pieces.{AreFrom, from_left, from_right, from_tail,
 use Rattle.batch_chart.proofs.Standing.{stood-each, stood-choices, nested}
 
 module _ (all : List Shape) (ns : List Entry) (doc : Recipe) (parents : (k : ℕ) (s : Shape) → slice_get all k ≡ Some s → parent_at ns k ≡ s.parent) where
-  -- what stands between node u and the number n has ended there
+  -- the nodes between node u and the number n have ended there
   abbrev IsClear : ℕ → ℕ → Type 0
   IsClear u n = (m : ℕ) → u < m → m < n → end_at ns m ≤ n
 

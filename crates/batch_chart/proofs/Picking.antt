@@ -95,7 +95,7 @@ module _ (xs : List Stage) where
         (rise-wider (n + node_count c) (n + node_count c + count_of_choices ch) n (n + count_of_choices (choice p c ch)) (numbered_chosen ch (n + node_count c) xs) (omega arith) (omega arith) (rise-chosen ch (n + node_count c)))
         (rise-wider n (n + node_count c) n (n + count_of_choices (choice p c ch)) (numbered c n xs) (omega arith) (omega arith) (rise c n))
 
--- what acts show, by number
+-- the signs of acts, by number
 
 pub other-number : (n k : ℕ) → n ≢ k → nat_eq n k ≡ false
 other-number n k ne = elim (eqb_tells n k) [ inl q ↦ absurd (ne q.1) | inr q ↦ q.0 ]

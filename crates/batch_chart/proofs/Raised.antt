@@ -1,4 +1,4 @@
--- What remains of a batch's recipe after a move, where it holds something in advance.
+-- The rest of a batch's recipe after a move, if the batch holds a unit in advance.
 use Rattle.std.proofs.Common.{◌≡◌, inl, inr, ◌<◌, ℕ, zero, suc, ◌+◌, List, [], ◌∷◌, length, take, map, filter, cond, Bool, true, false, ◌||◌, nat_eq, arith, refl, sym, ◌∙◌, subst, ap, ap₂}
 use Rattle.std.specs.Prelude.{not, ⊤}
 use Rattle.std.specs.List.{list_any}
@@ -89,7 +89,7 @@ raised-none [] r n = refl
 raised-none (held ∷ xs) r n =
     ap (lifted held.place) (raised-none xs r (λ other i. n other (inr i))) ∙ lifted-none held.place r (n held (inl refl))
 
--- What each move makes of an act
+-- The change of an act by each move
 
 pub act-steady : (m : machine.Move) → IsSteady (λ mo. act_after mo m)
 act-steady (machine.send n p x c) = stays-steady (sent c) (sent-stays c)
@@ -117,14 +117,14 @@ abbrev pub IsActMove : machine.Move → Type 0
 IsActMove (machine.state n x) = ⊥
 IsActMove _ = ⊤
 
--- what is held in advance isn't reached yet
+-- the places of the units held in advance aren't reached yet
 abbrev pub AreWaiting : List InAdvance → Rest → Type 0
 AreWaiting xs r = (held : InAdvance) → Has xs held → is_reached r held.place ≡ false
 
 pub waiting-nowhere : (xs : List InAdvance) (r : Rest) → AreWaiting xs r → (held : InAdvance) → Has xs held → Nowhere held.place (acts r)
 waiting-nowhere xs r w held i = not_reached held.place r (w held i)
 
--- the batch after a move of an act, by what remained if it held nothing in advance
+-- the batch after a move of an act, by the rest that it would have if it held nothing in advance
 pub after-raised : (m : machine.Move) (b : Batch) → IsActMove m → AreWaiting (passing m b).in_advance b.rest
     → batch_after m b ≡ with_rest (raised (passing m b).in_advance (rest_after b.values m b.rest)) (passing m b)
 after-raised (machine.send n p x c) b is w =
@@ -228,7 +228,7 @@ module _ (ns : List Entry) (doc : Recipe) (t : Tree) (laid : IsLaid ns doc t) wh
         let f = known ns doc ys t laid (k, a) (number-at-place ns doc t laid ys k a lt i e) in
         ready-stage f.step f.task (meaning_below f.task (k + 1) ys) (stage_at ys k) s w j (sym f.is ∙ q)
 
-    -- what is ready is reached
+    -- a ready node is reached
     ready-reached : (k : ℕ) → k < length ns → is_ready (stage_at ys k) ≡ true → is_reached now (place_at t k) ≡ true
     ready-reached k lt e = elim (entry-or-not (numbered t 0 ys) k) [
       | inl m ↦ found m.0 m.1
@@ -288,7 +288,7 @@ module _ (ns : List Entry) (doc : Recipe) (t : Tree) (laid : IsLaid ns doc t) wh
       pub now-raised : meaning t 0 zs ≡ raised xs now
       now-raised = (over.means t laid alive).1 ∙ taken-alike (is_of t over.taken) (among xs) now agrees ∙ sym (raised-taken xs now)
 
-      -- what held its unit in advance and is reached is ready
+      -- a node that held its unit in advance is reached just where it is ready
       same-ready : (k : ℕ) → k < node_count t → early k ≡ true → is_reached now (place_at t k) ≡ is_ready (stage_at ys k)
       same-ready k lt holds = same-when (is_reached now (place_at t k)) (is_ready (stage_at ys k)) here (ready-reached k inside)
         where
@@ -309,11 +309,11 @@ module _ (ns : List Entry) (doc : Recipe) (t : Tree) (laid : IsLaid ns doc t) wh
       pub now-waiting : AreWaiting still (raised xs now)
       now-waiting held i = not-true (is_reached (raised xs now) held.place) (Has-filter (λ h. not (is_reached (raised xs now) h.place)) xs held i).1
 
-      -- what is reached is no longer held in advance
+      -- a node still holds its unit in advance just where it isn't reached
       pub still-early : (k : ℕ) → k < node_count t → early k ≡ true → not (is_reached (raised xs now) (place_at t k)) ≡ not (is_ready (stage_at zs k))
       still-early k lt e = ap not (reached-raised xs now (place_at t k) ∙ same-ready k lt e ∙ sym (over.ready k))
 
--- Lists of what is held in advance
+-- Lists of the needs held in advance
 
 filter-map : {X Y : Type 0} (f : Y → Bool) (g : X → Y) (xs : List X) → filter f (map g xs) ≡ map g (filter (λ x. f (g x)) xs)
 filter-map f g [] = refl

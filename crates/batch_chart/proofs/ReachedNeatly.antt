@@ -1,4 +1,4 @@
--- What is reached shows what it is, at each kind of node.
+-- A reached tree is neat, at each kind of node.
 use Rattle.std.proofs.Common.{◌≡◌, ◌≢◌, ◌⊎◌, inl, inr, ◌<◌, ◌≤◌, ℕ, ◌+◌, List, length, Bool, true, false, ◌&&◌, arith, refl, sym, ◌∙◌, subst, ap, length-set, get_or-set_same, get_or-set_other}
 use Rattle.std.specs.Prelude.{slice_set, not, is_none}
 use Rattle.std.proofs.lemmas.Bool.{cases_lt}
@@ -92,7 +92,7 @@ module _ (ns : List Entry) (doc : Recipe) (xs : List Stage) (n : ℕ) (standing 
     neat = λ h. blank-neat ns doc n (end_at ns n) (slice_set xs n Finished) old nest (set-blank old lt h);
   }
 
-  -- a node's own stage is written over what stands below it
+  -- a node's own stage is written above its descendants
   module _ (ys : List Stage) (v : Stage) (old new : List ℕ) (lt : n < length ys) (signs : SignsOutside (n + 1) (end_at ns n) old new) where
     zs : List Stage
     zs = slice_set ys n v
@@ -270,7 +270,7 @@ module _ (ns : List Entry) (doc : Recipe) (n m : ℕ) (c : Tree) (s : Stands ns 
       later : AreBlank n m xs old → AreBlank (end_at ns n) m ys mid
       later h = blank-same (end_at ns n) m xs ys old mid (λ k a b. (outside k (inr a), r.outside k (inr a))) (blank-part n m (end_at ns n) m xs old (omega (arith, row-below)) (omega arith) h)
 
--- what calls on branches need
+-- the requirements of calls on branches
 
 module _ (ns : List Entry) (doc : Recipe) (xs : List Stage) (n m : ℕ) (ne : n ≢ m) (h : HaveTrees ns doc xs n m) where
   row-first : HasTree ns doc xs n

@@ -1,4 +1,4 @@
--- Going on from a finished node upwards, each node shows what it is.
+-- Going on from a finished node upwards, each node is neat.
 use Rattle.std.proofs.Common.{◌≡◌, ◌⊎◌, inl, inr, None, ◌<◌, ◌≤◌, ℕ, ◌+◌, List, length, Bool, true, false, arith, refl, sym, ◌∙◌, subst, ap, length-set, get_or-set_same, get_or-set_other}
 use Rattle.std.specs.Prelude.{slice_set, not, is_none}
 use Rattle.std.proofs.lemmas.Bool.{cases_lt}
@@ -102,7 +102,7 @@ module _ (ns : List Entry) (doc : Recipe) (p n : ℕ) (ys : List Stage) (standin
   then-left : is_finished (stage_at xs p) ≡ false
   then-left = runs-unfinished standing.1.0 (stage_at xs p) (then-runs standing.1.0 standing.1.1)
 
-  -- what stands below p beside n stays as it was
+  -- the descendants of p beside n stay as they were
   beside : (j : ℕ) (c : Tree) → p < j → j < end_at ns p → Stands ns doc j c → (j < n) ⊎ (end_at ns n ≤ j) → IsNeat ns c j ys cur
   beside j c a b s (inl q) =
       let e : j + node_count c ≤ n = omega (arith, above.between j a q, (stood ns doc j c s).end) in
@@ -119,7 +119,7 @@ module _ (ns : List Entry) (doc : Recipe) (p n : ℕ) (ys : List Stage) (standin
     ]
   ]
 
-  -- where a branch of p alone can run, all is finished below it now
+  -- if only one branch of p can run, all below p is blank
   pub alone : (c : Tree) → Stands ns doc p c → is_single c ≡ true → AreBlank (p + 1) (end_at ns p) ys cur
   alone c s one k a b = elim (cases_lt k n) [
     | inl q ↦ gone (inl q)
@@ -140,7 +140,7 @@ module _ (ns : List Entry) (doc : Recipe) (p n : ℕ) (ys : List Stage) (standin
             r.signs k out ∙ h.shown ∙ ap (λ x. shown_of d.0 x (is_finished (stage_at xs (k + 1)))) was ∙ finished-shows d.0 (is_finished (stage_at xs (k + 1))),
           )
 
-  -- what p comes to, once all below it shows what it is
+  -- p is passed neatly, once its subtree is neat
   pub passes : (us : List Stage) (new : List ℕ) (t : Bool) → length new ≡ length cur → AgreeOutside p (end_at ns p) ys us → SignsOutside p (end_at ns p) cur new → AreNeat ns doc p (end_at ns p) us new → is_finished (stage_at us p) ≡ t
       → HasPassedNeatly ns doc xs ms p us new t
   passes us new true count outside signs neat u = record {

@@ -36,7 +36,7 @@ use Rattle.batch_chart.proofs.Stepping.{all-told}
 use Rattle.batch_chart.proofs.Standing.{stood, PhaseAt, phase_at, phase-at, ActAt, act_at, act-at, SkipAt, skip_at, skip-at, SeqAt, seq_at, seq-at, ParAt, par_at, par-at, SelAt, sel_at, sel-at, LoopAt, loop_at, loop-at}
 use Rattle.batch_chart.specs.ByValues.{reach_by}
 
--- two trees at one node are alike in what a node shows
+-- two trees at one node are alike in the signs of the node, and in the running of its descendants
 record AreLike (c d : Tree) : Type 0 where
   pub below : (x : Stage) → runs_below c x ≡ runs_below d x
   pub single : is_single c ≡ is_single d
@@ -73,7 +73,7 @@ module _ (ns : List Entry) (doc : Recipe) (n : ℕ) where
   like (sel ch) d h k = like-sel ch h.0 d (sel-at ns doc n h.0 h.1.1 d k)
   like (loop i p body) d h k = like-loop i h.0 p body d (loop-at ns doc n i h.0 h.1.1 d k)
 
--- what one chart of a tree says of its nodes, any other does
+-- two charts of one tree agree on its nodes
 
 module _ (t : Tree) (ns ms : List Entry) (doc es : Recipe) (laid : IsLaid ns doc t) (other : IsLaid ms es t) where
   same-end : (i : ℕ) → i < node_count t → end_at ms i ≡ end_at ns i
@@ -111,7 +111,7 @@ runs-in-order chart running h =
       count = count;
     }
 
--- what is held in advance is held of its nodes
+-- the needs held in advance are held by its nodes
 pub is-held : (chart : Recipe) (running : Running) (h : IsRunning chart running) → AreHeld (length chart.outline.entries.items) (most_by own_units h.0) running.held.items (deque_capacity running.held)
 is-held chart running h = subst (λ n. AreHeld n (most_by own_units h.0) running.held.items (deque_capacity running.held)) (sym h.1.count) h.2.held
 

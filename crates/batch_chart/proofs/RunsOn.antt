@@ -1,4 +1,4 @@
--- A running chart goes on as its batch does, with what that holds in advance.
+-- A running chart goes on as its batch does, with the units that the batch holds in advance.
 use Rattle.std.proofs.Common.{◌≡◌, ◌⊎◌, inl, inr, ◌<◌, ℕ, List, [], ◌∷◌, length, filter, Bool, true, false, Some, nat_eq, arith, refl, sym, ◌∙◌, subst, ap}
 use Rattle.std.specs.Prelude.{not}
 use Rattle.batch_record_laws.proofs.Entries.{Has-filter}
@@ -43,7 +43,7 @@ use Rattle.batch_chart.proofs.Runs.{runs-by}
 use Rattle.batch_chart.proofs.Shown.{noted}
 use Rattle.batch_signs.proofs.Bits.{nat-self}
 
--- what is left of what is held is held as before
+-- a part of the needs held in advance is held as before
 held-left : (count most : ℕ) (held : List Passed) (room : ℕ) (f : Passed → Bool) → AreHeld count most held room → AreHeld count most (filter f held) room
 held-left count most held room f h = record { within = λ p i. h.within p (Has-filter f held p i).0; enough = h.enough }
 
@@ -51,7 +51,7 @@ module _ (chart : Recipe) (t : Tree) (laid : IsChartOf t chart) where
   abbrev ns : List Entry
   ns = chart.outline.entries.items
 
-  -- the chart has come to `mid`, what is reached has taken over what was held for it, and that is held no more
+  -- the chart has the stages `mid`, the reached acts have taken over the units held for them, and those are held no more
   module _ (old new : Running) (mid ys : List Stage) (signs : List ℕ) (held : List Passed) (is : new.stages.items ≡ ys) (kept : IsKeptUp ns chart old.stages.items mid old.signs signs) (over : IsTakenBy ns chart (is_early held) mid ys signs new.signs)
       (left : new.held.items ≡ still_held ys held) (capacity : deque_capacity new.held ≡ deque_capacity old.held) (before : AreHeld (node_count t) (most_by own_units t) held (deque_capacity old.held)) (ran : IsRunningOf t old) (alive : IsAlive t mid) where
     neat : AreNeat ns chart 0 (length ns) mid signs
@@ -86,7 +86,7 @@ module _ (chart : Recipe) (t : Tree) (laid : IsChartOf t chart) where
         waiting = now-waiting ns chart t laid mid ys alive signs new.signs shown neat (is_early held) over (in_advance t held) was told waiting fresh;
       }
 
-  -- what is held in advance after a move
+  -- the needs held in advance after a move
   module _ (xs : List Stage) (held : List Passed) (b : Batch) (is : b.in_advance ≡ in_advance t held) (small : (p : Passed) → Has held p → p.to < length ns) where
     passing-is : (m : Move) → Allows ns xs m → Awaits t b.rest b.in_advance m → (passing (move_of t b m) b).in_advance ≡ in_advance t (held_after held m)
     passing-is (move.Pass k to i) can a =

@@ -54,7 +54,7 @@ module _ (ns : List Entry) (doc : Recipe) (xs : List Stage) (signs : List ℕ) w
       let at = sit k a b in
       (h k at.0 a b at.1).shown ∙ ap (λ x. shown_of at.0 x (is_finished (stage_at xs (k + 1)))) (f k a b) ∙ finished-shows at.0 (is_finished (stage_at xs (k + 1)))
 
-  -- an act that follows no chart now
+  -- an act that follows no chart
   alone : (n m : ℕ) (a : Rest) → n < m → sign_at signs n ≡ signs_of a → ((k : ℕ) → n + 1 ≤ k → k < m → sign_at signs k ≡ 0) → Shows n m ((n, a) ∷ [])
   alone n m a lt own below k p q = elim (eqb_tells n k) [
     | inl e ↦ subst (λ z. sign_in z ((n, a) ∷ []) 0 ≡ sign_at signs z) e.1 (sign-here (n + 1) (n, a) [] 0 tt ∙ sym own)
@@ -64,7 +64,7 @@ module _ (ns : List Entry) (doc : Recipe) (xs : List Stage) (signs : List ℕ) w
   empty : (n m : ℕ) → ((k : ℕ) → n ≤ k → k < m → sign_at signs k ≡ 0) → Shows n m []
   empty n m h k a b = sym (h k a b)
 
-  -- a node that is no act, over what stands below it
+  -- a node that is no act, over its descendants
   above : (n m : ℕ) (l : List (ℕ × Rest)) → RiseIn (n + 1) m l → sign_at signs n ≡ 0 → Shows (n + 1) m l → Shows n m l
   above n m l r own h k a b = elim (eqb_tells n k) [
     | inl e ↦ subst (λ z. sign_in z l 0 ≡ sign_at signs z) e.1 (sign-before n (n + 1) m l 0 r (omega arith) ∙ sym own)
@@ -130,7 +130,7 @@ module _ (ns : List Entry) (doc : Recipe) (xs : List Stage) (signs : List ℕ) w
     | inr le ↦ sign-after k n i l 0 r le ∙ sym (z k le b)
   ]
 
-  -- the first tree of a row, and what follows it
+  -- the first tree of a row, and the trees after it
   module _ (n m : ℕ) (c : Tree) (s : Stands ns doc n c) (le : n + node_count c ≤ m) (neat : AreNeat ns doc n m xs signs) where
     pub own-neat : IsNeat ns c n xs signs
     own-neat = neat n c (omega arith) (omega (arith, le, some_count c)) s

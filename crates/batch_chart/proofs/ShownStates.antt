@@ -72,7 +72,7 @@ unfit (kind.Phase j i) s w e h = cc
 unfit (kind.Act j) s w e h = cc
 unfit x s w e h = h
 
--- what an act shows at its stage
+-- the state that an act shows at its stage
 
 shows-live : (s : Step) (w : Task) (r : Rest) (y z : State) → is_done (act_as s w r (stage.Live y)) ≡ false → act_state z (act_as s w r (stage.Live y)) ≡ y
 shows-live s (runs p) r y z e = refl

@@ -1,4 +1,4 @@
--- What acts show, form by form, and the tests of acts that signs tell.
+-- The signs of acts, form by form, and the tests of acts that signs decide.
 use Rattle.std.proofs.Common.{◌≡◌, ℕ, length, Bool, true, false, ◌&&◌, arith, refl, sym, ◌∙◌, ap, nat_lt, nat_le}
 use Rattle.std.specs.Prelude.{not, ◌||◌}
 use Rattle.std.proofs.lemmas.Bool.Decides.{nat_tests}
@@ -187,7 +187,7 @@ live-holds needs x = live-shows 32 needs x ∙ grind (arith, low-32 x)
 pub freeing-holds : (needs k : ℕ) → shows HOLDS (freeing_signs needs k) ≡ (nat_lt 0 k && nat_lt 0 needs)
 freeing-holds needs k = freeing-shows 32 needs k ∙ grind arith
 
--- who stands in line
+-- the acts in line
 
 waits-shown : (r : Rest) → shows WAITS (signs_of r) ≡ waits r
 waits-shown (ready s w k) = ready-shows 4 (length s.needs) k ∙ grind arith

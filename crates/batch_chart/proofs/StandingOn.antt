@@ -92,7 +92,7 @@ module _ (doc : Recipe) (bound : Binding) where
       let fits = from_end es n (bare n u i) are in
       (refl, node_is n (n + 1) (entry (plain entry_kind.Skip 0) (n + 1) u i) Skip (from_head es n _ [] are) refl refl (omega (arith, fits)))
 
-  -- what stands for labels is the trees that they name
+  -- the entries of labels stand for the trees that the labels name
   abbrev AreLabels : LabelConditions → Labels → (Name → Place → Tree) → Type 0
   AreLabels told named trees = (name : Name) (n j u i : ℕ) (p : Place) → AreFrom es n (named name n j u i) → AreFrom all j (told name) → StandsAs n (named name n j u i) (trees name p)
 
@@ -258,7 +258,7 @@ module _ (doc : Recipe) (bound : Binding) where
         let found = found_at (λ (a : Act). same_name a.name name) (table_at doc.acts table) k is in
         subst (λ o. StandsAs n (named_entries (Some k)) (named_trees o)) (sym found) (found_stands acts k (slice_get (table_at doc.acts table) k) refl found h c)
 
-  -- What acts of each table are.
+  -- The acts of each table.
 
   abbrev kinds_below : Bool
   kinds_below = list_all (λ v. has_unit v && has_chart v) doc.acts.unit_procedures.items

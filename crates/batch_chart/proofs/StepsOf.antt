@@ -50,7 +50,7 @@ mutual
       ap₂ (λ l r. l ++ r) (steps-of c (child q i) above) (steps-of_choices ch q above (i + 1))
       ∙ sym (filter_map-append step_in (nodes.nodes (child q i) above c) (nodes_of_choices q above (i + 1) ch))
 
--- what an act shows that isn't reached
+-- the state that an act shows that isn't reached
 abbrev pub unreached : Option Step → Option State
 unreached o = elim o as (λ _. Option State) [ None ↦ None | Some s ↦ Some Idle ]
 

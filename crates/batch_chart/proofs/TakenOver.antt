@@ -1,4 +1,4 @@
--- Ready acts take over what is held for them in advance.
+-- Ready acts take over the units held for them in advance.
 use Rattle.std.proofs.Common.{◌≡◌, ◌≢◌, ◌⊎◌, inl, inr, ◌<◌, ◌≤◌, ℕ, zero, suc, ◌+◌, List, [], ◌∷◌, length, take, Bool, true, false, ◌||◌, nat_eq, nat_lt, arith, refl, sym, ◌∙◌, subst, ap, ap₂}
 use Rattle.std.proofs.lemmas.Bool.Decides.{eqb_tells, nat_tests}
 use Rattle.std.specs.Prelude.{slice_set, slice_index_or}
@@ -32,7 +32,7 @@ use Rattle.batch_chart.proofs.NodesStand.{node-stands}
 use Rattle.batch_chart.proofs.Stepping.{Fits, fits-count, IsGood, set-step, set-calm, set-told, stepped, calmed, number-at-place, all-told}
 use Rattle.batch_chart.proofs.Upkept.{same-kept, come-kept}
 
--- What acts become
+-- The acts after that
 
 mutual
   pub taken-none : (q : Place → Bool) → ((p : Place) → q p ≡ false) → (r : Rest) → taken_by q r ≡ r
@@ -142,7 +142,7 @@ take-short (x ∷ l) = omega arith
 good-taking : (κ : Kind) (h m : ℕ) → m ≡ first_held (needs_of κ) → (s : Step) (w : Task) (r : Rest) → Fits κ s w → IsGood taking (Ready h) (Ready m) s w r
 good-taking κ h m e s w r f = (refl, ap (ready s w) (first-is s.needs ∙ ap first_held (fits-count κ s w f) ∙ sym e), λ t v q. (q.0, q.1, take-short s.needs))
 
--- what is ready is an act
+-- a ready node is an act
 module _ (ns : List Entry) (doc : Recipe) (xs : List Stage) (n h : ℕ) (ready_here : stage_at xs n ≡ Ready h) where
   undone : (r : Rest) → r ≡ done → is_finished (stage_at xs n) ≡ is_done r → ⊥
   undone r e f = let q : ◌≡◌ {A = Bool} true false = sym (f ∙ ap is_done e) ∙ ap is_finished ready_here in cc
@@ -330,7 +330,7 @@ not-ready (Ready h) f = absurd (f h refl)
 not-ready x f = refl
 
 module _ (ns : List Entry) (n : ℕ) (xs : List Stage) (old : List ℕ) where
-  -- what is ready comes to hold its first need
+  -- a ready act gets its first need
   pub taken-at : (j m : ℕ) (ys : List Stage) (new : List ℕ) → stage_at xs n ≡ Ready j → m ≡ first_held (needs_of (kind_at ns n)) → HasCome ns n (Ready m) xs ys old new → IsTakenAt ns n xs ys old new
   taken-at j m ys new was e come = inl (j, was, subst (λ z. HasCome ns n (Ready z) xs ys old new) e come)
 

@@ -33,7 +33,7 @@ children (par ts) = ts
 children (sel ch) = trees_of ch
 children (loop k p body) = tree body no_trees
 
--- a node of this kind has what its act has, and what the charts below it have
+-- the count of a node of this kind is that of its act and that of the charts below it
 abbrev IsCounted : Counted → Tree → Kind → Type 0
 IsCounted counted c κ = most_by (own_by counted) c ≡ own_of counted κ + joined (is_par κ) 0 (most_of (is_par κ) counted (children c))
 

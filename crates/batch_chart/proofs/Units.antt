@@ -1,4 +1,4 @@
--- What is found passes a test that all pass.
+-- An element that is found passes a test that all pass.
 use Rattle.std.proofs.Common.{◌≡◌, Bool, true, false, cond, Option, Some, None, List, [], ◌∷◌, subst}
 use Rattle.std.proofs.lemmas.Bool.{and_parts}
 use Rattle.std.specs.List.{list_all, find}

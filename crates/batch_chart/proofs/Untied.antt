@@ -1,4 +1,4 @@
--- What stands for one binding stands whatever units the phases run on.
+-- A tree that stands for one binding stands whatever units the phases run on.
 use Rattle.std.proofs.Common.{ℕ, ◌+◌, List, Some}
 use Rattle.batch_recipe.specs.Expanding.{Binding}
 use Rattle.batch_recipe.specs.Nodes.{node_count}

@@ -64,7 +64,7 @@ module _ (ns : List Entry) (doc : Recipe) (t : Tree) (laid : IsLaid ns doc t) (k
   apart j (inl q) = λ e. absurd (omega (arith, q, e))
   apart j (inr q) = λ e. absurd (omega (arith, q, e, k-below))
 
-  -- the act itself, where all is finished below it
+  -- the act itself, if all is finished below it
   pub plain-neat : (ys : List Stage) (new : List ℕ) (v : Stage) → IsPlain v → stage_at ys k ≡ v → sign_at new k ≡ stage_signs (needs_of (kind_at ns k)) v → AllFinished (k + 1) (end_at ns k) ys → (c : Tree) → Stands ns doc k c → IsNeat ns c k ys new
   plain-neat ys new v plain own sign below c s =
       let here = act-here ns doc k c acting s in
@@ -142,7 +142,7 @@ module _ (ns : List Entry) (doc : Recipe) (xs ys : List Stage) (old new : List �
   pub keeps-grant : (k n i : ℕ) → n ≡ k → IsAskingAt ns xs k → HasCome ns n (Ready i) xs ys old new → IsKeptUp ns doc xs ys old new
   keeps-grant k n i f at h = come-kept k (Asking at.0) (Ready i) at.1 at.2 tt tt at.4 (at-node n k (Ready i) f h)
 
--- An act begins: what is reached below it shows what it is
+-- An act begins: the tree reached below it is neat
 
 module _ (ns : List Entry) (doc : Recipe) (t : Tree) (laid : IsLaid ns doc t) (k j : ℕ) (lt : k < length ns) (e : kind_at ns k ≡ Act j) (xs ys : List Stage) (old sg : List ℕ) (x : Stage) (r : Bool) (v : ℕ)
     (fits : length xs ≡ length ns) (count : length old ≡ length ns) (was : stage_at xs k ≡ x) (plain : IsPlain x) (own : is_finished (stage_at ys (k + 1)) ≡ r) (outside : AgreeOutside (k + 1) (end_at ns (k + 1)) (slice_set xs k Open) ys)
@@ -214,7 +214,7 @@ keeps-begin ns doc xs ys old sg lives count k n a f r v own outside reached is =
   keeps = begins-neatly ns doc lives.0 lives.1 n a.0 (omega (arith, f, a.2)) (ap (kind_at ns) f ∙ a.3) xs ys old sg (Ready a.1) r v (lives.2.fits ∙ sym lives.1.count) count (ap (stage_at xs) f ∙ a.4) tt own outside reached is;
 }
 
--- What is freed is an act of which something is left
+-- A freed node is an act of which something is left
 
 pub live-acts : (ns : List Entry) (xs : List Stage) (k n : ℕ) → n ≡ k → IsLiveAt ns xs k → (n < length ns) × (is_act_kind (kind_at ns n) ≡ true) × (is_finished (stage_at xs n) ≡ false)
 live-acts ns xs k n f at = (omega (arith, f, at.3), ap (λ z. is_act_kind (kind_at ns z)) f ∙ ap is_act_kind at.4, ap (λ z. is_finished (stage_at xs z)) f ∙ ap is_finished at.5)

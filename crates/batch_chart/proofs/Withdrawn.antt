@@ -1,4 +1,4 @@
--- Once no act stands in line, each shows what it is.
+-- Once no act is in line, each node is neat.
 use Rattle.std.proofs.Common.{◌≡◌, ◌≢◌, ◌⊎◌, ◌&&◌, inl, inr, ◌<◌, ◌≤◌, below_more, ℕ, ◌+◌, List, length, Bool, true, false, nat_eq, nat_lt, nat_le, arith, refl, sym, ◌∙◌, ap, ap₂, length-set, get_or-set_same, get_or-set_other}
 use Rattle.std.specs.Prelude.{slice_set, not, is_none}
 use Rattle.std.specs.Int.Bits.{bit_or}

@@ -1,4 +1,4 @@
--- surface: what charts come to by values alone, where nothing is held in advance.
+-- surface: how charts are reached and go on by values alone, with nothing held in advance.
 use Rattle.std.specs.Prelude.{ℕ, []}
 use Rattle.batch_recipe.specs.Conditions.{ValueList}
 use Rattle.batch_recipe.specs.Tree.{Tree, Trees, Choices}

@@ -1,4 +1,4 @@
--- private: what going on from a finished node upwards makes of the stages.
+-- private: the change of the stages as a chart goes on from a finished node upwards.
 use Rattle.std.specs.Prelude.{◌≡◌, ℕ, ◌+◌, List, length, Bool, true, false}
 use Rattle.batch_recipe.specs.Conditions.{ValueList}
 use Rattle.batch_recipe.specs.Nodes.{node_count}
@@ -21,7 +21,7 @@ all_finished (tree c ts) n xs = elim (is_finished (stage_at xs n)) [ true ↦ al
 pub record AreFinished (ns : List Entry) (doc : Recipe) (n m : ℕ) (xs : List Stage) (result : Bool) : Type 0 where
   pub means : (ts : Trees) → AreStanding ns doc n m ts → result ≡ all_finished ts n xs
 
--- an act below n has been finished, by which the stages xs have come to ws; the tree at n has gone on from these to ys, and nothing is left of it
+-- an act below n has been finished, which changed the stages xs to ws; the tree at n has gone on to ys, and nothing is left of it
 pub record IsRisen (ns : List Entry) (doc : Recipe) (vs : ValueList) (xs ws : List Stage) (n : ℕ) (ys : List Stage) : Type 0 where
   pub before : length xs ≡ length ns
   pub after : length ws ≡ length ns
@@ -51,7 +51,7 @@ pub record HasRisen (ns : List Entry) (doc : Recipe) (vs : ValueList) (ws ys : L
   pub advanced : HasAdvanced ns doc vs 0 ws ys finished
   pub told : AreTold ns doc 0 (length ns) ys
 
--- the tree at n, of which something was left at the stages xs with the signs ms, has been finished, and shows nothing any more
+-- the tree at n, of which something was left at the stages xs with the signs ms, has been finished, and has no signs
 pub record IsNeatlyRisen (ns : List Entry) (doc : Recipe) (xs : List Stage) (ms : List ℕ) (n : ℕ) (ys : List Stage) (new : List ℕ) : Type 0 where
   pub count : length new ≡ length ms
   pub before : AreNeat ns doc 0 (length ns) xs ms
@@ -60,7 +60,7 @@ pub record IsNeatlyRisen (ns : List Entry) (doc : Recipe) (xs : List Stage) (ms 
   pub signs : SignsOutside n (end_at ns n) ms new
   pub blank : AreBlank n (end_at ns n) ys new
 
--- or something is left of it still, which shows what it is
+-- or something is left of it still, and it is neat
 pub record IsNeatlyLeft (ns : List Entry) (doc : Recipe) (xs : List Stage) (ms : List ℕ) (n : ℕ) (ys : List Stage) (new : List ℕ) : Type 0 where
   pub count : length new ≡ length ms
   pub before : AreNeat ns doc 0 (length ns) xs ms

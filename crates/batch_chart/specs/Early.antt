@@ -27,7 +27,7 @@ use Rattle.batch_chart.specs.Upkeep.{IsKeptUp}
 abbrev pub is_early : List Passed → ℕ → Bool
 is_early held k = list_any (λ p. nat_eq p.to k) held
 
--- what is held in advance of a tree
+-- the units that are held in advance, with their places in a tree
 abbrev pub in_advance : Tree → List Passed → List InAdvance
 in_advance t held = map (λ p. record { place = place_at t p.to; unit = need_at t p.node p.need }) held
 
@@ -43,7 +43,7 @@ abbrev pub is_ready : Stage → Bool
 is_ready (Ready held) = true
 is_ready _ = false
 
--- how many needs an act with so many holds that holds its first one
+-- how many needs an act with so many holds that holds its first one: 0 if it has none
 abbrev pub first_held : ℕ → ℕ
 first_held needs = elim (nat_lt 0 needs) [ true ↦ 1 | false ↦ 0 ]
 
@@ -94,12 +94,12 @@ pub record IsTakenBy (ns : List Entry) (doc : Recipe) (early : ℕ → Bool) (xs
   pub all : (k : ℕ) → early k ≡ true → is_ready (stage_at xs k) ≡ true → Has taken k
   pub ready : (k : ℕ) → is_ready (stage_at ys k) ≡ is_ready (stage_at xs k)
 
--- what is held in advance after a move: a pass is held by a node that held nothing
+-- the needs held in advance after a move: a node that held none holds that of a pass
 abbrev pub held_after : List Passed → Move → List Passed
 held_after held (move.Pass k to i) = elim (is_early held to) [ true ↦ held | false ↦ record { to = to; node = k; need = i } ∷ held ]
 held_after held _ = held
 
--- what is left where the acts at these stages have been reached
+-- the needs still held in advance: those for acts that aren't ready at these stages
 abbrev pub still_held : List Stage → List Passed → List Passed
 still_held xs held = filter (λ p. not (is_ready (stage_at xs p.to))) held
 
@@ -108,12 +108,12 @@ pub record AreHeld (count most : ℕ) (held : List Passed) (room : ℕ) : Type 0
   pub within : (p : Passed) → Has held p → p.to < count
   pub enough : most < room
 
--- what the move passes on goes to one of so many nodes
+-- a pass goes to one of so many nodes
 abbrev pub PassesWithin : ℕ → Move → Type 0
 PassesWithin count (move.Pass k to i) = to < count
 PassesWithin count _ = ⊤
 
--- a move has been made, and what is reached by it has taken over what is held for it
+-- a move has been made, and the acts that it reaches have taken over the units held for them
 pub record IsMovedOn (ns : List Entry) (doc : Recipe) (vs : ValueList) (m : Move) (held : List Passed) (xs ys : List Stage) (old new : List ℕ) : Type 0 where
   pub mid : List Stage
   pub signs : List ℕ

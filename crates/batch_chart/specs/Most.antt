@@ -1,4 +1,4 @@
--- private: how much acts have together that are reached at once, by the kinds of their nodes.
+-- private: how much the acts reached at once have together at most, by the kinds of their nodes.
 use Rattle.std.specs.Prelude.{ℕ, ◌+◌, max, Bool, true, false}
 use Rattle.batch_recipe.specs.Tree.{Step, Task, Trees}
 use Rattle.batch_chart.specs.declared.most.Counted.{Counted}

@@ -74,7 +74,8 @@ abbrev pub own_units : Step → Task → ℕ
 own_units s (runs p) = 0
 own_units s (follows name c) = 1
 
--- how much acts have together that are reached at once, where `own` says it of each: of a `seq` or `sel` one branch at a time is, of a `par` all are
+-- how much the acts reached at once have together at most, by the amount `own` of each: a `seq` or `sel` reaches one branch at a time,
+-- a `par` all
 abbrev mutual
   pub most_by : (Step → Task → ℕ) → Tree → ℕ
   most_by own (act s w) = own s w + most_below own w

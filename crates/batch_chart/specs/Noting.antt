@@ -1,4 +1,4 @@
--- surface: what acts show, and the acts of a chart noted by it.
+-- surface: the signs of acts, and the acts of a chart noted by them.
 use Rattle.std.specs.Prelude.{◌≡◌, ℕ, List, [], ◌∷◌, length, Bool, true, false, ◌&&◌, nat_lt, nat_le, nat_eq, slice_set}
 use Rattle.std.specs.Int.Bits.{bit_and, bit_or, bit_xor}
 use Rattle.batch_matrix.specs.declared.command.Command.{Command}
@@ -75,7 +75,7 @@ stage_signs needs (stage.Live x) = live_signs needs x
 stage_signs needs (stage.Freeing k) = freeing_signs needs k
 stage_signs needs _ = 0
 
--- what an act in line that shows these signs shows once it is ready again
+-- the signs of an act that had these signs in line, and is ready again
 abbrev pub readied : ℕ → ℕ
 readied signs = elim (nat_eq (bit_and signs WAITS) 0) [ true ↦ bit_or signs FITS | false ↦ bit_or (bit_xor signs WAITS) LACKS ]
 
@@ -90,17 +90,17 @@ accepting Stop = CAN_STOP
 accepting Abort = CAN_ABORT
 accepting Reset = CAN_RESET
 
--- the signs that the last of these acts with number k shows, where there is one
+-- the signs of the last of these acts with number k, or else `none`
 abbrev pub sign_in : ℕ → List (ℕ × Rest) → ℕ → ℕ
 sign_in k [] none = none
 sign_in k (a ∷ more) none = sign_in k more (elim (nat_eq a.0 k) [ true ↦ signs_of a.1 | false ↦ none ])
 
--- each node has the signs of its act, where the act is reached and isn't finished, and else none
+-- each node has the signs of its act if the act is reached and isn't finished, and else none
 pub record AreNoted (t : Tree) (xs : List Stage) (signs : List ℕ) : Type 0 where
   pub count : length signs ≡ node_count t
   pub shown : (k : ℕ) → sign_at signs k ≡ sign_in k (numbered t 0 xs) 0
 
--- the act at node k has come to another stage, and shows it
+-- the stage of the act at node k has been set, and its signs have been
 pub record HasCome (ns : List Entry) (k : ℕ) (x : Stage) (xs ys : List Stage) (old new : List ℕ) : Type 0 where
   pub stages : ys ≡ slice_set xs k x
   pub signs : new ≡ slice_set old k (stage_signs (needs_of (kind_at ns k)) x)

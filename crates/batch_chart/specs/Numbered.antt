@@ -1,4 +1,4 @@
--- surface: the acts of what remains of a tree, each with the number of its node.
+-- surface: the acts of the rest of a tree, each with the number of its node.
 use Rattle.std.specs.Prelude.{ℕ, ◌+◌, List, [], ◌∷◌, ◌++◌, map, filter, true, false, Option, Some, None, nat_le}
 use Rattle.batch_recipe.specs.Nodes.{node_count}
 use Rattle.batch_recipe.specs.Tree.{Task, runs, follows, Tree, act, skip, seq, par, sel, loop, Trees, no_trees, tree, Choices, otherwise, choice}

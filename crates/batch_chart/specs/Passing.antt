@@ -1,4 +1,4 @@
--- surface: which tree a batch of a recipe follows, and to which nodes the acts of a recipe pass on what they reserve.
+-- surface: the tree that a batch of a recipe follows, and the nodes to which the acts of a recipe pass on the units that they reserve.
 use Rattle.std.specs.Prelude.{◌≡◌, ◌<◌, ℕ, Option, option_map}
 use Rattle.batch_recipe.specs.Expanding.{Binding}
 use Rattle.batch_recipe.specs.Procedure.{bound_tree}
@@ -9,11 +9,11 @@ use Rattle.batch_model.specs.Moves.{reserved_place}
 use Rattle.batch_model.specs.Plant.{Batch}
 use Rattle.batch_chart.specs.NodesOf.{place_at, step_at}
 
--- the tree is the recipe's where its roles are bound in some way
+-- the tree is the recipe's under some binding of its roles
 abbrev pub IsTreeOf : Recipe → Tree → Type 0
 IsTreeOf doc t = (bound : Binding) × (t ≡ bound_tree bound doc.acts)
 
--- the batch follows the tree, which is the recipe's where its roles are bound in some way
+-- the batch follows the tree, which is the recipe's under some binding of its roles
 pub record IsBatchOf (doc : Recipe) (t : Tree) (b : Batch) : Type 0 where
   pub bound : Binding
   pub tree : t ≡ bound_tree bound doc.acts

@@ -34,7 +34,7 @@ impl ControlRecipe<'_> {
         close(stages, p, over)
     }
 
-    /// The loop at p, of which a turn is over, begins the next one where another is to follow.
+    /// The loop at p, of which a turn is over, begins the next turn if another is to follow.
     fn go_round(
         &self,
         stages: &mut [Stage],
@@ -62,7 +62,7 @@ impl ControlRecipe<'_> {
         close_loop(stages, p, over, left - 1)
     }
 
-    /// Goes on at p, the node above n, which has been finished; tells whether p has been finished by that.
+    /// Goes on at p, the node above n, after n has been finished. Returns whether that has finished p.
     fn pass(&self, stages: &mut [Stage], signs: &mut Signs, p: usize, n: usize) -> bool
         requires standing { HasTree self.now.nodes.now self.now.master.now stages.old p }
         requires fits { length signs.old ≡ length self.now.nodes.now }

@@ -1,10 +1,10 @@
-//! What a batch's chart goes on by.
+//! The control recipe of a batch.
 ghost use Rattle.std.specs.Prelude.{◌≡◌};
 ghost use Rattle.std.proofs.Props.{props};
 
 use batch_recipe::{Entry, Recipe, Values};
 
-/// What a batch's chart goes on by: the nodes of its master recipe, and the batch's values.
+/// The control recipe of a batch: the nodes of its master recipe, and the batch's values.
 #[derive(Clone, Copy)]
 pub(crate) struct ControlRecipe<'a> {
     pub(crate) nodes: &'a [Entry],

@@ -12,7 +12,7 @@ use crate::stage::Stage;
 use batch_recipe::Entry;
 use batch_signs::Signs;
 
-/// Nothing stands from the first node on, up to `end`, any more, and nothing is shown.
+/// Makes the nodes from the first one up to `end` finished, without signs.
 fn clear(stages: &mut [Stage], signs: &mut Signs, first: usize, end: usize)
     requires order { first ≤ end }
     requires within { end ≤ length stages.old }
@@ -24,7 +24,7 @@ fn clear(stages: &mut [Stage], signs: &mut Signs, first: usize, end: usize)
     }
 }
 
-/// What still stands below the node is given up.
+/// Gives up the descendants of the node, unless the first of them is finished.
 fn give_up(nodes: &[Entry], stages: &mut [Stage], signs: &mut Signs, n: usize)
     requires within { n < length nodes.now }
     requires fits { length stages.old ≡ length nodes.now }
@@ -42,7 +42,7 @@ fn give_up(nodes: &[Entry], stages: &mut [Stage], signs: &mut Signs, n: usize)
 }
 
 impl ControlRecipe<'_> {
-    /// An act that has ended holds so many needs still. Where it holds none, the chart goes on above it.
+    /// An act that has ended holds so many needs still. If it holds none, the chart goes on above it.
     pub fn free(&self, stages: &mut [Stage], signs: &mut Signs, node: usize, held: u16)
         requires order { IsInOrder self.now.nodes.now self.now.master.now stages.old signs.old }
         requires node { node < length self.now.nodes.now }

@@ -1,4 +1,4 @@
-//! What a recipe's nodes ask for, and what its phase steps run.
+//! Look-ups in a recipe: the node to which a need is passed on, and the phase of a phase step.
 ghost use Rattle.std.specs.Prelude.{◌≡◌, ◌<◌, IfSome, length, option_copied};
 ghost use Rattle.batch_recipe.specs.Expanding.{unit_count};
 ghost use Rattle.batch_chart.specs.Outlined.{phase_name};
@@ -9,7 +9,7 @@ use batch_text::Name;
 
 /// The node of the unit procedure to which the act at the node passes on its need with this number, once it has ended.
 ///
-/// None where the need isn't the unit of one that it reserves, or where that one doesn't follow it.
+/// None where the need isn't the unit of a unit procedure that the act reserves, or where that unit procedure doesn't follow the act.
 pub(crate) fn passes_to(recipe: &Recipe, node: u16, need: u16) -> Option<u16>
     ensures to { PassesTo recipe.now node need result }
     ensures within { IfSome result (λ to. to < length recipe.now.outline.entries.items) }

@@ -11,7 +11,7 @@ ghost use Rattle.batch_chart.specs.Outlined.{AreStanding};
 use crate::node::{Kind, kind_of};
 use batch_recipe::{Entry, Recipe};
 
-/// What is counted of acts.
+/// The quantity that is counted over acts.
 #[derive(Clone, Copy)]
 pub(crate) enum Counted {
     Needs,
@@ -20,7 +20,7 @@ pub(crate) enum Counted {
 }
 
 impl Counted {
-    /// How much of it an act of this kind has itself: 0 where it is none.
+    /// How much of it an act of this kind has itself: 0 if the kind is no act.
     fn of(self, kind: Kind) -> usize
         ensures own { result ≡ own_of self kind }
         ensures few { result ≤ 65535 }
@@ -55,7 +55,7 @@ fn is_par(kind: Kind) -> bool
     }
 }
 
-/// How much two charts have together, or the one that has more.
+/// The sum of the counts of two charts if they run together, else the greater one.
 fn join(together: bool, first: usize, second: usize) -> usize
     requires { first + second < 2 ^ 32 }
     ensures { result ≡ joined together first second }
@@ -67,7 +67,7 @@ fn join(together: bool, first: usize, second: usize) -> usize
     }
 }
 
-/// How much the charts from node n up to `end` have, together or the one that has most, and those before them.
+/// The count of the charts from node n up to `end`, joined with that of those before them: the sum, or the greatest one.
 fn most_among(
     nodes: &[Entry],
     counted: Counted,
@@ -94,7 +94,7 @@ fn most_among(
     most_among(nodes, counted, next, end, together, most)
 }
 
-/// How much acts of the recipe have together that are reached at once.
+/// The greatest count over acts of the recipe that are reached at once.
 fn most(chart: &Recipe, counted: Counted) -> usize
     ensures most { (t : Tree) → IsChartOf t chart.now → result ≡ most_by (own_by counted) t }
     ensures few { result ≤ 268431360 }

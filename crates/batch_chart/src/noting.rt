@@ -1,4 +1,4 @@
-//! Acts that come to another stage, and show it.
+//! Changes of an act's stage and signs.
 ghost use Rattle.std.specs.Prelude.{◌≡◌, ◌<◌, length};
 ghost use Rattle.batch_chart.specs.Noting.{HasCome};
 
@@ -8,7 +8,7 @@ use crate::stage::Stage;
 use batch_recipe::Entry;
 use batch_signs::Signs;
 
-/// The act at the node comes to another stage, and shows it.
+/// Sets the stage of the act at the node, and its signs.
 pub fn set_stage(nodes: &[Entry], stages: &mut [Stage], signs: &mut Signs, n: usize, stage: Stage)
     requires node { n < length nodes.now }
     requires fits { length stages.old ≡ length nodes.now }

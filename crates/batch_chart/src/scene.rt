@@ -1,10 +1,10 @@
-//! A running chart as it stands.
+//! A view of a running chart.
 
 use crate::stage::Stage;
 use batch_recipe::{Entry, Recipe};
 use batch_signs::Signs;
 
-/// A running chart as it stands: the nodes of its recipe, the stage that each has come to, and what its acts show.
+/// A view of a running chart: the nodes of its recipe, the stage of each, and the signs of its acts.
 #[derive(Clone, Copy)]
 pub(crate) struct Scene<'a> {
     pub(crate) nodes: &'a [Entry],

@@ -62,7 +62,7 @@ const CAN_ABORT: u32 = CAN_STOP | STOPPING | STOPPED;
 
 const CAN_RESET: u32 = STOPPED | ABORTED | COMPLETE;
 
-/// One of the needs that are held can be given back.
+/// Whether one of the needs that are held can be given back.
 pub fn gives(needs: u16, held: u16) -> bool
     ensures { result ≡ gives needs held }
 {
@@ -102,7 +102,7 @@ pub fn but(state: State) -> u32
     LIVES ^ of_state(state)
 }
 
-/// What an act with so many needs shows that is ready and holds so many of them.
+/// The signs of a ready act with so many needs, of which it holds so many.
 fn of_ready(needs: u16, held: u16) -> u32
     ensures { result ≡ ready_signs needs held }
 {
@@ -130,14 +130,14 @@ fn of_live(needs: u16, state: State) -> u32
     IS_ACT | of_state(state) | flag(0 < needs, HOLDS)
 }
 
-/// What an act with so many needs shows that follows its chart, of which nothing may be left.
+/// The signs of an act with so many needs that follows its chart. Nothing is left of the chart if it is over.
 pub fn of_open(needs: u16, over: bool) -> u32
     ensures { result ≡ open_signs needs over }
 {
     IS_ACT | flag(over, IS_OVER) | flag(0 < needs, HOLDS)
 }
 
-/// What an act with so many needs shows at this stage, where it follows no chart.
+/// The signs of an act with so many needs at this stage, if it follows no chart.
 pub fn of_stage(needs: u16, stage: Stage) -> u32
     ensures { result ≡ stage_signs needs stage }
 {
@@ -150,7 +150,7 @@ pub fn of_stage(needs: u16, stage: Stage) -> u32
     }
 }
 
-/// What an act in line that shows these signs shows once it is ready again.
+/// The signs of an act that had these signs in line, and is ready again.
 pub fn readied(signs: u32) -> u32
     ensures { result ≡ readied signs }
 {

@@ -1,4 +1,4 @@
-//! Acts that take over what is held for them in advance.
+//! Acts that take over the units held for them in advance.
 ghost use Rattle.std.specs.Prelude.{◌≡◌, ◌<◌, ℕ, Some, length};
 ghost use Rattle.std.specs.VecDeque.{deque_capacity};
 ghost use Rattle.batch_matrix.specs.Matrix.{after_report};
@@ -20,14 +20,14 @@ use batch_recipe::{Entry, Recipe};
 use batch_signs::Signs;
 use std::collections::VecDeque;
 
-/// How many needs an act with so many holds that holds its first one.
+/// How many needs an act holds that holds its first one: 0 if it has none.
 fn first_held(needs: u16) -> u16
     ensures { result ≡ first_held needs }
 {
     if 0 < needs { 1 } else { 0 }
 }
 
-/// The act at the node holds its first need from now on, if it is ready.
+/// Gives the act at the node its first need, if it is ready.
 fn take_at(nodes: &[Entry], stages: &mut [Stage], signs: &mut Signs, n: usize)
     requires node { n < length nodes.now }
     requires fits { length stages.old ≡ length nodes.now }
@@ -41,7 +41,7 @@ fn take_at(nodes: &[Entry], stages: &mut [Stage], signs: &mut Signs, n: usize)
     }
 }
 
-/// Every ready act whose unit is held in advance holds that itself from now on.
+/// Every ready act whose unit is held in advance takes that over.
 fn take_over(
     nodes: &[Entry],
     recipe: &Recipe,
@@ -70,7 +70,7 @@ fn is_held(held: &VecDeque<Passed>, to: u16) -> bool
     false
 }
 
-/// What a move passes on is held in advance.
+/// Holds the need of a pass in advance, unless its node holds one already.
 pub fn hold(held: &mut VecDeque<Passed>, wanted: Move)
     requires { length held.old.items < deque_capacity held.old }
     ensures items { held.new.items ≡ held_after held.old.items wanted }
@@ -93,7 +93,7 @@ fn is_ready_at(stages: &[Stage], node: u16) -> bool
     }
 }
 
-/// What has been taken over is held in advance no more.
+/// Removes the needs that have been taken over: those held for an act that is ready.
 pub fn forget(held: &mut VecDeque<Passed>, stages: &[Stage])
     ensures items { held.new.items ≡ still_held stages.now held.old.items }
     ensures capacity { deque_capacity held.new ≡ deque_capacity held.old }
@@ -102,7 +102,7 @@ pub fn forget(held: &mut VecDeque<Passed>, stages: &[Stage])
 }
 
 impl ControlRecipe<'_> {
-    /// Makes a move that the stages allow. What is reached by it takes over what is held for it in advance.
+    /// Makes a move that the stages allow. The acts that it reaches take over the units held for them in advance.
     pub fn move_on(
         &self,
         stages: &mut [Stage],
@@ -119,7 +119,7 @@ impl ControlRecipe<'_> {
         take_over(self.nodes, self.master, stages, signs, held);
     }
 
-    /// A live phase takes a report that it accepts. What is reached by it takes over what is held for it in advance.
+    /// Gives a live phase a report that it accepts. The acts that are reached by it take over the units held for them in advance.
     pub fn report_on(
         &self,
         stages: &mut [Stage],

@@ -77,7 +77,7 @@ Follows-append : (edges : List Edge) (last : Option ℕ) (xs ys : List (Option �
 Follows-append edges last [] ys h g = g
 Follows-append edges last (x ∷ xs) ys h g = (h.0, Follows-append edges x xs ys h.1 g)
 
--- What a path keeps
+-- The needs that a path keeps
 
 items_assoc : (o : Option (List (Option ℕ))) (xs ys : List (Option ℕ)) → option_map (λ (ns : List (Option ℕ)). ns ++ ys) (option_map (λ (ns : List (Option ℕ)). ns ++ xs) o)
     ≡ option_map (λ (ns : List (Option ℕ)). ns ++ (xs ++ ys)) o
@@ -167,7 +167,7 @@ module _ (path : Path) where
         (g.pairing (needs ++ xs) at_kept final later (h.pairing needs kept final later paired));
   }
 
--- What an act has asked for
+-- The asks of an act
 
 module _ (path : Path) (node : ℕ) where
   -- one need, to which edges lead from the last one, and from all that are kept

@@ -1,4 +1,4 @@
--- What holds of each two needs of a path in the bindings by which edges are collected holds in every binding that is tried.
+-- A fact on each two needs of a path holds in every binding that is tried, if it does in those by which edges are collected.
 use Rattle.std.proofs.Common.{◌≡◌, ℕ, zero, suc, ◌<◌, Bool, true, false, List, [], ◌∷◌, Option, Some, None, option_map, slice_get, refl, sym, ap, ◌∙◌, subst, inr}
 use Rattle.std.proofs.lemmas.Option.{slice_get-map}
 use Rattle.batch_cell.specs.declared.cell.Cell as equipment
@@ -19,7 +19,7 @@ use Rattle.batch_check.specs.Takings.{Taking, alike, apart, bound_by}
 use Rattle.batch_check.specs.declared.edge.Edge.{Edge}
 use Rattle.batch_check.proofs.Rising.{Each-get}
 
--- what holds at each number holds of all
+-- a predicate that holds at each number holds of all
 pub each_at : {X : Type 0} (P : X → Type 0) (xs : List X) → ((i : ℕ) (x : X) → slice_get xs i ≡ Some x → P x) → Each P xs
 each_at P [] f = tt
 each_at P (x ∷ xs) f = (f 0 x refl, each_at P xs (λ i y is. f (suc i) y is))

@@ -53,7 +53,7 @@ top_of recipe reach top recipe_is last_is kept_is = record { recipe_is = recipe_
     nothing Next = inl refl
     nothing Whole = inr refl
 
--- the path leads to the node: whatever candidates take the roles, its needs stand for what is asked for there
+-- the path leads to the node: whatever candidates take the roles, its needs stand for the resources asked for there
 pub record LeadsTo (site : Site) (top : Path) (edges : EdgeSet) (number : ℕ) (path : Path) : Type 0 where
   pub needs : List (Option ℕ)
   pub further : GoesOn top needs edges path
@@ -105,7 +105,7 @@ module _ (site : Site) (number : ℕ) (kept : Option (List (Option ℕ))) (top :
       abbrev it : (t : Taking) → IsEntryOf (nodes_on site t) count e
       it t = entry_in recipe (bound_on site t) count e is
 
-      -- what the node asks for itself
+      -- the resources that the node asks for itself
       abbrev own : Taking → List Name
       own t = resources_of (asked_at (sites_on site t) (act_of recipe.acts e.kind))
 
@@ -116,7 +116,7 @@ module _ (site : Site) (number : ℕ) (kept : Option (List (Option ℕ))) (top :
       abbrev above : Path
       above = get_or paths e.parent top
 
-      -- what is asked for there, of which these needs are the numbers
+      -- the resources asked for there; these needs are their numbers
       pub record AreAbove (t : Taking) (needs : List (Option ℕ)) : Type 0 where
         pub names : List Name
         pub stand : resources_on site t needs ≡ numbers_of_resources cell names
@@ -155,7 +155,7 @@ module _ (site : Site) (number : ℕ) (kept : Option (List (Option ℕ))) (top :
           }
 
       module _ (own_numbers : List (Option ℕ)) (stand : StandFor site (needs_at site e.kind) own_numbers) (next : Path) (new : EdgeSet) (asked : HasAsked above count own_numbers edges new next) where
-        -- what the needs on the path to the node stand for
+        -- the resources for which the needs on the path to the node stand
         there : (t : Taking) → resources_on site t (is_above.needs ++ own_numbers) ≡ numbers_of_resources cell (it t).at.asked
         there t =
             let up = is_above.asked t in

@@ -1,4 +1,4 @@
--- What is left of the orders without one of them.
+-- The orders without one of them.
 use Rattle.std.proofs.Common.{◌≡◌, ℕ, ◌<◌, List, [], ◌∷◌, ◌++◌, Bool, true, false, inl, inr, All, Contains, get_or, zero, suc, sym, subst, ◌∙◌, arith}
 use Rattle.std.proofs.lemmas.Bool.{false≢true}
 use Rattle.std.proofs.lemmas.List.Elements.{All-append, All-contains, All-weaker, All-get_or, Contains-append_left, Contains-append_right, Contains-append_cases, Contains-get_or}

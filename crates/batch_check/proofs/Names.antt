@@ -31,6 +31,6 @@ ranks_rise_by_name c ranks edges within = (
   λ rising k d in'. rw (rank_in-name c ranks (get_or edges k d).earlier (within k d in').0, rank_in-name c ranks (get_or edges k d).later (within k d in').1) at (rising k d in'),
 )
 
--- what a look-up of a name gives
+-- the name that a look-up gives
 pub name_in-found : (c : Cell) (resource : ℕ) (name : Name) → slice_get (resources_of c) resource ≡ Some name → name_in c resource ≡ name
 name_in-found c resource name found = get_or_from_slice_get (resources_of c) resource name [] found

@@ -1,4 +1,4 @@
--- The rounds of raises, and what a circle rules out.
+-- The rounds of raises, and the rankings that a circle rules out.
 use Rattle.std.proofs.Common.{◌≡◌, ℕ, ◌+◌, ◌<◌, ◌≤◌, ⊎_elim, List, [], ◌∷◌, length, get_or, Option, All, Contains, take, drop, ◌++◌, ap, ◌∙◌, sym, subst, arith}
 use Rattle.std.specs.List.{AllByRecursion}
 use Rattle.std.proofs.lemmas.List.Elements.{All-contains, All-weaker, recursion_from_All}
@@ -7,7 +7,7 @@ use Rattle.batch_check.specs.declared.edge.Edge.{Edge}
 use Rattle.batch_check.specs.LeastRanking.{HasEndsBelow, IsRanking, IsLeastRanking, IsEdgeCircle, LeadsAlong}
 use Rattle.batch_check.specs.Raising.{IsProgress, RisesOr}
 
--- what each round keeps
+-- the invariant of each round
 pub record Rounds (count : ℕ) (edges : List Edge) (ranks : List ℕ) (causes : List (Option Edge)) (round : ℕ) : Type 0 where
   pub sized : length ranks ≡ count
   pub progress : IsProgress edges ranks causes
@@ -19,7 +19,7 @@ pub Rounds-more : (count : ℕ) (edges : List Edge) (ranks next : List ℕ) (cau
 Rounds-more count edges ranks next causes marked round h same progress raised =
     record { sized = same ∙ h.sized; progress = progress; rising = raised round h.rising }
 
--- what a Vec holds once all of it was written through a slice
+-- the elements of a Vec once all of it was written through a slice
 pub written : {X : Type 0} (n : ℕ) (xs ys : List X) → length xs ≡ n → take n (xs ++ drop (length xs) ys) ≡ xs
 written n xs ys e = rw (sym e) (take-append_seam xs (drop (length xs) ys))
 

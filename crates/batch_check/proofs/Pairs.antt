@@ -46,7 +46,7 @@ bit_kept a b k whole one =
 
 -- Edges
 
--- the words say which pairs have an edge
+-- the words have the bits of the pairs that have an edge
 abbrev IsExact : ℕ → List ℕ → List Edge → Type 0
 IsExact count known edges = (i j : ℕ) → i < count → j < count → has_bit known (j * 448 + i) ≡ has_pair edges i j
 

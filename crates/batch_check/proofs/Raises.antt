@@ -1,4 +1,4 @@
--- What one raise of a rank keeps.
+-- The invariant of one raise of a rank.
 use Rattle.std.proofs.Common.{◌≡◌, ℕ, ◌+◌, ◌<◌, ◌≤◌, ⊎_elim, inl, inr, List, length, set, get_or, Option, Some, None, Bool, true, false, All, Contains, sym, ap, ◌∙◌, subst, arith, below_more, length-set, get_or-set_same, get_or-set_other}
 use Rattle.std.proofs.lemmas.Bool.{cases_eq, false≢true}
 use Rattle.std.proofs.lemmas.List.Elements.{All-contains, All-get_or, Contains-get_or}
@@ -89,7 +89,7 @@ module _ (edges : List Edge) (ranks : List ℕ) (causes : List (Option Edge)) (e
 abbrev pub no_edge : Edge
 no_edge = record { recipe = 0; node = 0; earlier = 0; later = 0 }
 
--- what the loop over the edges keeps
+-- the invariant of the loop over the edges
 pub record KeepsRaising (edges : List Edge) (first ranks : List ℕ) (causes : List (Option Edge)) (some_raised : Bool) (index : ℕ) : Type 0 where
   pub same_length : length ranks ≡ length first
   pub progress : IsProgress edges ranks causes

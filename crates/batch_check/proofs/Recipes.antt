@@ -271,7 +271,7 @@ module _ (site : Site) (kept : Option (List (Option ℕ))) (number : ℕ) (colle
         ];
       }
 
-  -- what a number stands for, by the number of the candidate alone that takes its role
+  -- the resource for which a number stands, by the number of the candidate alone that takes its role
   record IsAlikeAt (t : Taking) (k : ℕ) : Type 0 where
     candidate : ℕ
     below : candidate < binding_count cell roles

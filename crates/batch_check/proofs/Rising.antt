@@ -155,7 +155,7 @@ pub nodes-Each : (P : Node → Type 0) (xs : List Part) → Each P (map (λ x. x
 nodes-Each P [] h = tt
 nodes-Each P (x ∷ xs) h = (h.0, nodes-Each P xs h.1)
 
--- what holds of the nodes of all parts holds of all nodes
+-- a predicate on the nodes of all parts holds of all nodes
 pub parts_hold : (P : Node → Type 0) (r : Recipe) (bound : Binding) → Each (λ x. P x.node) (procedure_parts (recipe_of r bound)) → Each P (bound_nodes bound r.acts)
 parts_hold P r bound h =
     subst (λ (ns : List Node). Each P ns) (parts-nodes is_procedure (0 ∷ []) [] (bound_tree bound r.acts)) (Each-nodes P (procedure_parts (recipe_of r bound)) h)

@@ -107,7 +107,7 @@ module _ (site : Site) where
 
 -- Edges
 
--- what stands for a resource at a place
+-- the number that stands for a resource at a place
 taken_at : (f : ℕ → Option ℕ) (needs : List (Option ℕ)) (place k : ℕ) → slice_get (map (option_and_then f) needs) place ≡ Some (Some k)
     → (n : ℕ) × (slice_get needs place ≡ Some (Some n)) × (f n ≡ Some k)
 taken_at f [] place k h = absurd (none-some (Some k) h)

@@ -8,7 +8,7 @@ use Rattle.batch_check.specs.LeastRanking.{HasEndsBelow}
 use Rattle.batch_check.specs.Spreading.{HasReached, IsSpread, LeadsOn}
 use Rattle.batch_check.proofs.Raises.{no_edge}
 
--- what the loop over the edges keeps
+-- the invariant of the loop over the edges
 pub record KeepsSpreading (edges : List Edge) (start level : ℕ) (first levels : List ℕ) (causes : List (Option Edge)) (further : Bool) (index : ℕ) : Type 0 where
   pub same_length : length levels ≡ length first
   pub has : HasReached edges start levels causes
@@ -34,7 +34,7 @@ module _ (edges : List Edge) (start level : ℕ) (levels : List ℕ) (causes : L
   other : (k : ℕ) → k ≢ e.later → get_or after k 0 ≡ get_or levels k 0
   other k ne = get_or-set_other levels e.later k (level + 1) 0 ne
 
-  -- what had a level keeps it
+  -- a resource that had a level keeps it
   kept : (k : ℕ) → 0 < get_or levels k 0 → get_or after k 0 ≡ get_or levels k 0
   kept k high = other k (λ same. let zero : get_or levels k 0 ≡ 0 = ap (λ n. get_or levels n 0) same ∙ fresh in absurd (omega (arith, zero)))
 

@@ -1,4 +1,4 @@
--- What acts ask for, by the numbers of resources and roles.
+-- The needs of acts, by the numbers of resources and roles.
 use Rattle.std.proofs.Common.{◌≡◌, ℕ, ◌+◌, ◌<◌, ◌≤◌, inl, inr, List, [], ◌∷◌, ◌++◌, append_assoc, append-nil, map, length, slice_get, Vec, Option, Some, None, option_and_then, refl, sym, ap, ◌∙◌, subst, arith, length-append}
 use Rattle.std.specs.Global.{Global}
 use Rattle.std.specs.List.{Contains}
@@ -25,13 +25,13 @@ use Rattle.batch_check.specs.Sites.{AreNeedsOn, IsTableOf, StandFor, StandsForUn
 use Rattle.batch_check.proofs.Joins.{AreBelow-push, Contains-none}
 
 module _ (site : Site) where
-  -- With what the rest stands for these are all
+  -- With the resources for which the rest stands these are all
 
   pub record IsBegun (needs : List (Option ℕ)) (rest : Taking → List Need) (all : Taking → List (Option ℕ)) : Type 0 where
     pub below : AreBelow (count_with_roles site) needs
     pub taken : (t : Taking) → resources_on site t needs ++ numbers_of_resources site.cell.now (resources_of (rest t)) ≡ all t
 
-  -- before what an act reserves stands its unit, if it has one
+  -- the needs of an act after its unit, if it has one
   abbrev later : Act → Taking → List Need
   later a t = map one_unit (map (unit_named (sites_on site t)) a.reserves.items) ++ a.needs.items
 
@@ -104,7 +104,7 @@ module _ (site : Site) where
   stands_for_none : StandFor site (λ t. []) []
   stands_for_none = record { below = λ k among. absurd (Contains-none (Some k) among); taken = λ t. refl }
 
-  -- what the act at a number of a table asks for
+  -- the needs of the act at a number of a table
   at_number : (table : List Act) (needs : List (Vec (Option ℕ) Global)) (number : ℕ) → IsTableOf site table needs
       → StandFor site (λ t. numbers_of_resources site.cell.now (resources_of (asked_at (sites_on site t) (slice_get table number)))) (own_or_none (slice_get needs number))
   at_number table needs number h = go (slice_get table number) (slice_get needs number) refl refl

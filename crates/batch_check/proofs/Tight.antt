@@ -53,7 +53,7 @@ Has-mapped f (z ∷ xs) y (inr h) = let m = Has-mapped f xs y h in (m.0, inr m.1
 abbrev OfPaths : (List Name → Type 0) → Master → Type 0
 OfPaths P m = (bound : Binding) → IsServed m bound → Each (λ x. P x.node.asked) (procedure_parts (m.control bound))
 
--- what holds of the paths of all nodes holds of the paths of all parts
+-- a predicate on the paths of all nodes holds of the paths of all parts
 all_paths : (c : equipment.Cell) (P : List Name → Type 0) (recipes : List document.Recipe) → Each (OfNodes c (λ n. P n.asked)) recipes → Each (OfPaths P) (map (master_of c) recipes)
 all_paths c P [] h = tt
 all_paths c P (r ∷ rs) h = (
@@ -77,7 +77,7 @@ known_paths c (r ∷ rs) known = (
   known_paths c rs known.1,
 )
 
--- an edge that stands says that its earlier is asked for before its later
+-- the earlier of an edge that stands is asked for before its later
 asked_from_edge : (c : equipment.Cell) (recipes : List document.Recipe) (e : Edge) → Each HasCandidates (map (master_of c) recipes) → Stands c recipes e
     → IsAskedBefore (map (master_of c) recipes) (name_in c e.earlier) (name_in c e.later)
 asked_from_edge c recipes e candidates s =

@@ -1,4 +1,4 @@
--- What the entries of a certificate tell of a cell's resources.
+-- The ranks that the entries of a certificate give a cell's resources.
 use Rattle.std.proofs.Common.{◌≡◌, ℕ, ◌+◌, ◌<◌, false, nat_cmp, is_lt, true, List, [], ◌∷◌, map, length, get_or, position, IsTrue, IsPermutation, Option, Some, None, unwrap_or, Contains, refl, sym, ap, ◌∙◌, subst, arith}
 use Rattle.std.specs.List.{AllByRecursion, IsDistinct, zip}
 use Rattle.std.specs.Cmp.Lexicographic.{slice_cmp}

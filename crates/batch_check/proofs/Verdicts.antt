@@ -1,4 +1,4 @@
--- From what is found of recipes to what it means for clearance.
+-- From the verdicts on recipes to their meaning for clearance.
 use Rattle.std.proofs.Common.{arith, ◌≡◌, ◌≢◌, ℕ, ◌+◌, ◌<◌, ◌++◌, List, [], ◌∷◌, take, get_or, option_map, map, length, slice_get, IsTrue, Some, None, inl, inr, refl, sym, ap, ◌∙◌, subst}
 use Rattle.batch_cell.specs.LookUps.{resources_of}
 use Rattle.batch_cell.specs.declared.cell.Cell as equipment
@@ -68,7 +68,7 @@ tried_for : (d e : Setup) → d.resources ≡ e.resources → (candidates : List
 tried_for d e same [] unit tried = subst (λ (names : List Name). unit ≡ nobody names) same tried
 tried_for d e same (candidate ∷ more) unit tried = tried
 
--- what is tried for roles depends on the names of resources alone
+-- the units that are tried for roles depend on the names of resources alone
 tried_with : (d e : Setup) → d.resources ≡ e.resources → (m : Master) (bound : Binding) → IsTried d m bound → IsTried e m bound
 tried_with d e same m bound h = go m.roles h
   where

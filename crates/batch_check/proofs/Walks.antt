@@ -45,7 +45,7 @@ Leads-take first last (suc i) (e ∷ es) h w = (w.0, Leads-take e.later last i e
 AllPairs-take : (n : ℕ) (walk : List Edge) → AllPairs (λ e f. e.later ≢ f.later) walk → AllPairs (λ e f. e.later ≢ f.later) (take n walk)
 AllPairs-take n walk h = grind (arith, length-take n walk, get_or-take)
 
--- what the walk keeps
+-- the invariant of the walk
 pub record Walks (edges : List Edge) (ranks : List ℕ) (walk : List Edge) (at : ℕ) : Type 0 where
   pub last : ℕ
   pub leads : LeadsAlong at walk last

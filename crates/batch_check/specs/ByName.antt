@@ -1,4 +1,4 @@
--- trusted: circles and rankings of a cell's resources, told by name.
+-- trusted: circles and rankings of a cell's resources, by name.
 use Rattle.std.specs.Prelude.{◌≡◌, ℕ, ◌<◌, List, [], ◌∷◌, length, slice_index, ⊤, ◌↔◌}
 use Rattle.std.specs.Cmp.Lexicographic.{slice_cmp}
 use Rattle.std.specs.List.{All, AllPairs, slice_index_or, zip}

@@ -1,4 +1,4 @@
--- trusted: what the check of a set of recipes says.
+-- trusted: the faults that the check of a set of recipes reports.
 use Rattle.std.specs.Prelude.{◌≡◌, ℕ, List, take, Some, None, slice_get, ⊤}
 use Rattle.batch_cell.specs.declared.cell.Cell as equipment
 use Rattle.batch_recipe.specs.declared.recipe.Recipe as document
@@ -18,14 +18,14 @@ use Rattle.batch_check.specs.Shortest.{IsShortest}
 abbrev pub IsSoundMaster : Setup → Master → Type 0
 IsSoundMaster setup master = IsVerdictOn setup None master None
 
--- recipe k is the first with a node that breaks such a rule, and this is the first that does
+-- recipe k is the first with a node that breaks one of those rules, and this is the first that does
 pub record IsFirstUnsound (setup : Setup) (recipes : List Master) (k : ℕ) (broken : Broken) : Type 0 where
   pub recipe : Master
   pub found : slice_get recipes k ≡ Some recipe
   pub before : Each (IsSoundMaster setup) (take k recipes)
   pub first : IsFirstBrokenBy setup None recipe broken
 
--- the fault stands, and nothing does that is looked for before it: names and number of the recipes, then the recipes one
+-- the fault holds, and none that is checked before it does: first the names and the number of the recipes, then the recipes one
 -- after another, then circles; want of memory says nothing
 abbrev pub IsFault : equipment.Cell → List document.Recipe → CheckFault → Type 0
 IsFault c recipes Recipes = ¬ (IsRecipeSet (setup_of c recipes).recipes)

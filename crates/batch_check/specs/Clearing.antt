@@ -1,4 +1,4 @@
--- trusted: what edges, rankings and circles say of the clearance of recipes.
+-- trusted: edges, rankings and circles, and their meaning for the clearance of recipes.
 use Rattle.std.specs.Prelude.{ℕ, ◌<◌, ◌≤◌, List, length, IsTrue}
 use Rattle.std.specs.List.{All}
 use Rattle.batch_cell.specs.LookUps.{resources_of}

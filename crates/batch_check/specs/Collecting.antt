@@ -1,4 +1,4 @@
--- private: what is kept while the edges of recipes are collected.
+-- private: the invariants of the collection of edges of recipes.
 use Rattle.std.specs.Prelude.{◌≡◌, ℕ, ◌<◌, ◌≤◌, List, [], ◌∷◌, ◌++◌, length, slice_get, Vec, Option, Some, None, ◌⊎◌, Bool, true, false, ◌&&◌, ◌||◌, not, ltb, nat_eq, IsTrue, option_map, slice_set}
 use Rattle.std.specs.Global.{Global}
 use Rattle.std.specs.List.{Contains, slice_index_or}
@@ -23,7 +23,7 @@ use Rattle.batch_check.specs.declared.site.Site.{Site}
 
 -- The needs that a path keeps
 
--- those of all nodes above, where edges are to lead from each of them
+-- those of all nodes above, if edges are to lead from each of them
 abbrev pub kept_by : Path → Option (List (Option ℕ))
 kept_by path = items_in path.asked
 
@@ -50,7 +50,7 @@ pub record IsReady (path : Path) (edges : EdgeSet) : Type 0 where
 
 -- Paths
 
--- the number of the last need, which is `last` where there are no more
+-- the number of the last need, which is `last` if there are no more
 abbrev pub last_number : Option ℕ → List (Option ℕ) → Option ℕ
 last_number last [] = last
 last_number last (need ∷ needs) = last_number need needs
@@ -69,7 +69,8 @@ pub record IsAmong (above own : List (Option ℕ)) (edge : Edge) : Type 0 where
   pub earlier_is : slice_get (above ++ own) before ≡ Some (Some edge.earlier)
   pub later_is : slice_get (above ++ own) place ≡ Some (Some edge.later)
 
--- the path goes on by these needs up to `next`: an edge leads to each from the one before it, and where needs are kept, from each one before it
+-- the path goes on by these needs up to `next`: an edge leads to each from the one before it, and, if needs are kept, from each one
+-- before it
 pub record GoesOn (path : Path) (own : List (Option ℕ)) (edges : EdgeSet) (next : Path) : Type 0 where
   pub ready : IsReady next edges
   pub same_recipe : next.recipe ≡ path.recipe
@@ -139,7 +140,7 @@ pub record AreThose (passes : Edge → Bool) (edges those : List Edge) : Type 0 
 abbrev pub is_of_role : ℕ → Edge → Bool
 is_of_role count edge = not (ltb edge.earlier count && ltb edge.later count)
 
--- it joins the role with this number and one behind it
+-- it joins the role with this number and one after it
 abbrev pub is_behind : ℕ → Edge → Bool
 is_behind role edge = (nat_eq edge.earlier role && ltb role edge.later) || (nat_eq edge.later role && ltb role edge.earlier)
 
@@ -205,7 +206,7 @@ pub record AreAdded (cell : Cell) (kept : Option (List (Option ℕ))) (recipes s
   pub covering : (final : List Edge) → Keeps new.edges.items final → CoversRecipes cell some final
   pub pairing : kept ≡ Some [] → (final : List Edge) → Keeps new.edges.items final → Each (PairsRecipe cell final) some
 
--- no edge went, each edge stands, and where an edge stands between two resources there is one between them
+-- no edge is removed, each edge stands, and the set has an edge for each two resources between which one stands
 pub record HasAllPairs (cell : Cell) (recipes : List Recipe) (old new : EdgeSet) : Type 0 where
   pub grown : Grows old new
   pub standing : (edge : Edge) → Contains new.edges.items edge → Stands cell recipes edge

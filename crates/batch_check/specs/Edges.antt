@@ -79,7 +79,7 @@ Follows edges last (need ∷ needs) = Joins edges last need × Follows edges nee
 abbrev pub Covers : Cell → List Edge → Node → Type 0
 Covers cell edges node = Follows edges None (numbers_of_resources cell node.asked)
 
--- the word is so of all nodes of the recipe, whatever units take its roles
+-- the predicate holds of all nodes of the recipe, whatever units take its roles
 abbrev pub OfNodes : Cell → (Node → Type 0) → Recipe → Type 0
 OfNodes cell Is recipe = (bound : Binding) → AreTried cell recipe bound → Each Is (bound_nodes bound recipe.acts)
 

@@ -1,4 +1,4 @@
--- private: what each part of the check of recipes finds.
+-- private: the results of the parts of the check of recipes.
 use Rattle.std.specs.Prelude.{ℕ, ◌≡◌, List, length, ⊤}
 use Rattle.batch_cell.specs.LookUps.{resources_of}
 use Rattle.batch_cell.specs.declared.cell.Cell as equipment
@@ -25,13 +25,13 @@ abbrev pub IsRankingOf : ℕ → List Edge → Ranking → Type 0
 IsRankingOf count edges (Ranks ranks) = IsLeastRanking count edges ranks.items
 IsRankingOf count edges (Circle circle) = IsEdgeCircle edges circle.items
 
--- a fault of a recipe, where recipes alone were looked at
+-- a fault of a recipe, if recipes alone were checked
 abbrev pub IsRecipeFault : Setup → CheckFault → Type 0
 IsRecipeFault setup (fault.Recipe k broken) = IsFirstUnsound setup setup.recipes k broken
 IsRecipeFault setup fault.Memory = ⊤
 IsRecipeFault setup _ = ⊥
 
--- a circle, where the orders of needs alone were looked at
+-- a circle, if the orders of needs alone were checked
 abbrev pub IsCircleFault : equipment.Cell → List document.Recipe → CheckFault → Type 0
 IsCircleFault c recipes (fault.Circle circle) = StandsAsCircle c recipes circle.items × BeginsWithLeastName c circle.items × IsShortest c recipes circle.items
 IsCircleFault c recipes fault.Memory = ⊤

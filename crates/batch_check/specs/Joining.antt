@@ -39,12 +39,12 @@ pub record HasJoined (recipe node : ℕ) (needs : List (Option ℕ)) (later : Op
   pub joined : (i j : ℕ) → Contains needs (Some i) → later ≡ Some j → IsTrue (has_pair new.edges.items i j)
   pub only : (edge : Edge) → Contains new.edges.items edge → Contains old.edges.items edge ⊎ LeadsFrom recipe node needs later edge
 
--- where needs are kept, edges lead from them to one more, which is kept too
+-- if needs are kept, edges lead from them to one more, which is kept too
 pub record IsKept (recipe node : ℕ) (asked : Option (List (Option ℕ))) (number : Option ℕ) (old new : EdgeSet) (kept : Option (List (Option ℕ))) : Type 0 where
   pub joined : HasJoined recipe node (needs_in asked) number old new
   pub extended : kept ≡ option_map (λ needs. needs ++ number ∷ []) asked
 
--- these edges were added, where none led from the one resource to the other yet
+-- these edges were added, each if none led from the one resource to the other yet
 pub record HasTaken (edges : List Edge) (old new : EdgeSet) : Type 0 where
   pub grown : Grows old new
   pub taken : HasPairsOf edges new.edges.items

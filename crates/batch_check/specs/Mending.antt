@@ -1,4 +1,4 @@
--- surface: what would be left of the recipes' orders without one of them.
+-- surface: ranks along the recipes' orders without one of them.
 use Rattle.std.specs.Prelude.{◌≡◌, ℕ, ◌<◌, List, [], ◌∷◌, Bool, ◌&&◌, nat_eq, true, false, ⊤}
 use Rattle.std.specs.List.{All, Contains}
 use Rattle.batch_cell.specs.declared.cell.Cell.{Cell}
@@ -34,7 +34,7 @@ abbrev pub TellsRiseAlong : List Edge → Edge → Bool → Type 0
 TellsRiseAlong edges edge true = (rank : ℕ → ℕ) × RiseAlongOthers edges edge rank
 TellsRiseAlong edges edge false = (rank : ℕ → ℕ) → ¬ (RiseAlongOthers edges edge rank)
 
--- what is left of the edges without those of this edge's order
+-- the others are the edges without those of this edge's order
 pub record AreOthers (edges : List Edge) (edge : Edge) (others : List Edge) : Type 0 where
   pub among : All (Contains edges) others
   pub differ : All (λ other. is_same_order edge other ≡ false) others

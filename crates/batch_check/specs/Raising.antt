@@ -1,4 +1,4 @@
--- private: what is kept while the ranks of resources are raised.
+-- private: the invariants while the ranks of resources are raised.
 use Rattle.std.specs.Prelude.{◌≡◌, ℕ, ◌+◌, ◌<◌, ◌≤◌, List, length, slice_index, slice_index_or, Option, Some, None, ◌⊎◌}
 use Rattle.std.specs.List.{All, Contains}
 use Rattle.batch_check.specs.declared.edge.Edge.{Edge}
@@ -14,7 +14,7 @@ pub record IsCaused (edges : List Edge) (ranks : List ℕ) (causes : List (Optio
   pub into : edge.later ≡ resource
   pub one_above : slice_index ranks resource ≤ slice_index ranks edge.earlier + 1
 
--- what each raise of a rank keeps
+-- the invariant of each raise of a rank
 pub record IsProgress (edges : List Edge) (ranks : List ℕ) (causes : List (Option Edge)) : Type 0 where
   pub lengths : length causes ≡ length ranks
   pub positive : (resource : ℕ) → resource < length ranks → 0 < slice_index ranks resource
@@ -32,7 +32,7 @@ pub record Overruns (edges : List Edge) (ranks : List ℕ) (edge : Edge) : Type 
   pub standing : Contains edges edge
   pub top : length ranks ≤ slice_index ranks edge.earlier
 
--- what a round over all edges, from the first ranks, comes to
+-- the outcome of a round over all edges, from the first ranks
 abbrev pub IsRound : List Edge → List ℕ → List ℕ → Round → Type 0
 IsRound edges first ranks Still = All (λ e. slice_index ranks e.earlier < slice_index ranks e.later) edges
 IsRound edges first ranks Raised = (k : ℕ) → All (RisesOr k first) edges → All (RisesOr (k + 1) ranks) edges

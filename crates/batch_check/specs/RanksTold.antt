@@ -1,4 +1,4 @@
--- surface: what the entries of a certificate tell of a cell's resources.
+-- surface: the ranks that the entries of a certificate give a cell's resources.
 use Rattle.std.specs.Prelude.{◌≡◌, ℕ, List, length, map}
 use Rattle.batch_cell.specs.LookUps.{resources_of}
 use Rattle.batch_cell.specs.declared.cell.Cell.{Cell}

@@ -1,4 +1,4 @@
--- trusted: circles such that no circle has fewer edges.
+-- trusted: circles with the fewest edges.
 use Rattle.std.specs.Prelude.{◌≡◌, ◌≤◌, List, [], ◌∷◌, ◌++◌, length}
 use Rattle.batch_cell.specs.declared.cell.Cell.{Cell}
 use Rattle.batch_recipe.specs.declared.recipe.Recipe.{Recipe}
@@ -17,7 +17,7 @@ pub record CanBeReplaced (c : Cell) (recipes : List Recipe) (first second : Edge
   pub from : edge.earlier ≡ first.earlier
   pub into : edge.later ≡ second.later
 
--- no two neighbouring edges can be replaced by one; the last edge and the first are neighbours too, where they are two
+-- no two neighbouring edges can be replaced by one; the last edge and the first are neighbours too, if they are two
 pub record TakesNoDetour (c : Cell) (recipes : List Recipe) (circle : List Edge) : Type 0 where
   pub along : (before after : List Edge) (e f : Edge) → circle ≡ before ++ (e ∷ f ∷ after) → ¬ (CanBeReplaced c recipes e f)
   pub around : (between : List Edge) (e f : Edge) → circle ≡ f ∷ (between ++ e ∷ []) → ¬ (CanBeReplaced c recipes e f)

@@ -1,4 +1,4 @@
--- private: what the acts of a recipe ask for, by number, whatever units take its roles.
+-- private: the needs of the acts of a recipe, by number, whatever units take its roles.
 use Rattle.std.specs.Prelude.{◌≡◌, ℕ, ◌+◌, ◌<◌, List, [], length, map, slice_get, Vec, Option, Some, None, option_and_then}
 use Rattle.std.specs.Global.{Global}
 use Rattle.batch_cell.specs.LookUps.{resources_of as cell_resources}
@@ -26,7 +26,7 @@ use Rattle.batch_check.specs.Edges.{number_of_resource, numbers_of_resources}
 abbrev pub bound_on : Site → Taking → Binding
 bound_on site taking = bound_by site.cell.now site.recipe.now.roles.items taking
 
--- by which the units of unit procedures are known
+-- the sites by which the units of unit procedures are found
 abbrev pub sites_on : Site → Taking → Sites
 sites_on site taking = sites (bound_on site taking) site.recipe.now.acts
 
@@ -34,11 +34,11 @@ sites_on site taking = sites (bound_on site taking) site.recipe.now.acts
 abbrev pub nodes_on : Site → Taking → List Node
 nodes_on site taking = bound_nodes (bound_on site taking) site.recipe.now.acts
 
--- what an act of the recipe asks for then: its unit, the units that it reserves, and its needs
+-- all needs of an act of the recipe then: its unit, the units that it reserves, and its own needs
 abbrev pub needs_of : Site → Act → Taking → List (Option ℕ)
 needs_of site a taking = numbers_of_resources site.cell.now (resources_of (needs_with (sites_on site taking) a))
 
--- what the act at a node asks for then, nothing where there is none
+-- the needs of the act at a node then; a node without an act has none
 abbrev pub needs_at : Site → Kind → Taking → List (Option ℕ)
 needs_at site k taking = numbers_of_resources site.cell.now (resources_of (asked_at (sites_on site taking) (act_of site.recipe.now.acts k)))
 
@@ -56,7 +56,7 @@ count_with_roles site = resource_count site + length site.recipe.now.roles.items
 abbrev pub units_on : Site → Taking → List (Option ℕ)
 units_on site taking = units_by site.cell.now site.recipe.now.roles.items taking
 
--- the resource for which a number stands then, and what needs stand for
+-- the resource for which a number stands then, and those for which needs stand
 abbrev pub resource_on : Site → Taking → ℕ → Option ℕ
 resource_on site taking = resource_for (resource_count site) (units_on site taking)
 
@@ -68,7 +68,7 @@ pub record StandsForUnit (site : Site) (unit : Taking → Name) (number : Option
   pub below : (k : ℕ) → number ≡ Some k → k < count_with_roles site
   pub taken : (taking : Taking) → option_and_then (resource_on site taking) number ≡ number_of_resource site.cell.now (unit taking)
 
--- numbers of resources and roles that stand for what is asked for, whatever candidates take the roles
+-- numbers of resources and roles that stand for the resources asked for, whatever candidates take the roles
 pub record StandFor (site : Site) (asked : Taking → List (Option ℕ)) (needs : List (Option ℕ)) : Type 0 where
   pub below : AreBelow (count_with_roles site) needs
   pub taken : (taking : Taking) → resources_on site taking needs ≡ asked taking

@@ -1,4 +1,4 @@
--- private: what is kept while resources are reached from one of them, and what circles with the fewest edges are.
+-- private: the invariants while resources are reached from one of them, and circles with the fewest edges.
 use Rattle.std.specs.Prelude.{◌≡◌, ◌≢◌, ℕ, ◌+◌, ◌<◌, ◌≤◌, List, length, slice_index, slice_index_or, Option, Some, None, IsTrue}
 use Rattle.std.specs.List.{Contains}
 use Rattle.batch_model.specs.Lists.{Each}
@@ -8,7 +8,7 @@ use Rattle.batch_check.specs.declared.spreading.Spread.TheVariants.{Still, Furth
 use Rattle.batch_check.specs.Edges.{has_pair}
 use Rattle.batch_check.specs.LeastRanking.{IsEdgeCircle, LeadsAlong}
 
--- Levels, which count from 1, that of the start; 0 is that of what isn't reached
+-- Levels, which count from 1, that of the start; a resource that isn't reached has 0
 
 -- the edge that reached a resource, from one whose level is lower by one
 pub record IsReached (edges : List Edge) (levels : List ℕ) (causes : List (Option Edge)) (resource : ℕ) : Type 0 where
@@ -45,7 +45,7 @@ pub record LeadsBack (edges : List Edge) (start level : ℕ) (levels : List ℕ)
   pub from : slice_index levels edge.earlier ≡ level
   pub back : edge.later ≡ start
 
--- what a round over all edges comes to
+-- the outcome of a round over all edges
 abbrev pub IsSpreadOn : List Edge → ℕ → ℕ → List ℕ → List (Option Edge) → Spread → Type 0
 IsSpreadOn edges start level levels causes Still = IsSpread edges start (level + 1) levels causes × ((resource : ℕ) → slice_index levels resource ≤ level)
 IsSpreadOn edges start level levels causes Further = IsSpread edges start (level + 1) levels causes

@@ -1,4 +1,4 @@
-//! What acts ask for, by the numbers of the resources and roles.
+//! The needs of acts, by the numbers of the resources and roles.
 ghost use Rattle.std.specs.Prelude.{◌≡◌, ℕ, ◌+◌, option_map, position, slice_get, true, IfOk, Some};
 ghost use Rattle.std.specs.List.{list_all};
 ghost use Rattle.batch_recipe.specs.Conditions.{same_name};
@@ -13,8 +13,8 @@ use batch_text::Name;
 use batch_verify::unit_reserved;
 use std::alloc::{AllocError, Global};
 
-/// What the acts of a recipe ask for, in their order: the numbers of the resources, and behind these those of the roles. Many nodes may
-/// stand for one act.
+/// The needs of the acts of a recipe, in their order, by number. The numbers of roles come after those of the resources. Many nodes
+/// may stand for one act.
 #[derive(Drop)]
 pub(crate) struct ActNeeds {
     pub(crate) procedure: Vec<Option<u16>>,
@@ -23,7 +23,7 @@ pub(crate) struct ActNeeds {
     pub(crate) phases: Vec<Vec<Option<u16>>>,
 }
 
-/// Where the role with this name stands.
+/// The position of the role with this name.
 fn place_of_role(roles: &[Role], name: &Name) -> Option<usize>
     ensures { result ≡ position (λ role. same_name role.name name.now) roles.now }
 {
@@ -58,7 +58,7 @@ fn unit_named(site: &Site, name: &Name) -> Option<u16>
     unit_chosen(site, unit_reserved(&site.recipe.acts, name))
 }
 
-/// What the act asks for: its unit, the units that it reserves, and its needs.
+/// All needs of the act: its unit, the units that it reserves, and its own needs.
 fn needs_of(alloc: Global, site: &Site, act: &Act) -> Result<Vec<Option<u16>>, AllocError>
     requires { list_all (names_unit site.now.recipe.now.acts) act.now.reserves.items ≡ true }
     ensures { IfOk result (λ needs. StandFor site.now (needs_of site.now act.now) needs.items) }
@@ -77,7 +77,7 @@ fn needs_of(alloc: Global, site: &Site, act: &Act) -> Result<Vec<Option<u16>>, A
     Ok(needs)
 }
 
-/// What the acts of a table ask for, in their order.
+/// The needs of the acts of a table, in their order.
 fn needs_in(alloc: Global, site: &Site, table: &[Act]) -> Result<Vec<Vec<Option<u16>>>, AllocError>
     requires { (number : ℕ) (a : act.Act) → slice_get table.now number ≡ Some a → list_all (names_unit site.now.recipe.now.acts) a.reserves.items ≡ true }
     ensures { IfOk result (λ needs. IsTableOf site.now table.now needs.items) }
@@ -91,7 +91,7 @@ fn needs_in(alloc: Global, site: &Site, table: &[Act]) -> Result<Vec<Vec<Option<
 }
 
 impl ActNeeds {
-    /// What the acts of the site's recipe ask for.
+    /// The needs of the acts of the site's recipe.
     pub(crate) fn new(alloc: Global, site: &Site) -> Result<ActNeeds, AllocError>
         ensures { IfOk result (AreNeedsOn site.now) }
     {
@@ -104,7 +104,7 @@ impl ActNeeds {
         })
     }
 
-    /// What the acts of the table ask for.
+    /// The needs of the acts of the table.
     fn table(&self, level: LabelTable) -> &[Vec<Option<u16>>]
         ensures { result.now ≡ table_in self.now level }
     {
@@ -115,7 +115,7 @@ impl ActNeeds {
         }
     }
 
-    /// What the act at a node asks for. Where there is no act, it is nothing.
+    /// The needs of the act at a node. A node without an act has none.
     pub(crate) fn of(&self, kind: Kind) -> &[Option<u16>]
         ensures { result.now ≡ own_at self.now kind }
     {

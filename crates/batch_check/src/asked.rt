@@ -15,7 +15,7 @@ pub(crate) const WORDS: usize = 7;
 pub(crate) struct Asked {
     /// The numbers of the resources.
     pub(crate) needs: Vec<Option<u16>>,
-    /// A bit for each of these numbers, so that all of them are looked at in a few steps.
+    /// A bit for each of these numbers, so that all of them are checked in a few steps.
     pub(crate) numbers: [u64; WORDS],
     ghost sized: { length numbers ≡ 7 },
     ghost noted: { (number : ℕ) → Contains needs.items (Some number) → IsTrue (has_bit numbers number) },
@@ -40,7 +40,7 @@ impl Asked {
         Ok(Asked { needs, numbers })
     }
 
-    /// Adds a need behind the others.
+    /// Adds a need after the others.
     pub(crate) fn push(&mut self, need: Option<u16>) -> Result<(), AllocError>
         requires { ForSome need (λ number. number < 448) }
         ensures { OnOk result (self.new.needs.items ≡ self.old.needs.items ++ need ∷ []) }

@@ -71,7 +71,7 @@ fn resource_for(count: u16, units: &[Option<u16>], number: u16) -> Option<u16>
         .unwrap_or(None)
 }
 
-/// Adds these edges as they are where the units take the roles, and none leads from the one resource to the other yet.
+/// Adds these edges as they are where the units take the roles, each if none leads from the one resource to the other yet.
 pub(crate) fn add_taken(
     edges: &[Edge],
     units: &[Option<u16>],
@@ -149,7 +149,7 @@ fn is_between(edge: Edge, count: u16) -> bool
     edge.earlier < count && edge.later < count
 }
 
-/// Those of the edges that join the role with this number and one behind it.
+/// Those of the edges that join the role with this number and one after it.
 pub(crate) fn edges_behind(
     alloc: Global,
     role: u16,
@@ -166,7 +166,7 @@ pub(crate) fn edges_behind(
     Ok(behind)
 }
 
-/// Whether the edge joins this role and one behind it.
+/// Whether the edge joins this role and one after it.
 fn is_behind(role: u16, edge: Edge) -> bool
     ensures { result ≡ is_behind role edge }
 {

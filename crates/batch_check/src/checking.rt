@@ -41,7 +41,7 @@ pub fn check(alloc: Global, cell: &Cell, recipes: &[Recipe]) -> Result<Certifica
 
     // claim: first fault; circle stands; circle closes; circle begins; circle is short
     ensures first { IfErr result (IsFault cell.now recipes.now) }
-    // What a caller needs of it: but for memory, no ranking clears the recipes.
+    // For a caller: but for memory, no ranking clears the recipes.
     // claim: no clearance
     ensures none { IfErr result (λ fault. fault ≢ CheckFault.Memory → ¬ (CanBeCleared (setup_of cell.now recipes.now))) }
 {
@@ -54,7 +54,7 @@ pub fn check(alloc: Global, cell: &Cell, recipes: &[Recipe]) -> Result<Certifica
     Ok(Certificate { ranks })
 }
 
-/// Looks at the recipes one after another, for the rules that don't speak of ranks.
+/// Checks the recipes one after another by the rules that don't speak of ranks.
 fn check_each(alloc: Global, cell: &Cell, recipes: &[Recipe]) -> Result<(), CheckFault>
     requires { length recipes.now ≤ MAX_RECIPES }
     ensures sound { OnOk result

@@ -46,7 +46,7 @@ fn is_joined(joined: &[bool], kind: Kind) -> bool
     }
 }
 
-/// Sets the flag of the act, where it has one.
+/// Sets the flag of the act, if it has one.
 fn set_joined(joined: &mut [bool], kind: Kind)
     ensures { joined.new ≡ with_joined joined.old kind }
 {

@@ -18,8 +18,8 @@ const ROW: usize = WORDS * 64;
 pub(crate) struct EdgeSet {
     /// How many resources there are, and roles.
     pub(crate) count: u16,
-    /// For each later and each earlier a bit, set where an edge leads to the one from the other. Those to one later stand side by side:
-    /// many of them are looked at together.
+    /// For each later and each earlier a bit, set if an edge leads to the one from the other. Those to one later stand side by side:
+    /// many of them are checked together.
     pub(crate) known: Vec<u64>,
     pub(crate) edges: Vec<Edge>,
     ghost few: { count ≤ 448 },
@@ -42,7 +42,7 @@ impl EdgeSet {
         })
     }
 
-    /// Adds the edge where none leads from its earlier to its later yet.
+    /// Adds the edge, if none leads from its earlier to its later yet.
     pub(crate) fn add(&mut self, edge: Edge) -> Result<(), AllocError>
         requires earlier { edge.earlier < self.old.count }
         requires later { edge.later < self.old.count }

@@ -7,8 +7,7 @@ use batch_verify::Broken;
 use std::alloc::{AllocError, AllocFailed};
 use thiserror::Error;
 
-/// Why no ranking clears recipes for a cell: the first fault in the order of these. Want of memory stands where a growth was
-/// refused.
+/// Why no ranking clears recipes for a cell: the first fault in the order of these, or want of memory, if a growth was refused.
 #[derive(Debug, Error, Drop)]
 pub enum CheckFault {
     /// Two recipes have one name, or there are too many.
@@ -23,7 +22,7 @@ pub enum CheckFault {
         broken: Broken,
     },
     /// These edges, which all stand in recipes, lead from a resource back to it, and no resource comes twice. The first comes
-    /// from the resource with the least name. No such edges are fewer.
+    /// from the resource with the least name. No circle has fewer edges.
     #[error("edges lead from a resource back to it: {0:?}")]
     Circle(Vec<Edge>),
     /// Out of memory.

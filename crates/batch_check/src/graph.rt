@@ -1,4 +1,4 @@
-//! The graph of what is asked for after what.
+//! The graph of the orders in which recipes ask for resources.
 ghost use Rattle.std.specs.Prelude.{IfOk, IfErr, OnOk};
 ghost use Rattle.std.specs.List.{All};
 ghost use Rattle.batch_check.specs.Checking.{IsSetFault};
@@ -18,7 +18,7 @@ use std::alloc::{AllocError, Global};
 /// The orders in which the recipes ask for resources: an edge for each two that follow one another on a path, and for each edge
 /// of a circle one that leads from the same resource to the same.
 ///
-/// The circle is the one that [`crate::check`] tells, or has no edge. The faults are [`CheckFault::Recipes`] and
+/// The circle is the one that [`crate::check`] reports, or has no edge. The faults are [`CheckFault::Recipes`] and
 /// [`CheckFault::Memory`] alone: recipes that break other rules have a graph too.
 // claim: drawing
 pub fn graph_of(
@@ -40,7 +40,7 @@ pub fn graph_of(
     Ok(set.edges)
 }
 
-/// Adds these edges, where none leads from the one resource to the other yet.
+/// Adds each of these edges, if none leads from the one resource to the other yet.
 fn take(edges: &[Edge], set: &mut EdgeSet) -> Result<(), AllocError>
     requires { HasEndsBelow set.old.count edges.now }
     ensures { OnOk result (HasTaken edges.now set.old set.new) }

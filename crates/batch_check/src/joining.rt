@@ -8,7 +8,7 @@ use crate::edge::Edge;
 use crate::edge_set::EdgeSet;
 use std::alloc::AllocError;
 
-/// Adds the edge from the one need to the other, which the act at the node asks for, where both are resources.
+/// Adds the edge from the one need to the other, which the act at the node asks for, if both are resources.
 pub(crate) fn join(
     recipe: u16,
     node: u16,
@@ -49,7 +49,7 @@ fn join_each(
     Ok(())
 }
 
-/// Adds the edges from each of these needs to one, which the act at the node asks for, where not all of them are there.
+/// Adds the edges from each of these needs to one, which the act at the node asks for, if not all of them are there.
 fn join_asked(
     recipe: u16,
     node: u16,
@@ -69,7 +69,7 @@ fn join_asked(
     join_each(recipe, node, &asked.needs, later, edges)
 }
 
-/// The needs that are kept, with this one behind them. Adds the edges from each of them to it.
+/// The needs that are kept, with this one after them. Adds the edges from each of them to it.
 pub(crate) fn keep(
     recipe: u16,
     node: u16,

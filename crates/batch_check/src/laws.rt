@@ -11,7 +11,7 @@ pub fn circle_leaves_no_ranking()
     ensures { CirclesLeaveNoRanking }
 {}
 
-/// Ranks by number and ranks by name say the same, of resources and along edges between them.
+/// Ranks by number and ranks by name mean the same, of resources and along edges between them.
 // claim: ranks by name
 pub fn ranks_are_told_by_name()
     ensures ranks { RanksByName }

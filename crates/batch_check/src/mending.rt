@@ -1,4 +1,4 @@
-//! What is left of the recipes' orders without one of them.
+//! The recipes' orders without one of them.
 ghost use Rattle.std.specs.Prelude.{◌≡◌, ◌≤◌, ◌&&◌, IfOk, IfErr, length, nat_eq};
 ghost use Rattle.batch_check.specs.Checking.{IsSetFault};
 ghost use Rattle.batch_check.specs.LeastRanking.{HasEndsBelow};
@@ -17,8 +17,7 @@ use std::alloc::{AllocError, Global};
 /// Of each of these edges whether ranks could rise along the paths of the recipes, were it not for the order in which the edge has its
 /// two resources.
 ///
-/// Whoever asks so first, and in which recipe, doesn't matter. The faults are [`CheckFault::Recipes`] and [`CheckFault::Memory`]
-/// alone.
+/// The recipe and the node of the edge don't matter. The faults are [`CheckFault::Recipes`] and [`CheckFault::Memory`] alone.
 // claim: order left out
 pub fn rise_without(
     alloc: Global,

@@ -26,7 +26,7 @@ pub(crate) struct Path {
     pub(crate) recipe: u16,
     /// The number of the resource that is asked for last.
     pub(crate) last: Option<u16>,
-    /// All that is asked for, where edges are to lead from each of it.
+    /// All needs, if edges are to lead from each of them.
     pub(crate) asked: Option<Asked>,
 }
 

@@ -5,7 +5,7 @@ ghost use Rattle.batch_check.specs.Raising.{IsProgress, IsRound};
 
 use crate::edge::Edge;
 
-/// What a round over all edges comes to.
+/// The outcome of a round over all edges.
 pub(crate) enum Round {
     /// The ranks rise along all edges.
     Still,

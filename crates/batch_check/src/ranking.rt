@@ -8,7 +8,7 @@ use crate::edge::Edge;
 use crate::raising::{Round, raise_all};
 use std::alloc::{AllocError, Global};
 
-/// What edges allow.
+/// The least ranks that edges allow, or a circle of edges.
 #[derive(Drop)]
 pub(crate) enum Ranking {
     /// The rank of each resource, by number.

@@ -7,7 +7,7 @@ use crate::edge::Edge;
 use crate::spreading::{Spread, spread_on};
 use std::alloc::{AllocError, Global};
 
-/// A circle of the edges between the resources below `count`, such that none has fewer edges: the one given, or one with fewer.
+/// A circle of the edges between the resources below `count` with the fewest edges: `circle`, or one with fewer.
 // claim: circle is short
 pub(crate) fn shortest_circle(
     alloc: Global,
@@ -29,7 +29,7 @@ pub(crate) fn shortest_circle(
     Ok(shortest)
 }
 
-/// A circle through the resource with the fewest edges, where those are fewer than `most`.
+/// A circle through the resource with the fewest edges, if those are fewer than `most`.
 fn shorter_through(
     alloc: Global,
     start: u16,

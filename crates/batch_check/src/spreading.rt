@@ -5,7 +5,7 @@ ghost use Rattle.batch_check.specs.Spreading.{IsSpread, IsSpreadOn};
 
 use crate::edge::Edge;
 
-/// What a round over all edges from one level comes to.
+/// The outcome of a round over all edges from one level.
 pub(crate) enum Spread {
     /// Nothing more was reached.
     Still,
@@ -15,9 +15,9 @@ pub(crate) enum Spread {
     Back(Edge),
 }
 
-/// Gives each resource that no edge led to yet, and that one leads to from this level, the next level, and keeps that edge.
+/// Gives the next level to each resource without a level to which an edge leads from this level, and keeps that edge.
 ///
-/// Levels count from 1, which is the start's; 0 is that of what isn't reached. At an edge back to the start the round stops.
+/// Levels count from 1, that of the start; a resource that isn't reached has 0. At an edge back to the start the round stops.
 pub(crate) fn spread_on(
     edges: &[Edge],
     start: u16,

@@ -1,4 +1,4 @@
--- Arguments of a command line and bare commands, as what a parse reads of them.
+-- Arguments of a command line and bare commands, as a parse reads them.
 use Rattle.std.proofs.Common.{◌≡◌, ◌∙◌, Bool, Some, ap, ap₂, false}
 use Rattle.clap.specs.Simple.{App, app_of, app_of_fields}
 use Rattle.clap.specs.Walk.{Rule, rule_of}
@@ -9,7 +9,7 @@ use Rattle.clap.specs.declared.builder.command.Command.TheViews.{out-Command}
 use Rattle.clap.specs.declared.builder.texts.Texts.TheVariants.{One}
 use Rattle.batch_cli.specs.Table.{HasApp}
 
--- what a step of an argument's builder makes of its rule
+-- the effect of a step of an argument's builder on its rule
 module _ {made : Arg} {rule : Rule} where
   pub with_help : (arg : Arg) {help : _} → made ≡ record arg { help = help } → rule_of arg ≡ rule → rule_of made ≡ rule
   with_help arg is of = ap rule_of is ∙ of
@@ -34,7 +34,7 @@ module _ {made : Arg} {rule : Rule} where
       → rule_of arg ≡ rule → rule_of made ≡ record rule { parser = parser }
   with_parser arg is given of = ap rule_of is ∙ ap₂ {A = Rule} (λ rule parser. record rule { parser = parser }) of given
 
--- the texts of its help say nothing to a parse
+-- a command's help texts have no effect on a parse
 pub with_texts : (new about : Command) {made : Command} {shown after : _} {app : App} → out-Command about ≡ record (out-Command new) { about = shown }
     → out-Command made ≡ record (out-Command about) { after_help = after } → app_of new ≡ app → (out-Command new).has_globals ≡ false → HasApp app made
 with_texts new about first then app_is no_globals = record {

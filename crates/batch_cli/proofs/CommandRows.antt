@@ -57,7 +57,7 @@ run_taken = refl
 abbrev journal_line : List Text
 journal_line = codes "run" ∷ codes "--journal" ∷ codes "j" ∷ codes "c" ∷ codes "k" ∷ codes "r" ∷ []
 
--- what was asked for, and the journal of the command that was entered, where there is one
+-- the name, the journal if there is one, and the recipes of the command that was entered
 abbrev entered_journal : Option (Text × List Row) → Option (Text × Option Text × List Text)
 entered_journal = option_map (λ p. (p.0, first_of (codes "journal") p.1, words_of (codes "RECIPE") p.1))
 
@@ -164,7 +164,7 @@ version_is_shown = refl
 abbrev quiet_line : List Text
 quiet_line = codes "check" ∷ codes "--quiet" ∷ codes "c" ∷ []
 
--- what is read of the flags of the command that was entered
+-- the flags of the command that was entered
 abbrev entered_flags : Option (Text × List Row) → Option (Bool × Bool)
 entered_flags = option_map (λ p. (is_given (codes "dot") p.1, is_given (codes "quiet") p.1))
 
@@ -202,7 +202,7 @@ no_file_is_read = refl
 abbrev explain_line : List Text
 explain_line = codes "explain" ∷ codes "refused" ∷ codes "E3" ∷ codes "running" ∷ []
 
--- what is read of the texts of the command that was entered
+-- the texts of the command that was entered
 abbrev entered_texts : Option (Text × List Row) → Option (List Text)
 entered_texts = option_map (λ p. words_of (codes "CODE") p.1)
 
@@ -228,7 +228,7 @@ show_entered = refl
 
 -- a record
 
--- the path of the record that was entered, where there is one
+-- the path of the record that was entered, if there is one
 abbrev entered_path : Option (Text × List Row) → Option (Text × Option Text)
 entered_path = option_map (λ p. (p.0, first_of (codes "RECORD") p.1))
 

@@ -1,4 +1,4 @@
--- What a parse that fails says of the words.
+-- The fault of words that fail to parse.
 use Rattle.std.proofs.Common.{◌≡◌, ◌≢◌, ◌⊎◌, Bool, true, false, [], ◌∷◌, Option, Some, None, is_some, option_map, inl, inr, refl, if◌then◌else◌}
 use Rattle.clap.specs.Kinds.{Kinds, HasKind, IsAmong, or_else}
 use Rattle.clap.specs.Values.{kind_of}
@@ -35,7 +35,7 @@ pub kind_first : (kinds next : Kinds) (error : Error) → HasKind kinds error �
 kind_first kinds next error (inl none) = inl none
 kind_first kinds next error (inr some) = inr (among_first (kind_of error) kinds next some)
 
--- none of them, where there is none of either
+-- no fault, if there is none of either
 pub none_of_both : (kinds : Kinds) (lacking : Bool) → kinds ≡ [] → lacking ≡ false → or_else kinds (if lacking then MissingRequiredArgument ∷ [] else []) ≡ []
 none_of_both kinds lacking none not_lacking = rw (none, not_lacking) refl
 
@@ -44,7 +44,7 @@ fault_of_missing (Help text) is = (MissingRequiredArgument, inl refl, is)
 fault_of_missing (Usage text) is = (MissingRequiredArgument, inl refl, is.1)
 fault_of_missing Memory is = tt
 
--- what is missing where clap finds nothing
+-- the fault of a missing recipe, if clap finds none
 pub fault_missing : (kinds : Kinds) (lacking : Bool) (fault : CommandFault) → kinds ≡ [] → lacking ≡ true → IsFaultOfKind MissingRequiredArgument fault
     → IsFaultOf (or_else kinds (if lacking then MissingRequiredArgument ∷ [] else [])) fault
 fault_missing kinds lacking fault none lacks is = rw (none, lacks) (fault_of_missing fault is)

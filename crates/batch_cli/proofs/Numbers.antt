@@ -12,7 +12,7 @@ pub number_is : (least most usual n : ℕ) (text : List ℕ) → IsUnsignedIn le
     → n ≡ number_given least most usual (Some text)
 number_is least most usual n text (within, is) = rw (Accepts-accepts false (parser.Unsigned least most) text within) is
 
--- a word that says none in the range gives the usual number
+-- a word that gives none in the range gives the usual number
 pub number_is_none : (least most usual : ℕ) (text : List ℕ) → (IsUnsignedIn least most text → ⊥) → usual ≡ number_given least most usual (Some text)
 number_is_none least most usual text outside = by_test (is_unsigned_in least most text) refl
   where

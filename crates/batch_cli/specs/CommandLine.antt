@@ -1,4 +1,7 @@
--- trusted: the command line: `check [--all] [--write FILE] CELL RECIPE..`, `verify CELL CERT RECIPE..`, `show CELL RECIPE..`, `run [--journal FILE] [--echo] [--times] CELL CERT RECIPE..`, `serve [--journal FILE] [--times] DESKS CELL CERT RECIPE..`, `status RECORD`, `draw RECORD`, `audit RECORD CELL CERT RECIPE..`, `plant [CELL CERT RECIPE..]`, `explain CODE..`, and no words at all.
+-- trusted: the command line: one of these commands, or no words at all.
+-- `check [--all] [--write FILE] CELL RECIPE..`, `verify CELL CERT RECIPE..`, `show CELL RECIPE..`,
+-- `run [--journal FILE] [--echo] [--times] CELL CERT RECIPE..`, `serve [--journal FILE] [--times] DESKS CELL CERT RECIPE..`,
+-- `status RECORD`, `draw RECORD`, `audit RECORD CELL CERT RECIPE..`, `plant [CELL CERT RECIPE..]`, `explain CODE..`.
 use Rattle.std.specs.Prelude.{◌≡◌, ◌≢◌, ◌⊎◌, [], ◌∷◌, ℕ, Bool, List, Option, Some, None, map, option_map, is_some, codes, true, false, ◌&&◌, ◌||◌, not, unwrap_or, string_bytes, if◌then◌else◌, ⊤}
 use Rattle.std.specs.Str.{bytes_eq}
 use Rattle.std.specs.Str.Parse.{digits_value, without_leading_plus}
@@ -113,11 +116,11 @@ word_of name rows = unwrap_or (first_of name rows) []
 abbrev pub words_of : Text → List Row → List Text
 words_of name rows = unwrap_or (all_of name rows) []
 
--- a flag was given, which clap tells by the text `true`
+-- a flag was given: clap has the text `true` for it
 abbrev pub is_given : Text → List Row → Bool
 is_given name rows = bytes_eq (word_of name rows) (codes "true")
 
--- the number that was given for an option, or the usual one where none was. A word that says no number of the range is refused
+-- the number that was given for an option, or the usual one if none was. A word that gives no number of the range is refused
 abbrev pub number_given : ℕ → ℕ → ℕ → Option Text → ℕ
 number_given least most usual None = usual
 number_given least most usual (Some text) =
@@ -135,107 +138,108 @@ ring_of rows = number_given 1 64 1 (first_of (codes "ring") rows)
 abbrev pub HasOptionsOf : List Row → PlantOptions → Type 0
 HasOptionsOf rows options = (options.batches ≡ batches_of rows) × (options.ticks ≡ ticks_of rows) × (options.ring ≡ ring_of rows)
 
--- What the words ask for
+-- The request of the words
 
 -- documents that are to be judged, by their paths
 pub data Judgement : Type 0 where
-  -- everything that is refused is to be told, or the first refusal alone
+  -- with `all` every refusal is to be reported, else the first alone
   check : (all : Bool) (cell : Text) (recipes : List Text) → Judgement
-  -- to draw what they ask for
+  -- to draw the orders in which recipes ask for resources
   draw : (all : Bool) (cell : Text) (recipes : List Text) → Judgement
   verify : (cell certificate : Text) (recipes : List Text) → Judgement
   -- to show their nodes
   show : (cell : Text) (recipes : List Text) → Judgement
 
--- whose set is to be served, or whose plant is to be run: the demo's, or that of the documents at these paths
+-- the source of the set that is to be served, or whose plant is to be run: the demo, or the documents at these paths
 pub data Source : Type 0 where
   demo : Source
   documents : (cell certificate : Text) (recipes : List Text) → Source
 
 pub data Request : Type 0 where
   judge : Judgement → Request
-  -- to write into the file at this path what is printed of documents that are accepted
+  -- to write the text of a judgement that accepts into the file at this path
   write : (path : Text) → Judgement → Request
   serve : Source → Request
   -- to serve it with comments in the record: the lines, or times, or both
   remark : (source : Source) (echo times : Bool) → Request
-  -- to serve that of the documents at these paths, with a journal in the file at the first one, and with comments in the record or without them
+  -- to serve the set of the documents at these paths, with a journal in the file at the first one, and with comments in the record or
+  -- without them
   keep : (journal cell certificate : Text) (recipes : List Text) (echo times : Bool) → Request
-  -- to serve the desks of one document over the set of the others, with a journal in the file at the first path where there is one, and with
-  -- times in the record or without them
+  -- to serve the desks of one document over the set of the others, with a journal in the file at the first path if there is one, and
+  -- with times in the record or without them
   serve_desks : (journal : Option Text) (desks cell certificate : Text) (recipes : List Text) (times : Bool) → Request
-  -- to tell what the record at this path says, or the one on standard input
+  -- to report the content of the record at this path, or of the one on standard input
   tell : (path : Option Text) → Request
-  -- to draw what it says
+  -- to draw its content
   picture : (path : Option Text) → Request
-  -- to compare the record at this path with what event lines come to over a set; a record that only begins it may be accepted
+  -- to compare the record at this path with the record that event lines give over a set; a prefix of that may be accepted
   audit : (beginning : Bool) (path : Text) (source : Source) → Request
   -- to run a plant for so many batches, with phases of so many ticks and rings of so many places
   plant : (source : Source) (batches ticks ring : ℕ) → Request
-  -- to say what the first code in these texts means, or where there are none what all codes mean
+  -- to explain the first code in these texts, or without texts to print the meaning of each code
   explain : (texts : List Text) → Request
 
--- which judgement the words behind `check` ask for
+-- the judgement that the words behind `check` ask for
 abbrev pub judged_by : List Row → Judgement
 judged_by rows =
     if is_given (codes "dot") rows then draw (is_given (codes "all") rows) (word_of (codes "CELL") rows) (words_of (codes "RECIPE") rows)
     else check (is_given (codes "all") rows) (word_of (codes "CELL") rows) (words_of (codes "RECIPE") rows)
 
--- it is printed, or written into the file that they name
+-- its text is printed, or written into the file that they name
 abbrev pub written_by : Option Text → Judgement → Request
 written_by None judgement = judge judgement
 written_by (Some path) judgement = write path judgement
 
--- what the words behind `check` ask for
+-- the request of the words behind `check`
 abbrev pub checked_by : List Row → Request
 checked_by rows = written_by (first_of (codes "write") rows) (judged_by rows)
 
--- what the words behind `show` ask for
+-- the request of the words behind `show`
 abbrev pub shown_by : List Row → Request
 shown_by rows = judge (show (word_of (codes "CELL") rows) (words_of (codes "RECIPE") rows))
 
--- with comments in the record where a flag asks for some
+-- with comments in the record if a flag asks for some
 abbrev pub serve_by : Source → List Row → Request
 serve_by source rows =
     if is_given (codes "echo") rows || is_given (codes "times") rows
     then remark source (is_given (codes "echo") rows) (is_given (codes "times") rows)
     else serve source
 
--- with a journal where one is named
+-- with a journal if one is named
 abbrev pub run_by : Option Text → List Row → Request
 run_by None rows = serve_by (documents (word_of (codes "CELL") rows) (word_of (codes "CERT") rows) (words_of (codes "RECIPE") rows)) rows
 run_by (Some journal) rows =
     keep journal (word_of (codes "CELL") rows) (word_of (codes "CERT") rows) (words_of (codes "RECIPE") rows) (is_given (codes "echo") rows) (is_given (codes "times") rows)
 
--- what the words behind `verify` or `run` ask for
+-- the request of the words behind `verify` or `run`
 abbrev pub certified_by : Text → List Row → Request
 certified_by name rows =
     if bytes_eq name (codes "verify")
     then judge (verify (word_of (codes "CELL") rows) (word_of (codes "CERT") rows) (words_of (codes "RECIPE") rows))
     else run_by (first_of (codes "journal") rows) rows
 
--- what the words behind `audit` ask for
+-- the request of the words behind `audit`
 abbrev pub audited_by : List Row → Request
 audited_by rows =
     audit (is_given (codes "beginning") rows) (word_of (codes "RECORD") rows)
     (documents (word_of (codes "CELL") rows) (word_of (codes "CERT") rows) (words_of (codes "RECIPE") rows))
 
--- the documents of which a plant is, or the demo's where no cell is given
+-- the documents of a plant, or the demo's if no cell is given
 abbrev pub plant_source : Option Text → List Row → Source
 plant_source None rows = demo
 plant_source (Some cell) rows = documents cell (word_of (codes "CERT") rows) (words_of (codes "RECIPE") rows)
 
--- what the words behind `plant` ask for
+-- the request of the words behind `plant`
 abbrev pub planted_by : List Row → Request
 planted_by rows = plant (plant_source (first_of (codes "CELL") rows) rows) (batches_of rows) (ticks_of rows) (ring_of rows)
 
--- what the words behind `serve` ask for
+-- the request of the words behind `serve`
 abbrev pub desks_by : List Row → Request
 desks_by rows =
     serve_desks (first_of (codes "journal") rows) (word_of (codes "DESKS") rows) (word_of (codes "CELL") rows) (word_of (codes "CERT") rows)
     (words_of (codes "RECIPE") rows) (is_given (codes "times") rows)
 
--- what is asked for by the word that was entered and the words behind it; `program_app` enters no other word, and at `help` clap answers
+-- the request of the word that was entered and the words behind it; `program_app` enters no other word, and at `help` clap answers
 abbrev pub named_by : Text → List Row → Request
 named_by name rows =
     if bytes_eq name (codes "explain") then explain (words_of (codes "CODE") rows)
@@ -247,12 +251,12 @@ named_by name rows =
     else (if bytes_eq name (codes "check") then checked_by rows
     else (if bytes_eq name (codes "show") then shown_by rows else certified_by name rows)))))))
 
--- what is asked for, whether or not a command was entered
+-- the request of the words, whether or not a command was entered
 abbrev pub asked_by : Option (Text × List Row) → Request
 asked_by None = serve demo
 asked_by (Some entered) = named_by entered.0 entered.1
 
--- nothing is to be said in words of a refusal
+-- the program is to write no sentence on a refusal
 abbrev pub asks_quiet : Option (Text × List Row) → Bool
 asks_quiet None = false
 asks_quiet (Some entered) = is_given (codes "quiet") entered.1
@@ -283,11 +287,11 @@ request_of (Audit words) = audit words.beginning (string_bytes words.path) (sour
 request_of (Plant source options) = plant (source_of source) options.batches options.ticks options.ring
 request_of (Explain texts) = explain (map string_bytes texts.items)
 
--- what is read of the words is what they ask for
+-- the result of the parse is the request of the words
 abbrev pub AreWordsOf : Option (Text × List Row) → CommandWords → Type 0
 AreWordsOf entered words = (request_of words.command ≡ asked_by entered) × (words.quiet ≡ asks_quiet entered)
 
--- a plant of a cell is asked for without a recipe; where there is one, the certificate stands before it
+-- the words ask for a plant of a cell without a recipe; if there is a recipe, the certificate precedes it
 abbrev pub lacks_recipe : Option (Text × List Row) → Bool
 lacks_recipe None = false
 lacks_recipe (Some entered) =
@@ -300,17 +304,17 @@ missing_kinds entered = if lacks_recipe entered then MissingRequiredArgument ∷
 abbrev pub faults_of : List Text → Kinds
 faults_of words = or_else (fault_of program_app words) (missing_kinds (subcommand_of program_app words))
 
--- what the user asks to be shown: help, or the version
+-- the user asks for help, or for the version
 abbrev pub IsShown : ErrorKind → Type 0
 IsShown kind = (kind ≡ DisplayHelp) ⊎ (kind ≡ DisplayVersion)
 
--- what a fault of this kind is to the user
+-- the fault that the user gets for one of this kind
 abbrev pub IsFaultOfKind : ErrorKind → CommandFault → Type 0
 IsFaultOfKind kind (Help text) = IsShown kind
 IsFaultOfKind kind (Usage text) = (kind ≢ OutOfMemory) × ¬ (IsShown kind)
 IsFaultOfKind kind Memory = ⊤
 
--- help or the version is shown where it was asked for, and every other kind of fault is a fault of usage
+-- help or the version is shown if it was asked for, and every other kind of fault is a fault of usage
 abbrev pub IsFaultOf : Kinds → CommandFault → Type 0
 IsFaultOf kinds (Help text) = (kind : ErrorKind) × IsAmong kind kinds × IsShown kind
 IsFaultOf kinds (Usage text) = (kind : ErrorKind) × IsAmong kind kinds × ¬ (IsShown kind)

@@ -1,4 +1,4 @@
--- private: commands and arguments of a table, as `clap` reads what it is told of them.
+-- private: commands and arguments of a table, as `clap` reads them.
 use Rattle.std.specs.Prelude.{◌≡◌, List, [], ◌∷◌, false}
 use Rattle.clap.specs.Walk.{Rule, Text}
 use Rattle.clap.specs.Simple.{App, app_of, new_app, with_rule, with_subcommand}
@@ -22,7 +22,7 @@ rule_by name (Number least most) = number_rule name least most
 abbrev pub argument_rule : Argument → Rule
 argument_rule argument = rule_by argument.0.now argument.1
 
--- a command with these arguments more
+-- a command with these arguments added
 abbrev pub with_arguments : App → List Argument → App
 with_arguments app [] = app
 with_arguments app (argument ∷ more) = with_arguments (with_rule app (argument_rule argument)) more
@@ -30,7 +30,7 @@ with_arguments app (argument ∷ more) = with_arguments (with_rule app (argument
 abbrev pub text_app : CommandText → App
 text_app text = with_arguments (new_app text.name.now) text.arguments.now
 
--- a program with these commands more
+-- a program with these commands added
 abbrev pub with_commands : App → List CommandText → App
 with_commands app [] = app
 with_commands app (text ∷ more) = with_commands (with_subcommand app (text_app text).top) more
@@ -40,7 +40,7 @@ pub record HasApp (app : App) (command : Command) : Type 0 where
   pub app_is : app_of command ≡ app
   pub no_globals : (out-Command command).has_globals ≡ false
 
--- one command is the other with these arguments more, none of which is global
+-- one command is the other with these arguments added, none of which is global
 pub record AddsArguments (old : Command) (arguments : List Argument) (new : Command) : Type 0 where
   pub app_is : app_of new ≡ with_arguments (app_of old) arguments
   pub same_globals : (out-Command new).has_globals ≡ (out-Command old).has_globals

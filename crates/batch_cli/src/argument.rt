@@ -1,4 +1,4 @@
-//! An argument of a command, and how `clap` is told it.
+//! The arguments of a command, built for `clap`.
 ghost use Rattle.std.specs.Prelude.{◌≡◌, false};
 ghost use Rattle.clap.specs.Words.{rule_of};
 ghost use Rattle.batch_cli.specs.CommandLine.{flag_rule, number_rule, optional_rule, path_rule, several_rule, word_rule};
@@ -8,10 +8,10 @@ use clap::builder::ValueParser;
 use clap::{Arg, ArgAction};
 use std::alloc::Global;
 
-/// An argument: its name, how its words are given, and what help says of it.
+/// An argument: its name, the form of its words, and its help text.
 pub(crate) struct Argument<'a>(pub(crate) &'a str, pub(crate) Form, pub(crate) &'a str);
 
-/// How the words of an argument are given.
+/// The form of an argument's words.
 pub(crate) enum Form {
     /// A word that has to be there.
     Word,
@@ -28,7 +28,7 @@ pub(crate) enum Form {
 }
 
 impl<'a> Argument<'a> {
-    /// The argument as `clap` is told it.
+    /// Builds the argument for `clap`.
     pub(crate) fn told(&self, alloc: Global) -> Arg<'a>
         ensures rule { rule_of result ≡ argument_rule self.now }
         ensures local { result.global ≡ false }
@@ -79,7 +79,7 @@ fn flag<'a>(alloc: Global, name: &'a str, help: &'a str) -> Arg<'a>
         .help(help)
 }
 
-/// An option that takes a value, for which its help has this word.
+/// An option that takes a value, which its help text calls by this word.
 fn option<'a>(alloc: Global, name: &'a str, value: &'a str, help: &'a str) -> Arg<'a>
     ensures rule { rule_of result ≡ path_rule name.entry.now }
     ensures local { result.global ≡ false }

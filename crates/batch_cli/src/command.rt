@@ -1,4 +1,4 @@
-//! What the program is asked to do.
+//! The requests of the command line.
 ghost use Rattle.std.specs.Prelude.{◌≡◌};
 ghost use Rattle.batch_cli.specs.declared.command.CommandFault.TheVariants.{Memory};
 
@@ -7,10 +7,10 @@ use crate::plant_options::PlantOptions;
 use std::alloc::{AllocError, AllocFailed};
 use thiserror::Error;
 
-/// What the words ask for.
+/// The request of the words.
 #[derive(Drop)]
 pub struct CommandWords {
-    /// Nothing is to be said in words of a refusal.
+    /// The program is to write no sentence on a refusal.
     pub quiet: bool,
     pub command: Subcommand,
 }
@@ -20,7 +20,7 @@ pub struct CommandWords {
 pub enum Subcommand {
     /// To judge documents.
     Judge(Judgement),
-    /// To write into the file at this path what is printed of a judgement that accepts.
+    /// To write the text of a judgement that accepts into the file at this path.
     Write {
         path: String,
         judgement: Judgement,
@@ -42,22 +42,22 @@ pub enum Subcommand {
     },
     /// To serve several desks.
     ServeDesks(DeskWords),
-    /// To tell what a record says: the one at this path, or the one on standard input.
+    /// To report the content of a record: the one at this path, or the one on standard input.
     Status {
         path: Option<String>,
     },
-    /// To draw what a record says: the one at this path, or the one on standard input.
+    /// To draw the content of a record: the one at this path, or the one on standard input.
     Picture {
         path: Option<String>,
     },
-    /// To compare a record with what event lines from standard input come to over a set.
+    /// To compare a record with the record that event lines from standard input give over a set.
     Audit(AuditWords),
-    /// To run the plant of a set: its hub in the thread that calls, its console and its link to the units in threads of their own.
+    /// To run the plant of a set: its hub in the calling thread, its console and its link to the units in threads of their own.
     Plant {
         source: Source,
         options: PlantOptions,
     },
-    /// To say what the first code in these texts means, or where there are none what all codes mean.
+    /// To explain the first code in these texts, or without texts to print the meaning of each code.
     Explain {
         texts: Vec<String>,
     },
@@ -74,9 +74,9 @@ pub struct DeskWords {
     pub certificate: String,
     /// The paths of the documents of the recipes.
     pub recipes: Vec<String>,
-    /// The path of the journal of their lines, where one is to be kept.
+    /// The path of the journal of their lines, if one is to be kept.
     pub journal: Option<String>,
-    /// The time of each turn is to stand in the record.
+    /// The record is to contain the time of each turn.
     pub times: bool,
 }
 
@@ -87,20 +87,20 @@ pub struct AuditWords {
     pub beginning: bool,
     /// The path of the record.
     pub path: String,
-    /// Whose set it is.
+    /// The source of the set.
     pub source: Source,
 }
 
 /// A judgement of documents, with their paths.
 #[derive(Drop)]
 pub enum Judgement {
-    /// To find a certificate for the recipes. Everything that is refused is to be told, or the first refusal alone.
+    /// To find a certificate for the recipes. With `all` every refusal is to be reported, else the first alone.
     Check {
         all: bool,
         cell: String,
         recipes: Vec<String>,
     },
-    /// To draw what the recipes ask for after what.
+    /// To draw the orders in which the recipes ask for resources.
     Draw {
         all: bool,
         cell: String,
@@ -119,10 +119,10 @@ pub enum Judgement {
     },
 }
 
-/// Where the set comes from that is to be served, or whose plant is to be run.
+/// The source of the set that is to be served, or whose plant is to be run.
 #[derive(Drop)]
 pub enum Source {
-    /// The documents that the program has built in.
+    /// The documents that are built into the program.
     Demo,
     /// The documents at these paths.
     Documents {
@@ -138,7 +138,7 @@ pub enum CommandFault {
     /// Help or the version was asked for, with the text of it.
     #[error("{0}")]
     Help(String),
-    /// The words are no command, with a text that says what is wrong with them.
+    /// The words are no command, with a text that names their fault.
     #[error("{0}")]
     Usage(String),
     /// Memory ran out while the words were read, or for the text of another fault.

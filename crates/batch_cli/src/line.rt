@@ -1,4 +1,4 @@
-//! The command line that the program takes, as `clap` is told it.
+//! The command line of the program, built for `clap`.
 ghost use Rattle.std.specs.Prelude.{◌≡◌, IfOk};
 ghost use Rattle.clap.specs.Words.{app_of};
 ghost use Rattle.batch_cli.specs.CommandLine.{bare_app, program_app};
@@ -9,7 +9,7 @@ use crate::table::{CommandText, commands};
 use clap::Command;
 use std::alloc::{AllocError, Global};
 
-/// The number of the program's version.
+/// The version number of the program.
 pub const VERSION: &str = "0.2.0";
 
 const ABOUT: &str =
@@ -53,7 +53,7 @@ fn bare<'a>(alloc: Global) -> Result<Command<'a>, AllocError>
         .bin_name("batchd")
 }
 
-/// The program with these commands more.
+/// The program with these commands added.
 fn with_all<'a>(
     alloc: Global,
     bare: Command<'a>,
@@ -79,7 +79,7 @@ fn command<'a>(alloc: Global, text: &CommandText<'a>) -> Result<Command<'a>, All
     with_arguments(alloc, bare, text.arguments)
 }
 
-/// The command with these arguments more.
+/// The command with these arguments added.
 fn with_arguments<'a>(
     alloc: Global,
     bare: Command<'a>,

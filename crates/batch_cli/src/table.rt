@@ -1,11 +1,11 @@
-//! The commands of the program as a table, with what help says of them.
+//! The table of the program's commands, with their help texts.
 ghost use Rattle.std.specs.Prelude.{◌≡◌};
 ghost use Rattle.batch_cli.specs.CommandLine.{bare_app, program_app};
 ghost use Rattle.batch_cli.specs.Table.{with_commands};
 
 use crate::argument::{Argument, Form};
 
-/// A command: its name, what it does, an example of it, and its arguments.
+/// A command: its name, its description, an example of it, and its arguments.
 pub(crate) struct CommandText<'a> {
     pub(crate) name: &'a str,
     pub(crate) about: &'a str,

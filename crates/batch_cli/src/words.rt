@@ -15,7 +15,7 @@ use clap::error::ErrorKind;
 use clap::{ArgMatches, Error};
 use std::alloc::{AllocError, Global};
 
-/// What is told of a plant that lacks a recipe.
+/// The message on a plant that lacks a recipe.
 const MISSING_RECIPE: &str = "\
 error: beside a CELL a plant needs its CERT and at least one RECIPE
 
@@ -24,10 +24,11 @@ Usage: batchd plant [OPTIONS] [CELL] [CERT] [RECIPE]...
 For more information, try '--help'.
 ";
 
-/// Reads the words that follow the program's name. Where there are none the program is to serve.
+/// Parses the words that follow the program's name. Without words the program is to serve.
 ///
-/// The error is [`CommandFault::Help`] where the fault that clap gives is that help or the version is asked for, [`CommandFault::Usage`] at any
-/// other, and where a plant of a cell lacks a recipe, and [`CommandFault::Memory`] where memory ran out, be it for the text of one of these.
+/// The error is [`CommandFault::Help`] if clap's fault is that help or the version is asked for. At any other fault, and if a plant of
+/// a cell lacks a recipe, it is [`CommandFault::Usage`]. If memory ran out, be it for the text of one of these, it is
+/// [`CommandFault::Memory`].
 // claim: command named (words, taken)
 pub fn parse(alloc: Global, words: &[String]) -> Result<CommandWords, CommandFault>
     // claim: options of a plant
@@ -54,8 +55,8 @@ fn matches_of<'a>(alloc: Global, words: &'a [String]) -> Result<ArgMatches<'a>, 
     program(alloc)?.try_get_matches_from(words)
 }
 
-/// Whether a plant of a cell is asked for without a recipe. `clap` isn't told that they belong together, since its clauses leave such
-/// arguments out.
+/// Whether the words ask for a plant of a cell without a recipe. `clap` isn't told that the two belong together, since its clauses
+/// leave out arguments that do.
 fn lacks_recipe(matches: &ArgMatches<'_>) -> bool
     ensures { result ≡ lacks_recipe (subcommand_rows_of matches.now) }
 {
@@ -226,7 +227,7 @@ fn serve_command(words: &ArgMatches<'_>, source: Source) -> Subcommand
     }
 }
 
-/// Which comments in the record are asked for.
+/// The comments in the record that the words ask for.
 fn comments_of(words: &ArgMatches<'_>) -> Comments
     ensures { (result.echo ≡ is_given (codes "echo") (rows_of (found_of words.now))) × (result.times ≡ is_given (codes "times") (rows_of (found_of words.now))) }
 {
@@ -246,7 +247,7 @@ fn plant_command(alloc: Global, words: &ArgMatches<'_>) -> Result<Subcommand, Al
     })
 }
 
-/// The documents of which a plant is, or the demo's where no cell is given.
+/// The documents of a plant, or the demo's if no cell is given.
 fn plant_source(alloc: Global, words: &ArgMatches<'_>) -> Result<Source, AllocError>
     ensures { IfOk result (λ source. source_of source ≡ plant_source (first_of (codes "CELL") (rows_of (found_of words.now))) (rows_of (found_of words.now))) }
 {
@@ -270,7 +271,7 @@ fn plant_options(words: &ArgMatches<'_>) -> PlantOptions
     }
 }
 
-/// The number of this range that was given, or the usual one. clap refuses words that say none in the range.
+/// The number of this range that was given, or the usual one. clap refuses a word that gives none in the range.
 fn number(words: &ArgMatches<'_>, name: &str, least: u64, most: u64, usual: u64) -> u64
     requires { (least ≤ usual) × (usual ≤ most) }
     ensures number { result ≡ number_given least most usual (first_of name.now (rows_of (found_of words.now))) }
@@ -282,7 +283,7 @@ fn number(words: &ArgMatches<'_>, name: &str, least: u64, most: u64, usual: u64)
     }
 }
 
-/// The number that the text says, or the usual one where it says none in the range.
+/// The number that the text gives, or the usual one if it gives none in the range.
 fn number_or(text: &str, least: u64, most: u64, usual: u64) -> u64
     requires { (least ≤ usual) × (usual ≤ most) }
     ensures number { result ≡ number_given least most usual (Some text.now) }
@@ -294,7 +295,7 @@ fn number_or(text: &str, least: u64, most: u64, usual: u64) -> u64
     }
 }
 
-/// The number that the text says, where it lies in the range.
+/// The number that the text gives, if it lies in the range.
 fn number_in(text: &str, least: u64, most: u64) -> Option<u64>
     ensures { MatchOption result (IsUnsignedIn least most text.now → ⊥) (λ number. IsUnsignedIn least most text.now
         × (number ≡ digits_value 10 (without_leading_plus text.now))) }
@@ -305,7 +306,7 @@ fn number_in(text: &str, least: u64, most: u64) -> Option<u64>
     }
 }
 
-/// Whether the flag was given. Where it wasn't, clap has the text `false` for it.
+/// Whether the flag was given. If it wasn't, clap has the text `false` for it.
 fn flag(words: &ArgMatches<'_>, name: &str) -> bool
     ensures { result ≡ is_given name.now (rows_of (found_of words.now)) }
 {
@@ -322,7 +323,7 @@ fn has_word(words: &ArgMatches<'_>, name: &str) -> bool
     words.get_str(name).is_some()
 }
 
-/// The word that was given for the argument, or an empty one where none was.
+/// The word that was given for the argument, or an empty one if none was.
 fn word(alloc: Global, words: &ArgMatches<'_>, name: &str) -> Result<String, AllocError>
     ensures { IfOk result (λ word. string_bytes word ≡ word_of name.now (rows_of (found_of words.now))) }
 {
@@ -332,7 +333,7 @@ fn word(alloc: Global, words: &ArgMatches<'_>, name: &str) -> Result<String, All
     }
 }
 
-/// The word that was given for the argument, where one was.
+/// The word that was given for the argument, if one was.
 fn optional(alloc: Global, words: &ArgMatches<'_>, name: &str) -> Result<Option<String>, AllocError>
     ensures { IfOk result (λ given. option_map string_bytes given ≡ first_of name.now (rows_of (found_of words.now))) }
 {
@@ -362,7 +363,7 @@ fn copies(alloc: Global, texts: &[&str]) -> Result<Vec<String>, AllocError>
     Ok(copies)
 }
 
-/// The fault that clap's error is: help and the version go to the user who asked for them.
+/// The fault for clap's error. Help and the version go to the user who asked for them.
 fn fault_from(alloc: Global, error: &Error) -> CommandFault
     ensures { IsFaultOfKind (kind_of error.now) result }
 {

@@ -35,7 +35,7 @@ closes h outs k p None e is = record {
 }
 closes h outs k p (Some n) e is = is
 
--- what a port that was told all has put is what it is due
+-- a port with an empty queue has put all outs that are due to it
 put_all : (h : List (ℕ × Event)) (outs : List Out) (k : ℕ) (p : PortState) (o : Option Ring) → p.waiting ≡ [] → IsSome o → IfSome o (λ _. told p ≡ due p.scope k h (up_to p.closed outs))
     → p.put ≡ due p.scope k h (up_to p.closed outs)
 put_all h outs k p None none some is = cc
@@ -135,7 +135,7 @@ port_seals h0 h g k x q token e is lt at can ports sealed shown =
       ring = IfSome_then token shown (λ t w. w.1);
     })
 
--- what was made of the first plans, and of one more
+-- things made by the first plans, and by one more
 pub planned_more : {X Y : Type 0} (f : X → Y) (g : PortPlan → Y) (xs : List X) (x : X) (plans : List PortPlan) (n : ℕ) (d : PortPlan) → n < length plans
     → map f xs ≡ map g (take n plans) → f x ≡ g (get_or plans n d) → map f (xs ++ x ∷ []) ≡ map g (take (n + 1) plans)
 planned_more f g xs x plans n d lt e same =

@@ -1,4 +1,4 @@
--- What a console has sent and taken, one event or one out more.
+-- The events that a console sent and the outs that it took, one more of them.
 use Rattle.std.proofs.Common.{◌≡◌, ℕ, ◌+◌, ◌-◌, ◌<◌, ◌≤◌, ◌⊎◌, List, [], ◌∷◌, ◌++◌, length, length-append, inl, inr, cond, refl, sym, ◌∙◌, ap, arith, append_assoc, append-nil}
 use Rattle.std.proofs.lemmas.Bool.Decides.{eqb_tells}
 use Rattle.std.proofs.lemmas.List.Elements.{All-push}
@@ -75,7 +75,7 @@ create_goes plan copy c f d e same_plan some waits last creates-left completing 
 pub sent_more : (c f : Console) (d e : DeskState) (event : Event) → Sends d event e → IsTried c d f e
 sent_more c f d e event sends = inr (ap length sends.sent ∙ length-append d.sent (event ∷ []))
 
--- where there was no place
+-- if there was no place
 pub full_goes : (plan : BatchPlan) (c : Console) (d e : DeskState) → e ≡ record d { free = 0 } → GoesOn plan c d c e
 full_goes plan c d e same batches before was = rw same (record {
   is = record {

@@ -1,4 +1,4 @@
--- What a port is due as history and record grow.
+-- The outs due to a port as history and record grow.
 use Rattle.std.proofs.Common.{◌≡◌, ℕ, zero, suc, ◌≤◌, Bool, true, false, cond, eqb, List, [], ◌∷◌, ◌++◌, length, take, refl, arith}
 use Rattle.batch_desk.proofs.Replies.{replies}
 use Rattle.batch_engine.specs.declared.event.Event.{Event}

@@ -1,4 +1,4 @@
--- The ports of a hub, one changed or all told.
+-- The ports of a hub, if one is changed or a move is added for all.
 use Rattle.std.proofs.Common.{◌≡◌, ℕ, ◌+◌, ◌<◌, ◌≢◌, List, map, length, get_or, set, sym, ◌∙◌, ap, arith, below_more, get_or-set_other, get_or-set_same, length-set, inl, inr}
 use Rattle.std.proofs.lemmas.List.{get_or-map, get_or_default, length-map}
 use Rattle.std.proofs.lemmas.Bool.Decides.{eqb_tells}
@@ -10,7 +10,7 @@ use Rattle.batch_desk.proofs.Lists.{map-same_length}
 use Rattle.batch_desk.specs.HubState.{IsPort, ArePorts, HubState}
 use Rattle.batch_desk.specs.PortState.{outline}
 
--- what holds of each port still holds of each where one is changed, and history and record with it
+-- the property of each port still holds of each if one is changed, and history and record with it
 pub ports_step : (h h' : List (ℕ × Event)) (outs outs' : List Out) (ps : List PortState) (i : ℕ) (p q : PortState) → i < length ps → p ≡ get_or ps i p → ArePorts h outs ps
     → (IsPort h outs i p → IsPort h' outs' i q) → ((k : ℕ) (r : PortState) → k ≢ i → IsPort h outs k r → IsPort h' outs' k r) → ArePorts h' outs' (set ps i q)
 ports_step h h' outs outs' ps i p q lt at are own others k r lt' at' = elim (eqb_tells k i) [

@@ -1,4 +1,4 @@
--- What one event and one move do to a hub.
+-- The effects of one event and of one move on a hub.
 use Rattle.std.proofs.Common.{◌≡◌, ℕ, ◌<◌, List, [], ◌∷◌, ◌++◌, map, length, get_or, set, Option, Some, IsNone, IfSome, slice_get, option_map, refl, sym, ◌∙◌, ap, subst, arith, inr}
 use Rattle.std.proofs.lemmas.List.{length-map, map_push}
 use Rattle.std.proofs.lemmas.Option.{slice_get-map, slice_get_read}
@@ -31,7 +31,7 @@ events_in-append h e = map_push (λ (entry : ℕ × Event). event_of entry.1) h 
 outs_in-append : (c : ClearedSet) (outs : List Out) (x : Out) → outs_in c (outs ++ x ∷ []) ≡ outs_in c outs ++ out_of c x ∷ []
 outs_in-append c outs x = map_push (out_of c) outs x
 
--- the record leads to where the engine is
+-- the record leads to the engine's plant
 abbrev pub IsLed : EngineView → List (ℕ × Event) → List Out → Type 0
 IsLed v h outs = Leads (setup v.cleared) opening (events_in h) (outs_in v.cleared outs) (plant_of v)
 
@@ -46,7 +46,7 @@ led_event v w h outs i event answer leads step =
     (rw (events_in-append h (i, event), outs_in-append v.cleared outs (Reply answer))
     (Leads-reply (setup v.cleared) opening (plant_of v) (plant_of w) (event_of event) (reply_of v.cleared answer) (events_in h) (outs_in v.cleared outs) leads step.reacts))
 
--- the engine made its next move, of which the line tells
+-- the engine made its next move, which the line reports
 pub record IsMade (v : EngineView) (line : Line) (w : EngineView) : Type 0 where
   pub next : next (setup v.cleared) (plant_of v) ≡ Some (move_of v.cleared line)
   pub plant : plant_of w ≡ after (plant_of v) (move_of v.cleared line)

@@ -4,7 +4,7 @@ use mathlib.Core.List.{map-map}
 use Rattle.batch_desk.specs.PortState.{PortState, outline, port_rings}
 use Rattle.batch_desk.specs.HubState.{HubState, rings, outlines}
 
--- what an outline shows of a port is the same where the outlines are
+-- ports with the same outlines have the same values of a function of the outline
 shown_stays : {X : Type 0} (f : PortState → X) (h g : HubState) → outlines g ≡ outlines h → map (λ p. f (outline p)) g.ports ≡ map (λ p. f (outline p)) h.ports
 shown_stays f h g same = sym (map-map f outline g.ports) ∙ (ap (map f) same ∙ map-map f outline h.ports)
 

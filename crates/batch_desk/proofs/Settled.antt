@@ -10,7 +10,7 @@ use Rattle.batch_desk.specs.declared.turned.Turned.TheVariants.{Idle, Handled, M
 pub settled-same : (h g : HubState) (r : Bool) → h ≡ g → IsTrue r ↔ IsEngineSettled h.engine → IsTrue r ↔ IsEngineSettled g.engine
 settled-same h g r e told = subst (λ (k : HubState). IsTrue r ↔ IsEngineSettled k.engine) e told
 
--- where an answer is no, what it would tell isn't so
+-- if an answer is no, its proposition is false
 pub told-no : {P : Type 0} (r : Bool) → IsTrue r ↔ P → r ≡ false → P → ⊥
 told-no r told untrue holds = let yes : r ≡ true = told.1 holds in let bad : true ≡ false = sym yes ∙ untrue in absurd cc
 

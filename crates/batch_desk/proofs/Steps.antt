@@ -1,4 +1,4 @@
--- What one event and one move do to the ports of a hub.
+-- The effects of one event and of one move on the ports of a hub.
 use Rattle.std.proofs.Common.{◌≡◌, ℕ, ◌≤◌, ◌≢◌, Bool, true, false, cond, eqb, List, [], ◌∷◌, ◌++◌, length, take, Option, Some, None, IfSome, IsNone, refl, sym, ◌∙◌, ap, arith, append-nil, append_assoc, length-append}
 use Rattle.std.proofs.lemmas.List.{take-append-le}
 use Rattle.std.proofs.lemmas.Option.{IfSome_then}
@@ -17,7 +17,7 @@ use Rattle.batch_desk.specs.HubState.{IsPort, told}
 use Rattle.batch_desk.specs.PortState.{outline}
 use Rattle.batch_desk.proofs.Dues.{due-line, due-reply, due-later, replies-take, events_of-append}
 
--- what a port is newly told
+-- the outs that are newly added for a port
 abbrev news : Option ℕ → Bool → Out → List Out
 news None true out = out ∷ []
 news None false out = []
@@ -55,7 +55,7 @@ due_line scope k h outs line None within = due-line scope k h outs line ∙ ap (
 due_line scope k h outs line (Some n) within =
     ap (due scope k h) (take-append-le n outs (Move line ∷ []) within) ∙ sym (append-nil _)
 
--- a move is told to each port in whose scope it is
+-- a move is added for each port in whose scope it is
 pub line_told : (h : List (ℕ × Event)) (outs : List Out) (line : Line) (k : ℕ) (p : PortState) → IsPort h outs k p → IsPort h (outs ++ Move line ∷ []) k (owe_line line p)
 line_told h outs line k p is =
     let keeps = tell_keeps (sees p.scope line) p.closed (Move line) p in

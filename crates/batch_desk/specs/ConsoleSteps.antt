@@ -1,4 +1,4 @@
--- private: what a console keeps in mind, and the steps of its turns.
+-- private: the state of a console, and the steps of its turns.
 use Rattle.std.specs.Prelude.{◌≡◌, ℕ, ◌+◌, ◌-◌, ◌<◌, ◌≤◌, ◌⊎◌, List, length, nat_lt, true, false}
 use Rattle.batch_matrix.specs.declared.command.Command.TheVariants as command
 use Rattle.batch_matrix.specs.declared.state.State.TheVariants.{Complete}
@@ -14,8 +14,8 @@ use Rattle.batch_desk.specs.declared.console.Console.{Console}
 use Rattle.batch_desk.specs.DeskState.{DeskState}
 use Rattle.batch_desk.specs.Consoles.{IsConsole, completes, creates, creations, refusals, starts}
 
--- what a console of so many batches keeps in mind agrees with what it sent and took: no batch above the last was started, and
--- that which is to be started was created, and not started yet
+-- the state of a console of so many batches agrees with the events that it sent and the outs that it took: no batch above the last was
+-- started, and the one that is to be started was created, and not started yet
 pub record Minds (batches : ℕ) (c : Console) (sent : List Event) (taken : List Out) : Type 0 where
   pub to_create : creates sent + c.to_create ≡ batches
   pub to_complete : c.to_complete ≡ batches - completes taken
@@ -24,7 +24,7 @@ pub record Minds (batches : ℕ) (c : Console) (sent : List Event) (taken : List
   pub refused : c.refused ≡ true → 1 ≤ refusals taken
   pub none_refused : c.refused ≡ false → refusals taken ≡ 0
 
--- what has been sent and taken since `before` is a console's, and it keeps that in mind
+-- the events sent and the outs taken since `before` are a console's, and its state agrees with them
 pub record Follows (plan : BatchPlan) (batches : ℕ) (before : DeskState) (c : Console) (d : DeskState) : Type 0 where
   pub is : IsConsole plan batches before d
   pub minds : Minds batches c is.more is.seen
@@ -42,7 +42,7 @@ abbrev pub step_after_start : Step → Step
 step_after_start Wait = Create
 step_after_start step = step
 
--- what a console keeps in mind of an out
+-- the state of a console after it took an out
 abbrev pub learned : Out → Console → Console
 learned (Reply (Created batch recipe size units)) c = elim (nat_lt c.last batch) [ true ↦ record c { step = Start batch; last = batch } | false ↦ c ]
 learned (Reply (Ordered command.Start batch state)) c = record c { step = step_after_start c.step }

@@ -1,4 +1,4 @@
--- surface: what a console sends and takes.
+-- surface: the events that a console sends, and the outs that it takes.
 use Rattle.std.specs.Prelude.{◌≡◌, ℕ, ◌≤◌, List, ◌++◌, cond, eqb}
 use Rattle.std.specs.List.{All, sum_by}
 use Rattle.batch_matrix.specs.declared.command.Command.TheVariants as command
@@ -56,7 +56,7 @@ creates events = sum_by creating events
 abbrev pub starts : ℕ → List Event → ℕ
 starts n events = sum_by (starting n) events
 
--- how often it is told that batch n was created, and that a batch is complete
+-- how many outs say that batch n was created, and how many that a batch becomes complete
 abbrev pub creations : ℕ → List Out → ℕ
 creations n outs = sum_by (telling_created n) outs
 
@@ -68,7 +68,7 @@ abbrev pub refusals : List Out → ℕ
 refusals outs = sum_by telling_refused outs
 
 -- a console has sent more events from its desk, and taken more outs: it sent creates by its plan, for as many
--- batches at most, and the start of each batch at most once, and only where it was told that the batch was created
+-- batches at most, and the start of each batch at most once, and only if an out that it took said that the batch was created
 pub record IsConsole (plan : BatchPlan) (batches : ℕ) (d e : DeskState) : Type 0 where
   -- the rings of the desk are the same
   pub events : e.events ≡ d.events

@@ -1,4 +1,4 @@
--- surface: what is seen of a desk, and of what is left of it.
+-- surface: the states of a desk and of its inbox.
 use Rattle.std.specs.Prelude.{◌≡◌, ℕ, List, [], ◌∷◌, ◌++◌, Option, Some, MatchOption}
 use mathlib.Core.List.{IsPrefix}
 use Rattle.batch_engine.specs.declared.event.Event.{Event}
@@ -6,7 +6,7 @@ use Rattle.batch_engine.specs.declared.out.Out.{Out}
 use Rattle.batch_desk.specs.Rings.{Ring}
 
 pub record DeskState : Type 0 where
-  -- where its events go, and where its outs come from
+  -- the ring of its events, and that of its outs
   pub events : Ring
   pub outs : Ring
   -- the events that it sent, and the outs that it took
@@ -30,7 +30,7 @@ pub record Sends (d : DeskState) (event : Event) (e : DeskState) : Type 0 where
   pub sent : e.sent ≡ d.sent ++ event ∷ []
   pub others : e ≡ record d { sent = e.sent; free = e.free }
 
--- what is left of a desk
+-- the inbox has the desk's ring of outs, and the outs that the desk took
 abbrev pub IsLeftOf : DeskState → InboxState → Type 0
 IsLeftOf d i = (i.outs ≡ d.outs) × (i.taken ≡ d.taken)
 

@@ -1,4 +1,4 @@
--- surface: what a port is due of the record.
+-- surface: the outs of the record that are due to a port.
 use Rattle.std.specs.Prelude.{ℕ, Bool, true, false, cond, eqb, List, [], ◌∷◌, Option, Some, None, take}
 use Rattle.batch_engine.specs.declared.event.Event.{Event}
 use Rattle.batch_engine.specs.declared.line.Line.{Line}
@@ -8,7 +8,7 @@ use Rattle.batch_engine.specs.declared.out.Out.TheVariants.{Reply, Move}
 use Rattle.batch_desk.specs.declared.scope.Scope.{Scope}
 use Rattle.batch_desk.specs.declared.scope.Scope.TheVariants.{All, Unit as OfUnit}
 
--- whether a port of this scope is told of the move: of every move, or of the starts and sends of one unit
+-- whether the move is sent to a port of this scope: every move is, or the starts and sends of one unit are
 abbrev pub sees : Scope → Line → Bool
 sees All line = true
 sees (OfUnit mine) (Send batch recipe node unit phase command) = eqb mine unit

@@ -41,7 +41,7 @@ RefusesCut port h UnknownPort = length h.ports ≤ port
 RefusesCut port h Closed = IfSome (slice_get h.ports port) (λ p. IsSome p.closed) × (port < length h.ports)
 RefusesCut port h _ = ⊥
 
--- the ring of outs of a closed port, for which none wait, was ended; what the token shows as put is what the port was due
+-- the ring of outs of a closed port, for which none wait, was ended; the outs that the token shows as put are those due to the port
 pub record Seals (port : ℕ) (h g : HubState) (token : Option (Finished Out Global AnyItems)) : Type 0 where
   pub p : PortState
   pub at : slice_get h.ports port ≡ Some p

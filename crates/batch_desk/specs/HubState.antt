@@ -23,11 +23,12 @@ pub record HubState : Type 0 where
   pub outs : List Out
   pub ports : List PortState
 
--- what the port was told of
+-- the outs that were added for the port: those put into its ring, and behind them its queue
 abbrev pub told : PortState → List Out
 told p = p.put ++ p.waiting
 
--- the events that were taken from the port are its events in the history, and until it is sealed it was told of what it is due
+-- the events that were taken from the port are its events in the history, and until it is sealed the outs added for it are those due
+-- to it
 pub record IsPort (history : List (ℕ × Event)) (outs : List Out) (port : ℕ) (p : PortState) : Type 0 where
   pub taken : p.taken ≡ events_of port history
   pub told : IfSome p.outs (λ _. told p ≡ due p.scope port history (up_to p.closed outs))
@@ -54,12 +55,12 @@ events_in history = map (λ entry. event_of entry.1) history
 abbrev pub outs_in : ClearedSet → List Out → List Runs.Out
 outs_in c outs = map (out_of c) outs
 
--- the record is what the machine does at the events of the history, the engine is where that leads, and each port has its share
+-- the record is the machine's for the events of the history, the engine is where that leads, and each port has its share
 pub record IsHub (h : HubState) : Type 0 where
   pub leads : Leads (setup h.engine.cleared) opening (events_in h.history) (outs_in h.engine.cleared h.outs) (plant_of h.engine)
   pub ports : ArePorts h.history h.outs h.ports
 
--- what a turn changes of no port
+-- the parts of the ports that no turn changes
 abbrev pub outlines : HubState → List PortState
 outlines h = map outline h.ports
 

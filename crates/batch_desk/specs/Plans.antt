@@ -1,4 +1,4 @@
--- surface: the plans of a hub's ports, and what a hub is made of them.
+-- surface: the plans of a hub's ports, and the ports and desks that are made by them.
 use Rattle.std.specs.Prelude.{◌≡◌, ℕ, ◌≤◌, List, length, map, Option, Some}
 use Rattle.std.specs.List.{All}
 use Rattle.batch_desk.specs.declared.fault.HubFault.{HubFault}
@@ -22,7 +22,7 @@ pub record ArePlansWithin (plans : List PortPlan) : Type 0 where
   pub most : length plans ≤ 64
   pub each : All IsPlanWithin plans
 
--- what a plan says of its port, and of the port's desk
+-- a port's scope and its free places for outs, by its plan and as it was made
 abbrev pub port_planned : PortPlan → Scope × ℕ
 port_planned plan = (plan.scope, plan.out_places)
 
@@ -42,7 +42,8 @@ places_planned plan = plan.event_places
 abbrev pub places_free : DeskState → ℕ
 places_free d = d.free
 
--- new ports and their desks, by the plans: each port has the scope and the places that its plan says, and the rings of the desk at its place
+-- new ports and their desks, by the plans: each port has the scope and the places that its plan says, and the rings of the desk at
+-- its place
 pub record AreOfPlans (plans : List PortPlan) (ports : List PortState) (desks : List DeskState) : Type 0 where
   pub ports_new : All IsNewPort ports
   pub desks_new : All IsNewDesk desks

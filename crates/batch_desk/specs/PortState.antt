@@ -1,4 +1,4 @@
--- surface: what is seen of a port.
+-- surface: the state of a port.
 use Rattle.std.specs.Prelude.{◌≡◌, ℕ, Bool, true, false, List, [], Option, Some, None, IsSome}
 use Rattle.std.specs.declared.alloc.Global.{Global}
 use Rattle.rtrb.specs.Ring.{sent, known_free}
@@ -9,7 +9,7 @@ use Rattle.batch_engine.specs.declared.out.Out.{Out}
 use Rattle.batch_desk.specs.Rings.{Ring, ring_of_producer}
 use Rattle.batch_desk.specs.declared.scope.Scope.{Scope}
 
--- of the ring that outs go to, until it is sealed: which it is, what was put there, how many places are known to be free
+-- of the ring of outs, until it is sealed: its identity, the outs put there, and how many places are known to be free
 
 abbrev pub ring_of : Option (Producer Out Global AnyItems) → Option Ring
 ring_of None = None
@@ -25,10 +25,10 @@ free_of (Some p) = known_free p
 
 pub record PortState : Type 0 where
   pub scope : Scope
-  -- where its events come from, and those that were taken from there
+  -- the ring of its events, and those that were taken from it
   pub events : Ring
   pub taken : List Event
-  -- where its outs go, until it is sealed, those that were put there, and how many places are known to be free
+  -- the ring of its outs, until it is sealed, those that were put there, and how many places are known to be free
   pub outs : Option Ring
   pub put : List Out
   pub free : ℕ
@@ -39,7 +39,7 @@ pub record PortState : Type 0 where
   pub closed : Option ℕ
   pub cut : Bool
 
--- what a turn changes of no port: its scope, its rings, and whether it is closed or cut
+-- the parts of a port that no turn changes: its scope, its rings, and whether it is closed or cut
 abbrev pub outline : PortState → PortState
 outline p = record p { taken = []; put = []; free = 0; waiting = []; room = 0 }
 
@@ -47,7 +47,7 @@ outline p = record p { taken = []; put = []; free = 0; waiting = []; room = 0 }
 abbrev pub port_rings : PortState → Ring × Option Ring
 port_rings p = (p.events, p.outs)
 
--- nothing was taken or told, and the port is open
+-- no event was taken and no out was added, and the port is open
 pub record IsNewPort (p : PortState) : Type 0 where
   pub taken : p.taken ≡ []
   pub put : p.put ≡ []

@@ -1,4 +1,4 @@
--- private: what the calls of a port make of it.
+-- private: the effects of the calls of a port.
 use Rattle.std.specs.Prelude.{◌≡◌, ℕ, ◌-◌, ◌<◌, ◌⊎◌, List, [], ◌∷◌, ◌++◌, Option, Some, None, MatchOption, IsNone, cond, length, slice_index_or, true, false}
 use Rattle.batch_engine.specs.Answered.{IsAnswered}
 use Rattle.batch_engine.specs.Surface.{event_of}
@@ -38,7 +38,7 @@ HasRoom p = IsNone p.closed → 0 < p.room
 abbrev pub AllHaveRoom : List PortState → Type 0
 AllHaveRoom ps = (k : ℕ) (d : PortState) → k < length ps → HasRoom (slice_index_or ps k d)
 
--- the port is told of an out, unless it is closed
+-- an out is appended to the port's queue, unless the port is closed
 abbrev pub tell : Option ℕ → Out → PortState → PortState
 tell None out p = record p { waiting = p.waiting ++ out ∷ []; room = p.room - 1 }
 tell (Some n) out p = p
@@ -46,7 +46,7 @@ tell (Some n) out p = p
 abbrev pub owe : Out → PortState → PortState
 owe out p = tell p.closed out p
 
--- the port is told of a move that is in its scope
+-- a move that is in the port's scope is appended to its queue, unless the port is closed
 abbrev pub owe_line : Line → PortState → PortState
 owe_line line p = cond (sees p.scope line) (owe (Move line) p) p
 

@@ -1,4 +1,4 @@
--- surface: what tells one ring from another.
+-- surface: the identity of a ring.
 use Rattle.std.specs.Prelude.{◌≡◌, ℕ, Option, option_map}
 use denote.RawPtr.{Ptr}
 use Rattle.std.specs.declared.alloc.Global.{Global}
@@ -8,7 +8,7 @@ use Rattle.rtrb.specs.declared.producer.Producer.{Producer}
 use Rattle.rtrb.specs.declared.consumer.Consumer.{Consumer}
 use Rattle.rtrb.specs.declared.finished.Finished.{Finished}
 
--- where a ring's words and places are, and who allocated it
+-- the identity of a ring: where its words and places are, and who allocated it
 abbrev pub Ring : Type 0
 Ring = Ptr × Ptr × Names × Global
 
@@ -26,6 +26,6 @@ places_of ring = ring.2.0
 abbrev pub sizes_of : Ring × Option Ring → ℕ × Option ℕ
 sizes_of rings = (places_of rings.0, option_map places_of rings.1)
 
--- the token was given where this ring's producer finished
+-- the token was given when this ring's producer finished
 abbrev pub IsOfRing : {T : Type 0} → Finished T Global AnyItems → Ring → Type 0
 IsOfRing f ring = (f.end.words, f.end.slots, f.end.names, f.end.heap) ≡ ring

@@ -29,7 +29,7 @@ pub record MakesMove (h g : HubState) : Type 0 where
 abbrev pub Moved : HubState → HubState → Type 0
 Moved h g = (moves h.outs ≤ moves g.outs) × (moves g.outs ≤ moves h.outs + 64)
 
--- what the answer of a turn says of its moves
+-- the meaning of a turn's answer for its moves
 abbrev pub EndsTurn : Turned → HubState → HubState → Type 0
 EndsTurn Idle h g = ⊥
 EndsTurn Handled h g = IsEngineSettled g.engine × (moves h.outs ≤ moves g.outs) × ((¬ IsEngineSettled h.engine) → moves h.outs < moves g.outs)

@@ -1,4 +1,4 @@
--- surface: what a turn does to a hub.
+-- surface: the effect of a turn on a hub.
 use Rattle.std.specs.Prelude.{◌≡◌, ℕ, ◌+◌, ◌<◌, ◌⊎◌, List, [], ◌∷◌, ◌++◌, length, IfSome, IsNone, slice_get}
 use Rattle.batch_engine.specs.declared.event.Event.{Event}
 use Rattle.batch_engine.specs.declared.out.Out.{Out}
@@ -32,7 +32,7 @@ pub record Pops (port : ℕ) (h g : HubState) : Type 0 where
 abbrev pub Grows : ℕ → HubState → HubState → Type 0
 Grows port h g = (g.history ≡ h.history) ⊎ Pops port h g
 
--- what the answer of a turn says
+-- the meaning of a turn's answer
 abbrev pub AnswersTurn : Turned → HubState → HubState → Type 0
 AnswersTurn Idle h g = IsEngineSettled h.engine × SameWork h g
 AnswersTurn Handled h g = IsEngineSettled g.engine × (length h.history + moves h.outs < length g.history + moves g.outs)

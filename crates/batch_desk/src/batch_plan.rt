@@ -17,7 +17,7 @@ pub struct BatchPlan {
 }
 
 impl BatchPlan {
-    /// An equal plan, with memory of its own. It is refused only where memory is.
+    /// An equal plan, with memory of its own. It is refused only if memory is.
     pub(crate) fn copy(&self, alloc: Global) -> Result<BatchPlan, AllocError>
         ensures { IfOk result (IsSamePlan self.now) }
     {

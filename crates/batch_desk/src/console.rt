@@ -1,4 +1,4 @@
-//! What a console keeps in mind between its turns.
+//! The state of a console between its turns.
 ghost use Rattle.std.specs.Prelude.{◌≡◌, ◌<◌, []};
 ghost use Rattle.batch_desk.specs.ConsoleSteps.{GoesOn, IsTried, Minds, learned};
 ghost use Rattle.batch_desk.specs.Consoles.{IsSamePlan};
@@ -12,11 +12,11 @@ use batch_engine::{Event, Line, Out, Reply};
 use batch_matrix::{Command, State};
 use std::alloc::Global;
 
-/// What a console keeps in mind between its turns.
+/// The state of a console between its turns.
 #[derive(Drop)]
 pub(crate) struct Console {
     pub(crate) step: Step,
-    /// The last batch that it was told of as created; 0 before the first.
+    /// The number of the last batch of which a reply said that it was created; 0 before the first.
     pub(crate) last: u64,
     /// How many creates are still to be sent.
     pub(crate) to_create: u64,
@@ -39,7 +39,7 @@ impl Console {
         }
     }
 
-    /// Keeps an out in mind.
+    /// Updates the state by an out.
     fn learn(&mut self, out: Out)
         ensures { self.new ≡ learned out self.old }
     {
@@ -71,7 +71,7 @@ impl Console {
         }
     }
 
-    /// Tells a batch to start, where there is a place for it.
+    /// Sends the start of a batch, if there is a place for it.
     fn start(&mut self, desk: &mut Desk, batch: u64)
         requires { self.old.step ≡ ToStart batch }
         ensures goes { (plan : planned.BatchPlan) → GoesOn plan self.old desk.old self.new desk.new }
@@ -84,7 +84,7 @@ impl Console {
         }
     }
 
-    /// Sends a create by this copy of a plan, where there is a place for it.
+    /// Sends a create by this copy of a plan, if there is a place for it.
     fn create(&mut self, desk: &mut Desk, copy: BatchPlan)
         requires { 0 < self.old.to_create }
         ensures goes { (plan : planned.BatchPlan) → IsSamePlan plan copy → GoesOn plan self.old desk.old self.new desk.new }
@@ -108,7 +108,7 @@ impl Console {
         }
     }
 
-    /// Sends what is next, where there are memory and a place for it.
+    /// Sends the next event, if there are memory and a place for it.
     fn act(&mut self, alloc: Global, desk: &mut Desk, plan: &BatchPlan)
         ensures goes { GoesOn plan.now self.old desk.old self.new desk.new }
         // claim: tried again
@@ -127,7 +127,7 @@ impl Console {
         }
     }
 
-    /// One turn: takes an out, if one is there, and sends what is next.
+    /// One turn: takes an out, if one is there, and sends the next event.
     pub(crate) fn take_turn(&mut self, alloc: Global, desk: &mut Desk, plan: &BatchPlan)
         ensures { GoesOn plan.now self.old desk.old self.new desk.new }
     {

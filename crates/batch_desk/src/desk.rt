@@ -38,7 +38,7 @@ impl Desk {
         Desk { events, outs }
     }
 
-    /// Sends an event to the hub. Where there is no place in the ring, the event comes back.
+    /// Sends an event to the hub. If there is no place in the ring, the event is returned.
     // claim: sent or given back
     pub fn send(&mut self, event: Event) -> Result<(), Full>
         ensures sent { OnOk result (Sends self.old event self.new) }
@@ -60,8 +60,8 @@ impl Desk {
         self.outs.pop().ok()
     }
 
-    /// Sends no more: the token shows the hub all that was sent, and what is to come is taken from the inbox. There is no
-    /// token where the hub was dropped before.
+    /// Ends sending: the token shows the hub all events that were sent, and the inbox takes the outs that are still to come. There is
+    /// no token if the hub was dropped before.
     // claim: sent or given back
     pub fn finish(self) -> (Option<Finished<Event>>, Inbox)
         ensures token { IfSome result.0 (λ token. (all_sent token ≡ self.sent) × IsOfRing token self.events) }

@@ -1,15 +1,15 @@
-//! Why the hub didn't do what it was asked.
+//! Why a call of the hub failed.
 use thiserror::Error;
 
-/// Why the hub didn't do what it was asked.
+/// Why a call of the hub failed.
 #[derive(Clone, Copy, Debug, PartialEq, Eq, Error)]
 pub enum HubFault {
-    /// There was no memory. No event is lost; what was done stands.
+    /// There was no memory. No event is lost; the work that was done stays.
     #[error("out of memory")]
     Memory,
     #[error("there is no such port")]
     UnknownPort,
-    /// Not all that the port's desk sent was taken.
+    /// Not all events that the port's desk sent were taken.
     #[error("events remain")]
     EventsRemain,
     /// There are too many ports, or too many places in a ring; or none.

@@ -4,7 +4,7 @@
 pub trait Gate {
     ghost use Rattle.std.specs.Prelude.{ℕ, Bool};
 
-    /// What the gate may be after it was asked for a turn and gave this answer.
+    /// The states that the gate may have after it was asked for a turn and gave this answer.
     ghost passes: { Self → ℕ → Bool → Self → Type 0 };
 
     /// Whether the turn with this number is made. A turn that isn't made counts too; the first has the number 0.

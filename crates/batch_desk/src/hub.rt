@@ -63,7 +63,7 @@ impl Hub {
         self.outs.as_slice()
     }
 
-    /// How many outs of the port wait for a place in its ring. None where there is no such port.
+    /// How many outs of the port wait for a place in its ring. None if there is no port with this number.
     // claim: waiting outs
     pub fn waiting(&self, port: usize) -> Option<usize>
         ensures { MatchOption (slice_get self.now.ports port) (result ≡ None) (λ p. result ≡ Some (length p.waiting)) }
@@ -74,8 +74,8 @@ impl Hub {
         }
     }
 
-    /// Closes a port of which all events were taken: nothing new is added to its outs from then on, and no event is taken; what
-    /// waits still goes into its ring at its turns. The token is the one that the port's desk gave; a refusal gives it back.
+    /// Closes a port of which all events were taken: from then on no out is added for it, and no event is taken. Waiting outs still go
+    /// into its ring at its turns. The token is the one that the port's desk gave; a refusal returns it.
     ///
     /// A port that is closed stays so. Refused are, in this order, an unknown port, one that was cut, and one of which events remain.
     // claim: drained port
@@ -100,8 +100,8 @@ impl Hub {
         end.close(token, recorded)
     }
 
-    /// Closes a port whose desk was lost: no event is taken any more, whatever was sent. What waits still goes into its ring at
-    /// its turns. Refused are an unknown port, and one that is closed or cut.
+    /// Closes a port whose desk was lost: no event is taken any more, whatever was sent. Waiting outs still go into its ring at its
+    /// turns. Refused are an unknown port, and one that is closed or cut.
     // claim: cut port
     pub fn cut(&mut self, port: usize) -> Result<(), HubFault>
         // claim: rings stay
@@ -122,8 +122,8 @@ impl Hub {
         Ok(())
     }
 
-    /// Ends the ring of outs of a closed port for which none wait. The token shows the port's inbox all that was put there; there
-    /// is none where desk and inbox were dropped before.
+    /// Ends the ring of outs of a closed port for which none wait. The token shows the port's inbox all outs that were put there;
+    /// there is none if desk and inbox were dropped before.
     // claim: sealed port
     pub fn seal(&mut self, port: usize) -> Result<Option<Finished<Out>>, HubFault>
         ensures work { SameWork self.old self.new }

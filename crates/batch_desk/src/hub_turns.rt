@@ -19,7 +19,7 @@ impl Hub {
         self.engine.batch_state(batch) == Some(State::Complete)
     }
 
-    /// Whether batches 1 to `batches` are complete. The last is looked at first, since it is made last.
+    /// Whether batches 1 to `batches` are complete. The last is checked first, since it is made last.
     #[tactic(auto, using(crate::proofs::HubTurns::one_incomplete, crate::proofs::HubTurns::one_more, crate::proofs::HubTurns::all_complete))]
     fn are_complete(&self, batches: u64) -> bool
         ensures { IsTrue result ↔ AreComplete batches self.now }

@@ -1,4 +1,4 @@
-//! What is left of a desk that has finished.
+//! The inbox of a desk that has finished.
 ghost use Rattle.std.specs.Prelude.{◌≡◌, ◌<◌, ◌++◌, length, IfSome, IfNone, IsSome};
 ghost use Rattle.rtrb.specs.Ring.{all_sent, known_items, received};
 ghost use Rattle.batch_desk.specs.Rings.{IsOfRing, ring_of_consumer};
@@ -8,7 +8,7 @@ use batch_engine::Out;
 use rtrb::{Consumer, Finished};
 use std::marker::Model;
 
-/// What is left of a desk that has finished: it takes outs.
+/// The inbox of a desk that has finished: it takes outs.
 #[derive(Drop)]
 pub struct Inbox {
     outs: Consumer<Out>,

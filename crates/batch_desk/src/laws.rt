@@ -1,4 +1,4 @@
-//! Laws of what a port is due, and of the outlines of ports. Nothing runs here: the contracts are the laws.
+//! A law of the outlines of ports. Nothing runs here: the contract is the law.
 ghost use Rattle.batch_desk.specs.Laws.{OutlinesKeepRings};
 
 /// Ports with the same outlines have the same rings and the same scopes.

@@ -3,9 +3,9 @@
 /// How a loop ended.
 #[derive(Clone, Copy, Debug)]
 pub enum LoopEnd {
-    /// All that was to come has come.
+    /// The work of the loop is done.
     Done,
-    /// What a console sent was refused.
+    /// An event of a console was refused.
     Refused,
     /// As many turns were counted as were allowed.
     TurnsOut,

@@ -7,7 +7,7 @@ use crate::scope::Scope;
 /// How many places a ring may have.
 const MAX_PLACES: usize = 4096;
 
-/// The plan of a port: what it is told of, and how many places its rings have, for events and for outs.
+/// The plan of a port: its scope, and how many places its rings have, for events and for outs.
 #[derive(Clone, Copy)]
 pub struct PortPlan {
     pub scope: Scope,

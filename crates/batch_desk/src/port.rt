@@ -1,4 +1,4 @@
-//! What the hub keeps of one port.
+//! The hub's end of one port.
 ghost use Rattle.std.specs.Prelude.{false, ◌≡◌, ◌⊎◌, [], ◌++◌, length, Some, OnOk, IfOk, IfSome, IfErr, IsTrue, IsNone, ◌↔◌};
 ghost use Rattle.rtrb.specs.Ring.{sent, received, known_free, all_sent, SameProducer};
 ghost use Rattle.batch_desk.specs.Rings.{IsOfRing, ring_of_consumer, ring_of_producer};
@@ -23,7 +23,7 @@ pub(crate) struct Port {
     events: Consumer<Event>,
     /// None once the port was sealed.
     outs: Option<Producer<Out>>,
-    /// What the port was told of and its ring had no place for.
+    /// The queue of the outs for which its ring had no place.
     waiting: VecDeque<Out>,
     /// How long the record was when the port was closed or cut.
     closed: Option<usize>,
@@ -128,7 +128,7 @@ impl Port {
         Ok(Some((event, reply)))
     }
 
-    /// Tells the port of an out, unless it is closed.
+    /// Appends an out to the port's queue, unless the port is closed.
     pub(crate) fn owe(&mut self, out: Out)
         requires { HasRoom self.old }
         ensures { self.new ≡ owe out self.old }
@@ -138,7 +138,7 @@ impl Port {
         }
     }
 
-    /// Tells the port of a move, if it is in its scope.
+    /// Appends a move to the port's queue, if it is in the port's scope.
     pub(crate) fn tell_line(&mut self, line: Line)
         requires { HasRoom self.old }
         ensures { self.new ≡ owe_line line self.old }
@@ -148,7 +148,7 @@ impl Port {
         }
     }
 
-    /// Closes the port where all that was sent was taken.
+    /// Closes the port if all events that were sent were taken.
     pub(crate) fn close(
         &mut self,
         token: Finished<Event>,
@@ -172,7 +172,7 @@ impl Port {
         Ok(())
     }
 
-    /// Takes no more events from here on, and is told no more.
+    /// Cuts the port: from here on no event is taken and no out is added.
     pub(crate) fn cut(&mut self, record_len: usize)
         ensures { self.new ≡ cut_at record_len self.old }
     {
@@ -187,7 +187,7 @@ impl Port {
         self.closed.is_some() && self.outs.is_some() && self.waiting.is_empty()
     }
 
-    /// Ends the ring of outs. The token is missing where the desk was dropped before.
+    /// Ends the ring of outs. The token is missing if the desk was dropped before.
     pub(crate) fn seal(&mut self) -> Option<Finished<Out>>
         ensures port { self.new ≡ sealed self.old }
         ensures token { IfSome result (λ token. (all_sent token ≡ self.old.put) × IfSome self.old.outs (λ ring. IsOfRing token ring)) }

@@ -1,4 +1,4 @@
-//! What is done to each port of a hub.
+//! Calls of each port of a hub.
 ghost use Rattle.std.specs.Prelude.{◌≡◌, map, OnOk, IfErr};
 ghost use Rattle.batch_desk.specs.PortSteps.{AllHaveRoom, owe_line, without_room};
 ghost use Rattle.batch_desk.specs.declared.fault.HubFault.TheVariants.{Memory};
@@ -20,7 +20,7 @@ pub(crate) fn reserve_each(ports: &mut Vec<Port>) -> Result<(), HubFault>
     Ok(())
 }
 
-/// Tells each open port of a move in its scope.
+/// Appends a move to the queue of each open port that has it in its scope.
 pub(crate) fn tell_each(ports: &mut Vec<Port>, line: Line)
     requires { AllHaveRoom ports.old.items }
     ensures { ports.new.items ≡ map (owe_line line) ports.old.items }

@@ -1,20 +1,20 @@
-//! Which moves a port is told of.
+//! The moves that are sent to a port.
 ghost use Rattle.std.specs.Prelude.{◌≡◌};
 ghost use Rattle.batch_desk.specs.Due.{sees};
 
 use batch_engine::Line;
 
-/// Which moves a port is told of, beside the replies to its own events.
+/// The moves that are sent to a port, beside the replies to its own events.
 #[derive(Clone, Copy)]
 pub enum Scope {
-    /// Every move, as a console is.
+    /// Every move, as for a console.
     All,
-    /// What the phases of the unit with this number are told, as an equipment link is: their starts, and the commands sent to them.
+    /// The moves on the phases of the unit with this number, as for an equipment link: their starts, and the commands sent to them.
     Unit(u16),
 }
 
 impl Scope {
-    /// Whether a port of this scope is told of the move.
+    /// Whether the move is sent to a port of this scope.
     pub(crate) fn sees(self, line: Line) -> bool
         ensures { result ≡ sees self line }
     {

@@ -1,6 +1,6 @@
-//! What a console sends next.
+//! The next event of a console.
 
-/// What a console sends next.
+/// The next event of a console.
 #[derive(Clone, Copy, PartialEq, Eq)]
 pub(crate) enum Step {
     Create,

@@ -1,6 +1,6 @@
-//! What a turn of the hub came to.
+//! The outcome of a turn of the hub.
 
-/// What a turn of the hub came to.
+/// The outcome of a turn of the hub.
 #[derive(Clone, Copy, Debug, PartialEq, Eq)]
 pub enum Turned {
     /// No move was possible, and no event was taken.

@@ -93,7 +93,7 @@ impl Hub {
         Ok(())
     }
 
-    /// Makes moves, and tells whether more are possible.
+    /// Makes moves, and returns whether more are possible.
     fn end_turn(&mut self) -> Result<Turned, HubFault>
         ensures outlines { outlines self.new ≡ outlines self.old }
         ensures cleared { self.new.engine.cleared ≡ self.old.engine.cleared }
@@ -133,7 +133,7 @@ impl Hub {
     /// event is taken; else one event is taken and answered, if the port is open and one is there, and up to 64 moves follow. Then
     /// outs go into the ring again. The outs of other ports wait until their turns.
     ///
-    /// For want of memory no event is lost: what was done stands, and pending moves go on at the next turn of any port.
+    /// For want of memory no event is lost: the work that was done stays, and pending moves go on at the next turn of any port.
     // claim: refused turns (unknown, fault); rings stay (rings, outlines)
     #[tactic(auto, using(crate::proofs::Outlines::rings_stay))]
     pub fn turn(&mut self, port: usize) -> Result<Turned, HubFault>

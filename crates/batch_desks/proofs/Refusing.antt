@@ -122,9 +122,9 @@ front_distinct desks i distinct =
     let P : List (List ℕ) → Type 0 = λ names. IsDistinct (pointwise nat_eq) names in
     IsDistinct-front (pointwise nat_eq) (desk_names (take i desks)) (desk_names (drop i desks)) (subst P whole distinct)
 
--- ---- what is told
+-- ---- reported faults
 
--- where what is told of a table can't be, memory was refused
+-- if a table can't have the fault that is reported, memory was refused
 pub lag_refuses : (spot : Spot) (ms : Members) (fault : TableFault) → TellsAt spot (IsKeyFault (optional (codes "lag") (form.Number 1 MAX_LAG)) ms) fault → fault ≢ Memory
     → (desk : Desk) → IsDeskTable ms desk → ⊥
 lag_refuses spot ms Memory told known desk h = known refl

@@ -16,7 +16,7 @@ has_unit units desk = elim desk.unit [ None ↦ true | Some unit ↦ is_some (po
 abbrev pub HaveUnits : List (List ℕ) → List Desk → Type 0
 HaveUnits units desks = list_all (has_unit units) desks ≡ true
 
--- the fault is that of a desk whose unit is none of these: the first of such desks
+-- the fault is that of the first desk whose unit is none of these
 pub record TellsNoUnit (units : List (List ℕ)) (desks : List Desk) (fault : DocFault) : Type 0 where
   pub entry : ℕ
   pub told : fault ≡ Entry (record { kind = table.Desk; entry = entry }) Undeclared

@@ -1,4 +1,4 @@
--- trusted: what a document of desks says.
+-- trusted: the meaning of a document of desks.
 use Rattle.std.specs.Prelude.{◌≡◌, ℕ, ◌≤◌, ◌⊎◌, Bool, true, ◌||◌, List, Option, Some, None, is_some, option_map, string_bytes, length, codes}
 use Rattle.toml.specs.Data.{Members, get_member}
 use Rattle.batch_reader.specs.Entries.{IsDocument, HasName, HasNumber, HasTables, HasText, IsTruth, MayHaveName, has_only_key}

@@ -1,4 +1,4 @@
--- trusted: what is wrong with a document of desks where it is refused: the first fault, in the order in which they are looked for.
+-- trusted: the fault for which a document of desks is refused: the first one, in the order in which they are looked for.
 use Rattle.std.specs.Prelude.{◌≡◌, ℕ, ◌<◌, ◌≤◌, ◌⊎◌, Bool, true, false, List, Option, Some, length, codes}
 use Rattle.toml.specs.Data.{Data, Members}
 use Rattle.toml.specs.Parse.{parse_document}
@@ -24,7 +24,7 @@ First Wrong Right Later = Wrong ⊎ (Right × Later)
 abbrev pub path_key : List ℕ → Key
 path_key word = optional word (form.Path MAX_PATH_LEN)
 
--- this is the first that is wrong with the table of a desk
+-- this is the first fault of the table of a desk
 abbrev pub IsDeskFault : Members → EntryFault → Type 0
 IsDeskFault ms wrong =
     First ((wrong ≡ UnknownKey) × (has_known_keys table.Desk ms ≡ false)) (has_known_keys table.Desk ms ≡ true)
@@ -57,19 +57,19 @@ pub record HasSetFault (ms : Members) (entry : ℕ) (wrong : EntryFault) : Type 
   pub tables : HasTables IsDeskTable (codes "desk") ms desks
   pub fault : First (HasWrongCount desks entry wrong) (HasRightCount desks) (HasNameTwice desks entry wrong)
 
--- the document has another key than `desk`, which is told at number 0
+-- the document has another key than `desk`, which is reported at number 0
 pub record HasUnknownTable (ms : Members) (entry : ℕ) (wrong : EntryFault) : Type 0 where
   pub unknown : has_only_key (codes "desk") ms ≡ false
   pub first : entry ≡ 0
   pub told : wrong ≡ UnknownKey
 
--- this is the first that is wrong with the table of a document, at the desk of this number
+-- this is the first fault of the table of a document, at the desk of this number
 abbrev pub IsDesksFault : Members → ℕ → EntryFault → Type 0
 IsDesksFault ms entry wrong =
     First (HasUnknownTable ms entry wrong) (has_only_key (codes "desk") ms ≡ true)
     (IsArrayFault IsRightDesk IsDeskFault (items_at (codes "desk") ms) entry wrong ⊎ HasSetFault ms entry wrong)
 
--- the bytes are too many, which is told at number 0
+-- the bytes are too many, which is reported at number 0
 pub record IsTooLong (bytes : List ℕ) (entry : ℕ) (wrong : EntryFault) : Type 0 where
   pub long : MAX_DOCUMENT_LEN < length bytes
   pub first : entry ≡ 0

@@ -1,4 +1,4 @@
--- worked rows: what a document of desks says and what it doesn't.
+-- worked rows: the meaning of documents of desks, and their faults.
 use Rattle.std.specs.Prelude.{◌≡◌, pos, [], ◌∷◌, ℕ, Some, None, false, true, option_map, string_bytes, codes}
 use Rattle.toml.specs.Data.{Members, no_members, member, boolean, integer, string}
 use Rattle.batch_reader.specs.TableFaults.{IsKeyFault}
@@ -50,7 +50,7 @@ NothingIsWrong = (wrong : EntryFault) → ¬ IsDeskFault (console no_members) wr
 abbrev pub OneWayIsMissing : Type 0
 OneWayIsMissing = IsDeskFault (named no_members) MissingKey × (¬ IsDeskFault (named no_members) OutOfLimit)
 
--- an unknown key is told before a name that is missing
+-- an unknown key is reported before a name that is missing
 abbrev pub UnknownKeyIsFirst : Type 0
 UnknownKeyIsFirst =
     IsDeskFault (member (codes "lags") (integer (pos 1)) no_members) UnknownKey × (¬ IsDeskFault (member (codes "lags") (integer (pos 1)) no_members) MissingKey)
@@ -75,11 +75,11 @@ PathIsLimited =
 abbrev pub UnitIsNoDesk : Type 0
 UnitIsNoDesk = HasUnknownTable (member (codes "unit") (string (codes "R1")) no_members) 0 UnknownKey × (¬ HasUnknownTable no_members 0 UnknownKey)
 
--- without desks there are too few, which is told at number 0
+-- without desks there are too few, which is reported at number 0
 abbrev pub NoDeskIsTooFew : Type 0
 NoDeskIsTooFew = HasWrongCount [] 0 OutOfLimit × (¬ HasWrongCount [] 1 OutOfLimit)
 
--- of two desks of one name the second is told, and not the first
+-- of two desks of one name the second is reported, and not the first
 abbrev pub SecondNameIsTold : Type 0
 SecondNameIsTold = (one two : Desk) → one.name ≡ codes "A" → two.name ≡ codes "A"
     → HasNameTwice (one ∷ two ∷ []) 1 Duplicate × (¬ HasNameTwice (one ∷ two ∷ []) 0 Duplicate)

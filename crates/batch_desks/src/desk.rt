@@ -4,11 +4,11 @@ ghost use Rattle.batch_reader.specs.declared.keys.TheConstants.{MAX_LAG};
 
 use batch_text::Name;
 
-/// How many lines may wait for a desk that doesn't say it.
+/// How many lines may wait for a desk without a `lag`.
 pub const USUAL_LAG: usize = 4_096;
 
 /// A console or an equipment link: which lines it sends and is written, and by which paths. A path may be that of a
-/// named pipe, a terminal or a file; it is looked at by nobody before it is opened.
+/// named pipe, a terminal or a file; nothing checks it before it is opened.
 // claim: kept desks
 #[derive(Drop)]
 pub struct Desk {

@@ -21,18 +21,18 @@ use batch_reader::{
 use std::alloc::Global;
 use toml::Table;
 
-// A document of desks has no key at its top but `desk`, so a fault there is told of the first desk.
+// A document of desks has no key at its top but `desk`, so a fault there is reported of the first desk.
 const TOP: Spot = Spot {
     kind: TableKind::Desk,
     entry: 0,
 };
 
 /// Reads a document of desks. It is refused as
-/// - `NotToml`, where its bytes are no TOML in UTF-8;
-/// - `Entry`, where it is too long, which is told at number 0, or says no desks. The first fault is told: of the top's
+/// - `NotToml`, if its bytes are no TOML in UTF-8;
+/// - `Entry`, if it is too long, which is reported at number 0, or says no desks. The first fault is reported: of the top's
 ///   keys, then of each table by itself (unknown keys, and then its values in the order of `Desk`; that there is neither
-///   input nor output stands behind these two), then of how many there are, then of their names;
-/// - `Memory`, where memory is refused on the way.
+///   input nor output follows these two), then of how many there are, then of their names;
+/// - `Memory`, if memory is refused on the way.
 pub fn read_desks(alloc: Global, bytes: &[u8]) -> Result<Desks, DocFault>
     // claim: desks read
     ensures ok { IfOk result (IsDesksDocument bytes.now) }

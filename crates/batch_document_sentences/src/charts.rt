@@ -1,11 +1,11 @@
-//! What is wrong with the chart of a table.
+//! The faults in the chart of a table.
 use crate::hints::hint_said;
 use batch_grammar::{ChartFault, read_chart};
 use batch_reader::TableKind;
 use batch_recipe::{MAX_TURNS, MAX_VALUE};
 use std::alloc::{AllocError, Global};
 
-/// What stands in the chart from this byte on, where it is no chart, and what might have been meant.
+/// Says that the text is no chart from this byte on, quotes the rest, and gives a hint.
 pub(crate) fn no_chart_said(
     alloc: Global,
     text: &str,
@@ -20,7 +20,7 @@ pub(crate) fn no_chart_said(
     format!(in alloc; "`chart` is no chart from byte {byte} on{place}{rest}{hint}")
 }
 
-/// Which number of the chart is out of its limits, where the text is a chart but for that.
+/// Says which number of the chart is out of its limits. None if the text is a chart, or has another fault.
 pub(crate) fn number_said(
     alloc: Global,
     text: &str,
@@ -45,7 +45,7 @@ pub(crate) fn number_said(
     Ok(Some(said?))
 }
 
-/// The digits that stand at the byte of the chart.
+/// The digits at the byte of the chart.
 fn number_at(chart: &str, byte: usize) -> &str {
     let rest = chart.get(byte..).unwrap_or("");
     for (end, letter) in rest.char_indices() {
@@ -56,7 +56,7 @@ fn number_at(chart: &str, byte: usize) -> &str {
     rest
 }
 
-/// Whether this letter stands before the byte of the chart, but for spaces.
+/// Whether this letter precedes the byte of the chart, with nothing but spaces between.
 fn is_behind(chart: &str, byte: usize, letter: char) -> bool {
     match chart.get(..byte) {
         Some(front) => front.trim_end().ends_with(letter),
@@ -64,7 +64,7 @@ fn is_behind(chart: &str, byte: usize, letter: char) -> bool {
     }
 }
 
-/// The line and the column of the chart's byte in the document, from 1, where the chart stands there as it is read.
+/// The line and the column of the chart's byte in the document, from 1, if the document contains the chart as it is read.
 fn place_said(
     alloc: Global,
     text: &str,
@@ -78,7 +78,7 @@ fn place_said(
     }
 }
 
-/// The line and the column at which the byte of the chart stands, which is looked for behind the sign `=` of this line.
+/// The line and the column of the chart's byte. The chart is searched for behind the sign `=` of this line.
 fn place_of(text: &str, from: usize, chart: &str, byte: usize) -> Option<(usize, usize)> {
     if chart.is_empty() {
         return None;
@@ -119,7 +119,7 @@ fn offset_of(text: &str, line: usize) -> usize {
     offset
 }
 
-/// What stands at the byte of the chart.
+/// Quotes the chart from the byte on, or says that it ends there.
 fn rest_said(alloc: Global, chart: &str, byte: usize) -> Result<String, AllocError> {
     match chart.get(byte..) {
         Some("") => String::from_str(alloc, ", where it ends"),
@@ -131,7 +131,7 @@ fn rest_said(alloc: Global, chart: &str, byte: usize) -> Result<String, AllocErr
     }
 }
 
-/// The first line of the text, and of it no more than some words.
+/// The beginning of the text's first line.
 fn front_of(text: &str) -> &str {
     let line = match text.split_once('\n') {
         Some((line, _)) => line,

@@ -1,4 +1,4 @@
-//! What a document declares.
+//! The names that a document declares.
 use crate::hints::is_of_words;
 use crate::kinds::{OF_RECIPES, VALUES, word_of};
 use batch_grammar::is_chart_word;
@@ -7,7 +7,7 @@ use batch_text::is_name;
 use std::alloc::{AllocError, Global};
 use toml::{Table, Value};
 
-/// The list that the table has under this key, as are a document's tables of a word; an empty one where it has none.
+/// The list that the table has under this key, as are a document's tables of a word; an empty one if it has none.
 pub(crate) fn list_at<'a>(table: &'a Table, key: &str) -> &'a [Value] {
     match table.get(key) {
         Some(Value::Array(values)) => values,
@@ -25,7 +25,7 @@ fn name_in(table: &Value) -> Option<&str> {
     table.get("name")?.as_str()
 }
 
-/// The word of the first tables of a recipe of which one has this name.
+/// The word of the first kind of a recipe's tables of which one has this name.
 pub(crate) fn word_declaring(document: &Table, name: &str) -> Option<&'static str> {
     for kind in OF_RECIPES {
         if is_among(document, kind.word(), name) {
@@ -58,7 +58,7 @@ fn is_among(document: &Table, word: &str, name: &str) -> bool {
     false
 }
 
-/// The role that the table names, where the document doesn't declare it.
+/// The role that the table names, if the document doesn't declare it.
 pub(crate) fn undeclared_role<'a>(document: &Table, table: &'a Table) -> Option<&'a str> {
     let role = text_at(table, "role")?;
     if is_among(document, "role", role) {
@@ -113,7 +113,7 @@ pub(crate) fn value_names(alloc: Global, document: &Table) -> Result<Vec<&str>, 
     Ok(names)
 }
 
-/// The first text of the table's list under this key that stands there twice.
+/// The first text that the table's list under this key has twice.
 pub(crate) fn listed_twice<'a>(table: &'a Table, key: &str) -> Option<&'a str> {
     let values = list_at(table, key);
     for value in values {
@@ -126,7 +126,7 @@ pub(crate) fn listed_twice<'a>(table: &'a Table, key: &str) -> Option<&'a str> {
     None
 }
 
-/// How often the text stands in the list.
+/// The number of times that the list has the text.
 fn times_in(values: &[Value], text: &str) -> usize {
     let mut times: usize = 0;
     for value in values {
@@ -186,7 +186,7 @@ pub(crate) struct Reference<'a> {
     pub(crate) is_value: bool,
 }
 
-/// The first name of the table's chart, or of its values, that isn't declared as what it is to name.
+/// The first name of the table's chart, or of its values, that isn't declared as the value or act that it is to name.
 pub(crate) fn undeclared_name<'a>(
     document: &Table,
     table: &'a Table,
@@ -231,7 +231,7 @@ fn undeclared_part<'a>(document: &Table, table: &'a Table, below: &str) -> Optio
     None
 }
 
-/// The first word of the text, with what stands before it and behind it.
+/// The text before the first word, this word, and the text behind it.
 fn word_in(text: &str) -> Option<(&str, &str, &str)> {
     let begin = text.find(is_of_words)?;
     let before = text.get(..begin)?;
@@ -241,7 +241,7 @@ fn word_in(text: &str) -> Option<(&str, &str, &str)> {
     Some((before, word, behind))
 }
 
-/// Whether an operator ends what stands before a word of a chart, or begins what stands behind it.
+/// Whether an operator ends the text before a word of a chart, or begins the text behind it.
 fn is_compared(before: &str, behind: &str) -> bool {
     before.trim_end().ends_with(is_operator) || behind.trim_start().starts_with(is_operator)
 }
@@ -256,7 +256,7 @@ fn is_reference(word: &str) -> bool {
     is_name(word.as_bytes()) && !is_chart_word(word.as_bytes())
 }
 
-/// Whether the document declares the name as what it is to name: a value, or a table of the word below.
+/// Whether the document declares the name for the thing that it is to name: a value, or a table of the word below.
 fn is_declared(document: &Table, below: &str, reference: Reference<'_>) -> bool {
     if reference.is_value {
         is_value(document, reference.name)

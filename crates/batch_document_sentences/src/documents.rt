@@ -1,4 +1,4 @@
-//! What is wrong with a document.
+//! The faults of a document, in words.
 use crate::entries::{tables_of, wrong_at};
 use crate::kinds::{is_word_of_several, word_of};
 use crate::lines::line_of;
@@ -8,7 +8,7 @@ use std::alloc::{AllocError, Global};
 use toml::Table;
 use toml::de::Error;
 
-/// Which document is to stand at a path.
+/// The kind of document that a path is to have.
 #[derive(Clone, Copy)]
 pub enum Asked {
     Cell,
@@ -16,9 +16,9 @@ pub enum Asked {
     Desks,
 }
 
-/// What the fault of the document at this path means: the key or the name that is wrong and its line, where they can be told.
+/// The meaning of the fault of the document at this path: the wrong key or name and its line, if they are known.
 ///
-/// Of a cell that stands in a recipe's place, and the other way round, it says this.
+/// Of a cell in a recipe's place, or the other way round, and of either in the place of the desks, it says this.
 pub fn document_sentence(
     alloc: Global,
     asked: Asked,
@@ -34,7 +34,7 @@ pub fn document_sentence(
     Sentence::at(alloc, path, said?.as_str())
 }
 
-/// What is wrong with bytes that are TOML and no such document.
+/// The fault of bytes that are TOML and no document of the kind.
 fn refused_said(
     alloc: Global,
     asked: Asked,
@@ -51,7 +51,7 @@ fn refused_said(
     }
 }
 
-/// Why the bytes are no TOML.
+/// The reason why the bytes are no TOML.
 fn toml_said(alloc: Global, bytes: &[u8]) -> Result<String, AllocError> {
     if bytes.starts_with(b"rank ") {
         return String::from_str(
@@ -92,7 +92,7 @@ fn single_header(text: &str) -> Option<&str> {
     None
 }
 
-/// What TOML tells, in one line.
+/// The message of TOML, in one line.
 fn lines_said(alloc: Global, told: &str) -> Result<String, AllocError> {
     let mut said = String::from_str(alloc, "it is no TOML")?;
     for line in told.lines() {
@@ -102,7 +102,7 @@ fn lines_said(alloc: Global, told: &str) -> Result<String, AllocError> {
     Ok(said)
 }
 
-/// The text of a document, and what TOML reads in it. None of one that is too long.
+/// The text of a document, and its content as TOML. None of one that is too long.
 fn parts_of(alloc: Global, bytes: &[u8]) -> Option<(&str, Table)> {
     if bytes.len() > MAX_DOCUMENT_LEN {
         return None;
@@ -130,7 +130,7 @@ fn exchanged(asked: Asked, document: &Table) -> Option<&'static str> {
     }
 }
 
-/// Where the fault is, and what is wrong there.
+/// The place of the fault, and the fault in words.
 fn entry_said(
     alloc: Global,
     text: &str,
@@ -144,7 +144,7 @@ fn entry_said(
     wrong_said(alloc, spot, line, wrong.what.as_str())
 }
 
-/// What is wrong in the table at the spot, and in which line.
+/// The line, the table at the spot, and the words on its fault.
 fn wrong_said(
     alloc: Global,
     spot: Spot,

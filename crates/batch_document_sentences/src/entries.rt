@@ -1,4 +1,4 @@
-//! What is wrong with a table of a document.
+//! The faults of a document's table.
 use crate::charts::{no_chart_said, number_said};
 use crate::declared::text_at;
 use crate::fits::{Fit, form_said, given_said, suit};
@@ -13,7 +13,7 @@ use batch_wording::meant_said;
 use std::alloc::{AllocError, Global};
 use toml::{Table, Value};
 
-/// What is wrong with a table, and under which key, which is empty where that can't be told.
+/// The fault of a table, in words, and the key that has it, which is empty if none is known.
 #[derive(Drop)]
 pub(crate) struct Wrong<'a> {
     pub(crate) key: &'a str,
@@ -33,7 +33,7 @@ impl<'a> Wrong<'a> {
     }
 }
 
-/// How many tables of the kind the document has.
+/// The number of the document's tables of the kind.
 pub(crate) fn tables_of(document: &Table, kind: TableKind) -> usize {
     let Some(word) = word_of(kind) else {
         return 0;
@@ -56,7 +56,7 @@ fn entry_at(document: &Table, spot: Spot) -> Option<&Table> {
     }
 }
 
-/// What the fault of the table at the spot is, in the document of this text.
+/// The fault of the table at the spot, in words, in the document of this text.
 pub(crate) fn wrong_at<'a>(
     alloc: Global,
     text: &str,
@@ -90,7 +90,7 @@ fn chart_line(text: &str, document: &Table, spot: Spot) -> Option<usize> {
     line_of(text, spot, tables_of(document, spot.kind), "chart")
 }
 
-/// That the document has no table of this kind.
+/// Says that the document has no table of this kind.
 fn no_table(
     alloc: Global,
     document: &Table,
@@ -150,7 +150,7 @@ fn unknown<'a>(
     }
 }
 
-/// That the key is unknown, which keys are known, and which of them may have been meant.
+/// Says that the key is unknown, which keys are known, and which of them may have been meant.
 fn unknown_said(
     alloc: Global,
     keys: &[Key],
@@ -173,7 +173,7 @@ fn names_of(alloc: Global, keys: &[Key]) -> Result<Vec<&'static str>, AllocError
     Ok(names)
 }
 
-/// Which other tables of such a document have the key, if any.
+/// Says which other tables of the document's kind have the key, if any.
 fn others_said(alloc: Global, kind: TableKind, name: &str) -> Result<String, AllocError> {
     let mut said = String::new(alloc);
     for other in kinds_beside(kind) {
@@ -239,7 +239,7 @@ fn wrong_kind(
     }
 }
 
-/// That the header of such a table has other brackets: a procedure's single ones, each other double ones.
+/// Says that the header of a table of this kind has other brackets: a procedure's single ones, any other's double ones.
 fn misheaded(
     alloc: Global,
     document: &Table,
@@ -264,7 +264,7 @@ fn misheaded(
     Ok(Some(said?))
 }
 
-/// That the value of the key is to be another.
+/// Says which form the value of the key is to have.
 fn unfit(
     alloc: Global,
     key: &Key,
@@ -309,8 +309,8 @@ fn out_of_limit(
     }
 }
 
-/// That a number of the table's chart is out of its limits, or that the acts are too many, or the tables, of which the first one too many
-/// is told.
+/// Says that a number of the table's chart is out of its limits, or that the acts are too many, or the tables. In the last case the
+/// spot is that of the first table too many.
 fn chart_out_of_limit(
     alloc: Global,
     text: &str,
@@ -344,7 +344,7 @@ fn no_chart(
     Wrong::with("chart", no_chart_said(alloc, text, line, chart, byte, kind))
 }
 
-/// The first of the keys whose value suits it so.
+/// The first of the keys whose value has this fit.
 fn first_unfit<'a>(keys: &'a [Key], table: &Table, wanted: Fit) -> Option<&'a Key> {
     for key in keys {
         if let Some(value) = table.get(key.0) {

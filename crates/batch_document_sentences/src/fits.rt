@@ -1,4 +1,4 @@
-//! Whether values are what their keys are to have.
+//! Whether values have the forms of their keys.
 use batch_reader::{MAX_CHART_LEN, ValueForm};
 use batch_text::{MAX_NAME_LEN, is_name};
 use std::alloc::{AllocError, Global};
@@ -22,7 +22,7 @@ impl Fit {
     }
 }
 
-/// The form without that which sentences of their own tell: a chart is a text, and any name a name.
+/// The form without the demands that have sentences of their own: a chart is a text, and any name a name.
 fn plain(form: ValueForm) -> ValueForm {
     match form {
         ValueForm::FreeName => ValueForm::Name,
@@ -97,7 +97,7 @@ fn name_fit(value: &Value) -> Fit {
     }
 }
 
-/// What a value of this form is.
+/// Describes the values of this form.
 pub(crate) fn form_said(alloc: Global, form: ValueForm) -> Result<String, AllocError> {
     match plain(form) {
         ValueForm::Name => format!(in alloc;
@@ -117,7 +117,7 @@ pub(crate) fn form_said(alloc: Global, form: ValueForm) -> Result<String, AllocE
     }
 }
 
-/// What is wrong with the value that stands where one of this form is to be, if that can be told.
+/// Names the fault of a value in place of one of this form, if it is known.
 pub(crate) fn given_said(
     alloc: Global,
     form: ValueForm,

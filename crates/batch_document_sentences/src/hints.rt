@@ -1,9 +1,9 @@
-//! What may have been meant where a text is no chart.
+//! Hints for a text that is no chart.
 use batch_reader::TableKind;
 use batch_wording::meant_said;
 use std::alloc::{AllocError, Global};
 
-/// The words that stand before a bracket.
+/// The words that may precede a bracket.
 const FORMS: [&str; 4] = ["seq", "par", "sel", "loop"];
 
 const ONE_AFTER_ANOTHER: &str = "; what comes one after the other stands in seq(..)";
@@ -15,20 +15,20 @@ const LOOP: &str = "; a loop is loop(TURNS, CONDITION, CHART)";
 const CONDITION: &str =
     "; a condition compares a name with a number or a name once, as `X > 45`, without `and`, `or` or `not`";
 
-/// What stands before a byte of a chart, in the innermost bracket that is open there.
+/// The text before a byte of a chart, within the innermost bracket that is open there.
 #[derive(Clone, Copy)]
 struct Inside<'a> {
     /// The word before the bracket, empty where none is open.
     form: &'a str,
-    /// How many commas the bracket has up to the byte.
+    /// The number of the bracket's commas up to the byte.
     commas: usize,
-    /// Whether a colon stands behind the last of these commas.
+    /// Whether a colon follows the last of these commas.
     has_colon: bool,
-    /// What stands behind the last comma or colon.
+    /// The text behind the last comma or colon.
     piece: &'a str,
 }
 
-/// What the author may have meant who wrote what stands at the byte.
+/// A hint for the author of the chart, which is none from the byte on.
 pub(crate) fn hint_said(
     alloc: Global,
     chart: &str,
@@ -55,12 +55,12 @@ fn last_word(text: &str) -> &str {
     text.get(front.len()..).unwrap_or("")
 }
 
-/// Whether names have such letters.
+/// Whether names may have this letter.
 pub(crate) fn is_of_words(letter: char) -> bool {
     letter.is_ascii_alphanumeric() || letter == '_' || letter == '-'
 }
 
-/// That no bracket stands behind the word.
+/// Says that no bracket follows the word.
 fn bracket_said(alloc: Global, word: &str, kind: TableKind) -> Result<String, AllocError> {
     if kind == TableKind::UnitProcedure && word == "par" {
         return String::from_str(alloc, "; the chart of a unit procedure has no `par`");
@@ -74,7 +74,7 @@ fn bracket_said(alloc: Global, word: &str, kind: TableKind) -> Result<String, Al
     )
 }
 
-/// What is meant by a sign that no chart has, or not behind this word.
+/// A hint for a sign that no chart has, or not behind this word.
 fn sign_hint(inside: Inside<'_>, word: &str, rest: &str) -> Option<&'static str> {
     if rest.starts_with('#') || rest.starts_with("//") || rest.starts_with("/*") {
         return Some("; a chart has no comments");
@@ -99,7 +99,7 @@ fn sign_hint(inside: Inside<'_>, word: &str, rest: &str) -> Option<&'static str>
     sign_of_names_hint(word, rest)
 }
 
-/// Whether a condition may stand at the end of what the bracket has.
+/// Whether the end of the bracket's text may belong to a condition.
 fn may_compare(inside: Inside<'_>) -> bool {
     match inside.form {
         "sel" => !inside.has_colon,
@@ -108,7 +108,7 @@ fn may_compare(inside: Inside<'_>) -> bool {
     }
 }
 
-/// What is meant by a sign that no name, number or list of charts has.
+/// A hint for a sign that no name, number or list of charts has.
 fn sign_of_names_hint(word: &str, rest: &str) -> Option<&'static str> {
     if rest.starts_with('-') {
         return Some("; numbers aren't negative");
@@ -135,7 +135,7 @@ fn sign_of_names_hint(word: &str, rest: &str) -> Option<&'static str> {
     None
 }
 
-/// Whether a number stands before the dot with which the rest begins, or behind it alone.
+/// Whether a number precedes the dot with which the rest begins, or follows it without a word before it.
 fn is_in_number(word: &str, rest: &str) -> bool {
     if word.is_empty() {
         let behind = rest.get(1..).unwrap_or("");
@@ -163,7 +163,7 @@ fn is_foreign(letter: char) -> bool {
     !letter.is_ascii()
 }
 
-/// What the bracket is to have.
+/// A hint at the contents that the bracket is to have.
 fn form_hint(inside: Inside<'_>, rest: &str) -> &'static str {
     match inside.form {
         "loop" => loop_hint(inside, rest),
@@ -207,7 +207,7 @@ fn is_otherwise(word: &str) -> bool {
         || word.eq_ignore_ascii_case("default")
 }
 
-/// What the whole chart is to have.
+/// A hint at the contents that the whole chart is to have.
 fn top_hint(inside: Inside<'_>, rest: &str) -> &'static str {
     if rest.starts_with(')') {
         "; no bracket is open here"
@@ -218,7 +218,7 @@ fn top_hint(inside: Inside<'_>, rest: &str) -> &'static str {
     }
 }
 
-/// What a list of charts is to have.
+/// A hint at the contents that a list of charts is to have.
 fn list_hint(inside: Inside<'_>, rest: &str) -> &'static str {
     if rest.is_empty() {
         "; a bracket isn't closed"
@@ -235,7 +235,7 @@ fn list_hint(inside: Inside<'_>, rest: &str) -> &'static str {
     }
 }
 
-/// What stands in the innermost bracket that is open at the end of the text.
+/// The contents of the innermost bracket that is open at the end of the text.
 fn inside_of(alloc: Global, front: &str) -> Result<Inside<'_>, AllocError> {
     let Some(open) = open_bracket(alloc, front)? else {
         return Ok(within("", front));
@@ -258,7 +258,7 @@ fn open_bracket(alloc: Global, front: &str) -> Result<Option<usize>, AllocError>
     Ok(open.last().copied())
 }
 
-/// What the text has behind a bracket with this word before it.
+/// The contents of an open bracket, which has this word before it and this text behind it.
 fn within<'a>(form: &'a str, text: &'a str) -> Inside<'a> {
     let mut depth: usize = 0;
     let mut commas: usize = 0;

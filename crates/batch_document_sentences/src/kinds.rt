@@ -47,7 +47,7 @@ fn has_word(kinds: &[TableKind], word: &str) -> bool {
     false
 }
 
-/// The kinds of tables that documents with a table of this kind have.
+/// The kinds of tables of the documents that have tables of this kind.
 pub(crate) fn kinds_beside(kind: TableKind) -> &'static [TableKind] {
     match kind {
         TableKind::Cell | TableKind::Unit | TableKind::Module | TableKind::Shared => &OF_CELLS,

@@ -1,4 +1,4 @@
-//! What the refusal of a document means, in one line for a person.
+//! The meaning of a document's refusal, in one line for a person.
 #![tactic(auto)]
 
 mod charts;

@@ -3,11 +3,10 @@ use crate::kinds::word_of;
 use batch_reader::Spot;
 use batch_wording::header_in;
 
-/// The line of the key in the table at the spot, or of the table's header where there is no such line, counted from 1. An empty key
-/// has none.
+/// The line of the key in the table at the spot, counted from 1, or of the table's header if the key has none. An empty key has none.
 ///
-/// Tables are looked for by their headers, each in a line of its own. None where these aren't as many as the document has
-/// tables of the kind. At the top of a document a key may be the word of a header.
+/// A table is found by its header, in a line of its own. None where these headers aren't as many as the document has tables of the
+/// kind. At the top of a document a key may be the word of a header.
 pub(crate) fn line_of(text: &str, spot: Spot, tables: usize, key: &str) -> Option<usize> {
     let word = word_of(spot.kind);
     if word.is_some() && headers_in(text, word) != tables {
@@ -38,7 +37,7 @@ pub(crate) fn line_of(text: &str, spot: Spot, tables: usize, key: &str) -> Optio
     header
 }
 
-/// How many lines are the header of a table of this word.
+/// The number of headers of tables of this word.
 fn headers_in(text: &str, word: Option<&str>) -> usize {
     let mut headers: usize = 0;
     for line in text.lines() {

@@ -1,4 +1,4 @@
-//! What is wrong with the names that a table declares or uses.
+//! The faults in the names that a table declares or uses.
 use crate::declared::{
     Reference, first_named, listed_twice, names_among, offered_before, text_at, undeclared_listed,
     undeclared_name, undeclared_role, value_names, word_below, word_declaring,
@@ -12,7 +12,7 @@ use batch_wording::meant_or_known;
 use std::alloc::{AllocError, Global};
 use toml::Table;
 
-/// Which name of the table is declared nowhere.
+/// Says which name of the table is declared nowhere.
 pub(crate) fn undeclared(
     alloc: Global,
     document: &Table,
@@ -48,13 +48,13 @@ pub(crate) fn undeclared(
     }
 }
 
-/// That the cell has no such unit, of a desk.
+/// Says that the cell doesn't have the unit of a desk.
 fn no_unit(alloc: Global, table: &Table) -> Result<Wrong<'static>, AllocError> {
     let unit = text_at(table, "unit").unwrap_or("");
     Wrong::with("unit", format!(in alloc; "the cell has no unit `{unit}`"))
 }
 
-/// That no table of the word has the name, and which tables have it, or what may have been meant.
+/// Says that no table of the word has the name, and which tables have it, or which name may have been meant.
 fn undeclared_said(
     alloc: Global,
     document: &Table,
@@ -72,7 +72,7 @@ fn undeclared_said(
     }
 }
 
-/// That no role has the name, and where a unit is named, unless a role may have been meant.
+/// Says that no role has the name, and which key names a unit, unless a role may have been meant.
 fn role_said(alloc: Global, document: &Table, role: &str) -> Result<String, AllocError> {
     let said = undeclared_said(alloc, document, "role", role)?;
     if said.as_str().ends_with('?') {
@@ -81,7 +81,7 @@ fn role_said(alloc: Global, document: &Table, role: &str) -> Result<String, Allo
     format!(in alloc; "{said}; a unit of the cell is named by the key `unit`")
 }
 
-/// That the name of a chart, or of a list of values, is declared nowhere, or as something else.
+/// Says that the name of a chart, or of a list of values, is declared nowhere, or as something else.
 fn reference_said(
     alloc: Global,
     document: &Table,
@@ -99,7 +99,7 @@ fn reference_said(
     }
 }
 
-/// That the name is that of a table of this word, which it isn't to be.
+/// Says that the name is that of a table of this word, and which kind it is to be.
 fn misnamed_said(
     alloc: Global,
     kind: TableKind,
@@ -120,7 +120,7 @@ fn misnamed_said(
     }
 }
 
-/// The names that may stand where this one does.
+/// The names that are possible in the place of this one.
 fn names_for<'a>(
     alloc: Global,
     document: &'a Table,
@@ -133,7 +133,7 @@ fn names_for<'a>(
     }
 }
 
-/// Which name of the table stands twice.
+/// Says which name of the table occurs twice.
 pub(crate) fn duplicate(
     alloc: Global,
     text: &str,
@@ -163,7 +163,7 @@ pub(crate) fn duplicate(
     Wrong::with("phases", offered_said(alloc, document, table))
 }
 
-/// That the table at the spot has the name already.
+/// Says that the table at the spot has the name already.
 fn namesake_said(
     alloc: Global,
     text: &str,
@@ -180,7 +180,7 @@ fn namesake_said(
     }
 }
 
-/// Which phase of the module its unit offers twice.
+/// Says which phase of the module its unit offers twice.
 fn offered_said(alloc: Global, document: &Table, module: &Table) -> Result<String, AllocError> {
     let unit = text_at(module, "unit").unwrap_or("");
     if let Some(phase) = listed_twice(module, "phases") {

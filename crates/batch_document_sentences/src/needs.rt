@@ -1,10 +1,10 @@
-//! What is wrong with the needs of a table.
+//! The faults in the needs of a table.
 use crate::declared::list_at;
 use batch_recipe::MAX_UNITS;
 use batch_text::is_name;
 use toml::Table;
 
-/// The first of the table's needs that says no resource and units, if any.
+/// The first text of the table's needs that is no need, if any.
 pub(crate) fn unreadable_need(table: &Table) -> Option<&str> {
     for need in list_at(table, "needs") {
         if let Some(text) = need.as_str() {

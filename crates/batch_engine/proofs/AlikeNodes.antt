@@ -1,4 +1,4 @@
--- What is told of a node is the same whatever units take the roles.
+-- The place, the name and the values of a node are the same whatever units take the roles.
 use Rattle.std.proofs.Common.{arith, ◌≡◌, ◌≢◌, refl, sym, ◌∙◌, ap, subst, ℕ, zero, suc, List, [], ◌∷◌, Option, Some, None, length, map}
 use Rattle.std.specs.Prelude.{slice_get}
 use Rattle.std.specs.List.{AllByRecursion}

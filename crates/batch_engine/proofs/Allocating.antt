@@ -1,4 +1,4 @@
--- What an ask, a grant and a release change in the arbiter, and in the plant's lines and what the record tells of holders.
+-- The effect of an ask, a grant and a release on the arbiter, on the plant's lines, and on the holders that the record tells.
 use Rattle.std.proofs.Common.{◌≡◌, ◌<◌, ◌+◌, refl, sym, ◌∙◌, ap, ap₂, subst, ℕ, List, [], ◌∷◌, ◌++◌, Bool, true, false, not, Option, Some, None, inl, inr, arith, length, map, filter, find, drop, set, get_or}
 use Rattle.std.specs.Prelude.{option_map, nat_le, cond}
 use Rattle.std.proofs.lemmas.List.{map-append, get_or-set_same, get_or-set_other, length-set}

@@ -25,7 +25,7 @@ right-none (x ∷ xs) ys e = absurd cc
 abbrev HasNoFacts : Rest → Type 0
 HasNoFacts r = facts r ≡ []
 
--- where nothing stands, nothing stands of each act
+-- if a rest has no facts, none of its acts has any
 mutual
   none-of-acts : (r : Rest) → facts r ≡ [] → Each HasNoFacts (acts r)
   none-of-acts (ready s w k) e = (e, tt)

@@ -34,7 +34,7 @@ pub no-bytes : (name : Name) → nat_eq (length name) 0 ≡ same_name name []
 no-bytes [] = refl
 no-bytes (x ∷ name) = elim (eqb_tells (length (x ∷ name)) 0) [ inl q ↦ absurd (let e = q.1 in omega (arith, e)) | inr q ↦ q.0 ]
 
--- What a binding is, test by test
+-- The tests of a binding, one by one
 
 names-kept : (cell : Cell) (roles : List document.Role) → map (λ (role : Role). role.name) (roles_in cell roles) ≡ names_in roles
 names-kept cell [] = refl
@@ -125,7 +125,7 @@ a-candidate class name (x ∷ units) (suc k) u e f g = go (is_of_class class x) 
     go true later = either-second (same_name name x.name) (is_among (unit_names (filter (is_of_class class) units)) name) later
     go false later = later
 
--- What a pair of a role gives
+-- The unit that a pair of a role gives
 
 abbrev pub given_name : Option (Name × Name) → Name
 given_name None = []

@@ -61,7 +61,7 @@ module _ (c : Setup) (s : Plant) where
       let q : batch_of y ≡ d.0.number = batch_moves-number c s d.0 y d.2 in
       later-batch x y (omega arith))
 
-  -- where no batch has a move there is no next one
+  -- if no batch has a move there is no next one
   pub next-none : Each (λ d. batch_moves c s d ≡ []) s.batches → next c s ≡ None
   next-none h = ap least (go s.batches h)
     where

@@ -128,7 +128,7 @@ module _ (v : EngineView) (name : Name) (size : ℕ) (pairs : List (Name × Name
           absurd (has-memory v (create name size pairs) (bad_value value) (refused-so (value_out_of_range value) (bad_value value) e refl) (λ is. absurd (cc is)) wants)
       go wants (scaled vs) e = (vs, e)
 
--- what is refused so isn't refused for want of memory
+-- an event that is refused so isn't refused for want of memory
 pub refused-otherwise : (v : EngineView) (e : Event) (x : Refusal) → IsRefusedFor v e x → MayWant v e → ⊥
 refused-otherwise v e x r wants = has-memory v e (Surface.refusal_of v.cleared x) r.says r.has_memory wants
 

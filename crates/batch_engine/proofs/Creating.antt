@@ -102,7 +102,7 @@ share-number name b a h =
     early held false i = absurd i
 
 module _ (v : EngineView) (k : IsKept v) where
-  -- whoever holds or waits is of a batch that there is
+  -- each act that holds or waits is of a batch that there is
   pub waiter-below : (name : Name) (q : ℕ) → number_of v.cleared name ≡ Some q → (x : Claim) → Has (line_of v.allocation q) x → x.batch < v.next_number
   waiter-below name q e x h =
       let a : Share = share_of v.cleared v.batches x in
@@ -175,7 +175,7 @@ module _ (v : EngineView) (k : IsKept v) where
         (λ n q e. subst IsOnce (sym (lines-more n q e)) (k.once n q e))
         (omega (arith, enough, sum_by_push (λ (z : Batch). needs_in (tree_of v.cleared z)) v.batches b, ap (λ (r : ℕ × List ℕ). needs_in (tree_at v.cleared r.0 r.1)) made))
 
-  -- where no batch is made, more room changes nothing of the plant
+  -- if no batch is made, more room changes nothing of the plant
   pub room-kept : (room : ℕ) → v.allocation.room ≤ room → IsKept (with v v.batches v.next_number (record (v.allocation) { room = room }))
   room-kept room more =
       record {

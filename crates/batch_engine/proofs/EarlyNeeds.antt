@@ -1,4 +1,4 @@
--- What a batch holds in advance, and what its acts hold and ask for, is no more than its tree needs at once.
+-- The units that a batch holds in advance, and the needs that its acts hold and ask for, are no more than its tree needs at once.
 use Rattle.std.proofs.Common.{◌≡◌, ◌≤◌, ◌+◌, refl, sym, ap, subst, ℕ, zero, suc, List, [], ◌∷◌, inl, inr, arith, length, map, take, slice_get}
 use Rattle.std.specs.Prelude.{sum_by}
 use Rattle.std.proofs.lemmas.List.{length-append, length-map}
@@ -40,7 +40,7 @@ enter-few in_procedure c = firsts-few c
 enter-few in_unit_procedure c = omega arith
 enter-few in_operation c = omega arith
 
--- no more than m, where no more than m follow the whole
+-- no more than m, if no more than m follow the whole
 mutual
   due-few : (level : Level) (next : List Follower) (c : Tree) (r : Rest) → IsRestOf c r → (m : ℕ) → length next ≤ m → most_by own_units c ≤ m → length (due level next r) ≤ m
   due-few level next (act s w) (ready u v k) re m n h = omega arith
@@ -83,7 +83,7 @@ mutual
 
 -- Acts that are reached hold and ask for no more than the tree's needs at once
 
--- what an act in line holds and asks for
+-- the needs that an act in line holds and asks for
 taken-one : (k : ℕ) (xs : List Need) (p : Place) → length (take k xs) + weights (awaited_at p (slice_get xs k)) ≤ length xs
 taken-one zero [] p = omega arith
 taken-one (suc k) [] p = omega arith
@@ -132,7 +132,7 @@ mutual
   facts_chosen-few (choice p c ch) r (inl re) = omega (arith, facts-few c r re)
   facts_chosen-few (choice p c ch) r (inr re) = omega (arith, facts_chosen-few ch r re)
 
--- What is held in advance is due, each for a place of its own
+-- Units that are held in advance are due, each for a place of its own
 
 abbrev place_early : InAdvance → Place
 place_early x = x.place
@@ -168,7 +168,7 @@ early-few fs xs apart all =
       length-map fs place_due,
     )
 
--- what a batch holds in advance
+-- the units that a batch holds in advance
 pub early-bounded : (c : Tree) (r : Rest) (xs : List InAdvance) → IsRestOf c r → StandApart xs → ((x : InAdvance) → Has xs x → IsAwaited r x.place) → length xs ≤ most_by own_units c
 early-bounded c r xs stands apart awaited =
     let all : List Follower = due is_procedure [] r in

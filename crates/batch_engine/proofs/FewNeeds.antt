@@ -137,7 +137,7 @@ or-first false b h = refl
 not-within : (m n : ℕ) → nat_le m n ≡ false → n < m
 not-within m n h = grind (arith, nat_tests)
 
--- where the plant isn't full there are fewer batches than may exist
+-- if the plant isn't full there are fewer batches than may exist
 pub few-batches : (v : EngineView) → is_full (setup v.cleared) (plant_of v) ≡ false → length v.batches < MAX_LIVE_BATCHES
 few-batches v h =
     let count = length (map (batch_of v.cleared) v.batches) in

@@ -77,7 +77,7 @@ length-batches slab (e ∷ es) h =
 pub in-entries : (r : BatchList) (slab : Slab Batch) (es : List Entry) (i : ℕ) → list_of slab es ≡ r → Occupied slab es → i < length r.batches → i < length es
 in-entries r slab es i e h l = omega (arith, ap (λ (z : BatchList). length z.batches) e, length-batches slab es h, l)
 
--- what is under an entry's key is the batch at its index
+-- the batch under an entry's key is the one at the entry's index
 pub batch-read : (slab : Slab Batch) (es : List Entry) (i : ℕ) (d : Entry) (b : Batch) → Occupied slab es → i < length es → get slab (get_or es i d).key ≡ Some b → b ≡ get_or (batches_in slab es) i b
 batch-read slab [] i d b h l e = absurd (omega arith)
 batch-read slab (x ∷ xs) zero d b h l e = sym (ap (λ ys. get_or ys 0 b) (cons-some (get slab x.key) b (batches_in slab xs) e))

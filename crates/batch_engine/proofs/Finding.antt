@@ -1,4 +1,4 @@
--- What is found at a batch of the engine.
+-- The results of look-ups at a batch of the engine.
 use Rattle.std.proofs.Common.{◌≡◌, ◌<◌, ◌≤◌, refl, sym, ◌∙◌, ap, ap₂, subst, subst₂, ◌+◌, ℕ, zero, suc, List, [], ◌∷◌, true, Option, Some, inl, inr, arith, length, get_or, map}
 use Rattle.std.specs.Prelude.{option_map, slice_get}
 use Rattle.std.proofs.lemmas.List.Quantifiers.{position-Some}
@@ -46,7 +46,7 @@ Has-get [] i x e = absurd cc
 Has-get (y ∷ xs) zero x e = inl cc
 Has-get (y ∷ xs) (suc i) x e = inr (Has-get xs i x e)
 
--- what is read at an index
+-- the element that is read at an index
 pub got-batch : (v w : EngineView) (i : ℕ) (b : Batch) → w ≡ v → i < length v.batches → b ≡ get_or w.batches i b → slice_get v.batches i ≡ Some b
 got-batch v w i b e l h = slice_get_read v.batches (length v.batches) i b refl l (h ∙ ap (λ (z : EngineView). get_or z.batches i b) e)
 
@@ -169,7 +169,7 @@ module _ (v : EngineView) (k : IsKept v) (i : ℕ) (b : Batch) (at : slice_get v
       Granting.grants-first (setup v.cleared) (plant_of v) (batch_of v.cleared b) (tree_of v.cleared b) tree-placed batch-runs.runs.alive.stands j l
       (step-place (tree_of v.cleared b) j tree-placed asks.0 (omega (arith, asks.1))) asks served before
 
-  -- nobody before `from` is served, and nobody from there on to `node` is in line
+  -- no act before `from` is served, and none from there on to `node` is in line
   pub goes-on : (x : document.Recipe) → slice_get v.cleared.recipes b.recipe ≡ Some x → (from node : ℕ) → ((j l : ℕ) → j < from → asks_here j l → served_here j l → ⊥)
       → ((t : Tree) → IsChartOf t x → IsRunningOf t b.running → (j l : ℕ) → from ≤ j → j < node → AsksAt t (remains t b.running) j l → ⊥)
       → (j l : ℕ) → j < node → asks_here j l → served_here j l → ⊥
@@ -187,7 +187,7 @@ module _ (v : EngineView) (k : IsKept v) (i : ℕ) (b : Batch) (at : slice_get v
       (acts-rise (0 ∷ []) t (remains t b.running) tree-placed batch-runs.runs.alive.stands) x.2 y.2 refl in
       let r : l ≡ m = cc in r
 
-  -- the act at `node` isn't first in line, so nobody up to it is served
+  -- the act at `node` isn't first in line, so none up to it is served
   pub passed : (x : document.Recipe) → slice_get v.cleared.recipes b.recipe ≡ Some x → (from node need q : ℕ) → ((j l : ℕ) → j < from → asks_here j l → served_here j l → ⊥)
       → ((t : Tree) → IsChartOf t x → IsRunningOf t b.running → (j l : ℕ) → from ≤ j → j < node → AsksAt t (remains t b.running) j l → ⊥)
       → asks_here node need → number_of v.cleared (need_at (tree_of v.cleared b) node need).resource ≡ Some q → (first_here q node → ⊥)

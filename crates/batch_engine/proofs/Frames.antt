@@ -47,7 +47,7 @@ ServesBefore c s t b =
     (step : Step) (task : Task) (held : ℕ) (need : Need) → Has (acts b.rest) (asking step task held) → slice_get step.needs held ≡ Some need
     → is_served c t need (b.number, step.place) ≡ true → is_served c s need (b.number, step.place) ≡ true
 
--- what an act can do in t it can do in s, where it isn't newly served
+-- a move that an act can make in t it can make in s, if it isn't newly served
 act-before : (c : Setup) (s t : Plant) (b : Batch) → ServesBefore c s t b → (a : Rest) → Has (acts b.rest) a → (m : Move) → act_move c t b a ≡ Some m → act_move c s b a ≡ Some m
 act-before c s t b h (ready p w k) i m e = e
 act-before c s t b h (asking p w k) i m e = go (slice_get p.needs k) refl e
@@ -70,7 +70,7 @@ act-before c s t b h (in_par rs) i m e = e
 act-before c s t b h (in_loop n q body r) i m e = e
 act-before c s t b h done i m e = e
 
--- a batch without a move has none where none of its acts is newly served
+-- a batch without a move has none if none of its acts is newly served
 pub lines-alone : (c : Setup) (s t : Plant) (b : Batch) → ServesBefore c s t b → batch_moves c s b ≡ [] → batch_moves c t b ≡ []
 lines-alone c s t b h none =
     no-elements (batch_moves c t b) (λ m i. gone m (⊎_elim

@@ -82,7 +82,7 @@ module _ (c : Setup) (s : Plant) (b : Model.Batch) (t : Tree) (placed : IsPlaced
       let n = asks-node m g in
       subst₂ (λ (x : Need) (y : Place). is_served c s x (b.number, y) ≡ true) n.5 n.4 g.served
 
-  -- where no act in line is served there is no grant
+  -- if no act in line is served there is no grant
   pub grants-none : ((k i : ℕ) → AsksAt t b.rest k i → Served k i → ⊥) → grants c s b ≡ []
   grants-none none = no-elements (grants c s b) (λ m h.
       let a = Has-filter_map (grant_move c s b) (acts b.rest) m h in

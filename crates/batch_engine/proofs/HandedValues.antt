@@ -49,7 +49,7 @@ set-value vs ns xs i x small is below k l = elim (cases_lt k i) [
       subst (λ j. get_or (set xs i x) j 0 ≡ value_or_0 vs (get_or ns j [])) same (get_or-set_same xs i x 0 small ∙ is)
 ]
 
--- What an act hands on
+-- The names of the values that the phase of an act is handed
 
 abbrev pub handed_with : Work → List Name
 handed_with (Follows chart) = []
@@ -159,7 +159,7 @@ few-handed r k a phase values reports e f =
     let w = stood-work names r.acts a s.0 (works names r.acts r.well_formed) s.1 in
     work-few w.0 names a.work phase values reports f w.1
 
--- What is told of a node, by what `act_at` gives
+-- The same at a node, by the result of `act_at`
 
 pub told-handed : (r : Recipe) (k : ℕ) (a : Option Act) → (k < length (procedure_nodes r.acts) → slice_get (procedure_acts r.acts) k ≡ Some a)
     → (length (procedure_nodes r.acts) ≤ k → a ≡ None) → handed_of (node_of k r) ≡ act_handed a

@@ -1,4 +1,4 @@
--- The batch that holds a unit is found by what is noted of it.
+-- The batch that holds a unit is found by the note on the unit.
 use Rattle.std.proofs.Common.{◌≡◌, ◌<◌, refl, sym, ◌∙◌, ap, subst, subst₂, ℕ, List, true, false, Option, Some, None, arith, get_or, length, nat_eq}
 use Rattle.std.specs.Prelude.{IfSome, slice_get, position}
 use Rattle.batch_cell.specs.LookUps.{capacities_of}
@@ -30,7 +30,7 @@ use Rattle.batch_engine.proofs.Noted.{live-noted, move-noted, noted-length, repl
 use Rattle.batch_engine.proofs.Told.{down}
 use Rattle.batch_engine.proofs.Unmarked.{found-nowhere, found-there, number-named, same-count, step-move}
 
--- what has capacity 1 is a resource
+-- a name of capacity 1 is a resource's
 known-capacity : (c : ClearedSet) (name : Name) → (setup c).capacity name ≡ 1 → (q : ℕ) × (number_of c name ≡ Some q)
 known-capacity c name one = go (number_of c name) refl
   where
@@ -74,7 +74,7 @@ module _ (v : EngineView) (k : IsKept v) (hs : List ℕ) (are : AreNoted v hs) (
       pub live-elsewhere : (j : ℕ) (d : Batch) → slice_get v.batches j ≡ Some d → (j ≡ i → ⊥) → live_at d ≡ None
       live-elsewhere j d at other = not-live j d at (λ q e f. other (found-there v k number i j d here at (same-noted q d.number e f)))
 
--- What is noted of a line
+-- The note of a line
 
 line-noted : (v : EngineView) → IsKept v → (line : Line) → IfSome (touched_by line) (λ q. q < resource_count v.allocation) → (hs : List ℕ) → noted_by line hs ≡ noted (number_of v.cleared) (move_of v.cleared line) hs
 line-noted v k (Line.Claim ClaimKind.Granted batch recipe node q units) known hs =

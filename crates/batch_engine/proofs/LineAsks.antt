@@ -1,4 +1,4 @@
--- How many asks of a batch stand in each line: as many as its acts that wait for the resource.
+-- The number of a batch's asks in each line: that of its acts that wait for the resource.
 use Rattle.std.proofs.Common.{◌≡◌, ◌⊎◌, ◌<◌, ◌≤◌, ◌+◌, ◌&&◌, refl, sym, ◌∙◌, ap, subst, subst₂, ℕ, zero, suc, List, [], ◌∷◌, Bool, true, false, Option, Some, inl, inr, ⊎_elim, arith, cond, length, filter, map, get_or, replicate, set, nat_eq, nat_lt}
 use Rattle.std.specs.Prelude.{slice_get, slice_index}
 use Rattle.std.proofs.lemmas.Bool.{and_parts, cases_eq}

@@ -1,4 +1,4 @@
--- What the acts of a batch need and run, by the numbers of its linked recipe.
+-- The needs and the phases of the acts of a batch, by the numbers of its linked recipe.
 use Rattle.std.proofs.Common.{◌≡◌, ◌<◌, refl, sym, ◌∙◌, ap, subst, ℕ, List, true, Option, None, Some, arith, length}
 use Rattle.std.specs.List.{list_any}
 use Rattle.std.specs.Prelude.{slice_get, position, unwrap_or, option_and_then, option_map}
@@ -52,7 +52,7 @@ use Rattle.batch_engine.proofs.NumbersFound.{act-here}
 use Rattle.batch_engine.proofs.Taken.{source-number, unit-numbers}
 use Rattle.batch_engine.proofs.Telling.{tree-is}
 
--- What stands at an entry
+-- The contents of an entry
 
 -- an entry of a phase step
 phase-kind : (k : entry.Kind) (needs detail j i : ℕ) → kind_by k needs detail ≡ kind_by (at_level Phases i) j 0 → k ≡ at_level Phases i
@@ -91,7 +91,7 @@ run-by r step phase e = go (slice_get r.acts.phases.items step) refl e
     go None at f = absurd cc
     go (Some a) at f = (a, at, same a.work ∙ f)
 
--- these are the numbers of what the tree runs, if it runs a phase
+-- these are the numbers of the phase that the tree runs, if it runs one
 record IsRun (c : ClearedSet) (here : Tree) (p : PhaseNumber) : Type 0 where
   unit_is : resource_name c p.unit ≡ (phase_in (task_of here)).unit
   name_is : Names.phase_name c p.unit p.phase ≡ (phase_in (task_of here)).name

@@ -53,7 +53,7 @@ IsQuiet (Start k) = Unit {0}
 IsQuiet (End k) = Unit {0}
 IsQuiet _ = ⊥
 
--- what the engine becomes by a move
+-- the engine after a move
 pub record Becomes (v : EngineView) (w : EngineView) (m : Moves.Move) : Type 0 where
   pub kept : IsKept w
   pub plant : plant_of w ≡ after (plant_of v) m
@@ -65,7 +65,7 @@ same-next v m l e f = let g : ◌≡◌ {A = Option Moves.Move} (Some m) (Some l
 pub of-batch : (t : Tree) (b : Model.Batch) (m : Move) → batch_of (move_of t b m) ≡ b.number
 of-batch t b m = grind arith
 
--- what a move but a change of state makes of a batch is what it makes of its rest
+-- a move but a change of state changes a batch as it changes its rest
 abbrev pub Runs : Move → Type 0
 Runs (State x) = ⊥
 Runs _ = Unit {0}
@@ -134,7 +134,7 @@ module _ (v : EngineView) (k : IsKept v) (i : ℕ) (b : Batch) (at : slice_get v
       subst (λ (z : Model.Batch). Has (batch_moves (setup v.cleared) (plant_of v) z) l)
       (one_batch v.next_number (plant_of v).batches d.0 (View.batch_of v.cleared b) (standing v k).numbers d.1 (Has-batch_of v.cleared v.batches b (has v k i b at)) number) d.2
 
-  -- what it passes a unit to isn't reached, and holds nothing in advance
+  -- the act that it passes a unit to isn't reached, and holds nothing in advance
   awaits : (m : Move) → IsNext v (move_of (tree_of v.cleared b) (View.batch_of v.cleared b) m) → Awaits (tree_of v.cleared b) (View.batch_of v.cleared b).rest (View.batch_of v.cleared b).in_advance m
   awaits (Pass node to need) is =
       pass-awaits (setup v.cleared) k.cleared.0 k.tracked.outs (plant_of v) (standing v k) (safe v k) (View.batch_of v.cleared b) (Has-batch_of v.cleared v.batches b (has v k i b at))
@@ -326,7 +326,7 @@ module _ (v : EngineView) (k : IsKept v) (i : ℕ) (b : Batch) (at : slice_get v
           go None = refl
           go (Some j) = refl
 
-  -- what an act passes on it could as well give back
+  -- a need that an act passes on it could as well give back
   pub as-released : (node to need : ℕ) → StandsFor (tree_of v.cleared b) (remains (tree_of v.cleared b) b.running) (Pass node to need)
       → StandsFor (tree_of v.cleared b) (remains (tree_of v.cleared b) b.running) (Release node need)
   as-released node to need s = (s.0, s.2, s.3)

@@ -31,7 +31,7 @@ pub test-other' : (m n : ℕ) → n < m → nat_eq m n ≡ false
 test-other' m n l = grind arith
 
 module _ (c : ClearedSet) (next : ℕ) (b' : Batch) where
-  -- places stay where one batch is changed and keeps its number, its recipe and its units
+  -- places stay if one batch is changed and keeps its number, its recipe and its units
   pub place-same : (bs : List Batch) (i : ℕ) (b : Batch) → slice_get bs i ≡ Some b → b'.number ≡ b.number → made_by b' ≡ made_by b → (n j : ℕ)
       → place_in c (set bs i b') n j ≡ place_in c bs n j
   place-same [] i b e p q n j = absurd cc

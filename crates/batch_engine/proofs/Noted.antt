@@ -1,4 +1,4 @@
--- Who holds the one unit of a resource.
+-- The holder of the one unit of a resource.
 use Rattle.std.proofs.Common.{◌≡◌, ◌≤◌, ◌<◌, ⊎_elim, refl, sym, ◌∙◌, ap, subst, ℕ, zero, suc, List, [], ◌∷◌, ◌++◌, Bool, true, false, ◌&&◌, Option, Some, None, inl, inr, arith, length, nat_eq}
 use Rattle.std.specs.Prelude.{slice_get, slice_set}
 use Rattle.std.proofs.lemmas.Bool.{and_parts}
@@ -79,7 +79,7 @@ found-live b unit name (in_par ps ∷ rs) l e = let m = found-live b unit name r
 found-live b unit name (in_loop n c body r ∷ rs) l e = let m = found-live b unit name rs l e in (m.0, m.1, m.2, inr m.3, m.4)
 found-live b unit name (done ∷ rs) l e = let m = found-live b unit name rs l e in (m.0, m.1, m.2, inr m.3, m.4)
 
--- What is told
+-- The notes and the record
 
 module _ (c : Setup) (rank : Ranking) (down : AreClearedDown c rank) (events : List Event) (outs : List Out) (s : Plant) (leads : Leads c opening events outs s) where
   safe : IsKept c rank outs s
@@ -130,7 +130,7 @@ module _ (c : Setup) (rank : Ranking) (outs : List Out) (s : Plant) (sd : IsStan
   mover : (m : Move) → next c s ≡ Some m → (b : Batch) × Has s.batches b × Has (batch_moves c s b) m
   mover m is = Has-flat_map (batch_moves c s) s.batches m (next-possible c s m is)
 
-  -- whoever passes on a need holds it
+  -- the act that passes on a need holds it
   next-told : (n : ℕ) (p to : Place) (r : Need) → next c s ≡ Some (pass n p to r) → Has (holders_told outs r.resource) (record { act = (n, p); units = r.units })
   next-told n p to r is = let d = mover (pass n p to r) is in pass-told c rank outs s sd k d.0 d.1 n p to r d.2
 
@@ -158,7 +158,7 @@ module _ (c : Setup) (rank : Ranking) (down : AreClearedDown c rank) (events : L
     old = told-noted c rank down events outs s leads number hs are
 
     module _ (within : (name : Name) (q : ℕ) → number name ≡ Some q → q < length hs) where
-      -- of a resource that the move is not of, what is noted stays
+      -- the note on a resource that the move is not of stays
       untouched : (r : Need) (n : ℕ) (name : Name) (q : ℕ) → number name ≡ Some q → same_name name r.resource ≡ false
           → slice_get (elim (nat_eq r.units 1) [ true ↦ noted_for (number r.resource) n hs | false ↦ hs ]) q ≡ slice_get hs q
       untouched r n name q e f = go (nat_eq r.units 1) (number r.resource) refl
@@ -225,7 +225,7 @@ module _ (c : Setup) (rank : Ranking) (down : AreClearedDown c rank) (events : L
               (λ g. absurd g) j)
               (Has-split (holders_told outs name) (new ∷ []) a i)
 
-      -- nobody holds more after a move that is no grant
+      -- no act holds more after a move that is no grant
       fewer : ((name : Name) (a : Share) → Has (holders_after name (holders_told outs name) (move m)) a → Has (holders_told outs name) a) → AreNotedBy number c (after s m) hs
       fewer held name q e one a h units =
           let seen : IsTold (outs ++ move m ∷ []) (after s m) = told c rank down events (outs ++ move m ∷ []) (after s m) later in
@@ -244,7 +244,7 @@ module _ (c : Setup) (rank : Ranking) (down : AreClearedDown c rank) (events : L
       before : (b : Share) → Has (holders_told outs name) b → b.units ≡ 1 → slice_get hs q ≡ Some b.act.0
       before b i u = old (pass n p to r) is name q e one b i u
 
-      -- whoever passed it on held it
+      -- the act that passed it on held it
       passed : same_name name r.resource ≡ true → new ≡ a → slice_get hs q ≡ Some a.act.0
       passed f g =
           before (record { act = (n, p); units = r.units })

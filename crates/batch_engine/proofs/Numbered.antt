@@ -1,4 +1,4 @@
--- What a cleared recipe's acts need and run has numbers.
+-- The resources that a cleared recipe's acts need and the phases that they run have numbers.
 use Rattle.std.proofs.Common.{◌≡◌, ◌<◌, refl, sym, ◌∙◌, ap, subst, ℕ, List, [], ◌∷◌, ◌++◌, Bool, true, false, if◌then◌else◌, Option, Some, None, arith, length, map, filter, nat_lt}
 use Rattle.std.specs.Prelude.{slice_get, position, unwrap_or, IsTrue}
 use Rattle.std.specs.List.{list_any, list_all}
@@ -59,7 +59,7 @@ offering-unit units (m ∷ ms) unit phase d h = go (belongs_to unit m) refl (off
         (subst (λ (ns : List Name). list_any (same_name phase) (ns ++ unit_phases ms unit) ≡ true)
         (ap (λ (t : Bool). let ns : List Name = if t then m.phases.items else [] in ns) e) h)
 
--- Numbers name what they are of
+-- Numbers lead back to their names
 
 module _ (cell : Cell) (unit phase : Name) (offers : list_any (same_name phase) (unit_phases cell.modules.items unit) ≡ true) where
   pub unit-number : (q : ℕ) × (position (same_name unit) (units_of cell) ≡ Some q)

@@ -49,7 +49,7 @@ react-order v i command n o =
       | true ↦ (ordered command o.batch.number (target command), record (in_batch o.batch.number (commanded command) (plant_of v)) { line = lines_under command o.batch.number (line_in v) })
     ] in a) o.accepted
 
--- what an order makes of the engine
+-- the effect of an order on the engine
 pub record Ordered (v : EngineView) (w : EngineView) (command : Command) (n : ℕ) : Type 0 where
   pub kept : IsKept w
   pub reacts : Reacts (setup v.cleared) (plant_of v) (order command n) (ordered command n (target command)) (plant_of w)

@@ -42,7 +42,7 @@ Has-other n f (c ∷ bs) b h (inl e) other = inl (go (nat_eq c.number n) refl e)
     go false q w = w
 Has-other n f (c ∷ bs) b h (inr i) other = inr (Has-other n f bs b h i other)
 
--- what an answer leaves: no more batches than may be, and each but the one that the reply names was there before
+-- the batches after an answer: no more than may be, and each but the one that the reply names was there before
 record Leaves (c : Setup) (s : Plant) (a : Answer) : Type 0 where
   few : length s.batches ≤ c.batch_limit → length a.1.batches ≤ c.batch_limit
   others : (b : Batch) → Has a.1.batches b → (named a.0 ≡ Some b.number → ⊥) → Has s.batches b
@@ -166,7 +166,7 @@ module _ (c : Setup) (s : Plant) where
   reacts-leaves e r t (inl h) = subst (Leaves c s) h (react-leaves e)
   reacts-leaves e r t (inr h) = subst (λ (z : Plant). Leaves c s (r, z)) (sym h.2) (same r)
 
--- How many batches there are
+-- The number of batches
 
 leads-few : (c : Setup) (s t : Plant) (es : List Event) (outs : List Out) → length s.batches ≤ c.batch_limit → Leads c s es outs t → length t.batches ≤ c.batch_limit
 leads-few c s t [] [] k h = subst (λ (z : Plant). length z.batches ≤ c.batch_limit) h k
@@ -180,12 +180,12 @@ batches-are-few c events outs s h = leads-few c opening s events outs (omega ari
 
 -- Whom the plant serves
 
--- where no asks are withdrawn, the lines stay
+-- if no asks are withdrawn, the lines stay
 lines-stay : (q : Name) (line : List Share) (r : Reply) → withdraws r ≡ false → waiters_after q line (reply r) ≡ line
 lines-stay q line r h = grind arith
 
 module _ (c : Setup) (outs : List Out) (s : Plant) (told : IsTold outs s) (settled : next c s ≡ None) where
-  -- after an event no batch has a move but the one that the reply names, and where asks were withdrawn, those that are served
+  -- after an event no batch has a move but the one that the reply names, and if asks were withdrawn, those that are served
   pub others-none : (e : Event) (r : Reply) (t : Plant) → Reacts c s e r t → IsTold (outs ++ reply r ∷ []) t → (b : Batch) → Has t.batches b → (named r ≡ Some b.number → ⊥)
       → (withdraws r ≡ true → ServesBefore c s t b) → batch_moves c t b ≡ []
   others-none e r t reacts after_told b here other withdrawn =

@@ -1,4 +1,4 @@
--- What a pass goes to isn't reached, and holds nothing in advance yet.
+-- The act that a pass goes to isn't reached, and holds nothing in advance.
 use Rattle.std.proofs.Common.{arith, ◌≡◌, refl, sym, ◌∙◌, ap, ap₂, subst, ℕ, zero, suc, List, [], ◌∷◌, ◌++◌, length, map, take, Bool, true, false, Option, Some, None, inl, inr, ⊎_elim, append-nil, find, nat_eq}
 use Rattle.std.specs.Prelude.{⊤, ◌&&◌, ◌||◌, slice_get, option_and_then}
 use Rattle.std.specs.List.{list_any}
@@ -151,7 +151,7 @@ module _ (b : Batch) where
 same_need : (x y : Need) → ◌≡◌ {A = Option Need} (Some x) (Some y) → x ≡ y
 same_need x y e = cc
 
--- what stands of an act stands of the rest
+-- a fact of an act is one of the rest
 mutual
   act-fact : (r a : Rest) (e : Standing) → Has (acts r) a → Has (facts a) e → Has (facts r) e
   act-fact (ready s w k) a e (inl q) m = subst (λ z. Has (facts z) e) (sym q) m
@@ -187,7 +187,7 @@ mapped-held [] q h = absurd h
 mapped-held (x ∷ xs) q (inl e) = (x, inl refl, e)
 mapped-held (x ∷ xs) q (inr h) = let m = mapped-held xs q h in (m.0, inr m.1, m.2)
 
--- where no act stands, none is reached
+-- at a place without an act none is reached
 pub nowhere-reached : (r : Rest) (p : Place) → Nowhere p (acts r) → is_reached r p ≡ false
 nowhere-reached r p none = go (is_reached r p) refl
   where
@@ -202,7 +202,7 @@ module _ (d : Setup) (rank : Ranking) (outs : List Out) (s : Plant) (sd : IsStan
   here : IsStandingBatch d b
   here = standing-of d s sd b i
 
-  -- what a batch holds in advance isn't reached
+  -- a place of a batch that holds in advance isn't reached
   pub held-waits : (held : InAdvance) → Has b.in_advance held → is_reached b.rest held.place ≡ false
   held-waits held j =
       nowhere-reached b.rest held.place
@@ -239,7 +239,7 @@ module _ (d : Setup) (rank : Ranking) (outs : List Out) (s : Plant) (sd : IsStan
             unit_is = λ held h at. same_need held.unit r (sym (h alone.0 alone.1 (alone.2 ∙ sym at)) ∙ match alone.0 alone.1 alone.2);
           }
 
-  -- whoever passes on a need holds it
+  -- the act that passes on a need holds it
   pub pass-told : (n : ℕ) (p to : Place) (r : Need) → Has (batch_moves d s b) (pass n p to r) → Has (holders_told outs r.resource) (record { act = (n, p); units = r.units })
   pass-told n p to r h =
       let m = pass-act b d s n p to r h in
@@ -276,7 +276,7 @@ module _ (d : Setup) (rank : Ranking) (outs : List Out) (s : Plant) (sd : IsStan
             sums-without_once (λ (z : Share). z.units) old (holders_told outs q) (k.held q).3 has,
           )
 
-  -- what a move of the batch passes a unit to isn't reached, and holds nothing in advance
+  -- the act that a move of the batch passes a unit to isn't reached, and holds nothing in advance
   pub pass-awaits : (n : ℕ) (p to : Place) (r : Need) → Has (batch_moves d s b) (pass n p to r)
       → (is_reached b.rest to ≡ false) × (list_any (same_place to) (map (λ (x : InAdvance). x.place) b.in_advance) ≡ false)
   pass-awaits n p to r h =

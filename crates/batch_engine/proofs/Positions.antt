@@ -1,4 +1,4 @@
--- Where no element of a list passes a test.
+-- Lists of which no element passes a test.
 use Rattle.std.proofs.Common.{ℕ, ◌≡◌, ◌<◌, ◌≤◌, List, length, get_or, refl, Bool, true, false, cond, arith, Option, Some, None}
 use Rattle.std.specs.Prelude.{nat_lt, position}
 use Rattle.std.specs.List.{position_or_len}

@@ -12,7 +12,7 @@ use Rattle.batch_engine.specs.Names.{roles_of}
 pub names-differ : (r : Recipe) → are_distinct (roles_of r) ≡ true
 names-differ r = (and_parts (are_distinct (roles_of r)) (list_all (is_role_among (roles_of r)) r.acts.unit_procedures.items) r.own_roles).0
 
--- What pairs bind a role to
+-- The unit that pairs bind a role to
 
 or-none : (a b : Bool) → (a || b) ≡ false → (a ≡ false) × (b ≡ false)
 or-none true b e = absurd cc

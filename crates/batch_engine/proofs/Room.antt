@@ -24,7 +24,7 @@ needs-same c (x ∷ bs) zero b b' e r =
 needs-same c (x ∷ bs) (suc i) b b' e r =
     omega (arith, sum_by-cons (λ (z : Batch). needs_in (tree_of c z)) x (set bs i b'), sum_by-cons (λ (z : Batch). needs_in (tree_of c z)) x bs, needs-same c bs i b b' e r)
 
--- the same, where the batch is read at the index
+-- the same, if the batch is read at the index
 pub needs-set : (c : ClearedSet) (r : BatchList) (i : ℕ) (b b' : Batch) → b ≡ get_or r.batches i b → made_by b' ≡ made_by b → (needs : ℕ) → needs ≡ needs_of_all c r.batches
     → needs ≡ needs_of_all c (with_batch_at i r b').batches
 needs-set c r i b b' at made needs e = e ∙ sym (go r.batches i at)
@@ -40,7 +40,7 @@ needs-set c r i b b' at made needs e = e ∙ sym (go r.batches i at)
 pub needs-added : (c : ClearedSet) (bs : List Batch) (b : Batch) → needs_of_all c (bs ++ b ∷ []) ≡ needs_of_all c bs + needs_in (tree_of c b)
 needs-added c bs b = sum_by_push (λ (z : Batch). needs_in (tree_of c z)) bs b
 
--- a batch that is taken out takes its needs with it
+-- the removal of a batch takes its needs from the sum
 pub needs-removed : (c : ClearedSet) (bs : List Batch) (i : ℕ) (b : Batch) → slice_get bs i ≡ Some b → needs_of_all c (remove bs i) + needs_in (tree_of c b) ≡ needs_of_all c bs
 needs-removed c [] i b e = absurd cc
 needs-removed c (x ∷ bs) zero b e =

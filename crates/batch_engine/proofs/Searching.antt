@@ -1,4 +1,4 @@
--- What a binary search finds among the numbers of entries.
+-- The result of a binary search among the numbers of entries.
 use Rattle.std.proofs.Common.{◌≡◌, ◌<◌, ◌≤◌, inl, inr, ◌+◌, refl, sym, ◌∙◌, ap, ap₂, ℕ, zero, suc, List, [], ◌∷◌, Bool, true, false, cond, not, Some, None, Result, Ok, Err, arith, length, map, get_or, nat_eq}
 use Rattle.std.specs.Prelude.{nat_lt, position}
 use Rattle.std.specs.List.{position_or_len}

@@ -38,7 +38,7 @@ use Rattle.batch_engine.proofs.Stepping.{changed}
 use Rattle.batch_engine.proofs.Telling.{tree-is}
 use Rattle.batch_recipe.proofs.Setting.{same-at}
 
--- the batch at an index, and what is kept of the engine
+-- the batch at an index, and the invariant of the engine
 pub record IsRead (v : EngineView) (i : ℕ) (b : Batch) : Type 0 where
   pub kept : IsKept v
   pub at : slice_get v.batches i ≡ Some b
@@ -120,12 +120,12 @@ found-here {v} {w} {n} {i} {b} e k p h =
 
 -- The act at a node of the batch
 
--- where a move of it gives back a need, passes it on, or asks for it
+-- if a move of it gives back a need, passes it on, or asks for it
 pub needs-there : {v : EngineView} {ns : Numbers} {x : document.Recipe} {node need : ℕ} {b : Batch} (i : ℕ) → ns ≡ v.numbers → IsKept v → slice_get v.batches i ≡ Some b
     → slice_get v.cleared.recipes b.recipe ≡ Some x → node < node_count (tree_of v.cleared b) → need < length (step_at (tree_of v.cleared b) node).needs → IsNeedAt v ns x b node need
 needs-there i e k at listed few less = record { kept = k; numbers_are = e; index = i; at = at; listed = listed; few = few; less = less }
 
--- what is read of the numbers of its recipe
+-- the numbers of its recipe, as they are read
 pub numbers-read : {v : EngineView} {ns : Numbers} {i q : ℕ} {b : Batch} {x : RecipeNumbers} → ns ≡ v.numbers → IsRead v i b → q ≡ b.recipe → x ≡ get_or ns.recipes.items q x
     → slice_get v.numbers.recipes.items b.recipe ≡ Some x
 numbers-read {v} {ns} {i} {q} {b} {x} e r is h = got-numbers v ns q b.recipe x e is (in-numbers v r.kept i b r.at) h
@@ -144,7 +144,7 @@ entry-read {v} {i} {node} {k} {b} {x} {e} r listed few is h =
 
 -- Once another batch of its number, its recipe and its units stands there
 
--- what is kept of the fields, where the arbiter became what f makes of it
+-- the invariant of the fields, where f changed the arbiter
 pub counted-set : {v : EngineView} {c : ClearedSet} {ns : Numbers} {r : BatchList} {n needs : ℕ} {a a' : Allocation} {b : Batch} (i : ℕ) (b' : Batch) (f : Allocation → Allocation)
     → seen c ns r.batches n a ≡ v → IsCounted r needs (seen c ns r.batches n a) → b ≡ get_or r.batches i b → b'.number ≡ b.number → made_by b' ≡ made_by b
     → a' ≡ f a → IsKept (changed v i b' (f v.allocation)) → IsCounted (with_batch_at i r b') needs (changed (seen c ns r.batches n a) i b' a')

@@ -20,7 +20,7 @@ module _ (v : EngineView) (k : IsKept v) (i : ℕ) (b : Batch) (at : slice_get v
       let n = served-named v need (b.number, place_at (tree_of v.cleared b) j) served in
       (n.0, known-resource v k need.resource n.0 n.1, serves-first v k i b at j l n.0 asks n.1 served)
 
-  -- where nobody before a node is served, nobody is before one that is skipped to
+  -- if no act before a node is served, none is before one that is skipped to
   pub skipped : (from to : ℕ) → AreUnserved v b.number from to → ((j l : ℕ) → j < from → asks_here v k i b at j l → served_here v k i b at j l → ⊥)
       → (j l : ℕ) → j < to → asks_here v k i b at j l → served_here v k i b at j l → ⊥
   skipped from to unserved before j l lt asks served = elim (within-or_past j from) [

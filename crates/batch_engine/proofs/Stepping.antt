@@ -1,4 +1,4 @@
--- What is kept when one batch makes the next move.
+-- The invariant when one batch makes the next move.
 use Rattle.std.proofs.Common.{◌≡◌, ◌<◌, refl, sym, ◌∙◌, ap, ap₂, subst, ℕ, zero, suc, List, [], ◌∷◌, ◌++◌, Option, Some, None, length, map, set}
 use Rattle.std.specs.Prelude.{slice_get}
 use Rattle.batch_recipe.specs.Conditions.{Name}

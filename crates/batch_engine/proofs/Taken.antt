@@ -42,7 +42,7 @@ unit-numbers c u l =
     let number : number_of c (resource_name c u) ≡ Some u = number-at c u (resource_name c u) (name-there (resources_of c.cell) u (omega (arith, few, more))) in
     (number, resource_is_unit (same_name (resource_name c u)) units c.cell.modules.items c.cell.shared.items u number few)
 
--- a unit of the cell has this number among the units where it has it among the resources
+-- a unit of the cell has this number among the units if it has it among the resources
 pub unit-is_resource : (c : ClearedSet) (name : Name) (q u : ℕ) → number_of c name ≡ Some q → u < length (units_of c.cell)
     → (q ≡ u → position (same_name name) (units_of c.cell) ≡ Some u) × (position (same_name name) (units_of c.cell) ≡ Some u → q ≡ u)
 unit-is_resource c name q u number below =

@@ -1,4 +1,4 @@
--- What a line tells of a move.
+-- The line of a move.
 use Rattle.std.proofs.Common.{◌≡◌, ◌<◌, refl, sym, ◌∙◌, ap, ap₂, subst, ℕ, zero, suc, List, [], ◌∷◌, Option, Some, None, arith, length, get_or}
 use Rattle.std.specs.Prelude.{slice_get, option_map, unwrap_or}
 use Rattle.std.specs.List.{zip}
@@ -29,7 +29,7 @@ use Rattle.batch_engine.specs.Kept.{IsKept}
 use Rattle.batch_engine.proofs.Finding.{known-resource, named, batch-runs, master-found}
 use Rattle.batch_engine.proofs.AlikeNodes.{place-alike, name-alike, handed-alike}
 
--- What is told of a node, and what its tree has there
+-- The place, the name and the values of a node, by its number and by its tree
 
 place-seen : (ns : List Node) (k : ℕ) → Names.place_of (slice_get ns k) ≡ (get_or ns k (record { place = []; asked = []; here = skip })).place
 place-seen [] k = refl

@@ -80,7 +80,7 @@ same-index c next (x ∷ bs) (suc i) zero b d k e f q =
     absurd (let n : x.number ≡ d.number = ap (λ (z : Batch). z.number) g in omega (arith, above, n, q))
 same-index c next (x ∷ bs) (suc i) (suc j) b d k e f q = ap suc (same-index c next bs i j b d k.2 e f q)
 
--- Where the batch with a number is found
+-- The index of the batch with a number
 
 pub found-there : (v : EngineView) → IsKept v → (number j i : ℕ) (b : Batch) → position (λ (d : Batch). nat_eq d.number number) v.batches ≡ Some j → slice_get v.batches i ≡ Some b → b.number ≡ number → i ≡ j
 found-there v k number j i b p at n =
@@ -95,7 +95,7 @@ found-nowhere v number i b p at n =
 pub found-within : (v : EngineView) (number j : ℕ) → position (λ (d : Batch). nat_eq d.number number) v.batches ≡ Some j → j < length v.batches
 found-within v number j p = let q = found-at v number j p in slice_get_within v.batches j q.batch q.at
 
--- Who is served
+-- Acts that are served
 
 pair-first : (a b m n : ℕ) → ◌≡◌ {A = Option (ℕ × ℕ)} (Some (a, b)) (Some (m, n)) → a ≡ m
 pair-first a b m n e = ap (λ (o : Option (ℕ × ℕ)). let r : ℕ = elim o [ None ↦ 0 | Some z ↦ z.0 ] in r) e
@@ -109,7 +109,7 @@ first-served v k resource number node e (Some j) p = (
   λ i h. found-there v k number j i h.0 (sym p) h.1 (pair-first h.0.number h.2.0 number node (sym h.2.1 ∙ e)),
 )
 
--- somebody is served of a resource that has a number alone
+-- an act is served of a resource that has a number alone
 pub served-named : (w : EngineView) (need : Need) (a : BatchAct) → is_served (setup w.cleared) (plant_of w) need a ≡ true → (q : ℕ) × (number_of w.cleared need.resource ≡ Some q)
 served-named w need a served = go (number_of w.cleared need.resource) refl
   where
@@ -141,7 +141,7 @@ pub step-move : (v : EngineView) (s : steps.Step) → IsStep v (IsNext v) s → 
 step-move v (Own i m) g = (move_of (tree_of v.cleared g.batch) (batch_of v.cleared g.batch) m, g.is, (g.batch, g.here.at, of-batch (tree_of v.cleared g.batch) (batch_of v.cleared g.batch) m))
 step-move v (Grant i node resource units) g = (_, g.is, (g.batch, g.here.at, refl))
 
--- What stays unmarked after a move
+-- Batches that stay unmarked after a move
 
 module _ (v w : EngineView) (k : IsKept v) (l : IsKept w) (m : Moves.Move) (next_is : IsNext v m) (makes : Makes v w m) where
   told-after : IsTold (k.tracked.outs ++ move m ∷ []) (after (plant_of v) m)
@@ -243,7 +243,7 @@ some-at [] i l = absurd (omega (arith, l))
 some-at (x ∷ xs) zero l = (x, refl)
 some-at (x ∷ xs) (suc i) l = some-at xs i (omega (arith, l))
 
--- where there is no next move, no batch needs a mark
+-- if there is no next move, no batch needs a mark
 pub settled-marked : (v : EngineView) → next (setup v.cleared) (plant_of v) ≡ None → (marks : List ℕ) → AreMarked v marks
 settled-marked v settled marks i less unmarked =
     let b = some-at v.batches i less in
@@ -289,7 +289,7 @@ marked-answered v w k l settled e r answered marks set i less unmarked =
 pub same-some : (m n : ℕ) → ◌≡◌ {A = Option ℕ} (Some m) (Some n) → m ≡ n
 same-some m n e = cc
 
--- no step is found exactly where there is no next move
+-- no step is found exactly if there is no next move
 pub settled-when : (v : EngineView) (o : Option steps.Step) → IsFirstStep v o → (b : Bool) → is_some o ≡ not b
     → (IsTrue b → next (setup v.cleared) (plant_of v) ≡ None) × (next (setup v.cleared) (plant_of v) ≡ None → IsTrue b)
 settled-when v None h true e = (λ f. h, λ f. refl)

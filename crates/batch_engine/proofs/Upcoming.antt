@@ -64,7 +64,7 @@ module _ (v : EngineView) (k : IsKept v) where
       (ap (map (batch_of v.cleared)) r.2 ∙ map-append (batch_of v.cleared) r.0 (l.batch ∷ r.1))
       (Each-image (λ (b : Model.Batch). batch_moves (setup v.cleared) (plant_of v) b ≡ []) (batch_of v.cleared) r.0 r.3) l.least_is
 
-  -- where no batch has a move there is none
+  -- if no batch has a move there is none
   pub none-next : ((j : ℕ) → j < length v.batches → HasNoMove v j) → next (setup v.cleared) (plant_of v) ≡ None
   none-next h =
       next-none (setup v.cleared) (plant_of v)

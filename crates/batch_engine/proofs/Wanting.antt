@@ -1,4 +1,4 @@
--- Where want of memory may be the answer to an event.
+-- Events to which want of memory may be the answer.
 use Rattle.std.proofs.Common.{◌≡◌, ◌⊎◌, Option, Some, None, refl, ap, inl, inr}
 use Rattle.batch_model.specs.Events.{Event, refused, no_memory, moves_pending, judged, Answer}
 use Rattle.batch_model.specs.Moves.{Move, next}

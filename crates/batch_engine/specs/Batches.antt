@@ -17,7 +17,7 @@ no_batches = record { numbers = []; batches = [] }
 abbrev pub with_batch : Batch → BatchList → BatchList
 with_batch b r = record { numbers = r.numbers ++ b.number ∷ []; batches = r.batches ++ b ∷ [] }
 
--- another batch stands at the index
+-- the batches with another batch at the index
 abbrev pub with_batch_at : ℕ → BatchList → Batch → BatchList
 with_batch_at i r b = record r { batches = slice_set r.batches i b }
 

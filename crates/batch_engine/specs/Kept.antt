@@ -1,4 +1,4 @@
--- surface: what the engine keeps.
+-- surface: the invariant of the engine.
 use Rattle.std.specs.Prelude.{◌≡◌, ℕ, ◌+◌, ◌<◌, ◌≤◌, List, length, sum_by, Some}
 use Rattle.batch_cell.specs.LookUps.{capacities_of, units_of}
 use Rattle.batch_recipe.specs.Conditions.{Name}
@@ -19,7 +19,7 @@ use Rattle.batch_engine.specs.Batches.{BatchList, HaveOwnNumbers}
 use Rattle.batch_engine.specs.Numbered.{AreNumbered}
 use Rattle.batch_engine.specs.View.{EngineView, setup, acts_of, names_of, number_of, plant_of, tree_of}
 
--- there is a record that leads to the plant, and the shares are what it tells, each in the order in which it was granted
+-- a record leads to the plant, and the shares of each resource are those that it tells, in the same order
 pub record IsTracked (v : EngineView) : Type 0 where
   pub events : List Event
   pub outs : List Out
@@ -43,7 +43,7 @@ pub record IsRunningBatch (c : ClearedSet) (b : Batch) : Type 0 where
   pub units : AreUnits c b.units
   pub runs : IsRunningOf (tree_of c b) b.running
 
--- how many shares are held, and how many asks stand in line
+-- the number of shares that are held and of asks in line, together
 abbrev pub claims : Allocation → ℕ
 claims a = sum_by (λ xs. length xs) a.shares + sum_by (λ xs. length xs) a.lines
 
@@ -61,11 +61,11 @@ pub record IsKept (v : EngineView) : Type 0 where
   pub batches : Each (IsRunningBatch v.cleared) v.batches
   pub cell : IsOfCell v.cleared v.allocation
   pub tracked : IsTracked v
-  -- nobody stands in a line twice
+  -- no act is in a line twice
   pub once : (name : Name) (k : ℕ) → number_of v.cleared name ≡ Some k → IsOnce (acts_of v.cleared v.batches (line_of v.allocation k))
   pub room : HasRoom v
 
--- of the fields of a control: what is seen of them is kept, each batch can be found by its number, and the needs are counted
+-- the invariant of a control's fields: that of the engine, each batch can be found by its number, and the needs are counted
 pub record IsCounted (r : BatchList) (needs : ℕ) (v : EngineView) : Type 0 where
   pub kept : IsKept v
   pub numbers : HaveOwnNumbers r

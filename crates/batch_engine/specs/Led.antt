@@ -1,4 +1,4 @@
--- trusted: that the engine's plant is one that a record leads to.
+-- trusted: the promise that some record leads to the engine's plant.
 use Rattle.std.specs.Prelude.{List}
 use Rattle.batch_model.specs.Events.{Event}
 use Rattle.batch_model.specs.Plant.{opening}

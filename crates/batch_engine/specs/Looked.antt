@@ -1,4 +1,4 @@
--- trusted: what is looked up in a plant.
+-- trusted: look-ups in a plant.
 use Rattle.std.specs.Prelude.{ℕ, ◌||◌, count_by, not, Option, Some, None}
 use Rattle.batch_matrix.specs.Matrix.{same_state}
 use Rattle.batch_matrix.specs.declared.state.State.{State}

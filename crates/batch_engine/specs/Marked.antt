@@ -1,4 +1,4 @@
--- surface: what the marks on batches tell, and what is noted of resources.
+-- surface: the meaning of the marks on batches, and of the notes on resources.
 use Rattle.std.specs.Prelude.{◌≡◌, ◌<◌, ℕ, List, [], Option, Some, slice_get, length}
 use Rattle.batch_arbiter.specs.Allocation.{resource_count}
 use Rattle.batch_model.specs.Lists.{Has}
@@ -30,7 +30,7 @@ pub record AreNoted (v : EngineView) (noted : List ℕ) : Type 0 where
   pub count : length noted ≡ resource_count v.allocation
   pub held : AreNotedBy (number_of v.cleared) (setup v.cleared) (plant_of v) noted
 
--- of the fields of an engine
+-- the invariant of an engine's fields
 pub record IsEngine (v : EngineView) (marks noted : List ℕ) : Type 0 where
   pub kept : IsKept v
   pub marked : AreMarked v marks

@@ -1,4 +1,4 @@
--- private: whose moves a move or an event may change, and which batches are marked for it.
+-- private: the batches whose moves a move or an event may change, and their marks.
 use Rattle.std.specs.Prelude.{◌≡◌, ◌<◌, ℕ, List, Bool, true, false, Option, Some, None, nat_eq, slice_get, slice_set, length}
 use Rattle.batch_recipe.specs.Conditions.{Name}
 use Rattle.batch_model.specs.Events as Events
@@ -59,7 +59,7 @@ abbrev pub IsServedAt : EngineView → ℕ → ℕ → Type 0
 IsServedAt v resource i =
     (b : Batch) × (slice_get v.batches i ≡ Some b) × ((node : ℕ) × IsServedNode v.allocation resource b.number node)
 
--- where the batch stands of which an act would be served of the resource
+-- the index of the batch of which an act would be served of the resource
 abbrev pub IsFirstServed : EngineView → ℕ → Option ℕ → Type 0
 IsFirstServed v resource None = (i : ℕ) → IsServedAt v resource i → ⊥
 IsFirstServed v resource (Some j) = (j < length v.batches) × ((i : ℕ) → IsServedAt v resource i → i ≡ j)
@@ -103,12 +103,12 @@ IsFirstMarked v resource marks = (i : ℕ) → IsServedAt v resource i → IsSet
 abbrev pub IsNumberMarked : EngineView → ℕ → List ℕ → Type 0
 IsNumberMarked v number marks = (i : ℕ) (b : Batch) → slice_get v.batches i ≡ Some b → b.number ≡ number → IsSet marks i
 
--- after an event: the batch that the reply names is marked, and where asks were withdrawn, whoever would be served of any resource
+-- after an event: the batch that the reply names is marked, and if asks were withdrawn, each batch that would be served of a resource
 pub record AreAnswerMarked (v : EngineView) (reply : Reply) (marks : List ℕ) : Type 0 where
   pub own : (number : ℕ) → named_by reply ≡ Some number → IsNumberMarked v number marks
   pub firsts : withdraws_by reply ≡ true → (resource : ℕ) → resource < resource_count v.allocation → IsFirstMarked v resource marks
 
--- after a move: its batch is marked, and whoever would be served of the resource that it gave or took
+-- after a move: its batch is marked, and the batch that would be served of the resource of which it gave or took a share
 pub record AreMoveMarked (v : EngineView) (index : ℕ) (number : Option ℕ) (marks : List ℕ) : Type 0 where
   pub own : IsSet marks index
   pub first : (resource : ℕ) → number ≡ Some resource → IsFirstMarked v resource marks

@@ -1,8 +1,8 @@
--- surface: which numbers are marked.
+-- surface: the marked numbers.
 use Rattle.std.specs.Prelude.{◌≡◌, ◌<◌, ◌≤◌, ◌/◌, ◌%◌, ℕ, List, length, Option, Some, None, slice_index}
 use Rattle.std.specs.Int.{bit_at}
 
--- 1 where the number is marked, and else 0
+-- 1 if the number is marked, else 0
 abbrev pub mark_at : List ℕ → ℕ → ℕ
 mark_at words i = bit_at (slice_index words (i / 64)) (i % 64)
 

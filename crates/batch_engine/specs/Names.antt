@@ -1,4 +1,4 @@
--- trusted: what the numbers in replies and moves name. A number that names nothing has the empty name, and no place.
+-- trusted: the names and places of the numbers in replies and moves. A number that names nothing has the empty name, and no place.
 use Rattle.std.specs.Prelude.{ℕ, List, [], map, Option, Some, None, slice_get, unwrap_or, option_map, length, nat_lt, if◌then◌else◌}
 use Rattle.std.specs.List.{zip}
 use Rattle.batch_cell.specs.LookUps.{units_of, resources_of, phases_of}
@@ -48,7 +48,7 @@ roles_of r = map (λ role. role.name) r.roles.items
 abbrev pub roles_at : ClearedSet → ℕ → List Name
 roles_at c recipe = elim (slice_get c.recipes recipe) [ None ↦ [] | Some r ↦ roles_of r ]
 
--- each role of a recipe with the unit that takes it, the units by their numbers; what stands after them is left out
+-- each role of a recipe with the unit that takes it, the units by their numbers; numbers beyond the roles are left out
 abbrev pub roles_told : ClearedSet → ℕ → List ℕ → List (Name × Name)
 roles_told c recipe units = zip (roles_at c recipe) (map (resource_name c) units)
 

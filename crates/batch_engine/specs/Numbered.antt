@@ -1,4 +1,4 @@
--- surface: the numbers of what acts need and run.
+-- surface: the numbers of the resources that acts need and of the phases that they run.
 use Rattle.std.specs.Prelude.{◌≡◌, ℕ, List, length, Option, Some, None, option_and_then, option_map, slice_get}
 use Rattle.batch_cell.specs.declared.cell.Cell.{Cell}
 use Rattle.batch_recipe.specs.Expanding.{Binding}
@@ -30,12 +30,12 @@ pub record AreNumbered (cell : Cell) (recipes : List Recipe) (numbers : Numbers)
   pub phases : ArePhasesOf cell numbers.phases
   pub recipes_are : AreRecipesNumbered cell numbers.phases recipes numbers.recipes.items
 
--- what a phase step runs under a unit procedure, where the units with these numbers take the roles
+-- the phase that a phase step runs under a unit procedure, if the units with these numbers take the roles
 abbrev pub phase_of_step : LinkedRecipe → CellPhases → List ℕ → ℕ → ℕ → Option PhaseNumber
 phase_of_step linked phases units unit_procedure step =
     option_and_then (λ unit. option_map (λ phase. record { unit = unit; phase = phase }) (phase_on linked phases step unit)) (number_for units (unit_by linked unit_procedure))
 
--- what the act of this kind runs
+-- the phase that the act of this kind runs
 abbrev pub phase_by : LinkedRecipe → CellPhases → List ℕ → ℕ → Kind → Option PhaseNumber
 phase_by linked phases units unit_procedure (Act Phases step) = phase_of_step linked phases units unit_procedure step
 phase_by linked phases units unit_procedure _ = None

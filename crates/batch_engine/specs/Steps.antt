@@ -32,7 +32,7 @@ pub record BatchAt (v : EngineView) (i : ℕ) (b : Batch) (chart : document.Reci
   pub at : slice_get v.batches i ≡ Some b
   pub listed : slice_get v.cleared.recipes b.recipe ≡ Some chart
 
--- a move of kinds 1 to 5 of the batch at an index, of which `told` tells
+-- a move of kinds 1 to 5 of the batch at an index, of which `told` holds
 pub record IsOwnStep (v : EngineView) (told : Model.Move → Type 0) (i : ℕ) (m : Move) : Type 0 where
   pub batch : Batch
   pub chart : document.Recipe
@@ -150,7 +150,7 @@ pub record IsMover (v : EngineView) (i : ℕ) (b : Batch) (m : Move) : Type 0 wh
 abbrev pub IsMaking : EngineView → Numbers → document.Recipe → Allocation → ℕ → Batch → Move → Type 0
 IsMaking v numbers recipe allocation i b m = IsMover v i b m × (numbers ≡ v.numbers) × (slice_get v.cleared.recipes b.recipe ≡ Some recipe) × (allocation ≡ v.allocation)
 
--- the arbiter takes what a move of the batch asks for, gives back or passes on
+-- the arbiter carries out the ask, the release or the pass that is the batch's move; by another move it stays as it is
 abbrev pub IsClaimed : ClearedSet → Batch → Move → Allocation → Allocation → Type 0
 IsClaimed c b (Ask node need) old new =
     (resource : ℕ) × (units : ℕ) × IsNumberAt c b node need resource units × (new ≡ asked resource (record { batch = b.number; node = node; units = units }) old)
@@ -171,7 +171,7 @@ pub record IsPhaseAt (c : ClearedSet) (b : Batch) (node unit phase : ℕ) : Type
   pub name_is : phase_name c unit phase ≡ (phase_at (tree_of c b) node).name
   pub among : (names : Name × Name) → phase_named (node_at (tree_of c b) node).here ≡ Some names → position (same_name names.0) (units_of c.cell) ≡ Some unit
 
--- the line tells of this move of a batch, and of no resource that isn't there
+-- the line is that of this move of a batch, and the resource of which it gives or takes a share, if any, exists
 pub record Tells (v : EngineView) (b : Batch) (m : Move) (line : Line) : Type 0 where
   pub is : Surface.move_of v.cleared line ≡ move_of (tree_of v.cleared b) (batch_of v.cleared b) m
   pub known : IfSome (touched_by line) (λ resource. resource < resource_count v.allocation)

@@ -1,4 +1,4 @@
--- trusted: what crosses the engine's surface, as the machine's definitions have it.
+-- trusted: the events, replies and moves that cross the engine's surface, in the terms of the machine's definitions.
 use Rattle.std.specs.Prelude.{Option, Some, None}
 use Rattle.std.specs.List.{zip}
 use Rattle.batch_model.specs.Events as Events
@@ -61,7 +61,7 @@ abbrev pub out_of : ClearedSet → Out → Runs.Out
 out_of c (Out.Reply reply) = Runs.reply (reply_of c reply)
 out_of c (Out.Move line) = Runs.move (move_of c line)
 
--- the plant after the move that was made, or the same where none was
+-- the plant after the move that was made, or the same plant if none was
 abbrev pub plant_after : ClearedSet → Plant → Option Line → Plant
 plant_after c s None = s
 plant_after c s (Some line) = Moves.after s (move_of c line)

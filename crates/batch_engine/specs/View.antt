@@ -1,4 +1,4 @@
--- trusted: what is seen of the engine, and the plant that it stands for.
+-- trusted: the view of the engine, and the plant that it stands for.
 use Rattle.std.specs.Prelude.{ℕ, List, [], ◌∷◌, map, true, false, Option, Some, None, nat_eq, position}
 use Rattle.std.specs.List.{slice_index_or}
 use Rattle.batch_cell.specs.LookUps.{resources_of}

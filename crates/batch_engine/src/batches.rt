@@ -57,7 +57,7 @@ impl Batches {
         self.entries.len()
     }
 
-    /// Where the batch that was added with this number stands.
+    /// The index of the batch that was added with this number.
     pub(crate) fn index_of(&self, number: u64) -> Option<usize>
         ensures { result ≡ position (λ n. nat_eq n number) self.now.numbers }
     {
@@ -67,7 +67,7 @@ impl Batches {
         }
     }
 
-    /// Where it stands if no batch between the first and it was removed: as many places behind the first as its number is above.
+    /// Its index if no batch between the first and it was removed: the difference of their numbers.
     fn guess(&self, number: u64) -> Option<usize>
         ensures { IfSome result (λ index. Some index ≡ position (λ n. nat_eq n number) self.now.numbers) }
     {
@@ -81,7 +81,7 @@ impl Batches {
         }
     }
 
-    /// Where it stands, by halves.
+    /// Its index, by binary search.
     fn search(&self, number: u64) -> Option<usize>
         ensures { result ≡ position (λ n. nat_eq n number) self.now.numbers }
     {
@@ -90,7 +90,7 @@ impl Batches {
             .ok()
     }
 
-    /// Adds a batch, whose number is above all others. Where there is no memory nothing changes.
+    /// Adds a batch, whose number is above all others. If there is no memory nothing changes.
     pub(crate) fn add(&mut self, batch: Batch) -> Result<(), AllocError>
         requires { IsNewNumber batch.number self.old }
         ensures added { OnOk result (self.new ≡ with_batch batch self.old) }
@@ -104,7 +104,7 @@ impl Batches {
         Ok(())
     }
 
-    /// Takes the batch at an index out. Its place in memory is free for the next one.
+    /// Removes the batch at an index. Its place in memory is free for the next one.
     pub(crate) fn remove(&mut self, index: usize) -> Batch
         requires { index < length self.old.batches }
         ensures value { result ≡ slice_index_or self.old.batches index result }

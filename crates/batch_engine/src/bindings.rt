@@ -70,7 +70,7 @@ fn unit_for(cell: &Cell, role: &Role, pairs: &[(Name, Name)]) -> Option<u16>
     None
 }
 
-/// The numbers of the units that the pairs give to the roles, in the order of the roles; what stands after them means nothing. None
+/// The numbers of the units that the pairs give to the roles, in the order of the roles; the entries after them mean nothing. None
 /// where the pairs are no binding of the roles.
 pub fn units_for(cell: &Cell, roles: &[Role], pairs: &[(Name, Name)]) -> Option<[u16; MAX_ROLES]>
     requires { length roles.now ≤ MAX_ROLES }

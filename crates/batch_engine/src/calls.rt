@@ -45,7 +45,8 @@ impl Engine {
         })
     }
 
-    /// The recipes that the engine runs, and their cell. Whatever is promised of records that they lead to holds of every engine.
+    /// The recipes that the engine runs, and their cell. A record leads to the engine's plant, so all that is promised of records
+    /// holds of it.
     pub fn cleared(&self) -> &Cleared
         ensures value { result.now ≡ self.now.cleared }
         // claim: led to
@@ -54,7 +55,7 @@ impl Engine {
         self.control.cleared()
     }
 
-    /// Takes an event and answers it. While moves are pending every event is refused.
+    /// Answers an event. While moves are pending every event is refused.
     // claim: events; binding; required outputs; no memory for a create; the set stays
     pub fn accept(&mut self, event: &Event) -> Reply
         ensures { IsAnswered self.old (event_of event.now) result self.new }
@@ -68,7 +69,7 @@ impl Engine {
         reply
     }
 
-    /// Whether the event makes a batch where there is memory for it. Of such an event alone want of memory may be the answer.
+    /// Whether the event makes a batch if there is memory for it. Want of memory may be the answer to no other event.
     // claim: events that would create
     pub fn would_create(&self, event: &Event) -> bool
         ensures { IsTrue result ↔ MayWant self.now (event_of event.now) }
@@ -108,7 +109,7 @@ impl Engine {
         ensures cleared { self.new.cleared ≡ self.old.cleared }
     {
         let Some(step) = self.control.first_step(&self.marks) else {
-            // Each marked batch was looked at in vain. So it isn't looked at again before something changes.
+            // No marked batch has a move. So none is checked again before something changes.
             self.marks.clear_all();
             return None;
         };
@@ -120,7 +121,7 @@ impl Engine {
         Some(line)
     }
 
-    /// The state that the act at a place of the batch with this number shows. None where there is no such batch, or no act at that place.
+    /// The state that the act at a place of the batch with this number shows. None where no batch has the number, or no act is there.
     // claim: state of an act
     pub fn state_of(&self, batch: u64, place: &Place) -> Option<State>
         ensures { result ≡ state_of (plant_of self.now) batch place.now }
@@ -133,7 +134,7 @@ impl Engine {
             .state_at(cleared.recipe(batch.recipe), node, batch.state)
     }
 
-    /// The value with this name of the batch with this number. None where there is no such batch, or no such value.
+    /// The value with this name of the batch with this number. None where no batch has the number, or the batch no value of the name.
     // claim: value of a batch
     pub fn value_of(&self, batch: u64, name: &Name) -> Option<u64>
         ensures { result ≡ value_in (plant_of self.now) batch name.now }
@@ -141,7 +142,7 @@ impl Engine {
         self.control.find(batch)?.values.value_of(name)
     }
 
-    /// The state of the batch with this number. None where there is no such batch.
+    /// The state of the batch with this number. None where no batch has the number.
     // claim: state of a batch
     pub fn batch_state(&self, batch: u64) -> Option<State>
         ensures { result ≡ batch_state_in (plant_of self.now) batch }

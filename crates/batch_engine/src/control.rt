@@ -21,7 +21,7 @@ use batch_verify::Cleared;
 use std::alloc::{AllocError, Global};
 use std::marker::Model;
 
-/// What answers events and makes moves: a cleared set of recipes, the batches that are made of it, and the arbiter of what they need.
+/// The part that answers events and makes moves: a cleared set of recipes, the batches made of it, and the arbiter of their needs.
 #[derive(Drop)]
 pub struct Control {
     pub(crate) alloc: Global,
@@ -83,7 +83,7 @@ impl Control {
         &self.cleared
     }
 
-    /// Tells what this type keeps, and does nothing.
+    /// States the invariant of this type, and does nothing.
     pub(crate) fn is_kept(&self)
         ensures { IsKept self.now }
     {

@@ -90,7 +90,7 @@ struct Choice {
     units: [u16; MAX_ROLES],
 }
 
-/// Where the recipe with this name stands.
+/// The index of the recipe with this name.
 fn recipe_named(recipes: &[Recipe], name: &Name) -> Option<usize>
     ensures { result ≡ position (λ r. same_name r.acts.procedure.name name.now) recipes.now }
 {
@@ -152,7 +152,7 @@ impl Control {
         self.batches.len() as u64 >= MAX_LIVE_BATCHES || self.next_number > LAST_NUMBER
     }
 
-    /// The recipe with this name, and the units that the pairs give to its roles, where one batch more may be; or why no batch is made of them.
+    /// The recipe with this name, and the units that the pairs give to its roles, if one batch more may exist; else the refusal.
     fn choice(&self, name: &Name, pairs: &[(Name, Name)]) -> Result<Choice, Refusal>
         requires { next (setup self.now.cleared) (plant_of self.now) ≡ None }
         ensures { MatchResult result (λ choice. IsChosen self.now choice.recipe name.now pairs.now choice.units)
@@ -174,7 +174,7 @@ impl Control {
         })
     }
 
-    /// A batch of a recipe is to be made.
+    /// Makes a batch of a recipe, or refuses it.
     pub(crate) fn create(&mut self, name: &Name, size: u64, pairs: &[(Name, Name)]) -> Reply
         requires { next (setup self.old.cleared) (plant_of self.old) ≡ None }
         ensures { IsAnswered self.old (Events.create name.now size pairs.now) result self.new }
@@ -189,7 +189,7 @@ impl Control {
         }
     }
 
-    /// Whether the create makes a batch where there is memory.
+    /// Whether the create makes a batch if there is memory.
     pub(crate) fn would_create(&self, name: &Name, size: u64, pairs: &[(Name, Name)]) -> bool
         requires { next (setup self.now.cleared) (plant_of self.now) ≡ None }
         ensures { IsTrue result ↔ MayWant self.now (Events.create name.now size pairs.now) }

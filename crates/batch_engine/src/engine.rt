@@ -5,13 +5,13 @@ use std::marker::Model;
 
 /// The engine: a cleared set of recipes, and the batches that are made of it.
 ///
-/// It looks for the next move at marked batches alone. A batch is marked by its own moves and events, and where an act of it may
+/// It searches the marked batches alone for the next move. A batch is marked by its own moves and events, and if an act of it may
 /// be the next that is served of a resource: after a release or a grant of that resource, and after a stop or an abort.
 pub struct Engine {
     pub(crate) control: Control,
     /// Of the indices of batches: one that isn't marked has no move.
     pub(crate) marks: Marks,
-    /// Of resources, by their numbers: the batch that was granted one unit last. Who holds a unit of the cell is found by it.
+    /// For each resource, by its number: the batch that was granted one unit of it last. It leads to the holder of a unit of the cell.
     pub(crate) holders: Vec<u64>,
 }
 

@@ -1,4 +1,4 @@
-//! Who holds what there is one of.
+//! The holders of resources of capacity 1.
 ghost use Rattle.std.specs.Prelude.{◌≡◌, ◌<◌, IfOk, IfSome, length};
 ghost use Rattle.batch_cell.specs.LookUps.{resources_of};
 ghost use Rattle.batch_engine.specs.Marking.{noted_by};
@@ -19,7 +19,7 @@ pub fn no_holders(alloc: Global, cell: &Cell) -> Result<Vec<u64>, AllocError>
     Ok(holders)
 }
 
-/// Notes whom the move of a line grants one unit of a resource.
+/// Notes the batch to which the move of a line grants one unit of a resource.
 pub fn note_grant(holders: &mut Vec<u64>, line: &Line)
     requires { IfSome (touched_by line.now) (λ resource. resource < length holders.old.items) }
     ensures { holders.new.items ≡ noted_by line.now holders.old.items }

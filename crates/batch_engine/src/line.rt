@@ -2,14 +2,14 @@
 use batch_matrix::{Command, State};
 use batch_recipe::MAX_VALUES;
 
-/// What becomes of a claim on a resource.
+/// The stage of a claim on a resource.
 #[derive(Clone, Copy)]
 pub enum ClaimKind {
     /// An act asks for units of the resource.
     Asked,
     /// The act is given the units that it asked for.
     Granted,
-    /// The act gives back what it held.
+    /// The act gives back the units that it held.
     Released,
 }
 
@@ -17,7 +17,7 @@ pub enum ClaimKind {
 /// many units of its capacity.
 #[derive(Clone, Copy)]
 pub enum Line {
-    /// A phase is told to do something.
+    /// A command is sent to a phase.
     Send {
         batch: u64,
         recipe: u16,
@@ -37,7 +37,7 @@ pub enum Line {
         recipe: u16,
         node: u16,
     },
-    /// A phase starts. Its act names the values that it is handed; what stands after these means nothing.
+    /// A phase starts. The values are those that its act names; the entries after them mean nothing.
     Start {
         batch: u64,
         recipe: u16,
@@ -52,7 +52,7 @@ pub enum Line {
         recipe: u16,
         node: u16,
     },
-    /// An act that has ended passes on what it reserved: the act at the node `to` holds that in advance.
+    /// An act that has ended passes on a unit that it reserved: the act at the node `to` holds it in advance.
     Pass {
         batch: u64,
         recipe: u16,

@@ -1,4 +1,4 @@
-//! What the lines of moves tell.
+//! The lines of moves.
 ghost use Rattle.std.specs.Prelude.{◌≡◌, ◌≤◌, Some, length};
 ghost use Rattle.std.specs.List.{zip};
 ghost use Rattle.batch_chart.specs.declared.chart_move.Move.TheVariants as Moves;
@@ -19,7 +19,7 @@ use batch_matrix::Command;
 use batch_recipe::{MAX_VALUES, Recipe, Values, Work, act_at};
 use batch_text::Name;
 
-/// The values of these names; what stands in the places that are left means nothing.
+/// The values of these names; the entries after them mean nothing.
 fn values_of(names: &[Name], values: &Values) -> [u64; MAX_VALUES]
     requires { length names.now ≤ MAX_VALUES }
     ensures { zip names.now result ≡ handed_values values.now names.now }
@@ -31,7 +31,7 @@ fn values_of(names: &[Name], values: &Values) -> [u64; MAX_VALUES]
     handed
 }
 
-/// The values that the phase of a phase step is handed; what stands in the places that are left means nothing.
+/// The values that the phase of a phase step is handed; the entries after them mean nothing.
 fn handed(recipe: &Recipe, node: u16, values: &Values) -> [u64; MAX_VALUES]
     ensures { zip (handed_of (node_of node recipe.now)) result ≡ handed_values values.now (handed_of (node_of node recipe.now)) }
 {
@@ -89,7 +89,7 @@ impl Control {
         phase_by(&numbers.linked, &self.numbers.phases, entry, &batch.units).unwrap_or(NO_PHASE)
     }
 
-    /// The line of a phase of a batch that is told to do something.
+    /// The line of a command to a phase of a batch.
     fn send_line(&self, batch: &Batch, node: u16, command: Command) -> Line
         requires { IsNodeAt self.now batch.now node }
         ensures { Tells self.now batch.now (Moves.Send node command) result }
@@ -105,7 +105,7 @@ impl Control {
         }
     }
 
-    /// The line of a phase of a batch that starts.
+    /// The line of the start of a phase of a batch.
     fn start_line(&self, batch: &Batch, node: u16) -> Line
         requires { IsNodeAt self.now batch.now node }
         ensures { Tells self.now batch.now (Moves.Start node) result }

@@ -5,7 +5,7 @@ use batch_matrix::State;
 /// A live phase of a batch.
 #[derive(Clone, Copy)]
 pub struct LivePhase {
-    /// Where its batch stands.
+    /// The index of its batch.
     pub index: usize,
     /// The number of the batch's recipe.
     pub recipe: u16,

@@ -71,7 +71,7 @@ pub fn mark_answered(marks: &mut Marks, control: &Control, reply: Reply)
     }
 }
 
-/// Marks the batches that a move of the batch at an index has given a move, where it gave or took a share of this resource. No
+/// Marks the batches that a move of the batch at an index has given a move, if it gave or took a share of this resource. No
 /// batch before it had one.
 pub fn mark_moved(marks: &mut Marks, control: &Control, index: usize, resource: Option<u16>)
     requires batch { index < length control.now.batches }
@@ -118,7 +118,7 @@ impl Line {
 }
 
 impl Control {
-    /// Where the batch stands whose act would be served of a resource.
+    /// The index of the batch whose act would be served of a resource.
     fn first_served(&self, resource: u16) -> Option<usize>
         requires { resource < resource_count self.now.allocation }
         ensures { IsFirstServed self.now resource result }

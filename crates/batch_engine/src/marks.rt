@@ -47,7 +47,7 @@ impl Marks {
         self.summary = with_bit(self.summary, word);
     }
 
-    /// Takes the mark of a number away.
+    /// Removes the mark of a number.
     fn clear(&mut self, index: usize)
         requires { index < 4096 }
         ensures { (i : ℕ) → mark_at self.new i ≡ with_zero index (mark_at self.old) i }
@@ -60,7 +60,7 @@ impl Marks {
         }
     }
 
-    /// Takes all marks away, in as many steps as there are words with one.
+    /// Removes all marks, in as many steps as there are words with one.
     pub(crate) fn clear_all(&mut self) {
         let mut from = 0;
         while from < 64 {
@@ -72,7 +72,7 @@ impl Marks {
         }
     }
 
-    /// Takes the marks of 64 numbers away.
+    /// Removes the marks of 64 numbers.
     fn clear_word(&mut self, word: usize)
         requires { word < 64 }
     {
@@ -80,7 +80,7 @@ impl Marks {
         self.summary = without_bit(self.summary, word);
     }
 
-    /// Takes the marks below a number away, in as many steps as there are of them.
+    /// Removes the marks below a number, in as many steps as there are of them.
     pub(crate) fn clear_below(&mut self, index: usize)
         requires { index ≤ 4096 }
         ensures { (i : ℕ) → index ≤ i → mark_at self.new i ≡ mark_at self.old i }

@@ -1,4 +1,4 @@
-//! Numbers of what acts need and run.
+//! Numbers of the resources that acts need and of the phases that they run.
 ghost use Rattle.std.specs.Prelude.{◌≡◌};
 ghost use Rattle.batch_engine.specs.Numbered.{phase_by};
 
@@ -18,7 +18,7 @@ pub const NO_PHASE: PhaseNumber = PhaseNumber {
     phase: u16::MAX,
 };
 
-/// A recipe by the numbers of what its acts name.
+/// A recipe by the numbers of the names in its acts.
 #[derive(Drop)]
 pub struct RecipeNumbers {
     pub linked: LinkedRecipe,
@@ -33,7 +33,7 @@ pub struct Numbers {
     pub phases: CellPhases,
 }
 
-/// The phase that the act at this entry of the recipe runs, where these units take the roles.
+/// The phase that the act at this entry of the recipe runs, if these units take the roles.
 #[inline(always)]
 pub fn phase_by(
     linked: &LinkedRecipe,

@@ -18,11 +18,11 @@ use crate::reply::Reply;
 use batch_cell::{MAX_MODULES, MAX_SHARED, MAX_UNITS};
 use batch_matrix::{Command, State, after};
 
-/// As many as a cell may have.
+/// The most resources that a cell may have.
 const MAX_RESOURCES: usize = MAX_UNITS + MAX_MODULES + MAX_SHARED;
 
 impl Control {
-    /// Where the batch with this number stands.
+    /// The index of the batch with this number.
     pub(crate) fn index_of(&self, number: u64) -> Option<usize>
         ensures { result ≡ position (λ b. nat_eq b.number number) self.now.batches }
     {

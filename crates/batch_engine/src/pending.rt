@@ -17,9 +17,9 @@ use batch_matrix::State;
 use batch_recipe::{MAX_NODES, Recipe};
 use batch_set::LinkedNeed;
 
-/// So many acts of a batch in line are looked at before the lines themselves are.
+/// The number of a batch's acts in line that are checked one by one before the lines themselves are searched.
 const FEW_ACTS: u16 = 8;
-/// A look at an act takes as long as one at so many lines.
+/// The number of lines whose check takes as long as that of one act.
 const LINES_AN_ACT: u16 = 4;
 
 /// Whether the arbiter would serve this act.
@@ -56,7 +56,7 @@ fn least_served(arbiter: &Arbiter, resources: u16, batch: u64) -> u16
     least
 }
 
-/// Whether a batch in this state was stopped or aborted. Such a batch has no move.
+/// Whether a batch in this state was stopped or aborted, so that it has no move.
 fn is_stopped(state: State) -> bool
     ensures { result ≡ is_stopped state }
 {
@@ -94,8 +94,8 @@ pub(crate) fn resource_at(
 }
 
 impl Control {
-    /// The node from which to look on for an act of a batch that the arbiter would serve, where so many were looked at in vain and
-    /// this node comes next.
+    /// The node from which the search for an act of a batch that the arbiter would serve goes on, after so many acts were checked in
+    /// vain; `next` is the node that follows them.
     fn look_on(&self, batch: u64, next: u16, looked: u16) -> u16
         ensures { AreUnserved self.now batch next result }
     {
@@ -103,7 +103,7 @@ impl Control {
         if looked < FEW_ACTS || looked < resources / LINES_AN_ACT {
             return next;
         }
-        // Going along all lines takes no longer with more acts in them.
+        // A search of all lines takes no longer with more acts in them.
         next.max(least_served(&self.arbiter, resources, batch))
     }
 
@@ -158,7 +158,7 @@ impl Control {
         self.is_kept();
         let mut from = 0;
         while let Some(index) = marks.next(from) {
-            // A mark past the last batch is left where batches were removed.
+            // The removal of batches can leave a mark past the last one.
             if index >= self.batches.len() {
                 return None;
             }

@@ -21,7 +21,7 @@ use batch_matrix::{Command, Report, State, after, after_report};
 use batch_recipe::{Recipe, are_outputs, first_left_out, reports_at};
 use batch_text::Name;
 
-/// The state of a batch after a report: a fault takes it to Holding where its state accepts hold.
+/// The state of a batch after a report: a fault takes it to Holding if its state accepts hold.
 fn state_after(word: Report, state: State) -> State
     ensures { result ≡ batch_state_after word state }
 {
@@ -88,7 +88,7 @@ impl Control {
         self.live_in(index, resource, phase)
     }
 
-    /// A live phase of a unit tells something.
+    /// Answers a report of a live phase of a unit.
     pub(crate) fn report(&mut self, report: &PhaseReport, holders: &[u64]) -> Reply
         requires settled { next (setup self.old.cleared) (plant_of self.old) ≡ None }
         requires noted { AreNoted self.old holders.now }

@@ -4,7 +4,7 @@ ghost use Rattle.batch_engine.specs.Steps.{index_of};
 
 use batch_chart::Move;
 
-/// What the engine does next: a move of a batch's chart, or a grant.
+/// A step of the engine: a move of a batch's chart, or a grant.
 #[derive(Clone, Copy)]
 pub enum Step {
     /// A move of the batch at this index.
@@ -22,7 +22,7 @@ pub enum Step {
 }
 
 impl Step {
-    /// Where the batch stands that makes it.
+    /// The index of the batch that makes the step.
     pub(crate) fn index(self) -> usize
         ensures { result ≡ index_of self }
     {

@@ -10,7 +10,7 @@ use Rattle.batch_examples.specs.RowParts.{p0}
 use Rattle.batch_safety.specs.Settlement.{IsHalting}
 use Rattle.batch_examples.specs.RowsOfSettlement.{nothing_is_live}
 
--- what makes a batch, or a phase of it, work for a holder at a place
+-- the condition on which a batch, or a phase of it, works for a holder at a place
 abbrev pub Works : Place → Batch → Type 0
 Works h b = IsHalting b.state ⊎ ((p : Step) × (x : Phase) × (t : State) × Has (acts b.rest) (live p x t) × IsAtOrAbove h p.place)
 

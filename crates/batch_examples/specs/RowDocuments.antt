@@ -65,7 +65,7 @@ quantity = codes "QTY"
 abbrev pub Entry : Type 0
 Entry = Name × (Place → Tree)
 
--- what a label stands for
+-- the tree that a label stands for, at a place
 abbrev pub entry_named : List Entry → Name → Place → Tree
 entry_named [] name p = node.skip
 entry_named (e ∷ es) name p = elim (same_name e.0 name) [ true ↦ e.1 p | false ↦ entry_named es name p ]
@@ -75,7 +75,7 @@ abbrev pub phase_step : Name → List Need → Name → Name → List Name → E
 phase_step name needs unit phase handed =
     (name, λ p. act (record { place = p; needs = needs; reserves = [] }) (runs (record { unit = unit; name = phase; handed = handed; reports = [] })))
 
--- the same without needs and values, where the phase reports outputs
+-- the same without needs and values, but the phase reports outputs
 abbrev pub reporting_step : Name → Name → List Name → Entry
 reporting_step name unit reports =
     (name, λ p. act (record { place = p; needs = []; reserves = [] }) (runs (record { unit = unit; name = name; handed = []; reports = reports })))
@@ -234,7 +234,7 @@ recipe_j =
     ∷ [])
     (sel (when x_is_1 (label (codes "GOOD")) (otherwise (label (codes "BAD"))))))
 
--- X chooses what follows the first phase
+-- X chooses the chart that follows the first phase
 abbrev pub recipe_k : Recipe
 recipe_k =
     recipe_with_x (codes "K")
@@ -283,7 +283,7 @@ rx = codes "rx"
 abbrev pub ry : Name
 ry = codes "ry"
 
--- A on a unit that takes the role rx, which these may take, beside what the procedure needs
+-- A on a unit that takes the role rx, which these may take, beside the needs of the procedure
 abbrev pub in_role : Name → List Name → List Need → Master
 in_role name candidates needs =
     record {

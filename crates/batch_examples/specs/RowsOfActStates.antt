@@ -84,11 +84,11 @@ AllIdle = AllShow [] Idle Idle Idle Idle
 abbrev pub AllRunning : Type 0
 AllRunning = AllShow (order Start 1 ∷ []) Running Running Running Running
 
--- what is finished is Idle
+-- a finished act is Idle
 abbrev pub RootAloneComplete : Type 0
 RootAloneComplete = AllShow (order Start 1 ∷ add_done ∷ []) Complete Idle Idle Idle
 
--- acts that are open without a live phase show the batch's state, what is finished and what waits to begin is Idle
+-- acts that are open without a live phase show the batch's state; finished acts and acts that wait to begin are Idle
 abbrev pub OpenActsShowBatch : Type 0
 OpenActsShowBatch =
     let s = settled_after cell (create (codes "S") 1000 [] ∷ order Start 1 ∷ order Hold 1 ∷ add_done ∷ []) in

@@ -128,7 +128,7 @@ OperationRunsAPhase = AreCleared (operation_turns (label add) ∷ [])
 abbrev pub OperationMayRunNothing : Type 0
 OperationMayRunNothing = AreRefused (operation_turns (sel (when x_is_1 (label add) (otherwise skip))) ∷ [])
 
--- What a cell has
+-- The resources of a cell
 
 -- one phase, with needs of the procedure, further ones of the unit procedure, and those of the operation and of the phase step
 abbrev pub recipe_needing : List Need → List Need → List Need → List Need → Recipe

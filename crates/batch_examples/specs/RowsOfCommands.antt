@@ -1,4 +1,4 @@
--- worked rows: commands, and what they spread to.
+-- worked rows: commands, and their effects on batches and phases.
 use Rattle.std.specs.Prelude.{◌≡◌, ℕ, zero, suc, List, [], ◌∷◌, Option, Some, None, codes}
 use Rattle.batch_matrix.specs.declared.state.State.{State}
 use Rattle.batch_matrix.specs.declared.state.State.TheVariants.{Idle, Running, Pausing, Paused, Holding, Held, Restarting, Stopping, Stopped, Aborting, Aborted, Complete}
@@ -58,7 +58,7 @@ NoAskWhileHeld =
     ∷ starts 1 p000011 r1 heat
     ∷ []))
 
--- acts end and give back what they hold while the batch is held, and it is complete once it runs again
+-- acts end and give back their holdings while the batch is held, and it is complete once it runs again
 abbrev pub HeldBatchEnds : Type 0
 HeldBatchEnds =
     run cell (create_a ∷ order Start 1 ∷ order Hold 1 ∷ add_done ∷ order Restart 1 ∷ [])

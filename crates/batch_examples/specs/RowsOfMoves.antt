@@ -12,7 +12,7 @@ use Rattle.batch_examples.specs.RowDocuments.{r1, r2, hdr, steam, add, heat, dra
 use Rattle.batch_examples.specs.RowParts.{p0, p00, p000, p001, p0000, p0010, p00000, p00001, p00002, p00100, p000010, p000011, create_a, says, add_done, on, starts, entered, opened, closed, created_a, opened_a, finished_a, asks, grants, releases, refuses}
 use Rattle.batch_recipe.specs.declared.need.Need.{Need}
 
--- the demo's recipe is what its document expands to
+-- the demo's recipe is the expansion of its document
 abbrev pub DemoIsExpanded : Type 0
 DemoIsExpanded = recipe.procedure ≡ procedure_of procedure_a
 
@@ -166,7 +166,7 @@ BoundUnitRuns =
     run cell_with_roles (create (codes "B") 1000 ((rx, r2) ∷ []) ∷ order Start 1 ∷ [])
     ≡ (reply (created 1 (codes "B") 1000 ((rx, r2) ∷ [])) ∷ opened 1 (codes "B") r2 make charge (starts 1 p0000 r2 add ∷ []))
 
--- pairs in any order, told in that of the roles; each unit procedure runs on the unit of its own role
+-- pairs in any order, which the reply has in that of the roles; each unit procedure runs on the unit of its own role
 abbrev pub EachRoleHasItsUnit : Type 0
 EachRoleHasItsUnit =
     run cell_with_roles (create (codes "E") 1000 ((ry, r1) ∷ (rx, r2) ∷ []) ∷ order Start 1 ∷ says r2 add Report.Done ∷ [])
@@ -195,8 +195,8 @@ OneUnitTakesTwoRoles =
     run cell_with_roles (create (codes "E") 1000 ((rx, r2) ∷ (ry, r2) ∷ []) ∷ [])
     ≡ (reply (created 1 (codes "E") 1000 ((rx, r2) ∷ (ry, r2) ∷ [])) ∷ [])
 
--- a role that isn't bound, beside a size out of range too, or is bound to what is no unit, or twice, or another name alone or beside it;
--- and a size out of range beside a binding
+-- a role that isn't bound, beside a size out of range too, or is bound to a name of no unit, or twice, or another name alone or beside
+-- it; and a size out of range beside a binding
 abbrev pub BadBindings : Type 0
 BadBindings =
     run cell_with_roles

@@ -102,7 +102,7 @@ start_rp = move (start 1 p00000 (add_reporting (x_name ∷ [])) [])
 abbrev pub opened_rp : List Out → List Out
 opened_rp more = reply (created 1 (codes "RP") 1000 []) ∷ opened 1 (codes "RP") r1 make charge (start_rp ∷ more)
 
--- the phase is done, and X is left out; then there is an output that isn't declared besides, which is looked for before; and then X is 0
+-- the phase is done and leaves out X; then it has an undeclared output as well, which is refused first; and then X is 0
 abbrev pub LeftOut : Type 0
 LeftOut =
     run cell_with_reports (create_rp ∷ order Start 1 ∷ add_done ∷ sets ((y_name, 1) ∷ []) ∷ sets ((x_name, 0) ∷ []) ∷ [])
@@ -114,7 +114,7 @@ LeavingOutChangesNothing =
     let started = settled_after cell_with_reports (create_rp ∷ order Start 1 ∷ []) in
     react cell_with_reports started add_done ≡ (refused (output_left_out x_name), started)
 
--- the first in the listed order is told, wherever it stands among the recipe's outputs, and whatever order the report has
+-- the first in the listed order is replied, wherever it is among the recipe's outputs, and whatever order the report has
 abbrev pub FirstLeftOut : Type 0
 FirstLeftOut =
     run cell_with_reports

@@ -1,4 +1,4 @@
--- worked rows: what records tell, records that aren't safe, each for one reason, and what waiting steps wait for.
+-- worked rows: the facts that records tell, records that aren't safe, each for one reason, and the steps that waiting steps wait for.
 use Rattle.std.specs.Prelude.{◌≡◌, ℕ, List, [], ◌∷◌, codes}
 use Rattle.batch_matrix.specs.declared.state.State.{State}
 use Rattle.batch_matrix.specs.declared.state.State.TheVariants.{Running, Holding, Stopping, Aborting}
@@ -22,12 +22,12 @@ use Rattle.batch_examples.specs.RowsOfClearance.{recipe_g, recipe_h, with_recipe
 abbrev pub all_steam : Need
 all_steam = record { resource = steam; units = 2 }
 
--- What a record tells
+-- The facts that a record tells
 
 abbrev pub share : ℕ → Place → ℕ → Share
 share n p units = record { act = (n, p); units = units }
 
--- a step holds all units from its grant on, beside whoever holds others
+-- a step holds all units from its grant on, beside the holders of others
 abbrev pub AllUnitsAreHeld : Type 0
 AllUnitsAreHeld = holders_told (asks 1 p0 hdr ∷ grants 1 p0 hdr ∷ move (ask 2 p0 all_steam) ∷ move (grant 2 p0 all_steam) ∷ []) steam ≡ share 2 p0 2 ∷ []
 
@@ -35,7 +35,7 @@ AllUnitsAreHeld = holders_told (asks 1 p0 hdr ∷ grants 1 p0 hdr ∷ move (ask 
 abbrev pub AllUnitsAreGivenBack : Type 0
 AllUnitsAreGivenBack = holders_told (move (grant 1 p0 all_steam) ∷ move (release 1 p0 all_steam) ∷ []) steam ≡ []
 
--- who waits for HDR where two steps have asked for it and then this comes
+-- these steps wait for HDR after the asks of two steps and then this line
 abbrev pub WaitAfter : Out → List Share → Type 0
 WaitAfter out waiters = waiters_told (asks 1 p0 hdr ∷ asks 2 p0 hdr ∷ out ∷ []) hdr ≡ waiters
 
@@ -52,7 +52,7 @@ AbortEndsWait = WaitAfter (reply (ordered Abort 1 Aborting)) (share 2 p0 1 ∷ [
 abbrev pub HoldDoesNotEndWait : Type 0
 HoldDoesNotEndWait = WaitAfter (reply (ordered Hold 1 Holding)) (share 1 p0 1 ∷ share 2 p0 1 ∷ [])
 
--- which phases are active where one was started and then this report comes
+-- these phases are active after the start of one and then this report
 abbrev pub ActiveAfter : Report → State → List Active → Type 0
 ActiveAfter word x active = active_told (starts 1 p00 r1 add ∷ reply (reported r1 add word 1 p00 x) ∷ []) ≡ active
 
@@ -75,7 +75,7 @@ TwoHoldersOfOneUnit = IsUnsafe (grants 1 p0 hdr ∷ grants 2 p0 hdr ∷ [])
 abbrev pub ThreeUnitsOfTwo : Type 0
 ThreeUnitsOfTwo = IsUnsafe (grants 1 p0 steam ∷ move (grant 2 p0 all_steam) ∷ [])
 
--- what is given back later was held all the same
+-- a resource that is given back later was held all the same
 abbrev pub UnsafeBeforeItsEnd : Type 0
 UnsafeBeforeItsEnd = IsUnsafe (grants 1 p0 hdr ∷ grants 2 p0 hdr ∷ releases 1 p0 hdr ∷ releases 2 p0 hdr ∷ [])
 
@@ -111,11 +111,11 @@ AtRestWaiting x = IsUnsafe (asks 1 p0 hdr ∷ move (state 1 x) ∷ [])
 
 -- Circles
 
--- a step waits below the very place that holds what it waits for
+-- a step waits below the very place that holds the resource that it waits for
 abbrev pub WaitsForItself : Type 0
 WaitsForItself = IsUnsafe (grants 1 p0 hdr ∷ asks 1 p00 hdr ∷ [])
 
--- each of two batches waits for what the other holds above
+-- each of two batches waits for the resource that the other holds above
 abbrev pub TwoWaitInACircle : Type 0
 TwoWaitInACircle = IsUnsafe (grants 1 p0 hdr ∷ grants 2 p0 r1 ∷ asks 1 p00 r1 ∷ asks 2 p00 hdr ∷ [])
 
@@ -169,7 +169,7 @@ OpposedRun = run opposed opposed_events ≡ opposed_record
 abbrev pub OpposedRunIsUnsafe : Type 0
 OpposedRunIsUnsafe = IsSafe opposed opposed_record → ⊥
 
--- What a waiting step waits for
+-- The steps that a waiting step waits for
 
 abbrev pub waiting : ℕ → Place → Name → Waiting
 waiting n p resource = record { act = (n, p); resource = resource }

@@ -1,4 +1,4 @@
--- worked rows: which holders are at work, and plants in which somebody waits for nothing, each by one clause alone.
+-- worked rows: the holders that are at work, and plants in which an act waits for nothing, each by one clause alone.
 use Rattle.std.specs.Prelude.{ℕ, List, [], ◌∷◌, true, false, codes}
 use Rattle.batch_matrix.specs.declared.state.State.{State}
 use Rattle.batch_matrix.specs.declared.state.State.TheVariants.{Running, Held}
@@ -16,7 +16,7 @@ use Rattle.batch_safety.specs.Settlement.{IsAtWork, WaitsForSomething}
 abbrev pub batch : ℕ → State → Rest → Batch
 batch n x r = record { number = n; recipe = recipe; size = 1000; values = []; state = x; rest = r; in_advance = [] }
 
--- an act that needs one thing
+-- an act with one need
 abbrev pub step : Place → Need → Step
 step p need = record { place = p; needs = need ∷ []; reserves = [] }
 
@@ -24,7 +24,7 @@ step p need = record { place = p; needs = need ∷ []; reserves = [] }
 abbrev pub waits : Place → Need → Rest
 waits p need = asking (step p need) (follows (codes "WAITS") skip) 0
 
--- an open act that holds it, and what remains below
+-- an open act that holds the need, and the rest below it
 abbrev pub holds : Place → Need → Rest → Rest
 holds p need below = open_act (step p need) below
 
@@ -65,7 +65,7 @@ phase_beside = batch 1 Running (in_par (rest (holds p000 (one_unit hdr) done) (r
 abbrev pub PhaseBesideDoesNotWork : Type 0
 PhaseBesideDoesNotWork = IsAtWork (beside_one_that_waits phase_beside Running) (1, p000) → ⊥
 
--- Plants in which somebody waits for nothing
+-- Plants in which an act waits for nothing
 
 abbrev pub WaitsForNothing : Plant → Type 0
 WaitsForNothing s = WaitsForSomething cell s → ⊥
@@ -94,7 +94,7 @@ NobodyHoldsSteam = WaitsForNothing (alone_in_line (record { resource = steam; un
 abbrev pub LastHolderIsNotAtWork : Type 0
 LastHolderIsNotAtWork = WaitsForNothing (beside_one_that_waits nothing_is_live Running)
 
--- each of two batches waits for what the other holds, so that a chain of waiting goes on for ever
+-- each of two batches waits for the resource that the other holds, so that a chain of waiting goes on for ever
 abbrev pub round : Plant
 round =
     record {

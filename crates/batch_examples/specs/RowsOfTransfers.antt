@@ -1,4 +1,4 @@
--- worked rows: units that are handed over, and which recipes may do so.
+-- worked rows: units that are passed on, and the recipes that may pass them.
 use Rattle.std.specs.Prelude.{◌≡◌, ℕ, List, [], ◌∷◌, ◌++◌, map, take, drop, true, false, Some, None, codes}
 use Rattle.batch_matrix.specs.declared.state.State.TheVariants.{Running, Holding, Held, Restarting, Stopping, Stopped}
 use Rattle.batch_matrix.specs.declared.command.Command.TheVariants.{Start, Hold, Restart, Stop, Abort}
@@ -134,7 +134,7 @@ kept more = move (begin 1 p001 keep) ∷ move (begin 1 p0010 cook) ∷ starts 1 
 abbrev pub UnitIsHandedOver : Type 0
 UnitIsHandedOver = run two (before ++ add_done ∷ []) ≡ told_before (reply (reported r1 add Report.Done 1 p00000 Running) ∷ handed_over (kept []))
 
--- a batch that holds hands over as well, and KEEP begins once it runs
+-- a batch on hold passes the unit as well, and KEEP begins once it runs
 abbrev pub HeldBatchHandsOver : Type 0
 HeldBatchHandsOver =
     run two (before ++ order Hold 1 ∷ add_done ∷ order Restart 1 ∷ [])
@@ -148,7 +148,7 @@ HeldBatchHandsOver =
     ∷ move (state 1 Running)
     ∷ kept []))
 
--- a batch that stops gives back what it reserved
+-- a batch that stops gives back the units that it reserved
 abbrev pub StoppingBatchGivesBack : Type 0
 StoppingBatchGivesBack =
     run two (before ++ order Stop 1 ∷ add_done ∷ [])
@@ -190,7 +190,7 @@ OperationHandsOver =
     ∷ releases 1 p000 r1
     ∷ kept [])
 
--- Who holds
+-- Holders
 
 abbrev pub share : ℕ → Place → Share
 share number place = record { act = (number, place); units = 1 }
@@ -201,19 +201,19 @@ KeepHoldsBeforeItBegins =
     (holders (settled_after two (before ++ order Hold 1 ∷ add_done ∷ [])) r2 ≡ share 1 p001 ∷ [])
     × (holders (settled_after two (before ++ order Hold 1 ∷ add_done ∷ [])) r1 ≡ [])
 
--- a record tells that the first place holds until the pass, and the second from then on
+-- in a record the first place holds until the pass, and the second from then on
 abbrev pub PassIsTold : Type 0
 PassIsTold =
     (holders_told (grants 1 p00000 r2 ∷ []) r2 ≡ share 1 p00000 ∷ [])
     × (holders_told (grants 1 p00000 r2 ∷ passes p00000 p001 r2 ∷ []) r2 ≡ share 1 p001 ∷ [])
     × (holders_told (grants 1 p00000 r2 ∷ passes p00000 p001 r2 ∷ releases 1 p001 r2 ∷ []) r2 ≡ [])
 
--- Units that stay with a batch, by what a record tells
+-- Units that stay with a batch, by a record alone
 
 abbrev pub for_keep : Kept
 for_keep = record { place = p001; unit = r2 }
 
--- where R2 was passed to KEEP and then this comes, it is kept for KEEP
+-- these units are kept after the pass of R2 to KEEP and then this line
 abbrev pub PassedAfter : Out → List Kept → Type 0
 PassedAfter out kept_then = passed_told 1 (passes p00000 p001 r2 ∷ out ∷ []) ≡ kept_then
 
@@ -227,7 +227,7 @@ PassedUnitIsKept =
     × PassedAfter (reply (ordered Abort 1 Stopping)) []
     × PassedAfter (reply (ordered Stop 2 Stopping)) (for_keep ∷ [])
 
--- where ADD, which reserves KEEP, has started and then this comes
+-- these units are kept after the start of ADD, which reserves KEEP, and then this line
 abbrev pub ReservedAfter : Out → List Kept → Type 0
 ReservedAfter out kept_then = reserved_told 1 recipe_e.procedure (starts 1 p00000 r1 add ∷ out ∷ []) ≡ kept_then
 
@@ -246,7 +246,7 @@ batch_of_e = new_batch 1 recipe_e 1000 []
 abbrev pub AreKept : List Out → Type 0
 AreKept outs = KeepsUnits outs batch_of_e
 
--- a run in which a unit is handed over, and the beginning of it that ends with the pass
+-- a run in which a unit is passed on, and its prefix that ends with the pass
 abbrev pub UnitsStay : Type 0
 UnitsStay = AreKept (run two (before ++ add_done ∷ [])) × AreKept (told_before (passes p00000 p001 r2 ∷ []))
 
@@ -260,7 +260,7 @@ PassedUnitIsLost = AreKept (told_before (passes p00000 p001 r2 ∷ releases 1 p0
 abbrev pub PassedUnitIsElsewhere : Type 0
 PassedUnitIsElsewhere = AreKept (passes p00000 p001 r2 ∷ releases 1 p001 r2 ∷ grants 1 p000 r2 ∷ []) → ⊥
 
--- What follows a step
+-- The followers of a step
 
 -- a procedure of unit procedures without needs, which have one operation of one phase
 abbrev pub labels_only : List Name → List Entry

@@ -38,7 +38,7 @@ ghost use Rattle.batch_examples.specs.RowsOfClearance.{
   MoreThan256Recipes,
 };
 
-/// Two recipes whose batches may point at each other are cleared, where no steps can.
+/// Two recipes are cleared whose batches may point at each other, but whose steps can't.
 pub fn crossed_branches_are_cleared()
     ensures { CrossedBranchesAreCleared }
 {}
@@ -87,13 +87,13 @@ pub fn one_part_runs_a_phase()
     ensures within { TurnsWithinTurns }
 {}
 
-/// A turn that is an act runs a phase just where every way through the act's own chart does.
+/// A turn that is an act runs a phase just if every way through the act's own chart does.
 pub fn act_runs_what_its_chart_runs()
     ensures phase { OperationRunsAPhase }
     ensures nothing { OperationMayRunNothing }
 {}
 
-/// No act of any level needs what the cell doesn't have.
+/// No act of any level needs a resource that the cell doesn't have.
 pub fn unknown_need()
     ensures procedure { ProcedureNeedsWater }
     ensures unit_procedure { UnitProcedureNeedsWater }
@@ -107,7 +107,7 @@ pub fn share_above_capacity()
     ensures more { MoreUnitsThanThereAre }
 {}
 
-/// A recipe with a role is cleared where each unit that may take the role could run it, and there is one.
+/// A recipe with a role is cleared if each unit that may take the role could run it, and there is one.
 pub fn candidates_of_a_role()
     ensures each { EachUnitMayTakeTheRole }
     ensures one { OneUnitMayNot }

@@ -1,5 +1,5 @@
 //! Worked rows of the machine's definitions: runs with their records, recipes that are cleared and that aren't, records that
-//! aren't safe, each for one reason, and what it is to wait for something. Nothing stands on this crate.
+//! aren't safe, each for one reason, and acts that wait for something. Nothing builds on this crate.
 //!
 //! Nothing runs here. The functions are empty: their contracts are the rows, which the prover computes.
 #![tactic(auto)]

@@ -1,4 +1,4 @@
-//! Worked rows: what the records of some runs are. The functions are empty: their contracts are the rows.
+//! Worked rows: the records of some runs. The functions are empty: their contracts are the rows.
 // claim: worked rows
 ghost use Rattle.batch_examples.specs.RowsOfMoves.{
   DemoIsExpanded,
@@ -178,7 +178,7 @@ pub fn held_ask_is_granted()
     ensures { HeldAskIsGranted }
 {}
 
-/// A stop takes the asks of its batch out of their lines.
+/// A stop removes the asks of its batch from their lines.
 pub fn stop_withdraws_asks()
     ensures record_lines { StopWithdrawsAsks }
     ensures stopped_ask { LaterAskPassesStopped }
@@ -275,7 +275,7 @@ pub fn want_of_memory()
     ensures command { MemoryRefusesNoStart }
 {}
 
-/// Of two phases beneath an act, the state that stands first is shown.
+/// Of the states of two phases beneath an act, the graver one is shown.
 pub fn earlier_state_shows()
     ensures aborting { AbortingBeforeStopping }
     ensures stopping { StoppingBeforeHolding }

@@ -93,7 +93,7 @@ pub fn not_empty_at_rest()
     ensures aborted_waiting { AtRestWaiting Aborted }
 {}
 
-/// Nor one in which steps wait in a circle, as the machine's own record can where recipes aren't cleared.
+/// Nor one in which steps wait in a circle, as the machine's own record can if recipes aren't cleared.
 // claim: unsafe rows
 pub fn waiting_in_a_circle()
     ensures alone { WaitsForItself }
@@ -102,7 +102,7 @@ pub fn waiting_in_a_circle()
     ensures unsafe_run { OpposedRunIsUnsafe }
 {}
 
-/// A step waits for those that wait at or below the holder of what it asks for, and for those that asked for it before.
+/// A step waits for those that wait at or below the holder of its resource, and for those that asked for that before.
 // claim: steps waited for
 pub fn steps_point()
     ensures newer { NewerPointsToOlder }

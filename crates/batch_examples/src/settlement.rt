@@ -1,4 +1,4 @@
-//! Worked rows: what it is to wait for something. The functions are empty: their contracts are the rows.
+//! Worked rows: waiting for something. The functions are empty: their contracts are the rows.
 ghost use Rattle.batch_examples.specs.RowsOfSettlement.{
   LivePhaseWorks,
   HeldBatchWorks,
@@ -12,7 +12,7 @@ ghost use Rattle.batch_examples.specs.RowsOfSettlement.{
   ChainWithoutEnd,
 };
 
-/// A holder is at work where a phase is live at or below it, or its batch isn't simply running; else it isn't.
+/// A holder is at work if a phase is live at or below it, or its batch isn't simply running; else it isn't.
 // claim: holders at work
 pub fn holders_at_work()
     ensures phase { LivePhaseWorks }
@@ -22,8 +22,8 @@ pub fn holders_at_work()
     ensures beside { PhaseBesideDoesNotWork }
 {}
 
-/// Somebody waits for nothing where enough is free, where nobody holds what is asked for, where a chain's last holder isn't
-/// at work, or where a chain has no end.
+/// An act waits for nothing if enough is free, if nobody holds the resource that it asks for, if a chain's last holder isn't at
+/// work, or if a chain has no end.
 // claim: waits for nothing
 pub fn waits_for_nothing()
     ensures free { HeaderIsFree }

@@ -20,7 +20,7 @@ use Rattle.batch_grammar.proofs.ChartTexts.{name_from, no_name, number_first}
 use Rattle.batch_grammar.proofs.ChartWords.{label_word}
 use Rattle.batch_grammar.proofs.ChartTokens.{runs, runs-skips, runs-word_token, runs-number_token, runs-operator_token, runs-sign, IsFree, free-skips, IsNotEquals, not_equals-skips}
 
--- ---- the list that is kept, and what the grammar adds to it
+-- ---- the list that is kept, and the parts that the grammar adds to it
 
 abbrev pub with_diagrams : List Diagram → Diagrams → Diagrams
 with_diagrams [] ts = ts
@@ -58,7 +58,7 @@ noted-joined o f g = two _ _ _ _ (first_or-append o.outside f.outside g.outside)
 noted-joined2 : (o : Firsts) (f g h : Offsets) → noted (noted (noted o f) g) h ≡ noted o (joined f (joined g h))
 noted-joined2 o f g h = sym (noted-joined (noted o f) g h) ∙ sym (noted-joined o f (joined g h))
 
--- ---- what follows a token
+-- ---- the text after a token
 
 free-operator : {s t : List ℕ} {op : Op} → ReadsOp s t op → IsFree s
 free-operator (spec.less skips) = free-skips skips refl
@@ -245,12 +245,12 @@ complete (spec.whole {text = text} {t = t} {d = tree} {offsets = offsets} reads 
 pub one_chart : {text : List ℕ} {f g : Offsets} {a b : Diagram} → IsWideChart text a f → IsWideChart text b g → (a ≡ b) × (noted no_firsts f ≡ noted no_firsts g)
 one_chart {f = f} {g = g} {a = a} {b = b} x y = grind (arith, complete x, complete y)
 
--- ---- fronts of texts
+-- ---- prefixes of texts
 
 both : (o : Option State) (f g : State → Option (Diagram × Firsts)) (h : State → Option State) → ((x : State) → f x ≡ option_and_then g (h x)) → option_and_then f o ≡ option_and_then g (option_and_then h o)
 both o f g h e = grind arith
 
--- a front of what is left, and then the rest
+-- a prefix of the remaining text, and then the rest
 pub runs-steps : (s t : List ℕ) (place total : ℕ) (st : State) → place + length (s ++ t) ≡ total → runs total (s ++ t) st ≡ option_and_then (runs total t) (steps place s st)
 unfolding runs steps
 runs-steps [] t place total st h = refl

@@ -1,4 +1,4 @@
--- What the machine has not refused begins a text of a chart.
+-- A text that the machine has not refused begins a text of a chart.
 use Rattle.std.proofs.Common.{◌≡◌, ℕ, ◌+◌, ◌-◌, List, [], ◌∷◌, ◌++◌, length, Bool, true, false, ltb, Option, Some, None, option_and_then, option_map, eqb, refl, sym, ap, ◌∙◌, subst, arith}
 use Rattle.std.specs.Prelude.{codes}
 use Rattle.std.specs.Char.{is_ascii_alphabetic, is_ascii_digit}
@@ -180,7 +180,7 @@ unfolding step
 step_fit place b st fit =
     if_leads (continues st.lexeme b) _ _ Fits (λ _. go_on_fit st.lexeme b st fit) (λ _. any_then (end_token place st.lexeme st) (begin place b) Fits (begin_fit place b))
 
--- a state that is reached fits, and what is in its token may be a whole token
+-- a state that is reached fits, and its token may be a whole one
 steps_keep : (s : List ℕ) (place : ℕ) (st after : State) → Fits st → steps place s st ≡ Some after → Fits after
 unfolding steps
 steps_keep [] place st after fit e = let same : st ≡ after = cc in subst Fits same fit

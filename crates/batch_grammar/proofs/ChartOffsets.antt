@@ -17,14 +17,14 @@ same_par text a b f g x y = grind (arith, first_or-none f.pars, one_chart x y, f
 pub one_number : (text : List ℕ) (m n : ℕ) → IsOutsideAt text m → IsOutsideAt text n → m ≡ n
 one_number text m n x y = grind (arith, same_outside)
 
--- the front of the text up to n is the one up to m, and more
+-- the prefix of the text up to n is the one up to m, and more
 longer_front : (text rest : List ℕ) (m n : ℕ) → m ≤ n → take n text ++ rest ≡ take m text ++ (drop m (take n text) ++ rest)
 longer_front text rest m n h =
     let front = take n text in
     ap (λ l. l ++ rest) (sym (take-append-drop m front)) ∙ append_assoc (take m front) (drop m front) rest
     ∙ ap (λ l. l ++ (drop m front ++ rest)) (take-take m n text h)
 
--- a longer front begins a chart, and a shorter one none
+-- a longer prefix begins a chart, and a shorter one none
 not_later : (text : List ℕ) (m n : ℕ) → HasFaultAt text m → HasFaultAt text n → m < n → ⊥
 not_later text m n x y h =
     let front = y.front in

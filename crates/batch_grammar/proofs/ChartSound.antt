@@ -1,4 +1,4 @@
--- What the machine takes is a text of the chart that it gives.
+-- A text that the machine accepts is one of the chart that it gives.
 use Rattle.std.proofs.Common.{◌≡◌, ℕ, suc, ◌+◌, ◌-◌, List, [], ◌∷◌, ◌++◌, length, Bool, true, false, ltb, eqb, Option, Some, None, option_map, option_and_then, refl, sym, ap, ◌∙◌, subst, append_assoc, append-nil, arith, length-append}
 use Rattle.std.specs.Prelude.{codes, ⊤, if◌then◌else◌}
 use Rattle.std.specs.Str.{bytes_eq}
@@ -39,9 +39,9 @@ joined_assoc f g h = offsets_of _ _ _ _ (append_assoc f.outside g.outside h.outs
 joined-none : (f : Offsets) → joined f no_offsets ≡ f
 joined-none f = offsets_of _ _ _ _ (append-nil f.outside) (append-nil f.pars)
 
--- ---- what may be given, if anything is
+-- ---- a property of the result, if there is one
 
--- P of what is given
+-- P of the result, if there is one
 abbrev pub Leads : {A : Type 0} → Option A → (A → Type 0) → Type 0
 Leads None P = ⊤
 Leads (Some x) P = P x
@@ -89,8 +89,8 @@ word_cases P bytes is_skip is_seq is_par is_sel is_loop is_else is_name =
     if_cases P (bytes_eq bytes (codes "else")) word.Else word.Name (λ h. is_else (bytes_eq-is bytes (codes "else") h)) (λ n6.
     is_name (rw (n1, n2, n3, n4, n5, n6) refl)))))))
 
--- ---- what may follow
--- In a text of length total, s completes what has been read to the text of the chart whole. The list has the
+-- ---- the rest of a text
+-- In a text of length total, s completes the part that has been read to the text of the chart whole. The list has the
 -- offsets of the numbers out of range in s.
 
 module _ (total : ℕ) (whole : Diagram) where
@@ -119,7 +119,7 @@ module _ (total : ℕ) (whole : Diagram) where
     closes_loop : {n : ℕ} {c : Cond} {frames : List Frame} {t : Diagram} {s s1 : List ℕ} {out : Offsets}
         → Skips s (41 ∷ s1) → Completes frames (chart.loop n c t) s1 out → Completes (in_loop n c ∷ frames) t s out
 
-  -- what is wanted comes
+  -- the rest of a text from the wanted token on
   data From : Want → List Frame → List ℕ → Offsets → Type 0 where
     from_chart : {frames : List Frame} {s s1 : List ℕ} {f g : Offsets} {t : Diagram} → Reads total (within frames) s s1 t f → Completes frames t s1 g → From a_chart frames s (joined f g)
     from_after_chart : {frames : List Frame} {s : List ℕ} {out : Offsets} {t : Diagram} → Completes frames t s out → From (after_chart t) frames s out
@@ -218,7 +218,7 @@ module _ (total : ℕ) (whole : Diagram) where
   close_leads t (in_else us ∷ frames) = λ s out h. closes_else here (subst (λ x. Completes frames (chart.sel x) s out) (cases_of-is us t) (unread h))
   close_leads t (in_loop n c ∷ frames) = λ s out h. closes_loop here (unread h)
 
-  -- a sign takes what is wanted to what is wanted after it
+  -- a sign leads from the wanted token to the one wanted after it
   abbrev Takes : Want → List Frame → ℕ → Want × List Frame → Type 0
   Takes w frames b p = (s : List ℕ) (out : Offsets) → From p.0 p.1 s out → From w frames (b ∷ s) (joined (sign_offsets w (total - length (b ∷ s))) out)
 
@@ -245,7 +245,7 @@ module _ (total : ℕ) (whole : Diagram) where
 
   -- ---- words, numbers and operators
 
-  -- a word takes what is wanted to what is wanted after it
+  -- a word leads from the wanted token to the one wanted after it
   abbrev TakesWord : Want → List Frame → List ℕ → Want → Type 0
   TakesWord w frames bytes w' = (s : List ℕ) (out : Offsets) → From w' frames s out → From w frames (bytes ++ s) out
 
@@ -380,7 +380,7 @@ module _ (total : ℕ) (whole : Diagram) where
 
   -- ---- bytes
 
-  -- what has been read of the next token
+  -- the bytes of the next token that have been read
   abbrev text_of : Lexeme → List ℕ
   text_of nothing = []
   text_of (letters bytes) = bytes
@@ -389,14 +389,14 @@ module _ (total : ℕ) (whole : Diagram) where
   text_of more = 62 ∷ []
   text_of slash = 47 ∷ []
 
-  -- s completes what has been read, and k is the first number out of range
+  -- s completes the part that has been read, with the first offsets k
   abbrev Rest : List ℕ → Want → List Frame → Firsts → List ℕ → Firsts → Type 0
   Rest read w frames o s k = (out : Offsets) × From w frames (read ++ s) out × (noted o out ≡ k)
 
   abbrev RestOf : State → List ℕ → Firsts → Type 0
   RestOf st s k = Rest (text_of st.lexeme) st.want st.stack st.firsts s k
 
-  -- what a step leads to
+  -- a step leaves a good token, and a rest of the text after it gives one before it
   abbrev Back : List ℕ → Want → List Frame → Firsts → List ℕ → List ℕ → State → Type 0
   Back read w frames o s' s st = IsGood st.lexeme × ((k : Firsts) → RestOf st s k → Rest read w frames o s' k)
 
@@ -486,7 +486,7 @@ module _ (total : ℕ) (whole : Diagram) where
       let continued = runs_back s in
       from_leads (step (total - length (b ∷ s)) b st) _ _ (whole, k) (step_back b s st good) e (λ x h f. h.1 k (continued x k h.0 f))
 
--- what the machine takes is a text of the chart that it gives, with the first of its numbers out of range
+-- a text that the machine accepts is one of the chart that it gives, with the first offsets that it gives
 pub sound : (text : List ℕ) (tree : Diagram) (k : Firsts) → runs (length text) text start ≡ Some (tree, k) → (out : Offsets) × IsWideChart text tree out × (noted no_firsts out ≡ k)
 sound text tree k e = whole_text (runs_back (length text) tree text start k tt e)
   where
@@ -496,7 +496,7 @@ sound text tree k e = whole_text (runs_back (length text) tree text start k tt e
     whole_text : RestOf (length text) tree start text k → (out : Offsets) × IsWideChart text tree out × (noted no_firsts out ≡ k)
     whole_text r = (r.0, reads_whole r.1, r.2)
 
--- a step leaves what may be a whole token
+-- a step leaves a token that may be a whole one
 pub step_good : (place b : ℕ) (st after : State) → IsGood st.lexeme → step place b st ≡ Some after → IsGood after.lexeme
 step_good place b st after good e =
     let total = place + 1 in

@@ -1,4 +1,4 @@
--- What the machine does at a whole token.
+-- The machine at a whole token.
 use Rattle.std.proofs.Common.{◌≡◌, ℕ, ◌+◌, ◌-◌, ◌≤◌, List, [], ◌∷◌, ◌++◌, length, true, false, ltb, eqb, Option, Some, option_and_then, refl, ap, ◌∙◌, append_assoc, append-nil, arith, length-append}
 use Rattle.std.specs.Prelude.{⊤}
 use Rattle.std.specs.List.{list_all}
@@ -19,7 +19,7 @@ use Rattle.batch_grammar.specs.ChartMachine.{Frame, Test, Want, an_operator, an_
 use Rattle.batch_grammar.proofs.ChartBytes.{letter-no_space, digit-no_space, digit-no_letter, space-no_name_byte, space-not_equals}
 use Rattle.batch_grammar.proofs.ChartTexts.{IsNameFrom, name_from, no_name, number_first}
 
--- the machine, over what is left of a text of length total
+-- the machine, over the rest of a text of length total
 unfoldable pub runs : ℕ → List ℕ → State → Option (Diagram × Firsts)
 runs total [] st = finish (total - length {A = ℕ} []) st
 runs total (b ∷ s) st = option_and_then (runs total s) (step (total - length (b ∷ s)) b st)
@@ -90,7 +90,7 @@ abbrev pub Ends : Lexeme → List ℕ → Type 0
 Ends l [] = ⊤
 Ends l (b ∷ s) = continues l b ≡ false
 
--- where the token ends, the machine goes on with what it was
+-- at the end of a token, the machine goes on from the state after it
 ended : (total : ℕ) (t : List ℕ) (l : Lexeme) (w : Want) (frames : List Frame) (o : Firsts) (w' : Want) (o' : Firsts) → Ends l t
     → end_token (total - length t) l (in_token l w frames o) ≡ Some (between w' frames o')
     → runs total t (in_token l w frames o) ≡ runs total t (between w' frames o')

@@ -10,7 +10,7 @@ use Rattle.batch_grammar.specs.ChartMachine.{word_of}
 use Rattle.batch_grammar.specs.declared.word.Word.{Word}
 use Rattle.batch_grammar.specs.declared.word.Word.TheVariants as word
 
--- one test decides what the other does
+-- the two tests agree
 same_tests : (xs ys : List ℕ) → same_name xs ys ≡ bytes_eq xs ys
 same_tests xs ys = grind (arith, bytes_eq-Decides xs ys)
 

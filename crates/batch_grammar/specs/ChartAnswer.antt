@@ -1,4 +1,4 @@
--- trusted: what the answers of the reader of charts say.
+-- trusted: the meaning of the answers of the reader of charts.
 use Rattle.std.specs.Prelude.{◌≡◌, ℕ, ◌+◌, ◌<◌, ◌≤◌, List, [], ◌∷◌, ◌++◌, length, take, Option, Some, None, ◌↔◌, true}
 use Rattle.batch_recipe.specs.Diagram.{Diagram}
 use Rattle.batch_recipe.specs.WellFormed.{has_no_par}
@@ -16,7 +16,7 @@ pub record IsRead (text : List ℕ) (chart : Diagram) (first_par : Option ℕ) :
   pub first : first_par ≡ first_of pars
   pub has_par : (first_par ≡ None) ↔ (has_no_par chart ≡ true)
 
--- the text is of no chart, and the offset is the length of its longest front that begins a text of a chart,
+-- the text is of no chart, and the offset is the length of its longest prefix that begins a text of a chart,
 -- whatever the numbers
 pub record HasFaultAt (text : List ℕ) (offset : ℕ) : Type 0 where
   pub within : offset ≤ length text

@@ -1,4 +1,4 @@
--- surface: what the grammar of charts says of a chart, in the words of a recipe's tests.
+-- surface: the properties of a chart of the grammar, in the words of a recipe's tests.
 use Rattle.std.specs.Prelude.{◌≡◌, true, List, [], ◌∷◌, ◌++◌, All}
 use Rattle.std.specs.List.{list_all}
 use Rattle.batch_recipe.specs.Conditions.{Name}
@@ -49,7 +49,7 @@ abbrev mutual
   values_of_cases (otherwise d) = values_of d
   values_of_cases (when c d cs) = (names_compared c ++ values_of d) ++ values_of_cases cs
 
--- labels and names are names and none of the six words, and where they are declared, the chart is one of a recipe:
+-- labels and names are names and none of the six words, and if they are declared, the chart is one of a recipe:
 -- nesting, branches, turns and numbers are in their limits
 pub record IsFormed (chart : Diagram) : Type 0 where
   pub labels : All IsLabel (labels_of chart)

@@ -39,7 +39,7 @@ pub data ReadsOp : List ℕ → List ℕ → Op → Type 0 where
   at_least : {s t : List ℕ} → Skips s (codes ">=" ++ t) → ReadsOp s t AtLeast
   greater : {s t : List ℕ} → Skips s (codes ">" ++ t) → ReadsOp s t Greater
 
--- ---- what a text is asked about, beside its chart
+-- ---- the offsets that are noted of a text, beside its chart
 
 -- offsets in a text, in order
 pub record Offsets : Type 0 where
@@ -51,7 +51,7 @@ pub record Offsets : Type 0 where
 abbrev pub no_offsets : Offsets
 no_offsets = record { outside = []; pars = [] }
 
--- those of a part of the text, and of what follows it
+-- those of a part of the text, and of the part after it
 abbrev pub joined : Offsets → Offsets → Offsets
 joined a b = record { outside = a.outside ++ b.outside; pars = a.pars ++ b.pars }
 

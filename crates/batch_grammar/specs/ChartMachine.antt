@@ -23,7 +23,7 @@ use Rattle.batch_grammar.specs.declared.firsts.Firsts.{Firsts}
 
 -- ---- the state
 
--- a chart that stands inside another one is being read: which one, with what has been read of it
+-- the form around the chart that is being read, with its parts so far
 pub data Frame : Type 0 where
   in_seq : List Diagram → Frame
   in_par : List Diagram → Frame
@@ -31,12 +31,12 @@ pub data Frame : Type 0 where
   in_else : List (Cond × Diagram) → Frame
   in_loop : ℕ → Cond → Frame
 
--- whose condition is being read
+-- the form whose condition is being read
 pub data Test : Type 0 where
   of_sel : List (Cond × Diagram) → Test
   of_loop : ℕ → Test
 
--- what the next token has to be
+-- the token that has to come next
 pub data Want : Type 0 where
   a_chart : Want
   open_seq : Want
@@ -52,7 +52,7 @@ pub data Want : Type 0 where
   after_else : List (Cond × Diagram) → Want
   after_chart : Diagram → Want
 
--- what has been read of the next token
+-- the next token as far as it has been read
 pub data Lexeme : Type 0 where
   nothing : Lexeme
   letters : List ℕ → Lexeme
@@ -101,7 +101,7 @@ word_of bytes =
     if bytes_eq bytes (codes "else") then word.Else else
     word.Name
 
--- nesting one deeper, where that is allowed
+-- nesting one deeper, if that is allowed
 abbrev pub deeper : ℕ → Want → Option Want
 deeper depth w = if ltb depth MAX_DEPTH then Some w else None
 
@@ -152,13 +152,13 @@ take_number a_turns n = Some (after_turns n)
 take_number (an_operand test bytes op) n = Some (after_condition test (condition_of bytes op (term.Number n)))
 take_number _ n = None
 
--- what is noted of a number
+-- the offsets that are noted of a number
 abbrev pub number_offsets : Want → ℕ → ℕ → Offsets
 number_offsets a_turns n offset = ranged 1 MAX_TURNS n offset
 number_offsets (an_operand test bytes op) n offset = ranged 0 MAX_VALUE n offset
 number_offsets _ n offset = no_offsets
 
--- what is noted of a sign
+-- the offsets that are noted of a sign
 abbrev pub sign_offsets : Want → ℕ → Offsets
 sign_offsets open_par offset = opens_par offset
 sign_offsets _ offset = no_offsets
@@ -246,7 +246,7 @@ begin_operator b st =
     if b == ascii.equals then with_want st (take_operator st.want Equal) else
     None
 
--- a byte that no token goes on with
+-- a byte that continues no token
 unfoldable pub begin : ℕ → ℕ → State → Option State
 begin place b st =
     if is_chart_space b then Some (record st { lexeme = nothing }) else
@@ -271,7 +271,7 @@ end_token place less st = with_want st (take_operator st.want Less)
 end_token place more st = with_want st (take_operator st.want Greater)
 end_token place slash st = None
 
--- what may be a whole token
+-- the token may be a whole one
 abbrev pub IsGood : Lexeme → Type 0
 IsGood nothing = Unit {0}
 IsGood (letters bytes) = IsName bytes

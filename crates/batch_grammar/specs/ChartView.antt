@@ -1,4 +1,4 @@
--- private: what the values of the reader of charts stand for, without where they lie in memory.
+-- private: the machine's values for those of the reader of charts, without their places in memory.
 use Rattle.std.specs.Prelude.{◌≡◌, ℕ, List, map, reverse, Option, Some, None, Result, Ok, Err, slice_range}
 use Rattle.batch_recipe.specs.declared.condition.Cond.{Cond}
 use Rattle.batch_recipe.specs.declared.chart.Chart.{Chart}
@@ -65,7 +65,7 @@ lexeme_view text place lexeme.Less = less
 lexeme_view text place lexeme.More = more
 lexeme_view text place lexeme.Slash = slash
 
--- What a function gave, seen by view, is what the machine gives, unless memory ran out.
+-- The result of a function, seen by view, is that of the machine, unless memory ran out.
 abbrev pub Gives : {X Y : Type 0} → (X → Y) → Result X Stop → Option Y → Type 0
 Gives view (Ok x) o = o ≡ Some (view x)
 Gives view (Err stop.NotAChart) o = o ≡ None

@@ -8,7 +8,7 @@ use thiserror::Error;
 /// Why a text gives no chart. Offsets count its bytes from 0.
 #[derive(Clone, Copy, Debug, Error)]
 pub enum ChartFault {
-    /// The length of the longest front of the text that begins some chart, whatever its numbers.
+    /// The length of the longest prefix of the text that begins some chart, whatever its numbers.
     #[error("not a chart at byte {0}")]
     NotAChart(usize),
     /// Where the first number out of range begins, in a text that is else a chart.

@@ -1,4 +1,4 @@
-//! What is noted of a text beside its chart.
+//! The offsets that are noted of a text beside its chart.
 ghost use Rattle.std.specs.Prelude.{◌≡◌, Option};
 ghost use Rattle.batch_grammar.specs.ChartMachine.{first_or, no_firsts, noted, number_offsets, sign_offsets};
 ghost use Rattle.batch_grammar.specs.ChartView.{want_view};
@@ -16,7 +16,7 @@ pub struct Firsts {
 }
 
 impl Firsts {
-    /// With nothing noted yet.
+    /// No offset of either kind.
     pub fn none() -> Firsts
         ensures { result ≡ no_firsts }
     {
@@ -26,7 +26,7 @@ impl Firsts {
         }
     }
 
-    /// With the number that begins at the offset.
+    /// Notes the number that begins at the offset, if it is the first out of range.
     pub fn with_number(self, want: &Want, number: u64, offset: usize) -> Firsts
         ensures { result ≡ noted self (number_offsets (want_view want.now) number offset) }
     {
@@ -44,7 +44,7 @@ impl Firsts {
         }
     }
 
-    /// With the sign at the offset.
+    /// Notes the sign at the offset, if it is where the first `par` opens.
     pub fn with_sign(self, want: &Want, offset: usize) -> Firsts
         ensures { result ≡ noted self (sign_offsets (want_view want.now) offset) }
     {

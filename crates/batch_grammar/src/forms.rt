@@ -60,7 +60,7 @@ fn close_loop(alloc: Global, turns: u64, condition: Cond, body: Chart) -> Result
     Ok(Chart::Loop(turns, Box::new(alloc, (condition, body))?))
 }
 
-/// A closing parenthesis after a chart.
+/// Reads a closing parenthesis after a chart.
 pub fn take_close(alloc: Global, last: Chart, stack: &mut Vec<Frame>) -> Result<Want, Stop>
     ensures { Gives (after_view stack.new.items) result (take_close (diagram_of last) (frames_view stack.old.items)) }
 {

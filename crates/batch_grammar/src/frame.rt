@@ -2,7 +2,7 @@
 
 use batch_recipe::{Chart, Cond};
 
-/// A form that is being read, with what has been read of it.
+/// A form that is being read, with its parts so far.
 #[derive(Drop)]
 pub enum Frame {
     Seq(Vec<Chart>),

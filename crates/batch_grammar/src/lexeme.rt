@@ -5,7 +5,7 @@ ghost use Rattle.batch_grammar.specs.ChartView.{lexeme_view};
 
 use batch_text::is_name_byte;
 
-/// What has been read of the next token: a word or a number by the offset where it begins.
+/// The next token as far as it has been read: a word or a number by the offset where it begins.
 #[derive(Clone, Copy)]
 pub enum Lexeme {
     Nothing,
@@ -17,7 +17,7 @@ pub enum Lexeme {
 }
 
 impl Lexeme {
-    /// The token goes on with the byte.
+    /// Whether the token goes on with the byte.
     pub fn continues(self, byte: u8) -> bool
         ensures { (text : List ℕ) (place : ℕ) → result ≡ continues (lexeme_view text place self) byte }
     {

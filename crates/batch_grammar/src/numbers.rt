@@ -1,4 +1,4 @@
-//! What a whole number or an operator changes in what is wanted.
+//! The change of the wanted token by a whole number or an operator.
 ghost use Rattle.std.specs.Prelude.{◌≡◌};
 ghost use Rattle.batch_text.specs.NumberText.{number_of, IsNumber};
 ghost use Rattle.batch_grammar.specs.ChartMachine.{take_number, take_operator};
@@ -19,7 +19,7 @@ pub fn number_of(digits: &[u8]) -> u64
     read_number(digits, u64::MAX).unwrap()
 }
 
-/// A number.
+/// Reads a number.
 pub fn take_number(want: &mut Want, number: u64) -> Result<(), Stop>
     ensures { Gives (λ _. want_view want.new) result (take_number (want_view want.old) number) }
 {
@@ -34,7 +34,7 @@ pub fn take_number(want: &mut Want, number: u64) -> Result<(), Stop>
     Ok(())
 }
 
-/// An operator.
+/// Reads an operator.
 pub fn take_operator(want: &mut Want, op: Op) -> Result<(), Stop>
     ensures { Gives (λ _. want_view want.new) result (take_operator (want_view want.old) op) }
 {

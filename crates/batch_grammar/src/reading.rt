@@ -24,7 +24,7 @@ pub struct ReadChart {
     pub first_par: Option<usize>,
 }
 
-/// Reads the chart of a text, as [`read_chart`] does, and tells where its first `par` opens.
+/// Reads the chart of a text, as [`read_chart`] does, and finds where its first `par` opens.
 pub fn read_chart_and_par(alloc: Global, text: &[u8]) -> Result<ReadChart, ChartFault>
     // claim: chart read; first `par`
     ensures found { IfOk result (λ read. IsRead text.now (diagram_of read.chart) read.first_par) }
@@ -61,7 +61,7 @@ pub fn read_chart_and_par(alloc: Global, text: &[u8]) -> Result<ReadChart, Chart
 }
 
 /// Reads the chart of a text. `NotAChart`: the text is none, whatever range its numbers may have. `OutOfRange`: it is one but
-/// for the range of its numbers. Both tell an offset in bytes from 0. `Memory` may come of any text.
+/// for the range of its numbers. Both have an offset in bytes from 0. Any text may give `Memory`.
 pub fn read_chart(alloc: Global, text: &[u8]) -> Result<Chart, ChartFault>
     // claim: chart read
     ensures found { IfOk result (λ chart. IsChart text.now (diagram_of chart)) }

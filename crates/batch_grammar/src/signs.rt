@@ -1,4 +1,4 @@
-//! What a sign changes in what is wanted.
+//! The change of the wanted token by a sign.
 ghost use Rattle.std.specs.Prelude.{◌≡◌, ◌≢◌, ◌∷◌, ◌==◌, List, true, false, Some, MatchResult};
 ghost use Rattle.batch_recipe.specs.declared.condition.Cond.{Cond as Condition};
 ghost use Rattle.batch_recipe.specs.Diagram.{Diagram, diagram_of};
@@ -14,7 +14,7 @@ use batch_recipe::{Chart, Cond};
 use std::alloc::Global;
 use std::mem::replace;
 
-/// The byte is the sign.
+/// Checks that the byte is the sign.
 fn expect(byte: u8, sign: u8) -> Result<(), Stop>
     ensures { MatchResult result (λ _. (byte == sign) ≡ true) (λ e. (e ≡ Stop.NotAChart) × ((byte == sign) ≡ false)) }
 {
@@ -25,7 +25,7 @@ fn expect(byte: u8, sign: u8) -> Result<(), Stop>
     }
 }
 
-/// A chart begins inside the frame.
+/// Begins a chart inside the frame.
 fn inside(stack: &mut Vec<Frame>, frame: Frame) -> Result<Want, Stop>
     ensures { Gives (after_view stack.new.items) result (Some (a_chart, frame_view frame ∷ frames_view stack.old.items)) }
 {
@@ -33,7 +33,7 @@ fn inside(stack: &mut Vec<Frame>, frame: Frame) -> Result<Want, Stop>
     Ok(Want::Chart)
 }
 
-/// The comma after a case, whose chart has been read.
+/// Reads the comma after a case, whose chart has been read.
 #[tactic(auto, using(crate::proofs::ChartFrames::cases_view_last))]
 fn end_case(want: &mut Want, chart: Chart, stack: &mut Vec<Frame>) -> Result<(), Stop>
     ensures { (cases : List (Condition × Diagram)) (condition : Condition) (frames : List Around) → frames_view stack.old.items ≡ in_case cases condition ∷ frames
@@ -49,7 +49,7 @@ fn end_case(want: &mut Want, chart: Chart, stack: &mut Vec<Frame>) -> Result<(),
     }
 }
 
-/// A comma after a chart, where one is wanted next. In a `seq` or a `par` it is added where that stands on the stack.
+/// Reads a comma after a chart, with a chart already wanted next. A `seq` or a `par` gets the chart in place, on the stack.
 fn take_comma(want: &mut Want, chart: Chart, stack: &mut Vec<Frame>) -> Result<(), Stop>
     requires { want_view want.old ≡ a_chart }
     ensures { Gives (λ _. after_view stack.new.items want.new) result (take_comma (diagram_of chart) (frames_view stack.old.items)) }
@@ -75,7 +75,7 @@ fn take_comma(want: &mut Want, chart: Chart, stack: &mut Vec<Frame>) -> Result<(
     }
 }
 
-/// The colon or the comma after a condition.
+/// Reads the colon or the comma after a condition.
 fn end_condition(
     test: Test,
     condition: Cond,
@@ -96,7 +96,7 @@ fn end_condition(
     }
 }
 
-/// The comma or the parenthesis after a chart, where one is wanted next if more follows.
+/// Reads the comma or the parenthesis after a chart, with a chart already wanted next.
 fn end_chart(
     alloc: Global,
     want: &mut Want,
@@ -117,7 +117,7 @@ fn end_chart(
     }
 }
 
-/// A parenthesis, a comma or a colon that stands after no chart.
+/// Reads a parenthesis, a comma or a colon that follows no chart.
 fn take_other_sign(
     alloc: Global,
     want: &mut Want,
@@ -160,7 +160,7 @@ fn take_other_sign(
     Ok(())
 }
 
-/// A parenthesis, a comma or a colon. Most stand after a chart, of which nothing but the chart is moved.
+/// Reads a parenthesis, a comma or a colon. Most follow a chart, and move nothing but that.
 pub fn take_sign(
     alloc: Global,
     want: &mut Want,

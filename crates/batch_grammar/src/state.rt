@@ -1,10 +1,10 @@
-//! How far a text has been read.
+//! The state of the reader.
 use crate::firsts::Firsts;
 use crate::frame::Frame;
 use crate::lexeme::Lexeme;
 use crate::want::Want;
 
-/// How far a text has been read: the token, what it may be, the forms around it with the innermost last, and what was noted.
+/// The state of the reader: the token so far, the wanted one, the forms around it with the innermost last, and the noted offsets.
 #[derive(Drop)]
 pub struct State {
     pub lexeme: Lexeme,

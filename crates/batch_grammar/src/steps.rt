@@ -1,4 +1,4 @@
-//! One byte after another.
+//! Reading one byte after another.
 ghost use Rattle.std.specs.Prelude.{◌≡◌, ◌+◌, ◌<◌, ℕ, List, length, slice_index, true, false, MatchResult};
 ghost use Rattle.batch_grammar.specs.ChartGrammar.{is_chart_space};
 ghost use Rattle.batch_grammar.specs.ChartMachine.{begin, begin_operator, finish, step, take_sign, with_after, IsGood};
@@ -15,7 +15,7 @@ use crate::want::Want;
 use batch_recipe::{Chart, Op};
 use std::alloc::Global;
 
-/// A token begins that is one of those wanted, or not.
+/// Begins a token, if it is one of those wanted.
 fn starts(state: &mut State, is_wanted: bool, lexeme: Lexeme) -> Result<(), Stop>
     ensures { MatchResult result (λ _. (is_wanted ≡ true) × (state.new ≡ record state.old { lexeme = lexeme }))
         (λ stop. (stop ≡ Stop.NotAChart) × (is_wanted ≡ false)) }
@@ -27,7 +27,7 @@ fn starts(state: &mut State, is_wanted: bool, lexeme: Lexeme) -> Result<(), Stop
     Ok(())
 }
 
-/// An operator's first byte, or the sign `=`.
+/// Reads an operator's first byte, or the sign `=`.
 fn begin_operator(state: &mut State, byte: u8) -> Result<(), Stop>
     ensures { (text : List ℕ) (before after : ℕ) → Gives (λ _. state_view text after state.new) result (begin_operator byte (state_view text before state.old)) }
 {
@@ -40,7 +40,7 @@ fn begin_operator(state: &mut State, byte: u8) -> Result<(), Stop>
     }
 }
 
-/// A parenthesis, a comma or a colon.
+/// Reads a parenthesis, a comma or a colon.
 fn begin_sign(alloc: Global, state: &mut State, place: usize, byte: u8) -> Result<(), Stop>
     ensures { (text : List ℕ) (before after : ℕ) → Gives (λ _. state_view text after state.new) result
         (with_after place (state_view text before state.old) (take_sign (want_view state.old.want) byte (frames_view state.old.stack.items))) }
@@ -51,14 +51,14 @@ fn begin_sign(alloc: Global, state: &mut State, place: usize, byte: u8) -> Resul
     Ok(())
 }
 
-/// A space, a tab, a line feed or a carriage return.
+/// Whether the byte is a space, a tab, a line feed or a carriage return.
 fn is_chart_space(byte: u8) -> bool
     ensures { result ≡ is_chart_space byte }
 {
     byte == b' ' || byte == b'\t' || byte == b'\n' || byte == b'\r'
 }
 
-/// A byte that no token goes on with.
+/// Reads a byte that continues no token.
 #[tactic(auto, unfolding(crate::specs::ChartMachine::begin), using(crate::proofs::ChartTexts::just_one))]
 fn begin(alloc: Global, text: &[u8], state: &mut State, place: usize) -> Result<(), Stop>
     requires { place < length text.now }
@@ -83,7 +83,7 @@ fn begin(alloc: Global, text: &[u8], state: &mut State, place: usize) -> Result<
     begin_sign(alloc, state, place, byte)
 }
 
-/// The byte at the place.
+/// Reads the byte at the place.
 #[tactic(auto, unfolding(crate::specs::ChartMachine::step))]
 pub fn step(alloc: Global, text: &[u8], state: &mut State, place: usize) -> Result<(), Stop>
     requires inside { place < length text.now }
@@ -100,7 +100,7 @@ pub fn step(alloc: Global, text: &[u8], state: &mut State, place: usize) -> Resu
     begin(alloc, text, state, place)
 }
 
-/// The end of the text.
+/// Reads the end of the text.
 #[tactic(auto, unfolding(crate::specs::ChartMachine::finish), using(crate::proofs::ChartFrames::frames_view_nil))]
 pub fn finish(alloc: Global, text: &[u8], mut state: State) -> Result<(Chart, Firsts), Stop>
     requires { IsGood (lexeme_view text.now (length text.now) state.lexeme) }

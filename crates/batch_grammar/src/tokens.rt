@@ -1,4 +1,4 @@
-//! How a token goes on and ends.
+//! The continuation and the end of a token.
 ghost use Rattle.std.specs.Prelude.{◌≡◌, ◌+◌, ◌<◌, ◌≤◌, ℕ, List, length, slice_index, MatchResult};
 ghost use Rattle.batch_text.specs.NameText.{IsName};
 ghost use Rattle.batch_text.specs.NumberText.{IsNumber};
@@ -14,7 +14,7 @@ use batch_recipe::Op;
 use batch_text::{MAX_DIGITS, MAX_NAME_LEN};
 use std::alloc::Global;
 
-/// A word or a number goes on with the byte at the place, where it may be longer.
+/// Checks that a word or a number may be longer.
 fn longer(token: &[u8], most: usize) -> Result<(), Stop>
     ensures { MatchResult result (λ _. length token.now < most) (λ stop. (stop ≡ Stop.NotAChart) × (most ≤ length token.now)) }
 {
@@ -25,7 +25,7 @@ fn longer(token: &[u8], most: usize) -> Result<(), Stop>
     }
 }
 
-/// The token is an operator of two bytes.
+/// Ends the token, which is the operator.
 pub fn end_operator(state: &mut State, op: Op) -> Result<(), Stop>
     ensures { (text : List ℕ) (before after : ℕ) → Gives (λ _. state_view text after state.new) result
         (with_want (state_view text before state.old) (take_operator (want_view state.old.want) op)) }
@@ -35,7 +35,7 @@ pub fn end_operator(state: &mut State, op: Op) -> Result<(), Stop>
     Ok(())
 }
 
-/// The token goes on with the byte at the place.
+/// Continues the token with the byte at the place.
 #[tactic(auto, using(crate::proofs::ChartTexts::begun_name, crate::proofs::ChartTexts::begun_number, crate::proofs::ChartTexts::one_more))]
 pub fn go_on(text: &[u8], state: &mut State, place: usize) -> Result<(), Stop>
     requires inside { place < length text.now }
@@ -53,7 +53,7 @@ pub fn go_on(text: &[u8], state: &mut State, place: usize) -> Result<(), Stop>
     }
 }
 
-/// The number, before the byte at the place.
+/// Ends the number before the byte at the place.
 #[tactic(auto, unfolding(crate::specs::ChartMachine::end_number))]
 fn end_number(digits: &[u8], state: &mut State, place: usize) -> Result<(), Stop>
     requires number { IsNumber digits.now }
@@ -69,7 +69,7 @@ fn end_number(digits: &[u8], state: &mut State, place: usize) -> Result<(), Stop
     Ok(())
 }
 
-/// The word ends.
+/// Ends the word.
 #[tactic(auto, using(crate::proofs::ChartFrames::frames_view_length))]
 fn end_word(alloc: Global, word: &[u8], state: &mut State) -> Result<(), Stop>
     requires { IsName word.now }
@@ -82,7 +82,7 @@ fn end_word(alloc: Global, word: &[u8], state: &mut State) -> Result<(), Stop>
     Ok(())
 }
 
-/// The token ends before the byte at the place.
+/// Ends the token before the byte at the place.
 #[tactic(auto, using(crate::proofs::ChartTexts::begun_name, crate::proofs::ChartTexts::begun_number))]
 pub fn end_token(alloc: Global, text: &[u8], state: &mut State, place: usize) -> Result<(), Stop>
     requires inside { place ≤ length text.now }

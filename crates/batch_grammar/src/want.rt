@@ -1,4 +1,4 @@
-//! What has to come next.
+//! The token that has to come next.
 ghost use Rattle.std.specs.Prelude.{◌≡◌};
 ghost use Rattle.batch_grammar.specs.ChartMachine.{takes_number, takes_operator, takes_word};
 ghost use Rattle.batch_grammar.specs.ChartView.{want_view};
@@ -13,7 +13,7 @@ pub enum Test {
     Loop(u64),
 }
 
-/// What the next token has to be.
+/// The token that has to come next.
 #[derive(Drop)]
 pub enum Want {
     Chart,
@@ -32,35 +32,35 @@ pub enum Want {
 }
 
 impl Want {
-    /// From now on this is wanted.
+    /// Sets the wanted token.
     pub fn set(&mut self, next: Want)
         ensures { self.new ≡ next }
     {
         *self = next;
     }
 
-    /// From now on this chart has been read.
+    /// Sets the chart that has been read.
     pub fn set_chart(&mut self, chart: Chart)
         ensures { self.new ≡ Want.AfterChart chart }
     {
         *self = Want::AfterChart(chart);
     }
 
-    /// A word may come next.
+    /// Whether a word may come next.
     pub fn takes_word(&self) -> bool
         ensures { result ≡ takes_word (want_view self.now) }
     {
         matches!(self, Want::Chart | Want::Name(_) | Want::Operand(_, _, _))
     }
 
-    /// A number may come next.
+    /// Whether a number may come next.
     pub fn takes_number(&self) -> bool
         ensures { result ≡ takes_number (want_view self.now) }
     {
         matches!(self, Want::Turns | Want::Operand(_, _, _))
     }
 
-    /// An operator has to come next.
+    /// Whether an operator has to come next.
     pub fn takes_operator(&self) -> bool
         ensures { result ≡ takes_operator (want_view self.now) }
     {

@@ -8,7 +8,7 @@ use crate::fault::Stop;
 use batch_text::Name;
 use std::alloc::Global;
 
-/// What a word is: one of the six words with a meaning, or a name.
+/// The kind of a word: one of the six words with a meaning, or a name.
 #[derive(Clone, Copy)]
 pub enum Word {
     Name,
@@ -20,7 +20,7 @@ pub enum Word {
     Else,
 }
 
-/// What the word is.
+/// The kind of the word.
 pub fn word_of(word: &[u8]) -> Word
     ensures { result ≡ word_of word.now }
 {

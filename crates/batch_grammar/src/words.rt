@@ -1,4 +1,4 @@
-//! What a whole word changes in what is wanted.
+//! The change of the wanted token by a whole word.
 ghost use Rattle.std.specs.Prelude.{◌≡◌, ◌≢◌, ℕ, List};
 ghost use Rattle.batch_text.specs.NameText.{IsName};
 ghost use Rattle.batch_recipe.specs.declared.condition.Op.{Op as Operator};
@@ -13,7 +13,7 @@ use batch_text::Name;
 use std::alloc::Global;
 use std::mem::replace;
 
-/// A form begins inside `depth` others, where that is allowed, and is opened next.
+/// Begins a form inside `depth` others, if that is allowed. Its opening is wanted next.
 fn deeper(depth: usize, want: &mut Want, opening: Want) -> Result<(), Stop>
     ensures { Gives (λ _. want_view want.new) result (deeper depth (want_view opening)) }
 {
@@ -25,7 +25,7 @@ fn deeper(depth: usize, want: &mut Want, opening: Want) -> Result<(), Stop>
     }
 }
 
-/// One of the six words with a meaning, as the first word of a chart.
+/// Reads one of the six words with a meaning, as the first word of a chart.
 fn take_chart_keyword(want: &mut Want, kind: Word, depth: usize) -> Result<(), Stop>
     requires { kind ≢ Word.Name }
     ensures { (bytes : List ℕ) → Gives (λ _. want_view want.new) result (take_chart_word kind bytes depth) }
@@ -43,7 +43,7 @@ fn take_chart_keyword(want: &mut Want, kind: Word, depth: usize) -> Result<(), S
     }
 }
 
-/// The first word of a chart. Most are labels.
+/// Reads the first word of a chart. Most are labels.
 fn take_chart_word(alloc: Global, want: &mut Want, word: &[u8], depth: usize) -> Result<(), Stop>
     requires { IsName word.now }
     ensures { Gives (λ _. want_view want.new) result (take_chart_word (word_of word.now) word.now depth) }
@@ -57,7 +57,7 @@ fn take_chart_word(alloc: Global, want: &mut Want, word: &[u8], depth: usize) ->
     }
 }
 
-/// The word `else`, which may stand behind a case.
+/// Reads the word `else`, which may follow a case.
 fn take_else(test: Test) -> Result<Want, Stop>
     ensures { Gives want_view result (take_else (test_view test)) }
 {
@@ -73,7 +73,7 @@ fn take_else(test: Test) -> Result<Want, Stop>
     }
 }
 
-/// The first word of a condition.
+/// Reads the first word of a condition, or `else`.
 fn take_name_word(alloc: Global, kind: Word, word: &[u8], test: Test) -> Result<Want, Stop>
     requires { IsName word.now }
     ensures { Gives want_view result (take_name_word kind word.now (test_view test)) }
@@ -85,7 +85,7 @@ fn take_name_word(alloc: Global, kind: Word, word: &[u8], test: Test) -> Result<
     }
 }
 
-/// The last word of a condition.
+/// Reads the last word of a condition.
 fn take_operand_word(
     alloc: Global,
     kind: Word,
@@ -108,7 +108,7 @@ fn take_operand_word(
     }
 }
 
-/// A word where the right side of a condition is wanted.
+/// Reads a word as the right side of a condition.
 fn end_condition(alloc: Global, want: &mut Want, word: &[u8]) -> Result<(), Stop>
     requires { IsName word.now }
     ensures { (test : Around) (name : List ℕ) (op : Operator) → want_view want.old ≡ an_operand test name op
@@ -123,7 +123,7 @@ fn end_condition(alloc: Global, want: &mut Want, word: &[u8]) -> Result<(), Stop
     Ok(())
 }
 
-/// A word, inside `depth` forms. Most begin a chart, and move nothing out of what is wanted.
+/// Reads a word inside `depth` forms. Most begin a chart, and move nothing out of `want`.
 pub fn take_word(alloc: Global, want: &mut Want, word: &[u8], depth: usize) -> Result<(), Stop>
     requires { IsName word.now }
     ensures { Gives (λ _. want_view want.new) result (take_word (want_view want.old) word.now depth) }

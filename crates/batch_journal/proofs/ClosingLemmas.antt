@@ -59,7 +59,7 @@ pub none_closes : (lines : List (List ℕ)) → closings lines ≡ 0 → AreOthe
 none_closes [] none = tt
 none_closes (line ∷ lines) none = none_closes_if line lines (bool_cases (journal_format.own line)) none (none_closes lines)
 
--- so many lines stand before the first that closes a group
+-- so many lines precede the first that closes a group
 pub record ClosesFirst (n : ℕ) (lines : List (List ℕ)) : Type 0 where
   pub front : List (List ℕ)
   pub closing : List ℕ

@@ -1,4 +1,4 @@
--- What a crash leaves isn't damage.
+-- The bytes that a crash leaves aren't damage.
 use Rattle.std.proofs.Common.{◌≡◌, ◌⊎◌, ℕ, ◌+◌, ◌-◌, ◌≤◌, ◌<◌, true, false, ◌==◌, List, [], ◌∷◌, ◌++◌, length, take, drop, take-append-drop, Some, None, codes, refl, sym, ◌∙◌, ap, subst, arith, append_assoc, inl, inr, if◌then◌else◌}
 use Rattle.std.proofs.lemmas.Bool.{cases_lt}
 use Rattle.std.proofs.lemmas.Bool.Decides.{Decides-eqb}

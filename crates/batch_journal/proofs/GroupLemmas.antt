@@ -56,7 +56,7 @@ pub torn : TornIsLeft
 torn f sum begun [] are = refl
 torn f sum begun (line ∷ lines) are = rw are.0 (torn f sum (begun ++ line ∷ []) lines are.1)
 
--- lines that begun, and others behind them, are one group
+-- lines that have begun, and others behind them, are one group
 pub left_on : (f : Format) (sum : List ℕ) (begun a b : List (List ℕ)) → AreOthers f a → is_left f sum begun (a ++ b) ≡ is_left f sum (begun ++ a) b
 left_on f sum begun [] b are = ap (λ l. is_left f sum l b) (sym (append-nil begun))
 left_on f sum begun (line ∷ a) b are = rw are.0 (left_on f sum (begun ++ line ∷ []) a b are.1 ∙ ap (λ l. is_left f sum l b) (append_assoc begun (line ∷ []) a))

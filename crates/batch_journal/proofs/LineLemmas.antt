@@ -39,7 +39,7 @@ reads_lines (line ∷ lines) rest are =
     ∙ reads_line [] line (text_of lines ++ rest) are.0
     ∙ ap (λ l. line ∷ l) (reads_lines lines rest are.1)
 
--- a front of a line and what follows it: no line ends in it, or it goes on behind the line
+-- a front of a line and the rest: no line ends in it, or it goes on behind the line
 pub reads_front : (begun line more p rest : List ℕ) → IsLine line → line ++ 10 ∷ more ≡ p ++ rest
     → (whole_from begun p ≡ []) ⊎ ((q : List ℕ) × (p ≡ line ++ 10 ∷ q) × (more ≡ q ++ rest))
 reads_front begun line more [] rest is e = inl refl

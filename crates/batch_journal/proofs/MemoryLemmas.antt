@@ -1,4 +1,4 @@
--- Calls of an disk in memory.
+-- Calls of a disk in memory.
 use Rattle.std.proofs.Common.{◌≡◌, ℕ, ◌≤◌, Bool, true, false, List, [], ◌∷◌, ◌++◌, length, take, drop, take-append-drop, sym, ap, subst, ◌∙◌, refl, arith, inr}
 use Rattle.std.proofs.lemmas.List.{take_all}
 use Rattle.batch_journal.specs.Disks.{IsPart, Begins, Left, MayLeave, MayCut, Elapses}
@@ -55,7 +55,7 @@ part_of_itself : (l : List ℕ) → IsPart l l
 part_of_itself [] = tt
 part_of_itself (x ∷ l) = (inr refl, part_of_itself l)
 
--- what is synced might have been left before
+-- a crash before a sync might have left the synced file too
 pub after_sync : (durable seen given later : List ℕ) (left : Left) → Begins durable seen → later ≡ seen → MayLeave later seen given left → MayLeave durable seen given left
 after_sync durable seen given later left begins is may = record {
   disk = record {

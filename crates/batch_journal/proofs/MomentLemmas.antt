@@ -7,7 +7,7 @@ module _ {E : Type 0} (moment : E → ℕ) (left_since : E → ℕ → Left → 
   pub started : (old : E) (P : Left → Type 0) → ((c : Left) → left_since old (moment old) c → P c) → LeavesOnly moment left_since old old P
   started old P here = record { later = omega arith; each = here; before = λ t c le left. inl left }
 
-  -- one call more, in which a crash leaves what has P
+  -- one call more, in which a crash leaves only files of which P holds
   pub goes_on : (old mid new : E) (P may_leave : Left → Type 0) → LeavesOnly moment left_since old mid P → Elapses (moment mid) (moment new) (left_since mid) (left_since new) may_leave
       → ((c : Left) → may_leave c → P c) → LeavesOnly moment left_since old new P
   goes_on old mid new P may_leave so_far time here = record {
@@ -16,7 +16,7 @@ module _ {E : Type 0} (moment : E → ℕ) (left_since : E → ℕ → Left → 
     before = λ t c le left. ⊎_elim (so_far.before t c le) (λ now. inr (here c now)) (time.nothing_else t c (omega (arith, le, so_far.later)) left);
   }
 
--- a call may leave whatever it may leave, and more
+-- a wider bound on the files that a crash in a call may leave
 pub may_more : (before now : ℕ) (past later : ℕ → Left → Type 0) (may more : Left → Type 0) → Elapses before now past later may
     → ((left : Left) → may left → more left) → Elapses before now past later more
 may_more before now past later may more time on = record {

@@ -1,4 +1,4 @@
--- A reader that journals: what stays so at each of its steps.
+-- A reader that journals: the facts that each of its steps keeps.
 use Rattle.std.proofs.Common.{◌≡◌, ℕ, zero, suc, ◌+◌, ◌≤◌, List, [], ◌∷◌, ◌++◌, length, take, drop, take-append-drop, Option, Some, None, refl, sym, ◌∙◌, ap, subst, arith, append_assoc, ⊎_elim, Bool, ◌≢◌, min, true, false}
 use Rattle.std.proofs.lemmas.List.{append-nil, take_at, length-take, length-take-le}
 use Rattle.std.specs.Io.KnownBytes.{prepend_known, Keeps, Consumes}
@@ -17,7 +17,7 @@ use Rattle.batch_journal.proofs.JournalLemmas.{recovered_behind, journal_with, r
 pub starts : (front text rest : List ℕ) → text ≡ front ++ rest → StartsText front text
 starts front text rest is = ap (take (length front)) is ∙ take_at front rest (length front) refl
 
--- what was given by then is in it
+-- the bytes given by then are in it
 pub recalls : (documents base durable seen given rest sum : List ℕ) (left : Left) → IsJournal documents durable sum → text_of (recovered documents durable) ≡ base ++ (given ++ rest)
     → MayLeave durable seen given left → Recalls documents base left
 recalls documents base durable seen given rest sum left journal is may =
@@ -42,7 +42,7 @@ recalled_on documents base since before now past later may has time here = recor
   each = λ left had. ⊎_elim (has.each left) (here left) (time.nothing_else since left has.later had);
 }
 
--- What is ready
+-- The lines that are ready
 
 pub none_of : (n : ℕ) (l : List ℕ) → n ≡ 0 → take n l ≡ []
 none_of n l is = ap (λ k. take k l) is
@@ -73,7 +73,7 @@ kept_more documents base durable seen given sum lines next new_durable new_seen 
           ∙ ap (λ l. base ++ (l ++ lines)) (sym is_given);
     }
 
--- What is left
+-- The bytes that are left
 
 pub keeps_more : (items more now : List ℕ) (old new : Option (List ℕ)) → now ≡ items ++ more → Consumes old new more → Keeps (prepend_known items old) (prepend_known now new)
 keeps_more items more now None new is consumes = tt

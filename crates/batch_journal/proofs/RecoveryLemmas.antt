@@ -148,7 +148,7 @@ module _ (documents file sum : List ℕ) (end : ℕ) (stands : StandsTo document
       ∙ ap (λ l. recovered documents (take end file) ++ l) (none_of_front sum (drop end file) (kept - end) stands.no_more)
       ∙ append-nil (recovered documents (take end file)) ∙ sym lines_to
 
--- Lines that stand first in a text, whatever stands behind them, are its first whole ones
+-- The lines with which a text begins are its first whole ones, whatever follows them
 front_read : (front more : List (List ℕ)) (text : List ℕ) → raw_lines text ≡ front ++ more → AreLines front → (others : List (List ℕ)) × (whole_lines text ≡ front ++ others)
 front_read front more text splits are =
     let found = lines_front front more text splits in

@@ -22,7 +22,7 @@ first_line at bytes ends =
 neither : (b : ℕ) → ((b == 0 || b == 10) ≡ true → ⊥) → ((b == 0) ≡ false) × ((b == 10) ≡ false)
 neither b none = (search (rules, none), search (rules, none))
 
--- no zero byte and no line feed stands before it
+-- no zero byte and no line feed precedes it
 pub line_until : (bytes : List ℕ) (n : ℕ) → ((k : ℕ) → k < n → (slice_index bytes k == 0 || slice_index bytes k == 10) ≡ true → ⊥) → n ≤ length bytes → IsLine (take n bytes)
 line_until [] zero none le = tt
 line_until (b ∷ bytes) zero none le = tt

@@ -45,7 +45,7 @@ empty_raw : (text : List ℕ) → length text ≤ 0 → raw_lines text ≡ []
 empty_raw [] le = refl
 empty_raw (b ∷ text) le = absurd (omega (arith, le))
 
--- behind damage stand lines, so one was begun
+-- lines follow damage, so a journal was begun
 unbegun_whole : (documents file : List ℕ) (line : ℕ) → IsDamaged documents file line → IsUnbegun documents file → ⊥
 unbegun_whole documents file line damaged unbegun =
     let tail = drop damaged.end file in
@@ -64,7 +64,7 @@ unbegun_whole documents file line damaged unbegun =
           )))
     ]
 
--- What is found of a file by its bytes
+-- Findings about a file by its bytes
 
 eq_of : (a b : ℕ) → (a == b) ≡ true → a ≡ b
 eq_of a b is = search (rules, is)

@@ -9,7 +9,7 @@ use Rattle.batch_journal.proofs.CrashLemmas.{as_of}
 pub keeps_so : (durable seen given d g : List ℕ) (left : Left) → d ≡ durable → g ≡ given → MayLeave d seen g left → MayKeep durable given left
 keeps_so durable seen given d g left is_d is_g may = (seen, as_of left is_d refl is_g may)
 
--- a line that starts so closes, where a time stands behind that
+-- a line that starts so closes, if a time follows that
 pub closes_so : (line mark start : List ℕ) (n : ℕ) (starts time : Bool) → mark ≡ start → n ≡ length start → starts ≡ starts_with nat_eq line mark → starts ≡ true
     → time ≡ is_time (drop n line) → time ≡ (starts_with nat_eq line start && is_time (drop (length start) line))
 closes_so line mark start n starts time is size starts_is so time_is =

@@ -1,4 +1,4 @@
--- trusted: what calls of a disk do to its file, and what a crash at any moment may leave of it.
+-- trusted: the effect of a disk's calls on its file, and the bytes that a crash at any moment may leave of it.
 use Rattle.std.specs.Prelude.{◌≡◌, ◌⊎◌, ℕ, ◌≤◌, List, [], ◌∷◌, ◌++◌, ⊤, take}
 
 -- a part of these bytes: no longer, and each byte is theirs or zero
@@ -7,17 +7,17 @@ IsPart [] bytes = ⊤
 IsPart (b ∷ bs) [] = ⊥
 IsPart (b ∷ bs) (x ∷ xs) = ((b ≡ 0) ⊎ (b ≡ x)) × IsPart bs xs
 
--- what a crash left in the file, and what had been given by then
+-- the bytes that a crash left in the file, and those that had been given by then
 pub record Left : Type 0 where
   pub file : List ℕ
   pub given : List ℕ
 
--- one text begins the other
+-- one text is a prefix of the other
 pub record Begins (front text : List ℕ) : Type 0 where
   pub rest : List ℕ
   pub splits : text ≡ front ++ rest
 
--- the file has what was synced, and a part of what was written behind it
+-- the file has the synced bytes, and a part of those written behind them
 pub record KeepsSynced (durable seen file : List ℕ) : Type 0 where
   pub behind : List ℕ
   pub tail : List ℕ

@@ -17,7 +17,7 @@ next_sum before text = take 16 (encode_lower (sha256 (before ++ 10 ∷ text)))
 abbrev pub is_time : List ℕ → Bool
 is_time bytes = (nat_lt 0 (length bytes) && nat_le (length bytes) 20) && list_all is_ascii_digit bytes
 
--- a closing line says so, then its sum; behind that stands a time, of which nothing more is asked
+-- a closing line is this mark, its sum and a time, of which nothing more is asked
 abbrev pub closing_mark : List ℕ
 closing_mark = codes "# sum "
 
@@ -35,7 +35,7 @@ journal_format = record {
 abbrev pub header : List ℕ → List ℕ
 header documents = codes "# batchd journal 1 " ++ (documents ++ 10 ∷ [])
 
--- what stands behind the header
+-- the rest of the file behind the header
 abbrev pub groups_in : List ℕ → List ℕ → List ℕ
 groups_in documents file = drop (length (header documents)) file
 

@@ -15,7 +15,7 @@ abbrev pub text_of : List (List ℕ) → List ℕ
 text_of [] = []
 text_of (line ∷ lines) = line ++ 10 ∷ text_of lines
 
--- what stands before the first zero
+-- the prefix before the first zero
 abbrev pub until_zero : List ℕ → List ℕ
 until_zero [] = []
 until_zero (b ∷ bs) = if b == 0 then [] else b ∷ until_zero bs

@@ -8,7 +8,7 @@ abbrev pub choose : Bool → Type 0 → Type 0 → Type 0
 choose false X Y = X
 choose true X Y = Y
 
--- what a crash in one call of the past may have left
+-- a crash in this call of the past may have left this
 abbrev pub LeftBy : Past → Left → Type 0
 LeftBy p left = choose p.is_cut (MayLeave p.durable.items p.seen.items p.given.items left) (MayCut p.len p.seen.items p.given.items left)
 
@@ -23,7 +23,7 @@ none_left : (past : List Past) (left : Left) → HadLeft (drop (length past) pas
 none_left [] left had = had
 none_left (p ∷ past) left had = none_left past left had
 
--- since the last of them there is what there is now
+-- since the last of them there is only the present moment
 pub only_now : (durable seen given : List ℕ) (past : List Past) (left : Left) → LeftSince durable seen given past (length past) left → MayLeave durable seen given left
 only_now durable seen given past left (inl now) = now
 only_now durable seen given past left (inr had) = absurd (none_left past left had)
@@ -49,7 +49,7 @@ had_last [] p (suc t) left le by = absurd (omega (arith, le))
 had_last (q ∷ past) p zero left le by = inr (had_last past p zero left (omega arith) by)
 had_last (q ∷ past) p (suc t) left le by = had_last past p t left (omega (arith, le)) by
 
--- a call that is kept: what is there after it, and what was there before it, it may leave as well
+-- a call that is kept: a crash in it may leave all that one before it or after it may leave
 pub one_call : (durable seen given later_durable later_seen later_given : List ℕ) (past : List Past) (p : Past) (may : Left → Type 0)
     → ((left : Left) → LeftBy p left → may left) → ((left : Left) → MayLeave durable seen given left → LeftBy p left)
     → ((left : Left) → MayLeave later_durable later_seen later_given left → LeftBy p left)

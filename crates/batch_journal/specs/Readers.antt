@@ -1,4 +1,4 @@
--- trusted: what a reader keeps whose lines are journalled before it gives them. Each is a fact with one proof at most, so that a struct can keep it.
+-- trusted: the facts of a reader that journals lines before it gives them. Each has one proof at most, so that a struct can keep it.
 use Rattle.std.specs.Prelude.{◌≡◌, ℕ, ◌≤◌, List, ◌++◌, length, take, drop, Option, Some}
 use Rattle.std.specs.Io.KnownBytes.{prepend_known}
 use Rattle.batch_journal.specs.Lines.{AreLines, text_of, whole_lines}
@@ -25,7 +25,7 @@ pub record IsGroup (lines : List ℕ) : Type 0 where
 abbrev pub not_given : List ℕ → List ℕ → List ℕ → List ℕ → List ℕ
 not_given documents base seen given = drop (length (base ++ given)) (text_of (recovered documents seen))
 
--- one text begins the other
+-- one text is a prefix of the other
 abbrev pub StartsText : List ℕ → List ℕ → Type 0
 StartsText front text = take (length front) text ≡ front
 
@@ -38,11 +38,11 @@ pub record HasRecalled (documents base : List ℕ) (since moment : ℕ) (left_si
   pub later : since ≤ moment
   pub each : (left : Left) → left_since since left → Recalls documents base left
 
--- where the input was known, it is the bytes given and those left
+-- if the input was known, it is the bytes given and those left
 abbrev pub IsAccounted : Option (List ℕ) → List ℕ → Option (List ℕ) → Type 0
 IsAccounted input given unread = (all : List ℕ) → input ≡ Some all → prepend_known given unread ≡ Some all
 
--- where the text of the lines that a file stands for begins with the text of lines, these lines are its first
+-- if the text of a file's recovered lines begins with the text of lines, these are the first recovered lines
 abbrev pub LinesBegin : Type 0
 LinesBegin =
     (documents : List ℕ) (front : List (List ℕ)) (file : List ℕ) → AreLines front → StartsText (text_of front) (text_of (recovered documents file))

@@ -1,4 +1,4 @@
--- trusted: what recovery finds in a file, and why it refuses one.
+-- trusted: the groups that recovery finds in a file, and the reasons to refuse one.
 use Rattle.std.specs.Prelude.{◌≡◌, ◌⊎◌, ℕ, ◌+◌, ◌≤◌, ◌<◌, Bool, ◌||◌, List, [], ◌∷◌, ◌++◌, length, take, drop, filter, ⊤, false, true, codes, nat_eq, slice_index, ◌==◌}
 use Rattle.std.specs.List.{starts_with}
 use Rattle.batch_journal.specs.Disks.{IsPart, Left, Begins}
@@ -14,7 +14,7 @@ pub record IsTakenTo (documents groups : List ℕ) (end : ℕ) (sum : List ℕ) 
   pub closed : IsClosed documents (take end groups) sum
   pub left : is_left journal_format sum [] (whole_lines (drop end groups)) ≡ true
 
--- the lines that a line feed ends, whatever stands in them
+-- the lines that a line feed ends, whatever their bytes
 abbrev pub raw_lines : List ℕ → List (List ℕ)
 raw_lines text = whole_from [] text
 
@@ -26,14 +26,14 @@ closings lines = length (filter journal_format.own lines)
 abbrev pub closing_count : List ℕ → ℕ
 closing_count text = closings (raw_lines text)
 
--- a journal up to there, behind which stands at most one closing line: what a crash may leave
+-- a journal up to there, behind which there is at most one closing line, as a crash may leave it
 pub record StandsTo (documents file : List ℕ) (end : ℕ) (sum : List ℕ) : Type 0 where
   pub within : end ≤ length file
   pub journal : IsJournal documents (take end file) sum
   pub no_more : taken journal_format sum [] (whole_lines (drop end file)) ≡ []
   pub few : closing_count (drop end file) ≤ 1
 
--- a line closes a group, the first that does so, and another does behind it
+-- another closing line follows the first line that closes a group
 pub record ClosesTwice (lines : List (List ℕ)) : Type 0 where
   pub front : List (List ℕ)
   pub closing : List ℕ
@@ -43,7 +43,7 @@ pub record ClosesTwice (lines : List (List ℕ)) : Type 0 where
   pub own : journal_format.own closing ≡ true
   pub another : 0 < closings more
 
--- behind whole groups stands one that has a zero byte or another sum, and another one follows it; this line, from 1, closes it
+-- behind whole groups is one that has a zero byte or another sum, and another one follows it; this line, from 1, closes it
 pub record IsDamaged (documents file : List ℕ) (line : ℕ) : Type 0 where
   pub end : ℕ
   pub sum : List ℕ
@@ -62,7 +62,7 @@ CrashIsNoDamage =
 abbrev pub WholeLinesAreLines : Type 0
 WholeLinesAreLines = (text : List ℕ) → AreLines (whole_lines text)
 
--- what recovery gives are lines
+-- recovered lines are lines
 abbrev pub RecoveredAreLines : Type 0
 RecoveredAreLines = (documents file : List ℕ) → AreLines (recovered documents file)
 
@@ -110,7 +110,7 @@ pub record AreRests (documents text sum durable seen : List ℕ) : Type 0 where
   pub seen_is : seen ≡ text
   pub synced : durable ≡ seen
 
--- what a crash left has the lines that the file had, and no more was given
+-- the file that a crash left has the lines that the file had, and no more was given
 pub record KeepsLines (documents file given : List ℕ) (left : Left) : Type 0 where
   pub lines : recovered documents left.file ≡ recovered documents file
   pub output : Begins left.given given

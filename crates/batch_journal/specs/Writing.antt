@@ -10,6 +10,6 @@ closing_line sum milliseconds = closing_start sum ++ decimal milliseconds
 abbrev pub group_text : List ℕ → List ℕ → ℕ → List ℕ
 group_text lines sum milliseconds = lines ++ (closing_line sum milliseconds ++ 10 ∷ [])
 
--- a crash leaves what was synced, and a part of whatever stood behind it
+-- a crash leaves the synced bytes, and a part of any bytes behind them
 abbrev pub MayKeep : List ℕ → List ℕ → Left → Type 0
 MayKeep durable given left = (seen : List ℕ) × MayLeave durable seen given left

@@ -33,7 +33,7 @@ pub struct DocumentsDigest {
 }
 
 impl DocumentsDigest {
-    /// Of no document.
+    /// The digest of no document.
     pub fn new() -> DocumentsDigest
         ensures { HasTaken result [] }
     {
@@ -42,7 +42,7 @@ impl DocumentsDigest {
         }
     }
 
-    /// Takes a document more.
+    /// Takes the text of one document more.
     pub fn take(&mut self, text: &[u8])
         ensures { (texts : List (List ℕ)) → HasTaken self.old texts → HasTaken self.new (texts ++ text.now ∷ []) }
     {

@@ -1,4 +1,4 @@
-//! The disk of a journal, and what was given of it.
+//! The disk of a journal, and the bytes that were given on.
 ghost use Rattle.std.specs.Prelude.{◌≡◌, ◌≤◌, ◌++◌, [], List, ℕ, OnOk, OnErr, IfOk, length, take};
 ghost use Rattle.batch_journal.specs.Disks.{Left, MayLeave, MayCut, Elapses};
 
@@ -7,7 +7,7 @@ use std::io;
 use std::io::ErrorKind;
 use thiserror::Error;
 
-/// Why a call of a disk failed. What it did of its work isn't known, so the next start recovers the file.
+/// Why a call of a disk failed. How much of its work it did isn't known, so the next start recovers the file.
 #[derive(Clone, Copy, Debug, Error)]
 pub enum DiskError {
     /// The file can't be read, written, cut or synced.
@@ -29,10 +29,10 @@ impl From<DiskError> for io::Error {
 
 /// A file that is read once, cut and then appended to, with a clock of the moments at which a crash may come.
 ///
-/// The clauses are of a value that has behaved as a disk: one that keeps all that was synced, and of what was
-/// written behind it any part, of which each byte is the written one or zero.
+/// The clauses are of a value that has behaved as a disk: it keeps all synced bytes, and any part of the bytes
+/// written behind them, in which each byte is the written one or zero.
 pub trait Disk {
-    /// It has behaved as a disk so far. Nobody can give this of a real file.
+    /// It has behaved as a disk so far. Nobody can prove this of a real file.
     ghost is_disk: { Self → Type 0 };
 
     /// The bytes that are synced.
@@ -57,7 +57,7 @@ pub trait Disk {
         ensures stays { is_disk self.new → is_disk self.old }
         ensures time { is_disk self.new → Elapses (moment self.old) (moment self.new) (left_since self.old) (left_since self.new) (MayLeave (durable self.old) (seen self.old) (given self.old)) };
 
-    /// Cuts a file that is synced to a length, and syncs it.
+    /// Cuts a synced file to a length, and syncs it.
     fn cut(&mut self, len: usize) -> Result<(), DiskError>
         requires { is_disk self.old → (len ≤ length (seen self.old)) × (durable self.old ≡ seen self.old) }
         ensures cut { is_disk self.new → OnOk result ((seen self.new ≡ take len (seen self.old)) × (durable self.new ≡ take len (seen self.old)) × (given self.new ≡ given self.old)) }
@@ -73,7 +73,7 @@ pub trait Disk {
         ensures stays { is_disk self.new → is_disk self.old }
         ensures time { is_disk self.new → Elapses (moment self.old) (moment self.new) (left_since self.old) (left_since self.new) (MayLeave (durable self.old) (seen self.old ++ bytes.now) (given self.old)) };
 
-    /// After it, a crash leaves what a read returns.
+    /// Syncs the file. After that, a crash leaves the bytes that a read returns.
     fn sync(&mut self) -> Result<(), DiskError>
         ensures synced { is_disk self.new → OnOk result (durable self.new ≡ seen self.old) }
         ensures others { is_disk self.new → OnOk result ((seen self.new ≡ seen self.old) × (given self.new ≡ given self.old)) }

@@ -17,13 +17,13 @@ pub struct FileDisk {
 }
 
 impl FileDisk {
-    /// Opens the file, and makes it where it is missing, with its folder synced.
+    /// Opens the file, and makes it if it is missing, with its folder synced.
     ///
     /// # Errors
     ///
-    /// `WouldBlock` where another process has it; else whatever the system says.
+    /// `WouldBlock` if another process has it; else the error of the system.
     pub fn open(rt: &HostRuntime, path: &str) -> io::Result<FileDisk>
-        // What `recover` asks of a disk after a restart.
+        // The condition of `recover` on a disk after a restart.
         ensures { IfOk result (λ disk. ⟦<FileDisk as Disk>⟧.is_disk disk → (⟦<FileDisk as Disk>⟧.durable disk ≡ ⟦<FileDisk as Disk>⟧.seen disk) × (⟦<FileDisk as Disk>⟧.given disk ≡ [])) }
     {
         let file: File = OpenOptions::new()

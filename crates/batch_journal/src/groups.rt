@@ -56,8 +56,8 @@ impl<D: Disk, K: Clock, C: Run> Groups<D, K, C> {
 
     /// Keeps whole lines as one group: they are synced, and given on.
     ///
-    /// The error is that a call of the disk failed, now or before, or that they aren't whole lines, or that one of them is such as a
-    /// journal has for itself. Then nothing is given on.
+    /// The error is that this or an earlier call of the disk failed, that they aren't whole lines, or that one of them is a closing
+    /// line. Then nothing is given on.
     // claim: kept and given (kept, unkept)
     pub fn keep(&mut self, lines: &[u8]) -> Result<(), DiskError>
         ensures kept { D.is_disk self.new.disk → OnOk result (D.given self.new.disk ≡ D.given self.old.disk ++ lines.now) }
@@ -131,14 +131,14 @@ impl<D: Disk, K: Clock, C: Run> Groups<D, K, C> {
     }
 }
 
-/// Whether the bytes are whole lines, and none of them is such as a journal has for itself.
+/// Whether the bytes are whole lines, and none of them is a closing line.
 fn is_group(lines: &[u8]) -> bool
     ensures { IsTrue result → IsGroup lines.now }
 {
     are_whole_lines(lines) && !has_own(lines)
 }
 
-/// The time in milliseconds since 1970; 0 where the clock doesn't tell it.
+/// The time in milliseconds since 1970; 0 if the clock can't give it.
 fn milliseconds_of<K: Clock>(clock: &K) -> u64 {
     match clock.since_1970() {
         Ok(time) => u64::try_from(time.as_millis()).unwrap_or(u64::MAX),

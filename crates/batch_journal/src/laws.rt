@@ -22,7 +22,7 @@ pub fn torn_is_left()
     ensures { TornIsLeft }
 {}
 
-/// Where the text of a file's lines begins with that of some lines, they are the first that recovery gives.
+/// If the text of a file's lines begins with that of some lines, these are the first that recovery gives.
 // claim: lines begin
 pub fn lines_begin()
     ensures { LinesBegin }
@@ -40,7 +40,7 @@ pub fn taken_is_not_refused()
     ensures { TakenIsNotRefused }
 {}
 
-/// Whole lines, and what recovery gives, are lines: none has a line feed or a zero byte.
+/// Whole lines and recovered lines are lines: none has a line feed or a zero byte.
 // claim: lines are recovered
 pub fn recovered_are_lines()
     ensures whole { WholeLinesAreLines }

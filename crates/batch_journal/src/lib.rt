@@ -1,4 +1,4 @@
-//! A journal of lines: whatever was given on is in it, whole, after a crash at any moment.
+//! A journal of lines: all lines given on are in it, whole, after a crash at any moment.
 #![tactic(auto)]
 
 mod digest;

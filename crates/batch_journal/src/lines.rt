@@ -9,7 +9,7 @@ ghost use Rattle.batch_journal.specs.Readers.{IsWhole};
 use crate::group::is_closing;
 use memchr::memchr2;
 
-/// Where the first line ends, where a line feed ends it and no zero byte stands before that.
+/// Where the first line ends, if a line feed ends it and no zero byte precedes that.
 pub(crate) fn next_line(bytes: &[u8]) -> Option<usize>
     ensures { MatchOption result (whole_lines bytes.now ≡ []) (λ at. EndsLine at bytes.now) }
 {
@@ -46,7 +46,7 @@ pub fn are_whole_lines(bytes: &[u8]) -> bool
     end_of(bytes) == bytes.len()
 }
 
-/// Whether a whole line is such as a journal has for itself.
+/// Whether one of the whole lines of a text is a closing line.
 pub(crate) fn has_own(text: &[u8]) -> bool
     ensures { IsFalse result → AreOthers journal_format (whole_lines text.now) }
 {

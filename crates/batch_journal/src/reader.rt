@@ -25,7 +25,7 @@ use std::time::Clock;
 pub struct JournalReader<R: Read, D: Disk, K: Clock, C: Run> {
     inner: R,
     groups: Groups<D, K, C>,
-    // the lines that are in the journal, and behind them what else was read
+    // the lines that are in the journal, and behind them the other bytes read
     window: Window,
     ghost within: { groups.ready ≤ length (items window) },
     ghost ready: { D.is_disk groups.disk → groups.failed ≡ false → not_given C.documents C.base (D.seen groups.disk) (D.given groups.disk) ≡ take groups.ready (items window) },
@@ -51,7 +51,7 @@ impl<R: Read, D: Disk, K: Clock, C: Run> JournalReader<R, D, K, C> {
         }
     }
 
-    /// The disk. A crash at any moment of the run leaves all that was given by then, and it was the input but for what is left.
+    /// The disk. A crash at any moment of the run leaves all bytes given by then, and these are the input but for the bytes left.
     // claim: whole lines are given (whole, lines)
     pub fn into_disk(self) -> D
     where
@@ -83,7 +83,7 @@ impl<R: Read, D: Disk, K: Clock, C: Run> Read for JournalReader<R, D, K, C> {
 }
 
 impl<R: Read, D: Disk, K: Clock, C: Run> JournalReader<R, D, K, C> {
-    /// Journals the next lines, where none is ready.
+    /// Journals the next lines, if none is ready.
     fn fill(&mut self) -> io::Result<()>
         ensures keeps { Keeps (prepend_known (items self.old.window) (R.remaining self.old.inner)) (prepend_known (items self.new.window) (R.remaining self.new.inner)) }
         ensures end { OnOk result (self.new.groups.ready ≡ 0 → IsAtEnd (prepend_known (items self.new.window) (R.remaining self.new.inner))) }

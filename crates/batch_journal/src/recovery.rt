@@ -58,19 +58,19 @@ pub(crate) struct Taken {
     pub(crate) sum: Sum,
 }
 
-/// Reads the journal of these documents, given by the 64 digits of their SHA-256, and cuts off whatever stands behind its last
-/// whole group. A file in which no group was ever synced is begun anew. It may crash in each of its calls too.
+/// Reads the journal of these documents, given by the 64 digits of their SHA-256, and cuts off the rest behind its last whole
+/// group. A file in which no group was ever synced is begun anew. A crash may come in each of its calls too.
 ///
 /// # Errors
 ///
-/// `NoJournal`, `OtherDocuments` and `Damaged` leave the file as it is. `Disk` comes where a call failed.
+/// `NoJournal`, `OtherDocuments` and `Damaged` leave the file as it is. `Disk` comes if a call failed.
 // claim: recovered lines (lines, at_rest); taken files (taken, untouched)
 pub fn recover<D: Disk>(
     alloc: Global,
     disk: &mut D,
     documents: &[u8; 64],
 ) -> Result<Recovered, RecoveryFault>
-    // After a restart, what is read is what is on the disk.
+    // After a restart, the bytes that are read are those on the disk.
     requires { D.is_disk disk.old → D.durable disk.old ≡ D.seen disk.old }
     ensures taken { D.is_disk disk.new → IfOk result (λ _. IsRecoverable documents.now (D.seen disk.old)) }
     // Another file stays as it is.
@@ -93,7 +93,7 @@ pub fn recover<D: Disk>(
     }
 }
 
-/// Cuts off whatever stands behind the groups taken.
+/// Cuts off the rest behind the groups taken.
 fn cut_behind<D: Disk>(
     disk: &mut D,
     mut text: Vec<u8>,
@@ -152,7 +152,7 @@ fn begin<D: Disk>(
     })
 }
 
-/// How far a file is a journal of these documents; None where no group of it was ever synced.
+/// How far a file is a journal of these documents. None where no group of it was ever synced.
 fn standing_of(bytes: &[u8], documents: &[u8; 64]) -> Result<Option<Taken>, RecoveryFault>
     ensures ok { IfOk result (λ found. MatchOption found (IsUnbegun documents.now bytes.now) (λ taken. StandsTo documents.now bytes.now taken.end (sum_text taken.sum))) }
     ensures refused { IfErr result (IsRefusedFor documents.now bytes.now) }
@@ -187,7 +187,7 @@ fn unlike(bytes: &[u8], documents: &[u8; 64]) -> Result<Option<Taken>, RecoveryF
     }
 }
 
-/// Whether no line ends in the file, or it is what a crash may leave of a header: no longer, and each byte is the header's or zero.
+/// Whether no line ends in the file, or it is a part of a header, as a crash may leave it: no longer, each byte the header's or zero.
 fn is_unbegun(bytes: &[u8], header: &[u8; 84]) -> bool
     ensures yes { IsTrue result → HasNoFeed bytes.now ⊎ IsPart bytes.now header.now }
     ensures no { IsFalse result → HasNoFeed bytes.now ⊎ IsPart bytes.now header.now → ⊥ }
@@ -228,7 +228,7 @@ fn take_groups(bytes: &[u8], documents: &[u8; 64]) -> Taken
     Taken { end, sum }
 }
 
-/// How many lines stand before the first one that closes a group, if another such line follows it.
+/// How many lines precede the first one that closes a group, if another closing line follows it.
 fn closing_before_another(bytes: &[u8]) -> Option<usize>
     ensures found { MatchOption result (closing_count bytes.now ≤ 1) (λ count. (behind : ClosesTwice (raw_lines bytes.now)) × (count ≡ length behind.front)) }
     ensures within { IfSome result (λ count. count ≤ length bytes.now) }

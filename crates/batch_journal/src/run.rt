@@ -1,8 +1,8 @@
-//! What is known of a run over a journal.
+//! The facts that are known of a run over a journal.
 
 use std::marker::Brand;
 
-/// A run over a journal, as a type: what is known of it at its start stays known while code runs that knows only of a reader.
+/// A run over a journal, as a type: facts known of it at its start stay known while code runs that knows only of a reader.
 pub trait Run {
     ghost use Rattle.std.specs.Prelude.{ℕ, List, Option};
 
@@ -18,7 +18,7 @@ pub trait Run {
     /// The bytes of the input, where they are known.
     ghost input: { Option (List ℕ) };
 
-    /// What the disk that it began over had been, as that it had behaved as one.
+    /// A fact of the disk over which it began, as that it had behaved as one.
     ghost was: { Type 0 };
 }
 

@@ -6,7 +6,7 @@ ghost use Rattle.batch_journal.specs.Lines.{IsLine};
 
 use sha2::{Digest, Sha256};
 
-/// The sum of the last group, or that of the documents, which stands before the first one: lower-case hexadecimal digits.
+/// The sum of the last group, or that of the documents, which precedes the first one: lower-case hexadecimal digits.
 #[derive(Clone, Copy)]
 pub enum Sum {
     /// The SHA-256 of the documents, from the header.

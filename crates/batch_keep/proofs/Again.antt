@@ -1,4 +1,4 @@
--- What was told is told again.
+-- The written answers are written again.
 use Rattle.std.proofs.Common.{◌≡◌, ℕ, List, [], ◌∷◌, ◌++◌, take, drop, take-append-drop, Option, Some, refl, sym, ◌∙◌, ap, subst, append_assoc}
 use Rattle.std.proofs.lemmas.List.{append-nil, append_cancel_left}
 use Rattle.std.specs.Io.KnownBytes.{Appends, append_known}
@@ -21,7 +21,7 @@ pub lines_both : (a b : List (List ℕ)) → AreLines a → AreLines b → AreLi
 lines_both [] b are others = others
 lines_both (line ∷ a) b are others = (are.0, lines_both a b are.1 others)
 
--- all that was given may be in what a crash leaves
+-- a file that a crash may leave, it may leave with all bytes given
 pub all_given : (durable seen given : List ℕ) (left : Left) → MayLeave durable seen given left → MayLeave durable seen given (record { file = left.file; given = given })
 all_given durable seen given left may = record { disk = may.disk; output = record { rest = []; splits = sym (append-nil given) } }
 

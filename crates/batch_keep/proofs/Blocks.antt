@@ -24,7 +24,7 @@ are_blocks c old new lines names told block each count stage rows replayed leads
   desks = desks;
 }
 
--- one more block stands behind those so far
+-- one more block follows those so far
 pub blocks_so_far : (f : List ℕ → List ℕ) (names before items : List (List ℕ)) (i : ℕ) (name block : List ℕ) → i < length names → name ≡ get_or names i name
     → before ≡ map f (take i names) → block ≡ f name → items ≡ before ++ block ∷ [] → items ≡ map f (take (i + 1) names)
 blocks_so_far f names before items i name block within item so_far block_is is =

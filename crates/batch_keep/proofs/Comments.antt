@@ -79,7 +79,7 @@ taken_others sum last begun (line ∷ lines) is =
     taken_if sum last begun line lines (cases_Bool (journal_format.own line)) (cases_Bool (journal_format.closes (journal_format.next sum begun) line)) is
     (taken_others (journal_format.next sum begun) last [] lines) (taken_others sum last (begun ++ line ∷ []) lines)
 
--- what a journal stands for: its lines, but for its own
+-- the lines recovered from a journal: all but its own
 pub recovered_others : (documents text sum : List ℕ) → IsJournal documents text sum → recovered documents text ≡ others (whole_lines (groups_in documents text))
 recovered_others documents text sum journal = taken_others documents sum [] (whole_lines (groups_in documents text)) journal.closed.closed
 
@@ -118,7 +118,7 @@ line_both (x ∷ a) b is more = (is.0, is.1, line_both a b is.2 more)
 start_line : IsLine (codes "# batchd journal 1 ")
 start_line = search rules
 
--- a transcript of the file's lines is one of the lines that it stands for
+-- a transcript of the file's lines is one of the lines recovered from it
 pub of_recovered : (c : Setup) (old new : Plant) (documents text sum : List ℕ) (said : Exchange) → IsJournal documents text sum → IsLine documents → length documents ≡ 64
     → AreLines (whole_lines (groups_in documents text))
     → Transcript c old (lines_of text) said new → Transcript c old (recovered documents text) said new

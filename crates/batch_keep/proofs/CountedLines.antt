@@ -93,7 +93,7 @@ pub started_behind : (all : Bool) (name documents text sum : List ℕ) → IsJou
 started_behind all name documents text sum journal are size =
     subst (Counted all name documents text all 0) (ap (λ n. drop n text) (header_size documents size) ∙ sym (take_rest text 84)) (started all name documents text sum journal are)
 
--- the first line feed stands behind the first line
+-- the first line feed is behind the first line
 feed_at : (line text : List ℕ) (at : ℕ) → IsLine line → IsFirstByte (is_byte 10) (line ++ 10 ∷ text) (Some at) → at ≡ length line
 feed_at [] text zero is first = refl
 feed_at [] text (suc at) is first = absurd (first.0.before 0 (omega arith) (omega arith) refl)
@@ -147,7 +147,7 @@ module _ (all : Bool) (name documents text : List ℕ) (counted : Bool) (count :
     pub past_line_of : Counted all name documents text counted count rest → Counted all name documents text next (count + more) (take (length rest - (at + 1)) (drop (at + 1) rest))
     past_line_of so_far = subst (Counted all name documents text next (count + more)) (sym (take_rest rest (at + 1))) (past so_far)
 
--- where no line feed is left, no line is
+-- if no line feed is left, no line is
 pub all_counted : (all : Bool) (name documents text : List ℕ) (counted : Bool) (count : ℕ) (rest : List ℕ) → IsFirstByte (is_byte 10) rest None
     → Counted all name documents text counted count rest → count ≡ count_from all name all (recovered documents text)
 all_counted all name documents text counted count rest none so_far = go so_far.lines so_far.is so_far.total

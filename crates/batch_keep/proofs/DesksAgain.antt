@@ -1,4 +1,4 @@
--- What several desks were told is told again.
+-- The answers to several desks are written again.
 use Rattle.std.proofs.Common.{rules, ◌≡◌, ℕ, Bool, true, false, cond, ◌+◌, List, [], ◌∷◌, ◌++◌, length, length-append, get_or, Option, Some, None, Ok, codes, refl, sym, ◌∙◌, ap, subst, append_assoc, arith}
 use Rattle.batch_model.specs.Plant.{Setup, Plant}
 use Rattle.batch_wire.specs.EventLine.{event_of_line}
@@ -100,7 +100,7 @@ kept_well law are c old new names before (run ∷ runs) answers short whole show
       text = ap (λ l. l ++ rest.said.text) (sym is.text) ∙ ap (λ l. first.text ++ l) rest.text ∙ ap plain_text (sym all);
     }
 
--- A replay of more lines begins with what was told of the first
+-- A replay of more lines begins with the answers to the first
 
 record Continues (c : Setup) (mid last : Plant) (more : List (List ℕ)) (said whole : Exchange) : Type 0 where
   pub others : Exchange

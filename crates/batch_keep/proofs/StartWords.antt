@@ -1,4 +1,4 @@
--- The block of a start, by what the start's words name.
+-- The block of a start, by the set, the documents and the names of the start.
 use Rattle.std.proofs.Common.{◌≡◌, ℕ, List, subst}
 use Rattle.batch_model.specs.Plant.{Plant}
 use Rattle.batch_verify.specs.ClearedSet.{ClearedSet}

@@ -1,4 +1,4 @@
--- What was told is told of what was given.
+-- The written answers are to lines that were given.
 use Rattle.std.proofs.Common.{◌≡◌, ◌⊎◌, ℕ, ◌-◌, ◌<◌, ◌≤◌, ◌∷◌, ◌==◌, zero, suc, get_or, false, true, inl, inr, List, [], ◌++◌, length, take, Option, Some, None, Result, Ok, Err, OnOk, IfSome, IsOk, IsErrOf, refl, sym, ◌∙◌, ap, subst, arith}
 use Rattle.std.proofs.lemmas.List.{append-nil, append_cancel_right, take_all, length-append, take-append-le}
 use Rattle.std.specs.Io.KnownBytes.{Appends, Consumes, IsAtEnd, append_known, prepend_known}
@@ -139,7 +139,7 @@ appends_all (Some held) before taken now text is appends whole tells =
     appended (held ++ []) taken text (subst (λ (b : Option (List ℕ)). Appends b taken text) is appends) ∙ ap (λ l. Some (l ++ text)) (append-nil held) in
     subst (λ (n : Option (List ℕ)). Appends (Some held) n text) (sym (tells held text refl all whole)) refl
 
--- what was written to a writer that held it back was told
+-- a transcript that a writer held back is written once all of it is
 pub tells_transcript : (c : Setup) (old : Plant) (lines : List (List ℕ)) (new : Plant) (first before taken now : Option (List ℕ)) → TranscriptsAreWhole → before ≡ append_known first [] → TellsAll first taken now
     → WritesTranscript c old lines new before taken → WritesTranscript c old lines new first now
 tells_transcript c old lines new first before taken now are_whole is tells w = record {

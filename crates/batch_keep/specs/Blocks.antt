@@ -1,4 +1,4 @@
--- trusted: the block that stands before all that is told after a start over a journal.
+-- trusted: the block with which the output begins after a start over a journal.
 use Rattle.std.specs.Prelude.{◌≡◌, ℕ, List, ◌++◌, length, map, codes, decimal}
 use Rattle.batch_model.specs.Plant.{Setup, Plant}
 use Rattle.batch_model.specs.Runs.{Leads}
@@ -17,11 +17,11 @@ pub record IsReplayed (c : Setup) (old : Plant) (lines : List (List ℕ)) (new :
   pub shows : ShowsNoWant said.text
   pub is : record_text ≡ said.text
 
--- how many lines there were, the rows of what they tell, and the end
+-- the number of the lines, the rows of the state to which they lead, and the end
 abbrev pub block_text : ℕ → List ℕ → List ℕ
 block_text count rows = codes "# recovered " ++ (decimal count ++ (codes " lines\n" ++ (rows ++ codes "# end\n")))
 
--- these lines, served again, tell what the rows of the block say
+-- the record of these lines, served again, leads to the state in the rows of the block
 pub record IsBlockOf (c : Setup) (old : Plant) (lines : List (List ℕ)) (new : Plant) (block : List ℕ) : Type 0 where
   pub told : List ℕ
   pub replayed : IsReplayed c old lines new told

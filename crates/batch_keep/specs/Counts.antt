@@ -8,7 +8,7 @@ use Rattle.batch_wire.specs.EventLine.{is_comment}
 abbrev pub sent_lines : List (List ℕ) → List (List ℕ)
 sent_lines lines = filter (λ line. not (is_comment line)) lines
 
--- whether the lines behind this one are a desk's, which before it are or aren't: a comment says whose they are, up to the next
+-- whether the lines behind this one are a desk's: a comment `# from` says whose they are, up to the next; another line changes nothing
 abbrev pub own_behind : List ℕ → Bool → List ℕ → Bool
 own_behind name own line = cond (starts_with nat_eq line (codes "# from ")) (pointwise nat_eq (drop 7 line) name) own
 
@@ -16,7 +16,7 @@ abbrev pub own_from : List ℕ → Bool → List (List ℕ) → List (List ℕ)
 own_from name own [] = []
 own_from name own (line ∷ lines) = cond (is_comment line) [] (cond own (line ∷ []) []) ++ own_from name (own_behind name own line) lines
 
--- those that stand behind a comment with the desk's name, up to the next such comment
+-- those behind a comment with the desk's name, up to the next comment with the name of a desk
 abbrev pub own_lines : List ℕ → List (List ℕ) → List (List ℕ)
 own_lines name lines = own_from name false lines
 

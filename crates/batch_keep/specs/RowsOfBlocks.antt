@@ -10,12 +10,12 @@ two_desks = codes "create A 1000" ∷ codes "# from A" ∷ codes "start 1" ∷ c
 pub record BlockRows : Type 0 where
   pub none : block_text 0 [] ≡ codes "# recovered 0 lines\n# end\n"
   pub some : block_text 3 (codes "# batch 1 A 1000 complete\n") ≡ codes "# recovered 3 lines\n# batch 1 A 1000 complete\n# end\n"
-  -- what is counted, and what isn't
+  -- a line that is counted, and lines that aren't
   pub event : count_of true (codes "start 1") ≡ 1
   pub another : count_of false (codes "start 1") ≡ 0
   pub own : count_of true (codes "# sum 0123456789abcdef 7") ≡ 0
   pub comment : count_of true (codes "# from A") ≡ 0
-  -- who sent what
+  -- the lines that were sent, and those of each desk
   pub sent : sent_lines two_desks ≡ codes "create A 1000" ∷ codes "start 1" ∷ codes "fly" ∷ codes "start 2" ∷ []
   pub first : own_lines (codes "A") two_desks ≡ codes "start 1" ∷ codes "start 2" ∷ []
   pub second : own_lines (codes "B") two_desks ≡ codes "fly" ∷ []

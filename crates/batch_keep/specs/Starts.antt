@@ -4,7 +4,7 @@ use Rattle.batch_journal.specs.Recovery.{IsRefusedFor}
 use Rattle.batch_keep.specs.declared.starting.StartFault.{StartFault}
 use Rattle.batch_keep.specs.declared.starting.StartFault.TheVariants.{Recovery, Memory, Block}
 
--- a file is refused for what it holds; nothing is said of memory
+-- a file is refused for its contents; nothing is said of memory
 abbrev pub IsStartRefused : List ℕ → List ℕ → StartFault → Type 0
 IsStartRefused documents file (Recovery fault) = IsRefusedFor documents file fault
 IsStartRefused documents file Memory = ⊤

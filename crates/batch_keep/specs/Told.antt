@@ -1,4 +1,4 @@
--- trusted: what was told by a run over a journal, and that a replay of whatever a crash leaves tells it again.
+-- trusted: the answers of a run over a journal, and that a replay of any file that a crash leaves writes them again.
 use Rattle.std.specs.Prelude.{◌≡◌, ℕ, ◌≤◌, List, [], ◌++◌, length, take, Option, Some}
 use Rattle.batch_model.specs.Plant.{Setup, Plant}
 use Rattle.batch_wire.specs.Transcript.{Exchange, Transcript}
@@ -14,7 +14,7 @@ pub record IsAtRest (documents durable seen given sum : List ℕ) : Type 0 where
   pub synced : durable ≡ seen
   pub none : given ≡ []
 
--- whole lines were given, and a beginning of the text of a transcript of the first of them was written
+-- whole lines were given, and a prefix of the text of a transcript of the first of them was written
 pub record TellsLines (c : Setup) (old : Plant) (given : List ℕ) (before after : Option (List ℕ)) : Type 0 where
   pub lines : List (List ℕ)
   pub are_lines : AreLines lines
@@ -23,12 +23,12 @@ pub record TellsLines (c : Setup) (old : Plant) (given : List ℕ) (before after
   pub few : count ≤ length lines
   pub begins : BeginsTranscript c old (take count lines) before after
 
--- where the input was known: whatever came of it, that was told
+-- the same, if the bytes of the input are known
 abbrev pub IsTold : Setup → Plant → Option (List ℕ) → List ℕ → Option (List ℕ) → Option (List ℕ) → Type 0
 IsTold c old input given before after = (all : List ℕ) → input ≡ Some all → TellsLines c old given before after
 
--- The lines that the journal had were replayed from a first plant, and the run told whole lines that show no want of memory. Whatever
--- a crash leaves of the file now, a replay of it in which memory is never wanted tells all of that again, and more behind it.
+-- The lines that the journal had were replayed from a first plant, and the run wrote whole lines that show no want of memory. Whatever
+-- file a crash leaves now, a replay of it in which memory is never wanted writes all of that again, and more behind it.
 abbrev pub IsToldAgain : Setup → Plant → List ℕ → List ℕ → List ℕ → List ℕ → List ℕ → Option (List ℕ) → Option (List ℕ) → Type 0
 IsToldAgain c old documents start durable seen given before after =
     (first last : Plant) (replayed whole : Exchange) (left : Left) (held told rest : List ℕ)
@@ -37,8 +37,8 @@ IsToldAgain c old documents start durable seen given before after =
     → MayLeave durable seen given left → Transcript c first (recovered documents left.file) whole last → ShowsNoWant whole.text
     → BeginsText (replayed.text ++ told) whole.text
 
--- The lines that the journal had were replayed from a first plant. Whatever a crash leaves of the file now, a replay of it in which
--- memory is never wanted tells again what was told before this run and in it, and more behind it.
+-- The lines that the journal had were replayed from a first plant. Whatever file a crash leaves now, a replay of it in which memory is
+-- never wanted writes again the answers from before this run and those of this run, and more behind them.
 abbrev pub IsNeverLost : Setup → Plant → List ℕ → List ℕ → List ℕ → List ℕ → List ℕ → Option (List ℕ) → Option (List ℕ) → Type 0
 IsNeverLost c old documents start durable seen given before after =
     (first last : Plant) (replayed whole : Exchange) (left : Left) (held : List ℕ)

@@ -1,4 +1,4 @@
-//! Recovery blocks: what the lines of a journal, served again, tell of the plant.
+//! Recovery blocks: the state of the plant by the lines of a journal, served again.
 ghost use Rattle.std.specs.Prelude.{◌≡◌, ℕ, List, length, map, codes, IfOk};
 ghost use Rattle.batch_engine.specs.View.{setup, plant_of};
 ghost use Rattle.batch_journal.specs.Journals.{IsJournal, recovered};
@@ -44,14 +44,14 @@ impl From<AllocError> for BlockFault {
     }
 }
 
-/// Serves the lines of a recovered journal again, and gives the blocks that stand before all else that is told then: how many lines
-/// were sent, and what their record tells of the plant. The first is the output's; those of desks, in the order of their names, count
-/// the desk's own lines alone.
+/// Serves the lines of a recovered journal again, and returns the blocks with which outputs begin: the number of the lines that were
+/// sent, and the state to which their record leads. The first is the output's; those of desks, in the order of their names, count the
+/// desk's own lines alone.
 ///
 /// # Errors
 ///
-/// `Memory` where an event or a line was refused for want of memory, or there was none for the record; `Status` where what the machine
-/// told isn't a record.
+/// `Memory` if an event or a line was refused for want of memory, or there was none for the record; `Status` if the machine's answers
+/// aren't a record.
 // claim: the recovery block; recovery blocks of desks
 pub fn recovery_blocks(
     alloc: Global,
@@ -92,7 +92,7 @@ fn replayed(
     }
 }
 
-/// What a record tells.
+/// The state to which a record leads.
 fn status_of(alloc: Global, told: &[u8]) -> Result<Status, BlockFault>
     ensures { IfOk result (λ status. (stage : Stage) × LeadsTo told.now stage × Keeps status stage.tale) }
 {
@@ -103,7 +103,7 @@ fn status_of(alloc: Global, told: &[u8]) -> Result<Status, BlockFault>
     }
 }
 
-/// The rows of what was told.
+/// The rows of the state.
 fn rows_of(alloc: Global, status: Status) -> Result<Vec<u8>, BlockFault>
     ensures { IfOk result (λ rows. (tale : Tale) → Keeps status tale → IsTextOf tale (codes "# ") rows.items) }
 {

@@ -44,7 +44,7 @@ fn count(text: &[u8], documents: &[u8; 64], all: bool, name: &[u8]) -> usize
     count
 }
 
-/// What a line adds: nothing, where it is a comment.
+/// The number that a line adds: 0 if it is a comment or isn't counted.
 fn count_of(line: &[u8], counted: bool) -> usize
     ensures { result ≡ count_of counted line.now }
 {

@@ -4,7 +4,7 @@ ghost use Rattle.batch_keep.specs.Desks.{DesksAreToldAgain};
 use batch_journal::{lines_begin, recovered_are_lines};
 use batch_serve::no_want_is_well;
 
-/// What was recorded of the lines of several desks, which a journal keeps, is told again by a replay of whatever a crash leaves.
+/// A replay of any file that a crash leaves writes again the record of the lines of several desks, which a journal keeps.
 // claim: desks are told again
 pub fn desks_are_told_again()
     ensures { DesksAreToldAgain }

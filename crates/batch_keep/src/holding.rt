@@ -1,4 +1,4 @@
-//! Serving over a journal, where want of memory ends the run before it is told.
+//! Serving over a journal. Want of memory ends the run before an answer that shows it is written.
 ghost use Rattle.std.specs.Prelude.{◌≡◌, List, ℕ, [], Some, IfSome, IsFalse, IsOk, IsTrue, OnOk};
 ghost use Rattle.batch_engine.specs.View.{setup, plant_of};
 ghost use Rattle.batch_journal.specs.Journals.{recovered, sum_text};
@@ -21,10 +21,10 @@ use std::marker::Brand;
 use std::time::Clock;
 use thiserror::Error;
 
-/// Why a run over a journal stopped before its input ended. What was read is in the journal.
+/// Why a run over a journal stopped before its input ended. The lines that were read are in the journal.
 #[derive(Clone, Copy, Debug, PartialEq, Eq, Error)]
 pub enum KeepFault {
-    /// There was no memory for an event or for the answers of a group, of which none is told but those before its last comment.
+    /// There was no memory for an event or for the answers of a group. Of these none is written but those before its last comment.
     #[error("out of memory")]
     Memory,
     /// The input or the journal failed, or the output.
@@ -34,13 +34,13 @@ pub enum KeepFault {
 
 /// Answers the lines of an input, each of which is journalled and synced before the machine is given it.
 ///
-/// The answers of what one read brought are told together, once they show no want of memory. Whatever came of it, the disk and the
-/// writer are given back.
+/// The answers to the lines of one read are written together, once they show no want of memory. However the run ends, the disk and the
+/// writer are returned.
 ///
 /// # Errors
 ///
-/// `Memory` where an event or a line was refused for want of memory, or there was none to hold the answers; else those of `serve`,
-/// `Read` among them where a call of the disk failed. After each of them nothing more is told.
+/// `Memory` if an event or a line was refused for want of memory, or there was none to hold the answers; else those of `serve`,
+/// `Read` among them if a call of the disk failed. After each of them nothing more is written.
 pub fn serve_holding<R: Read + Drop, D: Disk, K: Clock + Drop, W: Write>(
     alloc: Global,
     engine: &mut Engine,
@@ -54,11 +54,11 @@ pub fn serve_holding<R: Read + Drop, D: Disk, K: Clock + Drop, W: Write>(
     // claim: given lines are kept
     ensures any_moment { D.is_disk result.1 → HasRecalled journal.documents (text_of (recovered journal.documents (D.seen journal.disk))) (D.moment journal.disk) (D.moment result.1) (D.left_since result.1) }
     ensures cleared { engine.new.cleared ≡ engine.old.cleared }
-    // Where the input ends, all is told.
+    // When the input ends, all answers are written.
     // claim: served over a journal
     ensures served { OnOk result.0 (IfSome (R.remaining input) (λ all.
         WritesTranscript (setup engine.old.cleared) (plant_of engine.old) (lines_of all) (plant_of engine.new) (W.contents writer) (W.contents result.2))) }
-    // Whatever was told is told again.
+    // A replay writes all written answers again.
     // claim: output is written again
     ensures never_lost { D.is_disk result.1 → (all : List ℕ) → R.remaining input ≡ Some all → IsNeverLost (setup engine.old.cleared) (plant_of engine.old) journal.documents (D.seen journal.disk)
         (D.durable result.1) (D.seen result.1) (D.given result.1) (W.contents writer) (W.contents result.2) }
@@ -68,8 +68,8 @@ pub fn serve_holding<R: Read + Drop, D: Disk, K: Clock + Drop, W: Write>(
     )
 }
 
-/// The same, of a run that began at an earlier moment: whoever calls it says from which one on a crash left the journal's lines. What
-/// is remarked on a line is written behind the answers before it, which are told then.
+/// The same, of a run that began at an earlier moment: the caller says from which one on a crash left the journal's lines. The remarks
+/// on a line are written behind the answers before it, which are written then.
 // claim: an earlier beginning
 pub fn serve_started<
     R: Read + Drop,
@@ -150,7 +150,7 @@ fn serve_holding_at<
     );
     match served {
         Ok(()) => {
-            // All was handed on already, and is told; here that is seen.
+            // All answers were passed on already, and are written; here that is seen.
             let (told, writer) = held.finish();
             (told_outcome(told), disk, writer)
         }
@@ -161,7 +161,7 @@ fn serve_holding_at<
     }
 }
 
-/// Why the run stopped: a writer that wanted memory refused what was written.
+/// Why the run stopped: a writer that wanted memory refused the answers.
 fn keep_fault(fault: ServeFault, has_want: bool) -> KeepFault
     ensures memory { IsTrue has_want → result ≡ KeepFault.Memory }
     ensures serve { IsFalse has_want → result ≡ KeepFault.Serve fault }
@@ -173,7 +173,7 @@ fn keep_fault(fault: ServeFault, has_want: bool) -> KeepFault
     }
 }
 
-/// What a run that went to its end comes to, by the outcome of its last flush.
+/// The outcome of a run that reached its end, by that of its last flush.
 fn told_outcome(told: io::Result<()>) -> Result<(), KeepFault>
     ensures { OnOk result (IsOk told) }
 {

@@ -42,7 +42,7 @@ pub fn serve_started_remarked<R: Read + Drop, D: Disk, K: Clock + Drop, W: Write
     ensures any_moment { D.is_disk result.1 → HasRecalled C.documents C.base C.since (D.moment result.1) (D.left_since result.1) }
     ensures stays { D.is_disk result.1 → ∥ C.was ∥₁ }
     ensures cleared { engine.new.cleared ≡ engine.old.cleared }
-    // Without its comments what was written is what is told without them.
+    // Without its comments the written text is that of a run without comments.
     ensures remarked { (plain : Option (List ℕ)) × IsRemarked (W.contents writer) (W.contents result.2) plain
         × OnOk result.0 (IfSome (R.remaining input) (λ all.
         WritesTranscript (setup engine.old.cleared) (plant_of engine.old) (lines_of all) (plant_of engine.new) (W.contents writer) plain))

@@ -19,9 +19,9 @@ use std::time::Clock;
 /// A journal that recovery left, and the clock of its groups.
 #[derive(Drop)]
 pub struct Journal<D: Disk, K: Clock> {
-    /// Where it is kept.
+    /// The disk on which it is kept.
     pub disk: D,
-    /// The time that stands in its groups, of which nothing is claimed.
+    /// The clock of the times in its groups, of which nothing is claimed.
     pub clock: K,
     /// The sum of its last group.
     pub sum: Sum,
@@ -31,11 +31,11 @@ pub struct Journal<D: Disk, K: Clock> {
 
 /// Answers the lines of an input, each of which is journalled and synced before the machine is given it.
 ///
-/// The input's lines are as a journal has them (`batch_serve::CleanReader`). Whatever came of it, the disk is given back.
+/// The input's lines are as a journal has them (`batch_serve::CleanReader`). However the run ends, the disk is returned.
 ///
 /// # Errors
 ///
-/// Those of `serve`; `Read` where a call of the disk failed as well, after which nothing more is told.
+/// Those of `serve`; `Read` also if a call of the disk failed, after which nothing more is written.
 pub fn serve_journalled<R: Read + Drop, D: Disk, K: Clock + Drop, W: Write>(
     alloc: Global,
     engine: &mut Engine,
@@ -49,14 +49,14 @@ pub fn serve_journalled<R: Read + Drop, D: Disk, K: Clock + Drop, W: Write>(
     // claim: given lines are kept
     ensures any_moment { D.is_disk result.1 → HasRecalled journal.documents (text_of (recovered journal.documents (D.seen journal.disk))) (D.moment journal.disk) (D.moment result.1) (D.left_since result.1) }
     ensures cleared { engine.new.cleared ≡ engine.old.cleared }
-    // Where the input ends, the text of a transcript of all its lines is told.
+    // When the input ends, the text of a transcript of all its lines is written.
     // claim: served over a journal
     ensures served { OnOk result.0 (IfSome (R.remaining input) (λ all.
         WritesTranscript (setup engine.old.cleared) (plant_of engine.old) (lines_of all) (plant_of engine.new) (W.contents writer.old) (W.contents writer.new))) }
-    // What was told is told of lines that the machine was given.
+    // The written answers are to lines that the machine was given.
     // claim: told of given lines
     ensures told { D.is_disk result.1 → IsTold (setup engine.old.cleared) (plant_of engine.old) (R.remaining input) (D.given result.1) (W.contents writer.old) (W.contents writer.new) }
-    // And it is told again, behind what was told before.
+    // A replay writes them again, behind the answers from before.
     // claim: output is written again
     ensures again { D.is_disk result.1 → (all : List ℕ) → R.remaining input ≡ Some all → IsToldAgain (setup engine.old.cleared) (plant_of engine.old) journal.documents (D.seen journal.disk)
         (D.durable result.1) (D.seen result.1) (D.given result.1) (W.contents writer.old) (W.contents writer.new) }

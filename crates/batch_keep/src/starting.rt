@@ -51,14 +51,14 @@ impl From<BlockFault> for StartFault {
     }
 }
 
-/// A plant that stands where the lines of its journal led it.
+/// A plant in the state to which the lines of its journal led it.
 #[derive(Drop)]
 pub struct Started {
     /// The engine, which was given these lines again.
     pub engine: Engine,
     /// The sum of the journal's last group.
     pub sum: Sum,
-    /// The recovery block, which stands before all that is told.
+    /// The recovery block, with which the output begins.
     pub block: Vec<u8>,
     /// How many bytes were cut off behind the last group.
     pub cut: usize,
@@ -68,7 +68,7 @@ pub struct Started {
 ///
 /// # Errors
 ///
-/// Those of `recover` and `recovery_blocks`; `Memory` where there is none for the engine.
+/// Those of `recover` and `recovery_blocks`; `Memory` if there is none for the engine.
 // claim: taken files (taken, untouched); a start
 pub fn start<D: Disk>(
     alloc: Global,
@@ -76,12 +76,12 @@ pub fn start<D: Disk>(
     disk: &mut D,
     documents: Digits,
 ) -> Result<Started, StartFault>
-    // After a restart, what is read is what is on the disk.
+    // After a restart a read returns the bytes on the disk.
     requires { D.is_disk disk.old → D.durable disk.old ≡ D.seen disk.old }
     ensures taken { D.is_disk disk.new → IfOk result (λ _. IsRecoverable documents.text (D.seen disk.old)) }
     // Another file stays as it is.
     ensures untouched { D.is_disk disk.new → IsRecoverable documents.text (D.seen disk.old) ⊎ (D.seen disk.new ≡ D.seen disk.old) }
-    // The block tells of the lines that the journal had, and the engine stands where they led it.
+    // The block is of the lines that the journal had, and the engine is where they led it.
     ensures block { IfOk result (λ started. (lines : List (List ℕ)) × IsBlockOf (setup set) opening lines (plant_of started.engine) started.block.items
         × (D.is_disk disk.new → lines ≡ recovered documents.text (D.seen disk.old))) }
     ensures cleared { IfOk result (λ started. started.engine.cleared ≡ set) }
@@ -109,12 +109,12 @@ pub fn start_desks<D: Disk>(
     documents: Digits,
     names: &[Name],
 ) -> Result<(Started, Vec<Lines>), StartFault>
-    // After a restart, what is read is what is on the disk.
+    // After a restart a read returns the bytes on the disk.
     requires { D.is_disk disk.old → D.durable disk.old ≡ D.seen disk.old }
     ensures taken { D.is_disk disk.new → IfOk result (λ _. IsRecoverable documents.text (D.seen disk.old)) }
     // Another file stays as it is.
     ensures untouched { D.is_disk disk.new → IsRecoverable documents.text (D.seen disk.old) ⊎ (D.seen disk.new ≡ D.seen disk.old) }
-    // The blocks tell of the lines that the journal had, and the engine stands where they led it.
+    // The blocks are of the lines that the journal had, and the engine is where they led it.
     // claim: recovery blocks of desks
     ensures blocks { IfOk result (λ r. (lines : List (List ℕ)) × AreBlocksOf (setup set) opening lines names.now (plant_of r.0.engine) r.0.block.items r.1.items
         × (D.is_disk disk.new → lines ≡ recovered documents.text (D.seen disk.old))) }

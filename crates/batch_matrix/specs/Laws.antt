@@ -1,4 +1,4 @@
--- surface: what holds of every cell of the state matrix.
+-- surface: the laws of the cells of the state matrix.
 use Rattle.std.specs.Prelude.{◌≡◌, Option, Some, None, ⊤}
 use Rattle.batch_matrix.specs.declared.state.State.{State}
 use Rattle.batch_matrix.specs.declared.command.Command.{Command}

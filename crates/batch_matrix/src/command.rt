@@ -4,7 +4,7 @@ ghost use Rattle.batch_matrix.specs.Matrix.{accepts, after, target};
 
 use crate::state::State;
 
-/// What a batch or a live phase is told to do.
+/// A command to a batch or a live phase.
 #[derive(Clone, Copy, Debug, PartialEq, Eq)]
 pub enum Command {
     Start,

@@ -4,7 +4,7 @@ ghost use Rattle.batch_matrix.specs.Matrix.{after_report};
 
 use crate::state::State;
 
-/// What equipment reports of a live phase.
+/// The word by which equipment reports on a live phase.
 #[derive(Clone, Copy, Debug, PartialEq, Eq)]
 pub enum Report {
     Done,
@@ -16,7 +16,7 @@ pub enum Report {
     Fault,
 }
 
-/// What an accepted report makes of its phase.
+/// The outcome of an accepted report for its phase.
 #[derive(Clone, Copy, PartialEq, Eq)]
 pub enum PhaseEnd {
     /// The phase has ended.
@@ -27,7 +27,7 @@ pub enum PhaseEnd {
     Same,
 }
 
-/// What becomes of a live phase in this state, or None where it doesn't accept the report and so stays as it is.
+/// The outcome of the report for a live phase in this state. None where the phase doesn't accept it and so stays as it is.
 // claim: cells of reports
 pub fn after_report(state: State, report: Report) -> Option<PhaseEnd>
     ensures { result ≡ after_report state report }

@@ -1,4 +1,4 @@
--- The code of what is found by its code, and the code of the first that has one.
+-- The code of an explanation that is found by its code, and the code of the first element that has one.
 use Rattle.std.proofs.Common.{◌≡◌, ◌++◌, ◌+◌, ◌<◌, ◌∙◌, ℕ, Bool, true, false, List, [], ◌∷◌, Option, None, Some, refl, ap, sym, map, cond, arith, get_or, take, length, zero, suc}
 use Rattle.std.specs.Prelude.{find, option_map}
 use Rattle.std.specs.Option.{option_or}
@@ -7,7 +7,7 @@ use Rattle.std.proofs.lemmas.List.{take_more}
 use Rattle.batch_messages.specs.Explaining.{first_of}
 use Rattle.batch_messages.specs.declared.explanation.Explanation.{Explanation}
 
--- one that is found in a table has the code that is found among the table's codes
+-- an explanation that is found in a table has the code that is found among the table's codes
 pub found_code : (word : List ℕ) (table : List Explanation)
     → option_map (λ (e : Explanation). e.code.now) (find (λ e. str_eq_ignore_ascii_case e.code.now word) table)
     ≡ find (λ known. str_eq_ignore_ascii_case known word) (map (λ (e : Explanation). e.code.now) table)
@@ -22,7 +22,7 @@ found_code word (e ∷ es) = by_test (str_eq_ignore_ascii_case e.code.now word) 
     by_test true below = refl
     by_test false below = below
 
--- where no code comes of the two, none comes of either
+-- if the two together give no code, neither gives one
 both_none : (a b : Option (List ℕ)) → option_or a b ≡ None → (a ≡ None) × (b ≡ None)
 both_none None b is = (refl, is)
 both_none (Some code) b is = absurd cc
@@ -43,7 +43,7 @@ module _ {X : Type 0} (code : X → Option (List ℕ)) where
   none_at xs i x within is before none =
       ap (first_of code) (take_more xs i x within) ∙ none_more (take i xs) (get_or xs i x) before (ap code (sym is) ∙ none)
 
-  -- the first is where none before it has a code
+  -- the first code is that of an element before which none has a code
   pub first_at : (xs : List X) (i : ℕ) (x : X) (c : List ℕ) → i < length xs → x ≡ get_or xs i x → first_of code (take i xs) ≡ None → code x ≡ Some c
       → first_of code xs ≡ Some c
   first_at [] i x c within is before found = absurd (omega (arith, within))

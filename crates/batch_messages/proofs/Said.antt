@@ -1,4 +1,4 @@
--- What is said of an element of a list, by its number.
+-- The words on an element of a list, by its number.
 use Rattle.std.proofs.Common.{◌≡◌, ℕ, ◌<◌, ◌≤◌, List, [], Option, length, get_or, ap, refl, unwrap_or, option_map}
 use Rattle.std.proofs.lemmas.Option.{slice_get_read, slice_get_past}
 use Rattle.batch_messages.specs.WarningWords.{said_at}

@@ -1,4 +1,4 @@
--- A circle is told edge by edge.
+-- The words on a circle, edge by edge.
 use Rattle.std.proofs.Common.{◌≡◌, ℕ, ◌+◌, ◌<◌, ◌++◌, List, [], ◌∷◌, codes, length, take, get_or, ap, sym, ◌∙◌, refl, append-nil}
 use Rattle.std.proofs.lemmas.List.{map-append, take_more, flat_map_more}
 use Rattle.batch_cell.specs.declared.cell.Cell.{Cell}

@@ -1,4 +1,4 @@
--- surface: what a circle means, in words.
+-- surface: the meaning of a circle, in words.
 use Rattle.std.specs.Prelude.{◌≡◌, ℕ, List, [], ◌++◌, codes, map, slice_get, unwrap_or, option_map, Some, None, ⊤}
 use Rattle.std.specs.List.{flat_map}
 use Rattle.batch_cell.specs.LookUps.{resources_of}
@@ -23,7 +23,7 @@ name_at r node = elim (slice_get (procedure_acts r.acts) node) [ None ↦ [] | S
 abbrev pub act_name : List Recipe → ℕ → ℕ → List ℕ
 act_name recipes recipe node = unwrap_or (option_map (λ r. name_at r node) (slice_get recipes recipe)) []
 
--- an edge, and what is said beside it: which act holds the one resource, and where both acts stand
+-- an edge, with the remarks on it: the act that holds the one resource, and the places of both acts
 pub record ToldEdge : Type 0 where
   pub edge : Edge
   pub holder : List ℕ
@@ -51,7 +51,7 @@ pub record IsCircleTold (cell : Cell) (recipes : List Recipe) (edges : List Edge
   pub each : map (λ (t : ToldEdge). t.edge) told ≡ edges
   pub words : text ≡ circle_words cell recipes told
 
--- the sentence on a circle says it edge by edge, and then what may be done
+-- the sentence on a circle gives its edges in order, and then the advice
 abbrev pub SaysCircle : Cell → List Recipe → CheckFault → List ℕ → Type 0
 SaysCircle cell recipes (Circle edges) text =
     (words : List ℕ) × (more : List ℕ) × IsCircleTold cell recipes edges.items words × (text ≡ shown (words ++ more))

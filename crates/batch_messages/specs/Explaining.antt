@@ -1,4 +1,4 @@
--- trusted: which codes have an explanation, which of them a text has, and what is told.
+-- trusted: the codes that have an explanation, the code in a text, and the printed explanation.
 use Rattle.std.specs.Prelude.{◌≡◌, ◌++◌, ◌∷◌, [], ℕ, List, Option, Some, None, codes, find, flat_map, map}
 use Rattle.std.specs.Char.{is_ascii_whitespace}
 use Rattle.std.specs.List.{slice_split}
@@ -17,7 +17,7 @@ refusal_codes =
 
 -- The code that texts ask about
 
--- what stands between white space, nothing among it
+-- the pieces between white space, empty ones among them
 abbrev pub words : List ℕ → List (List ℕ)
 words text = slice_split is_ascii_whitespace text
 
@@ -36,17 +36,17 @@ code_in text = first_of code_of (words text)
 abbrev pub code_among : List (List ℕ) → Option (List ℕ)
 code_among texts = first_of code_in texts
 
--- What is told
+-- The printed text
 
--- what a code means in one line
+-- the meaning of a code in one line
 abbrev pub meant : Explanation → List ℕ
 meant e = e.code.now ++ (codes ": " ++ (e.meaning.now ++ codes ".\n"))
 
--- the same, and what to do in a second line
+-- the same, and the remedy in a second line
 abbrev pub told : Explanation → List ℕ
 told e = e.code.now ++ (codes ": " ++ (e.meaning.now ++ (codes ".\nTo do: " ++ (e.remedy.now ++ codes ".\n"))))
 
--- where there is no text, what each code means; else the explanation of the first code in the texts
+-- without texts the meaning of each code, else the explanation of the first code in them
 abbrev pub Tells : List (List ℕ) → List ℕ → Type 0
 Tells [] text =
     (explanations : List Explanation) × (map (λ e. e.code.now) explanations ≡ refusal_codes) × (text ≡ flat_map meant explanations)

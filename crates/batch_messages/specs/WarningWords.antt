@@ -1,4 +1,4 @@
--- trusted: what a warning says, in words.
+-- trusted: the words of warnings.
 use Rattle.std.specs.Prelude.{ℕ, List, [], ◌++◌, codes, decimal, slice_get, unwrap_or, option_map}
 use Rattle.batch_cell.specs.declared.cell.Cell.{Cell}
 use Rattle.batch_cell.specs.declared.unit.Unit.{Unit}
@@ -17,7 +17,7 @@ use Rattle.batch_warnings.specs.declared.warning.QuantityTable.TheVariants.{Inpu
 use Rattle.batch_warnings.specs.declared.warning.RecipeWarning.{RecipeWarning}
 use Rattle.batch_warnings.specs.declared.warning.RecipeWarning.TheVariants.{UnnamedAct, ValueOutOfRange, UnreportedOutput, UnusedRole, ScaledParameter}
 
--- what is said of the element with this number
+-- the words on the element with this number, if there is one
 abbrev pub said_at : {X : Type 0} → (X → List ℕ) → List X → ℕ → List ℕ
 said_at said xs number = unwrap_or (option_map said (slice_get xs number)) []
 

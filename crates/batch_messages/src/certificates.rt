@@ -1,4 +1,4 @@
-//! What is wrong with a certificate.
+//! The faults of a certificate, in words.
 use batch_verify::{CertFault, MAX_LINES, MAX_RANK};
 use batch_wording::Sentence;
 use std::alloc::{AllocError, Global};
@@ -6,8 +6,8 @@ use std::alloc::{AllocError, Global};
 /// The most bytes of a certificate's file.
 const MAX_LEN: usize = 32_768;
 
-/// What the fault of the certificate at this path means. A text that looks like another document is told as one that stands in
-/// the certificate's place.
+/// The meaning of the fault of the certificate at this path. Of a text that looks like another document it says that this is in the
+/// certificate's place.
 pub fn certificate_sentence(
     alloc: Global,
     path: &str,
@@ -31,7 +31,7 @@ fn fault_said(alloc: Global, text: &[u8], fault: CertFault) -> Result<String, Al
     }
 }
 
-/// That this line ranks nothing.
+/// Says that this line gives no rank.
 fn no_rank_said(alloc: Global, text: &[u8], line: usize) -> Result<String, AllocError> {
     if line == 1 && is_toml(text) {
         String::from_str(

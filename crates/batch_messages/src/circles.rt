@@ -1,4 +1,4 @@
-//! What is said beside a circle: which acts hold and ask, where they stand, and what clears the set.
+//! The remarks on a circle: the acts that hold and ask, their files and lines, and the changes that clear the set.
 use crate::names::{act_name, recipe_name, resource_name};
 use crate::roles::{class_of, unit_of};
 use crate::sources::Source;
@@ -9,10 +9,10 @@ use batch_recipe::{Act, MAX_NODES, Recipe, UnitChoice, act_at};
 use batch_text::Name;
 use std::alloc::{AllocError, Global};
 
-/// Of circles with more edges it isn't told what clears the set.
+/// The most edges of a circle for which the changes that clear the set are searched.
 const MOST_LOOKED_AT: usize = 16;
 
-/// Which act above the edge's holds what is held, and where its table stands.
+/// The act above the edge's that holds the held resource, and the place of its table.
 pub(crate) fn holder_said(
     alloc: Global,
     cell: &Cell,
@@ -33,7 +33,7 @@ pub(crate) fn holder_said(
     }
 }
 
-/// Where the table of the act stands that asks, with its file where no act above it holds what is held.
+/// The line of the asking act's table, with its file if no act above it holds the held resource.
 pub(crate) fn asker_said(
     alloc: Global,
     cell: &Cell,
@@ -51,7 +51,7 @@ pub(crate) fn asker_said(
     file_said(alloc, recipe, sources, edge.recipe, edge.node, has_file)
 }
 
-/// The node of the first act on the way to the edge's node that asks for what is held.
+/// The node of the first act on the way to the edge's node that asks for the held resource.
 fn holder_of(cell: &Cell, recipe: &Recipe, edge: Edge) -> Option<u16> {
     let held = resource_name(cell, edge.earlier);
     let mut found = None;
@@ -76,7 +76,7 @@ fn asks_at(cell: &Cell, recipe: &Recipe, node: u16, resource: &str) -> bool {
     }
 }
 
-/// Whether the act asks for the resource of this name, where some unit takes its role.
+/// Whether the act asks for the resource of this name if some unit takes its role.
 fn asks_for(cell: &Cell, recipe: &Recipe, act: &Act, resource: &str) -> bool {
     for need in &act.needs {
         if need.resource.text() == resource {
@@ -117,7 +117,7 @@ fn may_take(cell: &Cell, recipe: &Recipe, role: &Name, unit: &str) -> bool {
     false
 }
 
-/// The line of the table of the act at the node, and the file where that is asked for, as far as they are known.
+/// The line of the table of the act at the node, and the file if that is asked for, as far as they are known.
 fn file_said(
     alloc: Global,
     recipe: &Recipe,
@@ -138,7 +138,7 @@ fn file_said(
     }
 }
 
-/// What may be done about the circle: for which of its orders the set would be cleared, were it not for that one.
+/// The advice on the circle: names each of its orders without which the set would be cleared.
 pub(crate) fn advice_said(
     alloc: Global,
     cell: &Cell,
@@ -194,7 +194,7 @@ fn mending_said(
     Ok(said)
 }
 
-/// Of each of the edges whether the set would be cleared, were it not for its order of its two resources.
+/// Of each of the edges whether the set would be cleared without its order of its two resources.
 fn clear_without(
     alloc: Global,
     cell: &Cell,

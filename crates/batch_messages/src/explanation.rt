@@ -6,19 +6,19 @@ ghost use Rattle.batch_messages.specs.Explaining.{HaveNoCode, Tells, code_among,
 use crate::table::explanations;
 use std::alloc::{AllocError, Global};
 
-/// What a code means, and what to do where it is met.
+/// The meaning of a code, and the remedy.
 #[derive(Clone, Copy)]
 pub struct Explanation {
     /// The code as it is printed behind `refused`.
     pub code: &'static str,
-    /// What is wrong; where a code has two uses, both, with `; or ` between.
+    /// The fault that the code stands for; if it has two uses, both, with `; or ` between.
     pub meaning: &'static str,
-    /// What to do.
+    /// The advice to the user.
     pub remedy: &'static str,
 }
 
-/// What is to be told of these texts, in whole lines: of none, what each code means; of some, what the first code in them means and
-/// what to do. It is a word of its own, in capitals or not. None where no word of the texts is a code.
+/// The explanation of the first code in these texts, or without texts the meaning of each code, in whole lines. The code is a word of
+/// its own, in capitals or not. None where no word of the texts is a code.
 // claim: explained code
 pub fn explain(alloc: Global, texts: &[String]) -> Result<Option<String>, AllocError>
     ensures { IfOk result (λ told. MatchOption told (HaveNoCode (map string_bytes texts.now))
@@ -33,7 +33,7 @@ pub fn explain(alloc: Global, texts: &[String]) -> Result<Option<String>, AllocE
     }
 }
 
-/// What each code means, a line for each.
+/// The meaning of each code, a line for each.
 fn meanings(alloc: Global, table: &[Explanation]) -> Result<String, AllocError>
     ensures { IfOk result (λ text. string_bytes text ≡ flat_map meant table.now) }
 {
@@ -52,7 +52,7 @@ fn meaning_text(alloc: Global, explanation: Explanation) -> Result<String, Alloc
     format!(in alloc; "{code}: {meaning}.\n")
 }
 
-/// The explanation in two lines: what the code means, and what to do.
+/// The explanation in two lines: the meaning of the code, and the remedy.
 fn explanation_text(alloc: Global, explanation: Explanation) -> Result<String, AllocError>
     ensures { IfOk result (λ text. string_bytes text ≡ told explanation) }
 {

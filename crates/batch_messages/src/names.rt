@@ -1,4 +1,4 @@
-//! What verdicts name by number.
+//! The names of resources, recipes and acts, by number.
 ghost use Rattle.std.specs.Prelude.{◌≡◌};
 ghost use Rattle.batch_messages.specs.CircleSentence.{act_name, name_at, recipe_name, resource_name};
 
@@ -25,8 +25,8 @@ pub(crate) fn recipe_name(recipes: &[Recipe], recipe: u16) -> &str
     }
 }
 
-/// The name of the act at the node of the recipe with this number, both counted from 0. It is empty where there is no such recipe,
-/// and where the node is no act's.
+/// The name of the act at the node of the recipe with this number, both counted from 0. It is empty if the number is no recipe's, or
+/// the node no act's.
 // claim: act's name
 pub fn act_name(recipes: &[Recipe], recipe: u16, node: u16) -> &str
     ensures { result.now ≡ act_name recipes.now recipe node }

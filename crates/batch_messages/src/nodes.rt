@@ -1,4 +1,4 @@
-//! What is wrong at a node of a recipe.
+//! The rule that is broken at a node of a recipe, in words.
 use crate::names::{resource_name, resource_names};
 use crate::ranks::rank_said;
 use crate::roles::{class_of, unit_among, unit_of, unit_without};
@@ -10,7 +10,7 @@ use batch_verify::{Broken, Certificate, Rule};
 use batch_wording::{meant_or_known, meant_said};
 use std::alloc::{AllocError, Global};
 
-/// Which rule is broken at the node of the recipe with this number, by what.
+/// Names the broken node of the recipe, and says how it breaks the rule.
 pub(crate) fn broken_said(
     alloc: Global,
     cell: &Cell,
@@ -30,7 +30,7 @@ pub(crate) fn broken_said(
     }
 }
 
-/// What is said of the act of this name, at its place in the procedure.
+/// Names the procedure, the act and its place before these words on it.
 fn node_said(
     alloc: Global,
     procedure: &Name,
@@ -52,7 +52,7 @@ fn rule_broken_said(
     format!(in alloc; "{procedure} breaks a rule at {place}")
 }
 
-/// What of the act breaks the rule, which is the last on its way.
+/// Says how the act, the last on its way, breaks the rule.
 fn rule_said(
     alloc: Global,
     cell: &Cell,
@@ -76,7 +76,7 @@ fn rule_said(
     }
 }
 
-/// What the act asks for first that is no resource: its unit, a unit that it reserves, or a need.
+/// Names the act's first ask that is for no resource: its unit, a unit that it reserves, or a need.
 fn unknown_said(
     alloc: Global,
     cell: &Cell,
@@ -109,7 +109,7 @@ fn is_lacking(cell: &Cell, recipe: &Recipe, choice: &UnitChoice) -> bool {
     }
 }
 
-/// That the cell lacks the unit, or each unit that may take the role, which is the act's own, or that of what it reserves.
+/// Says that the cell lacks the unit, or each unit that may take the role: that of the act, or of the unit procedure that it reserves.
 fn lacking_said(
     alloc: Global,
     cell: &Cell,
@@ -129,7 +129,7 @@ fn lacking_said(
     }
 }
 
-/// That the unit is none of the cell.
+/// Says that the unit is none of the cell.
 fn unit_lacking_said(
     alloc: Global,
     cell: &Cell,
@@ -147,7 +147,7 @@ fn unit_lacking_said(
     }
 }
 
-/// That no unit of the cell is of the role's class.
+/// Says that no unit of the cell is of the role's class.
 fn class_lacking_said(
     alloc: Global,
     cell: &Cell,
@@ -313,7 +313,7 @@ fn phase_said(
     }
 }
 
-/// Which unit that may take the role doesn't offer the phase.
+/// Says which unit that may take the role doesn't offer the phase.
 fn role_said(
     alloc: Global,
     cell: &Cell,
@@ -380,7 +380,7 @@ fn choice_said(alloc: Global, written: &str, names: &[&str]) -> Result<String, A
     format!(in alloc; "; it offers {offered}{meant}")
 }
 
-/// Which phase two branches of the `par` at the node run.
+/// Says which phase two branches of the `par` at the node run.
 fn parallel_said(alloc: Global, recipe: &Recipe, node: u16) -> Result<String, AllocError> {
     match shared_phase(alloc, recipe, node)? {
         Some((phase, first, second)) => format!(in alloc;
@@ -419,7 +419,7 @@ fn shared_phase<'a>(
     Ok(None)
 }
 
-/// Whether the node stands below the other one.
+/// Whether the node lies below the other one.
 fn is_below(recipe: &Recipe, above: u16, node: u16) -> bool {
     match recipe.outline.entries.get(usize::from(above)) {
         Some(entry) => above < node && node < entry.end,
@@ -427,7 +427,7 @@ fn is_below(recipe: &Recipe, above: u16, node: u16) -> bool {
     }
 }
 
-/// The phase that the node runs, where it is a phase step.
+/// The phase that the node runs, if it is a phase step.
 fn phase_of(recipe: &Recipe, node: u16) -> Option<&Name> {
     match &act_at(recipe, node)?.work {
         Work::Runs { phase, .. } => Some(phase),

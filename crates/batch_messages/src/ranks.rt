@@ -6,7 +6,7 @@ use batch_text::Name;
 use batch_verify::Certificate;
 use std::alloc::{AllocError, Global};
 
-/// What is asked for with a rank.
+/// A resource that is asked for, with its rank.
 #[derive(Clone, Copy)]
 struct Asked<'a> {
     name: &'a Name,
@@ -21,7 +21,7 @@ struct Kept<'a> {
     role: Option<&'a Name>,
 }
 
-/// Where units and ranks are looked up, and a role with the unit that is to take it.
+/// The sources of units and ranks, and a role with the unit that is to take it.
 #[derive(Clone, Copy)]
 struct Scene<'a> {
     cell: &'a Cell,
@@ -30,7 +30,7 @@ struct Scene<'a> {
     taken: Option<(&'a Name, &'a Name)>,
 }
 
-/// The ranks of what acts ask for, one behind the other.
+/// The ranks of the asks of acts, in order.
 #[derive(Drop)]
 enum Ranks<'a> {
     /// They rise, up to this one.
@@ -40,7 +40,7 @@ enum Ranks<'a> {
 }
 
 impl<'a> Asked<'a> {
-    /// Whether it is a unit that takes this role of what it is reserved for.
+    /// Whether it is a unit that takes this role of the unit procedure that it is reserved for.
     fn takes(self, role: &Name) -> bool {
         match self.kept {
             Some(
@@ -71,7 +71,7 @@ impl<'a> Scene<'a> {
         }
     }
 
-    /// The unit of the act, where that is known.
+    /// The unit of the act, if it is known.
     fn unit_on(self, act: &'a Act) -> Option<&'a Name> {
         match &act.unit {
             None => None,
@@ -101,7 +101,7 @@ impl<'a> Scene<'a> {
         found
     }
 
-    /// The first of the two where its rank is below that of the second.
+    /// The first of the two if its rank is below that of the second, else the second.
     fn lesser(self, name: &'a Name, other: &'a Name) -> &'a Name {
         if rank_of(self.certificate, name) < rank_of(self.certificate, other) {
             name
@@ -110,7 +110,7 @@ impl<'a> Scene<'a> {
         }
     }
 
-    /// The first of the two where its rank is above that of the second.
+    /// The first of the two if its rank is above that of the second, else the second.
     fn greater(self, name: &'a Name, other: &'a Name) -> &'a Name {
         if rank_of(self.certificate, other) < rank_of(self.certificate, name) {
             name
@@ -130,8 +130,8 @@ impl<'a> Ranks<'a> {
         ranks
     }
 
-    /// The ranks with that of one more resource, which is one of two: of the lesser rank to those before it, of the greater to those
-    /// behind it.
+    /// The ranks with that of one more resource, which is one of two. Its rank is the lesser of theirs to the ranks before it, and the
+    /// greater to those behind it.
     fn then(self, least: Asked<'a>, greatest: Asked<'a>) -> Ranks<'a> {
         match self {
             Ranks::Rise(Some(earlier)) if least.rank <= earlier.rank => Ranks::Fall(earlier, least),
@@ -140,7 +140,7 @@ impl<'a> Ranks<'a> {
         }
     }
 
-    /// The ranks with those of what the act asks for, in order.
+    /// The ranks with those of the act's asks, in order.
     fn then_those_of(self, scene: Scene<'a>, act: &'a Act) -> Ranks<'a> {
         let mut ranks = match scene.unit_on(act) {
             Some(unit) => {
@@ -187,7 +187,7 @@ impl<'a> Ranks<'a> {
         }
     }
 
-    /// The units of the least and of the greatest rank that may take the role, which has one unit where it stands twice.
+    /// The units of the least and of the greatest rank that may take the role. If the ask before is for this role, its unit is both.
     fn extremes_behind(&self, scene: Scene<'a>, role: &Name) -> Option<(&'a Name, &'a Name)> {
         match self {
             Ranks::Rise(Some(earlier)) if earlier.takes(role) => Some((earlier.name, earlier.name)),
@@ -196,8 +196,8 @@ impl<'a> Ranks<'a> {
     }
 }
 
-/// Names the first need of the acts whose rank isn't above that of what was asked for before it, and which units take the roles of
-/// their unit procedure, and of what they reserve, where these have any.
+/// Names the first ask of the acts whose rank isn't above that of the ask before it, and the units that take the roles of their unit
+/// procedure, and of the unit procedures that they reserve, if these have any.
 pub(crate) fn rank_said<'a>(
     alloc: Global,
     cell: &'a Cell,
@@ -223,7 +223,7 @@ pub(crate) fn rank_said<'a>(
     }
 }
 
-/// The first of the units that may take the role with which the ranks of the acts don't rise, and where they fall.
+/// The first of the units that may take the role with which the ranks of the acts don't rise, and the two asks where they fall.
 fn first_fall<'a>(
     scene: Scene<'a>,
     acts: &[&'a Act],
@@ -248,7 +248,7 @@ fn fall_said(alloc: Global, earlier: Asked<'_>, later: Asked<'_>) -> Result<Stri
     format!(in alloc; "it asks for {later}{pause} after {earlier}, and ranks have to rise")
 }
 
-/// The name and the rank, and for which unit procedure a unit is reserved.
+/// The name and the rank, and the unit procedure that a unit is reserved for.
 fn asked_said(alloc: Global, asked: Asked<'_>) -> Result<String, AllocError> {
     let Asked { name, rank, kept } = asked;
     match kept {

@@ -1,4 +1,4 @@
-//! What is wrong with a set of recipes.
+//! The faults of a set of recipes, in words.
 ghost use Rattle.std.specs.Prelude.{◌≡◌, ◌++◌, ℕ, List, IfOk, string_bytes};
 ghost use Rattle.batch_messages.specs.CircleSentence.{IsCircleTold, IsEdgeTold, SaysCircle};
 
@@ -16,8 +16,8 @@ use std::alloc::{AllocError, Global};
 
 const NO_MEMORY: &str = "there is no memory to judge the recipes";
 
-/// What the refusal of the recipes by the certificate means. Sources are those of the recipes, in order; of one that is left out no
-/// file is told.
+/// The meaning of the refusal of the recipes by the certificate. Sources are those of the recipes, in order. A recipe without a source
+/// is named without its file.
 pub fn refusal_sentence(
     alloc: Global,
     cell: &Cell,
@@ -77,7 +77,7 @@ fn unknown_entry_said(
     )
 }
 
-/// Which rule the recipe of this number breaks.
+/// Says which rule the recipe of this number breaks.
 fn recipe_said(
     alloc: Global,
     cell: &Cell,
@@ -95,7 +95,7 @@ fn recipe_said(
     format!(in alloc; "{origin}{said}")
 }
 
-/// Which two of the recipes have one name, or that there are too many.
+/// Says which two of the recipes have one name, or that there are too many.
 fn no_set_said(
     alloc: Global,
     recipes: &[Recipe],
@@ -117,7 +117,7 @@ fn no_set_said(
     format!(in alloc; "there are more than {MAX_RECIPES} recipes")
 }
 
-/// The files of these two recipes, where they are known.
+/// The files of these two recipes, if they are known.
 fn files_said(
     alloc: Global,
     sources: &[Source],
@@ -133,7 +133,7 @@ fn files_said(
     }
 }
 
-/// What it means that the recipes have no certificate. Sources are as in [`refusal_sentence`].
+/// The reason why the recipes have no certificate, in words. Sources are as in [`refusal_sentence`].
 // claim: circle in words
 pub fn fault_sentence(
     alloc: Global,
@@ -155,7 +155,7 @@ pub fn fault_sentence(
     Sentence::of(alloc, said?.as_str())
 }
 
-/// The circle, and what may be done.
+/// The circle, and the advice on it.
 fn mended_said(
     alloc: Global,
     cell: &Cell,

@@ -1,12 +1,12 @@
-//! Where the acts of recipes stand.
+//! The files and lines of the acts of recipes.
 use batch_recipe::{Kind, LabelTable, MAX_NODES, Recipe};
 use batch_wording::{header_in, shown};
 use std::alloc::{AllocError, Global};
 
-/// The document of a recipe: its path, and in which lines the tables of its acts begin.
+/// The document of a recipe: its path, and the lines in which the tables of its acts begin.
 #[derive(Drop)]
 pub struct Source {
-    /// The path, with its control characters told by escapes.
+    /// The path, with its control characters as escapes.
     path: String,
     procedures: Vec<usize>,
     unit_procedures: Vec<usize>,
@@ -31,7 +31,7 @@ impl Source {
         Ok(source)
     }
 
-    /// Keeps the number of the line, where it is the header of an act's table.
+    /// Keeps the number of the line if it is the header of an act's table.
     fn note(&mut self, number: usize, line: &str) -> Result<(), AllocError> {
         let lines = match header_in(line.trim()) {
             Some("procedure") => &mut self.procedures,
@@ -48,7 +48,7 @@ impl Source {
         self.path.as_str()
     }
 
-    /// The line of the table of the act that the node is of, where the document has as many headers as such tables.
+    /// The line of the table of the node's act, if the document has as many headers as the recipe has tables of the kind.
     pub(crate) fn line_of(&self, recipe: &Recipe, node: u16) -> Option<usize> {
         let mut at = node;
         for _ in 0..MAX_NODES {
@@ -74,7 +74,7 @@ impl Source {
     }
 }
 
-/// The line with this number, where there are so many lines.
+/// The line with this number, if there are as many lines as tables.
 fn line_among(lines: &[usize], number: usize, tables: usize) -> Option<usize> {
     if lines.len() == tables {
         lines.get(number).copied()
@@ -83,8 +83,7 @@ fn line_among(lines: &[usize], number: usize, tables: usize) -> Option<usize> {
     }
 }
 
-/// The file of the recipe with this number and the line of the act at its node, as far as they are known, and a mark before what
-/// is said of them.
+/// The file of the recipe with this number and the line of the act at its node, as far as they are known, each with a mark behind it.
 pub(crate) fn origin_said(
     alloc: Global,
     sources: &[Source],

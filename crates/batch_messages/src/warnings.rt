@@ -1,4 +1,4 @@
-//! What warnings mean.
+//! The meaning of warnings.
 ghost use Rattle.std.specs.Prelude.{◌≡◌, IfOk, string_bytes};
 ghost use Rattle.batch_recipe.specs.Procedure.{table_at};
 ghost use Rattle.batch_warnings.specs.Warnings.{quantities_in};
@@ -10,7 +10,7 @@ use batch_warnings::{QuantityTable, RecipeWarning};
 use batch_wording::Sentence;
 use std::alloc::{AllocError, Global};
 
-/// What it means that no module belongs to the unit with this number. The path is that of the cell's document.
+/// The warning that no module belongs to the unit with this number. The path is that of the cell's document.
 // claim: warnings in words
 pub fn unit_warning(
     alloc: Global,
@@ -24,7 +24,7 @@ pub fn unit_warning(
     warning_on(alloc, path, &said)
 }
 
-/// What the warning on the recipe means. The path is that of the recipe's document.
+/// The warning on the recipe, in words. The path is that of the recipe's document.
 // claim: warnings in words
 pub fn recipe_warning(
     alloc: Global,

@@ -1,5 +1,5 @@
--- What of an expanded tree depends on the units that take the roles: nothing below a unit procedure but its unit, and above it
--- nothing that the rules ask.
+-- The parts of an expanded tree that depend on the units that take the roles: below a unit procedure its unit alone, and above it
+-- nothing that the rules check.
 use Rattle.std.proofs.Common.{◌≡◌, refl, sym, ◌∙◌, ap, ap₂, ℕ, ◌+◌, List, [], ◌∷◌, ◌++◌, map, Bool, true, false, ◌&&◌, ◌||◌, not, Option, Some, None, inl, inr}
 use Rattle.std.proofs.lemmas.Bool.{and_parts}
 use Rattle.std.specs.List.{list_all}

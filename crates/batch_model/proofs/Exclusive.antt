@@ -19,7 +19,7 @@ module _ {X : Type 0} (p : X → Bool) where
   before_step true x xs h i = omega arith
   before_step false x xs h i = let e = i h in omega (arith, e)
 
-  -- where a test passes somewhere, the first such place lies within
+  -- if the test passes on an element, the first index at which it passes lies within the list
   before : (xs : List X) → list_any p xs ≡ true → prefix_len (λ y. not (p y)) xs < length xs
   before [] h = absurd (grind (arith, h, common_steps))
   before (x ∷ xs) h = before_step (p x) x xs h (before xs)

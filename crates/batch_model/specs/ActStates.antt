@@ -28,7 +28,7 @@ abbrev mutual
   steps_of_choices (otherwise chart) = steps chart
   steps_of_choices (choice condition chart choices) = steps chart ++ steps_of_choices choices
 
--- how early a state stands among those by which an act shows its phases
+-- the position of a state in the order of gravity, the gravest first: an open act shows the gravest state of its live phases
 abbrev pub gravity : State → ℕ
 gravity Aborting = 1
 gravity Stopping = 2
@@ -56,7 +56,7 @@ act_state state _ = Idle
 abbrev pub root : Place
 root = 0 ∷ []
 
--- the state of the act at this place, where an act of the tree stands there
+-- the state of the act at this place, if the tree has an act there
 abbrev pub state_in : Batch → Place → Option State
 state_in batch place =
     elim (same_place place root) [

@@ -1,4 +1,4 @@
--- trusted: clearance: what recipes must meet, by a ranking of a cell's resources, so that their batches can run safely.
+-- trusted: clearance: the rules that recipes must meet, by a ranking of a cell's resources, so that their batches can run safely.
 use Rattle.std.specs.Prelude.{◌≡◌, ℕ, ◌+◌, ◌<◌, ◌≤◌, List, [], ◌∷◌, ◌++◌, length, map, Bool, true, false, ◌&&◌, ◌||◌, IsTrue, ⊤, Some}
 use Rattle.batch_recipe.specs.Conditions.{Name, same_name}
 use Rattle.batch_recipe.specs.Tree.{Place, Phase, Tree, act, skip, seq, par, sel, loop, Task, runs, follows, Trees, no_trees, tree, Choices, otherwise, choice}
@@ -189,6 +189,6 @@ pub record IsCleared (setup : Setup) (rank : Ranking) : Type 0 where
   pub few : length setup.recipes ≤ MAX_RECIPES
   pub recipes : Each (IsClearedRecipe setup rank) setup.recipes
 
--- some ranking clears them
+-- some ranking clears the recipes
 abbrev pub CanBeCleared : Setup → Type 0
 CanBeCleared setup = (rank : Ranking) × IsCleared setup rank

@@ -1,4 +1,4 @@
--- trusted: the events that come from outside, and what the plant replies and becomes.
+-- trusted: the events that come from outside, the plant's reply to each, and the plant after it.
 use Rattle.std.specs.Prelude.{ℕ, suc, List, [], ◌∷◌, ◌++◌, length, map, filter, find, Bool, true, false, ◌&&◌, ◌||◌, not, Option, Some, None, nat_eq, nat_lt, nat_le}
 use Rattle.std.specs.List.{list_all}
 use Rattle.std.specs.Option.{option_or}
@@ -25,7 +25,7 @@ pub data Event : Type 0 where
   create : Name → ℕ → List (Name × Name) → Event
   order : Command → ℕ → Event
   remove : ℕ → Event
-  -- the unit, the phase, the word, and the outputs, which count where the phase is done
+  -- the unit, the phase, the word, and the outputs, which count if the phase is done
   report : Name → Name → Report → ValueList → Event
 
 pub data Refusal : Type 0 where
@@ -55,7 +55,7 @@ pub data Reply : Type 0 where
   reported : Name → Name → Report → ℕ → Place → State → Reply
   refused : Refusal → Reply
 
--- what an event comes to: the reply and the plant after it
+-- the answer to an event: the reply, and the plant after it
 abbrev pub Answer : Type 0
 Answer = Reply × Plant
 
@@ -108,7 +108,7 @@ binding plant master size pairs =
 abbrev pub reset : Batch → Batch
 reset batch = new_batch batch.number batch.recipe batch.size (with_outputs_zero batch.recipe.outputs batch.values)
 
--- the command leads on the way to Stopped or Aborted, where no ask is left
+-- the command leads on the way to Stopped or Aborted, on which no ask is left
 abbrev pub ends_asks : Command → Bool
 ends_asks command = is_stopping (target command)
 
@@ -120,7 +120,7 @@ commanded command batch =
       | false ↦ record batch { state = target command; rest = elim (ends_asks command) [ true ↦ withdrawn batch.rest | false ↦ batch.rest ] }
     ]
 
--- the lines without the asks of the batch with this number, where the command ends them
+-- the lines without the asks of the batch with this number, if the command ends them
 abbrev pub lines_under : Command → ℕ → (Name → List Share) → Name → List Share
 lines_under command number line resource =
     elim (ends_asks command) [ false ↦ line resource | true ↦ filter (λ share. not (nat_eq share.act.0 number)) (line resource) ]
@@ -171,11 +171,11 @@ phase_after Same rest = rest
 phase_after (Now becomes) (live step phase state) = live step phase becomes
 phase_after (Now becomes) rest = rest
 
--- a fault takes the batch to Holding where its state accepts hold
+-- a fault takes the batch to Holding if its state accepts hold
 abbrev pub batch_state_after : Report → State → State
 batch_state_after word state = elim (same_report word Report.Fault && accepts state Hold) [ true ↦ Holding | false ↦ state ]
 
--- the outputs of a report, which a phase that is done alone has
+-- the outputs of a report, which count only if the phase is done
 abbrev pub outputs_of : Report → ValueList → ValueList
 outputs_of word outputs = elim (same_report word Report.Done) [ true ↦ outputs | false ↦ [] ]
 
@@ -189,7 +189,7 @@ batch_reported word outputs place phase_end batch =
 abbrev pub owed : State → Report → List Name → List Name
 owed now word names = elim (same_report word Report.Done && not (is_stopping now)) [ true ↦ names | false ↦ [] ]
 
--- what an expected report of outputs that may be set comes to, where this output is the first that it leaves out
+-- the answer to an expected report whose outputs may be set; the name, if any, is the first output that it leaves out
 abbrev pub accepting : Plant → Name → Name → Report → ValueList → LivePhase → PhaseEnd → Option Name → Answer
 accepting plant unit name word outputs found phase_end (Some output) = (refused (output_left_out output), plant)
 accepting plant unit name word outputs found phase_end None = (
@@ -208,7 +208,7 @@ reporting plant unit name word outputs found =
           ]
     ]
 
--- the reply to an event while no move is pending, and the plant after it: the first refusal that has a cause, or what was asked for
+-- the answer to an event while no move is pending: the first refusal that has a cause, or else the effect that was asked for
 abbrev pub judged : Setup → Plant → Event → Answer
 judged setup plant (create name size pairs) =
     elim (find (λ master. same_name master.name name) setup.recipes) [

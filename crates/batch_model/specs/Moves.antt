@@ -1,4 +1,4 @@
--- trusted: the moves that a plant makes by itself: which are possible, which is next, and what each changes.
+-- trusted: the moves that a plant makes by itself: the possible ones, the next one, and the effect of each.
 use Rattle.std.specs.Prelude.{ℕ, zero, suc, pred, List, [], ◌∷◌, ◌++◌, length, map, find, flat_map, Bool, true, false, ◌&&◌, ◌||◌, Option, Some, None, nat_eq, option_map, option_and_then, option_to_list, nat_le, ◌+◌, slice_get}
 use Rattle.std.specs.List.{list_all, filter_map}
 use Rattle.batch_matrix.specs.declared.state.State.{State}
@@ -12,10 +12,10 @@ use Rattle.batch_recipe.specs.Following.{follower}
 use Rattle.batch_recipe.specs.declared.need.Need.{Need}
 use Rattle.batch_model.specs.Rest.{Rest, ready, asking, open_act, live, freeing, done, is_done, Moment, acts, reach}
 use Rattle.batch_model.specs.Plant.{Setup, Batch, BatchAct, Share, units_in, Plant, is_same_act, with_share, without_share, moment_of, in_batch, in_act, held_in, phase_states, holders}
--- the value where the test holds, as std has it
+-- the value if the test holds, as std has it
 pub use Rattle.std.specs.Bool.{then_some as when}
 
--- a move is what its record line says: the number of its batch, mostly the place of an act, and what is done there
+-- a move, with the contents of its record line: the number of its batch, mostly the place of an act, and the action there
 pub data Move : Type 0 where
   send : ℕ → Place → Phase → Command → Move
   state : ℕ → State → Move
@@ -70,7 +70,7 @@ order_of move = batch_of move ∷ kind_of move ∷ place_of_move move
 abbrev pub is_earlier : Move → Move → Bool
 is_earlier move other = is_before (order_of move) (order_of other)
 
--- What is possible
+-- Possible moves
 
 -- the state of a batch, and the command that it passes on to its live phases
 abbrev pub passes : List (State × Command)
@@ -98,8 +98,8 @@ is_empty (x ∷ xs) = false
 abbrev pub is_quiet : Rest → Bool
 is_quiet rest = is_empty (phase_states (acts rest))
 
--- what a batch waits for that is to be in this state has come about: its procedure is finished; or no phase is live and nothing is
--- held; or else all live phases are in that state
+-- a batch with this rest may enter the state: Complete once its procedure is finished, Stopped or Aborted once no phase is live and
+-- its acts hold nothing, any other state once all live phases are in it
 abbrev pub is_reached : State → Rest → Bool
 is_reached becomes rest =
     elim (is_stopped becomes) [
@@ -111,7 +111,7 @@ is_reached becomes rest =
 abbrev pub handed_values : ValueList → List Name → ValueList
 handed_values values names = map (λ name. (name, value_or_0 values name)) names
 
--- how an act begins that holds all its needs
+-- the move by which an act begins that holds all its needs
 abbrev pub beginning : Batch → Step → Task → Move
 beginning batch step (runs phase) = start batch.number step.place phase (handed_values batch.values phase.handed)
 beginning batch step (follows name chart) = begin batch.number step.place name
@@ -121,21 +121,21 @@ abbrev pub entering : Batch → Step → Task → ℕ → Option Move
 entering batch step task held =
     elim (slice_get step.needs held) [ Some need ↦ Some (ask batch.number step.place need) | None ↦ Some (beginning batch step task) ]
 
--- the last of the needs that an act holds, so many of the first
+-- the last of so many first needs of an act
 abbrev pub last_held : Step → ℕ → Option Need
 last_held step zero = None
 last_held step (suc fewer) = slice_get step.needs fewer
 
--- it is given back
+-- the last held need is given back
 abbrev pub giving_back : Batch → Step → ℕ → Option Move
 giving_back batch step held = option_map (release batch.number step.place) (last_held step held)
 
--- where the unit procedure stands that a step reserves by the need with this number, if it follows the step
+-- the place of the unit procedure that a step reserves by the need with this number, if it follows the step
 abbrev pub reserved_place : Tree → Step → ℕ → Option Place
 reserved_place procedure step number =
     option_and_then (λ reserve. follower procedure step.place reserve.name) (find (λ reserve. nat_eq reserve.need number) step.reserves)
 
--- it is passed to the unit procedure for which the step reserves it, or given back
+-- the last held need is passed to the unit procedure for which the step reserves it, else given back
 abbrev pub handing_over : Batch → Step → ℕ → Option Move
 handing_over batch step held =
     elim (reserved_place batch.recipe.procedure step (pred held)) [
@@ -191,9 +191,9 @@ least (move ∷ more) =
 abbrev pub next : Setup → Plant → Option Move
 next setup plant = least (possible setup plant)
 
--- What a move changes
+-- The effect of a move
 
--- an act that has ended holds so many of its first needs still, and is finished where it holds none
+-- an act that has ended and still holds so many of its first needs; it is finished if it holds none
 abbrev pub freed : Step → ℕ → Rest
 freed step zero = done
 freed step (suc fewer) = freeing step (suc fewer)
@@ -226,7 +226,7 @@ abbrev pub granted : Rest → Rest
 granted (asking step task held) = ready step task (suc held)
 granted rest = rest
 
--- what a move makes of the act at its place
+-- the effect of a move on the act at its place
 abbrev pub act_after : Moment → Move → Rest → Rest
 act_after moment (send number place phase command) = sent command
 act_after moment (state number becomes) = λ rest. rest
@@ -243,7 +243,7 @@ line_after (ask number place need) line resource = with_share resource (number, 
 line_after (grant number place need) line resource = without_share resource (number, place) need (line resource)
 line_after _ line resource = line resource
 
--- the batch that holds in advance as well what the move passes on
+-- the batch, which holds in advance also the unit, if any, that the move passes on
 abbrev pub passing : Move → Batch → Batch
 passing (pass number place to need) batch = record batch { in_advance = record { place = to; unit = need } ∷ batch.in_advance }
 passing _ batch = batch

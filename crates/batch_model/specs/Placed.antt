@@ -28,7 +28,7 @@ abbrev mutual
   IsChoicePlaced place child_number (choice condition chart choices) =
       IsPlaced (child place child_number) chart × IsChoicePlaced place (child_number + 1) choices
 
--- each act stands before all that come after it
+-- the place of each act is before the places of all acts after it in the list
 abbrev pub Rises : List Rest → Type 0
 Rises [] = ⊤
 Rises (first ∷ more) = Each (λ other. is_before (place_of first) (place_of other) ≡ true) more × Rises more

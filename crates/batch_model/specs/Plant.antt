@@ -1,4 +1,4 @@
--- trusted: the plant: the batches, what each holds and asks for, and the lines in which the asks stand.
+-- trusted: the plant: its batches, the holdings and asks of each, and the line of asks for each resource.
 use Rattle.std.specs.Prelude.{ℕ, List, [], ◌∷◌, ◌++◌, take, map, filter, find, flat_map, sum_by, Bool, true, false, ◌&&◌, not, Option, None, nat_eq, slice_get}
 use Rattle.batch_matrix.specs.declared.state.State.{State}
 use Rattle.batch_recipe.specs.Conditions.{Name, ValueList}
@@ -9,7 +9,7 @@ use Rattle.batch_recipe.specs.declared.need.Need.{Need}
 use Rattle.std.specs.List.{list_any}
 use Rattle.batch_model.specs.Rest.{same_place, Rest, ready, asking, open_act, live, freeing, Moment, acts, advance, changed_at, place_of}
 
--- what a formula gives for a size: its values, or why it gives none
+-- the result of a formula for a size: its values, or the reason why there are none
 pub data Formula : Type 0 where
   size_out_of_range : Formula
   value_out_of_range : Name → Formula
@@ -38,9 +38,9 @@ pub record Master : Type 0 where
 abbrev pub plain : Recipe → Master
 plain recipe = record { name = recipe.name; roles = []; names_role = λ role. false; control = λ bound. recipe }
 
--- what the machine is set up with: the names of its cell's units and of all its resources, which are the units, the free
--- modules and what is shared; the capacity of each resource, which phases a unit offers, and the master recipes; and the most
--- batches that may exist at once
+-- the setup of the machine: the names of its cell's units, and of all its resources, which are the units, the free modules and the
+-- shared resources; the capacity of each resource, the phases that each unit offers, and the master recipes; and the most batches that
+-- may exist at once
 pub record Setup : Type 0 where
   pub units : List Name
   pub resources : List Name
@@ -61,7 +61,7 @@ pub record Batch : Type 0 where
   pub values : ValueList
   pub state : State
   pub rest : Rest
-  -- what is held in advance
+  -- the units that are held in advance, with their places
   pub in_advance : List InAdvance
 
 -- an act of a batch: the batch's number and the act's place
@@ -84,7 +84,7 @@ acts_in shares = map (λ share. share.act) shares
 pub record Plant : Type 0 where
   pub batches : List Batch
   pub next_number : ℕ
-  -- what stands asked for of a resource, in the order in which the asks came
+  -- the shares of a resource that are asked for, in the order in which the asks came
   pub line : Name → List Share
 
 -- the plant in which nothing has happened
@@ -115,7 +115,7 @@ abbrev pub in_batch : ℕ → (Batch → Batch) → Plant → Plant
 in_batch number change plant =
     record plant { batches = map (λ batch. elim (nat_eq batch.number number) [ true ↦ change batch | false ↦ batch ]) plant.batches }
 
--- what the charts of a batch find when they go on
+-- the input of a batch's charts when they advance
 abbrev pub moment_of : Batch → Moment
 moment_of batch = record { values = batch.values; early = map (λ held. held.place) batch.in_advance }
 
@@ -123,7 +123,7 @@ moment_of batch = record { values = batch.values; early = map (λ held. held.pla
 abbrev pub is_reached : Rest → Place → Bool
 is_reached rest place = list_any (λ act. same_place (place_of act) place) (acts rest)
 
--- the batch with this rest; what is reached by it holds no more in advance
+-- the batch with this rest; the acts that are reached in it hold nothing in advance
 abbrev pub with_rest : Rest → Batch → Batch
 with_rest rest batch = record batch { rest = rest; in_advance = filter (λ held. not (is_reached rest held.place)) batch.in_advance }
 
@@ -131,7 +131,7 @@ with_rest rest batch = record batch { rest = rest; in_advance = filter (λ held.
 abbrev pub in_act : Place → (Rest → Rest) → Batch → Batch
 in_act place change batch = with_rest (advance (moment_of batch) (changed_at place change batch.rest)) batch
 
--- what an act itself holds, in the order in which it asked for it
+-- the needs that an act itself holds, in the order in which it asked for them
 abbrev pub held_by : Rest → List Need
 held_by (ready step task granted) = take granted step.needs
 held_by (asking step task granted) = take granted step.needs
@@ -140,12 +140,12 @@ held_by (live step phase state) = step.needs
 held_by (freeing step left) = take left step.needs
 held_by _ = []
 
--- what an act in line asks for
+-- the need that an act in line asks for
 abbrev pub asked_by : Rest → Option Need
 asked_by (asking step task granted) = slice_get step.needs granted
 asked_by _ = None
 
--- what is held by an act or by any below it
+-- the needs that the acts of a rest hold
 abbrev pub held_in : Rest → List Need
 held_in rest = flat_map held_by (acts rest)
 
@@ -155,17 +155,17 @@ phase_states [] = []
 phase_states (live step phase state ∷ more) = state ∷ phase_states more
 phase_states (_ ∷ more) = phase_states more
 
--- each act of a plant that its charts have reached, with its batch's number
+-- the acts of a batch's rest, each with the batch's number
 abbrev pub acts_of : Batch → List (ℕ × Rest)
 acts_of batch = map (λ act. (batch.number, act)) (acts batch.rest)
 
--- an act's shares of a resource: one for each need by which it holds it
+-- an act's shares of a resource, one for each need of that resource that it holds
 abbrev pub shares_held : Name → Batch → Rest → List Share
 shares_held resource batch act =
     map (λ need. record { act = (batch.number, place_of act); units = need.units })
     (filter (λ need. same_name resource need.resource) (held_by act))
 
--- the share of a resource that is held in advance, where what is held is of it
+-- the share of a resource that is held in advance, if the held unit is that resource
 abbrev pub share_in_advance : Name → Batch → InAdvance → List Share
 share_in_advance resource batch held = with_share resource (batch.number, held.place) held.unit []
 

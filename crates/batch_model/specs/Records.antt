@@ -1,4 +1,4 @@
--- trusted: what a record alone tells, and when it is safe.
+-- trusted: the holders, the waiters, the active phases and the states that a record alone tells, and the safety of a record.
 use Rattle.std.specs.Prelude.{◌≡◌, ◌⊎◌, ℕ, ◌≤◌, List, [], ◌∷◌, ◌++◌, filter, fold, Bool, true, false, ◌||◌, not, IsTrue, ⊤, Option, Some, None, nat_eq}
 use Rattle.batch_matrix.specs.declared.state.State.{State}
 use Rattle.batch_matrix.specs.declared.state.State.TheVariants.{Idle, Complete}
@@ -27,7 +27,7 @@ holders_after resource shares _ = shares
 abbrev pub holders_told : List Out → Name → List Share
 holders_told outs resource = fold (holders_after resource) [] outs
 
--- it waits from its ask to its grant, or to the next stop or abort of its batch
+-- a place of a batch waits from its ask to its grant, or to the next stop or abort of its batch
 abbrev pub waiters_after : Name → List Share → Out → List Share
 waiters_after resource shares (move (ask number place need)) = with_share resource (number, place) need shares
 waiters_after resource shares (move (grant number place need)) = without_share resource (number, place) need shares
@@ -56,7 +56,7 @@ active_after actives _ = actives
 abbrev pub active_told : List Out → List Active
 active_told outs = fold active_after [] outs
 
--- a batch's state is the last one that a line tells
+-- a batch's state is the last one in a line of the record
 abbrev pub state_after : ℕ → Option State → Out → Option State
 state_after number old (reply (created batch recipe size roles)) = elim (nat_eq batch number) [ true ↦ Some Idle | false ↦ old ]
 state_after number old (reply (ordered command batch becomes)) = elim (nat_eq batch number) [ true ↦ Some becomes | false ↦ old ]
@@ -88,7 +88,7 @@ pub record Waiting : Type 0 where
 abbrev pub IsWaiting : Scene → Waiting → Type 0
 IsWaiting scene waiting = Has (scene.waiters waiting.resource) waiting.act
 
--- the upper place is the other or stands above it
+-- the upper place is the other or lies above it
 abbrev pub IsAtOrAbove : Place → Place → Type 0
 IsAtOrAbove upper place = (below : Place) × (upper ++ below ≡ place)
 
@@ -97,7 +97,7 @@ abbrev pub WaitsForHolder : Scene → Waiting → Waiting → Type 0
 WaitsForHolder scene waiting other =
     (place : Place) × Has (scene.holders waiting.resource) (other.act.0, place) × IsAtOrAbove place other.act.1
 
--- the earlier stands before the later in the list
+-- the earlier is before the later in the list
 abbrev pub StandsBefore : {X : Type 0} → List X → X → X → Type 0
 StandsBefore [] earlier later = ⊥
 StandsBefore (x ∷ xs) earlier later = ((x ≡ earlier) × Has xs later) ⊎ StandsBefore xs earlier later
@@ -128,11 +128,11 @@ pub record Link : Type 0 where
 abbrev pub IsLink : Scene → Link → Type 0
 IsLink scene link = IsWaiting scene link.waiting × Has (scene.holders link.waiting.resource) link.holder
 
--- the waiting step stands at or below the holder
+-- the waiting step is at or below the holder
 abbrev pub StandsUnder : BatchAct → Waiting → Type 0
 StandsUnder holder waiting = (waiting.act.0 ≡ holder.0) × IsAtOrAbove holder.1 waiting.act.1
 
--- each link's waiting step stands at or below the holder of the link before
+-- each link's waiting step is at or below the holder of the link before
 abbrev pub IsChain : Scene → List Link → Type 0
 IsChain scene [] = ⊤
 IsChain scene (link ∷ []) = IsLink scene link

@@ -1,4 +1,4 @@
--- trusted: what remains of a recipe while a batch runs, as a term.
+-- trusted: the rest of a recipe while a batch runs, as a term.
 use Rattle.std.specs.Prelude.{ℕ, zero, suc, pred, List, [], ◌∷◌, ◌++◌, length, take, Bool, true, false, ◌&&◌, nat_eq}
 use Rattle.std.specs.List.{list_any}
 use Rattle.std.specs.Cmp.Lexicographic.{pointwise}
@@ -14,9 +14,9 @@ mutual
   pub data Rest : Type 0 where
     -- reached, and holds so many of its first needs
     ready : Step → Task → ℕ → Rest
-    -- holds so many of its first needs and stands in line for the next
+    -- holds so many of its first needs and waits in line for the next
     asking : Step → Task → ℕ → Rest
-    -- begun, holds all its needs; below it what remains of its chart
+    -- begun, holds all its needs; with the rest of its chart
     open_act : Step → Rest → Rest
     -- a begun phase, holds all its needs
     live : Step → Phase → State → Rest
@@ -25,7 +25,7 @@ mutual
     -- the branch that runs, and the charts after it
     in_seq : Rest → Trees → Rest
     in_par : Rests → Rest
-    -- the number of turns that may follow, and what remains of this one
+    -- the number of turns that may follow, and the rest of this one
     in_loop : ℕ → Cond → Tree → Rest → Rest
     done : Rest
 
@@ -49,16 +49,16 @@ joined rests = elim (all_done rests) [ true ↦ done | false ↦ in_par rests ]
 abbrev pub turning : ℕ → Cond → Tree → Rest → Rest
 turning turns until body remaining = elim (is_done remaining) [ true ↦ done | false ↦ in_loop turns until body remaining ]
 
--- what a chart finds when it is reached: the values of the batch, and the places that hold their units in advance
+-- the input of a chart that is reached: the values of the batch, and the places that hold their units in advance
 pub record Moment : Type 0 where
   pub values : ValueList
   pub early : List Place
 
--- how many of its first needs an act holds that is just reached: its unit, which comes first, where it holds that in advance
+-- the number of its first needs that a just reached act holds: its unit, the first of them, if it holds that in advance, else none
 abbrev pub held_early : List Place → Step → ℕ
 held_early early step = elim (list_any (same_place step.place) early) [ true ↦ length (take 1 step.needs) | false ↦ 0 ]
 
--- what remains of a chart that has just been reached
+-- the rest of a chart that has just been reached
 abbrev mutual
   pub reach : Moment → Tree → Rest
   reach moment (act step task) = ready step task (held_early moment.early step)
@@ -88,7 +88,7 @@ abbrev mutual
 abbrev pub continued : Moment → Rest → Trees → Rest
 continued moment remaining charts = elim (is_done remaining) [ true ↦ reach_first moment charts | false ↦ in_seq remaining charts ]
 
--- a turn that is finished is the last where the condition holds or no turn may follow
+-- a turn that is finished is the last if the condition holds or no turn may follow
 abbrev pub turned : Moment → ℕ → Cond → Tree → Rest → Rest
 turned moment zero until body remaining = elim (is_done remaining) [ true ↦ done | false ↦ in_loop 0 until body remaining ]
 turned moment (suc turns) until body remaining =
@@ -97,7 +97,7 @@ turned moment (suc turns) until body remaining =
       | true ↦ elim (holds moment.values until) [ true ↦ done | false ↦ turning turns until body (reach moment body) ]
     ]
 
--- what remains once everything is reached that can be, and finished what is
+-- the rest in which every chart that can be reached has been reached, and finished ones are done
 abbrev mutual
   pub advance : Moment → Rest → Rest
   advance moment (open_act step remaining) = open_act step (advance moment remaining)
@@ -110,7 +110,7 @@ abbrev mutual
   advance_each moment no_rests = no_rests
   advance_each moment (rest remaining rests) = rest (advance moment remaining) (advance_each moment rests)
 
--- the acts that the charts have reached and that aren't finished, each as it stands, in the order of their places
+-- the acts that the charts have reached and that aren't finished, each as its own rest, in the order of their places
 abbrev mutual
   pub acts : Rest → List Rest
   acts (open_act step remaining) = open_act step remaining ∷ acts remaining
@@ -148,7 +148,7 @@ abbrev mutual
   changed_in_each place change no_rests = no_rests
   changed_in_each place change (rest remaining rests) = rest (changed_at place change remaining) (changed_in_each place change rests)
 
--- no ask is left: every act in line is ready again
+-- the rest without its asks: every act in line is ready again
 abbrev mutual
   pub withdrawn : Rest → Rest
   withdrawn (asking step task granted) = ready step task granted

@@ -17,13 +17,13 @@ abbrev pub IsCreated : Reply → Type 0
 IsCreated (created number recipe size roles) = ⊤
 IsCreated _ = ⊥
 
--- the plant may give this reply to the event and become the later one: what `react` says, or, where it would create, want of memory
--- and no change
+-- the plant may give this reply to the event and become the later plant: both as `react` says, or, if `react` creates a batch, a
+-- refusal for want of memory and no change
 abbrev pub Reacts : Setup → Plant → Event → Reply → Plant → Type 0
 Reacts setup plant event told later =
     (react setup plant event ≡ (told, later)) ⊎ (IsCreated (react setup plant event).0 × (told ≡ refused no_memory) × (later ≡ plant))
 
--- the record tells what the plant does on the way to the later one, as these events come
+-- the record lists the moves and the replies of the plant on its way to the later one, as these events come
 abbrev pub Leads : Setup → Plant → List Event → List Out → Plant → Type 0
 Leads setup plant [] [] later = plant ≡ later
 Leads setup plant (event ∷ events) [] later = ⊥
@@ -32,10 +32,10 @@ Leads setup plant [] (reply told ∷ outs) later = ⊥
 Leads setup plant (event ∷ events) (reply told ∷ outs) later =
     (between : Plant) × Reacts setup plant event told between × Leads setup between events outs later
 
--- The work left: no fewer moves than can follow before the next event
+-- The work left, an upper bound of the moves that can follow before the next event
 
 abbrev mutual
-  -- no fewer moves than a chart can take
+  -- an upper bound of the moves of a chart
   pub toil : Tree → ℕ
   toil (act step task) = 3 * length step.needs + toil_of_work task
   toil skip = 0
@@ -56,7 +56,7 @@ abbrev mutual
   toil_of_choices (otherwise chart) = toil chart
   toil_of_choices (choice condition chart choices) = toil chart + toil_of_choices choices
 
--- 1 where a batch in this state passes a command on to a phase in that state
+-- 1 if a batch in this state passes a command on to a phase in that state, else 0
 abbrev pub sends : State → State → ℕ
 sends state phase_state = elim (passed_on state) [ None ↦ 0 | Some command ↦ elim (accepts phase_state command) [ true ↦ 1 | false ↦ 0 ] ]
 
@@ -64,12 +64,12 @@ sends state phase_state = elim (passed_on state) [ None ↦ 0 | Some command ↦
 abbrev pub goes_on : State → Bool
 goes_on state = not (is_stopping state || is_stopped state)
 
--- moves that lie ahead of a batch as long as it goes on
+-- these moves, which lie ahead of a batch only as long as it goes on
 abbrev pub ahead : State → ℕ → ℕ
 ahead state moves = elim (goes_on state) [ true ↦ moves | false ↦ 0 ]
 
 abbrev mutual
-  -- what is held is given back, an ask is granted, a command is sent; and what lies ahead is done
+  -- the moves that give back the held needs, grant an ask and send a command, and those that lie ahead
   pub toil_left : State → Rest → ℕ
   toil_left state (ready step task granted) = granted + ahead state (3 * (length step.needs - granted) + toil_of_work task)
   toil_left state (asking step task granted) = granted + 2 + ahead state (3 * (length step.needs - suc granted) + toil_of_work task)
@@ -105,7 +105,7 @@ batch_work_left batch = state_moves_left batch.state + toil_left batch.state bat
 abbrev pub work_left : Plant → ℕ
 work_left plant = sum_by batch_work_left plant.batches
 
--- the moves that are made until none is possible, at most so many as the limit says, and the plant after them
+-- the moves until none is possible, at most as many as the limit, and the plant after them
 abbrev pub settling : ℕ → Setup → Plant → List Move × Plant
 settling zero setup plant = ([], plant)
 settling (suc limit) setup plant =

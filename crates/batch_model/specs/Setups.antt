@@ -17,7 +17,7 @@ use Rattle.batch_model.specs.Plant.{Master, Setup}
 use Rattle.batch_model.specs.Recipes.{recipe_of}
 use Rattle.batch_model.specs.declared.limits.TheConstants.{MAX_LIVE_BATCHES}
 
--- how many units of the resource with this name may be held at once; none where there is no such resource
+-- the number of units of the resource with this name that may be held at once; 0 if the cell has no resource of that name
 abbrev pub capacity_of : equipment.Cell → Name → ℕ
 capacity_of cell name =
     elim (position (same_name name) (resources_of cell)) [ None ↦ 0 | Some index ↦ slice_index_or (capacities_of cell) index 0 ]
@@ -44,7 +44,7 @@ abbrev mutual
 abbrev pub labels_of : Act → List Name
 labels_of act = elim act.work [ Follows chart ↦ labels (diagram_of chart) | Runs phase values reports ↦ [] ]
 
--- the role of a unit procedure, where it has one
+-- the role of a unit procedure, if it has one
 abbrev pub role_of : Act → Option Name
 role_of act = elim act.unit [ None ↦ None | Some choice ↦ elim choice [ Unit unit ↦ None | Role role ↦ Some role ] ]
 

@@ -1,4 +1,4 @@
--- surface: a plant in which each batch's rest is what can remain of its recipe: every act of it stands at its node of the expanded tree.
+-- surface: a standing plant: the rest of each batch is a possible rest of its recipe, with every act at its node of the expanded tree.
 use Rattle.std.specs.Prelude.{◌≡◌, ◌⊎◌, ℕ, ◌<◌, ◌≤◌, List, [], ◌∷◌, ◌++◌, length, Bool, true, false, ◌||◌, ⊤}
 use Rattle.batch_matrix.specs.declared.state.State.{State}
 use Rattle.batch_matrix.specs.declared.state.State.TheVariants.{Idle, Complete}
@@ -30,12 +30,12 @@ abbrev mutual
   IsRestOf _ done = ⊤
   IsRestOf _ _ = ⊥
 
-  -- what remains of the chart of an open act
+  -- it is a rest of the chart of an open act
   pub IsRestBelow : Task → Rest → Type 0
   IsRestBelow (runs phase) remaining = ⊥
   IsRestBelow (follows name chart) remaining = IsRestOf chart remaining
 
-  -- what remains of one of the branches, with the charts after it
+  -- it is a rest of one of the branches, and the charts after that branch follow
   pub IsBranch : Trees → Rest → Trees → Type 0
   IsBranch no_trees remaining following = ⊥
   IsBranch (tree chart charts) remaining following = (IsRestOf chart remaining × (following ≡ charts)) ⊎ IsBranch charts remaining following
@@ -51,7 +51,7 @@ abbrev mutual
 
 -- Units that are held in advance
 
--- what follows a branch of a `seq`, where these charts come after it, and `next` follows the `seq`
+-- the unit procedures that follow a branch of a `seq`; these charts come after it, and `next` follows the `seq`
 abbrev pub after_branch : Level → List Follower → Trees → List Follower
 after_branch level next no_trees = next
 after_branch level next (tree chart charts) = enter level chart
@@ -90,7 +90,7 @@ abbrev pub IsControlOf : Master → Recipe → Type 0
 IsControlOf master recipe =
     (pairs : List (Name × Name)) × (is_binding master.roles pairs ≡ true) × (recipe ≡ master.control (bound_by pairs))
 
--- and from one of those of the setup
+-- the control recipe is made from a master recipe of the setup
 abbrev pub IsControl : Setup → Recipe → Type 0
 IsControl setup recipe = (master : Master) × Has setup.recipes master × IsControlOf master recipe
 
@@ -98,9 +98,9 @@ IsControl setup recipe = (master : Master) × Has setup.recipes master × IsCont
 abbrev pub HasPlacedTrees : Setup → Type 0
 HasPlacedTrees setup = (recipe : Recipe) → IsControl setup recipe → IsPlaced (0 ∷ []) recipe.procedure
 
--- the batch makes a control recipe of the setup, its rest is what can remain of that, and nothing is left to be reached; what it holds
--- in advance is due, and a batch that is on its way to Stopped or Aborted, or there, holds nothing in advance; no act of an idle or
--- complete batch has begun
+-- the batch makes a control recipe of the setup; its rest is a possible rest of that, with nothing left to be reached; each place
+-- that holds a unit in advance is due; a batch on its way to Stopped or Aborted, or there, holds nothing in advance; no act of an idle
+-- or complete batch has begun
 pub record IsStandingBatch (setup : Setup) (batch : Batch) : Type 0 where
   pub known : IsControl setup batch.recipe
   pub stands : IsRestOf batch.recipe.procedure batch.rest

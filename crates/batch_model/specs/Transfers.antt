@@ -1,4 +1,4 @@
--- trusted: units that a record tells to be passed on or reserved, and when they stay with their batch.
+-- trusted: the units that a record shows as passed on or reserved, and the rule that they stay with their batch.
 use Rattle.std.specs.Prelude.{ℕ, List, [], ◌∷◌, ◌++◌, filter, fold, not, true, false, option_and_then, option_map, nat_eq, slice_get, Some, None, find}
 use Rattle.std.specs.List.{filter_map}
 use Rattle.batch_matrix.specs.declared.command.Command.TheVariants.{Stop, Abort}
@@ -18,11 +18,11 @@ pub record Kept : Type 0 where
   pub place : Place
   pub unit : Name
 
--- without those that are kept for the unit procedure at this place, which begins
+-- the kept units without those for the unit procedure at this place, which begins
 abbrev pub without_begun : Place → List Kept → List Kept
 without_begun place kept = filter (λ keeps. not (same_place keeps.place place)) kept
 
--- Of a batch: its units are kept until what they are kept for begins, or the batch is stopped or aborted
+-- A batch keeps a unit until the unit procedure begins that it is kept for, or the batch is stopped or aborted
 
 abbrev pub kept_until : ℕ → List Kept → Out → List Kept
 kept_until number kept (move (begin batch place name)) = elim (nat_eq batch number) [ true ↦ without_begun place kept | false ↦ kept ]
@@ -30,7 +30,7 @@ kept_until number kept (reply (ordered Stop batch becomes)) = elim (nat_eq batch
 kept_until number kept (reply (ordered Abort batch becomes)) = elim (nat_eq batch number) [ true ↦ [] | false ↦ kept ]
 kept_until number kept _ = kept
 
--- from a pass on, at the place that the unit is passed to
+-- a unit is kept from its pass on, for the place that it is passed to
 abbrev pub passed_by : ℕ → Out → List Kept
 passed_by number (move (pass batch place to need)) =
     elim (nat_eq batch number) [ true ↦ record { place = to; unit = need.resource } ∷ [] | false ↦ [] ]
@@ -51,7 +51,7 @@ reserved_by procedure step =
 abbrev pub reserved_at : Tree → Place → List Kept
 reserved_at procedure place = elim (find (λ step. same_place step.place place) (steps procedure)) [ None ↦ [] | Some step ↦ reserved_by procedure step ]
 
--- from the begin of a step of this tree on that reserves units
+-- reserved units are kept from the begin or start of their step of this tree on
 abbrev pub reserved_from : ℕ → Tree → Out → List Kept
 reserved_from number procedure (move (begin batch place name)) = elim (nat_eq batch number) [ true ↦ reserved_at procedure place | false ↦ [] ]
 reserved_from number procedure (move (start batch place phase handed)) = elim (nat_eq batch number) [ true ↦ reserved_at procedure place | false ↦ [] ]
@@ -60,8 +60,8 @@ reserved_from number procedure _ = []
 abbrev pub reserved_told : ℕ → Tree → List Out → List Kept
 reserved_told number procedure outs = fold (λ kept out. reserved_from number procedure out ++ kept_until number kept out) [] outs
 
--- what is told of a batch of the plant is so: each unit that was passed on is held where it was passed to, and each that a step
--- reserves, which has begun, is held by the batch
+-- by the record the batch holds the units that it keeps: each passed one at the place that it was passed to, and at some place each
+-- one that a begun step reserves
 pub record KeepsUnits (outs : List Out) (batch : Batch) : Type 0 where
   pub passed : Each (λ kept. Has (acts_in (holders_told outs kept.unit)) (batch.number, kept.place)) (passed_told batch.number outs)
   pub reserved : Each (λ kept. (place : Place) × Has (acts_in (holders_told outs kept.unit)) (batch.number, place))

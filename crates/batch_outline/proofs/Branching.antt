@@ -8,7 +8,7 @@ use Rattle.batch_outline.specs.Along.{Labels, along, along_each, along_cases, if
 cut : {X : Type 0} (xs : List X) (i : ℕ) (x : X) → i < length xs → x ≡ get_or xs i x → drop i xs ≡ x ∷ drop (i + 1) xs
 cut {X} xs i x within is = drop-cons xs i x within ∙ (ap (λ (y : X). y ∷ drop (suc i) xs) (sym is) ∙ ap (λ k. x ∷ drop k xs) (sym (add-one i)))
 
--- one piece more of what is to come
+-- one piece more of the remaining text
 more : (before after piece rest now whole : List ℕ) → after ≡ before ++ piece → now ≡ piece ++ rest → before ++ now ≡ whole → after ++ rest ≡ whole
 more before after piece rest now whole grown split before_is =
     ap (λ t. t ++ rest) grown ∙ (append_assoc before piece rest ∙ (ap (λ t. before ++ t) (sym split) ∙ before_is))

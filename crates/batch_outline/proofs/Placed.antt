@@ -1,4 +1,4 @@
--- Where lines come to stand.
+-- The seats of lines.
 use Rattle.std.proofs.Common.{◌≡◌, ◌<◌, ◌-◌, ℕ, ◌+◌, List, [], ◌∷◌, ◌++◌, length, map, take, get_or, nat_eq, Bool, true, false, Option, Some, None, codes, decimal, ap, sym, ◌∙◌, refl, arith, append_assoc, length-append}
 use Rattle.std.specs.List.{flat_map}
 use Rattle.std.proofs.lemmas.List.{flat_map_more, length-map, take_more}
@@ -78,7 +78,7 @@ pub needs_written : (what : List ℕ) (needs : List Need) (empty : Bool) → emp
 needs_written what [] empty some is = let bad : true ≡ false = sym is ∙ some in absurd cc
 needs_written what (need ∷ needs) empty some is = needs_listed what need needs
 
--- the names behind the word that says which they are
+-- the names after their heading
 pub names_written : (what : List ℕ) (names : List Name) (empty : Bool) → empty ≡ false → empty ≡ nat_eq (length names) 0
     → listed what names ≡ spaced what ++ flat_map spaced names
 names_written what [] empty some is = let bad : true ≡ false = sym is ∙ some in absurd cc

@@ -114,7 +114,7 @@ module _ (roles : List RecipeRole) (acts : Acts) where
           (branches (chosen_if c) (expanded trees (child p i) d)) (branches_of_choices (expanded_cases trees p (i + 1) cs)) (along named (seat_below_of p above i (chosen_if c)) d) (along_cases named (place_text p) (flat_map spaced above) (i + 1) cs)
           (moved p above i (chosen_if c) d _ _ _ long (chart_reads (child p i) above (chosen_if c) d (child_long p i (omega (arith, long))))) (cases_read p above (i + 1) cs long)
 
-  -- an act, where the labels of its chart are told
+  -- an act, if the lines of the labels of its chart are right
   module _ (trees : Name → Name → Place → Tree) (named : Labels) (list : Name → ActList) (labels : (unit : Name) → AreLabels (trees unit) named list)
       (unit : Name) (a : Act) (p : Place) (above : List Name) (some : 0 < length p) where
     abbrev own : Name
@@ -126,7 +126,7 @@ module _ (roles : List RecipeRole) (acts : Acts) where
     abbrev asked : List Name
     asked = above ++ resources_of (needs_with (sites itself acts) a)
 
-    -- what stands below it, by what it does
+    -- the nodes below it, by its work
     below_reads : (work : Work) → Reads (nodes_within p asked (task_of (trees own) own a.name p work)) (acts_below list work) (branches_within (task_of (trees own) own a.name p work))
         (below_act named (place_text p) (flat_map spaced above ++ asked_text acts a) work)
     below_reads (Runs phase values reports) = (refl, refl, refl)

@@ -19,7 +19,7 @@ use Rattle.batch_recipe.specs.declared.role.Role.{Role as RecipeRole}
 use Rattle.batch_outline.specs.declared.lines.Seat as declared
 use Rattle.batch_outline.specs.Showing.{act_text, condition_text, itself, kind_below, spaced}
 
--- where a line comes to stand: the text of its place, what is held above, each behind a space, and when it is chosen
+-- the seat of a line: the text of its place, the names of the resources held above, a space before each, and when it is chosen
 pub record Seat : Type 0 where
   pub place : List ℕ
   pub held : List ℕ
@@ -28,7 +28,7 @@ pub record Seat : Type 0 where
 abbrev pub seat_of : declared.Seat → Seat
 seat_of s = record { place = s.place.now; held = s.held.now; branch = s.branch.now }
 
--- the seat of child i, which is chosen so
+-- the seat of child i, with the text of when it is chosen
 abbrev pub seat_below : List ℕ → List ℕ → ℕ → List ℕ → Seat
 seat_below place held i branch = record { place = place ++ (codes "." ++ decimal i); held = held; branch = branch }
 
@@ -36,7 +36,7 @@ abbrev pub held_text : List ℕ → List ℕ
 held_text [] = []
 held_text (b ∷ held) = codes " holds" ++ (b ∷ held)
 
--- a line with this head, and what is behind that which is held
+-- a line: its place, this head, the resources held above, these turns, and its branch
 abbrev pub line : Seat → List ℕ → List ℕ → List ℕ
 line s head turns = s.place ++ (codes " " ++ (head ++ (held_text s.held ++ (turns ++ (s.branch ++ codes "\n")))))
 
@@ -49,7 +49,7 @@ loop_text turns until = codes " turns " ++ (decimal turns ++ (codes " until " ++
 abbrev pub if_text : Cond → List ℕ
 if_text c = codes " if " ++ condition_text c
 
--- what stands for a label
+-- the lines of a label at a seat
 abbrev pub Labels : Type 0
 Labels = Name → Seat → List ℕ
 
@@ -70,7 +70,7 @@ abbrev mutual
   along_cases named p h i (otherwise d) = along named (seat_below p h i (codes " else")) d
   along_cases named p h i (when c d cs) = along named (seat_below p h i (if_text c)) d ++ along_cases named p h (i + 1) cs
 
--- what an act asks for, each behind a space
+-- the names of the resources that an act asks for, a space before each
 abbrev pub asked_unit : Option UnitChoice → List ℕ
 asked_unit None = []
 asked_unit (Some own) = spaced (unit_chosen itself own)

@@ -1,4 +1,4 @@
--- worked rows: lines of nodes, worked out: what they say, and what they don't.
+-- worked rows: lines of nodes, worked out: their contents, and the needs that they leave out.
 use Rattle.std.specs.Prelude.{◌≡◌, ◌≢◌, [], ◌∷◌, None, Some, codes}
 use Rattle.batch_recipe.specs.Expanding.{reserves_from}
 use Rattle.batch_recipe.specs.Needs.{one_unit}

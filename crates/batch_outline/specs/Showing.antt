@@ -30,7 +30,7 @@ pub data Branch : Type 0 where
   chosen_if : Cond → Branch
   chosen_else : Branch
 
--- of each node of a tree, which is such a branch itself, in the order of the places
+-- the branches of the nodes of a tree, in the order of the places; that of the tree itself is given
 abbrev mutual
   pub branches : Branch → Tree → List Branch
   branches b (act s w) = b ∷ branches_within w
@@ -54,7 +54,7 @@ abbrev mutual
 
 -- Rows
 
--- a node, its act where it is one, and when it is chosen
+-- a node, its act, if it is one, and when it is chosen
 pub record Row : Type 0 where
   pub at : Node
   pub own : Option Act
@@ -74,11 +74,11 @@ rows_of r = rows (bound_nodes itself r.acts) (procedure_acts r.acts) (branches n
 
 -- Words
 
--- a word behind a space
+-- a word with a space before it
 abbrev pub spaced : List ℕ → List ℕ
 spaced word = codes " " ++ word
 
--- the words behind one that says what they are, where there are any
+-- a heading and these words, a space before each; nothing without words
 abbrev pub listed : List ℕ → List (List ℕ) → List ℕ
 listed what [] = []
 listed what (word ∷ words) = spaced what ++ flat_map spaced (word ∷ words)
@@ -98,7 +98,7 @@ term_text (Number n) = decimal n
 abbrev pub condition_text : Cond → List ℕ
 condition_text c = c.name ++ (codes " " ++ (op_text c.op ++ (codes " " ++ term_text c.term)))
 
--- a resource, and after a star how many units of it, where it is more than one
+-- a resource, and after a star the number of its units, if it is more than one
 abbrev pub need_text : Need → List ℕ
 need_text need = elim (nat_lt 1 need.units) [ false ↦ need.resource | true ↦ need.resource ++ (codes "*" ++ decimal need.units) ]
 
@@ -127,7 +127,7 @@ kind_below (Some unit) work = codes "unit_procedure"
 kind_below None (Follows chart) = codes "operation"
 kind_below None (Runs phase values reports) = codes "phase"
 
--- the procedure alone stands at a place of one number
+-- the procedure alone has a place of one number
 abbrev pub kind_at : Place → Act → List ℕ
 kind_at [] a = codes "procedure"
 kind_at (root ∷ []) a = codes "procedure"
@@ -153,7 +153,7 @@ abbrev pub head_text : List RecipeRole → Node → Option Act → List ℕ
 head_text roles at None = form_text at.here
 head_text roles at (Some a) = act_text roles (kind_at at.place a) a
 
--- what is asked for on the path above the node: of all on its path, its own needs are the last
+-- the resources that are asked for on the path above the node: those of its own needs are the last of all on its path
 abbrev pub asked_above : Node → List Name
 asked_above at = take (length at.asked - length (needs_of at.here)) at.asked
 

@@ -1,4 +1,4 @@
-//! Acts, and what they ask for.
+//! Acts, and their requests.
 ghost use Rattle.std.specs.Prelude.{◌≡◌, ◌++◌, IfOk, OnOk, codes, map, option_copied, string_bytes};
 ghost use Rattle.std.specs.List.{flat_map};
 ghost use Rattle.batch_recipe.specs.Expanding.{unit_chosen};
@@ -9,7 +9,7 @@ use batch_recipe::{Act, Acts, Need, Recipe, Role, UnitChoice, Work, act_named};
 use batch_text::Name;
 use std::alloc::{AllocError, Global};
 
-/// What an act below the procedure is: unit procedures alone have a unit or a role, and phase steps alone run a phase.
+/// The kind of an act below the procedure: unit procedures alone have a unit or a role, and phase steps alone run a phase.
 pub fn kind_below(act: &Act) -> &'static str
     ensures { result.now ≡ kind_below act.now.unit act.now.work }
 {
@@ -124,7 +124,8 @@ fn put_need(text: &mut String, need: &Need) -> Result<(), AllocError>
     }
 }
 
-/// All that is held below the act: this, and then the act's own unit or role, those of the unit procedures that it reserves, and its needs.
+/// All that is held below the act: `held`, then the act's own unit or role, those of the unit procedures that it reserves, and its
+/// needs.
 pub fn held_below(alloc: Global, held: &str, acts: &Acts, act: &Act) -> Result<String, AllocError>
     ensures { IfOk result (λ below. string_bytes below ≡ held.now ++ asked_text acts.now act.now) }
 {
@@ -157,7 +158,7 @@ fn chosen(choice: &UnitChoice) -> &Name
     }
 }
 
-/// The unit of each of these unit procedures, or its role.
+/// Appends the unit of each of these unit procedures, or its role.
 fn put_reserved(text: &mut String, acts: &Acts, names: &[Name]) -> Result<(), AllocError>
     ensures { OnOk result (string_bytes text.new ≡ string_bytes text.old ++ asked_reserves acts.now names.now) }
 {
@@ -168,7 +169,7 @@ fn put_reserved(text: &mut String, acts: &Acts, names: &[Name]) -> Result<(), Al
     Ok(())
 }
 
-/// The unit of the unit procedure with this name, or its role. Recipes reserve none that is missing; of one the text is empty.
+/// The unit of the unit procedure with this name, or its role. Recipes reserve none that is missing; its text would be empty.
 fn unit_reserved<'a>(acts: &'a Acts, name: &Name) -> &'a str
     ensures { result.now ≡ unit_of_name acts.now name.now }
 {

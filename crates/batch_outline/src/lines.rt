@@ -1,4 +1,4 @@
-//! The lines of nodes, and where they come to stand.
+//! The lines of nodes, and their seats.
 ghost use Rattle.std.specs.Prelude.{◌≡◌, ◌++◌, IfOk, OnOk, codes, decimal, string_bytes};
 ghost use Rattle.batch_outline.specs.Along.{held_text, if_text, line, loop_text, seat_of};
 ghost use Rattle.batch_outline.specs.Showing.{condition_text, op_text, term_text};
@@ -6,14 +6,14 @@ ghost use Rattle.batch_outline.specs.Showing.{condition_text, op_text, term_text
 use batch_recipe::{Cond, Op, Term};
 use std::alloc::{AllocError, Global};
 
-/// Where the line of a node comes to stand.
+/// The seat of the line of a node.
 #[derive(Clone, Copy)]
 pub struct Seat<'a> {
     /// The text of its place.
     pub place: &'a str,
-    /// What is asked for on the path above it, each behind a space.
+    /// The names of the resources that are asked for on the path above it, a space before each.
     pub held: &'a str,
-    /// When it is chosen, behind a space, where it is a branch of a `sel`.
+    /// When it is chosen, a space before it, if it is a branch of a `sel`; else empty.
     pub branch: &'a str,
 }
 
@@ -49,7 +49,7 @@ pub fn child_place(alloc: Global, place: &str, child: usize) -> Result<String, A
     format!(in alloc; "{place}.{child}")
 }
 
-/// How often a loop turns at most, and until what holds.
+/// The text of the greatest number of turns of a loop, and of the condition that ends it.
 pub fn loop_text(alloc: Global, turns: u64, until: &Cond) -> Result<String, AllocError>
     ensures { IfOk result (λ text. string_bytes text ≡ loop_text turns until.now) }
 {
@@ -57,7 +57,7 @@ pub fn loop_text(alloc: Global, turns: u64, until: &Cond) -> Result<String, Allo
     format!(in alloc; " turns {turns} until {condition}")
 }
 
-/// When a branch of a `sel` is chosen that isn't the last.
+/// The text of the condition of a branch of a `sel` that isn't the last.
 pub fn if_text(alloc: Global, condition: &Cond) -> Result<String, AllocError>
     ensures { IfOk result (λ text. string_bytes text ≡ if_text condition.now) }
 {

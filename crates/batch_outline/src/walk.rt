@@ -63,7 +63,7 @@ fn put_chart(
     }
 }
 
-/// Adds the lines of the act that the label names. Where there is none, the node has nothing to run.
+/// Adds the lines of the act that the label names. If there is none, adds the line of a `skip`.
 #[cycle(walk)]
 fn put_label(
     alloc: Global,

@@ -34,7 +34,7 @@ input_on given i a b same of = record {
   });
 }
 
--- what it gives back
+-- the result of its thread
 pub input_run : (input : Option (List ℕ)) (task : InputTask) (end : InputEnd) (ended : Bool) → SameProducer task.ring end.ring → HandsOver ended input (sent task.ring) (sent end.ring)
     → is_none end.fault ≡ ended → IsInputRun input task end
 input_run input task end ended ring handed well =

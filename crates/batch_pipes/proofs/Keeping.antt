@@ -53,7 +53,7 @@ handed_then_kept a b d x y z one ring same other = record {
   account = λ all h. other.account all (sent z.ring) (subst (λ (l : List (List ℕ)). IsAccount all l b.waiting) (sym same) (one.account all h));
 }
 
--- some of what waits went into the ring
+-- some of the queued lines went into the ring
 pub handed_some : (old new : Desk) (before after : Writer) → SameProducer before.ring after.ring → new.unit ≡ old.unit → new.waiting.is_cut ≡ old.waiting.is_cut
     → ((all : List (List ℕ)) → IsAccount all (sent before.ring) old.waiting → IsAccount all (sent after.ring) new.waiting) → IsHandedOn old new before after
 handed_some old new before after ring unit same account = record { ring = ring; unit = unit; cut = λ uncut. sym same ∙ uncut; account = account }

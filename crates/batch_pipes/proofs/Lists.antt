@@ -1,11 +1,11 @@
--- What is so of each element of lists that one element is set in, or added to.
+-- Relations of each element of lists, when one element is set or added.
 use Rattle.std.proofs.Common.{◌≡◌, ◌≢◌, ◌<◌, ◌≤◌, ◌+◌, ◌⊎◌, ℕ, zero, suc, List, [], ◌∷◌, ◌++◌, drop, drop-drop, length, get_or, get_or-drop, set, refl, sym, ap, subst, arith, inl, inr, get_or-set_other, get_or-set_same, ◌∙◌}
 use Rattle.std.proofs.lemmas.Bool.{cases_lt}
 use Rattle.std.proofs.lemmas.List.{get_or_default}
 
 -- One is set
 
--- what is so of each two is so where two were set
+-- a relation of each two holds when two are set of which it holds
 pub both_set : {A B : Type 0} (R : A → B → Type 0) (xs : List A) (ys : List B) (i : ℕ) (x : A) (y : B) → i < length xs → length xs ≡ length ys → R x y
     → ((k : ℕ) (a : A) (b : B) → k < length xs → R (get_or xs k a) (get_or ys k b))
     → (k : ℕ) (a : A) (b : B) → k < length xs → R (get_or (set xs i x) k a) (get_or (set ys i y) k b)
@@ -29,7 +29,7 @@ both_set R xs ys i x y within count here all k a b below = go (cases_lt k i)
     go (inl lt) = apart_so (omega arith)
     go (inr le) = either (cases_lt i k) le
 
--- what is so of each two but in one place is so where the first is set there
+-- a relation of each two but those in one place holds of all when the first of these is set
 pub first_set : {A B : Type 0} (R : A → B → Type 0) (xs : List A) (ys : List B) (i n : ℕ) (x : A) → i < length xs → ((b : B) → R x (get_or ys i b))
     → ((k : ℕ) (a : A) (b : B) → k < n → k ≢ i → R (get_or xs k a) (get_or ys k b))
     → (k : ℕ) (a : A) (b : B) → k < n → R (get_or (set xs i x) k a) (get_or ys k b)
@@ -51,7 +51,7 @@ first_set R xs ys i n x within here all k a b below = go (cases_lt k i)
     go (inl lt) = apart_so (omega arith)
     go (inr le) = either (cases_lt i k) le
 
--- what is said of an element is said of the one in its place
+-- an element set in place of another with the same value of f leaves each place's value of f as it was
 pub same_set : {T V : Type 0} (f : T → V) (first now : List T) (i : ℕ) (old new : T) → i < length now → length now ≡ length first → old ≡ get_or now i old → f new ≡ f old
     → ((k : ℕ) (other : T) → k < length first → f (get_or now k other) ≡ f (get_or first k other))
     → (k : ℕ) (other : T) → k < length first → f (get_or (set now i new) k other) ≡ f (get_or first k other)
@@ -82,7 +82,7 @@ pub length_more : {T : Type 0} (xs : List T) (y : T) → length (xs ++ y ∷ [])
 length_more [] y = omega arith
 length_more (x ∷ xs) y = omega (arith, length_more xs y)
 
--- what is so of each two, in their place, is so where two more stand behind them
+-- a relation of each two and their place holds when two more follow them
 pub both_more : {A B : Type 0} (R : ℕ → A → B → Type 0) (xs : List A) (ys : List B) (x : A) (y : B) → length xs ≡ length ys → R (length xs) x y
     → ((k : ℕ) (a : A) (b : B) → k < length xs → R k (get_or xs k a) (get_or ys k b))
     → (k : ℕ) (a : A) (b : B) → k < length xs + 1 → R k (get_or (xs ++ x ∷ []) k a) (get_or (ys ++ y ∷ []) k b)

@@ -185,7 +185,7 @@ are_ending is_result outputs writers of finished = λ k o within.
     let writer : Writer = one_of writers k (omega (arith, within, of.count)) in
     (get_or writers k writer, of.each k o writer within, finished k o writer within)
 
--- what came of them is what came of those that they were
+-- their outcomes are those of the outputs that they were
 pub settled_all : {W P : Type 0} (is_result : Results W) (old new : List (Output W P)) (writers : List Writer)
     (outcomes : List (OutputOutcome W P)) → AreOutputsKept is_result old new writers
     → ((k : ℕ) (o : Output W P) (w : Writer) → k < length new → IsFinished (get_or new k o) (get_or writers k w)) → AreSettledBy is_result new outcomes
@@ -198,7 +198,7 @@ settled_all {W} {P} is_result old new writers outcomes kept finished settled = r
       (settled.each k o w in_new (get_or writers k writer) (kept.of.each k o writer in_new) (finished k o writer in_new));
 }
 
--- a desk that isn't cut, for which nothing waits, was told all that it is due but what is left in the ring
+-- a desk that isn't cut, with an empty queue, was sent all lines that it is due but those left in the ring
 is_told : {W : Type 0} (contents : W → Option (List ℕ)) (stood : Option (List ℕ)) (front : List ℕ) (due told lines rest : List (List ℕ)) (desk : Desk) (w : Written W) (left : ℕ)
     → IsAccount due told desk.waiting → (desk.waiting.is_cut ≡ false → desk.waiting.lines ≡ []) → told ≡ lines ++ rest → length rest ≡ left
     → IsWrittenOf contents stood (front ++ lines_text lines) w → IsTold contents stood front due desk w left

@@ -13,7 +13,7 @@ use Rattle.batch_pipes.specs.Kept.{ArePortsOf}
 use Rattle.batch_pipes.specs.Opened.{IsOpened, IsOpenedOn}
 use Rattle.batch_pipes.specs.declared.ports.Ports.{Ports}
 
--- what is so of each element and of one more
+-- a property of each element, and of one more
 of_last : {T : Type 0} (P : T → Type 0) (xs : List T) (y other : T) (k : ℕ) → ((j : ℕ) (o : T) → j < length xs → P (get_or xs j o)) → P y
     → k < length (xs ++ y ∷ []) → P (get_or (xs ++ y ∷ []) k other)
 of_last P [] y other zero all last within = last
@@ -25,7 +25,7 @@ pub nothing_left : {T : Type 0} (xs : List T) → length xs ≡ 0 → xs ≡ []
 nothing_left [] none = refl
 nothing_left (x ∷ xs) none = absurd (omega (arith, none))
 
--- so it is of what is as many
+-- so it is of a list that equals it, by its length
 of_each : {T : Type 0} (P : T → Type 0) (xs new : List T) (y other : T) (k n : ℕ) → new ≡ xs ++ y ∷ [] → length xs ≡ n → ((j : ℕ) (o : T) → j < n → P (get_or xs j o)) → P y
     → k < n + 1 → P (get_or new k other)
 of_each P xs new y other k n is count all last within =

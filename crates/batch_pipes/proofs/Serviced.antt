@@ -159,7 +159,7 @@ service_turned is_safe keeper after_keeper times begun kept kept_after recorded 
           ∙ s.lines k desk reader in_old ((turn.told.each k desk in_old).cut uncut);
     }
 
--- what waits is handed on, or desks are cut, and nothing is taken from readers
+-- queued lines are handed on, or desks are cut, and nothing is taken from readers
 pub service_handed : {K : Type 0} (is_safe : K → Type 0) (keeper : K) (times : Bool) (begun : Opening) (kept : List ℕ) (recorded : Option (List ℕ)) (old new : DeskServer)
     (before after : Ports) → IsHandedOver old new before.writers.items after.writers.items → AreReadersKept before.readers.items after.readers.items
     → ArePortsOf old.desks.items before
@@ -243,7 +243,7 @@ service_begins is_safe keeper times begun engine desks s p cleared plant named o
         let writer : Writer = one_of p.writers.items k in_writers in
         append-nil (told_to p.writers.items k) ∙ told_at p.writers.items k writer in_writers ∙ opened.empty.went k writer within
 
--- what has come of it
+-- its outcome
 pub service_ends : {K : Type 0} (is_safe : K → Type 0) (keeper : K) (times : Bool) (begun : Opening) (kept : List ℕ) (recorded : Option (List ℕ)) (s : DeskServer) (p : Ports)
     → IsService times begun (is_safe keeper) kept recorded s p → AreDesksServed times begun (is_safe keeper) kept recorded
 service_ends is_safe keeper times begun kept recorded s p service = record {
@@ -257,7 +257,7 @@ service_ends is_safe keeper times begun kept recorded s p service = record {
   is_recorded = subst (λ (n : List (List ℕ)). AppendsTimed times begun.recorded recorded (runs_text n None service.answers)) service.names service.is_recorded;
 }
 
--- what has come of it for each desk
+-- its outcome for each desk
 pub desks_end : {K P W : Type 0} (is_safe : K → Type 0) (keeper : K) (times : Bool) (begun : Opening) (given stands : List ℕ → Option (List ℕ)) (contents : W → Option (List ℕ))
     (hands_back : List ℕ → Written W → Type 0) (fronts : List (List ℕ)) (listed : List plans.Desk) (kept : List ℕ) (recorded : Option (List ℕ)) (engine : EngineView) (s0 s : DeskServer) (p0 p : Ports) (first inputs : List (Input P))
     (first_outputs outputs : List (Output W P)) (outcomes : List (OutputOutcome W P)) → IsService times begun (is_safe keeper) kept recorded s p

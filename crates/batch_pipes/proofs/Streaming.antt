@@ -1,4 +1,4 @@
--- What threads hand over of inputs, and write to outputs.
+-- The lines that threads hand over of inputs, and the text that they write to outputs.
 use Rattle.std.proofs.Common.{◌≡◌, ℕ, Bool, true, false, List, [], ◌++◌, Option, Some, None, IfSome, option_map, refl, sym, ap, subst, append_assoc, append-nil, ◌∙◌}
 use Rattle.std.proofs.KnownBytes.{Appends-kept, Appends-trans}
 use Rattle.std.proofs.lemmas.Bool.{false≢true}
@@ -15,7 +15,7 @@ use Rattle.batch_pipes.specs.declared.written.Written.{Written}
 
 -- Inputs
 
--- of a text that was consumed in part the rest is still to come, and none is where all was consumed
+-- the rest of a text that was consumed in part is still to come, and none is if all was consumed
 rest_of : (ended : Bool) (text front more : List ℕ) (old new : Option (List ℕ)) → old ≡ Some text → Consumes old new (front ++ more)
     → (ended ≡ true → more ≡ []) → (ended ≡ true → IsAtEnd new) → (rest : List ℕ) × (text ≡ front ++ rest) × (ended ≡ true → rest ≡ [])
 rest_of ended text front more None new is read all end = absurd cc
@@ -85,7 +85,7 @@ written_kept front ended before after old mid new written kept = record {
     all : Appends old new (front ++ lines_text written.lines)
     all = Appends-kept old mid new (front ++ lines_text written.lines) (written.written refl) kept
 
--- of what was written a part may be in a buffer
+-- a part of the written text may be in a buffer
 held_of : (stood now : Option (List ℕ)) (buffer text : List ℕ) → AppendsBeginning stood (append_known now buffer) text → HoldsBeginning stood now text
 held_of None now buffer text begun = tt
 held_of (Some xs) None buffer text begun = absurd begun.appends

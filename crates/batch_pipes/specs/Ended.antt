@@ -1,4 +1,4 @@
--- surface: what serving desks to their end came to for each of them.
+-- surface: the outcome of serving desks to their end, for each of them.
 use Rattle.std.specs.Prelude.{◌≡◌, ℕ, ◌<◌, Bool, false, List, [], ◌++◌, length, get_or, Option, Some, None, IfSome, option_map, string_bytes}
 use Rattle.std.specs.Io.KnownBytes.{Appends}
 use Rattle.batch_desks.specs.declared.desk.Desk as plans
@@ -13,18 +13,18 @@ use Rattle.batch_pipes.specs.declared.outcome.OutputOutcome.{OutputOutcome}
 use Rattle.batch_pipes.specs.declared.outcome.OutputOutcome.TheVariants.{Absent, Joined, Unjoined}
 use Rattle.batch_pipes.specs.declared.written.Written.{Written}
 
--- the bytes of the stream of this path, where they are known; where there is no path, there are none
+-- the bytes of the stream of this path, where they are known; if there is no path, there are none
 abbrev pub given_by : (List ℕ → Option (List ℕ)) → Option (List ℕ) → Option (List ℕ)
 given_by given None = Some []
 given_by given (Some path) = given path
 
--- where the desk isn't cut, the lines of it that were served are all those of its input, as a journal has them, in order, each once
+-- unless the desk is cut, its lines that were served are all those of its input, as a journal has them, in order, each once
 abbrev pub IsWhollyServed : (List ℕ → Option (List ℕ)) → ℕ → plans.Desk → Desk → List Run → Type 0
 IsWhollyServed given k plan desk runs = desk.waiting.is_cut ≡ false → (bytes : List ℕ) → given_by given (option_map string_bytes plan.input) ≡ Some bytes
     → own_text k runs ≡ clean_lines (lines_of bytes)
 
--- what a desk's output holds is a beginning of the front and the lines behind what stood in it when it was opened; where the desk isn't cut and its output
--- ended well, all of it but the last lines, so many as are left. The output is there, unless it couldn't be opened or had no memory
+-- a desk's output holds a prefix of its contents at the opening, the front and the lines due. If the desk isn't cut and its output
+-- ended well, it holds all but the last lines, as many as are left. There is an output, unless it couldn't be opened or had no memory
 pub record IsTold {W : Type 0} (contents : W → Option (List ℕ)) (stood : Option (List ℕ)) (front : List ℕ) (due : List (List ℕ)) (desk : Desk) (w : Written W) (left : ℕ)
     : Type 0 where
   pub begun : IfSome w.output (λ output. HoldsBeginning stood (contents output) (front ++ lines_text due))
@@ -32,8 +32,8 @@ pub record IsTold {W : Type 0} (contents : W → Option (List ℕ)) (stood : Opt
       → (output : W) × (w.output ≡ Some output) × (lines rest : List (List ℕ)) × (due ≡ lines ++ rest) × (length rest ≡ left) × Appends stood (contents output) (front ++ lines_text lines)
   pub missing : w.output ≡ None → HasNoOutput w.fault
 
--- of a desk that has an output, at this path, either what was handed back for this path is given back, or the thread that was given the path, which nobody
--- joined. Nothing is given back of a desk that has none
+-- of a desk that has an output, at this path, either the result that was handed back for this path is given back, or the thread that
+-- was given the path, which nobody joined. Nothing is given back of a desk that has none
 abbrev pub IsGivenBack
     : {W P : Type 0} → (W → Option (List ℕ)) → (List ℕ → Option (List ℕ)) → (List ℕ → Written W → Type 0) → Option (List ℕ) → List ℕ → List (List ℕ) → Desk
     → OutputOutcome W P → Type 0
@@ -42,7 +42,7 @@ IsGivenBack contents stands hands_back path front due desk (Joined w left) =
     (at : List ℕ) × (path ≡ Some at) × hands_back at w × IsTold contents (stands at) front due desk w left
 IsGivenBack contents stands hands_back path front due desk (Unjoined thread) = path ≡ Some (string_bytes thread.handle.promise.task.value.path)
 
--- runs of lines of these desks were served, and of each they are whole; and each was told what it is due
+-- runs of lines of these desks were served, with all lines of each; the output of each, or its thread, is given back. Both as above
 pub record AreDesksEnded {W P : Type 0} (times : Bool) (begun : Opening) (given stands : List ℕ → Option (List ℕ)) (contents : W → Option (List ℕ)) (hands_back : List ℕ → Written W → Type 0)
     (fronts : List (List ℕ)) (listed : List plans.Desk) (desks : List Desk) (outcomes : List (OutputOutcome W P)) (safe : Type 0) (kept : List ℕ) (recorded : Option (List ℕ)) : Type 0 where
   pub service : AreDesksServed times begun safe kept recorded

@@ -27,7 +27,7 @@ pub record IsTaskOf (path : Option (List ℕ)) (task : InputTask) (reader : Read
   pub pair : IsPair task.ring reader.ring
   pub new : sent task.ring ≡ []
 
--- what was handed over of the input went into the reader's ring
+-- the items handed over of the input went into the reader's ring
 pub record IsEndOf (input : Option (List ℕ)) (end : InputEnd) (reader : Reader) : Type 0 where
   pub pair : IsPair end.ring reader.ring
   pub items : AreItemsOf (is_none end.fault) input (sent end.ring)
@@ -71,7 +71,7 @@ pub record IsInputOpened {P : Type 0} (given : List ℕ → Option (List ℕ)) (
   pub of : IsInputOf given i reader
   pub is_path : path_of i ≡ path
 
--- one more stands behind the others, as its reader does
+-- one more follows the others, as its reader does
 pub record IsInputAdded {P : Type 0} (given : List ℕ → Option (List ℕ)) (path : Option (List ℕ)) (old new : List (Input P)) (before after : List Reader) : Type 0 where
   pub input : Input P
   pub reader : Reader

@@ -1,4 +1,4 @@
--- private: what looking after desks leaves as it was.
+-- private: the parts of desks and readers that looking after desks leaves as they were.
 use Rattle.std.specs.Prelude.{◌≡◌, ℕ, ◌<◌, true, false, List, [], Option, length, get_or}
 use Rattle.rtrb.specs.Ring.{SameConsumer, received}
 use Rattle.batch_serve_desks.specs.Waits.{IsAccount}
@@ -15,7 +15,7 @@ pub record IsDeskKept (old new : Desk) : Type 0 where
   pub waits : new.waiting.is_cut ≡ false → new.waiting.lines ≡ old.waiting.lines
   pub account : (all told : List (List ℕ)) → IsAccount all told old.waiting → IsAccount all told new.waiting
 
--- the desks are those that they were, whatever was told to them
+-- the desks are the same, whatever they were told
 pub record AreSameDesks (old new : List Desk) : Type 0 where
   pub count : length new ≡ length old
   pub units : (k : ℕ) (desk : Desk) → k < length old → (get_or new k desk).unit ≡ (get_or old k desk).unit
@@ -31,7 +31,7 @@ pub record AreReadersKept (old new : List Reader) : Type 0 where
   pub count : length new ≡ length old
   pub each : (k : ℕ) (reader : Reader) → k < length old → IsReaderKept (get_or old k reader) (get_or new k reader)
 
--- unless it is cut, all came that the desk sends, and nothing waits for it
+-- unless the desk is cut, all its lines came, and none are queued for it
 abbrev pub IsDone : {P : Type 0} → (List ℕ → Option (List ℕ)) → Desk → Input P → Reader → Type 0
 IsDone given desk input reader = desk.waiting.is_cut ≡ false → (reader.has_ended ≡ true) × (desk.waiting.lines ≡ []) × HasAllCome given input reader
 

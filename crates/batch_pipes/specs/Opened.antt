@@ -10,7 +10,7 @@ use Rattle.batch_serve_desks.specs.declared.rounds.Reader.{Reader}
 use Rattle.batch_serve_desks.specs.declared.rounds.Writer.{Writer}
 use Rattle.batch_pipes.specs.declared.ports.Ports.{Ports}
 
--- nothing waits, nothing came out of a ring, and nothing went into one
+-- no line is queued, nothing came out of a ring, and nothing went into one
 pub record AreEmpty (s : DeskServer) (p : Ports) : Type 0 where
   pub waits : (k : ℕ) (other : Desk) → k < length s.desks.items → (get_or s.desks.items k other).waiting.lines ≡ []
   pub came : (k : ℕ) (reader : Reader) → k < length s.desks.items → received (get_or p.readers.items k reader).ring ≡ []
@@ -39,7 +39,7 @@ pub record ArePortsAdded (reader : Reader) (writer : Writer) (before after : Por
   pub writers : after.writers.items ≡ before.writers.items ++ writer ∷ []
   pub threads : length after.threads.items ≡ length before.threads.items + 1
 
--- one desk more, as it is asked for, which isn't cut and for which nothing waits, and whose rings are new; where it has no output nobody is slow
+-- one desk more, of this plan, which isn't cut, with an empty queue and new rings; a desk without an output is never slow
 pub record IsOpenedOn (plan : plans.Desk) (old new : DeskServer) (before after : Ports) : Type 0 where
   pub desk : Desk
   pub reader : Reader

@@ -1,4 +1,4 @@
--- private: what the thread of a desk's output gives back.
+-- private: the result of the thread of a desk's output.
 use Rattle.std.specs.Prelude.{◌≡◌, ℕ, List, ◌++◌, Option, string_bytes}
 use Rattle.rtrb.specs.Ring.{SameConsumer, received}
 use Rattle.batch_serve_desks.specs.Threads.{lines_text}
@@ -7,11 +7,11 @@ use Rattle.batch_pipes.specs.declared.writing.OutputEnd.{OutputEnd}
 use Rattle.batch_pipes.specs.declared.writing.OutputTask.{OutputTask}
 use Rattle.batch_pipes.specs.declared.written.Written.{Written}
 
--- what may be handed back for the output of a path, behind a front and lines
+-- the results that may be handed back for the output of a path, behind a front and lines
 abbrev pub Results : Type 0 → Type 1
 Results W = List ℕ → List ℕ → List (List ℕ) → Written W → Type 0
 
--- it was handed back for the output of this path, which took a beginning of the front and these lines
+-- it was handed back for the output of this path, which took a prefix of the front and these lines
 abbrev pub IsHandedBack
     : {W : Type 0} → (W → Option (List ℕ)) → (List ℕ → Option (List ℕ)) → (List ℕ → Written W → Type 0) → List ℕ → List ℕ → List (List ℕ) → Written W → Type 0
 IsHandedBack contents stands hands_back path front lines w = hands_back path w × IsWrittenOf contents (stands path) (front ++ lines_text lines) w

@@ -13,7 +13,7 @@ use Rattle.batch_pipes.specs.declared.written.Written.{Written}
 
 -- One output
 
--- its path, and what is written to it before all else
+-- its path, and the text that is written to it before all else
 pub record Asked : Type 0 where
   pub path : Option (List ℕ)
   pub front : List ℕ
@@ -21,14 +21,14 @@ pub record Asked : Type 0 where
 abbrev pub asked_of : {W P : Type 0} → Output W P → Asked
 asked_of o = record { path = option_map string_bytes o.path.value; front = o.front.value.items }
 
--- the task is to write this front to the output of this path, and then what comes out of the writer's ring, which is new
+-- the task is to write this front to the output of this path, and then the lines out of the writer's ring, which is new
 pub record IsTaskOf (asked : Asked) (task : OutputTask) (writer : Writer) : Type 0 where
   pub is_path : asked.path ≡ Some (string_bytes task.path)
   pub is_front : task.front.items ≡ asked.front
   pub pair : IsPair writer.ring task.ring
   pub new : received task.ring ≡ []
 
--- the result is of this path and front, and of what came out of the writer's ring
+-- the result is of this path and front, and of the lines that came out of the writer's ring
 pub record IsEndOf {W : Type 0} (is_result : Results W) (asked : Asked) (end : OutputEnd W) (writer : Writer) : Type 0 where
   pub path : List ℕ
   pub is_path : asked.path ≡ Some path
@@ -59,7 +59,7 @@ pub record AreOutputsKept {W P : Type 0} (is_result : Results W) (old new : List
 
 -- Opening
 
--- what is asked of the output of a desk of a document that has this front
+-- the path and the front of the output of a desk of a document that has this front
 abbrev pub asked_by : plans.Desk → List ℕ → Asked
 asked_by desk front = record { path = option_map string_bytes desk.output; front = front }
 
@@ -69,7 +69,7 @@ pub record IsOutputOpened {W P : Type 0} (is_result : Results W) (asked : Asked)
   pub of : IsOutputOf is_result o writer
   pub is_asked : asked_of o ≡ asked
 
--- one more stands behind the others, as its writer does
+-- one more follows the others, as its writer does
 pub record IsOutputAdded {W P : Type 0} (is_result : Results W) (asked : Asked) (old new : List (Output W P)) (before after : List Writer) : Type 0 where
   pub output : Output W P
   pub writer : Writer
@@ -87,7 +87,7 @@ pub record AreOutputsOpened {W P : Type 0} (is_result : Results W) (fronts : Lis
 
 -- Their end
 
--- what was handed back for its path, where so many of the lines are left that went into the writer's ring
+-- the result was handed back for its path, and so many of the lines are left that went into the writer's ring
 pub record IsJoined {W : Type 0} (is_result : Results W) (asked : Asked) (writer : Writer) (w : Written W) (left : ℕ) : Type 0 where
   pub path : List ℕ
   pub is_path : asked.path ≡ Some path
@@ -97,13 +97,13 @@ pub record IsJoined {W : Type 0} (is_result : Results W) (asked : Asked) (writer
   pub count : length rest ≡ left
   pub result : is_result path asked.front lines w
 
--- that came of it, or its thread is given back
+-- that is its outcome, or its thread is given back
 abbrev pub IsSettled : {W P : Type 0} → Results W → Asked → Writer → OutputOutcome W P → Type 0
 IsSettled is_result asked writer Absent = asked.path ≡ None
 IsSettled is_result asked writer (Joined w left) = IsJoined is_result asked writer w left
 IsSettled is_result asked writer (Unjoined thread) = asked.path ≡ Some (string_bytes thread.handle.promise.task.value.path)
 
--- nothing more goes into the ring. What a thread left there that was joined before is counted
+-- nothing more goes into the ring. The lines that a thread left there, if it was joined before, are counted
 pub record IsFinished {W P : Type 0} (o : Output W P) (writer : Writer) : Type 0 where
   pub finished : o.end ≡ None → IfSome o.finished (λ finished. Finishes writer.ring finished)
   pub left : IfSome o.end (λ end. (rest : List (List ℕ)) × (sent writer.ring ≡ received end.ring ++ rest) × (length rest ≡ o.left))
@@ -115,7 +115,7 @@ IsEnding is_result o = (writer : Writer) × IsOutputOf is_result o writer × IsF
 abbrev pub AreEnding : {W P : Type 0} → Results W → List (Output W P) → Type 0
 AreEnding {W} {P} is_result outputs = (k : ℕ) (o : Output W P) → k < length outputs → IsEnding is_result (get_or outputs k o)
 
--- this came of it, whichever writer's ring that was
+-- this is its outcome, whichever writer's ring that was
 abbrev pub IsSettledBy : {W P : Type 0} → Results W → Output W P → OutputOutcome W P → Type 0
 IsSettledBy is_result o outcome = (writer : Writer) → IsOutputOf is_result o writer → IsFinished o writer → IsSettled is_result (asked_of o) writer outcome
 
@@ -123,7 +123,7 @@ pub record AreSettledBy {W P : Type 0} (is_result : Results W) (outputs : List (
   pub count : length outcomes ≡ length outputs
   pub each : (k : ℕ) (o : Output W P) (w : OutputOutcome W P) → k < length outputs → IsSettledBy is_result (get_or outputs k o) (get_or outcomes k w)
 
--- this came of each
+-- these are the outcomes of all
 pub record AreSettled {W P : Type 0} (is_result : Results W) (outputs : List (Output W P)) (writers : List Writer) (outcomes : List (OutputOutcome W P)) : Type 0 where
   pub count : length outcomes ≡ length outputs
   pub each : (k : ℕ) (o : Output W P) (writer : Writer) (w : OutputOutcome W P) → k < length outputs

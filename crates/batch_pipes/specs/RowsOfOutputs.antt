@@ -1,4 +1,4 @@
--- worked rows: what an output holds of a text behind what stood in it.
+-- worked rows: the part that an output holds of a text behind its old contents.
 use Rattle.std.specs.Prelude.{◌≡◌, ℕ, List, [], ◌∷◌, Option, Some, None, ⊤}
 use Rattle.batch_serve_desks.specs.declared.desk.Desk.{Desk}
 use Rattle.batch_pipes.specs.Ended.{IsGivenBack}
@@ -12,7 +12,7 @@ use Rattle.batch_pipes.specs.declared.written.Written.{Written}
 abbrev pub FrontIsHeld : Type 0
 FrontIsHeld = HoldsBeginning (Some (7 ∷ [])) (Some (7 ∷ 1 ∷ [])) (1 ∷ 2 ∷ [])
 
--- the second can't stand before it, nor the first twice, nor the text without what stood there
+-- the second can't come before it, nor the first twice, nor the text without the old contents
 abbrev pub NoOtherIsHeld : Type 0
 NoOtherIsHeld =
     (¬ HoldsBeginning (Some []) (Some (2 ∷ [])) (1 ∷ 2 ∷ [])) × (¬ HoldsBeginning (Some []) (Some (1 ∷ 1 ∷ [])) (1 ∷ 2 ∷ []))

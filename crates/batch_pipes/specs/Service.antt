@@ -1,4 +1,4 @@
--- trusted: what rounds of serving desks come to.
+-- trusted: the effect of rounds of serving desks.
 use Rattle.std.specs.Prelude.{◌≡◌, ◌⊎◌, ℕ, ◌<◌, Bool, true, false, List, [], ◌∷◌, ◌++◌, length, get_or, map, flat_map, Option, None, ⊤}
 use Rattle.std.specs.Io.KnownBytes.{Appends}
 use Rattle.batch_model.specs.Plant.{Plant}
@@ -18,12 +18,12 @@ use Rattle.batch_pipes.specs.declared.ports.Ports.{Ports}
 
 -- The time of turns
 
--- a part of the record, with what stands before it
+-- a part of the record, with the comment before it
 pub record Part : Type 0 where
   pub comment : List ℕ
   pub text : List ℕ
 
--- nothing, or where times are asked for the time of a turn
+-- nothing, or, if times are asked for, the time of a turn
 abbrev pub IsTime : Bool → List ℕ → Type 0
 IsTime times comment = (comment ≡ []) ⊎ ((times ≡ true) × ((milliseconds : ℕ) × (comment ≡ time_text milliseconds)))
 
@@ -32,11 +32,11 @@ abbrev pub AreTimes : Bool → List Part → Type 0
 AreTimes times [] = ⊤
 AreTimes times (p ∷ parts) = IsTime times p.comment × AreTimes times parts
 
--- such a comment was written
+-- nothing was written, or, if times are asked for, the time of a turn
 abbrev pub AppendsTime : Bool → Option (List ℕ) → Option (List ℕ) → Type 0
 AppendsTime times before after = (comment : List ℕ) × IsTime times comment × Appends before after comment
 
--- the text is that of the parts, without their comments, and all is what they make with them
+-- `text` is the text of the parts without their comments, and `all` is their text with them
 pub record IsTimed (times : Bool) (text all : List ℕ) : Type 0 where
   pub parts : List Part
   pub comments : AreTimes times parts
@@ -51,7 +51,7 @@ pub record AppendsTimed (times : Bool) (before after : Option (List ℕ)) (text 
 
 -- Rounds
 
--- where serving began: the set, the names of the desks, where the machine stood, and what was kept and recorded; and whether the lines are
+-- the start of serving: the set, the names of the desks, the machine's state, the kept text and the record; and whether the lines are
 -- served again
 pub record Opening : Type 0 where
   pub set : ClearedSet
@@ -61,17 +61,17 @@ pub record Opening : Type 0 where
   pub recorded : Option (List ℕ)
   pub again : Bool
 
--- the same, where the times of turns stand in what is recorded
+-- the same without the record, which has the times of turns in it
 abbrev pub beginning : Opening → Beginning
 beginning begun = record { set = begun.set; plant = begun.plant; kept = begun.kept; recorded = None; again = begun.again }
 
--- what went into the ring of the desk's writer
+-- the lines that went into the ring of the desk's writer
 abbrev pub told_to : List Writer → ℕ → List (List ℕ)
 told_to writers desk = get_or (map (λ (w : Writer). sent w.ring) writers) desk []
 
--- since then these runs were served, these are the answers, all of which is recorded, and kept where what keeps it has kept all so far; what
--- each desk was told is what went into the ring of its writer, and the rest waits; and of each desk that isn't cut what was served, or is to
--- be served next, is all that came out of the ring of its reader. No run is of another desk
+-- since then these runs were served, with these answers, which are recorded; the runs are kept, if their keeper has kept all so far.
+-- The lines sent to each desk are those that went into the ring of its writer, and the rest is queued. For each desk that isn't cut,
+-- the lines that were served, or are to be served next, are all that came out of the ring of its reader. No run is of another desk
 pub record IsService (times : Bool) (begun : Opening) (safe : Type 0) (kept : List ℕ) (recorded : Option (List ℕ)) (s : DeskServer) (p : Ports) : Type 0 where
   pub runs : List Run
   pub answers : List Run
@@ -82,14 +82,14 @@ pub record IsService (times : Bool) (begun : Opening) (safe : Type 0) (kept : Li
   pub lines : (k : ℕ) (desk : Desk) (reader : Reader) → k < length s.desks.items → (get_or s.desks.items k desk).waiting.is_cut ≡ false
       → own_text k (runs ++ s.group.items) ≡ text_sent (received (get_or p.readers.items k reader).ring)
 
--- what was so before is so behind
+-- each account of the service that holds before holds after
 abbrev pub GoesOn : (times again : Bool) (safe_before safe_after : Type 0) (kept_before kept_after : List ℕ) (recorded_before recorded_after : Option (List ℕ))
     (old new : DeskServer) (before after : Ports) → Type 0
 GoesOn times again safe_before safe_after kept_before kept_after recorded_before recorded_after old new before after =
     (begun : Opening) → begun.again ≡ again → IsService times begun safe_before kept_before recorded_before old before
     → IsService times begun safe_after kept_after recorded_after new after
 
--- the same of a turn, which leaves the ports
+-- the same of a turn, which leaves the ports as they are
 abbrev pub TurnsOn : (times again : Bool) (safe_before safe_after : Type 0) (kept_before kept_after : List ℕ) (recorded_before recorded_after : Option (List ℕ))
     (old new : DeskServer) → Type 0
 TurnsOn times again safe_before safe_after kept_before kept_after recorded_before recorded_after old new =
@@ -97,8 +97,8 @@ TurnsOn times again safe_before safe_after kept_before kept_after recorded_befor
 
 -- Serving to its end
 
--- runs of lines of the desks were served from the opening on, whole ones where they are served again, and these are the answers: the lines are
--- kept, where what keeps them has kept all, and the answers are recorded, with the time of each turn where that is asked for
+-- runs of lines of the desks were served from the opening on, whole ones if they are served again, with these answers: the lines are
+-- kept, if their keeper has kept all, and the answers are recorded, with the time of each turn if that is asked for
 pub record AreDesksServed (times : Bool) (begun : Opening) (safe : Type 0) (kept : List ℕ) (recorded : Option (List ℕ)) : Type 0 where
   pub runs : List Run
   pub answers : List Run

@@ -1,4 +1,4 @@
--- surface: what the thread of a desk's input hands over, and what that of its output writes.
+-- surface: the lines that the thread of a desk's input hands over, and the text that the thread of its output writes.
 use Rattle.std.specs.Prelude.{◌≡◌, ℕ, Bool, true, List, [], ◌++◌, Option, Some, None, IfSome, ⊤}
 use Rattle.std.specs.Io.KnownBytes.{Appends}
 use Rattle.std.specs.List.{list_any}
@@ -12,7 +12,7 @@ use Rattle.batch_pipes.specs.declared.fault.PipeFault.{PipeFault}
 use Rattle.batch_pipes.specs.declared.fault.PipeFault.TheVariants.{Memory, OutputUnopened}
 use Rattle.batch_pipes.specs.declared.written.Written.{Written}
 
--- what was handed over is a beginning of the lines of the input, as a journal has them; where it ended well it is all of them, and the end
+-- a prefix of the lines of the input, as a journal has them, was handed over; if it ended well, all of them, and the end
 pub record HandsOver (ended : Bool) (input : Option (List ℕ)) (before after : List Sent) : Type 0 where
   pub items : List Sent
   pub went : after ≡ before ++ items
@@ -20,14 +20,14 @@ pub record HandsOver (ended : Bool) (input : Option (List ℕ)) (before after : 
       → (rest : List ℕ) × (clean_lines (lines_of bytes) ≡ text_sent items ++ rest) × (ended ≡ true → rest ≡ [])
   pub told : ended ≡ true → list_any is_end items ≡ true
 
--- the front was written, and then the lines that came, or a beginning of all that; where it ended well it is all
+-- a prefix of the front and the lines that came, as one text, was written; if it ended well, all of that
 pub record IsWrittenBehind (front : List ℕ) (ended : Bool) (before after : List (List ℕ)) (old new : Option (List ℕ)) : Type 0 where
   pub lines : List (List ℕ)
   pub came : after ≡ before ++ lines
   pub begun : AppendsBeginning old new (front ++ lines_text lines)
   pub written : ended ≡ true → Appends old new (front ++ lines_text lines)
 
--- where it is known what stood in an output, what stands there now is a beginning of that and of the text behind it
+-- if the old contents of an output are known, the new ones are a prefix of these and the text behind them
 abbrev pub HoldsBeginning : Option (List ℕ) → Option (List ℕ) → List ℕ → Type 0
 HoldsBeginning None now text = ⊤
 HoldsBeginning (Some stood) None text = ⊥
@@ -39,7 +39,7 @@ HasNoOutput (Some (OutputUnopened error)) = ⊤
 HasNoOutput (Some Memory) = ⊤
 HasNoOutput _ = ⊥
 
--- the output took a beginning of the text behind what stood in it; where that ended well, all of it
+-- the output holds a prefix of its old contents and the text behind them; if it ended well, all of that
 pub record IsWrittenOf {W : Type 0} (contents : W → Option (List ℕ)) (stood : Option (List ℕ)) (text : List ℕ) (w : Written W) : Type 0 where
   pub begun : IfSome w.output (λ output. HoldsBeginning stood (contents output) text)
   pub whole : w.fault ≡ None → (output : W) × (w.output ≡ Some output) × Appends stood (contents output) text

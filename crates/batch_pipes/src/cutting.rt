@@ -1,4 +1,4 @@
-//! Cutting desks, and telling which are cut.
+//! Cutting desks, and reporting which are cut.
 ghost use Rattle.batch_pipes.specs.Kept.{IsDeskKept};
 
 use crate::fault::{Cut, PipeFault};
@@ -59,7 +59,7 @@ pub(crate) fn cut_if_stalled(desk: &mut Desk, own: &mut DeskThreads, ends: bool)
     }
 }
 
-/// Tells that a desk is cut, if it is and that wasn't told.
+/// Reports that a desk is cut, if it is and that wasn't reported.
 pub(crate) fn tell_cut<E: Write>(
     alloc: Global,
     desk: &Desk,
@@ -84,7 +84,7 @@ fn why_cut(desk: &Desk, own: &DeskThreads) -> Cut {
     }
 }
 
-/// Tells that a desk is cut, and why.
+/// Reports that a desk is cut, and why.
 pub(crate) fn tell_line<E: Write>(alloc: Global, name: &Name, why: Cut, errors: &mut E) {
     if let Ok(line) = format!(in alloc; "batchd: desk {name} is cut: {why}\n") {
         let _ = write_all(errors, line.as_bytes());

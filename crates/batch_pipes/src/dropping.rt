@@ -4,7 +4,7 @@ ghost use Rattle.batch_serve_desks.specs.Rounds.{IsHandedOn};
 use batch_serve_desks::{Desk, Line, Writer};
 use rtrb::Consumer;
 
-/// Drops what waits for a desk that has no output.
+/// Drops the lines queued for a desk that has no output.
 #[tactic(auto, using(crate::proofs::Keeping::handed_nothing))]
 pub(crate) fn drop_unseen(desk: &mut Desk, unseen: &mut Option<Consumer<Line>>, writer: &mut Writer)
     ensures { IsHandedOn desk.old desk.new writer.old writer.new }

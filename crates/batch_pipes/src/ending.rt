@@ -1,4 +1,4 @@
-//! The end of serving: what is handed on is written.
+//! The end of serving: the lines handed on are written.
 ghost use Rattle.std.specs.Prelude.{ℕ, ◌<◌, length, get_or, IfOk};
 ghost use Rattle.batch_pipes.specs.OutputEnds.{IsHandedBack};
 ghost use Rattle.batch_pipes.specs.Outputs.{AreEnding, AreOutputsKept, AreOutputsOf, AreSettled, AreSettledBy, IsEnding, IsFinished, IsSettledBy};
@@ -17,13 +17,13 @@ use std::alloc::{AllocError, Global};
 use std::io::Write;
 use std::thread::Threads;
 
-/// How many rounds the outputs are waited for at the end that aren't open, and may still fail.
+/// How many rounds serving waits at its end for the outputs that aren't open, and may still fail.
 const UNOPENED: u32 = 50;
 
-/// Ends the threads of outputs: nothing more comes for them. It waits until each has ended that has something to write, or has had
-/// time to. What didn't end well is told. It gives what came of each output.
+/// Ends the threads of outputs: no more lines come for them. It waits until each that has something to write has ended, or has had
+/// time to. It reports the outputs that didn't end well, and returns the outcome of each.
 ///
-/// The error is that there is no memory for that.
+/// The error is that there is no memory for the outcomes.
 // claim: output of a desk
 pub(crate) fn finish<T: Threads, W: Write + Drop, P: Outputs<W> + Drop, E: Write, S: Pause>(
     threads: &T,
@@ -62,7 +62,7 @@ fn finish_each<W: Write + Drop, P: Outputs<W> + Drop>(
     }
 }
 
-/// Waits for outputs whose rings have ended, tells which didn't end well, and gives what came of each.
+/// Waits for outputs whose rings have ended, reports those that didn't end well, and returns the outcome of each.
 fn settle_each<T: Threads, W: Write + Drop, P: Outputs<W> + Drop, E: Write, S: Pause>(
     threads: &T,
     alloc: Global,
@@ -107,7 +107,7 @@ fn tell_at<E: Write>(
     }
 }
 
-/// What came of an output whose ring has ended, and why it didn't end well, unless its desk is cut.
+/// The outcome of an output whose ring has ended, and why it didn't end well, unless its desk is cut.
 fn end_output<T: Threads, W: Write + Drop, P: Outputs<W> + Drop, S: Pause>(
     threads: &T,
     output: Output<W, P>,
@@ -131,7 +131,7 @@ fn end_output<T: Threads, W: Write + Drop, P: Outputs<W> + Drop, S: Pause>(
     (outcome, fault)
 }
 
-/// Why an output didn't end well that has something to write, or has not. What came of it isn't known where it goes on.
+/// Why an output didn't end well, if it didn't. An output whose thread goes on is unread, if it has something to write.
 fn fault_of<W: Write + Drop, P: Outputs<W> + Drop>(
     outcome: &OutputOutcome<W, P>,
     has_work: bool,
@@ -146,7 +146,7 @@ fn fault_of<W: Write + Drop, P: Outputs<W> + Drop>(
     }
 }
 
-/// How many rounds the threads of outputs are waited for.
+/// How many rounds are left to wait for the threads of outputs.
 #[derive(Drop)]
 struct Patience {
     // those that have something to write
@@ -179,7 +179,7 @@ impl Patience {
         }
     }
 
-    /// Takes a round, if one is left.
+    /// Uses up a round. Returns whether one was left.
     fn take_round(&mut self, has_work: bool) -> bool {
         let left = if has_work {
             &mut self.written

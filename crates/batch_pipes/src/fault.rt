@@ -1,4 +1,4 @@
-//! What goes wrong at pipes and rings.
+//! The faults of pipes, and of serving.
 use batch_serve_desks::{CutReason, TurnFault};
 use batch_wire::WriteFault;
 use std::alloc::AllocError;

@@ -19,7 +19,7 @@ use std::thread::Threads;
 #[derive(Drop)]
 pub(crate) struct InputChild<P: Pipes + Drop> {
     pub(crate) handle: InputHandle<P>,
-    // it is raised where the thread has nothing more to do than to end
+    // raised once the thread has nothing more to do than to end
     pub(crate) done: Flag,
 }
 
@@ -28,9 +28,9 @@ pub(crate) struct InputChild<P: Pipes + Drop> {
 pub(crate) struct Input<P: Pipes + Drop> {
     // its path, for clauses alone
     pub(crate) path: Snapshot<Option<String>>,
-    // who hands it over, until it has nothing more to do
+    // the thread that hands it over, until it has nothing more to do
     pub(crate) child: Option<InputChild<P>>,
-    // what that came to
+    // the result of that thread
     pub(crate) end: Option<InputEnd>,
 }
 
@@ -65,7 +65,7 @@ impl Came {
 }
 
 impl<P: Pipes + Drop> Input<P> {
-    /// Looks how much of it came. A thread that has nothing more to do is joined.
+    /// Checks how much of it came. A thread that has nothing more to do is joined.
     // claim: input of a desk
     pub(crate) fn look<T: Threads>(&mut self, threads: &T, reader: &mut Reader) -> Came
         requires { IsInputOf P.given self.old reader.old }

@@ -1,4 +1,4 @@
-//! The thread of a desk's input, and what it promises.
+//! The thread of a desk's input, and its promise.
 ghost use Rattle.std.specs.Prelude.{◌≡◌, IfOk};
 
 use crate::fault::DesksFault;
@@ -9,7 +9,7 @@ use std::snapshot::Snapshot;
 use std::thread;
 use std::thread::{Promise, PromisedHandle, Threads};
 
-/// What the thread of an input gives back.
+/// The promise of the thread of an input, about its result.
 #[derive(Drop)]
 pub(crate) struct InputPromise<P: Drop> {
     pub(crate) pipes: Snapshot<P>,

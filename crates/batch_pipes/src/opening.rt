@@ -32,11 +32,11 @@ use std::thread::Threads;
 /// How many texts a reader may be ahead of the machine.
 const TEXTS: usize = 16;
 
-/// How many lines may be on their way to a writer, beside those that wait.
+/// How many lines may be on their way to a writer, beside those that are queued.
 const LINES: usize = 1_024;
 
-/// Makes a server of the desks over the machine, and starts their threads. The fronts are what is written to the desks before all else,
-/// in their order. Where a thread can't be started those before it find no other end of their rings, and end.
+/// Makes a server of the desks over the machine, and starts their threads. The fronts, in the order of the desks, are written to them
+/// before all else. If a thread can't be started, those before it find no other end of their rings, and end.
 // claim: pipes opened
 pub(crate) fn open<
     T: Threads,
@@ -148,7 +148,7 @@ fn open_desk<
     Ok(())
 }
 
-/// How many lines may wait for a desk of this output. Nobody is slow where there is none.
+/// How many lines may be queued for a desk of this output. A desk without an output is never slow.
 fn lag_of(output: &Option<String>, lag: usize) -> usize
     ensures { IsSome output.now → result ≡ lag }
 {
@@ -189,7 +189,7 @@ fn add_output<W: Write + Drop, P: Outputs<W> + Drop>(
     Ok(())
 }
 
-/// A copy of what is written to the desk at this place before all else; nothing where it has no front.
+/// A copy of the front of the desk at this place; empty if it has none.
 ///
 /// The error is that there is no memory for it.
 fn front_at(alloc: Global, fronts: &[Lines], at: usize) -> Result<Vec<u8>, AllocError>
@@ -259,7 +259,7 @@ fn read_input<T: Threads, P: Pipes + Send + Drop + 'static>(
     })
 }
 
-/// Of a desk that has no input nothing comes.
+/// The input of a desk that has none: nothing comes.
 #[tactic(auto, using(crate::proofs::InputsKept::input_missing))]
 fn no_input<P: Pipes + Drop>(ring: Producer<Sent>, known: Snapshot<Option<String>>) -> Input<P>
     requires path { known.value ≡ None }
@@ -274,7 +274,7 @@ fn no_input<P: Pipes + Drop>(ring: Producer<Sent>, known: Snapshot<Option<String
     }
 }
 
-/// The ring of the lines that a desk is told, and the thread that writes them behind the front, if the desk has an output.
+/// The ring of the lines for a desk, and the thread that writes them behind the front, if the desk has an output.
 fn open_output<
     T: Threads,
     W: Write + Send + Drop + 'static,
@@ -349,7 +349,7 @@ fn write_output<
     })
 }
 
-/// Of a desk that has no output the lines are dropped.
+/// The output of a desk that has none: the lines are dropped.
 #[tactic(auto, using(crate::proofs::OutputsKept::output_missing))]
 fn no_output<W: Write + Drop, P: Outputs<W> + Drop>(
     ring: Consumer<Line>,

@@ -1,17 +1,17 @@
-//! What came of the output of a desk.
+//! The outcome of the output of a desk.
 use crate::output::OutputChild;
 use crate::pipes::Outputs;
 use crate::written::Written;
 use std::io::Write;
 
-/// What came of the output of a desk. A thread is given back only if nobody joined it: whoever joins a thread uses it up.
+/// The outcome of the output of a desk. A thread is given back only if nobody joined it: whoever joins a thread uses it up.
 #[derive(Drop)]
 pub enum OutputOutcome<W: Write + Drop, P: Outputs<W> + Drop> {
     /// The desk has no output.
     Absent,
     /// Its thread ended and was joined.
     Joined {
-        /// What was handed back for its path.
+        /// The result that was handed back for its path.
         written: Written<W>,
         /// How many lines were left on their way to it.
         left: usize,

@@ -20,34 +20,34 @@ use std::thread::Threads;
 #[derive(Drop)]
 pub struct OutputChild<W: Write + Drop, P: Outputs<W> + Drop> {
     pub(crate) handle: OutputHandle<W, P>,
-    // something stands before all else in its output
+    // its front isn't empty
     pub(crate) has_front: bool,
-    // it is raised where the thread's pipe is open
+    // raised once the thread's pipe is open
     pub(crate) began: Flag,
-    // it is raised where the thread has nothing more to do than to end
+    // raised once the thread has nothing more to do than to end
     pub(crate) done: Flag,
 }
 
 /// The output of a desk.
 #[derive(Drop)]
 pub(crate) struct Output<W: Write + Drop, P: Outputs<W> + Drop> {
-    // its path, and what is written before all else, for clauses alone
+    // its path, and the text that is written before all else, for clauses alone
     pub(crate) path: Snapshot<Option<String>>,
     pub(crate) front: Snapshot<Vec<u8>>,
-    // who writes it, until it has nothing more to do
+    // the thread that writes it, until it has nothing more to do
     pub(crate) child: Option<OutputChild<W, P>>,
-    // what that came to
+    // the result of that thread
     pub(crate) end: Option<OutputEnd<W>>,
     // the other end of the ring of a desk that has no output
     pub(crate) unseen: Option<Consumer<Line>>,
-    // all that went into the ring, where nothing more does
+    // all that went into the ring, once nothing more does
     pub(crate) finished: Option<Finished<Line>>,
-    // how many lines are left there, where the thread was joined before that
+    // how many lines are left there, if the thread was joined before that
     pub(crate) left: usize,
 }
 
 impl<W: Write + Drop, P: Outputs<W> + Drop> OutputChild<W, P> {
-    /// What came of the output, where nothing more goes into its ring. The thread is joined, if it has nothing more to do, or else given back.
+    /// The outcome of the output, whose ring has ended. The thread is joined if it has nothing more to do, and else given back.
     fn settle<T: Threads>(self, threads: &T, finished: Finished<Line>) -> OutputOutcome<W, P>
         requires { IsFinishedOf finished self.handle.promise.task.value.ring }
         ensures { (asked : Asked) (writer : OneWriter) → IsTaskOf asked self.handle.promise.task.value writer → Finishes writer.ring finished
@@ -111,7 +111,7 @@ impl<W: Write + Drop, P: Outputs<W> + Drop> Output<W, P> {
         }
     }
 
-    /// Ends its ring: nothing more goes into it. What a thread left there that was joined is counted.
+    /// Ends its ring: nothing more goes into it. If the thread was joined, the lines that it left there are counted.
     pub(crate) fn finish(&mut self, writer: Writer)
         requires { IsOutputOf (IsHandedBack W.contents P.stands P.hands_back) self.old writer }
         ensures kept { IsOutputKept (IsHandedBack W.contents P.stands P.hands_back) self.old self.new writer }
@@ -125,7 +125,7 @@ impl<W: Write + Drop, P: Outputs<W> + Drop> Output<W, P> {
         }
     }
 
-    /// What came of it, where its ring has ended. A thread that has more to do is given back.
+    /// The outcome of the output, whose ring has ended. A thread that has more to do is given back.
     // claim: output of a desk
     pub(crate) fn settle<T: Threads>(self, threads: &T) -> OutputOutcome<W, P>
         requires { IsEnding (IsHandedBack W.contents P.stands P.hands_back) self }

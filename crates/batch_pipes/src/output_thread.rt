@@ -1,4 +1,4 @@
-//! The thread of a desk's output, and what it promises.
+//! The thread of a desk's output, and its promise.
 ghost use Rattle.std.specs.Prelude.{◌≡◌, IfOk};
 
 use crate::fault::DesksFault;
@@ -10,7 +10,7 @@ use std::snapshot::Snapshot;
 use std::thread;
 use std::thread::{Promise, PromisedHandle, Threads};
 
-/// What the thread of an output gives back.
+/// The promise of the thread of an output, about its result.
 #[derive(Drop)]
 pub(crate) struct OutputPromise<P: Drop> {
     pub(crate) pipes: Snapshot<P>,

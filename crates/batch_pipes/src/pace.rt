@@ -4,8 +4,8 @@ ghost use Rattle.rtrb.specs.Ring.{SameProducer, sent};
 
 use batch_serve_desks::{Desk, Writer};
 
-/// How many rounds an output that takes nothing is waited for: at the end of serving, and before its desk is read on. A round in
-/// which lines wait takes a pause, of a millisecond.
+/// How many rounds serving waits for an output that takes nothing: at its end, and before the output's desk is read on. A round in
+/// which lines are on their way takes a pause, of a millisecond.
 pub(crate) const PATIENCE: u32 = 10_000;
 
 /// How the output of a desk goes on.
@@ -38,7 +38,7 @@ impl Pace {
     }
 }
 
-/// How many lines are on their way to a desk: those that wait, and those in the ring of its writer.
+/// How many lines are on their way to a desk: those queued for it, and those in the ring of its writer.
 #[tactic(auto, using(crate::proofs::RingsMade::nothing_left))]
 pub(crate) fn lines_left(desk: &Desk, writer: &mut Writer) -> usize
     ensures ring { SameProducer writer.old.ring writer.new.ring }

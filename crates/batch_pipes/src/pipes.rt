@@ -31,10 +31,11 @@ pub trait Outputs<W: Write + Drop> {
     ghost use Rattle.std.specs.Prelude.{ℕ, List, Option, None, ⊤};
     ghost use Rattle.batch_pipes.specs.declared.written.Written.{Written as OneWritten};
 
-    /// The bytes that stand in the output of a path when it is opened, where they are known. Nobody can give those of a real file.
+    /// The bytes in the output of a path when it is opened, where they are known. Nobody can give those of a real file.
     ghost stands: { List ℕ → Option (List ℕ) } = { λ _. None };
 
-    /// What may be handed back for the output of a path. Where nothing is known of it, whatever is known to be such came of `run_output`.
+    /// The results that may be handed back for the output of a path. In code that knows nothing of this relation, each result that is
+    /// known to be in it came from `run_output`.
     ghost hands_back: { List ℕ → OneWritten W → Type 0 } = { λ _ _. ⊤ };
 
     /// Opens the task's output, and has it written by `OutputTask::write`. Both may wait for whoever is at the other end.

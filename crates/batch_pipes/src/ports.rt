@@ -11,17 +11,17 @@ use std::alloc::{AllocError, Global};
 /// How a desk's output goes on, and whether the desk is cut.
 #[derive(Drop)]
 pub(crate) struct DeskThreads {
-    /// It is raised where the desk is cut.
+    /// Raised once the desk is cut.
     pub(crate) stop: Flag,
     pub(crate) pace: Pace,
     /// Why it was cut here.
     pub(crate) why: Option<PipeFault>,
-    /// Whether it was told that the desk is cut.
+    /// Whether it was reported that the desk is cut.
     pub(crate) is_told: bool,
 }
 
 impl DeskThreads {
-    /// Of a desk that isn't cut.
+    /// The state of a desk that isn't cut.
     pub(crate) fn new(stop: Flag) -> DeskThreads {
         DeskThreads {
             stop,
@@ -41,7 +41,7 @@ pub(crate) struct Ports {
 }
 
 impl Ports {
-    /// Of no desk.
+    /// The ports of no desk.
     pub(crate) fn new(alloc: Global) -> Ports
         ensures readers { result.readers.items ≡ [] }
         ensures writers { result.writers.items ≡ [] }
@@ -54,7 +54,7 @@ impl Ports {
         }
     }
 
-    /// Adds those of a desk.
+    /// Adds the ends and the threads of a desk.
     ///
     /// The error is that there is no memory for them.
     pub(crate) fn add(

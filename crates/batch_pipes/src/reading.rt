@@ -18,7 +18,7 @@ use std::io::Read;
 /// How many bytes are handed over at once, at most. A reader of clean lines needs room for a line that is too long.
 const ROOM: usize = 4_096;
 
-/// What the thread of a desk's input is given.
+/// The task of the thread of a desk's input.
 #[derive(Drop)]
 pub struct InputTask {
     pub(crate) path: String,
@@ -95,7 +95,7 @@ fn fault_of<R: Read, S: Pause>(lines: &Noted<CleanReader<R>>, rest: &mut S) -> P
     }
 }
 
-/// What the thread of an input came to.
+/// The result of the thread of an input.
 #[derive(Drop)]
 pub(crate) struct InputEnd {
     // its end of the ring

@@ -1,4 +1,4 @@
-//! Rounds: what came is served, and what waits goes on.
+//! Rounds: lines that came are served, and queued lines go on.
 ghost use Rattle.std.specs.Prelude.{◌≡◌, [], length, OnOk};
 ghost use Rattle.batch_serve_desks.specs.Rounds.{AreSameReaders, AreSameWriters};
 ghost use Rattle.batch_pipes.specs.Kept.{ArePortsOf, AreSameDesks};
@@ -13,7 +13,7 @@ use std::alloc::Global;
 use std::io::Write;
 use std::time::Clock;
 
-/// Takes what the readers handed over, serves it, and hands on what waits. It gives whether there was anything to serve.
+/// Takes the lines that the readers handed over, serves them, and hands on queued lines. Returns whether there were lines to serve.
 // claim: a round of desks
 pub(crate) fn serve_round<C: Clock, K: Keep, W: Write>(
     alloc: Global,
@@ -40,7 +40,7 @@ pub(crate) fn serve_round<C: Clock, K: Keep, W: Write>(
     Ok(serves)
 }
 
-/// Makes a turn, if there is anything to serve, which it gives.
+/// Makes a turn, if there are lines to serve. Returns whether there were.
 fn serve_group<C: Clock, K: Keep, W: Write>(
     alloc: Global,
     server: &mut DeskServer,

@@ -28,24 +28,24 @@ use std::io::Write;
 use std::thread::Threads;
 use std::time::Clock;
 
-/// Where desks were served to their end.
+/// The result of serving desks to their end.
 #[derive(Drop)]
 pub struct DesksEnd<W: Write + Drop, P: Outputs<W> + Drop> {
     /// How many batches are neither complete, stopped nor aborted.
     pub unfinished: usize,
-    /// The desks. Of one that isn't cut all lines of its input were served.
+    /// The desks. All lines of the input of a desk that isn't cut were served.
     pub desks: Vec<Desk>,
-    /// What came of their outputs, in the order of the desks.
+    /// The outcomes of their outputs, in the order of the desks.
     pub outputs: Vec<OutputOutcome<W, P>>,
 }
 
-/// Serves desks until each that has an input has ended or is cut, and what waits is handed on.
+/// Serves desks until each that has an input has ended or is cut, and the queued lines are handed on.
 ///
 /// The input and the output of each desk are opened, read and written in threads of their own, and nobody waits for a thread that is
-/// blocked there. The fronts are what is written to the desks' outputs before all else, one for each desk in order; a desk behind the
-/// last of them has none. A desk whose input or output fails, or for which more lines wait than may, is cut, which is told on the
-/// errors. At the end an output that takes nothing for long is cut too, which is told alone. Of each desk that has an output it gives
-/// the output back, or the thread of it, which isn't joined while it has more to do.
+/// blocked there. The fronts, one for each desk in order, are written to the desks' outputs before all else; a desk behind the last
+/// of them has none. A desk whose input or output fails, or for which more lines are queued than may be, is cut, and the errors
+/// report it. At the end an output that takes nothing for long is cut too, which is told alone. For each desk that has an output it
+/// gives back the output, or its thread, which isn't joined while it has more to do.
 // claim: desks over pipes; whose lines are served; outputs given back; outputs of desks
 pub fn serve_desks<
     T: Threads,
@@ -103,7 +103,7 @@ pub fn serve_desks<
     })
 }
 
-/// Makes rounds until nothing more comes and nothing waits.
+/// Makes rounds until no more lines come, and none are on their way.
 fn run_rounds<
     T: Threads,
     O: Write + Drop,
@@ -154,8 +154,8 @@ fn run_rounds<
     Err(DesksFault::RoundsOut)
 }
 
-/// Waits between rounds, unless more may have come already. Who has lines to write gets some time for it. It answers false where serving
-/// is to end.
+/// Waits between rounds, unless more lines may have come already. Threads that have lines to write get some time for it. Returns
+/// false if serving is to end.
 fn pause<S: Pause>(rest: &mut S, serves: bool, outlook: Outlook) -> bool {
     if serves || outlook.goes {
         rest.note_work();

@@ -20,7 +20,7 @@ use std::alloc::Global;
 use std::io::Write;
 use std::thread::Threads;
 
-/// What is still to come.
+/// The lines that are still to come, from desks and to them.
 #[derive(Clone, Copy)]
 pub(crate) struct Outlook {
     /// A desk may send more.
@@ -32,7 +32,7 @@ pub(crate) struct Outlook {
 }
 
 impl Outlook {
-    /// Nothing.
+    /// Nothing is still to come.
     pub(crate) fn nothing() -> Outlook {
         Outlook {
             sends: false,
@@ -60,7 +60,7 @@ impl Outlook {
     }
 }
 
-/// Cuts the desks whose pipes failed, and at the end those that take nothing, and tells which are cut.
+/// Cuts the desks whose pipes failed, and at the end those that take nothing, and reports which are cut.
 // claim: a round of desks
 pub(crate) fn tend_desks<T: Threads, O: Write + Drop, P: Pipes + Outputs<O> + Drop, E: Write>(
     threads: &T,
@@ -132,8 +132,8 @@ fn tend_each<T: Threads, O: Write + Drop, P: Pipes + Outputs<O> + Drop, E: Write
     outlook
 }
 
-/// Looks after one desk, and gives what is still to come of it. While lines are on their way to it, it isn't read, unless its output
-/// takes nothing for long.
+/// Looks after one desk, and returns its outlook. While lines are queued for it, it isn't read, unless its output takes nothing for
+/// long.
 // claim: desks between turns
 fn tend<T: Threads, O: Write + Drop, P: Pipes + Outputs<O> + Drop>(
     threads: &T,
@@ -169,7 +169,7 @@ fn is_to_rest(desk: &Desk, own: &DeskThreads) -> bool {
     desk.waiting.len() > 0 && !own.pace.is_stalled()
 }
 
-/// What is still to come of a desk to which so many lines are on their way, and whose input came so far.
+/// The outlook of a desk to which so many lines are on their way, and whose input came so far.
 fn outlook_of(desk: &Desk, own: &DeskThreads, reader: &Reader, came: Came, left: usize) -> Outlook
     ensures sends { result.sends ≡ false → desk.now.waiting.is_cut ≡ false → (reader.now.has_ended ≡ true) × (came ≡ Whole) }
     ensures waits { result.waits ≡ false → desk.now.waiting.is_cut ≡ false → left ≡ 0 }

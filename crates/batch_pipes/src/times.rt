@@ -10,7 +10,7 @@ use itoa::Buffer;
 use std::io::Write;
 use std::time::Clock;
 
-/// Writes the time as a comment, if it is to stand in the record.
+/// Writes the time as a comment, if the record is to have it.
 // claim: time of a turn
 #[tactic(auto, using(crate::proofs::Serviced::no_time, crate::proofs::Serviced::time_written))]
 pub(crate) fn write_time<K: Clock, W: Write>(
@@ -35,7 +35,7 @@ fn write_milliseconds<W: Write>(milliseconds: u64, output: &mut W) -> Result<(),
     write_all(output, b"\n")
 }
 
-/// The time in milliseconds since 1970; 0 where the clock doesn't tell it.
+/// The time in milliseconds since 1970; 0 if the clock can't give it.
 fn milliseconds_of<K: Clock>(clock: &K) -> u64 {
     match clock.since_1970() {
         Ok(time) => u64::try_from(time.as_millis()).unwrap_or(u64::MAX),

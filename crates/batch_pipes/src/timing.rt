@@ -1,7 +1,7 @@
 //! The time of turns.
 use std::time::Clock;
 
-/// Whether the time of each turn stands in the record, and whose.
+/// Whether the record has the time of each turn, and the clock that gives it.
 #[derive(Drop)]
 pub struct Timing<K: Clock> {
     pub clock: K,

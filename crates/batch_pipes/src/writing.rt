@@ -17,14 +17,14 @@ use rtrb::Consumer;
 use std::alloc::Global;
 use std::io::{BufWriter, Write};
 
-/// How many bytes wait in the thread before they are written.
+/// How many bytes the thread buffers before it writes them.
 const ROOM: usize = 4_096;
 
-/// What the thread of a desk's output is given.
+/// The task of the thread of a desk's output.
 #[derive(Drop)]
 pub struct OutputTask {
     pub(crate) path: String,
-    /// What is written before all else.
+    /// The text that is written before all else.
     pub(crate) front: Vec<u8>,
     pub(crate) ring: Consumer<Line>,
     pub(crate) stop: Flag,
@@ -38,8 +38,8 @@ impl OutputTask {
         self.path.as_str()
     }
 
-    /// Writes to the output, which is open, what stands before all else, and then what comes, until nothing more comes. It gives the output
-    /// back. Where it ends before its time, what the output holds is a beginning of that; nothing is tried again.
+    /// Writes the front to the output, which is open, and then the lines that come, until no more come. It gives the output back. If
+    /// it ends before its time, the output holds a prefix of that text; nothing is tried again.
     ///
     /// The faults are that it was told to end, that the output failed or took nothing, and that there is no memory.
     // claim: thread of an output
@@ -70,8 +70,8 @@ impl OutputTask {
     }
 }
 
-/// Writes the front, and then what comes out of the ring, until nothing more comes and nothing is left in the buffer. It answers false
-/// where that ended before its time.
+/// Writes the front, and then the lines out of the ring, until no more come and the buffer is empty. Returns false if that ended
+/// before its time.
 #[tactic(auto, using(crate::proofs::Streaming::written_kept))]
 fn write_out<W: Write + Drop, S: Pause>(
     front: &[u8],
@@ -90,7 +90,7 @@ fn write_out<W: Write + Drop, S: Pause>(
     output.stream.flush().is_ok()
 }
 
-/// Writes the front, and then what comes out of the ring, until nothing more comes. It answers false where that ended before its time.
+/// Writes the front, and then the lines out of the ring, until no more come. Returns false if that ended before its time.
 #[tactic(auto, using(crate::proofs::Streaming::written_behind, crate::proofs::Streaming::front_cut))]
 fn write_behind<W: Write, S: Pause>(
     front: &[u8],
@@ -123,7 +123,7 @@ fn fault_of<W: Write, S: Pause>(ended: bool, output: &Noted<W>, rest: &mut S) ->
     }
 }
 
-/// The output without its buffer, of which what is left isn't written.
+/// The output without its buffer. The bytes left in the buffer aren't written.
 fn unbuffered<W: Write + Drop>(output: Noted<BufWriter<W>>) -> W
     ensures { result ≡ writer_inner output.stream }
 {
@@ -132,7 +132,7 @@ fn unbuffered<W: Write + Drop>(output: Noted<BufWriter<W>>) -> W
     output
 }
 
-/// What the thread of an output came to.
+/// The result of the thread of an output.
 #[derive(Drop)]
 pub(crate) struct OutputEnd<W> {
     // its end of the ring
@@ -140,7 +140,7 @@ pub(crate) struct OutputEnd<W> {
     pub(crate) written: Written<W>,
 }
 
-/// Opens the output and writes what comes, until nothing more comes.
+/// Opens the output and writes the front and the lines that come, until no more come.
 pub(crate) fn run_output<W: Write + Drop, P: Outputs<W> + Drop>(
     alloc: Global,
     pipes: P,

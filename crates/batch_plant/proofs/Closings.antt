@@ -1,4 +1,4 @@
--- What is known of the ports of a plant, and of their desks.
+-- Facts of the ports of a plant, and of their desks.
 use Rattle.std.proofs.Common.{◌≡◌, ℕ, zero, suc, ◌+◌, List, [], ◌∷◌, ◌++◌, length, map, Option, Some, None, IfSome, option_map, slice_get, unwrap_or, refl, sym, ap, ◌∙◌, subst, add-one, arith, length-append}
 use Rattle.std.specs.List.{All, slice_set}
 use Rattle.std.proofs.lemmas.List.{length-map}
@@ -140,7 +140,7 @@ pub next_sealed : (port : ℕ) (h g : HubState) (token : Option (Finished Out Gl
     → slice_get (rings g) (port + 1) ≡ slice_get (rings h) (port + 1)
 next_sealed port h g token seals = ap (λ ps. slice_get (map port_rings ps) (port + 1)) seals.ports ∙ next_place port_rings h.ports port (sealed seals.p)
 
--- what is complete, where the engine is the same
+-- complete batches are complete with the same engine
 pub still_complete : (batches : ℕ) (h g : HubState) → g.engine ≡ h.engine → AreComplete batches h → AreComplete batches g
 still_complete batches h g same all n least most = subst (λ (v : EngineView). batch_state_in (plant_of v) n ≡ Some Complete) (sym same) (all n least most)
 
@@ -171,7 +171,7 @@ pub rings_at_end : (ring : ℕ) (h g k : HubState) → HaveRings ring h → ring
 rings_at_end ring h g k made same kept =
     ap (map places_of) (kept ∙ events_kept h g same) ∙ (places_made h.ports ∙ ap (map (λ (s : ℕ × Option ℕ). s.0)) made)
 
--- What is left
+-- The outs left
 
 pub rest_left : (port : ℕ) (h g : HubState) (token : Finished Out Global AnyItems) (taken there : List Out) (rest : ℕ) → Seals port h g (Some token)
     → taken ++ there ≡ all_sent token → rest ≡ length there → IsRest port h taken rest

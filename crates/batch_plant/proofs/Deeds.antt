@@ -1,4 +1,4 @@
--- What a link does, one deed after another.
+-- The deeds of a link, one after another.
 use Rattle.std.proofs.Common.{◌≡◌, ℕ, ◌<◌, ◌+◌, ◌-◌, ◌⊎◌, inl, inr, List, [], ◌∷◌, ◌++◌, length, map, Option, Some, None, refl, sym, ap, ap₂, ◌∙◌, subst, slice_get, unwrap_or, arith, append_assoc, append-nil}
 use Rattle.std.proofs.lemmas.List.{length-map, map-append}
 use Rattle.std.proofs.lemmas.List.Sums.{sum_by_push}
@@ -184,7 +184,7 @@ module _ {D : Type 0} (command_gives : D → ℕ → Order → D → Type 0) (ti
     reports = kept ∙ sym (append-nil (listed (report_in cell s.next answer))) ∙ ap (λ l. l ++ (listed (report_in cell s.next answer) ++ [])) (sym none);
   }
 
-  -- what was kept was sent, or is kept
+  -- the report that was kept was sent, or is kept
   pub sent_kept : (cell : Cell) (old new : Link) (d e : DeskState) (units : List D) → SendsKept cell old d new e
       → Links command_gives tick_gives cell (linked cell old d units) (linked cell new e units)
   sent_kept cell old new d e units h = record {

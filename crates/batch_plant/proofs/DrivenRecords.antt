@@ -37,7 +37,7 @@ pub handled_leads : (c : Setup) (old new : Plant) (event : Event) (outs : List O
 handled_leads c old new event outs h =
     subst (λ (l : List Out). Leads c old (event ∷ []) l new) (sym h.tells) (h.mid, h.reacts, moves_lead c h.mid new h.moves h.settles)
 
--- what leads on from where all records run safely
+-- an exchange keeps the record, if all records run safely
 pub keeps : (set : ClearedSet) (old new : Plant) (said : Exchange) → RunsSafely set.cell set.recipes → Leads (setup set) old said.events said.outs new
     → KeepsRecord set old said new
 keeps set old new said runs leads = record {
@@ -86,7 +86,7 @@ module _ {D : Type 0} (command_gives : D → ℕ → Order → D → Type 0) (ti
   stops_lead others old said new x y (inr (unit, later, e, t)) =
       said_leads old.plant new.plant said (handled t.event t.outs) t.tells t.stops.leads
 
-  -- some ticks, and of the next what the machine has made of its report
+  -- some ticks, and the part of the next report's effect that the machine has made
   pub cut_leads : (units others : List ℕ) (old mid : Standing D) (said last_said : Exchange) (new : Standing D) (x y : Option (List ℕ))
       → Drives command_gives tick_gives set units old said mid → Stops command_gives tick_gives set others mid last_said new x y
       → Leads (setup set) old.plant (followed_by said last_said).events (followed_by said last_said).outs new.plant

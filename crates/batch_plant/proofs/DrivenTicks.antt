@@ -1,4 +1,4 @@
--- Ticks after ticks, and what becomes of all of them.
+-- Ticks after ticks, and the effect of all of them.
 use Rattle.std.proofs.Common.{◌≡◌, ℕ, suc, ◌+◌, ◌-◌, ◌<◌, ◌≤◌, arith, IsErrOf, List, [], ◌∷◌, ◌++◌, flat_map, Option, Some, None, Result, Ok, Err, IsSome, refl, sym, ap, ◌∙◌, subst, inl, inr, append_assoc, append-nil}
 use Rattle.std.specs.Io.KnownBytes.{Appends, Keeps}
 use Rattle.std.proofs.KnownBytes.{Appends-trans, Appends-nil}
@@ -27,7 +27,7 @@ use Rattle.batch_plant.specs.declared.drive_fault.DriveFault.{DriveFault}
 use Rattle.batch_plant.specs.declared.drive_fault.DriveFault.TheVariants.{Write, Memory}
 use Rattle.batch_plant.proofs.DrivenRecords.{keeps, drives_lead, drives_settle, cut_leads}
 
--- a beginning, and nothing of what comes after it
+-- a whole text and a prefix of the next are a prefix of both
 then_begun : (a b d : Option (List ℕ)) (s t : List ℕ) → Appends a b s → AppendsBeginning b d t → AppendsBeginning a d (s ++ t)
 then_begun a b d s t p q = subst (λ l. AppendsBeginning a d (s ++ l)) (append-nil t) (then_beginning a b d s t [] p q)
 
@@ -73,7 +73,7 @@ module _ {D : Type 0} (command_gives : D → ℕ → Order → D → Type 0) (ti
     Appends-nil x,
   )
 
-  -- the report is handled and what comes of it written
+  -- the report is handled, and its outs are written
   pub handled_tick : (unit : ℕ) (old mid new : Standing D) (answer : Option (ℕ × Report)) (event : Event) (x y : Option (List ℕ))
       → Ticks tick_gives unit old.units answer mid.units → mid.plant ≡ old.plant → report_in set.cell unit answer ≡ Some event
       → WritesReported command_gives tick_gives set event mid (Ok tt) new x y
@@ -140,7 +140,7 @@ module _ {D : Type 0} (command_gives : D → ℕ → Order → D → Type 0) (ti
 
   -- Several
 
-  -- what becomes of ticks after others
+  -- the effect of ticks after others
   pub then_driven : (xs ys : List ℕ) (a b : Standing D) (r : Result (Unit {0}) DriveFault) (new : Standing D) (x y z : Option (List ℕ))
       → DrivesSome command_gives tick_gives set xs a (Ok tt) b x y → DrivesSome command_gives tick_gives set ys b r new y z
       → DrivesSome command_gives tick_gives set (xs ++ ys) a r new x z
@@ -175,7 +175,7 @@ module _ {D : Type 0} (command_gives : D → ℕ → Order → D → Type 0) (ti
   stops_more others ys old said new x y (inl h) = inl h
   stops_more others ys old said new x y (inr (unit, later, e, t)) = inr (unit, later ++ ys, ap (λ (l : List ℕ). l ++ ys) e, t)
 
-  -- what stopped the ticks stopped those after them too
+  -- a fault that stopped the ticks stopped those after them too
   pub stopped : (xs ys : List ℕ) (a : Standing D) (f : DriveFault) (new : Standing D) (x y : Option (List ℕ))
       → DrivesSome command_gives tick_gives set xs a (Err f) new x y → DrivesSome command_gives tick_gives set (xs ++ ys) a (Err f) new x y
   stopped xs ys a Memory new x y h = record {
@@ -205,7 +205,7 @@ module _ {D : Type 0} (command_gives : D → ℕ → Order → D → Type 0) (ti
   pub none_driven : (old new : Standing D) (x y : Option (List ℕ)) → new ≡ old → Keeps x y → DrivesSome command_gives tick_gives set [] old (Ok tt) new x y
   none_driven old new x y same k = (silence, (refl, same), kept_after x x y [] (Appends-nil x) k)
 
-  -- what was written wasn't handed on
+  -- the flush failed
   pub not_handed_on : (old : Standing D) (x y : Option (List ℕ)) → Keeps x y → DrivesSome command_gives tick_gives set [] old (Err Write) old x y
   not_handed_on old x y k = record {
     earlier = [];
@@ -220,7 +220,7 @@ module _ {D : Type 0} (command_gives : D → ℕ → Order → D → Type 0) (ti
     stops = inl (refl, refl, kept_after x x y [] (Appends-nil x) k);
   }
 
-  -- of the text of what was said, and then of what the last report brought, a beginning was written
+  -- a prefix of the text so far and of the text of the last report's exchange was written
   text_begun : (others : List ℕ) (old : Standing D) (said : Exchange) (new : Standing D) (x y z : Option (List ℕ)) (s : List ℕ) → Appends x y s
       → Stops command_gives tick_gives set others old said new y z → AppendsBeginning x z (s ++ said.text)
   text_begun others old said new x y z s p (inl (e, same, k)) =
@@ -272,7 +272,7 @@ module _ {D : Type 0} (command_gives : D → ℕ → Order → D → Type 0) (ti
 
   -- Ticks that are left
 
-  -- these ticks are left of all: what becomes of them becomes of all
+  -- these ticks are left of all: their effect is the effect of all
   abbrev pub Leaves : List ℕ → List ℕ → Standing D → Standing D → Option (List ℕ) → Option (List ℕ) → Type 0
   Leaves all left first now before written =
       (r : Result (Unit {0}) DriveFault) (new : Standing D) (later : Option (List ℕ)) → DrivesSome command_gives tick_gives set left now r new written later

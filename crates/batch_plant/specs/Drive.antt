@@ -1,4 +1,4 @@
--- surface: what comes of ticks of a cell's units, when the machine takes what they report and they take the orders of its moves.
+-- surface: the effect of ticks of a cell's units: the machine handles their reports, and they take the orders of its moves.
 use Rattle.std.specs.Prelude.{◌≡◌, ℕ, zero, suc, List, [], ◌∷◌, ◌++◌, Bool, Option, Some, None}
 use Rattle.std.specs.List.{range_with_len}
 use Rattle.batch_matrix.specs.declared.report.Report.{Report}
@@ -21,7 +21,7 @@ abbrev pub in_rounds : ℕ → ℕ → List ℕ
 in_rounds units zero = []
 in_rounds units (suc n) = range_with_len 0 units ++ in_rounds units n
 
--- the order that a move gives, and to which phase
+-- the order that a move gives, and the phase that gets it
 abbrev pub order_of : Move → Option (Phase × Order)
 order_of (start n place phase values) = Some (phase, Start)
 order_of (send n place phase command) = Some (phase, Send command)
@@ -57,7 +57,7 @@ module _ {D : Type 0} (command_gives : D → ℕ → Order → D → Type 0) (ti
     pub handles : Handles (setup set) old.plant event outs new.plant
     pub orders : TakeOrders handles.moves old.units new.units
 
-  -- what comes of the answer of a unit
+  -- the effect of the answer of a unit
   abbrev pub Comes : Option Event → Standing D → Exchange → Standing D → Type 0
   Comes None old said new = (said ≡ silence) × (new ≡ old)
   Comes (Some event) old said new = (outs : List Out) × IsReported event old outs new × (said ≡ handled event outs)

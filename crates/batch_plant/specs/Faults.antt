@@ -1,9 +1,9 @@
--- private: which of several faults is told.
+-- private: the choice of the fault that is reported, if there are several.
 use Rattle.std.specs.Prelude.{◌≡◌, ℕ, ◌≤◌, ◌⊎◌, Result, Err, IfErr}
 use Rattle.batch_plant.specs.declared.plant_fault.PlantFault.{PlantFault}
 use Rattle.batch_plant.specs.declared.plant_fault.PlantFault.TheVariants.{Memory, Thread, Refused, TurnsOut, Unclosed}
 
--- want of memory comes first, then a thread that can't be started, then a refusal, then turns that run out, last a port that isn't closed
+-- want of memory comes first, then an unstarted thread, then a refusal, then turns that run out, last a port that isn't closed
 abbrev pub rank_of : PlantFault → ℕ
 rank_of Memory = 0
 rank_of Thread = 1

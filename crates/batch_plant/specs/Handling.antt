@@ -1,4 +1,4 @@
--- private: what comes of a report, of a tick and of several, as far as it was written.
+-- private: the effects of a report, of a tick and of several, as far as they were written.
 use Rattle.std.specs.Prelude.{◌≡◌, ℕ, List, [], ◌∷◌, ◌++◌, map, Option, Result, Ok, Err}
 use Rattle.std.specs.Io.KnownBytes.{Appends}
 use Rattle.batch_matrix.specs.declared.report.Report.{Report}
@@ -37,14 +37,14 @@ module _ {D : Type 0} (command_gives : D → ℕ → Order → D → Type 0) (ti
   WritesOrders old (Err fault) new before written =
       StopsMoves old new before written
 
-  -- a report is handled, and what comes of it written
+  -- a report is handled, and its outs are written
   abbrev pub WritesReported : Event → Standing D → Result (Unit {0}) WriteFault → Standing D → Option (List ℕ) → Option (List ℕ) → Type 0
   WritesReported event old (Ok done) new before written =
       (outs : List Out) × IsReported command_gives tick_gives set event old outs new × Appends before written (outs_text outs)
   WritesReported event old (Err fault) new before written =
       (outs : List Out) × StopsHandling command_gives tick_gives set event old outs new before written
 
-  -- the first of these ticks were driven, and of what comes of the next a beginning was written
+  -- the first of these ticks were driven, and a prefix of the text of the next was written
   pub record BeginsSome (units : List ℕ) (old new : Standing D) (before written : Option (List ℕ)) : Type 0 where
     pub earlier : List ℕ
     pub others : List ℕ
@@ -69,7 +69,7 @@ module _ {D : Type 0} (command_gives : D → ℕ → Order → D → Type 0) (ti
     pub appends : Appends before written said.text
     pub loses : LosesReport command_gives tick_gives set unit mid new
 
-  -- what became of these ticks, by the outcome
+  -- the effect of these ticks, by the outcome
   abbrev pub DrivesSome : List ℕ → Standing D → Result (Unit {0}) DriveFault → Standing D → Option (List ℕ) → Option (List ℕ) → Type 0
   DrivesSome units old (Ok done) new before written = (said : Exchange) × Drives command_gives tick_gives set units old said new × Appends before written said.text
   DrivesSome units old (Err Memory) new before written = LosesSome units old new before written

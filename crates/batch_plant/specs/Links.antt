@@ -1,4 +1,4 @@
--- surface: what a link does: it gives the units the orders of the moves that its desk takes, and sends what the units report.
+-- surface: the work of a link: it gives the units the orders of the moves that its desk takes, and sends the units' reports.
 use Rattle.std.specs.Prelude.{◌≡◌, ℕ, ◌+◌, ◌≤◌, cond, nat_lt, List, [], ◌∷◌, ◌++◌, length, map, Bool, Option, Some, None, slice_get, unwrap_or}
 use Rattle.batch_matrix.specs.declared.report.Report.{Report}
 use Rattle.batch_cell.specs.LookUps.{units_of, resources_of, phases_of}
@@ -15,18 +15,18 @@ use Rattle.batch_sim.specs.declared.order.Order.{Order}
 use Rattle.batch_sim.specs.declared.order.Order.TheVariants as orders
 use Rattle.batch_desk.specs.DeskState.{DeskState}
 
--- the report of a unit's phase, by their names: none, where the unit doesn't have the phase
+-- the report of a unit's phase, by their names: none if the unit doesn't have the phase
 abbrev pub report_named : Name → Option Name → Report → Option Events.Event
 report_named unit None word = None
 report_named unit (Some phase) word = Some (Events.report unit phase word [])
 
--- the report that the answer of a unit to a tick is: none, where it doesn't answer, or for a phase number that it doesn't have
+-- the report of a unit's answer to a tick: none if it doesn't answer, or answers for a phase number that it doesn't have
 abbrev pub report_in : Cell → ℕ → Option (ℕ × Report) → Option Events.Event
 report_in cell unit None = None
 report_in cell unit (Some (phase, word)) =
     report_named (unwrap_or (slice_get (resources_of cell) unit) []) (slice_get (phases_of cell unit) phase) word
 
--- the order that an out gives: of its unit, its phase, and what the phase is told
+-- the order that an out gives, with the unit and the phase that get it
 abbrev pub order_in : Out → Option (ℕ × ℕ × Order)
 order_in (Move (Start batch recipe node unit phase values)) = Some (unit, phase, orders.Start)
 order_in (Move (Send batch recipe node unit phase command)) = Some (unit, phase, orders.Send command)
@@ -57,7 +57,7 @@ reports_made cell (ticked unit answer ∷ deeds) = listed (report_in cell unit a
 abbrev pub unit_after : ℕ → ℕ → ℕ
 unit_after units unit = cond (nat_lt (unit + 1) units) (unit + 1) 0
 
--- a link as it stands: its desk, its units, the number of the unit that is the next to tick, and the report that it keeps
+-- the state of a link: its desk, its units, the number of the unit that is the next to tick, and the report that it keeps
 pub record Linked (D : Type 0) : Type 0 where
   pub desk : DeskState
   pub units : List D
@@ -73,15 +73,15 @@ module _ {D : Type 0} (command_gives : D → ℕ → Order → D → Type 0) (ti
         | Some (unit, phase, order) ↦ (known : Bool) × Takes command_gives unit phase order old known new
       ]
 
-  -- what the deeds make of the units, which tick in turn
+  -- the effect of the deeds on the units, which tick in turn
   abbrev pub AreDone : ℕ → List Deed → ℕ → List D → ℕ → List D → Type 0
   AreDone count [] unit old next new = (next ≡ unit) × (new ≡ old)
   AreDone count (took out ∷ deeds) unit old next new = (mid : List D) × TakeOut out old mid × AreDone count deeds unit mid next new
   AreDone count (ticked number answer ∷ deeds) unit old next new =
       (number ≡ unit) × (mid : List D) × Ticks tick_gives number old answer mid × AreDone count deeds (unit_after count unit) mid next new
 
-  -- the deeds were done; what was taken are their outs, and what was kept and their reports were sent, each once and in order,
-  -- but for what is kept now
+  -- the deeds were done. The outs taken are theirs. The reports kept before and those of the deeds were sent, each once and in
+  -- order, but for those kept after
   pub record Links (cell : Cell) (s t : Linked D) : Type 0 where
     pub events : t.desk.events ≡ s.desk.events
     pub outs : t.desk.outs ≡ s.desk.outs

@@ -1,4 +1,4 @@
--- private: the parts of a plant, and what they are after they ran.
+-- private: the parts of a plant, before and after they ran.
 use Rattle.std.specs.Prelude.{◌≡◌, ℕ, List, [], ◌∷◌, ◌++◌, ◌+◌, length, map, Option, Some, IsSomeAnd, slice_get}
 use Rattle.std.specs.List.{All}
 use Rattle.batch_matrix.specs.declared.report.Report.{Report}
@@ -40,6 +40,6 @@ pub record LinkRan {D : Type 0} (command_gives : D → ℕ → Order → D → T
   pub later : List D
   pub works : IsLink command_gives tick_gives cell d e units later
 
--- so many outs are left of those that a port is due, where so much was taken
+-- so many outs are left of those that a port is due, after these were taken
 abbrev pub IsRest : ℕ → HubState → List Out → ℕ → Type 0
 IsRest port h taken rest = IsSomeAnd (slice_get h.ports port) (λ p. length taken + rest ≡ length (due p.scope port h.history (up_to p.closed h.outs)))

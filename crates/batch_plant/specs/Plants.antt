@@ -25,7 +25,7 @@ pub record AreOfConsole (plan : BatchPlan) (batches : ℕ) (events : List Event)
   pub creates : creates events ≤ batches
   pub once : (n : ℕ) → starts n events ≤ 1
 
--- all events came from the two ports, and those of each port are such as its desk sends
+-- all events came from the two ports: those of port 0 are a console's, and those of port 1 are reports
 pub record ComesFromDesks (plan : BatchPlan) (batches : ℕ) (h : HubState) : Type 0 where
   pub ports : AreFromPorts 2 h.history
   pub console : AreOfConsole plan batches (events_of 0 h.history)
@@ -35,7 +35,7 @@ pub record ComesFromDesks (plan : BatchPlan) (batches : ℕ) (h : HubState) : Ty
 abbrev pub event_rings : HubState → List Ring
 event_rings h = map (λ p. p.events) h.ports
 
--- a link worked over these units at a desk whose events come to port 1, and what the desk sent are that port's events of the history
+-- a link worked over these units at a desk whose events come to port 1; that port's events of the history are all that the desk sent
 pub record HasLink {D : Type 0} (command_gives : D → ℕ → Order → D → Type 0) (tick_gives : D → Option (ℕ × Word) → D → Type 0) (cell : Cell) (units : List D) (h : HubState) : Type 0 where
   pub before : DeskState
   pub after : DeskState

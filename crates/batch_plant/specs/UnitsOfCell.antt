@@ -1,4 +1,4 @@
--- surface: what a link keeps of the units of a cell.
+-- surface: the units of a cell, as a link keeps them.
 use Rattle.std.specs.Prelude.{◌≡◌, ℕ, List, Some, slice_get}
 use Rattle.batch_cell.specs.LookUps.{phases_of, resources_of}
 use Rattle.batch_cell.specs.declared.cell.Cell.{Cell}
@@ -8,6 +8,6 @@ use Rattle.batch_plant.specs.declared.unit_phases.UnitPhases.{UnitPhases}
 abbrev pub IsUnitAt : Cell → ℕ → UnitPhases → Type 0
 IsUnitAt cell number unit = (slice_get (resources_of cell) number ≡ Some unit.name) × (unit.phases.items ≡ phases_of cell number)
 
--- each stands at its number
+-- each unit is at the place of its number
 abbrev pub AreUnits : Cell → List UnitPhases → Type 0
 AreUnits cell units = (number : ℕ) (unit : UnitPhases) → slice_get units number ≡ Some unit → IsUnitAt cell number unit

@@ -1,4 +1,4 @@
--- surface: what is written of ticks of a cell's units.
+-- surface: the text that is written of ticks of a cell's units.
 use Rattle.std.specs.Prelude.{◌≡◌, ◌⊎◌, ℕ, List, [], ◌∷◌, ◌++◌, flat_map, Option, Some, IsSome, Result, Ok, Err}
 use Rattle.std.specs.Io.KnownBytes.{Appends}
 use Rattle.batch_matrix.specs.declared.report.Report.{Report}
@@ -32,7 +32,7 @@ moves_in (reply answer ∷ outs) = moves_in outs
 moves_in (move m ∷ outs) = m ∷ moves_in outs
 
 module _ {D : Type 0} (command_gives : D → ℕ → Order → D → Type 0) (tick_gives : D → Option (ℕ × Report) → D → Type 0) (set : ClearedSet) where
-  -- the text of what came of these ticks was written
+  -- the text of the exchange of these ticks was written
   pub record WritesTicks (units : List ℕ) (old new : Standing D) (before written : Option (List ℕ)) : Type 0 where
     pub said : Exchange
     pub drives : Drives command_gives tick_gives set units old said new
@@ -46,7 +46,7 @@ module _ {D : Type 0} (command_gives : D → ℕ → Order → D → Type 0) (ti
     pub reports : IsSome (report_in set.cell unit answer)
     pub same_plant : new.plant ≡ old.plant
 
-  -- the text of what came of the ticks before one was written, and of that one the report was lost
+  -- the text of the exchange of the ticks before one was written, and the report of that one was lost
   pub record WritesUntilLoss (units : List ℕ) (old new : Standing D) (before written : Option (List ℕ)) : Type 0 where
     pub earlier : List ℕ
     pub unit : ℕ
@@ -56,7 +56,7 @@ module _ {D : Type 0} (command_gives : D → ℕ → Order → D → Type 0) (ti
     pub writes : WritesTicks earlier old mid before written
     pub loses : LosesReport unit mid new
 
-  -- handling a report stopped: the machine has come to the last of these outs, of whose line a beginning was written. The lines
+  -- handling a report stopped: the machine has made the last of these outs, and a prefix of its line was written. The lines
   -- before it were written whole, and the units took the orders of these alone
   pub record StopsHandling (event : Event) (old : Standing D) (outs : List Out) (new : Standing D) (before written : Option (List ℕ)) : Type 0 where
     pub told : List Out
@@ -79,13 +79,13 @@ module _ {D : Type 0} (command_gives : D → ℕ → Order → D → Type 0) (ti
     pub stops : StopsHandling event (record { plant = old.plant; units = after }) outs new before written
     pub tells : said ≡ handled event outs
 
-  -- what was written wasn't handed on, or handling the report of the next unit stopped
+  -- the flush failed, or handling the report of the next unit stopped
   abbrev pub Stops : List ℕ → Standing D → Exchange → Standing D → Option (List ℕ) → Option (List ℕ) → Type 0
   Stops others old said new before written =
       ((said ≡ silence) × (new ≡ old) × Appends before written [])
       ⊎ ((unit : ℕ) × (later : List ℕ) × (others ≡ unit ∷ later) × StopsTick unit old said new before written)
 
-  -- the text of what came of the first ticks was written, and of the next a beginning
+  -- the text of the exchange of the first ticks was written, and a prefix of that of the next
   pub record BeginsTicks (units : List ℕ) (old new : Standing D) (before written : Option (List ℕ)) : Type 0 where
     pub earlier : List ℕ
     pub others : List ℕ
@@ -100,7 +100,7 @@ module _ {D : Type 0} (command_gives : D → ℕ → Order → D → Type 0) (ti
     pub record_kept : KeepsRecord set old.plant (followed_by said last_said) new.plant
     pub begins : AppendsBeginning before written (followed_by said last_said).text
 
-  -- what became of these ticks, by the outcome
+  -- the effect of these ticks, by the outcome
   abbrev pub IsDriven : List ℕ → Standing D → Result (Unit {0}) DriveFault → Standing D → Option (List ℕ) → Option (List ℕ) → Type 0
   IsDriven units old (Ok done) new before written = WritesTicks units old new before written
   IsDriven units old (Err Memory) new before written = WritesUntilLoss units old new before written

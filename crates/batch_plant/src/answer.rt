@@ -1,7 +1,7 @@
 //! Answers of units.
 use batch_matrix::Report;
 
-/// What a unit answered to a tick: a report of one of its phases, by number.
+/// The answer of a unit to a tick: a report of one of its phases, by number.
 #[derive(Clone, Copy)]
 pub(crate) struct Answer {
     pub(crate) unit: u16,

@@ -28,7 +28,7 @@ pub(crate) fn close_port(hub: &mut Hub, port: usize, desk: Desk) -> Option<usize
     }
 }
 
-/// Closes the port of a desk by the token that it gave, seals it, and counts what is left for its inbox.
+/// Closes the port of a desk by the desk's token, seals it, and counts the outs left for the desk's inbox.
 fn close_by(hub: &mut Hub, port: usize, token: Finished<Event>, inbox: Inbox) -> Option<usize>
     requires token { IfSome (slice_get hub.old.ports port) (λ p. IsOfRing token p.events) }
     requires inbox { IfSome (slice_get (rings hub.old) port) (λ rings. rings.1 ≡ Some inbox.outs) }

@@ -13,7 +13,7 @@ use std::snapshot::Snapshot;
 use std::thread;
 use std::thread::{Promise, PromisedHandle, Threads};
 
-/// What the thread of the console gives back.
+/// The promise of the console's thread, on the desk that it returns.
 #[derive(Drop)]
 pub(crate) struct ConsolePromise {
     desk: Snapshot<Desk>,

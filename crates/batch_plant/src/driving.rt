@@ -21,11 +21,11 @@ use std::io::Write;
 
 /// Drives the units of the engine's cell for so many rounds.
 ///
-/// In a round a moment passes at each unit, in the order of their numbers. What it reports is given to the machine, the reply
-/// and each move are written, and the units are given the orders of the moves. An answer for a phase that the unit doesn't have
-/// is dropped. The orders of moves that were made before are the caller's to give. What is written is handed on at the end of
-/// each round. Memory is asked for the names in a report alone; where there is none, that report is lost and driving stops, and
-/// can go on by another call. After a write fault the machine may be ahead of what is written.
+/// In a round a moment passes at each unit, in the order of their numbers. The machine handles its report, the reply and each
+/// move are written, and the units get the orders of the moves. An answer for a phase that the unit doesn't have is dropped.
+/// The caller gives the orders of moves that were made before. The writer is flushed at the end of each round. Memory is asked
+/// for the names in a report alone. If there is none, that report is lost and driving stops; another call can go on. After a
+/// write fault the machine may be ahead of the written text.
 // claim: settled by driving (cleared, settled)
 pub fn drive<D: UnitDriver, W: Write>(
     alloc: Global,
@@ -48,7 +48,7 @@ pub fn drive<D: UnitDriver, W: Write>(
     Ok(())
 }
 
-/// A moment passes at each unit, and what is written is handed on.
+/// A moment passes at each unit, and then the writer is flushed.
 fn round<D: UnitDriver, W: Write>(
     alloc: Global,
     engine: &mut Engine,
@@ -67,7 +67,7 @@ fn round<D: UnitDriver, W: Write>(
     Ok(flush(writer)?)
 }
 
-/// A moment passes at a unit, and what it reports is handled.
+/// A moment passes at a unit, and its report is handled.
 fn tick<D: UnitDriver, W: Write>(
     alloc: Global,
     engine: &mut Engine,
@@ -95,7 +95,7 @@ fn tick<D: UnitDriver, W: Write>(
     }
 }
 
-/// Hands on what is written.
+/// Flushes the writer.
 fn flush<W: Write>(writer: &mut W) -> Result<(), WriteFault>
     ensures { Keeps (W.contents writer.old) (W.contents writer.new) }
 {

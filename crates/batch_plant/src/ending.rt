@@ -6,7 +6,7 @@ ghost use Rattle.batch_plant.specs.declared.plant_fault.PlantFault.TheVariants a
 use crate::plant_fault::PlantFault;
 use batch_desk::LoopEnd;
 
-/// What a loop worked at, if it ran to its end.
+/// The part at which a loop worked, if it ran to its end.
 // claim: fault of a plant
 pub(crate) fn ended<T: Drop>(part: T, end: LoopEnd) -> Result<T, PlantFault>
     ensures done { IfOk result (λ ran. (ran ≡ part) × (end ≡ loop.Done)) }

@@ -1,4 +1,4 @@
-//! Which of several faults is told.
+//! The choice of the fault that is reported, if there are several.
 ghost use Rattle.std.specs.Prelude.{◌≡◌, ◌⊎◌, Ok, IfOk, IfErr};
 ghost use Rattle.batch_plant.specs.Faults.{IsFirst, rank_of};
 
@@ -19,7 +19,7 @@ impl PlantFault {
     }
 }
 
-/// What two parts came to, or the fault that comes first.
+/// Both results, or the fault that comes first.
 // claim: fault of a plant
 pub(crate) fn both<A: Drop, B: Drop>(
     one: Result<A, PlantFault>,

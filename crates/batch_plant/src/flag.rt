@@ -4,7 +4,7 @@ use std::alloc::{AllocError, Global};
 use std::sync::Arc;
 use std::sync::atomic::{AtomicU64, Ordering};
 
-/// A flag that the workers of a plant share. Where it is raised, each lets its turns go by.
+/// A flag that the workers of a plant share. Once it is raised, no worker makes a turn.
 #[derive(Drop)]
 pub(crate) struct Flag(Arc<AtomicU64, Global>);
 
@@ -40,7 +40,7 @@ impl<G> FlagGate<G> {
         self.flag.raise();
     }
 
-    /// Raises the flag where the worker's loop ended before all had come that was to come.
+    /// Raises the flag unless the worker's loop is done.
     pub(crate) fn shut_unless_done(&self, end: LoopEnd) {
         if end != LoopEnd::Done {
             self.shut();

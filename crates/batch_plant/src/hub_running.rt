@@ -8,8 +8,8 @@ use crate::flag::FlagGate;
 use crate::plant_fault::PlantFault;
 use batch_desk::{Gate, Hub, hub_loop};
 
-/// Runs the hub to its end, in the thread that calls. Where not all threads were started it isn't run, and those that were are
-/// told to end.
+/// Runs the hub to its end, in the thread that calls. If not all threads were started, it doesn't run the hub, and raises the flag
+/// for the others.
 // claim: fault of a plant
 pub(crate) fn run_hub<G: Gate + Drop>(
     started: bool,

@@ -1,4 +1,4 @@
-//! What a link knows.
+//! The state of a link.
 use crate::answer::Answer;
 
 /// How many batches are still to be completed, which unit is the next to tick, and the answer that is to be reported.

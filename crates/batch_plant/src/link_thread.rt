@@ -15,7 +15,7 @@ use std::snapshot::Snapshot;
 use std::thread;
 use std::thread::{Promise, PromisedHandle, Threads};
 
-/// What the thread of the link gives back.
+/// The promise of the link's thread, on the desk that it returns.
 #[derive(Drop)]
 pub(crate) struct LinkPromise<D: Drop> {
     desk: Snapshot<Desk>,

@@ -1,8 +1,8 @@
-//! What a plant comes to.
+//! The end of a plant.
 use crate::plant_rests::PlantRests;
 use batch_desk::Hub;
 
-/// What a plant comes to that ran to its end.
+/// The hub of a plant that ran to its end, and the counts of the outs left at its ports.
 #[derive(Drop)]
 pub struct PlantEnd {
     pub hub: Hub,

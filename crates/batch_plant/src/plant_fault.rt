@@ -1,7 +1,7 @@
 //! Why a plant didn't run to its end.
 use thiserror::Error;
 
-/// Why a plant didn't run to its end. Of several the first in this order is told.
+/// Why a plant didn't run to its end. Of several faults the first in this order is reported.
 #[derive(Clone, Copy, Debug, Error)]
 pub enum PlantFault {
     /// There was no memory for the engine, or for the rings.

@@ -1,4 +1,4 @@
-//! What is left in the rings of a plant.
+//! The outs left in the rings of a plant.
 
 /// How many outs are still to be taken at each port.
 #[derive(Clone, Copy, Debug)]

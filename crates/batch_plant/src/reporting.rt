@@ -8,7 +8,7 @@ use batch_matrix::Report;
 use batch_text::{Name, TextFault};
 use std::alloc::Global;
 
-/// The event of what a unit answered. None where the unit doesn't have the phase; an error only for want of memory.
+/// The event of a unit's answer. None if the unit doesn't have the phase; an error only for want of memory.
 pub(crate) fn report_event(
     alloc: Global,
     unit: &Name,

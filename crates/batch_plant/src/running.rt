@@ -31,10 +31,11 @@ use std::thread::Threads;
 /// Runs a plant until as many batches are complete: a hub in the thread that calls, with a console and an equipment link, each in
 /// a thread of its own.
 ///
-/// The console has port 0 and the link port 1, both told of all moves; the link looks its units up in the set's cell. All threads that were started are joined, also after a fault. Then both desks finish, their ports are
-/// closed and sealed, and it is counted how many outs are still to be taken. Of several faults the first is told: want of memory,
-/// a thread that can't be started, a create or a start that is refused, a loop whose turns run out. Where one comes, the loops
-/// that run make no more turns. A port that can't be closed is a fault too. The units are dropped in each case.
+/// The console has port 0 and the link port 1, both with all moves in their scope. The link looks its units up in the set's cell.
+/// All threads that were started are joined, also after a fault. Then both desks finish, their ports are closed and sealed, and
+/// the outs that are still to be taken are counted. Of several faults the first is reported: want of memory, a thread that can't
+/// be started, a create or a start that is refused, a loop whose turns run out. After a fault the running loops make no more
+/// turns. A port that can't be closed is a fault too. The units are dropped in each case.
 // claim: plant to its end (set, complete, account); events of a link (link, desks)
 pub fn plant_run<
     R: Threads,
@@ -104,7 +105,7 @@ fn run_three<
     Ok(Parts { hub, console, link })
 }
 
-/// What all three came to, or the first fault.
+/// All three results, or the first fault.
 // claim: fault of a plant
 fn gather<H: Drop, D: Drop>(
     hub: Result<H, PlantFault>,
@@ -140,7 +141,7 @@ fn close(parts: Parts) -> Result<(Hub, PlantRests), PlantFault>
     Ok((hub, rests))
 }
 
-/// What is left at both ports, where both were closed.
+/// The counts of the outs left at both ports, if both were closed.
 fn rests_of(console: Option<usize>, link: Option<usize>) -> Result<PlantRests, PlantFault>
     ensures console { IfOk result (λ rests. console ≡ Some rests.console) }
     ensures link { IfOk result (λ rests. link ≡ Some rests.link) }

@@ -39,7 +39,7 @@ behind_from times set names plant is_disk first given block output status none (
     inl (middle, appends, record { served = λ well. served_from times set names plant is_disk first given middle output.after none (behind.served well); ends = behind.ends })
 behind_from times set names plant is_disk first given block output status none (inr stopped) = inr stopped
 
--- what was told behind the block, by the set and the block that it was started with
+-- the outcome behind the block, by the set and the block of the start
 pub desks_told_as : (times : Bool) (set now_set : ClearedSet) (names : List (List ℕ)) (plant : Plant) (is_disk : Type 0) (first given block now_block : List ℕ) (output : Stream) (status : ℕ)
     → set ≡ now_set → block ≡ now_block → (is_disk → first ≡ []) → AreDesksToldBehind times set names plant is_disk first given block output status
     → AreDesksToldBehind times now_set names plant is_disk [] given now_block output status

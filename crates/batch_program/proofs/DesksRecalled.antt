@@ -1,4 +1,4 @@
--- What desks were told over a journal is told again.
+-- The answers to desks over a journal are written again.
 use Rattle.std.proofs.Common.{◌≡◌, ◌++◌, ◌∙◌, ℕ, zero, suc, Bool, true, false, List, [], ◌∷◌, Option, Some, None, inl, inr, refl, sym, subst, arith}
 use Rattle.std.proofs.lemmas.Bool.{and_parts}
 use Rattle.std.proofs.lemmas.Bool.Decides.{nat_tests}
@@ -60,7 +60,7 @@ names_short (item d ds) [] are k = absurd are
 names_short (item d ds) (desk ∷ desks) are zero = (name_line desk.name are.0.stands_for.name.valid, are.0.stands_for.name.valid.short)
 names_short (item d ds) (desk ∷ desks) are (suc k) = names_short ds desks are.1 k
 
--- Told again
+-- Written again
 
 module _ (law : DesksAreToldAgain) (disks : DiskKind) (times : Bool) (set : ClearedSet) (digits : List ℕ) (names : List (List ℕ)) (short : AreShort names) (start end : disks.File)
     (output : Stream) where

@@ -1,4 +1,4 @@
--- What a run that serves desks tells.
+-- Runs that serve desks.
 use Rattle.std.proofs.Common.{◌≡◌, ◌⊎◌, ◌∙◌, ℕ, Bool, List, Option, Some, None, Result, Ok, Err, IfOk, inl, inr, refl, subst, sym}
 use Rattle.std.specs.Prelude.{IsOk, OnOk, String, option_map, string_bytes}
 use Rattle.std.specs.Global.{Global}
@@ -30,7 +30,7 @@ use Rattle.batch_program.specs.RecordRuns.{Holds, output_of}
 use Rattle.batch_program.proofs.DeskRequests.{desks_no_audit, desks_no_comments, desks_no_file, desks_no_journal, desks_no_picture, desks_no_plant, desks_no_record, desks_no_serving}
 use Rattle.batch_program.proofs.Served.{kept_then_appended, run_over_kept, told_at_once}
 
--- what was to be served, with nothing written before
+-- the desks that are to be served, and nothing was written before
 pub record AreToServe (gives : Gives) (words : List Text) (output errors : Stream) (served : DeskSet) (journal : Option (String Global)) (times : Bool) : Type 0 where
   pub path : Text
   pub cell : Text
@@ -133,7 +133,7 @@ pub desks_ends : (served : Result ℕ DesksFault) (status : ℕ) → status ≡ 
 desks_ends (Ok left) status is = inl is
 desks_ends (Err fault) status is = rw is (fault_ends fault)
 
--- whoever asks for desks asks for these
+-- a request for desks is one for these
 same_desks : (gives : Gives) (files : JournalFiles) (named other : Option Text) (times other_times : Bool) (path cell certificate p c k : Text) (recipes rs : List Text) (desks : Desks)
     (set : ClearedSet) (digits : List ℕ) (output : Stream) (status : ℕ) → serve_desks other p c k rs other_times ≡ serve_desks named path cell certificate recipes times
     → AreDesksCleared gives p c k rs desks set digits → AreDesksRun files set digits (desk_names desks.desks.items) other other_times output status
@@ -182,7 +182,7 @@ desks_are_safe gives holds files words ends errors path cell certificate recipes
     let (desks, set, digits, cleared, run) = desks_ran gives holds files words ends errors None path cell certificate recipes times 0 asked came refl in
     (desks, set, digits, cleared, ran_well times set (desk_names desks.desks.items) (output_of ends) run.0 run.1 (sym run.2))
 
--- what was served from an engine's opening has a safe transcript
+-- desks that were served from an engine's opening have a safe transcript
 pub record_served : (times again : Bool) (safe : Type 0) (kept_before kept_after : List ℕ) (set : ClearedSet) (engine : EngineView) (names : List (List ℕ)) (before after : Option (List ℕ))
     (r : Result ℕ DesksFault) → ServiceIsSafe set → engine.cleared ≡ set → plant_of engine ≡ opening
     → OnOk r (AreDesksServed times (record { set = engine.cleared; names = names; plant = plant_of engine; kept = kept_before; recorded = before; again = again }) safe kept_after after)

@@ -109,7 +109,7 @@ start_untold path fault output status kept is = inr (kept, is)
 
 -- Over the file
 
--- what was told behind the block, by the set, the digits and the block that it was started with
+-- the outcome behind the block, by the set, the digits and the block of the start
 pub told_as : (set now_set : ClearedSet) (plant : Plant) (digits now_digits base : List ℕ) (commented : Bool) (is_disk : Type 0) (durable seen given block now_block : List ℕ) (unread before after : Option (List ℕ)) (status : ℕ)
     → set ≡ now_set → digits ≡ now_digits → block ≡ now_block
     → IsToldBehind (setup set) plant digits base commented is_disk durable seen given block unread before after status

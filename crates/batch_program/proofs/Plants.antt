@@ -1,4 +1,4 @@
--- What a hub whose batches are complete says of the machine, and the units that take roles first.
+-- The machine of a hub whose batches are complete, and the units that take roles first.
 use Rattle.std.proofs.Common.{◌≡◌, ℕ, ◌+◌, ◌<◌, ◌⊎◌, inl, inr, Option, Some, None, IsSomeAnd, Result, Ok, Err, IfOk, List, [], ◌∷◌, ◌++◌, Bor, cond, eqb, option_copied, append_assoc, drop, get_or, length, slice_get, arith, refl, ap, sym, subst, ◌∙◌}
 use Rattle.std.specs.List.{All}
 use Rattle.std.proofs.lemmas.Bool.Decides.{nat_tests}
@@ -32,7 +32,7 @@ complete_in : (o : Option Batch) → elim o [ None ↦ None | Some batch ↦ Som
 complete_in None is = absurd cc
 complete_in (Some batch) is = cc
 
--- what console and link send
+-- The events of console and link
 
 of_console : (cell : Cell) (recipe : Recipe) (plan : BatchPlan) (event : Event) → IsPlanOf cell recipe plan → IsConsoleEvent plan event → IsOfRun cell recipe (event_of event)
 of_console cell recipe plan (Create name size roles) is (named, sized, bound) = (named ∙ is.name, sized ∙ is.size, bound ∙ is.roles)

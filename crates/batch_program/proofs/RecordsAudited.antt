@@ -1,4 +1,4 @@
--- What an audit that accepts says of the record.
+-- The record of an audit that accepts.
 use Rattle.std.proofs.Common.{◌≡◌, ◌⊎◌, ◌++◌, ℕ, Bool, true, false, List, [], Option, Some, None, inl, inr, refl, sym, subst, append-nil, ◌∙◌}
 use Rattle.std.specs.Prelude.{IfSome}
 use Rattle.std.specs.Io.KnownBytes.{Appends}
@@ -24,7 +24,7 @@ use Rattle.batch_program.specs.RecordRuns.{Holds, IsUntold, output_of}
 use Rattle.batch_program.specs.Telling.{IsFindingTold}
 use Rattle.batch_program.proofs.Served.{audits_no_journal, plants_no_audit, serves_no_audit, told_at_once}
 
--- what was read
+-- The bytes that were read
 
 pub read_all : (given : Option (List ℕ)) (before after : List ℕ) → before ≡ [] → IfSome given (λ xs. after ≡ before ++ xs) → IfSome given (λ xs. after ≡ xs)
 read_all None before after none is = tt
@@ -36,7 +36,7 @@ found_there : (set : ClearedSet) (finding : Finding) (given unread : Option (Lis
 found_there set finding None unread text read found = tt
 found_there set finding (Some bytes) unread text read found = rw read at found
 
--- what is found of the text at the path
+-- the finding on the text at the path
 pub told_at : (holds : Holds) (set : ClearedSet) (beginning : Bool) (path text : List ℕ) (ends : serving.Ends) (errors : Stream) (status : ℕ)
     → (given : Option (List ℕ)) × holds path given × IfSome given (λ bytes. text ≡ bytes)
     → IsFindingTold set beginning ends.unread text (output_of ends) errors status ⊎ IsUntold (output_of ends) status
@@ -52,7 +52,7 @@ pub finding_told : (set : ClearedSet) (beginning : Bool) (unread : Option (List 
 finding_told set beginning unread text output errors status finding found (inl printed) = inl (record { finding = finding; found = found; printed = printed })
 finding_told set beginning unread text output errors status finding found (inr (untouched, memory)) = inr (untouched, inr memory)
 
--- what is found with status 0
+-- The finding with status 0
 
 accepted_finding : (set : ClearedSet) (beginning : Bool) (sent : List (List ℕ)) (text : List ℕ) (finding : Finding)
     → Finds set sent text finding → finding_status beginning finding ≡ 0 → IsAccepted set beginning sent text
@@ -85,7 +85,7 @@ accepted_line beginning (Differs line) is = absurd cc
 accepted_line true (EndsBefore line) is = refl
 accepted_line false (EndsBefore line) is = absurd cc
 
--- what was found, where the status is 0
+-- the finding, if the status is 0
 pub record IsFound (holds : Holds) (set : ClearedSet) (beginning : Bool) (path : Text) (ends : serving.Ends) : Type 0 where
   pub given : Option (List ℕ)
   pub held : holds path given

@@ -1,4 +1,4 @@
--- What comes of a record that is drawn.
+-- The outcome of drawing a record.
 use Rattle.std.proofs.Common.{◌≡◌, ◌⊎◌, ℕ, List, Option, Some, None, inl, inr, subst}
 use Rattle.std.specs.Prelude.{IfSome}
 use Rattle.batch_verdicts.specs.Running.{IsPrinted, IsUnwritten, Stream, memory_status, success_status}
@@ -24,7 +24,7 @@ pub picture_is_printed : (bytes text : List ℕ) (output errors : Stream) (statu
 picture_is_printed bytes text output errors status (is_record, (picture, same)) printed =
     pictures picture is_record (subst (λ t. IsPrinted output errors t success_status status) same printed)
 
--- a line that is none of a record is told, or there was no memory for its refusal
+-- the line that is none of a record is printed, or there was no memory for its refusal
 pub refused_is_drawn : (bytes : List ℕ) (output errors : Stream) (number status : ℕ) → IsRefusedAt bytes number
     → IsPrinted output errors (no_record_text number) refused_status status ⊎ (IsUnwritten output × (status ≡ memory_status))
     → IsDrawn (Some bytes) output errors status

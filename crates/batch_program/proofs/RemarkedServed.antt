@@ -1,4 +1,4 @@
--- What a run that serves with comments in the record tells.
+-- Runs that serve with comments in the record.
 use Rattle.std.proofs.Common.{◌≡◌, ℕ, Bool, List, Option, Some, None, Result, refl, subst, ap, ◌∙◌}
 use Rattle.std.specs.Io.KnownBytes.{Keeps}
 use Rattle.clap.specs.Walk.{Text}
@@ -23,7 +23,7 @@ use Rattle.batch_program.specs.JournalRuns.{JournalFiles}
 use Rattle.batch_program.specs.RecordRuns.{Holds, output_of}
 use Rattle.batch_program.proofs.Served.{ran_to_the_end, served_kept, told_at_once}
 
--- what is known to be held is known before as well
+-- contents that are known before are known after it
 same_held : (before mid : Option (List ℕ)) (held : List ℕ) → Keeps before mid → before ≡ Some held → mid ≡ Some held
 same_held None mid held kept is = absurd (cc is)
 same_held (Some x) None held kept is = absurd kept
@@ -39,7 +39,8 @@ remarked_kept set n served unread left before mid after kept all = record {
   serves = served_kept set n served unread left before mid all.plain kept all.serves;
 }
 
--- what is to be served is the set of the documents that the words name, with the comments that they ask for, and nothing was written
+-- the set that is to be served is that of the documents that the words name, with the comments that they ask for, and nothing was
+-- written
 pub record IsToRemark (gives : Gives) (request : Request) (output errors : Stream) (set : ClearedSet) (comments : Comments) : Type 0 where
   pub source : Source
   pub asked : request ≡ remark source comments.echo comments.times

@@ -1,4 +1,4 @@
--- What a run that serves tells, and one that runs a plant.
+-- Runs that serve, and runs of a plant.
 use Rattle.std.proofs.Common.{◌≡◌, ◌⊎◌, ℕ, zero, suc, ◌≤◌, Bool, true, false, List, Option, Some, None, Result, Ok, Err, IfOk, inl, inr, refl, subst, arith, ◌∙◌}
 use Rattle.std.specs.Prelude.{◌||◌, IfSome, String, option_map, string_bytes, take}
 use Rattle.std.specs.Global.{Global}
@@ -60,7 +60,7 @@ use Rattle.batch_program.specs.RecordRuns.{Holds, IsRecordTold, IsStatusTold, Is
 
 -- Streams
 
--- what follows a write that left the bytes as they were, follows the bytes before it
+-- After a write that left the bytes as they were
 
 pub kept_then_appended : (before mid after : Option (List ℕ)) (text : List ℕ) → Keeps before mid → Appends mid after text → Appends before after text
 kept_then_appended None mid after text kept appended = tt
@@ -130,7 +130,7 @@ left_kept false before mid after (Ok (suc more)) kept told =
 
 -- The set
 
--- what is to be served is the set of the documents that the words name, quietly where they ask for that, and nothing was written
+-- the set that is to be served is that of the documents that the words name, quietly if they ask for that, and nothing was written
 pub record IsToServe (gives : Gives) (words : List Text) (output errors : Stream) (set : ClearedSet) (quiet : Bool) : Type 0 where
   pub source : Source
   pub asked : AskFor words (serve source)
@@ -165,7 +165,7 @@ record IsPlanting (gives : Gives) (request : Request) (set : ClearedSet) (option
   pub unwritten : IsUnwritten output
   pub silent : IsUnwritten errors
 
--- the same, of what the words ask for
+-- the same of a plant, by the words
 pub record IsToPlant (gives : Gives) (words : List Text) (set : ClearedSet) (options : PlantOptions) (output errors : Stream) : Type 0 where
   pub source : Source
   pub asked : AskFor words (plant source options.batches options.ticks options.ring)
@@ -276,7 +276,7 @@ status_kept unread before mid after quiet still loud status kept silent (refuses
 status_kept unread before mid after quiet still loud status kept silent (stops (untouched, is)) =
     stops (kept_then_kept before mid after kept untouched, is)
 
--- telling what a record says, after the streams were left as they were
+-- printing the state to which a record leads, after the streams were left as they were
 pub record_kept : (holds : Holds) (path : Option Text) (unread left before mid after quiet still loud : Option (List ℕ)) (status : ℕ)
     → Keeps before mid → Keeps quiet still
     → IsRecordTold holds path (record { unread = unread; left = left; before = mid; after = after }) (record { before = still; after = loud }) status
@@ -343,7 +343,7 @@ drawn_kept holds (Some path) unread left before mid after quiet still loud statu
 
 -- Audits
 
--- what is to be audited is the record that the words name, over the set of the documents that they name, and nothing was written
+-- the record that the words name is to be audited, over the set of the documents that they name, and nothing was written
 pub record IsToAudit (gives : Gives) (words : List Text) (output errors : Stream) (set : ClearedSet) (own : AuditWords) : Type 0 where
   pub asked : AskFor words (audit own.beginning (string_bytes own.path) (source_of own.source))
   pub is_set : IsSetOf gives (source_of own.source) set
@@ -377,7 +377,7 @@ set_to_audit gives words output errors _ set own (running.helps _ _ _ _) is = ab
 set_to_audit gives words output errors _ set own (running.misuses _ _) is = absurd cc
 set_to_audit gives words output errors _ set own (running.starves _) is = absurd cc
 
--- telling what is found of a record, after the streams were left as they were
+-- printing the finding on a record, after the streams were left as they were
 pub audit_kept : (holds : Holds) (set : ClearedSet) (beginning : Bool) (path : Text) (unread left before mid after quiet still loud : Option (List ℕ)) (status : ℕ)
     → Keeps before mid → Keeps quiet still
     → IsAuditTold holds set beginning path (record { unread = unread; left = left; before = mid; after = after }) (record { before = still; after = loud }) status
@@ -390,7 +390,7 @@ audit_kept holds set beginning path unread left before mid after quiet still lou
 
 -- A journal
 
--- what is to be served over a journal is the set of the documents that the words name, and nothing was written
+-- the set that is to be served over a journal is that of the documents that the words name, and nothing was written
 pub record IsToKeep (gives : Gives) (words : List Text) (output errors : Stream) (digested : Digested) (path : String Global) (comments : Comments) : Type 0 where
   pub cell : Text
   pub certificate : Text
@@ -714,7 +714,7 @@ run_in_range gives holds files words ends errors status (draws path _ _ told) = 
 run_in_range gives holds files words ends errors status (audits beginning path _ set _ _ _ told) = audit_in_range holds set beginning path ends errors status told
 run_in_range gives holds files words ends errors status (plants _ _ options end _ _ _ _ told _) = plant_in_range (output_of ends) errors options.batches end status told
 
--- What a plant tells
+-- The outcome of a plant
 
 -- with status 0 the plant ran, and its three lines were written
 complete_at : (output errors : Stream) (set : ClearedSet) (batches : ℕ) (end : Result ℕ PlantFault) (status : ℕ) → IfOk end (HasRun set batches)

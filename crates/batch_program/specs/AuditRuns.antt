@@ -1,4 +1,4 @@
--- trusted: what comes of the command `audit`, and what is printed of it.
+-- trusted: the outcome of the command `audit`, and its printed lines.
 use Rattle.std.specs.Prelude.{◌++◌, ℕ, Bool, true, false, List, [], Option, IfSome, codes, decimal}
 use Rattle.clap.specs.Walk.{Text}
 use Rattle.batch_verify.specs.ClearedSet.{ClearedSet}
@@ -12,7 +12,7 @@ use Rattle.batch_program.specs.PlantRuns.{refused_status}
 use Rattle.batch_program.specs.RecordRuns.{Holds, IsUntold, output_of}
 use Rattle.batch_serve.specs.Serves as serving
 
--- the line of what is found of a record: where a beginning is accepted, one that ends too soon is
+-- the line of the finding on a record: if a beginning is accepted, so is a record that ends too soon
 abbrev pub finding_text : Bool → Finding → List ℕ
 finding_text beginning Agrees = accepted_text
 finding_text beginning (Differs line) = codes "refused A1 " ++ (decimal line ++ codes "\n")
@@ -26,9 +26,9 @@ finding_status beginning (Differs line) = refused_status
 finding_status true (EndsBefore line) = success_status
 finding_status false (EndsBefore line) = refused_status
 
--- what comes of the record at the path, against the lines of the input, over the set: what is found is printed; a record that can't be
+-- the outcome for the record at the path, against the lines of the input, over the set: the finding is printed; a record that can't be
 -- opened or read, an input that can't be read, want of memory, and a record that shows want of memory leave the output as it was, and
--- are told on the errors in a free text
+-- are reported on the errors in a free text
 pub data IsAuditTold (holds : Holds) (set : ClearedSet) (beginning : Bool) (path : Text) (ends : serving.Ends) (errors : Stream) (status : ℕ) : Type 0 where
   finds : (given : Option (List ℕ)) (finding : Finding) → holds path given
       → IfSome given (λ text. IfSome ends.unread (λ input. Finds set (lines_of input) text finding))
@@ -36,8 +36,8 @@ pub data IsAuditTold (holds : Holds) (set : ClearedSet) (beginning : Bool) (path
       → IsAuditTold holds set beginning path ends errors status
   stops : IsUntold (output_of ends) status → IsAuditTold holds set beginning path ends errors status
 
--- the record is whole lines that without comments are the record of the lines that were sent; where a beginning is accepted, its whole
--- lines begin that, and a part of a line may stand behind them
+-- the record is whole lines that without comments are the record of the lines that were sent; if a beginning is accepted, its whole
+-- lines begin that, and a part of a line may follow them
 abbrev pub IsAccepted : ClearedSet → Bool → List (List ℕ) → List ℕ → Type 0
 IsAccepted set false sent text = (lines : List (List ℕ)) × HasLines text lines [] × IsRecordOf set sent (told_text lines)
 IsAccepted set true sent text = (lines : List (List ℕ)) × (last : List ℕ) × HasLines text lines last × BeginsRecordOf set sent (told_text lines)

@@ -1,4 +1,4 @@
--- trusted: what comes of desks that are served, with a journal of their lines or without one.
+-- trusted: the outcome of serving desks, with a journal of their lines or without one.
 use Rattle.std.specs.Prelude.{◌≡◌, ◌⊎◌, ◌++◌, ℕ, Bool, true, List, [], Option, Some, None, Result, Ok, Err, IfOk}
 use Rattle.std.specs.Io.KnownBytes.{Appends}
 use Rattle.batch_verify.specs.ClearedSet.{ClearedSet}
@@ -17,9 +17,9 @@ use Rattle.batch_pipes.specs.declared.fault.DesksFault.TheVariants.{Memory, Thre
 use Rattle.batch_verdicts.specs.Running.{Stream, fault_status, memory_status, success_status}
 use Rattle.batch_program.specs.JournalRuns.{Behind, DiskKind, IsOver, IsRunOver, JournalFiles}
 
--- runs of lines of the desks of these names were served, in this order; their answers are the text of a safe transcript over the set, and
--- they were written, each run behind a comment that says whose it is where that isn't the desk before, with the time of each turn where that is
--- asked for
+-- runs of lines of the desks of these names were served, in this order; their answers are the text of a safe transcript over the set,
+-- and they were written, each run behind a comment that names its desk if that isn't the desk before, with the time of each turn if
+-- that is asked for
 pub record IsDesksRecord (times : Bool) (set : ClearedSet) (names : List (List ℕ)) (output : Stream) : Type 0 where
   pub runs : List Run
   pub answers : List Run
@@ -39,8 +39,8 @@ abbrev pub status_of_desks : Result ℕ DesksFault → ℕ
 status_of_desks (Ok left) = 0
 status_of_desks (Err fault) = status_of_fault fault
 
--- behind a recovery block, from the plant that it tells of: with status 0 runs of lines of the desks were served, they are what the file was
--- given behind what it had been given first, and their answers were written
+-- behind a recovery block, from the plant of the block: with status 0 runs of lines of the desks were served and their answers
+-- written, and the file was given these runs behind the bytes that it had been given first
 pub record AreDesksBehind (times : Bool) (set : ClearedSet) (names : List (List ℕ)) (is_disk : Type 0) (first given : List ℕ) (after : Option (List ℕ)) (status : ℕ)
     (plant : Plant) (middle : Option (List ℕ)) : Type 0 where
   pub served : status ≡ success_status → AreDesksServed times (record { set = set; names = names; plant = plant; kept = first; recorded = middle; again = true }) is_disk given after
@@ -55,9 +55,9 @@ abbrev pub AreDesksOver : (disks : DiskKind) → ClearedSet → List ℕ → Lis
 AreDesksOver disks set digits names path times start end output status =
     IsOver disks set digits path start end (AreDesksOn disks times set names end output.after status) output status
 
--- The recovery block of the lines that the file had was written, and behind it the answers to runs of lines of the desks. Whatever a crash leaves
--- of the file once all was given, a replay of it in which memory is never wanted tells again what the block's lines told, and these answers
--- without their comments
+-- The recovery block of the lines that the file had was written, and behind it the answers to runs of lines of the desks. Whatever
+-- file a crash leaves once all was given, a replay of it in which memory is never wanted writes again the answers to the block's
+-- lines, and these answers without their comments
 pub record AreDesksKept (disks : DiskKind) (times : Bool) (set : ClearedSet) (digits : List ℕ) (names : List (List ℕ)) (start end : disks.File) (output : Stream) : Type 0 where
   pub lines : List (List ℕ)
   pub plant : Plant

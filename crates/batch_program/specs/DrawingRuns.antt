@@ -1,4 +1,4 @@
--- trusted: what comes of the command `draw`.
+-- trusted: the outcome of the command `draw`.
 use Rattle.std.specs.Prelude.{◌⊎◌, ℕ, List, Option, Some, None, IfSome}
 use Rattle.std.specs.Io.KnownBytes.{Keeps}
 use Rattle.clap.specs.Walk.{Text}
@@ -11,8 +11,9 @@ use Rattle.batch_timeline.specs.Pictures.{picture_text}
 use Rattle.batch_timeline.specs.Recorded.{IsRecord}
 use Rattle.batch_timeline.specs.declared.picture.Picture.{Picture}
 
--- what comes of what a reader gives: where it is a record the text of a picture is printed, and else which line is the first that is none of a record; a record
--- that can't be opened or read, and want of memory leave the output as it was, and are told on the errors in a free text
+-- the outcome for a reader's bytes: if they are a record, the text of a picture is printed, and else which line is the first that is
+-- none of a record; a record that can't be opened or read, and want of memory leave the output as it was, and are reported on the
+-- errors in a free text
 pub data IsDrawn (unread : Option (List ℕ)) (output errors : Stream) (status : ℕ) : Type 0 where
   pictures : (picture : Picture) → IfSome unread IsRecord
       → IsPrinted output errors (picture_text picture) success_status status → IsDrawn unread output errors status

@@ -1,4 +1,4 @@
--- trusted: what comes of a run over a journal, and what is printed of a file that is refused.
+-- trusted: the outcome of a run over a journal, and the printed refusal of a file.
 use Rattle.std.specs.Prelude.{◌≡◌, ◌⊎◌, ◌++◌, ℕ, Bool, true, false, List, Option, IfSome, codes, decimal}
 use Rattle.std.specs.Io.KnownBytes.{Appends}
 use Rattle.batch_model.specs.Plant.{Plant, opening}
@@ -35,7 +35,7 @@ abbrev pub IsJournalRefused : List ℕ → RecoveryFault → Stream → ℕ → 
 IsJournalRefused path fault output status =
     (Appends output.before output.after (journal_text path fault) × (status ≡ refused_status)) ⊎ (status ≡ fault_status) ⊎ (IsUnwritten output × (status ≡ memory_status))
 
--- disks of one kind, and what is known of one that has behaved as a disk so far
+-- disks of one kind, and the state of one that has behaved as a disk so far
 pub record DiskKind : Type 1 where
   pub File : Type 0
   pub is_disk : File → Type 0
@@ -45,39 +45,39 @@ pub record DiskKind : Type 1 where
   pub moment : File → ℕ
   pub left_since : File → ℕ → Left → Type 0
 
--- the disks that journals are on, and what is opened at a path
+-- the disks that journals are on, and the file that is opened at a path
 pub record JournalFiles : Type 1 where
   pub disks : DiskKind
   pub opens : List ℕ → disks.File → Type 0
 
--- what stands behind the block as it is without comments, where some are asked for; where none is, as it is
+-- the output behind the block: without its comments if some are asked for, and else as it is
 abbrev pub IsShownAs : Bool → Option (List ℕ) → Option (List ℕ) → Option (List ℕ) → Type 0
 IsShownAs false middle after plain = after ≡ plain
 IsShownAs true middle after plain = IsRemarked middle after plain
 
--- behind the block: with status 0 all lines of the input are answered; and whatever came of it, a replay of what a crash leaves tells
--- again what the journal's lines and this run told
+-- behind the block: with status 0 all lines of the input are answered; and however the run ended, a replay of the file that a crash
+-- leaves writes again the answers to the journal's lines and those of this run
 pub record IsServedBehind (disks : DiskKind) (set : ClearedSet) (digits : List ℕ) (plant : Plant) (start end : disks.File) (unread middle after : Option (List ℕ)) (status : ℕ) : Type 0 where
   pub answers : status ≡ success_status → IfSome unread (λ input. (new : Plant) × WritesTranscript (setup set) plant (lines_of input) new middle after)
   pub never_lost : disks.is_disk end → IfSome unread (λ input.
       IsNeverLost (setup set) plant digits (disks.seen start) (disks.durable end) (disks.seen end) (disks.given end) middle after)
   pub ends : (status ≡ success_status) ⊎ (status ≡ fault_status) ⊎ (status ≡ memory_status)
 
--- what is told behind a recovery block: of the plant that it tells of, and from where it ends on
+-- a condition on the output behind a recovery block, by the plant of the block and the output up to its end
 abbrev pub Behind : Type 1
 Behind = Plant → Option (List ℕ) → Type 0
 
--- the same as it is without comments
+-- lines of the input are served behind the block, comments aside
 abbrev pub IsShownBehind : (disks : DiskKind) → ClearedSet → List ℕ → Bool → (start end : disks.File) → (unread after : Option (List ℕ)) → ℕ → Behind
 IsShownBehind disks set digits commented start end unread after status = λ plant middle.
     (plain : Option (List ℕ)) × IsShownAs commented middle after plain × IsServedBehind disks set digits plant start end unread middle plain status
 
--- what is told over the file that was opened
+-- the outcome over the opened file
 pub data IsJournalTold (disks : DiskKind) (set : ClearedSet) (digits path : List ℕ) (start end : disks.File) (behind : Behind) (output : Stream) (status : ℕ) : Type 0 where
   refuses : (fault : RecoveryFault) → (disks.is_disk end → IsRefusedFor digits (disks.seen start) fault) → IsJournalRefused path fault output status
       → IsJournalTold disks set digits path start end behind output status
   stops : IsUntold output status → IsJournalTold disks set digits path start end behind output status
-  -- the recovery block of the lines that the file had, which there is no reason to refuse, and that behind it
+  -- there is no reason to refuse the file; the recovery block of its lines is written, and the rest behind it
   serves : (lines : List (List ℕ)) (plant : Plant) (block : List ℕ) (middle : Option (List ℕ))
       → (disks.is_disk end → HasNoFault digits (disks.seen start) × (lines ≡ recovered digits (disks.seen start)))
       → IsBlockOf (setup set) opening lines plant block → Appends output.before middle block → behind plant middle

@@ -1,4 +1,4 @@
--- private: how a run over a journal comes to its end.
+-- private: the end of a run over a journal.
 use Rattle.std.specs.Prelude.{◌≡◌, ◌⊎◌, ℕ, Bool, List, Option, IfSome, option_map}
 use Rattle.std.specs.Io.KnownBytes.{Appends}
 use Rattle.batch_model.specs.Plant.{Setup, Plant}
@@ -22,25 +22,25 @@ use Rattle.batch_program.specs.RecordRuns.{IsUntold}
 abbrev pub cleaned : Option (List ℕ) → Option (List ℕ)
 cleaned unread = option_map (λ input. clean_lines (lines_of input)) unread
 
--- a file that is refused is told by its line, and nothing else is
+-- a refused file is reported by its line, and no other fault is
 abbrev pub IsStartTold : List ℕ → StartFault → Stream → ℕ → Type 0
 IsStartTold path fault output status =
     ((refusal : RecoveryFault) × (fault ≡ Recovery refusal) × IsJournalRefused path refusal output status) ⊎ IsUntold output status
 
--- what a run told behind the block
+-- the answers of a run behind the block
 pub record IsTold (c : Setup) (plant : Plant) (documents base : List ℕ) (is_disk : Type 0) (durable seen given : List ℕ) (unread middle after : Option (List ℕ)) (status : ℕ) : Type 0 where
   pub answers : status ≡ success_status → IfSome unread (λ input. (new : Plant) × WritesTranscript c plant (lines_of input) new middle after)
   pub never_lost : is_disk → (start : List ℕ) → base ≡ text_of (recovered documents start) → IfSome unread (λ input. IsNeverLost c plant documents start durable seen given middle after)
   pub ends : (status ≡ success_status) ⊎ (status ≡ fault_status) ⊎ (status ≡ memory_status)
 
--- the block and that, comments aside, or a beginning of the block
+-- the block and these answers, comments aside, or a prefix of the block
 abbrev pub IsToldBehind : Setup → Plant → List ℕ → List ℕ → Bool → Type 0 → List ℕ → List ℕ → List ℕ → List ℕ → Option (List ℕ) → Option (List ℕ) → Option (List ℕ) → ℕ → Type 0
 IsToldBehind c plant documents base commented is_disk durable seen given block unread before after status =
     ((middle : Option (List ℕ)) × (plain : Option (List ℕ)) × Appends before middle block × IsShownAs commented middle after plain
     × IsTold c plant documents base is_disk durable seen given unread middle plain status)
     ⊎ (AppendsBeginning before after block × (status ≡ fault_status))
 
--- the block and that of desks, or a beginning of the block
+-- the block and the answers to desks, or a prefix of the block
 abbrev pub AreDesksToldBehind : Bool → ClearedSet → List (List ℕ) → Plant → Type 0 → (first given block : List ℕ) → Stream → ℕ → Type 0
 AreDesksToldBehind times set names plant is_disk first given block output status =
     ((middle : Option (List ℕ)) × Appends output.before middle block × AreDesksBehind times set names is_disk first given output.after status plant middle)

@@ -1,4 +1,4 @@
--- trusted: what comes of the command `plant`, and what is printed of it.
+-- trusted: the outcome of the command `plant`, and its printed lines.
 use Rattle.std.specs.Prelude.{◌≡◌, ◌≤◌, ◌⊎◌, ◌++◌, ℕ, List, [], ◌∷◌, Option, Some, None, Result, Ok, Err, IsSomeAnd, codes, decimal, length, slice_get, ⊤}
 use Rattle.std.specs.List.{All}
 use Rattle.batch_matrix.specs.declared.command.Command.TheVariants.{Start}
@@ -62,8 +62,8 @@ pub record HasRun (set : ClearedSet) (batches handled : ℕ) : Type 0 where
   pub count : handled ≡ length events
   pub made : IsSomeAnd (slice_get set.recipes 0) (λ recipe. All (IsOfRun set.cell recipe) events)
 
--- the three lines are printed, or the one; want of memory, a thread that can't be started, a create that is refused and a port that can't
--- be closed leave the output as it was, and are told on the errors in a free text
+-- the three lines are printed, or the one; want of memory, a thread that can't be started, a create that is refused and a port that
+-- can't be closed leave the output as it was, and are reported on the errors in a free text
 abbrev pub IsPlantTold : Stream → Stream → ℕ → Result ℕ PlantFault → ℕ → Type 0
 IsPlantTold output errors batches (Ok handled) status =
     IsPrinted output errors (plant_text batches handled) 0 status ⊎ (IsUnwritten output × (status ≡ memory_status))

@@ -1,4 +1,4 @@
--- surface: what of a plant's options stands in what its run comes to, and which batches it makes.
+-- surface: the options that hold of a plant's run, and the plan of its batches.
 use Rattle.std.specs.Prelude.{◌≡◌, ℕ, List, IsSomeAnd, length, slice_get}
 use Rattle.std.specs.List.{All}
 use Rattle.batch_cell.specs.declared.cell.Cell.{Cell}
@@ -18,13 +18,13 @@ pub record IsPlanOf (cell : Cell) (recipe : Recipe) (plan : BatchPlan) : Type 0 
   pub size : plan.size ≡ recipe.basis
   pub roles : plan.roles.items ≡ first_bindings cell recipe.roles.items
 
--- such a plan of the set's first recipe
+-- the plan is that of a batch of the set's first recipe
 abbrev pub IsFirstPlan : ClearedSet → BatchPlan → Type 0
 IsFirstPlan set plan = IsSomeAnd (slice_get set.recipes 0) (λ recipe. IsPlanOf set.cell recipe plan)
 
 -- a hub over this set has handled so many events, which came in rings of as many places as the options say, and its batches are
--- complete; those of the console are creates by the plan of the set's first recipe, and starts; those of the link came of steady units,
--- each of whose phases runs for as many ticks as they say
+-- complete. The console's events are creates by the plan of the set's first recipe, and starts; the link's events came from steady
+-- units, each of whose phases runs for as many ticks as the options say
 pub record RunsBy (set : ClearedSet) (options : PlantOptions) (handled : ℕ) : Type 0 where
   pub hub : HubState
   pub account : IsHub hub

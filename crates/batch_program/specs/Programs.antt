@@ -1,4 +1,4 @@
--- trusted: what comes of the program's words, input and documents.
+-- trusted: the outcome of the program's words, input and documents.
 use Rattle.std.specs.Prelude.{◌≡◌, ◌≤◌, ◌++◌, ℕ, zero, suc, Bool, true, false, ◌||◌, IfOk, IfSome, List, Option, None, Result, Ok, Err, codes, decimal, if◌then◌else◌, nat_eq, Some}
 use Rattle.std.specs.Io.KnownBytes.{Appends, Keeps}
 use Rattle.std.specs.Process.{exit_status}
@@ -50,13 +50,13 @@ left_text left =
     then codes "batchd: the input ended before 1 batch was complete, stopped or aborted\n"
     else codes "batchd: the input ended before " ++ (decimal left ++ codes " batches were complete, stopped or aborted\n")
 
--- the line is written to the errors; where there is no such batch, or the words ask for quiet, nothing is
+-- the line is written to the errors; if no batch is left, or the words ask for quiet, nothing is
 abbrev pub IsLeftTold : Bool → Stream → ℕ → Type 0
 IsLeftTold true errors left = IsUnwritten errors
 IsLeftTold false errors zero = IsUnwritten errors
 IsLeftTold false errors (suc more) = WritesFront errors.before errors.after (left_text (suc more))
 
--- the set is served, with this exit status, and it is told how many batches the input left unfinished
+-- the set is served, with this exit status, and the errors say how many batches the input left unfinished
 abbrev pub IsServed : Bool → ClearedSet → serving.Ends → Stream → ℕ → Type 0
 IsServed quiet set ends errors status =
     (served : Result ℕ SetFault) × Serves set MAX_READS served ends × IfOk served (IsLeftTold quiet errors) × (status ≡ status_of_serving served)
@@ -66,9 +66,9 @@ abbrev pub IsServedRemarked : Bool → ClearedSet → serving.Ends → Stream �
 IsServedRemarked quiet set ends errors status =
     (served : Result ℕ SetFault) × ServesRemarked set MAX_READS served ends × IfOk served (IsLeftTold quiet errors) × (status ≡ status_of_serving served)
 
--- what comes of the words, over the input and the output, with the exit status
+-- the outcome of the words, over the input and the output, with the exit status
 pub data IsProgramRun (gives : Gives) (holds : Holds) (files : JournalFiles) (words : List Text) (ends : serving.Ends) (errors : Stream) : ℕ → Type 0 where
-  -- a verdict, help or a fault is told, and the input isn't read
+  -- a verdict, help or a fault is printed, and the input isn't read
   tells : (status : ℕ) → IsRun gives words (output_of ends) errors (Ends status) → Keeps ends.unread ends.left
       → IsProgramRun gives holds files words ends errors status
   -- the documents are accepted, it is warned of them, the text that says so is written into the file that the words name, and
@@ -89,23 +89,23 @@ pub data IsProgramRun (gives : Gives) (holds : Holds) (files : JournalFiles) (wo
   keeps : (journal cell certificate : Text) (recipes : List Text) (echo times : Bool) (set : ClearedSet) (digits : List ℕ) (status : ℕ)
       → AskFor words (keep journal cell certificate recipes echo times) → AreDigested gives cell certificate recipes set digits
       → IsJournalRun files set digits journal (echo || times) ends status → IsProgramRun gives holds files words ends errors status
-  -- the desks of the document that they name are served over the set that the others make, with a journal where they name one, and the
+  -- the desks of the document that they name are served over the set that the others make, with a journal if they name one, and the
   -- input isn't read
   serves_desks : (journal : Option Text) (path cell certificate : Text) (recipes : List Text) (times : Bool) (desks : Desks) (set : ClearedSet) (digits : List ℕ) (status : ℕ)
       → AskFor words (serve_desks journal path cell certificate recipes times) → AreDesksCleared gives path cell certificate recipes desks set digits
       → AreDesksRun files set digits (desk_names desks.desks.items) journal times (output_of ends) status → Keeps ends.unread ends.left
       → IsProgramRun gives holds files words ends errors status
-  -- what the record that the words name tells is printed, or what the input tells
+  -- the state to which the record that the words name leads is printed, or that to which the input leads
   reads : (path : Option Text) (status : ℕ)
       → AskFor words (tell path) → IsRecordTold holds path ends errors status → IsProgramRun gives holds files words ends errors status
   -- the picture of the record that the words name is printed, or that of the input
   draws : (path : Option Text) (status : ℕ)
       → AskFor words (picture path) → IsRecordDrawn holds path ends errors status → IsProgramRun gives holds files words ends errors status
-  -- what is found of the record that the words name, against the lines of the input over the set that they name, is printed
+  -- the finding on the record that the words name, against the lines of the input over the set that they name, is printed
   audits : (beginning : Bool) (path : Text) (source : Source) (set : ClearedSet) (status : ℕ)
       → AskFor words (audit beginning path source) → IsSetOf gives source set → IsAuditTold holds set beginning path ends errors status
       → IsProgramRun gives holds files words ends errors status
-  -- a plant of the set that they name is run with the options that they have, its end is told, and the input isn't read
+  -- a plant of the set that they name is run with the options that they have, its end is reported, and the input isn't read
   plants : (source : Source) (set : ClearedSet) (options : PlantOptions) (end : Result ℕ PlantFault) (status : ℕ)
       → AskFor words (plant source options.batches options.ticks options.ring) → IsSetOf gives source set
       → IfOk end (HasRun set options.batches) → IsPlantTold (output_of ends) errors options.batches end status → Keeps ends.unread ends.left
@@ -114,7 +114,7 @@ pub data IsProgramRun (gives : Gives) (holds : Holds) (files : JournalFiles) (wo
 -- Laws
 
 -- a run that was to serve and ends with status 0 has answered all lines of its input, by the engine of the set that its documents
--- make, cleared by their certificate; AnswersAll says that what it wrote is a safe record. On the errors it has written nothing but
+-- make, cleared by their certificate; AnswersAll says that the written text is a safe record. On the errors it has written nothing but
 -- how many batches the input left unfinished
 abbrev pub ServingIsSafe : Gives → Holds → JournalFiles → Type 0
 ServingIsSafe gives holds files =
@@ -122,8 +122,8 @@ ServingIsSafe gives holds files =
     → AskFor words (serve source) → IsProgramRun gives holds files words ends errors 0
     → (set : ClearedSet) × (left : ℕ) × IsSetOf gives source set × AnswersAll set left ends × IsLeftTold (ask_quiet words) errors left
 
--- a run of `audit` that ends with status 0 has written `accepted`, and what the record at its path holds is the record of the lines of
--- the input, or begins it where that is accepted, over the set of its documents, cleared by their certificate
+-- a run of `audit` that ends with status 0 has written `accepted`, and the contents at its path are the record of the lines of the
+-- input, or begin it if that is accepted, over the set of its documents, cleared by their certificate
 abbrev pub AuditsAreTrue : Gives → Holds → JournalFiles → Type 0
 AuditsAreTrue gives holds files =
     (words : List Text) (ends : serving.Ends) (errors : Stream) (beginning : Bool) (path : Text) (source : Source)
@@ -131,7 +131,7 @@ AuditsAreTrue gives holds files =
     → (set : ClearedSet) × (given : Option (List ℕ)) × IsSetOf gives source set × holds path given × Appends ends.before ends.after accepted_text
     × IfSome given (λ text. IfSome ends.unread (λ input. IsAccepted set beginning (lines_of input) text))
 
--- the same of a run with comments in the record, of what it wrote without its comments
+-- the same of a run with comments in the record, of the written text without its comments
 abbrev pub RemarkedServingIsSafe : Gives → Holds → JournalFiles → Type 0
 RemarkedServingIsSafe gives holds files =
     (words : List Text) (ends : serving.Ends) (errors : Stream) (source : Source) (echo times : Bool)
@@ -149,15 +149,17 @@ CertificatesAreKept gives holds files =
     × IsUnwritten (output_of ends)
 
 -- a run of `plant` that ends with status 0 has written its three lines, and a record over the set that the words name, of so many
--- events as the third line says, leads to where the batches that were asked for are complete, all made of the set's first recipe
+-- events as the third line says, leads to a plant in which the batches that were asked for are complete, all made of the set's first
+-- recipe
 abbrev pub PlantsAreComplete : Gives → Holds → JournalFiles → Type 0
 PlantsAreComplete gives holds files =
     (words : List Text) (ends : serving.Ends) (errors : Stream) (source : Source) (batches ticks ring : ℕ)
     → AskFor words (plant source batches ticks ring) → IsProgramRun gives holds files words ends errors 0
     → (set : ClearedSet) × (handled : ℕ) × IsSetOf gives source set × HasRun set batches handled × Appends ends.before ends.after (plant_text batches handled)
 
--- a run of `serve` without a journal that ends with status 0 has served the desks of its document over the set that its other documents make,
--- cleared by their certificate; what it wrote is the text of a safe transcript of the desks' lines, in the order in which they were served
+-- a run of `serve` without a journal that ends with status 0 has served the desks of its document over the set that its other
+-- documents make, cleared by their certificate; the written text is that of a safe transcript of the desks' lines, in the order in
+-- which they were served
 abbrev pub DesksAreSafe : Gives → Holds → JournalFiles → Type 0
 DesksAreSafe gives holds files =
     (words : List Text) (ends : serving.Ends) (errors : Stream) (path cell certificate : Text) (recipes : List Text) (times : Bool)
@@ -165,8 +167,8 @@ DesksAreSafe gives holds files =
     → (desks : Desks) × (set : ClearedSet) × (digits : List ℕ) × AreDesksCleared gives path cell certificate recipes desks set digits
     × IsDesksRecord times set (desk_names desks.desks.items) (output_of ends)
 
--- a run of `serve` with a journal that ends with status 0 has served the desks over the file at its path, behind the recovery block of the lines
--- that the file had; what it wrote is told again by a replay of what a crash leaves of the file
+-- a run of `serve` with a journal that ends with status 0 has served the desks over the file at its path, behind the recovery block
+-- of the lines that the file had; a replay of the file that a crash leaves writes this text again
 abbrev pub DesksAreKept : Gives → Holds → JournalFiles → Type 0
 DesksAreKept gives holds files =
     (words : List Text) (ends : serving.Ends) (errors : Stream) (journal path cell certificate : Text) (recipes : List Text) (times : Bool)

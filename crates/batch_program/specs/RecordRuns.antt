@@ -1,4 +1,4 @@
--- trusted: what comes of the command `status`, and what is printed of a record.
+-- trusted: the outcome of the command `status`, and its printed lines.
 use Rattle.std.specs.Prelude.{◌≡◌, ◌⊎◌, ◌++◌, ℕ, List, [], Option, Some, None, IfSome, codes, decimal}
 use Rattle.std.specs.Io.KnownBytes.{Keeps}
 use Rattle.clap.specs.Walk.{Text}
@@ -9,11 +9,11 @@ use Rattle.batch_status.specs.Blocks.{Stage}
 use Rattle.batch_status.specs.Listing.{IsTextOf}
 use Rattle.batch_status.specs.Reading.{IsRefusedAt, LeadsTo}
 
--- what a record that is opened at a path has to be read, where that is known
+-- the bytes that a record that is opened at a path has to be read, if they are known
 abbrev pub Holds : Type 1
 Holds = List ℕ → Option (List ℕ) → Type 0
 
--- the text has the lines of what the whole lines of the input tell
+-- the text has the lines of the state to which the whole lines of the input lead
 pub record IsStatusOf (input text : List ℕ) : Type 0 where
   pub stage : Stage
   pub leads : LeadsTo input stage
@@ -23,11 +23,11 @@ pub record IsStatusOf (input text : List ℕ) : Type 0 where
 abbrev pub no_record_text : ℕ → List ℕ
 no_record_text number = codes "refused R1 " ++ (decimal number ++ codes "\n")
 
--- a record that can't be opened or read, and want of memory leave the output as it was, and are told on the errors in a free text
+-- a record that can't be opened or read, and want of memory leave the output as it was, and are reported on the errors in a free text
 abbrev pub IsUntold : Stream → ℕ → Type 0
 IsUntold output status = IsUnwritten output × ((status ≡ fault_status) ⊎ (status ≡ memory_status))
 
--- what comes of what a reader gives: what it tells is printed, or which line is the first that is none of a record
+-- the outcome for a reader's bytes: the state to which they lead is printed, or which line is the first that is none of a record
 pub data IsStatusTold (unread : Option (List ℕ)) (output errors : Stream) (status : ℕ) : Type 0 where
   prints : (text : List ℕ) → IfSome unread (λ input. IsStatusOf input text) → IsPrinted output errors text success_status status
       → IsStatusTold unread output errors status

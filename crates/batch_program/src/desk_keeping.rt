@@ -33,8 +33,8 @@ use std::time::Clock;
 
 /// Serves the desks over their set with a journal of their lines in the file at the path, and gives the exit status.
 ///
-/// The lines that the journal has are served again first, without their answers being written. The recovery block of all lines stands
-/// before all else on the output, and that of its own lines on the output of each desk. A file that is refused is told as by
+/// The lines of the journal are served again first, and their answers aren't written. The recovery block of all lines precedes all
+/// else on the output, and that of its own lines on the output of each desk. A refused file is reported as by
 /// [`keep_journal`](crate::keep_journal).
 pub(crate) fn keep_desk_set<J: Journals, P: DeskRunner, W: Write, E: Write>(
     alloc: Global,
@@ -89,7 +89,7 @@ fn names_of(alloc: Global, desks: &Desks) -> Result<Vec<Name>, AllocError> {
     Ok(names)
 }
 
-/// The same over the file that was opened, which is given back.
+/// The same over the opened file, which is returned.
 fn serve_opened<D: Disk, K: Clock + Drop, P: DeskRunner, W: Write, E: Write>(
     alloc: Global,
     runner: &P,
@@ -215,7 +215,7 @@ fn serve_behind<D: Disk, K: Clock + Drop, P: DeskRunner, W: Write, E: Write, C: 
     (status, groups.into_disk())
 }
 
-/// Tells how many batches are left, or why serving over the journal stopped, and gives the exit status.
+/// Reports how many batches are left, or why serving over the journal stopped, and gives the exit status.
 fn tell_kept<E: Write>(
     alloc: Global,
     messages: Messages,

@@ -13,10 +13,10 @@ use std::io::Write;
 
 /// Who serves desks: the program by threads of its process, and a test as it likes.
 pub trait DeskRunner {
-    /// Serves the desks by the engine until each that has an input has ended or is cut. The fronts are written to the outputs of the desks
-    /// before all else, one to each in order. The lines of each turn are kept before they are answered. The record goes to the output, with
-    /// the time of each turn where that is asked for; which desks are cut is told on the errors. Gives how many batches are neither
-    /// complete, stopped nor aborted.
+    /// Serves the desks by the engine until each that has an input has ended or is cut. The fronts are written to the outputs of the
+    /// desks before all else, one to each in order. The lines of each turn are kept before they are answered. The record goes to the
+    /// output, with the time of each turn if that is asked for. The errors report which desks are cut. Gives how many batches are
+    /// neither complete, stopped nor aborted.
     ///
     /// The errors are those of [`serve_desks`](batch_pipes::serve_desks).
     // claim: runner of desks

@@ -26,7 +26,7 @@ struct DesksStop {
     reason: io::Error,
 }
 
-/// Serves the desks over their set, with a journal of their lines in the file at the path where there is one, and gives the exit status.
+/// Serves the desks over their set, with a journal of their lines in the file at the path if there is one, and gives the exit status.
 pub(crate) fn run_desks<J: Journals, P: DeskRunner, W: Write, E: Write>(
     alloc: Global,
     runner: &P,
@@ -91,7 +91,7 @@ fn serve_desk_set<P: DeskRunner, W: Write, E: Write>(
     tell_ended(alloc, quiet, ended, output.failure(), errors)
 }
 
-/// Tells how many batches are left, or why serving stopped, with the reason that the output gave, and gives the exit status.
+/// Reports how many batches are left, or why serving stopped, with the output's reason, and gives the exit status.
 pub(crate) fn tell_ended<E: Write>(
     alloc: Global,
     quiet: bool,
@@ -110,7 +110,7 @@ pub(crate) fn tell_ended<E: Write>(
     }
 }
 
-/// Tells why serving stopped, and gives the exit status.
+/// Reports why serving stopped, and gives the exit status.
 fn tell_fault<E: Write>(fault: DesksFault, reason: Option<io::Error>, errors: &mut E) -> u8
     ensures { result ≡ status_of_fault fault }
 {

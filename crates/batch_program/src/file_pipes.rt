@@ -56,7 +56,7 @@ impl Pipes for FilePipes {
 }
 
 impl Outputs<File> for FilePipes {
-    /// A file is written behind what it holds.
+    /// A file is written behind its contents.
     fn run_output(&self, alloc: Global, task: &mut OutputTask) -> Written<File> {
         let opened = OpenOptions::new()
             .append(true)
@@ -83,7 +83,7 @@ const FOR_A_DESK: u32 = 800;
 /// The longest pause of a desk's thread, however many desks there are, in microseconds.
 const MOST_OF_ALL: u32 = 50_000;
 
-/// Waits for a millisecond behind some work, and longer the longer there was none, so that desks at which nothing happens cost little.
+/// Waits for a millisecond after some work, and longer the longer there was none, so that idle desks cost little.
 #[derive(Drop)]
 pub(crate) struct GrowingPause {
     clock: HostRuntime,

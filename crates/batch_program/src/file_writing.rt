@@ -18,8 +18,8 @@ struct OwnDocument {
     path: String,
 }
 
-/// Puts a file with the text in the place of the one at the path, and gives the exit status. Where that fails the file stays as it
-/// was, and why is told on the errors. None of the documents that the words name is written over.
+/// Replaces the file at the path by one with the text, and gives the exit status. If that fails, the file stays as it was, and the
+/// errors report the reason. None of the documents that the words name is written over.
 // claim: file written
 pub fn write_file<D: Records, E: Write>(
     alloc: Global,
@@ -40,14 +40,14 @@ pub fn write_file<D: Records, E: Write>(
     }
 }
 
-/// Whether the words have the path once more than as that of the file that is to be written, which may stand in a word of its own.
+/// Whether the words have the path once more than as that of the file that is to be written, which may be a word of its own.
 fn names_document(words: &[String], path: &str) -> bool {
     let named = words.iter().filter(|word| word.as_str() == path).count();
     let has_own_word = words.iter().any(|word| word.as_str() == "--write");
     named > usize::from(has_own_word)
 }
 
-/// Tells that the file is a document, and gives the exit status.
+/// Reports that the file is a document, and gives the exit status.
 fn complain_document<E: Write>(alloc: Global, path: &str, errors: &mut E) -> u8
     ensures { (result ≡ fault_status) ⊎ (result ≡ memory_status) }
 {

@@ -15,7 +15,7 @@ use std::alloc::{AllocError, Global};
 /// The plan of the batches that a plant of the set makes: of its first recipe, in the size of the basis, each role taken by the first
 /// unit of the cell that has its class.
 ///
-/// The error is [`PlantFault::Memory`], or [`PlantFault::Refused`] where the set has no recipe, since no create is taken then.
+/// The error is [`PlantFault::Memory`], or [`PlantFault::Refused`] if the set has no recipe, since no create is accepted then.
 pub(crate) fn first_plan(alloc: Global, set: &Cleared) -> Result<BatchPlan, PlantFault>
     ensures { IfOk result (IsFirstPlan set.now) }
 {
@@ -25,7 +25,7 @@ pub(crate) fn first_plan(alloc: Global, set: &Cleared) -> Result<BatchPlan, Plan
     plan_of(alloc, set.cell(), recipe).map_err(|_| PlantFault::Memory)
 }
 
-/// The plan of a batch of the recipe. It is refused only where memory is.
+/// The plan of a batch of the recipe. It is refused only if memory is.
 fn plan_of(alloc: Global, cell: &Cell, recipe: &Recipe) -> Result<BatchPlan, AllocError>
     ensures { IfOk result (IsPlanOf cell.now recipe.now) }
 {

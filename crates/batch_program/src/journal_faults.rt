@@ -1,4 +1,4 @@
-//! What is told of a journal over which nothing can be served, or served on.
+//! Messages on a journal over which nothing can be served, or nothing further.
 ghost use Rattle.std.specs.Prelude.{◌≡◌, ◌⊎◌, IfOk, string_bytes};
 ghost use Rattle.batch_verdicts.specs.Running.{fault_status, memory_status};
 ghost use Rattle.batch_program.specs.JournalRuns.{IsJournalRefused, journal_text};
@@ -17,10 +17,10 @@ use std::io;
 use std::io::{ErrorKind, Read, Write};
 use thiserror::Error;
 
-/// The exit status where a journal is refused.
+/// The exit status if a journal is refused.
 const REFUSED: u8 = 1;
 
-/// What is wrong with the journal at this path.
+/// The fault of the journal at this path.
 #[derive(Debug, Error, Drop)]
 #[error("{path}: {reason}")]
 struct FailedJournal<T: Display> {
@@ -36,7 +36,7 @@ struct Stop {
     reason: io::Error,
 }
 
-/// Prints why a journal is refused, or tells why it can't be served over, and gives the exit status.
+/// Prints why a journal is refused, or reports why it can't be served over, and gives the exit status.
 #[tactic(auto, using(crate::proofs::KeptRuns::start_told, crate::proofs::KeptRuns::start_untold))]
 pub(crate) fn refuse_start<W: Write, E: Write>(
     alloc: Global,
@@ -62,7 +62,7 @@ pub(crate) fn refuse_start<W: Write, E: Write>(
     }
 }
 
-/// Prints the refusal of a journal, and says what it means, unless quiet is asked for.
+/// Prints the refusal of a journal. Unless quiet is asked for, its meaning goes to the errors.
 #[tactic(auto, using(crate::proofs::KeptRuns::journal_refused, crate::proofs::KeptRuns::journal_starved))]
 fn refuse<W: Write, E: Write>(
     alloc: Global,
@@ -98,7 +98,7 @@ fn refusal_text(alloc: Global, path: &str, refusal: RecoveryFault) -> Result<Str
     }
 }
 
-/// Tells how many bytes were cut off behind the last whole group, where there were any and quiet isn't asked for.
+/// Reports how many bytes were cut off behind the last whole group, if there were any and quiet isn't asked for.
 pub(crate) fn tell_cut<E: Write>(
     alloc: Global,
     quiet: bool,
@@ -125,14 +125,14 @@ fn cut_text(alloc: Global, path: &str, cut: usize) -> Result<String, AllocError>
     }
 }
 
-/// Tells that the recovery block can't be written.
+/// Reports that the recovery block can't be written.
 pub(crate) fn complain_block<E: Write>(reason: Option<io::Error>, errors: &mut E) -> u8
     ensures { result ≡ fault_status }
 {
     complain_stream(ServeFault::Write, reason, errors)
 }
 
-/// Tells why serving over a journal stopped, and gives the exit status.
+/// Reports why serving over a journal stopped, and gives the exit status.
 pub(crate) fn complain_stopped<R: Read, W: Write, E: Write>(
     alloc: Global,
     path: &str,
@@ -165,7 +165,7 @@ fn complain_stream<E: Write>(fault: ServeFault, reason: Option<io::Error>, error
     }
 }
 
-/// Tells why the journal at the path can't be opened.
+/// Reports why the journal at the path can't be opened.
 pub(crate) fn complain_unopened<E: Write>(
     alloc: Global,
     path: &str,
@@ -180,7 +180,7 @@ pub(crate) fn complain_unopened<E: Write>(
     complain_journal(alloc, path, reason, errors)
 }
 
-/// Tells why a call of the journal's disk failed, and gives the exit status.
+/// Reports why a call of the journal's disk failed, and gives the exit status.
 pub(crate) fn complain_disk<E: Write>(
     alloc: Global,
     path: &str,
@@ -195,7 +195,7 @@ pub(crate) fn complain_disk<E: Write>(
     }
 }
 
-/// Tells what is wrong with the journal at the path, and gives the exit status of that.
+/// Reports the fault of the journal at the path, and gives its exit status.
 fn complain_journal<T: Display + Drop, E: Write>(
     alloc: Global,
     path: &str,

@@ -40,9 +40,9 @@ pub(crate) struct Messages<'a> {
 
 /// Serves event lines from the input over the set, with a journal of them in the file at the path, and gives the exit status.
 ///
-/// The lines that the journal has are served again first, without their answers being written, and the recovery block stands before all
-/// else on the output; comments in the record stand behind it. A file that is no journal, or one of other documents, or damaged, is
-/// refused by a line on the output.
+/// The lines of the journal are served again first, and their answers aren't written. The recovery block precedes all else on the
+/// output; comments in the record follow it. A file that is no journal, or one of other documents, or damaged, is refused by a line
+/// on the output.
 // claim: served over a file; behind the block; never lost
 pub fn keep_journal<J: Journals, R: Read, W: Write, E: Write>(
     alloc: Global,
@@ -88,7 +88,7 @@ pub fn keep_journal<J: Journals, R: Read, W: Write, E: Write>(
     }
 }
 
-/// What is remarked on the lines in the record, where comments are asked for.
+/// The writer of comments on the lines of the record. None if no comments are asked for.
 fn remarking_of<K: Clock + Drop>(clock: K, comments: Comments) -> Option<Remarking<K>>
     ensures { is_some result ≡ (comments.echo || comments.times) }
 {
@@ -99,7 +99,7 @@ fn remarking_of<K: Clock + Drop>(clock: K, comments: Comments) -> Option<Remarki
     }
 }
 
-/// The same over the file that was opened, which is given back.
+/// The same over the opened file, which is returned.
 fn serve_opened<D: Disk, K: Clock + Drop, R: Read, W: Write, E: Write>(
     alloc: Global,
     digested: Digested,
@@ -281,7 +281,7 @@ fn serve_shown<R: Read + Drop, D: Disk, K: Clock + Drop, W: Write, C: Run>(
     }
 }
 
-/// Tells how many batches the end of the input left unfinished, or why serving stopped, and gives the exit status.
+/// Reports how many batches the end of the input left unfinished, or why serving stopped, and gives the exit status.
 fn tell_end<R: Read, W: Write, E: Write>(
     alloc: Global,
     messages: Messages,
@@ -303,7 +303,7 @@ fn tell_end<R: Read, W: Write, E: Write>(
     }
 }
 
-/// Writes the block, as far as the output takes it, and hands it on.
+/// Writes the block, as far as the output accepts it, and flushes the output.
 pub(crate) fn write_block<W: Write>(output: &mut W, block: &[u8]) -> Result<(), WriteFault>
     ensures { Writes (W.contents output.old) (W.contents output.new) result block.now }
 {
@@ -313,7 +313,7 @@ pub(crate) fn write_block<W: Write>(output: &mut W, block: &[u8]) -> Result<(), 
     }
 }
 
-/// Hands on what is written.
+/// Flushes the output.
 fn flush<W: Write>(output: &mut W) -> Result<(), WriteFault>
     ensures { Keeps (W.contents output.old) (W.contents output.new) }
 {

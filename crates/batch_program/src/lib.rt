@@ -1,4 +1,4 @@
-//! The program: what its words ask for, over files and streams. `main` of the program and of every stored run calls it.
+//! The program carries out the command of its words over files and streams. `main` of the program and of every stored run calls it.
 #![tactic(auto)]
 
 mod desk_keeping;

@@ -1,4 +1,4 @@
-//! Telling how a plant ended.
+//! Reporting the end of a plant.
 ghost use Rattle.std.specs.Prelude.{◌≡◌, IfOk, string_bytes};
 ghost use Rattle.batch_verdicts.specs.Running.{Stream};
 ghost use Rattle.batch_program.specs.PlantRuns.{IsPlantTold, plant_text};
@@ -8,10 +8,10 @@ use batch_verdicts::{NO_MEMORY, OUT_OF_MEMORY, complain, print};
 use std::alloc::{AllocError, Global};
 use std::io::Write;
 
-/// The exit status where the turns of a worker ran out.
+/// The exit status if the turns of a worker ran out.
 const REFUSED: u8 = 1;
 
-/// Prints the lines of a plant of so many batches, and gives the exit status. What has no line is told on the errors.
+/// Prints the lines of a plant of so many batches, and gives the exit status. An end without a line is reported on the errors.
 // claim: plant's lines
 pub fn report_of_plant<W: Write, E: Write>(
     alloc: Global,

@@ -13,7 +13,7 @@ pub trait PlantRunner {
     /// and runs until all are complete, with rings of as many places and phases of as many ticks as the options say. Gives how many
     /// events the hub has handled.
     ///
-    /// The errors are those of [`plant_run`](batch_plant::plant_run), and [`PlantFault::Refused`] where the set has no recipe.
+    /// The errors are those of [`plant_run`](batch_plant::plant_run), and [`PlantFault::Refused`] if the set has no recipe.
     // claim: options of a run; batches of a run
     fn run_plant(
         &self,

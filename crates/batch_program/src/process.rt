@@ -11,10 +11,10 @@ use std::process::ExitCode;
 use std::thread::Threads;
 use std::{env, io};
 
-/// How much of the record waits before it is handed on in the midst of an input.
+/// How many bytes of the record wait before they are written in the midst of an input.
 const OUTPUT_ROOM: usize = 65_536;
 
-/// Does what the words of the process ask for, over its files and streams, and gives the exit status. Plants run in threads that
+/// Carries out the command of the process's words over its files and streams, and gives the exit status. Plants run in threads that
 /// the second handle starts, which `main` has beside the first.
 // claim: range of statuses
 pub fn run_process<T: Threads>(rt: &HostRuntime, threads: &T) -> ExitCode
@@ -30,7 +30,7 @@ pub fn run_process<T: Threads>(rt: &HostRuntime, threads: &T) -> ExitCode
     ExitCode::from(status)
 }
 
-/// Does what the words ask for, over the files, streams and threads of the process, and gives the exit status.
+/// Carries out the command of the words over the files, streams and threads of the process, and gives the exit status.
 // claim: range of statuses
 pub fn run_on_files<T: Threads>(rt: &HostRuntime, threads: &T, words: &[String]) -> u8
     ensures { result ≤ 4 }

@@ -35,15 +35,16 @@ struct Stop {
     reason: io::Error,
 }
 
-/// Does what the words ask for, and gives the exit status: judges documents, and prints the verdict or writes it into a file, serves
-/// event lines from the input over the set that they name, with a journal or without one, tells or draws what a record says, tells
-/// whether it is that of the lines that were sent, or has a plant of a set run.
+/// Carries out the command of the words, and gives the exit status: judges documents, and prints the verdict or writes it into a
+/// file, serves event lines from the input over the set that they name, with a journal or without one, prints the state to which a
+/// record leads, draws a record, prints whether it is that of the lines that were sent, or has a plant of a set run.
 ///
-/// Verdicts, help, the record, what one tells, the picture of one, what is found of one and the lines of a plant go to the output, and all else, in a free text, to the errors. Refused
-/// events are part of the record and don't change the status. Where the input ends while batches are neither complete, stopped
-/// nor aborted, one line on the errors says how many, unless quiet is asked for; where none is, nothing is written there.
+/// Verdicts, help, the record, the state, the picture or the finding of one, and the lines of a plant go to the output; all else
+/// goes, in a free text, to the errors. Refused events are part of the record and don't change the status. If the input ends while
+/// batches are neither complete, stopped nor aborted, one line on the errors says how many, unless quiet is asked for; if none is,
+/// nothing is written there.
 ///
-/// The time that stands in comments of the record, where they are asked for, is that of the journals' clock. The output is given back.
+/// The time in comments of the record, if they are asked for, is that of the journals' clock. The output is returned.
 // claim: serves; serves with comments; tells instead; record told; record drawn; record audited; served over a file; behind the block
 // claim: never lost; desks served; desks over a file; plants run; batches left; limit of reads; file written
 pub fn run_program<
@@ -169,7 +170,7 @@ fn serve_plainly<R: Read, W: Write, E: Write>(
     (tell_served(alloc, quiet, served, reason, errors), output)
 }
 
-/// The same with comments in the record, in which the time of the journals' clock stands.
+/// The same with comments in the record. Their time is that of the journals' clock.
 fn serve_with_comments<J: Journals, R: Read, W: Write, E: Write>(
     alloc: Global,
     set: Cleared,
@@ -195,7 +196,7 @@ fn serve_with_comments<J: Journals, R: Read, W: Write, E: Write>(
     (tell_served(alloc, quiet, served, reason, errors), output)
 }
 
-/// The reason that the stream gave which stopped serving. A writer that takes nothing gives none.
+/// The reason of the stream that stopped serving. A writer that accepts nothing gives none.
 fn reason_of<R, W>(
     served: Result<usize, SetFault>,
     input: &Noted<R>,
@@ -208,7 +209,7 @@ fn reason_of<R, W>(
     }
 }
 
-/// Tells why serving stopped, or how many batches the end of the input left unfinished, and gives the exit status.
+/// Reports why serving stopped, or how many batches the end of the input left unfinished, and gives the exit status.
 // claim: status of serving
 fn tell_served<E: Write>(
     alloc: Global,
@@ -229,7 +230,7 @@ fn tell_served<E: Write>(
     status
 }
 
-/// Tells how many batches are neither complete, stopped nor aborted, where there are any and quiet isn't asked for.
+/// Reports how many batches are neither complete, stopped nor aborted, if there are any and quiet isn't asked for.
 pub(crate) fn tell_left<E: Write>(alloc: Global, quiet: bool, left: usize, errors: &mut E)
     ensures { IsLeftTold quiet (record { before = E.contents errors.old; after = E.contents errors.new }) left }
 {

@@ -1,4 +1,4 @@
-//! Comparing a record with what was sent.
+//! Comparing a record with the lines that were sent.
 ghost use Rattle.std.specs.Prelude.{◌≡◌, ◌⊎◌, ℕ, List, Option, IfOk, IfSome, string_bytes};
 ghost use Rattle.batch_verdicts.specs.Running.{IsPrinted, IsUnwritten, fault_status, memory_status};
 ghost use Rattle.batch_program.specs.AuditRuns.{IsAuditTold, finding_status, finding_text};
@@ -17,7 +17,7 @@ use std::io;
 use std::io::{ErrorKind, Read, Write};
 use thiserror::Error;
 
-/// The exit status where a record isn't that of the lines that were sent.
+/// The exit status if a record isn't that of the lines that were sent.
 const REFUSED: u8 = 1;
 
 /// Why a record wasn't compared, and the reason that the stream gave.
@@ -28,8 +28,8 @@ struct FailedAudit {
     reason: io::Error,
 }
 
-/// Tells whether the record that the words name is that of the event lines of the input over the set, and gives the exit status. A record that
-/// ends too soon is accepted where they say so.
+/// Prints whether the record that the words name is that of the event lines of the input over the set, and gives the exit status. A
+/// record that ends too soon is accepted if they say so.
 ///
 /// The record is kept in memory, and so are the lines that were sent.
 // claim: record audited
@@ -67,7 +67,7 @@ fn record_at<D: Records>(alloc: Global, path: &str, records: &D) -> io::Result<V
     Ok(text)
 }
 
-/// Tells whether the text is the record of the event lines of the input over the set, and gives the exit status.
+/// Prints whether the text is the record of the event lines of the input over the set, and gives the exit status.
 fn tell_audit<R: Read, W: Write, E: Write>(
     alloc: Global,
     set: Cleared,
@@ -88,7 +88,7 @@ fn tell_audit<R: Read, W: Write, E: Write>(
     }
 }
 
-/// Prints what is found of a record, and gives the exit status.
+/// Prints the finding on a record, and gives the exit status.
 fn tell_finding<W: Write, E: Write>(
     alloc: Global,
     beginning: bool,
@@ -106,7 +106,7 @@ fn tell_finding<W: Write, E: Write>(
     }
 }
 
-/// The line of what is found of a record.
+/// The line of the finding on a record.
 fn finding_text(alloc: Global, beginning: bool, finding: Finding) -> Result<String, AllocError>
     ensures { IfOk result (λ text. string_bytes text ≡ finding_text beginning finding) }
 {
@@ -128,7 +128,7 @@ fn finding_status(beginning: bool, finding: Finding) -> u8
     }
 }
 
-/// Tells why the file at the path can't be opened, read or written, and gives the exit status.
+/// Reports why the file at the path can't be opened, read or written, and gives the exit status.
 pub(crate) fn complain_unread<E: Write>(
     alloc: Global,
     path: &str,
@@ -143,7 +143,7 @@ pub(crate) fn complain_unread<E: Write>(
     complain_unopened(alloc, path, reason, errors)
 }
 
-/// Tells why a record wasn't compared, with the reason that the stream gave, where it gave one, and gives the exit status.
+/// Reports why a record wasn't compared, with the stream's reason if it gave one, and gives the exit status.
 fn complain_unfound<E: Write>(fault: AuditFault, reason: Option<io::Error>, errors: &mut E) -> u8
     ensures { (result ≡ fault_status) ⊎ (result ≡ memory_status) }
 {

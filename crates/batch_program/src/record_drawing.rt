@@ -1,4 +1,4 @@
-//! Drawing what a record says.
+//! Drawing the picture of a record.
 ghost use Rattle.std.specs.Prelude.{◌≡◌, ◌⊎◌, ℕ, IfErr, IfOk, IfSome, Some, option_map, string_bytes};
 ghost use Rattle.batch_verdicts.specs.Running.{fault_status, memory_status};
 ghost use Rattle.batch_program.specs.DrawingRuns.{IsDrawn, IsRecordDrawn};
@@ -23,7 +23,7 @@ use thiserror::Error;
 #[error("the record can't be read: {0}")]
 struct Unread(io::Error);
 
-/// Draws what the record at the path says, or where no path is given the one on the input, and gives the exit status.
+/// Draws the record at the path, or the one on the input if no path is given, and gives the exit status.
 // claim: record drawn
 pub fn draw_record_at<D: Records, R: Read, W: Write, E: Write>(
     alloc: Global,
@@ -51,7 +51,7 @@ pub fn draw_record_at<D: Records, R: Read, W: Write, E: Write>(
     }
 }
 
-/// Prints the picture of what the record tells that the reader gives, or which line is none of a record, and gives the exit status.
+/// Prints the picture of the reader's record, or which line is none of a record, and gives the exit status.
 ///
 /// The record is kept in memory, and so is its picture.
 // claim: record drawn
@@ -99,7 +99,7 @@ fn picture_text(alloc: Global, bytes: &[u8]) -> Result<String, RecordFault>
     Ok(picture.to_string(alloc)?)
 }
 
-/// Tells why a record wasn't read, and gives the exit status.
+/// Reports why a record wasn't read, and gives the exit status.
 fn complain_unread<E: Write>(reason: io::Error, errors: &mut E) -> u8
     ensures { (result ≡ fault_status) ⊎ (result ≡ memory_status) }
 {

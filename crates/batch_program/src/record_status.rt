@@ -1,4 +1,4 @@
-//! Telling what a record says.
+//! Printing the state to which a record leads.
 ghost use Rattle.std.specs.Prelude.{◌≡◌, ◌⊎◌, ℕ, IfErr, IfOk, IfSome, option_map, string_bytes};
 ghost use Rattle.batch_verdicts.specs.Running.{IsPrinted, IsUnwritten, fault_status, memory_status};
 ghost use Rattle.batch_program.specs.PlantRuns.{refused_status};
@@ -17,7 +17,7 @@ use std::io;
 use std::io::{Read, Write};
 use thiserror::Error;
 
-/// The exit status where a line is none of a record.
+/// The exit status if a line is none of a record.
 const REFUSED: u8 = 1;
 
 /// Why a record wasn't read, and the reason that the stream gave.
@@ -36,7 +36,7 @@ struct FailedOpen {
     reason: io::Error,
 }
 
-/// Tells what the record at the path says, or where no path is given the one on the input, and gives the exit status.
+/// Prints the state to which the record at the path leads, or the one on the input if no path is given, and gives the exit status.
 // claim: record told
 pub fn tell_record<D: Records, R: Read, W: Write, E: Write>(
     alloc: Global,
@@ -64,7 +64,7 @@ pub fn tell_record<D: Records, R: Read, W: Write, E: Write>(
     }
 }
 
-/// Prints what the record tells that the reader gives, or which line is none of a record, and gives the exit status.
+/// Prints the state to which the reader's record leads, or which line is none of a record, and gives the exit status.
 // claim: record told; no record
 pub fn tell_status<R: Read, W: Write, E: Write>(
     alloc: Global,
@@ -83,7 +83,7 @@ pub fn tell_status<R: Read, W: Write, E: Write>(
     }
 }
 
-/// The lines of what the record tells that the reader gives.
+/// The lines of the state to which the reader's record leads.
 fn status_text<R: Read>(alloc: Global, reader: &mut R) -> Result<Vec<u8>, StatusFault>
     ensures told { IfOk result (λ text. IfSome (R.remaining reader.old) (λ input. IsStatusOf input text.items)) }
     ensures refused { IfErr result (λ fault. (number : ℕ) → fault ≡ NoRecord number
@@ -119,7 +119,7 @@ fn no_record_text(alloc: Global, line: u64) -> Result<String, AllocError>
     format!(in alloc; "refused R1 {line}\n")
 }
 
-/// Tells why a record wasn't read, with the reason that the stream gave, where it gave one.
+/// Reports why a record wasn't read, with the stream's reason if it gave one.
 fn complain_unread<E: Write>(fault: StatusFault, reason: Option<io::Error>, errors: &mut E) -> u8
     ensures { result ≡ fault_status }
 {
@@ -129,7 +129,7 @@ fn complain_unread<E: Write>(fault: StatusFault, reason: Option<io::Error>, erro
     }
 }
 
-/// Tells why the file at the path can't be opened or written.
+/// Reports why the file at the path can't be opened or written.
 pub(crate) fn complain_unopened<E: Write>(
     alloc: Global,
     path: &str,

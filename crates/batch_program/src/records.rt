@@ -1,4 +1,4 @@
-//! Where records are opened, and certificates written.
+//! Opening records, and writing certificates.
 ghost use Rattle.std.specs.Prelude.{ℕ, List, Option, Some, IfOk, OnOk, ⊤};
 
 use batch_verdicts::FilesOf;
@@ -8,23 +8,23 @@ use std::io::{ErrorKind, Read, Write};
 use std::rt::Files;
 use std::{fs, io};
 
-/// Where records are opened, and certificates written.
+/// A place where records are opened and certificates written.
 pub trait Records {
     type Record: Read + Drop;
 
-    // What the file at a path has to be read, where that is known.
+    // The bytes that the file at a path has to be read, if they are known.
     ghost holds: { Self → List ℕ → Option (List ℕ) → Type 0 };
 
     /// Opens the record at the path for reading.
     fn open(&self, path: &str) -> io::Result<Self::Record>
         ensures { IfOk result (λ opened. holds self.now path.now (Self.Record.remaining opened)) };
 
-    /// Puts a file with these bytes in the place of the one at the path, which stays as it was where that fails.
+    /// Replaces the file at the path by one with these bytes. If that fails, the file stays as it was.
     fn replace(&self, alloc: Global, path: &str, bytes: &[u8]) -> io::Result<()>
         ensures { OnOk result (holds self.now path.now (Some bytes.now)) };
 }
 
-/// The files that the runtime opens. No contract says what they hold.
+/// The files that the runtime opens. No contract says their contents.
 impl<R: Files> Records for FilesOf<'_, R> {
     type Record = R::File;
 
@@ -34,8 +34,8 @@ impl<R: Files> Records for FilesOf<'_, R> {
         fs::open(self.0, path)
     }
 
-    /// The bytes are written to `PATH.new`, which takes the path's name once they are synced. A link, a device or a pipe at the path isn't
-    /// replaced: `AlreadyExists`.
+    /// The bytes are written to `PATH.new`, which takes the path's name once they are synced. A link, a device or a pipe at the path
+    /// isn't replaced: `AlreadyExists`.
     fn replace(&self, alloc: Global, path: &str, bytes: &[u8]) -> io::Result<()> {
         check_replaceable(self.0, path)?;
         let draft = format!(in alloc; "{path}.new")?;
@@ -47,7 +47,7 @@ impl<R: Files> Records for FilesOf<'_, R> {
     }
 }
 
-/// Fails where something stands at the path that is neither a regular file nor a folder, over which a rename fails by itself.
+/// Fails if the path has a file that is neither a regular one nor a folder. Over a folder a rename fails by itself.
 fn check_replaceable<R: Files>(rt: &R, path: &str) -> io::Result<()> {
     match fs::symlink_metadata(rt, path) {
         Ok(found) if found.is_file() || found.is_dir() => Ok(()),

@@ -23,7 +23,7 @@ pub(crate) fn steady_units(
     Ok(units)
 }
 
-/// How many phases the unit offers, as far as a number of a phase says it.
+/// How many phases the unit offers, 65,535 at most.
 #[tactic(auto, using(std::proofs::lemmas::Option::slice_get_cases))]
 fn phase_count(cell: &Cell, unit: u16) -> u16
     requires { unit < length (units_of cell.now) }

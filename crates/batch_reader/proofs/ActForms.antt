@@ -1,4 +1,4 @@
--- Acts, without where their parts lie in memory: what a recipe's parts must be depends on no more.
+-- Acts, without the places of their parts in memory: the conditions on a recipe's parts depend on no more.
 use Rattle.std.proofs.Common.{arith, ◌≡◌, ◌≤◌, nat_le, Bool, true, ◌&&◌, List, [], ◌∷◌, ◌++◌, map, length, Option, Some, None, option_and_then, option_map, refl, sym, ap, ◌∙◌, subst, find}
 use Rattle.std.proofs.Math.Path.{fun_ext}
 use Rattle.std.proofs.lemmas.List.{length-map}
@@ -215,7 +215,7 @@ procedure_form a =
     ∙ ap (λ (F : Name → Name → Place → Tree). form_act (unit_named own) F [] (form a.procedure) (0 ∷ [])) (tree_same own refl tables)
     ∙ ap (λ (named : Name → Name). whole_tree named (form a.procedure) (map form a.unit_procedures.items) (map form a.operations.items) (map form a.phases.items)) (unit_same a.unit_procedures.items)
 
--- ---- what is said of one recipe's parts holds of others with the same forms
+-- ---- a fact of one recipe's parts holds of others with the same forms
 
 same_length : {X Y : Type 0} (f : X → Y) (xs ys : List X) → map f xs ≡ map f ys → length xs ≡ length ys
 same_length f xs ys e = sym (length-map xs f) ∙ ap length e ∙ length-map ys f

@@ -1,4 +1,4 @@
--- What is told of a table of a document stands there.
+-- A fault that is reported of a table of a document is there.
 use Rattle.std.proofs.Common.{◌≡◌, ℕ, ◌<◌, ◌∙◌, Bool, true, List, length, get_or, Option, Some, None, refl, sym, ap, subst}
 use Rattle.toml.specs.Data.{Data, Items, Members, as_table, get_item}
 use Rattle.toml.specs.View.{view, items_view}
@@ -32,7 +32,7 @@ array_table IsRight IsFault list vs kind i d table found below is_table before (
       rw (found, place) (record { here = view (get_or vs i d); found = get_item-view vs i d below; fault = rw (← is_table) told.1; before = before }),
     )
 
--- what is told of one table is told of a document
+-- a fault of one table is a fault of a document
 pub at_told : (spot : Spot) (P : EntryFault → Type 0) (Q : Spot → EntryFault → Type 0) → ((wrong : EntryFault) → P wrong → Q spot wrong)
     → (fault : TableFault) → TellsAt spot P fault → Tells Q fault
 at_told spot P Q f Memory told = tt
@@ -42,7 +42,7 @@ pub tells_weaker : (P Q : Spot → EntryFault → Type 0) → ((spot : Spot) (wr
 tells_weaker P Q f Memory told = tt
 tells_weaker P Q f (Entry here wrong) told = f here wrong told
 
--- what is told of the tables of one kind is told of a document, and of a kind of its own
+-- a fault of the tables of one kind is a fault of a document, at a table of that kind
 pub in_told : (kind : TableKind) (P : ℕ → EntryFault → Type 0) (Q : Spot → EntryFault → Type 0)
     → ((entry : ℕ) (wrong : EntryFault) → P entry wrong → Q (record { kind = kind; entry = entry }) wrong) → (fault : TableFault) → TellsIn kind P fault → Tells Q fault
 in_told kind P Q f Memory told = tt

@@ -1,4 +1,4 @@
--- What a chart names, branch by branch.
+-- The names that a chart uses, branch by branch.
 use Rattle.std.proofs.Common.{arith, ◌≡◌, ℕ, ◌-◌, nat_le, nat_lt, Bool, true, ◌&&◌, List, [], ◌∷◌, ◌++◌, map, refl, sym, ap, ◌∙◌}
 use Rattle.std.proofs.lemmas.List.Folds.{list_all-append}
 use Rattle.std.specs.List.{list_all}
@@ -98,7 +98,7 @@ module _ (labels values : List Name) where
           all_of_both (is_among values) (names_compared c ++ values_of d) (values_of_cases cs) (all_of_both (is_among values) (names_compared c) (values_of d) tested first.1) rest.1,
         )
 
-  -- a chart of the grammar is one of a recipe just where what it names is declared
+  -- a chart of the grammar is one of a recipe just where the names that it uses are declared
   pub formed_chart : (d : Diagram) → IsFormed d → is_declared labels values d ≡ is_chart labels values 32 d
   formed_chart d formed =
       same_test (is_declared labels values d) (is_chart labels values 32 d)

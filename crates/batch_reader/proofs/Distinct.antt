@@ -6,7 +6,7 @@ use Rattle.std.proofs.lemmas.List.Concat.{flat_map_single}
 use Rattle.std.specs.List.{IsDistinct, flat_map}
 pub use Rattle.batch_cell.proofs.Distinct.{IsDistinct-front, IsDistinct-twice}
 
--- what one more element adds to the names so far
+-- the names so far, after one more element
 pub names_turn : {X K : Type 0} (g : X → List K) (base keys new : List K) (xs : List X) (i : ℕ) (d : X) → i < length xs
     → keys ≡ base ++ flat_map g (take i xs) → new ≡ keys ++ g (get_or xs i d) → new ≡ base ++ flat_map g (take (i + 1) xs)
 names_turn g base keys new xs i d below so_far added = grind (arith, flat_map_more g base (take i xs) (get_or xs i d), take_more xs i d below)

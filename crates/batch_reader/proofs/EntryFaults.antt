@@ -1,4 +1,4 @@
--- What is told of the entry of a table stands there.
+-- A fault that is reported of the entry of a table is there.
 use Rattle.std.proofs.Common.{◌≡◌, ◌≢◌, ℕ, ◌<◌, ◌≤◌, ℤ, nat_lt, Bool, true, false, inl, inr, List, [], ◌∷◌, length, Option, Some, None, Result, Ok, Err, if◌then◌else◌, is_some, IfErr, refl, sym, ap, ◌∙◌, subst, arith, codes}
 use Rattle.std.proofs.lemmas.Bool.Decides.{nat_tests}
 use Rattle.std.specs.List.{slice_get}
@@ -16,7 +16,7 @@ use Rattle.batch_reader.specs.declared.fault.TableFault.TheVariants.{Entry, Memo
 use Rattle.batch_reader.specs.declared.fault.TableKind.{TableKind}
 use Rattle.batch_reader.specs.declared.keys.ValueForm.TheVariants as form
 
--- what is told as this, and is refused only where that is so
+-- a table that is refused as this, and only where this is wrong, has the fault
 pub told_as : {Refused : Type 0} (Is : EntryFault → Type 0) (spot : Spot) (wrong : EntryFault) (fault : TableFault) → (Refused → Is wrong)
     → (fault ≢ Memory → Refused) → IsToldAs spot wrong fault → TellsAt spot Is fault
 told_as Is spot wrong Memory stands refused told = tt

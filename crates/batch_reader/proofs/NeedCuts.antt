@@ -1,4 +1,4 @@
--- What a text that is a need says, by where its first star stands.
+-- The need of a text, by the place of its first star.
 use Rattle.std.proofs.Common.{◌≡◌, ℕ, ◌+◌, ◌-◌, true, false, List, [], ◌∷◌, length, slice_index, take, drop, position, Option, Some, None, refl, sym, ◌∙◌, subst, arith}
 use Rattle.std.specs.Char.{is_ascii_alphabetic}
 use Rattle.std.specs.List.{list_all}

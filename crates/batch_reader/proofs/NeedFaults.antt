@@ -1,4 +1,4 @@
--- What is told of a need stands there.
+-- A fault that is reported of a need is there.
 use Rattle.std.proofs.Common.{◌≡◌, ℕ, ◌<◌, List, length, get_or, Option, Some, None, inl, refl, arith}
 use Rattle.std.specs.Option.{option_map_or}
 use Rattle.toml.specs.Data.{Data, no_items, Members, get_member, as_array}

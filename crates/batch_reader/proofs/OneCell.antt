@@ -34,7 +34,7 @@ same_phases ms x y (inl h) (inr k) = absurd (HasName_missing _ ms k.unit h.no_un
 same_phases ms x y (inr h) (inl k) = absurd (HasName_missing _ ms h.unit k.no_unit h.has_unit)
 same_phases ms x y (inr h) (inr k) = HasNames_unique _ ms x.phases.items y.phases.items h.phases k.phases
 
--- the names, and what a table of modules says of units and phases
+-- the names, and the units and phases of a table of modules
 same_unit_names : (ms : Members) (xs ys : List Unit) → HasTables IsUnitTable (codes "unit") ms xs → HasTables IsUnitTable (codes "unit") ms ys
     → unit_names xs ≡ unit_names ys
 same_unit_names ms xs ys h k =

@@ -45,7 +45,7 @@ pub count_items-view : (vs : List Value) → count_items (items_view vs) ≡ len
 count_items-view [] = refl
 count_items-view (v ∷ vs) = omega (arith, count_items-view vs)
 
--- what is told of a list of names, as its length says
+-- the fault of a list of names, by its length
 pub few_names_fault-long : (most : ℕ) (found : Option Items) (vs : List Value) → found ≡ Some (items_view vs) → most < length vs → OutOfLimit ≡ few_names_fault most found
 few_names_fault-long most found vs is_list many = grind (arith, count_items-view vs, nat_tests)
 

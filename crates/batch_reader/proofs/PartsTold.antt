@@ -1,4 +1,4 @@
--- What is told of a table among others stands there.
+-- A fault that is reported of a table among others is there.
 use Rattle.std.proofs.Common.{◌≡◌, ℕ, ◌+◌, ◌<◌, ◌≤◌, List, [], ◌∷◌, ◌++◌, length, map, take, get_or, nat_eq, refl, sym, ap, subst, ◌∙◌, append-nil, inl, inr, arith, Err, IsErrOf}
 use Rattle.std.proofs.lemmas.List.{take_more}
 use Rattle.std.proofs.lemmas.List.Elements.{All-append, All-cons, All-nil}
@@ -29,7 +29,7 @@ use Rattle.batch_reader.specs.declared.fault.TableFault.TheVariants.{Entry, Memo
 use Rattle.batch_reader.specs.declared.fault.TableKind.{TableKind}
 use Rattle.batch_reader.specs.declared.fault.TableKind.TheVariants as table_kind
 
--- where it is known what is wrong, or also in which tables, that is told of the spot
+-- if the fault is known, or also the kind of its table, it is reported of the spot
 pub wrong_told : (what : EntryFault) (P : Spot → Type 0) (Q : Spot → EntryFault → Type 0) → ((spot : Spot) → P spot → Q spot what) → (fault : TableFault)
     → IsWrong what fault → Tells (λ spot _. P spot) fault → Tells Q fault
 wrong_told what P Q f Memory is_wrong told = tt
@@ -85,7 +85,7 @@ offers_told units modules i d unit same below Memory first = tt
 offers_told units modules i d unit same below (Entry here wrong) first =
     record { place = i; unit = unit; declared = rw same (slice_get-get_or units i d below); first = first here wrong refl }
 
--- an act names what isn't declared
+-- an act refers to an undeclared name
 pub undeclared_told : (inputs parameters : List Quantity) (outputs : List Name) (acts : Acts) (values : List Name) (fault : TableFault) → values ≡ value_names inputs parameters outputs
     → IsWrong Undeclared fault → Tells (λ spot _. HasUndeclaredName values acts spot.kind spot.entry) fault
     → Tells (λ spot. IsNamingFault inputs parameters outputs acts spot.kind spot.entry) fault
@@ -93,7 +93,7 @@ undeclared_told inputs parameters outputs acts values Memory same is_wrong told 
 undeclared_told inputs parameters outputs acts values (Entry here wrong) same is_wrong told =
     subst (IsNamingFault inputs parameters outputs acts here.kind here.entry) (sym is_wrong) (subst (λ names. HasUndeclaredName names acts here.kind here.entry) same told)
 
--- what is wrong among names is wrong with a recipe's parts
+-- a fault among names is a fault of a recipe's parts
 pub naming_fault : (p : Parts) (kind : TableKind) (entry : ℕ) (wrong : EntryFault) → IsNamingFault p.inputs p.parameters p.outputs p.acts kind entry wrong → IsPartFault p kind entry wrong
 naming_fault p kind entry MissingKey h = h
 naming_fault p kind entry WrongKind h = h
@@ -122,7 +122,7 @@ report_fault p kind entry Duplicate h = inr (inr (inr (inl h)))
 report_fault p kind entry OutOfLimit h = absurd h
 report_fault p kind entry (Chart offset) h = h
 
--- nothing else is told of what acts reserve
+-- the names that acts reserve have no other fault
 no_reserve_fault : (acts : Acts) (kind : TableKind) (entry : ℕ) (wrong : EntryFault) → ((names : List Name) (table : List Act) → IsReserveFaultOf names table entry wrong → ⊥)
     → HasReserveFault acts kind entry wrong → ⊥
 no_reserve_fault acts table_kind.UnitProcedure entry wrong none h = none _ _ h

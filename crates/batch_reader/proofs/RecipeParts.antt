@@ -1,4 +1,4 @@
--- What the tables of a recipe tell of its acts and names by themselves.
+-- The facts of a recipe's acts and names that its tables give by themselves.
 use Rattle.std.proofs.Common.{arith, ◌≡◌, ◌≤◌, nat_le, length, ℕ, Bool, true, false, not, ◌&&◌, List, [], ◌∷◌, ◌++◌, map, Some, None, codes, refl, sym, ap, ◌∙◌, subst}
 use Rattle.std.proofs.lemmas.List.Elements.{All-nil, All-cons}
 use Rattle.std.proofs.lemmas.List.Folds.{list_all-append, list_all-map}
@@ -19,7 +19,7 @@ use Rattle.batch_reader.specs.FormedActs.{IsFormedWork, AreFormed}
 use Rattle.batch_reader.specs.RecipeTables.{IsQuantityTable, IsOutputTable, HasCourse, IsProcedureTable, IsUnitProcedureTable, IsOperationTable, IsPhaseTable}
 use Rattle.batch_reader.specs.RecipeDocument.{HasActs}
 
--- what holds of each value that a table stands for holds of those of all tables
+-- a property of each value that a table stands for holds of those of all tables
 each_item : {X : Type 0} (R : Members → X → Type 0) (P : X → Type 0) → ((ms : Members) (x : X) → R ms x → P x)
     → (items : Items) (xs : List X) → AllItems (IsTableOf R) items xs → All P xs
 each_item R P one no_items [] h = All-nil P

@@ -1,4 +1,4 @@
--- What makes a recipe's acts well formed: their names differ, and what they name is declared.
+-- A recipe's acts are well formed if their names differ and the names that they use are declared.
 use Rattle.std.proofs.Common.{arith, ◌≡◌, Bool, true, ◌&&◌, List, [], ◌∷◌, refl}
 use Rattle.std.specs.List.{list_all}
 use Rattle.batch_recipe.specs.Conditions.{Name}

@@ -1,4 +1,4 @@
--- trusted: what a cell document says.
+-- trusted: the meaning of a cell document.
 use Rattle.std.specs.Prelude.{◌≡◌, ℕ, ◌<◌, ◌≤◌, ◌⊎◌, true, List, [], Some, None, length, codes}
 use Rattle.toml.specs.Data.{Members, get_member}
 use Rattle.batch_cell.specs.Equipment.{IsDeclaredOnce, HasDeclaredUnits, OffersPhasesOnce}

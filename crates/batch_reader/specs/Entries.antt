@@ -1,4 +1,4 @@
--- trusted: what the entries of a table say, and a document by its table.
+-- trusted: the meaning of the entries of a table, and of a document by its table.
 use Rattle.std.specs.Prelude.{◌≡◌, ℕ, ◌≤◌, pos, Bool, true, false, ◌&&◌, ◌⊎◌, ⊤, List, [], ◌∷◌, length, Option, Some, None, option_and_then, nat_eq, IsUtf8}
 use Rattle.std.specs.Cmp.Lexicographic.{pointwise}
 use Rattle.std.specs.Option.{option_map_or}

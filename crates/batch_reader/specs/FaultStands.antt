@@ -1,4 +1,4 @@
--- trusted: what a document's refusal names is wrong there.
+-- trusted: a document has the fault that its refusal names.
 use Rattle.std.specs.Prelude.{◌≡◌, ℕ, ◌<◌, ◌⊎◌, List, Some, length}
 use Rattle.toml.specs.Data.{Members}
 use Rattle.toml.specs.Parse.{parse_document}
@@ -16,7 +16,7 @@ IsWrongAt document spot wrong =
     IsFaultOfTable document spot.kind spot.entry wrong
     ⊎ (HasEquipmentFault document spot.kind spot.entry wrong ⊎ HasPartFault document spot.kind spot.entry wrong)
 
--- the bytes are too many, which is told at the top
+-- the bytes are too many, which is reported at the top
 pub record IsTooLong (bytes : List ℕ) (spot : Spot) (wrong : EntryFault) : Type 0 where
   pub long : MAX_DOCUMENT_LEN < length bytes
   pub top : (spot.kind ≡ Cell) ⊎ (spot.kind ≡ Recipe)

@@ -1,4 +1,4 @@
--- trusted: what the refusal of a table tells.
+-- trusted: the content of a table's refusal.
 use Rattle.std.specs.Prelude.{◌≡◌, ℕ, ◌≤◌, nat_lt, ◌⊎◌, ⊤, List, Bool, true, false, not, position, if◌then◌else◌, Option, Some, None, codes}
 use Rattle.toml.specs.Data.{Data, Items, Members}
 use Rattle.batch_text.specs.NumberText.{IsNumber, number_of}
@@ -41,7 +41,7 @@ abbrev pub IsAmong : (TableKind → Bool) → TableFault → Type 0
 IsAmong kinds (Entry here wrong) = kinds here.kind ≡ true
 IsAmong kinds Memory = ⊤
 
--- unless memory was refused, this is what is wrong
+-- unless memory was refused, the fault is this one
 abbrev pub IsWrong : EntryFault → TableFault → Type 0
 IsWrong wrong (Entry here what) = what ≡ wrong
 IsWrong wrong Memory = ⊤
@@ -56,17 +56,17 @@ abbrev pub IsToldAs : Spot → EntryFault → TableFault → Type 0
 IsToldAs spot wrong (Entry here what) = (here ≡ spot) × (what ≡ wrong)
 IsToldAs spot wrong Memory = ⊤
 
--- unless memory was refused, such a thing is wrong in the table at this spot
+-- unless memory was refused, the fault is in the table at this spot, and has this property
 abbrev pub TellsAt : Spot → (EntryFault → Type 0) → TableFault → Type 0
 TellsAt spot Is (Entry here wrong) = (here ≡ spot) × Is wrong
 TellsAt spot Is Memory = ⊤
 
--- unless memory was refused, such a thing is wrong at an entry of a table of this kind
+-- unless memory was refused, the fault is in a table of this kind, and it and the table's number have this property
 abbrev pub TellsIn : TableKind → (ℕ → EntryFault → Type 0) → TableFault → Type 0
 TellsIn kind Is (Entry here wrong) = (here.kind ≡ kind) × Is here.entry wrong
 TellsIn kind Is Memory = ⊤
 
--- unless memory was refused, such a thing is wrong at a spot
+-- unless memory was refused, the fault and its spot have this property
 abbrev pub Tells : (Spot → EntryFault → Type 0) → TableFault → Type 0
 Tells Is (Entry here wrong) = Is here wrong
 Tells Is Memory = ⊤
@@ -102,13 +102,13 @@ IsActFault Operation table wrong = IsTableFault Operation table wrong
 IsActFault Phase table wrong = IsTableFault Phase table wrong
 IsActFault _ table wrong = ⊤
 
--- this is wrong among the names of values and acts, and what acts name of them
+-- this is wrong with the names of values and acts, or with an act's references to them
 abbrev pub IsNamingFault : List Quantity → List Quantity → List Name → Acts → TableKind → ℕ → EntryFault → Type 0
 IsNamingFault inputs parameters outputs acts kind entry Duplicate = HasValueTwice inputs parameters outputs kind entry ⊎ HasActTwice acts kind entry
 IsNamingFault inputs parameters outputs acts kind entry Undeclared = HasUndeclaredName (value_names inputs parameters outputs) acts kind entry
 IsNamingFault inputs parameters outputs acts kind entry _ = ⊥
 
--- this is wrong among the roles, and what unit procedures name of them
+-- this is wrong with the names of the roles, or with a unit procedure's reference to them
 abbrev pub IsRoleFault : List Role → Acts → TableKind → ℕ → EntryFault → Type 0
 IsRoleFault roles acts kind entry Duplicate = HasRoleTwice roles kind entry
 IsRoleFault roles acts kind entry Undeclared = HasUndeclaredRole roles acts kind entry
@@ -120,22 +120,22 @@ IsReportFault outputs acts kind entry Duplicate = HasReportTwice acts kind entry
 IsReportFault outputs acts kind entry Undeclared = HasUndeclaredReport outputs acts kind entry
 IsReportFault outputs acts kind entry _ = ⊥
 
--- what is wrong with a key that has no value of its kind
+-- the fault of a key that has no value of its kind
 abbrev pub missing_or_wrong : Option Data → EntryFault
 missing_or_wrong None = MissingKey
 missing_or_wrong (Some d) = WrongKind
 
--- what is wrong with a value that isn't of its kind, or isn't within its limits
+-- the fault of a value that isn't of its kind, or isn't within its limits
 abbrev pub kind_fault : {X : Type 0} → Option X → EntryFault
 kind_fault None = WrongKind
 kind_fault (Some x) = OutOfLimit
 
--- what is wrong with a key that has no value of its kind within its limits
+-- the fault of a key that has no value of its kind within its limits
 abbrev pub value_fault : {X : Type 0} → (Data → Option X) → Option Data → EntryFault
 value_fault of_kind None = MissingKey
 value_fault of_kind (Some d) = kind_fault (of_kind d)
 
--- what is wrong with a key that has no list of at most so many names: there are too many, or it is no list of names
+-- the fault of a key that has no list of at most so many names: there are too many, or it is no list of names
 abbrev pub few_names_fault : ℕ → Option Items → EntryFault
 few_names_fault most None = WrongKind
 few_names_fault most (Some items) = if nat_lt most (count_items items) then OutOfLimit else WrongKind

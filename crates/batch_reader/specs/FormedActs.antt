@@ -1,4 +1,4 @@
--- private: what the table of each act tells by itself, whatever the others declare.
+-- private: the facts of each act that its own table decides, whatever the others declare.
 use Rattle.std.specs.Prelude.{◌≡◌, ◌≤◌, true, List, length, All}
 use Rattle.std.specs.List.{list_all}
 use Rattle.batch_grammar.specs.ChartForm.{IsFormed}

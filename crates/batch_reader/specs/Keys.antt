@@ -21,7 +21,7 @@ pub record Key : Type 0 where
   pub form : ValueForm
   pub is_needed : Bool
 
--- what a row of the code's table says
+-- the key of a row of the code's table
 abbrev pub key_said : KeyRow → Key
 key_said row = record { word = row.0.now; form = row.2; is_needed = row.1 }
 
@@ -77,7 +77,7 @@ keys_of Desk =
     ∷ optional (codes "input") (form.Path MAX_PATH_LEN) ∷ optional (codes "output") (form.Path MAX_PATH_LEN)
     ∷ optional (codes "unit") form.Name ∷ optional (codes "stays") form.Truth ∷ optional (codes "lag") (form.Number 1 MAX_LAG) ∷ []
 
--- the key may stand in the table, of this kind: a module's phases beside its unit alone, and a unit procedure's unit where it has no role
+-- the key may be in the table, of this kind: a module's phases only beside its unit, a unit procedure's unit only without a role
 abbrev pub may_stand : TableKind → List ℕ → Members → Bool
 may_stand Module word table = not (pointwise nat_eq word (codes "phases")) || is_some (get_member (codes "unit") table)
 may_stand UnitProcedure word table = not (pointwise nat_eq word (codes "unit")) || not (is_some (get_member (codes "role") table))

@@ -1,4 +1,4 @@
--- private: what the acts of a recipe name, and what is declared.
+-- private: the names that the acts of a recipe use, and their declarations.
 use Rattle.std.specs.Prelude.{Bool, ◌&&◌, List, []}
 use Rattle.std.specs.List.{list_all}
 use Rattle.batch_grammar.specs.ChartForm.{labels_of, values_of}

@@ -16,7 +16,7 @@ pub record IsUnits (text : List ℕ) (units : ℕ) : Type 0 where
   pub some : 1 ≤ units
   pub few : units ≤ MAX_UNITS
 
--- where its first star stands the name ends, and the number of units begins after it; without a star it is one unit
+-- the name ends at the first star, and the number of units begins after it; without a star it is one unit
 abbrev pub IsNeedCut : Option ℕ → List ℕ → Need → Type 0
 IsNeedCut None text need = IsName text × (need.resource ≡ text) × (need.units ≡ 1)
 IsNeedCut (Some star) text need = IsName (take star text) × (need.resource ≡ take star text) × IsUnits (drop (star + 1) text) need.units

@@ -1,4 +1,4 @@
--- trusted: what is wrong among the tables of a document, each of which is right by itself: how many there are, their names, and what they name.
+-- trusted: faults among tables that are right by themselves: their count, their names, and the names to which they refer.
 use Rattle.std.specs.Prelude.{◌≡◌, ◌≢◌, ℕ, ◌+◌, ◌<◌, ◌⊎◌, true, nat_eq, List, [], map, take, length, Some, codes}
 use Rattle.std.specs.Cmp.Lexicographic.{pointwise}
 use Rattle.std.specs.List.{IsDistinct, list_all, slice_get}
@@ -31,7 +31,7 @@ pub record FailsFirst {X : Type 0} (Holds : List X → Type 0) (tables : List X)
   pub before : Holds (take entry tables)
   pub fails : ¬ Holds (take (entry + 1) tables)
 
--- there are too few tables, which is told at entry 0, or too many, which is told at the first one too many
+-- there are too few tables, which is reported at entry 0, or too many, which is reported at the first one too many
 abbrev pub IsCountFault : ℕ → ℕ → ℕ → ℕ → Type 0
 IsCountFault least most count entry = ((count < least) × (entry ≡ 0)) ⊎ ((most < count) × (entry ≡ most))
 
@@ -137,7 +137,7 @@ HasActTwice acts _ entry = ⊥
 abbrev pub IsFirstUndeclared : List Name → List Name → List Act → ℕ → Type 0
 IsFirstUndeclared labels values acts entry = FailsFirst (λ front. list_all (is_work labels values) front ≡ true) acts entry
 
--- the chart, or the phase step's list of values, names what isn't declared: labels are of the acts below
+-- the chart, or the phase step's list of values, has an undeclared name: labels are names of the acts below
 abbrev pub HasUndeclaredName : List Name → Acts → TableKind → ℕ → Type 0
 HasUndeclaredName values acts table_kind.Procedure entry = (entry ≡ 0) × (is_work (act_names acts.unit_procedures.items) values acts.procedure ≢ true)
 HasUndeclaredName values acts table_kind.UnitProcedure entry = IsFirstUndeclared (act_names acts.operations.items) values acts.unit_procedures.items entry

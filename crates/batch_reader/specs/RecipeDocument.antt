@@ -1,4 +1,4 @@
--- trusted: what a recipe document says.
+-- trusted: the meaning of a recipe document.
 use Rattle.std.specs.Prelude.{◌≡◌, ℕ, true, List, codes}
 use Rattle.toml.specs.Data.{Members}
 use Rattle.batch_recipe.specs.declared.acts.Acts.{Acts}

@@ -1,4 +1,4 @@
--- trusted: what the tables of a recipe document stand for.
+-- trusted: the meaning of the tables of a recipe document.
 use Rattle.std.specs.Prelude.{◌≡◌, ◌≤◌, ℕ, true, List, [], Some, None, codes, option_map, string_bytes}
 use Rattle.std.specs.Global.{Vec}
 use Rattle.toml.specs.Data.{Members}

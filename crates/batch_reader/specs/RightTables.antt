@@ -1,4 +1,4 @@
--- trusted: what each table of an array stands for, where it is right by itself.
+-- trusted: the tables of an array that are right by themselves.
 use Rattle.toml.specs.Data.{Data}
 use Rattle.batch_cell.specs.declared.module.Module.{Module}
 use Rattle.batch_cell.specs.declared.shared.Shared.{Shared}

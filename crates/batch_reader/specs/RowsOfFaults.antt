@@ -1,4 +1,4 @@
--- worked rows: what stands in a document, and what doesn't.
+-- worked rows: faults that a document has, and faults that it doesn't have.
 use Rattle.std.specs.Prelude.{◌≡◌, [], ◌∷◌, Some, codes}
 use Rattle.toml.specs.Data.{Members, no_members, member, no_items, item, string, array, table}
 use Rattle.batch_cell.specs.declared.module.Module.{Module}

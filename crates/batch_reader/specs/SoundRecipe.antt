@@ -20,7 +20,7 @@ pub record IsSoundRecipe (inputs parameters : List Quantity) (outputs : List Nam
   pub few_operations : length acts.operations.items ≤ MAX_ACTS
   pub some_phases : 0 < length acts.phases.items
   pub few_phases : length acts.phases.items ≤ MAX_ACTS
-  -- names differ, and what a chart, a condition or a phase step names is declared
+  -- names differ, and the names that charts, conditions and phase steps use are declared
   pub well_formed : is_well_formed (value_names inputs parameters outputs) acts ≡ true
   -- names of roles differ, and those that unit procedures name are declared
   pub own_roles : are_roles roles acts ≡ true

@@ -1,4 +1,4 @@
--- private: what the checks of a recipe's parts leave to the making of the recipe, which counts the nodes.
+-- private: the soundness of a recipe's parts before its nodes are counted, and the fault of that count.
 use Rattle.std.specs.Prelude.{◌≡◌, ◌<◌, ◌≤◌, true, List, length}
 use Rattle.batch_recipe.specs.Conditions.{Name}
 use Rattle.batch_recipe.specs.WellFormed.{are_reports, are_reserves, are_roles, is_well_formed, value_names}
@@ -31,7 +31,7 @@ pub record HasSoundTables (inputs parameters : List Quantity) (outputs : List Na
   pub own_reports : are_reports outputs acts ≡ true
   pub own_reserves : are_reserves acts ≡ true
 
--- the size of the expanded tree is told at the procedure
+-- a fault in the size of the expanded tree is reported at the procedure
 abbrev pub outline_fault : OutlineFault → TableFault
 outline_fault outline.TooMany = Entry (record { kind = Procedure; entry = 0 }) OutOfLimit
 outline_fault outline.Memory = Memory

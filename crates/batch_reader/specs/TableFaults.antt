@@ -1,4 +1,4 @@
--- trusted: what is wrong with a table by itself, where it is refused.
+-- trusted: the faults of a table by itself, for which it is refused.
 use Rattle.std.specs.Prelude.{◌≡◌, ℕ, ◌+◌, ◌<◌, ◌≤◌, ℤ, pos, ◌⊎◌, ⊤, Bool, true, false, List, length, take, drop, position, Option, Some, None, option_and_then, codes}
 use Rattle.std.specs.List.{slice_get}
 use Rattle.toml.specs.Data.{Data, Items, no_items, item, get_item, Members, get_member, as_str, as_integer, as_bool, as_array, as_table}
@@ -25,14 +25,14 @@ abbrev pub count_items : Items → ℕ
 count_items no_items = 0
 count_items (item d ds) = 1 + count_items ds
 
--- one of the items is such
+-- one of the items has this property
 pub record HasItem (Is : Data → Type 0) (items : Items) : Type 0 where
   pub place : ℕ
   pub here : Data
   pub found : get_item place items ≡ Some here
   pub such : Is here
 
--- the value is a text, which is such
+-- the value is a text that has this property
 pub record IsTextThat (Is : List ℕ → Type 0) (d : Data) : Type 0 where
   pub text : List ℕ
   pub found : as_str d ≡ Some text
@@ -40,7 +40,7 @@ pub record IsTextThat (Is : List ℕ → Type 0) (d : Data) : Type 0 where
 
 -- ---- needs
 
--- before the star of the text stands no name, or after it no number
+-- the text has no name before its star, or no number after it
 abbrev pub IsNoNeedCut : Option ℕ → List ℕ → Type 0
 IsNoNeedCut None text = ¬ IsName text
 IsNoNeedCut (Some star) text = ¬ (IsName (take star text) × IsNumber (drop (star + 1) text))
@@ -58,7 +58,7 @@ IsNeedOutOfLimits = IsTextThat (λ text. HasTooManyUnits (position is_star text)
 
 -- ---- values
 
--- it is no list, or its items are such
+-- the value is no list, or its items have this property
 abbrev pub IsNoListOr : (Items → Type 0) → Option Items → Type 0
 IsNoListOr Are None = ⊤
 IsNoListOr Are (Some items) = Are items
@@ -95,7 +95,7 @@ pub record IsAbove (key : List ℕ) (table : Members) (d : Data) : Type 0 where
   pub found_other : option_and_then as_integer (get_member key table) ≡ Some (pos other)
   pub above : other < number
 
--- the value is a list, of so many items
+-- the value is a list whose items have this property
 pub record IsListThat (Is : Items → Type 0) (d : Data) : Type 0 where
   pub items : Items
   pub found : as_array d ≡ Some items
@@ -128,7 +128,7 @@ IsNoChartAt offset text = (length text ≤ MAX_CHART_LEN) × HasFaultAt text off
 abbrev pub OpensParAt : ℕ → List ℕ → Type 0
 OpensParAt offset text = (chart : Diagram) × IsRead text chart (Some offset)
 
--- the text at the key is refused for what stands at the offset
+-- the value is a text that is refused as a chart at the offset
 abbrev pub HasChartFaultAt : ValueForm → ℕ → Data → Type 0
 HasChartFaultAt form.Chart offset d = IsTextThat (IsNoChartAt offset) d
 HasChartFaultAt form.ChartWithoutPar offset d = IsTextThat (λ text. IsNoChartAt offset text ⊎ OpensParAt offset text) d
@@ -136,7 +136,7 @@ HasChartFaultAt _ offset d = ⊥
 
 -- ---- keys and tables
 
--- the key has a value, which is such
+-- the key has a value that has this property
 pub record HasValue (Is : Data → Type 0) (word : List ℕ) (table : Members) : Type 0 where
   pub here : Data
   pub found : get_member word table ≡ Some here
@@ -178,7 +178,7 @@ pub record IsEntryFault (IsRight : Data → Type 0) (IsFault : Members → Entry
   pub fault : IsNoTableOr IsFault (as_table here) wrong
   pub before : (n : ℕ) (d : Data) → n < entry → get_item n items ≡ Some d → IsRight d
 
--- what stands for the tables is no list, which is told at entry 0, or this is wrong with the entry, and with none before it
+-- the value is no list, which is reported at entry 0, or this is wrong with the entry, and those before it are right
 abbrev pub IsArrayFault : (Data → Type 0) → (Members → EntryFault → Type 0) → Option Items → ℕ → EntryFault → Type 0
 IsArrayFault IsRight IsFault None entry wrong = (entry ≡ 0) × (wrong ≡ WrongKind)
 IsArrayFault IsRight IsFault (Some items) entry wrong = IsEntryFault IsRight IsFault items entry wrong

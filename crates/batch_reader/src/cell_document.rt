@@ -26,11 +26,11 @@ const TOP: Spot = Spot {
 };
 
 /// Reads a cell document. It is refused as
-/// - `NotToml`, where its bytes are no TOML in UTF-8;
-/// - `Entry`, where it is too long, which is told at its top, or says no cell. The first fault is told: of the top's
+/// - `NotToml`, if its bytes are no TOML in UTF-8;
+/// - `Entry`, if it is too long, which is reported at its top, or says no cell. The first fault is reported: of the top's
 ///   entries, then of each table by itself (units, modules, shared resources), then of how many there are, of their
 ///   names, of the units that modules name, and of the phases that each unit offers;
-/// - `Memory`, where memory is refused on the way.
+/// - `Memory`, if memory is refused on the way.
 pub fn read_cell(alloc: Global, bytes: &[u8]) -> Result<Cell, DocFault>
     // claim: cell read
     ensures ok { IfOk result (IsCellDocument bytes.now) }

@@ -1,4 +1,4 @@
-//! What charts name.
+//! The names that charts use.
 ghost use Rattle.std.specs.Prelude.{◌≡◌, ◌&&◌};
 ghost use Rattle.std.specs.List.{list_all};
 ghost use Rattle.batch_grammar.specs.ChartForm.{names_compared};

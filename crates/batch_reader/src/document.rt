@@ -1,4 +1,4 @@
-//! Documents, before it is known what they stand for.
+//! The parsing of a document's bytes to a table.
 ghost use Rattle.std.specs.Prelude.{◌≡◌, ◌≢◌, ◌≤◌, ◌<◌, Some, Err, length, IfOk, IfErr, IsErrOf, IsSome, IsUtf8};
 ghost use Rattle.toml.specs.Parse.{parse_document};
 ghost use Rattle.toml.specs.View.{table_view};
@@ -13,9 +13,9 @@ use toml::Table;
 pub const MAX_DOCUMENT_LEN: usize = 1_048_576;
 
 /// The table of a document. It is refused as
-/// - `NotToml`, where its bytes are no TOML in UTF-8;
-/// - `Entry`, at its top and out of limits, where it is too long;
-/// - `Memory`, where memory is refused.
+/// - `NotToml`, if its bytes are no TOML in UTF-8;
+/// - `Entry`, at its top and out of limits, if it is too long;
+/// - `Memory`, if memory is refused.
 // claim: table of a document
 pub fn table_of(alloc: Global, bytes: &[u8], top: Spot) -> Result<Table, DocFault>
     ensures short { IfOk result (λ _. length bytes.now ≤ MAX_DOCUMENT_LEN) }

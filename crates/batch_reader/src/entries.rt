@@ -150,8 +150,8 @@ pub(crate) fn text_at(
     Ok(String::from_str(alloc, text)?)
 }
 
-/// The text at a key of the table at the spot, of at most so many bytes, where the key is there. It is refused as of the wrong kind where it
-/// is no text, and as out of limits where it is longer.
+/// The text at a key of the table at the spot, of at most so many bytes, if the key is there. It is refused as of the wrong kind if
+/// it is no text, and as out of limits if it is longer.
 // claim: values of a table
 pub fn optional_text_at(
     alloc: Global,

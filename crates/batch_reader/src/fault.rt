@@ -7,8 +7,8 @@ use std::alloc::{AllocError, AllocFailed};
 use std::fmt;
 use thiserror::Error;
 
-/// A kind of table of a document. The word for it is that of its tables, and for a top `cell` or `recipe`; what is wrong with the top
-/// of a document of desks is told of its first desk.
+/// A kind of table of a document. Its word is the key of its tables, and of a top `cell` or `recipe`. A fault at the top
+/// of a document of desks is reported of its first desk.
 #[derive(Clone, Copy, Debug, PartialEq, Eq)]
 pub enum TableKind {
     /// The top of a cell document.
@@ -37,7 +37,7 @@ pub enum TableKind {
     Operation,
     /// A phase step, `[[phase]]`.
     Phase,
-    /// A console or an equipment link, `[[desk]]`. Neither a cell nor a recipe has such tables: batch_desks reads them.
+    /// A console or an equipment link, `[[desk]]`. Neither a cell nor a recipe has these tables: batch_desks reads them.
     Desk,
 }
 
@@ -92,7 +92,7 @@ impl fmt::Display for Spot {
     }
 }
 
-/// What is wrong with a table.
+/// The fault of a table.
 #[derive(Clone, Copy, Debug, Error)]
 pub enum EntryFault {
     /// A key that the table needs is missing (of a unit procedure, both `unit` and `role`), or the document has no procedure.
@@ -118,7 +118,7 @@ pub enum EntryFault {
     Chart(usize),
 }
 
-/// Why a document is refused. Where several faults stand, it is the first that the reader meets.
+/// Why a document is refused. Of several faults it is the first that the reader meets.
 #[derive(Clone, Copy, Debug, Error)]
 pub enum DocFault {
     #[error("not a TOML document")]

@@ -18,7 +18,7 @@ pub const MAX_PATH_LEN: usize = 4_096;
 /// The most lines that may wait for a desk.
 pub const MAX_LAG: usize = 65_536;
 
-/// What the value at a key has to be.
+/// The form that the value at a key must have.
 #[derive(Clone, Copy)]
 pub enum ValueForm {
     Name,
@@ -39,11 +39,11 @@ pub enum ValueForm {
     Needs(usize),
     Chart,
     ChartWithoutPar,
-    /// Tables, each of which is looked at by itself.
+    /// Tables, each of which is checked by itself.
     Tables,
 }
 
-/// A key of a table: its word, whether the table needs it where it may stand, and what its value has to be.
+/// A key of a table: its word, whether the table needs it where it may stand, and the form of its value.
 #[derive(Clone, Copy)]
 pub struct Key(pub &'static str, pub bool, pub ValueForm);
 

@@ -1,9 +1,9 @@
 //! Worked faults of documents.
 ghost use Rattle.batch_reader.specs.RowsOfFaults.{UnitLacksItsName, NoSecondUnitLacksOne, NoKeyIsUnknown, UnitBesideRoleIsUnknown, RoleAloneIsKnown, NeitherIsMissing, FirstByteIsGood, FirstModuleIsUndeclared, NoLaterModuleIsTold, CountsAreTold, ReserveIsUndeclared, ReserveIsDeclared, ReserveStandsTwice};
 
-/// Worked rows: a unit without its name is told as one, and no other unit, nor an unknown key; a unit procedure has `unit` or
-/// `role`, and not both; the first byte of a chart that goes on is good; the first module whose unit isn't declared is told, and no later one; one table too many is told at its number;
-/// a unit procedure that is reserved is declared, and stands once.
+/// Worked rows: a unit without its name is reported as one, and no other unit is, nor an unknown key; a unit procedure has `unit`
+/// or `role`, and not both; the first byte of a chart that goes on is good; the first module with an undeclared unit is reported,
+/// and no later one; one table too many is reported at its number; a reserved unit procedure is declared, and reserved once.
 // claim: worked faults
 pub fn worked_faults()
     ensures missing { UnitLacksItsName }

@@ -12,7 +12,7 @@ use batch_text::Name;
 use indexmap::IndexSet;
 use std::alloc::Global;
 
-/// What a table of a document declares.
+/// An item that a table of a document declares by a name.
 pub(crate) trait Named {
     ghost name_of: { Self → List ℕ };
 

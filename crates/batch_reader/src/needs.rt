@@ -90,7 +90,7 @@ fn read_need(alloc: Global, text: &[u8], spot: Spot) -> Result<Need, TableFault>
     }
 }
 
-/// The same by its parts: the resource that stands before the first star, and the units behind it.
+/// The same by its parts: the resource before the first star, and the units behind it.
 fn read_parts(alloc: Global, text: &[u8], spot: Spot) -> Result<Need, TableFault>
     ensures ok { IfOk result (λ need. IsNeedText text.now need) }
     ensures refused { IfErr result (λ fault. fault ≢ TableFault.Memory → (need : Need) → ¬ (IsNeedText text.now need)) }
@@ -109,7 +109,7 @@ fn read_parts(alloc: Global, text: &[u8], spot: Spot) -> Result<Need, TableFault
     }
 }
 
-/// Where the first star of a text stands.
+/// The place of the first star of a text.
 fn first_star(text: &[u8]) -> Option<usize>
     ensures { result ≡ position is_star text.now }
 {

@@ -39,13 +39,13 @@ const TOP: Spot = Spot {
 };
 
 /// Reads a recipe document. The needs, the units, the classes and the phases that it names are looked up in no cell. It is refused as
-/// - `NotToml`, where its bytes are no TOML in UTF-8;
-/// - `Entry`, where it is too long, which is told at its top, or says no recipe. The first fault is told: of the top's
+/// - `NotToml`, if its bytes are no TOML in UTF-8;
+/// - `Entry`, if it is too long, which is reported at its top, or says no recipe. The first fault is reported: of the top's
 ///   entries, then of each table by itself (inputs, parameters, outputs, roles, the procedure, unit procedures, operations,
 ///   phase steps), then of how many there are, of the names of values and acts, of the labels and values that acts name,
 ///   of the names of roles, of the roles that unit procedures name, of the outputs that phase steps report, of the unit
 ///   procedures that acts reserve, and of the size of the expanded tree;
-/// - `Memory`, where memory is refused on the way.
+/// - `Memory`, if memory is refused on the way.
 pub fn read_recipe(alloc: Global, bytes: &[u8]) -> Result<Recipe, DocFault>
     // claim: recipe read
     ensures ok { IfOk result (IsRecipeDocument bytes.now) }
@@ -96,7 +96,7 @@ fn recipe_from_table(alloc: Global, table: &Table) -> Result<Recipe, TableFault>
     }
 }
 
-/// The fault of a document whose recipe has no outline. That the expanded tree is too large is told at the procedure.
+/// The fault of a document whose recipe has no outline. Too large an expanded tree is reported at the procedure.
 fn outline_fault(fault: OutlineFault) -> TableFault
     ensures { result ≡ outline_fault fault }
 {
@@ -112,7 +112,7 @@ fn outline_fault(fault: OutlineFault) -> TableFault
     }
 }
 
-/// What the entries of a recipe's top say.
+/// The name, the header and the basis, of the top of a recipe.
 #[derive(Drop)]
 struct Top {
     name: Name,
@@ -120,7 +120,7 @@ struct Top {
     basis: u64,
 }
 
-/// The entries of the top. Its tables are looked at by themselves.
+/// Reads the entries of the top, but for its tables.
 fn top_at(alloc: Global, table: &Table) -> Result<Top, TableFault>
     ensures name { IfOk result (λ top. HasName (codes "recipe") (table_view table.now) top.name) }
     ensures header { IfOk result (λ top. HasHeader (table_view table.now) top.header) }
@@ -139,7 +139,7 @@ fn top_at(alloc: Global, table: &Table) -> Result<Top, TableFault>
     })
 }
 
-/// What the tables of a recipe stand for.
+/// The values, the roles and the acts of a recipe, as its tables declare them.
 #[derive(Drop)]
 struct Parts {
     values: ValueTables,
@@ -147,7 +147,7 @@ struct Parts {
     acts: Acts,
 }
 
-/// What the tables of a recipe stand for, where their counts and names are as they must be. The procedure gets the name.
+/// Reads the tables of a recipe, and checks their counts and names. The procedure gets the name.
 fn parts_at(alloc: Global, table: &Table, name: Name) -> Result<Parts, TableFault>
     requires { HasName (codes "recipe") (table_view table.now) name }
     ensures inputs { IfOk result (λ parts. HasTables IsQuantityTable (codes "input") (table_view table.now) parts.values.inputs.items) }
@@ -207,7 +207,7 @@ fn values_at(alloc: Global, table: &Table) -> Result<ValueTables, TableFault>
     })
 }
 
-/// What the recipe tells its readers.
+/// Reads the header: the version, the product, the author and the info of the recipe.
 fn header_at(alloc: Global, table: &Table) -> Result<Header, TableFault>
     ensures ok { IfOk result (HasHeader (table_view table.now)) }
     ensures refused { IfErr result (λ fault. fault ≢ TableFault.Memory

@@ -38,7 +38,7 @@ impl Named for Name {
     }
 }
 
-/// What the charts of a recipe and its phase steps may name.
+/// The names to which the charts of a recipe and its phase steps may refer.
 #[derive(Drop)]
 pub(crate) struct RecipeNames {
     /// The inputs, parameters and outputs.

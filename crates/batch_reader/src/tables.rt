@@ -49,8 +49,8 @@ pub(crate) fn items_at<'a>(
     }
 }
 
-/// The values that the tables of the array at a key stand for, in order; none where the key is missing. It is refused by the first table that
-/// is refused, and as of the wrong kind where the value is no array, or an item no table.
+/// The values of the tables in the array at a key, in order; none if the key is missing. It is refused by the first table that is
+/// refused, and as of the wrong kind if the value is no array, or an item no table.
 // claim: tables of an array
 pub fn tables_at<T: FromTable>(
     alloc: Global,
@@ -80,7 +80,7 @@ pub fn tables_at<T: FromTable>(
     Ok(values)
 }
 
-/// Tests how many tables of a kind there are. Too few are refused at entry 0, too many at the first one too many, both as out of limits.
+/// Checks how many tables of a kind there are. Too few are refused at entry 0, too many at the first one too many: out of limits.
 // claim: tables counted
 pub fn check_count(
     count: usize,

@@ -1,4 +1,4 @@
--- What the node of an entry asks for.
+-- The needs of the node of an entry.
 use Rattle.std.proofs.Common.{arith, ◌≡◌, ℕ, zero, suc, List, [], ◌∷◌, Option, Some, None, slice_get, subst}
 use Rattle.batch_recipe.specs.ActsAtNodes.{ActList, procedure_acts, AreActsAt, IsActAt, IsNoAct}
 use Rattle.batch_recipe.specs.Expanding.{Binding}

@@ -1,4 +1,4 @@
--- The tree at a node stands from the node's number on, and what it has below it right after it.
+-- The tree at a node stands from the node's number on, and its subtrees right after it.
 use Rattle.std.proofs.Common.{◌≡◌, ℕ, zero, suc, ◌+◌, ◌-◌, ◌<◌, ◌≤◌, List, [], ◌∷◌, ◌++◌, length, Some, None, get_or, slice_get, sym, ap, ◌∙◌, refl, subst, arith}
 use Rattle.std.specs.List.{AllByRecursion}
 use Rattle.std.proofs.lemmas.Option.{slice_get_within, slice_get-get_or}
@@ -133,7 +133,7 @@ module _ (bound : Binding) (acts : Acts) (k : ℕ) (x : Node) (is : slice_get (b
       let same : 0 + k ≡ k = omega arith in
       subst (λ n. Stands ns n x) same (stands_at ns 0 ns (tree_stands ns 0 (0 ∷ []) [] (bound_tree bound acts) all) k x is)
 
-  -- and what it has below it
+  -- and its subtrees
   pub has_below : HasBelow (bound_nodes bound acts) k x.here
   has_below = tree_has_below (bound_nodes bound acts) k x.place stands.0 x.here stands.1
 

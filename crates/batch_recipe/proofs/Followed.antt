@@ -1,4 +1,4 @@
--- What the ways up from a node and down from it keep, whatever units take the roles.
+-- The invariants of the ways up from a node and down from it, whatever units take the roles.
 use Rattle.std.proofs.Common.{◌≡◌, ◌≢◌, ◌⊎◌, inl, inr, ℕ, zero, suc, ◌+◌, ◌<◌, ◌≤◌, List, [], ◌∷◌, length, Bool, true, false, Option, Some, None, get_or, slice_get, sym, ap, ◌∙◌, refl, arith, IfSome, IsNone}
 use Rattle.std.specs.Prelude.{option_map, option_and_then}
 use Rattle.std.proofs.lemmas.Option.{slice_get_within, slice_get-get_or}
@@ -38,7 +38,7 @@ module _ (r : Recipe) where
 
   -- The way up
 
-  -- what follows the node follows node `at`
+  -- the followers of the node are those of node `at`
   pub record IsUp (node at : ℕ) : Type 0 where
     pub within : at < length (procedure_nodes r.acts)
     pub same : (bound : Binding) (x : Node) → slice_get (bound_nodes bound r.acts) node ≡ Some x
@@ -230,7 +230,7 @@ module _ (r : Recipe) where
       let s = seq_first r bound k x e is known (form_alike k e a_seq known form bound x is) in
       record { some = tt; none = λ _. ap (named_among name) (s.none past) }
 
-  -- What a node reserves
+  -- The unit procedures that a node reserves
 
   reserve_at : (names : List Name) (from i : ℕ) (name : Name) → slice_get names i ≡ Some name → (x : Reserve) × (slice_get (reserves_from from names) i ≡ Some x) × (x.name ≡ name)
   reserve_at [] from i name is = let bad : None ≡ Some name = is in absurd cc
@@ -275,7 +275,7 @@ module _ (r : Recipe) where
   pub nothing_next : (bound : Binding) (x : Node) (name : Name) → IsNext bound r.acts x None → follower (bound_tree bound r.acts) x.place name ≡ None
   nothing_next bound x name h = ap (λ fs. option_map (λ (f : Follower). f.1) (named_among name fs)) h.same
 
-  -- else it is what is met first below that
+  -- else the follower is the one met first below the next node
   next_found : (bound : Binding) (x y : Node) (next : ℕ) (name : Name) → IsNext bound r.acts x (Some next) → slice_get (bound_nodes bound r.acts) next ≡ Some y
       → follower (bound_tree bound r.acts) x.place name ≡ option_map (λ (f : Follower). f.1) (named_among name (firsts y.here))
   next_found bound x y next name h at = ap (λ fs. option_map (λ (f : Follower). f.1) (named_among name fs)) (h.same ∙ rw at refl)
@@ -313,7 +313,7 @@ module _ (r : Recipe) where
     told_none None found h = e ∙ none_next bound x next name is_next found
     told_none (Some to) found h = let bad : true ≡ false = h in absurd cc
 
--- What the kinds of nodes say of their forms
+-- The forms of the kinds of nodes
 
 pub act_form : (k : Kind) → (k ≡ kind.Procedure) ⊎ ((level : LabelTable) × (number : ℕ) × (k ≡ kind.Act level number)) → form_of k ≡ an_act
 act_form k h = grind arith

@@ -1,4 +1,4 @@
--- What follows a node, by number: up from the node, and down from what is next.
+-- The followers of a node, by number: up from the node, and down from the next branch.
 use Rattle.std.proofs.Common.{◌≡◌, ◌≢◌, ◌⊎◌, inl, inr, ℕ, zero, suc, ◌+◌, ◌<◌, List, [], ◌∷◌, length, Bool, true, false, Option, Some, None, get_or, slice_get, sym, ap, ap₂, ◌∙◌, refl, subst, arith}
 use Rattle.std.specs.Option.{option_or}
 use Rattle.std.proofs.lemmas.List.Folds.{find-append}
@@ -57,7 +57,7 @@ child_is (par ts) i t h = branch_is ts i t h
 child_is (sel cs) i t h = choice_is cs i t h
 child_is (loop n c u) i t h = only_child_is (loop n c u) u refl i t h
 
--- The last step down to a place: the tree there, its level, and what follows it
+-- The last step down to a place: the tree there, its level, and its followers
 
 record IsLast (level : Level) (next : List Follower) (t : Tree) (p : Place) (i : ℕ) (here part : Tree) : Type 0 where
   pub tree_is : tree_below t (child p i) ≡ Some part
@@ -150,7 +150,7 @@ not_entered in_procedure t e = let bad : true ≡ false = e in absurd cc
 not_entered in_unit_procedure t e = refl
 not_entered in_operation t e = refl
 
--- What follows a child
+-- The followers of a child
 
 abbrev pub goes_up : Form → Bool
 goes_up an_act = true
@@ -420,7 +420,7 @@ module _ (r : Recipe) (bound : Binding) where
   pub under_other : (k : ℕ) (x : Node) (e : Entry) (u : IsUnder k x e) → form_at u.above.here ≢ an_act → level_at procedure x.place ≡ level_at procedure u.above.place
   under_other k x e u form = u.step.level_is ∙ within_other (level_at procedure u.above.place) u.above.here form
 
-  -- below a `seq`: what is next, and what follows
+  -- below a `seq`: the followers by the next branch, and those after the last one
   pub record IsInSeq (k : ℕ) (x : Node) (e above_e : Entry) (above : Node) : Type 0 where
     pub next : e.end < above_e.end
         → (y : Node) × (slice_get ns e.end ≡ Some y) × (following procedure x.place ≡ enter (level_at procedure y.place) y.here)
@@ -489,7 +489,7 @@ module _ (r : Recipe) (bound : Binding) where
   firsts_act a at (Follows c) e h = ap firsts h.here_is ∙ rw e refl
   firsts_act a at (Runs phase values reports) e h = ap firsts h.here_is ∙ rw e refl
 
-  -- an act that has the name and a chart is what is met first with that name; another is met by none
+  -- an act that has the name and a chart is the first met with that name; from another act none is met
   pub found_act : (k : ℕ) (x : Node) (a : Act) (name : Name) → slice_get ns k ≡ Some x → slice_get (procedure_acts r.acts) k ≡ Some (Some a) → is_chart_named a name ≡ true
       → IsFound bound r.acts x name (Some k)
   found_act k x a name is known named = go a.work refl
@@ -542,7 +542,7 @@ module _ (r : Recipe) (bound : Binding) where
   pub found_bare : (k : ℕ) (x : Node) (name : Name) → slice_get ns k ≡ Some x → slice_get (procedure_acts r.acts) k ≡ Some None → is_bare (form_at x.here) ≡ true → IsFound bound r.acts x name None
   found_bare k x name is known form = found_nothing x name (firsts_bare x.here (act_of_node k x None is known) form)
 
-  -- what is met below a loop and a `seq` is met below the node after it
+  -- the unit procedures met first below a loop and a `seq` are those below the node after it
   pub in_loop : (k : ℕ) (x : Node) → slice_get ns k ≡ Some x → form_at x.here ≡ a_loop → (y : Node) × (slice_get ns (k + 1) ≡ Some y) × (firsts x.here ≡ firsts y.here)
   in_loop k x is form = go x.here form (has_below bound r.acts k x is)
     where

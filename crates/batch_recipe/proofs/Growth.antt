@@ -1,4 +1,4 @@
--- What comes to an outline: a node with those below it, and branches one after another.
+-- The entries added to an outline: a node with those below it, and branches one after another.
 use Rattle.std.proofs.Common.{◌≡◌, ℕ, suc, ◌+◌, ◌<◌, ◌≤◌, List, [], ◌∷◌, ◌++◌, map, get_or, drop, length, Option, Some, None, Result, Ok, Err, Bool, position, slice_get, sym, ap, ◌∙◌, refl, subst, arith, add-one, drop-cons, drop_of_length-le, length-append, append_assoc, append-nil}
 use Rattle.std.specs.List.{find}
 use Rattle.std.proofs.lemmas.Grind.{common_steps}

@@ -91,7 +91,7 @@ module _ (trees : Name → Place → Tree) (list : Name → ActList) (named : Na
         (under f (label_along named d) p i (λ q. ap (λ n. f (n ∷ q)) here ∙ same 0 q) (acts_along list d) (nodes (child p i) above (expanded trees (child p i) d)) (chart_labelled (child p i) above d))
         (cases_labelled f p above (i + 1) cs (λ j q. ap (λ n. f (n ∷ q)) (after j) ∙ same (suc j) q))
 
-  -- what stands below an act
+  -- the nodes below an act
   work_labelled : (f : Labelling) (unit name : Name) (p : Place) (above : List Name) (work : Work) → ((i : ℕ) (q : Place) → f (i ∷ q) ≡ label_below named work i q)
       → AreLabelled f p (acts_below list work) (nodes_within p above (task_of trees unit name p work))
   work_labelled f unit name p above (Follows c) same =

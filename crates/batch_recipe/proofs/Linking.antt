@@ -71,7 +71,7 @@ module _ (ns : List Node) where
       (g.0, g.1, subst (λ k. IsLinked k g.0 s) same g.2)
   linked_at n xs ss h j s is = grind arith
 
-  -- below the node y with the number u, whose tree is `of`, and which ends no earlier than what still comes
+  -- below the node y with the number u, whose tree is `of`, and which ends at m or later
   record Below (u n m : ℕ) (p : Place) (above : List Name) (of : Tree) : Type 0 where
     pub y : Node
     pub known : slice_get ns u ≡ Some y

@@ -17,7 +17,7 @@ place_text_more (m ∷ k ∷ p) n =
     ∙ sym (append_assoc (decimal m) (codes "." ++ place_text (k ∷ p)) (codes "." ++ decimal n))
 place_text_more p n = grind arith
 
--- the text tells the numbers above depth d
+-- the text is that of the numbers above depth d
 abbrev pub Tells : Place → ℕ → List ℕ → Type 0
 Tells p d text = (d ≤ length p) × (text ≡ place_text (take d p))
 

@@ -43,7 +43,7 @@ abbrev rest_of : Place → Place
 rest_of [] = []
 rest_of (i ∷ p) = p
 
--- what a place goes on with, but for its last number
+-- the rest of a place, without its last number
 init_goes_on : (q rest z : Place) (c : ℕ) → q ++ rest ≡ z ++ c ∷ [] → length q ≤ length z → (more : Place) × (z ≡ q ++ more)
 init_goes_on [] rest z c e h = (z, refl)
 init_goes_on (i ∷ q) rest [] c e h = absurd (omega (arith, h))
@@ -182,7 +182,7 @@ module _ (r : Recipe) where
       let up : h.entry.parent ≡ k = alike h.entry.parent k h.above x h.above_is is same.0 in
       record { entry = h.entry; known = h.known; parent = up; number = same.1; later = omega (arith, h.earlier, up) }
 
-  -- what still may be child i of the node comes no earlier than number `at`
+  -- child i of the node, if there is one, comes no earlier than number `at`
   pub record KeepsLooking (node i at : ℕ) : Type 0 where
     pub later : node < at
     pub rest : (m : ℕ) → IsChildOf (ns r) node i m → at ≤ m
@@ -208,7 +208,7 @@ module _ (r : Recipe) where
               let same : g.above ≡ above = node_is node g.above above (ap (slice_get (ns r)) (sym up) ∙ g.known) above_is in
               (is_entry.at, is_entry.numbered, g.placed ∙ (ap (λ (n : Node). child n.place e.child) same ∙ ap (child above.place) number))
 
-      -- what isn't the child has none of it below
+      -- a node that isn't the child doesn't have it below
       pub KeepsLooking-more : at < node + node_count x.here → ((e.parent ≡ node) → (e.child ≡ i) → ⊥) → KeepsLooking node i e.end
       KeepsLooking-more high other = record { later = omega (arith, h.later, is_entry.shaped.ended); rest = λ m c. past m c (h.rest m c) (the_child m c) }
         where
@@ -260,7 +260,7 @@ module _ (r : Recipe) where
   pub root_at : IsNodeAt (ns r) 0 (0 ∷ [])
   root_at = (node (0 ∷ []) [] (procedure_tree r.acts), refl, refl)
 
-  -- where a node has no such child, nothing stands at what goes on from there
+  -- if a node has no child with this number, no node has a place that goes on from there
   pub none_from : (at i : ℕ) (below : Place) → IsNodeAt (ns r) at (0 ∷ take i below) → i < length below → HasNoChild (ns r) at (get_or below i 0) → NoNodeAt (ns r) (0 ∷ below)
   none_from at i below here in' none =
       let q = child (0 ∷ take i below) (get_or below i 0) in

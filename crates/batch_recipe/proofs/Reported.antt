@@ -54,7 +54,7 @@ module _ (bound : Binding) (acts : Acts) where
 pub reports-alike : (bound : Binding) (acts : Acts) (k : ℕ) → reports_of (slice_get (procedure_nodes acts) k) ≡ reports_of (slice_get (bound_nodes bound acts) k)
 reports-alike bound acts k = reports-listed unbound acts k ∙ sym (reports-listed bound acts k)
 
--- by what `act_at` gives
+-- by the result of `act_at`
 pub told-reports : (acts : Acts) (k : ℕ) (a : Option Act) → (k < length (procedure_nodes acts) → slice_get (procedure_acts acts) k ≡ Some a)
     → (length (procedure_nodes acts) ≤ k → a ≡ None) → act_reports a ≡ reports_of (slice_get (procedure_nodes acts) k)
 told-reports acts k a within past = elim (cases_lt k (length (procedure_nodes acts))) [

@@ -53,7 +53,7 @@ take-more (y ∷ xs) (suc n) x e = ap (λ z. y ∷ z) (take-more xs n x e)
 pub outputs-next : (os vs ws : ValueList) (n : ℕ) (o : Name × ℕ) → ws ≡ with_values (take n os) vs → slice_get os n ≡ Some o → with_value o.0 o.1 ws ≡ with_values (take (n + 1) os) vs
 outputs-next os vs ws n o e at = grind (arith, more n, set-last (take n os) o vs, take-more os n o at)
 
--- what stands at a position is one element
+-- a position has one element
 pub same-at : {X : Type 0} (xs : List X) (i : ℕ) (x y : X) → slice_get xs i ≡ Some x → slice_get xs i ≡ Some y → x ≡ y
 same-at {X} xs i x y e f = let g : ◌≡◌ {A = Option X} (Some x) (Some y) = sym e ∙ f in cc
 

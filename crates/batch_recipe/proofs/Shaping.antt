@@ -1,4 +1,4 @@
--- What grows has the shapes and the acts of the expanded tree.
+-- The entries that grow have the shapes and the acts of the expanded tree.
 use Rattle.std.proofs.Common.{◌≡◌, ℕ, ◌+◌, List, [], ◌∷◌, ◌++◌, map, length, Option, Some, None, slice_get, sym, ap, ◌∙◌, refl, arith, length-append}
 use Rattle.std.proofs.lemmas.List.{length-map, map-append}
 use Rattle.batch_recipe.specs.ActsAtNodes.{ActList, acts_along, acts_along_each, acts_along_cases, acts_below, acts_from, acts_named, procedure_acts}
@@ -121,7 +121,7 @@ module _ (bound : Binding) (acts : Acts) where
         → Matches (grown_act told named k o n j u i a) (shapes n u i (tree.act s (task_of trees unit a.name p a.work))) (acts_from list a)
     act_matches k o a f is n j u i unit p s = go a.work
       where
-        -- by what the act does
+        -- by the work of the act
         go : (work : Work)
             → Matches (topped (act_head k o a) n u i (grown_work told named n j work)) (shapes n u i (tree.act s (task_of trees unit a.name p work))) (Some a ∷ acts_below list work)
         go (Runs phase values reports) =
@@ -188,6 +188,6 @@ module _ (bound : Binding) (acts : Acts) where
       act_matches (told_from acts (Some UnitProcedures)) (named_tree_with (sites bound acts) (tables_from acts (Some UnitProcedures)) own) (grown_named acts (levels_from (Some UnitProcedures)) 0) (acts_named (tables_from acts (Some UnitProcedures)))
       (of_unit_procedures own 0) kind.Procedure 0 acts.procedure refl refl 0 0 0 0 own (0 ∷ []) (step_of (sites bound acts) acts.procedure (0 ∷ []))
 
--- what grows from the procedure is the recipe's outline
+-- the entries that grow from the procedure are the recipe's outline
 pub is_outline : (acts : Acts) → IsOutline acts (entries_of acts)
 is_outline acts = record { shaped = λ bound. (whole_matches bound acts).0; acted = (whole_matches unbound acts).1 }

@@ -1,4 +1,4 @@
--- private: what stands below the nodes of an expanded tree, by number.
+-- private: the subtrees below the nodes of an expanded tree, by number.
 use Rattle.std.specs.Prelude.{◌≡◌, ℕ, ◌+◌, List, slice_get, Some, ⊤}
 use Rattle.batch_recipe.specs.Nodes.{Node, node_count}
 use Rattle.batch_recipe.specs.Tree.{Tree, act, skip, seq, par, sel, loop, Task, runs, follows, Trees, no_trees, tree, Choices, otherwise, choice}
@@ -20,7 +20,7 @@ abbrev pub IsBelow : List Node → ℕ → Task → Type 0
 IsBelow ns k (runs phase) = ⊤
 IsBelow ns k (follows name t) = IsHere ns k t
 
--- what a tree has below it stands after number k
+-- the subtrees of the tree at number k stand right after it
 abbrev pub HasBelow : List Node → ℕ → Tree → Type 0
 HasBelow ns k (act s w) = IsBelow ns (k + 1) w
 HasBelow ns k skip = ⊤

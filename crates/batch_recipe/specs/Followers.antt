@@ -12,7 +12,7 @@ use Rattle.batch_recipe.specs.declared.act.Act.{Act}
 use Rattle.batch_recipe.specs.declared.act.Work.TheVariants.{Follows, Runs}
 use Rattle.batch_recipe.specs.declared.acts.Acts.{Acts}
 
--- where the unit procedure stands that a node reserves as number i, and that follows it
+-- the place of the unit procedure that a node reserves as number i, and that follows it
 abbrev pub follower_of : Tree → Node → ℕ → Option Place
 follower_of procedure at i = option_and_then (λ (x : Reserve). follower procedure at.place x.name) (slice_get (reserves_of at.here) i)
 
@@ -34,12 +34,12 @@ abbrev pub is_in_chart_of_procedure : Level → Bool
 is_in_chart_of_procedure in_procedure = true
 is_in_chart_of_procedure _ = false
 
--- what is met first on each way down from a node
+-- the unit procedures met first on each way down from a node
 abbrev pub firsts_at : List Node → Option ℕ → List Follower
 firsts_at ns None = []
 firsts_at ns (Some number) = elim (slice_get ns number) [ None ↦ [] | Some at ↦ firsts at.here ]
 
--- what follows the node is what is met first on the ways down from node number `next`
+-- the followers of the node are those met first on the ways down from node number `next`
 pub record IsNext (bound : Binding) (acts : Acts) (at : Node) (next : Option ℕ) : Type 0 where
   pub within : IfSome next (λ number. number < length (bound_nodes bound acts))
   pub same : following (bound_tree bound acts) at.place ≡ firsts_at (bound_nodes bound acts) next

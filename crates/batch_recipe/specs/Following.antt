@@ -65,8 +65,8 @@ abbrev pub level_within : Level → Tree → Level
 level_within level (act step task) = below level
 level_within level _ = level
 
--- what follows the child of a tree with this number, where `next` follows the tree: after a branch of a `seq` the next branch is taken,
--- and after the last one, a branch of a `sel` or the chart of an act the way leads further up
+-- the followers of the child of a tree with this number, where `next` are those of the tree: after a branch of a `seq` the next branch
+-- is taken, and after the last one, a branch of a `sel` or the chart of an act the way leads further up
 abbrev pub next_after : Level → List Follower → Tree → ℕ → List Follower
 next_after level next (act step task) number = next
 next_after level next skip number = []
@@ -75,18 +75,18 @@ next_after level next (par charts) number = []
 next_after level next (sel choices) number = next
 next_after level next (loop turns until body) number = []
 
--- what follows the node at a place below a tree
+-- the followers of the node at a place below a tree
 abbrev pub following_below : Level → List Follower → Tree → Place → List Follower
 following_below level next here [] = next
 following_below level next here (number ∷ place) =
     elim (child_of here number)
     [ None ↦ [] | Some part ↦ following_below (level_within level here) (next_after level next here number) part place ]
 
--- what follows the node at a place of a procedure's tree; nothing follows the procedure
+-- the followers of the node at a place of a procedure's tree; the procedure has none
 abbrev pub following : Tree → Place → List Follower
 following procedure [] = []
 following procedure (root ∷ place) = following_below is_procedure [] procedure place
 
--- where the unit procedure with this name stands that follows the node at a place: the first where several do
+-- the place of the unit procedure with this name that follows the node at a place: of the first, if several do
 abbrev pub follower : Tree → Place → Name → Option Place
 follower procedure place name = option_map (λ f. f.1) (find (λ f. same_name f.0 name) (following procedure place))

@@ -19,7 +19,7 @@ use Rattle.batch_recipe.specs.declared.outline_fault.OutlineFault.{OutlineFault}
 use Rattle.batch_recipe.specs.declared.outline_fault.OutlineFault.TheVariants.{TooMany, Memory}
 use Rattle.batch_recipe.specs.declared.recipe.TheConstants.{MAX_NODES}
 
--- what stands at a node
+-- the head of an entry: its kind, its count of needs and its detail
 pub record Head : Type 0 where
   pub kind : Kind
   pub needs : ℕ
@@ -49,7 +49,7 @@ unit_number UnitProcedures k o = k
 unit_number Operations k o = o
 unit_number Phases k o = o
 
--- what stands for a label, from n on, as child i of u, where j conditions came before
+-- the entries of a label, from n on, as child i of u, after j conditions
 abbrev pub Labels : Type 0
 Labels = Name → ℕ → ℕ → ℕ → ℕ → List Entry
 
@@ -191,7 +191,7 @@ entries_of acts = act_entries acts (Some UnitProcedures) kind.Procedure 0 0 0 0 
 abbrev pub conditions_of : Acts → List Cond
 conditions_of acts = act_conditions acts (Some UnitProcedures) acts.procedure
 
--- all these have come to those before, or there are too many
+-- all these entries were added to those before, or there are too many
 abbrev pub HasGrown : List Entry → List Entry → List Entry → Result (Unit {0}) OutlineFault → Type 0
 HasGrown before es after (Ok _) = (after ≡ before ++ es) × (length after ≤ MAX_NODES)
 HasGrown before es after (Err TooMany) = MAX_NODES < length before + length es

@@ -1,4 +1,4 @@
--- private: what an index of a table's names holds.
+-- private: the contents of an index of a table's names.
 use Rattle.std.specs.Prelude.{◌≡◌, List, map, Option, Some}
 use Rattle.std.specs.Borrow.{Bor}
 use Rattle.indexmap.specs.IndexSet.{IndexSet}

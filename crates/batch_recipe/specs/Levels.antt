@@ -1,6 +1,6 @@
 -- trusted: the levels of the procedural model, at which the nodes of an expanded tree stand.
 
--- where a node stands: it is the procedure, or it is in the chart of a procedure, whose labels stand for unit procedures, in that
+-- the level of a node: it is the procedure, or it is in the chart of a procedure, whose labels stand for unit procedures, in that
 -- of a unit procedure, whose labels stand for operations, or in that of an operation, whose labels stand for phase steps
 pub data Level : Type 0 where
   is_procedure : Level

@@ -1,4 +1,4 @@
--- trusted: what acts ask for: so many units of a resource's capacity.
+-- trusted: the needs of acts: so many units of a resource's capacity.
 use Rattle.std.specs.Prelude.{List, map, Bool, ◌&&◌, nat_le}
 use Rattle.std.specs.List.{list_all}
 use Rattle.batch_recipe.specs.Conditions.{Name}

@@ -11,7 +11,7 @@ use Rattle.batch_recipe.specs.declared.entry.Entry.{Entry}
 use Rattle.batch_recipe.specs.declared.entry.Kind.{Kind}
 use Rattle.batch_recipe.specs.declared.entry.Kind.TheVariants as kind
 
--- what a node is
+-- the form of a node
 pub data Form : Type 0 where
   an_act : Form
   a_skip : Form

@@ -14,7 +14,7 @@ place_text [] = []
 place_text (n ∷ []) = decimal n
 place_text (n ∷ m ∷ below) = decimal n ++ (codes "." ++ place_text (m ∷ below))
 
--- what stands before the number at this depth of a place
+-- the text before the number at this depth of a place
 abbrev pub dot_text : ℕ → List ℕ
 dot_text zero = []
 dot_text (suc depth) = codes "."

@@ -4,7 +4,7 @@ use Rattle.std.specs.List.{list_any}
 use Rattle.batch_recipe.specs.Conditions.{Name, ValueList, same_name}
 use Rattle.batch_recipe.specs.declared.scaling.TheConstants.{MAX_VALUE}
 
--- what has the name has this value
+-- the values, with n for each of this name
 abbrev pub with_value : Name → ℕ → ValueList → ValueList
 with_value name n vs = map (λ v. elim (same_name v.0 name) [ true ↦ (name, n) | false ↦ v ]) vs
 

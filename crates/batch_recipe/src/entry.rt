@@ -5,7 +5,7 @@ ghost use Rattle.batch_recipe.specs.Outlines.{act_of};
 use crate::act::Act;
 use crate::acts::{Acts, LabelTable};
 
-/// What stands at a node.
+/// The kind of a node.
 #[derive(Clone, Copy)]
 pub enum Kind {
     Skip,
@@ -36,7 +36,7 @@ pub struct Entry {
 }
 
 impl Kind {
-    /// The act at the node, where it is one.
+    /// The act at the node, if it is one.
     pub fn act(self, acts: &Acts) -> Option<&Act>
         ensures { option_copied result ≡ act_of acts.now self }
     {

@@ -28,7 +28,7 @@ pub fn follows(recipe: &Recipe, node: u16, i: usize) -> Option<u16>
     first_named(recipe, next, name)
 }
 
-/// The branch of a `seq` that is next once the node has ended, in the procedure's chart. It is looked for upward from the node.
+/// The branch of a `seq` that is next once the node has ended, in the procedure's chart. The search goes up from the node.
 fn next_of(recipe: &Recipe, node: u16) -> Option<u16>
     requires { node < length (procedure_nodes recipe.now.acts) }
     ensures { (bound : Binding) (at : Node) → slice_get (bound_nodes bound recipe.now.acts) node ≡ Some at → IsNext bound recipe.now.acts at result }
@@ -55,7 +55,7 @@ fn next_of(recipe: &Recipe, node: u16) -> Option<u16>
     None
 }
 
-/// Whether the node stands in the procedure's chart, below no other act.
+/// Whether the node is in the procedure's chart, below no other act.
 fn is_in_procedure(recipe: &Recipe, node: u16) -> bool
     requires { node < length (procedure_nodes recipe.now.acts) }
     ensures { (bound : Binding) (at : Node) → slice_get (bound_nodes bound recipe.now.acts) node ≡ Some at → result ≡ is_in_chart_of_procedure (level_at (bound_tree bound recipe.now.acts) at.place) }
@@ -114,7 +114,7 @@ fn first_named(recipe: &Recipe, node: u16, name: &Name) -> Option<u16>
     }
 }
 
-/// The same, where the node is a `par`.
+/// The same, if the node is a `par`.
 #[cycle(down)]
 fn first_of_branches(recipe: &Recipe, node: u16, name: &Name) -> Option<u16>
     requires within { node < length (procedure_nodes recipe.now.acts) }

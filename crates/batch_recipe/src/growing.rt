@@ -16,7 +16,7 @@ use crate::recipe::MAX_NODES;
 use batch_text::Name;
 use std::alloc::Global;
 
-/// Where the nodes of an act or a chart come to stand.
+/// The seat of the nodes of an act or a chart.
 #[derive(Clone, Copy)]
 pub struct Seat {
     /// The table from which on labels are looked up.
@@ -49,7 +49,7 @@ fn needs_count(act: &Act) -> u16
     }
 }
 
-/// Adds a node, below which nothing stands yet, and gives its number.
+/// Adds a node without nodes below it, and returns its number.
 fn begin(
     nodes: &mut Vec<Entry>,
     kind: Kind,
@@ -76,7 +76,7 @@ fn begin(
     Ok(node)
 }
 
-/// All nodes below the node stand after it.
+/// Ends the node: all nodes after it are below it.
 fn finish(nodes: &mut Vec<Entry>, node: u16)
     requires limit { length nodes.old.items ≤ MAX_NODES }
     requires within { node < length nodes.old.items }
@@ -124,7 +124,7 @@ pub fn grow_act(
     }
 }
 
-/// Adds a node below which nothing stands.
+/// Adds a node without nodes below it.
 fn grow_bare(nodes: &mut Vec<Entry>, parent: u16, child: u16) -> Result<(), OutlineFault>
     requires { length nodes.old.items ≤ MAX_NODES }
     ensures { HasGrown nodes.old.items (bare (length nodes.old.items) parent child) nodes.new.items result }
@@ -159,7 +159,7 @@ fn grow(
     }
 }
 
-/// Adds the nodes of the act that the label names. Where there is none, it adds a node below which nothing stands.
+/// Adds the nodes of the act that the label names. If there is none, it adds a node without nodes below it.
 #[cycle(grow)]
 fn grow_label(
     alloc: Global,

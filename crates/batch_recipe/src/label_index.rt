@@ -11,11 +11,11 @@ use batch_text::Name;
 use indexmap::IndexSet;
 use std::alloc::{AllocError, Global};
 
-/// How many acts a table has at least where it is indexed: fewer are searched as fast.
+/// The fewest acts of a table that is indexed: fewer are searched as fast.
 const MIN_INDEXED: usize = 8;
 
-/// A table of acts, and an index of their names. There is none where the table is short or a name stands in it twice, since a
-/// label names the first act of its name.
+/// A table of acts, and an index of their names. There is no index if the table is short or has a name twice, since a label
+/// names the first act of its name.
 #[derive(Drop)]
 struct TableIndex<'a> {
     table: &'a [Act],
@@ -42,7 +42,7 @@ impl<'a> TableIndex<'a> {
     }
 }
 
-/// The names of the table's acts in their order, where it pays to index them and each stands there once.
+/// The names of the table's acts in their order, if it pays to index them and no name occurs twice.
 fn index_names(alloc: Global, table: &[Act]) -> Result<Option<IndexSet<&Name>>, AllocError>
     ensures { IfOk result (λ names. IsIndexed table.now names) }
 {

@@ -24,8 +24,8 @@ pub struct Outline {
 }
 
 impl Outline {
-    /// The outline of the acts, where each label of a chart is looked up once. `TooMany` where they expand to more than
-    /// `MAX_NODES` nodes, and `Memory` where memory is refused on the way.
+    /// The outline of the acts. Each label of a chart is looked up once. `TooMany` if they expand to more than `MAX_NODES` nodes,
+    /// and `Memory` if memory is refused on the way.
     pub fn new(alloc: Global, acts: &Acts) -> Result<Outline, OutlineFault>
         ensures ok { IfOk result (λ outline. outline.entries.items ≡ entries_of acts.now) }
         ensures conditions { IfOk result (λ outline. outline.conditions.items ≡ conditions_of acts.now) }

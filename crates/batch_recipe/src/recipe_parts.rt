@@ -1,4 +1,4 @@
-//! What a recipe is made of.
+//! The parts of which a recipe is made.
 ghost use Rattle.std.specs.Prelude.{◌≡◌, ◌≤◌, ◌<◌, length, true, IfOk, IsErrOf};
 ghost use Rattle.batch_recipe.specs.Parts.{IsMadeOf};
 ghost use Rattle.batch_recipe.specs.Procedure.{procedure_nodes};
@@ -17,7 +17,7 @@ use crate::role::Role;
 use batch_text::Name;
 use std::alloc::Global;
 
-/// What a recipe is made of, each as `Recipe` says of its field of that name.
+/// The parts of which a recipe is made, each as the field of that name in `Recipe`.
 #[derive(Drop)]
 pub struct RecipeParts {
     pub header: Header,
@@ -30,8 +30,8 @@ pub struct RecipeParts {
 }
 
 impl Recipe {
-    /// The recipe of these parts, which are well formed. `TooMany` where it would have more than `MAX_NODES` nodes, and
-    /// `Memory` where memory is refused on the way.
+    /// The recipe of these parts, which are well formed. `TooMany` if it would have more than `MAX_NODES` nodes, and `Memory` if
+    /// memory is refused on the way.
     // claim: recipe made
     pub fn new(alloc: Global, parts: RecipeParts) -> Result<Recipe, OutlineFault>
         requires some_basis { 0 < parts.basis }

@@ -24,7 +24,7 @@ impl Model for Values {
 }
 
 impl Values {
-    /// Values that are looked up in this order: where a name stands twice, its first value counts.
+    /// Values that are looked up in this order: if a name has several, the first counts.
     // claim: values by name
     pub fn new(entries: Vec<(Name, u64)>) -> Values
         ensures { result ≡ entries.items }
@@ -43,7 +43,7 @@ impl Values {
             .map(|entry| entry.1)
     }
 
-    /// Sets what has this name to the value. Where nothing has it, nothing changes.
+    /// Sets each value with this name. If none has the name, nothing changes.
     // claim: outputs set
     pub fn set(&mut self, name: &Name, value: u64)
         ensures { self.new ≡ with_value name.now value self.old }

@@ -1,4 +1,4 @@
--- What is read of a line is what the line tells.
+-- The out that is read from a line is the one that the line tells.
 use Rattle.std.proofs.Common.{◌≡◌, ℕ, List, Option, Some, None, sym, subst}
 use Rattle.std.specs.Prelude.{MatchOption}
 use Rattle.batch_record.specs.RecordLine.{out_of_line}

@@ -1,4 +1,4 @@
--- trusted: the text of an out is one.
+-- trusted: a line of the record is the text of one out.
 use Rattle.std.specs.Prelude.{◌≡◌, ℕ, Bool, ◌||◌, List, ◌++◌, codes, MatchOption}
 use Rattle.std.specs.Str.{bytes_eq}
 use Rattle.batch_model.specs.Runs.{Out}
@@ -11,7 +11,7 @@ use Rattle.batch_record.specs.RecordLine.{out_of_line}
 abbrev pub IsLineOf : Out → List ℕ → Type 0
 IsLineOf out line = out_text out ≡ line ++ codes "\n"
 
--- a line tells an out: it is the text of the out, whose names are names, and tells all of it
+-- a line tells an out: it is the text of the out, whose names are names, and leaves out no part of it
 pub record Tells (line : List ℕ) (out : Out) : Type 0 where
   pub named : IsNamed out
   pub text : IsLineOf out line
@@ -21,15 +21,15 @@ pub record Tells (line : List ℕ) (out : Out) : Type 0 where
 abbrev pub TellsNothing : List ℕ → Type 0
 TellsNothing line = (out : Out) → IsNamed out → IsLineOf out line → ⊥
 
--- what is read of each line is the out that it tells, and of another line nothing is
+-- the out that is read from a line is the one that it tells, and a line from which none is read tells none
 abbrev pub LinesTellOuts : Type 0
 LinesTellOuts = (line : List ℕ) → MatchOption (out_of_line line) (TellsNothing line) (Tells line)
 
--- outs whose names are names and whose texts are the same tell the same
+-- outs whose names are names and whose texts are the same are one but for the parts that a text leaves out
 abbrev pub TextIsOne : Type 0
 TextIsOne = (one other : Out) → IsNamed one → IsNamed other → out_text one ≡ out_text other → as_told one ≡ as_told other
 
--- what a text doesn't tell of its out isn't in the text
+-- an out without the parts that its text leaves out has the same text
 abbrev pub TextIsAsTold : Type 0
 TextIsAsTold = (out : Out) → out_text (as_told out) ≡ out_text out
 

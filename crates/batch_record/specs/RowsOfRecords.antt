@@ -1,4 +1,4 @@
--- worked rows: lines of the record, read; and lines that are nearly such and tell nothing.
+-- worked rows: lines of the record, read; and lines that are nearly lines of the record and tell no out.
 use Rattle.std.specs.Prelude.{◌≡◌, ℕ, List, [], ◌∷◌, codes, Some, None, true, false}
 use Rattle.batch_matrix.specs.declared.state.State.TheVariants as State
 use Rattle.batch_matrix.specs.declared.command.Command.TheVariants as Command

@@ -1,4 +1,4 @@
-//! The lines of a record, read: which out of the machine each of them tells.
+//! Reading the lines of a record: the out of the machine that each of them tells.
 #![tactic(auto)]
 
 mod laws;

@@ -1,4 +1,4 @@
-//! Pairs, `NAME=..`, behind the words of a line.
+//! Pairs, `NAME=..`, after the words of a line.
 ghost use Rattle.std.specs.Prelude.{◌≡◌};
 ghost use Rattle.std.specs.List.{list_all};
 ghost use Rattle.batch_wire.specs.EventLine.{is_role_pair};

@@ -14,7 +14,7 @@ use crate::words::Words;
 use batch_matrix::{Command, State};
 use batch_text::is_name;
 
-/// What the line tells, which comes without its line feed, or nothing where it is the text of no out.
+/// The out that the line tells, or None if it is the text of no out. The line comes without its line feed.
 // claim: lines told
 pub fn read_out(line: &[u8]) -> Option<Told<'_>>
     ensures said { Gives out_of result (out_of_line line.now) }
@@ -135,7 +135,7 @@ pub fn phase_with<'a>(
     }
 }
 
-/// A phase, and what it is told to do.
+/// A phase, and the command that is sent to it.
 fn read_sent(mut arguments: Words<'_>) -> Option<Sent<'_>>
     ensures { Gives sent_told result (sent_of (words_left arguments.entry.rest)) }
 {
@@ -389,7 +389,7 @@ fn read_removed(mut arguments: Words<'_>) -> Option<u64>
     plain_number(batch)
 }
 
-/// A reply to what was taken.
+/// A reply to an event that was accepted.
 fn read_ok(mut line: Words<'_>) -> Option<Told<'_>>
     ensures { Gives out_of result (ok_of (words_left line.entry.rest)) }
 {
@@ -415,7 +415,7 @@ fn read_order(command: Command, arguments: Words<'_>) -> Option<Told<'_>>
     })
 }
 
-/// A report that was taken.
+/// A report that was accepted.
 fn read_report(mut arguments: Words<'_>) -> Option<Reported<'_>>
     ensures { Gives report_told result (report_told_of (words_left arguments.entry.rest)) }
 {

@@ -1,4 +1,4 @@
-//! What a line of a record tells, or that it is no line of a record.
+//! Reading a line that may be one of a record.
 ghost use Rattle.std.specs.Prelude.{◌≡◌, true, false, IfOk, IfSome, IsErr, IsTrue, MatchOption, MatchResult, None, Some};
 ghost use Rattle.batch_record.specs.Laws.{Tells, TellsNothing, is_fault_line, is_passed_over};
 ghost use Rattle.batch_record.specs.Reading.{out_of};
@@ -11,8 +11,8 @@ use crate::told::Told;
 #[derive(Clone, Copy)]
 pub struct NoRecordLine;
 
-/// What the line tells, which comes without its line feed: an out, or nothing where it is a comment or says that an event line was
-/// refused before the machine saw it.
+/// The out that the line tells, or None if it is a comment or says that an event line was refused before the machine saw it. The
+/// line comes without its line feed.
 // claim: lines of a record
 pub fn read_record_line(line: &[u8]) -> Result<Option<Told<'_>>, NoRecordLine>
     ensures ok { IfOk result (λ told. MatchOption told

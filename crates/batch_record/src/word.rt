@@ -70,7 +70,7 @@ fn is_plain_child(part: &[u8]) -> bool
     }
 }
 
-/// What a need asks for: a resource, and how many units of its capacity.
+/// The need that the word names: a resource, and how many units of its capacity.
 pub fn read_need(word: &[u8]) -> Option<(&[u8], u32)>
     ensures { MatchOption result (need_of word.now ≡ None)
         (λ need. need_of word.now ≡ Some (need_told need.0.now need.1)) }
@@ -100,7 +100,7 @@ fn read_units(word: &[u8]) -> Option<u32>
     }
 }
 
-/// What stands before the first such byte of the word, and what stands behind it.
+/// The parts of the word before and after the first byte `at`.
 pub fn parted(word: &[u8], at: u8) -> (&[u8], &[u8])
     ensures front { result.0.now ≡ before_first (λ b. b == at) word.now }
     ensures behind { result.1.now ≡ after_first (λ b. b == at) word.now }

@@ -51,7 +51,7 @@ alike-adds less more e a =
     alike-trans more (a.0 ++ e ∷ a.1) (e ∷ less) (alike-same more (a.0 ++ e ∷ a.1) a.3)
     (alike-trans (a.0 ++ e ∷ a.1) (e ∷ (a.0 ++ a.1)) (e ∷ less) (alike-middle a.0 a.1 e) (alike-same (e ∷ (a.0 ++ a.1)) (e ∷ less) (ap (λ z. e ∷ z) (sym a.2))))
 
--- What is held in advance
+-- Holdings in advance
 
 -- no two stand at one place
 abbrev pub StandApart : List InAdvance → Type 0
@@ -61,7 +61,7 @@ StandApart (held ∷ more) = ((other : InAdvance) → Has more other → other.p
 abbrev pub left_over : Rest → List InAdvance → List InAdvance
 left_over r xs = filter (λ held. not (is_reached r held.place)) xs
 
--- what is held in advance passes to the acts that are reached
+-- holdings in advance pass to the acts that are reached
 pub raised-alike : (r : Rest) (xs : List InAdvance) → StandApart xs → ((held : InAdvance) → Has xs held → is_reached r held.place ≡ true → AtOnce held.place held.unit r)
     → AreAlike (early_facts (left_over r xs) ++ facts (raised xs r)) (early_facts xs ++ facts r)
 raised-alike r [] apart at = alike-same (facts r) (facts r) refl
@@ -121,7 +121,7 @@ holders-sum q amount (e ∷ es) =
 pub holders-alike : (q : Name) (es fs : List Entry) → AreAlike es fs → (amount : Share → ℕ) → sum_by amount (holders_among q es) ≡ sum_by amount (holders_among q fs)
 holders-alike q es fs a amount = holders-sum q amount es ∙ (a.sums (λ e. sum_by amount (holder_of q e)) ∙ sym (holders-sum q amount fs))
 
--- so what is told agrees with the one as with the other
+-- so a list of shares agrees with the one as with the other
 pub agrees-alike : (q : Name) (told : List Share) (es fs : List Entry) → AreAlike es fs → Agrees told (holders_among q es) → Agrees told (holders_among q fs)
 agrees-alike q told es fs a h = (
   λ amount. h.0 amount ∙ holders-alike q es fs a amount,

@@ -1,4 +1,4 @@
--- What is kept is kept along a whole record.
+-- The invariant holds along a whole record.
 use Rattle.std.proofs.Common.{arith, Some, ◌≡◌, refl, sym, subst, subst₂, zero-le, List, [], ◌∷◌, ◌++◌, append-nil, append_assoc}
 use Rattle.batch_model.specs.Plant.{Setup, Plant, opening}
 use Rattle.batch_model.specs.Moves.{Move, next, after}
@@ -35,7 +35,7 @@ placed-trees d rank cleared r k = (cleared.recipes r k).placed
 pub moved-stands : (d : Setup) (rank : Ranking) → AreClearedDown d rank → (s : Plant) (m : Move) → IsStanding d s → next d s ≡ Some m → IsStanding d (after s m)
 moved-stands d rank cleared s m sd e = possible-stands d s m (placed-trees d rank cleared) sd (next-possible d s m e)
 
--- what is kept is kept along the whole record
+-- the invariant is kept along the whole record
 pub kept-along : (d : Setup) (rank : Ranking) → AreClearedDown d rank → (told : List Out) (s : Plant) → IsStanding d s → IsKept d rank told s → (es : List Event) (outs : List Out) (t : Plant) → Leads d s es outs t
     → IsKept d rank (told ++ outs) t
 kept-along d rank cleared told s sd k [] [] t l = subst₂ (λ y z. IsKept d rank y z) (sym (append-nil told)) l k

@@ -195,7 +195,7 @@ of-batch bs b p f h k = flat_map-Has entries_of bs b ((b.number, p), f) h (map-H
 pub of-entry : (bs : List Batch) (b : Batch) (p : Place) (f : Fact) → Has bs b → Has (facts b.rest) (p, f) → Has (entries bs) ((b.number, p), f)
 of-entry bs b p f h k = of-batch bs b p f h (Has-right (early_facts b.in_advance) (facts b.rest) (p, f) k)
 
--- what is held in advance is neither asked for nor performed
+-- a holding in advance is neither an ask nor a live phase
 
 pub early-fact : (xs : List InAdvance) (p : Place) (f : Fact) → Has (early_facts xs) (p, f) → (held : InAdvance) × Has xs held × (held.place ≡ p) × (holding held.unit ≡ f)
 early-fact xs p f h =

@@ -30,7 +30,7 @@ use Rattle.batch_record_laws.specs.Candidates.{MayBe, MayRun, tree_on, UnitProce
 use Rattle.batch_record_laws.proofs.Members.{Each-left, Each-right}
 use Rattle.batch_record_laws.proofs.Roles.{AreServed, some-serves, names_of, one-declared, some-declared, named-role}
 
--- Whether a node outside unit procedures is clear doesn't depend on what stands below it, but for the body of a loop
+-- Whether a node outside unit procedures is clear doesn't depend on its descendants, but for the body of a loop
 
 module _ (setup : Setup) (rank : Ranking) where
   seq-clear : (p : Place) (asked : List Name) (ts us : Trees) → IsClear setup rank (part in_procedure p asked (seq ts)) → IsClear setup rank (part in_procedure p asked (seq us))

@@ -1,4 +1,4 @@
--- One act of one batch changes: what each kind of change keeps.
+-- One act of one batch changes: the parts of the invariant that each kind of change keeps.
 use Rattle.std.proofs.Common.{◌≡◌, ◌⊎◌, ⊎_elim, sym, ◌∙◌, ap, ap₂, subst, subst₂, ℕ, ◌+◌, ◌≤◌, arith, List, [], ◌∷◌, ◌++◌, false, map, Option, Some, inl, inr, bytes_eq, append-nil}
 use Rattle.std.proofs.lemmas.List.{map-append}
 use Rattle.batch_matrix.specs.declared.state.State.{State}
@@ -31,7 +31,7 @@ changed_plant s n g line = record s { batches = map (only n g) s.batches; line =
 
 module _ (d : Setup) (rank : Ranking) (outs : List Out) (s : Plant) (sd : IsStanding d s) (k : IsKept d rank outs s) (b : Batch) (i : Has s.batches b)
   where
-    -- what is left to show when one batch changes and one line is told of it
+    -- the remaining conditions when one batch changes and one line is told of it
     pub kept-after :
         (o : Out) (g : Batch → Batch) (line : Name → List Share)
         → (g b).number ≡ b.number
@@ -91,7 +91,7 @@ holders-framed : (q : Name) (f h t b : List Entry)
     → holders_among q (framed f h t b) ≡ holders_among q f ++ ((holders_among q h ++ holders_among q t) ++ holders_among q b)
 holders-framed q f h t b = grind (arith, holders-append q f ((h ++ t) ++ b), holders-append q (h ++ t) b, holders-append q h t)
 
--- what an act's facts become: its holdings by name, a tail before, and a tail after
+-- an act's facts after a change: its holdings by name, a tail before, and a tail after
 pub data Tail : Type 0 where
   nothing : Tail
   also : Fact → Tail
@@ -143,7 +143,7 @@ module _ (n : ℕ) (p : Place) (names : List Need) (t u : Tail) (before after : 
   pub same-holders : (q : Name) → holders_among q (map (entry n) (tail_at p t)) ≡ [] → holders_among q (map (entry n) (tail_at p u)) ≡ [] → holders_among q after ≡ holders_among q before
   same-holders q e g = grind (arith, holders-framed)
 
-  -- what is held
+  -- the holdings
   pub holders-before : (q : Name) → holders_among q before ≡ holders_among q x.front ++ ((holders_among q (map (entry n) (held_at p names)) ++ holders_among q (map (entry n) (tail_at p t))) ++ holders_among q x.back)
   holders-before q = ap (holders_among q) x.was ∙ holders-framed q x.front (map (entry n) (held_at p names)) (map (entry n) (tail_at p t)) x.back
 
@@ -153,7 +153,7 @@ module _ (n : ℕ) (p : Place) (names : List Need) (t u : Tail) (before after : 
   not_holder : (q : Name) (es : List Entry) → AreOthers (n, p) es → NoneBy (n, p) (holders_among q es)
   not_holder q es o y h e = o (y.act, holding (need q y.units)) (Has-holders q es y h) e
 
-  -- what the act holds beside its tail is of other resources
+  -- the act's holdings beside its tail are of other resources
   not_own : (r : Need) → Lacks names r → NoneBy (n, p) (holders_among r.resource (map (entry n) (held_at p names)))
   not_own r d y m e =
       let w = held-entry n p names (y.act, holding (need r.resource y.units)) (Has-holders r.resource (map (entry n) (held_at p names)) y m) in

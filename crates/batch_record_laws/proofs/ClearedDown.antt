@@ -53,11 +53,11 @@ abbrev mutual
   ChoicesRunInUnits above (otherwise c) = RunsInUnits above c
   ChoicesRunInUnits above (choice d c ch) = RunsInUnits above c × ChoicesRunInUnits above ch
 
--- the step asks first for one unit of what one act alone can hold
+-- the step asks first for one unit of a resource that one act alone can hold
 abbrev pub BeginsAlone : Setup → Step → Type 0
 BeginsAlone d s = (own : Need) × (slice_get s.needs 0 ≡ Some own) × (own.units ≡ 1) × (d.capacity own.resource ≡ 1)
 
--- what follows is a step of the tree that does so
+-- each follower is a step of the tree that does so
 abbrev pub FollowersBeginAlone : Setup → Tree → Type 0
 FollowersBeginAlone d c = (place : Place) (name : Name) (to : Place) → follower c place name ≡ Some to → (s : Step) × Has (steps c) s × (s.place ≡ to) × BeginsAlone d s
 

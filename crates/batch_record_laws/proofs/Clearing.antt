@@ -77,7 +77,7 @@ rising-above rank x [] h z k = absurd k
 rising-above rank x (y ∷ ys) h z (inl e) = subst (λ w. rank x < rank w) e h.0
 rising-above rank x (y ∷ ys) h z (inr k) = let l : rank y < rank z = rising-above rank y ys h.1 z k in let m : rank x < rank y = h.0 in omega arith
 
--- what is asked for after a path is nowhere on it
+-- a resource that is asked for after a path is nowhere on it
 not-above : (rank : Ranking) (above needs : List Name) (own : Name) → RiseStrictly rank (above ++ (own ∷ needs)) → Has above own → ⊥
 not-above rank [] needs own h k = k
 not-above rank (x ∷ above) needs own h (inl e) = grind (arith, rising-above rank x (above ++ (own ∷ needs)) h own (Has-right above (own ∷ needs) own (inl refl)), Has-right above (own ∷ needs) own (inl refl))
@@ -167,7 +167,7 @@ module _ (setup : Setup) (rank : Ranking) where
           (Each-right Clear (parts in_unit_procedure (child p i) asked t) (parts_of_choices in_unit_procedure p asked (i + 1) cs) c),
     )
 
-  -- In a procedure: the unit of each phase is asked for below what the procedure needs, so it isn't among that
+  -- In a procedure: the unit of each phase is asked for below the procedure's needs, so it isn't among them
 
   abbrev IsElsewhere : List Name → Phase → Type 0
   IsElsewhere asked x = Has asked x.unit → ⊥

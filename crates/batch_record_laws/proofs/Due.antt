@@ -1,4 +1,4 @@
--- What is due isn't reached.
+-- A place that is due isn't reached.
 use Rattle.std.proofs.Common.{arith, ◌≡◌, sym, ◌∙◌, ap, subst, ℕ, ◌+◌, List, [], ◌∷◌, inl, inr, ◌⊎◌, ⊎_elim}
 use Rattle.batch_recipe.specs.Following.{Follower, firsts, firsts_of_each, enter}
 use Rattle.batch_recipe.specs.Levels.{Level, is_procedure, in_procedure, in_unit_procedure, in_operation, below}
@@ -14,7 +14,7 @@ use Rattle.batch_record_laws.proofs.Framing.{at_or_above}
 use Rattle.batch_record_laws.proofs.Placing.{IsUnderChild, IsUnderLater, under_child, under, is_at, acts-under, acts-side_by_side, children_apart, not_above_itself}
 use Rattle.batch_record_laws.proofs.Raising.{Nowhere}
 
--- What comes first stands at or below the place of its chart
+-- The first acts of a chart are at or below its place
 
 mutual
   firsts-under : (p : Place) (c : Tree) → IsPlaced p c → (f : Follower) → Has (firsts c) f → IsAtOrAbove p f.1
@@ -158,7 +158,7 @@ mutual
   chosen-ahead level next p i (choice q c ch) r pl (inl re) f h = child-ahead next p i (acts r) f (due-ahead level next (child p i) c r pl.0 re f h)
   chosen-ahead level next p i (choice q c ch) r pl (inr re) f h = more-ahead next p i (acts r) f (chosen-ahead level next p (i + 1) ch r pl.1 re f h)
 
--- what is due in a whole rest isn't reached there, nor is anything below it
+-- a place that is due in a whole rest isn't reached there, nor is any below it
 pub awaited-none_under : (c : Tree) (r : Rest) → IsPlaced (0 ∷ []) c → IsRestOf c r → (to : Place) → IsAwaited r to → NoneUnder to (acts r)
 awaited-none_under c r pl re to h = ⊎_elim (λ m. absurd m) (λ m. m.1) (due-ahead is_procedure [] (0 ∷ []) c r pl re (h.0, to) h.1)
 

@@ -1,4 +1,4 @@
--- Holders among entries, and what a record tells of them.
+-- Holders among entries, and a record's account of them.
 use Rattle.std.proofs.Common.{◌≡◌, refl, sym, ◌∙◌, ap, ap₂, ℕ, ◌+◌, ◌≤◌, ◌<◌, arith, List, [], ◌∷◌, ◌++◌, Bool, true, false, cond, not, filter, inl, inr, ◌⊎◌, ⊎_elim, length, sum_by, bytes_eq, nat_eq}
 use Rattle.std.proofs.lemmas.List.Sums.{sum_by-append, sum_by-cons, length-filter, count_by-le-length}
 use Rattle.std.proofs.lemmas.Slice.Eq.{bytes_eq-Decides}
@@ -134,7 +134,7 @@ module _ (amount : Share → ℕ) where
           omega arith
       go false e f = absurd cc
 
-  -- taking away what is there once takes away its amount
+  -- taking away a share that is there once takes away its amount
   pub sums-without_once : (a : Share) (xs : List Share) → IsOnce xs → Has xs a → amount a + sum_by amount (without a.act xs) ≡ sum_by amount xs
   sums-without_once a [] h k = absurd k
   sums-without_once a (x ∷ xs) h (inl e) = grind (arith, act_self x.act, sums-cons x xs, sums-kept, differs)

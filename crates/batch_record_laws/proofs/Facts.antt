@@ -1,4 +1,4 @@
--- What stands in a plant: who holds, awaits and performs what.
+-- The facts of a plant: the resources that acts hold and await, and the phases that they perform.
 use Rattle.std.specs.Prelude.{ℕ, List, [], ◌∷◌, ◌++◌, take, map, flat_map, Option, Some, None, slice_get, true, false}
 use Rattle.std.specs.Str.{bytes_eq}
 use Rattle.batch_recipe.specs.Conditions.{Name}
@@ -50,7 +50,7 @@ Entry = BatchAct × Fact
 abbrev pub entry : ℕ → Standing → Entry
 entry n e = ((n, e.0), e.1)
 
--- what is held in advance
+-- the holdings in advance
 abbrev pub early_facts : List InAdvance → List Standing
 early_facts xs = map (λ held. let e : Standing = (held.place, holding held.unit) in e) xs
 

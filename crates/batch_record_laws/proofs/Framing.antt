@@ -45,7 +45,7 @@ mutual
 abbrev pub IsElsewhere : Place → List Standing → Type 0
 IsElsewhere p es = (e : Standing) → Has es e → e.0 ≡ p → ⊥
 
--- `a` is what has the facts between front and back, and so it is after any change of a; now and later are the facts before and after
+-- `a` has the facts between front and back, and so it has after any change; now and later are the facts before and after
 abbrev pub Frames : List Standing → ((Rest → Rest) → List Standing) → Rest → Type 0
 Frames now later a =
     (front : List Standing) × (back : List Standing) × (now ≡ front ++ (facts a ++ back)) × ((f : Rest → Rest) → later f ≡ front ++ (facts (f a) ++ back))

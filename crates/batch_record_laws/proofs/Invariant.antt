@@ -38,14 +38,14 @@ IsFitting Holding es = Unit {0}
 IsFitting Held es = Unit {0}
 IsFitting Restarting es = Unit {0}
 
--- what is held in advance is what each step of the tree at its place asks for first
+-- the need that is held in advance is the first need of each step of the tree at its place
 abbrev pub IsFirstNeed : Tree → InAdvance → Type 0
 IsFirstNeed c held = (s : Step) → Has (steps c) s → s.place ≡ held.place → slice_get s.needs 0 ≡ Some held.unit
 
 abbrev pub AreFirstNeeds : Tree → List InAdvance → Type 0
 AreFirstNeeds c xs = (held : InAdvance) → Has xs held → IsFirstNeed c held
 
--- a batch of a cleared recipe, whose facts fit its state; what it holds in advance stands apart
+-- a batch of a cleared recipe, whose facts fit its state; no two of its holdings in advance are at one place
 pub record IsSound (d : Setup) (rank : Ranking) (b : Batch) : Type 0 where
   pub cleared : IsClearedDown d rank b.recipe
   pub fits : IsFitting b.state (facts b.rest)

@@ -1,4 +1,4 @@
--- Each kind of change keeps what is kept.
+-- Each kind of change keeps the invariant.
 use Rattle.std.proofs.Common.{◌≡◌, ⊎_elim, refl, sym, ◌∙◌, ap, ap₂, subst, subst₂, ℕ, ◌+◌, ◌≤◌, arith, le_trans, List, [], ◌∷◌, ◌++◌, Bool, true, false, not, map, filter, Option, Some, inl, inr, bytes_eq, append-nil}
 use Rattle.batch_matrix.specs.declared.state.State.{State}
 use Rattle.batch_matrix.specs.declared.report.Report.{Report}

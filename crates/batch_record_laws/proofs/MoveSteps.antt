@@ -1,4 +1,4 @@
--- Each move keeps what is kept.
+-- Each move keeps the invariant.
 use Rattle.std.proofs.Common.{◌≡◌, ⊎_elim, refl, sym, ◌∙◌, ap, subst, ℕ, zero, suc, pred, ◌<◌, ◌≤◌, ◌+◌, nat_le, arith, List, [], ◌∷◌, ◌++◌, Bool, true, false, not, ◌&&◌, ◌||◌, take, slice_get, map, find, nat_eq, Option, Some, None, inl, length, append-nil, option_map, option_and_then}
 use Rattle.std.proofs.lemmas.Option.{slice_get_within}
 use Rattle.std.proofs.lemmas.List.{map-append}
@@ -70,7 +70,7 @@ held-next p k xs r e = ap (held_at p) (take-next k xs r e) ∙ held-append p (ta
 pub freed-facts : (s : Step) (k : ℕ) → facts (freed s k) ≡ held_at s.place (take k s.needs)
 freed-facts s k = grind arith
 
--- what a move must bring about
+-- the required effect of a move
 abbrev pub Stepped : Setup → Ranking → List Out → Plant → Move → Type 0
 Stepped d rank outs s m = IsKept d rank (outs ++ move m ∷ []) (after s m) × StartsIdle d (outs ++ move m ∷ [])
 
@@ -119,7 +119,7 @@ module _ (d : Setup) (rank : Ranking) (outs : List Out) (s : Plant) (sd : IsStan
   remain : (a : Rest) → Has (acts b.rest) a → (f : Rest → Rest) → RemainsAs a (f a) → (c : Rest) → Has (acts b.rest) c → place_of c ≡ place_of a → RemainsAs c (f c)
   remain a j f r c l e = subst (λ z. RemainsAs z (f z)) (this_act a c j l e) r
 
-  -- what a move without a pass makes of the batch goes on from there
+  -- the batch goes on from the effect of a move without a pass
   module _ (o : List Out) (a : Rest) (j : Has (acts b.rest) a) (m : Move) (f : Moment → Rest → Rest) (steady : IsSteady f) (tidy : IsTidy (f (at_moment b.values [])))
       (r : RemainsAs a (f (at_moment b.values []) a)) (e : batch_after m b ≡ in_act (place_of a) (f (moment_of b)) b) where
     abbrev first_of : Batch → Batch

@@ -1,4 +1,4 @@
--- The next move keeps what is kept.
+-- The next move keeps the invariant.
 use Rattle.std.proofs.Common.{arith, ◌≡◌, refl, subst, ℕ, List, [], Bool, true, false, ◌&&◌, Option, Some, None, option_and_then, option_to_list, inl, inr, nat_eq, ◌++◌, filter_map}
 use Rattle.std.proofs.lemmas.Bool.{and_parts}
 use Rattle.batch_matrix.specs.declared.state.State.{State}
@@ -38,7 +38,7 @@ same_some x y e = cc
 nothing_left : (r : Rest) → (is_quiet r && is_empty (held_in r)) ≡ true → ((p : Place) (x : _) → Has (facts r) (p, Rattle.batch_record_laws.proofs.Facts.awaiting x) → ⊥) → facts r ≡ []
 nothing_left r e h = grind (arith, and_parts (is_quiet r) (is_empty (held_in r)) e, no_facts, quiet-performs_nothing, holding-nothing)
 
--- what a state ends as fits what it waited for
+-- the facts of a rest that has reached this state fit it
 abbrev FitsReached : Rest → State → Type 0
 FitsReached r y = is_reached y r ≡ true → IsFitting y (facts r)
 

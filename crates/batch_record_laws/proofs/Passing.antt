@@ -1,4 +1,4 @@
--- A batch goes on: its charts reach what they can, and what is held in advance passes to what is reached.
+-- A batch goes on: its charts advance as far as they can, and its holdings in advance pass to the acts that are reached.
 use mathlib.Core.Path.{fun_ext}
 use Rattle.std.proofs.Common.{arith, ◌≡◌, refl, sym, ◌∙◌, ap, ap₂, subst, List, [], ◌∷◌, ◌++◌, Bool, true, false, not, ◌&&◌, cond, map, filter, sum_by, take, slice_get, ◌≤◌, Some, None, inl, inr, ⊎_elim, nat_eq}
 use Rattle.batch_matrix.specs.declared.state.State.{State}
@@ -80,7 +80,7 @@ mutual
   act-step_chosen (choice q c ch) r a s (inl re) i o = Has-left (steps c) (steps_of_choices ch) s (act-step_in c r a s re i o)
   act-step_chosen (choice q c ch) r a s (inr re) i o = Has-right (steps c) (steps_of_choices ch) s (act-step_chosen ch r a s re i o)
 
--- What fits a state
+-- Facts that fit a state
 
 -- a batch in this state may hold something in advance
 abbrev pub is_under_way : State → Bool
@@ -133,7 +133,7 @@ pub record GoesOn (b : Batch) (p : Place) (f : Moment → Rest → Rest) (vs : V
   pub advanced : (h b).rest ≡ advance (at_moment vs (places xs)) (changed_at p (f (at_moment vs (places xs))) b.rest)
   pub left : (h b).in_advance ≡ left_over (h b).rest xs
 
--- what is held in advance before the charts go on
+-- the holdings in advance before the charts go on
 pub record HoldsAhead (b : Batch) (xs : List InAdvance) : Type 0 where
   pub apart : StandApart xs
   pub units : AreFirstNeeds b.recipe.procedure xs
@@ -151,7 +151,7 @@ module _ (d : Setup) (rank : Ranking) (outs : List Out) (s : Plant) (sd : IsStan
   module _ (p : Place) (f : Moment → Rest → Rest) (vs : ValueList) (xs : List InAdvance) (g h : Batch → Batch) (on : GoesOn b p f vs xs g h) (ahead : HoldsAhead b xs)
       (steady : IsSteady f) (tidy : IsTidy (f (at_moment vs []))) (remains : (a : Rest) → Has (acts b.rest) a → place_of a ≡ p → RemainsAs a (f (at_moment vs []) a))
       (none : is_under_way (g b).state ≡ false → xs ≡ []) where
-    -- what the charts would come to if nothing were held in advance
+    -- the rest to which the charts would advance if nothing were held in advance
     abbrev reached : Rest
     reached = advance (at_moment vs []) (changed_at p (f (at_moment vs [])) b.rest)
 
@@ -220,7 +220,7 @@ module _ (d : Setup) (rank : Ranking) (outs : List Out) (s : Plant) (sd : IsStan
     pub all-alike : AreAlike (entries (map (only b.number g) s.batches)) (entries (map (only b.number h) s.batches))
     all-alike = entries-alike b.number g h s.batches each-alike
 
-    -- what is kept before the charts go on is kept after
+    -- the invariant holds after the charts go on if it does before
     pub kept-on : (line : Name → List Share) → IsKept d rank outs (changed_plant s b.number g line) → IsKept d rank outs (changed_plant s b.number h line)
     kept-on line k =
         let E = entries (map (only b.number g) s.batches) in

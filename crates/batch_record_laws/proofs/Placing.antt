@@ -154,7 +154,7 @@ pub drop_prefix : (p a b : Place) → p ++ a ≡ p ++ b → a ≡ b
 drop_prefix [] a b e = e
 drop_prefix (i ∷ p) a b e = drop_prefix p a b (let h : p ++ a ≡ p ++ b = cc in h)
 
--- nothing under child i stands above what is under child j
+-- no place under child i is at or above one under another child j
 pub children_apart : (p : Place) (i j : ℕ) (q r : Place) → IsUnderChild p i q → IsUnderChild p j r → IsAtOrAbove q r → i ≡ j
 children_apart p i j q r h k m =
     let e : p ++ (i ∷ h.0 ++ m.0) ≡ p ++ (j ∷ k.0) = sym (append_assoc p (i ∷ h.0) m.0) ∙ ap (λ x. x ++ m.0) h.1 ∙ m.1 ∙ sym k.1 in

@@ -1,4 +1,4 @@
--- What is held in advance passes to the acts that are reached: these hold it from then on.
+-- Holdings in advance pass to the acts that are reached: these hold them from then on.
 use Rattle.std.proofs.Common.{arith, ◌≡◌, refl, sym, ◌∙◌, ap, ap₂, subst, ℕ, ◌+◌, zero, suc, pred, List, [], ◌∷◌, ◌++◌, Bool, true, false, ◌||◌, ◌&&◌, map, take, length, inl, inr, ◌⊎◌, ⊎_elim, append_assoc}
 use Rattle.std.specs.List.{list_any}
 use Rattle.std.proofs.lemmas.List.{map-append}
@@ -181,7 +181,7 @@ mutual
   lifted-none_each h (rest r rs) n =
       ap₂ rest (lifted-none h r (nowhere-left h (acts r) (acts_of_each rs) n)) (lifted-none_each h rs (nowhere-right h (acts r) (acts_of_each rs) n))
 
--- a change at another place, by what f makes of an act with one place more that holds in advance, and g without
+-- a change at another place: f changes an act with one place more that holds in advance, and g without it
 
 module _ (p h : Place) (f g : Rest → Rest) (alike : (a : Rest) → Nowhere h (acts a) → f a ≡ lifted h (g a)) where
   at_place : (q : Place) (a b c : Rest) → Nowhere h (acts a) → b ≡ lifted h c → elim (same_place q p) [ true ↦ f a | false ↦ b ] ≡ lifted h (elim (same_place q p) [ true ↦ g a | false ↦ c ])
@@ -218,7 +218,7 @@ pub advance-raised : (vs : ValueList) (xs : List InAdvance) (r : Rest) → advan
 advance-raised vs [] r = refl
 advance-raised vs (held ∷ xs) r = advance-lifted vs held.place (places xs) (raised xs r) ∙ ap (lifted held.place) (advance-raised vs xs r)
 
--- what a move makes of acts doesn't touch those that hold in advance, but reaches them
+-- the effect of a move on acts doesn't touch those that hold in advance, but reaches them
 abbrev pub IsSteady : (Moment → Rest → Rest) → Type 0
 IsSteady f = (vs : ValueList) (h : Place) (early : List Place) (a : Rest) → Nowhere h (acts a) → f (at_moment vs (h ∷ early)) a ≡ lifted h (f (at_moment vs early) a)
 
@@ -372,7 +372,7 @@ mutual
       subst (λ z. Adds (facts r ++ facts_of_each rs) (facts z ++ facts_of_each (lifted_each h rs)) (h, holding u)) (sym (lifted-none h r a.0))
       (adds-after (facts r) (facts_of_each rs) (facts_of_each (lifted_each h rs)) (h, holding u) (lifted-adds_among h u rs a.1))
 
--- it stays so where an act at another place takes what is held in advance
+-- it stays so if an act at another place takes a holding in advance
 mutual
   lifted-keeps : (h q : Place) (u : Need) → (q ≡ h → ⊥) → (r : Rest) → AtOnce h u r → AtOnce h u (lifted q r)
   lifted-keeps h q u d (ready s w k) a = subst (AtOnce h u) (sym (miss s.place q (λ e. d (sym e ∙ a.0)) (ready s w (length (take 1 s.needs))) (ready s w k))) a
@@ -565,7 +565,7 @@ module _ (vs : ValueList) where
         ⊎_elim (λ j. same-left (acts r) (acts_of_each rs) a (advance-fresh r a j)) (λ j. same-right (acts r) (acts_of_each rs) a (advance_each-fresh rs a j))
         (Has-split (acts (advance Empty r)) (acts_of_each (advance_each Empty rs)) a i)
 
--- so of a change at a place, where what f makes of an act has no others
+-- so of a change at a place, if the result of f has no other acts
 abbrev pub IsTidy : (Rest → Rest) → Type 0
 IsTidy f = (a x : Rest) → Has (acts (f a)) x → IsOldOrFresh (acts a) x
 

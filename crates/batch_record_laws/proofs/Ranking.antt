@@ -1,4 +1,4 @@
--- What is asked for has a higher rank than what is held at or above it.
+-- A resource that is asked for has a higher rank than one that is held at or above the ask.
 use Rattle.std.proofs.Common.{◌+◌, ◌≡◌, sym, ap, subst, ℕ, zero, suc, ◌≤◌, ◌<◌, arith, List, [], ◌∷◌, take, slice_get, Option, Some, inl, inr, ⊎_elim}
 use Rattle.batch_model.specs.Lists.{Has}
 use Rattle.batch_recipe.specs.Conditions.{Name}
@@ -134,7 +134,7 @@ mutual
   awaited-above_chosen rank low (choice d c ch) r rs (inr h) q x k = awaited-above_chosen rank low ch r rs.1 h q x k
 
 mutual
-  -- what is awaited at or below a holder's place has a higher rank than what is held there
+  -- a resource awaited at or below a holder's place has a higher rank than the one held there
   pub rank-rises : (rank : Ranking) (low : ℕ) (p : Place) (c : Tree) (r : Rest) → IsPlaced p c → RisesDown rank low c → IsRestOf c r
       → (qh qw : Place) (x y : Need) → Has (facts r) (qh, holding x) → Has (facts r) (qw, awaiting y) → IsAtOrAbove qh qw → rank x.resource < rank y.resource
   rank-rises rank low p (act s w) (ready u v n) pl rs h qh qw x y hk wk ab = absurd (held-awaiting u.place (take n u.needs) qw y wk)

@@ -1,4 +1,4 @@
--- Each report keeps what is kept, and so does each event.
+-- Each report keeps the invariant, and so does each event.
 use Rattle.std.proofs.Common.{arith, ◌≡◌, refl, sym, ◌∙◌, ap, subst, subst₂, ℕ, List, [], ◌∷◌, ◌++◌, Bool, true, false, ◌&&◌, find, Option, Some, None, inl, inr, nat_eq, length, bytes_eq}
 use Rattle.batch_matrix.specs.declared.state.State.{State}
 use Rattle.batch_matrix.specs.declared.state.State.TheVariants.{Holding}
@@ -269,7 +269,7 @@ module _ (d : Setup) (rank : Ranking) (cleared : AreClearedDown d rank) (outs : 
       go (Some m) = kept-refused d rank outs s moves_pending k
       go None = judged-step e
 
-  -- every reply keeps what is kept
+  -- every reply keeps the invariant
   pub reply-step : (e : Event) (r : Reply) (t : Plant) → Reacts d s e r t → IsKept d rank (outs ++ reply r ∷ []) t
   reply-step e r t (inl q) = subst (Answered d rank outs) q (react-step e)
   reply-step e r t (inr q) = subst₂ (λ y z. IsKept d rank (outs ++ reply y ∷ []) z) (sym q.1) (sym q.2) (kept-refused d rank outs s no_memory k)

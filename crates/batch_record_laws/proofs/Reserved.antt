@@ -118,7 +118,7 @@ one-step p c pl s t h k e =
 -- Steps of an expanded tree are those of acts
 
 module _ (own : Sites) where
-  -- the step asks for, and reserves, what the act does
+  -- the step has the needs and the reserves of the act
   record IsStepOf (s : Step) : Type 0 where
     of_act : Act
     asks : s.needs ≡ needs_with own of_act

@@ -1,4 +1,4 @@
--- What is asked of documents beside clearance holds of every cell and all recipes.
+-- The conditions on documents beside clearance hold of every cell and all recipes.
 use Rattle.std.proofs.Common.{List, [], ◌∷◌, map}
 use Rattle.batch_cell.specs.declared.cell.Cell as equipment
 use Rattle.batch_recipe.specs.Expanding.{Binding}

@@ -1,4 +1,4 @@
--- What moves and reports make of an act stands at its place, and doesn't touch what is held in advance.
+-- The effect of moves and reports on an act is at its place, and doesn't touch the holdings in advance.
 use Rattle.std.proofs.Common.{◌≡◌, refl, sym, ◌∙◌, ap, ℕ, zero, suc, pred, [], length, inl, inr}
 use Rattle.batch_matrix.specs.declared.command.Command.{Command}
 use Rattle.batch_matrix.specs.declared.report.PhaseEnd.{PhaseEnd}

@@ -1,4 +1,4 @@
--- A record tells just what stands in the plant that it leads to.
+-- A record shows exactly the holders, the asks and the live phases of the plant that it leads to, and its batches' states.
 use Rattle.std.proofs.Common.{◌≡◌, ⊎_elim, sym, ◌∙◌, ap, subst, List, [], ◌∷◌, ◌++◌, take, slice_get, sum_by, inl, inr}
 use Rattle.batch_matrix.specs.declared.state.State.{State}
 use Rattle.batch_model.specs.Lists.{Has}

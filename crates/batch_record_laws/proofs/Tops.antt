@@ -116,7 +116,7 @@ below-never in_unit_procedure e = let bad : in_operation ≡ is_procedure = e in
 below-never in_operation e = let bad : in_operation ≡ is_procedure = e in cc
 
 module _ (ts : List Top) where
-  -- what stands in a chart of the procedure has its unit procedures among these
+  -- the unit procedures of a tree in a chart of the procedure are among these
   abbrev Fits : Level → Tree → Type 0
   Fits level c = level ≡ in_procedure → AreAmong ts c
 
@@ -173,7 +173,7 @@ module _ (ts : List Top) where
 in_procedure-not : in_procedure ≢ is_procedure
 in_procedure-not e = let bad : in_procedure ≡ is_procedure = e in cc
 
--- what follows a step of a procedure is one of its unit procedures
+-- the follower of a step of a procedure is one of its unit procedures
 pub following-one : (s : Step) (name : Name) (c : Tree) (place : Place) (f : Follower) → Has (following (act s (follows name c)) place) f → IsOneOf (tops c) f
 following-one s name c [] f h = absurd h
 following-one s name c (root ∷ []) f h = absurd h

@@ -1,4 +1,4 @@
--- surface: clearance unit procedure by unit procedure: each on every unit that may be its own, with every choice of units for what it reserves, by itself.
+-- surface: clearance of each unit procedure by itself: on every unit that may be its own, for all choices of units of reserved ones.
 use Rattle.std.specs.Prelude.{◌≡◌, ◌↔◌, ℕ, ◌+◌, List, [], ◌∷◌, map, IsTrue, Option, Some, None, ⊤}
 use Rattle.batch_cell.specs.declared.cell.Cell as equipment
 use Rattle.batch_recipe.specs.Conditions.{Name}
@@ -51,7 +51,7 @@ module _ (setup : Setup) (rank : Ranking) (roles : List Declared) (Serves : Bind
   abbrev pub sites_of : Binding → Sites
   sites_of bound = record { bound = bound; unit_procedures = units }
 
-  -- what a label of the procedure's chart stands for, where no unit takes any role
+  -- the tree of a label of the procedure's chart, if no unit takes any role
   abbrev pub label_tree : Name → Place → Tree
   label_tree = named_tree_with (sites_of unbound) (units ∷ tables) []
 
@@ -95,7 +95,7 @@ module _ (setup : Setup) (rank : Ranking) (roles : List Declared) (Serves : Bind
   WorkIsClear place asked (Runs phase values reports) = ⊤
 
 -- each unit procedure that the procedure's chart names is clear on every unit on which it may run, by itself, and so is each
--- node outside unit procedures; what is reserved follows
+-- node outside unit procedures; each reserved unit procedure follows the act that reserves it
 pub record IsClearOnEach (setup : Setup) (rank : Ranking) (cell : equipment.Cell) (recipe : document.Recipe) : Type 0 where
   pub candidates : HasCandidates (master_of cell recipe)
   pub root : IsClear setup rank (part is_procedure (0 ∷ []) [] (procedure_tree recipe.acts))

@@ -1,4 +1,4 @@
--- trusted: what a cell and recipes keep in their types, beside the rules of clearance.
+-- trusted: the properties of a cell and recipes that their types keep, beside the rules of clearance.
 use Rattle.std.specs.Prelude.{◌≡◌, IsTrue}
 use Rattle.batch_recipe.specs.Conditions.{Name}
 use Rattle.batch_recipe.specs.WellFormed.{is_among}

@@ -45,12 +45,12 @@ abbrev mutual
   AreChoicesOf level unit (otherwise chart) = IsOfLevel level unit chart
   AreChoicesOf level unit (choice condition chart choices) = IsOfLevel level unit chart × AreChoicesOf level unit choices
 
--- an act that follows a chart of unit procedures; no unit stands above these
+-- an act that follows a chart of unit procedures; no unit is above these
 abbrev pub HasLevels : Tree → Type 0
 HasLevels (act step (follows name chart)) = IsOfLevel in_procedure [] chart
 HasLevels _ = ⊥
 
--- where a unit procedure follows an act that reserves it, the need by which the act does so is what that one asks for first
+-- if a unit procedure follows an act that reserves it, the need by which the act does so is the first need of the unit procedure
 abbrev pub ReservesUnits : Tree → Type 0
 ReservesUnits chart =
     Each (λ step. Each (λ reserve. (place : Place) → follower chart step.place reserve.name ≡ Some place
@@ -62,7 +62,7 @@ pub record IsProcedure (chart : Tree) : Type 0 where
   pub levels : HasLevels chart
   pub reserved : ReservesUnits chart
 
--- where acts are of their kinds and well formed, the expanded tree is one of a procedure, whatever units take the roles
+-- if acts are of their kinds and well formed, the expanded tree is one of a procedure, whatever units take the roles
 abbrev pub TreesAreProcedures : Type 0
 TreesAreProcedures =
     (bound : Binding) (acts : Acts) (values : List Name) → are_kinds acts ≡ true → is_well_formed values acts ≡ true

@@ -1,4 +1,4 @@
--- trusted: a record tells just what stands in the plant that it leads to.
+-- trusted: a record shows exactly the holders, the asks and the live phases of the plant that it leads to, and its batches' states.
 use Rattle.std.specs.Prelude.{◌≡◌, List, length, Some, ◌↔◌, slice_get, ℕ}
 use Rattle.batch_matrix.specs.declared.state.State.{State}
 use Rattle.batch_model.specs.Lists.{Has}

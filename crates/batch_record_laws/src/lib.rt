@@ -1,5 +1,5 @@
-//! Laws of the definitions of batch_model, on which the promise and the engine both stand: what is kept along every record, and
-//! what a record so tells of the plant that it leads to.
+//! Laws of the definitions of batch_model, on which the promise and the engine both rest: the invariant of every record, and the
+//! facts that a record so shows of the plant that it leads to.
 //!
 //! Nothing runs here. The functions are empty: their contracts are the laws.
 #![tactic(auto)]
@@ -11,8 +11,8 @@ ghost use Rattle.batch_record_laws.specs.Sets.{SetsAreDocuments};
 ghost use Rattle.batch_record_laws.specs.Telling.{TellsThePlant};
 ghost use Rattle.batch_record_laws.specs.Ways.{WaysRise};
 
-/// A record that a cleared set of recipes leads to tells just who holds, asks for and runs what in the plant that it leads to,
-/// and the state of each batch.
+/// A record that a cleared set of recipes leads to shows exactly the holders, the asks and the live phases of the plant that it
+/// leads to, and the state of each batch.
 // claim: told as it is
 pub fn records_tell_the_plant()
     ensures { TellsThePlant }
@@ -32,7 +32,7 @@ pub fn trees_have_units()
     ensures recipes { RecipesAreProcedures }
 {}
 
-/// What these laws ask of documents beside clearance holds of every cell and of all recipes, since their types keep it.
+/// The conditions of these laws on documents beside clearance hold of every cell and of all recipes, since their types keep them.
 // claim: types keep the rest
 pub fn sets_are_documents()
     ensures { SetsAreDocuments }
@@ -45,7 +45,7 @@ pub fn candidates_suffice()
     ensures { CandidatesSuffice }
 {}
 
-/// Two runs of the same events, settled after each, of which none was refused for want of memory, tell the same and come to the same
+/// Two runs of the same events, settled after each and with none refused for want of memory, give the same outs and end in the same
 /// plant: the record is a function of the events.
 // claim: one record of the events
 pub fn replays_agree()

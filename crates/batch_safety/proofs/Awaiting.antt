@@ -1,4 +1,4 @@
--- What a batch of a cleared recipe waits for is a resource of the cell, and no more of it than its capacity.
+-- A batch of a cleared recipe waits for resources of the cell alone, and for no more of one than its capacity.
 use Rattle.std.proofs.Common.{arith, ⊎_elim, subst, ℕ, ◌+◌, ◌≤◌, List, [], ◌∷◌, ◌++◌, take, slice_get, IsTrue, inl, inr}
 use Rattle.std.proofs.lemmas.Slice.Eq.{bytes_eq-Decides}
 use Rattle.batch_recipe.specs.Conditions.{Name}

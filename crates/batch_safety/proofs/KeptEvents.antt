@@ -1,4 +1,4 @@
--- What is told of units that are passed on or reserved is so after every reply.
+-- A record is right about the units that are passed on or reserved, after every reply.
 use Rattle.std.proofs.Common.{arith, ◌≡◌, ⊎_elim, refl, sym, ◌∙◌, ap, ap₂, subst, subst₂, ℕ, ◌≤◌, List, [], ◌∷◌, ◌++◌, Bool, true, false, not, nat_eq, map, find, Option, Some, None, inl, inr, bytes_eq}
 use Rattle.batch_matrix.specs.declared.command.Command.{Command}
 use Rattle.batch_matrix.specs.declared.command.Command.TheVariants.{Start, Pause, Resume, Hold, Restart, Stop, Abort, Reset}
@@ -155,7 +155,7 @@ module _ (d : Setup) (rank : Ranking) (outs : List Out) (s : Plant) (sd : IsStan
         (λ p u. u) (λ f. absurd (on f)) (all.each w h))
         (λ w h e. reply-keeps outs (ordered c b.number (target c)) w (other w.number) (all.each w h))
 
-    -- a command that ends what is kept
+    -- a command that ends the keeping of units
     ended-keeps : (c : Command) (f : Batch → Batch) → ((w : Batch) → (f w).number ≡ w.number) → ((w : Batch) → (f w).recipe ≡ w.recipe)
         → ((n : ℕ) → (b.number ≡ n → ⊥) → IsOfOther n (reply (ordered c b.number (target c))))
         → ((n : ℕ) (kept : List Kept) → kept_until n kept (reply (ordered c b.number (target c))) ≡ elim (nat_eq b.number n) [ true ↦ [] | false ↦ kept ])

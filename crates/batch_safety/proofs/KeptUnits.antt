@@ -1,4 +1,4 @@
--- What one more line makes of the units that are told to be kept, and of those that are told to be held.
+-- The effect of one more line on the units that are told to be kept, and on those that are told to be held.
 use Rattle.std.proofs.Common.{◌≡◌, refl, sym, ◌∙◌, ap, subst, ℕ, List, [], ◌∷◌, ◌++◌, Bool, true, false, nat_eq, inl}
 use Rattle.std.proofs.lemmas.List.Sums.{fold-append}
 use Rattle.std.specs.Prelude.{⊤}

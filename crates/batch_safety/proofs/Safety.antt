@@ -1,4 +1,4 @@
--- What is kept makes a record safe.
+-- The invariant makes a record safe.
 use Rattle.std.proofs.Common.{◌≡◌, ◌⊎◌, ⊎_elim, sym, ◌∙◌, ap, ap₂, subst, subst₂, ◌++◌, false, ℕ, suc, ◌≤◌, ◌<◌, arith, List, [], ◌∷◌, Some, inl, inr}
 use Rattle.batch_matrix.specs.declared.state.State.{State}
 use Rattle.batch_model.specs.Lists.{Has, Each}

@@ -78,7 +78,7 @@ module _ (d : Setup) (rank : Ranking) (outs : List Out) (s : Plant) (sd : IsStan
   some-share [] l = absurd (omega (arith, l))
   some-share (x ∷ xs) l = (x, inl refl)
 
-  -- of what is asked for in a settled plant less is free than the oldest ask wants; and where that wants no more than the capacity, somebody holds it
+  -- a resource asked for in a settled plant has less free than the oldest ask wants; if that is within the capacity, somebody holds it
   pub held-by_others : next d s ≡ None → (q : Name) (a : Share) (more : List Share) → s.line q ≡ a ∷ more → a.units ≤ d.capacity q
       → (d.capacity q < units_in (holders s q) + a.units) × ((h : Share) × Has (holders s q) h)
   held-by_others e q a more f fits =

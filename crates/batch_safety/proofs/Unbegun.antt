@@ -26,7 +26,7 @@ IsEntering _ = ⊥
 abbrev pub IsUnbegunAt : Place → List Rest → Type 0
 IsUnbegunAt q xs = (a : Rest) → Has xs a → place_of a ≡ q → IsEntering a
 
--- What charts reach
+-- The acts that charts reach
 
 mutual
   reach-enters : (m : Moment) (c : Tree) (a : Rest) → Has (acts (reach m c)) a → IsEntering a
@@ -125,7 +125,7 @@ module _ (q : Place) where
           (λ j. changed_in_each-unbegun rs (λ b n. h b (Has-right (acts r) (acts_of_each rs) b n)) a j at)
           (Has-split (acts (changed_at p f r)) (acts_of_each (changed_in_each p f rs)) a i)
 
-  -- What moves and reports make of an act
+  -- The effect of moves and reports on an act
 
   freed-unbegun : (s : Step) (k : ℕ) → (s.place ≡ q → ⊥) → Unbegun (freed s k)
   freed-unbegun s zero not_so a i at = absurd i

@@ -1,4 +1,4 @@
--- What is told of units that are passed on or reserved is so, after every line.
+-- A record is right about the units that are passed on or reserved, after every line.
 use Rattle.std.proofs.Common.{arith, ◌≡◌, ◌⊎◌, ⊎_elim, refl, sym, ◌∙◌, ap, subst, ℕ, zero, suc, ◌<◌, ◌≤◌, List, [], ◌∷◌, ◌++◌, Bool, true, false, not, nat_eq, map, take, find, Option, Some, None, slice_get, inl, inr, bytes_eq}
 use Rattle.std.specs.Prelude.{option_and_then, option_map}
 use Rattle.std.proofs.lemmas.Bool.{cases_lt}
@@ -73,7 +73,7 @@ pub record KeepsAs (outs : List Out) (n : ℕ) (c : Tree) (r : Rest) (x : State)
 abbrev pub KeepsIn : List Out → Batch → Type 0
 KeepsIn outs b = KeepsAs outs b.number b.recipe.procedure b.rest b.state
 
--- A line that changes nothing of what is told
+-- A line that changes no told fact
 
 module _ (outs : List Out) (o : Out) (n : ℕ) (c : Tree) (r later : Rest) (none : (unit : Name) (p : Place) → Takes unit n p o → ⊥) where
   on-held : ((p : Place) → IsUnbegunAt p (acts r) → IsUnbegunAt p (acts later)) → (kept : Kept) → IsHeldFor outs n c r kept → IsHeldFor (outs ++ o ∷ []) n c later kept
@@ -160,7 +160,7 @@ abbrev BeginsChart : Place → Move → Type 0
 BeginsChart q (begin number place name) = place ≡ q
 BeginsChart q _ = ⊥
 
--- what is kept after a move of the batch was kept before, and isn't what begins
+-- a unit kept after a move of the batch was kept before, and the move doesn't begin the act at its place
 kept-members : (n : ℕ) (before : List Kept) (m : Move) (kept : Kept) → batch_of m ≡ n → Has (kept_until n before (move m)) kept → Has before kept × (BeginsChart kept.place m → ⊥)
 kept-members n before (begin batch place name) kept number h = go (nat_eq batch n) (subst (λ z. nat_eq batch z ≡ true) number (nat_self batch)) h
   where
@@ -195,7 +195,7 @@ module _ (d : Setup) (rank : Ranking) (outs : List Out) (s : Plant) (sd : IsStan
   here : IsStandingBatch d b
   here = standing-of d s sd b i
 
-  -- what is held is told to be
+  -- the record tells of each holding
   told-held : (p : Place) (r : Need) → Has (facts b.rest) (p, holding r) → Holds outs r.resource b.number p
   told-held p r h =
       let x : Share = share (b.number, p) r.units in
@@ -476,7 +476,7 @@ module _ (d : Setup) (rank : Ranking) (outs : List Out) (s : Plant) (sd : IsStan
         (subst (λ x. KeepsAs so_far moved.number x.procedure moved.rest b.state) (sym (same-recipe m b))
         (subst (λ x. KeepsAs so_far x c moved.rest b.state) (sym (same-number m b)) own)))
 
-  -- every move of the batch keeps what is kept of it
+  -- every move of the batch keeps the units that are kept for it
   pub move-keeps : (m : Move) → Has (batch_moves d s b) m → KeepsIn (outs ++ move m ∷ []) (batch_after m b)
   move-keeps m h =
       ⊎_elim
@@ -491,7 +491,7 @@ module _ (d : Setup) (rank : Ranking) (outs : List Out) (s : Plant) (sd : IsStan
 
 -- All batches
 
--- what is kept of each batch; of numbers that are not given yet nothing is told
+-- the units that are kept for each batch; of numbers that are not given yet nothing is told
 pub record KeepsAll (outs : List Out) (s : Plant) : Type 0 where
   pub each : (b : Batch) → Has s.batches b → KeepsIn outs b
   pub fresh : (n : ℕ) → s.next_number ≤ n → (passed_told n outs ≡ []) × ((c : Tree) → reserved_told n c outs ≡ [])

@@ -261,7 +261,7 @@ module _ (d : Setup) (s : Plant) (b : Batch) (run : b.state ≡ Running) where
   open-works u r st false e f = f e
 
   mutual
-    -- what is left of a running batch works or asks where nothing has a move
+    -- the rest of a running batch works or asks if nothing has a move
     stuck-works : (r : Rest) → IsAdvanced r → IsBounded r → AreStuck (acts r) → is_done r ≡ false → IsWorking (acts r)
     stuck-works (ready u v n) h bo st e = absurd (ready-moves d s b u v n (ap is_running run) (st (ready u v n) (inl refl)))
     stuck-works (asking u v n) h bo st e = inr (u, v, n, inl refl)

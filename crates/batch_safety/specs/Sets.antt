@@ -1,4 +1,4 @@
--- trusted: what clearance promises of the recipes of a cell, as they are read from documents.
+-- trusted: the promises of clearance for the recipes of a cell, as they are read from documents.
 use Rattle.std.specs.Prelude.{◌≡◌, List, None}
 use Rattle.batch_cell.specs.declared.cell.Cell as equipment
 use Rattle.batch_recipe.specs.declared.recipe.Recipe as document
@@ -14,7 +14,7 @@ use Rattle.batch_model.specs.Transfers.{KeepsUnits}
 use Rattle.batch_safety.specs.Settlement.{WaitsForSomething}
 use Rattle.batch_record_laws.specs.Telling.{IsTold}
 
--- what is promised of every record that the recipes lead to in the cell
+-- the promises for every record that the recipes lead to in the cell
 pub record RunsSafely (cell : equipment.Cell) (recipes : List document.Recipe) : Type 0 where
   pub safe : (events : List Event) (record_so_far : List Out) (plant : Plant)
       → Leads (setup_of cell recipes) opening events record_so_far plant

@@ -1,4 +1,4 @@
--- trusted: where no move is possible, whoever waits waits for something.
+-- trusted: if no move is possible, whoever waits waits for something.
 use Rattle.std.specs.Prelude.{◌≡◌, ◌⊎◌, ◌≤◌, ◌<◌, ◌+◌, List, [], ◌∷◌, ◌++◌, length, IsTrue, None}
 use Rattle.std.specs.List.{list_any}
 use Rattle.batch_matrix.specs.declared.state.State.{State}
@@ -35,7 +35,7 @@ pub record WaitsForSomething (setup : Setup) (plant : Plant) : Type 0 where
       × ((share : Share) × Has (holders plant resource) share)
   -- a chain has no more waiting steps than there are resources
   pub short : (links : List Link) → IsChain (scene_of plant) links → length links ≤ length setup.resources
-  -- where a chain can't be continued, its last holder is at work
+  -- if a chain can't be continued, its last holder is at work
   pub ends : (links : List Link) (link : Link) → IsChain (scene_of plant) (links ++ link ∷ [])
       → ((waiting : Waiting) → IsWaiting (scene_of plant) waiting → StandsUnder link.holder waiting → ⊥) → IsAtWork plant link.holder
 

@@ -1,4 +1,4 @@
-//! The machine is safe: what a cleared set of recipes can lead to, as laws over the definitions of batch_model.
+//! The machine is safe: laws of the records of cleared sets of recipes, over the definitions of batch_model.
 //!
 //! Nothing runs here. The functions are empty: their contracts are the laws.
 #![tactic(auto)]
@@ -20,16 +20,16 @@ pub fn records_are_safe()
     ensures { CanOnlyBeSafe }
 {}
 
-/// Where no move is possible, of each resource that is asked for less is free than its oldest ask wants, and somebody holds
-/// it; no chain has more waiting steps than the cell has resources; and where a chain can't be continued its last holder is
+/// If no move is possible, each resource that is asked for has less free than its oldest ask wants, and somebody holds it; no
+/// chain has more waiting steps than the cell has resources; and if a chain can't be continued, its last holder is
 /// at work.
 // claim: too few free; somebody holds; short chains; chains end at work
 pub fn nobody_waits_in_vain()
     ensures { NobodyWaitsInVain }
 {}
 
-/// A unit that was passed on to a unit procedure is held there until this begins, and one that a step reserves is held by the batch from
-/// that step's begin on until the unit procedure begins for which it is reserved, unless the batch is stopped or aborted.
+/// A unit that was passed on to a unit procedure is held there until this begins. A unit that a step reserves is held by the batch
+/// from that step's begin on until the unit procedure begins for which it is reserved, unless the batch is stopped or aborted.
 // claim: reserved units stay
 pub fn units_are_kept()
     ensures { UnitsAreKept }

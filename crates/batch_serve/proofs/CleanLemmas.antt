@@ -21,7 +21,7 @@ use Rattle.batch_serve.proofs.LineBeginnings.{take_twice, length_strip}
 use Rattle.batch_serve.proofs.CleanWords.{bytes_same, test_all}
 use Rattle.batch_serve.proofs.Replays.{is_other}
 
--- Each line says the same
+-- Each line has the same meaning
 
 long_said : (line : List ℕ) → is_too_long line ≡ true → event_of_line line ≡ Err TooLong
 long_said line long = ap (λ t. cond t (Err TooLong) (cond (is_comment (strip_carriage_return line)) (Ok None) (event_of_words (words (strip_carriage_return line))))) long
@@ -100,7 +100,7 @@ plain_more (x ∷ begun) b plain is =
     let parts = and_parts (is_other x) (list_all is_other begun) plain in
     ap (λ t. t && list_all is_other (begun ++ b ∷ [])) parts.0 ∙ plain_more begun b parts.1 is
 
--- no line feed stands in a line that is kept
+-- a line that is kept contains no line feed
 plain_if : (line : List ℕ) (long nothing : Bool) → list_all is_other line ≡ true
     → MatchOption (cond long (Some (replicate 1025 63)) (cond nothing None (Some (map clean_byte line)))) ⊤ (λ line_kept. list_all is_other line_kept ≡ true)
 plain_if line true nothing plain = refl
@@ -108,7 +108,7 @@ plain_if line false true plain = tt
 plain_if line false false plain = test_all is_other refl line ∙ plain
 
 module _ (c : Setup) (new : Plant) where
-  -- an empty line at the end says nothing
+  -- an empty line at the end has no effect
   nothing_last : (old : Plant) (said : Exchange) → Transcript c old ([] ∷ []) said new → Transcript c old [] said new
   nothing_last old said (first, others, mid, answers, t, is) = (is ∙ ap (λ x. followed_by x others) answers.0 ∙ ap (λ x. followed_by silence x) t.0, t.1 ∙ answers.1)
 
@@ -206,7 +206,7 @@ ended line rest more at ends =
 pub unended : (line rest more : List ℕ) → HasNoFeed rest → clean_from line (rest ++ more) ≡ clean_from (take KEPT (line ++ rest)) more
 unended line rest more none = from_unended line rest more none ∙ sym (from_kept (line ++ rest) more)
 
--- What is given of what was read
+-- The bytes given for the bytes read
 
 pub consumes : (line now read given : List ℕ) (old new : Option (List ℕ)) → ((more : List ℕ) → clean_from line (read ++ more) ≡ given ++ clean_from now more)
     → Consumes old new read → Consumes (option_map (clean_from line) old) (option_map (clean_from now) new) given
@@ -235,7 +235,7 @@ gave_none (Some xs) (Some ys) out n nothing consumed = sym (consumed ∙ ap (λ 
 
 -- A piece of the input
 
--- what is written behind what was
+-- bytes written after earlier ones
 pub put_behind : (out put : List ℕ) (written k n : ℕ) → written ≤ length out → n ≤ length put → take (written + n) (put_mid written k out put) ≡ take written out ++ take n put
 put_behind out put written k n within fits =
     let size : length (take written out) ≡ written = length-take-le written out within in
@@ -245,7 +245,7 @@ put_behind out put written k n within fits =
 abbrev pub Gives : List ℕ → List ℕ → List ℕ → List ℕ → List ℕ → Type 0
 Gives first piece written line rest = (more : List ℕ) → clean_from first (piece ++ more) ≡ written ++ clean_from line (rest ++ more)
 
--- what stands behind the line feed there
+-- the rest after the line feed there
 abbrev pub behind : ℕ → List ℕ → List ℕ
 behind at rest = take (length rest - (at + 1)) (drop (at + 1) rest)
 
@@ -298,7 +298,7 @@ pub input_ended : (line now put read : List ℕ) (n : ℕ) (old new : Option (Li
 input_ended line now put read n old new nothing consumed end none put_is =
     (at_end line now put old new (subst (λ k. Consumes old new (take k read)) nothing consumed) (end nothing) none put_is, ends_there now new (end nothing) none)
 
--- What is written of a line
+-- The text written of a line
 
 pub long_text : (line text : List ℕ) → text ≡ strip_carriage_return line → MAX_LINE_LEN < length text → (replicate 1025 63 ++ 10 ∷ [] ≡ clean_text (clean line)) × (1026 ≤ length line + 1)
 long_text line text is long = (

@@ -1,4 +1,4 @@
--- A line is read alike where each zero byte is a `?`.
+-- A line is read alike with a `?` for each zero byte.
 use Rattle.std.proofs.Common.{◌≡◌, ◌⊎◌, ℕ, zero, suc, ◌+◌, ◌-◌, Bool, true, false, not, ◌&&◌, List, [], ◌∷◌, length, take, drop, map, filter, Option, Some, None, cond, codes, nat_lt, nat_le, ◌==◌, slice_index, refl, sym, ◌∙◌, ap, inl, inr}
 use Rattle.std.proofs.lemmas.Bool.{and_parts, cases_Bool, not-true, eqb-true}
 use Rattle.std.proofs.lemmas.List.{take-map, length-map}
@@ -69,7 +69,7 @@ module _ (p : ℕ → Bool) (alike : p 63 ≡ p 0) where
       split_if true a b = refl
       split_if false a b = refl
 
--- what passes byte by byte has no zero
+-- bytes that each pass a test have no zero, if zero fails the test
 unchanged : (p : ℕ → Bool) → p 0 ≡ false → (bytes : List ℕ) → list_all p bytes ≡ true → clean_bytes bytes ≡ bytes
 unchanged p none [] all = refl
 unchanged p none (b ∷ bytes) all = elim (cases_Bool (b == 0)) [
@@ -143,7 +143,7 @@ module _ (word : List ℕ) where
       ap (λ l. (l, after_first is_equals (clean_bytes word))) (first ∙ name_kept (before_first is_equals word) parts.0)
       ∙ ap (λ l. (before_first is_equals word, l)) (second ∙ name_kept (after_first is_equals word) parts.1)
 
--- a test of words that says the same of them, and what is read of those that pass it
+-- a test of words with the same outcome for clean ones, and the reading of the words that pass it
 all_words : (test : List ℕ → Bool) → ((word : List ℕ) → test (clean_bytes word) ≡ test word) → (ws : List (List ℕ)) → list_all test (map clean_bytes ws) ≡ list_all test ws
 all_words test same [] = refl
 all_words test same (w ∷ ws) = ap (λ t. t && list_all test (map clean_bytes ws)) (same w) ∙ ap (λ t. test w && t) (all_words test same ws)

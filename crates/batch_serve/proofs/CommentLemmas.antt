@@ -138,9 +138,9 @@ decimal_part ds n is fits =
     let digits : all_ascii_digits (decimal n) ≡ true = digits_decimal (numerals_by_value _ tells_all_ascii_digits) n fits in
     comment_part ds (digits_other ds (ap all_ascii_digits is ∙ digits))
 
--- What a writer holds
+-- The contents of a writer
 
--- the text behind what was held first
+-- the text after the first contents
 record HasTold (held : List ℕ) (contents : Option (List ℕ)) (spot : Spot) (cut : Bool) : Type 0 where
   pub text : List ℕ
   pub has : contents ≡ Some (held ++ text)
@@ -189,7 +189,7 @@ remarked (Some held) contents spot cut at =
           );
     }
 
--- a text was written: of it what is no comment counts
+-- a text was written: its part outside comments counts
 module _ (held text : List ℕ) (spot : Spot) (stands : spot_behind Start text ≡ spot) (t : List ℕ) where
   grown : (old : Option (List ℕ)) → old ≡ Some (held ++ text) → (new : Option (List ℕ)) → Appends (Some (held ++ text)) new t
       → Appends (uncommented (Some held) old) (uncommented (Some held) new) (kept_from spot t) × HasTold held new (spot_behind spot t) false

@@ -1,4 +1,4 @@
--- What a writer that holds back passes on.
+-- The text that a writer which holds back passes on.
 use Rattle.std.proofs.Common.{◌≡◌, ◌⊎◌, ℕ, ◌+◌, ◌-◌, ◌≤◌, true, List, [], ◌∷◌, ◌++◌, length, take, drop, take-append-drop, Option, Some, None, option_map, codes, refl, sym, ◌∙◌, ap, subst, append_assoc, inl, inr, ⊎_elim, arith}
 use Rattle.std.proofs.KnownBytes.{append_known-moved}
 use Rattle.std.proofs.lemmas.Bool.{eqb-true}
@@ -37,7 +37,7 @@ ends_whole (x ∷ y ∷ front) = ends_whole (y ∷ front)
 
 -- Refusals for want of memory
 
--- a line that stands in whole lines and what follows them stands in one of the two
+-- a line that is contained in whole lines and the text after them is contained in one of the two
 module _ (line : List ℕ) (plain : list_all is_other line ≡ true) where
   at_front : (a b rest : List ℕ) → IsWholeLines a → (a ≡ [] → ⊥) → a ++ b ≡ (line ++ 10 ∷ []) ++ rest → Has (line ++ 10 ∷ []) a
   at_front a b rest (inl none) some is = absurd (some none)
@@ -75,7 +75,7 @@ clear_both a b one other = record {
   };
 }
 
--- What was passed on
+-- The text that was passed on
 
 within_of : (x held : List ℕ) → ◌≡◌ {A = Option (List ℕ)} (Some (take (length held) x)) (Some held) → length held ≤ length x
 within_of x held is = let e : take (length held) x ≡ held = cc is in omega (arith, ap length e, length-take (length held) x)
@@ -130,9 +130,9 @@ tells_clear first (Some x) items held cleared known is =
       shows = clear.shows;
     }
 
--- What is waiting
+-- The waiting text
 
--- a part of it was written, and is gone from what is held
+-- a part of it was written, and is removed from the held text
 module _ (old new : Option (List ℕ)) (items held left : List ℕ) (cleared count : ℕ) (is : held ≡ items) (left_is : left ≡ drop count items) (few : count ≤ cleared)
     (appends : Appends old new (take count (take cleared held))) where
   pub passes_on : (first : Option (List ℕ)) → IsPassed first old (take cleared items) → IsPassed first new (take (cleared - count) left)

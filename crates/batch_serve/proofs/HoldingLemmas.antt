@@ -1,4 +1,4 @@
--- What is held back of a text.
+-- The part of a text that is held back.
 use Rattle.std.proofs.Common.{◌≡◌, ◌⊎◌, ℕ, zero, suc, ◌+◌, ◌-◌, ◌<◌, ◌≤◌, Bool, true, false, not, ◌||◌, ◌==◌, nat_eq, nat_le, List, [], ◌∷◌, ◌++◌, length, take, drop, take-append-drop, drop-drop, min, get_or, codes, Option, Some, None, MatchOption, is_some, option_map, refl, sym, ◌∙◌, ap, subst, append_assoc, inl, inr, arith, length-take, length-drop, length-append}
 use Rattle.std.proofs.lemmas.Bool.{and_parts, or_left, or_right, cases_lt, eqb-true, false_from_ne_true, leb-true}
 use Rattle.std.proofs.lemmas.Bool.Decides.{Decides-eqb}
@@ -28,7 +28,7 @@ occurs text needle has =
     ap (λ l. take (length needle) (drop (length front) l)) has.splits ∙ ap (take (length needle)) (drop_at front (needle ++ rest) (length front) refl) ∙ take_at needle rest (length needle) refl in
     OccursAt-from_part text needle (length front) (omega (arith, size)) part
 
--- what is in a beginning of the text is in the text
+-- bytes that a prefix of the text contains are in the text
 of_front : (needle text : List ℕ) (at : ℕ) → Has needle (take at text) → Has needle text
 of_front needle text at has = subst (Has needle) (take-append-drop at text) (in_front needle (take at text) (drop at text) has)
 
@@ -87,7 +87,7 @@ stops_before line text at plain first n most whole shows = go (cases_lt at n)
     go (inl past) = absurd (shows (has_line line text (drop (at + length (line ++ 10 ∷ [])) text) at n plain first.within first.here past most (whole_lines (take n text) whole)))
     go (inr few) = few
 
--- at a refusal of an event, where none of a line stands before it
+-- at a refusal of an event, if none of a line is before it
 stops_at_event : (text : List ℕ) (at : ℕ) → StandsFirst (codes "refused E11\n") text at → (Has (codes "refused W6\n") (take at text) → ⊥) → StopsAt text at
 stops_at_event text at first none = record {
   within = first.within;
@@ -110,7 +110,7 @@ stops_at_end text no_event no_line = record {
   stops = λ n most clear. most;
 }
 
--- where the sooner of the two stands, neither does before
+-- before the sooner of the two refusals there is none
 pub stops_where : (text : List ℕ) (event line : Option ℕ) → FindsFirst (codes "refused E11\n") text event → FindsFirst (codes "refused W6\n") text line
     → MatchOption (sooner event line) (StopsAt text (length text)) (StopsAt text)
 stops_where text None None no_event no_line = stops_at_end text no_event no_line
@@ -133,7 +133,7 @@ pub found_some : (needle text : List ℕ) (found : Option ℕ) → FindsFirst ne
 found_some needle text None finds some = let clash : false ≡ true = some in absurd (cc clash)
 found_some needle text (Some at) finds some = record { front = take at text; rest = drop (at + length needle) text; splits = finds.here }
 
--- What is held back
+-- The part that is held back
 
 no_feed_whole : (text : List ℕ) → IsUnended text → is_whole text ≡ true → text ≡ []
 no_feed_whole [] none is = refl
@@ -175,7 +175,7 @@ rest_is_held text at n stop whole m most clear =
     no_feed_whole (take m (drop n (take at text))) (All-take (λ b. (b == 10) ≡ false) m (drop n (take at text)) whole.rest) (ap is_whole here ∙ clear.whole) in
     omega (arith, ap length none, length-take m (drop n (take at text)), length-drop n (take at text), length-take at text, few, stop.within)
 
--- of what is held so much is cleared, and then so much more of the rest
+-- so much of the held text is cleared, and then so much more of the rest
 module _ (items held : List ℕ) (cleared at n : ℕ) (is : held ≡ items) (within : cleared ≤ length items)
     (stop : StopsAt (take (length held - cleared) (drop cleared held)) at) (whole : IsWholeTo (take at (take (length held - cleared) (drop cleared held))) n) where
   abbrev group : List ℕ
@@ -222,7 +222,7 @@ whole_to text (Some at) last =
 pub none_whole : (text : List ℕ) → IsUnended text → IsWholeTo text 0
 none_whole text none = record { within = omega arith; whole = refl; rest = none }
 
--- What is told
+-- The text that is passed on
 
 same_known : (old new : Option (List ℕ)) (x : List ℕ) → old ≡ Some x → Keeps old new → new ≡ old
 same_known None new x known keeps = absurd (cc known)

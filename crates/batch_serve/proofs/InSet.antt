@@ -1,4 +1,4 @@
--- The engine keeps its cleared set, so what is said of a call by the set before it holds by the set at the beginning.
+-- The engine keeps its cleared set, so a property of a call by the set before it holds by the set at the beginning.
 use Rattle.std.proofs.Common.{◌≡◌, Option, Some, None, option_map, sym, ap, subst, ◌∙◌, Result, ℕ, List}
 use Rattle.batch_model.specs.Events.{Event}
 use Rattle.batch_model.specs.Moves.{next, after}
@@ -28,7 +28,7 @@ after_in a set s new line kept h = h ∙ ap (λ (k : ClearedSet). after s (move_
 pub settle_in : (v : EngineView) (set : ClearedSet) → v.cleared ≡ set → IsLed v → CanSettle (setup set) (plant_of v)
 settle_in v set kept led = subst (λ (k : ClearedSet). CanSettle (setup k) (plant_of v)) kept (settle v led)
 
--- what is said of any set, said of an equal one
+-- a property of a set holds of an equal one
 pub in_set : (P : Setup → Type 0) (a set : ClearedSet) → a ≡ set → P (setup a) → P (setup set)
 in_set P a set kept h = subst (λ (k : ClearedSet). P (setup k)) kept h
 

@@ -99,7 +99,7 @@ no_want_is_well c old new (line ∷ lines) said (first, others, mid, answers, re
 
 -- Lives
 
--- a run of the same lines, and then more, tells the same first, and comes to the same plant on the way
+-- a run of the same lines, and then more, writes the same text first, and passes through the same plant
 record Parts (c : Setup) (one last : Plant) (more : List (List ℕ)) (said whole : Exchange) : Type 0 where
   pub others : Exchange
   pub goes_on : WellServed c one more others last
@@ -132,7 +132,7 @@ told_is_recovered c old mid new last before lines more said then_said whole told
           ∙ sym (append_assoc said.text told (rest ++ two.others.text));
     }
 
--- Want of memory behind what was told
+-- Want of memory after the written text
 
 abbrev pub is_other : ℕ → Bool
 is_other b = not (eqb b 10)

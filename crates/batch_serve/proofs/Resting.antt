@@ -1,4 +1,4 @@
--- After each line of a transcript the machine is settled, and from the opening of a cleared set what it tells is a safe record.
+-- After each line of a transcript the machine is settled, and from the opening of a cleared set its outs are a safe record.
 use Rattle.std.proofs.Common.{ℕ, List, [], ◌∷◌, Option, Some, None, Result, Ok, Err, refl, sym, ap, ◌∙◌, subst, inl, inr}
 use Rattle.batch_model.specs.Events.{Event}
 use Rattle.batch_model.specs.Moves.{Move, after}
@@ -45,7 +45,7 @@ transcripts_settle c old new (line ∷ front) others said k t =
       tells = t.5 ∙ ap (followed_by t.0) later.tells ∙ sym (followed-assoc t.0 later.first later.then_said);
     }
 
--- what is written of a transcript from a settled plant
+-- a written transcript from a settled plant leads to a settled one
 pub writes_settle : (c : Setup) (old new : Plant) (lines : List (List ℕ)) (x y : Option (List ℕ)) → WritesTranscript c old lines new x y → IsSettled c old → IsSettled c new
 writes_settle c old new lines x y h k = transcript_settles c old new lines h.said k h.transcript
 

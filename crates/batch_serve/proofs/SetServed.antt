@@ -1,4 +1,4 @@
--- From the opening of a cleared set: what serving answered, as its safe record.
+-- The answers of serving from the opening of a cleared set, as its safe record.
 use Rattle.std.proofs.Common.{◌≡◌, ℕ, ◌≤◌, List, Option, Some, None, Result, Ok, Err, OnOk, IfSome, IsErrOf, take, length, refl, subst}
 use Rattle.std.specs.Io.KnownBytes.{IsAtEnd}
 use Rattle.batch_model.specs.Plant.{Plant, opening}

@@ -1,4 +1,4 @@
--- trusted: what comes of a line, and of an event, as far as it was written: all of it at Ok, and after a write fault a beginning.
+-- trusted: the answer to a line, and to an event, as far as it was written: all of it at Ok, and after a write fault a prefix.
 use Rattle.std.specs.Prelude.{ℕ, List, map, flat_map, Option, Result, Ok, Err}
 use Rattle.std.specs.Io.KnownBytes.{Appends}
 use Rattle.batch_model.specs.Events as Model
@@ -23,13 +23,13 @@ WritesMoves c old (Ok done) new before after = (moves : List Move) × Settles c 
 WritesMoves c old (Err fault) new before after =
     (moves : List Move) × (last : Plant) × Settles c old moves last × AppendsBeginning before after (moves_text moves)
 
--- the event is handled, and what comes of it written
+-- the event is handled, and its outs are written
 abbrev pub WritesHandled : Setup → Plant → Model.Event → Result (Unit {0}) WriteFault → Plant → Option (List ℕ) → Option (List ℕ) → Type 0
 WritesHandled c old event (Ok done) new before after = (outs : List Out) × Handles c old event outs new × Appends before after (outs_text outs)
 WritesHandled c old event (Err fault) new before after =
     (outs : List Out) × (last : Plant) × Handles c old event outs last × AppendsBeginning before after (outs_text outs)
 
--- a line that says this is answered
+-- a line of this meaning is answered
 abbrev pub WritesAnswer : Setup → Plant → Result (Option Model.Event) WireFault → Result (Unit {0}) WriteFault → Plant → Option (List ℕ) → Option (List ℕ) → Type 0
 WritesAnswer c old said (Ok done) new before after = (exchange : Exchange) × Answers c old said exchange new × Appends before after exchange.text
 WritesAnswer c old said (Err fault) new before after =

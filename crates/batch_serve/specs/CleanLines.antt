@@ -19,7 +19,7 @@ is_too_long line = nat_lt MAX_LINE_LEN (length (strip_carriage_return line))
 abbrev pub gives_nothing : List ℕ → Bool
 gives_nothing text = is_comment text || list_all is_space text
 
--- a line that is too long is as long as shows that, and one that gives nothing is left out
+-- a line that is too long becomes 1,025 `?`, and one that gives nothing is left out
 abbrev pub clean : List ℕ → Option (List ℕ)
 clean line =
     if is_too_long line then Some (replicate 1025 63)
@@ -47,7 +47,7 @@ CleansLines = (input : List ℕ) → clean_from [] input ≡ clean_lines (lines_
 abbrev pub CleanLinesAgree : Type 0
 CleanLinesAgree = (line : List ℕ) → MatchOption (clean line) (event_of_line line ≡ Ok None) (λ cleaned. event_of_line cleaned ≡ event_of_line line)
 
--- whatever may come of the text of these lines may come of the input
+-- each possible outcome of the text of these lines is a possible outcome of the input
 abbrev pub CleanLinesServeAlike : Type 0
 CleanLinesServeAlike =
     (c : Setup) (old new : Plant) (input : List ℕ) (said : Exchange) → Transcript c old (lines_of (clean_lines (lines_of input))) said new → Transcript c old (lines_of input) said new

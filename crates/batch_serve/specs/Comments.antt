@@ -1,4 +1,4 @@
--- trusted: comments of a record: which are written, and what is left of a text without them.
+-- trusted: comments of a record: those that are written, and a text without its comments.
 use Rattle.std.specs.Prelude.{◌≡◌, ℕ, ◌+◌, ◌/◌, ◌%◌, Bool, true, false, ◌&&◌, List, [], ◌∷◌, ◌++◌, take, flat_map, Option, Some, codes, decimal, nat_le, nat_lt, ◌==◌, if◌then◌else◌}
 use Rattle.std.specs.Str.Lines.{strip_carriage_return}
 use Rattle.batch_serve.specs.declared.remarked.Spot.{Spot}
@@ -6,7 +6,7 @@ use Rattle.batch_serve.specs.declared.remarked.Spot.TheVariants.{Start, Line, Co
 
 -- Texts with comments
 
--- where a text stands behind this byte: at the start of a line, in the midst of one, or in a comment
+-- the spot at which a text ends after this byte: at the start of a line, in the midst of one, or in a comment
 abbrev pub next_spot : Spot → ℕ → Spot
 next_spot Start b = if b == 10 then Start else (if b == 35 then Comment else Line)
 next_spot Line b = if b == 10 then Start else Line
@@ -30,7 +30,7 @@ kept_from spot (b ∷ bytes) = if is_hidden spot b then kept_from (next_spot spo
 abbrev pub without_comments : List ℕ → List ℕ
 without_comments text = kept_from Start text
 
--- a text was written behind what was known to stand there, and without its comments it would be this
+-- a text was written after the known contents, and plain is the contents with that text without its comments
 pub record IsRemarked (before after plain : Option (List ℕ)) : Type 0 where
   pub known : (held : List ℕ) → before ≡ Some held
       → (text : List ℕ) × (after ≡ Some (held ++ text)) × (plain ≡ Some (held ++ without_comments text))
@@ -54,7 +54,7 @@ escaped_byte b = if is_printable b then b ∷ [] else escape b
 abbrev pub escaped : List ℕ → List ℕ
 escaped text = flat_map escaped_byte text
 
--- the line without the carriage return at its end; of one that is too long, so much as shows that
+-- the line without the carriage return at its end; of one that is too long, the first 1,025 bytes
 abbrev pub echoed : List ℕ → List ℕ
 echoed line = take 1025 (strip_carriage_return line)
 
@@ -64,7 +64,7 @@ echo_text line = codes "# > " ++ (escaped (echoed line) ++ 10 ∷ [])
 abbrev pub time_text : ℕ → List ℕ
 time_text milliseconds = codes "# at " ++ (decimal milliseconds ++ 10 ∷ [])
 
--- what stands before the answer to a line: the time where it is due, and the line where echoes are asked for
+-- the comments before the answer to a line: the time if it is due, and the line if echoes are asked for
 abbrev pub remark_text : Bool → Bool → ℕ → List ℕ → List ℕ
 remark_text due echo milliseconds line =
     (if due then time_text milliseconds else []) ++ (if echo then echo_text line else [])

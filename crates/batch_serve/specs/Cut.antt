@@ -5,7 +5,8 @@ use Rattle.batch_model.specs.Plant.{Setup, Plant}
 use Rattle.batch_wire.specs.Transcript.{lines_of}
 use Rattle.batch_wire.specs.WrittenTranscript.{BeginsTranscript}
 
--- a beginning of the text of a transcript of the first lines read was written; the reader had unread bytes, and has these left
+-- a prefix of the text of a transcript of the first lines read was written; the reader had the bytes `unread`, and has the bytes
+-- `left`
 pub record BeginsLinesRead (c : Setup) (old : Plant) (unread left before after : Option (List ℕ)) : Type 0 where
   pub read : List ℕ
   pub consumes : Consumes unread left read

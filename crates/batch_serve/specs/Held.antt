@@ -1,4 +1,4 @@
--- trusted: what is passed on of a record that is held back.
+-- trusted: the part of a held record that is passed on.
 use Rattle.std.specs.Prelude.{◌≡◌, ℕ, ◌≤◌, Bool, true, false, List, [], ◌∷◌, ◌++◌, length, take, drop, Option, Some, option_map, ◌==◌}
 use Rattle.std.specs.List.{All}
 use Rattle.batch_serve.specs.Replays.{IsWholeLines, ShowsNoWant}
@@ -18,16 +18,16 @@ pub record IsClear (text : List ℕ) : Type 0 where
 abbrev pub IsUnended : List ℕ → Type 0
 IsUnended text = All (λ b. (b == 10) ≡ false) text
 
--- no beginning of the text is clear: it begins with an unfinished line, or with a refusal for want of memory
+-- no prefix of the text is clear but the empty one: it begins with an unfinished line, or with a refusal for want of memory
 abbrev pub IsHeldBack : List ℕ → Type 0
 IsHeldBack text = (n : ℕ) → n ≤ length text → IsClear (take n text) → n ≡ 0
 
--- where it is known what a writer held first: it holds that, and then clear text but for what is waiting of it
+-- if the first contents of a writer are known: it holds them, and then a text that is clear together with the waiting one
 pub record IsPassed (first contents : Option (List ℕ)) (waiting : List ℕ) : Type 0 where
   pub kept : (held : List ℕ) → first ≡ Some held → option_map (take (length held)) contents ≡ Some held
   pub clear : (held all : List ℕ) → first ≡ Some held → contents ≡ Some all → IsClear (drop (length held) all ++ waiting)
 
--- of what was taken this was told, and with what was about to be told it is whole lines that show no want of memory
+-- of the taken text the told part was passed on, and together with the waiting part it is whole lines that show no want of memory
 pub record TellsClear (held : List ℕ) (contents taken : Option (List ℕ)) : Type 0 where
   pub told : List ℕ
   pub waiting : List ℕ
@@ -37,6 +37,6 @@ pub record TellsClear (held : List ℕ) (contents taken : Option (List ℕ)) : T
   pub whole : IsWholeLines (told ++ waiting)
   pub shows : ShowsNoWant (told ++ waiting)
 
--- where whole lines were taken behind what the writer held first, it was told all of them
+-- if the text taken after the first contents of the writer is whole lines, the writer got all of it
 abbrev pub TellsAll : Option (List ℕ) → Option (List ℕ) → Option (List ℕ) → Type 0
 TellsAll first taken contents = (held text : List ℕ) → first ≡ Some held → taken ≡ Some (held ++ text) → IsWholeLines text → contents ≡ Some (held ++ text)

@@ -1,17 +1,17 @@
--- trusted: where a writer of a record with comments has come to.
+-- trusted: the state of a writer of a record with comments.
 use Rattle.std.specs.Prelude.{◌≡◌, ℕ, Bool, false, not, ◌==◌, List, [], ◌++◌, length, take, drop, Option, Some, None, option_map}
 use Rattle.std.specs.Io.KnownBytes.{Appends}
 use Rattle.batch_serve.specs.Comments.{kept_from, remark_text, spot_behind, without_comments}
 use Rattle.batch_serve.specs.declared.remarked.Spot.{Spot}
 use Rattle.batch_serve.specs.declared.remarked.Spot.TheVariants.{Start}
 
--- where it is known what a writer held first: it holds that, and the text behind it has come to this spot, unless a part of a comment
+-- if the first contents of a writer are known: it holds them, and the text after them ends at this spot, unless a part of a comment
 -- may be missing
 pub record StandsAt (first contents : Option (List ℕ)) (spot : Spot) (cut : Bool) : Type 0 where
   pub kept : (held : List ℕ) → first ≡ Some held → option_map (take (length held)) contents ≡ Some held
   pub stands : (held all : List ℕ) → first ≡ Some held → contents ≡ Some all → cut ≡ false → spot_behind Start (drop (length held) all) ≡ spot
 
--- the contents without the comments behind what was held first
+-- the contents without the comments after the first contents
 abbrev pub uncommented : Option (List ℕ) → Option (List ℕ) → Option (List ℕ)
 uncommented None contents = None
 uncommented (Some held) contents = option_map (λ all. held ++ without_comments (drop (length held) all)) contents
@@ -20,7 +20,7 @@ uncommented (Some held) contents = option_map (λ all. held ++ without_comments 
 abbrev pub is_plain : ℕ → Bool
 is_plain b = not (b == 35)
 
--- all of the part belongs to a comment, and behind it the text stands at the other spot
+-- all of the part belongs to a comment, and after it the text ends at the other spot
 pub record IsPart (from : Spot) (part : List ℕ) (to : Spot) : Type 0 where
   pub hidden : kept_from from part ≡ []
   pub stands : spot_behind from part ≡ to

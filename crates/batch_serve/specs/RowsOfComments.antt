@@ -1,4 +1,4 @@
--- worked rows: what is left of a text without its comments, and which comments are written.
+-- worked rows: texts without their comments, and the comments that are written.
 use Rattle.std.specs.Prelude.{◌≡◌, [], ◌∷◌, ◌++◌, true, false, codes, replicate}
 use Rattle.batch_serve.specs.Comments.{echo_text, escaped, remark_text, without_comments}
 

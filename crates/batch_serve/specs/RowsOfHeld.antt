@@ -1,4 +1,4 @@
--- worked rows: what is held back of a text, and what isn't.
+-- worked rows: texts that are clear or held back, and texts that aren't.
 use Rattle.std.specs.Prelude.{codes}
 use Rattle.batch_serve.specs.Held.{IsClear, IsHeldBack}
 
@@ -7,7 +7,7 @@ pub record HeldRows : Type 0 where
   pub unfinished : IsHeldBack (codes "ok sta")
   pub event : IsHeldBack (codes "refused E11\nok start 1 running\n")
   pub words : IsHeldBack (codes "refused W6\n")
-  -- what isn't so
+  -- texts that aren't
   pub half_line : IsClear (codes "created 1 A 7\nok sta") → ⊥
   pub want : IsClear (codes "created 1 A 7\nrefused E11\n") → ⊥
   pub clear_line : IsHeldBack (codes "created 1 A 7\nok sta") → ⊥

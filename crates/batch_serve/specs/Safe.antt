@@ -14,7 +14,7 @@ use Rattle.batch_wire.specs.Transcript.{whole_lines, Exchange, Transcript}
 use Rattle.batch_wire.specs.Written.{AppendsBeginning}
 use Rattle.batch_serve.specs.Settled.{IsSettled}
 
--- from the opening the lines may come to this exchange and this plant: its outs are the machine's record of its events, and that
+-- from the opening the lines may lead to this exchange and this plant: its outs are the machine's record of its events, and that
 -- record is safe
 pub record IsSafeTranscript (c : Setup) (lines : List (List ℕ)) (said : Exchange) (new : Plant) : Type 0 where
   pub transcript : Transcript c opening lines said new
@@ -26,7 +26,7 @@ pub record IsSafeTranscript (c : Setup) (lines : List (List ℕ)) (said : Exchan
   -- no move is left to be made
   pub settled : IsSettled c new
 
--- every transcript from the opening of the cleared set is such
+-- every transcript from the opening of the cleared set is a safe one
 abbrev pub TranscriptsAreSafe : ClearedSet → Type 0
 TranscriptsAreSafe set =
     (lines : List (List ℕ)) (said : Exchange) (new : Plant) → Transcript (setup set) opening lines said new → IsSafeTranscript (setup set) lines said new
@@ -44,14 +44,14 @@ pub record WritesSafely (c : Setup) (lines : List (List ℕ)) (before after : Op
   pub transcript : IsSafeTranscript c lines said new
   pub appends : Appends before after said.text
 
--- a beginning of that text was written
+-- a prefix of that text was written
 pub record BeginsSafely (c : Setup) (lines : List (List ℕ)) (before after : Option (List ℕ)) : Type 0 where
   pub said : Exchange
   pub new : Plant
   pub transcript : IsSafeTranscript c lines said new
   pub begins : AppendsBeginning before after said.text
 
--- the text of such a transcript of the whole lines read was written; the reader had unread bytes, and has these left
+-- the text of a safe transcript of the whole lines read was written; the reader had the bytes `unread`, and has the bytes `left`
 pub record WritesWholeSafely (c : Setup) (unread left before after : Option (List ℕ)) : Type 0 where
   pub read : List ℕ
   pub consumes : Consumes unread left read

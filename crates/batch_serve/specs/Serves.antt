@@ -1,4 +1,4 @@
--- trusted: what serving a cleared set does to the bytes that a reader had unread, and to those that a writer held before.
+-- trusted: the effect of serving a cleared set on the unread bytes of a reader and on the contents of a writer.
 use Rattle.std.specs.Prelude.{◌≡◌, ℕ, ◌≤◌, List, take, length, Option, IfSome, Result, Ok, Err}
 use Rattle.std.specs.Io.KnownBytes.{Keeps, IsAtEnd}
 use Rattle.batch_verify.specs.ClearedSet.{ClearedSet}
@@ -17,7 +17,8 @@ pub record Ends : Type 0 where
   pub before : Option (List ℕ)
   pub after : Option (List ℕ)
 
--- such a text was written, and in the plant to which it leads so many batches are neither complete, stopped nor aborted
+-- the text of a safe transcript was written, and in the plant to which it leads so many batches are neither complete, stopped nor
+-- aborted
 abbrev pub WritesTo : ClearedSet → ℕ → List (List ℕ) → Option (List ℕ) → Option (List ℕ) → Type 0
 WritesTo set left lines before after =
     (written : WritesSafely (setup set) lines before after) × (left ≡ unfinished written.new)
@@ -31,11 +32,11 @@ pub record AnswersAll (set : ClearedSet) (left : ℕ) (ends : Ends) : Type 0 whe
 abbrev pub AnswersWholeLines : ClearedSet → Ends → Type 0
 AnswersWholeLines set ends = WritesWholeSafely (setup set) ends.unread ends.left ends.before ends.after
 
--- as many bytes stood there as the reader could be asked
+-- the input had at least a byte for each call that the reader was allowed
 abbrev pub HasAsManyBytes : ℕ → Ends → Type 0
 HasAsManyBytes n ends = IfSome ends.unread (λ input. n ≤ length input)
 
--- the first lines of the input were answered, and a beginning of that was written
+-- the first lines of the input were answered, and a prefix of the answers was written
 abbrev pub AnswersFirstLines : ClearedSet → Ends → Type 0
 AnswersFirstLines set ends = IfSome ends.unread (λ input. (n : ℕ) × BeginsSafely (setup set) (take n (lines_of input)) ends.before ends.after)
 
@@ -43,7 +44,7 @@ AnswersFirstLines set ends = IfSome ends.unread (λ input. (n : ℕ) × BeginsSa
 abbrev pub IsUntouched : Ends → Type 0
 IsUntouched ends = Keeps ends.unread ends.left × Keeps ends.before ends.after
 
--- what the cleared set's engine answered from its opening on, by the outcome
+-- the answers of the cleared set's engine from its opening on, by the outcome
 abbrev pub Serves : ClearedSet → ℕ → Result ℕ SetFault → Ends → Type 0
 Serves set max_reads (Ok left) ends = AnswersAll set left ends
 Serves set max_reads (Err (Stopped Read)) ends = AnswersWholeLines set ends

@@ -16,11 +16,11 @@ use std::io::{ErrorKind, Read};
 /// How many bytes one call of the reader below may give.
 const PIECE_LEN: usize = 65_536;
 
-/// Gives the lines of an input as a journal has them: as they were read, but for a zero byte, which becomes `?`, and a line that
-/// is too long, which becomes 1,025 of them. Lines that give nothing are left out; the end of the input ends its last line.
+/// A reader of an input's lines as a journal has them. A zero byte becomes `?`, and a line that is too long becomes 1,025 of them.
+/// Lines that give nothing are left out. All others are as they were read. The end of the input ends its last line.
 ///
-/// A read of it is one of the input. Where no line ends in what that gave, it is interrupted. A read needs room for two bytes more
-/// than the line that it has begun, of which at most 1,026 are kept; else it fails.
+/// A read of it makes one read of the input, and is interrupted if it has no line to give after that. A read fails without room
+/// for two bytes more than the line that it has begun, of which at most 1,026 are kept.
 #[derive(Drop)]
 pub struct CleanReader<R: Read> {
     inner: R,
@@ -78,7 +78,7 @@ fn read_front<R: Read>(reader: &mut R, piece: &mut [u8], most: usize) -> io::Res
     reader.read(&mut piece[..most])
 }
 
-/// Takes a piece of the input, and writes each line that ends in it.
+/// Consumes a piece of the input, and writes each line that ends in it.
 fn take_lines(line: &mut LineBuffer, piece: &[u8], out: &mut [u8]) -> usize
     requires { length line.old + length piece.now + 1 ≤ length out.old }
     ensures within { result ≤ length out.new }
@@ -125,7 +125,7 @@ fn put_clean(line: &[u8], out: &mut [u8]) -> usize
     line.len() + 1
 }
 
-/// Writes what stands for a line that is too long.
+/// Writes the replacement of a line that is too long.
 fn put_long(out: &mut [u8])
     requires { 1026 ≤ length out.old }
     ensures { take 1026 out.new ≡ replicate 1025 63 ++ 10 ∷ [] }
@@ -134,7 +134,7 @@ fn put_long(out: &mut [u8])
     out[MAX_LINE_LEN + 1] = b'\n';
 }
 
-/// Writes a line without its zero bytes.
+/// Writes a line, each zero byte as `?`, and a line feed.
 fn put_bytes(line: &[u8], out: &mut [u8])
     requires { length line.now + 1 ≤ length out.old }
     ensures { take (length line.now + 1) out.new ≡ map clean_byte line.now ++ 10 ∷ [] }

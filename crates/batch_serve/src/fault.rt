@@ -13,7 +13,7 @@ pub enum ServeFault {
     /// The writer failed, or took nothing.
     #[error("the output can't be written")]
     Write,
-    /// Every call that the reader may be given gave bytes.
+    /// Each of the calls that the reader is allowed gave bytes.
     #[error("the input was read as often as it may be")]
     TooManyReads,
 }

@@ -14,20 +14,19 @@ use std::io;
 use std::io::{ErrorKind, Write};
 use std::marker::{Brand, PhantomData};
 
-/// What a writer held when a run began, as a type: it stays known while code runs that knows only of a writer.
+/// The contents of a writer at the start of a run, as a type: they stay known while code runs that knows only of a writer.
 pub trait Start {
-    /// The bytes, where they are known.
+    /// The bytes, if they are known.
     ghost contents: { Option (List ℕ) };
 }
 
-/// Takes what is written, and passes on at a flush whatever of it is whole lines, up to the first that is a refusal for want of
-/// memory.
+/// A writer that holds the written text. A flush passes on its whole lines before the first refusal for want of memory.
 ///
-/// From that one on, and where there is no memory to hold what is written, each flush fails.
+/// Each flush fails from that refusal on, and if there was no memory to hold the written text.
 #[derive(Drop)]
 pub struct Held<W: Write, C: Start> {
     inner: W,
-    // what the inner writer doesn't have yet, and how much of it it may have
+    // the text that the inner writer doesn't have yet, and the length of its prefix that may be passed on
     held: Vec<u8>,
     cleared: usize,
     has_want: bool,
@@ -59,7 +58,7 @@ impl<W: Write, C: Start> Held<W, C> {
         self.has_want
     }
 
-    /// The writer. What it was told since the start is clear.
+    /// Returns the writer. The text that it got since the start is a prefix of a clear text.
     // claim: want is held back
     pub fn into_inner(self) -> W
         ensures { (held : List ℕ) → C.contents ≡ Some held → TellsClear held (W.contents result) (append_known (W.contents self.inner) self.held.items) }
@@ -67,8 +66,8 @@ impl<W: Write, C: Start> Held<W, C> {
         self.inner
     }
 
-    /// Passes on what may be, and gives the writer. What it was told since the start is clear; where all of it was whole lines and it
-    /// ended well, all was told.
+    /// Flushes, and returns the outcome and the writer. The text that the writer got since the start is a prefix of a clear text.
+    /// If all the text is whole lines and the outcome is `Ok`, the writer got all of it.
     // claim: all is told
     pub fn finish(mut self) -> (io::Result<()>, W)
         ensures clear { (held : List ℕ) → C.contents ≡ Some held → TellsClear held (W.contents result.1) (append_known (W.contents self.inner) self.held.items) }
@@ -78,9 +77,9 @@ impl<W: Write, C: Start> Held<W, C> {
         (result, self.inner)
     }
 
-    /// Has a line remarked on, behind all that it took: that is passed on first.
+    /// Passes on all of the held text, and then writes the remarks on a line.
     ///
-    /// It fails where some of that has to be held back, which is a refusal for want of memory or an unfinished line.
+    /// It fails if a part of that text must be held back: a refusal for want of memory or an unfinished line.
     // claim: remarks on held answers
     pub(crate) fn remark<M: Remarks<W>>(
         &mut self,
@@ -99,13 +98,13 @@ impl<W: Write, C: Start> Held<W, C> {
         if self.held.is_empty() {
             return remarks.answer_begins(line, &mut self.inner);
         }
-        // The flush fails, and tells whether memory was wanted.
+        // The flush notes whether memory was wanted.
         match self.flush() {
             Ok(()) | Err(_) => Err(WriteFault),
         }
     }
 
-    /// Clears of what is held the whole lines before the first refusal for want of memory, and tells whether there is one.
+    /// Clears the held whole lines before the first refusal for want of memory. Returns whether there is one.
     fn clear(&mut self) -> bool
         ensures bytes { Keeps (append_known (W.contents self.old.inner) self.old.held.items) (append_known (W.contents self.new.inner) self.new.held.items) }
         ensures has_want { self.new.has_want ≡ self.old.has_want }
@@ -119,7 +118,7 @@ impl<W: Write, C: Start> Held<W, C> {
         has_want
     }
 
-    /// Passes on what is cleared.
+    /// Passes on the cleared text.
     fn pass_on(&mut self) -> io::Result<()>
         ensures bytes { Keeps (append_known (W.contents self.old.inner) self.old.held.items) (append_known (W.contents self.new.inner) self.new.held.items) }
         ensures has_want { self.new.has_want ≡ self.old.has_want }
@@ -149,7 +148,7 @@ impl<W: Write, C: Start> Write for Held<W, C> {
     // claim: nothing else is held back (passed, want)
     fn flush(&mut self) -> io::Result<()>
         ensures bytes { Keeps (append_known (W.contents self.old.inner) self.old.held.items) (append_known (W.contents self.new.inner) self.new.held.items) }
-        // Nothing is held back but an unfinished line; or from a refusal for want of memory on, before which all is passed on.
+        // Only an unfinished line is held back, or the text from a refusal for want of memory on.
         ensures passed { OnOk result (IsUnended self.new.held.items) }
         ensures want { IsTrue self.new.has_want → IsTrue self.old.has_want ⊎ IsHeldBack self.new.held.items }
     {
@@ -161,14 +160,14 @@ impl<W: Write, C: Start> Write for Held<W, C> {
             return Err(io::Error::from(ErrorKind::OutOfMemory));
         }
         if self.has_want {
-            // There was no memory to hold all that was written.
+            // There was no memory to hold all of the written text.
             return Err(io::Error::from(ErrorKind::OutOfMemory));
         }
         Ok(())
     }
 }
 
-/// Writes the bytes, and gives how many were written.
+/// Writes the bytes. Returns how many were written.
 fn write_out<W: Write>(writer: &mut W, bytes: &[u8]) -> (usize, io::Result<()>)
     ensures bound { result.0 ≤ length bytes.now }
     ensures bytes { Appends (W.contents writer.old) (W.contents writer.new) (take result.0 bytes.now) }
@@ -242,7 +241,7 @@ fn occurs(needle: &[u8], text: &[u8]) -> bool
     first_of(needle, text).is_some()
 }
 
-/// Where the needle first stands in the text.
+/// The position of the first occurrence of the needle in the text.
 fn first_of(needle: &[u8], text: &[u8]) -> Option<usize>
     requires { 0 < length needle.now }
     ensures { FindsFirst needle.now text.now result }
@@ -250,7 +249,7 @@ fn first_of(needle: &[u8], text: &[u8]) -> Option<usize>
     memmem::find(text, needle)
 }
 
-/// How much of the text is whole lines.
+/// The length of the text's whole lines.
 fn whole_len(text: &[u8]) -> usize
     ensures { IsWholeTo text.now result }
 {

@@ -6,8 +6,8 @@ use crate::remarks::Remarks;
 use batch_wire::WriteFault;
 use std::io::Write;
 
-/// Remarks to a writer that holds answers back: what it took is passed on before something is remarked, so that the comments stand
-/// between the lines of the record, and no part of them is taken for an answer.
+/// Remarks to a writer that holds answers back. The held text is passed on before a remark, so that the comments lie between the
+/// lines of the record, and no part of them is taken for an answer.
 #[derive(Drop)]
 pub struct HeldRemarks<M> {
     remarks: M,

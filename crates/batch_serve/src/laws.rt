@@ -10,7 +10,7 @@ ghost use Rattle.batch_serve.specs.Settled.{TranscriptsSettle};
 
 use batch_verify::Cleared;
 
-/// What a transcript from the opening of a cleared set tells is a safe record, which leads to where the transcript does:
+/// The outs of a transcript from the opening of a cleared set are a safe record, which leads to the plant of the transcript:
 /// whoever holds a [`Cleared`] may cite this of it.
 // claim: safe transcripts
 pub fn transcripts_are_safe(cleared: &Cleared)
@@ -28,7 +28,7 @@ pub fn transcripts_leave_nobody_in_vain(cleared: &Cleared)
     batch_safety::cleared_runs_safely(cleared);
 }
 
-/// A transcript that begins where no move is possible comes to such a plant after each of its lines.
+/// If no move is possible at the beginning of a transcript, none is possible after any of its lines.
 // claim: transcripts settle
 pub fn transcripts_settle()
     ensures { TranscriptsSettle }
@@ -40,7 +40,7 @@ pub fn unfinished_rows()
     ensures { UnfinishedRows }
 {}
 
-/// The same lines, served twice with memory for each event, come to the same text and the same plant: the record is a function of
+/// The same lines, served twice with memory for each event, lead to the same text and the same plant: the record is a function of
 /// the lines.
 // claim: one record of the lines
 pub fn serving_agrees()
@@ -53,7 +53,7 @@ pub fn no_want_is_well()
     ensures { NoWantIsWell }
 {}
 
-/// Whatever was told of lines in two lives of a plant is told again by a replay of lines that begin with them.
+/// The text that was written of lines in two lives of a plant is a prefix of the text of a replay of lines that begin with them.
 // claim: told again
 pub fn told_is_recovered()
     ensures { ToldIsRecovered }
@@ -71,31 +71,31 @@ pub fn clean_line_rows()
     ensures { CleanLineRows }
 {}
 
-/// Whatever may come of the lines of an input as a journal has them may come of the input.
+/// Each possible outcome of an input's lines as a journal has them is a possible outcome of the input.
 // claim: journal lines serve alike
 pub fn clean_lines_serve_alike()
     ensures { CleanLinesServeAlike }
 {}
 
-/// The same where memory may have been wanted behind what was told, if that is whole lines which show no want.
+/// The law of the replay, but memory may have been wanted after the written text, which is whole lines that show no want.
 // claim: want isn't told
 pub fn want_is_not_told()
     ensures { WantIsNotTold }
 {}
 
-/// What a transcript tells is whole lines.
+/// The text of a transcript is whole lines.
 // claim: transcripts are lines
 pub fn transcripts_are_whole()
     ensures { TranscriptsAreWhole }
 {}
 
-/// What is left of a text without its comments, and which comments are written.
+/// Texts without their comments, and the comments that are written.
 // claim: rows of comments
 pub fn comment_rows()
     ensures { CommentRows }
 {}
 
-/// What is held back of a text.
+/// Which texts are clear, and which are held back.
 // claim: rows of held text
 pub fn held_rows()
     ensures { HeldRows }

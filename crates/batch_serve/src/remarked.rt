@@ -12,7 +12,7 @@ use std::io;
 use std::io::{ErrorKind, Write};
 use std::marker::PhantomData;
 
-/// Where a text stands.
+/// The spot at which a text ends.
 #[derive(Clone, Copy)]
 pub enum Spot {
     /// At the start of a line.
@@ -23,9 +23,9 @@ pub enum Spot {
     Comment,
 }
 
-/// Writes a record, in which comments stand between lines. A contract sees it as a writer of the record without its comments.
+/// A writer of a record with comments between its lines. A contract sees it as a writer of the record without its comments.
 ///
-/// What is written as the record has no `#`; else the write fails.
+/// A write to the record fails if its bytes contain a `#`.
 // claim: a record without its comments
 #[derive(Drop)]
 pub struct Remarked<W: Write, C: Start> {
@@ -60,7 +60,7 @@ impl<W: Write, C: Start> Remarked<W, C> {
         self.inner
     }
 
-    /// Writes a part of a comment, which begins at the one spot and ends at the other. It fails where the text doesn't stand there.
+    /// Writes a part of a comment, which begins at the one spot and ends at the other. It fails if the text doesn't end at the first.
     pub(crate) fn write_part(&mut self, from: Spot, part: &[u8], to: Spot) -> Result<(), WriteFault>
         requires { IsPart from part.now to }
         ensures kept { Keeps (uncommented C.contents (W.contents self.old.inner)) (uncommented C.contents (W.contents self.new.inner)) }
@@ -101,7 +101,7 @@ impl<W: Write, C: Start> Write for Remarked<W, C> {
     }
 }
 
-/// Whether a text that stands here, and of which no part of a comment is missing, stands where a part begins.
+/// Whether a text that ends at `spot`, with no part of a comment missing, is ready for a part that begins at `from`.
 fn is_ready(spot: Spot, is_cut: bool, from: Spot) -> bool
     ensures { IsTrue result → (is_cut ≡ false) × (spot ≡ from) }
 {
@@ -119,7 +119,7 @@ fn is_at(spot: Spot, from: Spot) -> bool
     }
 }
 
-/// Whether the bytes may go on a record that stands here.
+/// Whether the bytes may follow a record that ends at this spot.
 fn takes(spot: Spot, is_cut: bool, bytes: &[u8]) -> bool
     ensures { IsTrue result → (is_cut ≡ false) × (spot ≢ Spot.Comment) × (list_all is_plain bytes.now ≡ true) }
 {
@@ -136,7 +136,7 @@ fn is_outside(spot: Spot) -> bool
     }
 }
 
-/// Whether none of the bytes is a `#`, so that they begin no comment wherever they stand.
+/// Whether none of the bytes is a `#`, so that they begin no comment at any spot.
 fn is_plain(bytes: &[u8]) -> bool
     ensures { IsTrue result → list_all is_plain bytes.now ≡ true }
 {
@@ -146,7 +146,7 @@ fn is_plain(bytes: &[u8]) -> bool
     }
 }
 
-/// Where a text stands behind these bytes.
+/// The spot at which a text ends after these bytes.
 #[tactic(auto, using(crate::proofs::CommentLemmas::spot_on))]
 fn spot_behind(spot: Spot, bytes: &[u8]) -> Spot
     ensures { result ≡ spot_behind spot bytes.now }

@@ -13,7 +13,7 @@ use itoa::Buffer;
 use std::io::Write;
 use std::time::Clock;
 
-/// What is remarked on the lines that are served.
+/// The remarks on the lines that are served.
 #[derive(Drop)]
 pub struct Remarking<K: Clock> {
     clock: K,
@@ -24,7 +24,7 @@ pub struct Remarking<K: Clock> {
 }
 
 impl<K: Clock> Remarking<K> {
-    /// Before each answer the line itself, if `echo`; before the first answer to what one read brought the clock's time, if `times`.
+    /// Remarks before each answer the line itself, if `echo`; before the first answer after a read the clock's time, if `times`.
     // claim: comments written
     pub fn new(clock: K, echo: bool, times: bool) -> Remarking<K>
         ensures { (result.echo ≡ echo) × (result.times ≡ times) }
@@ -94,7 +94,7 @@ fn write_milliseconds<W: Write, C: Start>(
     writer.write_part(Spot::Comment, b"\n", Spot::Start)
 }
 
-/// The time in milliseconds since 1970; 0 where the clock doesn't tell it.
+/// The time in milliseconds since 1970; 0 if the clock doesn't give it.
 fn milliseconds_of<K: Clock>(clock: &K) -> u64 {
     match clock.since_1970() {
         Ok(time) => u64::try_from(time.as_millis()).unwrap_or(u64::MAX),
@@ -115,7 +115,7 @@ fn write_echo<W: Write, C: Start>(
     writer.write_part(Spot::Comment, b"\n", Spot::Start)
 }
 
-/// The line without the carriage return at its end; of one that is too long, so much as shows that.
+/// The line without the carriage return at its end; of one that is too long, the first 1,025 bytes.
 fn echoed(line: &[u8]) -> &[u8]
     ensures { result.now ≡ echoed line.now }
 {

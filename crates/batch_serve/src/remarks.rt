@@ -1,4 +1,4 @@
-//! Who remarks on the lines that are served.
+//! Remarks on the lines that are served.
 ghost use Rattle.std.specs.Prelude.{◌≡◌, Ok, None};
 ghost use Rattle.std.specs.Io.KnownBytes.{Keeps};
 ghost use Rattle.batch_wire.specs.EventLine.{event_of_line};
@@ -8,7 +8,7 @@ use std::io::Write;
 
 /// Remarks on the lines that are served, in comments of the record that goes to a writer.
 ///
-/// To the contracts of serving no remark is part of what the writer holds.
+/// To the contracts of serving no remark is part of the writer's contents.
 // claim: remarks are no record
 pub trait Remarks<W: Write> {
     /// A read of the input brought bytes, or its end.
@@ -17,9 +17,9 @@ pub trait Remarks<W: Write> {
     /// Whether something is remarked on the next line that is answered.
     fn is_due(&self) -> bool;
 
-    /// The line is about to be answered; it gives something. Of a line that is too long only so much may be known as shows that.
+    /// The line is about to be answered: it is an event, or is refused. If it is too long, only a prefix that shows so may be known.
     ///
-    /// The error comes where the writer failed, or took nothing.
+    /// The error means that the writer failed, or took nothing.
     fn answer_begins(&mut self, line: &[u8], writer: &mut W) -> Result<(), WriteFault>
         requires { event_of_line line.now ≡ Ok None → ⊥ }
         ensures { Keeps (W.contents writer.old) (W.contents writer.new) };

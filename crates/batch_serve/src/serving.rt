@@ -29,11 +29,10 @@ const PIECE_LEN: usize = 65_536;
 
 /// Answers the lines that the reader gives, until its bytes end.
 ///
-/// Each line is read and given to the machine, what is remarked on it is written, the reply, and then each move. What is
-/// written is handed on whenever the reader is about to be asked for more. A call of the reader that
-/// is interrupted is made again, and counts among `max_reads`. Memory is asked for events alone. After
-/// a read fault, and after `max_reads` calls of the reader, the whole lines read are answered; after a
-/// write fault the machine may be ahead of what is written.
+/// Each line is read and given to the machine. The remarks on it are written, then the reply, and then each move. The written text
+/// is flushed before the reader is called again. An interrupted call of the reader is repeated, and counts among `max_reads`.
+/// Memory is asked for events alone. After a read fault, and after `max_reads` calls of the reader, the whole lines read are
+/// answered. After a write fault the machine may be ahead of the written text.
 // claim: after all reads (too_many_reads, reads_made); remarks are no record
 pub fn serve<R: Read, W: Write, M: Remarks<W>>(
     alloc: Global,
@@ -64,7 +63,7 @@ pub fn serve<R: Read, W: Write, M: Remarks<W>>(
         (R.remaining reader.old) (R.remaining reader.new) (W.contents writer.old) (W.contents writer.new) }
     // claim: settled engine
     ensures settled { (IsErrOf result ServeFault.Write → ⊥) → IsSettledEngine engine.old → IsSettledEngine engine.new }
-    // So the outs of all these transcripts are a safe record, where the engine was a new one.
+    // So the outs of all these transcripts are a safe record, if the engine was a new one.
     // claim: serving is safe
     ensures safe { TranscriptsAreSafe engine.old.cleared }
 {
@@ -96,7 +95,7 @@ pub fn serve<R: Read, W: Write, M: Remarks<W>>(
     })
 }
 
-/// Takes the next bytes, answers each line that is whole now, and hands on what is written.
+/// Answers each line that ends in the next bytes, keeps the rest of them, and flushes the writer.
 fn feed<W: Write, M: Remarks<W>>(
     alloc: Global,
     engine: &mut Engine,
@@ -140,7 +139,7 @@ fn answer_ended<W: Write, M: Remarks<W>>(
         result (plant_of engine.new) (W.contents writer.old) (W.contents writer.new) }
 {
     if line.as_slice().is_empty() {
-        // Most lines stand in one piece, and are read where they stand.
+        // Most lines lie in one piece, and are read in place.
         return answer_line(alloc, engine, end, places, writer, remarks);
     }
     line.extend(end);
@@ -149,7 +148,7 @@ fn answer_ended<W: Write, M: Remarks<W>>(
     Ok(())
 }
 
-/// Where the first line feed stands.
+/// The position of the first line feed.
 pub(crate) fn line_feed(bytes: &[u8]) -> Option<usize>
     ensures { MatchOption result (HasNoFeed bytes.now) (λ at. EndsLine at bytes.now) }
 {
@@ -175,7 +174,7 @@ fn finish<W: Write, M: Remarks<W>>(
     flush(writer)
 }
 
-/// Hands on what is written.
+/// Flushes the writer.
 fn flush<W: Write>(writer: &mut W) -> Result<(), WriteFault>
     ensures { Keeps (W.contents writer.old) (W.contents writer.new) }
 {

@@ -11,9 +11,10 @@ use std::io::{Read, Write};
 
 /// Makes the engine of a cleared set, and answers the lines that the reader gives, until its bytes end.
 ///
-/// It asks the reader at most `max_reads` times, interrupted calls among them, which no clause says: the calls of a reader aren't
-/// counted. What is written to the writer is handed on whenever the reader is about to be asked for more. Memory is taken for the engine and for events; where an event finds
-/// none, its line is refused and serving goes on. Gives how many batches are neither complete, stopped nor aborted then.
+/// It calls the reader at most `max_reads` times, interrupted calls among them. No clause says so: the calls of a reader aren't
+/// counted. The written text is flushed before the reader is called again. Memory is taken for the engine and for events. If an
+/// event finds none, its line is refused and serving goes on. Returns how many batches are neither complete, stopped nor aborted
+/// then.
 // claim: batches left; served from its opening; no engine
 pub fn serve_set<R: Read, W: Write, M: Remarks<W>>(
     alloc: Global,

@@ -1,4 +1,4 @@
--- What came and what went, as lines come, go and are dropped.
+-- Accounts, as lines come, go and are dropped.
 use Rattle.std.proofs.Common.{◌≡◌, Bool, true, false, List, [], ◌∷◌, ◌++◌, length, refl, sym, ap, ◌∙◌, append_assoc, append-nil, arith}
 use Rattle.std.proofs.lemmas.Bool.{false≢true}
 use Rattle.batch_serve_desks.specs.Waits.{IsAccount, Waits, cut_off, pushed}
@@ -19,11 +19,11 @@ pushed_by all told line w false is h =
     let begins : all ≡ told ++ w.lines = h.begins ∙ ap (λ rest. told ++ rest) (h.waits is) in
     rw is (record { rest = w.lines ++ line ∷ []; begins = came all told w.lines line begins; waits = λ uncut. refl })
 
--- it waits, unless the desk is cut
+-- it is queued, unless the desk is cut
 pub account_pushed : {T : Type 0} (all told : List T) (line : T) (w : Waits T) → IsAccount all told w → IsAccount (all ++ line ∷ []) told (pushed line w)
 account_pushed all told line w h = pushed_by all told line w w.is_cut refl h
 
--- what waits is dropped
+-- the queued lines are dropped
 pub account_cut : {T : Type 0} (all told : List T) (w : Waits T) → IsAccount all told w → IsAccount all told (cut_off w)
 account_cut all told w h = record { rest = h.rest; begins = h.begins; waits = λ uncut. absurd (false≢true (sym uncut)) }
 
@@ -44,7 +44,7 @@ handed_by all told more old new true is handed same none h =
 handed_by all told more old new false is handed same none h =
     record { rest = new.lines; begins = h.begins ∙ ap (λ rest. told ++ rest) (h.waits is) ∙ sym handed; waits = λ uncut. refl }
 
--- lines go from those that wait to those that were told
+-- lines go from the queued to the sent ones
 pub account_handed : {T : Type 0} (all told more : List T) (old new : Waits T) → more ++ new.lines ≡ told ++ old.lines → new.is_cut ≡ old.is_cut
     → (old.is_cut ≡ true → length old.lines ≡ 0) → IsAccount all told old → IsAccount all more new
 account_handed all told more old new handed same none h = handed_by all told more old new old.is_cut refl handed same none h

@@ -26,7 +26,7 @@ own_other desk other group text apart =
 pub of_desks_more : (count desk : ℕ) (group : List Run) (text : List ℕ) → desk < count → AreOfDesks count group → AreOfDesks count (group ++ record { desk = desk; text = text } ∷ [])
 of_desks_more count desk group text within of = All-push (λ (run : Run). run.desk < count) group (record { desk = desk; text = text }) of within
 
--- what stands in a list where one more was set, and what stood there before
+-- the element at a place that hasn't changed is that of the first list
 pub was_here : {T : Type 0} (first now : List T) (i : ℕ) (old other : T) → i < length now → old ≡ get_or now i old → get_or now i other ≡ get_or first i other → get_or first i other ≡ old
 was_here first now i old other within is same = sym (is ∙ get_or_default now i old other within ∙ same)
 
@@ -36,7 +36,7 @@ kept_behind first now i new rest k other above =
     let apart : k ≢ i = omega arith in
     get_or-set_other now i k new other apart ∙ rest k other (omega arith)
 
--- one desk's lines more were taken
+-- the lines of one more desk were taken
 pub gathered_more : (desks : List Desk) (first now : List Reader) (i : ℕ) (old new : Reader) (start before after : List Run) → i < length now → old ≡ get_or now i old
     → ((other : Desk) → (get_or desks i other).waiting.is_cut ≡ false → IsGathered i old new before after)
     → ((k : ℕ) → (k ≡ i → ⊥) → own_text k after ≡ own_text k before)
@@ -95,7 +95,7 @@ own_behind i start before after others own k above =
     let apart : k ≢ i = omega arith in
     others k apart ∙ own k (omega arith)
 
--- what is so of each desk and its writer is so of one more
+-- a relation of each desk and its writer holds of one more
 pub each_more : (R : Desk → Desk → Writer → Writer → Type 0) (desks now_desks : List Desk) (writers now_writers : List Writer) (i : ℕ) (old new : Desk) (before after : Writer)
     → i < length now_desks → i < length now_writers → old ≡ get_or now_desks i old → before ≡ get_or now_writers i before → R old new before after
     → ((k : ℕ) (other : Desk) (writer : Writer) → k < i → R (get_or desks k other) (get_or now_desks k other) (get_or writers k writer) (get_or now_writers k writer))
@@ -123,7 +123,7 @@ each_more R desks now_desks writers now_writers i old new before after in_desks 
         (ap (λ n. get_or writers n writer) at ∙ was_here writers now_writers i before writer in_writers is_before (rest_writers i writer (omega arith)))
         (ap (λ n. get_or (set now_writers i after) n writer) at ∙ get_or-set_same now_writers i after writer in_writers)
 
--- of what waited some went into the ring, and the desk was cut where too much was left
+-- some of the queued lines went into the ring, and the desk was cut if too many were left
 pub cut_where_late : (old new : Desk) (before after : Writer) (left : Waits (List ℕ)) (cuts : Bool) → sent after.ring ++ left.lines ≡ sent before.ring ++ old.waiting.lines
     → left.lag ≡ old.waiting.lag → left.is_cut ≡ old.waiting.is_cut → (cuts ≡ true → IsLate left) → (cuts ≡ true → new.waiting ≡ cut_off left) → (cuts ≡ false → new.waiting ≡ left)
     → length new.waiting.lines ≤ new.waiting.lag → IsCutIfLate old new before after

@@ -26,7 +26,7 @@ last_same c old new before [] answers served = ap (last_of before) served.0
 last_same c old new before (run ∷ runs) answers (first, others, mid, is, served, all) =
     ap (last_of before) all ∙ ap (λ d. last_of (Some d) others) is.desk ∙ last_same c mid new (Some run.desk) runs others served
 
--- what was written behind the text of runs is the text of more
+-- the text of runs was written, and that of more behind it: together the text of all
 written : (names now : List (List ℕ)) (before after later : Option (List ℕ)) (runs more : List Run) (last : Option ℕ) → now ≡ names → last ≡ last_of None runs
     → Appends before after (runs_text names None runs) → Appends after later (runs_text names last more) → Appends before later (runs_text now None (runs ++ more))
 written names now before after later runs more last same last_is one other =
@@ -34,7 +34,7 @@ written names now before after later runs more last same last_is one other =
     (subst (Appends before later) (sym (texts_go_on names None 0 None runs more).text)
     (Appends-trans before after later (runs_text names None runs) (runs_text names (last_of None runs) more) one (subst (λ o. Appends after later (runs_text names o more)) last_is other)))
 
--- so was what was kept
+-- so it is of the kept text
 kept_more : (names now : List (List ℕ)) (before after later : List ℕ) (runs more : List Run) (last : Option ℕ) → now ≡ names → last ≡ last_of None runs
     → after ≡ before ++ runs_text names None runs → later ≡ after ++ runs_text names last more → later ≡ before ++ runs_text now None (runs ++ more)
 kept_more names now before after later runs more last same last_is one other =

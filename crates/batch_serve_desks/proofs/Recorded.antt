@@ -1,4 +1,4 @@
--- What desks are due of a record is told by its text.
+-- The text of a record determines the lines that desks are due.
 use Rattle.std.proofs.Common.{◌≡◌, ◌⊎◌, ◌<◌, ◌+◌, ◌-◌, ℕ, Bool, true, false, cond, List, [], ◌∷◌, ◌++◌, length, take, filter, get_or, Option, Some, None, ◌==◌, eqb, nat_eq, codes, refl, sym, ap, arith, append_assoc, append-nil, ◌∙◌, inl, inr}
 use Rattle.std.proofs.Math.Seq.{take-append-add}
 use Rattle.std.proofs.lemmas.Bool.{eqb-true, false_from_ne_true}
@@ -16,7 +16,7 @@ use Rattle.batch_serve_desks.specs.Runs.{Run, due_of, is_same, runs_text}
 use Rattle.batch_serve_desks.specs.Recorded.{AreNames, IsPlainRun, RecordsAreSorted}
 use Rattle.batch_serve_desks.proofs.Sorted.{runs_sorted}
 
--- Whole lines of a text and of what stands behind it
+-- Whole lines of a text and of the text behind it
 
 onto_both : (b : ℕ) (parts others : List (List ℕ)) (n : ℕ) → length parts ≡ n + 1 → onto_first b (parts ++ others) ≡ onto_first b parts ++ others
 onto_both b [] others n some = absurd (omega (arith, some))

@@ -21,7 +21,7 @@ run_written names last runs i desk run text from own done whole within item desk
     ∙ ap (λ (l : List Run). text ++ runs_text names last l) (sym next)
     ∙ so_far
 
--- one more run was looked at
+-- one more run was read
 pub run_seen : (last before whole : Option ℕ) (runs : List Run) (i desk : ℕ) (run : Run) → i < length runs → run ≡ get_or runs i run → desk ≡ run.desk
     → last_of last (drop i runs) ≡ whole → last_of (Some desk) (drop (i + 1) runs) ≡ whole
 run_seen last before whole runs i desk run within item desk_is so_far =

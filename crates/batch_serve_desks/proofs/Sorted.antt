@@ -7,11 +7,11 @@ use Rattle.std.specs.List.{list_all, position_or_len}
 use Rattle.batch_serve_desks.specs.Dues.{after_word, due, from_behind, is_comment, is_due, is_from, is_space}
 use Rattle.batch_serve.proofs.HoldingLemmas.{is_false}
 
--- no space stands in the text
+-- the text has no space
 pub after_none : (text : List ℕ) → position is_space text ≡ None → after_word text ≡ []
 after_none text none = grind (arith, nat_tests, drop_all (position_or_len is_space text + 1) text)
 
--- the first space stands there
+-- the first space is there
 pub after_some : (text : List ℕ) (at : ℕ) → position is_space text ≡ Some at → after_word text ≡ drop (at + 1) text
 after_some text at found = grind (arith, nat_tests)
 

@@ -1,4 +1,4 @@
--- The whole lines of a text, and what a desk is due of them.
+-- The whole lines of a text, and those of them that a desk is due.
 use Rattle.std.proofs.Common.{◌≡◌, ◌<◌, ◌≤◌, ◌+◌, ◌-◌, ℕ, suc, Bool, false, List, [], ◌∷◌, ◌++◌, length, take, drop, filter, position, Option, Some, None, ◌==◌, get_or, sym, ap, arith, append_assoc, append-nil, ◌∙◌}
 use Rattle.std.proofs.lemmas.Bool.Decides.{nat_tests}
 use Rattle.std.proofs.lemmas.Grind.{flat_map-append}
@@ -21,7 +21,7 @@ but_last line lines n some =
     let count : length (line ∷ lines) - 1 ≡ suc (length lines - 1) = omega (arith, some) in
     ap (λ k. take k (line ∷ lines)) count
 
--- a line ends there, and the others stand behind it
+-- a line ends there, and the others follow it
 pub whole_first : (text : List ℕ) (at : ℕ) → position is_feed text ≡ Some at → whole_lines text ≡ take at text ∷ whole_lines (drop (at + 1) text)
 whole_first text at found =
     let place = place_of text at found in
@@ -38,7 +38,7 @@ whole_none text none =
     let one : lines_of text ≡ text ∷ [] = slice_split_none is_feed text (All-from_get_or (λ b. is_feed b ≡ false) text 0 (λ i within. fails_before_first is_feed text i 0 (omega (arith, within, past)))) in
     ap (λ (lines : List (List ℕ)). take (length lines - 1) lines) one
 
--- one more line was looked at
+-- one more line was read
 pub lines_more : (text rest line behind : List ℕ) (front : List (List ℕ)) → whole_lines text ≡ front ++ whole_lines rest → whole_lines rest ≡ line ∷ whole_lines behind
     → whole_lines text ≡ (front ++ line ∷ []) ++ whole_lines behind
 lines_more text rest line behind front so_far first = so_far ∙ ap (λ l. front ++ l) first ∙ sym (append_assoc front (line ∷ []) (whole_lines behind))
@@ -46,7 +46,7 @@ lines_more text rest line behind front so_far first = so_far ∙ ap (λ l. front
 filter_more : (p : List ℕ → Bool) (all front : List (List ℕ)) (line : List ℕ) → (all ++ filter p front) ++ filter p (line ∷ []) ≡ all ++ filter p (front ++ line ∷ [])
 filter_more p all front line = append_assoc all (filter p front) (filter p (line ∷ [])) ∙ ap (λ l. all ++ l) (sym (filter-append p front (line ∷ [])))
 
--- one more line was told
+-- one more line was queued, if it is due
 pub told_line : (own : Bool) (unit now : Option (List ℕ)) (all front : List (List ℕ)) (line : List ℕ) → now ≡ unit
     → (all ++ filter (is_due own unit) front) ++ filter (is_due own now) (line ∷ []) ≡ all ++ filter (is_due own unit) (front ++ line ∷ [])
 told_line own unit now all front line same =
@@ -55,7 +55,7 @@ told_line own unit now all front line same =
 pub due_both : (desk : ℕ) (unit : Option (List ℕ)) (front others : List Run) → due_of desk unit (front ++ others) ≡ due_of desk unit front ++ due_of desk unit others
 due_both desk unit front others = flat_map-append (λ (run : Run). filter (is_due (run.desk == desk) unit) (whole_lines run.text)) front others
 
--- the answers of one more run were told
+-- the due lines of one more run were queued
 pub told_run : (desk : ℕ) (unit now : Option (List ℕ)) (all : List (List ℕ)) (answers : List Run) (i : ℕ) (run : Run) (text : List ℕ) (own : Bool)
     → i < length answers → run ≡ get_or answers i run → now ≡ unit → text ≡ run.text → own ≡ (run.desk == desk)
     → (all ++ due_of desk unit (take i answers)) ++ filter (is_due own now) (whole_lines text) ≡ all ++ due_of desk unit (take (i + 1) answers)

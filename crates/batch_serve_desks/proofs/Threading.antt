@@ -1,4 +1,4 @@
--- What readers hand over, and what writers write, step by step.
+-- The messages of readers, and the output of writers, step by step.
 use Rattle.std.proofs.Common.{◌≡◌, ℕ, Bool, true, false, List, [], ◌∷◌, ◌++◌, Option, Result, Ok, Err, refl, sym, ap, subst, append_assoc, append-nil, ◌∙◌}
 use Rattle.std.proofs.KnownBytes.{Appends-nil, Appends-kept, Appends-trans, Consumes-kept, Consumes-nil, Consumes-trans, Keeps-refl}
 use Rattle.std.proofs.lemmas.Bool.{false≢true}
@@ -43,7 +43,7 @@ reads_twice a b d x y z one other = record {
   read = subst (Consumes a d) (sym (flat_map-append text_of_one one.items other.items)) (Consumes-trans a b d (text_sent one.items) (text_sent other.items) one.read other.read);
 }
 
--- the end is told among all items, if among the last
+-- the end is among all items, if it is among the last
 any_behind : (front items : List Sent) → list_any is_end items ≡ true → list_any is_end (front ++ items) ≡ true
 any_behind [] items is = is
 any_behind (Lines text ∷ front) items is = any_behind front items is

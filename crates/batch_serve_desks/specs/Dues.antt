@@ -1,4 +1,4 @@
--- surface: which lines of a record a desk is due, as its text tells it.
+-- surface: the lines of a record that a desk is due, by the record's text.
 use Rattle.std.specs.Prelude.{◌≡◌, ℕ, Bool, true, false, not, ◌&&◌, ◌||◌, ◌==◌, nat_eq, List, [], ◌∷◌, ◌++◌, length, drop, filter, Option, Some, None, cond, codes}
 use Rattle.std.specs.Cmp.Lexicographic.{pointwise}
 use Rattle.std.specs.List.{after_first, list_all, starts_with}
@@ -14,27 +14,27 @@ is_comment line = begins (codes "#") line
 abbrev pub is_reply : List ℕ → Bool
 is_reply line = begins (codes "created ") line || (begins (codes "ok ") line || begins (codes "refused ") line)
 
--- the start of a phase, or what a live one is sent
+-- the start of a phase, or a send to a live one
 abbrev pub is_order : List ℕ → Bool
 is_order line = begins (codes "start ") line || begins (codes "send ") line
 
 abbrev pub is_space : ℕ → Bool
 is_space b = b == 32
 
--- what stands behind the first space
+-- the text behind the first space
 abbrev pub after_word : List ℕ → List ℕ
 after_word text = after_first is_space text
 
--- the first word of the text is this one, and a space stands behind it
+-- the first word of the text is this one, and a space follows it
 abbrev pub has_word : List ℕ → List ℕ → Bool
 has_word word text = begins word text && begins (codes " ") (drop (length word) text)
 
--- a move that is told to a console, or to the link of a unit: the unit is the fourth word of what phases are told
+-- a move that a console sees, or the link of a unit: the unit is the fourth word of a start or a send
 abbrev pub is_seen : Option (List ℕ) → List ℕ → Bool
 is_seen None line = true
 is_seen (Some unit) line = is_order line && has_word unit (after_word (after_word (after_word line)))
 
--- of the answers to lines that are its own, or aren't, a desk of a unit or of all is due this one
+-- a console, or the link of a unit, is due this line of the answers to its own lines, or to another desk's
 abbrev pub is_due : Bool → Option (List ℕ) → List ℕ → Bool
 is_due is_own unit line = cond (is_comment line) false (cond (is_reply line) is_own (is_seen unit line))
 
@@ -48,7 +48,7 @@ abbrev pub is_from : List ℕ → Option (List ℕ) → Bool
 is_from name None = false
 is_from name (Some other) = pointwise nat_eq name other
 
--- what the desk of this name is due of a record's lines, where lines of this desk, if of any, are answered first
+-- the lines of a record that the desk of this name is due; the first of the record answer the desk `from`, if any
 abbrev pub due : List ℕ → Option (List ℕ) → Option (List ℕ) → List (List ℕ) → List (List ℕ)
 due name unit from [] = []
 due name unit from (line ∷ lines) =

@@ -3,7 +3,7 @@ use Rattle.std.specs.Prelude.{ℕ, List, ◌++◌}
 use Rattle.batch_model.specs.Plant.{Setup, Plant}
 use Rattle.batch_wire.specs.Transcript.{Exchange, followed_by, Transcript}
 
--- where one comes to the plant that the other begins with, both are one of the lines of both
+-- if one ends at the plant with which the other begins, both are one transcript of the lines of both
 abbrev pub TranscriptsJoin : Type 0
 TranscriptsJoin =
     (c : Setup) (old mid new : Plant) (front others : List (List ℕ)) (said told : Exchange)

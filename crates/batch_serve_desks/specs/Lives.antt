@@ -1,4 +1,4 @@
--- surface: the account of a server, from where its machine stood at first.
+-- surface: the account of a server, from the first state of its machine on.
 use Rattle.std.specs.Prelude.{◌≡◌, ℕ, ◌<◌, List, [], ◌++◌, length, get_or, Bool, true, Option, None}
 use Rattle.std.specs.Io.KnownBytes.{Appends}
 use Rattle.batch_model.specs.Plant.{Plant}
@@ -14,7 +14,7 @@ use Rattle.batch_serve_desks.specs.declared.desk.Desk.{Desk}
 use Rattle.batch_serve_desks.specs.declared.rounds.Writer.{Writer}
 use Rattle.batch_serve_desks.specs.declared.desk_server.DeskServer.{DeskServer}
 
--- what a server began with: its set, where its machine stood, and what was kept and recorded; and whether its lines are served again
+-- the start of a server: its set, its machine's state, the kept text and the record; and whether its lines are served again
 pub record Beginning : Type 0 where
   pub set : ClearedSet
   pub plant : Plant
@@ -22,14 +22,14 @@ pub record Beginning : Type 0 where
   pub recorded : Option (List ℕ)
   pub again : Bool
 
--- what is kept, what is recorded, and what each desk was told, by its place
+-- the kept text, the record, and the lines that were sent to each desk, by its place
 pub record Outside : Type 0 where
   pub kept : List ℕ
   pub recorded : Option (List ℕ)
   pub told : ℕ → List (List ℕ)
 
--- since then these runs were served, these are the answers, and all of it is recorded and told, or waits; and it is kept, where what
--- keeps it has kept all so far
+-- since then these runs were served, with these answers, which are recorded, and sent or queued; the runs are kept, if their keeper
+-- has kept all so far
 pub record IsLife (begun : Beginning) (safe : Type 0) (runs answers : List Run) (now : Outside) (s : DeskServer) : Type 0 where
   pub cleared : s.engine.cleared ≡ begun.set
   pub served : AreServed (setup begun.set) begun.plant runs answers (plant_of s.engine)
@@ -41,7 +41,7 @@ pub record IsLife (begun : Beginning) (safe : Type 0) (runs answers : List Run) 
   pub each : (desk : ℕ) (other : Desk) → desk < length s.desks.items
       → IsAccount (due_of desk (get_or s.desks.items desk other).unit answers) (now.told desk) (get_or s.desks.items desk other).waiting
 
--- a turn leads such an account on, whatever keeps the lines, by the runs of its group and their answers
+-- a turn continues the account by the runs of its group and their answers, whatever the keeper
 abbrev pub LivesGoOn : {K : Type 0} → (K → Type 0) → Type 0
 LivesGoOn {K} is_safe =
     (before after : K) (begun : Beginning) (kept_after : List ℕ) (recorded_after : Option (List ℕ)) (runs answers : List Run) (now : Outside) (old new : DeskServer)
@@ -55,7 +55,7 @@ LivesTake {K} is_safe =
     (keeper : K) (begun : Beginning) (runs answers : List Run) (now : Outside) (old new : DeskServer)
     → IsLife begun (is_safe keeper) runs answers now old → IsSameBut old new → IsLife begun (is_safe keeper) runs answers now new
 
--- what is handed on has gone into the rings of the writers, of which each desk has one
+-- lines that went into the rings of the writers, of which each desk has one, are sent
 abbrev pub LivesHandOn : {K : Type 0} → (K → Type 0) → Type 0
 LivesHandOn {K} is_safe =
     (keeper : K) (begun : Beginning) (runs answers : List Run) (now : Outside) (old new : DeskServer) (before after : List Writer) (writer : Writer)
@@ -63,7 +63,7 @@ LivesHandOn {K} is_safe =
     → ((desk : ℕ) → desk < length before → now.told desk ≡ sent (get_or before desk writer).ring)
     → IsLife begun (is_safe keeper) runs answers (record now { told = λ desk. sent (get_or after desk writer).ring }) new
 
--- it begins before any line was taken, and nothing waits for a desk
+-- it begins before any line was served, with no line queued for a desk
 abbrev pub LivesBegin : {K : Type 0} → (K → Type 0) → Type 0
 LivesBegin {K} is_safe =
     (keeper : K) (begun : Beginning) (s : DeskServer) → s.engine.cleared ≡ begun.set → plant_of s.engine ≡ begun.plant → s.last ≡ None

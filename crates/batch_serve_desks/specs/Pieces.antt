@@ -1,4 +1,4 @@
--- private: what came of one call of an input.
+-- private: the outcome of one read of an input.
 use Rattle.std.specs.Prelude.{ℕ, List, [], Option}
 use Rattle.std.specs.Io.KnownBytes.{Consumes, IsAtEnd, Keeps}
 use Rattle.batch_serve_desks.specs.declared.reading.Got.{Got}

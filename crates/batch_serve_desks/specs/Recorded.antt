@@ -1,4 +1,4 @@
--- surface: the record of several desks as a text, from which what each is due can be told.
+-- surface: the record of several desks as a text, which determines the lines due to each.
 use Rattle.std.specs.Prelude.{◌≡◌, ℕ, ◌<◌, true, false, not, List, [], length, get_or, Option, None}
 use Rattle.std.specs.List.{All, list_all}
 use Rattle.batch_wire.specs.Transcript.{whole_lines}
@@ -7,7 +7,7 @@ use Rattle.batch_serve_desks.specs.Dues.{due, is_comment}
 use Rattle.batch_serve_desks.specs.Lines.{is_feed}
 use Rattle.batch_serve_desks.specs.Runs.{Run, due_of, runs_text}
 
--- no line feed stands in a name, and no two names are one
+-- no name has a line feed, and no two names are equal
 pub record AreNames (names : List (List ℕ)) : Type 0 where
   pub plain : (k : ℕ) → All (λ b. is_feed b ≡ false) (get_or names k [])
   pub distinct : (i k : ℕ) → i < length names → k < length names → get_or names i [] ≡ get_or names k [] → i ≡ k
@@ -18,7 +18,7 @@ pub record IsPlainRun (count : ℕ) (run : Run) : Type 0 where
   pub whole : IsWholeLines run.text
   pub plain : list_all (λ line. not (is_comment line)) (whole_lines run.text) ≡ true
 
--- what a desk is due of the text, by its comments, is what it is due of the runs
+-- the lines that a desk is due of the text, by its comments, are those that it is due of the runs
 abbrev pub RecordsAreSorted : Type 0
 RecordsAreSorted =
     (names : List (List ℕ)) (desk : ℕ) (unit : Option (List ℕ)) (answers : List Run) → AreNames names → desk < length names

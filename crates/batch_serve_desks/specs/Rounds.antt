@@ -1,4 +1,4 @@
--- surface: what came through the rings of desks, and what went into them.
+-- surface: the messages out of the rings of readers, and the lines into the rings of writers.
 use Rattle.std.specs.Prelude.{◌≡◌, ℕ, ◌+◌, ◌<◌, ◌≤◌, Bool, true, false, ◌||◌, List, [], ◌++◌, length, get_or, flat_map}
 use Rattle.std.specs.List.{list_any}
 use Rattle.rtrb.specs.Ring.{SameConsumer, SameProducer, received, sent}
@@ -23,7 +23,7 @@ abbrev pub is_end : Sent → Bool
 is_end (Lines text) = false
 is_end End = true
 
--- some more came out of the desk's ring, with its end or without, and the desk's own lines grew by these
+-- more messages came out of the desk's ring, with the end or without, and the desk's own lines grew by those in them
 pub record IsTaken (desk : ℕ) (before after : List Sent) (ended : Bool) (old new : List Run) : Type 0 where
   pub more : List Sent
   pub came : after ≡ before ++ more
@@ -53,13 +53,13 @@ pub record AreGathered (desks : List Desk) (old new : List Reader) (before after
   pub each : (desk : ℕ) (reader : Reader) (other : Desk) → desk < length old → (get_or desks desk other).waiting.is_cut ≡ false
       → IsGathered desk (get_or old desk reader) (get_or new desk reader) before after
 
--- where the lines of a desk that were served, with those of the group, are all that came out of its ring, it is so when more came
+-- if the lines of a desk that were served, with those of the group, are all that came out of its ring, that stays so when more come
 abbrev pub LinesGoOn : Type 0
 LinesGoOn =
     (desk : ℕ) (runs group after : List Run) (old new : Reader) → own_text desk (runs ++ group) ≡ text_sent (received old.ring)
     → IsGathered desk old new group after → own_text desk (runs ++ after) ≡ text_sent (received new.ring)
 
--- whatever came and went before, what went into the desk's ring now is a beginning of what waited
+-- in any account of the desk, the lines that went into its ring are a prefix of its queue
 pub record IsHandedOn (old new : Desk) (before after : Writer) : Type 0 where
   pub ring : SameProducer before.ring after.ring
   pub unit : new.unit ≡ old.unit
@@ -73,7 +73,7 @@ pub record AreHandedOn (old new : List Desk) (before after : List Writer) : Type
   pub each : (desk : ℕ) (other : Desk) (writer : Writer) → desk < length before
       → IsHandedOn (get_or old desk other) (get_or new desk other) (get_or before desk writer) (get_or after desk writer)
 
--- no more lines wait for the desk than may: it is cut where more would behind those that went into its ring, and for nothing else
+-- no more lines are queued for the desk than may be: it is cut if more would be, behind those in its ring, and for nothing else
 pub record IsCutIfLate (old new : Desk) (before after : Writer) : Type 0 where
   pub lag : new.waiting.lag ≡ old.waiting.lag
   pub few : length new.waiting.lines ≤ new.waiting.lag
@@ -85,7 +85,7 @@ AreCutIfLate old new before after =
     (desk : ℕ) (other : Desk) (writer : Writer) → desk < length before
     → IsCutIfLate (get_or old desk other) (get_or new desk other) (get_or before desk writer) (get_or after desk writer)
 
--- what waits for desks went on to their writers, and the server is else as it was
+-- queued lines went on to the writers of the desks, and the server is else as it was
 pub record IsHandedOver (old new : DeskServer) (before after : List Writer) : Type 0 where
   pub engine : new.engine ≡ old.engine
   pub names : new.names.items ≡ old.names.items

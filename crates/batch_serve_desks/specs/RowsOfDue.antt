@@ -1,4 +1,4 @@
--- worked rows: what a desk is due of a record and what it isn't.
+-- worked rows: lines of a record that a desk is due, and lines that it isn't.
 use Rattle.std.specs.Prelude.{◌≡◌, List, ℕ, true, false, [], ◌∷◌, Some, None, codes}
 use Rattle.batch_serve_desks.specs.Dues.{due, is_due}
 
@@ -8,13 +8,13 @@ ReplyIsOwn =
     (is_due true None (codes "ok start 1 running") ≡ true) × (is_due true (Some (codes "R2")) (codes "refused E4") ≡ true)
     × (is_due false None (codes "created 1 A 1000") ≡ false) × (is_due false (Some (codes "R1")) (codes "ok report R1 ADD done 1 0.0.0.0 running") ≡ false)
 
--- a console is told of each move
+-- a console is due each move
 abbrev pub ConsoleSeesAll : Type 0
 ConsoleSeesAll =
     (is_due false None (codes "start 1 0.0.0.0 R1 ADD") ≡ true) × (is_due false None (codes "grant 1 0.0 R1") ≡ true)
     × (is_due false None (codes "end 1 0.0.0.0") ≡ true) × (is_due true None (codes "state 1 complete") ≡ true)
 
--- a link is told of the starts and sends of its unit
+-- a link is due the starts and sends of its unit
 abbrev pub LinkSeesItsOrders : Type 0
 LinkSeesItsOrders =
     (is_due false (Some (codes "R1")) (codes "start 1 0.0.0.0 R1 ADD X=5") ≡ true) × (is_due true (Some (codes "R1")) (codes "send 12 0.0.0.0 R1 ADD hold") ≡ true)
@@ -36,7 +36,7 @@ two_consoles =
     codes "# from A" ∷ codes "ok start 1 running" ∷ codes "start 1 0.0.0.0 R1 ADD"
     ∷ codes "# from B" ∷ codes "refused E2" ∷ codes "# at 5" ∷ codes "refused W1" ∷ []
 
--- each is told its own answers, and both the move; a link of another unit nothing
+-- each is due its own answers, and both the move; a link of another unit is due nothing
 abbrev pub RecordIsSorted : Type 0
 RecordIsSorted =
     (due (codes "A") None None two_consoles ≡ codes "ok start 1 running" ∷ codes "start 1 0.0.0.0 R1 ADD" ∷ [])

@@ -1,4 +1,4 @@
--- trusted: runs of lines that one desk sent, or of answers to them, as a text, and what of them is a desk's.
+-- trusted: runs of lines that one desk sent, or of answers to them: their text, the lines due to a desk, and its own text.
 use Rattle.std.specs.Prelude.{ℕ, ◌<◌, Bool, false, ◌==◌, List, [], ◌∷◌, ◌++◌, filter, flat_map, get_or, Option, Some, None, cond, codes}
 use Rattle.std.specs.List.{All}
 use Rattle.batch_wire.specs.Transcript.{whole_lines}
@@ -13,7 +13,7 @@ abbrev pub is_same : Option ℕ → ℕ → Bool
 is_same None desk = false
 is_same (Some other) desk = other == desk
 
--- the comment that says who sends, where it isn't the desk before
+-- the comment that names the desk, unless it is the desk before
 abbrev pub from_text : List (List ℕ) → Option ℕ → ℕ → List ℕ
 from_text names before desk = cond (is_same before desk) [] (codes "# from " ++ (get_or names desk [] ++ 10 ∷ []))
 
@@ -22,7 +22,7 @@ abbrev pub runs_text : List (List ℕ) → Option ℕ → List Run → List ℕ
 runs_text names before [] = []
 runs_text names before (run ∷ runs) = from_text names before run.desk ++ (run.text ++ runs_text names (Some run.desk) runs)
 
--- whose the last run is
+-- the desk of the last run, or the desk before if there is no run
 abbrev pub last_of : Option ℕ → List Run → Option ℕ
 last_of before [] = before
 last_of before (run ∷ runs) = last_of (Some run.desk) runs

@@ -1,4 +1,4 @@
--- trusted: runs of lines that were served, and what that comes to.
+-- trusted: runs of lines that were served, their answers, and the safe transcript that these make.
 use Rattle.std.specs.Prelude.{◌≡◌, ℕ, List, [], ◌∷◌, flat_map, ⊤}
 use Rattle.batch_model.specs.Plant.{Setup, Plant, opening}
 use Rattle.batch_verify.specs.ClearedSet.{ClearedSet}
@@ -9,7 +9,7 @@ use Rattle.batch_serve.specs.Replays.{ShowsNoWant}
 use Rattle.batch_serve.specs.Safe.{IsSafeTranscript}
 use Rattle.batch_serve_desks.specs.Runs.{Run}
 
--- from old, the run's lines came to this answer, and the machine to new
+-- from the state old, the run's lines got this answer, and the machine came to the state new
 pub record IsAnswered (c : Setup) (old : Plant) (run answer : Run) (new : Plant) : Type 0 where
   pub said : Exchange
   pub transcript : Transcript c old (lines_of run.text) said new
@@ -45,6 +45,6 @@ pub record IsSafeService (set : ClearedSet) (runs answers : List Run) (new : Pla
   pub transcript : IsSafeTranscript (setup set) (run_lines runs) said new
   pub text : plain_text answers ≡ said.text
 
--- whatever was served from the opening is that
+-- any service from the opening is safe
 abbrev pub ServiceIsSafe : ClearedSet → Type 0
 ServiceIsSafe set = (runs answers : List Run) (new : Plant) → AreServed (setup set) opening runs answers new → IsSafeService set runs answers new

@@ -1,4 +1,4 @@
--- surface: what a reader of a desk hands over of its input, and what a writer writes of what it is handed.
+-- surface: a desk's reader, from its input to its ring, and a desk's writer, from its ring to its output.
 use Rattle.std.specs.Prelude.{◌≡◌, ℕ, Bool, true, List, [], ◌∷◌, ◌++◌, flat_map, Option, Some, None}
 use Rattle.std.specs.Io.KnownBytes.{Appends, Consumes, IsAtEnd}
 use Rattle.std.specs.List.{list_any}
@@ -14,7 +14,7 @@ pub record ReadsOn (old new : Option (List ℕ)) (before after : List Sent) : Ty
   pub went : after ≡ before ++ items
   pub read : Consumes old new (text_sent items)
 
--- what was handed over is a beginning of what was read, and where it ended well all of it, to the end of the input, which was told
+-- a prefix of the text read was handed over; if it ended well, all of it, to the end of the input, and the end was handed over
 pub record IsRead (ended : Bool) (old new : Option (List ℕ)) (before after : List Sent) : Type 0 where
   pub items : List Sent
   pub rest : List ℕ
@@ -41,7 +41,7 @@ pub record WritesOn (before after : List (List ℕ)) (old new : Option (List ℕ
   pub came : after ≡ before ++ lines
   pub written : Appends old new (lines_text lines)
 
--- what was written is a beginning of what was received, and where it ended well all of it
+-- the written text is a prefix of the received one, and all of it if it ended well
 pub record IsWritten (ended : Bool) (before after : List (List ℕ)) (old new : Option (List ℕ)) : Type 0 where
   pub lines : List (List ℕ)
   pub came : after ≡ before ++ lines

@@ -1,10 +1,10 @@
--- surface: what has come to wait for desks that were told of answers.
+-- surface: the effect of answers on the queues of the desks that are told of them.
 use Rattle.std.specs.Prelude.{◌≡◌, ℕ, ◌<◌, false, List, ◌++◌, length, get_or}
 use Rattle.batch_serve_desks.specs.Runs.{Run, due_of}
 use Rattle.batch_serve_desks.specs.Waits.{IsAccount}
 use Rattle.batch_serve_desks.specs.declared.desk.Desk.{Desk}
 
--- whatever came and went before, the lines that the desk at this place is due of the answers came now
+-- any account of the desk at this place grows by the lines of the answers that it is due
 pub record IsTold (desk : ℕ) (answers : List Run) (old new : Desk) : Type 0 where
   pub unit : new.unit ≡ old.unit
   pub cut : new.waiting.is_cut ≡ false → old.waiting.is_cut ≡ false

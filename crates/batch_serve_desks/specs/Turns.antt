@@ -1,4 +1,4 @@
--- surface: what a server of several desks did with bytes of a desk, and in a turn.
+-- surface: the effect of a desk's bytes on a server of several desks, and the effect of a turn.
 use Rattle.std.specs.Prelude.{◌≡◌, ◌⊎◌, ℕ, Bool, true, List, [], ◌∷◌, ◌++◌, Option}
 use Rattle.std.specs.Io.KnownBytes.{Appends}
 use Rattle.batch_engine.specs.View.{setup, plant_of}
@@ -19,8 +19,8 @@ pub record IsSameBut (old new : DeskServer) : Type 0 where
   pub desks : new.desks.items ≡ old.desks.items
   pub last : new.last ≡ old.last
 
--- the group was kept, where what keeps it has kept all so far; it was served and recorded, and each desk was told. Where the lines are
--- to be served again, they are whole lines, and memory wasn't wanted for any
+-- the group was kept, if the keeper has kept all so far; it was served, its answers were recorded, and each desk was told of them. If
+-- lines are to be served again, they are whole lines, and none was refused for want of memory
 pub record IsTurned (old new : DeskServer) (safe : Type 0) (kept_before kept_after : List ℕ) (again : Bool) (record_before record_after : Option (List ℕ)) : Type 0 where
   pub answers : List Run
   pub kept : safe → kept_after ≡ kept_before ++ runs_text old.names.items old.last old.group.items

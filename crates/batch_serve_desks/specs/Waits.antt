@@ -1,7 +1,7 @@
--- surface: what waits for a desk, and what has gone to it of all that was to go.
+-- surface: the queue of a desk, and the account of the lines sent to it.
 use Rattle.std.specs.Prelude.{◌≡◌, ℕ, ◌<◌, Bool, true, false, List, [], ◌∷◌, ◌++◌, length, if◌then◌else◌}
 
--- the lines that wait, how many may, and whether the desk is cut
+-- the queued lines, how many may be, and whether the desk is cut
 pub record Waits (T : Type 0) : Type 0 where
   pub lines : List T
   pub lag : ℕ
@@ -10,18 +10,18 @@ pub record Waits (T : Type 0) : Type 0 where
 abbrev pub nothing_waits : {T : Type 0} → ℕ → Waits T
 nothing_waits lag = record { lines = []; lag = lag; is_cut = false }
 
--- one more line waits, unless the desk is cut
+-- one more line is queued, unless the desk is cut
 abbrev pub pushed : {T : Type 0} → T → Waits T → Waits T
 pushed line w = if w.is_cut then w else (record w { lines = w.lines ++ line ∷ [] })
 
 abbrev pub cut_off : {T : Type 0} → Waits T → Waits T
 cut_off w = record w { lines = []; is_cut = true }
 
--- more lines wait than may
+-- more lines are queued than may be
 abbrev pub IsLate : {T : Type 0} → Waits T → Type 0
 IsLate w = w.lag < length w.lines
 
--- of all lines that were to wait these were told: they are the first of them, in order; and unless the desk is cut, the others wait
+-- of all lines for the desk these were sent to it: they are a prefix; and unless the desk is cut, the others are queued
 pub record IsAccount {T : Type 0} (all told : List T) (w : Waits T) : Type 0 where
   pub rest : List T
   pub begins : all ≡ told ++ rest

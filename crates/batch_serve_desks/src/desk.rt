@@ -1,4 +1,4 @@
-//! A desk: what it is due, and what of that waits for it.
+//! A desk: the lines that it is due, and the queue of those that it hasn't got.
 ghost use Rattle.std.specs.Prelude.{◌≡◌, ◌<◌, List, ℕ, [], ◌∷◌, ◌++◌, length, filter, position, false, IfSome};
 ghost use Rattle.batch_wire.specs.Transcript.{whole_lines};
 ghost use Rattle.batch_serve_desks.specs.Dues.{is_due};
@@ -19,14 +19,14 @@ use std::alloc::Global;
 pub struct Desk {
     /// The unit of which it sees the starts and sends. A console, which has none, sees each move.
     pub unit: Option<Name>,
-    /// What waits for it.
+    /// The lines queued for it.
     pub waiting: Waiting<Line>,
-    /// Why it was cut, where that was done by those who tell it.
+    /// Why the server cut it, if it did.
     pub why: Option<CutReason>,
 }
 
 impl Desk {
-    /// For which so many lines may wait.
+    /// A desk with an empty queue. So many lines may be queued for it.
     // claim: new desks
     pub fn new(alloc: Global, unit: Option<Name>, lag: usize) -> Desk
         ensures unit { result.unit ≡ unit }
@@ -40,14 +40,14 @@ impl Desk {
         }
     }
 
-    /// Whether it is cut. Then nothing waits for it, and what it sends is dropped.
+    /// Whether it is cut. Then its queue is empty, and the lines that it sends are dropped.
     pub fn is_cut(&self) -> bool
         ensures { result ≡ self.now.waiting.is_cut }
     {
         self.waiting.is_cut()
     }
 
-    /// Has a line wait, if it is due. Where there is no memory for it the desk is cut.
+    /// Queues a line, if it is due. If there is no memory for the line, the desk is cut.
     fn tell_line(&mut self, alloc: Global, line: &[u8], is_own: bool)
         ensures unit { self.new.unit ≡ self.old.unit }
         ensures cut { self.new.waiting.is_cut ≡ false → self.old.waiting.is_cut ≡ false }
@@ -70,7 +70,7 @@ impl Desk {
         }
     }
 
-    /// Has those lines of the text wait that it is due, which answer its own or another's.
+    /// Queues the lines that it is due of a text, which answers its own lines or another desk's.
     fn tell_text(&mut self, alloc: Global, text: &[u8], is_own: bool)
         ensures unit { self.new.unit ≡ self.old.unit }
         ensures cut { self.new.waiting.is_cut ≡ false → self.old.waiting.is_cut ≡ false }
@@ -84,7 +84,7 @@ impl Desk {
         }
     }
 
-    /// Has those lines of the answers wait that it is due, as the desk at this place.
+    /// Queues the lines of the answers that it is due, as the desk at this place.
     pub fn tell(&mut self, alloc: Global, answers: &[Run], desk: usize)
         ensures { IsTold desk answers.now self.old self.new }
     {
@@ -95,7 +95,7 @@ impl Desk {
     }
 }
 
-/// Tells each desk of the answers.
+/// Queues for each desk the lines of the answers that it is due.
 pub fn tell_each(alloc: Global, desks: &mut Vec<Desk>, answers: &[Run])
     ensures { AreTold answers.now desks.old.items desks.new.items }
 {
@@ -104,7 +104,7 @@ pub fn tell_each(alloc: Global, desks: &mut Vec<Desk>, answers: &[Run])
     }
 }
 
-/// Where the first line feed stands.
+/// The place of the first line feed.
 fn line_feed(text: &[u8]) -> Option<usize>
     ensures value { result ≡ position is_feed text.now }
     ensures within { IfSome result (λ at. at < length text.now) }

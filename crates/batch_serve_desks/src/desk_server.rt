@@ -20,13 +20,13 @@ use batch_wire::{WriteFault, write_all};
 use std::alloc::{AllocError, Global};
 use std::io::Write;
 
-/// One machine that several desks send lines to, and what it has to tell them. It has no thread and waits for nobody: whole lines
-/// are given to it as they come, a turn serves them, and what waits for a desk is handed on as places come free.
+/// One machine that several desks send lines to, and the queues of its answers. It has no thread and waits for nobody: whole lines are
+/// given to it as they come, a turn serves them, and the lines queued for a desk are handed on as places come free.
 #[derive(Drop)]
 pub struct DeskServer {
     /// The machine.
     pub engine: Engine,
-    /// What the desks are called, in their order.
+    /// The names of the desks, in their order.
     pub names: Vec<Name>,
     /// The desks.
     pub desks: Vec<Desk>,
@@ -37,7 +37,7 @@ pub struct DeskServer {
 }
 
 impl DeskServer {
-    /// Over a machine; no line was served in this life.
+    /// A server over a machine, before it serves a line.
     // claim: new desks
     pub fn new(alloc: Global, engine: Engine, names: Vec<Name>, desks: Vec<Desk>) -> DeskServer
         ensures engine { result.engine ≡ engine }
@@ -55,7 +55,7 @@ impl DeskServer {
         }
     }
 
-    /// Has whole lines of a desk wait to be served in the next turn. Of a desk that is cut they are dropped.
+    /// Adds whole lines of a desk to those of the next turn. If the desk is cut, they are dropped.
     ///
     /// The error is that there is no memory for one run more. Then nothing is taken.
     // claim: lines of desks
@@ -77,10 +77,10 @@ impl DeskServer {
         Ok(())
     }
 
-    /// Serves the lines that were taken since the last turn: they are kept, answered and recorded, and the desks are told.
+    /// Serves the lines taken since the last turn: they are kept and answered, the answers are recorded, and the desks are told.
     ///
-    /// Where they can't be kept, or are to be served again and aren't whole lines, nothing is answered. Where the record can't be written, or there is no memory, no desk is told; nor
-    /// where a line was refused for want of it, if the lines are to be served again.
+    /// If the lines can't be kept, or are to be served again and aren't whole, none is answered. If the record can't be written, or
+    /// there is no memory, no desk is told; nor if a line was refused for want of memory and the lines are to be served again.
     // claim: want ends a turn (turned, untold)
     pub fn turn<K: Keep, W: Write>(
         &mut self,
@@ -112,7 +112,7 @@ impl DeskServer {
     }
 }
 
-/// Looks whether runs are whole lines, where lines are to be served again: in a journal others would be joined.
+/// Checks that runs are whole lines, if lines are to be served again: in a journal others would be joined.
 ///
 /// The error is that one isn't.
 fn check_whole(is_served_again: bool, runs: &[Run]) -> Result<(), KeepFault>
@@ -135,7 +135,7 @@ fn are_whole(runs: &[Run]) -> bool
     true
 }
 
-/// Looks for refusals for want of memory, where lines are to be served again: with memory they would be answered in another way.
+/// Checks for refusals for want of memory, if lines are to be served again: with memory these lines would get other answers.
 ///
 /// The error is that there is one.
 fn check_want(is_served_again: bool, answers: &[Run]) -> Result<(), AllocError>
@@ -158,7 +158,7 @@ fn any_shows_want(answers: &[Run]) -> bool
     false
 }
 
-/// Writes a text of the record, and hands it on.
+/// Writes a text of the record, and flushes it.
 fn write_record<W: Write>(output: &mut W, text: &[u8]) -> Result<(), WriteFault>
     ensures { OnOk result (Appends (W.contents output.old) (W.contents output.new) text.now) }
 {

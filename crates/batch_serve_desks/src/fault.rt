@@ -1,4 +1,4 @@
-//! What goes wrong.
+//! The faults of a turn, and the reasons to cut a desk.
 ghost use Rattle.std.specs.Prelude.{◌≡◌};
 
 use crate::keep::KeepFault;
@@ -6,13 +6,13 @@ use batch_wire::WriteFault;
 use std::alloc::AllocError;
 use thiserror::Error;
 
-/// Why a desk is cut by those who tell it.
+/// Why a server cuts a desk.
 #[derive(Clone, Copy, Debug, Error)]
 pub enum CutReason {
-    /// More lines waited for it than may.
+    /// More lines were queued for it than may be.
     #[error("too many lines wait for it")]
     Lag,
-    /// There was no memory for a line that is to wait.
+    /// There was no memory to queue a line.
     #[error("there is no memory for a line that waits for it")]
     Memory,
 }

@@ -1,4 +1,4 @@
-//! Where groups of lines are kept before any of them is answered.
+//! Keepers, which keep a group of lines before any of them is answered.
 ghost use Rattle.std.specs.Prelude.{◌≡◌, ◌++◌, OnOk, OnErr};
 
 use thiserror::Error;
@@ -9,18 +9,18 @@ use thiserror::Error;
 pub trait Keep {
     ghost use Rattle.std.specs.Prelude.{ℕ, Bool, List};
 
-    /// It has kept what it was given so far. Nobody can give this of a real file.
+    /// It has kept all lines so far. Nobody can prove this of a real file.
     ghost is_safe: { Self → Type 0 };
 
     /// The text that it keeps.
     ghost kept: { Self → List ℕ };
 
-    /// Its lines are served again after a crash, so that want of memory must end the program before it is told.
+    /// Its lines are served again after a crash, so that want of memory must end the program before a desk is told of it.
     ghost again: { Bool };
 
     /// Keeps the lines of a turn, as one group. At Ok they are safe.
     ///
-    /// The error is that they can't be kept. Then nothing may be told from now on.
+    /// The error is that they can't be kept. From then on no desk may be told anything.
     fn keep(&mut self, lines: &[u8]) -> Result<(), KeepFault>
         ensures kept { is_safe self.new → OnOk result (kept self.new ≡ kept self.old ++ lines.now) }
         ensures unkept { is_safe self.new → OnErr result (kept self.new ≡ kept self.old) }

@@ -1,4 +1,4 @@
-//! Laws and worked rows of what is served, what a desk is due of it, and what waits for it. Nothing runs here.
+//! Laws and worked rows of served lines, of the lines that a desk is due, and of its queue. Nothing runs here.
 ghost use Rattle.batch_serve_desks.specs.Joined.{TranscriptsJoin};
 ghost use Rattle.batch_serve_desks.specs.Lives.{LivesBegin, LivesGoOn, LivesHandOn, LivesTake};
 ghost use Rattle.batch_serve_desks.specs.Recorded.{RecordsAreSorted};
@@ -13,8 +13,8 @@ use crate::keep::Keep;
 use batch_serve::transcripts_are_safe;
 use batch_verify::Cleared;
 
-/// Worked rows: of lines that came, the first may have been told and the rest waits; no other line was, and none out of order;
-/// of a desk that is cut the rest is lost.
+/// Worked rows: the first lines may have been sent, and the rest is queued. No other line is sent, and none out of order. The rest is
+/// lost if the desk is cut.
 // claim: rows of desks
 pub fn waiting_rows()
     ensures front { FrontIsTold }
@@ -23,13 +23,13 @@ pub fn waiting_rows()
     ensures cut { CutLosesTheRest }
 {}
 
-/// What is due of a record is due of each run of it, in which the lines of one desk are answered, by itself.
+/// The lines due of a record are those due of each of its runs by itself. A run answers the lines of one desk.
 // claim: records sorted
 pub fn runs_are_sorted()
     ensures { RunsAreSorted }
 {}
 
-/// What a desk is due of a record, as its comments tell whose lines are answered, is what it is due of the answers.
+/// The lines that a desk is due of a record's text, by its comments, are those that it is due of the answers.
 // claim: records sorted
 pub fn records_are_sorted()
     ensures { RecordsAreSorted }
@@ -57,23 +57,22 @@ pub fn service_is_safe(cleared: &Cleared)
     transcripts_are_safe(cleared);
 }
 
-/// Runs that were served behind others were served with them; and their text, the lines of it that a desk is due, and the lines
-/// that a desk sent stand behind those of the others.
+/// Runs that were served behind others were served with them. Their text, the lines of it that a desk is due, and the lines that a
+/// desk sent follow those of the others.
 // claim: service goes on
 pub fn service_goes_on()
     ensures served { ServiceGoesOn }
     ensures texts { TextsGoOn }
 {}
 
-/// Two transcripts, of which one comes to the plant that the other begins with, are one of the lines of both.
+/// If one transcript ends at the plant with which another begins, both are one transcript of the lines of both.
 // claim: transcripts join
 pub fn transcripts_join()
     ensures { TranscriptsJoin }
 {}
 
-/// A server's account: all runs since it began are kept, and all answers to them recorded and told, or they wait. It begins with a
-/// machine wherever it stands, each turn leads it on, lines that are taken leave it as it is, and what is handed on to the rings of
-/// writers is told.
+/// A server's account: all runs since it began are kept, and all answers to them are recorded, and sent or queued. It begins with a
+/// machine in any state. Each turn continues it, taken lines leave it as it is, and lines handed on to the rings of writers are sent.
 // claim: account of desks
 pub fn lives_go_on<K: Keep>()
     ensures begin { LivesBegin K.is_safe }
@@ -82,8 +81,8 @@ pub fn lives_go_on<K: Keep>()
     ensures hand_on { LivesHandOn K.is_safe }
 {}
 
-/// The lines of a desk that were served, and those that are to be served in the next turn, are all that came out of the ring of its
-/// reader, as long as it isn't cut: so it stays as more comes.
+/// As long as a desk isn't cut, its lines that were served, and those that are to be served in the next turn, are all that came out of
+/// the ring of its reader. That stays so as more come.
 // claim: lines from readers
 pub fn lines_go_on()
     ensures { LinesGoOn }

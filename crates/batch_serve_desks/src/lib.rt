@@ -1,4 +1,4 @@
-//! Serving several desks at once: what stands between one machine and the threads of its desks.
+//! Serving several desks at once: the part between one machine and the threads of its desks.
 #![tactic(auto)]
 
 mod desk;

@@ -1,4 +1,4 @@
-//! A line that is told to a desk.
+//! A line for a desk.
 ghost use Rattle.std.specs.Prelude.{◌≡◌, IfOk};
 
 use std::alloc::{AllocError, Global};

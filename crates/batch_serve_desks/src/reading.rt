@@ -10,21 +10,21 @@ use rtrb::Producer;
 use std::alloc::Global;
 use std::io::{ErrorKind, Read};
 
-/// What came of a call of the input.
+/// The outcome of a read.
 #[derive(Drop)]
 enum Got {
     Lines(Lines),
     // it was interrupted
     Nothing,
     End,
-    // it failed, or there is no memory for what it gave
+    // it failed, or there is no memory for the bytes read
     Fault,
 }
 
-/// Hands over what an input gives, to its end. The input gives whole lines at each call (`batch_serve::CleanReader`), into this room.
+/// Puts the lines of an input into the ring, to its end. Each read gives whole lines (`batch_serve::CleanReader`), into this room.
 ///
-/// It answers true where the input has ended, and that was told; false where the input failed, there was no memory for a line, or
-/// the pause told it to end.
+/// Returns true if the input has ended and the ring has its end; false if the input failed, there was no memory for a line, the ring's
+/// other end is gone, or the pause says to end.
 // claim: reader of a desk
 #[tactic(auto, using(crate::proofs::Threading::reads_begin, crate::proofs::Threading::reads_twice, crate::proofs::Threading::reads_then, crate::proofs::Threading::reads_stop))]
 pub fn read_lines<R: Read, P: Pause>(
@@ -46,7 +46,7 @@ pub fn read_lines<R: Read, P: Pause>(
     false
 }
 
-/// Hands over what one call of the input gives. It answers how that ended the input, if it did.
+/// Reads once, and puts the lines or the end into the ring. Returns the result of `read_lines`, if that ends it.
 #[tactic(auto, using(crate::proofs::Threading::lines_read, crate::proofs::Threading::nothing_read, crate::proofs::Threading::lines_lost, crate::proofs::Threading::end_read))]
 fn read_next<R: Read, P: Pause>(
     alloc: Global,
@@ -91,7 +91,7 @@ fn read_once<R: Read>(alloc: Global, input: &mut R, room: &mut [u8]) -> Got
     }
 }
 
-/// Puts an item into the ring, once there is place. It answers false where the other end is gone, or the pause told it to end.
+/// Puts an item into the ring, once there is place. Returns false if the other end is gone, or the pause says to end.
 fn hand_over<P: Pause>(ring: &mut Producer<Sent>, item: Sent, pause: &mut P) -> bool
     ensures ring { SameProducer ring.old ring.new }
     ensures went { result ≡ true → sent ring.new ≡ sent ring.old ++ item ∷ [] }
@@ -105,7 +105,7 @@ fn hand_over<P: Pause>(ring: &mut Producer<Sent>, item: Sent, pause: &mut P) -> 
     true
 }
 
-/// Waits until the ring has a place. It answers false where the other end is gone, or the pause told it to end.
+/// Waits until the ring has a place. Returns false if the other end is gone, or the pause says to end.
 fn wait_for_place<P: Pause>(ring: &mut Producer<Sent>, pause: &mut P) -> bool
     ensures ring { SameProducer ring.old ring.new }
     ensures stays { sent ring.new ≡ sent ring.old }

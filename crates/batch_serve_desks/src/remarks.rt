@@ -6,8 +6,7 @@ use crate::run::Run;
 use batch_text::Name;
 use std::alloc::{AllocError, Global};
 
-/// The text of the runs, behind those of the desk at a place or of none: a comment says whose lines come, where that isn't the
-/// desk before.
+/// The text of the runs, behind those of the desk at a place or of none. Where the desk changes, a comment names it.
 ///
 /// The error is that there is no memory for it.
 // claim: text of runs
@@ -30,7 +29,7 @@ pub fn runs_text(
     Ok(text)
 }
 
-/// Whose the last of the runs is, behind those of a desk or of none.
+/// The desk of the last run, or the desk before if there is no run.
 pub fn last_of(before: Option<usize>, runs: &[Run]) -> Option<usize>
     ensures { result ≡ last_of before runs.now }
 {
@@ -41,7 +40,7 @@ pub fn last_of(before: Option<usize>, runs: &[Run]) -> Option<usize>
     last
 }
 
-/// Appends the comment that says who sends, where it isn't the desk before.
+/// Appends the comment that names the desk, unless it is the desk before.
 fn push_from(
     text: &mut Vec<u8>,
     names: &[Name],

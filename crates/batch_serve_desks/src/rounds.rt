@@ -1,4 +1,4 @@
-//! Rounds: what the readers of desks hand over is taken, and what waits for desks is handed to their writers.
+//! Rounds: lines go from the readers of desks to the next turn, and from the queues of desks to their writers.
 ghost use Rattle.std.specs.Prelude.{◌≡◌, ◌<◌, ◌≤◌, ℕ, length, get_or, false, IfOk, OnOk};
 ghost use Rattle.rtrb.specs.Ring.{SameConsumer, received};
 ghost use Rattle.batch_serve_desks.specs.Rounds.{AreCutIfLate, AreGathered, AreHandedOn, IsCutIfLate, IsGathered, IsHandedOn, IsHandedOver, IsTaken};
@@ -29,7 +29,7 @@ impl Model for Lines {
 }
 
 impl Lines {
-    /// Of a text.
+    /// The lines of a text.
     pub fn new(text: Vec<u8>) -> Lines
         ensures { result ≡ text.items }
     {
@@ -51,7 +51,7 @@ impl Lines {
     }
 }
 
-/// What the reader of a desk hands over.
+/// A message from the reader of a desk.
 #[derive(Drop)]
 pub enum Sent {
     /// Whole lines that the desk sent.
@@ -60,7 +60,7 @@ pub enum Sent {
     End,
 }
 
-/// The ring through which a desk's reader hands over what it read.
+/// The ring through which a desk's reader sends its messages.
 #[derive(Drop)]
 pub struct Reader {
     /// The ring.
@@ -71,7 +71,7 @@ pub struct Reader {
     pub rests: bool,
 }
 
-/// The ring through which a desk's writer is handed what it is to write.
+/// The ring through which a desk's writer receives its lines.
 #[derive(Drop)]
 pub struct Writer {
     /// The ring.
@@ -79,9 +79,9 @@ pub struct Writer {
 }
 
 impl DeskServer {
-    /// Takes what came next from each reader that doesn't rest, if anything is there.
+    /// Receives the next message, if there is one, from each reader that doesn't rest.
     ///
-    /// The error is that there is no memory for one run more. What was handed over is lost then, and serving must end.
+    /// The error is that there is no memory for one run more. The message is lost then, and serving must end.
     // claim: lines from readers
     pub fn gather(&mut self, readers: &mut Vec<Reader>) -> Result<(), AllocError>
         requires { length readers.old.items ≤ length self.old.desks.items }
@@ -94,7 +94,7 @@ impl DeskServer {
         Ok(())
     }
 
-    /// Takes what came next from the reader of a desk, if it doesn't rest and anything is there.
+    /// Receives the next message, if there is one, from the reader of a desk, if it doesn't rest.
     fn gather_one(&mut self, desk: usize, reader: &mut Reader) -> Result<(), AllocError>
         requires { desk < length self.old.desks.items }
         ensures ring { SameConsumer reader.old.ring reader.new.ring }
@@ -112,7 +112,7 @@ impl DeskServer {
         Ok(())
     }
 
-    /// Takes what a desk's reader handed over next, if anything is there, and gives whether that was the end.
+    /// Receives the next message of a desk's reader, if there is one. Returns whether it was the end.
     fn take_sent(&mut self, desk: usize, ring: &mut Consumer<Sent>) -> Result<bool, AllocError>
         requires { desk < length self.old.desks.items }
         ensures ring { SameConsumer ring.old ring.new }
@@ -132,8 +132,8 @@ impl DeskServer {
         }
     }
 
-    /// Hands to each writer as many of the lines that wait for its desk as there is place for. A desk for which more lines wait then
-    /// than may is cut.
+    /// Moves the lines queued for each desk into its writer's ring, as far as there is place. A desk for which more lines are then
+    /// queued than may be is cut.
     pub fn hand_on(&mut self, writers: &mut Vec<Writer>)
         requires { length writers.old.items ≤ length self.old.desks.items }
         // claim: lines to writers

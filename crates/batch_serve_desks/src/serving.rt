@@ -10,7 +10,7 @@ use std::alloc::{AllocError, Global};
 
 /// Answers the lines of a run. The answers are of the same desk.
 ///
-/// The error is that there is no memory for them. The machine may be ahead of what is told then.
+/// The error is that there is no memory for them. Then the machine may be ahead of its answers.
 fn serve_run(alloc: Global, engine: &mut Engine, run: &Run) -> Result<Run, AllocError>
     ensures cleared { engine.new.cleared ≡ engine.old.cleared }
     ensures served { IfOk result (λ answer. IsAnswered (setup engine.old.cleared) (plant_of engine.old) run.now answer (plant_of engine.new)) }
@@ -33,7 +33,7 @@ fn serve_run(alloc: Global, engine: &mut Engine, run: &Run) -> Result<Run, Alloc
 
 /// Answers the runs, one after the other.
 ///
-/// The error is that there is no memory for the answers. The machine may be ahead of what is told then.
+/// The error is that there is no memory for the answers. Then the machine may be ahead of them.
 pub(crate) fn serve_runs(
     alloc: Global,
     engine: &mut Engine,

@@ -1,4 +1,4 @@
-//! Which lines of a record a desk is due.
+//! The lines of a record that a desk is due.
 ghost use Rattle.std.specs.Prelude.{◌≡◌, position};
 ghost use Rattle.batch_serve_desks.specs.Dues.{after_word, has_word, is_due, is_order, is_reply, is_seen, is_space};
 
@@ -26,7 +26,7 @@ fn is_reply(line: &[u8]) -> bool
     line.starts_with(b"created ") || line.starts_with(b"ok ") || line.starts_with(b"refused ")
 }
 
-/// Whether a move is told to a console, or to the link of the unit.
+/// Whether a console, or the link of the unit, sees a move.
 fn is_seen(line: &[u8], unit: &Option<Name>) -> bool
     ensures { result ≡ is_seen unit.now line.now }
 {
@@ -42,14 +42,14 @@ fn is_order(line: &[u8]) -> bool
     line.starts_with(b"start ") || line.starts_with(b"send ")
 }
 
-/// What begins with the unit of a start or a send, its fourth word.
+/// The rest of a start or a send line, from its unit (the fourth word) on.
 fn unit_of_order(line: &[u8]) -> &[u8]
     ensures { result.now ≡ after_word (after_word (after_word line.now)) }
 {
     after_word(after_word(after_word(line)))
 }
 
-/// What stands behind the first space.
+/// The text behind the first space; empty if there is none.
 #[tactic(auto, using(crate::proofs::Sorted::after_none, crate::proofs::Sorted::after_some))]
 fn after_word(text: &[u8]) -> &[u8]
     ensures { result.now ≡ after_word text.now }

@@ -1,4 +1,4 @@
-//! What waits for a desk.
+//! The queue of a desk.
 ghost use Rattle.std.specs.Prelude.{◌≡◌, ◌⊎◌, ◌≤◌, ◌↔◌, List, [], ◌∷◌, ◌++◌, length, false, option_to_list, OnOk, OnErr, IsNone, IsTrue, IsFalse};
 ghost use Rattle.rtrb.specs.Ring.{sent, known_free, SameProducer};
 ghost use Rattle.batch_serve_desks.specs.Waits.{IsAccount, IsLate, cut_off, nothing_waits, pushed};
@@ -8,8 +8,8 @@ use std::alloc::{AllocError, Global};
 use std::collections::VecDeque;
 use std::marker::Model;
 
-/// The lines that wait for a desk, in order. Where more wait than may, the desk can be cut: what waits is dropped, and nothing waits
-/// from then on. So a slow desk takes no more memory than these lines.
+/// The lines queued for a desk, in order. If more are queued than may be, the desk can be cut: its queue is emptied, and stays empty.
+/// So a slow desk takes no more memory than these lines.
 #[derive(Drop)]
 pub struct Waiting<T: Drop> {
     lines: VecDeque<T>,
@@ -29,7 +29,7 @@ impl<T: Drop> Model for Waiting<T> {
 }
 
 impl<T: Drop> Waiting<T> {
-    /// For a desk for which so many lines may wait.
+    /// The empty queue of a desk for which so many lines may be queued.
     // claim: new desks
     pub fn new(alloc: Global, lag: usize) -> Waiting<T>
         ensures value { result ≡ nothing_waits lag }
@@ -42,21 +42,21 @@ impl<T: Drop> Waiting<T> {
         }
     }
 
-    /// How many lines wait.
+    /// How many lines are queued.
     pub fn len(&self) -> usize
         ensures { result ≡ length self.now.lines }
     {
         self.lines.len()
     }
 
-    /// Whether the desk is cut. Then nothing waits.
+    /// Whether the desk is cut. Then the queue is empty.
     pub fn is_cut(&self) -> bool
         ensures { result ≡ self.now.is_cut }
     {
         self.cut
     }
 
-    /// Has a line wait. Of a desk that is cut it is dropped.
+    /// Queues a line. If the desk is cut, the line is dropped.
     ///
     /// The error is that there is no memory for it. The desk is cut then.
     // claim: waiting for a desk
@@ -64,7 +64,7 @@ impl<T: Drop> Waiting<T> {
     pub fn push(&mut self, line: T) -> Result<(), AllocError>
         ensures ok { OnOk result (self.new ≡ pushed line self.old) }
         ensures cut { OnErr result ((self.old.is_cut ≡ false) × (self.new ≡ cut_off self.old)) }
-        // Whatever came and went before.
+        // For any history of the queue.
         ensures account { (all told : List T) → IsAccount all told self.old → IsAccount (all ++ line ∷ []) told self.new }
     {
         if self.cut {
@@ -79,7 +79,7 @@ impl<T: Drop> Waiting<T> {
         }
     }
 
-    /// Cuts the desk where more lines wait than may, and gives whether it did.
+    /// Cuts the desk if more lines are queued than may be. Returns whether it did.
     // claim: waiting for a desk
     #[tactic(auto, using(crate::proofs::Accounts::account_cut))]
     pub fn cut_if_late(&mut self) -> bool
@@ -107,7 +107,7 @@ impl<T: Drop> Waiting<T> {
         self.cut = true;
     }
 
-    /// Takes the line that has waited longest.
+    /// Removes the line that was queued first, and returns it.
     // claim: waiting for a desk
     #[tactic(auto, using(crate::proofs::Accounts::account_front))]
     pub fn take(&mut self) -> Option<T>

@@ -1,4 +1,4 @@
-//! The writer of a desk: what comes out of a ring is written to its output.
+//! The writer of a desk: the lines that come out of a ring are written to its output.
 ghost use Rattle.std.specs.Prelude.{◌≡◌, ◌++◌, ◌∷◌, [], true};
 ghost use Rattle.batch_wire.specs.Written.{Writes};
 ghost use Rattle.rtrb.specs.Ring.{SameConsumer, received};
@@ -10,9 +10,9 @@ use batch_wire::{WriteFault, write_all};
 use rtrb::Consumer;
 use std::io::Write;
 
-/// Writes what comes out of the ring, each line with its line feed, and hands on what is written whenever the ring is empty.
+/// Writes the lines that come out of the ring, each with its line feed, and flushes the output whenever the ring is empty.
 ///
-/// It answers true where nothing more comes and all was handed on; false where the output failed, or the pause told it to end.
+/// Returns true if no more lines come and all are flushed; false if the output failed, or the pause says to end.
 // claim: writer of a desk
 #[tactic(auto, using(crate::proofs::Threading::writes_begin, crate::proofs::Threading::writes_twice, crate::proofs::Threading::writes_then, crate::proofs::Threading::writes_stop))]
 pub fn write_lines<W: Write, P: Pause>(
@@ -31,7 +31,7 @@ pub fn write_lines<W: Write, P: Pause>(
     false
 }
 
-/// Writes the next line, or hands on what is written and waits. It answers how that ended the output, if it did.
+/// Writes the next line, or flushes the output and waits. Returns the result of `write_lines`, if that ends it.
 #[tactic(auto, using(crate::proofs::Threading::line_written, crate::proofs::Threading::line_cut, crate::proofs::Threading::nothing_written, crate::proofs::Threading::all_written))]
 fn write_next<W: Write, P: Pause>(
     ring: &mut Consumer<Line>,
@@ -44,7 +44,7 @@ fn write_next<W: Write, P: Pause>(
     if pause.is_over() {
         return Some(false);
     }
-    // Where the other end was gone before, an empty ring stays empty.
+    // If the other end was gone before, an empty ring stays empty.
     let is_last = ring.is_abandoned();
     match ring.pop() {
         Ok(line) => {

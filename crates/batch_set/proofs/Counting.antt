@@ -1,4 +1,4 @@
--- What is said of units one after another.
+-- The numbers of a phase on units, one after another.
 use Rattle.std.proofs.Common.{◌≡◌, ℕ, List, [], ◌∷◌, ◌++◌, ◌+◌, ◌<◌, length, drop, get_or, Option, sym, ap, ◌∙◌, add-one, drop-cons, append_assoc, arith}
 use Rattle.std.specs.Prelude.{position}
 use Rattle.batch_cell.specs.LookUps.{phases_of}

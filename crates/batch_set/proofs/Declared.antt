@@ -108,7 +108,7 @@ module _ (r : Recipe) where
   lower-tables : (reserve_well (act_names units) r.acts.operations.items && reserve_well (act_names units) r.acts.phases.items) ≡ true
   lower-tables = (and_parts (reserve_well (act_names units) units) _ own-tables).1
 
-  -- what an act reserves are unit procedures
+  -- the names that an act reserves are those of unit procedures
   pub reserves-units : (k : Kind) (a : Act) → act_of r.acts k ≡ Some a → list_all (is_among (act_names units)) a.reserves.items ≡ true
   reserves-units kind.Procedure a is =
       let same : r.acts.procedure ≡ a = cc in

@@ -1,4 +1,4 @@
--- Rows that are made one after another, and what is read of them.
+-- Rows that are made one after another, and look-ups in them.
 use Rattle.std.proofs.Common.{◌≡◌, ℕ, List, [], ◌∷◌, ◌++◌, ◌+◌, ◌<◌, ◌≤◌, suc, length, drop, get_or, map, Option, Some, Vec, slice_get, sym, ap, ◌∙◌, add-one, drop-cons, drop_of_length-le, append_assoc, append-nil}
 use Rattle.std.specs.Global.{Global}
 use Rattle.std.specs.Prelude.{option_map, unwrap_or}
@@ -7,7 +7,7 @@ use Rattle.std.proofs.lemmas.Option.{slice_get-map}
 use Rattle.batch_set.specs.Linking.{table_items}
 use Rattle.batch_set.specs.Looked.{row_at}
 
--- so far the rows are what the elements before number i come to
+-- so far the rows are the results of the elements before number i
 abbrev pub AreMapped : {A B : Type 0} → (A → B) → List A → ℕ → List B → Type 0
 AreMapped f xs i ys = ys ++ map f (drop i xs) ≡ map f xs
 

@@ -58,7 +58,7 @@ module _ (name : Name) where
     | inr later ↦ inserted names (insert_key (pointwise nat_eq) keys x) later
   ]
 
-  -- what a unit offers is a phase of a module
+  -- a phase that a unit offers is one of a module
   of-modules : (unit : Name) (ms : List Module) → list_any (same_name name) (flat_map (phases_for unit) ms) ≡ true → list_any (same_name name) (flat_map phases_in ms) ≡ true
   of-modules unit [] h = absurd (false≢true h)
   of-modules unit (m ∷ ms) h = go (belongs_to unit m) (of-modules unit ms) h

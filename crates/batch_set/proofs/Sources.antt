@@ -1,4 +1,4 @@
--- The numbers of a linked recipe say what its names say.
+-- The numbers of a linked recipe mean the same as its names.
 use Rattle.std.proofs.Common.{◌≡◌, ℕ, zero, suc, List, [], ◌∷◌, ◌++◌, map, Bool, true, false, Option, Some, None, position, slice_get, refl, sym, ap, ◌∙◌, subst}
 use Rattle.std.specs.List.{list_all}
 use Rattle.std.specs.Prelude.{option_and_then}
@@ -74,7 +74,7 @@ module _ (cell : Cell) (r : Recipe) (bound : Binding) where
       go None h d = absurd cc
       go (Some choice) h d = chosen-source choice d
 
-  -- those, and then what is needed besides
+  -- those, and then the other needs
   reserved-say : (names : List Name) → list_all (is_among (act_names units)) names ≡ true → (more : List LinkedNeed) (needs : List Need) → SayNeeds cell r.roles.items bound more needs
       → SayNeeds cell r.roles.items bound (map (reserved_need cell r) names ++ more) (map one_unit (map (unit_named (sites bound r.acts)) names) ++ needs)
   reserved-say [] among more needs h = h
@@ -118,7 +118,7 @@ units-said cell phases r linked h bound k a choice at e =
     (subst (λ (o : Option UnitChoice). elim o [ None ↦ true | Some own ↦ elim own [ Choice.Unit unit ↦ true | Choice.Role role ↦ is_among (map (λ (role : Role). role.name) r.roles.items) role ] ] ≡ true) e
     (unit-declared r k a at)))
 
--- need i is of what number i says
+-- need i by number means the same as need i by name
 pub said-at : (cell : Cell) (roles : List Role) (bound : Binding) (links : List LinkedNeed) (needs : List Need) → SayNeeds cell roles bound links needs → (i : ℕ) (need : Need) → slice_get needs i ≡ Some need
     → (linked : LinkedNeed) × (slice_get links i ≡ Some linked) × IsSource cell roles bound linked.source need.resource × (linked.units ≡ need.units)
 said-at cell roles bound [] [] h i need e = absurd cc

@@ -1,4 +1,4 @@
--- surface: the numbers of what a recipe's acts name in a cell.
+-- surface: the numbers of the resources, units and phases that a recipe's acts name in a cell.
 use Rattle.std.specs.Prelude.{◌≡◌, ℕ, ◌+◌, List, [], ◌∷◌, ◌++◌, flat_map, map, Option, Some, None, position, Vec, true, false, nat_eq}
 use Rattle.std.specs.Global.{Global}
 use Rattle.std.specs.Cmp.Lexicographic.{pointwise}
@@ -74,7 +74,7 @@ reserved_need cell recipe name = one_of (reserved cell recipe name)
 abbrev pub need_linked : Cell → Need → LinkedNeed
 need_linked cell need = record { source = named cell need.resource; units = need.units }
 
--- all that an act needs: its unit, the units that it reserves, and more
+-- all needs of an act: its unit, the units that it reserves, and its other needs
 abbrev pub needs_linked : Cell → document.Recipe → Act → List LinkedNeed
 needs_linked cell recipe a = (unit_needs cell recipe a.unit ++ map (reserved_need cell recipe) a.reserves.items) ++ map (need_linked cell) a.needs.items
 
@@ -130,7 +130,7 @@ pub record ArePhasesOf (cell : Cell) (phases : CellPhases) : Type 0 where
   pub names : phases.names.keys ≡ phase_names cell
   pub numbers : table_items phases.numbers.items ≡ map (numbers_on cell) phases.names.keys
 
--- the numbers of what a recipe's acts need, of who may take its roles, and of the phases of the cell that its phase steps run
+-- a recipe by number: the needs of its acts, the units that may take its roles, and the phases of the cell that its phase steps run
 pub record IsLinked (cell : Cell) (known : CellPhases) (recipe : document.Recipe) (linked : LinkedRecipe) : Type 0 where
   pub procedure : linked.procedure.items ≡ needs_linked cell recipe recipe.acts.procedure
   pub unit_procedures : table_items linked.unit_procedures.items ≡ map (needs_linked cell recipe) recipe.acts.unit_procedures.items

@@ -1,4 +1,4 @@
--- surface: what is looked up in a linked recipe.
+-- surface: look-ups in a linked recipe.
 use Rattle.std.specs.Prelude.{ℕ, List, [], Option, Some, None, Vec, option_and_then, option_map, slice_get, unwrap_or}
 use Rattle.std.specs.Global.{Global}
 use Rattle.batch_recipe.specs.declared.acts.LabelTable.{LabelTable}
@@ -32,11 +32,11 @@ needs_by linked kind.Procedure = linked.procedure.items
 needs_by linked (kind.Act level number) = row_at (rows_at linked level) number
 needs_by linked _ = []
 
--- where the first of the needs comes from
+-- the source of the first of the needs
 abbrev pub first_source : List LinkedNeed → Source
 first_source needs = unwrap_or (option_map (λ need. need.source) (slice_get needs 0)) Unknown
 
--- where the unit of a unit procedure comes from
+-- the source of the unit of a unit procedure
 abbrev pub unit_by : LinkedRecipe → ℕ → Source
 unit_by linked unit_procedure = first_source (needs_by linked (kind.Act UnitProcedures unit_procedure))
 

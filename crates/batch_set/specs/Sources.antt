@@ -1,4 +1,4 @@
--- surface: the numbers of a linked recipe say what its names say.
+-- surface: the numbers of a linked recipe mean the same as its names.
 use Rattle.std.specs.Prelude.{◌≡◌, ℕ, ◌<◌, List, [], ◌∷◌, Some, None, length, position, slice_get, ⊤}
 use Rattle.batch_cell.specs.LookUps.{resources_of, units_of, phases_of}
 use Rattle.batch_cell.specs.declared.cell.Cell.{Cell}

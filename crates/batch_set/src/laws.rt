@@ -1,13 +1,13 @@
 //! Laws of a linked recipe.
 ghost use Rattle.batch_set.specs.Sources.{NeedsSayNames, PhasesSayNames, UnitsSayNames};
 
-/// The numbers of an act's needs say what their names say, need by need, whatever units take the roles.
+/// An act's needs by number mean the same as its needs by name, need by need, whatever units take the roles.
 // claim: needs by number
 pub fn needs_say_names()
     ensures { NeedsSayNames }
 {}
 
-/// The number of a unit procedure's unit says what its name or its role says, whatever units take the roles.
+/// The number of a unit procedure's unit means the same as its name or its role, whatever units take the roles.
 // claim: units by number
 pub fn units_say_names()
     ensures { UnitsSayNames }

@@ -1,4 +1,4 @@
-//! The linked set: the numbers of what the acts of recipes name in a cell.
+//! The linked set: recipes by the numbers of the resources, units and phases that their acts name in a cell.
 //!
 //! Linking never refuses: a name that stands for nothing has the source `Unknown`.
 #![tactic(auto)]

@@ -1,14 +1,14 @@
-//! What acts need and run, by number.
+//! The needs and the phases of acts, by number.
 ghost use Rattle.std.specs.Prelude.{◌≡◌};
 ghost use Rattle.batch_set.specs.Looked.{needs_by, number_for, phase_on, rows_at, unit_by};
 
 use crate::cell_phases::CellPhases;
 use batch_recipe::{Kind, LabelTable};
 
-/// Where the units of a need come from.
+/// The source of the units of a need.
 #[derive(Clone, Copy)]
 pub enum Source {
-    /// The resource with this number. It is a unit where the number is below that of the cell's units.
+    /// The resource with this number. It is a unit if the number is below the count of the cell's units.
     Resource(u16),
     /// The unit that takes the role with this number.
     Role(u8),
@@ -30,15 +30,15 @@ impl Source {
     }
 }
 
-/// So many units of a resource.
+/// A number of units of a resource.
 #[derive(Clone, Copy)]
 pub struct LinkedNeed {
     pub source: Source,
     pub units: u32,
 }
 
-/// A recipe by number, each of its tables in its order. An act needs its own unit, if it has one, then the units that it reserves, then
-/// more.
+/// A recipe by number, each of its tables in its order. The needs of an act are its own unit, if it has one, then the units that it
+/// reserves, and then its other needs.
 #[derive(Drop)]
 pub struct LinkedRecipe {
     pub procedure: Vec<LinkedNeed>,
@@ -63,7 +63,7 @@ impl LinkedRecipe {
         }
     }
 
-    /// The needs of the act of this kind: nothing where it is no act of the recipe.
+    /// The needs of the act of this kind. A kind that is no act of the recipe has none.
     // claim: needs by number
     #[inline(always)]
     pub fn needs(&self, kind: Kind) -> &[LinkedNeed]
@@ -79,7 +79,7 @@ impl LinkedRecipe {
         }
     }
 
-    /// Where the unit of the unit procedure with this number comes from: its first need.
+    /// The source of the unit of the unit procedure with this number: that of its first need.
     // claim: units by number
     #[inline(always)]
     pub fn unit(&self, unit_procedure: usize) -> Source

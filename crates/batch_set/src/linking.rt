@@ -89,7 +89,7 @@ fn link_need(cell: &Cell, need: &Need) -> LinkedNeed
     }
 }
 
-/// All that an act needs, in the order in which it asks.
+/// All needs of an act, in the order in which it asks.
 fn link_act(
     alloc: Global,
     cell: &Cell,
@@ -166,7 +166,7 @@ fn link_runs(
     Ok(runs)
 }
 
-/// The recipe by the numbers of what it names in the cell, whose phases these are.
+/// The recipe by the numbers of the resources, units and phases that it names in the cell. `phases` are those of the cell.
 // claim: linked recipe
 pub fn link(
     alloc: Global,

@@ -54,7 +54,7 @@ none-shown m = all-bits 0 m (λ i. ap (λ z. min z (bit_at m i)) (bit_at-zero i)
 pub nothing-shown : (m : ℕ) → shows m 0 ≡ false
 nothing-shown m = ap (λ z. not (nat_eq z 0)) (none-shown m)
 
--- what the next node that shows one of the signs says of those from n to m
+-- whether none of the signs is shown from n to m, by the next node that shows one
 
 pub tells-none : (signs : List ℕ) (wanted n m : ℕ) → IsNextShown signs wanted n None → TellsNone signs wanted n m true
 tells-none signs wanted n m h k a b = go (cases_lt k (length signs))

@@ -6,14 +6,14 @@ use Rattle.std.specs.Int.{bit_at}
 abbrev pub set_of : List ℕ → ℕ → ℕ → ℕ
 set_of words word sign = slice_index words (word * 32 + sign)
 
--- 1 where the node shows the sign, and else 0
+-- 1 if the node shows the sign, and else 0
 abbrev pub shown : List ℕ → ℕ → ℕ → ℕ
 shown words node sign = bit_at (set_of words (node / 64) sign) (node % 64)
 
 abbrev pub AreRoomFor : List ℕ → ℕ → Type 0
 AreRoomFor words count = count ≤ 2 * length words
 
--- each bit of the summary tells whether its word is 0, and a sign that isn't among all has no such bit
+-- each bit of the summary tells whether its word is 0, and the summary of a sign that isn't among `all` is 0
 pub record AreSummed (words summary : List ℕ) (all : ℕ) : Type 0 where
   pub whole : length words % 32 ≡ 0
   pub few : length words ≤ 2048
@@ -26,7 +26,7 @@ abbrev pub bit_of : Bool → ℕ
 bit_of true = 1
 bit_of false = 0
 
--- one node shows a sign, or shows it no more
+-- the sign of one node has been set or cleared
 pub record IsTurnedAt (old new : List ℕ) (node sign : ℕ) (shows : Bool) : Type 0 where
   pub count : length new ≡ length old
   pub here : shown new node sign ≡ bit_of shows

@@ -29,6 +29,6 @@ abbrev pub TellsNone : List ℕ → ℕ → ℕ → ℕ → Bool → Type 0
 TellsNone signs wanted n m true = NoneShows signs wanted n m
 TellsNone signs wanted n m false = (k : ℕ) × (n ≤ k) × (k < m) × (bit_and (sign_at signs k) wanted ≡ 0 → ⊥)
 
--- the node shows these signs instead, where it shows any
+-- the node shows these signs instead, if it shows any
 abbrev pub replaced : List ℕ → ℕ → ℕ → List ℕ
 replaced signs k new = elim (nat_eq (sign_at signs k) 0) [ true ↦ signs | false ↦ slice_set signs k new ]

@@ -11,7 +11,7 @@ use std::marker::Model;
 const SIGNS: usize = 32;
 
 /// For each sign the set of the nodes that show it, as bits, with a bit for each word that isn't 0. So the next node that shows one of some
-/// signs is found by three looks for each of them.
+/// signs is found by three words of each of them.
 #[derive(Drop)]
 pub struct Sets {
     /// For each 64 nodes and each sign a bit for each node that shows it.
@@ -46,7 +46,7 @@ impl Sets {
         })
     }
 
-    /// No node shows a sign any more.
+    /// Clears the signs of all nodes.
     pub fn clear(&mut self)
         ensures { self.new ≡ replicate (length self.old) 0 }
     {
@@ -55,7 +55,7 @@ impl Sets {
         self.all = 0;
     }
 
-    /// The node, which showed the old signs, shows the new ones.
+    /// Replaces the old signs of the node by the new ones.
     pub fn change(&mut self, node: usize, was: u32, signs: u32)
         requires room { node < 2 * length self.old }
         requires was { (sign : ℕ) → sign < 32 → shown self.old node sign ≡ bit_at was sign }
@@ -69,7 +69,7 @@ impl Sets {
         }
     }
 
-    /// The node shows the sign, or shows it no more.
+    /// Sets or clears the sign of the node.
     fn turn(&mut self, node: usize, sign: usize, shows: bool)
         requires room { node < 2 * length self.old }
         requires sign { sign < 32 }
@@ -80,7 +80,7 @@ impl Sets {
         self.write(word, sign, set);
     }
 
-    /// These of 64 nodes show the sign, and no others of them.
+    /// Writes the set of those of 64 nodes that show the sign.
     fn write(&mut self, word: usize, sign: usize, set: u64)
         requires room { word * 32 + 32 ≤ length self.old }
         requires sign { sign < 32 }
@@ -103,7 +103,7 @@ impl Sets {
         self.search(wanted, from)
     }
 
-    /// The same, where it has to be looked for.
+    /// The same, by a search of the words.
     fn search(&self, wanted: u32, from: usize) -> Option<usize>
         ensures { IsFirstShown self.now wanted from result }
     {
@@ -125,7 +125,7 @@ impl Sets {
     }
 }
 
-/// Of the words from this one on, one for each sign, those of the wanted signs, joined.
+/// The words of the wanted signs, joined, of the words from this one on, one for each sign.
 fn joined(words: &[u64], first: usize, wanted: u32) -> u64
     requires { first + 32 ≤ length words.now }
     ensures { AreJoined words.now first wanted 32 result }

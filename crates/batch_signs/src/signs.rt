@@ -1,4 +1,4 @@
-//! What the acts of a chart show, by which they are found.
+//! The signs of the acts of a chart, by which they are found.
 ghost use Rattle.std.specs.Prelude.{◌≡◌, ◌<◌, ◌≤◌, ℕ, length, replicate, slice_set, IfOk};
 ghost use Rattle.batch_signs.specs.Signs.{IsNextShown, TellsNone, replaced, sign_at};
 
@@ -6,8 +6,8 @@ use crate::sets::Sets;
 use std::alloc::{AllocError, Global};
 use std::marker::Model;
 
-/// For each node a set of signs, as the bits of a word, and for each sign the set of the nodes that show it, by which it is told at once
-/// that no node has a sign, and the next one that has it is found in a few steps.
+/// For each node a set of signs, as the bits of a word, and for each sign the set of the nodes that show it. These sets give at once
+/// that no node has a sign, and in a few steps the next node that has it.
 #[derive(Drop)]
 pub struct Signs {
     nodes: Vec<u32>,
@@ -46,7 +46,7 @@ impl Signs {
         self.nodes.get(node).copied().unwrap_or(0)
     }
 
-    /// The node shows these signs, and no others.
+    /// Gives the node these signs, and no others.
     // claim: signs shown
     pub fn set(&mut self, node: usize, signs: u32)
         requires { node < length self.old }
@@ -56,7 +56,7 @@ impl Signs {
         self.nodes[node] = signs;
     }
 
-    /// The node shows these signs instead, where it shows any.
+    /// Gives the node these signs instead, if it shows any.
     // claim: signs shown
     pub fn replace(&mut self, node: usize, signs: u32)
         ensures { self.new ≡ replaced self.old node signs }
@@ -66,7 +66,7 @@ impl Signs {
         }
     }
 
-    /// No node shows a sign any more.
+    /// Clears the signs of all nodes.
     // claim: signs shown
     pub fn clear(&mut self)
         ensures { self.new ≡ replicate (length self.old) 0 }

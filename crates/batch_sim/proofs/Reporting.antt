@@ -1,4 +1,4 @@
--- What a steady unit reports at a tick.
+-- The report of a steady unit at a tick.
 use Rattle.std.proofs.Common.{◌≡◌, ℕ, List, true, false, Option, Some, None, get_or, slice_get, slice_set, position, refl, sym, ◌∙◌}
 use Rattle.std.proofs.lemmas.List.Quantifiers.{position-Some}
 use Rattle.std.proofs.lemmas.Option.{slice_get-get_or}

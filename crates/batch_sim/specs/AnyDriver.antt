@@ -1,4 +1,4 @@
--- surface: what a box of a driver holds after something was asked of the driver.
+-- surface: the content of a box of a driver after a call of the driver.
 use Rattle.std.specs.Prelude.{◌≡◌}
 use Rattle.std.specs.declared.dyn_box.DynBox.{DynBox}
 

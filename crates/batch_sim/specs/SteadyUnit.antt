@@ -54,7 +54,7 @@ end_of p = elim (same_state p.state Running && nat_lt 0 p.ticks_left) [ true ↦
 abbrev pub is_due : SteadyPhase → Bool
 is_due p = elim (end_of p) [ None ↦ false | Some state ↦ true ]
 
--- what is reported of an end
+-- the report of an end
 abbrev pub word_of : State → Report
 word_of Paused = reports.Paused
 word_of Held = reports.Held

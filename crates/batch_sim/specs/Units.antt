@@ -11,7 +11,7 @@ Ticks {D} gives unit old answer new =
       | Some driver ↦ (after : D) × gives driver answer after × (new ≡ slice_set old unit after)
     ]
 
--- a phase of the unit with this number is given an order, and whether there is such a unit
+-- a phase of the unit with this number is given an order, and whether the unit is known
 abbrev pub Takes : {D : Type 0} → (D → ℕ → Order → D → Type 0) → ℕ → ℕ → Order → List D → Bool → List D → Type 0
 Takes {D} gives unit phase order old known new =
     elim (slice_get old unit) [

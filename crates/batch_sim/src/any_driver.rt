@@ -5,8 +5,8 @@ use crate::driver::UnitDriver;
 use crate::order::Order;
 use batch_matrix::Report;
 
-/// A driver of any kind, in a box: so the units of one cell may be driven in different ways. An order and a tick make of it
-/// what they make of the driver in the box.
+/// A driver of any kind, in a box: so the units of one cell may be driven in different ways. An order and a tick have the effect
+/// that they have on the driver in the box.
 #[derive(Drop)]
 pub struct AnyDriver {
     pub driver: Box<dyn UnitDriver + Send>,

@@ -1,19 +1,19 @@
-//! What drives a unit.
+//! Drivers of units.
 use crate::order::Order;
 use batch_matrix::Report;
 
-/// What drives the phases of one unit, which are numbered from 0 in the order in which the cell declares them.
+/// A driver of the phases of one unit, which are numbered from 0 in the order in which the cell declares them.
 ///
-/// It may be given any order at any time, and may report anything: nothing that is promised of batches rests on it.
+/// It may be given any order at any time, and may report anything: no promise of batches rests on it.
 pub trait UnitDriver: Drop {
     ghost use Rattle.std.specs.Prelude.{ℕ, Option};
     ghost use Rattle.batch_matrix.specs.declared.report.Report.{Report};
     ghost use Rattle.batch_sim.specs.declared.order.Order.{Order};
 
-    /// What the driver may be after an order to a phase.
+    /// The drivers that this may become by an order to a phase.
     ghost command_gives: { Self → ℕ → Order → Self → Type 0 };
 
-    /// What a tick may answer, and what the driver may be after it.
+    /// The answers that a tick may give, and the drivers that this may become by it.
     ghost tick_gives: { Self → Option (ℕ × Report) → Self → Type 0 };
 
     /// Gives an order to a phase.

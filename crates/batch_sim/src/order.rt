@@ -1,7 +1,7 @@
 //! Orders to phases.
 use batch_matrix::Command;
 
-/// What a unit is told to do with a phase that it offers.
+/// An order to a unit, for a phase that it offers.
 #[derive(Clone, Copy)]
 pub enum Order {
     /// The phase starts.

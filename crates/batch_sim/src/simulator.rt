@@ -29,7 +29,7 @@ impl<D: UnitDriver> Simulator<D> {
         Simulator { drivers }
     }
 
-    /// Gives an order to a phase of a unit. False, and nothing done, where there is no such unit.
+    /// Gives an order to a phase of a unit. False, and nothing done, if no unit has the number.
     // claim: order to a unit
     pub fn order(&mut self, unit: u16, phase: u16, order: Order) -> bool
         ensures { Takes D.command_gives unit phase order self.old result self.new }
@@ -41,7 +41,7 @@ impl<D: UnitDriver> Simulator<D> {
         true
     }
 
-    /// A moment passes at a unit, and its driver may report. None, and nothing done, where there is no such unit.
+    /// A moment passes at a unit, and its driver may report. None, and nothing done, if no unit has the number.
     // claim: tick of a unit
     pub fn tick(&mut self, unit: u16) -> Option<(u16, Report)>
         ensures { Ticks D.tick_gives unit self.old result self.new }

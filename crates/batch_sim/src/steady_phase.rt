@@ -86,7 +86,7 @@ fn target(command: Command) -> State
     }
 }
 
-/// What a phase reports that ended as this.
+/// The report of a phase that ended as this.
 pub(crate) fn word_of(end: State) -> Report
     ensures { result ≡ word_of end }
 {

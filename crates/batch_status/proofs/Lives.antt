@@ -1,4 +1,4 @@
--- Live phases that change and end, as they are kept and as they are told.
+-- Live phases that change and end, as they are kept and by the record.
 use Rattle.std.proofs.Common.{◌≡◌, ℕ, Bool, true, false, not, List, [], ◌∷◌, ◌++◌, map, filter, refl, sym, ap, ◌∙◌}
 use Rattle.batch_matrix.specs.declared.command.Command.{Command}
 use Rattle.batch_matrix.specs.declared.report.Report.{Report}
@@ -13,7 +13,7 @@ use Rattle.batch_status.specs.Kept.{live_of, lives_of, is_elsewhere, LiveAfter, 
 use Rattle.batch_status.specs.declared.live.Change.{Change}
 use Rattle.batch_status.specs.declared.live.LivePhase.{LivePhase}
 
--- a list of what is kept, and its view, without some of them
+-- a kept list, and its view, without some of its items
 module _ {X Y : Type 0} (f : X → Y) (p : X → Bool) (q : Y → Bool) (h : (x : X) → q (f x) ≡ p x) where
   one_more : (x : X) (xs : List X) (b : Bool) → p x ≡ b → map f (filter p xs) ≡ filter q (map f xs) → map f (filter p (x ∷ xs)) ≡ filter q (map f (x ∷ xs))
   one_more x xs true e k = rw (e, h x ∙ e) (ap (λ ys. f x ∷ ys) k)

@@ -1,4 +1,4 @@
--- The rows of what is kept are those of what is told.
+-- The rows of the kept state are those of the record's state.
 use Rattle.std.proofs.Common.{◌≡◌, ℕ, Bool, true, false, List, [], ◌∷◌, map, option_map, refl, ap, ◌∙◌}
 use Rattle.std.proofs.lemmas.Map.Made.{lookup-map_values}
 use Rattle.std.specs.BTreeMap.{get}
@@ -37,7 +37,7 @@ rows_kept status = record {
   live = lives_of status.live.phases.items;
 }
 
--- what is kept was put in order
+-- the kept state was put in order
 pub record IsInOrder (old new : Status) : Type 0 where
   pub batches_stay : new.batches ≡ old.batches
   pub batches_rise : IsStrictlySortedBy nat_cmp (keys_of (rows_of new.batches))

@@ -1,4 +1,4 @@
--- The lines of outs tell what the outs tell.
+-- The lines of outs give the same state as the outs.
 use Rattle.std.proofs.Common.{◌≡◌, inl, inr, ℕ, Bool, true, false, List, [], ◌∷◌, ◌++◌, fold, map, filter, not, Option, Some, None, option_map, refl, sym, ap, subst, ◌∙◌, nat_eq}
 use Rattle.batch_model.specs.Moves.{send, state, release, begin, start, end, pass, ask, grant}
 use Rattle.batch_model.specs.Events.{created, ordered, removed, reported, refused}
@@ -22,7 +22,7 @@ use Rattle.batch_status.specs.Telling.{Tale, Listed, Live, in_state, is_at, led_
 abbrev whole_tale : Tale → Stage
 whole_tale tale = record { tale = tale; block = None }
 
--- what its text doesn't tell of an out changes nothing
+-- a part of an out that its text leaves out changes nothing
 seen : (tale : Tale) (out : Out) → tale_after tale (as_told out) ≡ tale_after tale out
 seen tale (reply answer) = refl
 seen tale (move (send n p phase c)) = refl
@@ -65,7 +65,7 @@ lines-tell tale outs (line ∷ lines) (inr (out, others, is, named, text, rest))
 pub lines-tell-their-outs : LinesTellTheirOuts
 lines-tell-their-outs outs lines h = lines-tell silence outs lines h
 
--- What is told is what the definitions of a safe record speak of
+-- The state is that in the definitions of a safe record
 
 module _ (r : Name) where
   holders-of : (tale : Tale) (outs : List Out) → (fold tale_after tale outs).holders r ≡ fold (holders_after r) (tale.holders r) outs
@@ -84,7 +84,7 @@ batches-of : (n : ℕ) (tale : Tale) (outs : List Out) → (fold tale_after tale
 batches-of n tale [] = refl
 batches-of n tale (out ∷ outs) = batches-of n (tale_after tale out) outs
 
--- a fold and what is seen of it
+-- a fold and its view
 module _ {X Y Z : Type 0} (f : X → Out → X) (g : Y → Out → Y) (see : X → Z) (other : Y → Z)
     (h : (x : X) (y : Y) (out : Out) → see x ≡ other y → see (f x out) ≡ other (g y out)) where
   alike : (x : X) (y : Y) (outs : List Out) → see x ≡ other y → see (fold f x outs) ≡ other (fold g y outs)

@@ -102,7 +102,7 @@ beginning-read old new read rest h none line course count = record {
 
 -- Pieces
 
--- a line in what is left of a piece, and what stands behind it
+-- a line in the rest of a piece, and the bytes after it
 pub parted : (rest : List ℕ) (at : ℕ) → EndsLine at rest → rest ≡ take at rest ++ 10 ∷ drop (at + 1) rest
 parted rest at e =
     sym (take-append-drop at rest) ∙ ap (λ l. take at rest ++ l) (drop_more rest at 0 e.within ∙ ap (λ b. b ∷ drop (at + 1) rest) e.feed)
@@ -135,7 +135,7 @@ all-of-input unread left now reading read p q end h =
     (Consumes-trans unread left now read [] p q) end
     (h.stage, subst (λ t. LeadsTo t h.stage) (sym (append-nil read)) (all-read reading read h), h.is_at.tale)
 
--- a line of what was read is none of a record, and so of the input
+-- a refused line of the bytes read is a refused line of the input
 refused-of : (read more : List ℕ) (number : ℕ) → IsRefusedAt read number → IsRefusedAt (read ++ more) number
 refused-of read more number h = record {
   before = h.before;

@@ -92,7 +92,7 @@ module _ (r : Name) where
   pub left : (act : BatchAct) (need : Need) (xs : List Kept) → shares_of r (filter (is_other need.resource act) xs) ≡ without_share r act need (shares_of r xs)
   left act need xs = left_by act need xs (same_name r need.resource) refl
 
--- what was read of a claim leaves
+-- the share of a claim that was read leaves
 pub left-read : (old new : List Kept) (name : Name) (act : BatchAct) (need : Need) → name ≡ need.resource → new ≡ filter (is_other name act) old
     → (r : Name) → shares_of r new ≡ without_share r act need (shares_of r old)
 left-read old new name act need is e r =

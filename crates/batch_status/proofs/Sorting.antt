@@ -1,4 +1,4 @@
--- What a stable sort leaves: the order, and what stands at each key.
+-- The result of a stable sort: the order, and the items at each key.
 use Rattle.std.proofs.Common.{◌≡◌, ◌+◌, ◌<◌, Bool, true, false, not, ◌&&◌, List, [], ◌∷◌, map, filter, length, get_or, refl, sym, ap, ◌∙◌, arith}
 use Rattle.std.proofs.lemmas.Cmp.{then_total}
 use Rattle.std.proofs.lemmas.List.{get_or-map, length-map}
@@ -19,7 +19,7 @@ use Rattle.batch_status.specs.Telling.{Live}
 use Rattle.batch_status.specs.declared.live.LivePhase.{LivePhase}
 use Rattle.batch_status.specs.declared.standing.Kept.{Kept}
 
--- neither is less where they are equal
+-- neither is less if they are equal
 tied : (a b : Ordering) → a ≡ ordering_reverse b → (not (is_lt a) && not (is_lt b)) ≡ is_eq a
 tied a Less e = rw e refl
 tied a Equal e = rw e refl
@@ -38,7 +38,7 @@ module _ {X Y : Type 0} (f : X → Y) (R : Y → Y → Ordering) where
   abbrev pub is_before : X → X → Bool
   is_before x y = is_lt (R (f x) (f y))
 
-  -- a list in order of what is seen of it, as it is seen
+  -- the view of a list that is in the order of its view
   pub sorted-seen : (back : Y → X) → (ys : List X) → IsSortedBy is_before ys → IsSorted R (map f ys)
   sorted-seen back ys h k d low high =
       let long : k + 1 < length ys = omega (arith, high, length-map ys f) in
@@ -87,7 +87,7 @@ same-act act other =
     ∙ ap (λ b. is_eq (nat_cmp act.0 other.0) && b) (texts_ties act.1 other.1)
     ∙ tied_then (nat_cmp act.0 other.0) (slice_cmp nat_cmp act.1 other.1)
 
--- What stands at a resource, and of an act, before and after
+-- The shares at a resource, and of an act, before and after
 
 pub at-resource : (xs ys : List Kept) → IsStableBy (is_before claim_of waiter_cmp) xs ys → (resource : Name) → shares_of resource ys ≡ shares_of resource xs
 at-resource xs ys h resource =

@@ -1,4 +1,4 @@
--- trusted: what the lines of a record tell, one after the other, recovery blocks among them.
+-- trusted: the state that a record gives, line by line, with recovery blocks among the lines.
 use Rattle.std.specs.Prelude.{ℕ, Bool, true, false, ◌&&◌, List, [], ◌∷◌, ◌++◌, Option, Some, None, option_map, codes, nat_eq, nat_le, nat_lt, if◌then◌else◌}
 use Rattle.std.specs.Str.{bytes_eq}
 use Rattle.batch_matrix.specs.declared.state.State.{State}
@@ -19,7 +19,7 @@ pub data Row : Type 0 where
   waiter_row : ClaimTold → Row
   live_row : Live → Row
 
--- what is told with a row more
+-- the state with a row more
 abbrev pub tale_with : Tale → Row → Tale
 tale_with tale (batch_row batch listed) =
     record tale { batches = λ number. elim (nat_eq batch number) [ true ↦ Some listed | false ↦ tale.batches number ] }
@@ -29,7 +29,7 @@ tale_with tale (live_row live) = record tale { live = tale.live ++ live ∷ [] }
 
 -- Comments
 
--- what a line says of recovery blocks
+-- the meaning of a line for recovery blocks
 pub data Mark : Type 0 where
   begins : Mark
   ends : Mark
@@ -97,13 +97,13 @@ abbrev pub mark_of_words : List (List ℕ) → Option Mark
 mark_of_words (sharp ∷ word ∷ arguments) = if bytes_eq sharp (codes "#") then mark_with word arguments else None
 mark_of_words _ = None
 
--- of any other line nothing
+-- None for any other line
 abbrev pub mark_of : List ℕ → Option Mark
 mark_of line = mark_of_words (line_words line)
 
 -- Lines
 
--- what is told so far, and what a recovery block says that hasn't ended
+-- the state so far, and that by a recovery block that hasn't ended
 pub record Stage : Type 0 where
   pub tale : Tale
   pub block : Option Tale
@@ -111,18 +111,18 @@ pub record Stage : Type 0 where
 abbrev pub opening : Stage
 opening = record { tale = silence; block = None }
 
--- a block begins with nothing told, and at its end what it says takes the place of all that was told before
+-- a block begins with the empty state, and at its end the state by it replaces the one before
 abbrev pub marked : Stage → Option Mark → Stage
 marked stage (Some begins) = record { tale = stage.tale; block = Some silence }
 marked stage (Some (row r)) = record { tale = stage.tale; block = option_map (λ tale. tale_with tale r) stage.block }
 marked stage (Some ends) = record { tale = elim stage.block [ None ↦ stage.tale | Some tale ↦ tale ]; block = None }
 marked stage None = stage
 
--- an out ends a block that tells nothing
+-- an out ends a block, which then has no effect
 abbrev pub told : Stage → Out → Stage
 told stage out = record { tale = tale_after stage.tale out; block = None }
 
--- a line more, or none where it is no line of a record
+-- the stage after a line more, or None if it is no line of a record
 abbrev pub stage_after : Stage → List ℕ → Option Stage
 stage_after stage line =
     elim (is_passed_over line) [ true ↦ Some (marked stage (mark_of line)) | false ↦ option_map (told stage) (out_of_line line) ]

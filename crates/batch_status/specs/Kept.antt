@@ -1,4 +1,4 @@
--- surface: what is kept of a record, and what that tells.
+-- surface: the kept state of a record, and its meaning.
 use Rattle.std.specs.Prelude.{◌≡◌, ℕ, Bool, not, ◌&&◌, true, false, List, map, filter, Option, Some, None, option_map, nat_eq}
 use Rattle.std.specs.BTreeMap.{get}
 use Rattle.std.specs.Ordering.{nat_cmp}
@@ -44,15 +44,15 @@ claims_of kept = map claim_of kept
 abbrev pub is_other : Name → BatchAct → Kept → Bool
 is_other resource act kept = not (same_name resource kept.resource && is_same_act (kept.batch, kept.place) act)
 
--- what stands became, at each resource, what the out tells of its holders
+-- at each resource the shares became those of its holders after the out
 abbrev pub HoldersAfter : List Kept → Out → List Kept → Type 0
 HoldersAfter old out new = (resource : Name) → shares_of resource new ≡ holders_after resource (shares_of resource old) out
 
--- and of those that wait
+-- at each resource the shares became those of its waiting acts after the out
 abbrev pub WaitersAfter : List Kept → Out → List Kept → Type 0
 WaitersAfter old out new = (resource : Name) → shares_of resource new ≡ waiters_after resource (shares_of resource old) out
 
--- a share joined at its resource, behind the others, or left there
+-- a share joined at its resource, after the others, or left there
 abbrev pub Joins : List Kept → ClaimTold → List Kept → Type 0
 Joins old claim new = (resource : Name) → shares_of resource new ≡ with_share resource (claim.batch, claim.place) claim.need (shares_of resource old)
 
@@ -67,7 +67,7 @@ Passes old told new = (resource : Name) → shares_of resource new
 abbrev pub BatchLeaves : ℕ → List Kept → List Kept → Type 0
 BatchLeaves batch old new = (resource : Name) → shares_of resource new ≡ without_batch batch (shares_of resource old)
 
--- a command was told: where it is stop or abort the batch's leave
+-- if the command is stop or abort, the batch's shares leave
 abbrev pub LeavesAt : Command → ℕ → List Kept → List Kept → Type 0
 LeavesAt Stop batch old new = BatchLeaves batch old new
 LeavesAt Abort batch old new = BatchLeaves batch old new
@@ -95,7 +95,7 @@ abbrev pub changed_by : Change → State → State
 changed_by (Change.Led command) now = led_by command now
 changed_by (Change.Said word) now = said_by word now
 
--- where the phase is at the act it goes on in another state
+-- if the phase is at the act, it goes on in another state
 abbrev pub phase_changed : BatchAct → Change → LivePhase → LivePhase
 phase_changed act change live = elim (is_same_act (live.batch, live.place) act) [ true ↦ record live { state = changed_by change live.state } | false ↦ live ]
 
@@ -122,7 +122,7 @@ Lists old batch listed new = (number : ℕ) → listed_in new number ≡ elim (n
 abbrev pub Unlists : Batches → ℕ → Batches → Type 0
 Unlists old batch new = (number : ℕ) → listed_in new number ≡ elim (nat_eq batch number) [ true ↦ None | false ↦ listed_in old number ]
 
--- its state was told
+-- if it is listed, it has this state from now on
 abbrev pub TellsState : Batches → ℕ → State → Batches → Type 0
 TellsState old batch becomes new = (number : ℕ) → listed_in new number ≡ state_told_to number batch becomes (listed_in old number)
 
@@ -131,7 +131,7 @@ BatchesAfter old out new = (number : ℕ) → listed_in new number ≡ listed_af
 
 -- All of it
 
--- what is kept is what the record tells
+-- the kept state is that of the record
 pub record Keeps (status : Status) (tale : Tale) : Type 0 where
   pub holders : (resource : Name) → shares_of resource status.holders.shares.items ≡ tale.holders resource
   pub waiters : (resource : Name) → shares_of resource status.waiters.shares.items ≡ tale.waiters resource

@@ -1,4 +1,4 @@
--- trusted: the lines that say what a record tells, and their order.
+-- trusted: the lines of the state that a record gives, and their order.
 use Rattle.std.specs.Prelude.{◌≡◌, ℕ, List, [], ◌∷◌, ◌++◌, map, filter, flat_map, ◌&&◌, codes, decimal}
 use Rattle.std.specs.Cmp.Lexicographic.{slice_cmp}
 use Rattle.std.specs.List.Sorted.{IsSorted, IsStrictlySortedBy}
@@ -53,7 +53,7 @@ of_act act shares = filter (λ share. is_same_act act share.act) shares
 abbrev pub on_unit : Name → Name → List Live → List Live
 on_unit unit name lives = filter (λ live. same_name unit live.unit && same_name name live.name) lives
 
--- the rows are all that the record tells: batches by number, holders by resource, number and place, those that wait by resource and
+-- the rows are the whole state by the record: batches by number, holders by resource, number and place, waiting acts by resource and
 -- then in order of asking, live phases by unit and phase
 pub record AreRowsOf (tale : Tale) (rows : Rows) : Type 0 where
   pub batches_rise : IsStrictlySortedBy nat_cmp (keys_of rows.batches)
@@ -77,7 +77,7 @@ abbrev pub live_words : Live → List (List ℕ)
 live_words live =
     codes "runs" ∷ live.unit ∷ live.name ∷ decimal live.act.0 ∷ place_text live.act.1 ∷ state_text live.state ∷ []
 
--- each line behind a text, which is empty or marks a comment
+-- each line after a text, which is empty or marks a comment
 abbrev pub lines_behind : List ℕ → List (List (List ℕ)) → List ℕ
 lines_behind mark lines = flat_map (λ words. mark ++ line_text words) lines
 
@@ -88,7 +88,7 @@ rows_text mark rows =
     ++ lines_behind mark (map (claim_words (codes "waits")) rows.waiters)
     ++ lines_behind mark (map live_words rows.live)
 
--- the lines of what a record tells
+-- the text is the lines of the state that a record gives
 pub record IsTextOf (tale : Tale) (mark text : List ℕ) : Type 0 where
   pub rows : Rows
   pub are_rows : AreRowsOf tale rows

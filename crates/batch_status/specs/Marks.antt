@@ -1,4 +1,4 @@
--- private: what is read of the lines of recovery blocks.
+-- private: the meaning of the rows and marks that are read of recovery blocks.
 use Rattle.batch_record.specs.Reading.{claim_told, phase_told}
 use Rattle.batch_status.specs.Blocks as Blocks
 use Rattle.batch_status.specs.Kept.{live_with}

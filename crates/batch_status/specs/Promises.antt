@@ -1,4 +1,4 @@
--- surface: what reading a record promises.
+-- surface: the promises of reading a record.
 use Rattle.std.specs.Prelude.{◌≡◌, ◌⊎◌, ℕ, List, [], ◌∷◌, map, Some, None, true}
 use Rattle.batch_model.specs.Plant.{BatchAct}
 use Rattle.batch_model.specs.Records.{Active, active_told, holders_told, state_told, waiters_told}
@@ -13,14 +13,14 @@ use Rattle.batch_status.specs.Telling.{Listed, Live, tale_told}
 abbrev pub SaysNothing : List ℕ → Type 0
 SaysNothing line = (is_passed_over line ≡ true) × (mark_of line ≡ None)
 
--- the lines are the texts of the outs, whose names are names, in order; lines that say nothing may stand between them
+-- the lines are the texts of the outs, whose names are names, in order; lines that say nothing may lie between them
 abbrev pub AreLinesOf : List Out → List (List ℕ) → Type 0
 AreLinesOf outs [] = outs ≡ []
 AreLinesOf outs (line ∷ lines) =
     (SaysNothing line × AreLinesOf outs lines)
     ⊎ ((out : Out) × (others : List Out) × (outs ≡ out ∷ others) × IsNamed out × IsLineOf out line × AreLinesOf others lines)
 
--- such lines are a record's, and it tells what the outs tell
+-- these lines are a record's, and it gives the same state as the outs
 abbrev pub LinesTellTheirOuts : Type 0
 LinesTellTheirOuts =
     (outs : List Out) (lines : List (List ℕ)) → AreLinesOf outs lines → stages opening lines ≡ Some (record { tale = tale_told outs; block = None })
@@ -37,7 +37,7 @@ place_of_live live = record { act = live.act; unit = live.unit; name = live.name
 abbrev pub place_of_active : Active → Place
 place_of_active active = record { act = active.act; unit = active.phase.unit; name = active.phase.name }
 
--- what is told of holders, of those that wait, of which phases are live and of the states of batches is what the record alone tells
+-- the holders, the waiting acts, the live phases and the states of batches are those in the definitions of a safe record
 pub record IsAsModelled (outs : List Out) : Type 0 where
   pub holders : (resource : Name) → (tale_told outs).holders resource ≡ holders_told outs resource
   pub waiters : (resource : Name) → (tale_told outs).waiters resource ≡ waiters_told outs resource

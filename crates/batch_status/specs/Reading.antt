@@ -1,23 +1,23 @@
--- trusted: what is read of a record.
+-- trusted: the reading of a record's text.
 use Rattle.std.specs.Prelude.{◌≡◌, ℕ, ◌+◌, ◌-◌, ◌^◌, List, [], ◌∷◌, ◌++◌, length, flat_map, min, Some, None, ◌==◌, false}
 use Rattle.std.specs.List.{All}
 use Rattle.batch_model.specs.Lists.{Each}
 use Rattle.batch_status.specs.Blocks.{Stage, opening, stage_after, stages}
 
--- each line with a line feed behind it
+-- each line with a line feed after it
 abbrev pub lines_text : List (List ℕ) → List ℕ
 lines_text lines = flat_map (λ line. line ++ 10 ∷ []) lines
 
 abbrev pub HasNoFeed : List ℕ → Type 0
 HasNoFeed line = All (λ b. (b == 10) ≡ false) line
 
--- the text is these lines, and behind them a last one that no line feed ends
+-- the text is these lines, and after them a last one that no line feed ends
 pub record IsText (lines : List (List ℕ)) (last text : List ℕ) : Type 0 where
   pub whole : Each HasNoFeed lines
   pub unended : HasNoFeed last
   pub is : text ≡ lines_text lines ++ last
 
--- the text, as far as its lines are whole, brings the reading to this stage
+-- the whole lines of the text lead to this stage
 pub record LeadsTo (text : List ℕ) (stage : Stage) : Type 0 where
   pub lines : List (List ℕ)
   pub last : List ℕ

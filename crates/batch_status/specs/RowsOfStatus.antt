@@ -1,4 +1,4 @@
--- worked rows: what lines of a record tell, recovery blocks among them, and which lines are none of a record.
+-- worked rows: the states that lines of a record give, recovery blocks among them, and lines that are none of a record.
 use Rattle.std.specs.Prelude.{◌≡◌, ℕ, List, [], ◌∷◌, ◌++◌, codes, take, Some, None}
 use Rattle.batch_matrix.specs.declared.state.State.{State}
 use Rattle.batch_matrix.specs.declared.state.State.TheVariants.{Running, Holding, Held, Restarting, Stopping, Complete}
@@ -6,7 +6,7 @@ use Rattle.batch_model.specs.Plant.{Share}
 use Rattle.batch_status.specs.Blocks.{opening, stages}
 use Rattle.batch_status.specs.Telling.{Listed, Live, Tale}
 
--- the lines are a record's, and it tells so
+-- the lines are a record's, and the state by it has this property
 abbrev pub Tell : List (List ℕ) → (Tale → Type 0) → Type 0
 Tell lines P = elim (stages opening lines) [ None ↦ ⊥ | Some stage ↦ P stage.tale ]
 
@@ -37,11 +37,11 @@ Runs = Tell (take 8 one_batch) (λ tale. (tale.waiters (codes "R1") ≡ []) × (
 abbrev pub Rests : Type 0
 Rests = Tell one_batch (λ tale. (tale.holders (codes "R1") ≡ []) × (tale.live ≡ []) × (tale.batches 1 ≡ Some (of_recipe_a Complete)))
 
--- a removed batch isn't listed, and what is told of it later isn't either
+-- a removed batch isn't listed, and a later line of it doesn't list it again
 abbrev pub Removed : Type 0
 Removed = Tell (one_batch ++ codes "ok remove 1" ∷ codes "state 1 running" ∷ []) (λ tale. tale.batches 1 ≡ None)
 
--- what a stop tells: the batch's ask is gone, and another's stands
+-- the effect of a stop: the batch's ask is gone, and another's stands
 abbrev pub StopsWaiting : Type 0
 StopsWaiting = Tell (codes "ask 1 0.0 STEAM*2" ∷ codes "ask 2 0.0 STEAM" ∷ codes "ok stop 1 stopping" ∷ [])
     (λ tale. tale.waiters (codes "STEAM") ≡ share 2 (0 ∷ 0 ∷ []) 1 ∷ [])
@@ -53,7 +53,7 @@ HoldsAtTheOther = Tell (codes "grant 1 0.0.0 R2" ∷ codes "pass 1 0.0.0 0.1 R2"
 abbrev pub after_start : List (List ℕ) → (Tale → Type 0) → Type 0
 after_start lines P = Tell (take 8 one_batch ++ lines) P
 
--- what each command leads to, and each report says; a fault says nothing
+-- the states after commands and reports; a fault changes none
 abbrev pub IsHolding : Type 0
 IsHolding = after_start (codes "send 1 0.0.0.0 R1 ADD hold" ∷ codes "ok report R1 ADD fault 1 0.0.0.0 holding" ∷ []) (λ tale. tale.live ≡ adding Holding ∷ [])
 
@@ -84,14 +84,14 @@ TakesThePlace = after_start block (λ tale. (tale.batches 1 ≡ None) × (tale.h
     × (tale.holders (codes "STEAM") ≡ share 7 (0 ∷ []) 3 ∷ []) × (tale.waiters (codes "HDR") ≡ share 7 (0 ∷ 0 ∷ []) 2 ∷ [])
     × (tale.live ≡ record { act = (7, 0 ∷ 0 ∷ 0 ∷ 0 ∷ []); unit = codes "R2"; name = codes "ADD"; state = Stopping } ∷ []))
 
--- a block that doesn't end tells nothing, and neither does one that an out breaks off
+-- a block that doesn't end has no effect, and neither has one that an out breaks off
 abbrev pub TellsNothingYet : Type 0
 TellsNothingYet = after_start (take 6 block) (λ tale. (tale.batches 7 ≡ None) × (tale.live ≡ adding Running ∷ []))
 
 abbrev pub IsBrokenOff : Type 0
 IsBrokenOff = after_start (take 6 block ++ codes "state 1 held" ∷ codes "# end" ∷ []) (λ tale. (tale.batches 7 ≡ None) × (tale.batches 1 ≡ Some (of_recipe_a Held)))
 
--- other comments, and answers to lines that the machine never saw, tell nothing
+-- other comments, and answers to lines that the machine never saw, have no effect
 abbrev pub ArePassedOver : Type 0
 ArePassedOver = after_start (codes "# at 17" ∷ codes "refused W4" ∷ codes "refused E2" ∷ codes "# end" ∷ codes "# batch 7 A 1000 idle" ∷ [])
     (λ tale. (tale.batches 7 ≡ None) × (tale.live ≡ adding Running ∷ []))

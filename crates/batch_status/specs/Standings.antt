@@ -1,4 +1,4 @@
--- private: how far reading has come.
+-- private: the progress of reading.
 use Rattle.std.specs.Prelude.{◌≡◌, ℕ, ◌-◌, ◌^◌, ◌<◌, List, [], ◌∷◌, ◌++◌, length, take, get_or, min, Option, Some, None, ⊤, Result, MatchResult}
 use Rattle.batch_status.specs.Blocks.{Stage, opening, stage_after, stages}
 use Rattle.batch_status.specs.Kept.{Keeps}
@@ -17,7 +17,7 @@ KeepsBlock None None = ⊤
 KeepsBlock (Some status) (Some tale) = Keeps status tale
 KeepsBlock _ _ = ⊥
 
--- what is kept is the stage
+-- the kept state is that of the stage
 pub record IsAt (course : Course) (stage : Stage) : Type 0 where
   pub tale : Keeps course.status stage.tale
   pub block : KeepsBlock course.block stage.block
@@ -37,13 +37,13 @@ pub record HasRead (reading : Reading) (read : List ℕ) : Type 0 where
   pub is_at : IsAt reading.course stage
   pub counted : reading.count ≡ min (length lines) (2 ^ 64 - 1)
 
--- the first line feed in the bytes stands there
+-- the first line feed in the bytes is there
 pub record EndsLine (at : ℕ) (bytes : List ℕ) : Type 0 where
   pub within : at < length bytes
   pub feed : get_or bytes at 0 ≡ 10
   pub before : HasNoFeed (take at bytes)
 
--- whatever was read before, the line ends with these bytes, or is none of a record, whatever stands behind it
+-- whatever was read before, the line ends with these bytes, or is none of a record, whatever follows it
 abbrev pub Ends : Reading → List ℕ → Result (Unit {0}) StatusFault → Reading → Type 0
 Ends old end result new =
     (read : List ℕ) → HasRead old read → HasNoFeed end

@@ -1,5 +1,5 @@
--- trusted: what a record tells of a plant, beside who holds and who waits: which batches are listed, and in which state each live
--- phase is.
+-- trusted: the state of a plant by its record, beside who holds and who waits: which batches are listed, and in which state each
+-- live phase is.
 use Rattle.std.specs.Prelude.{ℕ, List, [], ◌∷◌, ◌++◌, map, filter, fold, Bool, true, false, not, Option, Some, None, option_map, unwrap_or, nat_eq}
 use Rattle.batch_matrix.specs.declared.state.State.{State}
 use Rattle.batch_matrix.specs.declared.state.State.TheVariants.{Idle, Running, Paused, Held}
@@ -15,7 +15,7 @@ use Rattle.batch_model.specs.Records.{ends_phase, holders_after, waiters_after}
 
 -- Batches
 
--- the recipe of a batch, its size, and the last state that a line tells
+-- the recipe of a batch, its size, and the last state that a line gives
 pub record Listed : Type 0 where
   pub recipe : Name
   pub size : ℕ
@@ -24,7 +24,7 @@ pub record Listed : Type 0 where
 abbrev pub in_state : State → Listed → Listed
 in_state becomes listed = record { recipe = listed.recipe; size = listed.size; state = becomes }
 
--- the batch's state was told: it changes where the number is the batch's
+-- a line gives the batch's state: it changes if the number is the batch's
 abbrev pub state_told_to : ℕ → ℕ → State → Option Listed → Option Listed
 state_told_to number batch becomes old = elim (nat_eq batch number) [ true ↦ option_map (in_state becomes) old | false ↦ old ]
 
@@ -55,18 +55,18 @@ abbrev pub moved_at : BatchAct → (State → State) → List Live → List Live
 moved_at act change lives =
     map (λ live. elim (is_at act live) [ true ↦ record { act = live.act; unit = live.unit; name = live.name; state = change live.state } | false ↦ live ]) lives
 
--- the state to which a command leads, or the same where it isn't accepted
+-- the state to which a command leads, or the same if it isn't accepted
 abbrev pub led_by : Command → State → State
 led_by command now = unwrap_or (after now command) now
 
--- the state that a report tells of a phase that goes on
+-- the state of a phase that goes on after a report
 abbrev pub said_by : Report → State → State
 said_by Report.Paused now = Paused
 said_by Report.Held now = Held
 said_by Report.Running now = Running
 said_by _ now = now
 
--- a phase runs from its start, then it is in the state to which each command leads it and each report says, until it ends
+-- a phase runs from its start, and commands and reports change its state, until a report ends it
 abbrev pub live_after : List Live → Out → List Live
 live_after lives (move (moves.start number place phase handed)) =
     lives ++ (record { act = (number, place); unit = phase.unit; name = phase.name; state = Running }) ∷ []
@@ -84,11 +84,11 @@ pub record Tale : Type 0 where
   pub batches : ℕ → Option Listed
   pub live : List Live
 
--- what a record without a line tells
+-- the state by a record without a line
 abbrev pub silence : Tale
 silence = record { holders = λ resource. []; waiters = λ resource. []; batches = λ number. None; live = [] }
 
--- what a record tells, an out later
+-- the state by a record, an out later
 abbrev pub tale_after : Tale → Out → Tale
 tale_after tale out =
     record {
@@ -98,6 +98,6 @@ tale_after tale out =
       live = live_after tale.live out;
     }
 
--- what the outs of a record tell
+-- the state by the outs of a record
 abbrev pub tale_told : List Out → Tale
 tale_told outs = fold tale_after silence outs

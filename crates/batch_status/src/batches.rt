@@ -1,4 +1,4 @@
-//! The batches that are listed, as the lines of a record tell them.
+//! The listed batches, by the lines of a record.
 ghost use Rattle.std.specs.Prelude.{◌≡◌, ℕ, None, OnOk};
 ghost use Rattle.batch_record.specs.Reading.{out_of};
 ghost use Rattle.batch_status.specs.Kept.{BatchesAfter, Lists, TellsState, Unlists, listed_in, listed_of};
@@ -34,7 +34,7 @@ impl Batches {
         }
     }
 
-    /// What the out tells of batches.
+    /// Applies an out to the listed batches.
     pub fn tell(&mut self, alloc: Global, told: Told<'_>) -> Result<(), NoMemory>
         ensures { OnOk result (BatchesAfter self.old (out_of told.entry) self.new) }
     {
@@ -66,7 +66,7 @@ impl Batches {
         }
     }
 
-    /// A batch is listed from now on.
+    /// Lists a batch.
     pub fn add(
         &mut self,
         alloc: Global,

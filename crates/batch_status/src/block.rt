@@ -15,7 +15,7 @@ use batch_record::{Claim, PhaseStep, Words, is_plain_place, phase_with, plain_nu
 use batch_text::is_name;
 use std::alloc::Global;
 
-/// What a row of a recovery block tells.
+/// A row of a recovery block.
 #[derive(Clone, Copy)]
 pub enum Row<'a> {
     Batch {
@@ -32,7 +32,7 @@ pub enum Row<'a> {
     },
 }
 
-/// What a line says of recovery blocks.
+/// The meaning of a line for recovery blocks.
 #[derive(Clone, Copy)]
 pub enum Mark<'a> {
     Begins,
@@ -41,7 +41,7 @@ pub enum Mark<'a> {
 }
 
 impl Status {
-    /// What is told with a row of a recovery block more. At Err the row may be told in part.
+    /// Adds a row of a recovery block. At Err the row may be added in part.
     pub(crate) fn list(&mut self, alloc: Global, row: Row<'_>) -> Result<(), NoMemory>
         ensures { OnOk result ((tale : Tale) → Keeps self.old tale → Keeps self.new (tale_with tale (row_told row.entry))) }
     {
@@ -59,7 +59,7 @@ impl Status {
     }
 }
 
-/// What the line says of recovery blocks, or nothing.
+/// The meaning of the line for recovery blocks, or None.
 pub fn read_mark(line: &[u8]) -> Option<Mark<'_>>
     ensures { Gives mark_told result (mark_of line.now) }
 {

@@ -30,7 +30,7 @@ impl From<NoMemory> for LineFault {
     }
 }
 
-/// What a record tells so far, and what a recovery block says that hasn't ended.
+/// The state by a record so far, and that by a recovery block that hasn't ended.
 #[derive(Drop)]
 pub struct Course {
     pub(crate) status: Status,
@@ -48,7 +48,7 @@ impl Course {
         }
     }
 
-    /// Takes a line, which comes without its line feed.
+    /// Reads a line, which comes without its line feed.
     pub fn take(&mut self, alloc: Global, line: &[u8]) -> Result<(), LineFault>
         ensures { Takes self.old line.now result self.new }
     {
@@ -87,7 +87,7 @@ impl Course {
         }
     }
 
-    /// What the block says takes the place of all that was told before.
+    /// The state by the block replaces the one before.
     fn end(&mut self)
         ensures { (stage : Stage) → IsAt self.old stage → IsAt self.new (marked stage (Some ends)) }
     {

@@ -1,16 +1,16 @@
-//! Laws of what a record tells. Nothing runs here: the contracts are the laws.
+//! Laws of the state that a record gives. Nothing runs here: the contracts are the laws.
 ghost use Rattle.batch_model.specs.Runs.{Out};
 ghost use Rattle.std.specs.Prelude.{List};
 ghost use Rattle.batch_status.specs.Promises.{IsAsModelled, LinesTellTheirOuts};
 
-/// The lines that are the texts of outs, whose names are names, tell what these outs tell. Between them may stand lines that are passed
-/// over.
+/// Lines that are the texts of outs, whose names are names, give the same state as these outs. Lines that are passed over may lie
+/// between them.
 // claim: lines tell their outs
 pub fn lines_tell_their_outs()
     ensures { LinesTellTheirOuts }
 {}
 
-/// What is told of holders, waiting acts, live phases and the states of batches is what the definitions of a safe record speak of.
+/// The holders, waiting acts, live phases and states of batches are those in the definitions of a safe record.
 // claim: as modelled
 pub fn tales_are_modelled()
     ensures { (outs : List Out) → IsAsModelled outs }

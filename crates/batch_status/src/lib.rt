@@ -1,4 +1,4 @@
-//! What a record tells of the plant: which batches there are, who holds which resource and who waits for it, and which phases run.
+//! The state of the plant by a record: which batches there are, who holds which resource and who waits for it, and which phases run.
 #![tactic(auto)]
 
 mod batches;

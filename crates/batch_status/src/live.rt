@@ -1,4 +1,4 @@
-//! Live phases and their states, as the lines of a record tell them.
+//! Live phases and their states, by the lines of a record.
 ghost use Rattle.std.specs.Prelude.{◌≡◌, ◌++◌, ◌∷◌, [], filter, map, OnOk};
 ghost use Rattle.batch_model.specs.Records.{ends_phase};
 ghost use Rattle.batch_record.specs.Reading.{out_of, phase_told, report_told, sent_told};
@@ -26,7 +26,7 @@ pub struct LivePhase {
     pub state: State,
 }
 
-/// What brings a live phase into another state.
+/// A change of the state of a live phase.
 #[derive(Clone, Copy)]
 pub(crate) enum Change {
     /// A command was sent to it.
@@ -58,7 +58,7 @@ impl LivePhases {
         self.phases.as_slice()
     }
 
-    /// By unit, then by phase, then as they were started.
+    /// Sorts them by unit, then by phase, then as they were started.
     pub(crate) fn sort(&mut self) -> Result<(), NoMemory>
         ensures sorted { OnOk result (IsSorted live_cmp (lives_of self.new.phases.items)) }
         ensures stable { (unit name : Name) → on_unit unit name (lives_of self.new.phases.items) ≡ on_unit unit name (lives_of self.old.phases.items) }
@@ -69,7 +69,7 @@ impl LivePhases {
         }
     }
 
-    /// What the out tells of live phases.
+    /// Applies an out to the live phases.
     pub fn tell(&mut self, alloc: Global, told: Told<'_>) -> Result<(), NoMemory>
         ensures { OnOk result (LiveAfter self.old.phases.items (out_of told.entry) self.new.phases.items) }
     {
@@ -81,7 +81,7 @@ impl LivePhases {
         }
     }
 
-    /// A phase that runs, in this state.
+    /// Appends a phase that runs, in this state.
     pub fn add(&mut self, alloc: Global, step: PhaseStep<'_>, state: State) -> Result<(), NoMemory>
         ensures { OnOk result (lives_of self.new.phases.items ≡ lives_of self.old.phases.items ++ live_with (phase_told step.entry) state ∷ []) }
     {
@@ -142,7 +142,7 @@ impl LivePhases {
 }
 
 impl LivePhase {
-    /// Where the phase is at the act it goes on in another state.
+    /// If the phase is at the act, it goes on in another state.
     fn change(&mut self, batch: u64, place: &Place, change: Change)
         ensures { self.new ≡ phase_changed (batch, place.now) change self.old }
     {
@@ -160,7 +160,7 @@ fn change_each(phases: &mut [LivePhase], batch: u64, place: &Place, change: Chan
     }
 }
 
-/// How the phases stand to each other by unit and phase.
+/// The order of the phases by unit and phase.
 fn compare(live: &LivePhase, other: &LivePhase) -> Ordering
     ensures { result ≡ live_cmp (live_of live.now) (live_of other.now) }
 {
@@ -186,14 +186,14 @@ fn changed_by(change: Change, now: State) -> State
     }
 }
 
-/// The state to which the command leads, or the same where it isn't accepted.
+/// The state to which the command leads, or the same if it isn't accepted.
 fn led_by(command: Command, now: State) -> State
     ensures { result ≡ led_by command now }
 {
     after(now, command).unwrap_or(now)
 }
 
-/// The state that the report tells of a phase that goes on.
+/// The state of a phase that goes on after the report.
 fn said_by(word: Report, now: State) -> State
     ensures { result ≡ said_by word now }
 {

@@ -11,7 +11,7 @@ use thiserror::Error;
 #[error("out of memory")]
 pub struct NoMemory;
 
-/// The name that a line of a record tells.
+/// The name in a line of a record.
 pub(crate) fn read_name(alloc: Global, bytes: &[u8]) -> Result<Name, NoMemory>
     ensures { IfOk result (λ name. name ≡ bytes.now) }
 {
@@ -21,7 +21,7 @@ pub(crate) fn read_name(alloc: Global, bytes: &[u8]) -> Result<Name, NoMemory>
     }
 }
 
-/// The place that a line of a record tells.
+/// The place in a line of a record.
 pub(crate) fn read_place(alloc: Global, bytes: &[u8]) -> Result<Place, NoMemory>
     ensures { IfOk result (λ place. place ≡ numbers_of bytes.now) }
 {

@@ -27,7 +27,7 @@ pub enum StatusFault {
     /// The reader failed, or calls of it were interrupted until none was left.
     #[error("the record can't be read")]
     Read,
-    /// Every call that the reader may be given gave bytes.
+    /// Each of the calls that the reader is allowed gave bytes.
     #[error("the record was read as often as it may be")]
     TooManyReads,
     /// Memory was refused.
@@ -43,7 +43,7 @@ impl From<NoMemory> for StatusFault {
     }
 }
 
-/// What was read: whole lines, and the beginning of the line after them.
+/// A reading in progress: the whole lines so far, and the beginning of the line after them.
 #[derive(Drop)]
 pub struct Reading {
     pub(crate) course: Course,
@@ -51,8 +51,8 @@ pub struct Reading {
     pub(crate) count: u64,
 }
 
-/// Reads a record to its end, in at most so many calls of the reader, and answers what it tells. A last line without its line feed is
-/// left out.
+/// Reads a record to its end, in at most so many calls of the reader, and returns the state that it gives. A last line without its
+/// line feed is left out.
 pub fn read_status<R: Read>(
     alloc: Global,
     reader: &mut R,
@@ -92,7 +92,7 @@ impl Reading {
         }
     }
 
-    /// Takes the next bytes, and each line that is whole now.
+    /// Reads the next bytes, and each line that they end.
     fn feed(&mut self, alloc: Global, piece: &[u8]) -> Result<(), StatusFault>
         ensures { Feeds self.old piece.now result self.new }
     {
@@ -104,7 +104,7 @@ impl Reading {
         Ok(put(&mut self.line, rest)?)
     }
 
-    /// Takes the line that ends with these bytes, and begins the next one.
+    /// Reads the line that ends with these bytes, and begins the next one.
     fn end_line(&mut self, alloc: Global, end: &[u8]) -> Result<(), StatusFault>
         ensures { Ends self.old end.now result self.new }
     {
@@ -121,7 +121,7 @@ impl Reading {
     }
 }
 
-/// Where the first line feed stands.
+/// The position of the first line feed.
 fn line_feed(bytes: &[u8]) -> Option<usize>
     ensures { MatchOption result (HasNoFeed bytes.now) (λ at. EndsLine at bytes.now) }
 {

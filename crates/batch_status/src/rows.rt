@@ -1,4 +1,4 @@
-//! Records, worked out. The function is empty: its contract is what their lines tell.
+//! Records, worked out. The functions are empty: their contracts are the states that the lines give.
 ghost use Rattle.batch_status.specs.RowsOfStatus.{ArePassedOver, HasStopped, HoldsAtTheOther, IsBrokenOff, IsElsewhere, IsHeld, IsHolding, IsRestarting, NoRecord, Removed, Rests, Runs, StopsWaiting, TakesThePlace, TellsNothingYet, Waits};
 
 // claim: worked records

@@ -1,4 +1,4 @@
-//! Shares of resources that stand, as the lines of a record tell them.
+//! The standing shares of resources, by the lines of a record.
 ghost use Rattle.std.specs.Prelude.{◌≡◌, ◌++◌, ◌∷◌, [], filter, not, nat_eq, OnOk, OnErr};
 ghost use Rattle.std.specs.List.Sorted.{IsSorted};
 ghost use Rattle.batch_recipe.specs.Conditions.{Name};
@@ -46,7 +46,7 @@ impl Standing {
         self.shares.as_slice()
     }
 
-    /// By resource, then by the batch's number, then by place.
+    /// Sorts them by resource, then by the batch's number, then by place.
     pub(crate) fn sort_as_holders(&mut self) -> Result<(), NoMemory>
         ensures sorted { OnOk result (IsSorted holder_cmp (claims_of self.new.shares.items)) }
         ensures stable { (resource : Name) (act : BatchAct) → of_act act (shares_of resource self.new.shares.items)
@@ -61,7 +61,7 @@ impl Standing {
         }
     }
 
-    /// By resource, then as they came.
+    /// Sorts them by resource, then as they came.
     pub(crate) fn sort_as_waiters(&mut self) -> Result<(), NoMemory>
         ensures sorted { OnOk result (IsSorted waiter_cmp (claims_of self.new.shares.items)) }
         ensures stable { (resource : Name) → shares_of resource self.new.shares.items ≡ shares_of resource self.old.shares.items }
@@ -116,7 +116,7 @@ impl Standing {
 }
 
 impl Standing {
-    /// What the out tells of those that hold.
+    /// Applies an out to the shares of holders.
     pub fn tell_holders(&mut self, alloc: Global, told: Told<'_>) -> Result<(), NoMemory>
         ensures ok { OnOk result (HoldersAfter self.old.shares.items (out_of told.entry) self.new.shares.items) }
         ensures err { OnErr result (self.new.shares.items ≡ self.old.shares.items) }
@@ -129,7 +129,7 @@ impl Standing {
         }
     }
 
-    /// What the out tells of those that wait.
+    /// Applies an out to the shares of waiting acts.
     pub fn tell_waiters(&mut self, alloc: Global, told: Told<'_>) -> Result<(), NoMemory>
         ensures ok { OnOk result (WaitersAfter self.old.shares.items (out_of told.entry) self.new.shares.items) }
         ensures err { OnErr result (self.new.shares.items ≡ self.old.shares.items) }
@@ -145,7 +145,7 @@ impl Standing {
         }
     }
 
-    /// Where the command ends the asks of its batch they leave.
+    /// If the command ends the asks of its batch, they leave.
     fn told_order(&mut self, command: Command, batch: u64)
         ensures { LeavesAt command batch self.old.shares.items self.new.shares.items }
     {

@@ -1,4 +1,4 @@
-//! All that a record tells.
+//! The whole state that a record gives.
 ghost use Rattle.std.specs.Prelude.{OnOk};
 ghost use Rattle.batch_record.specs.Reading.{out_of};
 ghost use Rattle.batch_status.specs.Kept.{Keeps};
@@ -11,8 +11,8 @@ use crate::standing::Standing;
 use batch_record::Told;
 use std::alloc::Global;
 
-/// Which batches there are, who holds and who waits, and which phases are live. It takes memory for what stands, and none for what
-/// has been.
+/// Which batches there are, who holds and who waits, and which phases are live. It takes memory for the present state, and none for
+/// the past.
 #[derive(Drop)]
 pub struct Status {
     pub(crate) batches: Batches,
@@ -22,7 +22,7 @@ pub struct Status {
 }
 
 impl Status {
-    /// What a record without a line tells.
+    /// The state by a record without a line.
     pub fn new(alloc: Global) -> Status
         ensures { Keeps result silence }
     {
@@ -34,7 +34,7 @@ impl Status {
         }
     }
 
-    /// What the record tells with one out more. At Err the out may be told in part, and the record must be read anew.
+    /// Applies one out more. At Err the out may be applied in part, and the record must be read anew.
     // claim: told out by out
     pub fn tell(&mut self, alloc: Global, told: Told<'_>) -> Result<(), NoMemory>
         ensures { OnOk result ((tale : Tale) → Keeps self.old tale → Keeps self.new (tale_after tale (out_of told.entry))) }

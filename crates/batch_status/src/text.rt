@@ -1,4 +1,4 @@
-//! The lines of what a record tells.
+//! The lines of the state that a record gives.
 ghost use Rattle.std.specs.Prelude.{◌≡◌, ◌++◌, ◌∷◌, [], IfOk, OnOk, codes, decimal, map};
 ghost use Rattle.std.specs.List.Sorted.{IsStrictlySortedBy};
 ghost use Rattle.std.specs.Map.{keys_of};
@@ -20,8 +20,8 @@ use itoa::Buffer;
 use std::alloc::Global;
 
 impl Status {
-    /// The lines of what the record tells, each behind the mark: batches by number, holders by resource, number and place, those that
-    /// wait by resource and then in order of asking, live phases by unit and phase.
+    /// The lines of the state, each after the mark: batches by number, holders by resource, number and place, waiting acts by
+    /// resource and then in order of asking, live phases by unit and phase.
     // claim: lines of the state
     pub fn text(mut self, alloc: Global, mark: &[u8]) -> Result<Vec<u8>, NoMemory>
         ensures { IfOk result (λ text. (tale : Tale) → Keeps self tale → IsTextOf tale mark.now text.items) }
@@ -144,7 +144,7 @@ fn put_phase(
     )
 }
 
-/// The mark, the words with one space between, and a line feed.
+/// Appends the mark, the words with one space between, and a line feed.
 fn put_line(text: &mut Vec<u8>, mark: &[u8], words: &[&[u8]]) -> Result<(), NoMemory>
     ensures { OnOk result (text.new.items ≡ text.old.items ++ (mark.now ++ line_text (map (λ word. word.now) words.now))) }
 {
@@ -195,7 +195,7 @@ fn put_number(text: &mut Vec<u8>, number: u16) -> Result<(), NoMemory>
     put(text, digits.format(number).as_bytes())
 }
 
-/// Adds the bytes.
+/// Appends the bytes.
 pub(crate) fn put(text: &mut Vec<u8>, bytes: &[u8]) -> Result<(), NoMemory>
     ensures { OnOk result (text.new.items ≡ text.old.items ++ bytes.now) }
 {

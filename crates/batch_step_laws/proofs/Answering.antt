@@ -29,7 +29,7 @@ use Rattle.batch_step_laws.proofs.Leaving.{HasBegun, begun-busy, settled-none}
 
 -- One batch
 
--- where nothing is held in advance, nothing of it is awaited
+-- if nothing is held in advance, nothing of it is awaited
 none-awaited : (r : Rest) (xs : List InAdvance) → xs ≡ [] → Each (λ held. IsAwaited r held.place) xs
 none-awaited r xs e = subst (Each (λ held. IsAwaited r held.place)) (sym e) tt
 
@@ -244,7 +244,7 @@ module _ (c : Setup) (s : Plant) (k : IsStanding c s) (none : (b : Batch) → Ha
       go (Some l) e =
           let found = live_phase-found s.batches unit name l e in reporting-stands unit name word (outputs_of word outputs) l found.0 found.1
 
--- a plant that stands does so after each event, which comes only where no move is possible
+-- a plant that stands does so after each event, which comes only if no move is possible
 pub react-stands : (c : Setup) → HasPlacedTrees c → (s : Plant) → IsStanding c s → (e : Event) → IsStanding c (react c s e).1
 react-stands c placed s k e = go (next c s) refl
   where

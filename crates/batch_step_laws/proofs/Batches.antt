@@ -23,7 +23,7 @@ only-other n f b d = grind (arith, same-number)
 only-number : (n : ℕ) (f : Batch → Batch) (b : Batch) → ((d : Batch) → (f d).number ≡ d.number) → (only n f b).number ≡ b.number
 only-number n f b h = grind arith
 
--- what the change keeps holds of all batches after it
+-- a property that the change keeps holds of all batches after it
 pub Each-only : (P : Batch → Type 0) (n : ℕ) (f : Batch → Batch) (bs : List Batch) → ((b : Batch) → Has bs b → b.number ≡ n → P b → P (f b)) → Each P bs
     → Each P (map (only n f) bs)
 Each-only P n f [] h k = tt

@@ -41,7 +41,7 @@ module _ (x y : State) (no_more : (n : ℕ) → ahead y n ≤ ahead x n) where
           calmer_each rs (λ s p t i. h s p t (Has-right (acts r) (acts_of_each rs) (live s p t) i)),
         )
 
--- what holds of the states of all live phases holds of each
+-- a test that holds of the states of all live phases holds of each
 live-all : (test : State → Bool) (as' : List Rest) → list_all test (phase_states as') ≡ true → (s : Step) (p : Phase) (t : State) → Has as' (live s p t) → test t ≡ true
 live-all test [] e s p t h = absurd h
 live-all test (live u q y ∷ more) e s p t (inl f) = let same : y ≡ t = cc in ap test (sym same) ∙ (and_parts (test y) (list_all test (phase_states more)) e).0

@@ -1,4 +1,4 @@
--- A change of the act at one place keeps what remains standing, and lowers the work left where it lowers that act's.
+-- A change of the act at one place keeps a rest a possible one, and lowers the work left if it lowers that act's.
 use Rattle.std.proofs.Common.{◌≡◌, refl, sym, ◌∙◌, ap, subst, Bool, true, false, List, [], ◌∷◌, ◌++◌, arith, inl, inr, ◌<◌, ◌≤◌, ◌+◌}
 use Rattle.std.specs.Prelude.{◌⊎◌}
 use Rattle.std.proofs.lemmas.Slice.Eq.{bytes_eq-Decides}
@@ -16,7 +16,7 @@ pub same_test : (q p : Place) → q ≡ p → same_place q p ≡ true
 same_test q p e = (bytes_eq-Decides q p).1 e
 
 module _ (x : State) (p : Place) (f : Rest → Rest) where
-  -- f adds no work to the act a, where a stands at the place
+  -- f adds no work to the act a, if a is at the place
   abbrev Eases : Rest → Type 0
   Eases a = place_of a ≡ p → toil_left x (f a) ≤ toil_left x a
 
@@ -48,7 +48,7 @@ module _ (x : State) (p : Place) (f : Rest → Rest) where
           changed_in_each-toil rs (λ a m. h a (Has-right (acts r) (acts_of_each rs) a m)),
         )
 
-  -- f takes work from the act a, where a stands at the place
+  -- f takes work from the act a, if a is at the place
   abbrev Lowers : Rest → Type 0
   Lowers a = place_of a ≡ p → toil_left x (f a) < toil_left x a
 
@@ -101,7 +101,7 @@ module _ (x : State) (p : Place) (f : Rest → Rest) where
       omega (arith, others m, changed_at-toil r (λ a q. to-Eases a (h a (Has-left (acts r) (acts_of_each rs) a q))))
 
   mutual
-    -- a change that takes work from each act at its place takes some from the whole, where an act stands there
+    -- a change that takes work from each act at its place takes some from the whole, if an act is there
     pub changed_at-lower : (r : Rest) → ((a : Rest) → Has (acts r) a → Lowers a) → HasAt (acts r) → toil_left x (changed_at p f r) < toil_left x r
     changed_at-lower (ready s w k) h m = let e : s.place ≡ p = at_one (ready s w k) m in lowered (ready s w k) (ready s w k) s.place e (h (ready s w k) (inl refl) e)
     changed_at-lower (asking s w k) h m = let e : s.place ≡ p = at_one (asking s w k) m in lowered (asking s w k) (asking s w k) s.place e (h (asking s w k) (inl refl) e)

@@ -50,7 +50,7 @@ pub batch-rises : (c : Setup) (b : Batch) → HasPlacedTrees c → IsStandingBat
 batch-rises c b placed k =
     acts-rise (0 ∷ []) b.recipe.procedure b.rest (placed b.recipe k.known) k.stands
 
--- what is passed on changes neither the batch's state nor its rest
+-- a unit that is passed on changes neither the batch's state nor its rest
 pub same-rest : (m : Move) (b : Batch) → (passing m b).rest ≡ b.rest
 same-rest m b = grind arith
 

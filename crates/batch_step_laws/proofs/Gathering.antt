@@ -1,4 +1,4 @@
--- What is gathered over the acts of a rest stays the same when the rest advances.
+-- The list that is gathered over the acts of a rest stays the same when the rest advances.
 use Rattle.std.proofs.Common.{arith, ◌≡◌, refl, sym, ◌∙◌, ap, ℕ, zero, suc, pred, List, [], ◌∷◌, ◌++◌, Bool, true, false}
 use Rattle.std.specs.Prelude.{flat_map}
 use Rattle.std.proofs.lemmas.Grind.{flat_map-append}
@@ -99,7 +99,7 @@ module _ {X : Type 0} (g : Rest → List X) (mo : Moment) (new : (s : Step) (w :
           ∙ ap (flat_map g) (sym (no-acts_of_done r e))
 
   mutual
-    -- a rest that advances gains and loses nothing of what is gathered
+    -- the list that is gathered over a rest stays the same when the rest advances
     pub advance-gathered : (r : Rest) → gathered (advance mo r) ≡ gathered r
     advance-gathered (ready s w k) = refl
     advance-gathered (asking s w k) = refl
@@ -119,7 +119,7 @@ module _ {X : Type 0} (g : Rest → List X) (mo : Moment) (new : (s : Step) (w :
         ∙ ap (λ xs. flat_map g (acts r) ++ xs) (advance_each-gathered rs)
         ∙ sym (flat_map-append g (acts r) (acts_of_each rs))
 
--- where nothing is held in advance, an act that has just been reached holds nothing
+-- if nothing is held in advance, an act that has just been reached holds nothing
 none-early : (mo : Moment) → mo.early ≡ [] → (s : Step) (w : Task) → held_by (ready s w (held_early mo.early s)) ≡ []
 none-early mo none s w = ap (λ early. held_by (ready s w (held_early early s))) none
 

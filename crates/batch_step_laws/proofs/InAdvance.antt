@@ -1,4 +1,4 @@
--- What is held in advance is due until its chart is reached, and what is due has a move before it.
+-- A unit procedure that holds a unit in advance is due until its chart is reached, and a due one has a move before it.
 use Rattle.std.proofs.Common.{◌≡◌, ◌⊎◌, refl, sym, ◌∙◌, ap, subst, ℕ, zero, suc, ◌+◌, ◌<◌, ◌≤◌, length, List, [], ◌∷◌, ◌++◌, Bool, true, false, Some, None, arith, inl, inr, append-nil}
 use Rattle.std.specs.Prelude.{Option, find, pred, option_map}
 use Rattle.std.proofs.lemmas.List.{append_assoc}
@@ -54,7 +54,7 @@ right-stands : (xs ys : List Rest) (p : Place) → StandsAt ys p → StandsAt (x
 right-stands xs ys p h = (h.0, Has-right xs ys h.0 h.1, h.2)
 
 mutual
-  -- what comes first in a chart is reached with it
+  -- the first unit procedures of a chart are reached with it
   firsts-reached : (mo : Moment) (c : Tree) (f : Follower) → Has (firsts c) f → StandsAt (acts (reach mo c)) f.1
   firsts-reached mo (act s (runs x)) f h = absurd h
   firsts-reached mo (act s (follows name c)) f (inl e) = (reach mo (act s (follows name c)), inl refl, ap (λ g. g.1) e)
@@ -90,7 +90,7 @@ each-done-due level no_rests e = refl
 each-done-due level (rest done rs) e = each-done-due level rs e
 each-done-due level (rest r rs) e = absurd (grind arith)
 
--- where the rest has gone on, the unit procedure is reached, or still due
+-- once the rest has gone on, the unit procedure is reached, or still due
 abbrev IsNext : Level → List Follower → Rest → Follower → Type 0
 IsNext level next r f = StandsAt (acts r) f.1 ⊎ Has (due level next r) f
 
@@ -136,7 +136,7 @@ module _ (mo : Moment) where
           ]
 
   mutual
-    -- what is due is reached, or still due, once a rest has advanced
+    -- a due follower is reached, or still due, once a rest has advanced
     pub advance-next : (level : Level) (next : List Follower) (r : Rest) (f : Follower) → Has (due level next r) f → IsNext level next (advance mo r) f
     advance-next level next (ready s w k) f h = absurd h
     advance-next level next (asking s w k) f h = absurd h
@@ -169,7 +169,7 @@ module _ (mo : Moment) where
 -- Changes at a place
 
 module _ (p : Place) (g : Rest → Rest) (f : Follower) where
-  -- what is due stays so where the acts of the list at the place are changed
+  -- the follower, if due, stays so when the acts of the list at the place are changed
   abbrev pub KeepsDue : List Rest → Type 0
   KeepsDue as' = (a : Rest) → Has as' a → place_of a ≡ p → (level : Level) (next : List Follower) → Has (due level next a) f → Has (due level next (g a)) f
 
@@ -208,9 +208,9 @@ module _ (p : Place) (g : Rest → Rest) (f : Follower) where
               (changed_in_each-due level rs (λ a i. keep a (Has-right (acts r) (acts_of_each rs) a i)) k)
         ]
 
--- What follows an act that is freeing
+-- The followers of an act that is freeing
 
--- where it stands below the place of the tree, and what follows it there is due
+-- the place of the act below that of the tree; its followers there are due
 pub record Leaves (level : Level) (next : List Follower) (base : Place) (c : Tree) (r : Rest) (s : Step) (k : ℕ) : Type 0 where
   pub below : Place
   pub place : s.place ≡ base ++ below
@@ -218,7 +218,7 @@ pub record Leaves (level : Level) (next : List Follower) (base : Place) (c : Tre
   pub within : k ≤ length s.needs
   pub follow : (f : Follower) → Has (following_below level next c below) f → Has (due level next r) f
 
--- the same below a child with this number or a later one, of which `tree_at` gives the trees and `next_at` what follows them
+-- the same below a child with this number or a later one, of which `tree_at` gives the trees and `next_at` the followers
 pub record LeavesBranch (level : Level) (tree_at : ℕ → Option Tree) (next_at : ℕ → List Follower) (base : Place) (i : ℕ) (coming : List Follower) (s : Step) (k : ℕ) : Type 0 where
   pub number : ℕ
   pub below : Place
@@ -352,7 +352,7 @@ module _ (s : Step) (k : ℕ) where
     leaves_chosen level next base i (choice q c ch) r l (inr h) m =
         at_later level (choice_at (choice q c ch)) (λ n. next) base i (due level next r) s k (leaves_chosen level next base (i + 1) ch r l.1 h m)
 
--- what is found in a list is in it
+-- a follower that is found in a list is in it
 found-follower : (fs : List Follower) (name : Name) (to : Place) → option_map (λ (f : Follower). f.1) (find (λ (f : Follower). same_name f.0 name) fs) ≡ Some to
     → (f : Follower) × Has fs f × (f.1 ≡ to)
 found-follower fs name to e = go (find (λ (f : Follower). same_name f.0 name) fs) refl e
@@ -362,7 +362,7 @@ found-follower fs name to e = go (find (λ (f : Follower). same_name f.0 name) f
     go None h k = absurd cc
     go (Some f) h k = (f, find-Has (λ (g : Follower). same_name g.0 name) fs f h, cc)
 
--- where a unit procedure stands that follows an act which is freeing, it is due
+-- a unit procedure that follows an act that is freeing is due
 pub follower-due : (c : Tree) (r : Rest) (s : Step) (k : ℕ) (name : Name) (to : Place) → IsPlaced (0 ∷ []) c → IsRestOf c r → Has (acts r) (freeing s k)
     → follower c s.place name ≡ Some to → IsAwaited r to
 follower-due c r s k name to l h i is =
@@ -371,7 +371,7 @@ follower-due c r s k name to l h i is =
     let found = found-follower (following_below is_procedure [] c m.below) name to at in
     (found.0.0, subst (λ p. Has (due is_procedure [] r) (found.0.0, p)) found.2 (m.follow found.0 found.1))
 
--- Who has a move
+-- Acts that have a move
 
 -- an act that is freeing, or open with nothing left in its chart
 abbrev pub IsLeaving : Rest → Type 0
@@ -383,7 +383,7 @@ abbrev pub HasLeaving : List Rest → Type 0
 HasLeaving reached = (a : Rest) × Has reached a × IsLeaving a
 
 mutual
-  -- where something is due, some act leaves its place, or the rest is finished
+  -- if something is due, some act leaves its place, or the rest is finished
   leaving : (level : Level) (next : List Follower) (r : Rest) (f : Follower) → IsAdvanced r → Has (due level next r) f → (is_done r ≡ true) ⊎ HasLeaving (acts r)
   leaving level next (ready s w k) f h i = absurd i
   leaving level next (asking s w k) f h i = absurd i

@@ -18,7 +18,7 @@ use Rattle.batch_step_laws.proofs.Standing.{reach-IsRestOf}
 abbrev pub RemainsAs : Rest → Rest → Type 0
 RemainsAs a b = (s : Step) (w : Task) → IsRestOf (act s w) a → IsRestOf (act s w) b
 
--- What moves and reports make of an act
+-- The effect of moves and reports on an act
 
 pub freed-remains : (t : Step) (k : ℕ) (s : Step) (w : Task) → t ≡ s → k ≤ length t.needs → IsRestOf (act s w) (freed t k)
 freed-remains t zero s w e h = tt
@@ -72,7 +72,7 @@ begun-remains mo t (follows name c) k s w h = (h.0, subst (λ z. IsRestBelow z (
 -- A change at a place
 
 module _ (p : Place) (f : Rest → Rest) where
-  -- the acts of the list that stand at the place remain what they may be
+  -- the change leaves each act of the list at the place a possible rest of its node
   abbrev pub KeepsActs : List Rest → Type 0
   KeepsActs as' = (a : Rest) → Has as' a → place_of a ≡ p → RemainsAs a (f a)
 
@@ -125,7 +125,7 @@ module _ (p : Place) (f : Rest → Rest) where
 -- Withdrawn asks
 
 mutual
-  -- what remains of a chart still does without its asks
+  -- a rest of a chart is still one without its asks
   pub withdrawn-IsRestOf : (c : Tree) (r : Rest) → IsRestOf c r → IsRestOf c (withdrawn r)
   withdrawn-IsRestOf (act s w) (ready t v k) h = h
   withdrawn-IsRestOf (act s w) (asking t v k) h = (h.0, h.1, omega (arith, h.2))

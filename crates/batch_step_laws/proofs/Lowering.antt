@@ -1,4 +1,4 @@
--- Each move of an act takes some of that act's work, and leaves what can remain at its node.
+-- Each move of an act takes some of that act's work, and leaves a possible rest of its node.
 use Rattle.std.proofs.Common.{◌≡◌, refl, sym, ap, subst, ℕ, zero, suc, pred, Bool, true, false, Some, None, arith, [], ◌<◌, ◌≤◌, ◌+◌, ◌-◌, ◌*◌, length}
 use Rattle.std.specs.Prelude.{Option, List, find, nat_eq, option_and_then, slice_get, ◌&&◌, ◌||◌, not, ⊤}
 use Rattle.batch_recipe.specs.Conditions.{Name}
@@ -21,7 +21,7 @@ use Rattle.batch_step_laws.proofs.Work.{going, going_no_further, reach-toil}
 use Rattle.batch_step_laws.proofs.Keeping.{RemainsAs, sent-remains, released-remains, ended-remains, begun-remains}
 use Rattle.batch_recipe.specs.declared.need.Need.{Need}
 
--- what is due where the act stands stays so
+-- the followers that are due at the act stay so
 abbrev pub DueStays : Rest → Rest → Type 0
 DueStays a after = (level : Level) (next : List Follower) (f : Follower) → Has (due level next a) f → Has (due level next after) f
 
@@ -38,7 +38,7 @@ pub record IsMoveOf (b : Batch) (a : Rest) (m : Move) : Type 0 where
   pub changes : batch_after m b ≡ in_act (place_of_move m) (act_after (moment_of b) m) (passing m b)
   pub lowers : toil_left b.state (act_after (moment_of b) m a) < toil_left b.state a
   pub remains : RemainsAs a (act_after (moment_of b) m a)
-  -- a unit is passed only where the batch goes on
+  -- a unit is passed only if the batch goes on
   pub passes : goes_on b.state ≡ false → passing m b ≡ b
   pub coming : IsComing b a m
   pub due_stays : goes_on b.state ≡ true → DueStays a (act_after (moment_of b) m a)
@@ -62,7 +62,7 @@ running-goes_on x e = grind arith
 pub stopping-goes_no_further : (x : State) (quiet : Bool) → (is_stopping x && quiet) ≡ true → goes_on x ≡ false
 stopping-goes_no_further x quiet e = grind arith
 
--- What is due
+-- Due followers
 
 freed-due : (s : Step) (k n : ℕ) → DueStays (freeing s k) (freed s n)
 freed-due s k zero level next f h = h

@@ -26,7 +26,7 @@ use Rattle.batch_step_laws.proofs.Calming.{IsStateMove, state_move-is}
 use Rattle.batch_step_laws.proofs.Batches.{Each-only, AreNumbered-only, one_batch}
 use Rattle.batch_step_laws.proofs.Falling.{one_act, same-rest, same-state, batch-rises, Has-batch_moves, batch_moves-number}
 
--- what is due where an act stands stays so once it is changed
+-- the follower, if due at an act, stays so once the act is changed
 abbrev DueStaysFor : Follower → Rest → Rest → Type 0
 DueStaysFor fo a after = (level : Level) (next : List Follower) → Has (due level next a) fo → Has (due level next after) fo
 
@@ -46,7 +46,7 @@ stands-reached r p h = go (acts r) h.1
 abbrev IsNextIn : Rest → Place → Type 0
 IsNextIn r p = StandsAt (acts r) p ⊎ IsAwaited r p
 
--- what is held in advance and not reached is still held, and due
+-- a place that holds in advance and isn't reached still does so, and is due
 still-awaited : (r : Rest) (xs : List InAdvance) → ((held : InAdvance) → Has xs held → IsNextIn r held.place)
     → Each (λ held. IsAwaited r held.place) (filter (λ held. not (is_reached r held.place)) xs)
 still-awaited r [] h = tt
@@ -58,7 +58,7 @@ still-awaited r (held ∷ xs) h = go (is_reached r held.place) refl (still-await
     go false e more =
         (elim (h held (inl refl)) [ inl stands ↦ absurd (let told = stands-reached r held.place stands in cc) | inr due ↦ due ], more)
 
--- a change of acts that may remain leaves a standing batch, where what is due stays so
+-- a batch still stands after a change that keeps its acts possible rests and its due followers due
 pub in_act-stands : (c : Setup) (b : Batch) (p : Place) (f : Rest → Rest) → IsStandingBatch c b → KeepsActs p f (acts b.rest)
     → ((held : InAdvance) → Has b.in_advance held → (name : Name) → KeepsDue p f (name, held.place) (acts b.rest)) → is_resting b.state ≡ false → IsStandingBatch c (in_act p f b)
 in_act-stands c b p f k keep keep_due busy =
@@ -77,7 +77,7 @@ in_act-stands c b p f k keep keep_due busy =
       unbegun = λ e. absurd cc;
     }
 
--- a batch that holds in advance as well what a move passes on
+-- a batch that holds in advance also the unit that a move passes on
 passing-stands : (c : Setup) (b : Batch) (a : Rest) (m : Move) → IsPlaced (0 ∷ []) b.recipe.procedure → IsStandingBatch c b → Has (acts b.rest) a → IsMoveOf b a m
     → IsStandingBatch c (passing m b)
 passing-stands c b a (pass number place to need) placed k h t =

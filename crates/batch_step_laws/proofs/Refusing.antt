@@ -1,4 +1,4 @@
--- A refused event leaves the plant as it was, and some refusals come only where they have a cause.
+-- A refused event leaves the plant as it was, and some refusals come only if they have a cause.
 use Rattle.std.proofs.Common.{◌≡◌, ◌⊎◌, refl, sym, subst, ℕ, ◌<◌, ◌≤◌, arith, length, Bool, true, false, ◌||◌, ◌&&◌, ◌++◌, nat_le, nat_lt, Some, None, inl, inr, List, [], ◌∷◌, ap, cond}
 use Rattle.std.specs.Prelude.{Option, find, not, ⊤}
 use Rattle.std.specs.List.{list_all}

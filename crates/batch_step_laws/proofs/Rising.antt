@@ -94,7 +94,7 @@ mutual
 before-under : (s t : Step) (p : Place) (b : Rest) → t ≡ s → s.place ≡ p → IsUnder (child p 0) b → is_before t.place (place_of b) ≡ true
 before-under s t p b e f h = grind (arith, append_assoc p (0 ∷ []) h.0, before-below p h.0 0)
 
--- what stands in a branch comes before what stands in a later one
+-- an act in a branch comes before an act in a later one
 before-later : (p : Place) (i : ℕ) (a b : Rest) → IsUnder (child p i) a → IsUnderFrom p (i + 1) b → Before a b
 before-later p i a b h k =
     ap (λ q. is_before q (place_of b)) (h.1 ∙ append_assoc p (i ∷ []) h.0)
@@ -102,7 +102,7 @@ before-later p i a b h k =
     ∙ before-sibling p h.0 k.1 i k.0 (omega (arith, k.2))
 
 mutual
-  -- the acts of what remains of a placed chart rise
+  -- the acts of a rest of a placed chart rise
   pub acts-rise : (p : Place) (c : Tree) (r : Rest) → IsPlaced p c → IsRestOf c r → Rises (acts r)
   acts-rise p (act s w) (ready t v k) l h = (tt, tt)
   acts-rise p (act s w) (asking t v k) l h = (tt, tt)

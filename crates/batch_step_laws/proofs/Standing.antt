@@ -37,7 +37,7 @@ turning-IsRestOf n m c body r lt h = go (is_done r)
     go true = tt
     go false = (lt, refl, refl, h)
 
--- what remains of later branches remains of all
+-- a rest of the later branches is one of all
 later : (c : Tree) (cs : Trees) (r : Rest) → IsRestOf (seq cs) r → IsRestOf (seq (tree c cs)) r
 later c cs done h = tt
 later c cs (in_seq r ds) h = inr h
@@ -121,7 +121,7 @@ subst₂-loop mo n m c d body b r e f h =
     subst (λ x. IsRestOf (loop n c body) (turned mo m x b r)) (sym e) (subst (λ x. IsRestOf (loop n c body) (turned mo m c x r)) (sym f) h)
 
 mutual
-  -- what remains of a chart still does when it has advanced
+  -- a rest of a chart is still one when it has advanced
   pub advance-IsRestOf : (mo : Moment) (c : Tree) (r : Rest) → IsRestOf c r → IsRestOf c (advance mo r)
   advance-IsRestOf mo (act s w) (ready u v k) h = h
   advance-IsRestOf mo (act s w) (asking u v k) h = h

@@ -1,4 +1,4 @@
--- What a record tells changes by its last line alone.
+-- The holders, the waiters, the active phases and the states that a record tells change by its last line alone.
 use Rattle.std.proofs.Common.{◌≡◌, ℕ, List, [], ◌∷◌, ◌++◌, None}
 use Rattle.std.proofs.lemmas.List.Sums.{fold-append}
 use Rattle.batch_recipe.specs.Conditions.{Name}

@@ -8,7 +8,7 @@ use Rattle.batch_model.specs.Rest.{Rest, Moment, held_early, open_act, in_seq, i
 use Rattle.batch_step_laws.proofs.Standing.{early-within}
 use Rattle.batch_model.specs.Runs.{toil, toil_of_work, toil_of_each, toil_of_choices, goes_on, ahead, toil_left, toil_left_in_each}
 
--- What lies ahead
+-- The moves that lie ahead
 
 pub ahead-sum : (x : State) (m n : ℕ) → ahead x (m + n) ≡ ahead x m + ahead x n
 ahead-sum x m n = grind arith
@@ -40,7 +40,7 @@ in_order-toil x r after cs h = grind arith
 either-toil : (x : State) (b : Bool) (q r : Rest) (m n : ℕ) → toil_left x q ≤ m → toil_left x r ≤ n → toil_left x (elim b [ true ↦ q | false ↦ r ]) ≤ m + n
 either-toil x b q r m n h k = grind arith
 
--- an act that is just reached takes no more moves where it holds its unit, as it may where the batch goes on
+-- an act that is just reached takes no more moves if it holds its unit, as it may if the batch goes on
 early-toil : (x : State) (n k t : ℕ) → (goes_on x ≡ false → k ≡ 0) → k ≤ n → k + ahead x (3 * (n - k) + t) ≤ ahead x (3 * n + t)
 early-toil x n k t none within = go (goes_on x) refl
   where
@@ -51,7 +51,7 @@ early-toil x n k t none within = go (goes_on x) refl
 -- a batch that goes no further holds nothing in advance
 module _ (x : State) (mo : Moment) (calm : goes_on x ≡ false → mo.early ≡ []) where
   mutual
-    -- what has just been reached can take no more moves than its chart
+    -- the rest of a chart that has just been reached has no more moves left than the chart
     pub reach-toil : (c : Tree) → toil_left x (reach mo c) ≤ ahead x (toil c)
     reach-toil (act s w) =
         early-toil x (length s.needs) (held_early mo.early s) (toil_of_work w) (λ e. ap (λ early. held_early early s) (calm e)) (early-within mo.early s)

@@ -20,7 +20,7 @@ use Rattle.batch_model.specs.Standing.{is_resting, IsRestOf, HasPlacedTrees, IsS
 use Rattle.batch_model.specs.Placed.{IsPlaced, Rises}
 use Rattle.batch_model.specs.declared.limits.TheConstants.{LAST_NUMBER}
 
--- What remains
+-- Rests
 
 -- each act of a recipe's expanded tree carries the place at which it stands, whatever units take its roles
 abbrev pub TreesArePlaced : Type 0
@@ -41,7 +41,8 @@ ReachesFully = (moment : Moment) (chart : Tree) → IsAdvanced (reach moment cha
 abbrev pub AdvancesFully : Type 0
 AdvancesFully = (moment : Moment) (rest : Rest) → IsAdvanced (advance moment rest)
 
--- what is reached of a chart can remain of it, and still can when it has advanced or its asks are withdrawn
+-- the rest of a chart that has just been reached is a possible one, and a possible rest stays one once it has advanced or its asks are
+-- withdrawn
 abbrev pub ReachingStands : Type 0
 ReachingStands = (moment : Moment) (chart : Tree) → IsRestOf chart (reach moment chart)
 
@@ -51,21 +52,21 @@ AdvancingStands = (moment : Moment) (chart : Tree) (rest : Rest) → IsRestOf ch
 abbrev pub WithdrawingStands : Type 0
 WithdrawingStands = (chart : Tree) (rest : Rest) → IsRestOf chart rest → IsRestOf chart (withdrawn rest)
 
--- where nothing is held in advance, what has just been reached holds nothing, and advancing takes and gives back nothing
+-- if nothing is held in advance, a chart that has just been reached holds nothing, and advancing takes and gives back nothing
 abbrev pub ReachingHoldsNothing : Type 0
 ReachingHoldsNothing = (moment : Moment) (chart : Tree) → moment.early ≡ [] → held_in (reach moment chart) ≡ []
 
 abbrev pub AdvancingHoldsTheSame : Type 0
 AdvancingHoldsTheSame = (moment : Moment) (rest : Rest) → moment.early ≡ [] → held_in (advance moment rest) ≡ held_in rest
 
--- what has just been reached runs no phase, and advancing changes the states of none
+-- a chart that has just been reached runs no phase, and advancing changes the states of none
 abbrev pub ReachingRunsNoPhase : Type 0
 ReachingRunsNoPhase = (moment : Moment) (chart : Tree) → phase_states (acts (reach moment chart)) ≡ []
 
 abbrev pub AdvancingRunsTheSamePhases : Type 0
 AdvancingRunsTheSamePhases = (moment : Moment) (rest : Rest) → phase_states (acts (advance moment rest)) ≡ phase_states (acts rest)
 
--- the acts of a rest are in the order of their places, and one stands at a place
+-- the acts of a rest are in the order of their places, one at a place
 abbrev pub ActsRise : Type 0
 ActsRise = (place : Place) (chart : Tree) (rest : Rest) → IsPlaced place chart → IsRestOf chart rest → Rises (acts rest)
 
@@ -117,14 +118,14 @@ WorkFalls =
 abbrev pub IsOnTheWay : Move → Type 0
 IsOnTheWay made = (3 ≤ kind_of made) × (kind_of made ≤ 4)
 
--- a batch that holds something in advance has such a move, and is neither on its way to Stopped or Aborted, nor there, nor idle or complete
+-- a batch that holds a unit in advance has a move of these, and isn't on its way to Stopped or Aborted, nor there, idle or complete
 abbrev pub HeldInAdvanceGoesOn : Type 0
 HeldInAdvanceGoesOn =
     (setup : Setup) (plant : Plant) (batch : Batch) (held : InAdvance) → HasPlacedTrees setup → IsStanding setup plant
     → Has plant.batches batch → Has batch.in_advance held
     → (goes_on batch.state ≡ true) × (is_resting batch.state ≡ false) × ((made : Move) × Has (possible setup plant) made × (batch_of made ≡ batch.number) × IsOnTheWay made)
 
--- where no move is possible, nothing is held in advance
+-- if no move is possible, nothing is held in advance
 abbrev pub SettledHoldsNothingInAdvance : Type 0
 SettledHoldsNothingInAdvance =
     (setup : Setup) (plant : Plant) → HasPlacedTrees setup → IsStanding setup plant → next setup plant ≡ None
@@ -150,7 +151,7 @@ BindsBadly setup (create name size pairs) =
     × (is_binding master.roles pairs ≡ false)
 BindsBadly setup _ = ⊥
 
--- the phase is live and done, and neither stopping nor aborting; it reports the output, with which these have no value, and with all that it reports before they have
+-- the phase is live and done, and neither stopping nor aborting; the output is the first that it reports which has no value here
 pub record IsFirstLeftOut (plant : Plant) (unit name : Name) (word : Report) (outputs : ValueList) (output : Name) : Type 0 where
   pub found : LivePhase
   pub is_live : live_phase plant.batches unit name ≡ Some found
@@ -166,8 +167,8 @@ abbrev pub LeavesOut : Plant → Event → Name → Type 0
 LeavesOut plant (report unit name word outputs) output = IsFirstLeftOut plant unit name word outputs output
 LeavesOut plant _ output = ⊥
 
--- moves pend only where there is a next one, an output is told that is the first left out, a binding is bad only where the recipe's
--- roles aren't bound by it, the plant is full only at a limit, and memory is wanted by a create alone
+-- the cause of a refusal: moves pend only if there is a next one, the output is the first left out, a binding is bad only if the
+-- recipe's roles aren't bound by it, the plant is full only at a limit, and memory is wanted by a create alone
 abbrev pub HasCause : Setup → Plant → Event → Refusal → Type 0
 HasCause setup plant event moves_pending = next setup plant ≡ None → ⊥
 HasCause setup plant event (output_left_out output) = LeavesOut plant event output
@@ -223,7 +224,7 @@ RunsComeToRest = (setup : Setup) → HasPlacedTrees setup → (events : List Eve
 
 -- Records
 
--- what a record tells changes by its last line alone
+-- the holders, the waiters, the active phases and the states that a record tells change by its last line alone
 abbrev pub LastLineTellsHolders : Type 0
 LastLineTellsHolders =
     (outs : List Out) (out : Out) (resource : Name)

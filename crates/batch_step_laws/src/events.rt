@@ -7,8 +7,8 @@ pub fn refusals_change_nothing()
     ensures { RefusalsChangeNothing }
 {}
 
-/// Moves pend only where there is a next one, an output is told only where it is the first that a live phase leaves out, a binding
-/// is bad only where the recipe's roles aren't bound by it, the plant is full only at a limit, and memory is wanted by a create
+/// Moves pend only if there is a next one, an output is reported left out only if it is the first that a live phase leaves out, a
+/// binding is bad only if the recipe's roles aren't bound by it, the plant is full only at a limit, and memory is wanted by a create
 /// alone.
 // claim: causes of refusals
 pub fn refusals_have_causes()

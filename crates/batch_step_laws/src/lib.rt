@@ -1,5 +1,5 @@
-//! Laws of the machine's steps, over the definitions of batch_model: its moves, its replies to events, what remains of recipes,
-//! and the records and plants that they lead to.
+//! Laws of the machine's steps, over the definitions of batch_model: its moves, its replies to events, the rests of recipes, and the
+//! records and plants that they lead to.
 //!
 //! Nothing runs here. The functions are empty: their contracts are the laws.
 #![tactic(auto)]
@@ -28,7 +28,7 @@ pub use runs::{
     plants_come_to_rest, plants_stand, records_go_on, runs_come_to_rest, settlings_end,
 };
 
-/// The parts that clearance looks at are all nodes of the tree, in their order.
+/// The parts that clearance checks are all nodes of the tree, in their order.
 // claim: nodes in order
 pub fn parts_are_nodes()
     ensures { (level : Level) (place : Place) (above : List Name) (whole : Tree)

@@ -9,7 +9,7 @@ pub fn next_is_least()
     ensures none { NoneIsPossible }
 {}
 
-/// A possible move that is earlier than all others is the next one, and in a plant that stands the next one is so.
+/// A possible move that is earlier than all others is the next one; in a plant that stands the next one is earlier than all others.
 pub fn next_is_first()
     // claim: first is next
     ensures next { FirstIsNext }
@@ -29,8 +29,8 @@ pub fn work_falls()
     ensures { WorkFalls }
 {}
 
-/// In a plant that stands, a batch that holds something in advance goes on and has a move that gives back, passes on, begins or ends;
-/// so where no move is possible nothing is held in advance.
+/// In a plant that stands, a batch that holds a unit in advance goes on and has a move that gives back, passes on, begins or ends;
+/// so if no move is possible nothing is held in advance.
 // claim: units held in advance
 pub fn held_in_advance_goes_on()
     ensures moves { HeldInAdvanceGoesOn }

@@ -1,7 +1,8 @@
-//! What remains of a recipe.
+//! The rest of a recipe.
 ghost use Rattle.batch_step_laws.specs.Laws.{ActsRise, AdvancesFully, AdvancingHoldsTheSame, AdvancingRunsTheSamePhases, AdvancingStands, SetupsArePlaced, OneActAPlace, ReachesFully, ReachingHoldsNothing, ReachingRunsNoPhase, ReachingStands, TreesArePlaced, WithdrawingStands};
 
-/// Each act of a recipe's expanded tree carries the place at which it stands, whatever units take its roles, so the setups that recipes make have placed trees.
+/// Each act of a recipe's expanded tree carries the place at which it stands, whatever units take its roles. So the setups that
+/// recipes make have placed trees.
 pub fn trees_are_placed()
     // claim: placed trees
     ensures tree { TreesArePlaced }
@@ -16,7 +17,8 @@ pub fn advances_fully()
     ensures advanced { AdvancesFully }
 {}
 
-/// What is reached of a chart can remain of it, and still can when it advances or its asks are withdrawn.
+/// The rest of a chart that has just been reached is a possible one, and a possible rest stays one when it advances or its asks are
+/// withdrawn.
 // claim: stays a rest
 pub fn stands_in_its_chart()
     ensures reached { ReachingStands }
@@ -24,7 +26,8 @@ pub fn stands_in_its_chart()
     ensures withdrawn { WithdrawingStands }
 {}
 
-/// What has just been reached holds nothing and runs no phase, and advancing leaves what is held and the phases as they are.
+/// A chart that has just been reached runs no phase, and if nothing is held in advance, it holds nothing. Advancing leaves the phases,
+/// and if nothing is held in advance, the holdings as they are.
 // claim: nothing taken (reached, advanced); no phase changed (reached_phases, advanced_phases)
 pub fn advances_without_taking()
     ensures reached { ReachingHoldsNothing }
@@ -33,7 +36,7 @@ pub fn advances_without_taking()
     ensures advanced_phases { AdvancingRunsTheSamePhases }
 {}
 
-/// The acts of what remains are in the order of their places, and one stands at a place.
+/// The acts of a rest are in the order of their places, one at a place.
 pub fn acts_rise()
     // claim: acts in order
     ensures in_order { ActsRise }

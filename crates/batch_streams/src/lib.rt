@@ -1,4 +1,4 @@
-//! Streams of which it is known why they failed.
+//! Streams that note why they failed.
 #![tactic(auto)]
 
 mod noted;

@@ -1,4 +1,4 @@
-//! Streams of which it is known why they failed.
+//! Streams that note why they failed.
 ghost use Rattle.std.specs.Prelude.{◌≡◌};
 
 use std::io;
@@ -23,7 +23,7 @@ impl<S> Noted<S> {
         }
     }
 
-    /// Why a call failed last, where one did.
+    /// Why a call failed last, if one did.
     pub fn failure(&self) -> Option<io::Error>
         ensures { result ≡ self.now.failure }
     {

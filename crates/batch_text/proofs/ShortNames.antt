@@ -46,7 +46,7 @@ same_with_room a b m n xs ys r at_a at_b (of_a, of_b) e =
     ∙ ap (λ it. pointwise nat_eq (letters it) (take n ys)) (sym at_a)
     ∙ ap (λ it. pointwise nat_eq (letters a) (letters it)) (sym at_b)
 
--- what a number of eight bytes says of them
+-- two numbers of eight bytes each are equal just where the bytes are
 pub same_word : (xs ys : List ℕ) (m n : ℕ) → length xs ≡ 8 → length ys ≡ 8 → ((i : ℕ) → get_or xs i 0 < 256) → ((i : ℕ) → get_or ys i 0 < 256)
     → m ≡ from_le_bytes w64 xs → n ≡ from_le_bytes w64 ys → nat_eq m n ≡ pointwise nat_eq xs ys
 same_word xs ys m n xs_len ys_len xs_in ys_in p q =

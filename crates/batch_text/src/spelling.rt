@@ -6,10 +6,11 @@ ghost use Rattle.batch_text.specs.Spelling.{letters, IsWithinRoom};
 use crate::name::MAX_NAME_LEN;
 use std::alloc::{AllocError, Global};
 
-/// The most bytes that a name keeps inside itself: what its 16 bytes leave beside a tag and a length.
+/// The most bytes that a name keeps inside itself: its 16 bytes but for a tag and a length.
 const MAX_SHORT_LEN: usize = 14;
 
-/// The bytes of a name: inside itself where they are few, and otherwise on the heap. Those past a short name's length are zeroes, and those past a long one's mean nothing.
+/// The bytes of a name: inside itself if they are few, and otherwise on the heap. Those past a short name's length are zeroes,
+/// and those past a long one's mean nothing.
 #[derive(Drop)]
 pub(crate) enum Spelling {
     Short {

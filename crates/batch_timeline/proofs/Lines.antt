@@ -30,9 +30,9 @@ stages-more s [] l t u e k =
     stages-last s l u (ap (λ x. stage_after x l) same ∙ k)
 stages-more s (x ∷ xs) l t u e k = stages-on s x xs l t u (λ mid h. stages-more mid xs l t u h k) (stage_after s x) refl e
 
--- How far a text was taken
+-- The progress of reading a text
 
--- the whole lines that were taken, and what is left
+-- the whole lines that were taken, and the rest
 pub record HasTaken (text rest : List ℕ) (number : ℕ) : Type 0 where
   pub lines : List (List ℕ)
   pub stage : Stage
@@ -89,7 +89,7 @@ all-taken text rest number h none = record {
   stages = h.stages;
 }
 
--- What a line brings
+-- The effect of a line
 
 after-line : (stage : Stage) (line : List ℕ) (passed : Bool) → is_passed_over line ≡ passed
     → stage_after stage line ≡ elim passed [ true ↦ Some (marked stage (mark_of line)) | false ↦ option_map (told stage) (out_of_line line) ]

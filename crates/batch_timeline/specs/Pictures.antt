@@ -37,7 +37,7 @@ colour_text hue =
     else (if nat_eq hue 6 then codes "#e9a06a"
     else codes "#c8c8c8"))))))
 
--- what is said of a bar of a batch
+-- the title of a bar of a batch
 
 abbrev pub does : Bool → List ℕ
 does true = codes "waits for"
@@ -56,7 +56,7 @@ abbrev pub area_text : Block → List ℕ
 area_text block =
     codes "<rect x=\"" ++ (decimal block.left ++ (codes "\" y=\"" ++ (decimal block.top ++ (codes "\" width=\"" ++ (decimal block.width ++ (codes "\" height=\"17\" fill=\"" ++ (colour_text (block.batch % 8) ++ codes "\"/>")))))))
 
--- its frame, with white stripes in it where the batch waits
+-- its frame, with white stripes in it if the batch waits
 abbrev pub frame_text : Block → List ℕ
 frame_text block =
     codes "<rect x=\"" ++ (decimal block.left ++ (codes "\" y=\"" ++ (decimal block.top ++ (codes "\" width=\"" ++ (decimal block.width ++ (codes "\" height=\"17\" fill=\"" ++ (hatching block.waits ++ codes "\" stroke=\"#555555\"/></g>\n")))))))
@@ -69,7 +69,7 @@ shape_text (shape.Grid grid) = grid_text grid
 shape_text (shape.Label label) = label_text label
 shape_text (shape.Block block) = block_text block
 
--- a white ground, and the pattern of what waits
+-- a white ground, and the pattern of waiting batches
 abbrev pub head_text : ℕ → ℕ → List ℕ
 head_text width height =
     codes "<svg xmlns=\"http://www.w3.org/2000/svg\" viewBox=\"0 0 " ++ (decimal width ++ (codes " " ++ (decimal height ++ (codes "\" width=\"" ++ (decimal width ++ (codes "\" height=\"" ++ (decimal height ++ codes "\" font-family=\"sans-serif\" font-size=\"12\">\n")))))))

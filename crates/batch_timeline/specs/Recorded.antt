@@ -1,4 +1,4 @@
--- trusted: what is read of a record that is drawn.
+-- trusted: the lines of a record that is drawn.
 use Rattle.std.specs.Prelude.{ℕ, List}
 use Rattle.batch_status.specs.Blocks.{Stage}
 use Rattle.batch_status.specs.Reading.{LeadsTo}

@@ -6,7 +6,7 @@ use Rattle.batch_timeline.specs.Recorded.{IsRecord}
 use Rattle.batch_timeline.specs.declared.reading.RecordFault.{RecordFault}
 use Rattle.batch_timeline.specs.declared.reading.RecordFault.TheVariants as faults
 
--- the first line feed in the bytes stands there
+-- the first line feed in the bytes is there
 pub record EndsLine (at : ℕ) (bytes : List ℕ) : Type 0 where
   pub within : at < length bytes
   pub feed : get_or bytes at 0 ≡ 10

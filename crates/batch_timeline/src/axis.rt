@@ -67,11 +67,11 @@ impl Axis {
         }
     }
 
-    /// How far along the axis the time stands, in points.
+    /// The position of the time along the axis, in points.
     pub fn along(self, time: u64) -> u64 {
         let span = self.last.saturating_sub(self.first);
         let gone = time.saturating_sub(self.first).min(span);
-        // Long spans are told in larger units, so that nothing is cut.
+        // Long spans are counted in larger units, so that nothing is cut.
         let (gone, span) = if span < 1 << 50 {
             (gone, span)
         } else {
@@ -95,12 +95,12 @@ impl Axis {
         Ok(ticks)
     }
 
-    /// What the axis counts.
+    /// The unit of the axis.
     pub fn unit(self) -> &'static str {
         if self.has_clock { "UTC" } else { "line" }
     }
 
-    /// What is written at the tick of this time: the number of the line, or the time by the clock, which counts from the year 1970.
+    /// The label of the tick at this time: the number of the line, or the time by the clock, which counts from the year 1970.
     pub fn label(self, alloc: Global, time: u64) -> Result<String, AllocError> {
         if !self.has_clock {
             return format!(in alloc; "{time}");
@@ -121,7 +121,7 @@ impl Axis {
     }
 }
 
-/// What lies between two ticks, at least 1, so that there are few of them.
+/// The step between two ticks, at least 1, so that there are few of them.
 fn step_of(steps: &[u64], span: u64) -> u64 {
     for step in steps {
         if span / (*step).max(1) < MOST_TICKS {

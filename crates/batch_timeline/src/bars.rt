@@ -3,7 +3,7 @@ use batch_record::Claim;
 use std::alloc::{AllocError, Global};
 use std::str;
 
-/// An act of a batch that holds a resource or waits for it, which is named by its number among those that the record names.
+/// An act of a batch that holds a resource or waits for it. The resource is given by its number among those that the record names.
 #[derive(Drop)]
 pub struct Share {
     pub resource: usize,
@@ -102,13 +102,13 @@ impl Bars {
         Ok(())
     }
 
-    /// These bars stand no longer.
+    /// Ends these bars.
     pub fn end(&mut self, alloc: Global, ending: Ending<'_>, now: u64) -> Result<(), AllocError> {
         self.standing = still_standing(alloc, &mut self.all, &self.standing, ending, now)?;
         Ok(())
     }
 
-    /// What a recovery block lists stands, and nothing else.
+    /// The shares that a recovery block lists stand, and no others.
     pub fn replace(
         &mut self,
         alloc: Global,

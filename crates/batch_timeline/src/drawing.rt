@@ -1,4 +1,4 @@
-//! Drawing what stood when.
+//! Drawing the bars of a timeline.
 use crate::axis::{Axis, LENGTH};
 use crate::bars::Bar;
 use crate::lanes::Lanes;
@@ -20,11 +20,11 @@ const BASE: u64 = 13;
 const AXIS_BASE: u64 = 14;
 
 const LEGEND_BASE: u64 = 36;
-/// Below the last row, and behind the axis.
+/// Below the last row, and after the axis.
 const FOOT: u64 = 48;
 
 const MARGIN: u64 = 40;
-/// From the left edge to what the axis counts, and from a name to where the axis begins.
+/// From the left edge to the unit of the axis, and from a name to the start of the axis.
 const BESIDE: u64 = 8;
 /// How wide a letter of a name and a digit in a bar are, at most, and for how many letters there is always room.
 const LETTER: u64 = 9;
@@ -45,24 +45,24 @@ struct Spot {
     to: u64,
 }
 
-/// Where each bar stands in its row, and how many lanes each row has.
+/// The place of each bar in its row, and the lanes of each row.
 #[derive(Drop)]
 struct Layout {
     spots: Vec<Option<Spot>>,
     rows: Vec<Lanes>,
 }
 
-/// Where everything stands.
+/// The positions in the picture.
 #[derive(Clone, Copy)]
 struct Sheet {
     axis: Axis,
-    /// Where the axis begins.
+    /// The start of the axis.
     left: u64,
-    /// Where the last row ends.
+    /// The end of the last row.
     end: u64,
 }
 
-/// The picture of what the record tells: units first, each with its lanes.
+/// The picture of the timeline: units first, each with its lanes.
 pub fn draw(alloc: Global, timeline: &Timeline) -> Result<Picture, AllocError> {
     let axis = Axis::of(timeline);
     let layout = laid_out(alloc, timeline, axis)?;
@@ -99,7 +99,7 @@ fn laid_out(alloc: Global, timeline: &Timeline, axis: Axis) -> Result<Layout, Al
     Ok(Layout { spots, rows })
 }
 
-/// Where the bar stands, in the first lane that has room for it. Waiting that took no time has no place.
+/// The place of the bar, in the first lane that has room for it. Waiting that took no time has no place.
 fn spot_of(
     rows: &mut [Lanes],
     axis: Axis,
@@ -127,7 +127,7 @@ fn spot_of(
     }
 }
 
-/// Behind the longest name.
+/// The start of the axis, after the longest name.
 fn left_of(resources: &[Resource]) -> u64 {
     let mut longest: u64 = LEAST_LETTERS;
     for resource in resources {
@@ -136,7 +136,7 @@ fn left_of(resources: &[Resource]) -> u64 {
     longest.saturating_mul(LETTER).saturating_add(20)
 }
 
-/// Where each row begins, and where the last one ends.
+/// The top of each row, and the end of the last one.
 fn row_tops(
     alloc: Global,
     timeline: &Timeline,
@@ -167,7 +167,7 @@ fn put_tops(
     end
 }
 
-/// The ticks, what they count, and the legend.
+/// The ticks, their unit, and the legend.
 fn put_axis(alloc: Global, shapes: &mut Vec<Shape>, sheet: Sheet) -> Result<(), AllocError> {
     let base = sheet.end.saturating_add(AXIS_BASE);
     for time in sheet.axis.ticks(alloc)? {
@@ -202,7 +202,7 @@ fn put_names(
     Ok(())
 }
 
-/// The bar, and its batch's number where there is room for it.
+/// The bar, and its batch's number if there is room for it.
 fn put_bar(
     alloc: Global,
     shapes: &mut Vec<Shape>,

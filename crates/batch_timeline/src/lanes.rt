@@ -8,8 +8,7 @@ pub struct Lanes {
 }
 
 impl Lanes {
-    /// The number of the first lane in which there is room from the one point on, which is taken to the other. Where there is none, a
-    /// lane is added.
+    /// Takes the first lane with room from the one point on, up to the other, and returns its number. If there is none, adds a lane.
     pub fn take(&mut self, from: u64, to: u64) -> Result<usize, AllocError> {
         match self.first_free(from) {
             Some(number) => {

@@ -1,4 +1,4 @@
-//! A picture of what a record tells: who held which resource when, and who waited for it.
+//! A picture of a record: who held which resource when, and who waited for it.
 #![tactic(auto)]
 
 mod axis;

@@ -26,7 +26,7 @@ impl fmt::Display for Picture {
     }
 }
 
-/// How a picture begins.
+/// The beginning of a picture.
 #[derive(Clone, Copy)]
 struct Head {
     width: u64,
@@ -64,7 +64,7 @@ impl fmt::Display for Ground {
     }
 }
 
-/// The white stripes over what waits.
+/// The white stripes over the bars of waiting batches.
 #[derive(Clone, Copy)]
 struct Pattern;
 

@@ -33,11 +33,11 @@ impl From<AllocError> for RecordFault {
     }
 }
 
-/// The picture of a record: a row for each resource that it names, units first, and in it a bar for each time that a batch held it,
-/// with the batch's number; a hatched bar for each time that one waited for it. The axis is the clock of the record's comments
-/// `# at MILLISECONDS`, and where it has none the number of the line.
+/// The picture of a record. Each resource that it names has a row, units first. A row has a bar with the batch's number for each time
+/// that a batch held the resource, and a hatched bar for each time that one waited for it. The axis is the clock of the record's
+/// comments `# at MILLISECONDS`, or the number of the line if it has none.
 ///
-/// A last line without its line feed is left out. What a recovery block lists stands from its end on, and nothing else does.
+/// A last line without its line feed is left out. The shares that a recovery block lists stand from its end on, and no others.
 // claim: picture of a record
 pub fn draw_record(alloc: Global, text: &[u8]) -> Result<Picture, RecordFault>
     ensures drawn { IfOk result (λ _. IsRecord text.now) }
@@ -48,7 +48,7 @@ pub fn draw_record(alloc: Global, text: &[u8]) -> Result<Picture, RecordFault>
     Ok(draw(alloc, &timeline)?)
 }
 
-/// The first time that a comment tells.
+/// The first time in a comment.
 fn first_time(text: &[u8]) -> Option<u64> {
     let mut rest = text;
     while let Some(at) = line_feed(rest) {
@@ -61,7 +61,7 @@ fn first_time(text: &[u8]) -> Option<u64> {
     None
 }
 
-/// The time that the line tells, where it is a comment on times.
+/// The time in the line, if it is a comment on times.
 fn time_of(line: &[u8]) -> Option<u64> {
     match read_remark(line) {
         Some(Remark::At(time)) => Some(time),
@@ -69,7 +69,7 @@ fn time_of(line: &[u8]) -> Option<u64> {
     }
 }
 
-/// Takes each line that is whole.
+/// Reads each whole line.
 fn take_lines(alloc: Global, timeline: &mut Timeline, text: &[u8]) -> Result<(), RecordFault>
     ensures { TakesLines text.now result }
 {
@@ -103,7 +103,7 @@ fn take_line(
     }
 }
 
-/// Where the first line feed stands.
+/// The position of the first line feed.
 fn line_feed(bytes: &[u8]) -> Option<usize>
     ensures { MatchOption result (HasNoFeed bytes.now) (λ at. EndsLine at bytes.now) }
 {

@@ -1,11 +1,11 @@
-//! The comments of a record that tell of times and recoveries.
+//! The comments of a record on times and recoveries.
 use batch_record::{Claim, Words, is_plain_place, plain_number};
 use batch_text::is_name;
 
-/// What a comment says.
+/// The meaning of a comment.
 #[derive(Clone, Copy)]
 pub enum Remark<'a> {
-    /// The milliseconds of the clock when the lines below were told.
+    /// The milliseconds of the clock when the lines below were written.
     At(u64),
     /// A recovery block begins.
     Recovered,
@@ -17,7 +17,7 @@ pub enum Remark<'a> {
     Runs(&'a [u8]),
 }
 
-/// What the line says, where it is a comment on times or recoveries.
+/// The meaning of the line, if it is a comment on times or recoveries.
 pub fn read_remark(line: &[u8]) -> Option<Remark<'_>> {
     let mut words = Words::of(line);
     if words.next()? != b"#".as_slice() {

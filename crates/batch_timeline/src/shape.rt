@@ -1,4 +1,4 @@
-//! What stands in a picture.
+//! The shapes of a picture.
 ghost use Rattle.std.specs.Prelude.{◌≡◌, Some};
 ghost use Rattle.batch_timeline.specs.Pictures.{anchor_word, area_text, block_text, colour_text, does, frame_text, grid_text, hatching, label_text, shape_text, title_text};
 
@@ -32,7 +32,7 @@ impl fmt::Display for Grid {
     }
 }
 
-/// Which end of a text stands at its place.
+/// Which end of a text lies at its place.
 #[derive(Clone, Copy)]
 pub enum Anchor {
     Start,
@@ -53,7 +53,7 @@ impl fmt::Display for Anchor {
     }
 }
 
-/// A text on a line that ends at its place, stands around it, or begins there.
+/// A text on a line that begins at its place, is centred there, or ends there.
 #[derive(Drop)]
 pub struct Label {
     pub left: u64,
@@ -76,7 +76,7 @@ impl fmt::Display for Label {
     }
 }
 
-/// A bar of a batch, with what it says where a pointer rests on it.
+/// A bar of a batch, with the title that it shows if a pointer rests on it.
 #[derive(Drop)]
 pub struct Block {
     pub left: u64,
@@ -101,7 +101,7 @@ impl fmt::Display for Block {
     }
 }
 
-/// What is said of a bar.
+/// The title of a bar.
 #[derive(Clone, Copy)]
 struct Title<'a> {
     of: &'a Block,
@@ -141,7 +141,7 @@ impl<'a> fmt::Display for Area<'a> {
     }
 }
 
-/// The frame of a bar, and what stands over its colour.
+/// The frame of a bar, and the hatching over its colour.
 #[derive(Clone, Copy)]
 struct Frame<'a> {
     of: &'a Block,
@@ -161,21 +161,21 @@ impl<'a> fmt::Display for Frame<'a> {
     }
 }
 
-/// What a batch does of which it is known whether it waits.
+/// The verb of a batch that waits or holds.
 fn does(waits: bool) -> &'static str
     ensures { result.now ≡ does waits }
 {
     if waits { "waits for" } else { "holds" }
 }
 
-/// What stands over the colour of a bar.
+/// The hatching over the colour of a bar.
 fn hatching(waits: bool) -> &'static str
     ensures { result.now ≡ hatching waits }
 {
     if waits { "url(#waits)" } else { "none" }
 }
 
-/// The colour of a batch, by what is left of its number.
+/// The colour of a batch, by the remainder of its number.
 fn colour(hue: u64) -> &'static str
     ensures { result.now ≡ colour_text hue }
 {
@@ -191,7 +191,7 @@ fn colour(hue: u64) -> &'static str
     }
 }
 
-/// What stands in a picture.
+/// A shape of a picture.
 #[derive(Drop)]
 pub enum Shape {
     Grid(Grid),

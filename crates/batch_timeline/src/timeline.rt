@@ -1,4 +1,4 @@
-//! What stood when.
+//! The bars of a record over time.
 use crate::bars::{Bars, Ending, Share};
 use crate::remark::Remark;
 use batch_matrix::Command;
@@ -13,22 +13,22 @@ pub struct Resource {
     pub is_unit: bool,
 }
 
-/// What a record tells so far.
+/// The timeline of a record so far.
 #[derive(Drop)]
 pub struct Timeline {
     /// In the order in which they are named.
     pub resources: Vec<Resource>,
     pub bars: Bars,
-    /// What a recovery block lists that hasn't ended.
+    /// The shares that are listed by a recovery block that hasn't ended.
     block: Option<Vec<Share>>,
-    /// Time is told by the record's comments, and not by the numbers of its lines.
+    /// Time comes from the record's comments, and not from the numbers of its lines.
     pub has_clock: bool,
     pub first: u64,
     pub now: u64,
 }
 
 impl Timeline {
-    /// Before the first line, at the first time that the record tells, or where it tells none at line 1.
+    /// Before the first line, at the first time in the record, or at line 1 if it has none.
     pub fn new(alloc: Global, first: Option<u64>) -> Timeline {
         let time = first.unwrap_or(1);
         Timeline {
@@ -41,14 +41,14 @@ impl Timeline {
         }
     }
 
-    /// The line with this number comes.
+    /// Begins the line with this number.
     pub fn reach(&mut self, number: u64) {
         if !self.has_clock {
             self.now = number;
         }
     }
 
-    /// What a comment says. A clock that goes back is passed over.
+    /// Applies a comment. A clock that goes back is passed over.
     pub fn note(&mut self, alloc: Global, remark: Remark<'_>) -> Result<(), AllocError> {
         match remark {
             Remark::At(time) => {
@@ -66,7 +66,7 @@ impl Timeline {
         }
     }
 
-    /// What a line tells.
+    /// Applies the contents of a line.
     pub fn tell(&mut self, alloc: Global, told: Told<'_>) -> Result<(), AllocError> {
         self.block = None;
         match told {
@@ -95,7 +95,7 @@ impl Timeline {
         }
     }
 
-    /// The act gives its unit up, and from then on the batch holds it where the unit procedure stands that follows.
+    /// The act gives its unit up, and from then on the batch holds it at the place of the unit procedure that follows.
     fn hand_over(&mut self, alloc: Global, passed: Passed<'_>) -> Result<(), AllocError> {
         let given = passed.claim;
         self.note_unit(alloc, given.resource)?;
@@ -117,7 +117,7 @@ impl Timeline {
         self.bars.end(alloc, Ending::Share(&share), self.now)
     }
 
-    /// A share that a block lists.
+    /// Adds a share that a block lists.
     fn list(&mut self, alloc: Global, claim: Claim<'_>, waits: bool) -> Result<(), AllocError> {
         let share = self.share_of(alloc, claim, waits)?;
         if let Some(listed) = &mut self.block {

@@ -93,7 +93,7 @@ pub record IsWritable (r : Rank) : Type 0 where
   pub positive : 0 < r.1
   pub bounded : r.1 ≤ MAX_RANK
 
--- what stands behind the first word
+-- the rest of the line behind its first word
 abbrev words_behind : Rank → List ℕ
 words_behind r = r.0 ++ 32 ∷ decimal r.1
 

@@ -1,4 +1,4 @@
--- A text of which a front is written.
+-- A text of which a prefix is written.
 use Rattle.std.proofs.Common.{◌≡◌, ℕ, List, ◌++◌, ◌-◌, ap, sym, ◌∙◌, take, drop, length, append_assoc, take-append-drop}
 use Rattle.std.proofs.lemmas.List.{take_rest}
 

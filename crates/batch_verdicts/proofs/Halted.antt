@@ -9,7 +9,7 @@ use Rattle.batch_verdicts.specs.Reading.{AreRead, AreReadWarned, Gives, IsSoWarn
 use Rattle.batch_verdicts.specs.declared.refusal.Halt.{Halt}
 use Rattle.batch_verdicts.specs.declared.refusal.Halt.TheVariants.{Memory}
 
--- what is so of the cell and the recipes that were read and warned of
+-- a fact of the cell and the recipes that were read and warned of
 pub so_of_read : (gives : Gives) (warns : Warns) (cell : List ℕ) (paths : List (List ℕ)) (c : Cell) (rs : List Recipe) (is_so : Cell → List Recipe → Type 0)
     → AreReadWarned gives warns cell paths c rs → is_so c rs → IsSoWarned gives warns cell paths is_so
 so_of_read gives warns cell paths c rs is_so read so =

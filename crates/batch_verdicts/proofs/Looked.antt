@@ -13,7 +13,7 @@ use Rattle.batch_verdicts.specs.declared.refusal.DocumentRefusal.{DocumentRefusa
 use Rattle.batch_verdicts.specs.declared.refusal.Halt.{Halt}
 use Rattle.batch_verdicts.specs.declared.refusal.Halt.TheVariants.{Refused, Unread}
 
--- where nothing is refused, all are read
+-- if nothing is refused, all are read
 pub all_read : (gives : Gives) (paths : List (List ℕ)) (rs : List Recipe) (refusals : List DocumentRefusal)
     → AreLooked gives paths rs refusals → refusals ≡ [] → ReadsRecipes gives paths rs
 all_read gives [] rs refusals (none, _) is = rw none tt
@@ -37,7 +37,7 @@ refusal_more gives (p ∷ paths) rs refusals path last (inl (s, more, here, join
 refusal_more gives (p ∷ paths) rs refusals path last (inr (refusal, others, here, joined, looked)) halts =
     inr (refusal, others ++ last ∷ [], here, ap (λ xs. xs ++ last ∷ []) joined, refusal_more gives paths rs others path last looked halts)
 
--- a document more
+-- one more document
 looks_more : (gives : Gives) (paths : List (List ℕ)) (path : List ℕ) (before : List DocumentRefusal) (rs : List Recipe) (refusals : List DocumentRefusal)
     (recipes : List Recipe) (others : List DocumentRefusal)
     → LooksOn gives paths before rs refusals → IsLooked gives path rs refusals recipes others → LooksOn gives (paths ++ path ∷ []) before recipes others
@@ -88,7 +88,7 @@ no_refusal : (before here : List DocumentRefusal) → before ++ here ≡ [] → 
 no_refusal [] here is = is
 no_refusal (refusal ∷ before) here is = absurd cc
 
--- the cell and the recipes are read where nothing is refused
+-- the cell and the recipes are read if nothing is refused
 pub read_whole : (gives : Gives) (cell : List ℕ) (paths : List (List ℕ)) (before : List DocumentRefusal) (c : Cell) (rs : List Recipe) (refusals : List DocumentRefusal)
     → IsCellLooked gives cell [] (Some c) before → LooksOn gives paths before rs refusals → refusals ≡ [] → AreAllRead gives cell paths c rs
 read_whole gives cell paths before c rs refusals (read, _) (here, looked, joined) is =
@@ -98,7 +98,7 @@ not_none : (before here refusals : List DocumentRefusal) (refusal : DocumentRefu
 not_none before here refusals refusal first joined is =
     let grown : refusals ≡ refusal ∷ here = joined ∙ ap (λ xs. xs ++ here) first in cc
 
--- what is refused is told
+-- all refusals are reported
 pub all_refused : (gives : Gives) (cell : List ℕ) (paths : List (List ℕ)) (before : List DocumentRefusal) (c : Cell) (rs : List Recipe) (refusals : List DocumentRefusal)
     → IsCellLooked gives cell [] (Some c) before → LooksOn gives paths before rs refusals → AreRefusalsOf gives cell paths refusals
 all_refused gives cell paths before c rs refusals (read, none) (here, looked, joined) = record {
@@ -126,7 +126,7 @@ cell_refused gives cell paths before rs refusals (refusal, halts, first) (here, 
 
 -- Sound recipes
 
--- what is so of documents that were read and of which no rule is broken
+-- a fact of documents that were read and of which no rule is broken
 pub so_of_sound : (gives : Gives) (warns : Warns) (cell : List ℕ) (paths : List (List ℕ)) (c : Cell) (rs : List Recipe) (is_so : Cell → List Recipe → Type 0)
     → IsSoundlyRead gives warns cell paths c rs → is_so c rs → IsSoWarned gives warns cell paths is_so
 so_of_sound gives warns cell paths c rs is_so (read, kept) so =

@@ -1,4 +1,4 @@
--- How the demo comes out.
+-- The outcome of the demo.
 use Rattle.std.proofs.Common.{◌≡◌, List, ℕ, [], ◌∷◌, subst, Result, Ok, Err, IfErr}
 use Rattle.batch_verify.specs.ClearedSet.{ClearedSet}
 use Rattle.batch_verdicts.specs.Halting.{HaltsClearing}

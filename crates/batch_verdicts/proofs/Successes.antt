@@ -1,4 +1,4 @@
--- What a run tells of the documents.
+-- The facts about documents that follow from the result of a run.
 use Rattle.std.proofs.Common.{arith, ◌≡◌, ◌⊎◌, ◌≤◌, ℕ, Bool, true, false, List, inl, inr, refl, sym, subst, ◌∙◌}
 use Rattle.std.specs.Io.KnownBytes.{Appends}
 use Rattle.clap.specs.Kinds.{IsAmong}
@@ -40,7 +40,7 @@ printed_success : (output errors : Stream) (text : List ℕ) (status : ℕ) → 
 printed_success output errors text status (inl (appends, silent, _)) is = (appends, silent)
 printed_success output errors text status (inr fault) is = absurd cc
 
--- what halts ends with another status
+-- a command that halts ends with another status
 
 kind_fails : (kind : RefusalKind) → status_of kind ≡ 0 → ⊥
 kind_fails Fault is = cc
@@ -110,7 +110,7 @@ told_success gives words output errors request _ asked (starves _) is = absurd c
 pub success_is_told : (gives : Gives) → SuccessIsTold gives
 success_is_told gives words output errors request asked came = told_success gives words output errors request (Ends 0) asked came refl
 
--- what was to be served, with nothing written before
+-- the set that was to be served, with nothing written before
 pub record IsServing (gives : Gives) (request : Request) (set : ClearedSet) (output errors : Stream) : Type 0 where
   pub source : Source
   pub asked : request ≡ serve source
@@ -136,7 +136,7 @@ done_serving gives request quiet output errors set hushed _ (audits _ _ _ _ _ _)
 done_serving gives request quiet output errors set hushed _ (serves_desks _ _ _ _ _ _ _ _ _ _ _) is = absurd cc
 done_serving gives request quiet output errors set hushed _ (plants _ _ _ _ _ _ _) is = absurd cc
 
--- what was to be served with a journal, with nothing written before
+-- the set that was to be served with a journal, with nothing written before
 pub record IsKeeping (gives : Gives) (request : Request) (digested : Digested) (journal : String Global) (comments : Comments) (output errors : Stream) : Type 0 where
   pub cell : Text
   pub certificate : Text

@@ -1,4 +1,4 @@
--- What was said of warnings.
+-- The effect of warnings.
 use Rattle.std.proofs.Common.{◌≡◌, ℕ, Bool, true, false, List, [], Option, refl}
 use Rattle.std.proofs.KnownBytes.{Appends-kept, Appends-nil, Keeps-refl, Keeps-trans}
 use Rattle.std.specs.Io.KnownBytes.{Keeps}
@@ -13,12 +13,12 @@ use Rattle.batch_verdicts.specs.Requests.{IsVerdict}
 use Rattle.batch_verdicts.specs.Saying.{IsWarned}
 use Rattle.batch_verdicts.specs.WarningTexts.{warnings_text}
 
--- nothing was said
+-- no warning was written
 pub silent : (quiet : Bool) (told : Option (List ℕ)) → IsWarned quiet told told []
 silent true told = Keeps-refl told
 silent false told = record { written = []; rest = []; splits = refl; appends = Appends-nil told }
 
--- nothing was said behind it
+-- nothing was written behind the warnings
 pub warned_kept : (quiet : Bool) (before mid after : Option (List ℕ)) (text : List ℕ) → Keeps mid after → IsWarned quiet before mid text
     → IsWarned quiet before after text
 warned_kept true before mid after text kept warned = Keeps-trans before mid after warned kept
@@ -39,7 +39,7 @@ so_more gives these those cell paths is_so follows so = record {
   judged = (follows _ so.judged.0, so.judged.1);
 }
 
--- a verdict stays one where as much was said
+-- a verdict stays one with any effect of warnings that follows from its own
 pub verdict_more : (gives : Gives) (these those : Warns) (judgement : Judgement) (text : List ℕ) → ((text : List ℕ) → these text → those text)
     → IsVerdict gives these judgement text → IsVerdict gives those judgement text
 verdict_more gives these those (check all cell paths) text follows told = so_more gives these those cell paths _ follows told

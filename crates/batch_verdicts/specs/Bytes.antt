@@ -1,4 +1,4 @@
--- surface: what is read of a reader: all of its bytes, or so many that they are too many.
+-- surface: the bytes that are read of a reader: all of them, or more than the limit.
 use Rattle.std.specs.Prelude.{◌≡◌, ◌<◌, ◌≤◌, ℕ, List, ◌++◌, length, Option, IfSome, ⊤}
 use Rattle.std.specs.Io.KnownBytes.{IsAtEnd}
 use Rattle.batch_verdicts.specs.declared.reading.ReadFault.{ReadFault}
@@ -15,7 +15,7 @@ pub record HasMore (unread : Option (List ℕ)) (limit : ℕ) (front : List ℕ)
   pub long : limit < length front
   pub first : IfSome unread (λ input. (more : List ℕ) × (input ≡ front ++ more))
 
--- bytes are called too many only where they are
+-- bytes are called too many only if they are
 abbrev pub IsReadTooFar : Option (List ℕ) → ℕ → ReadFault → Type 0
 IsReadTooFar unread limit (Failed error) = ⊤
 IsReadTooFar unread limit TooManyReads = ⊤

@@ -1,4 +1,4 @@
--- trusted: the documents that the program has built in.
+-- trusted: the documents that are built into the program.
 use Rattle.std.specs.Prelude.{ℕ, List, Option, Some, None, true, false}
 use Rattle.std.specs.Str.{bytes_eq}
 use Rattle.batch_verdicts.specs.declared.demo.TheConstants.{CELL_PATH, CERTIFICATE_PATH, RECIPE_PATH, CELL, CERTIFICATE, RECIPE}

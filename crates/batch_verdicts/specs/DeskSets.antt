@@ -1,4 +1,4 @@
--- trusted: desks that are to be served, the set over which they are, or why there is none.
+-- trusted: desks that are to be served, and their set, or the reason why there is none.
 use Rattle.std.specs.Prelude.{◌≡◌, ◌≢◌, ◌<◌, ◌⊎◌, ℕ, List, Some, length}
 use Rattle.batch_cell.specs.LookUps.{units_of}
 use Rattle.batch_cell.specs.declared.cell.Cell.{Cell}
@@ -23,8 +23,8 @@ use Rattle.batch_verdicts.specs.VerdictTexts.{document_text}
 use Rattle.batch_verdicts.specs.declared.refusal.Halt.{Halt}
 use Rattle.batch_verdicts.specs.declared.refusal.RefusalKind.TheVariants.{Fault}
 
--- the document is refused, and but for memory it stands for no desks; the rest is as for a cell, of tables of desks, the first of which stands
--- for the top
+-- the document is refused, and but for memory it stands for no desks; the rest is as for a cell, of tables of desks, the first of
+-- which stands for the top
 pub record RefusesDesks (path bytes : List ℕ) (h : Halt) : Type 0 where
   pub fault : DocFault
   pub stands : fault ≢ Memory → (desks : Desks) → ¬ (IsDesksDocument bytes desks)
@@ -48,14 +48,15 @@ ReadsDesks gives path desks = (bytes : List ℕ) × gives path (Some bytes) × I
 abbrev pub HaltsAtDesks : Gives → List ℕ → Halt → Type 0
 HaltsAtDesks gives path h = IsUnread gives path h ⊎ ((bytes : List ℕ) × gives path (Some bytes) × RefusesDesks path bytes h)
 
--- the documents at these paths are the desks and the set, cleared by its certificate, whose digits these are, and the set's cell has the units
--- of the desks
+-- the documents at these paths are the desks and the set, cleared by its certificate, whose digits these are, and the set's cell has
+-- the units of the desks
 pub record AreDesksCleared (gives : Gives) (path cell certificate : List ℕ) (recipes : List (List ℕ)) (desks : Desks) (set : ClearedSet) (digits : List ℕ) : Type 0 where
   pub read : ReadsDesks gives path desks
   pub cleared : AreDigested gives cell certificate recipes set digits
   pub units : HaveUnits (units_of set.cell) desks.desks.items
 
--- the document of desks ends it, or that of the cell, or a desk's unit, which is looked up once the cell is read, or what comes behind the cell
+-- the document of desks ends it, or that of the cell, or a desk's unit, which is looked up once the cell is read, or a document behind
+-- the cell's, or the clearing of the set
 abbrev pub HaltsDesks : Gives → List ℕ → List ℕ → List ℕ → List (List ℕ) → Halt → Type 0
 HaltsDesks gives path cell certificate recipes h =
     HaltsAtDesks gives path h

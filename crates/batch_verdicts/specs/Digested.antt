@@ -10,7 +10,7 @@ use Rattle.batch_journal.specs.Digests.{digits_of}
 use Rattle.batch_verdicts.specs.Judging.{IsClearedBy}
 use Rattle.batch_verdicts.specs.Reading.{Gives, ReadsCertificate}
 
--- this text was read there, and says this
+-- this text was read there, and stands for this cell or recipe
 
 abbrev pub ReadsCellText : Gives → List ℕ → List ℕ → Cell → Type 0
 ReadsCellText gives path text c = gives path (Some text) × IsCellDocument text c
@@ -24,7 +24,8 @@ ReadsTexts gives [] [] [] = ⊤
 ReadsTexts gives (path ∷ paths) (text ∷ texts) (r ∷ rs) = ReadsRecipeText gives path text r × ReadsTexts gives paths texts rs
 ReadsTexts gives _ _ _ = ⊥
 
--- the documents at these paths make this set, which their certificate clears, and these are the digits of the texts of its cell and its recipes
+-- the documents at these paths make this set, which their certificate clears, and these are the digits of the texts of its cell and
+-- its recipes
 pub record AreDigested (gives : Gives) (cell certificate : List ℕ) (paths : List (List ℕ)) (set : ClearedSet) (digits : List ℕ) : Type 0 where
   pub cell_text : List ℕ
   pub texts : List (List ℕ)

@@ -1,4 +1,4 @@
--- trusted: what `check --dot` prints of recipes.
+-- trusted: the output of `check --dot` on recipes.
 use Rattle.std.specs.Prelude.{◌≡◌, ◌++◌, ℕ, List, []}
 use Rattle.std.specs.List.{All, Contains}
 use Rattle.batch_cell.specs.declared.cell.Cell.{Cell}
@@ -24,19 +24,19 @@ pub record IsOnCircle (edges : List Edge) (edge : Edge) : Type 0 where
   pub along : All (Contains edges) walk
 
 -- the text is the graph of the edges of these recipes, each of which stands in a recipe, and which leave out no two resources
--- that follow one another on a path; each edge of the circle has its arrow, which is red, and all that is red lies on a circle; how
--- acts are called in it is left open
+-- that follow one another on a path; each edge of the circle has its arrow, which is red, and all that is red lies on a circle; the
+-- names of acts in it are left open
 abbrev pub IsDrawingOf : Cell → List Recipe → List Edge → List ℕ → Type 0
 IsDrawingOf c rs circle text =
     (acts : ActNames) × (edges : List Edge) × (more : List Edge) × AreEdgesOf c rs edges × HasPairsOf circle edges × All (IsOnCircle edges) more
     × (text ≡ graph_text acts c rs edges (circle ++ more))
 
--- a circle is marked in the graph, and another fault is told as `check` tells it
+-- a circle is marked in the graph, and another fault has the text of `check`
 abbrev pub IsFaultDrawn : Cell → List Recipe → CheckFault → List ℕ → Type 0
 IsFaultDrawn c rs (Circle circle) text = IsDrawingOf c rs circle.items text
 IsFaultDrawn c rs fault text = text ≡ fault_text c rs fault
 
--- what is printed of recipes that can be cleared
+-- the output on recipes that can be cleared
 abbrev pub IsDrawn : Cell → List Recipe → List ℕ → Type 0
 IsDrawn c rs text = CanBeCleared (setup_of c rs) × IsDrawingOf c rs [] text
 

@@ -1,4 +1,4 @@
--- trusted: everything that is refused of documents, and which of their recipes break a rule, as `check --all` tells it.
+-- trusted: all refusals of documents, and the recipes that break a rule, as `check --all` reports them.
 use Rattle.std.specs.Prelude.{◌≡◌, ◌⊎◌, ℕ, ◌+◌, Bool, true, false, List, [], ◌∷◌, ◌++◌, None, string_bytes}
 use Rattle.batch_cell.specs.declared.cell.Cell.{Cell}
 use Rattle.batch_recipe.specs.declared.recipe.Recipe.{Recipe}
@@ -34,7 +34,7 @@ AreLooked gives (path ∷ paths) recipes refusals =
     ⊎ ((refusal : DocumentRefusal) × (others : List DocumentRefusal) × HaltsAtRecipe gives path (Refused refusal) × (refusals ≡ refusal ∷ others)
     × AreLooked gives paths recipes others)
 
--- all that is refused of the documents at these paths
+-- all refusals of the documents at these paths
 pub record AreRefusalsOf (gives : Gives) (cell : List ℕ) (paths : List (List ℕ)) (refusals : List DocumentRefusal) : Type 0 where
   pub of_cell : List DocumentRefusal
   pub of_recipes : List DocumentRefusal
@@ -43,12 +43,12 @@ pub record AreRefusalsOf (gives : Gives) (cell : List ℕ) (paths : List (List �
   pub looked : AreLooked gives paths recipes of_recipes
   pub joined : refusals ≡ of_cell ++ of_recipes
 
--- it is told, where it is anything
+-- they are reported, if there are any
 abbrev pub RefusesDocuments : Gives → List ℕ → List (List ℕ) → Halt → Type 0
 RefusesDocuments gives cell paths (Every refusals) = AreRefusalsOf gives cell paths refusals.items × ¬ (refusals.items ≡ [])
 RefusesDocuments gives cell paths _ = ⊥
 
--- one of the documents at these paths can't be read, or memory is wanting, and then nothing else is told
+-- one of the documents at these paths can't be read, or memory is wanting, and then nothing else is reported
 abbrev pub IsOneUnread : Gives → List (List ℕ) → Halt → Type 0
 IsOneUnread gives [] h = h ≡ Memory
 IsOneUnread gives (path ∷ paths) h = IsUnread gives path h ⊎ IsOneUnread gives paths h
@@ -72,7 +72,7 @@ AreRulesRefused c rs number (r ∷ more) refusals =
     (here : List DocumentRefusal) × (rest : List DocumentRefusal) × IsRuleRefused c rs number r here × AreRulesRefused c rs (number + 1) more rest
     × (refusals ≡ here ++ rest)
 
--- what is refused of a set of recipes is told, where it is anything
+-- the refusals of a set of recipes are reported, if there are any
 abbrev pub RefusesRules : Cell → List Recipe → Halt → Type 0
 RefusesRules c rs (Every refusals) =
     IsRecipeSet (setup_of c rs).recipes × AreRulesRefused c rs 0 rs refusals.items × ¬ (refusals.items ≡ [])
@@ -82,9 +82,9 @@ RefusesRules c rs h = h ≡ Memory
 abbrev pub AreRulesKept : Cell → List Recipe → Type 0
 AreRulesKept c rs = ¬ (IsRecipeSet (setup_of c rs).recipes) ⊎ AreRulesRefused c rs 0 rs []
 
--- What ends a command
+-- The end of a command
 
--- with no word of warning something is refused of the documents; or all are read, it is warned of them, and rules are broken
+-- a document is refused or can't be read, with no word of warning; or all are read, the program warns of them, and rules are broken
 abbrev pub HaltsAtLook : Gives → Warns → List ℕ → List (List ℕ) → Halt → Type 0
 HaltsAtLook gives warns cell paths h =
     (HaltsAtAll gives cell paths h × warns []) ⊎ IsSoWarned gives warns cell paths (λ c rs. RefusesRules c rs h)
@@ -94,7 +94,7 @@ abbrev pub HaltsLooking : Gives → Warns → List ℕ → List (List ℕ) → (
 HaltsLooking gives warns cell paths is_so h =
     HaltsAtLook gives warns cell paths h ⊎ IsSoWarned gives warns cell paths (λ c rs. AreRulesKept c rs × is_so c rs)
 
--- why `check` prints no certificate, where everything is to be told, and where the first refusal alone is
+-- why `check` prints no certificate, if all refusals are to be reported, and if the first alone is
 abbrev pub HaltsChecking : Bool → Gives → Warns → List ℕ → List (List ℕ) → Halt → Type 0
 HaltsChecking true gives warns cell paths h = HaltsLooking gives warns cell paths (λ c rs. RefusesCheck c rs h) h
 HaltsChecking false gives warns cell paths h = HaltsCheck gives warns cell paths h

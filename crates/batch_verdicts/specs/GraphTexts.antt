@@ -1,4 +1,4 @@
--- trusted: the graph of what is asked for after what, in the language of Graphviz.
+-- trusted: the graph of the orders in which resources are asked for, in the language of Graphviz.
 use Rattle.std.specs.Prelude.{ℕ, List, [], ◌++◌, Some, None, codes, decimal, if◌then◌else◌}
 use Rattle.std.specs.List.{flat_map}
 use Rattle.batch_cell.specs.declared.cell.Cell.{Cell}
@@ -28,15 +28,15 @@ resources_text c = flat_map unit_text c.units.items ++ (flat_map module_text c.m
 
 -- The edges
 
--- an edge is red where one of these leads from the same resource to the same
+-- an edge is red if one of these leads from the same resource to the same
 abbrev pub colour_of : List Edge → Edge → List ℕ
 colour_of red e = if has_pair red e.earlier e.later then codes ", color=red" else codes ""
 
--- what the acts at the nodes of the recipes are called
+-- the names of the acts at the nodes of the recipes
 abbrev pub ActNames : Type 0
 ActNames = ℕ → ℕ → List ℕ
 
--- an arrow from what is asked for before to what is asked for then, with the recipe, the place and the name of the act that asks so
+-- an arrow from the earlier resource to the later, with the recipe, the place and the name of the act that asks in this order
 abbrev pub arrow_text : ActNames → Cell → List Recipe → List Edge → Edge → List ℕ
 arrow_text acts c rs red e =
     codes "  \"" ++ (resource_name c e.earlier ++ (codes "\" -> \"" ++ (resource_name c e.later ++ (codes "\" [label=\""
@@ -45,7 +45,7 @@ arrow_text acts c rs red e =
 abbrev pub arrows_text : ActNames → Cell → List Recipe → List Edge → List Edge → List ℕ
 arrows_text acts c rs red edges = flat_map (arrow_text acts c rs red) edges
 
--- the graph of the edges under the cell's name, with what its shapes and colours mean
+-- the graph of the edges under the cell's name, with the meaning of its shapes and colours
 abbrev pub graph_text : ActNames → Cell → List Recipe → List Edge → List Edge → List ℕ
 graph_text acts c rs edges red =
     codes "digraph \"" ++ (c.name ++ (codes "\" {\n" ++ (LEGEND.now ++ (resources_text c ++ (arrows_text acts c rs red edges ++ codes "}\n")))))

@@ -30,7 +30,7 @@ HaltsAtRecipes gives (path ∷ paths) h = HaltsAtRecipe gives path h ⊎ ((r : R
 abbrev pub HaltsAtDocuments : Gives → List ℕ → List (List ℕ) → Halt → Type 0
 HaltsAtDocuments gives cell recipes h = HaltsAtCell gives cell h ⊎ ((c : Cell) × ReadsCell gives cell c × HaltsAtRecipes gives recipes h)
 
--- one of them does, with no word of warning, or all are read, it is warned, and this is so of them
+-- one of them does, with no word of warning, or all are read, the program warns of them, and this is so of them
 abbrev pub HaltsOver : Gives → Warns → List ℕ → List (List ℕ) → (Cell → List Recipe → Type 0) → Halt → Type 0
 HaltsOver gives warns cell recipes is_so h = (HaltsAtDocuments gives cell recipes h × warns []) ⊎ IsSoWarned gives warns cell recipes is_so
 

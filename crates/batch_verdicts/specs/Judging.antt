@@ -1,4 +1,4 @@
--- trusted: what verdicts say of the documents that they are on.
+-- trusted: the meaning of verdicts on documents.
 use Rattle.std.specs.Prelude.{◌≡◌, ◌≢◌, ◌≤◌, ◌<◌, ℕ, List, Bool, true, false, length, string_bytes, IsSome, IsUtf8, ⊤}
 use Rattle.toml.specs.Parse.{parse_document}
 use Rattle.batch_cell.specs.LookUps.{resources_of}
@@ -71,8 +71,8 @@ HaltsWith text kind halt.Memory = ⊤
 abbrev pub IsToml : List ℕ → Type 0
 IsToml bytes = IsUtf8 bytes × IsSome (parse_document bytes)
 
--- the document is refused, and but for memory it stands for no cell: it is called no TOML only where it is none, a document
--- that is too long is refused at its top, a table at fault is one of a cell's, and what is told of it is wrong there
+-- the document is refused, and but for memory it stands for no cell: it is called no TOML only if it is none, a document
+-- that is too long is refused at its top, a table at fault is one of a cell's, and it has the fault that is named
 pub record RefusesCell (path bytes : List ℕ) (h : Halt) : Type 0 where
   pub fault : DocFault
   pub stands : fault ≢ document.Memory → (c : Cell) → ¬ (IsCellDocument bytes c)
@@ -110,7 +110,7 @@ abbrev pub RefusesSet : Cell → List Recipe → List Rank → Halt → Type 0
 RefusesSet c rs ranks h =
     (refusal : SetRefusal) × IsFirstRefusal (setup_of c rs) ranks refusal × HaltsWith (refusal_text c rs ranks refusal) (set_kind refusal) h
 
--- what is printed of recipes that can be cleared: a text that is read as the least ranks, in order of name, and is not too long
+-- the output on recipes that can be cleared: a text that is read as the least ranks, in order of name, and is not too long
 -- for a file
 abbrev pub IsChecked : Cell → List Recipe → List ℕ → Type 0
 IsChecked c rs text =

@@ -8,19 +8,19 @@ use Rattle.batch_verdicts.specs.Reading.{AreReadWarned, Gives, ReadsCell, ReadsR
 use Rattle.batch_verdicts.specs.declared.refusal.DocumentRefusal.{DocumentRefusal}
 use Rattle.batch_verdicts.specs.declared.refusal.Halt.TheVariants.{Refused}
 
--- the cell's document is read, or its refusal is put behind the others
+-- the cell's document is read, or its refusal is appended to the others
 abbrev pub IsCellLooked : Gives → List ℕ → List DocumentRefusal → Option Cell → List DocumentRefusal → Type 0
 IsCellLooked gives path before (Some c) after = ReadsCell gives path c × (after ≡ before)
 IsCellLooked gives path before None after =
     (refusal : DocumentRefusal) × HaltsAtCell gives path (Refused refusal) × (after ≡ before ++ refusal ∷ [])
 
--- a recipe more, or a refusal more
+-- one more recipe, or one more refusal
 abbrev pub IsLooked : Gives → List ℕ → List Recipe → List DocumentRefusal → List Recipe → List DocumentRefusal → Type 0
 IsLooked gives path rs refusals recipes others =
     ((r : Recipe) × ReadsRecipe gives path r × (recipes ≡ rs ++ r ∷ []) × (others ≡ refusals))
     ⊎ ((refusal : DocumentRefusal) × HaltsAtRecipe gives path (Refused refusal) × (recipes ≡ rs) × (others ≡ refusals ++ refusal ∷ []))
 
--- behind the refusals before stand those of the documents at these paths
+-- the refusals of the documents at these paths follow those before
 abbrev pub LooksOn : Gives → List (List ℕ) → List DocumentRefusal → List Recipe → List DocumentRefusal → Type 0
 LooksOn gives paths before recipes after =
     (here : List DocumentRefusal) × AreLooked gives paths recipes here × (after ≡ before ++ here)

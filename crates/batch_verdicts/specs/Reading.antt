@@ -14,11 +14,11 @@ use Rattle.batch_verdicts.specs.WarningTexts.{warnings_text}
 use Rattle.batch_verdicts.specs.declared.refusal.Halt.{Halt}
 use Rattle.batch_verdicts.specs.declared.refusal.Halt.TheVariants.{Refused, Every, Unread, Memory}
 
--- what reading a path may give: these bytes, or at None that nothing can be read there
+-- the possible results of reading a path: these bytes, or at None that nothing can be read there
 abbrev pub Gives : Type 1
 Gives = List ℕ → Option (List ℕ) → Type 0
 
--- what was said of a text of warnings
+-- the effect of a text of warnings
 abbrev pub Warns : Type 1
 Warns = List ℕ → Type 0
 
@@ -52,25 +52,25 @@ pub record IsSoOf (gives : Gives) (cell : List ℕ) (paths : List (List ℕ)) (i
   pub recipes_read : ReadsRecipes gives paths recipes
   pub judged : is_so equipment recipes
 
--- they are this cell and these recipes, and it was warned of what of them can hardly be meant so
+-- they are this cell and these recipes, and the program warned of their parts that can hardly be meant so
 pub record AreReadWarned (gives : Gives) (warns : Warns) (cell : List ℕ) (paths : List (List ℕ)) (equipment : Cell) (recipes : List Recipe) : Type 0 where
   pub cell_read : ReadsCell gives cell equipment
   pub recipes_read : ReadsRecipes gives paths recipes
   pub warned : warns (warnings_text cell equipment paths recipes)
 
--- it is so of them, and it was warned of what of them can hardly be meant so
+-- it is so of them, and the program warned of their parts that can hardly be meant so
 abbrev pub IsSoWarned : Gives → Warns → List ℕ → List (List ℕ) → (Cell → List Recipe → Type 0) → Type 0
 IsSoWarned gives warns cell paths is_so = IsSoOf gives cell paths (λ c rs. warns (warnings_text cell c paths rs) × is_so c rs)
 
--- what `check` prints of the documents at these paths
+-- the output of `check` on the documents at these paths
 abbrev pub ChecksDocuments : Gives → Warns → List ℕ → List (List ℕ) → List ℕ → Type 0
 ChecksDocuments gives warns cell paths text = IsSoWarned gives warns cell paths (λ c rs. IsChecked c rs text)
 
--- what `check --dot` prints of them
+-- the output of `check --dot` on them
 abbrev pub DrawsDocuments : Gives → Warns → List ℕ → List (List ℕ) → List ℕ → Type 0
 DrawsDocuments gives warns cell paths text = IsSoWarned gives warns cell paths (λ c rs. IsDrawn c rs text)
 
--- what `show` prints of them: the nodes of the recipes' expanded trees, whether they can be cleared or not
+-- the output of `show` on them: the nodes of the recipes' expanded trees, whether they can be cleared or not
 abbrev pub ShowsDocuments : Gives → List ℕ → List (List ℕ) → List ℕ → Type 0
 ShowsDocuments gives cell paths text = IsSoOf gives cell paths (λ c rs. text ≡ shown rs)
 
@@ -86,7 +86,7 @@ pub record AreCleared (gives : Gives) (cell certificate : List ℕ) (paths : Lis
   pub read : AreRead gives cell certificate paths set.cell ranks set.recipes
   pub cleared : IsClearedBy set.cell set.recipes ranks
 
--- what `verify` prints of them: it accepts the set that they make, once it has warned of it
+-- the output of `verify` on them: it accepts the set that they make, once it has warned of it
 abbrev pub VerifiesDocuments : Gives → Warns → List ℕ → List ℕ → List (List ℕ) → List ℕ → Type 0
 VerifiesDocuments gives warns cell certificate paths text =
     (text ≡ accepted_text)

@@ -1,4 +1,4 @@
--- trusted: what comes of a request: what is printed, the set that is to be served, or why there is none.
+-- trusted: the outcome of a request: the printed text, the set that is to be served, or the reason why there is none.
 use Rattle.std.specs.Prelude.{◌≡◌, List, ℕ, [], ◌∷◌}
 use Rattle.batch_verify.specs.ClearedSet.{ClearedSet}
 use Rattle.batch_cli.specs.CommandLine.{Judgement, check, draw, verify, Source, demo, documents, Request, judge, serve, tell, audit, plant, explain, show, keep, write, remark, picture, serve_desks}
@@ -10,7 +10,7 @@ use Rattle.batch_verdicts.specs.Reading.{AreCleared, ChecksDocuments, DrawsDocum
 use Rattle.batch_verdicts.specs.declared.demo.TheConstants.{CELL_PATH, CERTIFICATE_PATH, RECIPE_PATH}
 use Rattle.batch_verdicts.specs.declared.refusal.Halt.{Halt}
 
--- what is read of the demo
+-- the results of reading the demo's documents
 abbrev pub demo_gives : Gives
 demo_gives path reading = reading ≡ demo_text path
 
@@ -22,7 +22,7 @@ IsDemoSet set = AreCleared demo_gives CELL_PATH.now CERTIFICATE_PATH.now (RECIPE
 abbrev pub HaltsDemo : Halt → Type 0
 HaltsDemo h = HaltsClearing demo_gives CELL_PATH.now CERTIFICATE_PATH.now (RECIPE_PATH.now ∷ []) h
 
--- what is printed where nothing is refused
+-- the output if nothing is refused
 abbrev pub IsVerdict : Gives → Warns → Judgement → List ℕ → Type 0
 IsVerdict gives warns (check all cell recipes) text = ChecksDocuments gives warns cell recipes text
 IsVerdict gives warns (draw all cell recipes) text = DrawsDocuments gives warns cell recipes text
@@ -46,7 +46,7 @@ abbrev pub HaltsSource : Gives → Source → Halt → Type 0
 HaltsSource gives demo h = HaltsDemo h
 HaltsSource gives (documents cell certificate recipes) h = HaltsClearing gives cell certificate recipes h
 
--- of documents that are only judged it is warned
+-- the program warns of documents that are only judged
 abbrev pub Halts : Gives → Warns → Request → Halt → Type 0
 Halts gives warns (judge judgement) h = HaltsJudgement gives warns judgement h
 Halts gives warns (keep journal cell certificate recipes echo times) h = HaltsClearing gives cell certificate recipes h × warns []

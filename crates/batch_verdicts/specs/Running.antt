@@ -1,4 +1,4 @@
--- trusted: what the program writes for its words, to which stream, and how it ends.
+-- trusted: the texts that the program writes for its words, their streams, and the way in which the program ends.
 use Rattle.std.specs.Prelude.{◌≡◌, ◌⊎◌, ℕ, Bool, List, [], Option, String, if◌then◌else◌, option_map, string_bytes}
 use Rattle.std.specs.List.{flat_map, list_any}
 use Rattle.std.specs.Global.{Global}
@@ -48,7 +48,7 @@ memory_status = 4
 
 -- Streams
 
--- what a stream held before, and what it holds after, where that is known
+-- the contents of a stream before and after, each if it is known
 pub record Stream : Type 0 where
   pub before : Option (List ℕ)
   pub after : Option (List ℕ)
@@ -63,7 +63,7 @@ abbrev pub IsPrinted : Stream → Stream → List ℕ → ℕ → ℕ → Type 0
 IsPrinted output errors text wanted status =
     (Appends output.before output.after text × IsUnwritten errors × (status ≡ wanted)) ⊎ (status ≡ fault_status)
 
--- the refusal was written whole to the output, what it means was said on the errors, and the program ends with its status;
+-- the refusal was written whole to the output, its sentence was said on the errors, and the program ends with its status;
 -- or it ends with the status of a fault, and then nothing is known of the streams
 abbrev pub IsRefused : Bool → Stream → Stream → DocumentRefusal → ℕ → Type 0
 IsRefused quiet output errors refusal status =
@@ -71,12 +71,12 @@ IsRefused quiet output errors refusal status =
     × (status ≡ status_of refusal.kind))
     ⊎ (status ≡ fault_status)
 
--- the status of several refusals: that of want of memory, where one of them is for that
+-- the status of several refusals: that of want of memory, if one of them is for that
 abbrev pub status_of_every : List DocumentRefusal → ℕ
 status_of_every refusals = if list_any (λ r. is_for_memory r.kind) refusals then memory_status else status_of Fault
 
--- they were written whole to the output, in their order, what they mean was said on the errors, and the program ends with their status;
--- or it ends with the status of a fault, and then nothing is known of the streams; or memory was wanting
+-- they were written whole to the output, in their order, their sentences were said on the errors, and the program ends with their
+-- status; or it ends with the status of a fault, and then nothing is known of the streams; or memory was wanting
 abbrev pub AreRefused : Bool → Stream → Stream → List DocumentRefusal → ℕ → Type 0
 AreRefused quiet output errors refusals status =
     (Appends output.before output.after (flat_map (λ r. string_bytes r.text) refusals) × AreSaid quiet refusals errors.before errors.after
@@ -89,7 +89,7 @@ AreRefused quiet output errors refusals status =
 abbrev pub AskFor : List Text → Request → Type 0
 AskFor words request = (faults_of words ≡ []) × (request ≡ asked_by (subcommand_of program_app words))
 
--- they ask that nothing be said in words of a refusal
+-- they ask the program to write no sentence on a refusal
 abbrev pub ask_quiet : List Text → Bool
 ask_quiet words = asks_quiet (subcommand_of program_app words)
 
@@ -101,15 +101,15 @@ AskToShow words = (kind : ErrorKind) × IsAmong kind (faults_of words) × IsShow
 abbrev pub AreMisused : List Text → Type 0
 AreMisused words = (kind : ErrorKind) × IsAmong kind (faults_of words) × ¬ (IsShown kind)
 
--- a refusal is printed, or several are; a file that can't be read and want of memory leave the output as it was, and are told on the errors in
--- a free text
+-- a refusal is printed, or several are; a file that can't be read and want of memory leave the output as it was, and are reported on
+-- the errors in a free text
 abbrev pub IsAnnounced : Bool → Stream → Stream → Halt → ℕ → Type 0
 IsAnnounced quiet output errors (halt.Refused refusal) status = IsRefused quiet output errors refusal status
 IsAnnounced quiet output errors (halt.Every refusals) status = AreRefused quiet output errors refusals.items status
 IsAnnounced quiet output errors (halt.Unread message) status = IsUnwritten output × (status ≡ fault_status)
 IsAnnounced quiet output errors halt.Memory status = IsUnwritten output × (status ≡ memory_status)
 
--- what the first code in the texts means is told, or that they have none, or memory was wanting
+-- the explanation that the texts ask for is printed, or they have no code, or memory was wanting
 abbrev pub IsExplained : List Text → Stream → Stream → ℕ → Type 0
 IsExplained texts output errors status =
     ((text : List ℕ) × Tells texts text × IsPrinted output errors text success_status status)
@@ -117,10 +117,10 @@ IsExplained texts output errors status =
 
 -- Runs
 
--- what comes of a request: the exit status, or the text that a file is to hold, or the set that the program is to serve, quietly or
+-- the outcome of a request: the exit status, or the text that a file is to hold, or the set that the program is to serve, quietly or
 -- not, with a journal or without one, or whose plant it is to run, or the record that it is to read, to draw, or to audit over a set
 pub data IsDone (gives : Gives) (request : Request) (quiet : Bool) (output errors : Stream) : Course → Type 0 where
-  -- what the errors hold once it is warned is what they hold before the verdict is printed
+  -- the errors have the same contents behind the warnings and before the verdict is printed
   judges : (judgement : Judgement) (text : List ℕ) (status : ℕ) (warned : Option (List ℕ))
       → request ≡ judge judgement → IsVerdict gives (IsWarned quiet errors.before warned) judgement text
       → IsPrinted output (record { before = warned; after = errors.after }) text success_status status
@@ -139,7 +139,7 @@ pub data IsDone (gives : Gives) (request : Request) (quiet : Bool) (output error
   keeps : (cell certificate : Text) (recipes : List Text) (journal : String Global) (digested : Digested) (comments : Comments)
       → request ≡ keep (string_bytes journal) cell certificate recipes comments.echo comments.times → AreDigested gives cell certificate recipes digested.set digested.documents.text
       → IsUnwritten output → IsUnwritten errors → IsDone gives request quiet output errors (courses.Keeps digested quiet journal comments)
-  -- with a journal where a path names one
+  -- with a journal if a path names one
   serves_desks : (journal : Option (String Global)) (path cell certificate : Text) (recipes : List Text) (served : DeskSet) (times : Bool)
       → request ≡ serve_desks (option_map string_bytes journal) path cell certificate recipes times
       → AreDesksCleared gives path cell certificate recipes served.desks served.digested.set served.digested.documents.text
@@ -164,7 +164,7 @@ pub data IsDone (gives : Gives) (request : Request) (quiet : Bool) (output error
       → IsAnnounced quiet output (record { before = warned; after = errors.after }) h status
       → IsDone gives request quiet output errors (Ends status)
 
--- what comes of the words
+-- the outcome of the words
 pub data IsRun (gives : Gives) (words : List Text) (output errors : Stream) : Course → Type 0 where
   commands : (request : Request) (course : Course)
       → AskFor words request → IsDone gives request (ask_quiet words) output errors course → IsRun gives words output errors course

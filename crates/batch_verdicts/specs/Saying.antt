@@ -1,4 +1,4 @@
--- trusted: what is said to a person beside a verdict.
+-- trusted: the sentences for a person beside a verdict.
 use Rattle.std.specs.Prelude.{◌≡◌, ◌++◌, ℕ, Bool, true, false, List, Option, codes, string_bytes}
 use Rattle.std.specs.Io.KnownBytes.{Appends, Keeps}
 use Rattle.std.specs.List.{flat_map}
@@ -12,14 +12,14 @@ told_line text = codes "batchd: " ++ (text ++ codes "\n")
 abbrev pub line_of : Sentence → List ℕ
 line_of sentence = told_line (string_bytes sentence.text)
 
--- the text was written, or a front of it, where the rest can't be written
+-- the text was written, or a prefix of it if the rest can't be written
 pub record WritesFront (before after : Option (List ℕ)) (text : List ℕ) : Type 0 where
   pub written : List ℕ
   pub rest : List ℕ
   pub splits : text ≡ written ++ rest
   pub appends : Appends before after written
 
--- nothing is said where the words ask for quiet, and else the line of the sentence
+-- nothing is written if the words ask for quiet, else the line of the sentence
 abbrev pub IsSaid : Bool → Sentence → Option (List ℕ) → Option (List ℕ) → Type 0
 IsSaid true sentence before after = Keeps before after
 IsSaid false sentence before after = WritesFront before after (line_of sentence)
@@ -29,7 +29,7 @@ abbrev pub AreSaid : Bool → List DocumentRefusal → Option (List ℕ) → Opt
 AreSaid true refusals before after = Keeps before after
 AreSaid false refusals before after = WritesFront before after (flat_map (λ r. line_of r.sentence) refusals)
 
--- what is said of this text, the lines of warnings: nothing where the words ask for quiet
+-- the same of warnings, by the text of their lines
 abbrev pub IsWarned : Bool → Option (List ℕ) → Option (List ℕ) → List ℕ → Type 0
 IsWarned true before after text = Keeps before after
 IsWarned false before after text = WritesFront before after text

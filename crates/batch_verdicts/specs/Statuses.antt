@@ -1,4 +1,4 @@
--- surface: what the exit status of a run tells.
+-- surface: the meaning of a run's exit status.
 use Rattle.std.specs.Prelude.{◌≡◌, ◌⊎◌, ℕ, Bool, List}
 use Rattle.std.specs.Io.KnownBytes.{Appends}
 use Rattle.clap.specs.Walk.{Text}
@@ -13,13 +13,13 @@ use Rattle.batch_verdicts.specs.declared.course.Course.{Course}
 use Rattle.batch_verdicts.specs.declared.course.Course.TheVariants.{Ends, Serves}
 use Rattle.batch_verdicts.specs.declared.refusal.Halt.{Halt}
 
--- what is to be told of the texts was written
+-- the explanation that the texts ask for was written
 abbrev pub AreCodesTold : List Text → Stream → Type 0
 AreCodesTold texts output = (text : List ℕ) × Tells texts text × Appends output.before output.after text
 
--- `check` wrote the certificate with the least ranks, or the drawing of recipes that can be cleared; `show` wrote the recipes' nodes; `verify` wrote that it accepts
--- the set of the documents, which their certificate clears; on the errors both wrote their warnings alone. Nothing else ends so
--- before it has served or written a file
+-- `check` wrote the certificate with the least ranks, or the drawing of recipes that can be cleared; `show` wrote the recipes' nodes;
+-- `verify` wrote that it accepts the set of the documents, which their certificate clears; `explain` wrote the explanation. On the
+-- errors `check` and `verify` wrote their warnings alone. Nothing else ends so before it has served or written a file
 abbrev pub IsSuccess : Gives → Bool → Request → Stream → Stream → Type 0
 IsSuccess gives quiet (judge judgement) output errors =
     (text : List ℕ) × Appends output.before output.after text × IsVerdict gives (IsWarned quiet errors.before errors.after) judgement text
@@ -40,14 +40,14 @@ SuccessIsTold gives =
     (words : List Text) (output errors : Stream) (request : Request)
     → AskFor words request → IsRun gives words output errors (Ends 0) → IsSuccess gives (ask_quiet words) request output errors
 
--- a set is served only where the words ask for it, and it is that of the documents, cleared by their certificate
+-- a set is served only if the words ask for it, and it is that of the documents, cleared by their certificate
 abbrev pub ServesClearedSets : Gives → Type 0
 ServesClearedSets gives =
     (words : List Text) (output errors : Stream) (request : Request) (set : ClearedSet) (quiet : Bool)
     → AskFor words request → IsRun gives words output errors (Serves set quiet)
     → (source : Source) × (request ≡ serve source) × IsSetOf gives source set × (quiet ≡ ask_quiet words)
 
--- where the words name no command, the demo is to be served, unless memory ran out, or the demo's documents say why not
+-- if the words name no command, the demo is to be served, unless memory ran out, or the demo's documents say why not
 abbrev pub NoCommandServes : Gives → Type 0
 NoCommandServes gives =
     (words : List Text) (output errors : Stream) (course : Course)

@@ -38,12 +38,12 @@ code_of Duplicate = codes "D6"
 code_of OutOfLimit = codes "D7"
 code_of (Chart offset) = codes "D8"
 
--- where in a chart the fault is
+-- the place of the fault in a chart
 abbrev pub offset_words : EntryFault → List (List ℕ)
 offset_words (Chart offset) = decimal offset ∷ []
 offset_words _ = []
 
--- the path, whose control characters are escaped so that it ends no line, and where in the document the fault is
+-- the path, whose control characters are escaped so that it ends no line, and the place of the fault in the document
 abbrev pub document_words : List ℕ → DocFault → List (List ℕ)
 document_words path document.NotToml = codes "D1" ∷ shown path ∷ []
 document_words path (document.Entry spot fault) = code_of fault ∷ shown path ∷ spot_text spot ∷ offset_words fault
@@ -54,7 +54,7 @@ document_text path fault = refused (document_words path fault)
 
 -- Places
 
--- where the node with this number is
+-- the place of the node with this number
 abbrev pub place_of : Recipe → ℕ → List ℕ
 place_of r node = unwrap_or (option_map (λ (n : Node). place_text n.place) (slice_get (procedure_nodes r.acts) node)) []
 
@@ -107,7 +107,7 @@ refusal_text c rs ranks (set.Recipe recipe broken) = refused (rule_code broken.r
 refusal_text c rs ranks set.Memory = refused (codes "V8" ∷ [])
 refusal_text c rs ranks set.Recipes = refused (codes "V10" ∷ [])
 
--- an edge of a circle: who asks, what for before and what for then
+-- an edge of a circle: the recipe and the place that ask, the earlier resource and the later
 abbrev pub edge_text : Cell → List Recipe → Edge → List ℕ
 edge_text c rs e =
     line_text (codes "edge" ∷ node_text rs e.recipe e.node ∷ resource_name c e.earlier ∷ resource_name c e.later ∷ [])

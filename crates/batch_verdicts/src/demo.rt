@@ -1,4 +1,4 @@
-//! The demo: a cell, a recipe and its certificate, which the program has built in.
+//! The demo: a cell, a recipe and its certificate, which are built into the program.
 ghost use Rattle.std.specs.Prelude.{◌≡◌, option_map};
 ghost use Rattle.batch_verdicts.specs.DemoDocuments.{demo_text};
 

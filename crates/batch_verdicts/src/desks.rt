@@ -16,7 +16,7 @@ use batch_journal::DocumentsDigest;
 use batch_reader::MAX_DOCUMENT_LEN;
 use std::alloc::Global;
 
-/// Desks, and the set over which they are served, with what names its documents in a journal.
+/// Desks, and the set over which they are served, with the digits that name its documents in a journal.
 #[derive(Drop)]
 pub struct DeskSet {
     pub desks: Desks,
@@ -73,7 +73,7 @@ fn read_desk_document<D: Documents>(
     Ok(DeskDocument { desks, bytes })
 }
 
-/// The desks of the document at the path, which only the text of a refusal names. What it names is looked up in no cell.
+/// The desks of the document at the path. Only a refusal names the path. Their units are looked up in no cell.
 fn judge_desks(alloc: Global, path: &str, bytes: &[u8]) -> Result<Desks, Halt>
     ensures ok { IfOk result (IsDesksDocument bytes.now) }
     ensures refused { IfErr result (RefusesDesks path.now bytes.now) }

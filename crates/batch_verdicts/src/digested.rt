@@ -17,7 +17,7 @@ use batch_recipe::Recipe;
 use batch_verify::Cleared;
 use std::alloc::Global;
 
-/// A cleared set, and what names its documents in a journal.
+/// A cleared set, and the digits that name its documents in a journal.
 #[derive(Drop)]
 pub struct Digested {
     pub set: Cleared,
@@ -84,7 +84,7 @@ pub(crate) fn read_cell<D: Documents>(
     Ok(cell)
 }
 
-/// The recipe of the document at the path, whose source is put behind those of the recipes before it.
+/// The recipe of the document at the path. Appends its source to those of the recipes before it.
 fn read_recipe<D: Documents>(
     alloc: Global,
     documents: &D,

@@ -19,9 +19,9 @@ use batch_verify::{Certificate, Cleared};
 use std::alloc::Global;
 use std::io::Write;
 
-/// Where documents are read from.
+/// A source of documents.
 pub trait Documents {
-    // What reading a path may give: these bytes, or at None that nothing can be read there.
+    // The possible results of reading a path: these bytes, or at None that nothing can be read there.
     ghost gives: { Self → List ℕ → Option (List ℕ) → Type 0 };
 
     /// The bytes at the path, but no more than one beyond the limit.
@@ -30,8 +30,8 @@ pub trait Documents {
         ensures unread { IfErr result (IsUnread (gives self.now) path.now) };
 }
 
-/// What `check` prints of the documents at these paths. The first document that can't be read or is refused ends it; once all are
-/// read it is warned of them on the errors, unless quiet is asked for.
+/// The output of `check` on the documents at these paths. The first document that can't be read or is refused ends it. Once all are
+/// read, it warns of them on the errors, unless quiet is asked for.
 pub fn check_documents<D: Documents, E: Write>(
     alloc: Global,
     documents: &D,
@@ -70,12 +70,12 @@ pub fn draw_documents<D: Documents, E: Write>(
     draw_recipes(alloc, &read.cell, &read.recipes, &read.sources)
 }
 
-/// What the documents of a cell and of its recipes say.
+/// The contents of the documents of a cell and of its recipes.
 #[derive(Drop)]
 pub(crate) struct CellDocuments {
     pub(crate) cell: Cell,
     pub(crate) recipes: Vec<Recipe>,
-    /// Where the acts of the recipes stand.
+    /// The files and lines of the acts of the recipes.
     pub(crate) sources: Vec<Source>,
 }
 
@@ -106,7 +106,7 @@ fn read_warned<D: Documents, E: Write>(
     })
 }
 
-/// What `verify` prints of the documents at these paths: it accepts the set that [`clear_documents`] gives, and its errors
+/// The output of `verify` on the documents at these paths: it accepts the set that [`clear_documents`] gives, and its errors
 /// are those of that call. It warns as [`check_documents`] does.
 pub fn verify_documents<D: Documents, E: Write>(
     alloc: Global,
@@ -130,7 +130,7 @@ pub fn verify_documents<D: Documents, E: Write>(
     Ok(String::from_str(alloc, "accepted\n")?)
 }
 
-/// What `show` prints of the documents at these paths: the nodes of the recipes, whether they can be cleared or not. The first
+/// The output of `show` on the documents at these paths: the nodes of the recipes, whether they can be cleared or not. The first
 /// document that can't be read or is refused ends it, as [`check_documents`].
 // claim: nodes shown
 pub fn show_documents<D: Documents>(
@@ -174,13 +174,13 @@ pub fn clear_documents<D: Documents>(
     )
 }
 
-/// What the documents of a set say.
+/// The contents of the documents of a set.
 #[derive(Drop)]
 struct DocumentSet {
     cell: Cell,
     certificate: Certificate,
     recipes: Vec<Recipe>,
-    /// Where the acts of the recipes stand.
+    /// The files and lines of the acts of the recipes.
     sources: Vec<Source>,
 }
 
@@ -231,7 +231,7 @@ pub(crate) fn read_certificate<D: Documents>(
     judge_certificate(alloc, path, &text)
 }
 
-/// The recipe of the document at the path, whose source is put behind those of the recipes before it.
+/// The recipe of the document at the path. Appends its source to those of the recipes before it.
 pub(crate) fn read_recipe<D: Documents>(
     alloc: Global,
     documents: &D,

@@ -1,4 +1,4 @@
-//! Drawings of what recipes ask for after what.
+//! Drawings of the orders in which recipes ask for resources.
 ghost use Rattle.std.specs.Prelude.{[], IfErr, IfOk, string_bytes};
 ghost use Rattle.std.specs.List.{All};
 ghost use Rattle.batch_check.specs.Checking.{IsFault};
@@ -15,8 +15,8 @@ use batch_messages::Source;
 use batch_recipe::Recipe;
 use std::alloc::{AllocError, Global};
 
-/// What `check --dot` prints of the recipes: in place of a certificate, or of a circle, the graph of the edges, for Graphviz. Of
-/// the sources only the sentence of a refusal speaks.
+/// The output of `check --dot` on the recipes: in place of a certificate, or of a circle, the graph of the edges, for Graphviz. Only
+/// the sentence of a refusal uses the sources.
 // claim: drawing
 pub fn draw_recipes(
     alloc: Global,
@@ -37,7 +37,7 @@ pub fn draw_recipes(
     }
 }
 
-/// The graph with the circle that the fault is, or what `check` prints of another fault.
+/// The graph with the circle that the fault is, or the text of `check` on another fault.
 fn fault_drawing(
     alloc: Global,
     cell: &Cell,
@@ -55,8 +55,7 @@ fn fault_drawing(
     }
 }
 
-/// The graph of the recipes, in which each edge that is on a circle is red. The circle that is told is one that stands in them, or
-/// has no edge.
+/// The graph of the recipes, in which each edge on a circle is red. The given circle has edges of the recipes alone, or none.
 fn drawing(
     alloc: Global,
     cell: &Cell,

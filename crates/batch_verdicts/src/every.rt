@@ -1,4 +1,4 @@
-//! Looking at all documents, and telling everything that is refused of them.
+//! Judging all documents, and reporting all refusals of them.
 ghost use Rattle.std.specs.Prelude.{◌≡◌, ◌≤◌, ℕ, List, OnOk, IfOk, IfErr, length, map, string_bytes};
 ghost use Rattle.batch_model.specs.declared.limits.TheConstants.{MAX_RECIPES};
 ghost use Rattle.batch_verdicts.specs.Every.{AreRulesKept, AreRulesRefused, HaltsAtAll, HaltsAtLook, HaltsChecking, HaltsDrawingOf, IsOneUnread, RefusesRules};
@@ -25,9 +25,8 @@ use batch_verify::{first_broken, is_recipe_set};
 use std::alloc::Global;
 use std::io::Write;
 
-/// What `check` prints of the documents at these paths. Where everything is to be told, all documents are looked at, and all that are
-/// refused are told; where none is, every recipe that breaks a rule is told, by the first that it breaks. Else it ends as
-/// [`check_documents`].
+/// The output of `check` on the documents at these paths. With `all` it judges all documents and reports all their refusals; if there
+/// are none, it reports each recipe that breaks a rule, by the first that it breaks. Else it ends as [`check_documents`].
 // claim: everything told
 pub fn check_asked<D: Documents, E: Write>(
     alloc: Global,
@@ -73,7 +72,7 @@ pub fn draw_asked<D: Documents, E: Write>(
     draw_recipes(alloc, &read.cell, &read.recipes, &read.sources)
 }
 
-/// Reads all documents, warns of them, and looks for rules that the recipes break.
+/// Reads all documents, warns of them, and searches for rules that the recipes break.
 fn read_sound<D: Documents, E: Write>(
     alloc: Global,
     documents: &D,
@@ -101,7 +100,7 @@ fn read_sound<D: Documents, E: Write>(
     Ok(read)
 }
 
-/// Reads all documents. Those that are refused are told together.
+/// Reads all documents, and reports their refusals together.
 fn read_all<D: Documents>(
     alloc: Global,
     documents: &D,
@@ -127,7 +126,7 @@ fn read_all<D: Documents>(
     })
 }
 
-/// The cell of the document at the path. Where that is refused, its refusal is put behind the others.
+/// The cell of the document at the path. If that is refused, its refusal is appended to the others.
 #[tactic(auto, using(crate::proofs::Looked::cell_unread))]
 fn look_at_cell<D: Documents>(
     alloc: Global,
@@ -149,16 +148,16 @@ fn look_at_cell<D: Documents>(
     }
 }
 
-/// What looking at the documents of recipes came to.
+/// The outcome of reading the documents of recipes.
 #[derive(Drop)]
 struct Looked {
     recipes: Vec<Recipe>,
-    /// Where the acts of the recipes stand.
+    /// The files and lines of the acts of the recipes.
     sources: Vec<Source>,
     refusals: Vec<DocumentRefusal>,
 }
 
-/// The recipes of the documents at these paths that aren't refused. The refusals of the others are put behind those before.
+/// The recipes of the documents at these paths that aren't refused. The refusals of the others are appended to those before.
 fn look_at_recipes<D: Documents>(
     alloc: Global,
     documents: &D,
@@ -180,7 +179,7 @@ fn look_at_recipes<D: Documents>(
     Ok(looked)
 }
 
-/// Looks at one document more.
+/// Reads one more document.
 #[tactic(auto, using(crate::proofs::Looked::recipe_unread))]
 fn look_at_recipe<D: Documents>(
     alloc: Global,
@@ -201,7 +200,7 @@ fn look_at_recipe<D: Documents>(
     Ok(())
 }
 
-/// Looks for rules that the recipes of a set break. All recipes that break one are told, each by the first that it breaks.
+/// Searches for rules that the recipes of a set break. All recipes that break one are reported, each by the first that it breaks.
 fn keep_rules(
     alloc: Global,
     cell: &Cell,

@@ -10,7 +10,7 @@ use std::alloc::Global;
 use std::fs;
 use std::rt::Files;
 
-/// The files that the runtime opens. No contract says what they hold.
+/// The files that the runtime opens. No contract speaks of their contents.
 #[derive(Drop)]
 pub struct FilesOf<'a, R>(pub &'a R);
 

@@ -25,10 +25,10 @@ use std::alloc::{AllocError, Global};
 /// The longest file of a certificate, in bytes.
 pub const MAX_CERTIFICATE_LEN: usize = 32_768;
 
-/// The cell of the document at the path, which only the text of a refusal names.
+/// The cell of the document at the path. Only a refusal names the path.
 ///
 /// A document with a fault is refused by the first that the reader meets, and want of memory for the judgement is refused as
-/// well. Where there is no memory for that text the error is [`Halt::Memory`].
+/// well. If there is no memory for the text of the refusal, the error is [`Halt::Memory`].
 // claim: cell judged
 pub fn judge_cell(alloc: Global, path: &str, bytes: &[u8]) -> Result<Cell, Halt>
     ensures ok { IfOk result (IsCellDocument bytes.now) }
@@ -41,7 +41,7 @@ pub fn judge_cell(alloc: Global, path: &str, bytes: &[u8]) -> Result<Cell, Halt>
     }
 }
 
-/// The recipe of the document at the path. What it names is looked up in no cell. Its errors are those of [`judge_cell`].
+/// The recipe of the document at the path. Its names are looked up in no cell. Its errors are those of [`judge_cell`].
 // claim: recipe judged
 pub fn judge_recipe(alloc: Global, path: &str, bytes: &[u8]) -> Result<Recipe, Halt>
     ensures ok { IfOk result (IsRecipeDocument bytes.now) }
@@ -93,8 +93,8 @@ fn refused(
 /// The certificate of the file.
 ///
 /// A text with a fault is refused by its first line with one, and a file longer than [`MAX_CERTIFICATE_LEN`] as one of too many
-/// lines, whatever it holds. Want of memory is refused as well; where there is none for that text the error is
-/// [`Halt::Memory`]. Of the path only the sentence speaks.
+/// lines, whatever its content. Want of memory is refused as well. If there is none for the text of the refusal, the error is
+/// [`Halt::Memory`]. Only the sentence names the path.
 // claim: certificate judged
 pub fn judge_certificate(alloc: Global, path: &str, text: &[u8]) -> Result<Certificate, Halt>
     ensures ok { IfOk result (λ certificate. IsCertificateText text.now certificate.ranks.items) }
@@ -122,8 +122,8 @@ fn certificate_halt(alloc: Global, path: &str, bytes: &[u8], fault: CertFault) -
     refused(text, kind, sentence)
 }
 
-/// What `check` prints of the recipes: their least ranks, or why there are none. Of the sources only the sentence of a refusal
-/// speaks.
+/// The output of `check` on the recipes: their least ranks, or the reason why there are none. Only the sentence of a refusal uses the
+/// sources.
 pub fn check_recipes(
     alloc: Global,
     cell: &Cell,
@@ -166,7 +166,7 @@ pub(crate) fn fault_halt(
 /// The cell and the recipes, cleared by the certificate.
 ///
 /// Recipes that it doesn't clear are refused by the first rule that they break, and want of memory for the judgement is
-/// refused as well. Where there is no memory for that text the error is [`Halt::Memory`].
+/// refused as well. If there is no memory for the text of the refusal, the error is [`Halt::Memory`].
 // claim: set of documents (set, cleared)
 pub fn clear_recipes(
     alloc: Global,
@@ -202,7 +202,7 @@ fn set_halt(
     refused(text, kind, sentence)
 }
 
-/// What a set is refused for.
+/// The kind of a set's refusal.
 fn set_kind(refusal: SetRefusal) -> RefusalKind
     ensures { result ≡ set_kind refusal }
 {

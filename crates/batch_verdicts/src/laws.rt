@@ -3,8 +3,8 @@ ghost use Rattle.batch_verdicts.specs.Statuses.{NoCommandServes, ServesClearedSe
 
 use crate::documents::Documents;
 
-/// What [`run_words`](crate::run_words) tells, by its exit status or by the set that is to be served, of the documents and of
-/// standard output.
+/// The facts about the documents and standard output that follow from the result of [`run_words`](crate::run_words): its exit status,
+/// or the set that is to be served.
 pub fn statuses_tell<D: Documents>(documents: &D)
     // claim: warnings at success; `verify`'s text; `verify`'s clearance; `check`'s certificate
     ensures success { SuccessIsTold (D.gives documents.now) }

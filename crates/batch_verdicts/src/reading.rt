@@ -8,10 +8,10 @@ use std::io;
 use std::io::{ErrorKind, Read};
 use thiserror::Error;
 
-/// How often a reader is asked for one document, interrupted calls among them.
+/// The most calls of a reader for one document, interrupted ones among them.
 pub const MAX_READS: u64 = 2_000_000;
 
-/// How many bytes one call of the reader may give.
+/// The most bytes that one call of the reader may give.
 const PIECE_LEN: usize = 16_384;
 
 /// Why a document wasn't read whole.

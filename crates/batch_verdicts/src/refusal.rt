@@ -6,12 +6,12 @@ ghost use Rattle.batch_verdicts.specs.declared.refusal.Halt.TheVariants.{Memory}
 use batch_wording::Sentence;
 use std::alloc::{AllocError, AllocFailed};
 
-/// What a refusal is for.
+/// The kind of a refusal.
 #[derive(Clone, Copy)]
 pub enum RefusalKind {
     /// A document, a certificate or the recipes have a fault.
     Fault,
-    /// Memory for the judgement ran out, which says nothing of what was to be judged.
+    /// Memory for the judgement ran out, which says nothing of the documents.
     OutOfMemory,
 }
 
@@ -38,23 +38,23 @@ impl RefusalKind {
     }
 }
 
-/// What the program prints of what it refuses, and how it ends then.
+/// A refusal: the text that the program prints, the way in which it then ends, and a sentence.
 #[derive(Drop)]
 pub struct DocumentRefusal {
     /// The lines for standard output, each with its line feed.
     pub text: String,
-    /// How the program ends once the text is written.
+    /// The kind, by which the program ends once the text is written.
     pub kind: RefusalKind,
-    /// What the refusal means, for standard error.
+    /// The meaning of the refusal, for standard error.
     pub sentence: Sentence,
 }
 
-/// Why a command ends without what it was to print or to serve.
+/// The reason why a command ends without the text that it was to print, or the set that it was to serve.
 #[derive(Drop)]
 pub enum Halt {
     /// Something is refused, or there was no memory to judge it, which its refusal says.
     Refused(DocumentRefusal),
-    /// All of this is refused, in its order.
+    /// All these refusals, in this order.
     Every(Vec<DocumentRefusal>),
     /// A document can't be read, with a text for the user that goes to standard error.
     Unread(String),

@@ -8,7 +8,7 @@ ghost use Rattle.batch_verdicts.specs.Reached.{AreReached, IsReached};
 use batch_check::Edge;
 use std::alloc::{AllocError, Global};
 
-/// The circle's edges, and behind them all others from whose later edges lead back to their earlier, where there is a circle. The
+/// The circle's edges, and behind them all others on a circle: edges lead back from their later resource to their earlier. The
 /// resources are below `count`.
 pub(crate) fn red_edges(
     alloc: Global,
@@ -25,7 +25,7 @@ pub(crate) fn red_edges(
     Ok(red)
 }
 
-/// The edges from whose later edges lead back to their earlier.
+/// The edges on circles: edges lead back from their later resource to their earlier.
 fn edges_on_circles(alloc: Global, count: u16, edges: &[Edge]) -> Result<Vec<Edge>, AllocError>
     ensures { IfOk result (λ found. All (IsOnCircle edges.now) found.items) }
 {
@@ -37,7 +37,7 @@ fn edges_on_circles(alloc: Global, count: u16, edges: &[Edge]) -> Result<Vec<Edg
     Ok(found)
 }
 
-/// Adds the edges into the start that come from what is reached from there.
+/// Adds the edges into the start that come from a resource that is reached from there.
 fn push_into(
     edges: &[Edge],
     start: u16,
@@ -75,7 +75,7 @@ fn reached_from(
     Ok(reached)
 }
 
-/// Marks the later of each edge whose earlier is marked, and tells whether some wasn't before.
+/// Marks the later resource of each edge whose earlier is marked, and returns whether some wasn't before.
 fn spread(edges: &[Edge], start: u16, reached: &mut [bool]) -> bool
     requires { AreReached edges.now start reached.old }
     ensures { AreReached edges.now start reached.new }

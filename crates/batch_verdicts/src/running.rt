@@ -28,25 +28,25 @@ use std::io;
 use std::io::Write;
 use thiserror::Error;
 
-/// The exit status where what was asked for is printed.
+/// The exit status if the requested text is printed.
 pub const SUCCESS: u8 = 0;
 
-/// The exit status where something is refused.
+/// The exit status if something is refused.
 const REFUSED: u8 = 1;
 
-/// The exit status where the words are no command.
+/// The exit status if the words are no command.
 pub const USAGE: u8 = 2;
 
-/// The exit status where a file or the input can't be read, or the output can't be written.
+/// The exit status if a file or the input can't be read, or the output can't be written.
 pub const FILE_FAULT: u8 = 3;
 
-/// The exit status where memory ran out.
+/// The exit status if memory ran out.
 pub const NO_MEMORY: u8 = 4;
 
-/// What is told of it where memory ran out.
+/// The message if memory ran out.
 pub const OUT_OF_MEMORY: &str = "out of memory";
 
-/// What is told of it where texts have no code.
+/// The message if texts have no code.
 const UNKNOWN_CODE: &str =
     "there is no such code; a code is what stands behind `refused`, a letter and a number, as D5, E11 or V4, and `batchd explain` lists all";
 
@@ -55,12 +55,13 @@ const UNKNOWN_CODE: &str =
 #[error("the output can't be written: {0}")]
 struct FailedWrite(io::Error);
 
-/// Does what the words ask for: judges documents and tells the verdict, or hands on the text that a file is to hold, clears the
-/// set that is to be served, over which a record is to be audited or of which a plant is to be run, or names the record that is to be read.
+/// Runs the request of the words. It judges documents and prints the verdict, or returns the text that a file is to hold. Or it clears
+/// the set that is to be served, over which a record is to be audited or of which a plant is to be run. Or it names the record that
+/// is to be read.
 ///
-/// Verdicts, explanations and help go to the output, and all else to the errors: what a refusal means, in one line, unless the
-/// words ask for quiet, and what failed, in a free text. Where that can't be written the exit status is the same. Without words
-/// the set is that of the demo.
+/// Verdicts, explanations and help go to the output, and all else to the errors: the sentence of a refusal, in one line, unless the
+/// words ask for quiet, and the cause of a failure, in a free text. If that can't be written, the exit status is the same. Without
+/// words the set is that of the demo.
 // claim: verdict written; everything told; sentences on the errors; warnings; explained code; verdict's status; failed write; help
 // claim: no command; unread file; no memory; set to be served; nothing written yet; demo's set
 pub fn run_words<D: Documents, O: Write, E: Write>(
@@ -283,7 +284,7 @@ fn keep<D: Documents, O: Write, E: Write>(
     }
 }
 
-/// What a judgement prints. It warns of its documents unless quiet is asked for.
+/// The output of a judgement. It warns of its documents unless quiet is asked for.
 fn judge<D: Documents, E: Write>(
     alloc: Global,
     documents: &D,
@@ -340,7 +341,7 @@ fn clear_demo(alloc: Global) -> Result<Cleared, Halt>
     clear_documents(alloc, &Demo, CELL_PATH, CERTIFICATE_PATH, &recipes)
 }
 
-/// Tells why a command ends so, and gives the exit status.
+/// Writes the reason why a command ends so, and returns the exit status.
 fn announce<O: Write, E: Write>(
     alloc: Global,
     quiet: bool,
@@ -359,7 +360,7 @@ fn announce<O: Write, E: Write>(
     }
 }
 
-/// Prints the refusal, says what it means, and gives its exit status, or that of a write that fails.
+/// Prints the refusal, writes its sentence, and returns its exit status, or that of a write that fails.
 fn refuse<O: Write, E: Write>(
     alloc: Global,
     quiet: bool,
@@ -379,7 +380,7 @@ fn refuse<O: Write, E: Write>(
     }
 }
 
-/// Prints the refusals, says what they mean, and gives their exit status, or that of a write that fails, or of want of memory.
+/// Prints the refusals, writes their sentences, and returns their exit status, or that of a write that fails, or of want of memory.
 fn refuse_every<O: Write, E: Write>(
     alloc: Global,
     quiet: bool,
@@ -431,7 +432,7 @@ fn is_one_for_memory(refusals: &[DocumentRefusal]) -> bool
     refusals.iter().any(|refusal| refusal.kind.is_for_memory())
 }
 
-/// Prints what the first code in the texts means, or without texts what all codes mean.
+/// Prints the explanation of the first code in the texts, or without texts the meaning of each code.
 fn tell_codes<O: Write, E: Write>(
     alloc: Global,
     texts: &[String],
@@ -448,7 +449,7 @@ fn tell_codes<O: Write, E: Write>(
     }
 }
 
-/// Prints the text, and gives the wanted exit status, or that of a write that fails.
+/// Prints the text, and returns the wanted exit status, or that of a write that fails.
 pub fn print<O: Write, E: Write>(output: &mut O, errors: &mut E, text: &str, wanted: u8) -> u8
     ensures { IsPrinted (record { before = O.contents output.old; after = O.contents output.new })
         (record { before = E.contents errors.old; after = E.contents errors.new }) text.now wanted result }
@@ -456,7 +457,7 @@ pub fn print<O: Write, E: Write>(output: &mut O, errors: &mut E, text: &str, wan
     print_bytes(output, errors, text.as_bytes(), wanted)
 }
 
-/// Prints these bytes, and gives the wanted exit status, or that of a write that fails.
+/// Prints these bytes, and returns the wanted exit status, or that of a write that fails.
 pub fn print_bytes<O: Write, E: Write>(
     output: &mut O,
     errors: &mut E,
@@ -472,14 +473,14 @@ pub fn print_bytes<O: Write, E: Write>(
     }
 }
 
-/// Tells why the output can't be written, and gives the exit status of that.
+/// Writes the reason why the output can't be written, and returns the exit status of that.
 fn unwritten<E: Write>(errors: &mut E, error: io::Error) -> u8
     ensures { result ≡ fault_status }
 {
     complain(errors, FailedWrite(error), FILE_FAULT)
 }
 
-/// Writes the bytes and hands them on.
+/// Writes the bytes and flushes them.
 fn write_out<O: Write>(output: &mut O, bytes: &[u8]) -> io::Result<()>
     ensures { OnOk result (Appends (O.contents output.old) (O.contents output.new) bytes.now) }
 {
@@ -487,7 +488,7 @@ fn write_out<O: Write>(output: &mut O, bytes: &[u8]) -> io::Result<()>
     output.flush()
 }
 
-/// Tells the fault if it can, behind the program's name and with a line feed at its end, and gives the exit status in any case.
+/// Writes the fault if it can, behind the program's name and with a line feed at its end, and returns the exit status in any case.
 pub fn complain<E: Write, D: Display + Drop>(errors: &mut E, fault: D, status: u8) -> u8
     ensures { result ≡ status }
 {

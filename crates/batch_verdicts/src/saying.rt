@@ -1,4 +1,4 @@
-//! What is said to a person beside a verdict.
+//! The sentences for a person beside a verdict.
 ghost use Rattle.std.specs.Prelude.{◌≡◌, IfOk, string_bytes};
 ghost use Rattle.std.specs.List.{flat_map};
 ghost use Rattle.batch_verdicts.specs.Saying.{AreSaid, IsSaid, WritesFront, line_of};
@@ -8,7 +8,7 @@ use batch_wording::Sentence;
 use std::alloc::{AllocError, Global};
 use std::io::Write;
 
-/// Says what a refusal means, unless quiet is asked for. Where the line can't be written the rest of it is left out.
+/// Writes the sentence of a refusal, unless quiet is asked for. If the line can't be written, the rest of it is left out.
 // claim: sentences on the errors
 pub(crate) fn say<E: Write>(alloc: Global, quiet: bool, sentence: &Sentence, errors: &mut E)
     ensures { IsSaid quiet sentence.now (E.contents errors.old) (E.contents errors.new) }
@@ -26,8 +26,8 @@ fn write_line<E: Write>(alloc: Global, sentence: &Sentence, errors: &mut E)
     }
 }
 
-/// Says what the refusals mean, a line each, unless quiet is asked for. Where there is no memory for the lines, or they can't be
-/// written, they are left out.
+/// Writes the sentences of the refusals, a line each, unless quiet is asked for. If there is no memory for the lines, they are left
+/// out; if they can't be written, the rest of them is.
 pub(crate) fn say_every<E: Write>(
     alloc: Global,
     quiet: bool,
@@ -67,7 +67,7 @@ fn line_of(alloc: Global, sentence: &Sentence) -> Result<String, AllocError>
     format!(in alloc; "batchd: {}\n", sentence.text)
 }
 
-/// Writes the line and hands it on. Where it can't be written the rest of it is left out.
+/// Writes the line and flushes it. If it can't be written, the rest of it is left out.
 pub fn tell<E: Write>(errors: &mut E, line: &str)
     ensures { WritesFront (E.contents errors.old) (E.contents errors.new) line.now }
 {

@@ -12,8 +12,8 @@ use batch_warnings::{RecipeWarning, recipe_warnings, units_without_modules};
 use std::alloc::{AllocError, Global};
 use std::io::Write;
 
-/// Says what of the cell and of the recipes can hardly be meant so, a line each, unless quiet is asked for. The paths are those of
-/// their documents. Where there is no memory for the lines, or they can't be written, they are left out.
+/// Warns of the parts of the cell and of the recipes that can hardly be meant so, a line each, unless quiet is asked for. The paths
+/// are those of their documents. If there is no memory for the lines, or they can't be written, they are left out.
 // claim: warnings
 pub(crate) fn warn<E: Write>(
     alloc: Global,

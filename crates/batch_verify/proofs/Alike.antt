@@ -45,7 +45,7 @@ abbrev mutual
   ChoicesAlike (tree.choice c t cs) (tree.choice d u ds) = AreAlike t u × ChoicesAlike cs ds
   ChoicesAlike _ _ = ⊥
 
--- What runs
+-- Phases that surely run
 
 mutual
   pub same_runs : (t u : Tree) → AreAlike t u → surely_runs t ≡ surely_runs u

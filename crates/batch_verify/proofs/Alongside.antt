@@ -1,4 +1,4 @@
--- What follows a node is the same in all bindings.
+-- The unit procedures that follow a node are the same in all bindings.
 use Rattle.std.proofs.Common.{◌≡◌, ℕ, zero, suc, List, [], ◌∷◌, ◌++◌, Option, Some, None, refl, ap, ap₂, ◌∙◌, subst}
 use Rattle.std.specs.Prelude.{find, option_map}
 use Rattle.batch_recipe.specs.Conditions.{Name, same_name}
@@ -96,7 +96,7 @@ module _ (l : Level) (next : List Follower) (n : ℕ) where
   next_alike (loop k c t) (loop m d u) h = refl
   next_alike _ _ h = absurd h
 
--- what follows the node at this place below two trees that are alike
+-- the followers of the node at this place are the same below two trees that are alike
 abbrev AreFollowedAlike : Place → Type 0
 AreFollowedAlike p = (l : Level) (next : List Follower) (t u : Tree) → AreAlike t u → following_below l next t p ≡ following_below l next u p
 
@@ -127,7 +127,7 @@ reserves_alike (sel cs) (sel ds) h = refl
 reserves_alike (loop k c t) (loop m d u) h = refl
 reserves_alike _ _ h = absurd h
 
--- each of these unit procedures is among what follows
+-- each of these unit procedures is among the followers
 abbrev AreAmong : List Follower → List Reserve → Type 0
 AreAmong followers reserves = Each (λ reserve. (place : Place) × (option_map (λ f. f.1) (find (λ f. same_name f.0 reserve.name) followers) ≡ Some place)) reserves
 

@@ -1,4 +1,4 @@
--- What the nodes of a recipe ask for, and on which units they run, by how these are chosen: it is the same in all bindings.
+-- The needs and the units of the nodes of a recipe, by the choices of these, which are the same in all bindings.
 use Rattle.std.proofs.Common.{◌≡◌, ◌≢◌, ◌⊎◌, ℕ, zero, suc, ◌+◌, ◌<◌, true, false, not, List, [], ◌∷◌, ◌++◌, map, Option, Some, None, slice_get, get_or, refl, sym, ap, ap₂, ◌∙◌, subst, arith, inl, inr}
 use Rattle.std.specs.Prelude.{⊤, option_and_then}
 use Rattle.std.proofs.lemmas.List.{append-nil}
@@ -112,7 +112,7 @@ module _ (bound : Binding) where
     asked_are None names needs = later_are names needs
     asked_are (Some choice) names needs = ap (λ (ns : List Need). one_unit (unit_chosen bound choice) ∷ ns) (later_are names needs)
 
-    -- what an act asks for in a binding
+    -- the needs of an act in a binding
     pub needs_are : (a : Act) → needs_with (sites bound acts) a ≡ map (asked bound) (asks_in acts a)
     needs_are a = asked_are a.unit a.reserves.items a.needs.items
 
@@ -346,7 +346,7 @@ module _ (r : Recipe) where
       abbrev at : Stands r bound k e
       at = stands r bound k e is
 
-      -- what the node asks for in a binding
+      -- the needs of the node in a binding
       pub needs_here : needs_of at.x.node.here ≡ map (asked bound) (asks_at r.acts here)
       needs_here = go here at.on.here
         where

@@ -39,7 +39,7 @@ module _ (c : equipment.Cell) (ranks : Option (List ℕ)) (r : Recipe) (linked :
   abbrev takers : Binding → List (Option ℕ)
   takers bound = takers_of c bound roles
 
-  -- there are paths for the binding, each within what is known for all
+  -- there are paths for the binding, each within the span for all bindings
   pub record Covers (bound : Binding) (spans : List Span) (n : ℕ) : Type 0 where
     pub paths : List Path
     pub kept : KeepsPaths c ranking bound r paths n

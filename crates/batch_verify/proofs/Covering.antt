@@ -1,4 +1,4 @@
--- What bindings that are enough show of each node, rule by rule.
+-- Each node meets a rule in all bindings if it does in bindings that are enough, rule by rule.
 use Rattle.std.proofs.Common.{◌≡◌, ◌≢◌, ℕ, ◌<◌, ◌≤◌, Bool, true, false, IsTrue, List, [], ◌∷◌, ◌++◌, map, length, Option, Some, None, slice_get, get_or, refl, sym, ap, ◌∙◌, subst, arith}
 use Rattle.std.specs.Cmp.Lexicographic.{bytes_decides}
 use Rattle.std.proofs.lemmas.Bool.{false≢true}
@@ -115,7 +115,7 @@ module _ (c : equipment.Cell) (recipes : List Recipe) (recipe : Recipe) (own : a
   abbrev by_number : ℕ → Binding
   by_number j = numbered c recipe.roles.items j
 
-  -- who is chosen is so in a numbered binding
+  -- the unit that is chosen is chosen in a numbered binding
   covered : (choice : UnitChoice) → IsNamed recipe choice → (j : ℕ) × (j < binding_count c recipe.roles.items) × (unit_chosen bound choice ≡ unit_chosen (by_number j) choice)
   covered (by_name unit) named = (0, some-binding c recipe.roles.items, refl)
   covered (by_role role) named = let both = named role refl in role-covered c recipes recipe own bound tried role both.0 both.1
@@ -123,7 +123,7 @@ module _ (c : equipment.Cell) (recipes : List Recipe) (recipe : Recipe) (own : a
   first_looked : Looked (by_number 0)
   first_looked = enough.by_number 0 (some-binding c recipe.roles.items)
 
-  -- what holds of all that is asked for in each of the bindings does so here
+  -- a predicate that holds of all needs in each of the bindings holds of them here
   each_covered : (P : Need → Type 0) (asks : List Ask) → AreNamed recipe asks → ((b : Binding) → Looked b → Each P (map (asked b) asks)) → Each P (map (asked bound) asks)
   each_covered P [] named h = tt
   each_covered P (x ∷ xs) named h =

@@ -1,4 +1,4 @@
--- What nodes break whatever units take the roles, by number.
+-- The rules that nodes break whatever units take the roles, by number.
 use Rattle.std.proofs.Common.{◌≡◌, ◌≢◌, ◌⊎◌, ℕ, suc, ◌+◌, ◌<◌, ◌≤◌, List, [], ◌∷◌, ◌++◌, length, Option, Some, None, slice_get, get_or, sym, ap, ◌∙◌, refl, subst, arith, inl, inr, length-append}
 use Rattle.std.proofs.lemmas.Bool.{cases_lt}
 use Rattle.std.proofs.lemmas.Option.{slice_get_within, slice_get-get_or}
@@ -28,7 +28,7 @@ use Rattle.batch_verify.proofs.Stands.{IsTop, IsBelow, Stands, stands, node_of}
 use Rattle.batch_verify.proofs.Verdicts.{bare_reserves}
 use Rattle.batch_verify.proofs.WayActs.{IsHereOn}
 
--- what is at a number of a list to which one more was added: one of those before, or it
+-- the element at a number of a list to which one more was added is one of those before, or it
 pub one_more : {X : Type 0} (xs : List X) (x : X) (n k : ℕ) (y : X) → length xs ≡ n → slice_get (xs ++ x ∷ []) k ≡ Some y → ((k < n) × (slice_get xs k ≡ Some y)) ⊎ ((k ≡ n) × (x ≡ y))
 one_more {X = X} xs x n k y size is = go (cases_lt k n)
   where
@@ -50,7 +50,7 @@ apart_back : (x y : Part) → IsLike y x → IsApart y.level y.node.here → IsA
 apart_back x y from a = apart_as x.level y.node.here x.node.here from.1 (subst (λ (l : Level). IsApart l y.node.here) from.0 a)
 
 module _ (r : Recipe) where
-  -- so far: where what is below each node stands, and what each node breaks
+  -- so far: the level below each node, and the rule that each node breaks
   pub record KeepsFaults (below : List Depth) (faults : List (Option Rule)) (n : ℕ) : Type 0 where
     pub few : length below ≡ n
     pub many : length faults ≡ n
@@ -185,7 +185,7 @@ reserves_counted r bound k e is at at_is = ap (λ (x : Node). length (reserves_o
     go None h = bare_counted here.x.node.here h.0
     go (Some a) h = ap (λ (t : Tree). length (reserves_of t)) h.here_is ∙ from_counted (unit_count a.unit) a.reserves.items
 
--- A rule on `par`s and loops goes before that on what is reserved.
+-- A rule on `par`s and loops comes before that on reserved unit procedures.
 pub chart_kept : (acts : Acts) (node : ℕ) (x : Part) (rule : Rule) → IsChartFault x (Some rule) → IsChartFault x (of_chart (Some rule)) × ReservesAs acts node (Some rule)
 chart_kept acts node x rules.SamePhaseInParallel h = (h, λ bound at is. tt)
 chart_kept acts node x rules.LoopWithoutPhase h = (h, λ bound at is. tt)

@@ -26,7 +26,7 @@ not_after_trans a b c (inl h) (inr k) = inl (omega (arith, h, k.0))
 not_after_trans a b c (inr h) (inl k) = inl (omega (arith, h.0, k))
 not_after_trans a b c (inr h) (inr k) = inr (omega (arith, h.0, k.0), omega (arith, h.1, k.1))
 
--- the one is looked for before the other
+-- the one is checked before the other
 abbrev IsBefore : Broken → Broken → Type 0
 IsBefore one other = (one.node < other.node) ⊎ ((one.node ≡ other.node) × (rule_number one.rule < rule_number other.rule))
 
@@ -142,7 +142,7 @@ module _ (setup : Setup) (ranking : Option Ranking) (procedure : Tree) where
       let later = broken_node xs (k + 1) broken h.1 in
       record { index = suc later.index; part = later.part; numbered = omega (arith, later.numbered); found = later.found; breaks = later.breaks }
 
-  -- what is looked for before the first broken rule is met
+  -- a rule that is checked before the first broken one is met
   met_still : (xs : List Part) (k : ℕ) (first : Broken) → IsFirstBroken setup ranking procedure xs k first → (m : ℕ) (x : Part) (rule : Rule) → slice_get xs m ≡ Some x
       → IsBefore (record { node = k + m; rule = rule }) first → Meets setup ranking procedure rule x
   met_still [] k first h m x rule e before = absurd h
@@ -182,7 +182,7 @@ module _ (setup : Setup) (ranking : Option Ranking) where
       later None h = tt
       later (Some v) h = not_after_trans b other v le h
 
-  -- a rule is met at a node where that is looked for before this broken rule
+  -- a rule is met at a node if that is checked before this broken rule
   met_by : (recipe : Recipe) (broken : Broken) → HasVerdict recipe broken → (m : ℕ) (x : Part) (rule : Rule) → slice_get (procedure_parts recipe) m ≡ Some x
       → IsBefore (record { node = 0 + m; rule = rule }) broken → Meets setup ranking recipe.procedure rule x
   met_by recipe broken h m x rule e before = go h.verdict h.stands h.after
@@ -246,7 +246,7 @@ module _ (setup : Setup) (ranking : Option Ranking) where
             least = with_one (λ o. HasVerdict (master.control o) b) h.least (record { verdict = Some f; stands = v; after = is_before_false f b e });
           }
 
-    -- Bindings that show all that another one can break tell its verdict
+    -- Bindings that show all that another one can break give its verdict
 
     each_by_index : (P : Part → Type 0) (xs : List Part) → ((k : ℕ) (x : Part) → slice_get xs k ≡ Some x → P x) → Each P xs
     each_by_index P [] h = tt

@@ -12,7 +12,7 @@ use Rattle.batch_recipe.specs.declared.entry.Kind.{Kind}
 use Rattle.batch_verify.specs.NodePhases.{phase_at, phase_run, AreMarked, IsNoStep}
 use Rattle.batch_verify.specs.Walking.{Gathers}
 
--- names that were added are there, and so is what was there before
+-- names that were added are there, so adding them again changes nothing
 pub Gathers-again : (before part after : List Name) → Gathers before part after → Gathers after part after
 Gathers-again before part after h x = by (is_among after x) (is_among before x) (is_among part x) (h x)
   where

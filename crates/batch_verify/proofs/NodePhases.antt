@@ -76,7 +76,7 @@ none_runs : (t : Tree) → IsNoAct t → run_at t ≡ []
 none_runs t h = grind arith
 
 module _ (acts : Acts) where
-  -- what is run at a node is what its act runs
+  -- the phases run at a node are those that its act runs
   node_runs : (o : Option Act) (x : Node) → IsActAt unbound acts o x → run_at x.here ≡ phase_at o
   node_runs o x h = grind (arith, none_runs, work_runs)
 

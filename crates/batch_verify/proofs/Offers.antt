@@ -1,4 +1,4 @@
--- Units that are known to offer what phase steps run.
+-- Sources whose units are known to offer the phases of phase steps.
 use Rattle.std.proofs.Common.{◌≡◌, ◌≢◌, ◌⊎◌, ◌<◌, ◌≤◌, ℕ, List, length, Option, Some, None, get_or, replicate, set, sym, ap, ◌∙◌, subst, arith, inl, inr}
 use Rattle.std.proofs.lemmas.Bool.{cases_eq, cases_lt}
 use Rattle.std.proofs.lemmas.List.{get_or-replicate, get_or-set_other, get_or-set_same, get_or_past, length-replicate, length-set}
@@ -26,7 +26,7 @@ AreOffered-none c roles acts n (kind.Act Phases number) a unit is known = by (ca
     by (inr past) = let bad : None ≡ Some unit = sym (get_or_past units number None (omega (arith, past, length-replicate {A = Option Source} n None))) ∙ known in absurd cc
 AreOffered-none c roles acts n _ a unit is known = let bad : None ≡ Some unit = known in absurd cc
 
--- a unit that offers what the act runs is noted
+-- a source is noted whose units offer the phase of the act
 pub AreOffered-with : (c : equipment.Cell) (roles : List Role) (acts : Acts) (units : List (Option Source)) (k : Kind) (unit : Option Source) → AreOffered c roles acts units
     → ((a : Act) → act_of acts k ≡ Some a → SourceOffers c roles unit a.work) → AreOffered c roles acts (with_offering units k unit)
 AreOffered-with c roles acts units (kind.Act Phases place) unit h offers = at

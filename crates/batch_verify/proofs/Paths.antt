@@ -99,7 +99,7 @@ module _ (c : equipment.Cell) (ranking : Option Ranking) (bound : Binding) (r : 
               asks = b.asks;
             }
 
-    -- what is said of the node, by what is said of its entry
+    -- the verdict on the node, by that on its entry
     abbrev pub Looked : Result Path Rule → Type 0
     Looked (Ok q) = ((recipes : List Recipe) → MeetsRules (setup_of c recipes) ranking procedure at.x) × IsPathTo at.own.under at.x.node.asked q
     Looked (Err rule) = (recipes : List Recipe) → Breaks (setup_of c recipes) ranking procedure at.x rule

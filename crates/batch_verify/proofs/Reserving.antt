@@ -1,4 +1,4 @@
--- The names of what is reserved are those of unit procedures, each of which has a unit.
+-- Reserved names are those of unit procedures, each of which has a unit.
 use Rattle.std.proofs.Common.{◌≡◌, List, [], ◌∷◌, Bool, true, false, Option, Some, None, refl, ap, ◌∙◌}
 use Rattle.std.specs.List.{list_all}
 use Rattle.std.proofs.lemmas.Bool.{and_parts}

@@ -16,11 +16,11 @@ use Rattle.batch_verify.specs.RunningNodes.{RunsFrom}
 pub same_at : {X : Type 0} (xs : List X) (node : ℕ) (x y : X) → slice_get xs node ≡ Some x → slice_get xs node ≡ Some y → x ≡ y
 same_at xs node x y is at = let e : Some x ≡ Some y = sym is ∙ at in cc
 
--- what was read
+-- the answer that was read
 pub bool_at : (runs : List Bool) (node from : ℕ) (b : Bool) → node < length runs → from ≡ node → get_or runs from false ≡ b → slice_get runs node ≡ Some b
 bool_at runs node from b within same is = slice_get-get_or runs node false within ∙ ap Some (ap (λ n. get_or runs n false) (sym same) ∙ is)
 
--- what is known of the node is known of the tree
+-- the answer for the node is the answer for the tree
 pub known_at : (r : Recipe) (runs : List Bool) (first : ℕ) → RunsFrom (ns r) runs first → (node : ℕ) → first ≤ node → (b : Bool) → slice_get runs node ≡ Some b
     → (t : Tree) → IsHere (ns r) node t → b ≡ surely_runs t
 known_at r runs first known node past b read t h = same_at runs node b (surely_runs h.0.here) read (known.1 node h.0 past h.1) ∙ ap surely_runs h.2

@@ -17,7 +17,7 @@ later r end k no_trees h = omega (arith, h)
 later r end k (tree t ts) h = omega (arith, later r end (k + node_count t) ts h.1)
 
 module _ (r : Recipe) (first end : ℕ) where
-  -- what is said of the branches that are left is said of all
+  -- the answer for the branches that are left is the answer for all
   pub record KeepsSome (node : ℕ) : Type 0 where
     pub past : first ≤ node
     pub all : (b : Bool) → ((ts : Trees) → AreHere (ns r) node end ts → b ≡ some_surely_runs ts) → (ts : Trees) → AreHere (ns r) first end ts → b ≡ some_surely_runs ts

@@ -17,7 +17,7 @@ later r end k (otherwise t) h = omega (arith, h.1, some_count t)
 later r end k (choice c t cs) h = omega (arith, later r end (k + node_count t) cs h.1, some_count t)
 
 module _ (r : Recipe) (first end : ℕ) where
-  -- what is said of the branches that are left, and is true where none is, is said of all
+  -- the answer for the branches that are left, true if none is, is the answer for all
   pub record KeepsAll (node : ℕ) : Type 0 where
     pub past : first ≤ node
     pub all : (b : Bool) → (end ≤ node → b ≡ true) → ((cs : Choices) → AreCasesHere (ns r) node end cs → b ≡ each_surely_runs cs) → (cs : Choices) → AreCasesHere (ns r) first end cs → b ≡ each_surely_runs cs

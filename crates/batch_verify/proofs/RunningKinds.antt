@@ -1,4 +1,4 @@
--- Whether a node surely runs a phase, by what it is and what is known of the nodes below it.
+-- Whether a node surely runs a phase, by its form and by the answers for the nodes below it.
 use Rattle.std.proofs.Common.{◌≡◌, ◌≢◌, ◌⊎◌, ℕ, ◌+◌, ◌<◌, ◌≤◌, List, Bool, true, false, length, Some, slice_get, sym, ap, ◌∙◌, subst, arith}
 use Rattle.batch_recipe.specs.Children.{AreHere, AreCasesHere, HasBelow}
 use Rattle.batch_recipe.specs.Expanding.{unbound}
@@ -15,7 +15,7 @@ use Rattle.batch_verify.specs.RunningNodes.{RunsFrom}
 use Rattle.batch_verify.proofs.RunningAt.{known_at, same_at}
 
 module _ (r : Recipe) (known : List Bool) (node end : ℕ) where
-  -- what is found for a node of this form, all below which stand before `end`
+  -- the answer for a node of this form, if all nodes below it come before `end`
   abbrev pub Says : Bool → Form → Type 0
   Says b an_act = ((end ≡ node + 1) × (b ≡ true)) ⊎ ((end ≢ node + 1) × (slice_get known (node + 1) ≡ Some b))
   Says b a_skip = b ≡ false
@@ -25,7 +25,7 @@ module _ (r : Recipe) (known : List Bool) (node end : ℕ) where
   Says b a_loop = slice_get known (node + 1) ≡ Some b
 
   module _ (is_known : RunsFrom (ns r) known (node + 1)) (b : Bool) where
-    -- then it is so of the tree that stands there
+    -- then the answer is that for the tree there
     runs_so : (t : Tree) → node + node_count t ≡ end → HasBelow (ns r) node t → Says b (form_at t) → b ≡ surely_runs t
     runs_so t e h g = grind (arith, some_count, known_at)
 
@@ -48,7 +48,7 @@ module _ (r : Recipe) (node : ℕ) (e : Entry) (read : slice_get r.outline.entri
   pub body_within : form_of e.kind ≡ a_loop → node + 1 < length (ns r)
   body_within f = omega (arith, long_loop it.at.here (sym it.shaped.formed ∙ f), it.shaped.ended, end_within)
 
-  -- what is found for its form is so of its node
+  -- the answer for its form is the answer for its node
   pub told : (known : List Bool) → RunsFrom (ns r) known (node + 1) → (f : Form) → form_of e.kind ≡ f → (b : Bool) → Says r known node e.end b f
       → (x : Node) → slice_get (ns r) node ≡ Some x → b ≡ surely_runs x.here
   told known is_known f form b h x at =

@@ -1,4 +1,4 @@
--- The nodes below a node stand where its way says.
+-- The nodes below a node are at the spot that its way gives.
 use Rattle.std.proofs.Common.{◌≡◌, ◌≢◌, ◌⊎◌, ℕ, zero, suc, ◌+◌, List, [], ◌∷◌, ◌++◌, length, Some, None, slice_get, sym, ap, ◌∙◌, refl, subst, arith, inl, inr, length-append}
 use Rattle.std.specs.Option.{option_map}
 use Rattle.std.proofs.lemmas.Option.{slice_get-map}
@@ -58,7 +58,7 @@ module _ (ws : List Way) where
   from_head : (n : ℕ) (x : Way) (xs : List Way) → AreFrom n (x ∷ xs) → slice_get ws n ≡ Some x
   from_head n x xs h = let same : n ≡ n + 0 = omega arith in ap (slice_get ws) same ∙ h 0 x refl
 
-  -- what has this shape stands below the node that is its parent
+  -- the node of this shape is at the spot below its parent
   pub record IsUnder (w : Way) (s : Shape) : Type 0 where
     pub above : Way
     pub known : slice_get ws s.parent ≡ Some above

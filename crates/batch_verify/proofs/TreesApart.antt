@@ -1,4 +1,4 @@
--- Trees that stand one after another, and what is gathered of their phases.
+-- Trees that stand one after another, and the gathered names of their phases.
 use Rattle.std.proofs.Common.{◌≡◌, ℕ, Bool, true, false, ◌+◌, ◌<◌, ◌≤◌, List, [], ◌∷◌, ◌++◌, ◌||◌, length, Option, Some, slice_get, get_or, take, drop, sym, ap, ◌∙◌, refl, subst, arith, append_assoc, append-nil}
 use Rattle.std.proofs.lemmas.List.{take_more, drop-append-le, length-take-le}
 use Rattle.std.proofs.lemmas.Option.{slice_get_within, slice_get-get_or}

@@ -1,4 +1,4 @@
--- The act of each node, where its way says.
+-- The act of each node, at the spot of its way.
 use Rattle.std.proofs.Common.{arith, ◌≡◌, ℕ, zero, suc, ◌+◌, ◌++◌, true, List, [], ◌∷◌, Option, Some, None, slice_get, sym, ap₂, refl, subst}
 use Rattle.batch_recipe.specs.ActsAtNodes.{ActList, acts_along, acts_along_each, acts_along_cases, acts_below, acts_from, acts_named, procedure_acts, IsNoAct}
 use Rattle.batch_recipe.specs.Conditions.{Name}

@@ -24,7 +24,7 @@ use Rattle.batch_verify.specs.declared.rule.Rule.{Rule}
 use Rattle.batch_verify.specs.declared.rule.Rule.TheVariants.{RankNotRising, UnknownResource}
 use Rattle.batch_verify.specs.declared.site.Site as site
 
--- a number, where it is one of the first so many
+-- a number, if it is one of the first so many
 abbrev pub among_first : ℕ → Option ℕ → Option ℕ
 among_first count None = None
 among_first count (Some number) = if nat_lt number count then Some number else None
@@ -67,7 +67,7 @@ rank_by ranks number = elim number [ None ↦ 0 | Some number ↦ slice_index_or
 abbrev pub ranks_asked : List ℕ → List Ask → List ℕ
 ranks_asked ranks asks = map (λ ask. rank_by ranks ask.0) asks
 
--- where there are ranks
+-- the same, if there are ranks
 abbrev pub ranks_along : Option (List ℕ) → List Ask → List ℕ
 ranks_along None asks = []
 ranks_along (Some ranks) asks = ranks_asked ranks asks

@@ -1,4 +1,4 @@
--- trusted: the bindings by which all candidates of all roles are looked at, one for each number.
+-- trusted: the bindings by which all candidates of all roles are tried, one for each number.
 use Rattle.std.specs.Prelude.{ℕ, List, [], ◌∷◌, ◌++◌, max, length, find, slice_get, Option, Some, None}
 use Rattle.batch_cell.specs.LookUps.{resources_of, units_of_class}
 use Rattle.batch_cell.specs.declared.cell.Cell as equipment

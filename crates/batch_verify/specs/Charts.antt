@@ -1,4 +1,4 @@
--- private: what the nodes of a recipe break whatever units take the roles: as `par`s and loops, and by what they reserve.
+-- private: the rules on `par`s, loops and reserved unit procedures that nodes of a recipe break, whatever units take the roles.
 use Rattle.std.specs.Prelude.{◌≡◌, ℕ, List, length, slice_get, Option, Some, None, ⊤}
 use Rattle.batch_recipe.specs.Expanding.{Binding}
 use Rattle.batch_recipe.specs.Nodes.{Node}
@@ -26,13 +26,13 @@ IsChartFault x (Some SamePhaseInParallel) = ¬ (IsApart x.level x.node.here)
 IsChartFault x (Some LoopWithoutPhase) = IsApart x.level x.node.here × ¬ (TurnsRun x.node.here)
 IsChartFault x (Some _) = ⊥
 
--- whether it breaks this one by what it reserves
+-- without a fault the reserved unit procedures follow, by `ReserveDoesNotFollow` they don't, and another fault says nothing of them
 abbrev pub IsReserveFault : Tree → Node → Option Rule → Type 0
 IsReserveFault procedure at None = ReservesFollow procedure at
 IsReserveFault procedure at (Some ReserveDoesNotFollow) = ¬ (ReservesFollow procedure at)
 IsReserveFault procedure at (Some rule) = ⊤
 
--- which of the rules is one on `par`s and loops
+-- the rule, if it is one on `par`s and loops
 abbrev pub of_chart : Option Rule → Option Rule
 of_chart None = None
 of_chart (Some ReserveDoesNotFollow) = None
@@ -42,7 +42,7 @@ of_chart (Some rule) = Some rule
 abbrev pub IsFaultOf : Tree → Part → Option Rule → Type 0
 IsFaultOf procedure x fault = IsChartFault x (of_chart fault) × IsReserveFault procedure x.node fault
 
--- the node with this number breaks it so in all bindings
+-- `IsReserveFault` holds of the node with this number, in all bindings
 abbrev pub ReservesAs : Acts → ℕ → Option Rule → Type 0
 ReservesAs acts node fault = (bound : Binding) (at : Node) → slice_get (bound_nodes bound acts) node ≡ Some at → IsReserveFault (bound_tree bound acts) at fault
 
@@ -51,7 +51,7 @@ abbrev pub reserve_count : Option Act → ℕ
 reserve_count None = 0
 reserve_count (Some a) = length a.reserves.items
 
--- those of the nodes of a recipe, by number
+-- the faults of the nodes of a recipe, by number
 pub record AreFaults (acts : Acts) (faults : List (Option Rule)) : Type 0 where
   pub as_many : length faults ≡ length (procedure_nodes acts)
   pub each : (bound : Binding) (k : ℕ) (x : Part) (fault : Option Rule) → slice_get (bound_parts bound acts) k ≡ Some x → slice_get faults k ≡ Some fault → IsFaultOf (bound_tree bound acts) x fault

@@ -44,7 +44,7 @@ pub record AreBeside (setup : Setup) (rank : Ranking) (cell : equipment.Cell) (L
   pub highest : IsHighest setup rank (units_of_class cell high.class) (bound high.name)
   pub lowest : IsLowest setup rank (units_of_class cell low.class) (bound low.name)
 
--- the bindings give each candidate of each role, and, where there are ranks, each two roles beside one another
+-- the bindings give each candidate of each role, and, if there are ranks, each two roles beside one another
 pub record AreEnough (setup : Setup) (ranking : Option Ranking) (cell : equipment.Cell) (roles : List Role) (Looked : Binding → Type 0) : Type 0 where
   pub by_number : (number : ℕ) → number < binding_count cell roles → Looked (numbered cell roles number)
   pub beside : (rank : Ranking) → ranking ≡ Some rank → (high low : Role) → Has roles high → Has roles low → high.name ≢ low.name → AreBeside setup rank cell Looked high low

@@ -10,7 +10,7 @@ use Rattle.batch_recipe.specs.declared.entry.Kind.{Kind}
 use Rattle.batch_recipe.specs.declared.entry.Kind.TheVariants as kind
 use Rattle.batch_verify.specs.Walking.{Gathers}
 
--- the phase that is run itself, where it is one
+-- the phase that the work runs itself, if it runs one
 abbrev pub phase_run : Work → List Name
 phase_run (Follows chart) = []
 phase_run (Runs phase values reports) = phase ∷ []

@@ -1,4 +1,4 @@
--- private: where units come from that are known to offer what phase steps run.
+-- private: the sources whose units are known to offer the phases of phase steps.
 use Rattle.std.specs.Prelude.{◌≡◌, List, Option, Some, None, slice_set}
 use Rattle.std.specs.List.{slice_index_or}
 use Rattle.batch_cell.specs.declared.cell.Cell as equipment
@@ -12,16 +12,16 @@ use Rattle.batch_recipe.specs.declared.role.Role.{Role}
 use Rattle.batch_set.specs.declared.linked.Source.{Source}
 use Rattle.batch_verify.specs.Spans.{SourceOffers}
 
--- the unit noted for the act, of those that are noted for the phase steps
+-- the source noted for the act, of those noted for the phase steps
 abbrev pub offering_unit : List (Option Source) → Kind → Option Source
 offering_unit units (kind.Act Phases number) = slice_index_or units number None
 offering_unit units _ = None
 
--- those noted after the act's is
+-- the sources noted, after that of the act is noted
 abbrev pub with_offering : List (Option Source) → Kind → Option Source → List (Option Source)
 with_offering units (kind.Act Phases number) unit = slice_set units number unit
 with_offering units _ unit = units
 
--- each unit that comes from where is noted offers what the act runs
+-- each unit that the source noted for an act may give offers the phase of the act
 abbrev pub AreOffered : equipment.Cell → List Role → Acts → List (Option Source) → Type 0
 AreOffered c roles acts units = (k : Kind) (a : Act) (unit : Source) → act_of acts k ≡ Some a → offering_unit units k ≡ Some unit → SourceOffers c roles (Some unit) a.work

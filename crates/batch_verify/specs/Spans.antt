@@ -1,4 +1,4 @@
--- private: what holds of a node whatever units take the roles.
+-- private: facts on a node that hold whatever units take the roles.
 use Rattle.std.specs.Prelude.{◌≡◌, ℕ, ◌<◌, ◌≤◌, List, [], length, true, Option, Some, None, Result, Ok, slice_get, ⊤}
 use Rattle.std.specs.List.{list_all, slice_index_or}
 use Rattle.batch_cell.specs.LookUps.{capacities_of, is_of_class, resources_of, units_of, units_of_class}
@@ -68,13 +68,13 @@ pub record AreAsked (c : equipment.Cell) (ranks : Option (List ℕ)) (last : Opt
   pub rising : Rises last (ranks_along ranks asks)
   pub ends : IsAtMost (last_rank last (ranks_along ranks asks)) greatest
 
--- the number of the unit that comes from there
+-- the number of the unit that the source gives, or none without a source
 abbrev pub IsUnitFrom : equipment.Cell → List (Option ℕ) → Option Source → Option ℕ → Type 0
 IsUnitFrom c takers None unit = unit ≡ None
 IsUnitFrom c takers (Some source) unit =
     (number : ℕ) × (unit ≡ Some number) × (among_first (length (units_of c)) (among_first (length (resources_of c)) (number_by takers source)) ≡ Some number)
 
--- the path runs on the unit that comes from there, and ends at a rank that is no greater
+-- the path runs on the unit that the span's source gives, and ends at a rank no greater than the span's
 abbrev pub IsWithin : equipment.Cell → List (Option ℕ) → Span → path.Path → Type 0
 IsWithin c takers s p = IsUnitFrom c takers s.unit p.unit × IsAtMost p.last s.last
 
@@ -89,7 +89,7 @@ ok_unit unit = Ok unit
 abbrev pub InEach : equipment.Cell → Option (List ℕ) → List Role → List (Option ℕ) → List (Option ℕ) → (List (Option ℕ) → Type 0) → Type 0
 InEach c ranks roles lowest highest P = (takers : List (Option ℕ)) → AreBetween c ranks roles lowest takers highest → P takers
 
--- the number of the unit below an act, and where it comes from
+-- the number and the source of the unit below an act
 pub record IsUnitBelow (c : equipment.Cell) (own : Option UnitChoice) (asks : List Ask) (takers : List (Option ℕ)) (above : Option ℕ) (source : Option Source) : Type 0 where
   pub unit : Option ℕ
   pub is : ok_unit unit ≡ unit_by c own asks above
@@ -109,19 +109,19 @@ AreAskedInEach c ranks roles lowest highest links last greatest =
 abbrev pub ClassOffers : equipment.Cell → Name → Name → Type 0
 ClassOffers c class phase = (number : ℕ) (unit : device.Unit) → slice_get c.units.items number ≡ Some unit → is_of_class class unit ≡ true → offers_on c (Some number) phase ≡ true
 
--- each unit that may come from there offers the phase
+-- each unit that the source may give offers the phase
 abbrev pub PhaseOffered : equipment.Cell → List Role → Source → Name → Type 0
 PhaseOffered c roles (Resource number) phase = offers_on c (Some number) phase ≡ true
 PhaseOffered c roles (by_role number) phase = (role : Role) → slice_get roles number ≡ Some role → ClassOffers c role.class phase
 PhaseOffered c roles Unknown phase = ⊥
 
--- what is run, if it is a phase
+-- the same of the phase that the work runs, if it runs one
 abbrev pub SourceOffers : equipment.Cell → List Role → Option Source → Work → Type 0
 SourceOffers c roles source (Follows chart) = ⊤
 SourceOffers c roles None (Runs phase values reports) = ⊥
 SourceOffers c roles (Some source) (Runs phase values reports) = PhaseOffered c roles source phase
 
--- the act meets the rules on what it asks for and runs, whoever takes the roles, and the path goes on so below it
+-- whoever takes the roles, the act meets the rules on its needs and on its phase, and below it the span `above` becomes `within`
 pub record IsPassed (c : equipment.Cell) (ranks : Option (List ℕ)) (roles : List Role) (lowest highest : List (Option ℕ)) (links : List LinkedNeed) (a : Act) (above within : Span) : Type 0 where
   pub comes : ComesBelow c ranks roles lowest highest a.unit links above.unit within.unit
   pub asked : AreAskedInEach c ranks roles lowest highest links above.last within.last

@@ -1,4 +1,4 @@
--- private: where the nodes of a recipe's expanded tree stand, by number.
+-- private: the levels and units of the nodes of a recipe's expanded tree, by number.
 use Rattle.std.specs.Prelude.{List, [], ◌∷◌, ◌++◌}
 use Rattle.batch_recipe.specs.Conditions.{Name}
 use Rattle.batch_recipe.specs.Expanding.{Binding}
@@ -8,7 +8,7 @@ use Rattle.batch_recipe.specs.declared.acts.Acts.{Acts}
 use Rattle.batch_recipe.specs.declared.need.Need.{Need}
 use Rattle.batch_model.specs.Cleared.{Level, is_procedure, in_procedure, in_unit_procedure, in_operation, below, Part, parts}
 
--- a level, and the unit on which what stands there runs
+-- a level, and the unit on which a node there runs
 pub record Spot : Type 0 where
   pub level : Level
   pub unit : Name
@@ -24,7 +24,7 @@ unit_within in_procedure unit needs = unit_asked unit needs
 unit_within in_unit_procedure unit needs = unit
 unit_within in_operation unit needs = unit
 
--- where the chart of an act stands
+-- the spot of the chart of an act
 abbrev pub spot_within : Spot → Step → Spot
 spot_within spot step = record { level = below spot.level; unit = unit_within spot.level spot.unit step.needs }
 
@@ -36,7 +36,7 @@ spot_below spot (par charts) = spot
 spot_below spot (sel choices) = spot
 spot_below spot (loop turns until body) = spot
 
--- where a node stands, and where those below it do
+-- the spot of a node, and that of the nodes below it
 pub record Way : Type 0 where
   pub here : Spot
   pub under : Spot
@@ -66,7 +66,7 @@ abbrev mutual
   ways_of_choices spot (otherwise chart) = ways spot chart
   ways_of_choices spot (choice condition chart choices) = ways spot chart ++ ways_of_choices spot choices
 
--- the procedure stands on no unit
+-- the procedure runs on no unit
 abbrev pub top : Spot
 top = record { level = is_procedure; unit = [] }
 

@@ -1,4 +1,4 @@
-//! Bindings of roles that are looked at one after another, so that each candidate of each role takes it in one of them.
+//! Bindings of roles that are tried one after another, so that each candidate of each role takes it in one of them.
 ghost use Rattle.std.specs.Prelude.{◌≡◌, ◌≤◌, max, slice_get, option_copied, MatchOption};
 ghost use Rattle.batch_cell.specs.LookUps.{resources_of, units_of_class};
 ghost use Rattle.batch_cell.specs.declared.cell.TheConstants.{MAX_UNITS};
@@ -8,7 +8,7 @@ use batch_cell::Cell;
 use batch_recipe::Role;
 use batch_text::Name;
 
-/// How many bindings are to be looked at: as many as there are candidates of the role that has the most, and one at least.
+/// The number of bindings to try: as many as there are candidates of the role that has the most, and one at least.
 // claim: numbered bindings
 pub fn binding_count(cell: &Cell, roles: &[Role]) -> u16
     ensures count { result ≡ binding_count cell.now roles.now }

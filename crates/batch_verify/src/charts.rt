@@ -1,4 +1,4 @@
-//! Rules on `par`s and loops, and on what acts reserve, which don't depend on the units that take the roles.
+//! The rules on `par`s, loops and reserved unit procedures. They don't depend on the units that take the roles.
 ghost use Rattle.std.specs.Prelude.{◌≡◌, ◌≢◌, ◌<◌, ◌≤◌, map, length, slice_get, Some, None, IfOk};
 ghost use Rattle.batch_recipe.specs.Nodes.{Node};
 ghost use Rattle.batch_recipe.specs.Outlines.{act_of, form_of};
@@ -15,7 +15,7 @@ use crate::running_nodes::running_nodes;
 use batch_recipe::{Acts, Entry, Kind, Recipe};
 use std::alloc::{AllocError, Global};
 
-/// Where a node stands, where these are the levels below the nodes before it. The first node is the procedure.
+/// The level of a node, from the levels below the nodes before it. The first node is the procedure.
 fn depth_above(below: &[Depth], entry: &Entry) -> Depth
     ensures some { (depth : Depth) → slice_get below.now entry.now.parent ≡ Some depth → result ≡ depth }
     ensures none { length below.now ≤ entry.now.parent → result ≡ Depth.Procedure }
@@ -26,7 +26,7 @@ fn depth_above(below: &[Depth], entry: &Entry) -> Depth
     }
 }
 
-/// Where those below a node stand, where it stands there itself.
+/// The level of the children of a node that is at `depth` itself.
 fn depth_below(acts: &Acts, entry: &Entry, depth: Depth) -> Depth
     ensures act { act_of acts.now entry.now.kind ≢ None → depth_is result ≡ below (depth_is depth) }
     ensures chart { act_of acts.now entry.now.kind ≡ None → result ≡ depth }
@@ -84,7 +84,7 @@ fn reserve_count(acts: &Acts, entry: &Entry) -> usize
     }
 }
 
-/// The rule that the node breaks as a `par` or a loop, which is this one, or by what it reserves.
+/// The rule that the node breaks: `chart`, as a `par` or a loop, or else the one on the unit procedures that it reserves.
 fn reserve_fault(recipe: &Recipe, entry: &Entry, node: u16, chart: Option<Rule>) -> Option<Rule>
     requires { slice_get recipe.now.outline.entries.items node ≡ Some entry.now }
     ensures { (x : Part) → IsChartFault x chart → IsChartFault x (of_chart result) × ReservesAs recipe.now.acts node result }

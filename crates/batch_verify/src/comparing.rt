@@ -1,11 +1,11 @@
-//! Which of two broken rules is looked for first.
+//! Which of two broken rules is checked first.
 ghost use Rattle.std.specs.Prelude.{◌≡◌};
 ghost use Rattle.batch_verify.specs.Comparing.{earlier_of, is_before};
 ghost use Rattle.batch_verify.specs.Refusals.{rule_number};
 
 use crate::rule::{Broken, Rule};
 
-/// The one of two that is looked for first, the former where both are the same.
+/// The one of two that is checked first, the former if both are the same.
 pub(crate) fn earlier(one: Option<Broken>, other: Option<Broken>) -> Option<Broken>
     ensures { result ≡ earlier_of one other }
 {
@@ -16,14 +16,14 @@ pub(crate) fn earlier(one: Option<Broken>, other: Option<Broken>) -> Option<Brok
     }
 }
 
-/// Whether the one is looked for before the other.
+/// Whether the one is checked before the other.
 fn is_before(one: Broken, other: Broken) -> bool
     ensures { result ≡ is_before one other }
 {
     one.node < other.node || (one.node == other.node && order(one.rule) < order(other.rule))
 }
 
-/// The number of the rule in the order in which the rules are looked at.
+/// The number of the rule in the order in which the rules are checked.
 fn order(rule: Rule) -> u8
     ensures { result ≡ rule_number rule }
 {

@@ -3,7 +3,7 @@ ghost use Rattle.std.specs.Prelude.{◌≡◌};
 ghost use Rattle.batch_model.specs.Cleared.{below};
 ghost use Rattle.batch_verify.specs.Charts.{depth_is};
 
-/// Where a node stands.
+/// The level of a node.
 #[derive(Clone, Copy)]
 pub(crate) enum Depth {
     /// It is the procedure.
@@ -17,7 +17,7 @@ pub(crate) enum Depth {
 }
 
 impl Depth {
-    /// Where the chart of an act stands.
+    /// The level of the chart of an act at this level.
     pub(crate) fn below(self) -> Depth
         ensures { depth_is result ≡ below (depth_is self) }
     {

@@ -1,12 +1,12 @@
-//! Where units come from that are known to offer what phase steps run.
+//! The sources whose units are known to offer the phases of phase steps.
 ghost use Rattle.std.specs.Prelude.{◌≡◌};
 ghost use Rattle.batch_verify.specs.Offers.{offering_unit, with_offering};
 
 use batch_recipe::{Kind, LabelTable};
 use batch_set::Source;
 
-/// Where the units come from that are known to offer what the act runs. There is none but for phase steps, for each of which these say it
-/// by number: many nodes stand for one, mostly below one unit or role.
+/// The source whose units are known to offer the phase of the act. `units` has those of phase steps, by number; other acts have none.
+/// Many nodes are of one phase step, mostly below one unit or role.
 pub(crate) fn offering_unit(units: &[Option<Source>], kind: Kind) -> Option<Source>
     ensures { result ≡ offering_unit units.now kind }
 {
@@ -19,7 +19,7 @@ pub(crate) fn offering_unit(units: &[Option<Source>], kind: Kind) -> Option<Sour
     }
 }
 
-/// Notes where the unit below the act comes from, each of which offers what it runs.
+/// Notes the source of the unit below the act, if the act is a phase step. Each unit that the source may give offers its phase.
 pub(crate) fn note_unit(units: &mut [Option<Source>], kind: Kind, unit: Option<Source>)
     ensures { units.new ≡ with_offering units.old kind unit }
 {

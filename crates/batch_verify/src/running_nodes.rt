@@ -16,7 +16,7 @@ pub(crate) fn running_nodes(alloc: Global, recipe: &Recipe) -> Result<Vec<bool>,
 {
     let count = node_count(recipe);
     let mut runs = vec![in alloc; false; usize::from(count)]?;
-    // What stands below a node has greater numbers.
+    // The nodes below a node have greater numbers.
     for node in (0..count).rev() {
         runs[usize::from(node)] = node_runs(recipe, &runs, node);
     }

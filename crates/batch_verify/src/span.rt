@@ -27,8 +27,8 @@ use batch_set::{LinkedNeed, LinkedRecipe, Source};
 use batch_text::Name;
 use std::alloc::{AllocError, Global};
 
-/// What is known of the path from the root, whatever units take the roles: where the unit comes from on which it runs, below a unit
-/// procedure, and the greatest rank that its last need can have.
+/// The span of the path from the root, whatever units take the roles: the source of the unit on which it runs, below a unit procedure,
+/// and the greatest rank that its last need can have.
 #[derive(Clone, Copy)]
 pub(crate) struct Span {
     pub(crate) unit: Option<Source>,
@@ -76,7 +76,7 @@ pub(crate) fn is_clear(
     Ok(true)
 }
 
-/// What is known of the path above a node, where these are those to the nodes before it. Nothing is above the first.
+/// The span of the path above a node, from those of the nodes before it. Nothing is above the first node.
 fn span_above(spans: &[Span], entry: &Entry) -> Span
     ensures some { (above : span.Span) → slice_get spans.now entry.now.parent ≡ Some above → result ≡ above }
     ensures none { length spans.now ≤ entry.now.parent → result ≡ no_span }
@@ -90,7 +90,7 @@ fn span_above(spans: &[Span], entry: &Entry) -> Span
     }
 }
 
-/// What is known of the path below the node. None where the node may break a rule.
+/// The span of the path below the node. None where the node may break a rule.
 fn span_below(
     low: &Site,
     highest: &[Option<u16>],
@@ -118,7 +118,7 @@ fn span_below(
     }
 }
 
-/// What is known of the path below the act with these needs.
+/// The span of the path below the act with these needs. None where the act may break a rule.
 fn span_within(
     low: &Site,
     highest: &[Option<u16>],
@@ -139,7 +139,7 @@ fn span_within(
     Some(Span { unit, last })
 }
 
-/// Where the unit below the act comes from. An act's own unit is the first of its needs.
+/// The source of the unit below the act. An act's own unit is the first of its needs.
 fn source_under(
     low: &Site,
     act: &Act,
@@ -159,7 +159,7 @@ fn source_under(
     }
 }
 
-/// The greatest rank that the last of the needs can have, where each is of a resource that has so many units, and the ranks rise.
+/// The greatest rank that the last of the needs can have. None unless each is of a resource with so many units, and the ranks rise.
 fn after_needs(
     low: &Site,
     highest: &[Option<u16>],
@@ -199,7 +199,7 @@ fn after_need(
     }
 }
 
-/// Whether each unit that may come from there offers what is run. Where it is known of where the unit comes from, nothing is looked up.
+/// Whether each unit that the source may give offers the phase, if the work runs one. Nothing is looked up for the known source.
 fn each_offers(
     cell: &Cell,
     roles: &[Role],
@@ -219,7 +219,7 @@ fn each_offers(
     }
 }
 
-/// Whether it is the one that is known.
+/// Whether the source is the known one.
 fn is_known(known: Option<Source>, source: Source) -> bool
     ensures { result ≡ true → known ≡ Some source }
 {
@@ -230,7 +230,7 @@ fn is_known(known: Option<Source>, source: Source) -> bool
     }
 }
 
-/// Whether each unit that may come from there offers the phase.
+/// Whether each unit that the source may give offers the phase.
 fn source_offers(cell: &Cell, roles: &[Role], source: Source, phase: &Name) -> bool
     ensures { result ≡ true → PhaseOffered cell.now roles.now source phase.now }
 {

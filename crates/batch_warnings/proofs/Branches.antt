@@ -1,4 +1,4 @@
--- What a chart names, branch by branch.
+-- The labels and values that a chart names, branch by branch.
 use Rattle.std.proofs.Common.{arith, ◌≡◌, Bool, ◌||◌, List, [], ◌∷◌, ◌++◌, map, refl, sym, ap, ◌∙◌}
 use Rattle.std.specs.List.{list_any}
 use Rattle.batch_recipe.specs.Conditions.{Name}

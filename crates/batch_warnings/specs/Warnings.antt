@@ -1,4 +1,4 @@
--- trusted: what of a cell and of a recipe can hardly be meant so, though it is taken.
+-- trusted: the parts of a cell and of a recipe that are accepted though they can hardly be meant so.
 use Rattle.std.specs.Prelude.{ℕ, ◌+◌, Bool, true, false, ◌&&◌, ◌||◌, not, List, [], ◌∷◌, ◌++◌, map, Some, None, if◌then◌else◌}
 use Rattle.std.specs.List.{list_any, list_all}
 use Rattle.batch_cell.specs.Equipment.{belongs_to}

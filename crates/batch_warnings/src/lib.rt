@@ -1,4 +1,4 @@
-//! Parts of a cell and of its recipes that are taken though they can hardly be meant so.
+//! Parts of a cell and of its recipes that are accepted though they can hardly be meant so.
 #![tactic(auto)]
 
 mod adding;

@@ -1,4 +1,4 @@
-//! What charts name.
+//! The labels and values that charts name.
 ghost use Rattle.std.specs.Prelude.{◌≡◌, ◌||◌};
 ghost use Rattle.std.specs.List.{list_any};
 ghost use Rattle.batch_recipe.specs.Diagram.{diagram_of};

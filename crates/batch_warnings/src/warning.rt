@@ -1,7 +1,7 @@
 //! Warnings on a recipe.
 use batch_recipe::LabelTable;
 
-/// A part of a recipe that is taken though it can hardly be meant so. Each is told by its number in the order of declaration, from 0.
+/// A part of a recipe that is accepted though it can hardly be meant so, by its number in the order of declaration, from 0.
 #[derive(Clone, Copy)]
 pub enum RecipeWarning {
     /// No chart names this act of the table.

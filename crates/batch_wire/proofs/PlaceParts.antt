@@ -54,7 +54,7 @@ module _ (r : Recipe) where
   pub past-entries : (k from : ℕ) (xs : List Entry) → from ≡ k → xs ≡ r.outline.entries.items → false ≡ nat_lt from (length xs) → length r.outline.entries.items ≤ k
   past-entries k from xs at items past = let le : length xs ≤ from = grind (arith, nat_tests, past) in omega (arith, le, at, ap length items)
 
-  -- an entry that stands there
+  -- an entry at this position
   pub entry-at : (k from : ℕ) (e : Entry) → from ≡ k → k < length r.outline.entries.items → e ≡ get_or r.outline.entries.items from e → slice_get r.outline.entries.items k ≡ Some e
   entry-at k from e at within is = read r k e (omega (arith, within, as_many r)) (is ∙ ap (λ n. get_or r.outline.entries.items n e) at)
 
@@ -69,7 +69,7 @@ module _ (r : Recipe) where
       go (inl f) = text-at k x.at x.numbered ∙ ap place_text f.placed ∙ ap decimal (sym f.alone)
       go (inr g) = absurd (omega (arith, g.earlier, root))
 
-  -- any other's goes on from that of the node above it
+  -- the place of any other node continues that of the node above it
   pub text-below : (k : ℕ) (e : Entry) → slice_get r.outline.entries.items k ≡ Some e → k ≢ 0
       → (e.parent < k) × (text_of_place r k ≡ text_of_place r e.parent ++ (codes "." ++ decimal e.child))
   text-below k e is below = go x.hangs

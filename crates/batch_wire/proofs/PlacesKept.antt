@@ -8,7 +8,7 @@ use Rattle.batch_wire.specs.declared.recipe_places.Known.{Known}
 use Rattle.batch_wire.specs.declared.recipe_places.RecipePlaces.{RecipePlaces}
 use Rattle.batch_wire.specs.Known.{known_at, AreKnownBy, EndsAt, HoldsBatch, IsCutBack, IsAdded, IsKept}
 
--- what stands before a text that was put is what stood there
+-- the text before a text that was put is unchanged
 pub same_before : (old new more : List ℕ) (at end e : ℕ) → take end new ≡ take at old ++ more → e ≤ at → at ≤ end → at ≤ length old → take e new ≡ take e old
 same_before old new more at end e put before after within =
     sym (take-take e end new (omega (arith, before, after)))
@@ -26,7 +26,7 @@ same_batch b c s r old new h batch start space digits = record {
       );
 }
 
--- what stands up to an end, parted at a place in between
+-- the text up to an end, parted at a place in between
 parted_at : (s m e : ℕ) (text : List ℕ) → s ≤ m → m ≤ e → m ≤ length text → drop s (take e text) ≡ drop s (take m text) ++ drop m (take e text)
 parted_at s m e text before after within =
     ap (drop s) (sym (take-append-drop m (take e text)) ∙ ap (λ t. t ++ drop m (take e text)) (take-take m e text after))
@@ -104,7 +104,7 @@ module _ (text_of : ℕ → List ℕ) where
       some_same : (n m : ℕ) → ◌≡◌ {A = Option ℕ} (Some n) (Some m) → n ≡ m
       some_same n m e = cc
 
-  -- where a text ends, its batch stands in front of it
+  -- if a text ends there, its batch is in front of it
   pub found_with : (k : RecipePlaces) (n : ℕ) (text : List ℕ) (o : Option ℕ) → AreKnownBy text_of k → k.batch ≡ Some n → IfSome o (λ end. EndsAt text end k)
       → IfSome o (λ end. (k.start ≤ end) × (end ≤ 408) × (drop k.start (take end k.text) ≡ decimal n ++ (codes " " ++ text)))
   found_with k n text None h is ends = tt
@@ -122,7 +122,7 @@ module _ (text_of : ℕ → List ℕ) where
             (subst (λ (text : List ℕ). drop 24 (take (known_at old i).end text) ≡ text_of (known_at old i).node) (sym cut.text) (h.told i (omega (arith, lt, cut.fewer))));
       }
 
-  -- another text is put behind what is known
+  -- another text is put after the known ones
   pub known_before : (old new : RecipePlaces) (more : List ℕ) (at end : ℕ) → AreKnownBy text_of old → ((i : ℕ) → i < old.depth → (known_at old i).end ≤ at)
       → take end new.text ≡ take at old.text ++ more → 24 ≤ at → at ≤ end → at ≤ length old.text → new.path ≡ old.path → new.depth ≡ old.depth
       → new.batch ≡ old.batch → new.start ≡ old.start → AreKnownBy text_of new
@@ -139,7 +139,7 @@ module _ (text_of : ℕ → List ℕ) where
             (ap (drop 24) (same_before old.text new.text more at end (known_at old i).end put (below i was) after within) ∙ h.told i was);
       }
 
-  -- a node whose text ends behind what is known is known with it
+  -- a node whose text ends after the known ones is known with them
   pub known_with : (old new : RecipePlaces) (node end : ℕ) → AreKnownBy text_of old → EndsAt (text_of node) end old → IsKept node end old new
       → AreKnownBy text_of new × EndsAt (text_of node) end new
   known_with old new node end h is kept = go kept.path
@@ -192,7 +192,7 @@ module _ (text_of : ℕ → List ℕ) where
             record { from = is.from; within = is.within; last = ends; told = ap (λ t. drop 24 (take end t)) kept.text ∙ is.told },
           )
 
-  -- a text that is put behind what is known is that of a node
+  -- a text that is put after the known ones is that of a node
   pub known_further : (old put new : RecipePlaces) (more : List ℕ) (at end node : ℕ) → AreKnownBy text_of old → ((i : ℕ) → i < old.depth → (known_at old i).end ≤ at)
       → take end put.text ≡ take at old.text ++ more → drop 24 (take at old.text) ++ more ≡ text_of node → 24 ≤ at → at ≤ end → end ≤ 408 → at ≤ length old.text
       → put.path ≡ old.path → put.depth ≡ old.depth → put.batch ≡ old.batch → put.start ≡ old.start → IsKept node end put new → AreKnownBy text_of new × EndsAt (text_of node) end new

@@ -11,7 +11,7 @@ use Rattle.batch_wire.specs.declared.recipe_places.RecipePlaces.{RecipePlaces}
 abbrev pub known_at : RecipePlaces → ℕ → Known
 known_at k i = get_or k.path i (record { node = 0; end = 0 })
 
--- a space stands before the place, and before it the digits of the batch
+-- a space is before the place, and before it are the digits of the batch
 pub record HoldsBatch (batch : Option ℕ) (start : ℕ) (text : List ℕ) : Type 0 where
   pub space : drop 23 (take 24 text) ≡ codes " "
   pub digits : (n : ℕ) → batch ≡ Some n → (start ≤ 23) × (drop start (take 23 text) ≡ decimal n)
@@ -32,7 +32,7 @@ AreKnownIn c k = AreKnownBy (λ node. place_text (place_at c k.recipe node)) k
 abbrev pub AreKnown : ClearedSet → KnownPlaces → Type 0
 AreKnown c k = All (AreKnownIn c) k.recipes
 
--- a text ends there, behind all that are kept
+-- a text ends there, after all kept ones
 pub record EndsAt (text : List ℕ) (end : ℕ) (k : RecipePlaces) : Type 0 where
   pub from : 24 ≤ end
   pub within : end ≤ 408
@@ -52,7 +52,7 @@ pub record IsCutBack (old new : RecipePlaces) : Type 0 where
   pub start : new.start ≡ old.start
   pub recipe : new.recipe ≡ old.recipe
 
--- a node is kept behind the others
+-- a node is kept after the others
 pub record IsAdded (node end : ℕ) (old new : RecipePlaces) : Type 0 where
   pub room : old.depth < 192
   pub all : length old.path ≡ 192

@@ -59,7 +59,7 @@ role_text role = role.0 ++ (codes "=" ++ role.1)
 abbrev pub role_texts : List (Name × Name) → List (List ℕ)
 role_texts roles = map role_text roles
 
--- a resource, and after a star how many units of it, where it is more than one
+-- a resource, and after a star how many units of it, if it is more than one
 abbrev pub need_text : Need → List ℕ
 need_text need = elim (nat_lt 1 need.units) [ false ↦ need.resource | true ↦ need.resource ++ (codes "*" ++ decimal need.units) ]
 
@@ -106,6 +106,6 @@ abbrev pub out_words : Out → List (List ℕ)
 out_words (reply r) = reply_words r
 out_words (move m) = move_words m
 
--- the line of the record that tells an out
+-- the line of an out in the record
 abbrev pub out_text : Out → List ℕ
 out_text out = line_text (out_words out)

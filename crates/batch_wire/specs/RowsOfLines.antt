@@ -1,4 +1,4 @@
--- worked rows: what event lines give, worked out.
+-- worked rows: the events and refusals of event lines, worked out.
 use Rattle.std.specs.Prelude.{◌≡◌, [], ◌∷◌, Some, Ok, Err, codes}
 use Rattle.batch_model.specs.Events.{create}
 use Rattle.batch_wire.specs.EventLine.{event_of_line}

@@ -1,4 +1,4 @@
-//! Reading that a batch is to be made.
+//! Reading the line that creates a batch.
 ghost use Rattle.std.specs.Prelude.{◌≡◌, ◌&&◌, true, length, map, nat_le, if◌then◌else◌, MatchOption, MatchResult, Ok, Err};
 ghost use Rattle.std.specs.List.{list_all};
 ghost use Rattle.batch_wire.specs.EventLine.{words, is_role_pair, role_pair_of, create_of};

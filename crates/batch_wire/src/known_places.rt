@@ -1,4 +1,4 @@
-//! Places that were told last, kept for those told after them.
+//! The places that were written last, kept for the next ones.
 ghost use Rattle.std.specs.Prelude.{◌<◌};
 ghost use Rattle.batch_verify.specs.ClearedSet.{ClearedSet};
 ghost use Rattle.batch_wire.specs.Known.{AreKnown};
@@ -7,14 +7,14 @@ use crate::line_room::LineRoom;
 use crate::recipe_places::RecipePlaces;
 use crate::site::Site;
 
-/// Of how many recipes places are kept: as many as a cell may have units, so as many as may run at once of which each has a unit.
+/// The number of recipes whose places are kept: as many as a cell may have units, so as many as may run at once with a unit each.
 const RECIPES: usize = 64;
 
-/// For some recipes the place that was told last. Recipes whose numbers are the same modulo 64 share one, in turn.
+/// For some recipes the place that was written last. Recipes whose numbers are the same modulo 64 share one, in turn.
 #[derive(Drop)]
 pub struct KnownPlaces {
     pub(crate) recipes: [RecipePlaces; RECIPES],
-    /// Where lines are put together, so that no room has to be cleared for each.
+    /// The room in which lines are put together, so that none has to be cleared for each.
     pub(crate) line: LineRoom,
 }
 
@@ -30,7 +30,7 @@ impl KnownPlaces {
     }
 }
 
-/// Where the places of a site's recipe are kept.
+/// The index at which the places of a site's recipe are kept.
 pub(crate) fn seat_of(site: Option<Site>) -> usize
     ensures { result < 64 }
 {

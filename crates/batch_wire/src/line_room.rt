@@ -3,10 +3,10 @@ ghost use Rattle.std.specs.Prelude.{◌≡◌, ◌≤◌, [], Some, take};
 
 use std::io::{Result, Write};
 
-/// How long a line can be that is put together before it is written. Few are longer.
+/// The longest line that is put together before it is written. Few are longer.
 const ROOM: usize = 384;
 
-/// What stands in it is a writer's, to which a line is written as to any other. What has no room is refused.
+/// A writer like any other, whose contents are the line so far. A piece that finds no room is refused.
 #[derive(Drop)]
 pub(crate) struct LineRoom {
     len: usize,
@@ -22,7 +22,7 @@ impl LineRoom {
         }
     }
 
-    /// Nothing stands in it any more.
+    /// Empties it.
     #[inline(always)]
     pub(crate) fn clear(&mut self)
         ensures { take self.new.len self.new.bytes ≡ [] }
@@ -30,7 +30,7 @@ impl LineRoom {
         self.len = 0;
     }
 
-    /// What was written since it was cleared.
+    /// The text that was written since it was cleared.
     #[inline(always)]
     pub(crate) fn line(&self) -> &[u8]
         ensures { result.now ≡ take self.now.len self.now.bytes }

@@ -1,4 +1,4 @@
-//! Pairs, `NAME=..`, behind the words of a line.
+//! Pairs, `NAME=..`, after the words of a line.
 ghost use Rattle.std.specs.Prelude.{◌≡◌, length, nat_le, IsOkUnless, MatchOption};
 ghost use Rattle.std.specs.List.{before_first, after_first};
 ghost use Rattle.batch_wire.specs.EventLine.{words, is_equals};
@@ -19,7 +19,7 @@ pub fn are_at_most(mut line: Words<'_>, most: usize) -> bool
     line.next().is_none()
 }
 
-/// What stands before the first `=` of the word, and what stands behind it.
+/// The parts of the word before and after its first `=`.
 pub fn parted(word: &[u8]) -> (&[u8], &[u8])
     ensures front { result.0.now ≡ before_first is_equals word.now }
     ensures behind { result.1.now ≡ after_first is_equals word.now }

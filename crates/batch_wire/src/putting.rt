@@ -1,7 +1,8 @@
 //! Putting a text together from its end.
 ghost use Rattle.std.specs.Prelude.{◌≡◌, ◌≤◌, ◌++◌, IfNone, IfSome, drop, length};
 
-/// Puts a piece in front of what begins at `end`, and tells where it begins. None where there is no room for it: then nothing was put.
+/// Puts a piece in front of the text that begins at `end`, and returns its start. Without room for it, puts nothing, and returns
+/// None.
 #[inline(always)]
 pub fn put_piece(text: &mut [u8], end: usize, piece: &[u8]) -> Option<usize>
     requires { end ≤ length text.old }

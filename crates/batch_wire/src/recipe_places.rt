@@ -1,4 +1,4 @@
-//! The place of a recipe that was told last, kept for those told after it.
+//! The place of a recipe that was written last, kept for the next ones.
 ghost use Rattle.std.specs.Prelude.{◌≡◌, ◌≤◌, ◌<◌, ◌++◌, ℕ, List, IfSome, IsTrue, Some, codes, decimal, drop, length, take};
 ghost use Rattle.batch_recipe.specs.Texts.{place_text};
 ghost use Rattle.batch_engine.specs.Names.{place_at};
@@ -13,22 +13,22 @@ use batch_recipe::{Entry, Recipe};
 use batch_verify::Cleared;
 use itoa::Buffer;
 
-/// How many nodes are kept: more than stand above one another where forms nest as deep as they may.
+/// How many nodes are kept: more than lie above one another if forms nest as deep as they may.
 const MAX_DEPTH: usize = 192;
 
-/// Where the text of a place begins. Before it stand a batch's digits, at most 20, and a space.
+/// The start of the text of a place. Before it are a batch's digits, at most 20, and a space.
 const PLACE_START: usize = 24;
 
-/// Where the text of a place ends at most that is kept.
+/// The greatest end of the text of a place that is kept.
 const MAX_PLACE_END: usize = 408;
 
-/// The nodes from a recipe's root to the one whose place was told last, and the text of that place, which begins with the
-/// places of the nodes above. In front of it stands the batch that was told last.
+/// The nodes from a recipe's root to the one whose place was written last, and the text of that place, which begins with the
+/// places of the nodes above. In front of it is the batch that was written last.
 #[derive(Clone, Copy)]
 pub(crate) struct RecipePlaces {
-    /// The batch whose digits stand in front of the place.
+    /// The batch whose digits are in front of the place.
     batch: Option<u64>,
-    /// Where they begin.
+    /// The start of these digits.
     start: usize,
     recipe: u16,
     /// How many nodes are kept.
@@ -37,7 +37,7 @@ pub(crate) struct RecipePlaces {
     pub(crate) text: [u8; MAX_PLACE_END],
 }
 
-/// A node, and where the text of its place ends.
+/// A node, and the end of the text of its place.
 #[derive(Clone, Copy)]
 struct Known {
     node: u16,
@@ -59,7 +59,7 @@ impl RecipePlaces {
         }
     }
 
-    /// Makes the text of a site known, and tells from where to where it stands. That of no site is empty.
+    /// Makes the text of a site known, and returns its start and its end. That of no site is empty.
     #[inline(always)]
     pub(crate) fn find_site(
         &mut self,
@@ -80,8 +80,8 @@ impl RecipePlaces {
         }
     }
 
-    /// Makes the place of a node known, and the batch in front of it, and tells where the place's text ends. None where there is no
-    /// room for it, or no such node.
+    /// Makes the place of a node known, and the batch in front of it, and returns the end of the place's text. None if there is no
+    /// room for it, or no node of this number.
     #[inline(always)]
     fn find(&mut self, cleared: &Cleared, site: Site) -> Option<usize>
         requires { AreKnownIn cleared.now self.old }
@@ -95,7 +95,7 @@ impl RecipePlaces {
         self.find_place(cleared, site.recipe, site.node)
     }
 
-    /// The same where the batch stands already.
+    /// The same, if the batch is already there.
     #[inline(always)]
     fn find_place(&mut self, cleared: &Cleared, recipe: u16, node: u16) -> Option<usize>
         requires { AreKnownIn cleared.now self.old }
@@ -125,14 +125,14 @@ impl RecipePlaces {
         if usize::from(node) >= recipe.outline.entries.len() {
             return None;
         }
-        // Half of the lines tell the place that was told last.
+        // Half of the lines have the place that was written last.
         if let Some(end) = self.end_of(node) {
             return Some(end);
         }
         self.reach(recipe, node)
     }
 
-    /// The digits of the batch stand in front of the place, unless there is no room for them.
+    /// Puts the digits of the batch in front of the place, unless there is no room for them.
     fn hold_batch(&mut self, batch: u64) -> bool
         ensures known { (text_of : ℕ → List ℕ) → AreKnownBy text_of self.old → AreKnownBy text_of self.new }
         ensures recipe { self.new.recipe ≡ self.old.recipe }
@@ -158,7 +158,7 @@ impl RecipePlaces {
         }
     }
 
-    /// Makes the place of a node known from that of the node above it, and tells where its text ends. None where there is no
+    /// Makes the place of a node known from that of the node above it, and returns the end of its text. None if there is no
     /// room for it.
     #[cycle(reach)]
     fn reach(&mut self, recipe: &Recipe, node: u16) -> Option<usize>
@@ -216,7 +216,7 @@ impl RecipePlaces {
         }
     }
 
-    /// Where the text of the node's place ends, where it is the last node.
+    /// The end of the text of the node's place, if it is the last node.
     fn end_of(&self, node: u16) -> Option<usize>
         requires { self.now.depth ≤ 192 }
         ensures { IfSome result (λ end. IsLast node end self.now) }

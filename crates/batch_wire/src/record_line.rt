@@ -30,7 +30,7 @@ use batch_verify::Cleared;
 use itoa::Buffer;
 use std::io::Write;
 
-/// Writes the line of the record that tells the out. It takes no memory.
+/// Writes the out's line of the record. It takes no memory.
 // claim: record lines; line cut off
 pub fn write_out<W: Write>(out: &Out, cleared: &Cleared, writer: &mut W) -> Result<(), WriteFault>
     ensures { Writes (W.contents writer.old) (W.contents writer.new) result (out_text (out_of cleared.now out.now)) }
@@ -41,8 +41,8 @@ pub fn write_out<W: Write>(out: &Out, cleared: &Cleared, writer: &mut W) -> Resu
     }
 }
 
-/// Writes the same line, in one piece where it isn't too long. The text of the place that it tells is put together from that of the
-/// recipe's last one, and is known from then on: of many lines of a batch each costs what its place differs from the one before.
+/// Writes the same line, in one piece if it isn't too long. The text of its place is put together from that of the recipe's last one,
+/// and is known from then on: of many lines of a batch each costs the difference of its place from the one before.
 // claim: record lines
 pub fn write_out_knowing<W: Write>(
     out: &Out,
@@ -66,7 +66,7 @@ pub fn write_out_knowing<W: Write>(
     )
 }
 
-/// Writes the line of an out that tells this site, or none, where these places are known.
+/// Writes the line of an out with this site, or with none, by the places that are known.
 #[inline(always)]
 fn write_site<W: Write>(
     out: &Out,
@@ -89,7 +89,7 @@ fn write_site<W: Write>(
     write_line(out, cleared, &told, room, writer)
 }
 
-/// Writes the line of an out that tells this place: at once where the room holds it, else piece by piece.
+/// Writes the line of an out with this place: at once if the room holds it, else piece by piece.
 #[inline(always)]
 fn write_line<W: Write>(
     out: &Out,
@@ -108,7 +108,7 @@ fn write_line<W: Write>(
     }
 }
 
-/// Writes the same piece by piece: a function of its own, so that what is seldom done isn't in the way of what is done for each line.
+/// Writes the same piece by piece: a function of its own, so that rare work isn't in the way of the work for each line.
 #[inline(never)]
 fn write_by_pieces<W: Write>(
     out: &Out,
@@ -122,7 +122,7 @@ fn write_by_pieces<W: Write>(
     write_telling(out, cleared, told, writer)
 }
 
-/// The node whose place the out tells. None where it tells none.
+/// The node whose place is in the line of the out. None if the line has no place.
 #[inline(always)]
 fn site_of(out: &Out) -> Option<Site>
     ensures { (cleared : ClearedSet) → text_of_site cleared result ≡ told_by_out (out_of cleared out.now) }
@@ -201,7 +201,7 @@ fn site_of_move(line: Line) -> Option<Site>
     }
 }
 
-/// Writes the line of an out that tells this place.
+/// Writes the line of an out with this place.
 #[inline(always)]
 fn write_telling<W: Write>(
     out: &Out,
@@ -272,7 +272,7 @@ fn write_created<W: Write>(
     write_all(writer, b"\n")
 }
 
-/// Writes what a line of a new batch begins with: the word, the batch, the recipe and the size.
+/// Writes the beginning of a line of a new batch: the word, the batch, the recipe and the size.
 fn write_created_front<W: Write>(
     batch: u64,
     recipe: &[u8],
@@ -296,7 +296,7 @@ fn write_created_front<W: Write>(
     )
 }
 
-/// Writes the roles of a recipe with the units that take them, each behind a space.
+/// Writes the roles of a recipe with the units that take them, a space before each.
 fn write_roles<W: Write>(
     cleared: &Cleared,
     recipe: u16,
@@ -372,7 +372,7 @@ fn write_removed<W: Write>(batch: u64, writer: &mut W) -> Result<(), WriteFault>
     )
 }
 
-/// Writes that a phase of a unit reported something, by this word between spaces.
+/// Writes the reply to a report of a phase of a unit, whose word comes with a space on either side.
 #[inline(always)]
 fn write_reported<'a, W: Write>(
     unit: &'a [u8],
@@ -514,7 +514,7 @@ fn write_state<W: Write>(batch: u64, state: State, writer: &mut W) -> Result<(),
     )
 }
 
-/// Writes what a move tells of a step: the word and a space, the batch and the step's place, and a name.
+/// Writes the line of a move of a step: the word and a space, the batch and the step's place, and a name.
 #[inline(always)]
 fn write_step<W: Write>(
     word: &'static [u8],
@@ -528,8 +528,8 @@ fn write_step<W: Write>(
     write_apart(&[word], place, &[b" ", name, b"\n"], writer)
 }
 
-/// Writes what a move tells of a need: the word and a space, the batch and the act's place, the resource, and how many units of it
-/// where it is more than one.
+/// Writes the line of a move of a need: the word and a space, the batch and the act's place, the resource, and how many units of it
+/// if it is more than one.
 #[inline(always)]
 fn write_need<W: Write>(
     word: &'static [u8],
@@ -554,8 +554,8 @@ fn write_need<W: Write>(
     )
 }
 
-/// Writes that a unit is handed over: the batch and the act's place, the place of the unit procedure, the unit, and how many units of it
-/// where it is more than one.
+/// Writes the line of a pass: the batch and the act's place, the place of the unit procedure, the unit, and how many units of it if
+/// it is more than one.
 #[inline(never)]
 fn write_pass<W: Write>(
     place: &ToldPlace<'_>,
@@ -607,7 +607,7 @@ fn write_start<W: Write>(
     )
 }
 
-/// Writes that a phase starts, and the values that it is handed.
+/// Writes the line of a phase's start, with the values that it is handed.
 fn write_handing<W: Write>(
     place: &ToldPlace<'_>,
     unit: &[u8],
@@ -626,7 +626,7 @@ fn write_handing<W: Write>(
     write_all(writer, b"\n")
 }
 
-/// Writes what a line of a phase step begins with: the word and a space, the batch and the step's place, the unit and its phase.
+/// Writes the beginning of a line of a phase step: the word and a space, the batch and the step's place, the unit and its phase.
 #[inline(always)]
 fn write_phase_front<W: Write>(
     word: &'static [u8],
@@ -641,7 +641,7 @@ fn write_phase_front<W: Write>(
     write_apart(&[word], place, &[b" ", unit, b" ", phase], writer)
 }
 
-/// Writes pieces, a place, and pieces behind it, one after the other, however long they are.
+/// Writes pieces, a place, and pieces after it, however long they are.
 #[inline(always)]
 fn write_apart<W: Write>(
     head: &[&[u8]],
@@ -680,7 +680,7 @@ fn write_value<W: Write>(name: &[u8], value: u64, writer: &mut W) -> Result<(), 
     write_pieces(writer, &[b" ", name, b"=", digits.format(value).as_bytes()])
 }
 
-/// The state as the last word of a line: behind a space, and with the line's end.
+/// The state as the last word of a line: a space before it, and the line's end after it.
 pub(crate) fn last_word(state: State) -> &'static [u8]
     ensures { result.now ≡ codes " " ++ (state_text state ++ codes "\n") }
 {
@@ -715,7 +715,7 @@ fn command_text(command: Command) -> &'static [u8]
     }
 }
 
-/// What a phase tells, as a word with a space on either side.
+/// The report of a phase, as a word with a space on either side.
 pub(crate) fn inner_word(word: Report) -> &'static [u8]
     ensures { result.now ≡ codes " " ++ (report_text word ++ codes " ") }
 {

@@ -1,4 +1,5 @@
-//! Event lines and lines of the record, worked out, and the limits of event lines. The functions are empty: their contracts are the lines and the limits.
+//! Event lines and lines of the record, worked out, and the limits of event lines. The functions are empty: their contracts are the
+//! lines and the limits.
 ghost use Rattle.std.specs.Prelude.{◌≡◌};
 ghost use Rattle.batch_recipe.specs.declared.role.TheConstants.{MAX_ROLES};
 ghost use Rattle.batch_wire.specs.RowsOfLines.{BoundRoles, RoleBoundTwice, RoleWithoutUnit, FifthRole};

@@ -1,4 +1,4 @@
-//! Where a line tells of.
+//! The node to which a line refers.
 
 /// A node of a batch's recipe, by the numbers of all three.
 #[derive(Clone, Copy)]

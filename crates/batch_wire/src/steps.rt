@@ -1,12 +1,12 @@
-//! The numbers of a place, put one behind the other.
+//! The numbers of a place, put one after the other.
 ghost use Rattle.std.specs.Prelude.{◌≡◌, ◌≤◌, ◌+◌, ◌++◌, codes, decimal, length, take};
 
 use itoa::Buffer;
 
-/// The most that a number of a place takes, with the dot before it.
+/// The greatest length of a number of a place, with the dot before it.
 pub const MAX_STEP_LEN: usize = 6;
 
-/// Puts a number, with a dot before it, behind what ends at `at`, and tells where it ends now.
+/// Appends a dot and a number to the text that ends at `at`, and returns the new end.
 pub fn put_step(text: &mut [u8], at: usize, number: u16) -> usize
     requires { at + 6 ≤ length text.old }
     ensures end { (at ≤ result) × (result ≤ at + 6) }
@@ -16,7 +16,7 @@ pub fn put_step(text: &mut [u8], at: usize, number: u16) -> usize
     put_number(text, at + 1, number)
 }
 
-/// Puts a number behind what ends at `at`, and tells where it ends now.
+/// Appends a number to the text that ends at `at`, and returns the new end.
 pub fn put_number(text: &mut [u8], at: usize, number: u16) -> usize
     requires { at + 5 ≤ length text.old }
     ensures end { (at ≤ result) × (result ≤ at + 5) }

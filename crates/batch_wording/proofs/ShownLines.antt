@@ -1,11 +1,11 @@
--- What is shown is one line.
+-- A shown text is one line.
 use Rattle.std.proofs.Common.{◌≡◌, ◌≢◌, ◌+◌, ◌<◌, ◌==◌, ◌/◌, ◌%◌, ℕ, Bool, true, false, List, [], ◌∷◌, ◌++◌, flat_map, chars, encode_utf8, encode_utf8_all, if◌then◌else◌, nat_lt, refl, sym, ◌∙◌, arith, append-nil, ap, ◌⊎◌, ◌≤◌, inl, inr, ne_eqb}
 use Rattle.std.proofs.lemmas.Bool.Decides.{nat_tests}
 use Rattle.std.proofs.lemmas.List.Elements.{All-append, All-from_get_or}
 use Rattle.std.proofs.lemmas.Str.{encodes-append, inside_one}
 use Rattle.batch_wording.specs.Shown.{IsOneLine, escape, hex_digit, is_control, shown, shown_char}
 
--- a character that ends no line has no byte that does
+-- a character that is no line feed has no byte of a line feed
 char_is_one_line : (c : ℕ) → c ≢ 10 → IsOneLine (encode_utf8 c)
 char_is_one_line c other =
     All-from_get_or (λ byte. byte ≢ 10) (encode_utf8 c) 0
@@ -53,11 +53,11 @@ chars_are_one_line (c ∷ cs) =
 pub shown_is_one_line : (text : List ℕ) → IsOneLine (shown text)
 shown_is_one_line text = chars_are_one_line (chars text)
 
--- what is shown of a text whose first character is this one
+-- a shown text is its first character as shown, and then the shown rest
 pub shown_step : (text rest : List ℕ) (c : ℕ) → chars text ≡ c ∷ chars rest → shown text ≡ encode_utf8_all (shown_char c) ++ shown rest
 shown_step text rest c parts = rw (parts, encodes-append (shown_char c) (flat_map shown_char (chars rest)))
 
--- what is shown of one character
+-- one character, as it is shown
 
 pub shown_control : (c : ℕ) → (c < 32) ⊎ ((32 ≤ c) × (c ≡ 127)) → shown_char c ≡ escape c
 shown_control c (inl low) =

@@ -12,7 +12,7 @@ is_control c = nat_lt c 32 || c == 127
 abbrev pub escape : ℕ → List ℕ
 escape c = 92 ∷ 120 ∷ hex_digit (c / 16) ∷ hex_digit (c % 16) ∷ []
 
--- a control character is told by an escape, and a backslash twice
+-- a control character is written as an escape, and a backslash twice
 abbrev pub shown_char : ℕ → List ℕ
 shown_char c = if is_control c then escape c else (if c == 92 then 92 ∷ 92 ∷ [] else c ∷ [])
 

@@ -1,6 +1,6 @@
 //! Headers of the tables of documents.
 
-/// The word of the header that stands in the line, with single brackets or double ones.
+/// The word of the header in the line, with single brackets or double ones.
 pub fn header_in(line: &str) -> Option<&str> {
     let rest = line.strip_prefix("[")?;
     let rest = rest.strip_prefix("[").unwrap_or(rest);

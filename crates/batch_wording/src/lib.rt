@@ -1,4 +1,4 @@
-//! The wording of what is said to a person: one line, without control characters, and the name that may have been meant.
+//! The wording of sentences for a person: one line, without control characters, and the name that may have been meant.
 #![tactic(auto)]
 
 mod header;

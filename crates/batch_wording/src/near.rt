@@ -2,13 +2,13 @@
 use std::alloc::{AllocError, Global};
 use strsim::osa_distance;
 
-/// How many letters of a written name stand behind one that may be wrong.
+/// The number of letters of a written name to each one that may be wrong.
 const LETTERS_A_MISTAKE: usize = 3;
 
-/// How many names are told at most.
+/// The most names that a sentence lists.
 const MOST_TOLD: usize = 16;
 
-/// A question for the name that was nearly written, or nothing where none is near.
+/// A question for the name that was nearly written, or nothing if none is near.
 pub fn meant_said(alloc: Global, written: &str, names: &[&str]) -> Result<String, AllocError> {
     match nearest(alloc, written, names)? {
         Some(name) => question_said(alloc, name),
@@ -16,7 +16,7 @@ pub fn meant_said(alloc: Global, written: &str, names: &[&str]) -> Result<String
     }
 }
 
-/// A question for the name that was nearly written, or the names that there are where none is near.
+/// A question for the name that was nearly written, or the list of the names if none is near.
 pub fn meant_or_known(
     alloc: Global,
     written: &str,
@@ -33,7 +33,7 @@ fn question_said(alloc: Global, name: &str) -> Result<String, AllocError> {
     format!(in alloc; "; did you mean `{name}`?")
 }
 
-/// The names that there are, or the first of many.
+/// The list of the names, or of the first if they are many.
 fn known_said(alloc: Global, names: &[&str]) -> Result<String, AllocError> {
     if names.is_empty() {
         return String::from_str(alloc, "; none is known");
@@ -46,8 +46,8 @@ fn known_said(alloc: Global, names: &[&str]) -> Result<String, AllocError> {
     format!(in alloc; "; known are {known}")
 }
 
-/// The name that is the written one but for the case of its letters, or the first of those that fewest letters part from it, where
-/// they are few, or the only one that begins with the written one, or begins it.
+/// The name that is the written one but for the case of its letters; else the first of the nearest names, if few letters are wrong;
+/// else the only name that has the written one as a prefix, or is a prefix of it.
 fn nearest<'a>(
     alloc: Global,
     written: &str,
@@ -71,7 +71,7 @@ fn nearest<'a>(
     })
 }
 
-/// The only one of the names that begins with the written one, or begins it.
+/// The only one of the names that has the written one as a prefix, or is a prefix of it.
 fn only_beginning<'a>(written: &str, names: &[&'a str]) -> Option<&'a str> {
     let mut found = None;
     for name in names {

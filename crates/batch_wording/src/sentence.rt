@@ -5,7 +5,7 @@ ghost use Rattle.batch_wording.specs.Shown.{IsOneLine, shown};
 use crate::showing::shown;
 use std::alloc::{AllocError, Global};
 
-/// What a refusal means, for a person.
+/// The meaning of a refusal, in words for a person.
 #[derive(Drop)]
 pub struct Sentence {
     /// One line, without its line feed.
@@ -15,7 +15,7 @@ pub struct Sentence {
 }
 
 impl Sentence {
-    /// The text as a sentence: what it has of control characters is told by escapes.
+    /// The text as a sentence, with its control characters as escapes.
     pub fn of(alloc: Global, text: &str) -> Result<Sentence, AllocError>
         ensures { IfOk result (λ sentence. string_bytes sentence.text ≡ shown text.now) }
     {
@@ -23,7 +23,7 @@ impl Sentence {
         Ok(Sentence { text })
     }
 
-    /// What is said of the document at this path, as one sentence.
+    /// The sentence on the document at this path: the path, and then these words.
     // claim: sentence on a document
     pub fn at(alloc: Global, path: &str, said: &str) -> Result<Sentence, AllocError>
         ensures { IfOk result (λ sentence. string_bytes sentence.text ≡ shown (path.now ++ codes ": " ++ said.now)) }

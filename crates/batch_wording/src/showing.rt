@@ -4,7 +4,7 @@ ghost use Rattle.batch_wording.specs.Shown.{escape, hex_digit, shown, shown_char
 
 use std::alloc::{AllocError, Global};
 
-/// The text with each control character told as `\x` and two hexadecimal digits, and each backslash twice.
+/// The text with each control character as `\x` and two hexadecimal digits, and each backslash twice.
 // claim: texts shown
 pub fn shown(alloc: Global, text: &str) -> Result<String, AllocError>
     ensures { IfOk result (λ told. string_bytes told ≡ shown text.now) }

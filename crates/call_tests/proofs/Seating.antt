@@ -1,4 +1,4 @@
--- How the first port's desk, what is left of it and its token go with the port.
+-- The first port's desk, or the inbox and the token that it left, belong to the port.
 use Rattle.std.proofs.Common.{◌≡◌, ◌<◌, List, [], ◌∷◌, map, length, Option, Some, None, IfSome, IsSome, slice_get, get_or, refl, sym, ap, subst, set, arith}
 use Rattle.std.specs.declared.alloc.Global.{Global}
 use Rattle.std.proofs.lemmas.Bool.{false≢true}
@@ -27,7 +27,7 @@ first_outs ps (x ∷ ds) d e lt at = rw e (ap (λ (y : DeskState). y.outs) (sym 
 pub first_seated : (h : HubState) (ds : List DeskState) (d : DeskState) → rings h ≡ map desk_rings ds → 0 < length ds → d ≡ get_or ds 0 d → IsSeated h d
 first_seated h ds d e lt at = record { events = first_events h.ports ds d e lt at; outs = first_outs h.ports ds d e lt at }
 
--- what a port's rings tell of the first of them, and the other way round
+-- a fact of the first of the ports' rings is one of the first port's rings, and the other way round
 
 at_first : (ps : List PortState) (P : Ring × Option Ring → Type 0) → IfSome (slice_get (map port_rings ps) 0) P → IfSome (slice_get ps 0) (λ p. P (port_rings p))
 at_first [] P is = tt
@@ -48,7 +48,7 @@ tokens_from_first : (h : HubState) (token : Option (Finished Event Global AnyIte
 tokens_from_first h None is = tt
 tokens_from_first h (Some t) is = from_first h.ports (λ ring. IsOfRing t ring) is
 
--- what is left of a desk that finishes
+-- the token and the inbox of a desk that finishes
 
 token_left : (rs : List (Ring × Option Ring)) (token : Option (Finished Event Global AnyItems)) (ring : Ring) → IfSome (slice_get rs 0) (λ r. r.0 ≡ ring) → IfSome token (λ t. IsOfRing t ring) → IfSome token (λ t. IfSome (slice_get rs 0) (λ r. IsOfRing t r.0))
 token_left rs None ring is shown = tt
@@ -58,7 +58,7 @@ token_left (r ∷ rs) (Some t) ring is shown = rw is shown
 pub left_seated : (h : HubState) (d : DeskState) (token : Option (Finished Event Global AnyItems)) (i : InboxState) → IsSeated h d → IfSome token (λ t. IsOfRing t d.events) → IsLeftOf d i → IsLeft h token i
 left_seated h d token i seated shown left = record { events = token_left (rings h) token d.events seated.events shown; outs = rw left.0 seated.outs }
 
--- what is known stays with the rings
+-- the facts stay with the rings
 
 pub seated_stays : (h g : HubState) (d e : DeskState) → rings g ≡ rings h → desk_rings e ≡ desk_rings d → IsSeated h d → IsSeated g e
 seated_stays h g d e same own is =

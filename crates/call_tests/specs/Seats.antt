@@ -1,4 +1,4 @@
--- private: what is known of a hub's first port and of the desk at its other end, or of what is left of that.
+-- private: facts of a hub's first port and of the desk at its other end, or of the token and the inbox that the desk left.
 use Rattle.std.specs.Prelude.{◌≡◌, Option, IfSome, slice_get}
 use Rattle.std.specs.declared.alloc.Global.{Global}
 use Rattle.rtrb.specs.declared.AnyItems.{AnyItems}

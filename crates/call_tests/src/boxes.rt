@@ -8,23 +8,23 @@ use std::alloc::Global;
 use std::process::Abort;
 use std::test::Fail;
 
-/// What the second unit reports, whatever it is told: of a phase that it has, nothing, and of one that it doesn't have.
+/// The reports of the second unit, whatever its orders: of a phase that it has, none, and of one that it doesn't have.
 const ANSWERS: [Answer; 3] = [Some((0, Report::Held)), None, Some((7, Report::Fault))];
 
-/// What units of any kinds tell of the script.
+/// The answers of units of any kinds to the script.
 fn told(alloc: Global, drivers: Vec<AnyDriver>, script: &str) -> Result<String, Fail> {
     let mut units = Simulator::new(drivers);
     answers(alloc, &mut units, &mut (), script)
 }
 
-/// What a steady unit of two phases that run two ticks, and beside it one that answers by a list, tell of the script.
+/// The answers to the script of a steady unit of two phases that run two ticks, and beside it of one that answers by a list.
 fn told_by_two(alloc: Global, script: &str) -> Result<String, Fail> {
     let steady = AnyDriver::new(Box::new(alloc, SteadyUnit::new(alloc, 2, 2)?)?);
     let scripted = AnyDriver::new(Box::new(alloc, Scripted::new(&ANSWERS))?);
     told(alloc, Vec::from_array(alloc, [steady, scripted])?, script)
 }
 
-/// That what the two units tell of the script is the text expected.
+/// Checks that the answers of the two units to the script are the text expected.
 fn assert_two(rt: &impl Abort, alloc: Global, script: &str, expected: &str) -> Result<(), Fail> {
     assert_text(rt, told_by_two(alloc, script), expected)
 }

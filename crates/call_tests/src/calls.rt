@@ -1,4 +1,4 @@
-//! Events at any point, and what the engine tells of acts and values between them.
+//! Events at any point, and the engine's answers on acts and values between them.
 use crate::documents::{A, L};
 use crate::script::assert_told;
 use std::test::Fail;

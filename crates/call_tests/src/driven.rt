@@ -29,7 +29,7 @@ pub(crate) fn start<D: UnitDriver>(
     Ok(())
 }
 
-/// What is told of the second script, behind the first.
+/// The answers to the second script, after the first.
 fn told_behind<D: UnitDriver>(
     alloc: Global,
     engine: &mut Engine,
@@ -40,7 +40,7 @@ fn told_behind<D: UnitDriver>(
     answers(alloc, engine, units, scripts.1)
 }
 
-/// What is told of the second script, behind the first, by an engine of the recipe and these units of the demo cell.
+/// The answers to the second script, after the first, of an engine of the recipe and these units of the demo cell.
 pub(crate) fn told_by<D: UnitDriver>(
     alloc: Global,
     recipe: &str,
@@ -51,13 +51,13 @@ pub(crate) fn told_by<D: UnitDriver>(
     told_behind(alloc, &mut engine, units, scripts)
 }
 
-/// What is told of the script where the units work steadily, and a phase of R1 runs.
+/// The answers to the script if the units work steadily, and a phase of R1 runs.
 fn steady_told(alloc: Global, script: &str) -> Result<String, Fail> {
     let mut units = steady_units(alloc)?;
     told_by(alloc, A, &mut units, (START, script))
 }
 
-/// That what is told of the script where the units work steadily is the text expected.
+/// Checks that the answers to the script, if the units work steadily, are the text expected.
 pub(crate) fn assert_steady(
     rt: &impl Abort,
     alloc: Global,
@@ -76,7 +76,7 @@ fn scripted(alloc: Global, answers: &[&'static [Answer]]) -> Result<Simulator<Sc
     Ok(Simulator::new(units))
 }
 
-/// What is told of the script where the units answer so, and a phase of R1 runs.
+/// The answers to the script if the units answer so, and a phase of R1 runs.
 fn scripted_told(
     alloc: Global,
     answers: &[&'static [Answer]],
@@ -86,7 +86,7 @@ fn scripted_told(
     told_by(alloc, A, &mut units, (START, script))
 }
 
-/// That what is told of the script where the units answer so is the text expected.
+/// Checks that the answers to the script, if the units answer so, are the text expected.
 pub(crate) fn assert_scripted(
     rt: &impl Abort,
     alloc: Global,

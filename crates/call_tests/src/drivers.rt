@@ -2,7 +2,7 @@
 use batch_matrix::Report;
 use batch_sim::{Order, UnitDriver};
 
-/// What a tick answers: a phase and its report.
+/// The answer to a tick: a phase and its report.
 pub(crate) type Answer = Option<(u16, Report)>;
 
 /// Answers one tick after the other by a list, whatever orders it is given, and is silent after the list's end.

@@ -2,7 +2,7 @@
 use crate::driven::assert_steady;
 use std::test::Fail;
 
-/// One round writes nothing, a second what comes of the phase's end.
+/// One round writes nothing, a second the outs of the phase's end.
 #[test]
 fn two_ticks_a_phase(rt: HostRuntime) -> Result<(), Fail> {
     assert_steady(

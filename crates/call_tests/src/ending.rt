@@ -1,4 +1,4 @@
-//! Scripts of a hub whose first desk finishes: what is done at the hub and at the desks, before and after.
+//! Scripts of a hub whose first desk finishes: the calls at the hub and at the desks, before and after.
 use crate::left::Left;
 use crate::seats::Seats;
 use crate::teller::{answers, answers_after, put};
@@ -29,7 +29,7 @@ fn state(alloc: Global, engine: &Engine) -> Result<String, Fail> {
     shown(alloc, "batch 1", &engine.state_of(1, &root))
 }
 
-/// What was told before, the events that were taken, and the state of the first batch.
+/// The text before, the events that were taken, and the state of the first batch.
 fn end_told(
     alloc: Global,
     engine: &Engine,
@@ -42,15 +42,15 @@ fn end_told(
     Ok(told)
 }
 
-// Who owns a hub hands on what was told as it is: a `?` is proved for all that the hub holds.
+// The owner of a hub passes the text before on as it is: a `?` is proved for all that the hub holds.
 
-/// What was told before, and of the hub at its end.
+/// The text before, and the end of the hub.
 fn ended(alloc: Global, hub: Hub, before: Result<String, Fail>) -> Result<String, Fail> {
     let end = hub.end();
     end_told(alloc, &end.0, &end.1, before)
 }
 
-/// What was told before, after the first desk has finished, and at the hub's end.
+/// The text before, the answers after the first desk has finished, and the end of the hub.
 fn left_told(
     alloc: Global,
     cleared: &mut Cleared,
@@ -63,7 +63,7 @@ fn left_told(
     ended(alloc, left.into_hub(), after)
 }
 
-/// What is told before the first desk finishes, after that, and at the hub's end.
+/// The answers before the first desk finishes, those after that, and the end of the hub.
 fn seats_told(
     alloc: Global,
     cleared: &mut Cleared,
@@ -75,8 +75,8 @@ fn seats_told(
     left_told(alloc, cleared, seats.finish(), scripts.1, before)
 }
 
-/// What is told by a new hub of the recipe, whose names are those of the cleared set: of the first script before the first desk
-/// finishes, of the second after that, and at the hub's end.
+/// The answers of a new hub of the recipe, whose names are those of the cleared set: to the first script before the first desk
+/// finishes, to the second after that, and the end of the hub.
 pub(crate) fn ended_told(
     alloc: Global,
     cleared: &mut Cleared,

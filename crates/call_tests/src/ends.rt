@@ -49,11 +49,11 @@ pub(crate) enum Failure {
     Refuses,
     /// A call takes nothing.
     TakesNone,
-    /// Handing on is refused.
+    /// A flush is refused.
     KeepsBack,
 }
 
-/// Takes one byte a call, and fails at one call in this way. Calls that hand on are counted for themselves, from 1.
+/// Takes one byte a call, and fails at one call in this way. Flushes are counted by themselves, from 1.
 #[derive(Drop)]
 pub(crate) struct Narrow {
     pub(crate) taken: Vec<u8>,

@@ -1,8 +1,8 @@
-//! What is told, beside what is expected. A comparison is proved anew wherever it stands, so it stands here.
+//! The comparison with an expected text. A comparison is proved anew wherever it is made, so it is made here.
 use std::process::Abort;
 use std::test::Fail;
 
-/// That what is told is the text expected.
+/// Checks that the text is the one expected.
 pub(crate) fn assert_text(
     rt: &impl Abort,
     told: Result<String, Fail>,

@@ -116,7 +116,7 @@ fn writer_takes_nothing_at_each_call(rt: HostRuntime) -> Result<(), Fail> {
     assert_none(&rt, first_wrong_write(rt.alloc(), Failure::TakesNone))
 }
 
-/// What is written is handed on after each byte of the input, and at its end.
+/// The writer is flushed after each byte of the input, and at its end.
 fn first_wrong_flush(alloc: Global) -> Result<Option<usize>, Fail> {
     for call in 1..=42 {
         if !run_into(alloc, call, Failure::KeepsBack)?.is(WRITE, answered(call)) {

@@ -11,7 +11,7 @@ use std::alloc::Global;
 use std::process::Abort;
 use std::test::Fail;
 
-/// What is told by a new hub of the recipe, whose names are those of the cleared set, with its desks.
+/// The answers of a new hub of the recipe, whose names are those of the cleared set, with its desks.
 fn stage_told(
     alloc: Global,
     cleared: &mut Cleared,
@@ -37,13 +37,13 @@ fn told_of_set(
     }
 }
 
-/// What is told of the script.
+/// The answers to the script.
 fn told(alloc: Global, recipe: &str, plans: &[PortPlan], script: &str) -> Result<String, Fail> {
     let mut cleared = demo_set_of(alloc, recipe)?;
     told_of_set(alloc, &mut cleared, recipe, plans, script)
 }
 
-/// That what is told of the script is the text expected.
+/// Checks that the answers to the script are the text expected.
 pub(crate) fn assert_told(
     rt: &impl Abort,
     alloc: Global,

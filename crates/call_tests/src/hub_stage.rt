@@ -12,7 +12,7 @@ use std::test::Fail;
 #[derive(Drop)]
 pub(crate) struct Stage(pub(crate) (Hub, Vec<Desk>));
 
-/// Seals a port, and tells whether there is a token.
+/// Seals a port. Returns whether there is a token.
 fn sealed(hub: &mut Hub, port: usize) -> Result<bool, HubFault> {
     hub.seal(port).map(|token| token.is_some())
 }
@@ -28,7 +28,7 @@ fn lose(alloc: Global, desks: &mut Vec<Desk>) -> Result<String, Fail> {
     Ok(String::new(alloc))
 }
 
-/// What is told of a line is in the names of the cleared set.
+/// The answer to a line is in the names of the cleared set.
 impl Teller<Cleared> for Stage {
     fn answer(&mut self, alloc: Global, cleared: &mut Cleared, line: &str) -> Result<String, Fail> {
         let (word, words) = line.split_once(' ').unwrap_or((line, ""));

@@ -112,9 +112,9 @@ fn begun(alloc: Global, syncs: u32) -> Result<Journal<Pages, Seven>, Fail> {
 enum Served {
     /// By a read fault, with all of it in the file and nothing told.
     Untold,
-    /// To its end, where answers are held back.
+    /// To its end, with answers held back.
     Held,
-    /// To its end, where they aren't.
+    /// To its end, with no answers held back.
     Told,
 }
 

@@ -15,7 +15,7 @@ use std::alloc::Global;
 use std::marker::Model;
 use std::test::Fail;
 
-/// A hub, what is left of the desk of its first port, and the desks of the others. The token is there until the port is closed.
+/// A hub, the token and the inbox that its first port's desk left, and the other desks. The token is there until the port is closed.
 #[derive(Drop)]
 pub(crate) struct Left {
     pub(crate) hub: Hub,
@@ -54,12 +54,12 @@ fn close_by(hub: &mut Hub, token: &mut Option<Finished<Event>>) -> Option<Result
 }
 
 impl Left {
-    /// Closes the first port. None where there is no token.
+    /// Closes the first port. None if there is no token.
     fn close(&mut self) -> Option<Result<(), HubFault>> {
         close_by(&mut self.hub, &mut self.token)
     }
 
-    /// Seals the first port, and tells how many outs are left in the inbox. None where there is no token.
+    /// Seals the first port. Returns how many outs are left in the inbox, or None if there is no token.
     fn seal(&mut self) -> Result<Option<usize>, HubFault> {
         match self.hub.seal(0) {
             Ok(Some(token)) => Ok(Some(self.inbox.rest(token))),
@@ -74,7 +74,7 @@ impl Left {
         self.inbox.take()
     }
 
-    /// What is told where the first port is closed.
+    /// Closes the first port.
     fn closed(&mut self, alloc: Global) -> Result<String, Fail> {
         match self.close() {
             Some(closed) => shown(alloc, "close", &closed),
@@ -82,7 +82,7 @@ impl Left {
         }
     }
 
-    /// What is told where the first port is sealed.
+    /// Seals the first port.
     fn sealed(&mut self, alloc: Global) -> Result<String, Fail> {
         shown(alloc, "seal", &self.seal())
     }

@@ -1,5 +1,5 @@
-//! Tests by calls of public names alone: of the engine, of serving, of units that it drives, of desks and their hub, of plants that run in
-//! threads, and of the reader of charts. Nothing stands on this crate.
+//! Tests by calls of public names alone: of the engine, of serving, of units that it drives, of desks and their hub, of plants that
+//! run in threads, and of the reader of charts. Nothing depends on this crate.
 #![tactic(auto)]
 
 #[cfg(test)]

@@ -12,7 +12,7 @@ pub(crate) fn demo_set_of(alloc: Global, recipe: &str) -> Result<Cleared, Fail> 
     cleared_of(alloc, CELL1, &[recipe])
 }
 
-/// The line of an out, or what is told where there is none.
+/// The line of an out, or this text if there is none.
 pub(crate) fn text_of(
     alloc: Global,
     cleared: &Cleared,

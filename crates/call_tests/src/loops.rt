@@ -6,13 +6,13 @@ use std::alloc::Global;
 use std::process::Abort;
 use std::test::Fail;
 
-/// That what is told of the script, by a hub of two consoles, is the text expected.
+/// Checks that the answers of a hub of two consoles to the script are the text expected.
 fn assert_looped(rt: &impl Abort, alloc: Global, script: &str, expected: &str) -> Result<(), Fail> {
     let plans = [console(16), console(16)];
     assert_told(rt, alloc, A, &plans, script, expected)
 }
 
-/// The ports have their turns one after the other. The loop isn't done before what the last moves told the first port is put.
+/// The ports have their turns one after the other. The loop isn't done before the outs of the last moves are put for the first port.
 #[test]
 fn hub_turns_in_a_circle(rt: HostRuntime) -> Result<(), Fail> {
     assert_looped(
@@ -80,7 +80,7 @@ console: Done
     )
 }
 
-/// A turn takes one out. So twelve turns take what comes of a start and of a report, of which the last is `state 1 complete`.
+/// A turn takes one out. So twelve turns take the outs of a start and of a report, of which the last is `state 1 complete`.
 #[test]
 fn console_starts_and_counts(rt: HostRuntime) -> Result<(), Fail> {
     assert_looped(

@@ -1,4 +1,4 @@
-//! The end of a port: its desk finishes, it is closed or cut and sealed, and what is left is taken.
+//! The end of a port: its desk finishes, it is closed or cut and sealed, and the outs left are taken.
 use crate::documents::A;
 use crate::hub_script::assert_told;
 use crate::ports::console;
@@ -92,7 +92,7 @@ batch 1: Some(Complete)
     )
 }
 
-/// Of a port that is cut no event is taken any more, and it can't be closed. What waits is still put.
+/// No event of a cut port is taken, and it can't be closed. The outs that wait are still put.
 #[test]
 fn cut_port_takes_nothing(rt: HostRuntime) -> Result<(), Fail> {
     assert_told(

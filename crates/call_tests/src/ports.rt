@@ -1,4 +1,4 @@
-//! What is done at a hub and at the desks of its ports.
+//! Calls of a hub and of the desks of its ports.
 ghost use Rattle.std.specs.Prelude.{◌≡◌};
 ghost use Rattle.batch_desk.specs.DeskState.{desk_rings};
 ghost use Rattle.batch_desk.specs.HubState.{rings};
@@ -11,7 +11,7 @@ use batch_verify::Cleared;
 use std::alloc::Global;
 use std::test::Fail;
 
-/// A port that is told of all moves, with so many places in each of its rings.
+/// A port with all moves in its scope, and so many places in each of its rings.
 pub(crate) fn console(places: usize) -> PortPlan {
     PortPlan {
         scope: Scope::All,
@@ -20,7 +20,7 @@ pub(crate) fn console(places: usize) -> PortPlan {
     }
 }
 
-/// A port that is told of what the phases of a unit are told.
+/// A port with the scope of a unit: the starts of its phases, and the commands sent to them.
 pub(crate) fn link(unit: u16, places: usize) -> PortPlan {
     PortPlan {
         scope: Scope::Unit(unit),
@@ -29,7 +29,7 @@ pub(crate) fn link(unit: u16, places: usize) -> PortPlan {
     }
 }
 
-/// Which event came back, if one did.
+/// The event that came back, if one did.
 fn told_back(alloc: Global, sent: &Result<(), Full>) -> Result<String, Fail> {
     match sent {
         Ok(()) => Ok(String::new(alloc)),
@@ -37,7 +37,7 @@ fn told_back(alloc: Global, sent: &Result<(), Full>) -> Result<String, Fail> {
     }
 }
 
-/// Sends the event of a line, and tells which came back.
+/// Sends the event of a line. Returns the event that came back, if one did.
 fn send(alloc: Global, desk: &mut Desk, line: &str) -> Result<String, Fail>
     ensures { desk_rings desk.new ≡ desk_rings desk.old }
 {
@@ -45,7 +45,7 @@ fn send(alloc: Global, desk: &mut Desk, line: &str) -> Result<String, Fail>
     told_back(alloc, &sent)
 }
 
-/// Takes an out at a desk, and tells its line.
+/// Takes an out at a desk. Returns its line.
 fn take(alloc: Global, cleared: &Cleared, desk: &mut Desk) -> Result<String, Fail>
     ensures { desk_rings desk.new ≡ desk_rings desk.old }
 {
@@ -53,7 +53,7 @@ fn take(alloc: Global, cleared: &Cleared, desk: &mut Desk) -> Result<String, Fai
     text_of(alloc, cleared, out, "nothing\n")
 }
 
-/// What is done at a desk: the event of a line is sent, or with no line an out is taken.
+/// Sends the event of a line at a desk, or with no line takes an out.
 pub(crate) fn at_desk(
     alloc: Global,
     cleared: &Cleared,
@@ -68,7 +68,7 @@ pub(crate) fn at_desk(
     }
 }
 
-/// What is done at one of the desks, given as `PORT LINE` or `PORT`. The first of them is the desk of this port.
+/// Makes a call at one of the desks, given as `PORT LINE` or `PORT`. The first of them is the desk of this port.
 pub(crate) fn at_desks(
     alloc: Global,
     cleared: &Cleared,
@@ -90,7 +90,7 @@ fn turn(hub: &mut Hub, port: usize) -> Result<Turned, HubFault>
     hub.turn(port)
 }
 
-/// What is done at a port of the hub, and what it is asked for.
+/// Makes a call at a port of the hub, or answers a question about it.
 fn at_port(alloc: Global, hub: &mut Hub, word: &str, port: usize) -> Result<String, Fail>
     ensures { rings hub.new ≡ rings hub.old }
 {
@@ -101,7 +101,7 @@ fn at_port(alloc: Global, hub: &mut Hub, word: &str, port: usize) -> Result<Stri
     }
 }
 
-/// What is done at the hub, and what it is asked for.
+/// Makes a call at the hub, or answers a question about it.
 pub(crate) fn at_hub(alloc: Global, hub: &mut Hub, word: &str, port: &str) -> Result<String, Fail>
     ensures { rings hub.new ≡ rings hub.old }
 {
@@ -109,7 +109,7 @@ pub(crate) fn at_hub(alloc: Global, hub: &mut Hub, word: &str, port: &str) -> Re
     at_port(alloc, hub, word, usize::from(port))
 }
 
-/// What is asked of a hub: how many outs wait for a port, how many events were taken, and how many outs the record has.
+/// Answers a question about a hub: how many outs wait for a port, how many events were taken, and how many outs the record has.
 fn asked(alloc: Global, hub: &Hub, word: &str, port: usize) -> Result<String, Fail> {
     match word {
         "waiting" => shown(alloc, word, &hub.waiting(port)),

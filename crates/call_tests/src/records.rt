@@ -73,7 +73,7 @@ pub(crate) fn next_move(alloc: Global, engine: &mut Engine) -> Result<String, Fa
     text_of(alloc, engine.cleared(), out, "no move\n")
 }
 
-/// What is told of the moves that are made.
+/// A receiver of the moves that are made.
 pub(crate) trait Told {
     fn tell(&mut self, line: Line);
 }
@@ -82,7 +82,7 @@ fn write_move(engine: &Engine, line: Line, record: &mut Vec<u8>) -> Result<(), F
     Ok(write_out(&Out::Move(line), engine.cleared(), record)?)
 }
 
-/// Makes all moves that are possible, and tells them.
+/// Makes all moves that are possible, and reports each to the receiver.
 fn settle<T: Told>(engine: &mut Engine, told: &mut T, record: &mut Vec<u8>) -> Result<(), Fail> {
     for _ in 0..MAX_MOVES {
         let Some(line) = engine.next_move() else {
@@ -94,7 +94,7 @@ fn settle<T: Told>(engine: &mut Engine, told: &mut T, record: &mut Vec<u8>) -> R
     Err(Fail::from("moves without end"))
 }
 
-/// The record of the moves that are possible, which are told.
+/// Makes all moves that are possible, and reports each to the receiver. Returns their record.
 pub(crate) fn moves<T: Told>(
     alloc: Global,
     engine: &mut Engine,

@@ -47,7 +47,7 @@ fn served<R: Read>(
     ))
 }
 
-/// Whether serving what the reader gives ends well, and with this record.
+/// Whether serving the reader's bytes ends well, and with this record.
 fn is_served<R: Read + Drop>(
     alloc: Global,
     reader: R,

@@ -1,4 +1,4 @@
-//! Driving units of the demo cell that report what they shouldn't, or nothing. A phase of R1 runs at first.
+//! Driving units of the demo cell that report wrongly, or not at all. A phase of R1 runs at first.
 use crate::driven::assert_scripted;
 use crate::drivers::Answer;
 use batch_matrix::Report;
@@ -68,7 +68,7 @@ driven
     )
 }
 
-/// A fault holds the batch, and what is held can't be done.
+/// A fault holds the batch, and a held phase can't be done.
 #[test]
 fn fault_holds_the_batch(rt: HostRuntime) -> Result<(), Fail> {
     assert_scripted(

@@ -30,7 +30,7 @@ fn would_create(alloc: Global, engine: &Engine, event: &str) -> Result<String, F
     shown(alloc, "would create", &engine.would_create(&event))
 }
 
-/// What is asked of an engine: of `state` and `value` the answer stands behind the question.
+/// Answers a question about an engine; to `state` and `value` the answer follows the question.
 pub(crate) fn asked(alloc: Global, engine: &Engine, line: &str) -> Result<String, Fail> {
     let (word, words) = line.split_once(' ').unwrap_or((line, ""));
     match word {
@@ -42,13 +42,13 @@ pub(crate) fn asked(alloc: Global, engine: &Engine, line: &str) -> Result<String
     }
 }
 
-/// What is told of a script by an engine of this recipe in the demo cell, whose units have no drivers.
+/// The answers to a script of an engine of this recipe in the demo cell, whose units have no drivers.
 fn told(alloc: Global, recipe: &str, script: &str) -> Result<String, Fail> {
     let mut units: Simulator<SteadyUnit> = Simulator::new(Vec::new(alloc));
     told_by(alloc, recipe, &mut units, ("", script))
 }
 
-/// That what is told of the script is the text expected.
+/// Checks that the answers to the script are the text expected.
 pub(crate) fn assert_told(
     rt: &impl Abort,
     alloc: Global,

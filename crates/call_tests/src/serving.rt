@@ -64,7 +64,7 @@ impl Outcome {
     }
 }
 
-/// Serves what the reader gives to the writer.
+/// Serves the reader's bytes to the writer.
 fn served<R: Read, W: Write>(
     alloc: Global,
     reader: &mut R,
@@ -75,7 +75,7 @@ fn served<R: Read, W: Write>(
     Ok(serve_set(alloc, cleared, reader, writer, &mut NoRemarks, max_reads))
 }
 
-/// Serves what the reader gives.
+/// Serves the reader's bytes.
 pub(crate) fn run<R: Read + Drop>(
     alloc: Global,
     reader: R,

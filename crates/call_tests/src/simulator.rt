@@ -19,7 +19,7 @@ const ORDERS: [(&str, Order); 7] = [
     ("abort", Order::Send(Command::Abort)),
 ];
 
-/// What a line asks for: an order to a phase of a unit, or a tick of a unit.
+/// The call of a line: an order to a phase of a unit, or a tick of a unit.
 enum Call {
     Order(u16, u16, Order),
     Tick(u16),
@@ -67,7 +67,7 @@ fn call_of(line: &str) -> Result<Call, Fail> {
     }
 }
 
-/// Of an order it is told whether there is such a unit, of a tick what the unit reports.
+/// Answers an order by whether the unit is known, and a tick by the unit's report.
 impl<D: UnitDriver> Teller<()> for Simulator<D> {
     fn answer(&mut self, alloc: Global, _beside: &mut (), line: &str) -> Result<String, Fail> {
         match call_of(line)? {
@@ -79,13 +79,13 @@ impl<D: UnitDriver> Teller<()> for Simulator<D> {
     }
 }
 
-/// What steady units with so many phases each tell of the script, when a phase runs so many ticks.
+/// The answers to the script of steady units with so many phases each, if a phase runs so many ticks.
 fn told(alloc: Global, phases: &[u16], ticks: u64, script: &str) -> Result<String, Fail> {
     let mut units = Simulator::new(steady(alloc, phases, ticks)?);
     answers(alloc, &mut units, &mut (), script)
 }
 
-/// That what steady units tell of the script is the text expected.
+/// Checks that the answers of steady units to the script are the text expected.
 pub(crate) fn assert_units(
     rt: &impl Abort,
     alloc: Global,

@@ -8,7 +8,7 @@ use batch_sim::{Order, Simulator, UnitDriver};
 use std::alloc::Global;
 use std::test::Fail;
 
-/// Units are told the orders of moves.
+/// Units receive the orders of moves.
 impl<D: UnitDriver> Told for Simulator<D> {
     fn tell(&mut self, line: Line) {
         match line {
@@ -60,8 +60,8 @@ fn operate<D: UnitDriver>(
     Ok(told)
 }
 
-/// Of `drive ROUNDS` what is written is told; of `accept` and an event line the reply alone, with no move made; of `move` one
-/// move, and of `moves` all that are possible; of an event line alone its reply and all moves.
+/// Answers `drive ROUNDS` by the written text, `accept` and an event line by the reply alone, with no move made, `move` by one
+/// move, `moves` by all that are possible, and an event line alone by its reply and all moves.
 impl<D: UnitDriver> Teller<Simulator<D>> for Engine {
     fn answer(
         &mut self,

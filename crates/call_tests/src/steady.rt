@@ -1,4 +1,4 @@
-//! Steady units, by what a simulator of them tells.
+//! Steady units, by the answers of a simulator of them.
 use crate::simulator::assert_units;
 use std::test::Fail;
 

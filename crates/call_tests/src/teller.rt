@@ -1,20 +1,20 @@
-//! What answers the lines of a script, and its answers as one text.
+//! Scripts that are answered line by line, and the answers as one text.
 use std::alloc::Global;
 use std::test::Fail;
 
-/// What answers the lines of a script, with something beside it that the lines speak of too.
+/// Answers the lines of a script, with something beside it to which the lines refer too.
 pub(crate) trait Teller<B> {
-    /// What is told of a line.
+    /// The answer to a line.
     fn answer(&mut self, alloc: Global, beside: &mut B, line: &str) -> Result<String, Fail>;
 }
 
-/// Puts a text behind what was told before.
+/// Appends a text to the one before.
 pub(crate) fn put(told: &mut String, text: Result<String, Fail>) -> Result<(), Fail> {
     told.push_str(text?.as_str())?;
     Ok(())
 }
 
-/// What was told before, and what is told of each line.
+/// The text before, and the answer to each line.
 pub(crate) fn answers_after<B, T: Teller<B>>(
     alloc: Global,
     teller: &mut T,
@@ -29,7 +29,7 @@ pub(crate) fn answers_after<B, T: Teller<B>>(
     Ok(told)
 }
 
-/// What is told of each line.
+/// The answer to each line.
 pub(crate) fn answers<B, T: Teller<B>>(
     alloc: Global,
     teller: &mut T,

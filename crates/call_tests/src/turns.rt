@@ -1,4 +1,4 @@
-//! Turns: what is taken, told and put, with room in the rings and without.
+//! Turns: the events taken, and the outs made and put, with room in the rings and without.
 use crate::documents::{A, Z};
 use crate::hub_script::assert_told;
 use crate::ports::{console, link};
@@ -152,7 +152,7 @@ waiting: Some(157)
     )
 }
 
-/// The port of a unit is told of what its phases are told, and of the replies to its own events.
+/// The port of a unit gets the starts of its phases, the commands sent to them, and the replies to its own events.
 #[test]
 fn ports_of_units(rt: HostRuntime) -> Result<(), Fail> {
     assert_told(

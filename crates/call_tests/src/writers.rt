@@ -9,7 +9,7 @@ use batch_plant::{DriveFault, drive};
 use std::alloc::Global;
 use std::test::Fail;
 
-/// What is written in the second of two rounds.
+/// The text that is written in the second of two rounds.
 const END: &[u8] = b"ok report R1 ADD done 1 0.0.0.0 running
 end 1 0.0.0
 end 1 0.0
@@ -18,8 +18,8 @@ end 1 0
 state 1 complete
 ";
 
-/// Rows of a writer that refuses one handing on: which one, after how many rounds, how these end, and what it has then taken.
-/// What is written is handed on once a round.
+/// Rows of a writer that refuses one flush: which one, after how many rounds, how these end, and the bytes that it has then taken.
+/// The writer is flushed once a round.
 const HANDED_ON: [(usize, u64, Result<(), DriveFault>, &[u8]); 4] = [
     (1, 0, Ok(()), b""),
     (1, 2, Err(DriveFault::Write), b""),
@@ -68,7 +68,7 @@ fn first_wrong_write(alloc: Global) -> Result<Option<usize>, Fail> {
     Ok(None)
 }
 
-/// The first row of those that are handed on that isn't so.
+/// The first wrong row of `HANDED_ON`.
 fn first_wrong_handing(alloc: Global) -> Result<Option<usize>, Fail> {
     for (refused, rounds, ending, taken) in &HANDED_ON {
         let writer = Narrow::failing(alloc, *refused, Failure::KeepsBack);

@@ -12,12 +12,12 @@ use batch_messages::act_name;
 use batch_recipe::Recipe;
 use std::alloc::{AllocError, Global};
 
-/// What the shapes and colours of the graph mean, as its title.
+/// The meaning of the graph's shapes and colours, as its title.
 pub const LEGEND: &str =
     "  label=\"An arrow leads from what is held to what is asked for then; it names the first step that asks so. Red: on a circle.\\nBox: a unit. Hexagon: a free module. Ellipse: a shared resource.\";\n";
 
-/// The graph of the edges, an arrow for each, and red where one of the red edges leads from the same resource to the same; with all
-/// resources of the cell.
+/// The graph of the edges, with all resources of the cell. Each edge has an arrow, which is red if one of the red edges leads from the
+/// same resource to the same.
 // claim: drawing's text
 pub fn graph_text(
     alloc: Global,
@@ -133,7 +133,7 @@ fn arrow_text(
     format!(in alloc; "  \"{earlier}\" -> \"{later}\" [label=\"{node}\\n{act}\"{colour}];\n")
 }
 
-/// What marks an edge that is red.
+/// The mark of an edge that is red.
 fn colour_of(red: &[Edge], edge: Edge) -> &'static str
     ensures { result.now ≡ colour_of red.now edge }
 {

@@ -1,4 +1,4 @@
-//! What a cell and recipes call the things that a verdict names by number.
+//! The names that a cell and recipes have for the numbers of a verdict.
 ghost use Rattle.std.specs.Prelude.{◌≡◌, ◌++◌, IfOk, codes, string_bytes};
 ghost use Rattle.batch_verdicts.specs.VerdictTexts.{node_text, place_of, resource_name, rule_code};
 

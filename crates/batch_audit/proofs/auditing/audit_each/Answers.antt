@@ -6,7 +6,7 @@ use Rattle.batch_audit.proofs.Audited.{begins_audit, finishes, first_is_next, la
 use Rattle.batch_audit.proofs.ComparingLemmas.{line_shorter}
 use Rattle.batch_audit.proofs.auditing.audit_each.Goals as goal
 
--- what is left behind the line that ends there
+-- the rest behind the line that ends there
 abbrev left : List ℕ → ℕ → List ℕ
 left rest at = take (length rest - (at + 1)) (drop (at + 1) rest)
 

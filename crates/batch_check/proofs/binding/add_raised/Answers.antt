@@ -11,7 +11,7 @@ use Rattle.batch_check.proofs.binding.add_raised.Goals as goal
 abbrev Units : Type 0
 Units = Vec (Option ℕ) Global
 
--- what was read at a place is there
+-- the element that was read at a place is there
 read_there : (units : List Units) (index : ℕ) (one : Units) → index < length units → one ≡ get_or units index one → Contains units one
 read_there units index one within is = subst (λ (v : Units). Contains units v) (sym is) (Contains-get_or units index one within)
 

@@ -21,7 +21,7 @@ new-requires c = omega (arith, c.count_with_roles.ensures, resources_few c.args.
 is_top : (c : After-top-top) → IsTop c.args.number (kept_at_top c.args.reach) c.top-top.result
 is_top c = top_of c.args.number c.args.reach c.top-top.result c.top-top.ensures.recipe c.top-top.ensures.last c.top-top.ensures.kept
 
--- the entry that is looked at
+-- the entry of the node
 abbrev entry : After-path_above-above → Entry
 entry c = get_or c.deref-entry-items.result.now c.loop-node.node (record { kind = kind.Skip; end = 0; parent = 0; child = 0; needs = 0; detail = 0 })
 

@@ -17,7 +17,7 @@ use Rattle.batch_check.proofs.edges.add_edges.Goals as goal
 abbrev Units : Type 0
 Units = Vec (Option ℕ) Global
 
--- what is said of slices is said of the lists that they show
+-- a fact on slices is one on the lists that they show
 
 those_of : (passes : Edge → Bool) (es edges those : List Edge) → es ≡ edges → AreThose passes es those → AreThose passes edges those
 those_of passes es edges those e h = subst (λ (xs : List Edge). AreThose passes xs those) e h

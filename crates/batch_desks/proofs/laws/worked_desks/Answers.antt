@@ -74,7 +74,7 @@ pub returns-clause-unknown_first : goal.returns-clause-unknown_first
 unfolding is_known
 returns-clause-unknown_first c = (inl (refl, refl), λ h. elim h [ inl w ↦ cc w.0 | inr p ↦ false≢true p.0 ])
 
--- what stands before the lag of a console is right
+-- the keys before the lag of a console are right
 lag_wrong : (lines : ℕ) → ((n : ℕ) → pos lines ≡ pos n → 1 ≤ n → n ≤ MAX_LAG → ⊥) → IsDeskFault (lag_of lines) OutOfLimit
 unfolding is_known
 lag_wrong lines outside =

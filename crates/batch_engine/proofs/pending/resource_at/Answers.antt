@@ -9,7 +9,7 @@ use Rattle.batch_engine.proofs.Seats.{IsRead, entry-read, entry-within, numbers-
 use Rattle.batch_engine.proofs.pending.resource_at.Goals as goal
 use Rattle.batch_engine.proofs.pending.resource_at.Goals.{After-index-own}
 
--- what is read of the need
+-- the need, as it is read
 need : (c : After-index-own) (v : EngineView) → IsNeedAt v c.args.numbers.now c.args.recipe.now c.args.batch.now c.args.node c.args.need
     → (linked : LinkedNeed) × (slice_get (needs_by c.index-own.result.now.linked c.index-entry.result.now.kind) c.args.need ≡ Some linked)
     × IsNumberAt v.cleared c.args.batch.now c.args.node c.args.need (unwrap_or (number_for c.args.batch.now.units linked.source) 0) linked.units

@@ -5,7 +5,7 @@ use Rattle.batch_engine.specs.Names.{node_of}
 use Rattle.batch_engine.proofs.Reporting.{first_number}
 use Rattle.batch_engine.proofs.reports.left_out.Goals as goal
 
--- the number of the first that is left out of these, where they are to be reported
+-- the number of the first that is left out of these, if they are to be reported
 abbrev first : ValueList → List Name → Bool → Option ℕ
 first outputs names t = first_number outputs (elim t [ true ↦ names | false ↦ [] ])
 

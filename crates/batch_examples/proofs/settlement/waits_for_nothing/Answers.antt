@@ -21,7 +21,7 @@ returns-clause-enough_is_free c = λ h. let less : 2 < 2 = (h.held steam (record
 pub returns-clause-nobody_holds : goal.returns-clause-nobody_holds
 returns-clause-nobody_holds c = λ h. (h.held steam (record { act = (2, p0); units = 3 }) [] refl).1.1
 
--- whoever waits is a step of batch 2
+-- each act that waits is a step of batch 2
 waits_in_two : (b : Bool) (v : Waiting) → Has (acts_in (elim b [ true ↦ record { act = (2, p0); units = 1 } ∷ [] | false ↦ [] ])) v.act → v.act.0 ≡ 1 → ⊥
 waits_in_two true v (inl e) one = absurd (let two : ◌≡◌ {A = ℕ} 2 v.act.0 = ap (λ z. z.0) e in omega (arith, two, one))
 waits_in_two true v (inr none) one = none

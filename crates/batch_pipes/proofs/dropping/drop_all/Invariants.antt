@@ -1,6 +1,6 @@
 use Rattle.batch_serve_desks.specs.Rounds.{IsHandedOn}
 use Rattle.batch_pipes.proofs.dropping.drop_all.Given as goal
 
--- of what waited some was handed on
+-- some of the queued lines were handed on
 abbrev pub invariant-loop : goal.invariant-loop
 invariant-loop l = IsHandedOn l.initial.desk l.desk l.initial.writer l.writer

@@ -4,7 +4,7 @@ use Rattle.batch_pipes.specs.OutputEnds.{IsHandedBack}
 use Rattle.batch_pipes.specs.Outputs.{AreSettledBy}
 use Rattle.batch_pipes.proofs.ending.settle_each.Given as goal
 
--- this came of the outputs so far
+-- these are the outcomes of the outputs so far
 abbrev pub invariant-loop-output : goal.invariant-loop-output
 invariant-loop-output g l = record {
   left : l.yielded ++ into_iter_items l.output-iterator ≡ into_iter_items l.initial.output-iterator;

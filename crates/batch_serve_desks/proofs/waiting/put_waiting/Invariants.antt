@@ -3,7 +3,7 @@ use Rattle.std.specs.VecDeque.{deque_len}
 use Rattle.rtrb.specs.Ring.{sent, SameProducer}
 use Rattle.batch_serve_desks.proofs.waiting.put_waiting.Given as goal
 
--- what was put into the ring so far and what waits is what was there before
+-- the lines in the ring and the rest behind them are the lines from before
 abbrev pub invariant-loop-ring : goal.invariant-loop-ring
 invariant-loop-ring g l =
     SameProducer l.initial.ring l.ring

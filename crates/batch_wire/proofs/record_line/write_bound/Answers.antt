@@ -12,7 +12,7 @@ use Rattle.batch_wire.proofs.PartsWritten.{next_pair, all_names, all_others}
 use Rattle.batch_wire.proofs.WrittenLemmas.{then_beginning}
 use Rattle.batch_wire.proofs.record_line.write_bound.Goals as goal
 
--- what stands at a number in a list that is made of another
+-- the item at a number in a list that is made of another
 made_at : {A B : Type 0} (f : A → B) (xs : List A) (i : ℕ) (x : A) (y : B) → i < length xs → x ≡ get_or xs i x → y ≡ f x → slice_get (map f xs) i ≡ Some y
 made_at f xs i x y within at is = slice_get-map f xs i ∙ ap (option_map f) (slice_get-get_or xs i x within ∙ ap Some (sym at)) ∙ ap Some (sym is)
 

@@ -4,7 +4,7 @@ use Rattle.batch_audit.proofs.ComparingLemmas.{comments_compared, compared_both,
 use Rattle.batch_audit.proofs.record.Record.compare.Goals as goal
 use Rattle.batch_audit.proofs.record.Record.compare.Goals.{After-next_line}
 
--- comments were taken, and nothing more of what is due
+-- comments were taken, and nothing more of the due text
 passed : (c : After-next_line) → IsCompared c.args.self.now.count c.args.self.now.rest.now c.args.due.now c.next_line.new.self.count c.next_line.new.self.rest.now c.loop-left.left.now
 passed c =
     compared_both c.args.self.now.count c.args.self.now.rest.now c.args.due.now c.loop-left.self.count c.next_line.new.self.count c.loop-left.self.rest.now c.next_line.new.self.rest.now

@@ -3,7 +3,7 @@ use Rattle.batch_cell.specs.Equipment.{unit_names}
 use Rattle.batch_cell.specs.LookUps.{units_of_class, is_of_class}
 use Rattle.batch_cell.proofs.cell.Cell.candidate.Given as goal
 
--- what is looked for stands this far among the units that weren't looked at
+-- the wanted unit has the index `left` among the remaining units of the class
 abbrev pub invariant-loop-number : goal.invariant-loop-number
 invariant-loop-number l =
     slice_get (units_of_class l.self l.class) l.index

@@ -15,7 +15,7 @@ use Rattle.batch_engine.proofs.Named.{find-at}
 use Rattle.batch_engine.proofs.control.Control.choice.Goals as goal
 use Rattle.batch_engine.proofs.control.Control.choice.Goals.{After-recipe_named, After-units_for}
 
--- where the recipe with a name stands
+-- the index of the recipe with a name
 abbrev named : EngineView → Name → Option ℕ
 named v name = position (λ (r : document.Recipe). same_name r.acts.procedure.name name) v.cleared.recipes
 

@@ -5,7 +5,7 @@ use Rattle.batch_chart.specs.Charts.{AsksAt, remains}
 use Rattle.batch_engine.specs.View.{setup, plant_of, tree_of}
 use Rattle.batch_engine.proofs.control.Control.first_grant.Given as goal
 
--- nobody before is served, and no more were looked at than stand there
+-- no act before is served, and no more were checked than there are
 abbrev pub invariant-loop-node : goal.invariant-loop-node
 invariant-loop-node l =
     let t = tree_of l.self.cleared l.batch in

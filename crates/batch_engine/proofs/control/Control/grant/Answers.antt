@@ -38,7 +38,7 @@ grant-requires-clause-waits c =
     (same-at v.cleared.recipes b.recipe c.requires.chart c.recipe-chart.result.now chart (seat w.After-recipe-chart).listed)
     (subst (λ (z : Batch). IsWaitingAt c.requires.chart z.running c.args.node) is c.requires.waits)
 
--- what the grant makes of the view
+-- the effect of the grant on the view
 abbrev move : After-grant → Moves.Move
 move c =
     let t = tree_of c.args.self.now.cleared c.index_mut-batch.result.now in

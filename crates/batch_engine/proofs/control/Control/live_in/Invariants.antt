@@ -6,7 +6,7 @@ use Rattle.batch_chart.specs.Charts.{remains, remains_from}
 use Rattle.batch_engine.specs.View.{batch_of, number_of, tree_of}
 use Rattle.batch_engine.proofs.control.Control.live_in.Given as goal
 
--- no act before has such a live phase
+-- no act before has this live phase
 abbrev pub invariant-loop-node : goal.invariant-loop-node
 invariant-loop-node l =
     let t = tree_of l.self.cleared l.batch in

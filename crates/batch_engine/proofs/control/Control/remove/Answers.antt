@@ -18,7 +18,7 @@ use Rattle.batch_engine.proofs.control.Control.remove.Goals.{After-index, After-
 found : (c : After-index) → IsFound c.args.self.now c.args.number c.in-Some.index c.index.result.now
 found c = found-here c.self.view_is c.self.invariant.kept (sym c.index_of.ensures ∙ c.in-Some.is) c.index.ensures
 
--- what the batch that is taken out needs was counted
+-- the needs of the batch that is removed were counted
 counted : (c : After-index-2) → IsFound c.args.self.now c.args.number c.in-Some.index c.index.result.now
     → c.self.inside.needs ≡ needs_of_all c.args.self.now.cleared (remove c.args.self.now.batches c.in-Some.index) + c.index-2.result.now.needs
 counted c f =

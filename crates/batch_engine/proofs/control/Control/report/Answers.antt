@@ -57,7 +57,7 @@ report-requires-clause-accepts c =
     let j = lent (goal.at.report-requires-clause-accepts c).After-index_mut-batch in
     (c.in-Some.live.state, c.in-Some-after_report._end, j.phase.live c.recipe-chart.result.now j.seat.listed, sym c.after_report.ensures ∙ c.in-Some-after_report.is)
 
--- what the report makes of the view
+-- the effect of the report on the view
 abbrev own : After-report → Batch
 own c = record (c.index_mut-batch.result.now) { values = c.set_outputs.new.self; state = c.state_after-next.result; running = c.report.new.self }
 

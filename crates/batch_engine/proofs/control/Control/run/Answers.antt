@@ -15,7 +15,7 @@ use Rattle.batch_engine.proofs.Stepping.{changed}
 use Rattle.batch_engine.proofs.control.Control.run.Goals as goal
 use Rattle.batch_engine.proofs.control.Control.run.Goals.{After-index_mut-batch, After-make, After-recipe-chart}
 
--- what the engine becomes
+-- the engine after the move
 becomes : {v : EngineView} {i : ℕ} {b : Batch} (m : Move) (h : IsMover v i b m) {r : Running} {a : Allocation} → IsOfAct m → IsClaimed v.cleared b m v.allocation a → MadeChart v h.kept i b h.at m r
     → Becomes v (changed v i (record b { running = r }) a) (move_of (tree_of v.cleared b) (batch_of v.cleared b) m)
 becomes {v} {i} {b} (Ask node need) h {r} {a} act (q, u, number, is) made =
@@ -66,7 +66,7 @@ make-requires-clause-space c =
     let h = moves w.After-index_mut-batch in
     space-in-advance c.args.self.now h.kept c.args.index c.index_mut-batch.result.now h.at (seat w.After-recipe-chart h).runs
 
--- what the move makes of the view
+-- the effect of the move on the view
 abbrev own : After-make → Batch
 own c = record (c.index_mut-batch.result.now) { running = c.make.new.self }
 
