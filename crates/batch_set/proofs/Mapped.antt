@@ -7,18 +7,21 @@ use Rattle.std.proofs.lemmas.Option.{slice_get-map}
 use Rattle.batch_set.specs.Linking.{table_items}
 use Rattle.batch_set.specs.Looked.{row_at}
 
--- so far the rows are the results of the elements before number i
-abbrev pub AreMapped : {A B : Type 0} → (A → B) → List A → ℕ → List B → Type 0
-AreMapped f xs i ys = ys ++ map f (drop i xs) ≡ map f xs
+-- so far the rows are those before, and then the results of the elements before number i
+abbrev pub AreAdded : {A B : Type 0} → List B → (A → B) → List A → ℕ → List B → Type 0
+AreAdded before f xs i ys = ys ++ map f (drop i xs) ≡ before ++ map f xs
 
-pub AreMapped-more : {A B : Type 0} (f : A → B) (xs : List A) (i : ℕ) (ys zs : List B) → AreMapped f xs i ys → (x : A) → i < length xs → x ≡ get_or xs i x → zs ≡ ys ++ f x ∷ []
-    → AreMapped f xs (i + 1) zs
-AreMapped-more f xs i ys zs h x within is pushed =
+abbrev pub AreMapped : {A B : Type 0} → (A → B) → List A → ℕ → List B → Type 0
+AreMapped f xs i ys = AreAdded [] f xs i ys
+
+pub AreAdded-more : {A B : Type 0} (before : List B) (f : A → B) (xs : List A) (i : ℕ) (ys zs : List B) → AreAdded before f xs i ys → (x : A) → i < length xs → x ≡ get_or xs i x → zs ≡ ys ++ f x ∷ []
+    → AreAdded before f xs (i + 1) zs
+AreAdded-more before f xs i ys zs h x within is pushed =
     let cut : drop i xs ≡ x ∷ drop (i + 1) xs = drop-cons xs i x within ∙ (ap (λ y. y ∷ drop (suc i) xs) (sym is) ∙ ap (λ n. x ∷ drop n xs) (sym (add-one i))) in
     ap (λ ws. ws ++ map f (drop (i + 1) xs)) pushed ∙ (append_assoc ys (f x ∷ []) (map f (drop (i + 1) xs)) ∙ (ap (λ ws. ys ++ map f ws) (sym cut) ∙ h))
 
-pub AreMapped-all : {A B : Type 0} (f : A → B) (xs : List A) (i : ℕ) (ys : List B) → AreMapped f xs i ys → length xs ≤ i → ys ≡ map f xs
-AreMapped-all f xs i ys h past = sym (append-nil ys) ∙ (ap (λ ws. ys ++ map f ws) (sym (drop_of_length-le xs past)) ∙ h)
+pub AreAdded-all : {A B : Type 0} (before : List B) (f : A → B) (xs : List A) (i : ℕ) (ys : List B) → AreAdded before f xs i ys → length xs ≤ i → ys ≡ before ++ map f xs
+AreAdded-all before f xs i ys h past = sym (append-nil ys) ∙ (ap (λ ws. ys ++ map f ws) (sym (drop_of_length-le xs past)) ∙ h)
 
 -- one more row
 pub row : {X : Type 0} (rows more : List (Vec X Global)) (own : Vec X Global) (items : List X) → more ≡ rows ++ own ∷ [] → own.items ≡ items → table_items more ≡ table_items rows ++ items ∷ []

@@ -1,7 +1,7 @@
 -- The numbers of those that pass, one element after the other.
-use Rattle.std.proofs.Common.{arith, ◌≡◌, ℕ, suc, ◌+◌, ◌<◌, Bool, true, false, List, [], ◌∷◌, ◌++◌, map, length, take, get_or, if◌then◌else◌, refl, sym, ap, ◌∙◌}
+use Rattle.std.proofs.Common.{◌≤◌, arith, ◌≡◌, ℕ, suc, ◌+◌, ◌<◌, Bool, true, false, List, [], ◌∷◌, ◌++◌, map, length, take, get_or, if◌then◌else◌, refl, sym, ap, ◌∙◌}
 use Rattle.std.proofs.Math.Seq.{take-suc}
-use Rattle.std.proofs.lemmas.List.{append_assoc, length-take-le, map-append}
+use Rattle.std.proofs.lemmas.List.{take_all, append_assoc, length-take-le, map-append}
 use Rattle.batch_warnings.specs.Warnings.{numbers_of}
 
 take_more : {X : Type 0} (xs : List X) (k : ℕ) (x : X) → k < length xs → x ≡ get_or xs k x → take (k + 1) xs ≡ take k xs ++ x ∷ []
@@ -34,3 +34,9 @@ module _ {X : Type 0} (p : X → Bool) where
       ap (λ ns. before ++ map K ns) (numbers_at xs k x within is)
       ∙ ap (λ told. before ++ told) (map-append K (numbers_of p 0 (take k xs)) (if p x then k ∷ [] else []) ∙ ap (λ told. map K (numbers_of p 0 (take k xs)) ++ told) (map_one K (p x) k))
       ∙ sym (append_assoc before (map K (numbers_of p 0 (take k xs))) (if p x then K k ∷ [] else []))
+
+  -- once all elements are walked, all numbers of those that pass are there
+  pub numbers_through : {W : Type 0} (K : ℕ → W) (before all : List W) (xs ys : List X) (k : ℕ) → length xs ≤ k → xs ≡ ys
+      → all ≡ before ++ map K (numbers_of p 0 (take k xs)) → all ≡ before ++ map K (numbers_of p 0 ys)
+  numbers_through K before all xs ys k through same is =
+      is ∙ ap (λ walked. before ++ map K (numbers_of p 0 walked)) (take_all k xs through ∙ same)

@@ -1,12 +1,13 @@
-use Rattle.std.proofs.Common.{◌≡◌, ◌++◌, map, take}
+use Rattle.std.proofs.Common.{◌++◌, map}
 use Rattle.batch_set.specs.Linking.{need_linked, reserved_need, unit_needs}
+use Rattle.batch_set.proofs.Mapped.{AreAdded}
 use Rattle.batch_set.proofs.linking.link_act.Given as goal
 
 -- the units of the names so far are linked
 abbrev pub invariant-loop-name : goal.invariant-loop-name
-invariant-loop-name l = l.needs.items ≡ unit_needs l.cell l.recipe l.act.unit ++ map (reserved_need l.cell l.recipe) (take l.name-index l.name-items)
+invariant-loop-name l = AreAdded (unit_needs l.cell l.recipe l.act.unit) (reserved_need l.cell l.recipe) l.name-items l.name-index l.needs.items
 
 -- and the needs so far
 abbrev pub invariant-loop-need : goal.invariant-loop-need
 invariant-loop-need l =
-    l.needs.items ≡ (unit_needs l.cell l.recipe l.act.unit ++ map (reserved_need l.cell l.recipe) l.act.reserves.items) ++ map (need_linked l.cell) (take l.need-index l.need-items)
+    AreAdded (unit_needs l.cell l.recipe l.act.unit ++ map (reserved_need l.cell l.recipe) l.act.reserves.items) (need_linked l.cell) l.need-items l.need-index l.needs.items

@@ -1,7 +1,7 @@
-use Rattle.std.proofs.Common.{◌≡◌, map, take}
 use Rattle.batch_set.specs.Linking.{run_by}
+use Rattle.batch_set.proofs.Mapped.{AreMapped}
 use Rattle.batch_set.proofs.linking.link_runs.Given as goal
 
 -- the phase steps so far
 abbrev pub invariant-loop-act : goal.invariant-loop-act
-invariant-loop-act l = l.runs.items ≡ map (run_by l.phases.names.keys) (take l.act-index l.table)
+invariant-loop-act l = AreMapped (run_by l.phases.names.keys) l.table l.act-index l.runs.items

@@ -1,8 +1,8 @@
-use Rattle.std.proofs.Common.{arith, ◌≡◌, ◌++◌, ◌∷◌, [], not, if◌then◌else◌, ap, sym, ◌∙◌}
+use Rattle.std.proofs.Common.{arith, arith, ◌≡◌, ◌++◌, ◌∷◌, [], not, if◌then◌else◌, ap, sym, ◌∙◌}
 use Rattle.batch_recipe.specs.Procedure.{table_at}
 use Rattle.batch_warnings.specs.Warnings.{is_named}
 use Rattle.batch_warnings.specs.declared.warning.RecipeWarning.TheVariants.{UnnamedAct}
-use Rattle.batch_warnings.proofs.Numbers.{numbers_on}
+use Rattle.batch_warnings.proofs.Numbers.{numbers_on, numbers_through}
 use Rattle.batch_warnings.proofs.recipes.add_unnamed.Goals as goal
 
 pub loop-number-preserved : goal.loop-number-preserved
@@ -11,3 +11,7 @@ loop-number-preserved c =
     ∙ ap (λ all. all ++ (if not c.is_named-is_told.result then UnnamedAct c.args.table c.loop-number.number ∷ [] else [])) c.loop-number.invariant
     ∙ rw c.is_named-is_told.ensures
     (sym (numbers_on (λ a. not (is_named c.args.acts.now c.args.table a)) (UnnamedAct c.args.table) c.args.warnings.items c.table-act-items.result.now c.loop-number.number c.act-item.result c.loop-number-test.true c.act-item.is))
+
+pub returns : goal.returns
+returns c =
+    numbers_through _ _ _ _ _ _ c.loop-number.number (omega (arith, c.loop-number-test.false)) c.table-act-items.ensures c.loop-number.invariant

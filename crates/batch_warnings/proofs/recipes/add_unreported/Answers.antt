@@ -1,9 +1,9 @@
-use Rattle.std.proofs.Common.{◌≡◌, ◌++◌, ◌∷◌, ◌&&◌, [], not, if◌then◌else◌, ap, sym, ◌∙◌}
+use Rattle.std.proofs.Common.{arith, ◌≡◌, ◌++◌, ◌∷◌, ◌&&◌, [], not, if◌then◌else◌, ap, sym, ◌∙◌}
 use Rattle.std.specs.List.{list_any}
 use Rattle.batch_recipe.specs.Formula.{is_in_range}
 use Rattle.batch_warnings.specs.Warnings.{act_reports, is_compared, is_named, takes_role, takes_value}
 use Rattle.batch_warnings.specs.declared.warning.RecipeWarning.TheVariants.{UnnamedAct, ValueOutOfRange, UnreportedOutput, UnusedRole, ScaledParameter}
-use Rattle.batch_warnings.proofs.Numbers.{numbers_on}
+use Rattle.batch_warnings.proofs.Numbers.{numbers_on, numbers_through}
 use Rattle.batch_warnings.proofs.recipes.add_unreported.Goals as goal
 
 pub loop-number-preserved : goal.loop-number-preserved
@@ -12,3 +12,7 @@ loop-number-preserved c =
     ∙ ap (λ all. all ++ (if c.lacks_report-is_told.result then UnreportedOutput c.loop-number.number ∷ [] else [])) c.loop-number.invariant
     ∙ rw c.lacks_report-is_told.ensures
     (sym (numbers_on (λ name. is_compared c.args.recipe.now.acts name && not (list_any (act_reports name) c.args.recipe.now.acts.phases.items)) UnreportedOutput c.args.warnings.items c.deref-output-items.result.now c.loop-number.number c.output-item.result c.loop-number-test.true c.output-item.is))
+
+pub returns : goal.returns
+returns c =
+    numbers_through _ _ _ _ _ _ c.loop-number.number (omega (arith, c.loop-number-test.false)) c.deref-output-items.ensures.value c.loop-number.invariant

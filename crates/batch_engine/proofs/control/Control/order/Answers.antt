@@ -3,10 +3,14 @@ use Rattle.batch_matrix.specs.Matrix.{after, target}
 use Rattle.batch_matrix.specs.declared.command.Command.{Command}
 use Rattle.batch_matrix.specs.declared.command.Command.TheVariants.{Start, Pause, Resume, Hold, Restart, Stop, Abort, Reset}
 use Rattle.batch_matrix.specs.declared.state.State.{State}
+use Rattle.batch_model.specs.Events as Events
 use Rattle.batch_model.specs.Moves.{next}
-use Rattle.batch_engine.specs.Orders.{IsOrder, IsPlain}
+use Rattle.batch_model.specs.Runs.{Reacts}
+use Rattle.batch_engine.specs.Answered.{IsAnswered}
+use Rattle.batch_engine.specs.Orders.{IsOrder, IsOrdered, IsPlain}
 use Rattle.batch_engine.specs.View.{EngineView, batch_of, plant_of, setup}
 use Rattle.batch_engine.specs.declared.batch.Batch.{Batch}
+use Rattle.batch_engine.specs.declared.reply.Reply.TheVariants as Reply
 use Rattle.batch_engine.proofs.Accepted.{accepted, not-accepted}
 use Rattle.batch_engine.proofs.OrderAnswers.{order-refused, order-unknown}
 use Rattle.batch_engine.proofs.Seats.{IsFound, found-here}
@@ -32,6 +36,10 @@ plain Restart f g h = tt
 plain Stop f g h = f refl
 plain Abort f g h = g refl
 plain Reset f g h = h refl
+
+answered : (old new : EngineView) (command : Command) (n : ℕ) (x : State) → x ≡ target command → IsOrdered old command n new → IsAnswered old (Events.order command n) (Reply.Ordered command n x) new
+answered old new command n x is o =
+    record { cleared = o.cleared; reacts = subst (λ (y : State). Reacts (setup old.cleared) (plant_of old) (Events.order command n) (Events.ordered command n y) (plant_of new)) (sym is) o.reacts }
 
 pub returns-in_default : goal.returns-in_default
 returns-in_default c =
@@ -65,3 +73,18 @@ enter-requires c =
       plain = plain c.args.command c.in_default-command.not-Stop c.in_default-command.not-Abort c.in_default-command.not-Reset;
       target = o.1;
     }
+
+pub returns-in-Stop : goal.returns-in-Stop
+returns-in-Stop c =
+    let o = made-order c.args.self.now c.in-Some.index c.args.command c.args.number c.index.result.now (found (goal.at.returns-in-Stop c).After-index) c.requires c.in-Some-after.next (sym c.after.ensures ∙ c.in-Some-after.is) in
+    answered c.args.self.now c.stop.new.self c.args.command c.args.number c.in-Some-after.next o.1 c.stop.ensures
+
+pub returns-in-Reset : goal.returns-in-Reset
+returns-in-Reset c =
+    let o = made-order c.args.self.now c.in-Some.index c.args.command c.args.number c.index.result.now (found (goal.at.returns-in-Reset c).After-index) c.requires c.in-Some-after.next (sym c.after.ensures ∙ c.in-Some-after.is) in
+    answered c.args.self.now c.reset.new.self c.args.command c.args.number c.in-Some-after.next o.1 (subst (λ (z : Command). IsOrdered c.args.self.now z c.args.number c.reset.new.self) (sym c.in-Reset.is) c.reset.ensures)
+
+pub returns-in_default-command : goal.returns-in_default-command
+returns-in_default-command c =
+    let o = made-order c.args.self.now c.in-Some.index c.args.command c.args.number c.index.result.now (found (goal.at.returns-in_default-command c).After-index) c.requires c.in-Some-after.next (sym c.after.ensures ∙ c.in-Some-after.is) in
+    answered c.args.self.now c.enter.new.self c.args.command c.args.number c.in-Some-after.next o.1 c.enter.ensures
