@@ -44,8 +44,8 @@ pub struct DesksEnd<W: Write + Drop, P: Outputs<W> + Drop> {
 /// The input and the output of each desk are opened, read and written in threads of their own, and nobody waits for a thread that is
 /// blocked there. The fronts, one for each desk in order, are written to the desks' outputs before all else; a desk behind the last
 /// of them has none. A desk whose input or output fails, or for which more lines are queued than may be, is cut, and the errors
-/// report it. At the end an output that takes nothing for long is cut too, which is told alone. For each desk that has an output it
-/// gives back the output, or its thread, which isn't joined while it has more to do.
+/// report it. At the end an output that takes nothing for long is left to its thread, and the errors report it. For each desk that
+/// has an output it gives back the output, or its thread, which isn't joined while it has more to do.
 // claim: desks over pipes; whose lines are served; outputs given back; outputs of desks
 pub fn serve_desks<
     T: Threads,

@@ -79,7 +79,7 @@ module _ {D : Type 0} (command_gives : D → ℕ → Order → D → Type 0) (ti
     pub stops : StopsHandling event (record { plant = old.plant; units = after }) outs new before written
     pub tells : said ≡ handled event outs
 
-  -- the flush failed, or handling the report of the next unit stopped
+  -- nothing more was written, and the plant is as before; or handling the report of the next unit stopped
   abbrev pub Stops : List ℕ → Standing D → Exchange → Standing D → Option (List ℕ) → Option (List ℕ) → Type 0
   Stops others old said new before written =
       ((said ≡ silence) × (new ≡ old) × Appends before written [])

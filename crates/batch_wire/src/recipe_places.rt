@@ -6,6 +6,7 @@ ghost use Rattle.batch_verify.specs.ClearedSet.{ClearedSet};
 ghost use Rattle.batch_wire.specs.Known.{AreKnownBy, AreKnownIn, EndsAt, HoldsBatch, IsCutBack, IsKept, IsLast};
 ghost use Rattle.batch_wire.specs.Pieces.{text_of_place, text_of_site};
 
+use crate::names::recipe_at;
 use crate::putting::put_piece;
 use crate::site::Site;
 use crate::steps::{MAX_STEP_LEN, put_number, put_step};
@@ -107,7 +108,7 @@ impl RecipePlaces {
             self.recipe = recipe;
             self.depth = 0;
         }
-        match cleared.recipes().get(usize::from(recipe)) {
+        match recipe_at(cleared, recipe) {
             Some(recipe) => self.find_in(recipe, node),
             None => None,
         }

@@ -16,7 +16,8 @@ use crate::fault::WriteFault;
 use crate::known_places::{KnownPlaces, seat_of};
 use crate::line_room::LineRoom;
 use crate::names::{
-    act_name, handed_names, output_name, phase_name, recipe_name, resource_name, value_name,
+    act_name, handed_names, output_name, phase_name, recipe_at, recipe_name, resource_name,
+    value_name,
 };
 use crate::places::{ToldPlace, write_node_place, write_place};
 use crate::recipe_places::RecipePlaces;
@@ -305,7 +306,7 @@ fn write_roles<W: Write>(
 ) -> Result<(), WriteFault>
     ensures { Writes (W.contents writer.old) (W.contents writer.new) result (roles_text (roles_told cleared.now recipe units)) }
 {
-    match cleared.recipes().get(usize::from(recipe)) {
+    match recipe_at(cleared, recipe) {
         Some(recipe) => write_bound(cleared, &recipe.roles, units, writer),
         None => write_all(writer, b""),
     }
