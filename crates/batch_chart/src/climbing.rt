@@ -54,7 +54,7 @@ impl ControlRecipe<'_> {
         let Some(left) = stages[p].turns() else {
             return false;
         };
-        if left == 0 || self.judge(until) {
+        if left == 0 || self.condition_holds(until) {
             stages[p] = Stage::Finished;
             return true;
         }
@@ -63,7 +63,7 @@ impl ControlRecipe<'_> {
     }
 
     /// Goes on at p, the node above n, after n has been finished. Returns whether that has finished p.
-    fn pass(&self, stages: &mut [Stage], signs: &mut Signs, p: usize, n: usize) -> bool
+    fn go_on_at(&self, stages: &mut [Stage], signs: &mut Signs, p: usize, n: usize) -> bool
         requires standing { HasTree self.now.nodes.now self.now.master.now stages.old p }
         requires fits { length signs.old ≡ length self.now.nodes.now }
         requires above { IsAbove self.now.nodes.now p n }
@@ -103,7 +103,7 @@ impl ControlRecipe<'_> {
         let mut n = node;
         while n > 0 {
             let above = self.nodes[n].parent as usize;
-            if !self.pass(stages, signs, above, n) {
+            if !self.go_on_at(stages, signs, above, n) {
                 return;
             }
             n = above;

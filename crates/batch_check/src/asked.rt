@@ -46,14 +46,14 @@ impl Asked {
         ensures { OnOk result (self.new.needs.items ≡ self.old.needs.items ++ need ∷ []) }
     {
         if let Some(number) = need {
-            self.note(usize::from(number));
+            self.set_bit(usize::from(number));
         }
         self.needs.push(need)?;
         Ok(())
     }
 
     /// Sets the bit of a number.
-    fn note(&mut self, number: usize)
+    fn set_bit(&mut self, number: usize)
         requires { number < 448 }
         ensures needs { self.new.needs ≡ self.old.needs }
         ensures noted { IsTrue (has_bit self.new.numbers number) }

@@ -36,12 +36,12 @@ pub fn graph_of(
         return Err(CheckFault::Recipes);
     }
     let mut set = edges_of(alloc, cell, recipes)?;
-    take(circle, &mut set)?;
+    add_each(circle, &mut set)?;
     Ok(set.edges)
 }
 
 /// Adds each of these edges, if none leads from the one resource to the other yet.
-fn take(edges: &[Edge], set: &mut EdgeSet) -> Result<(), AllocError>
+fn add_each(edges: &[Edge], set: &mut EdgeSet) -> Result<(), AllocError>
     requires { HasEndsBelow set.old.count edges.now }
     ensures { OnOk result (HasTaken edges.now set.old set.new) }
 {

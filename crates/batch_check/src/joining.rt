@@ -70,7 +70,7 @@ fn join_asked(
 }
 
 /// The needs that are kept, with this one after them. Adds the edges from each of them to it.
-pub(crate) fn keep(
+pub(crate) fn join_and_push(
     recipe: u16,
     node: u16,
     asked: Option<Asked>,

@@ -7,7 +7,7 @@ ghost use Rattle.batch_check.specs.Joining.{AreBelow};
 
 use crate::asked::Asked;
 use crate::edge_set::EdgeSet;
-use crate::joining::{join, keep};
+use crate::joining::{join, join_and_push};
 use std::alloc::{AllocError, Global};
 
 /// Which two needs of a path an edge joins.
@@ -71,7 +71,7 @@ fn ask(need: Option<u16>, path: Path, node: u16, edges: &mut EdgeSet) -> Result<
 {
     let recipe = path.recipe;
     join(recipe, node, path.last, need, edges)?;
-    let asked = keep(recipe, node, path.asked, need, edges)?;
+    let asked = join_and_push(recipe, node, path.asked, need, edges)?;
     Ok(Path {
         recipe,
         last: need,

@@ -29,7 +29,7 @@ pub(crate) enum Form {
 
 impl<'a> Argument<'a> {
     /// Builds the argument for `clap`.
-    pub(crate) fn told(&self, alloc: Global) -> Arg<'a>
+    pub(crate) fn to_arg(&self, alloc: Global) -> Arg<'a>
         ensures rule { rule_of result ≡ argument_rule self.now }
         ensures local { result.global ≡ false }
     {

@@ -89,7 +89,7 @@ fn with_arguments<'a>(
 {
     let mut command = bare;
     for argument in arguments {
-        command = command.arg(argument.told(alloc))?;
+        command = command.arg(argument.to_arg(alloc))?;
     }
     Ok(command)
 }

@@ -131,7 +131,7 @@ impl Console {
     pub(crate) fn take_turn(&mut self, alloc: Global, desk: &mut Desk, plan: &BatchPlan)
         ensures { GoesOn plan.now self.old desk.old self.new desk.new }
     {
-        if let Some(out) = desk.take() {
+        if let Some(out) = desk.pop_out() {
             self.learn(out);
         }
         self.act(alloc, desk, plan);

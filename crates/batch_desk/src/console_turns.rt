@@ -38,7 +38,7 @@ pub fn console_loop<G: Gate>(
         if console.refused {
             return LoopEnd::Refused;
         }
-        if gate.pass(turn) {
+        if gate.lets_pass(turn) {
             console.take_turn(alloc, desk, plan);
         }
     }

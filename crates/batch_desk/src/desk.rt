@@ -54,7 +54,7 @@ impl Desk {
 
     /// Takes the oldest out that is there.
     // claim: each out taken once
-    pub fn take(&mut self) -> Option<Out>
+    pub fn pop_out(&mut self) -> Option<Out>
         ensures { Takes self.old result self.new }
     {
         self.outs.pop().ok()

@@ -8,6 +8,6 @@ pub trait Gate {
     ghost passes: { Self → ℕ → Bool → Self → Type 0 };
 
     /// Whether the turn with this number is made. A turn that isn't made counts too; the first has the number 0.
-    fn pass(&mut self, turn: u64) -> bool
+    fn lets_pass(&mut self, turn: u64) -> bool
         ensures { passes self.old turn result self.new };
 }

@@ -76,7 +76,7 @@ pub fn hub_loop<G: Gate>(hub: &mut Hub, batches: u64, gate: &mut G, limit: u64) 
         if hub.is_done(batches) {
             return LoopEnd::Done;
         }
-        if gate.pass(number) {
+        if gate.lets_pass(number) {
             let _ = hub.turn(port);
         }
         port = hub.port_after(port);

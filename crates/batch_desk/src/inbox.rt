@@ -33,7 +33,7 @@ impl Inbox {
 
     /// Takes the oldest out that is there.
     // claim: each out taken once
-    pub fn take(&mut self) -> Option<Out>
+    pub fn pop_out(&mut self) -> Option<Out>
         ensures some { IfSome result (λ out. TakesNext self.old out self.new) }
         ensures none { IfNone result ((self.new.outs ≡ self.old.outs) × (self.new.taken ≡ self.old.taken)) }
         ensures there { 0 < length self.old.there → IsSome result }

@@ -111,7 +111,7 @@ impl Hub {
     }
 
     /// Makes moves that are pending; or else takes an event of the port, and makes the moves that follow.
-    fn work(&mut self, port: usize) -> Result<Turned, HubFault>
+    fn advance_engine(&mut self, port: usize) -> Result<Turned, HubFault>
         requires { port < length self.old.ports }
         ensures outlines { outlines self.new ≡ outlines self.old }
         ensures cleared { self.new.engine.cleared ≡ self.old.engine.cleared }
@@ -154,7 +154,7 @@ impl Hub {
             return Err(HubFault::UnknownPort);
         }
         self.flush(port);
-        let turned = self.work(port);
+        let turned = self.advance_engine(port);
         self.flush(port);
         turned
     }

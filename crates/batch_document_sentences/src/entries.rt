@@ -1,7 +1,7 @@
 //! The faults of a document's table.
 use crate::charts::{no_chart_said, number_said};
 use crate::declared::text_at;
-use crate::fits::{Fit, form_said, given_said, suit};
+use crate::fits::{Fit, form_said, given_said, value_fit};
 use crate::kinds::{kind_said, kinds_beside, word_of};
 use crate::lines::line_of;
 use crate::names_declared::{duplicate, undeclared};
@@ -21,7 +21,11 @@ pub(crate) struct Wrong<'a> {
 }
 
 impl<'a> Wrong<'a> {
-    pub(crate) fn told(alloc: Global, key: &'a str, what: &str) -> Result<Wrong<'a>, AllocError> {
+    pub(crate) fn from_str(
+        alloc: Global,
+        key: &'a str,
+        what: &str,
+    ) -> Result<Wrong<'a>, AllocError> {
         Wrong::with(key, String::from_str(alloc, what))
     }
 
@@ -103,7 +107,7 @@ fn no_table(
             format!(in alloc; "`{word}` has to be a table, or tables, with a header of their own"),
         )
     } else {
-        Wrong::told(alloc, "", "there is no such table, and one is needed")
+        Wrong::from_str(alloc, "", "there is no such table, and one is needed")
     }
 }
 
@@ -121,9 +125,9 @@ fn missing(
     // A unit procedure and a desk need one of two keys.
     match kind {
         TableKind::Desk => {
-            Wrong::told(alloc, "", "one of the keys `input` and `output` is missing")
+            Wrong::from_str(alloc, "", "one of the keys `input` and `output` is missing")
         }
-        _ => Wrong::told(alloc, "", "one of the keys `unit` and `role` is missing"),
+        _ => Wrong::from_str(alloc, "", "one of the keys `unit` and `role` is missing"),
     }
 }
 
@@ -138,14 +142,14 @@ fn unknown<'a>(
         // Some keys of the other two kinds suit one another badly.
         None => match kind {
             TableKind::Desk => {
-                Wrong::told(alloc, "", "a document of desks has tables [[desk]] alone")
+                Wrong::from_str(alloc, "", "a document of desks has tables [[desk]] alone")
             }
-            TableKind::UnitProcedure => Wrong::told(
+            TableKind::UnitProcedure => Wrong::from_str(
                 alloc,
                 "role",
                 "`unit` and `role` don't stand together",
             ),
-            _ => Wrong::told(alloc, "phases", "a module without `unit` has no `phases`"),
+            _ => Wrong::from_str(alloc, "phases", "a module without `unit` has no `phases`"),
         },
     }
 }
@@ -235,7 +239,7 @@ fn wrong_kind(
             "name",
             format!(in alloc; "the name `{name}` is a word of charts, which names nothing else"),
         ),
-        _ => Wrong::told(alloc, "", "a value is of another kind than its key has"),
+        _ => Wrong::from_str(alloc, "", "a value is of another kind than its key has"),
     }
 }
 
@@ -303,7 +307,7 @@ fn out_of_limit(
     let greatest = table.get("max").and_then(Value::as_integer);
     match (least, greatest) {
         (Some(least), Some(greatest)) if least > greatest => {
-            Wrong::told(alloc, "min", "`min` is above `max`")
+            Wrong::from_str(alloc, "min", "`min` is above `max`")
         }
         _ => chart_out_of_limit(alloc, text, line, table, spot),
     }
@@ -348,7 +352,7 @@ fn no_chart(
 fn first_unfit<'a>(keys: &'a [Key], table: &Table, wanted: Fit) -> Option<&'a Key> {
     for key in keys {
         if let Some(value) = table.get(key.0) {
-            if suit(key.2, value) == wanted {
+            if value_fit(key.2, value) == wanted {
                 return Some(key);
             }
         }

@@ -32,7 +32,7 @@ fn plain(form: ValueForm) -> ValueForm {
     }
 }
 
-pub(crate) fn suit(form: ValueForm, value: &Value) -> Fit {
+pub(crate) fn value_fit(form: ValueForm, value: &Value) -> Fit {
     match plain(form) {
         ValueForm::Name => name_fit(value),
         ValueForm::Text(most) => text_fit(value, 0, most),

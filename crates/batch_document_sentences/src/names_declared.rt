@@ -44,7 +44,7 @@ pub(crate) fn undeclared(
             "reserves",
             undeclared_said(alloc, document, "unit_procedure", name),
         ),
-        None => Wrong::told(alloc, key, "a label or a name is declared nowhere"),
+        None => Wrong::from_str(alloc, key, "a label or a name is declared nowhere"),
     }
 }
 

@@ -63,7 +63,7 @@ impl Engine {
         if !self.settled() {
             return Reply::Refused(Refusal::MovesPending);
         }
-        let reply = self.control.judge(event, &self.holders);
+        let reply = self.control.answer_event(event, &self.holders);
         self.control.is_kept();
         mark_answered(&mut self.marks, &self.control, reply);
         reply
@@ -115,7 +115,7 @@ impl Engine {
         };
         let line = self.control.line_of(step);
         note_grant(&mut self.holders, &line);
-        self.control.make(step);
+        self.control.make_step(step);
         self.control.is_kept();
         mark_moved(&mut self.marks, &self.control, step.index(), line.touched());
         Some(line)

@@ -106,7 +106,7 @@ impl Control {
     }
 
     /// Answers an event, while no move is pending, by the batches that hold the units.
-    pub(crate) fn judge(&mut self, event: &Event, holders: &[u64]) -> Reply
+    pub(crate) fn answer_event(&mut self, event: &Event, holders: &[u64]) -> Reply
         requires settled { next (setup self.old.cleared) (plant_of self.old) ≡ None }
         requires noted { AreNoted self.old holders.now }
         ensures { IsAnswered self.old (event_of event.now) result self.new }

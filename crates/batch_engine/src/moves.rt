@@ -56,7 +56,7 @@ impl Control {
         let batch = &mut self.batches[index];
         let chart = self.cleared.recipe(batch.recipe);
         claim(&mut self.arbiter, &self.numbers, chart, batch, made);
-        batch.running.make(chart, made, &batch.values);
+        batch.running.make_move(chart, made, &batch.values);
     }
 
     /// The act first in the line of a resource gets it.
@@ -82,7 +82,7 @@ impl Control {
     }
 
     /// Makes the next step.
-    pub(crate) fn make(&mut self, step: Step)
+    pub(crate) fn make_step(&mut self, step: Step)
         requires { IsNextStep self.old (Some step) }
         ensures { MakesNext self.old self.new }
     {

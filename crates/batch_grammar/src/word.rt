@@ -57,5 +57,5 @@ pub fn name_of(alloc: Global, word: &[u8]) -> Result<Name, Stop>
     ensures value { IfOk result (λ name. name ≡ word.now) }
     ensures only_memory { IsOkUnless result Stop.Memory }
 {
-    Ok(Name::known(alloc, word)?)
+    Ok(Name::from_bytes_unchecked(alloc, word)?)
 }

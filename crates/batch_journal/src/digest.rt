@@ -43,7 +43,7 @@ impl DocumentsDigest {
     }
 
     /// Takes the text of one document more.
-    pub fn take(&mut self, text: &[u8])
+    pub fn push_document(&mut self, text: &[u8])
         ensures { (texts : List (List ℕ)) → HasTaken self.old texts → HasTaken self.new (texts ++ text.now ∷ []) }
     {
         let mut length = Buffer::new();

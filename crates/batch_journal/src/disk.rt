@@ -82,7 +82,7 @@ pub trait Disk {
         ensures time { is_disk self.new → Elapses (moment self.old) (moment self.new) (left_since self.old) (left_since self.new) (MayLeave (durable self.old) (seen self.old) (given self.old)) };
 
     /// Notes bytes that are about to be given on. A file does nothing at it.
-    fn give(&mut self, bytes: &[u8]) -> Result<(), DiskError>
+    fn mark_given(&mut self, bytes: &[u8]) -> Result<(), DiskError>
         ensures given { is_disk self.new → OnOk result (given self.new ≡ given self.old ++ bytes.now) }
         ensures others { is_disk self.new → OnOk result ((durable self.new ≡ durable self.old) × (seen self.new ≡ seen self.old)) }
         ensures not_given { is_disk self.new → OnErr result (given self.new ≡ given self.old) }

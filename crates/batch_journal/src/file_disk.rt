@@ -97,7 +97,7 @@ impl Disk for FileDisk {
         done(self.file.sync_data())
     }
 
-    fn give(&mut self, _bytes: &[u8]) -> Result<(), DiskError> {
+    fn mark_given(&mut self, _bytes: &[u8]) -> Result<(), DiskError> {
         Ok(())
     }
 }

@@ -59,7 +59,7 @@ impl<D: Disk, K: Clock, C: Run> Groups<D, K, C> {
     /// The error is that this or an earlier call of the disk failed, that they aren't whole lines, or that one of them is a closing
     /// line. Then nothing is given on.
     // claim: kept and given (kept, unkept)
-    pub fn keep(&mut self, lines: &[u8]) -> Result<(), DiskError>
+    pub fn persist(&mut self, lines: &[u8]) -> Result<(), DiskError>
         ensures kept { D.is_disk self.new.disk → OnOk result (D.given self.new.disk ≡ D.given self.old.disk ++ lines.now) }
         ensures unkept { D.is_disk self.new.disk → OnErr result (D.given self.new.disk ≡ D.given self.old.disk) }
         ensures stays { D.is_disk self.new.disk → D.is_disk self.old.disk }
@@ -68,7 +68,7 @@ impl<D: Disk, K: Clock, C: Run> Groups<D, K, C> {
             return Err(DiskError::File);
         }
         self.write(lines)?;
-        self.give(lines)
+        self.mark_given(lines)
     }
 
     /// The disk. A crash at any moment of the run leaves all that was given on by then.
@@ -108,7 +108,7 @@ impl<D: Disk, K: Clock, C: Run> Groups<D, K, C> {
     }
 
     /// Notes that the next of the lines in the journal are given on.
-    pub(crate) fn give(&mut self, lines: &[u8]) -> Result<(), DiskError>
+    pub(crate) fn mark_given(&mut self, lines: &[u8]) -> Result<(), DiskError>
         requires works { self.old.failed ≡ false }
         requires within { length lines.now ≤ self.old.ready }
         requires next { D.is_disk self.old.disk → take (length lines.now) (not_given C.documents C.base (D.seen self.old.disk) (D.given self.old.disk)) ≡ lines.now }
@@ -124,7 +124,7 @@ impl<D: Disk, K: Clock, C: Run> Groups<D, K, C> {
         let ready = self.ready;
         self.failed = true;
         self.ready = 0;
-        self.disk.give(lines)?;
+        self.disk.mark_given(lines)?;
         self.failed = false;
         self.ready = ready - lines.len();
         Ok(())

@@ -61,7 +61,7 @@ fn moment_of(alloc: Global, durable: &[u8], seen: &[u8], given: &[u8]) -> Result
     })
 }
 
-fn keep(past: &mut Vec<Past>, moment: Past) -> Result<(), DiskError>
+fn push_moment(past: &mut Vec<Past>, moment: Past) -> Result<(), DiskError>
     ensures ok { OnOk result (past.new.items ≡ past.old.items ++ moment ∷ []) }
     ensures err { OnErr result (past.new.items ≡ past.old.items) }
 {
@@ -119,7 +119,7 @@ impl Disk for Memory {
         moment.len = len;
         let next = copy(self.alloc, &self.seen[..len])?;
         let durable = copy(self.alloc, &next)?;
-        keep(&mut self.past, moment)?;
+        push_moment(&mut self.past, moment)?;
         self.seen = next;
         self.durable = durable;
         Ok(())
@@ -129,7 +129,7 @@ impl Disk for Memory {
     fn append(&mut self, bytes: &[u8]) -> Result<(), DiskError> {
         let next = joined(self.alloc, &self.seen, bytes)?;
         let moment = moment_of(self.alloc, &self.durable, &next, &self.given)?;
-        keep(&mut self.past, moment)?;
+        push_moment(&mut self.past, moment)?;
         self.seen = next;
         Ok(())
     }
@@ -138,16 +138,16 @@ impl Disk for Memory {
     fn sync(&mut self) -> Result<(), DiskError> {
         let next = copy(self.alloc, &self.seen)?;
         let moment = moment_of(self.alloc, &self.durable, &self.seen, &self.given)?;
-        keep(&mut self.past, moment)?;
+        push_moment(&mut self.past, moment)?;
         self.durable = next;
         Ok(())
     }
 
     #[tactic(auto, using(crate::specs::Past::no_call))]
-    fn give(&mut self, bytes: &[u8]) -> Result<(), DiskError> {
+    fn mark_given(&mut self, bytes: &[u8]) -> Result<(), DiskError> {
         let next = joined(self.alloc, &self.given, bytes)?;
         let moment = moment_of(self.alloc, &self.durable, &self.seen, &next)?;
-        keep(&mut self.past, moment)?;
+        push_moment(&mut self.past, moment)?;
         self.given = next;
         Ok(())
     }

@@ -78,7 +78,7 @@ impl<R: Read, D: Disk, K: Clock, C: Run> Read for JournalReader<R, D, K, C> {
             return Ok(0);
         }
         self.fill()?;
-        self.give(buf)
+        self.read_ready_lines(buf)
     }
 }
 
@@ -118,7 +118,7 @@ impl<R: Read, D: Disk, K: Clock, C: Run> JournalReader<R, D, K, C> {
     }
 
     /// Gives as many of the journalled lines as there is room for.
-    fn give(&mut self, buf: &mut [u8]) -> io::Result<usize>
+    fn read_ready_lines(&mut self, buf: &mut [u8]) -> io::Result<usize>
         requires { self.old.groups.ready ≡ 0 → IsAtEnd (prepend_known (items self.old.window) (R.remaining self.old.inner)) }
         ensures bound { ReadsAtMost result buf.new }
         ensures bytes { ReadConsumes (prepend_known (items self.old.window) (R.remaining self.old.inner)) (prepend_known (items self.new.window) (R.remaining self.new.inner)) result buf.new }
@@ -134,7 +134,7 @@ impl<R: Read, D: Disk, K: Clock, C: Run> JournalReader<R, D, K, C> {
             return Err(io::Error::from(ErrorKind::InvalidInput));
         }
         let lines = &bytes[..count];
-        self.groups.give(lines)?;
+        self.groups.mark_given(lines)?;
         buf[..count].copy_from_slice(lines);
         self.window.consume(count);
         Ok(count)

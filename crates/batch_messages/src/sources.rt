@@ -26,13 +26,13 @@ impl Source {
         };
         let text = std::str::from_utf8(document).unwrap_or("");
         for (number, line) in text.lines().enumerate() {
-            source.note(number.saturating_add(1), line)?;
+            source.record_header(number.saturating_add(1), line)?;
         }
         Ok(source)
     }
 
     /// Keeps the number of the line if it is the header of an act's table.
-    fn note(&mut self, number: usize, line: &str) -> Result<(), AllocError> {
+    fn record_header(&mut self, number: usize, line: &str) -> Result<(), AllocError> {
         let lines = match header_in(line.trim()) {
             Some("procedure") => &mut self.procedures,
             Some("unit_procedure") => &mut self.unit_procedures,

@@ -67,7 +67,7 @@ impl Came {
 impl<P: Pipes + Drop> Input<P> {
     /// Checks how much of it came. A thread that has nothing more to do is joined.
     // claim: input of a desk
-    pub(crate) fn look<T: Threads>(&mut self, threads: &T, reader: &mut Reader) -> Came
+    pub(crate) fn poll<T: Threads>(&mut self, threads: &T, reader: &mut Reader) -> Came
         requires { IsInputOf P.given self.old reader.old }
         ensures reader { IsReaderKept reader.old reader.new }
         ensures input { IsInputKept P.given self.old self.new reader.new }

@@ -23,7 +23,7 @@ impl Pace {
     }
 
     /// Notes that so many lines are on their way.
-    pub(crate) fn note(&mut self, left: usize) {
+    pub(crate) fn record_lines_left(&mut self, left: usize) {
         if left == 0 || left < self.left {
             self.stalls = 0;
         } else {

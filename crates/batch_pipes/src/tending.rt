@@ -155,8 +155,8 @@ fn tend<T: Threads, O: Write + Drop, P: Pipes + Outputs<O> + Drop>(
 {
     drop_unseen(desk, &mut output.unseen, writer);
     let left = lines_left(desk, writer);
-    own.pace.note(left);
-    let came = input.look(threads, reader);
+    own.pace.record_lines_left(left);
+    let came = input.poll(threads, reader);
     output.join_if_done(threads);
     cut_if_failed(desk, own, came.fault(), output.fault());
     cut_if_stalled(desk, own, ends);

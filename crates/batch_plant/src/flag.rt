@@ -51,7 +51,7 @@ impl<G> FlagGate<G> {
 impl<G: Gate> Gate for FlagGate<G> {
     ghost passes = { λ _ _ _ _. Unit {0} };
 
-    fn pass(&mut self, turn: u64) -> bool {
-        !self.flag.is_raised() && self.gate.pass(turn)
+    fn lets_pass(&mut self, turn: u64) -> bool {
+        !self.flag.is_raised() && self.gate.lets_pass(turn)
     }
 }

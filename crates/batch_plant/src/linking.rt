@@ -47,7 +47,7 @@ pub fn link_loop<D: UnitDriver, G: Gate>(
         if link.left == 0 {
             return LoopEnd::Done;
         }
-        if gate.pass(turn) {
+        if gate.lets_pass(turn) {
             make_turn(alloc, &mut link, desk, units, cell);
         }
     }
@@ -85,7 +85,7 @@ fn take_out<D: UnitDriver>(link: &mut Link, desk: &mut Desk, units: &mut Simulat
     ensures links { (cell : Cell) → Links D.command_gives D.tick_gives cell (linked cell link.old desk.old units.old) (linked cell link.new desk.new units.new) }
     ensures left { Counts link.old desk.old link.new desk.new }
 {
-    if let Some(out) = desk.take() {
+    if let Some(out) = desk.pop_out() {
         obey(link, units, out);
     }
 }

@@ -9,7 +9,7 @@ use batch_keep::{BlockFault, KeepFault, StartFault};
 use batch_serve::ServeFault;
 use batch_status::StatusFault;
 use batch_streams::Noted;
-use batch_verdicts::{FILE_FAULT, NO_MEMORY, OUT_OF_MEMORY, complain, print, tell};
+use batch_verdicts::{FILE_FAULT, NO_MEMORY, OUT_OF_MEMORY, complain, print, write_and_flush};
 use batch_wording::shown;
 use std::alloc::{AllocError, Global};
 use std::fmt::Display;
@@ -113,7 +113,7 @@ pub(crate) fn tell_cut<E: Write>(
         return;
     };
     if let Ok(line) = cut_text(alloc, &path, cut) {
-        tell(errors, &line);
+        write_and_flush(errors, &line);
     }
 }
 

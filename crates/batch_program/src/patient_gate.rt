@@ -14,7 +14,7 @@ pub(crate) struct PatientGate(pub(crate) HostRuntime);
 impl Gate for PatientGate {
     ghost passes = { λ _ _ _ _. Unit {0} };
 
-    fn pass(&mut self, turn: u64) -> bool {
+    fn lets_pass(&mut self, turn: u64) -> bool {
         if turn % TURNS_TO_A_REST == TURNS_TO_A_REST - 1 {
             thread::sleep(&self.0, Duration::from_millis(1));
         }

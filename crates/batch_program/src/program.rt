@@ -17,7 +17,7 @@ use crate::statuses::serving_status;
 use batch_cli::Comments;
 use batch_serve::{NoRemarks, Remarking, ServeFault, SetFault, serve_remarked, serve_set};
 use batch_streams::Noted;
-use batch_verdicts::{Course, Documents, complain, run_words, tell};
+use batch_verdicts::{Course, Documents, complain, run_words, write_and_flush};
 use batch_verify::Cleared;
 use std::alloc::{AllocError, Global};
 use std::io;
@@ -238,7 +238,7 @@ pub(crate) fn tell_left<E: Write>(alloc: Global, quiet: bool, left: usize, error
         return;
     }
     if let Ok(line) = left_text(alloc, left) {
-        tell(errors, &line);
+        write_and_flush(errors, &line);
     }
 }
 

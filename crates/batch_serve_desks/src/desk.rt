@@ -85,7 +85,7 @@ impl Desk {
     }
 
     /// Queues the lines of the answers that it is due, as the desk at this place.
-    pub fn tell(&mut self, alloc: Global, answers: &[Run], desk: usize)
+    pub fn tell_answers(&mut self, alloc: Global, answers: &[Run], desk: usize)
         ensures { IsTold desk answers.now self.old self.new }
     {
         for answer in answers {
@@ -100,7 +100,7 @@ pub fn tell_each(alloc: Global, desks: &mut Vec<Desk>, answers: &[Run])
     ensures { AreTold answers.now desks.old.items desks.new.items }
 {
     for desk in 0..desks.len() {
-        desks[desk].tell(alloc, answers, desk);
+        desks[desk].tell_answers(alloc, answers, desk);
     }
 }
 

@@ -60,7 +60,7 @@ impl DeskServer {
     /// The error is that there is no memory for one run more. Then nothing is taken.
     // claim: lines of desks
     #[tactic(auto, using(crate::proofs::Gathering::own_other, crate::proofs::Gathering::of_desks_more))]
-    pub fn take(&mut self, desk: usize, lines: Vec<u8>) -> Result<(), AllocError>
+    pub fn push_lines(&mut self, desk: usize, lines: Vec<u8>) -> Result<(), AllocError>
         requires { desk < length self.old.desks.items }
         ensures taken { OnOk result ((other : OneDesk) → (get_or self.old.desks.items desk other).waiting.is_cut ≡ false
             → self.new.group.items ≡ with_run self.old.group.items desk lines.items) }
@@ -100,7 +100,7 @@ impl DeskServer {
     {
         check_whole(keep.is_served_again(), &self.group)?;
         let lines = runs_text(alloc, &self.names, self.last, &self.group)?;
-        keep.keep(&lines)?;
+        keep.persist(&lines)?;
         let answers = serve_runs(alloc, &mut self.engine, &self.group)?;
         check_want(keep.is_served_again(), &answers)?;
         let text = runs_text(alloc, &self.names, self.last, &answers)?;

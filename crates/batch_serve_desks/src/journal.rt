@@ -14,8 +14,8 @@ impl<D: Disk, K: Clock, C: Run> Keep for Groups<D, K, C> {
 
     ghost again = { true };
 
-    fn keep(&mut self, lines: &[u8]) -> Result<(), KeepFault> {
-        match Groups::keep(self, lines) {
+    fn persist(&mut self, lines: &[u8]) -> Result<(), KeepFault> {
+        match Groups::persist(self, lines) {
             Ok(()) => Ok(()),
             Err(_) => Err(KeepFault),
         }

@@ -21,7 +21,7 @@ pub trait Keep {
     /// Keeps the lines of a turn, as one group. At Ok they are safe.
     ///
     /// The error is that they can't be kept. From then on no desk may be told anything.
-    fn keep(&mut self, lines: &[u8]) -> Result<(), KeepFault>
+    fn persist(&mut self, lines: &[u8]) -> Result<(), KeepFault>
         ensures kept { is_safe self.new → OnOk result (kept self.new ≡ kept self.old ++ lines.now) }
         ensures unkept { is_safe self.new → OnErr result (kept self.new ≡ kept self.old) }
         ensures stays { is_safe self.new → is_safe self.old };
@@ -49,7 +49,7 @@ impl Keep for NoJournal {
 
     ghost again = { false };
 
-    fn keep(&mut self, _lines: &[u8]) -> Result<(), KeepFault> {
+    fn persist(&mut self, _lines: &[u8]) -> Result<(), KeepFault> {
         Ok(())
     }
 

@@ -124,7 +124,7 @@ impl DeskServer {
     {
         match ring.pop() {
             Ok(Sent::Lines(lines)) => {
-                self.take(desk, lines.into_text())?;
+                self.push_lines(desk, lines.into_text())?;
                 Ok(false)
             }
             Ok(Sent::End) => Ok(true),

@@ -110,7 +110,7 @@ impl<T: Drop> Waiting<T> {
     /// Removes the line that was queued first, and returns it.
     // claim: waiting for a desk
     #[tactic(auto, using(crate::proofs::Accounts::account_front))]
-    pub fn take(&mut self) -> Option<T>
+    pub fn pop(&mut self) -> Option<T>
         ensures lines { self.old.lines ≡ option_to_list result ++ self.new.lines }
         ensures none { IsNone result ↔ (self.old.lines ≡ []) }
         ensures lag { self.new.lag ≡ self.old.lag }

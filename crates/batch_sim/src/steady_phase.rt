@@ -24,7 +24,7 @@ impl SteadyPhase {
     }
 
     /// Takes an order. A start has it run all the ticks; a command is passed over unless the phase was started and isn't over.
-    pub(crate) fn take(&mut self, order: Order, ticks: u64)
+    pub(crate) fn apply_order(&mut self, order: Order, ticks: u64)
         ensures { self.new ≡ ordered ticks order self.old }
     {
         match order {
@@ -41,7 +41,7 @@ impl SteadyPhase {
     }
 
     /// A moment passes.
-    pub(crate) fn pass(&mut self)
+    pub(crate) fn count_down(&mut self)
         ensures { self.new ≡ passed self.old }
     {
         if self.state == State::Running {

@@ -51,7 +51,7 @@ impl UnitDriver for SteadyUnit {
     // claim: steady orders
     fn command(&mut self, phase: u16, order: Order) {
         if let Some(phase) = self.phases.get_mut(usize::from(phase)) {
-            phase.take(order, self.ticks);
+            phase.apply_order(order, self.ticks);
         }
     }
 
@@ -66,16 +66,16 @@ fn tick(phases: &mut [SteadyPhase]) -> Option<(u16, Report)>
     requires { length phases.old < 2 ^ 16 }
     ensures { Reports (map passed phases.old) result phases.new }
 {
-    pass(phases);
+    count_down_each(phases);
     report(phases)
 }
 
 /// A moment passes for each phase.
-fn pass(phases: &mut [SteadyPhase])
+fn count_down_each(phases: &mut [SteadyPhase])
     ensures { phases.new ≡ map passed phases.old }
 {
     for phase in phases.iter_mut() {
-        phase.pass();
+        phase.count_down();
     }
 }
 

@@ -35,7 +35,7 @@ impl Batches {
     }
 
     /// Applies an out to the listed batches.
-    pub fn tell(&mut self, alloc: Global, told: Told<'_>) -> Result<(), NoMemory>
+    pub fn apply_out(&mut self, alloc: Global, told: Told<'_>) -> Result<(), NoMemory>
         ensures { OnOk result (BatchesAfter self.old (out_of told.entry) self.new) }
     {
         match told {

@@ -49,21 +49,21 @@ impl Course {
     }
 
     /// Reads a line, which comes without its line feed.
-    pub fn take(&mut self, alloc: Global, line: &[u8]) -> Result<(), LineFault>
+    pub fn apply_line(&mut self, alloc: Global, line: &[u8]) -> Result<(), LineFault>
         ensures { Takes self.old line.now result self.new }
     {
         match read_record_line(line) {
-            Ok(Some(told)) => Ok(self.tell(alloc, told)?),
+            Ok(Some(told)) => Ok(self.apply_out(alloc, told)?),
             Ok(None) => Ok(self.mark(alloc, read_mark(line))?),
             Err(NoRecordLine) => Err(LineFault::NoRecord),
         }
     }
 
-    fn tell(&mut self, alloc: Global, told: Told<'_>) -> Result<(), NoMemory>
+    fn apply_out(&mut self, alloc: Global, told: Told<'_>) -> Result<(), NoMemory>
         ensures { OnOk result ((stage : Stage) → IsAt self.old stage → IsAt self.new (told_more stage (out_of told.entry))) }
     {
         self.block = None;
-        self.status.tell(alloc, told)
+        self.status.apply_out(alloc, told)
     }
 
     fn mark(&mut self, alloc: Global, mark: Option<Mark<'_>>) -> Result<(), NoMemory>

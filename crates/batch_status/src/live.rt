@@ -70,7 +70,7 @@ impl LivePhases {
     }
 
     /// Applies an out to the live phases.
-    pub fn tell(&mut self, alloc: Global, told: Told<'_>) -> Result<(), NoMemory>
+    pub fn apply_out(&mut self, alloc: Global, told: Told<'_>) -> Result<(), NoMemory>
         ensures { OnOk result (LiveAfter self.old.phases.items (out_of told.entry) self.new.phases.items) }
     {
         match told {

@@ -110,7 +110,7 @@ impl Reading {
     {
         put(&mut self.line, end)?;
         self.count = self.count.saturating_add(1);
-        match self.course.take(alloc, self.line.as_slice()) {
+        match self.course.apply_line(alloc, self.line.as_slice()) {
             Ok(()) => {
                 self.line.clear();
                 Ok(())

@@ -36,12 +36,12 @@ impl Status {
 
     /// Applies one out more. At Err the out may be applied in part, and the record must be read anew.
     // claim: told out by out
-    pub fn tell(&mut self, alloc: Global, told: Told<'_>) -> Result<(), NoMemory>
+    pub fn apply_out(&mut self, alloc: Global, told: Told<'_>) -> Result<(), NoMemory>
         ensures { OnOk result ((tale : Tale) → Keeps self.old tale → Keeps self.new (tale_after tale (out_of told.entry))) }
     {
-        self.batches.tell(alloc, told)?;
+        self.batches.apply_out(alloc, told)?;
         self.holders.tell_holders(alloc, told)?;
         self.waiters.tell_waiters(alloc, told)?;
-        self.live.tell(alloc, told)
+        self.live.apply_out(alloc, told)
     }
 }

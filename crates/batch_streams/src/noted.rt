@@ -30,7 +30,7 @@ impl<S> Noted<S> {
         self.failure
     }
 
-    fn note<T>(&mut self, outcome: &io::Result<T>)
+    fn record_failure<T>(&mut self, outcome: &io::Result<T>)
         ensures { self.new.stream ≡ self.old.stream }
     {
         if let Err(error) = outcome {
@@ -44,7 +44,7 @@ impl<R: Read> Read for Noted<R> {
 
     fn read(&mut self, buffer: &mut [u8]) -> io::Result<usize> {
         let result = self.stream.read(buffer);
-        self.note(&result);
+        self.record_failure(&result);
         result
     }
 }
@@ -54,13 +54,13 @@ impl<W: Write> Write for Noted<W> {
 
     fn write(&mut self, bytes: &[u8]) -> io::Result<usize> {
         let result = self.stream.write(bytes);
-        self.note(&result);
+        self.record_failure(&result);
         result
     }
 
     fn flush(&mut self) -> io::Result<()> {
         let result = self.stream.flush();
-        self.note(&result);
+        self.record_failure(&result);
         result
     }
 }

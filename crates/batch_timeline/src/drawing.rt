@@ -115,7 +115,7 @@ fn spot_of(
     let resource = bar.share.resource;
     match rows.get_mut(resource) {
         Some(row) => {
-            let lane = row.take(from, to)?;
+            let lane = row.occupy_lane(from, to)?;
             Ok(Some(Spot {
                 resource,
                 lane,

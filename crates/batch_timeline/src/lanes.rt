@@ -9,7 +9,7 @@ pub struct Lanes {
 
 impl Lanes {
     /// Takes the first lane with room from the one point on, up to the other, and returns its number. If there is none, adds a lane.
-    pub fn take(&mut self, from: u64, to: u64) -> Result<usize, AllocError> {
+    pub fn occupy_lane(&mut self, from: u64, to: u64) -> Result<usize, AllocError> {
         match self.first_free(from) {
             Some(number) => {
                 if let Some(end) = self.ends.get_mut(number) {

@@ -94,9 +94,9 @@ fn take_line(
     ensures { TakesLine line.now number result }
 {
     match read_record_line(line) {
-        Ok(Some(told)) => Ok(timeline.tell(alloc, told)?),
+        Ok(Some(told)) => Ok(timeline.apply_out(alloc, told)?),
         Ok(None) => match read_remark(line) {
-            Some(remark) => Ok(timeline.note(alloc, remark)?),
+            Some(remark) => Ok(timeline.apply_remark(alloc, remark)?),
             None => Ok(()),
         },
         Err(NoRecordLine) => Err(RecordFault::NoRecord(number)),

@@ -49,7 +49,7 @@ impl Timeline {
     }
 
     /// Applies a comment. A clock that goes back is passed over.
-    pub fn note(&mut self, alloc: Global, remark: Remark<'_>) -> Result<(), AllocError> {
+    pub fn apply_remark(&mut self, alloc: Global, remark: Remark<'_>) -> Result<(), AllocError> {
         match remark {
             Remark::At(time) => {
                 self.now = self.now.max(time);
@@ -67,7 +67,7 @@ impl Timeline {
     }
 
     /// Applies the contents of a line.
-    pub fn tell(&mut self, alloc: Global, told: Told<'_>) -> Result<(), AllocError> {
+    pub fn apply_out(&mut self, alloc: Global, told: Told<'_>) -> Result<(), AllocError> {
         self.block = None;
         match told {
             Told::Asked(claim) => self.begin(alloc, claim, true),

@@ -80,7 +80,7 @@ pub(crate) fn read_cell<D: Documents>(
 {
     let bytes = documents.read(alloc, path, MAX_DOCUMENT_LEN)?;
     let cell = judge_cell(alloc, path, &bytes)?;
-    digest.take(&bytes);
+    digest.push_document(&bytes);
     Ok(cell)
 }
 
@@ -98,7 +98,7 @@ fn read_recipe<D: Documents>(
 {
     let bytes = documents.read(alloc, path, MAX_DOCUMENT_LEN)?;
     let recipe = judge_recipe(alloc, path, &bytes)?;
-    digest.take(&bytes);
+    digest.push_document(&bytes);
     sources.push(Source::of(alloc, path, &bytes)?)?;
     Ok(recipe)
 }

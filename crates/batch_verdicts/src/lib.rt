@@ -39,7 +39,7 @@ pub use refusal::{DocumentRefusal, Halt, RefusalKind};
 pub use running::{
     FILE_FAULT, NO_MEMORY, OUT_OF_MEMORY, SUCCESS, USAGE, complain, print, print_bytes, run_words,
 };
-pub use saying::tell;
+pub use saying::write_and_flush;
 pub use texts::{
     certificate_refused, certificate_text, document_text, fault_text, graph_text, refusal_text,
 };

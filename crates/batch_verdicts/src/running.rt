@@ -15,7 +15,7 @@ use crate::digested::clear_digested;
 use crate::documents::{Documents, clear_documents, show_documents, verify_documents};
 use crate::every::{check_asked, draw_asked};
 use crate::refusal::{DocumentRefusal, Halt};
-use crate::saying::{say, say_every};
+use crate::saying::{say_every, write_sentence};
 use batch_cli::{
     AuditWords, CommandFault, CommandWords, Comments, DeskWords, Judgement, PlantOptions, Source,
     Subcommand, parse,
@@ -96,12 +96,14 @@ fn run_command<D: Documents, O: Write, E: Write>(
 {
     let quiet = words.quiet;
     match words.command {
-        Subcommand::Judge(judgement) => match judge(alloc, documents, &judgement, quiet, errors) {
-            Ok(text) => Course::Ends(print(output, errors, &text, SUCCESS)),
-            Err(halt) => Course::Ends(announce(alloc, quiet, &halt, output, errors)),
-        },
+        Subcommand::Judge(judgement) => {
+            match run_judgement(alloc, documents, &judgement, quiet, errors) {
+                Ok(text) => Course::Ends(print(output, errors, &text, SUCCESS)),
+                Err(halt) => Course::Ends(announce(alloc, quiet, &halt, output, errors)),
+            }
+        }
         Subcommand::Write { path, judgement } => {
-            match judge(alloc, documents, &judgement, quiet, errors) {
+            match run_judgement(alloc, documents, &judgement, quiet, errors) {
                 Ok(text) => Course::Writes { path, text },
                 Err(halt) => Course::Ends(announce(alloc, quiet, &halt, output, errors)),
             }
@@ -116,7 +118,7 @@ fn run_command<D: Documents, O: Write, E: Write>(
             certificate,
             recipes,
             comments,
-        } => keep(
+        } => serve_with_journal(
             alloc,
             quiet,
             journal,
@@ -257,7 +259,7 @@ fn remark<D: Documents, O: Write, E: Write>(
 }
 
 /// Has the set of documents served with a journal in the file at the path.
-fn keep<D: Documents, O: Write, E: Write>(
+fn serve_with_journal<D: Documents, O: Write, E: Write>(
     alloc: Global,
     quiet: bool,
     path: String,
@@ -285,7 +287,7 @@ fn keep<D: Documents, O: Write, E: Write>(
 }
 
 /// The output of a judgement. It warns of its documents unless quiet is asked for.
-fn judge<D: Documents, E: Write>(
+fn run_judgement<D: Documents, E: Write>(
     alloc: Global,
     documents: &D,
     judgement: &Judgement,
@@ -373,7 +375,7 @@ fn refuse<O: Write, E: Write>(
 {
     match write_out(output, refusal.text.as_bytes()) {
         Ok(()) => {
-            say(alloc, quiet, &refusal.sentence, errors);
+            write_sentence(alloc, quiet, &refusal.sentence, errors);
             refusal.kind.status()
         }
         Err(error) => unwritten(errors, error),

@@ -10,7 +10,12 @@ use std::io::Write;
 
 /// Writes the sentence of a refusal, unless quiet is asked for. If the line can't be written, the rest of it is left out.
 // claim: sentences on the errors
-pub(crate) fn say<E: Write>(alloc: Global, quiet: bool, sentence: &Sentence, errors: &mut E)
+pub(crate) fn write_sentence<E: Write>(
+    alloc: Global,
+    quiet: bool,
+    sentence: &Sentence,
+    errors: &mut E,
+)
     ensures { IsSaid quiet sentence.now (E.contents errors.old) (E.contents errors.new) }
 {
     if !quiet {
@@ -22,7 +27,7 @@ fn write_line<E: Write>(alloc: Global, sentence: &Sentence, errors: &mut E)
     ensures { WritesFront (E.contents errors.old) (E.contents errors.new) (line_of sentence.now) }
 {
     if let Ok(line) = format!(in alloc; "batchd: {}\n", sentence.text) {
-        tell(errors, &line);
+        write_and_flush(errors, &line);
     }
 }
 
@@ -46,7 +51,7 @@ fn write_lines<E: Write>(alloc: Global, refusals: &[DocumentRefusal], errors: &m
     ensures { WritesFront (E.contents errors.old) (E.contents errors.new) (flat_map (λ r. line_of r.sentence) refusals.now) }
 {
     if let Ok(text) = lines_text(alloc, refusals) {
-        tell(errors, &text);
+        write_and_flush(errors, &text);
     }
 }
 
@@ -68,7 +73,7 @@ fn line_of(alloc: Global, sentence: &Sentence) -> Result<String, AllocError>
 }
 
 /// Writes the line and flushes it. If it can't be written, the rest of it is left out.
-pub fn tell<E: Write>(errors: &mut E, line: &str)
+pub fn write_and_flush<E: Write>(errors: &mut E, line: &str)
     ensures { WritesFront (E.contents errors.old) (E.contents errors.new) line.now }
 {
     write_front(errors, line.as_bytes());

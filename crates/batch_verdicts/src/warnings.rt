@@ -4,7 +4,7 @@ ghost use Rattle.batch_verdicts.specs.Saying.{IsWarned, WritesFront, told_line};
 ghost use Rattle.batch_verdicts.specs.WarningTexts.{lines_on, recipe_line, recipe_text, recipes_text, unit_line, units_text, warnings_text};
 ghost use Rattle.batch_messages.specs.WarningWords.{said_at};
 
-use crate::saying::tell;
+use crate::saying::write_and_flush;
 use batch_cell::Cell;
 use batch_messages::{recipe_warning, unit_warning};
 use batch_recipe::Recipe;
@@ -44,7 +44,7 @@ fn write_warnings<E: Write>(
         (warnings_text path.now cell.now (map string_bytes paths.now) recipes.now) }
 {
     if let Ok(text) = warnings_text(alloc, path, cell, paths, recipes) {
-        tell(errors, &text);
+        write_and_flush(errors, &text);
     }
 }
 

@@ -185,7 +185,7 @@ impl RecipePlaces {
             }
             put_step(&mut self.text, above, child)
         };
-        self.keep(node, end);
+        self.push_node(node, end);
         Some(end)
     }
 
@@ -234,7 +234,7 @@ impl RecipePlaces {
     }
 
     /// Keeps the node as the last one, unless as many are kept as may be.
-    fn keep(&mut self, node: u16, end: usize)
+    fn push_node(&mut self, node: u16, end: usize)
         requires { end ≤ 408 }
         ensures { IsKept node end self.old self.new }
     {

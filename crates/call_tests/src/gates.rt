@@ -12,7 +12,7 @@ pub(crate) struct Open;
 impl Gate for Open {
     ghost passes = { λ _ _ _ _. Unit {0} };
 
-    fn pass(&mut self, _turn: u64) -> bool {
+    fn lets_pass(&mut self, _turn: u64) -> bool {
         thread::yield_now();
         true
     }
@@ -30,7 +30,7 @@ pub(crate) struct Meeting {
 impl Gate for Meeting {
     ghost passes = { λ _ _ _ _. Unit {0} };
 
-    fn pass(&mut self, turn: u64) -> bool {
+    fn lets_pass(&mut self, turn: u64) -> bool {
         if turn == 0 {
             self.mine.store(1, Ordering::SeqCst);
             for _ in 0..10_000_000u64 {

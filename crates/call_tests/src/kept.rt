@@ -73,7 +73,7 @@ impl Disk for Pages {
         Ok(())
     }
 
-    fn give(&mut self, _bytes: &[u8]) -> Result<(), DiskError> {
+    fn mark_given(&mut self, _bytes: &[u8]) -> Result<(), DiskError> {
         Ok(())
     }
 }

@@ -71,7 +71,7 @@ impl Left {
     /// Takes an out that is left.
     #[tactic(auto, using(crate::proofs::Seating::left_stays))]
     fn take(&mut self) -> Option<Out> {
-        self.inbox.take()
+        self.inbox.pop_out()
     }
 
     /// Closes the first port.

@@ -12,7 +12,7 @@ struct Open(bool);
 impl Gate for Open {
     ghost passes = { λ _ _ _ _. Unit {0} };
 
-    fn pass(&mut self, _turn: u64) -> bool {
+    fn lets_pass(&mut self, _turn: u64) -> bool {
         self.0
     }
 }

@@ -49,7 +49,7 @@ fn send(alloc: Global, desk: &mut Desk, line: &str) -> Result<String, Fail>
 fn take(alloc: Global, cleared: &Cleared, desk: &mut Desk) -> Result<String, Fail>
     ensures { desk_rings desk.new ≡ desk_rings desk.old }
 {
-    let out = desk.take();
+    let out = desk.pop_out();
     text_of(alloc, cleared, out, "nothing\n")
 }
 

@@ -8,11 +8,11 @@ use Rattle.batch_check.proofs.graph.graph_of.Goals as goal
 pub edges_of-requires : goal.edges_of-requires
 edges_of-requires c = set_length c.args.cell.now c.args.recipes.now ((c.is_recipe_set.ensures c.args.cell.now).0 c.if-not-is_recipe_set.false)
 
-pub take-requires : goal.take-requires
-take-requires c =
+pub add_each-requires : goal.add_each-requires
+add_each-requires c =
     let within : HasEndsBelow (length (resources_of c.args.cell.now)) c.args.circle.now = standing_within c.args.cell.now c.args.recipes.now c.args.circle.now c.requires in
     rw c.in_ok-set.ensures.sized within
 
 pub returns-clause-edges : goal.returns-clause-edges
 returns-clause-edges c =
-    edges_with c.args.cell.now c.args.recipes.now c.in_ok-set.set c.take.new.set c.args.circle.now c.in_ok-set.ensures.edges c.requires c.in_ok-take.ensures
+    edges_with c.args.cell.now c.args.recipes.now c.in_ok-set.set c.add_each.new.set c.args.circle.now c.in_ok-set.ensures.edges c.requires c.in_ok-add_each.ensures

@@ -2,7 +2,7 @@ use Rattle.std.proofs.Common.{refl}
 use Rattle.batch_desk.proofs.ConsoleTurns.{begins}
 use Rattle.batch_desk.proofs.Gates.{asked_once_more}
 use Rattle.batch_desk.proofs.console_turns.console_loop.Goals as goal
-use Rattle.batch_desk.proofs.console_turns.console_loop.Goals.{then-pass, else-pass}
+use Rattle.batch_desk.proofs.console_turns.console_loop.Goals.{then-lets_pass, else-lets_pass}
 
 pub loop-turn-init : goal.loop-turn-init
 loop-turn-init g c = record { follows = begins _ _ _ _ c.new-console.ensures; asked = refl }
@@ -10,8 +10,8 @@ loop-turn-init g c = record { follows = begins _ _ _ _ c.new-console.ensures; as
 pub loop-turn-preserved : goal.loop-turn-preserved
 loop-turn-preserved g c =
     let was = c.loop-turn.invariant in
-    let asked = asked_once_more g.G.Gate.passes c.loop-turn.turn _ c.loop-turn.gate _ c.pass.result was.asked c.pass.ensures in
-    elim c.if-pass.branch [
-      | then-pass w ↦ rw (w.desk-is, w.console-is) (record { follows = w.take_turn.ensures _ _ was.follows; asked = asked })
-      | else-pass w ↦ rw (w.desk-is, w.console-is) (record { follows = was.follows; asked = asked })
+    let asked = asked_once_more g.G.Gate.passes c.loop-turn.turn _ c.loop-turn.gate _ c.lets_pass.result was.asked c.lets_pass.ensures in
+    elim c.if-lets_pass.branch [
+      | then-lets_pass w ↦ rw (w.desk-is, w.console-is) (record { follows = w.take_turn.ensures _ _ was.follows; asked = asked })
+      | else-lets_pass w ↦ rw (w.desk-is, w.console-is) (record { follows = was.follows; asked = asked })
     ]

@@ -3,7 +3,7 @@ use Rattle.batch_desk.proofs.Gates.{asked_once_more}
 use Rattle.batch_desk.proofs.HubTurns.{as_many, history_grows, history_same, prefix_same}
 use Rattle.batch_desk.proofs.Moves.{prefix_then}
 use Rattle.batch_desk.proofs.hub_turns.hub_loop.Goals as goal
-use Rattle.batch_desk.proofs.hub_turns.hub_loop.Goals.{then-pass, else-pass}
+use Rattle.batch_desk.proofs.hub_turns.hub_loop.Goals.{then-lets_pass, else-lets_pass}
 
 pub loop-number-init : goal.loop-number-init
 loop-number-init g c = record { rings = refl; outlines = refl; cleared = refl; history = history_same _ _; record_grows = prefix_same _; asked = refl }
@@ -11,9 +11,9 @@ loop-number-init g c = record { rings = refl; outlines = refl; cleared = refl; h
 pub loop-number-preserved : goal.loop-number-preserved
 loop-number-preserved g c =
     let was = c.loop-number.invariant in
-    let asked = asked_once_more g.G.Gate.passes c.loop-number.number _ c.loop-number.gate _ c.pass.result was.asked c.pass.ensures in
-    elim c.if-pass.branch [
-      | then-pass w ↦ rw w.hub-is (record {
+    let asked = asked_once_more g.G.Gate.passes c.loop-number.number _ c.loop-number.gate _ c.lets_pass.result was.asked c.lets_pass.ensures in
+    elim c.if-lets_pass.branch [
+      | then-lets_pass w ↦ rw w.hub-is (record {
         rings = w.turn.ensures.rings ∙ was.rings;
         outlines = w.turn.ensures.outlines ∙ was.outlines;
         cleared = w.turn.ensures.cleared ∙ was.cleared;
@@ -22,7 +22,7 @@ loop-number-preserved g c =
         record_grows = prefix_then _ _ _ was.record_grows w.turn.ensures.record;
         asked = asked;
       })
-      | else-pass w ↦ rw w.hub-is (record {
+      | else-lets_pass w ↦ rw w.hub-is (record {
         rings = was.rings;
         outlines = was.outlines;
         cleared = was.cleared;

@@ -10,13 +10,13 @@ returns-clause-desk g c = handed_then_kept _ _ _ _ _ _ c.drop_unseen.ensures c.l
 
 pub returns-clause-reader : goal.returns-clause-reader
 returns-clause-reader g c =
-    let kept = c.look-came.ensures.reader in
+    let kept = c.poll-came.ensures.reader in
     record { same = kept.same; ring = kept.ring; ended = kept.ended }
 
 pub returns-clause-input : goal.returns-clause-input
 returns-clause-input g c =
-    let kept = c.look-came.ensures.input in
-    record { of = input_on g.P.Pipes.given c.look-came.new.self c.look-came.new.reader _ ((refl, refl, refl, refl), refl) kept.of; path = kept.path }
+    let kept = c.poll-came.ensures.input in
+    record { of = input_on g.P.Pipes.given c.poll-came.new.self c.poll-came.new.reader _ ((refl, refl, refl, refl), refl) kept.of; path = kept.path }
 
 pub returns-clause-output : goal.returns-clause-output
 returns-clause-output g c =
@@ -30,4 +30,4 @@ pub returns-clause-done : goal.returns-clause-done
 returns-clause-done g c = λ no_sends no_waits uncut.
     let kept = kept_twice _ _ _ c.cut_if_failed.ensures c.cut_if_stalled.ensures in
     let (ended, whole) = c.outlook_of.ensures.sends no_sends uncut in
-    (ended, kept.waits uncut ∙ c.lines_left-left.ensures.none (c.outlook_of.ensures.waits no_waits uncut), c.look-came.ensures.whole whole)
+    (ended, kept.waits uncut ∙ c.lines_left-left.ensures.none (c.outlook_of.ensures.waits no_waits uncut), c.poll-came.ensures.whole whole)

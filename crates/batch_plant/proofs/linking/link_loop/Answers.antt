@@ -1,7 +1,7 @@
 use Rattle.std.proofs.Common.{arith}
 use Rattle.batch_plant.proofs.Deeds.{first_known, no_deed, then_links}
 use Rattle.batch_plant.proofs.linking.link_loop.Goals as goal
-use Rattle.batch_plant.proofs.linking.link_loop.Goals.{then-pass, else-pass}
+use Rattle.batch_plant.proofs.linking.link_loop.Goals.{then-lets_pass, else-lets_pass}
 
 pub loop-turn-init : goal.loop-turn-init
 loop-turn-init g c = record {
@@ -14,8 +14,8 @@ loop-turn-init g c = record {
 pub loop-turn-preserved : goal.loop-turn-preserved
 loop-turn-preserved g c =
     let was = c.loop-turn.invariant in
-    elim c.if-pass.branch [
-      | then-pass w ↦ rw (w.desk-is, w.units-is, w.link-is) (
+    elim c.if-lets_pass.branch [
+      | then-lets_pass w ↦ rw (w.desk-is, w.units-is, w.link-is) (
           let more = was.more in
           let left = was.left in
           let more_now = w.make_turn.ensures.left.more in
@@ -26,5 +26,5 @@ loop-turn-preserved g c =
             more = omega (arith, more, more_now);
             left = omega (arith, more, left, more_now, left_now);
           })
-      | else-pass w ↦ rw (w.desk-is, w.units-is, w.link-is) was
+      | else-lets_pass w ↦ rw (w.desk-is, w.units-is, w.link-is) was
     ]

@@ -12,16 +12,16 @@ returns-in-Ok g c =
 pub returns-in-Judge : goal.returns-in-Judge
 returns-in-Judge g c = rw c.in-Judge.is (halts c.in-Err.halt _ _ (rw c.in-Judge.judgement-is at c.in-Err.ensures.halted) c.announce.ensures)
 
-pub returns-in-Ok-judge : goal.returns-in-Ok-judge
-returns-in-Ok-judge g c =
+pub returns-in-Ok-run_judgement : goal.returns-in-Ok-run_judgement
+returns-in-Ok-run_judgement g c =
     rw c.in-Write.is
-    (writes (judgement_of c.in-Write.judgement) c.in-Write.path c.in-Ok-judge.text refl
-    (rw c.in-Write.judgement-is at c.in-Ok-judge.ensures.verdict) (Keeps-refl _))
+    (writes (judgement_of c.in-Write.judgement) c.in-Write.path c.in-Ok-run_judgement.text refl
+    (rw c.in-Write.judgement-is at c.in-Ok-run_judgement.ensures.verdict) (Keeps-refl _))
 
 pub returns-in-Write : goal.returns-in-Write
 returns-in-Write g c =
     rw c.in-Write.is
-    (halts c.in-Err-judge.halt _ _ (rw c.in-Write.judgement-is at c.in-Err-judge.ensures.halted) c.announce-in-Err-judge.ensures)
+    (halts c.in-Err-run_judgement.halt _ _ (rw c.in-Write.judgement-is at c.in-Err-run_judgement.ensures.halted) c.announce-in-Err-run_judgement.ensures)
 
 pub returns-in-Serve : goal.returns-in-Serve
 returns-in-Serve g c = rw c.in-Serve.is (rw c.in-Serve.source-is at c.serve.ensures)
@@ -32,7 +32,7 @@ returns-in-Remark g c = rw c.in-Remark.is (rw (c.in-Remark.source-is, c.in-Remar
 pub returns-in-Keep : goal.returns-in-Keep
 returns-in-Keep g c =
     rw c.in-Keep.is
-    (rw (c.deref-in-Keep.ensures, c.deref-in-Keep-2.ensures, c.deref-in-Keep-3.ensures.value, c.in-Keep.journal-is, c.in-Keep.cell-is, c.in-Keep.certificate-is, c.in-Keep.recipes-is, c.in-Keep.comments-is) at c.keep.ensures)
+    (rw (c.deref-in-Keep.ensures, c.deref-in-Keep-2.ensures, c.deref-in-Keep-3.ensures.value, c.in-Keep.journal-is, c.in-Keep.cell-is, c.in-Keep.certificate-is, c.in-Keep.recipes-is, c.in-Keep.comments-is) at c.serve_with_journal.ensures)
 
 pub returns-in-Status : goal.returns-in-Status
 returns-in-Status g c = rw c.in-Status.is (reads c.in-Status.path refl (Keeps-refl _) (Keeps-refl _))

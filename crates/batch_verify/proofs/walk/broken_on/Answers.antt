@@ -25,8 +25,8 @@ pub bounds-faults-node : goal.bounds-faults-node
 bounds-faults-node c =
     omega (arith, c.len-node.ensures, c.loop-entry.invariant.size, c.loop-entry-test.true, ap length c.deref-entry-items.ensures.value, as_many c.args.recipe.now, c.requires.faults.as_many)
 
-pub look-requires : goal.look-requires
-look-requires c =
+pub enter_node-requires : goal.enter_node-requires
+enter_node-requires c =
     let cell = c.args.cell.now in
     let r = c.args.recipe.now in
     let ranking = ranking_in cell (option_copied c.args.ranks) in

@@ -180,8 +180,8 @@ reach_chosen-offset_bounds-stages-n t c = let h = within _ _ _ _ (choice-standin
 pub reach_chosen-reach-requires : goal.reach_chosen-reach-requires
 reach_chosen-reach-requires t c = (omega arith, (choice-standing _ _ _ _ _ _ c.requires.standing, c.requires.fits))
 
-pub reach_chosen-reach-requires-then-judge : goal.reach_chosen-reach-requires-then-judge
-reach_chosen-reach-requires-then-judge t c = (omega arith, (choice-standing _ _ _ _ _ _ c.requires.standing, c.requires.fits))
+pub reach_chosen-reach-requires-then-condition_holds : goal.reach_chosen-reach-requires-then-condition_holds
+reach_chosen-reach-requires-then-condition_holds t c = (omega arith, (choice-standing _ _ _ _ _ _ c.requires.standing, c.requires.fits))
 
 pub reach_chosen-reach_chosen-requires : goal.reach_chosen-reach_chosen-requires
 reach_chosen-reach_chosen-requires t c =
@@ -196,17 +196,17 @@ reach_chosen-returns-then-next-end t c = record {
   neatly = neatly-chosen _ _ _ _ _ _ c.requires.standing _ _ _ _ c.reach.ensures.reached.outside c.reach.ensures.reached.own c.reach.ensures.neatly;
 }
 
-pub reach_chosen-returns-then-judge : goal.reach_chosen-returns-then-judge
-reach_chosen-returns-then-judge t c = record {
-  reached = choice-taken _ _ _ _ _ _ _ c.requires.standing _ _ c.if-next-end.false c.if-judge.ensures c.reach-then-judge.ensures.reached;
-  neatly = neatly-chosen _ _ _ _ _ _ c.requires.standing _ _ _ _ c.reach-then-judge.ensures.reached.outside c.reach-then-judge.ensures.reached.own c.reach-then-judge.ensures.neatly;
+pub reach_chosen-returns-then-condition_holds : goal.reach_chosen-returns-then-condition_holds
+reach_chosen-returns-then-condition_holds t c = record {
+  reached = choice-taken _ _ _ _ _ _ _ c.requires.standing _ _ c.if-next-end.false c.if-condition_holds.ensures c.reach-then-condition_holds.ensures.reached;
+  neatly = neatly-chosen _ _ _ _ _ _ c.requires.standing _ _ _ _ c.reach-then-condition_holds.ensures.reached.outside c.reach-then-condition_holds.ensures.reached.own c.reach-then-condition_holds.ensures.neatly;
 }
 
 pub reach_chosen-returns : goal.reach_chosen-returns
 reach_chosen-returns t c =
     let h = within _ _ _ _ (choice-standing _ _ _ _ _ _ c.requires.standing) in
     record {
-      reached = choice-passed _ _ _ _ _ _ _ c.requires.standing _ _ (omega arith) c.if-next-end.false c.if-judge.ensures c.reach_chosen.ensures.reached;
+      reached = choice-passed _ _ _ _ _ _ _ c.requires.standing _ _ (omega arith) c.if-next-end.false c.if-condition_holds.ensures c.reach_chosen.ensures.reached;
       neatly = neatly-passed _ _ _ _ _ _ c.requires.standing _ _ _ _ (omega arith) c.reach_chosen.ensures.reached.outside c.reach_chosen.ensures.neatly;
     }
 

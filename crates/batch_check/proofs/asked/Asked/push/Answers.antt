@@ -22,7 +22,7 @@ invariant_of-self c =
     let own : (k : ℕ) → c.match-need.need ≡ Some k → IsTrue (has_bit s.numbers k) = λ k is. elim c.match-need.branch [
       | in-Some w ↦
           let same : w.in-Some.number ≡ k = let e : Some w.in-Some.number ≡ Some k = sym w.need-is ∙ is in cc in
-          subst (λ (a : Asked). IsTrue (has_bit a.numbers k)) (sym w.self-is) (subst (λ n. IsTrue (has_bit w.note.new.self.numbers n)) (w.from.ensures ∙ same) w.note.ensures.noted)
+          subst (λ (a : Asked). IsTrue (has_bit a.numbers k)) (sym w.self-is) (subst (λ n. IsTrue (has_bit w.set_bit.new.self.numbers n)) (w.from.ensures ∙ same) w.set_bit.ensures.noted)
       | in_default w ↦ absurd (w.in_default.not-Some k (sym w.need-is ∙ is))
     ] in
     record { sized = s.sized; noted = λ k among. noted_more _ s.needs.items c.match-need.need s.numbers s.noted own k (subst (λ (ns : List (Option ℕ)). Contains ns (Some k)) c.push.ensures.items among) }

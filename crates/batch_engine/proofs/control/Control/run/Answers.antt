@@ -13,7 +13,7 @@ use Rattle.batch_engine.proofs.Seats.{IsSeat, chart-within, closed-makes, counte
 use Rattle.batch_engine.proofs.Space.{space-in-advance}
 use Rattle.batch_engine.proofs.Stepping.{changed}
 use Rattle.batch_engine.proofs.control.Control.run.Goals as goal
-use Rattle.batch_engine.proofs.control.Control.run.Goals.{After-index_mut-batch, After-make, After-recipe-chart}
+use Rattle.batch_engine.proofs.control.Control.run.Goals.{After-index_mut-batch, After-make_move, After-recipe-chart}
 
 -- the engine after the move
 becomes : {v : EngineView} {i : ℕ} {b : Batch} (m : Move) (h : IsMover v i b m) {r : Running} {a : Allocation} → IsOfAct m → IsClaimed v.cleared b m v.allocation a → MadeChart v h.kept i b h.at m r
@@ -51,41 +51,41 @@ claim-requires c = (c.args.self.now, c.args.index, makes (goal.at.claim-requires
 pub recipe-chart-requires : goal.recipe-chart-requires
 recipe-chart-requires c = let h = moves (goal.at.recipe-chart-requires c).After-index_mut-batch in chart-within c.self.view_is (record { kept = h.kept; at = h.at })
 
-pub make-requires-clause-running : goal.make-requires-clause-running
-make-requires-clause-running c = let w = goal.at.make-requires-clause-running c in (seat w.After-recipe-chart (moves w.After-index_mut-batch)).running
+pub make_move-requires-clause-running : goal.make_move-requires-clause-running
+make_move-requires-clause-running c = let w = goal.at.make_move-requires-clause-running c in (seat w.After-recipe-chart (moves w.After-index_mut-batch)).running
 
-pub make-requires-clause-possible : goal.make-requires-clause-possible
-make-requires-clause-possible c =
-    let w = goal.at.make-requires-clause-possible c in
+pub make_move-requires-clause-possible : goal.make_move-requires-clause-possible
+make_move-requires-clause-possible c =
+    let w = goal.at.make_move-requires-clause-possible c in
     let h = moves w.After-index_mut-batch in
     h.can c.recipe-chart.result.now (seat w.After-recipe-chart h).listed
 
-pub make-requires-clause-space : goal.make-requires-clause-space
-make-requires-clause-space c =
-    let w = goal.at.make-requires-clause-space c in
+pub make_move-requires-clause-space : goal.make_move-requires-clause-space
+make_move-requires-clause-space c =
+    let w = goal.at.make_move-requires-clause-space c in
     let h = moves w.After-index_mut-batch in
     space-in-advance c.args.self.now h.kept c.args.index c.index_mut-batch.result.now h.at (seat w.After-recipe-chart h).runs
 
 -- the effect of the move on the view
-abbrev own : After-make → Batch
-own c = record (c.index_mut-batch.result.now) { running = c.make.new.self }
+abbrev own : After-make_move → Batch
+own c = record (c.index_mut-batch.result.now) { running = c.make_move.new.self }
 
-made : (c : After-make) (h : IsMaking c.args.self.now c.self.inside.numbers c.recipe-chart.result.now c.self.inside.arbiter c.args.index c.index_mut-batch.result.now c.args.made)
+made : (c : After-make_move) (h : IsMaking c.args.self.now c.self.inside.numbers c.recipe-chart.result.now c.self.inside.arbiter c.args.index c.index_mut-batch.result.now c.args.made)
     → IsSeat c.args.self.now c.args.index c.index_mut-batch.result.now c.recipe-chart.result.now
     → Becomes c.args.self.now (changed c.args.self.now c.args.index (own c) c.claim.new.arbiter) (move_of (tree_of c.args.self.now.cleared c.index_mut-batch.result.now) (batch_of c.args.self.now.cleared c.index_mut-batch.result.now) c.args.made)
 made c h s =
     becomes c.args.made h.0 c.requires.act
     (subst (λ (z : Allocation). IsClaimed c.args.self.now.cleared c.index_mut-batch.result.now c.args.made z c.claim.new.arbiter) h.3 (c.claim.ensures c.args.self.now c.args.index h))
-    (c.make.ensures (tree_of c.args.self.now.cleared c.index_mut-batch.result.now) s.chart s.runs)
+    (c.make_move.ensures (tree_of c.args.self.now.cleared c.index_mut-batch.result.now) s.chart s.runs)
 
 pub invariant_of-self : goal.invariant_of-self
 invariant_of-self c =
     let w = goal.at.invariant_of-self c in
     let h = makes w.After-recipe-chart in
-    counted-set c.args.index (own w.After-make) (λ a. c.claim.new.arbiter) c.self.view_is c.self.invariant c.index_mut-batch.ensures.value refl refl refl (made w.After-make h (seat w.After-recipe-chart h.0)).kept
+    counted-set c.args.index (own w.After-make_move) (λ a. c.claim.new.arbiter) c.self.view_is c.self.invariant c.index_mut-batch.ensures.value refl refl refl (made w.After-make_move h (seat w.After-recipe-chart h.0)).kept
 
 pub returns : goal.returns
 returns c =
     let w = goal.at.returns c in
     let h = makes w.After-recipe-chart in
-    closed-makes c.args.index (own w.After-make) (λ a. c.claim.new.arbiter) c.self.view_is refl (made w.After-make h (seat w.After-recipe-chart h.0)) h.0.is
+    closed-makes c.args.index (own w.After-make_move) (λ a. c.claim.new.arbiter) c.self.view_is refl (made w.After-make_move h (seat w.After-recipe-chart h.0)) h.0.is

@@ -8,21 +8,21 @@ use Rattle.batch_engine.specs.Surface.{event_of}
 use Rattle.batch_engine.proofs.Unmarked.{marked-answered}
 use Rattle.batch_engine.proofs.engine.Engine.accept.Goals as goal
 
-pub judge-reply-requires-clause-noted : goal.judge-reply-requires-clause-noted
-judge-reply-requires-clause-noted c = subst (AreNoted c.self.inside.control) (sym c.deref.ensures.value) c.self.invariant.noted_are
+pub answer_event-reply-requires-clause-noted : goal.answer_event-reply-requires-clause-noted
+answer_event-reply-requires-clause-noted c = subst (AreNoted c.self.inside.control) (sym c.deref.ensures.value) c.self.invariant.noted_are
 
 pub invariant_of-self : goal.invariant_of-self
 invariant_of-self c =
     let v : EngineView = c.self.inside.control in
-    let w : EngineView = c.judge-reply.new.self in
+    let w : EngineView = c.answer_event-reply.new.self in
     let settled : next (setup v.cleared) (plant_of v) ≡ None =
     subst (λ (z : EngineView). next (setup z.cleared) (plant_of z) ≡ None) (sym c.self.view_is) (c.if-not-settled.ensures.0 refl) in
     record {
       kept = c.is_kept.ensures;
-      marked = marked-answered v w c.self.invariant.kept c.is_kept.ensures settled (event_of c.args.event.now) c.judge-reply.result c.judge-reply.ensures
+      marked = marked-answered v w c.self.invariant.kept c.is_kept.ensures settled (event_of c.args.event.now) c.answer_event-reply.result c.answer_event-reply.ensures
           c.mark_answered.new.marks c.mark_answered.ensures;
-      noted_are = reply-kept v w c.self.invariant.kept c.is_kept.ensures c.self.inside.holders.items c.self.invariant.noted_are (event_of c.args.event.now) c.judge-reply.result c.judge-reply.ensures;
+      noted_are = reply-kept v w c.self.invariant.kept c.is_kept.ensures c.self.inside.holders.items c.self.invariant.noted_are (event_of c.args.event.now) c.answer_event-reply.result c.answer_event-reply.ensures;
     }
 
 pub returns : goal.returns
-returns c = subst (λ (v : EngineView). IsAnswered v (event_of c.args.event.now) c.judge-reply.result c.judge-reply.new.self) c.self.view_is c.judge-reply.ensures
+returns c = subst (λ (v : EngineView). IsAnswered v (event_of c.args.event.now) c.answer_event-reply.result c.answer_event-reply.new.self) c.self.view_is c.answer_event-reply.ensures

@@ -14,7 +14,7 @@ reach-reach_above-requires t c =
     let less = (text-below c.args.recipe.now c.args.node c.index.result.now is c.if-node-eq0.false).0 in
     (omega (arith, less, c.decreases), (omega (arith, less, c.requires.within), still_known (text_of_place c.args.recipe.now) _ _ c.requires.known c.forget_past.ensures))
 
-known : (t : ℕ) (c : goal.reach-After-keep t) → AreKnownBy (text_of_place c.args.recipe.now) c.keep.new.self × EndsAt (text_of_place c.args.recipe.now c.args.node) c.if-node-eq0.end c.keep.new.self
+known : (t : ℕ) (c : goal.reach-After-push_node t) → AreKnownBy (text_of_place c.args.recipe.now) c.push_node.new.self × EndsAt (text_of_place c.args.recipe.now c.args.node) c.if-node-eq0.end c.push_node.new.self
 known t c =
     let r = c.args.recipe.now in
     let e = c.index.result.now in
@@ -31,7 +31,7 @@ known t c =
           (λ i lt. absurd (omega (arith, lt)))
           (rw (w.self-is, w.end-is) put.put)
           (ap (λ t. t ++ decimal e.child) nothing ∙ sym (root-text r c.args.node e is w.if-node-eq0.true))
-          (omega arith) (rw w.end-is (omega (arith, put.end))) (rw w.end-is (omega (arith, put.end))) room (rw w.self-is) (rw w.self-is) (rw w.self-is) (rw w.self-is) c.keep.ensures
+          (omega arith) (rw w.end-is (omega (arith, put.end))) (rw w.end-is (omega (arith, put.end))) room (rw w.self-is) (rw w.self-is) (rw w.self-is) (rw w.self-is) c.push_node.ensures
       | reach-else-node-eq0+in_ok-above+else-above-gt-MAX_PLACE_END w ↦
           let below = text-below r c.args.node e is w.if-node-eq0.false in
           let above = w.in_ok-above.ensures in
@@ -40,7 +40,7 @@ known t c =
           above.known above.reached.last
           (rw (w.self-is, w.end-is) put.put)
           (ap (λ text. text ++ (codes "." ++ decimal e.child)) above.reached.told ∙ sym below.1)
-          above.reached.from (rw w.end-is put.end.0) (rw w.end-is (omega (arith, put.end.1, w.if-above-gt-MAX_PLACE_END.false))) (omega arith) (rw w.self-is) (rw w.self-is) (rw w.self-is) (rw w.self-is) c.keep.ensures
+          above.reached.from (rw w.end-is put.end.0) (rw w.end-is (omega (arith, put.end.1, w.if-above-gt-MAX_PLACE_END.false))) (omega arith) (rw w.self-is) (rw w.self-is) (rw w.self-is) (rw w.self-is) c.push_node.ensures
     ]
 
 pub reach-returns-clause-known : goal.reach-returns-clause-known

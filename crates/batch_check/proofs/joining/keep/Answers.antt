@@ -1,4 +1,0 @@
-use Rattle.batch_check.proofs.joining.keep.Goals as goal
-
-pub join_asked-requires-clause-needs : goal.join_asked-requires-clause-needs
-join_asked-requires-clause-needs c = rw c.in-Some.is at c.requires.asked
