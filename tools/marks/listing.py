@@ -15,7 +15,8 @@ def promise(title, paths):
     found = reached_by_promise(tuple(paths))
     files = files_of(found)
     by_crate = groupby(used_first(files, found), key=lambda it: it[0])
-    yield f"**{title}** ({', '.join(f'`{it}`' for it in paths)}): {lines_of(found):,} lines, {len(found)} definitions, {len(files)} files."
+    shown = [f"`{it}`" for it in paths[:3]] + ([f"{len(paths) - 3} more"] if len(paths) > 3 else [])
+    yield f"**{title}** ({', '.join(shown)}): {lines_of(found):,} lines, {len(found)} definitions, {len(files)} files."
     yield ""
     for crate, here in by_crate:
         yield f"- {crate}: {', '.join(told(it, found) for it in here)}"

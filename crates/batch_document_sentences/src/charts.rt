@@ -1,7 +1,6 @@
 //! The faults in the chart of a table.
 use crate::hints::hint_said;
-use batch_grammar::{ChartFault, read_chart};
-use batch_reader::TableKind;
+use batch_reader::{ChartFault, TableKind, read_chart};
 use batch_recipe::{MAX_TURNS, MAX_VALUE};
 use std::alloc::{AllocError, Global};
 

@@ -1,8 +1,7 @@
 //! The names that a document declares.
 use crate::hints::is_of_words;
 use crate::kinds::{OF_RECIPES, VALUES, word_of};
-use batch_grammar::is_chart_word;
-use batch_reader::{Spot, TableKind};
+use batch_reader::{Spot, TableKind, is_chart_word};
 use batch_text::is_name;
 use std::alloc::{AllocError, Global};
 use toml::{Table, Value};

@@ -2,9 +2,9 @@
 use Rattle.std.proofs.Common.{◌≡◌, ◌++◌, ◌∷◌, ◌+◌, ◌<◌, ℕ, List, [], length, map, take, get_or, codes, sym, ◌∙◌, ap}
 use Rattle.std.proofs.lemmas.List.{map-append, take_more}
 use Rattle.batch_model.specs.Plant.{Setup, Plant}
-use Rattle.batch_status.specs.Blocks.{Stage}
-use Rattle.batch_status.specs.Listing.{IsTextOf}
-use Rattle.batch_status.specs.Reading.{LeadsTo}
+use Rattle.batch_record.specs.Blocks.{Stage}
+use Rattle.batch_record.specs.Listing.{IsTextOf}
+use Rattle.batch_record.specs.StatusReading.{LeadsTo}
 use Rattle.batch_keep.specs.Blocks.{AreBlocksOf, IsReplayed, block_text}
 use Rattle.batch_keep.specs.Counts.{own_lines, sent_lines}
 

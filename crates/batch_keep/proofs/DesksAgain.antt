@@ -10,8 +10,8 @@ use Rattle.batch_journal.specs.Journals.{recovered}
 use Rattle.batch_journal.specs.Lines.{IsLine, AreLines, text_of, whole_lines}
 use Rattle.batch_journal.specs.Readers.{LinesBegin, StartsText}
 use Rattle.batch_journal.specs.Recovery.{RecoveredAreLines, WholeLinesAreLines}
-use Rattle.batch_serve_desks.specs.Runs.{Run, is_same, runs_text}
-use Rattle.batch_serve_desks.specs.Served.{AreServed, AreWhole, ShowNoWant, plain_text}
+use Rattle.batch_serve.specs.Runs.{Run, is_same, runs_text}
+use Rattle.batch_serve.specs.Served.{AreServed, AreWhole, ShowNoWant, plain_text}
 use Rattle.batch_keep.specs.Desks.{AreShort, DesksAreToldAgain}
 use Rattle.batch_keep.proofs.Again.{lines_both, text_both}
 use Rattle.batch_keep.proofs.Comments.{comment, line_both}

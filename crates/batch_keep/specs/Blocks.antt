@@ -4,9 +4,9 @@ use Rattle.batch_model.specs.Plant.{Setup, Plant}
 use Rattle.batch_model.specs.Runs.{Leads}
 use Rattle.batch_wire.specs.Transcript.{Exchange, Transcript}
 use Rattle.batch_serve.specs.Replays.{ShowsNoWant}
-use Rattle.batch_status.specs.Blocks.{Stage}
-use Rattle.batch_status.specs.Listing.{IsTextOf}
-use Rattle.batch_status.specs.Reading.{LeadsTo}
+use Rattle.batch_record.specs.Blocks.{Stage}
+use Rattle.batch_record.specs.Listing.{IsTextOf}
+use Rattle.batch_record.specs.StatusReading.{LeadsTo}
 use Rattle.batch_keep.specs.Counts.{own_lines, sent_lines}
 
 -- the text of a transcript of these lines, in which memory was never wanted

@@ -6,8 +6,8 @@ use Rattle.batch_serve.specs.Replays.{BeginsText, ShowsNoWant}
 use Rattle.batch_journal.specs.Journals.{recovered}
 use Rattle.batch_journal.specs.Lines.{IsLine, text_of}
 use Rattle.batch_journal.specs.Readers.{StartsText}
-use Rattle.batch_serve_desks.specs.Runs.{Run, runs_text}
-use Rattle.batch_serve_desks.specs.Served.{AreServed, AreWhole, ShowNoWant, plain_text}
+use Rattle.batch_serve.specs.Runs.{Run, runs_text}
+use Rattle.batch_serve.specs.Served.{AreServed, AreWhole, ShowNoWant, plain_text}
 
 -- no name has a line feed or a zero byte, and none is longer than names may be
 abbrev pub AreShort : List (List ℕ) → Type 0

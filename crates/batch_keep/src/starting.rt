@@ -11,7 +11,7 @@ ghost use Rattle.batch_keep.specs.Starts.{IsStartRefused};
 use crate::block::{BlockFault, recovery_blocks};
 use batch_engine::Engine;
 use batch_journal::{Digits, Disk, RecoveryFault, Sum, recover};
-use batch_serve_desks::Lines;
+use batch_serve::Lines;
 use batch_text::Name;
 use batch_verify::Cleared;
 use std::alloc::Global;

@@ -2,14 +2,14 @@
 use Rattle.std.proofs.Common.{◌≡◌, ◌≢◌, ◌<◌, ◌≤◌, ◌+◌, ◌⊎◌, ◌||◌, Bool, true, false, List, Option, ℕ, length, get_or, set, refl, sym, ap, ◌∙◌, subst, arith, inl, inr, get_or-set_other, get_or-set_same}
 use Rattle.std.proofs.lemmas.Bool.{cases_lt, false≢true}
 use Rattle.rtrb.specs.Ring.{SameConsumer, SameProducer, received, sent}
-use Rattle.batch_serve_desks.specs.Rounds.{AreHandedOn, AreSameWriters, IsHandedOn}
-use Rattle.batch_serve_desks.specs.Runs.{Run}
-use Rattle.batch_serve_desks.specs.Told.{AreTold}
-use Rattle.batch_serve_desks.specs.Waits.{IsAccount}
-use Rattle.batch_serve_desks.specs.declared.desk.Desk.{Desk}
-use Rattle.batch_serve_desks.specs.declared.rounds.Reader.{Reader}
-use Rattle.batch_serve_desks.specs.declared.rounds.Writer.{Writer}
-use Rattle.batch_serve_desks.proofs.Gathering.{was_here}
+use Rattle.batch_serve.specs.Rounds.{AreHandedOn, AreSameWriters, IsHandedOn}
+use Rattle.batch_serve.specs.Runs.{Run}
+use Rattle.batch_serve.specs.Told.{AreTold}
+use Rattle.batch_serve.specs.Waits.{IsAccount}
+use Rattle.batch_serve.specs.declared.desk.Desk.{Desk}
+use Rattle.batch_serve.specs.declared.rounds.Reader.{Reader}
+use Rattle.batch_serve.specs.declared.rounds.Writer.{Writer}
+use Rattle.batch_serve.proofs.Gathering.{was_here}
 use Rattle.batch_pipes.proofs.Lists.{one_of}
 use Rattle.batch_pipes.proofs.Rings.{producer_on, same_ring}
 use Rattle.batch_pipes.specs.Kept.{AreReadersKept, AreSameDesks, IsDeskKept, IsDone, IsReaderKept}

@@ -3,13 +3,13 @@ use Rattle.std.proofs.Common.{◌≡◌, ◌<◌, ◌+◌, ℕ, false, List, [],
 use Rattle.std.proofs.lemmas.Bool.{false≢true}
 use Rattle.std.proofs.lemmas.Option.{IfSome_then}
 use Rattle.rtrb.specs.Ring.{IsPair, SameProducer, received, sent}
-use Rattle.batch_desks.specs.declared.desk.Desk as plans
-use Rattle.batch_serve_desks.specs.Rounds.{AreSameWriters}
-use Rattle.batch_serve_desks.specs.Threads.{lines_text}
-use Rattle.batch_serve_desks.specs.Waits.{IsAccount}
-use Rattle.batch_serve_desks.specs.declared.desk.Desk.{Desk}
-use Rattle.batch_serve_desks.specs.declared.rounds.Writer.{Writer}
-use Rattle.batch_serve_desks.proofs.Threading.{text_both}
+use Rattle.batch_reader.specs.declared.desk.Desk as plans
+use Rattle.batch_serve.specs.Rounds.{AreSameWriters}
+use Rattle.batch_serve.specs.Threads.{lines_text}
+use Rattle.batch_serve.specs.Waits.{IsAccount}
+use Rattle.batch_serve.specs.declared.desk.Desk.{Desk}
+use Rattle.batch_serve.specs.declared.rounds.Writer.{Writer}
+use Rattle.batch_serve.proofs.Threading.{text_both}
 use Rattle.batch_pipes.proofs.Lists.{at_place, both_more, both_set, first_set, length_more, one_of, same_set}
 use Rattle.batch_pipes.proofs.Rings.{pair_on, same_ring}
 use Rattle.batch_pipes.proofs.Streaming.{text_grown}

@@ -2,12 +2,12 @@
 use Rattle.std.proofs.Common.{◌≡◌, ◌<◌, ◌+◌, None, ℕ, zero, suc, List, [], ◌∷◌, ◌++◌, length, get_or, refl, sym, ap, subst, arith, ◌∙◌}
 use Rattle.std.proofs.lemmas.List.{map-append}
 use Rattle.rtrb.specs.Ring.{received, sent}
-use Rattle.batch_desks.specs.declared.desk.Desk as plans
+use Rattle.batch_reader.specs.declared.desk.Desk as plans
 use Rattle.batch_engine.specs.View.{EngineView}
-use Rattle.batch_serve_desks.specs.declared.desk.Desk.{Desk}
-use Rattle.batch_serve_desks.specs.declared.desk_server.DeskServer.{DeskServer}
-use Rattle.batch_serve_desks.specs.declared.rounds.Reader.{Reader}
-use Rattle.batch_serve_desks.specs.declared.rounds.Writer.{Writer}
+use Rattle.batch_serve.specs.declared.desk.Desk.{Desk}
+use Rattle.batch_serve.specs.declared.desk_server.DeskServer.{DeskServer}
+use Rattle.batch_serve.specs.declared.rounds.Reader.{Reader}
+use Rattle.batch_serve.specs.declared.rounds.Writer.{Writer}
 use Rattle.batch_pipes.proofs.Lists.{both_more, length_more}
 use Rattle.batch_pipes.specs.Kept.{ArePortsOf}
 use Rattle.batch_pipes.specs.Opened.{IsOpened, IsOpenedOn}

@@ -6,21 +6,21 @@ use Rattle.std.proofs.KnownBytes.{Appends-nil, Appends-trans}
 use Rattle.std.specs.Io.KnownBytes.{Appends}
 use Rattle.batch_engine.specs.View.{EngineView, plant_of, setup}
 use Rattle.rtrb.specs.Ring.{sent}
-use Rattle.batch_serve_desks.specs.Lives.{IsLife}
-use Rattle.batch_serve_desks.specs.Rounds.{AreGathered, IsHandedOver, text_sent}
-use Rattle.batch_serve_desks.specs.Runs.{AreOfDesks, Run, due_of, last_of, own_text, runs_text}
-use Rattle.batch_serve_desks.specs.Served.{AreServed}
-use Rattle.batch_serve_desks.specs.Turns.{IsSameBut, IsTurned}
-use Rattle.batch_serve_desks.specs.Waits.{IsAccount}
-use Rattle.batch_serve_desks.specs.declared.desk.Desk.{Desk}
-use Rattle.batch_serve_desks.specs.declared.desk_server.DeskServer.{DeskServer}
-use Rattle.batch_serve_desks.specs.declared.rounds.Reader.{Reader}
-use Rattle.batch_serve_desks.specs.declared.rounds.Writer.{Writer}
-use Rattle.batch_serve_desks.proofs.Gathering.{lines_go_on}
-use Rattle.batch_serve_desks.proofs.GoingOn.{texts_go_on}
-use Rattle.batch_serve_desks.proofs.LivesKept.{last_same, life_turned, lives_take}
-use Rattle.batch_desks.specs.DeskNames.{desk_names}
-use Rattle.batch_desks.specs.declared.desk.Desk as plans
+use Rattle.batch_serve.specs.Lives.{IsLife}
+use Rattle.batch_serve.specs.Rounds.{AreGathered, IsHandedOver, text_sent}
+use Rattle.batch_serve.specs.Runs.{AreOfDesks, Run, due_of, last_of, own_text, runs_text}
+use Rattle.batch_serve.specs.Served.{AreServed}
+use Rattle.batch_serve.specs.Turns.{IsSameBut, IsTurned}
+use Rattle.batch_serve.specs.Waits.{IsAccount}
+use Rattle.batch_serve.specs.declared.desk.Desk.{Desk}
+use Rattle.batch_serve.specs.declared.desk_server.DeskServer.{DeskServer}
+use Rattle.batch_serve.specs.declared.rounds.Reader.{Reader}
+use Rattle.batch_serve.specs.declared.rounds.Writer.{Writer}
+use Rattle.batch_serve.proofs.Gathering.{lines_go_on}
+use Rattle.batch_serve.proofs.GoingOn.{texts_go_on}
+use Rattle.batch_serve.proofs.LivesKept.{last_same, life_turned, lives_take}
+use Rattle.batch_reader.specs.DeskNames.{desk_names}
+use Rattle.batch_reader.specs.declared.desk.Desk as plans
 use Rattle.batch_pipes.proofs.Lists.{one_of}
 use Rattle.batch_pipes.proofs.OutputsKept.{is_given_back}
 use Rattle.batch_pipes.specs.Ended.{AreDesksEnded, IsGivenBack, given_by}

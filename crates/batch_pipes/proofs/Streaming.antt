@@ -6,9 +6,9 @@ use Rattle.std.specs.Io.KnownBytes.{Appends, Consumes, IsAtEnd, Keeps, append_kn
 use Rattle.batch_wire.specs.Transcript.{lines_of}
 use Rattle.batch_wire.specs.Written.{AppendsBeginning}
 use Rattle.batch_serve.specs.CleanLines.{clean_lines}
-use Rattle.batch_serve_desks.specs.Rounds.{text_sent}
-use Rattle.batch_serve_desks.specs.Threads.{IsRead, IsWritten, lines_text}
-use Rattle.batch_serve_desks.specs.declared.rounds.Sent.{Sent}
+use Rattle.batch_serve.specs.Rounds.{text_sent}
+use Rattle.batch_serve.specs.Threads.{IsRead, IsWritten, lines_text}
+use Rattle.batch_serve.specs.declared.rounds.Sent.{Sent}
 use Rattle.batch_pipes.specs.Streams.{HandsOver, HasNoOutput, HoldsBeginning, IsWrittenBehind, IsWrittenOf, IsWrittenOut}
 use Rattle.batch_pipes.specs.declared.fault.PipeFault.{PipeFault}
 use Rattle.batch_pipes.specs.declared.written.Written.{Written}

@@ -1,12 +1,12 @@
 -- surface: the outcome of serving desks to their end, for each of them.
 use Rattle.std.specs.Prelude.{◌≡◌, ℕ, ◌<◌, Bool, false, List, [], ◌++◌, length, get_or, Option, Some, None, IfSome, option_map, string_bytes}
 use Rattle.std.specs.Io.KnownBytes.{Appends}
-use Rattle.batch_desks.specs.declared.desk.Desk as plans
+use Rattle.batch_reader.specs.declared.desk.Desk as plans
 use Rattle.batch_wire.specs.Transcript.{lines_of}
 use Rattle.batch_serve.specs.CleanLines.{clean_lines}
-use Rattle.batch_serve_desks.specs.Runs.{AreOfDesks, Run, due_of, own_text}
-use Rattle.batch_serve_desks.specs.Threads.{lines_text}
-use Rattle.batch_serve_desks.specs.declared.desk.Desk.{Desk}
+use Rattle.batch_serve.specs.Runs.{AreOfDesks, Run, due_of, own_text}
+use Rattle.batch_serve.specs.Threads.{lines_text}
+use Rattle.batch_serve.specs.declared.desk.Desk.{Desk}
 use Rattle.batch_pipes.specs.Service.{AreDesksServed, Opening}
 use Rattle.batch_pipes.specs.Streams.{HasNoOutput, HoldsBeginning}
 use Rattle.batch_pipes.specs.declared.outcome.OutputOutcome.{OutputOutcome}

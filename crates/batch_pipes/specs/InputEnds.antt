@@ -3,8 +3,8 @@ use Rattle.std.specs.Prelude.{◌≡◌, ℕ, Bool, true, List, [], ◌++◌, Op
 use Rattle.rtrb.specs.Ring.{SameProducer, sent}
 use Rattle.batch_wire.specs.Transcript.{lines_of}
 use Rattle.batch_serve.specs.CleanLines.{clean_lines}
-use Rattle.batch_serve_desks.specs.Rounds.{text_sent}
-use Rattle.batch_serve_desks.specs.declared.rounds.Sent.{Sent}
+use Rattle.batch_serve.specs.Rounds.{text_sent}
+use Rattle.batch_serve.specs.declared.rounds.Sent.{Sent}
 use Rattle.batch_pipes.specs.Streams.{HandsOver}
 use Rattle.batch_pipes.specs.declared.reading.InputEnd.{InputEnd}
 use Rattle.batch_pipes.specs.declared.reading.InputTask.{InputTask}

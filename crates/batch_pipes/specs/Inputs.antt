@@ -1,11 +1,11 @@
 -- private: the inputs of desks, as the thread of the machine sees them.
 use Rattle.std.specs.Prelude.{◌≡◌, ℕ, ◌<◌, List, [], ◌++◌, ◌∷◌, length, get_or, Option, Some, IfSome, is_none, option_map, string_bytes}
 use Rattle.rtrb.specs.Ring.{IsPair, SameProducer, received, sent}
-use Rattle.batch_desks.specs.declared.desk.Desk as plans
+use Rattle.batch_reader.specs.declared.desk.Desk as plans
 use Rattle.batch_wire.specs.Transcript.{lines_of}
 use Rattle.batch_serve.specs.CleanLines.{clean_lines}
-use Rattle.batch_serve_desks.specs.Rounds.{text_sent}
-use Rattle.batch_serve_desks.specs.declared.rounds.Reader.{Reader}
+use Rattle.batch_serve.specs.Rounds.{text_sent}
+use Rattle.batch_serve.specs.declared.rounds.Reader.{Reader}
 use Rattle.batch_pipes.specs.Ended.{given_by}
 use Rattle.batch_pipes.specs.InputEnds.{AreItemsOf}
 use Rattle.batch_pipes.specs.declared.input.Input.{Input}

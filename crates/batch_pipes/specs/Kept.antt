@@ -1,9 +1,9 @@
 -- private: the parts of desks and readers that looking after desks leaves as they were.
 use Rattle.std.specs.Prelude.{◌≡◌, ℕ, ◌<◌, true, false, List, [], Option, length, get_or}
 use Rattle.rtrb.specs.Ring.{SameConsumer, received}
-use Rattle.batch_serve_desks.specs.Waits.{IsAccount}
-use Rattle.batch_serve_desks.specs.declared.desk.Desk.{Desk}
-use Rattle.batch_serve_desks.specs.declared.rounds.Reader.{Reader}
+use Rattle.batch_serve.specs.Waits.{IsAccount}
+use Rattle.batch_serve.specs.declared.desk.Desk.{Desk}
+use Rattle.batch_serve.specs.declared.rounds.Reader.{Reader}
 use Rattle.batch_pipes.specs.Inputs.{HasAllCome}
 use Rattle.batch_pipes.specs.declared.input.Input.{Input}
 use Rattle.batch_pipes.specs.declared.ports.Ports.{Ports}

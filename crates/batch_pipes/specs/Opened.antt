@@ -1,13 +1,13 @@
 -- private: desks whose rings are made.
 use Rattle.std.specs.Prelude.{◌≡◌, ℕ, ◌<◌, ◌+◌, false, List, [], ◌∷◌, ◌++◌, length, get_or, None, IsSome}
 use Rattle.rtrb.specs.Ring.{received, sent}
-use Rattle.batch_desks.specs.DeskNames.{desk_names}
-use Rattle.batch_desks.specs.declared.desk.Desk as plans
+use Rattle.batch_reader.specs.DeskNames.{desk_names}
+use Rattle.batch_reader.specs.declared.desk.Desk as plans
 use Rattle.batch_engine.specs.View.{EngineView}
-use Rattle.batch_serve_desks.specs.declared.desk.Desk.{Desk}
-use Rattle.batch_serve_desks.specs.declared.desk_server.DeskServer.{DeskServer}
-use Rattle.batch_serve_desks.specs.declared.rounds.Reader.{Reader}
-use Rattle.batch_serve_desks.specs.declared.rounds.Writer.{Writer}
+use Rattle.batch_serve.specs.declared.desk.Desk.{Desk}
+use Rattle.batch_serve.specs.declared.desk_server.DeskServer.{DeskServer}
+use Rattle.batch_serve.specs.declared.rounds.Reader.{Reader}
+use Rattle.batch_serve.specs.declared.rounds.Writer.{Writer}
 use Rattle.batch_pipes.specs.declared.ports.Ports.{Ports}
 
 -- no line is queued, nothing came out of a ring, and nothing went into one

@@ -1,7 +1,7 @@
 -- private: the result of the thread of a desk's output.
 use Rattle.std.specs.Prelude.{◌≡◌, ℕ, List, ◌++◌, Option, string_bytes}
 use Rattle.rtrb.specs.Ring.{SameConsumer, received}
-use Rattle.batch_serve_desks.specs.Threads.{lines_text}
+use Rattle.batch_serve.specs.Threads.{lines_text}
 use Rattle.batch_pipes.specs.Streams.{IsWrittenOf}
 use Rattle.batch_pipes.specs.declared.writing.OutputEnd.{OutputEnd}
 use Rattle.batch_pipes.specs.declared.writing.OutputTask.{OutputTask}

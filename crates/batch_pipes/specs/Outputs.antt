@@ -1,8 +1,8 @@
 -- private: the outputs of desks, as the thread of the machine sees them.
 use Rattle.std.specs.Prelude.{◌≡◌, ℕ, ◌<◌, List, [], ◌++◌, ◌∷◌, length, get_or, Option, Some, None, IfSome, option_map, string_bytes}
 use Rattle.rtrb.specs.Ring.{Finishes, IsPair, received, sent}
-use Rattle.batch_desks.specs.declared.desk.Desk as plans
-use Rattle.batch_serve_desks.specs.declared.rounds.Writer.{Writer}
+use Rattle.batch_reader.specs.declared.desk.Desk as plans
+use Rattle.batch_serve.specs.declared.rounds.Writer.{Writer}
 use Rattle.batch_pipes.specs.OutputEnds.{Results}
 use Rattle.batch_pipes.specs.declared.outcome.OutputOutcome.{OutputOutcome}
 use Rattle.batch_pipes.specs.declared.outcome.OutputOutcome.TheVariants.{Absent, Joined, Unjoined}

@@ -1,6 +1,6 @@
 -- worked rows: the part that an output holds of a text behind its old contents.
 use Rattle.std.specs.Prelude.{◌≡◌, ℕ, List, [], ◌∷◌, Option, Some, None, ⊤}
-use Rattle.batch_serve_desks.specs.declared.desk.Desk.{Desk}
+use Rattle.batch_serve.specs.declared.desk.Desk.{Desk}
 use Rattle.batch_pipes.specs.Ended.{IsGivenBack}
 use Rattle.batch_pipes.specs.Streams.{HasNoOutput, HoldsBeginning}
 use Rattle.batch_pipes.specs.declared.fault.PipeFault.TheVariants.{Memory, Unread}

@@ -6,14 +6,14 @@ use Rattle.batch_engine.specs.View.{setup}
 use Rattle.batch_serve.specs.Comments.{time_text}
 use Rattle.batch_verify.specs.ClearedSet.{ClearedSet}
 use Rattle.rtrb.specs.Ring.{received, sent}
-use Rattle.batch_serve_desks.specs.Lives.{Beginning, IsLife}
-use Rattle.batch_serve_desks.specs.Rounds.{text_sent}
-use Rattle.batch_serve_desks.specs.Runs.{AreOfDesks, Run, own_text, runs_text}
-use Rattle.batch_serve_desks.specs.Served.{AreServed, AreWhole, ShowNoWant}
-use Rattle.batch_serve_desks.specs.declared.desk.Desk.{Desk}
-use Rattle.batch_serve_desks.specs.declared.desk_server.DeskServer.{DeskServer}
-use Rattle.batch_serve_desks.specs.declared.rounds.Reader.{Reader}
-use Rattle.batch_serve_desks.specs.declared.rounds.Writer.{Writer}
+use Rattle.batch_serve.specs.Lives.{Beginning, IsLife}
+use Rattle.batch_serve.specs.Rounds.{text_sent}
+use Rattle.batch_serve.specs.Runs.{AreOfDesks, Run, own_text, runs_text}
+use Rattle.batch_serve.specs.Served.{AreServed, AreWhole, ShowNoWant}
+use Rattle.batch_serve.specs.declared.desk.Desk.{Desk}
+use Rattle.batch_serve.specs.declared.desk_server.DeskServer.{DeskServer}
+use Rattle.batch_serve.specs.declared.rounds.Reader.{Reader}
+use Rattle.batch_serve.specs.declared.rounds.Writer.{Writer}
 use Rattle.batch_pipes.specs.declared.ports.Ports.{Ports}
 
 -- The time of turns

@@ -5,9 +5,9 @@ use Rattle.std.specs.List.{list_any}
 use Rattle.batch_wire.specs.Transcript.{lines_of}
 use Rattle.batch_wire.specs.Written.{AppendsBeginning}
 use Rattle.batch_serve.specs.CleanLines.{clean_lines}
-use Rattle.batch_serve_desks.specs.Rounds.{is_end, text_sent}
-use Rattle.batch_serve_desks.specs.Threads.{lines_text}
-use Rattle.batch_serve_desks.specs.declared.rounds.Sent.{Sent}
+use Rattle.batch_serve.specs.Rounds.{is_end, text_sent}
+use Rattle.batch_serve.specs.Threads.{lines_text}
+use Rattle.batch_serve.specs.declared.rounds.Sent.{Sent}
 use Rattle.batch_pipes.specs.declared.fault.PipeFault.{PipeFault}
 use Rattle.batch_pipes.specs.declared.fault.PipeFault.TheVariants.{Memory, OutputUnopened}
 use Rattle.batch_pipes.specs.declared.written.Written.{Written}

@@ -3,7 +3,7 @@ ghost use Rattle.batch_pipes.specs.Kept.{IsDeskKept};
 
 use crate::fault::{Cut, PipeFault};
 use crate::ports::DeskThreads;
-use batch_serve_desks::Desk;
+use batch_serve::Desk;
 use batch_text::Name;
 use batch_wire::write_all;
 use std::alloc::Global;

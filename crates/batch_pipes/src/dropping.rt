@@ -1,7 +1,7 @@
 //! The lines of desks that have no output.
-ghost use Rattle.batch_serve_desks.specs.Rounds.{IsHandedOn};
+ghost use Rattle.batch_serve.specs.Rounds.{IsHandedOn};
 
-use batch_serve_desks::{Desk, Line, Writer};
+use batch_serve::{Desk, Line, Writer};
 use rtrb::Consumer;
 
 /// Drops the lines queued for a desk that has no output.

@@ -3,7 +3,7 @@ ghost use Rattle.std.specs.Prelude.{ℕ, ◌<◌, length, get_or, IfOk};
 ghost use Rattle.batch_pipes.specs.OutputEnds.{IsHandedBack};
 ghost use Rattle.batch_pipes.specs.Outputs.{AreEnding, AreOutputsKept, AreOutputsOf, AreSettled, AreSettledBy, IsEnding, IsFinished, IsSettledBy};
 ghost use Rattle.batch_pipes.specs.declared.output.Output.{Output as OneOutput};
-ghost use Rattle.batch_serve_desks.specs.declared.rounds.Writer.{Writer as OneWriter};
+ghost use Rattle.batch_serve.specs.declared.rounds.Writer.{Writer as OneWriter};
 
 use crate::cutting::tell_line;
 use crate::fault::{Cut, PipeFault};
@@ -12,7 +12,7 @@ use crate::output::Output;
 use crate::pace::PATIENCE;
 use crate::pipes::Outputs;
 use crate::ports::Ports;
-use batch_serve_desks::{DeskServer, Pause, Writer};
+use batch_serve::{DeskServer, Pause, Writer};
 use std::alloc::{AllocError, Global};
 use std::io::Write;
 use std::thread::Threads;

@@ -1,5 +1,5 @@
 //! The faults of pipes, and of serving.
-use batch_serve_desks::{CutReason, TurnFault};
+use batch_serve::{CutReason, TurnFault};
 use batch_wire::WriteFault;
 use std::alloc::AllocError;
 use std::io;

@@ -4,14 +4,14 @@ ghost use Rattle.rtrb.specs.Ring.{IsPair, received, sent};
 ghost use Rattle.batch_pipes.specs.Inputs.{HasAllCome, IsEndKept, IsInputKept, IsInputOf};
 ghost use Rattle.batch_pipes.specs.Kept.{IsReaderKept};
 ghost use Rattle.batch_pipes.specs.declared.input.Came.TheVariants.{Whole};
-ghost use Rattle.batch_serve_desks.specs.declared.rounds.Reader.{Reader as OneReader};
+ghost use Rattle.batch_serve.specs.declared.rounds.Reader.{Reader as OneReader};
 
 use crate::fault::PipeFault;
 use crate::flag::Flag;
 use crate::input_thread::InputHandle;
 use crate::pipes::Pipes;
 use crate::reading::InputEnd;
-use batch_serve_desks::Reader;
+use batch_serve::Reader;
 use std::snapshot::Snapshot;
 use std::thread::Threads;
 

@@ -1,4 +1,5 @@
 //! Several desks over pipes: the input and the output of each in a thread of its own, and the machine in the thread that calls.
+//! Streams that note why they failed.
 #![tactic(auto)]
 
 mod cutting;
@@ -9,6 +10,7 @@ mod flag;
 mod input;
 mod input_thread;
 mod laws;
+mod noted;
 mod opening;
 mod outcome;
 mod output;
@@ -28,6 +30,7 @@ mod written;
 
 pub use fault::{DesksFault, PipeFault};
 pub use laws::output_rows;
+pub use noted::Noted;
 pub use outcome::OutputOutcome;
 pub use output::OutputChild;
 pub use pipes::{Outputs, Pipes};

@@ -2,7 +2,7 @@
 ghost use Rattle.rtrb.specs.Ring.{Finishes, IsFinishedOf};
 ghost use Rattle.batch_pipes.specs.OutputEnds.{IsHandedBack};
 ghost use Rattle.batch_pipes.specs.Outputs.{Asked, IsEnding, IsFinished, IsOutputKept, IsOutputOf, IsSettled, IsSettledBy, IsTaskOf};
-ghost use Rattle.batch_serve_desks.specs.declared.rounds.Writer.{Writer as OneWriter};
+ghost use Rattle.batch_serve.specs.declared.rounds.Writer.{Writer as OneWriter};
 
 use crate::fault::PipeFault;
 use crate::flag::Flag;
@@ -10,7 +10,7 @@ use crate::outcome::OutputOutcome;
 use crate::output_thread::OutputHandle;
 use crate::pipes::Outputs;
 use crate::writing::OutputEnd;
-use batch_serve_desks::{Line, Writer};
+use batch_serve::{Line, Writer};
 use rtrb::{Consumer, Finished};
 use std::io::Write;
 use std::snapshot::Snapshot;

@@ -2,7 +2,7 @@
 ghost use Rattle.std.specs.Prelude.{◌≡◌, []};
 ghost use Rattle.rtrb.specs.Ring.{SameProducer, sent};
 
-use batch_serve_desks::{Desk, Writer};
+use batch_serve::{Desk, Writer};
 
 /// How many rounds serving waits for an output that takes nothing: at its end, and before the output's desk is read on. A round in
 /// which lines are on their way takes a pause, of a millisecond.

@@ -5,7 +5,7 @@ ghost use Rattle.batch_pipes.specs.Opened.{ArePortsAdded};
 use crate::fault::PipeFault;
 use crate::flag::Flag;
 use crate::pace::Pace;
-use batch_serve_desks::{Reader, Writer};
+use batch_serve::{Reader, Writer};
 use std::alloc::{AllocError, Global};
 
 /// How a desk's output goes on, and whether the desk is cut.

@@ -6,11 +6,10 @@ ghost use Rattle.batch_pipes.specs.Streams.{HandsOver};
 
 use crate::fault::PipeFault;
 use crate::flag::Flag;
+use crate::noted::Noted;
 use crate::pipes::Pipes;
 use crate::rest::DeskRest;
-use batch_serve::CleanReader;
-use batch_serve_desks::{Pause, Sent, read_lines};
-use batch_streams::Noted;
+use batch_serve::{CleanReader, Pause, Sent, read_lines};
 use rtrb::Producer;
 use std::alloc::Global;
 use std::io::Read;

@@ -1,6 +1,6 @@
 //! How the thread of a desk waits.
 use crate::flag::Flag;
-use batch_serve_desks::Pause;
+use batch_serve::Pause;
 
 /// Waits as long as the desk isn't cut.
 #[derive(Drop)]

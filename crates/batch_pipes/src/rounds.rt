@@ -1,6 +1,6 @@
 //! Rounds: lines that came are served, and queued lines go on.
 ghost use Rattle.std.specs.Prelude.{◌≡◌, [], length, OnOk};
-ghost use Rattle.batch_serve_desks.specs.Rounds.{AreSameReaders, AreSameWriters};
+ghost use Rattle.batch_serve.specs.Rounds.{AreSameReaders, AreSameWriters};
 ghost use Rattle.batch_pipes.specs.Kept.{ArePortsOf, AreSameDesks};
 ghost use Rattle.batch_pipes.specs.Service.{GoesOn, TurnsOn};
 
@@ -8,7 +8,7 @@ use crate::fault::DesksFault;
 use crate::ports::Ports;
 use crate::times::write_time;
 use crate::timing::Timing;
-use batch_serve_desks::{DeskServer, Keep};
+use batch_serve::{DeskServer, Keep};
 use std::alloc::Global;
 use std::io::Write;
 use std::time::Clock;

@@ -1,7 +1,7 @@
 //! Serving several desks over pipes.
 ghost use Rattle.std.specs.Prelude.{◌≡◌, [], IfOk, OnOk};
 ghost use Rattle.batch_engine.specs.View.{plant_of};
-ghost use Rattle.batch_desks.specs.DeskNames.{desk_names};
+ghost use Rattle.batch_reader.specs.DeskNames.{desk_names};
 ghost use Rattle.batch_pipes.specs.Ended.{AreDesksEnded};
 ghost use Rattle.batch_pipes.specs.Inputs.{AreInputsKept, AreInputsOf};
 ghost use Rattle.batch_pipes.specs.Kept.{AreDone, ArePortsOf, AreSameDesks};
@@ -20,9 +20,9 @@ use crate::ports::Ports;
 use crate::rounds::serve_round;
 use crate::tending::{Outlook, tend_desks};
 use crate::timing::Timing;
-use batch_desks::Desks;
 use batch_engine::Engine;
-use batch_serve_desks::{Desk, DeskServer, Keep, Lines, Pause};
+use batch_reader::Desks;
+use batch_serve::{Desk, DeskServer, Keep, Lines, Pause};
 use std::alloc::Global;
 use std::io::Write;
 use std::thread::Threads;

@@ -1,6 +1,6 @@
 //! Looking after the desks between turns.
 ghost use Rattle.std.specs.Prelude.{◌≡◌, ◌||◌, true, false, IsTrue};
-ghost use Rattle.batch_serve_desks.specs.Rounds.{AreHandedOn, IsHandedOn, IsHandedOver};
+ghost use Rattle.batch_serve.specs.Rounds.{AreHandedOn, IsHandedOn, IsHandedOver};
 ghost use Rattle.batch_pipes.specs.Inputs.{AreInputsKept, AreInputsOf, IsInputKept, IsInputOf};
 ghost use Rattle.batch_pipes.specs.Kept.{AreDone, AreReadersKept, ArePortsOf, IsDone, IsReaderKept};
 ghost use Rattle.batch_pipes.specs.OutputEnds.{IsHandedBack};
@@ -14,7 +14,7 @@ use crate::output::Output;
 use crate::pace::lines_left;
 use crate::pipes::{Outputs, Pipes};
 use crate::ports::{DeskThreads, Ports};
-use batch_serve_desks::{Desk, DeskServer, Reader, Writer};
+use batch_serve::{Desk, DeskServer, Reader, Writer};
 use batch_text::Name;
 use std::alloc::Global;
 use std::io::Write;

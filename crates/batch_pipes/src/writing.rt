@@ -7,11 +7,11 @@ ghost use Rattle.batch_pipes.specs.Streams.{IsWrittenBehind, IsWrittenOut};
 
 use crate::fault::PipeFault;
 use crate::flag::Flag;
+use crate::noted::Noted;
 use crate::pipes::Outputs;
 use crate::rest::DeskRest;
 use crate::written::Written;
-use batch_serve_desks::{Line, Pause, write_lines};
-use batch_streams::Noted;
+use batch_serve::{Line, Pause, write_lines};
 use batch_wire::write_all;
 use rtrb::Consumer;
 use std::alloc::Global;

@@ -7,7 +7,7 @@ use Rattle.batch_journal.specs.Journals.{recovered}
 use Rattle.batch_journal.specs.Recovery.{HasNoFault}
 use Rattle.batch_keep.specs.Blocks.{IsBlockOf}
 use Rattle.batch_pipes.specs.Service.{AreDesksServed}
-use Rattle.batch_serve_desks.specs.Runs.{runs_text}
+use Rattle.batch_serve.specs.Runs.{runs_text}
 use Rattle.batch_verify.specs.ClearedSet.{ClearedSet}
 use Rattle.batch_verdicts.specs.Running.{Stream}
 use Rattle.batch_program.specs.DeskRuns.{AreDesksOn}

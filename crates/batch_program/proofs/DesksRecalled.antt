@@ -18,14 +18,14 @@ use Rattle.batch_journal.specs.Readers.{HasRecalled, StartsText}
 use Rattle.batch_keep.specs.Blocks.{IsBlockOf}
 use Rattle.batch_keep.specs.Desks.{AreShort, DesksAreToldAgain}
 use Rattle.batch_pipes.specs.Service.{AreDesksServed}
-use Rattle.batch_serve_desks.specs.Runs.{runs_text}
-use Rattle.batch_serve_desks.specs.Served.{plain_text}
+use Rattle.batch_serve.specs.Runs.{runs_text}
+use Rattle.batch_serve.specs.Served.{plain_text}
 use Rattle.batch_verify.specs.ClearedSet.{ClearedSet}
 use Rattle.batch_reader.specs.Entries.{AllItems, IsTableOf}
-use Rattle.batch_desks.specs.DeskNames.{desk_names}
-use Rattle.batch_desks.specs.DesksDocument.{IsDeskTable}
-use Rattle.batch_desks.specs.declared.desk.Desk.{Desk}
-use Rattle.batch_desks.specs.declared.desk_set.Desks.{Desks}
+use Rattle.batch_reader.specs.DeskNames.{desk_names}
+use Rattle.batch_reader.specs.DesksDocument.{IsDeskTable}
+use Rattle.batch_reader.specs.declared.desk.Desk.{Desk}
+use Rattle.batch_reader.specs.declared.desk_set.Desks.{Desks}
 use Rattle.batch_verdicts.specs.DeskSets.{AreDesksCleared}
 use Rattle.batch_verdicts.specs.Reading.{Gives}
 use Rattle.batch_verdicts.specs.Running.{Stream}

@@ -6,7 +6,7 @@ use Rattle.std.specs.Io.KnownBytes.{Keeps}
 use Rattle.clap.specs.Walk.{Text}
 use Rattle.batch_model.specs.Plant.{Plant, opening}
 use Rattle.batch_engine.specs.View.{EngineView, plant_of, setup}
-use Rattle.batch_serve_desks.specs.Served.{AreServed, ServiceIsSafe}
+use Rattle.batch_serve.specs.Served.{AreServed, ServiceIsSafe}
 use Rattle.batch_verify.specs.ClearedSet.{ClearedSet}
 use Rattle.batch_cli.specs.CommandLine.{Request, serve_desks}
 use Rattle.batch_verdicts.specs.DeskSets.{AreDesksCleared}
@@ -17,8 +17,8 @@ use Rattle.batch_verdicts.specs.declared.course.Course.{Course}
 use Rattle.batch_verdicts.specs.declared.course.Course.TheVariants as course_of
 use Rattle.batch_verdicts.specs.declared.desks.DeskSet.{DeskSet}
 use Rattle.batch_verdicts.proofs.Successes.{same_request}
-use Rattle.batch_desks.specs.DeskNames.{desk_names}
-use Rattle.batch_desks.specs.declared.desk_set.Desks.{Desks}
+use Rattle.batch_reader.specs.DeskNames.{desk_names}
+use Rattle.batch_reader.specs.declared.desk_set.Desks.{Desks}
 use Rattle.batch_pipes.specs.Service.{AreDesksServed}
 use Rattle.batch_pipes.specs.declared.fault.DesksFault.{DesksFault}
 use Rattle.batch_pipes.specs.declared.fault.DesksFault.TheVariants.{Memory, Thread, Journal, Record, RoundsOut}

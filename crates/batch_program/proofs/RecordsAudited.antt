@@ -6,10 +6,10 @@ use Rattle.clap.specs.Walk.{Text}
 use Rattle.batch_verify.specs.ClearedSet.{ClearedSet}
 use Rattle.batch_wire.specs.Transcript.{lines_of}
 use Rattle.batch_cli.specs.CommandLine.{Judgement, Source, audit, keep, remark, serve, tell, write, picture, serve_desks}
-use Rattle.batch_audit.specs.Audits as findings
-use Rattle.batch_audit.specs.Audits.{Finds, told_text}
-use Rattle.batch_audit.specs.declared.finding.Finding.{Finding}
-use Rattle.batch_audit.specs.declared.finding.Finding.TheVariants.{Agrees, Differs, EndsBefore}
+use Rattle.batch_keep.specs.Audits as findings
+use Rattle.batch_keep.specs.Audits.{Finds, told_text}
+use Rattle.batch_keep.specs.declared.finding.Finding.{Finding}
+use Rattle.batch_keep.specs.declared.finding.Finding.TheVariants.{Agrees, Differs, EndsBefore}
 use Rattle.batch_verdicts.specs.Reading.{Gives}
 use Rattle.batch_verdicts.specs.Requests.{IsSetOf}
 use Rattle.batch_verdicts.specs.Running.{AskFor, IsPrinted, IsUnwritten, Stream, memory_status}

@@ -5,10 +5,10 @@ use Rattle.batch_verdicts.specs.Running.{IsPrinted, IsUnwritten, Stream, memory_
 use Rattle.batch_program.specs.DrawingRuns.{IsDrawn, declines, fails, pictures}
 use Rattle.batch_program.specs.PlantRuns.{refused_status}
 use Rattle.batch_program.specs.RecordRuns.{no_record_text}
-use Rattle.batch_status.specs.Reading.{IsRefusedAt}
-use Rattle.batch_timeline.specs.Pictures.{picture_text}
-use Rattle.batch_timeline.specs.Recorded.{IsRecord}
-use Rattle.batch_timeline.specs.declared.picture.Picture.{Picture}
+use Rattle.batch_record.specs.StatusReading.{IsRefusedAt}
+use Rattle.batch_record.specs.Pictures.{picture_text}
+use Rattle.batch_record.specs.Recorded.{IsRecord}
+use Rattle.batch_record.specs.declared.picture.Picture.{Picture}
 
 -- the bytes that were drawn are those of the reader
 pub drawn_of_input : (unread : Option (List ℕ)) (bytes : List ℕ) (output errors : Stream) (status : ℕ) → IfSome unread (λ input. bytes ≡ input)

@@ -37,8 +37,8 @@ use Rattle.batch_program.specs.declared.program.TheConstants.{MAX_READS}
 use Rattle.batch_program.specs.Programs.{IsLeftTold, IsProgramRun, PlantsAreComplete, ServingIsSafe, tells, serves, serves_desks, reads, audits, plants, status_of_serving, keeps, writes, remarks, draws}
 use Rattle.batch_plant.specs.declared.plant_fault.PlantFault.{PlantFault}
 use Rattle.batch_plant.specs.declared.plant_fault.PlantFault.TheVariants as plant_fault
-use Rattle.batch_audit.specs.declared.finding.Finding.{Finding}
-use Rattle.batch_audit.specs.declared.finding.Finding.TheVariants.{Agrees, Differs, EndsBefore}
+use Rattle.batch_keep.specs.declared.finding.Finding.{Finding}
+use Rattle.batch_keep.specs.declared.finding.Finding.TheVariants.{Agrees, Differs, EndsBefore}
 use Rattle.batch_program.specs.AuditRuns as auditing
 use Rattle.batch_program.specs.AuditRuns.{IsAuditTold, finding_status, finding_text}
 use Rattle.batch_program.specs.JournalRuns.{Behind, DiskKind, IsJournalRefused, IsJournalRun, IsJournalTold, IsRunOver, IsShownBehind, JournalFiles}
@@ -46,7 +46,7 @@ use Rattle.batch_program.specs.JournalRuns as journal
 use Rattle.batch_verdicts.specs.Digested.{AreDigested}
 use Rattle.batch_verdicts.specs.declared.digested.Digested.{Digested}
 use Rattle.batch_journal.specs.declared.recovery.RecoveryFault.{RecoveryFault}
-use Rattle.batch_desks.specs.DeskNames.{desk_names}
+use Rattle.batch_reader.specs.DeskNames.{desk_names}
 use Rattle.batch_pipes.specs.declared.fault.DesksFault.{DesksFault}
 use Rattle.batch_pipes.specs.declared.fault.DesksFault.TheVariants as desks_fault
 use Rattle.batch_program.specs.DeskRuns.{AreDesksOn, AreDesksRun, status_of_desks, status_of_fault}
@@ -55,7 +55,7 @@ use Rattle.batch_program.specs.FileWriting.{IsWritten}
 use Rattle.batch_program.specs.PlantRuns.{HasRun, IsPlantTold, plant_text, refused_status}
 use Rattle.batch_program.specs.DrawingRuns as drawing
 use Rattle.batch_program.specs.DrawingRuns.{IsDrawn, IsRecordDrawn}
-use Rattle.batch_timeline.specs.Pictures.{picture_text}
+use Rattle.batch_record.specs.Pictures.{picture_text}
 use Rattle.batch_program.specs.RecordRuns.{Holds, IsRecordTold, IsStatusTold, IsUntold, prints, refuses, stops, no_record_text, output_of}
 
 -- Streams

@@ -3,9 +3,9 @@ use Rattle.std.specs.Prelude.{◌++◌, ℕ, Bool, true, false, List, [], Option
 use Rattle.clap.specs.Walk.{Text}
 use Rattle.batch_verify.specs.ClearedSet.{ClearedSet}
 use Rattle.batch_wire.specs.Transcript.{lines_of}
-use Rattle.batch_audit.specs.Audits.{BeginsRecordOf, Finds, HasLines, IsRecordOf, told_text}
-use Rattle.batch_audit.specs.declared.finding.Finding.{Finding}
-use Rattle.batch_audit.specs.declared.finding.Finding.TheVariants.{Agrees, Differs, EndsBefore}
+use Rattle.batch_keep.specs.Audits.{BeginsRecordOf, Finds, HasLines, IsRecordOf, told_text}
+use Rattle.batch_keep.specs.declared.finding.Finding.{Finding}
+use Rattle.batch_keep.specs.declared.finding.Finding.TheVariants.{Agrees, Differs, EndsBefore}
 use Rattle.batch_verdicts.specs.Running.{IsPrinted, Stream, success_status}
 use Rattle.batch_verdicts.specs.VerdictTexts.{accepted_text}
 use Rattle.batch_program.specs.PlantRuns.{refused_status}

@@ -2,8 +2,8 @@
 use Rattle.std.specs.Prelude.{◌≡◌, ◌⊎◌, ◌++◌, ℕ, Bool, true, List, [], Option, Some, None, Result, Ok, Err, IfOk}
 use Rattle.std.specs.Io.KnownBytes.{Appends}
 use Rattle.batch_verify.specs.ClearedSet.{ClearedSet}
-use Rattle.batch_serve_desks.specs.Runs.{Run, runs_text}
-use Rattle.batch_serve_desks.specs.Served.{IsSafeService, plain_text}
+use Rattle.batch_serve.specs.Runs.{Run, runs_text}
+use Rattle.batch_serve.specs.Served.{IsSafeService, plain_text}
 use Rattle.batch_model.specs.Plant.{Plant, opening}
 use Rattle.batch_engine.specs.View.{setup}
 use Rattle.batch_wire.specs.Transcript.{Exchange, Transcript}

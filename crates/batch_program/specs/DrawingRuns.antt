@@ -6,10 +6,10 @@ use Rattle.batch_verdicts.specs.Running.{IsPrinted, Stream, success_status}
 use Rattle.batch_program.specs.PlantRuns.{refused_status}
 use Rattle.batch_program.specs.RecordRuns.{Holds, IsUntold, no_record_text, output_of}
 use Rattle.batch_serve.specs.Serves as serving
-use Rattle.batch_status.specs.Reading.{IsRefusedAt}
-use Rattle.batch_timeline.specs.Pictures.{picture_text}
-use Rattle.batch_timeline.specs.Recorded.{IsRecord}
-use Rattle.batch_timeline.specs.declared.picture.Picture.{Picture}
+use Rattle.batch_record.specs.StatusReading.{IsRefusedAt}
+use Rattle.batch_record.specs.Pictures.{picture_text}
+use Rattle.batch_record.specs.Recorded.{IsRecord}
+use Rattle.batch_record.specs.declared.picture.Picture.{Picture}
 
 -- the outcome for a reader's bytes: if they are a record, the text of a picture is printed, and else which line is the first that is
 -- none of a record; a record that can't be opened or read, and want of memory leave the output as it was, and are reported on the

@@ -8,8 +8,8 @@ use Rattle.batch_verify.specs.ClearedSet.{ClearedSet}
 use Rattle.batch_wire.specs.Transcript.{lines_of}
 use Rattle.batch_cli.specs.CommandLine.{Source, audit, keep, plant, serve, serve_desks, tell, Judgement, write, remark, picture}
 use Rattle.batch_cli.specs.declared.plant_options.PlantOptions.{PlantOptions}
-use Rattle.batch_desks.specs.DeskNames.{desk_names}
-use Rattle.batch_desks.specs.declared.desk_set.Desks.{Desks}
+use Rattle.batch_reader.specs.DeskNames.{desk_names}
+use Rattle.batch_reader.specs.declared.desk_set.Desks.{Desks}
 use Rattle.batch_verdicts.specs.DeskSets.{AreDesksCleared}
 use Rattle.batch_verdicts.specs.Digested.{AreDigested}
 use Rattle.batch_verdicts.specs.Reading.{Gives}

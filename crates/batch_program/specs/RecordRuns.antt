@@ -5,9 +5,9 @@ use Rattle.clap.specs.Walk.{Text}
 use Rattle.batch_verdicts.specs.Running.{IsPrinted, IsUnwritten, Stream, fault_status, memory_status, success_status}
 use Rattle.batch_program.specs.PlantRuns.{refused_status}
 use Rattle.batch_serve.specs.Serves as serving
-use Rattle.batch_status.specs.Blocks.{Stage}
-use Rattle.batch_status.specs.Listing.{IsTextOf}
-use Rattle.batch_status.specs.Reading.{IsRefusedAt, LeadsTo}
+use Rattle.batch_record.specs.Blocks.{Stage}
+use Rattle.batch_record.specs.Listing.{IsTextOf}
+use Rattle.batch_record.specs.StatusReading.{IsRefusedAt, LeadsTo}
 
 -- the bytes that a record that is opened at a path has to be read, if they are known
 abbrev pub Holds : Type 1

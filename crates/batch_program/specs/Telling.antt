@@ -2,8 +2,8 @@
 use Rattle.std.specs.Prelude.{ℕ, Bool, List, Option, IfSome}
 use Rattle.batch_verify.specs.ClearedSet.{ClearedSet}
 use Rattle.batch_wire.specs.Transcript.{lines_of}
-use Rattle.batch_audit.specs.Audits.{Finds}
-use Rattle.batch_audit.specs.declared.finding.Finding.{Finding}
+use Rattle.batch_keep.specs.Audits.{Finds}
+use Rattle.batch_keep.specs.declared.finding.Finding.{Finding}
 use Rattle.batch_verdicts.specs.Running.{IsPrinted, Stream}
 use Rattle.batch_program.specs.AuditRuns.{finding_status, finding_text}
 

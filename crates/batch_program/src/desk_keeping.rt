@@ -1,6 +1,6 @@
 //! Serving desks over a journal.
 ghost use Rattle.std.specs.Prelude.{◌≡◌, ◌⊎◌, [], Some, IsOk};
-ghost use Rattle.batch_desks.specs.DeskNames.{desk_names};
+ghost use Rattle.batch_reader.specs.DeskNames.{desk_names};
 ghost use Rattle.batch_engine.specs.View.{plant_of};
 ghost use Rattle.batch_journal.specs.Journals.{recovered, sum_text};
 ghost use Rattle.batch_journal.specs.Lines.{text_of};
@@ -16,13 +16,12 @@ use crate::journal_faults::{
 };
 use crate::journals::Journals;
 use crate::keeping::{Messages, write_block};
-use batch_desks::Desks;
 use batch_engine::Engine;
 use batch_journal::{Disk, DiskError, Groups, Run};
 use batch_keep::{Journal, Started, start_desks};
-use batch_pipes::DesksFault;
-use batch_serve_desks::Lines;
-use batch_streams::Noted;
+use batch_pipes::{DesksFault, Noted};
+use batch_reader::Desks;
+use batch_serve::Lines;
 use batch_text::Name;
 use batch_verdicts::{DeskSet, NO_MEMORY, OUT_OF_MEMORY, complain};
 use std::alloc::{AllocError, Global};

@@ -1,13 +1,13 @@
 //! Who serves desks.
 ghost use Rattle.std.specs.Prelude.{OnOk};
-ghost use Rattle.batch_desks.specs.DeskNames.{desk_names};
+ghost use Rattle.batch_reader.specs.DeskNames.{desk_names};
 ghost use Rattle.batch_engine.specs.View.{plant_of};
 ghost use Rattle.batch_pipes.specs.Service.{AreDesksServed};
 
-use batch_desks::Desks;
 use batch_engine::Engine;
 use batch_pipes::DesksFault;
-use batch_serve_desks::{Keep, Lines};
+use batch_reader::Desks;
+use batch_serve::{Keep, Lines};
 use std::alloc::Global;
 use std::io::Write;
 

@@ -1,6 +1,6 @@
 //! Serving desks, and how that ends.
 ghost use Rattle.std.specs.Prelude.{◌≡◌, ℕ, Result, IfOk, option_map, string_bytes};
-ghost use Rattle.batch_desks.specs.DeskNames.{desk_names};
+ghost use Rattle.batch_reader.specs.DeskNames.{desk_names};
 ghost use Rattle.batch_pipes.specs.declared.fault.DesksFault as faults;
 ghost use Rattle.batch_program.specs.DeskRuns.{AreDesksRun, IsDesksRecord, status_of_desks, status_of_fault};
 
@@ -9,9 +9,8 @@ use crate::desk_runner::DeskRunner;
 use crate::journals::Journals;
 use crate::program::tell_left;
 use batch_engine::Engine;
-use batch_pipes::DesksFault;
-use batch_serve_desks::{NoJournal, service_is_safe};
-use batch_streams::Noted;
+use batch_pipes::{DesksFault, Noted};
+use batch_serve::{NoJournal, service_is_safe};
 use batch_verdicts::{DeskSet, FILE_FAULT, NO_MEMORY, OUT_OF_MEMORY, SUCCESS, complain};
 use std::alloc::Global;
 use std::io;

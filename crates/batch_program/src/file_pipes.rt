@@ -1,6 +1,6 @@
 //! The pipes of the process.
 use batch_pipes::{InputTask, OutputTask, Outputs, PipeFault, Pipes, Written};
-use batch_serve_desks::Pause;
+use batch_serve::Pause;
 use std::alloc::Global;
 use std::fs::{File, OpenOptions};
 use std::thread;

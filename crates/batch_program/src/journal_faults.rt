@@ -6,9 +6,9 @@ ghost use Rattle.batch_program.specs.Keeping.{IsStartTold};
 
 use batch_journal::{DiskError, RecoveryFault};
 use batch_keep::{BlockFault, KeepFault, StartFault};
+use batch_pipes::Noted;
+use batch_record::StatusFault;
 use batch_serve::ServeFault;
-use batch_status::StatusFault;
-use batch_streams::Noted;
 use batch_verdicts::{FILE_FAULT, NO_MEMORY, OUT_OF_MEMORY, complain, print, write_and_flush};
 use batch_wording::shown;
 use std::alloc::{AllocError, Global};

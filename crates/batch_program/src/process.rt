@@ -4,7 +4,7 @@ ghost use Rattle.batch_program.specs.Programs.{IsExitStatus};
 
 use crate::program::run_program;
 use crate::threads::ThreadsOf;
-use batch_streams::Noted;
+use batch_pipes::Noted;
 use batch_verdicts::{FilesOf, NO_MEMORY, OUT_OF_MEMORY, USAGE, complain};
 use std::io::{BufWriter, ErrorKind};
 use std::process::ExitCode;

@@ -7,9 +7,9 @@ ghost use Rattle.batch_program.specs.Telling.{IsFindingTold};
 
 use crate::record_status::complain_unopened;
 use crate::records::Records;
-use batch_audit::{AuditFault, Finding, audit};
 use batch_cli::AuditWords;
-use batch_streams::Noted;
+use batch_keep::{AuditFault, Finding, audit};
+use batch_pipes::Noted;
 use batch_verdicts::{FILE_FAULT, NO_MEMORY, OUT_OF_MEMORY, SUCCESS, complain, print};
 use batch_verify::Cleared;
 use std::alloc::{AllocError, Global};

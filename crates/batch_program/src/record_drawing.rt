@@ -2,16 +2,16 @@
 ghost use Rattle.std.specs.Prelude.{◌≡◌, ◌⊎◌, ℕ, IfErr, IfOk, IfSome, Some, option_map, string_bytes};
 ghost use Rattle.batch_verdicts.specs.Running.{fault_status, memory_status};
 ghost use Rattle.batch_program.specs.DrawingRuns.{IsDrawn, IsRecordDrawn};
-ghost use Rattle.batch_status.specs.Reading.{IsRefusedAt};
-ghost use Rattle.batch_timeline.specs.Pictures.{picture_text};
-ghost use Rattle.batch_timeline.specs.Recorded.{IsRecord};
-ghost use Rattle.batch_timeline.specs.declared.picture.Picture.{Picture};
-ghost use Rattle.batch_timeline.specs.declared.reading.RecordFault.TheVariants.{NoRecord};
+ghost use Rattle.batch_record.specs.StatusReading.{IsRefusedAt};
+ghost use Rattle.batch_record.specs.Pictures.{picture_text};
+ghost use Rattle.batch_record.specs.Recorded.{IsRecord};
+ghost use Rattle.batch_record.specs.declared.picture.Picture.{Picture};
+ghost use Rattle.batch_record.specs.declared.picture_reading.RecordFault.TheVariants.{NoRecord};
 
 use crate::record_status::{complain_unopened, refuse_line};
 use crate::records::Records;
-use batch_streams::Noted;
-use batch_timeline::{RecordFault, draw_record};
+use batch_pipes::Noted;
+use batch_record::{RecordFault, draw_record};
 use batch_verdicts::{FILE_FAULT, NO_MEMORY, OUT_OF_MEMORY, SUCCESS, complain, print};
 use std::alloc::Global;
 use std::io;

@@ -3,13 +3,13 @@ ghost use Rattle.std.specs.Prelude.{◌≡◌, ◌⊎◌, ℕ, IfErr, IfOk, IfSo
 ghost use Rattle.batch_verdicts.specs.Running.{IsPrinted, IsUnwritten, fault_status, memory_status};
 ghost use Rattle.batch_program.specs.PlantRuns.{refused_status};
 ghost use Rattle.batch_program.specs.RecordRuns.{IsRecordTold, IsStatusOf, IsStatusTold, no_record_text};
-ghost use Rattle.batch_status.specs.Reading.{IsRefusedAt};
-ghost use Rattle.batch_status.specs.declared.reading.StatusFault.TheVariants.{NoRecord};
+ghost use Rattle.batch_record.specs.StatusReading.{IsRefusedAt};
+ghost use Rattle.batch_record.specs.declared.status_reading.StatusFault.TheVariants.{NoRecord};
 
 use crate::program::MAX_READS;
 use crate::records::Records;
-use batch_status::{StatusFault, read_status};
-use batch_streams::Noted;
+use batch_pipes::Noted;
+use batch_record::{StatusFault, read_status};
 use batch_verdicts::{FILE_FAULT, NO_MEMORY, OUT_OF_MEMORY, SUCCESS, complain, print, print_bytes};
 use batch_wording::shown;
 use std::alloc::{AllocError, Global};

@@ -4,7 +4,7 @@ use Rattle.std.proofs.lemmas.List.Elements.{All-nil, All-cons}
 use Rattle.std.proofs.lemmas.List.Folds.{list_all-append, list_all-map}
 use Rattle.std.specs.List.{list_all, All}
 use Rattle.toml.specs.Data.{Members, Items, no_items, item}
-use Rattle.batch_grammar.proofs.ChartForms.{is_formed}
+use Rattle.batch_reader.proofs.ChartForms.{is_formed}
 use Rattle.batch_recipe.specs.Conditions.{Name}
 use Rattle.batch_recipe.specs.Diagram.{diagram_of}
 use Rattle.batch_recipe.specs.WellFormed.{is_among, chart_words, have_no_chart_word, value_names, has_unit, has_chart, are_kinds, follows_no_par, has_free_names, reports_few, reports_with}

@@ -7,8 +7,8 @@ use Rattle.toml.specs.Parse.{parse_document}
 use Rattle.batch_text.specs.NameText.{IsName}
 use Rattle.batch_recipe.specs.Diagram.{Diagram}
 use Rattle.batch_recipe.specs.declared.need.Need.{Need}
-use Rattle.batch_grammar.specs.ChartGrammar.{IsChart, IsLabel}
-use Rattle.batch_grammar.specs.declared.reading.TheConstants.{MAX_CHART_LEN}
+use Rattle.batch_reader.specs.ChartGrammar.{IsChart, IsLabel}
+use Rattle.batch_reader.specs.declared.chart_reading.TheConstants.{MAX_CHART_LEN}
 use Rattle.batch_reader.specs.NeedText.{IsNeedText}
 use Rattle.batch_reader.specs.declared.document.TheConstants.{MAX_DOCUMENT_LEN}
 

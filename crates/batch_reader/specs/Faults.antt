@@ -9,8 +9,8 @@ use Rattle.batch_recipe.specs.declared.acts.Acts.{Acts}
 use Rattle.batch_recipe.specs.declared.need.TheConstants.{MAX_UNITS}
 use Rattle.batch_recipe.specs.declared.quantity.Quantity.{Quantity}
 use Rattle.batch_recipe.specs.declared.role.Role.{Role}
-use Rattle.batch_grammar.specs.ChartAnswer.{IsRead}
-use Rattle.batch_grammar.specs.declared.reading.TheConstants.{MAX_CHART_LEN}
+use Rattle.batch_reader.specs.ChartAnswer.{IsRead}
+use Rattle.batch_reader.specs.declared.chart_reading.TheConstants.{MAX_CHART_LEN}
 use Rattle.batch_reader.specs.Entries.{HasText}
 use Rattle.batch_reader.specs.NeedText.{is_star}
 use Rattle.batch_reader.specs.PartFaults.{HasActTwice, HasRoleTwice, HasUndeclaredName, HasUndeclaredRole, HasReportTwice, HasUndeclaredReport, HasValueTwice}

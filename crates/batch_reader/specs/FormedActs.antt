@@ -1,7 +1,7 @@
 -- private: the facts of each act that its own table decides, whatever the others declare.
 use Rattle.std.specs.Prelude.{◌≡◌, ◌≤◌, true, List, length, All}
 use Rattle.std.specs.List.{list_all}
-use Rattle.batch_grammar.specs.ChartForm.{IsFormed}
+use Rattle.batch_reader.specs.ChartForm.{IsFormed}
 use Rattle.batch_recipe.specs.Diagram.{diagram_of}
 use Rattle.batch_recipe.specs.WellFormed.{follows_no_par, reports_few, reserves_none}
 use Rattle.batch_recipe.specs.declared.act.Act.{Act}

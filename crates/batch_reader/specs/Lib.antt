@@ -15,3 +15,14 @@ pub mod Faults
 pub mod PartFaults
 pub mod FaultStands
 pub mod RowsOfFaults
+pub mod Ascii
+pub mod ChartGrammar
+pub mod ChartAnswer
+pub mod ChartForm
+pub mod ChartMachine
+pub mod ChartView
+pub mod DeskNames
+pub mod DesksDocument
+pub mod DesksFaults
+pub mod DeskUnits
+pub mod RowsOfDesks

@@ -1,7 +1,7 @@
 -- private: the names that the acts of a recipe use, and their declarations.
 use Rattle.std.specs.Prelude.{Bool, ◌&&◌, List, []}
 use Rattle.std.specs.List.{list_all}
-use Rattle.batch_grammar.specs.ChartForm.{labels_of, values_of}
+use Rattle.batch_reader.specs.ChartForm.{labels_of, values_of}
 use Rattle.batch_recipe.specs.Conditions.{Name}
 use Rattle.batch_recipe.specs.Diagram.{Diagram}
 use Rattle.batch_recipe.specs.WellFormed.{is_among, are_distinct, act_names, is_work}

@@ -6,9 +6,9 @@ use Rattle.batch_text.specs.NameText.{IsName}
 use Rattle.batch_text.specs.NumberText.{IsNumber, number_of}
 use Rattle.batch_recipe.specs.Diagram.{Diagram}
 use Rattle.batch_recipe.specs.declared.need.TheConstants.{MAX_UNITS}
-use Rattle.batch_grammar.specs.ChartAnswer.{HasFaultAt, IsOutsideAt, IsRead}
-use Rattle.batch_grammar.specs.ChartGrammar.{IsLabel}
-use Rattle.batch_grammar.specs.declared.reading.TheConstants.{MAX_CHART_LEN}
+use Rattle.batch_reader.specs.ChartAnswer.{HasFaultAt, IsOutsideAt, IsRead}
+use Rattle.batch_reader.specs.ChartGrammar.{IsLabel}
+use Rattle.batch_reader.specs.declared.chart_reading.TheConstants.{MAX_CHART_LEN}
 use Rattle.batch_reader.specs.Entries.{AllItems, IsNameItem, items_at}
 use Rattle.batch_reader.specs.Keys.{Key, has_known_keys, keys_of, may_stand}
 use Rattle.batch_reader.specs.NeedText.{is_star}

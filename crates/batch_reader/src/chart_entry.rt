@@ -9,9 +9,10 @@ ghost use Rattle.batch_reader.specs.Keys.{needed};
 ghost use Rattle.batch_reader.specs.TableFaults.{IsKeyFault};
 ghost use Rattle.batch_reader.specs.declared.keys.ValueForm.{ValueForm};
 
+use crate::chart_fault::ChartFault;
+use crate::chart_reading::{MAX_CHART_LEN, ReadChart, read_chart_and_par};
 use crate::entries::member;
 use crate::fault::{EntryFault, Spot, TableFault};
-use batch_grammar::{ChartFault, MAX_CHART_LEN, ReadChart, read_chart_and_par};
 use batch_recipe::Chart;
 use std::alloc::Global;
 use toml::Table;

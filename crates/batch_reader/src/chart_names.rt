@@ -1,7 +1,7 @@
 //! The names that charts use.
 ghost use Rattle.std.specs.Prelude.{◌≡◌, ◌&&◌};
 ghost use Rattle.std.specs.List.{list_all};
-ghost use Rattle.batch_grammar.specs.ChartForm.{names_compared};
+ghost use Rattle.batch_reader.specs.ChartForm.{names_compared};
 ghost use Rattle.batch_recipe.specs.Diagram.{diagram_of};
 ghost use Rattle.batch_recipe.specs.WellFormed.{is_among};
 ghost use Rattle.batch_reader.specs.Naming.{is_declared};

@@ -37,7 +37,7 @@ pub enum TableKind {
     Operation,
     /// A phase step, `[[phase]]`.
     Phase,
-    /// A console or an equipment link, `[[desk]]`. Neither a cell nor a recipe has these tables: batch_desks reads them.
+    /// A console or an equipment link, `[[desk]]`. Neither a cell nor a recipe has these tables: `read_desks` reads them.
     Desk,
 }
 

@@ -8,7 +8,7 @@ ghost use Rattle.batch_reader.specs.Faults.{IsToldAs, few_names_fault, missing_o
 use crate::entries::{member, name_at, names_of};
 use crate::fault::{EntryFault, Spot, TableFault};
 use crate::tables::items_at;
-use batch_grammar::is_chart_word;
+use crate::word::is_chart_word;
 use batch_text::Name;
 use std::alloc::Global;
 use toml::Table;

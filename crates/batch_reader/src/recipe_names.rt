@@ -39,19 +39,33 @@ impl Named for Name {
 }
 
 /// The names to which the charts of a recipe and its phase steps may refer.
-#[derive(Drop)]
 pub(crate) struct RecipeNames {
     /// The inputs, parameters and outputs.
     pub(crate) values: IndexSet<Name>,
     pub(crate) acts: ActNames,
 }
 
+impl Drop for RecipeNames {
+    fn drop(self) {
+        let RecipeNames { values: _, acts: _ } = self;
+    }
+}
+
 /// The names of a recipe's acts, table by table.
-#[derive(Drop)]
 pub(crate) struct ActNames {
     pub(crate) unit_procedures: IndexSet<Name>,
     pub(crate) operations: IndexSet<Name>,
     pub(crate) phases: IndexSet<Name>,
+}
+
+impl Drop for ActNames {
+    fn drop(self) {
+        let ActNames {
+            unit_procedures: _,
+            operations: _,
+            phases: _,
+        } = self;
+    }
 }
 
 /// The names of a recipe, where those that have to differ do.

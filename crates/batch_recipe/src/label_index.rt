@@ -16,11 +16,16 @@ const MIN_INDEXED: usize = 8;
 
 /// A table of acts, and an index of their names. There is no index if the table is short or has a name twice, since a label
 /// names the first act of its name.
-#[derive(Drop)]
 struct TableIndex<'a> {
     table: &'a [Act],
     names: Option<IndexSet<&'a Name>>,
     ghost indexed: { IsIndexed table.now names },
+}
+
+impl Drop for TableIndex<'_> {
+    fn drop(self) {
+        let TableIndex { table: _, names: _ } = self;
+    }
 }
 
 impl<'a> TableIndex<'a> {
@@ -59,7 +64,6 @@ fn index_names(alloc: Global, table: &[Act]) -> Result<Option<IndexSet<&Name>>, 
 }
 
 /// The acts of a recipe, and the indexes in which labels are looked up. `Labels::new` alone makes them.
-#[derive(Drop)]
 pub struct Labels<'a> {
     pub acts: &'a Acts,
     unit_procedures: TableIndex<'a>,
@@ -68,6 +72,17 @@ pub struct Labels<'a> {
     ghost unit_procedures_are: { act_names unit_procedures.table.now ≡ act_names acts.now.unit_procedures.items },
     ghost operations_are: { act_names operations.table.now ≡ act_names acts.now.operations.items },
     ghost phases_are: { act_names phases.table.now ≡ act_names acts.now.phases.items },
+}
+
+impl Drop for Labels<'_> {
+    fn drop(self) {
+        let Labels {
+            acts: _,
+            unit_procedures: _,
+            operations: _,
+            phases: _,
+        } = self;
+    }
 }
 
 impl<'a> Labels<'a> {

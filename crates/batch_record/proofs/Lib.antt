@@ -7,3 +7,10 @@ pub mod Sound
 pub mod Back
 pub mod Outcome
 pub mod Passing
+mod Shares
+mod Lives
+mod Sorting
+mod Ordered
+pub mod ReadingLemmas
+mod Promises
+mod Lines

@@ -3,3 +3,15 @@ pub mod RecordLine
 pub mod Reading
 pub mod Laws
 pub mod RowsOfRecords
+pub mod Telling
+pub mod Listing
+pub mod Kept
+pub mod Blocks
+pub mod Marks
+pub mod StatusReading
+pub mod Standings
+pub mod RowsOfStatus
+pub mod Promises
+pub mod Pictures
+pub mod Recorded
+pub mod Taking

@@ -1,19 +1,47 @@
-//! Reading the lines of a record: the out of the machine that each of them tells.
+//! Reading records: the out of each line, the state of the plant at the end, and the picture of who held which resource when.
 #![tactic(auto)]
 
+mod axis;
+mod bars;
+mod batches;
+mod block;
+mod course;
+mod drawing;
+mod lanes;
 mod laws;
+mod live;
+mod memory;
 mod pairs;
+mod picture;
+mod picture_reading;
 mod read;
 mod record_line;
+mod remark;
 mod rows;
+mod shape;
+mod standing;
+mod status;
+mod status_laws;
+mod status_reading;
+mod status_rows;
+mod text;
+mod timeline;
 mod told;
 mod word;
 mod words;
 
 pub use laws::{lines_tell_outs, text_is_as_told, text_is_one};
+pub use memory::NoMemory;
+pub use picture::Picture;
+pub use picture_reading::{RecordFault, draw_record};
 pub use read::{phase_with, read_out};
 pub use record_line::{NoRecordLine, read_record_line};
 pub use rows::{other_lines, record_lines};
+pub use shape::{Anchor, Block, Grid, Label, Shape};
+pub use status::Status;
+pub use status_laws::{lines_tell_their_outs, tales_are_modelled};
+pub use status_reading::{StatusFault, read_status};
+pub use status_rows::{told_blocks, told_lines};
 pub use told::{
     Begun, Claim, Created, Ended, Passed, PhaseStep, Refused, Reported, Sent, Started, Told,
 };

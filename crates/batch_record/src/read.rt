@@ -9,10 +9,11 @@ use crate::pairs::{are_plain_values, are_role_pairs};
 use crate::told::{
     Begun, Claim, Created, Ended, Passed, PhaseStep, Refused, Reported, Sent, Started, Told,
 };
-use crate::word::{command_of, is_plain_place, plain_number, read_need, state_of, word_of_report};
+use crate::word::{is_plain_place, plain_number, read_need, state_of};
 use crate::words::Words;
 use batch_matrix::{Command, State};
 use batch_text::is_name;
+use batch_wire::{command_of, word_of_report};
 
 /// The out that the line tells, or None if it is the text of no out. The line comes without its line feed.
 // claim: lines told

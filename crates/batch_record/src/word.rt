@@ -4,10 +4,10 @@ ghost use Rattle.std.specs.List.{before_first, after_first, list_all};
 ghost use Rattle.batch_text.specs.PlaceText.{parts};
 ghost use Rattle.batch_text.specs.NumberText.{number_of};
 ghost use Rattle.batch_record.specs.RecordLine.{is_plain_number, is_plain_child, is_plain_place, is_plain_units, has_plain_front, need_of, state_of};
-ghost use Rattle.batch_wire.specs.EventLine.{is_number, command_of, word_of_report};
+ghost use Rattle.batch_wire.specs.EventLine.{is_number};
 ghost use Rattle.batch_record.specs.Reading.{need_told};
 
-use batch_matrix::{Command, Report, State};
+use batch_matrix::State;
 use batch_text::{MAX_CHILD_NUMBER, MAX_PLACE_LEN, is_name};
 
 /// The number that the word is, with no zero before another digit.
@@ -141,54 +141,6 @@ pub fn state_of(word: &[u8]) -> Option<State>
         Some(State::Aborted)
     } else if word == b"complete".as_slice() {
         Some(State::Complete)
-    } else {
-        None
-    }
-}
-
-/// The command that the word names.
-pub fn command_of(word: &[u8]) -> Option<Command>
-    ensures { result ≡ command_of word.now }
-{
-    if word == b"start".as_slice() {
-        Some(Command::Start)
-    } else if word == b"pause".as_slice() {
-        Some(Command::Pause)
-    } else if word == b"resume".as_slice() {
-        Some(Command::Resume)
-    } else if word == b"hold".as_slice() {
-        Some(Command::Hold)
-    } else if word == b"restart".as_slice() {
-        Some(Command::Restart)
-    } else if word == b"stop".as_slice() {
-        Some(Command::Stop)
-    } else if word == b"abort".as_slice() {
-        Some(Command::Abort)
-    } else if word == b"reset".as_slice() {
-        Some(Command::Reset)
-    } else {
-        None
-    }
-}
-
-/// The report that the word names.
-pub fn word_of_report(word: &[u8]) -> Option<Report>
-    ensures { result ≡ word_of_report word.now }
-{
-    if word == b"done".as_slice() {
-        Some(Report::Done)
-    } else if word == b"paused".as_slice() {
-        Some(Report::Paused)
-    } else if word == b"held".as_slice() {
-        Some(Report::Held)
-    } else if word == b"running".as_slice() {
-        Some(Report::Running)
-    } else if word == b"stopped".as_slice() {
-        Some(Report::Stopped)
-    } else if word == b"aborted".as_slice() {
-        Some(Report::Aborted)
-    } else if word == b"fault".as_slice() {
-        Some(Report::Fault)
     } else {
         None
     }

@@ -39,7 +39,6 @@ pub struct LinkedNeed {
 
 /// A recipe by number, each of its tables in its order. The needs of an act are its own unit, if it has one, then the units that it
 /// reserves, and then its other needs.
-#[derive(Drop)]
 pub struct LinkedRecipe {
     pub procedure: Vec<LinkedNeed>,
     pub unit_procedures: Vec<Vec<LinkedNeed>>,
@@ -49,6 +48,19 @@ pub struct LinkedRecipe {
     pub candidates: Vec<Vec<u16>>,
     /// Of each phase step the number of its phase among the phases of the cell. None where no unit offers it.
     pub runs: Vec<Option<usize>>,
+}
+
+impl Drop for LinkedRecipe {
+    fn drop(self) {
+        let LinkedRecipe {
+            procedure: _,
+            unit_procedures: _,
+            operations: _,
+            phases: _,
+            candidates: _,
+            runs: _,
+        } = self;
+    }
 }
 
 impl LinkedRecipe {

@@ -10,10 +10,10 @@ use Rattle.batch_reader.specs.declared.fault.EntryFault.{EntryFault}
 use Rattle.batch_reader.specs.declared.fault.EntryFault.TheVariants.{OutOfLimit, Undeclared}
 use Rattle.batch_reader.specs.declared.fault.Spot.{Spot}
 use Rattle.batch_reader.specs.declared.fault.TableKind.TheVariants as table
-use Rattle.batch_desks.specs.DeskUnits.{HaveUnits}
-use Rattle.batch_desks.specs.DesksDocument.{IsDesksDocument}
-use Rattle.batch_desks.specs.DesksFaults.{FaultStands}
-use Rattle.batch_desks.specs.declared.desk_set.Desks.{Desks}
+use Rattle.batch_reader.specs.DeskUnits.{HaveUnits}
+use Rattle.batch_reader.specs.DesksDocument.{IsDesksDocument}
+use Rattle.batch_reader.specs.DesksFaults.{FaultStands}
+use Rattle.batch_reader.specs.declared.desk_set.Desks.{Desks}
 use Rattle.batch_verify.specs.ClearedSet.{ClearedSet}
 use Rattle.batch_verdicts.specs.Digested.{AreDigested}
 use Rattle.batch_verdicts.specs.Halting.{HaltsAtCell, HaltsClearing}

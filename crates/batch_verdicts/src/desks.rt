@@ -1,8 +1,8 @@
 //! Reading the documents of desks, and of the set that they are served over.
 ghost use Rattle.std.specs.Prelude.{map, IfOk, IfErr, OnOk, string_bytes};
 ghost use Rattle.batch_cell.specs.LookUps.{units_of};
-ghost use Rattle.batch_desks.specs.DeskUnits.{HaveUnits};
-ghost use Rattle.batch_desks.specs.DesksDocument.{IsDesksDocument};
+ghost use Rattle.batch_reader.specs.DeskUnits.{HaveUnits};
+ghost use Rattle.batch_reader.specs.DesksDocument.{IsDesksDocument};
 ghost use Rattle.batch_verdicts.specs.DeskSets.{AreDesksCleared, HaltsAtDesks, HaltsDesks, ReadsDesks, RefusesDesks, RefusesUnits};
 
 use crate::digested::{Digested, clear_behind, read_cell};
@@ -10,10 +10,9 @@ use crate::documents::Documents;
 use crate::judging::document_halt;
 use crate::refusal::Halt;
 use batch_cell::Cell;
-use batch_desks::{Desks, check_units, read_desks};
 use batch_document_sentences::Asked;
 use batch_journal::DocumentsDigest;
-use batch_reader::MAX_DOCUMENT_LEN;
+use batch_reader::{Desks, MAX_DOCUMENT_LEN, check_units, read_desks};
 use std::alloc::Global;
 
 /// Desks, and the set over which they are served, with the digits that name its documents in a journal.

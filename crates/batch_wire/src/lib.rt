@@ -19,10 +19,10 @@ mod steps;
 mod words;
 mod writing;
 
-pub use event_line::{MAX_LINE_LEN, read_event};
+pub use event_line::{MAX_LINE_LEN, command_of, read_event};
 pub use fault::{WireFault, WriteFault};
 pub use known_places::KnownPlaces;
 pub use record_line::{write_out, write_out_knowing};
-pub use report_line::MAX_PAIRS;
+pub use report_line::{MAX_PAIRS, word_of_report};
 pub use rows::{create_lines, limits, record_lines};
 pub use writing::write_all;

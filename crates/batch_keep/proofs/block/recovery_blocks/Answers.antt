@@ -1,7 +1,7 @@
 use Rattle.std.proofs.Common.{ℕ, List, length, map, ◌∙◌, ap, subst}
 use Rattle.batch_engine.specs.View.{setup, plant_of}
 use Rattle.batch_journal.specs.Journals.{recovered}
-use Rattle.batch_status.specs.Reading.{LeadsTo}
+use Rattle.batch_record.specs.StatusReading.{LeadsTo}
 use Rattle.batch_keep.specs.Blocks.{block_text}
 use Rattle.batch_keep.specs.Counts.{own_lines}
 use Rattle.batch_keep.proofs.Blocks.{are_blocks}

@@ -1,4 +1,4 @@
-use Rattle.batch_serve_desks.specs.Rounds.{IsHandedOn}
+use Rattle.batch_serve.specs.Rounds.{IsHandedOn}
 use Rattle.batch_pipes.proofs.dropping.drop_all.Given as goal
 
 -- some of the queued lines were handed on

@@ -1,6 +1,6 @@
 use Rattle.std.proofs.Common.{◌<◌, ◌+◌, length, get_or, length-drop, refl, sym, ap, subst, ◌∙◌, arith}
 use Rattle.std.specs.Vec.Iter.{into_iter_items}
-use Rattle.batch_serve_desks.specs.declared.rounds.Writer.{Writer}
+use Rattle.batch_serve.specs.declared.rounds.Writer.{Writer}
 use Rattle.batch_pipes.specs.OutputEnds.{IsHandedBack}
 use Rattle.batch_pipes.specs.Outputs.{AreOutputsKept, AreOutputsOf, IsFinished}
 use Rattle.batch_pipes.proofs.Lists.{first_left, first_set}

@@ -1,5 +1,5 @@
 use Rattle.std.proofs.Common.{List, ℕ, ap, ◌∙◌}
-use Rattle.batch_serve_desks.specs.Waits.{Waits}
+use Rattle.batch_serve.specs.Waits.{Waits}
 use Rattle.batch_pipes.proofs.opening.open_desk.Goals as goal
 
 pub returns-clause-desk : goal.returns-clause-desk

@@ -1,6 +1,6 @@
 use Rattle.std.proofs.Common.{rules, ◌≡◌, subst}
 use Rattle.rtrb.specs.Ring.{IsPair}
-use Rattle.batch_serve_desks.specs.declared.rounds.Writer.{Writer as OneWriter}
+use Rattle.batch_serve.specs.declared.rounds.Writer.{Writer as OneWriter}
 use Rattle.batch_pipes.specs.OutputEnds.{IsHandedBack}
 use Rattle.batch_pipes.specs.Outputs.{IsOutputOf}
 use Rattle.batch_pipes.specs.declared.output.Output.{Output}

@@ -1,5 +1,5 @@
 use Rattle.std.proofs.Common.{refl, sym, subst}
-use Rattle.batch_serve_desks.specs.Turns.{IsTurned}
+use Rattle.batch_serve.specs.Turns.{IsTurned}
 use Rattle.batch_pipes.proofs.Keeping.{desks_same, desks_told}
 use Rattle.batch_pipes.proofs.Serviced.{service_turned}
 use Rattle.batch_pipes.proofs.rounds.serve_group.Goals as goal

@@ -1,10 +1,10 @@
 use Rattle.std.proofs.Common.{◌<◌, arith, length, length-set}
-use Rattle.batch_serve_desks.specs.declared.desk.Desk.{Desk}
-use Rattle.batch_serve_desks.specs.declared.rounds.Reader.{Reader}
-use Rattle.batch_serve_desks.specs.declared.rounds.Writer.{Writer}
-use Rattle.batch_serve_desks.proofs.Gathering.{each_more, kept_behind}
+use Rattle.batch_serve.specs.declared.desk.Desk.{Desk}
+use Rattle.batch_serve.specs.declared.rounds.Reader.{Reader}
+use Rattle.batch_serve.specs.declared.rounds.Writer.{Writer}
+use Rattle.batch_serve.proofs.Gathering.{each_more, kept_behind}
 use Rattle.batch_pipes.specs.declared.ports.DeskThreads.{DeskThreads}
-use Rattle.batch_serve_desks.specs.Rounds.{IsHandedOn}
+use Rattle.batch_serve.specs.Rounds.{IsHandedOn}
 use Rattle.batch_pipes.specs.Inputs.{path_of}
 use Rattle.batch_pipes.specs.Outputs.{asked_of}
 use Rattle.batch_pipes.specs.declared.input.Input.{Input}

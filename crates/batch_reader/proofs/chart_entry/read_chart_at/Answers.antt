@@ -2,7 +2,7 @@ use Rattle.std.proofs.Common.{◌≡◌, Some, codes, rules}
 use Rattle.std.specs.Option.{option_and_then}
 use Rattle.toml.specs.Data.{get_member, as_str}
 use Rattle.toml.specs.View.{table_view}
-use Rattle.batch_grammar.specs.ChartAnswer.{IsOutsideAt}
+use Rattle.batch_reader.specs.ChartAnswer.{IsOutsideAt}
 use Rattle.batch_reader.proofs.OneEntry.{chart_refused}
 use Rattle.batch_reader.proofs.chart_entry.read_chart_at.Goals as goal
 

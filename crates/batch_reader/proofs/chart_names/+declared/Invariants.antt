@@ -1,6 +1,6 @@
 use Rattle.std.proofs.Common.{◌≡◌, ◌&&◌, true, take}
 use Rattle.std.specs.List.{list_all}
-use Rattle.batch_grammar.specs.ChartForm.{names_compared}
+use Rattle.batch_reader.specs.ChartForm.{names_compared}
 use Rattle.batch_recipe.specs.Diagram.{diagram_of}
 use Rattle.batch_recipe.specs.WellFormed.{is_among}
 use Rattle.batch_reader.specs.Naming.{is_declared}

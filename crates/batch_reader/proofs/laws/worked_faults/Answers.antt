@@ -4,7 +4,7 @@ use Rattle.std.specs.List.{list_all}
 use Rattle.batch_cell.specs.Equipment.{HasDeclaredUnits}
 use Rattle.batch_cell.specs.declared.module.Module.{Module}
 use Rattle.toml.specs.Data.{no_members, table}
-use Rattle.batch_grammar.specs.ChartGrammar.{here, no_offsets, whole, skip as reads_skip}
+use Rattle.batch_reader.specs.ChartGrammar.{here, no_offsets, whole, skip as reads_skip}
 use Rattle.batch_recipe.specs.Diagram.{skip}
 use Rattle.batch_recipe.specs.WellFormed.{are_distinct, is_among, reserves_among, reserves_once}
 use Rattle.batch_recipe.specs.declared.act.Act.{Act}

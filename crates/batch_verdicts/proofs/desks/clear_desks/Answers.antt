@@ -2,7 +2,7 @@ use Rattle.std.proofs.Common.{[], inl, inr, subst, sym}
 use Rattle.std.proofs.lemmas.Result.{err_from_is_err_and}
 use Rattle.batch_cell.specs.LookUps.{units_of}
 use Rattle.batch_cell.specs.declared.cell.Cell.{Cell}
-use Rattle.batch_desks.specs.DeskUnits.{HaveUnits}
+use Rattle.batch_reader.specs.DeskUnits.{HaveUnits}
 use Rattle.batch_verdicts.proofs.desks.clear_desks.Goals as goal
 
 pub returns-in_err-read-clause-halted : goal.returns-in_err-read-clause-halted

@@ -1,4 +1,0 @@
-pub mod ComparingLemmas
-pub mod Choices
-pub mod Freedom
-pub mod Audited

@@ -1,4 +1,0 @@
-pub mod Auditing
-pub mod Audits
-pub mod Comparing
-pub mod RowsOfAudits

@@ -1,3 +1,0 @@
-pub mod DeskFaults
-pub mod Refusing
-pub mod DistinctDesks

@@ -1,5 +1,0 @@
-pub mod DeskNames
-pub mod DesksDocument
-pub mod DesksFaults
-pub mod DeskUnits
-pub mod RowsOfDesks

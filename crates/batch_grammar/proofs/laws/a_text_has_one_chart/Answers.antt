@@ -1,5 +1,0 @@
-use Rattle.batch_grammar.proofs.ChartRead.{at_most_one}
-use Rattle.batch_grammar.proofs.laws.a_text_has_one_chart.Goals as goal
-
-pub returns : goal.returns
-returns c = at_most_one

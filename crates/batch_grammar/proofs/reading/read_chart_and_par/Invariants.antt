@@ -1,6 +1,0 @@
-use Rattle.batch_grammar.specs.ChartView.{state_view}
-use Rattle.batch_grammar.proofs.ChartRead.{IsAfter}
-use Rattle.batch_grammar.proofs.reading.read_chart_and_par.Given as goal
-
-abbrev pub invariant-loop-place : goal.invariant-loop-place
-invariant-loop-place l = IsAfter l.text l.place (state_view l.text l.place l.state)

@@ -1,7 +1,0 @@
-use Rattle.std.proofs.Common.{sym, ap, ◌∙◌}
-use Rattle.batch_recipe.specs.Diagram.{diagram_of}
-use Rattle.batch_grammar.specs.ChartView.{want_view}
-use Rattle.batch_grammar.proofs.signs.take_other_sign.Goals as goal
-
-pub unreachable-requires : goal.unreachable-requires
-unreachable-requires c = c.requires (diagram_of c.in-AfterChart.field-0) (ap want_view (sym c.replace.ensures.value ∙ c.in-AfterChart.is))

@@ -1,0 +1,6 @@
+use Rattle.batch_reader.specs.ChartView.{state_view}
+use Rattle.batch_reader.proofs.ChartRead.{IsAfter}
+use Rattle.batch_reader.proofs.chart_reading.read_chart_and_par.Given as goal
+
+abbrev pub invariant-loop-place : goal.invariant-loop-place
+invariant-loop-place l = IsAfter l.text l.place (state_view l.text l.place l.state)

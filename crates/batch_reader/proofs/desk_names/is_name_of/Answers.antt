@@ -1,0 +1,11 @@
+use Rattle.std.proofs.Common.{rules, ◌∙◌, nat_eq}
+use Rattle.std.proofs.lemmas.Iterator.{YieldsList-from_slice}
+use Rattle.std.proofs.lemmas.Iterator.Search.{any_from_yields_List}
+use Rattle.std.specs.Cmp.Lexicographic.{pointwise}
+use Rattle.batch_reader.proofs.KnownKeys.{list_any-map}
+use Rattle.batch_reader.proofs.desk_names.is_name_of.Goals as goal
+
+pub returns : goal.returns
+returns c =
+    any_from_yields_List (λ desk. pointwise nat_eq c.args.name.now desk.name) _ _ c.any.result c.any.ensures.ran (YieldsList-from_slice c.args.desks.now c.iter.ensures.rest) (λ x b q called. search rules)
+    ∙ list_any-map (pointwise nat_eq c.args.name.now) (λ desk. desk.name) c.args.desks.now

@@ -1,0 +1,7 @@
+use Rattle.std.proofs.Common.{rules}
+use Rattle.std.proofs.lemmas.Fn.{filter_same}
+use Rattle.batch_record.specs.Kept.{is_elsewhere}
+use Rattle.batch_record.proofs.live.LivePhases.end.Goals as goal
+
+pub returns : goal.returns
+returns c = filter_same _ (is_elsewhere (c.args.batch, c.args.place.now)) _ (λ x b q called. (search rules, search rules)) _ _ c.retain.ensures.filtered

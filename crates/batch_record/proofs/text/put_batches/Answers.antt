@@ -1,0 +1,8 @@
+use Rattle.std.proofs.Common.{sym, subst}
+use Rattle.std.specs.List.Sorted.{IsStrictlySortedBy}
+use Rattle.std.specs.Ordering.{nat_cmp}
+use Rattle.batch_record.proofs.Ordered.{keys-kept}
+use Rattle.batch_record.proofs.text.put_batches.Goals as goal
+
+pub returns-clause-rise : goal.returns-clause-rise
+returns-clause-rise c = subst (IsStrictlySortedBy nat_cmp) (sym (keys-kept c.args.batches.now.listed.entries)) c.iter-number-items.ensures.ordered

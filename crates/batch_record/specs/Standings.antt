@@ -1,0 +1,57 @@
+-- private: the progress of reading.
+use Rattle.std.specs.Prelude.{◌≡◌, ℕ, ◌-◌, ◌^◌, ◌<◌, List, [], ◌∷◌, ◌++◌, length, take, get_or, min, Option, Some, None, ⊤, Result, MatchResult}
+use Rattle.batch_record.specs.Blocks.{Stage, opening, stage_after, stages}
+use Rattle.batch_record.specs.Kept.{Keeps}
+use Rattle.batch_record.specs.StatusReading.{HasNoFeed, IsRefusedAt, IsText}
+use Rattle.batch_record.specs.Telling.{Tale}
+use Rattle.batch_record.specs.declared.course.Course.{Course}
+use Rattle.batch_record.specs.declared.course.LineFault.{LineFault}
+use Rattle.batch_record.specs.declared.course.LineFault.TheVariants as faults
+use Rattle.batch_record.specs.declared.status_reading.StatusFault.{StatusFault}
+use Rattle.batch_record.specs.declared.status_reading.StatusFault.TheVariants as status_faults
+use Rattle.batch_record.specs.declared.status_reading.Reading.{Reading}
+use Rattle.batch_record.specs.declared.status.Status.{Status}
+
+abbrev pub KeepsBlock : Option Status → Option Tale → Type 0
+KeepsBlock None None = ⊤
+KeepsBlock (Some status) (Some tale) = Keeps status tale
+KeepsBlock _ _ = ⊥
+
+-- the kept state is that of the stage
+pub record IsAt (course : Course) (stage : Stage) : Type 0 where
+  pub tale : Keeps course.status stage.tale
+  pub block : KeepsBlock course.block stage.block
+
+-- a line was taken, or is none of a record
+abbrev pub Takes : Course → List ℕ → Result (Unit {0}) LineFault → Course → Type 0
+Takes old line result new =
+    (stage : Stage) → IsAt old stage
+    → MatchResult result (λ _. (next : Stage) × (stage_after stage line ≡ Some next) × IsAt new next) (λ fault. fault ≡ faults.NoRecord → stage_after stage line ≡ None)
+
+-- the bytes were read: whole lines, and the beginning of the line after them
+pub record HasRead (reading : Reading) (read : List ℕ) : Type 0 where
+  pub lines : List (List ℕ)
+  pub stage : Stage
+  pub is_text : IsText lines reading.line.items read
+  pub stages : stages opening lines ≡ Some stage
+  pub is_at : IsAt reading.course stage
+  pub counted : reading.count ≡ min (length lines) (2 ^ 64 - 1)
+
+-- the first line feed in the bytes is there
+pub record EndsLine (at : ℕ) (bytes : List ℕ) : Type 0 where
+  pub within : at < length bytes
+  pub feed : get_or bytes at 0 ≡ 10
+  pub before : HasNoFeed (take at bytes)
+
+-- whatever was read before, the line ends with these bytes, or is none of a record, whatever follows it
+abbrev pub Ends : Reading → List ℕ → Result (Unit {0}) StatusFault → Reading → Type 0
+Ends old end result new =
+    (read : List ℕ) → HasRead old read → HasNoFeed end
+    → MatchResult result (λ _. HasRead new (read ++ (end ++ 10 ∷ [])))
+    (λ fault. (number : ℕ) → fault ≡ status_faults.NoRecord number → (rest : List ℕ) → IsRefusedAt (read ++ (end ++ 10 ∷ rest)) number)
+
+-- whatever was read before, a piece more was read, or a line in it is none of a record
+abbrev pub Feeds : Reading → List ℕ → Result (Unit {0}) StatusFault → Reading → Type 0
+Feeds old piece result new =
+    (read : List ℕ) → HasRead old read
+    → MatchResult result (λ _. HasRead new (read ++ piece)) (λ fault. (number : ℕ) → fault ≡ status_faults.NoRecord number → IsRefusedAt (read ++ piece) number)

@@ -1,0 +1,158 @@
+//! Times that a batch holds a resource, or waits for it.
+use crate::told::Claim;
+use std::alloc::{AllocError, Global};
+use std::str;
+
+/// An act of a batch that holds a resource or waits for it. The resource is given by its number among those that the record names.
+#[derive(Drop)]
+pub struct Share {
+    pub resource: usize,
+    pub batch: u64,
+    /// The place of the act.
+    pub place: String,
+    pub units: u32,
+    pub waits: bool,
+}
+
+impl Share {
+    /// The share of this claim, of a resource with this number.
+    pub fn of(
+        alloc: Global,
+        resource: usize,
+        claim: Claim<'_>,
+        waits: bool,
+    ) -> Result<Share, AllocError> {
+        let place = String::from_str(alloc, str::from_utf8(claim.place).unwrap_or(""))?;
+        Ok(Share {
+            resource,
+            batch: claim.batch,
+            place,
+            units: claim.units,
+            waits,
+        })
+    }
+
+    /// Whether the other share is that of the same act.
+    fn is(&self, other: &Share) -> bool {
+        self.resource == other.resource
+            && self.batch == other.batch
+            && self.waits == other.waits
+            && self.place == other.place
+    }
+}
+
+/// A share, and how long it stands.
+#[derive(Drop)]
+pub struct Bar {
+    pub share: Share,
+    pub from: u64,
+    /// None while it stands.
+    pub to: Option<u64>,
+}
+
+/// Which bars end.
+#[derive(Clone, Copy)]
+pub enum Ending<'a> {
+    /// That of this share.
+    Share(&'a Share),
+    /// Those of a batch that wait.
+    AsksOf(u64),
+    /// Those that a recovery block doesn't list.
+    Unlisted(&'a [Share]),
+}
+
+impl Ending<'_> {
+    fn ends(self, share: &Share) -> bool {
+        match self {
+            Ending::Share(ended) => share.is(ended),
+            Ending::AsksOf(batch) => share.waits && share.batch == batch,
+            Ending::Unlisted(listed) => !is_among(share, listed),
+        }
+    }
+}
+
+fn is_among(share: &Share, listed: &[Share]) -> bool {
+    listed.iter().any(|other| share.is(other))
+}
+
+/// All bars, in the order in which they begin.
+#[derive(Drop)]
+pub struct Bars {
+    pub all: Vec<Bar>,
+    /// Those that stand, by their numbers.
+    standing: Vec<usize>,
+}
+
+impl Bars {
+    pub fn new(alloc: Global) -> Bars {
+        Bars {
+            all: Vec::new(alloc),
+            standing: Vec::new(alloc),
+        }
+    }
+
+    /// The share stands from now on.
+    pub fn begin(&mut self, share: Share, now: u64) -> Result<(), AllocError> {
+        self.standing.push(self.all.len())?;
+        self.all.push(Bar {
+            share,
+            from: now,
+            to: None,
+        })?;
+        Ok(())
+    }
+
+    /// Ends these bars.
+    pub fn end(&mut self, alloc: Global, ending: Ending<'_>, now: u64) -> Result<(), AllocError> {
+        self.standing = still_standing(alloc, &mut self.all, &self.standing, ending, now)?;
+        Ok(())
+    }
+
+    /// The shares that a recovery block lists stand, and no others.
+    pub fn replace(
+        &mut self,
+        alloc: Global,
+        listed: Vec<Share>,
+        now: u64,
+    ) -> Result<(), AllocError> {
+        self.end(alloc, Ending::Unlisted(&listed), now)?;
+        for share in listed {
+            if !self.has(&share) {
+                self.begin(share, now)?;
+            }
+        }
+        Ok(())
+    }
+
+    /// Whether the share stands.
+    fn has(&self, share: &Share) -> bool {
+        for number in &self.standing {
+            if let Some(bar) = self.all.get(*number) {
+                if bar.share.is(share) {
+                    return true;
+                }
+            }
+        }
+        false
+    }
+}
+
+fn still_standing(
+    alloc: Global,
+    bars: &mut [Bar],
+    standing: &[usize],
+    ending: Ending<'_>,
+    now: u64,
+) -> Result<Vec<usize>, AllocError> {
+    let mut still = Vec::new(alloc);
+    for number in standing {
+        if let Some(bar) = bars.get_mut(*number) {
+            if ending.ends(&bar.share) {
+                bar.to = Some(now);
+            } else {
+                still.push(*number)?;
+            }
+        }
+    }
+    Ok(still)
+}

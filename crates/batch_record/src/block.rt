@@ -1,0 +1,235 @@
+//! The lines of recovery blocks.
+ghost use Rattle.std.specs.Prelude.{◌≡◌, ◌∷◌, [], Some, true, false, MatchOption, OnOk};
+ghost use Rattle.batch_text.specs.NumberText.{number_of};
+ghost use Rattle.batch_record.specs.Reading.{Gives, claim_told};
+ghost use Rattle.batch_record.specs.RecordLine.{words_left};
+ghost use Rattle.batch_record.specs.Blocks.{batch_of, batch_with, begins_of, claim_of, ends_of, is_unit_count, live_of, mark_of, mark_of_words, mark_with, row_with, tale_with};
+ghost use Rattle.batch_record.specs.Kept.{Keeps};
+ghost use Rattle.batch_record.specs.Marks.{mark_told, row_told};
+ghost use Rattle.batch_record.specs.Telling.{Tale};
+
+use crate::memory::NoMemory;
+use crate::read::phase_with;
+use crate::status::Status;
+use crate::told::{Claim, PhaseStep};
+use crate::word::{is_plain_place, plain_number, state_of};
+use crate::words::Words;
+use batch_matrix::State;
+use batch_text::is_name;
+use std::alloc::Global;
+
+/// A row of a recovery block.
+#[derive(Clone, Copy)]
+pub enum Row<'a> {
+    Batch {
+        number: u64,
+        recipe: &'a [u8],
+        size: u64,
+        state: State,
+    },
+    Holds(Claim<'a>),
+    Waits(Claim<'a>),
+    Runs {
+        step: PhaseStep<'a>,
+        state: State,
+    },
+}
+
+/// The meaning of a line for recovery blocks.
+#[derive(Clone, Copy)]
+pub enum Mark<'a> {
+    Begins,
+    Ends,
+    Row(Row<'a>),
+}
+
+impl Status {
+    /// Adds a row of a recovery block. At Err the row may be added in part.
+    pub(crate) fn list(&mut self, alloc: Global, row: Row<'_>) -> Result<(), NoMemory>
+        ensures { OnOk result ((tale : Tale) → Keeps self.old tale → Keeps self.new (tale_with tale (row_told row.entry))) }
+    {
+        match row {
+            Row::Batch {
+                number,
+                recipe,
+                size,
+                state,
+            } => self.batches.add(alloc, number, recipe, size, state),
+            Row::Holds(claim) => self.holders.claim_joins(alloc, claim),
+            Row::Waits(claim) => self.waiters.claim_joins(alloc, claim),
+            Row::Runs { step, state } => self.live.add(alloc, step, state),
+        }
+    }
+}
+
+/// The meaning of the line for recovery blocks, or None.
+pub fn read_mark(line: &[u8]) -> Option<Mark<'_>>
+    ensures { Gives mark_told result (mark_of line.now) }
+{
+    read_words(Words::of(line))
+}
+
+fn read_words(mut line: Words<'_>) -> Option<Mark<'_>>
+    ensures { Gives mark_told result (mark_of_words (words_left line.entry.rest)) }
+{
+    let sharp = line.next()?;
+    let word = line.next()?;
+    if sharp == b"#".as_slice() {
+        mark_with(word, line)
+    } else {
+        None
+    }
+}
+
+fn mark_with<'a>(word: &'a [u8], arguments: Words<'a>) -> Option<Mark<'a>>
+    ensures { Gives mark_told result (mark_with word.now (words_left arguments.entry.rest)) }
+{
+    if word == b"recovered".as_slice() {
+        read_begin(arguments)
+    } else if word == b"end".as_slice() {
+        read_end(arguments)
+    } else {
+        Some(Mark::Row(row_with(word, arguments)?))
+    }
+}
+
+fn row_with<'a>(word: &'a [u8], arguments: Words<'a>) -> Option<Row<'a>>
+    ensures { Gives row_told result (row_with word.now (words_left arguments.entry.rest)) }
+{
+    if word == b"batch".as_slice() {
+        read_batch(arguments)
+    } else if word == b"holds".as_slice() {
+        Some(Row::Holds(read_claim(arguments)?))
+    } else if word == b"waits".as_slice() {
+        Some(Row::Waits(read_claim(arguments)?))
+    } else if word == b"runs".as_slice() {
+        read_live(arguments)
+    } else {
+        None
+    }
+}
+
+fn read_begin(mut arguments: Words<'_>) -> Option<Mark<'_>>
+    ensures { Gives mark_told result (begins_of (words_left arguments.entry.rest)) }
+{
+    let count = arguments.next()?;
+    let word = arguments.next()?;
+    if arguments.next().is_some() {
+        return None;
+    }
+    plain_number(count)?;
+    if word == b"lines".as_slice() {
+        Some(Mark::Begins)
+    } else {
+        None
+    }
+}
+
+fn read_end(mut arguments: Words<'_>) -> Option<Mark<'_>>
+    ensures { Gives mark_told result (ends_of (words_left arguments.entry.rest)) }
+{
+    match arguments.next() {
+        Some(_) => None,
+        None => Some(Mark::Ends),
+    }
+}
+
+fn read_batch(mut arguments: Words<'_>) -> Option<Row<'_>>
+    ensures { Gives row_told result (batch_of (words_left arguments.entry.rest)) }
+{
+    let number = arguments.next()?;
+    let recipe = arguments.next()?;
+    let size = arguments.next()?;
+    let state = arguments.next()?;
+    if arguments.next().is_some() {
+        return None;
+    }
+    let state = state_of(state)?;
+    batch_with(number, recipe, size, state)
+}
+
+fn batch_with<'a>(
+    number: &'a [u8],
+    recipe: &'a [u8],
+    size: &'a [u8],
+    state: State,
+) -> Option<Row<'a>>
+    ensures { Gives row_told result (batch_with number.now recipe.now size.now (Some state)) }
+{
+    let number = plain_number(number)?;
+    let size = plain_number(size)?;
+    if is_name(recipe) {
+        Some(Row::Batch {
+            number,
+            recipe,
+            size,
+            state,
+        })
+    } else {
+        None
+    }
+}
+
+fn read_claim(mut arguments: Words<'_>) -> Option<Claim<'_>>
+    ensures { Gives claim_told result (claim_of (words_left arguments.entry.rest)) }
+{
+    let resource = arguments.next()?;
+    let number = arguments.next()?;
+    let place = arguments.next()?;
+    let units = arguments.next()?;
+    if arguments.next().is_some() {
+        return None;
+    }
+    claim_with(resource, number, place, units)
+}
+
+fn claim_with<'a>(
+    resource: &'a [u8],
+    number: &'a [u8],
+    place: &'a [u8],
+    units: &'a [u8],
+) -> Option<Claim<'a>>
+    ensures { Gives claim_told result (claim_of (resource.now ∷ number.now ∷ place.now ∷ units.now ∷ [])) }
+{
+    let batch = plain_number(number)?;
+    let units = unit_count(units)?;
+    if is_plain_place(place) && is_name(resource) {
+        Some(Claim {
+            batch,
+            place,
+            resource,
+            units,
+        })
+    } else {
+        None
+    }
+}
+
+/// At least one unit.
+fn unit_count(word: &[u8]) -> Option<u32>
+    ensures { MatchOption result (is_unit_count word.now ≡ false)
+        (λ units. (is_unit_count word.now ≡ true) × (units ≡ number_of word.now)) }
+{
+    let number = plain_number(word)?;
+    if number > 0 && number <= 4_294_967_295 {
+        Some(number as u32)
+    } else {
+        None
+    }
+}
+
+fn read_live(mut arguments: Words<'_>) -> Option<Row<'_>>
+    ensures { Gives row_told result (live_of (words_left arguments.entry.rest)) }
+{
+    let unit = arguments.next()?;
+    let phase = arguments.next()?;
+    let number = arguments.next()?;
+    let place = arguments.next()?;
+    let state = arguments.next()?;
+    if arguments.next().is_some() {
+        return None;
+    }
+    let step = phase_with(number, place, unit, phase)?;
+    let state = state_of(state)?;
+    Some(Row::Runs { step, state })
+}

@@ -1,0 +1,99 @@
+//! A record's lines, one after the other, with the recovery blocks in it.
+ghost use Rattle.std.specs.Prelude.{◌≡◌, Some, OnOk, option_map};
+ghost use Rattle.batch_record.specs.Reading.{out_of};
+ghost use Rattle.batch_record.specs.Blocks.{Stage, ends, marked, opening, row as row_mark, told as told_more};
+ghost use Rattle.batch_record.specs.Marks.{mark_told, row_told};
+ghost use Rattle.batch_record.specs.Standings.{IsAt, Takes};
+
+use crate::block::{Mark, Row, read_mark};
+use crate::memory::NoMemory;
+use crate::record_line::{NoRecordLine, read_record_line};
+use crate::status::Status;
+use crate::told::Told;
+use std::alloc::Global;
+
+/// Why a line wasn't taken.
+#[derive(Clone, Copy)]
+pub enum LineFault {
+    /// It is no line of a record.
+    NoRecord,
+    /// Memory was refused. The line may be taken in part.
+    Memory,
+}
+
+impl From<NoMemory> for LineFault {
+    ghost use Rattle.batch_record.specs.declared.course.LineFault.TheVariants as faults;
+
+    ghost from_gives = { λ _ fault. fault ≡ faults.Memory };
+
+    fn from(_fault: NoMemory) -> LineFault {
+        LineFault::Memory
+    }
+}
+
+/// The state by a record so far, and that by a recovery block that hasn't ended.
+#[derive(Drop)]
+pub struct Course {
+    pub(crate) status: Status,
+    pub(crate) block: Option<Status>,
+}
+
+impl Course {
+    /// Before the first line.
+    pub fn new(alloc: Global) -> Course
+        ensures { IsAt result opening }
+    {
+        Course {
+            status: Status::new(alloc),
+            block: None,
+        }
+    }
+
+    /// Reads a line, which comes without its line feed.
+    pub fn apply_line(&mut self, alloc: Global, line: &[u8]) -> Result<(), LineFault>
+        ensures { Takes self.old line.now result self.new }
+    {
+        match read_record_line(line) {
+            Ok(Some(told)) => Ok(self.apply_out(alloc, told)?),
+            Ok(None) => Ok(self.mark(alloc, read_mark(line))?),
+            Err(NoRecordLine) => Err(LineFault::NoRecord),
+        }
+    }
+
+    fn apply_out(&mut self, alloc: Global, told: Told<'_>) -> Result<(), NoMemory>
+        ensures { OnOk result ((stage : Stage) → IsAt self.old stage → IsAt self.new (told_more stage (out_of told.entry))) }
+    {
+        self.block = None;
+        self.status.apply_out(alloc, told)
+    }
+
+    fn mark(&mut self, alloc: Global, mark: Option<Mark<'_>>) -> Result<(), NoMemory>
+        ensures { OnOk result ((stage : Stage) → IsAt self.old stage → IsAt self.new (marked stage (option_map mark_told mark.entry))) }
+    {
+        match mark {
+            Some(Mark::Begins) => self.block = Some(Status::new(alloc)),
+            Some(Mark::Row(row)) => return self.list(alloc, row),
+            Some(Mark::Ends) => self.end(),
+            None => {}
+        }
+        Ok(())
+    }
+
+    fn list(&mut self, alloc: Global, row: Row<'_>) -> Result<(), NoMemory>
+        ensures { OnOk result ((stage : Stage) → IsAt self.old stage → IsAt self.new (marked stage (Some (row_mark (row_told row.entry))))) }
+    {
+        match &mut self.block {
+            Some(block) => block.list(alloc, row),
+            None => Ok(()),
+        }
+    }
+
+    /// The state by the block replaces the one before.
+    fn end(&mut self)
+        ensures { (stage : Stage) → IsAt self.old stage → IsAt self.new (marked stage (Some ends)) }
+    {
+        if let Some(block) = self.block.take() {
+            self.status = block;
+        }
+    }
+}

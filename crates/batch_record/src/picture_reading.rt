@@ -1,0 +1,111 @@
+//! Reading a record for its picture, line by line.
+ghost use Rattle.std.specs.Prelude.{◌≡◌, ℕ, IfErr, IfOk, MatchOption};
+ghost use Rattle.batch_record.specs.StatusReading.{HasNoFeed, IsRefusedAt};
+ghost use Rattle.batch_record.specs.Recorded.{IsRecord};
+ghost use Rattle.batch_record.specs.Taking.{EndsLine, TakesLine, TakesLines};
+ghost use Rattle.batch_record.specs.declared.picture_reading.RecordFault.TheVariants as faults;
+
+use crate::drawing::draw;
+use crate::picture::Picture;
+use crate::record_line::{NoRecordLine, read_record_line};
+use crate::remark::{Remark, read_remark};
+use crate::timeline::Timeline;
+use memchr::memchr;
+use std::alloc::{AllocError, Global};
+use thiserror::Error;
+
+/// Why a record wasn't drawn.
+#[derive(Clone, Copy, Debug, Error)]
+pub enum RecordFault {
+    /// The line with this number, counted from 1, is no line of a record.
+    #[error("line {0} is no line of a record")]
+    NoRecord(u64),
+    /// Memory was refused.
+    #[error("out of memory")]
+    Memory,
+}
+
+impl From<AllocError> for RecordFault {
+    ghost from_gives = { λ _ fault. fault ≡ faults.Memory };
+
+    fn from(_error: AllocError) -> RecordFault {
+        RecordFault::Memory
+    }
+}
+
+/// The picture of a record. Each resource that it names has a row, units first. A row has a bar with the batch's number for each time
+/// that a batch held the resource, and a hatched bar for each time that one waited for it. The axis is the clock of the record's
+/// comments `# at MILLISECONDS`, or the number of the line if it has none.
+///
+/// A last line without its line feed is left out. The shares that a recovery block lists stand from its end on, and no others.
+// claim: picture of a record
+pub fn draw_record(alloc: Global, text: &[u8]) -> Result<Picture, RecordFault>
+    ensures drawn { IfOk result (λ _. IsRecord text.now) }
+    ensures refused { IfErr result (λ fault. (number : ℕ) → fault ≡ faults.NoRecord number → IsRefusedAt text.now number) }
+{
+    let mut timeline = Timeline::new(alloc, first_time(text));
+    take_lines(alloc, &mut timeline, text)?;
+    Ok(draw(alloc, &timeline)?)
+}
+
+/// The first time in a comment.
+fn first_time(text: &[u8]) -> Option<u64> {
+    let mut rest = text;
+    while let Some(at) = line_feed(rest) {
+        let time = time_of(&rest[..at]);
+        rest = &rest[at + 1..];
+        if time.is_some() {
+            return time;
+        }
+    }
+    None
+}
+
+/// The time in the line, if it is a comment on times.
+fn time_of(line: &[u8]) -> Option<u64> {
+    match read_remark(line) {
+        Some(Remark::At(time)) => Some(time),
+        _ => None,
+    }
+}
+
+/// Reads each whole line.
+fn take_lines(alloc: Global, timeline: &mut Timeline, text: &[u8]) -> Result<(), RecordFault>
+    ensures { TakesLines text.now result }
+{
+    let mut rest = text;
+    let mut number: u64 = 0;
+    while let Some(at) = line_feed(rest) {
+        number = number.saturating_add(1);
+        timeline.reach(number);
+        take_line(alloc, timeline, &rest[..at], number)?;
+        rest = &rest[at + 1..];
+    }
+    timeline.reach(number.saturating_add(1));
+    Ok(())
+}
+
+fn take_line(
+    alloc: Global,
+    timeline: &mut Timeline,
+    line: &[u8],
+    number: u64,
+) -> Result<(), RecordFault>
+    ensures { TakesLine line.now number result }
+{
+    match read_record_line(line) {
+        Ok(Some(told)) => Ok(timeline.apply_out(alloc, told)?),
+        Ok(None) => match read_remark(line) {
+            Some(remark) => Ok(timeline.apply_remark(alloc, remark)?),
+            None => Ok(()),
+        },
+        Err(NoRecordLine) => Err(RecordFault::NoRecord(number)),
+    }
+}
+
+/// The position of the first line feed.
+fn line_feed(bytes: &[u8]) -> Option<usize>
+    ensures { MatchOption result (HasNoFeed bytes.now) (λ at. EndsLine at bytes.now) }
+{
+    memchr(b'\n', bytes)
+}

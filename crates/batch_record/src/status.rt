@@ -1,0 +1,57 @@
+//! The whole state that a record gives.
+ghost use Rattle.std.specs.Prelude.{OnOk};
+ghost use Rattle.batch_record.specs.Reading.{out_of};
+ghost use Rattle.batch_record.specs.Kept.{Keeps};
+ghost use Rattle.batch_record.specs.Telling.{Tale, silence, tale_after};
+
+use crate::batches::Batches;
+use crate::live::LivePhases;
+use crate::memory::NoMemory;
+use crate::standing::Standing;
+use crate::told::Told;
+use std::alloc::Global;
+
+/// Which batches there are, who holds and who waits, and which phases are live. It takes memory for the present state, and none for
+/// the past.
+pub struct Status {
+    pub(crate) batches: Batches,
+    pub(crate) holders: Standing,
+    pub(crate) waiters: Standing,
+    pub(crate) live: LivePhases,
+}
+
+impl Drop for Status {
+    fn drop(self) {
+        let Status {
+            batches: _,
+            holders: _,
+            waiters: _,
+            live: _,
+        } = self;
+    }
+}
+
+impl Status {
+    /// The state by a record without a line.
+    pub fn new(alloc: Global) -> Status
+        ensures { Keeps result silence }
+    {
+        Status {
+            batches: Batches::new(alloc),
+            holders: Standing::new(alloc),
+            waiters: Standing::new(alloc),
+            live: LivePhases::new(alloc),
+        }
+    }
+
+    /// Applies one out more. At Err the out may be applied in part, and the record must be read anew.
+    // claim: told out by out
+    pub fn apply_out(&mut self, alloc: Global, told: Told<'_>) -> Result<(), NoMemory>
+        ensures { OnOk result ((tale : Tale) → Keeps self.old tale → Keeps self.new (tale_after tale (out_of told.entry))) }
+    {
+        self.batches.apply_out(alloc, told)?;
+        self.holders.tell_holders(alloc, told)?;
+        self.waiters.tell_waiters(alloc, told)?;
+        self.live.apply_out(alloc, told)
+    }
+}

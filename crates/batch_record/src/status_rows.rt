@@ -1,0 +1,26 @@
+//! Records, worked out. The functions are empty: their contracts are the states that the lines give.
+ghost use Rattle.batch_record.specs.RowsOfStatus.{ArePassedOver, HasStopped, HoldsAtTheOther, IsBrokenOff, IsElsewhere, IsHeld, IsHolding, IsRestarting, NoRecord, Removed, Rests, Runs, StopsWaiting, TakesThePlace, TellsNothingYet, Waits};
+
+// claim: worked records
+pub fn told_lines()
+    ensures waits { Waits }
+    ensures runs { Runs }
+    ensures rests { Rests }
+    ensures removed { Removed }
+    ensures stops_waiting { StopsWaiting }
+    ensures holds_at_the_other { HoldsAtTheOther }
+    ensures is_holding { IsHolding }
+    ensures is_held { IsHeld }
+    ensures is_restarting { IsRestarting }
+    ensures has_stopped { HasStopped }
+    ensures is_elsewhere { IsElsewhere }
+{}
+
+// claim: worked records
+pub fn told_blocks()
+    ensures takes_the_place { TakesThePlace }
+    ensures tells_nothing_yet { TellsNothingYet }
+    ensures is_broken_off { IsBrokenOff }
+    ensures are_passed_over { ArePassedOver }
+    ensures no_record { NoRecord }
+{}

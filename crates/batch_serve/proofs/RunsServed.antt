@@ -1,0 +1,55 @@
+-- Runs that are served one after the other.
+use Rattle.std.proofs.Common.{◌≡◌, ◌<◌, ◌+◌, ℕ, length, take, get_or, List, [], ◌∷◌, ◌++◌, refl, sym, ◌∙◌, ap, subst}
+use Rattle.std.proofs.lemmas.List.{take_more}
+use Rattle.batch_model.specs.Plant.{Setup, Plant, opening}
+use Rattle.batch_verify.specs.ClearedSet.{ClearedSet}
+use Rattle.batch_engine.specs.View.{setup}
+use Rattle.batch_wire.specs.Transcript.{lines_of, Exchange, silence, followed_by, Transcript}
+use Rattle.batch_serve.specs.Joined.{TranscriptsJoin}
+use Rattle.batch_serve.specs.Safe.{TranscriptsAreSafe}
+use Rattle.batch_serve.specs.GoingOn.{ServiceGoesOn}
+use Rattle.batch_serve.specs.Runs.{Run}
+use Rattle.batch_serve.specs.Served.{AreServed, IsAnswered, ServiceIsSafe, plain_text, run_lines}
+
+pub goes_on : ServiceGoesOn
+goes_on c old mid new [] more answers told one other =
+    subst (λ (l : List Run). AreServed c old more l new) (sym (ap (λ (l : List Run). l ++ told) one.0)) (subst (λ (p : Plant). AreServed c p more told new) one.1 other)
+goes_on c old mid new (run ∷ runs) more answers told (first, others, on, is, served, all) other =
+    (first, others ++ told, on, is, goes_on c on mid new runs more others told served other, ap (λ (l : List Run). l ++ told) all)
+
+-- one more run was served, by the machine of the same set
+one_more : (set now : ClearedSet) (old mid new : Plant) (runs answers : List Run) (run answer : Run) → now ≡ set → AreServed (setup set) old runs answers mid
+    → IsAnswered (setup now) mid run answer new → AreServed (setup set) old (runs ++ run ∷ []) (answers ++ answer ∷ []) new
+one_more set now old mid new runs answers run answer same served is =
+    let one : IsAnswered (setup set) mid run answer new = subst (λ (s : ClearedSet). IsAnswered (setup s) mid run answer new) same is in
+    goes_on (setup set) old mid new runs (run ∷ []) answers (answer ∷ []) served (answer, [], new, one, (refl, refl), refl)
+
+-- so were all up to that one
+pub served_so_far : (set now : ClearedSet) (old mid new : Plant) (runs answers items : List Run) (i : ℕ) (run answer : Run) → i < length runs → run ≡ get_or runs i run → now ≡ set
+    → items ≡ answers ++ answer ∷ [] → AreServed (setup set) old (take i runs) answers mid → IsAnswered (setup now) mid run answer new → AreServed (setup set) old (take (i + 1) runs) items new
+served_so_far set now old mid new runs answers items i run answer within item same all served is =
+    let front : take (i + 1) runs ≡ take i runs ++ run ∷ [] = take_more runs i run within ∙ ap (λ (r : Run). take i runs ++ r ∷ []) (sym item) in
+    subst (λ (l : List Run). AreServed (setup set) old l items new) (sym front)
+    (subst (λ (l : List Run). AreServed (setup set) old (take i runs ++ run ∷ []) l new) (sym all) (one_more set now old mid new (take i runs) answers run answer same served is))
+
+-- A transcript
+
+pub record Said (c : Setup) (old : Plant) (runs answers : List Run) (new : Plant) : Type 0 where
+  pub said : Exchange
+  pub transcript : Transcript c old (run_lines runs) said new
+  pub text : plain_text answers ≡ said.text
+
+all_said : (join : TranscriptsJoin) (c : Setup) (old new : Plant) (runs answers : List Run) → AreServed c old runs answers new → Said c old runs answers new
+all_said join c old new [] answers served = record { said = silence; transcript = (refl, served.1); text = ap plain_text served.0 }
+all_said join c old new (run ∷ runs) answers (first, others, mid, is, served, all) =
+    let rest = all_said join c mid new runs others served in
+    record {
+      said = followed_by is.said rest.said;
+      transcript = join c old mid new (lines_of run.text) (run_lines runs) is.said rest.said is.transcript rest.transcript;
+      text = ap plain_text all ∙ ap (λ l. l ++ plain_text others) is.text ∙ ap (λ l. is.said.text ++ l) rest.text;
+    }
+
+pub is_safe : (set : ClearedSet) → TranscriptsJoin → TranscriptsAreSafe set → ServiceIsSafe set
+is_safe set join safe runs answers new served =
+    let all = all_said join (setup set) opening new runs answers served in
+    record { said = all.said; transcript = safe (run_lines runs) all.said new all.transcript; text = all.text }

@@ -1,0 +1,153 @@
+-- The messages of readers, and the output of writers, step by step.
+use Rattle.std.proofs.Common.{◌≡◌, ℕ, Bool, true, false, List, [], ◌∷◌, ◌++◌, Option, Result, Ok, Err, refl, sym, ap, subst, append_assoc, append-nil, ◌∙◌}
+use Rattle.std.proofs.KnownBytes.{Appends-nil, Appends-kept, Appends-trans, Consumes-kept, Consumes-nil, Consumes-trans, Keeps-refl}
+use Rattle.std.proofs.lemmas.Bool.{false≢true}
+use Rattle.std.proofs.lemmas.Grind.{flat_map-append}
+use Rattle.std.specs.Io.KnownBytes.{Appends, Consumes, IsAtEnd, Keeps}
+use Rattle.std.specs.List.{list_any}
+use Rattle.batch_wire.specs.Written.{AppendsBeginning, Writes}
+use Rattle.batch_serve.specs.Rounds.{is_end, text_of_one, text_sent}
+use Rattle.batch_serve.specs.Threads.{IsRead, IsWritten, ReadsOn, WritesOn, lines_text}
+use Rattle.batch_serve.specs.declared.rounds.Sent.{Sent}
+use Rattle.batch_serve.specs.declared.rounds.Sent.TheVariants.{Lines, End}
+
+-- Readers
+
+pub lines_read : (old new : Option (List ℕ)) (before after : List Sent) (text : List ℕ) → Consumes old new text → after ≡ before ++ Lines text ∷ [] → ReadsOn old new before after
+lines_read old new before after text read went = record { items = Lines text ∷ []; went = went; read = subst (Consumes old new) (sym (append-nil text)) read }
+
+pub nothing_read : (old new : Option (List ℕ)) (before after : List Sent) → Keeps old new → after ≡ before → ReadsOn old new before after
+nothing_read old new before after kept same = record { items = []; went = same ∙ sym (append-nil before); read = Consumes-kept old old new [] (Consumes-nil old) kept }
+
+pub lines_lost : (old new : Option (List ℕ)) (before after : List Sent) (text : List ℕ) → Consumes old new text → after ≡ before → IsRead false old new before after
+lines_lost old new before after text read same = record {
+  items = [];
+  rest = text;
+  went = same ∙ sym (append-nil before);
+  read = read;
+  all = λ t. absurd (false≢true t);
+  end = λ t. absurd (false≢true t);
+  told = λ t. absurd (false≢true t);
+}
+
+pub end_read : (told : Bool) (old new : Option (List ℕ)) (before after : List Sent) → Consumes old new [] → IsAtEnd new
+    → (told ≡ true → after ≡ before ++ End ∷ []) → (told ≡ false → after ≡ before) → IsRead told old new before after
+end_read true old new before after read end went stays =
+    record { items = End ∷ []; rest = []; went = went refl; read = read; all = λ t. refl; end = λ t. end; told = λ t. refl }
+end_read false old new before after read end went stays = lines_lost old new before after [] read (stays refl)
+
+pub reads_twice : (a b d : Option (List ℕ)) (x y z : List Sent) → ReadsOn a b x y → ReadsOn b d y z → ReadsOn a d x z
+reads_twice a b d x y z one other = record {
+  items = one.items ++ other.items;
+  went = other.went ∙ ap (λ l. l ++ other.items) one.went ∙ append_assoc x one.items other.items;
+  read = subst (Consumes a d) (sym (flat_map-append text_of_one one.items other.items)) (Consumes-trans a b d (text_sent one.items) (text_sent other.items) one.read other.read);
+}
+
+-- the end is among all items, if it is among the last
+any_behind : (front items : List Sent) → list_any is_end items ≡ true → list_any is_end (front ++ items) ≡ true
+any_behind [] items is = is
+any_behind (Lines text ∷ front) items is = any_behind front items is
+any_behind (End ∷ front) items is = refl
+
+pub reads_then : (ended : Bool) (a b d : Option (List ℕ)) (x y z : List Sent) → ReadsOn a b x y → IsRead ended b d y z → IsRead ended a d x z
+reads_then ended a b d x y z one other = record {
+  items = one.items ++ other.items;
+  rest = other.rest;
+  went = other.went ∙ ap (λ l. l ++ other.items) one.went ∙ append_assoc x one.items other.items;
+  read = subst (Consumes a d)
+      (sym (append_assoc (text_sent one.items) (text_sent other.items) other.rest) ∙ ap (λ l. l ++ other.rest) (sym (flat_map-append text_of_one one.items other.items)))
+      (Consumes-trans a b d (text_sent one.items) (text_sent other.items ++ other.rest) one.read other.read);
+  all = other.all;
+  end = other.end;
+  told = λ t. any_behind one.items other.items (other.told t);
+}
+
+pub reads_stop : (old new : Option (List ℕ)) (before after : List Sent) → ReadsOn old new before after → IsRead false old new before after
+reads_stop old new before after one = record {
+  items = one.items;
+  rest = [];
+  went = one.went;
+  read = subst (Consumes old new) (sym (append-nil (text_sent one.items))) one.read;
+  all = λ t. refl;
+  end = λ t. absurd (false≢true t);
+  told = λ t. absurd (false≢true t);
+}
+
+-- Writers
+
+all_begun : (old new : Option (List ℕ)) (text : List ℕ) → Appends old new text → AppendsBeginning old new text
+all_begun old new text written = record { written = text; rest = []; splits = sym (append-nil text); appends = written }
+
+pub line_written : (before after : List (List ℕ)) (line : List ℕ) (old new : Option (List ℕ)) → after ≡ before ++ line ∷ [] → Appends old new (line ++ 10 ∷ []) → WritesOn before after old new
+line_written before after line old new came written = record { lines = line ∷ []; came = came; written = subst (Appends old new) (sym (append-nil (line ++ 10 ∷ []))) written }
+
+pub line_cut : (before after : List (List ℕ)) (line : List ℕ) (old new : Option (List ℕ)) → after ≡ before ++ line ∷ [] → AppendsBeginning old new (line ++ 10 ∷ []) → IsWritten false before after old new
+line_cut before after line old new came begun = record {
+  lines = line ∷ [];
+  came = came;
+  begun = subst (AppendsBeginning old new) (sym (append-nil (line ++ 10 ∷ []))) begun;
+  written = λ t. absurd (false≢true t);
+}
+
+pub nothing_written : (before after : List (List ℕ)) (old new : Option (List ℕ)) → after ≡ before → Keeps old new → WritesOn before after old new
+nothing_written before after old new same kept = record { lines = []; came = same ∙ sym (append-nil before); written = Appends-kept old old new [] (Appends-nil old) kept }
+
+pub all_written : (ended : Bool) (before after : List (List ℕ)) (old new : Option (List ℕ)) → after ≡ before → Keeps old new → IsWritten ended before after old new
+all_written ended before after old new same kept = record {
+  lines = [];
+  came = same ∙ sym (append-nil before);
+  begun = all_begun old new [] (Appends-kept old old new [] (Appends-nil old) kept);
+  written = λ t. Appends-kept old old new [] (Appends-nil old) kept;
+}
+
+pub text_both : (a b : List (List ℕ)) → lines_text (a ++ b) ≡ lines_text a ++ lines_text b
+text_both a b = flat_map-append (λ (line : List ℕ). line ++ 10 ∷ []) a b
+
+pub writes_twice : (x y z : List (List ℕ)) (a b d : Option (List ℕ)) → WritesOn x y a b → WritesOn y z b d → WritesOn x z a d
+writes_twice x y z a b d one other = record {
+  lines = one.lines ++ other.lines;
+  came = other.came ∙ ap (λ l. l ++ other.lines) one.came ∙ append_assoc x one.lines other.lines;
+  written = subst (Appends a d) (sym (text_both one.lines other.lines)) (Appends-trans a b d (lines_text one.lines) (lines_text other.lines) one.written other.written);
+}
+
+begun_behind : (a b d : Option (List ℕ)) (front text : List ℕ) → Appends a b front → AppendsBeginning b d text → AppendsBeginning a d (front ++ text)
+begun_behind a b d front text one other = record {
+  written = front ++ other.written;
+  rest = other.rest;
+  splits = ap (λ l. front ++ l) other.splits ∙ sym (append_assoc front other.written other.rest);
+  appends = Appends-trans a b d front other.written one other.appends;
+}
+
+pub writes_then : (ended : Bool) (x y z : List (List ℕ)) (a b d : Option (List ℕ)) → WritesOn x y a b → IsWritten ended y z b d → IsWritten ended x z a d
+writes_then ended x y z a b d one other = record {
+  lines = one.lines ++ other.lines;
+  came = other.came ∙ ap (λ l. l ++ other.lines) one.came ∙ append_assoc x one.lines other.lines;
+  begun = subst (AppendsBeginning a d) (sym (text_both one.lines other.lines)) (begun_behind a b d (lines_text one.lines) (lines_text other.lines) one.written other.begun);
+  written = λ t. subst (Appends a d) (sym (text_both one.lines other.lines)) (Appends-trans a b d (lines_text one.lines) (lines_text other.lines) one.written (other.written t));
+}
+
+pub writes_stop : (before after : List (List ℕ)) (old new : Option (List ℕ)) → WritesOn before after old new → IsWritten false before after old new
+writes_stop before after old new one = record { lines = one.lines; came = one.came; begun = all_begun old new (lines_text one.lines) one.written; written = λ t. one.written }
+
+-- Nothing yet
+
+pub reads_begin : (a : Option (List ℕ)) (x : List Sent) → ReadsOn a a x x
+reads_begin a x = nothing_read a a x x (Keeps-refl a) refl
+
+pub writes_begin : (x : List (List ℕ)) (a : Option (List ℕ)) → WritesOn x x a a
+writes_begin x a = nothing_written x x a a refl (Keeps-refl a)
+
+-- One line
+
+pub line_begun : (old new : Option (List ℕ)) (line : List ℕ) → AppendsBeginning old new line → AppendsBeginning old new (line ++ 10 ∷ [])
+line_begun old new line begun = record {
+  written = begun.written;
+  rest = begun.rest ++ 10 ∷ [];
+  splits = ap (λ l. l ++ 10 ∷ []) begun.splits ∙ append_assoc begun.written begun.rest (10 ∷ []);
+  appends = begun.appends;
+}
+
+pub line_ended : {E : Type 0} (old mid new : Option (List ℕ)) (line : List ℕ) (r : Result (Unit {0}) E) → Appends old mid line → Writes mid new r (10 ∷ [])
+    → Writes old new r (line ++ 10 ∷ [])
+line_ended old mid new line (Ok u) front feed = Appends-trans old mid new line (10 ∷ []) front feed
+line_ended old mid new line (Err e) front feed = begun_behind old mid new line (10 ∷ []) front feed

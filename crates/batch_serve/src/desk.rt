@@ -1,0 +1,113 @@
+//! A desk: the lines that it is due, and the queue of those that it hasn't got.
+ghost use Rattle.std.specs.Prelude.{◌≡◌, ◌<◌, List, ℕ, [], ◌∷◌, ◌++◌, length, filter, position, false, IfSome};
+ghost use Rattle.batch_wire.specs.Transcript.{whole_lines};
+ghost use Rattle.batch_serve.specs.Dues.{is_due};
+ghost use Rattle.batch_serve.specs.Lines.{is_feed};
+ghost use Rattle.batch_serve.specs.Waits.{IsAccount, nothing_waits};
+ghost use Rattle.batch_serve.specs.Told.{AreTold, IsTold};
+
+use crate::desks_fault::CutReason;
+use crate::line::Line;
+use crate::run::Run;
+use crate::sorting::is_due;
+use crate::waiting::Waiting;
+use batch_text::Name;
+use std::alloc::Global;
+
+/// A desk, which is a console or the link of a unit, without its paths and its threads.
+#[derive(Drop)]
+pub struct Desk {
+    /// The unit of which it sees the starts and sends. A console, which has none, sees each move.
+    pub unit: Option<Name>,
+    /// The lines queued for it.
+    pub waiting: Waiting<Line>,
+    /// Why the server cut it, if it did.
+    pub why: Option<CutReason>,
+}
+
+impl Desk {
+    /// A desk with an empty queue. So many lines may be queued for it.
+    // claim: new desks
+    pub fn new(alloc: Global, unit: Option<Name>, lag: usize) -> Desk
+        ensures unit { result.unit ≡ unit }
+        ensures waiting { result.waiting ≡ nothing_waits lag }
+        ensures why { result.why ≡ None }
+    {
+        Desk {
+            unit,
+            waiting: Waiting::new(alloc, lag),
+            why: None,
+        }
+    }
+
+    /// Whether it is cut. Then its queue is empty, and the lines that it sends are dropped.
+    pub fn is_cut(&self) -> bool
+        ensures { result ≡ self.now.waiting.is_cut }
+    {
+        self.waiting.is_cut()
+    }
+
+    /// Queues a line, if it is due. If there is no memory for the line, the desk is cut.
+    fn tell_line(&mut self, alloc: Global, line: &[u8], is_own: bool)
+        ensures unit { self.new.unit ≡ self.old.unit }
+        ensures cut { self.new.waiting.is_cut ≡ false → self.old.waiting.is_cut ≡ false }
+        ensures account { (all told : List (List ℕ)) → IsAccount all told self.old.waiting
+            → IsAccount (all ++ filter (is_due is_own self.old.unit) (line.now ∷ [])) told self.new.waiting }
+    {
+        if !is_due(line, is_own, &self.unit) {
+            return;
+        }
+        match Line::new(alloc, line) {
+            Ok(copy) => {
+                if self.waiting.push(copy).is_err() {
+                    self.why = Some(CutReason::Memory);
+                }
+            }
+            Err(_) => {
+                self.waiting.cut();
+                self.why = Some(CutReason::Memory);
+            }
+        }
+    }
+
+    /// Queues the lines that it is due of a text, which answers its own lines or another desk's.
+    fn tell_text(&mut self, alloc: Global, text: &[u8], is_own: bool)
+        ensures unit { self.new.unit ≡ self.old.unit }
+        ensures cut { self.new.waiting.is_cut ≡ false → self.old.waiting.is_cut ≡ false }
+        ensures account { (all told : List (List ℕ)) → IsAccount all told self.old.waiting
+            → IsAccount (all ++ filter (is_due is_own self.old.unit) (whole_lines text.now)) told self.new.waiting }
+    {
+        let mut rest = text;
+        while let Some(at) = line_feed(rest) {
+            self.tell_line(alloc, &rest[..at], is_own);
+            rest = &rest[at + 1..];
+        }
+    }
+
+    /// Queues the lines of the answers that it is due, as the desk at this place.
+    pub fn tell_answers(&mut self, alloc: Global, answers: &[Run], desk: usize)
+        ensures { IsTold desk answers.now self.old self.new }
+    {
+        for answer in answers {
+            let is_own = answer.desk() == desk;
+            self.tell_text(alloc, answer.text(), is_own);
+        }
+    }
+}
+
+/// Queues for each desk the lines of the answers that it is due.
+pub fn tell_each(alloc: Global, desks: &mut Vec<Desk>, answers: &[Run])
+    ensures { AreTold answers.now desks.old.items desks.new.items }
+{
+    for desk in 0..desks.len() {
+        desks[desk].tell_answers(alloc, answers, desk);
+    }
+}
+
+/// The place of the first line feed.
+fn line_feed(text: &[u8]) -> Option<usize>
+    ensures value { result ≡ position is_feed text.now }
+    ensures within { IfSome result (λ at. at < length text.now) }
+{
+    text.iter().position(|byte| *byte == b'\n')
+}

@@ -1,7 +1,0 @@
-use Rattle.std.proofs.Common.{take}
-use Rattle.batch_serve_desks.specs.Told.{IsTold}
-use Rattle.batch_serve_desks.proofs.desk.Desk.tell_answers.Given as goal
-
--- the answers so far were told
-abbrev pub invariant-loop-answer : goal.invariant-loop-answer
-invariant-loop-answer l = IsTold l.desk (take l.answer-index l.answers) l.initial.self l.self

@@ -1,9 +1,0 @@
-use Rattle.batch_serve_desks.proofs.GoingOn.{texts_go_on}
-use Rattle.batch_serve_desks.proofs.RunsServed.{goes_on}
-use Rattle.batch_serve_desks.proofs.laws.service_goes_on.Goals as goal
-
-pub returns-clause-served : goal.returns-clause-served
-returns-clause-served c = goes_on
-
-pub returns-clause-texts : goal.returns-clause-texts
-returns-clause-texts c = texts_go_on

@@ -1,5 +1,0 @@
-use Rattle.batch_status.proofs.Promises.{lines-tell-their-outs}
-use Rattle.batch_status.proofs.laws.lines_tell_their_outs.Goals as goal
-
-pub returns : goal.returns
-returns c = lines-tell-their-outs

@@ -1,9 +1,0 @@
-pub mod Telling
-pub mod Listing
-pub mod Kept
-pub mod Blocks
-pub mod Marks
-pub mod Reading
-pub mod Standings
-pub mod RowsOfStatus
-pub mod Promises

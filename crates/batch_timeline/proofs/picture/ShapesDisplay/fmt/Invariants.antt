@@ -1,9 +1,0 @@
-use Rattle.std.proofs.Common.{take}
-use Rattle.std.specs.Fmt.{HasWritten, IsPlainFormatter}
-use Rattle.std.specs.List.{flat_map}
-use Rattle.batch_timeline.specs.Pictures.{shape_text}
-use Rattle.batch_timeline.proofs.picture.ShapesDisplay.fmt.Given as goal
-
-abbrev pub invariant-loop-shape : goal.invariant-loop-shape
-invariant-loop-shape g l =
-    IsPlainFormatter l.initial.f → HasWritten g.W.Write.write_str_gives l.initial.f (flat_map shape_text (take l.shape-index l.shape-items)) l.f

@@ -1,4 +1,0 @@
-use Rattle.batch_timeline.proofs.shape.FrameDisplay.fmt.Goals as goal
-
-pub returns-clause-writes : goal.returns-clause-writes
-returns-clause-writes g c = rw c.hatching-hatching.ensures at c.write.ensures.writes

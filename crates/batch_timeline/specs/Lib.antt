@@ -1,3 +1,0 @@
-pub mod Pictures
-pub mod Recorded
-pub mod Taking
