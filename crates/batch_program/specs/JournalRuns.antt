@@ -14,6 +14,7 @@ use Rattle.batch_journal.specs.Journals.{recovered}
 use Rattle.batch_journal.specs.Lines.{text_of}
 use Rattle.batch_journal.specs.Readers.{HasRecalled}
 use Rattle.batch_journal.specs.Recovery.{HasNoFault, IsRefusedFor}
+use Rattle.batch_journal.specs.declared.disk.Disk as disk
 use Rattle.batch_journal.specs.declared.recovery.RecoveryFault.{RecoveryFault}
 use Rattle.batch_journal.specs.declared.recovery.RecoveryFault.TheVariants.{Disk, NoJournal, OtherDocuments, Damaged}
 use Rattle.batch_keep.specs.Blocks.{IsBlockOf}
@@ -44,6 +45,11 @@ pub record DiskKind : Type 1 where
   pub given : File → List ℕ
   pub moment : File → ℕ
   pub left_since : File → ℕ → Left → Type 0
+
+-- those of a type of the code
+abbrev pub disks_of : {D : Type 0} → disk.Ghosts D → DiskKind
+disks_of {D} d =
+    record { File = D; is_disk = d.is_disk; durable = d.durable; seen = d.seen; given = d.given; moment = d.moment; left_since = d.left_since }
 
 -- the disks that journals are on, and the file that is opened at a path
 pub record JournalFiles : Type 1 where

@@ -7,6 +7,7 @@ ghost use Rattle.batch_journal.specs.Lines.{text_of};
 ghost use Rattle.batch_journal.specs.Readers.{HasRecalled, IsKept, IsWhole};
 ghost use Rattle.batch_verdicts.specs.Running.{fault_status, memory_status, success_status};
 ghost use Rattle.batch_program.specs.DeskRuns.{AreDesksOver, AreDesksRun};
+ghost use Rattle.batch_program.specs.JournalRuns.{disks_of};
 ghost use Rattle.batch_program.specs.Keeping.{AreDesksToldBehind};
 
 use crate::desk_runner::DeskRunner;
@@ -46,18 +47,7 @@ pub(crate) fn keep_desk_set<J: Journals, P: DeskRunner, W: Write, E: Write>(
     output: &mut Noted<W>,
     errors: &mut E,
 ) -> u8
-    ensures { AreDesksRun (record {
-      disks = record {
-        File = J.File;
-        is_disk = J.File.is_disk;
-        durable = J.File.durable;
-        seen = J.File.seen;
-        given = J.File.given;
-        moment = J.File.moment;
-        left_since = J.File.left_since;
-      };
-      opens = J.opens journals.now;
-    }) served.digested.set served.digested.documents.text (desk_names served.desks.desks.items) (Some path.now) times
+    ensures { AreDesksRun (record { disks = disks_of J.File.Disk; opens = J.opens journals.now }) served.digested.set served.digested.documents.text (desk_names served.desks.desks.items) (Some path.now) times
         (record { before = W.contents output.old.stream; after = W.contents output.new.stream }) result }
 {
     let Ok(names) = names_of(alloc, &served.desks) else {
@@ -102,15 +92,7 @@ fn serve_opened<D: Disk, K: Clock + Drop, P: DeskRunner, W: Write, E: Write>(
     errors: &mut E,
 ) -> (u8, D)
     requires fresh { D.is_disk disk → (D.durable disk ≡ D.seen disk) × (D.given disk ≡ []) }
-    ensures { AreDesksOver (record {
-      File = D;
-      is_disk = D.is_disk;
-      durable = D.durable;
-      seen = D.seen;
-      given = D.given;
-      moment = D.moment;
-      left_since = D.left_since;
-    }) served.digested.set served.digested.documents.text (desk_names served.desks.desks.items) messages.entry.path.now times disk result.1
+    ensures { AreDesksOver (disks_of D.Disk) served.digested.set served.digested.documents.text (desk_names served.desks.desks.items) messages.entry.path.now times disk result.1
         (record { before = W.contents output.old.stream; after = W.contents output.new.stream }) result.0 }
 {
     serve_file::<D, K, P, W, E, Brand>(
@@ -133,15 +115,7 @@ fn serve_file<D: Disk, K: Clock + Drop, P: DeskRunner, W: Write, E: Write, C: Ru
     requires fresh { D.is_disk disk → (D.durable disk ≡ D.seen disk) × (D.given disk ≡ []) }
     requires base { C.base ≡ text_of (recovered served.digested.documents.text (D.seen disk)) }
     requires since { C.since ≡ D.moment disk }
-    ensures { AreDesksOver (record {
-      File = D;
-      is_disk = D.is_disk;
-      durable = D.durable;
-      seen = D.seen;
-      given = D.given;
-      moment = D.moment;
-      left_since = D.left_since;
-    }) served.digested.set served.digested.documents.text (desk_names served.desks.desks.items) messages.entry.path.now times disk result.1
+    ensures { AreDesksOver (disks_of D.Disk) served.digested.set served.digested.documents.text (desk_names served.desks.desks.items) messages.entry.path.now times disk result.1
         (record { before = W.contents output.old.stream; after = W.contents output.new.stream }) result.0 }
 {
     let DeskSet { desks, digested } = served;

@@ -3,6 +3,7 @@ ghost use Rattle.std.specs.Prelude.{◌≡◌, ℕ, Result, IfOk, option_map, st
 ghost use Rattle.batch_reader.specs.DeskNames.{desk_names};
 ghost use Rattle.batch_pipes.specs.declared.fault.DesksFault as faults;
 ghost use Rattle.batch_program.specs.DeskRuns.{AreDesksRun, IsDesksRecord, status_of_desks, status_of_fault};
+ghost use Rattle.batch_program.specs.JournalRuns.{disks_of};
 
 use crate::desk_keeping::keep_desk_set;
 use crate::desk_runner::DeskRunner;
@@ -37,18 +38,7 @@ pub(crate) fn run_desks<J: Journals, P: DeskRunner, W: Write, E: Write>(
     output: &mut Noted<W>,
     errors: &mut E,
 ) -> u8
-    ensures { AreDesksRun (record {
-      disks = record {
-        File = J.File;
-        is_disk = J.File.is_disk;
-        durable = J.File.durable;
-        seen = J.File.seen;
-        given = J.File.given;
-        moment = J.File.moment;
-        left_since = J.File.left_since;
-      };
-      opens = J.opens journals.now;
-    }) served.digested.set served.digested.documents.text (desk_names served.desks.desks.items) (option_map string_bytes journal) times
+    ensures { AreDesksRun (record { disks = disks_of J.File.Disk; opens = J.opens journals.now }) served.digested.set served.digested.documents.text (desk_names served.desks.desks.items) (option_map string_bytes journal) times
         (record { before = W.contents output.old.stream; after = W.contents output.new.stream }) result }
 {
     match journal {

@@ -10,7 +10,7 @@ ghost use Rattle.batch_journal.specs.Journals.{recovered, sum_text};
 ghost use Rattle.batch_journal.specs.Lines.{text_of};
 ghost use Rattle.batch_journal.specs.Readers.{HasRecalled, IsAccounted, IsKept, IsWhole};
 ghost use Rattle.batch_verdicts.specs.Running.{fault_status, memory_status, success_status};
-ghost use Rattle.batch_program.specs.JournalRuns.{IsJournalRun, IsOverFile, IsShownAs};
+ghost use Rattle.batch_program.specs.JournalRuns.{IsJournalRun, IsOverFile, IsShownAs, disks_of};
 ghost use Rattle.batch_program.specs.Keeping.{IsToldBehind, cleaned};
 
 use crate::journal_faults::{
@@ -55,18 +55,7 @@ pub fn keep_journal<J: Journals, R: Read, W: Write, E: Write>(
     output: Noted<W>,
     errors: &mut E,
 ) -> (u8, Noted<W>)
-    ensures { IsJournalRun (record {
-      disks = record {
-        File = J.File;
-        is_disk = J.File.is_disk;
-        durable = J.File.durable;
-        seen = J.File.seen;
-        given = J.File.given;
-        moment = J.File.moment;
-        left_since = J.File.left_since;
-      };
-      opens = J.opens journals.now;
-    }) digested.set digested.documents.text path.now (comments.echo || comments.times)
+    ensures { IsJournalRun (record { disks = disks_of J.File.Disk; opens = J.opens journals.now }) digested.set digested.documents.text path.now (comments.echo || comments.times)
         (record {
           unread = R.remaining input.old.stream;
           left = R.remaining input.new.stream;
@@ -112,15 +101,7 @@ fn serve_opened<D: Disk, K: Clock + Drop, R: Read, W: Write, E: Write>(
     errors: &mut E,
 ) -> (u8, D, Noted<W>)
     requires fresh { D.is_disk disk → (D.durable disk ≡ D.seen disk) × (D.given disk ≡ []) }
-    ensures { IsOverFile (record {
-      File = D;
-      is_disk = D.is_disk;
-      durable = D.durable;
-      seen = D.seen;
-      given = D.given;
-      moment = D.moment;
-      left_since = D.left_since;
-    }) digested.set digested.documents.text messages.entry.path.now (is_some remarking) disk result.1
+    ensures { IsOverFile (disks_of D.Disk) digested.set digested.documents.text messages.entry.path.now (is_some remarking) disk result.1
         (record {
           unread = R.remaining input.old.stream;
           left = R.remaining input.new.stream;
@@ -148,15 +129,7 @@ fn serve_file<D: Disk, K: Clock + Drop, R: Read, W: Write, E: Write, C: Run>(
     requires base { C.base ≡ text_of (recovered digested.documents.text (D.seen disk)) }
     requires since { C.since ≡ D.moment disk }
     requires input { C.input ≡ cleaned (R.remaining input.old.stream) }
-    ensures { IsOverFile (record {
-      File = D;
-      is_disk = D.is_disk;
-      durable = D.durable;
-      seen = D.seen;
-      given = D.given;
-      moment = D.moment;
-      left_since = D.left_since;
-    }) digested.set digested.documents.text messages.entry.path.now (is_some remarking) disk result.1
+    ensures { IsOverFile (disks_of D.Disk) digested.set digested.documents.text messages.entry.path.now (is_some remarking) disk result.1
         (record {
           unread = R.remaining input.old.stream;
           left = R.remaining input.new.stream;

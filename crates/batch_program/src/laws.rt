@@ -1,4 +1,5 @@
 //! Laws over runs of the program.
+ghost use Rattle.batch_program.specs.JournalRuns.{disks_of};
 ghost use Rattle.batch_program.specs.Programs.{AuditsAreTrue, CertificatesAreKept, DesksAreKept, DesksAreSafe, PlantsAreComplete, ServingIsSafe, RemarkedServingIsSafe};
 
 use crate::journals::Journals;
@@ -11,18 +12,7 @@ use batch_verdicts::Documents;
 // claim: all lines answered; documents' own set; safe record written; batches left
 pub fn serving_is_safe<D: Documents + Records + Journals>(documents: &D)
     ensures { ServingIsSafe (D.gives documents.now) (D.holds documents.now)
-        (record {
-          disks = record {
-            File = D.File;
-            is_disk = D.File.is_disk;
-            durable = D.File.durable;
-            seen = D.File.seen;
-            given = D.File.given;
-            moment = D.File.moment;
-            left_since = D.File.left_since;
-          };
-          opens = D.opens documents.now;
-        }) }
+        (record { disks = disks_of D.File.Disk; opens = D.opens documents.now }) }
 {
     let _documents = documents;
 }
@@ -32,18 +22,7 @@ pub fn serving_is_safe<D: Documents + Records + Journals>(documents: &D)
 // claim: audit accepted
 pub fn audits_are_true<D: Documents + Records + Journals>(documents: &D)
     ensures { AuditsAreTrue (D.gives documents.now) (D.holds documents.now)
-        (record {
-          disks = record {
-            File = D.File;
-            is_disk = D.File.is_disk;
-            durable = D.File.durable;
-            seen = D.File.seen;
-            given = D.File.given;
-            moment = D.File.moment;
-            left_since = D.File.left_since;
-          };
-          opens = D.opens documents.now;
-        }) }
+        (record { disks = disks_of D.File.Disk; opens = D.opens documents.now }) }
 {
     let _documents = documents;
 }
@@ -52,18 +31,7 @@ pub fn audits_are_true<D: Documents + Records + Journals>(documents: &D)
 // claim: serves with comments
 pub fn remarked_serving_is_safe<D: Documents + Records + Journals>(documents: &D)
     ensures { RemarkedServingIsSafe (D.gives documents.now) (D.holds documents.now)
-        (record {
-          disks = record {
-            File = D.File;
-            is_disk = D.File.is_disk;
-            durable = D.File.durable;
-            seen = D.File.seen;
-            given = D.File.given;
-            moment = D.File.moment;
-            left_since = D.File.left_since;
-          };
-          opens = D.opens documents.now;
-        }) }
+        (record { disks = disks_of D.File.Disk; opens = D.opens documents.now }) }
 {
     let _documents = documents;
 }
@@ -73,18 +41,7 @@ pub fn remarked_serving_is_safe<D: Documents + Records + Journals>(documents: &D
 // claim: file written
 pub fn certificates_are_kept<D: Documents + Records + Journals>(documents: &D)
     ensures { CertificatesAreKept (D.gives documents.now) (D.holds documents.now)
-        (record {
-          disks = record {
-            File = D.File;
-            is_disk = D.File.is_disk;
-            durable = D.File.durable;
-            seen = D.File.seen;
-            given = D.File.given;
-            moment = D.File.moment;
-            left_since = D.File.left_since;
-          };
-          opens = D.opens documents.now;
-        }) }
+        (record { disks = disks_of D.File.Disk; opens = D.opens documents.now }) }
 {
     let _documents = documents;
 }
@@ -95,18 +52,7 @@ pub fn certificates_are_kept<D: Documents + Records + Journals>(documents: &D)
 // claim: plant complete
 pub fn plants_are_complete<D: Documents + Records + Journals>(documents: &D)
     ensures { PlantsAreComplete (D.gives documents.now) (D.holds documents.now)
-        (record {
-          disks = record {
-            File = D.File;
-            is_disk = D.File.is_disk;
-            durable = D.File.durable;
-            seen = D.File.seen;
-            given = D.File.given;
-            moment = D.File.moment;
-            left_since = D.File.left_since;
-          };
-          opens = D.opens documents.now;
-        }) }
+        (record { disks = disks_of D.File.Disk; opens = D.opens documents.now }) }
 {
     let _documents = documents;
 }
@@ -117,18 +63,7 @@ pub fn plants_are_complete<D: Documents + Records + Journals>(documents: &D)
 // claim: desks served
 pub fn desks_are_safe<D: Documents + Records + Journals>(documents: &D)
     ensures { DesksAreSafe (D.gives documents.now) (D.holds documents.now)
-        (record {
-          disks = record {
-            File = D.File;
-            is_disk = D.File.is_disk;
-            durable = D.File.durable;
-            seen = D.File.seen;
-            given = D.File.given;
-            moment = D.File.moment;
-            left_since = D.File.left_since;
-          };
-          opens = D.opens documents.now;
-        }) }
+        (record { disks = disks_of D.File.Disk; opens = D.opens documents.now }) }
 {
     let _documents = documents;
 }
@@ -139,18 +74,7 @@ pub fn desks_are_safe<D: Documents + Records + Journals>(documents: &D)
 // claim: desks kept
 pub fn desks_are_kept<D: Documents + Records + Journals>(documents: &D)
     ensures { DesksAreKept (D.gives documents.now) (D.holds documents.now)
-        (record {
-          disks = record {
-            File = D.File;
-            is_disk = D.File.is_disk;
-            durable = D.File.durable;
-            seen = D.File.seen;
-            given = D.File.given;
-            moment = D.File.moment;
-            left_since = D.File.left_since;
-          };
-          opens = D.opens documents.now;
-        }) }
+        (record { disks = disks_of D.File.Disk; opens = D.opens documents.now }) }
 {
     desks_are_told_again();
     let _documents = documents;

@@ -1,5 +1,6 @@
 //! The program over any documents and streams.
 ghost use Rattle.std.specs.Prelude.{◌≡◌, IfOk, map, string_bytes};
+ghost use Rattle.batch_program.specs.JournalRuns.{disks_of};
 ghost use Rattle.batch_program.specs.Programs.{IsLeftTold, IsProgramRun, IsServed, IsServedRemarked, left_text, status_of_serving};
 
 use crate::desk_runner::DeskRunner;
@@ -63,18 +64,7 @@ pub fn run_program<
     errors: &mut E,
 ) -> (u8, Noted<W>)
     ensures { IsProgramRun (D.gives documents.now) (D.holds documents.now)
-        (record {
-          disks = record {
-            File = D.File;
-            is_disk = D.File.is_disk;
-            durable = D.File.durable;
-            seen = D.File.seen;
-            given = D.File.given;
-            moment = D.File.moment;
-            left_since = D.File.left_since;
-          };
-          opens = D.opens documents.now;
-        })
+        (record { disks = disks_of D.File.Disk; opens = D.opens documents.now })
         (map string_bytes words.now)
         (record {
           unread = R.remaining input.old.stream;
