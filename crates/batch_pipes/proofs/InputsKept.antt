@@ -1,137 +1,151 @@
--- Inputs that are handed over through the rings of their readers.
-use Rattle.std.proofs.Common.{◌≡◌, ◌<◌, ◌+◌, ℕ, Bool, List, [], ◌∷◌, ◌++◌, length, get_or, set, Option, Some, None, IfSome, is_none, option_map, string_bytes, refl, sym, ap, subst, arith, append-nil, length-set, ◌∙◌}
-use Rattle.std.proofs.lemmas.Option.{IfSome_then}
-use Rattle.rtrb.specs.Ring.{IsPair, SameConsumer, SameProducer, received, sent}
-use Rattle.batch_reader.specs.declared.desk.Desk as plans
+-- The messages of desks' readers, in order.
+use Rattle.std.proofs.Common.{◌≡◌, ◌<◌, ℕ, Bool, true, false, ◌||◌, List, [], ◌∷◌, ◌++◌, length, get_or, Option, Some, None, IfSome, option_map, option_to_list, string_bytes, inl, refl, sym, ap, subst, arith, append_assoc, append-nil, ◌∙◌}
+use Rattle.std.proofs.lemmas.Bool.{false≢true}
+use Rattle.std.proofs.lemmas.Grind.{flat_map-append}
+use Rattle.std.proofs.lemmas.List.Folds.{list_any-append}
+use Rattle.std.specs.List.{list_any}
+use Rattle.rtrb.specs.Ring.{received, sent}
 use Rattle.batch_wire.specs.Transcript.{lines_of}
 use Rattle.batch_serve.specs.CleanLines.{clean_lines}
-use Rattle.batch_serve.specs.Rounds.{AreSameReaders, text_sent}
+use Rattle.batch_serve.specs.Replays.{IsWholeLines}
+use Rattle.batch_serve.specs.Rounds.{AreGathered, AreMessagesOf, HaveWholeLines, IsGathered, IsTextOf, is_end, text_of_one, text_sent}
+use Rattle.batch_serve.specs.Runs.{Run}
+use Rattle.batch_serve.specs.Threads.{MayHandOver}
+use Rattle.batch_serve.specs.declared.desk.Desk.{Desk}
 use Rattle.batch_serve.specs.declared.rounds.Reader.{Reader}
 use Rattle.batch_serve.specs.declared.rounds.Sent.{Sent}
-use Rattle.batch_pipes.proofs.Lists.{both_more, both_set, length_more}
-use Rattle.batch_pipes.proofs.Rings.{pair_on, same_ring}
-use Rattle.batch_pipes.specs.Ended.{given_by}
-use Rattle.batch_pipes.specs.InputEnds.{AreItemsOf, IsInputRun}
-use Rattle.batch_pipes.specs.Inputs.{AreInputsKept, AreInputsOf, AreInputsOpened, IsEndOf, IsInputAdded, IsInputOf, IsTaskOf, bytes_of, path_of}
-use Rattle.batch_pipes.specs.Streams.{HandsOver}
-use Rattle.batch_pipes.specs.declared.input.Input.{Input}
-use Rattle.batch_pipes.specs.declared.reading.InputEnd.{InputEnd}
+use Rattle.batch_serve.specs.declared.rounds.Sent.TheVariants.{Path, Lines, End}
+use Rattle.batch_serve.proofs.Wholes.{both}
+use Rattle.batch_pipes.proofs.Lists.{one_of}
+use Rattle.batch_pipes.specs.InputOrder.{CameBehind, IsGiven, IsOrdered, cleaned, given_by}
+use Rattle.batch_pipes.specs.Inputs.{InputsGoOn, IsInputOf, IsNewReader}
+use Rattle.batch_pipes.specs.Kept.{AreReadersKept}
+use Rattle.batch_pipes.specs.Streams.{IsNew}
 use Rattle.batch_pipes.specs.declared.reading.InputTask.{InputTask}
 
--- One input
+-- The protocol
 
-task_on : (path : Option (List ℕ)) (task : InputTask) (a b : Reader) → SameConsumer a.ring b.ring → IsTaskOf path task a → IsTaskOf path task b
-task_on path task a b same of =
-    record { is_path = of.is_path; pair = pair_on task.ring.end task.ring.end a.ring.end b.ring.end (same_ring task.ring.end) same.0 of.pair; new = of.new }
+abbrev pub order_of : (List ℕ → Option (List ℕ)) → List Sent → Sent → Type 0
+order_of given before next = IsOrdered given (before ++ next ∷ [])
 
--- nothing is taken from the reader
-pub input_on : {P : Type 0} (given : List ℕ → Option (List ℕ)) (i : Input P) (a b : Reader) → SameConsumer a.ring b.ring → IsInputOf given i a → IsInputOf given i b
-input_on given i a b same of = record {
-  thread = IfSome_then i.child of.thread (λ child h. task_on (path_of i) child.handle.promise.task.value a b same h);
-  ended = IfSome_then i.end of.ended (λ end h. record {
-    pair = pair_on end.ring.end end.ring.end a.ring.end b.ring.end (same_ring end.ring.end) same.0 h.pair;
-    items = h.items;
-  });
-}
+-- no message yet
+none_of : (input : Option (List ℕ)) → AreMessagesOf input []
+none_of input = record { whole = tt; begun = λ text known. (text, refl, λ t. absurd (false≢true t)) }
 
--- the result of its thread
-pub input_run : (input : Option (List ℕ)) (task : InputTask) (end : InputEnd) (ended : Bool) → SameProducer task.ring end.ring → HandsOver ended input (sent task.ring) (sent end.ring)
-    → is_none end.fault ≡ ended → IsInputRun input task end
-input_run input task end ended ring handed well =
-    record { ring = ring; handed = subst (λ b. HandsOver b input (sent task.ring) (sent end.ring)) (sym well) handed }
-
--- nothing is left in the ring
-pub all_taken : (came known went : List Sent) → length known ≡ 0 → came ++ known ≡ went → came ≡ went
-all_taken came [] went none fifo = sym (append-nil came) ∙ fifo
-all_taken came (x ∷ known) went none fifo = absurd (omega (arith, none))
-
--- All inputs
-
-pub inputs_on : {P : Type 0} (given : List ℕ → Option (List ℕ)) (inputs : List (Input P)) (before after : List Reader) → length after ≡ length before
-    → AreSameReaders before after → AreInputsOf given inputs before → AreInputsOf given inputs after
-inputs_on given inputs before after count same of = record {
-  count = of.count ∙ sym count;
-  each = λ k i reader within.
-      input_on given (get_or inputs k i) (get_or before k reader) (get_or after k reader) (same k reader (omega (arith, within, of.count))) (of.each k i reader within);
-}
-
--- an input beside its reader
-pub input_here : {P : Type 0} (given : List ℕ → Option (List ℕ)) (inputs : List (Input P)) (readers : List Reader) (i : ℕ) (input : Input P) (reader : Reader) → i < length inputs
-    → input ≡ get_or inputs i input → reader ≡ get_or readers i reader → AreInputsOf given inputs readers → IsInputOf given input reader
-input_here {P} given inputs readers i input reader within is at of =
-    subst (λ (x : Input P). IsInputOf given x reader) (sym is) (subst (λ (r : Reader). IsInputOf given (get_or inputs i input) r) (sym at) (of.each i input reader within))
-
--- one input was looked after
-pub inputs_set : {P : Type 0} (given : List ℕ → Option (List ℕ)) (inputs : List (Input P)) (readers : List Reader) (i : ℕ) (input : Input P) (reader : Reader) → i < length inputs
-    → IsInputOf given input reader → AreInputsOf given inputs readers → AreInputsOf given (set inputs i input) (set readers i reader)
-inputs_set {P} given inputs readers i input reader within here of = record {
-  count = omega (arith, of.count, length-set {A = Input P}, length-set {A = Reader});
-  each = λ k other read below.
-      both_set (λ (x : Input P) (y : Reader). IsInputOf given x y) inputs readers i input reader within of.count here of.each k other read (omega (arith, below, length-set {A = Input P}));
-}
-
-pub inputs_as_they_are : {P : Type 0} (given : List ℕ → Option (List ℕ)) (inputs : List (Input P)) (readers : List Reader) → AreInputsOf given inputs readers
-    → AreInputsKept given inputs inputs readers
-inputs_as_they_are given inputs readers of = record { of = of; count = refl; paths = λ k i within. refl }
-
-pub inputs_twice : {P : Type 0} (given : List ℕ → Option (List ℕ)) (a b d : List (Input P)) (x y : List Reader) → AreInputsKept given a b x → AreInputsKept given b d y → AreInputsKept given a d y
-inputs_twice given a b d x y one other = record {
-  of = other.of;
-  count = other.count ∙ one.count;
-  paths = λ k i within. other.paths k i (omega (arith, within, one.count)) ∙ one.paths k i within;
-}
-
--- Opening
-
-pub inputs_more : {P : Type 0} (given : List ℕ → Option (List ℕ)) (desks : List plans.Desk) (desk : plans.Desk) (old new : List (Input P)) (before after : List Reader)
-    → AreInputsOpened given desks old before → IsInputAdded given (option_map string_bytes desk.input) old new before after → AreInputsOpened given (desks ++ desk ∷ []) new after
-inputs_more {P} given desks desk old new before after opened added = record {
-  of = record {
-    count = omega (arith, opened.of.count, more, ap length added.readers, length_more before added.reader);
-    each = λ k i reader below.
-        subst (λ (l : List (Input P)). IsInputOf given (get_or l k i) (get_or after k reader)) (sym added.inputs)
-        (subst (λ (l : List Reader). IsInputOf given (get_or (old ++ added.input ∷ []) k i) (get_or l k reader)) (sym added.readers)
-        (both_more (λ _ (x : Input P) (y : Reader). IsInputOf given x y) old before added.input added.reader opened.of.count added.of opened.of.each k i reader (omega (arith, below, more))));
-  };
-  count = omega (arith, opened.count, more, length_more desks desk);
-  paths = λ k i other below.
-      subst (λ (l : List (Input P)). path_of (get_or l k i) ≡ option_map string_bytes (get_or (desks ++ desk ∷ []) k other).input) (sym added.inputs)
-      (both_more (λ _ (x : Input P) (y : plans.Desk). path_of x ≡ option_map string_bytes y.input) old desks added.input desk opened.count added.is_path
-      (λ j p q lt. opened.paths j p q (omega (arith, lt, opened.count))) k i other (omega (arith, below, opened.count, length_more desks desk)));
-}
+-- messages of the input that its pipes give
+behind_path : (given : List ℕ → Option (List ℕ)) (path : List ℕ) (input : Option (List ℕ)) (before : List Sent) → CameBehind (Some path) before [] → IsGiven (given path) input
+    → (messages : List Sent) (next : Sent) → AreMessagesOf (cleaned input) (messages ++ next ∷ []) → order_of given (before ++ messages) next
+behind_path given path input [] came is messages next of = absurd came
+behind_path given path input (Lines text ∷ before) came is messages next of = absurd came
+behind_path given path input (End ∷ before) came is messages next of = absurd came
+behind_path given path input (Path from ∷ before) came is messages next of =
+    subst (λ l. IsOrdered given ((Path from ∷ (l ++ messages)) ++ next ∷ [])) (sym came.1)
+    (subst (λ p. AreMessagesOf (cleaned (given_by given p)) (messages ++ next ∷ [])) (sym came.0) (record { whole = of.whole; begun = begun (given path) refl }))
   where
-    more : length new ≡ length old + 1
-    more = ap length added.inputs ∙ length_more old added.input
+    begun : (known : Option (List ℕ)) → given path ≡ known → (text : List ℕ) → cleaned known ≡ Some text
+        → (rest : List ℕ) × (text ≡ text_sent (messages ++ next ∷ []) ++ rest) × (list_any is_end (messages ++ next ∷ []) ≡ true → rest ≡ [])
+    begun None at text cleans = absurd cc
+    begun (Some bytes) at text cleans = of.begun text (ap cleaned (is bytes at) ∙ cleans)
 
--- no input of no desk
-pub inputs_none : {P : Type 0} (given : List ℕ → Option (List ℕ)) (inputs : List (Input P)) (readers : List Reader) → inputs ≡ [] → readers ≡ [] → AreInputsOpened given [] inputs readers
-inputs_none given inputs readers none nobody = record {
-  of = record { count = ap length none ∙ sym (ap length nobody); each = λ k i reader below. absurd (omega (arith, below, ap length none)) };
-  count = ap length none;
-  paths = λ k i desk below. absurd (omega (arith, below));
-}
+pub may_hand_over : {P : Type 0} (given : List ℕ → Option (List ℕ)) (task : InputTask P) (input : Option (List ℕ)) → IsNew task → IsGiven (given (string_bytes task.path)) input
+    → MayHandOver (order_of given) (sent task.ring) (cleaned input)
+may_hand_over given task input new is messages next of = behind_path given (string_bytes task.path) input (sent task.ring) new is messages next of
 
--- an input whose thread was started
-pub input_started : {P : Type 0} (given : List ℕ → Option (List ℕ)) (i : Input P) (task : InputTask) (reader : Reader)
-    → IfSome i.child (λ child. child.handle.promise.task.value ≡ task) → i.end ≡ None → path_of i ≡ Some (string_bytes task.path) → sent task.ring ≡ []
-    → IsPair task.ring reader.ring → IsInputOf given i reader
-input_started given i task reader child end path new pair = record {
-  thread = IfSome_then i.child child (λ child is. subst (λ (t : InputTask). IsTaskOf (path_of i) t reader) (sym is) (record { is_path = path; pair = pair; new = new }));
-  ended = subst (λ (e : Option InputEnd). IfSome e (λ end. IsEndOf (bytes_of given i) end reader)) (sym end) tt;
-}
+-- The messages that came
 
--- one of a desk that has none
-pub input_missing : {P : Type 0} (given : List ℕ → Option (List ℕ)) (i : Input P) (end : InputEnd) (reader : Reader) → i.child ≡ None → i.end ≡ Some end → path_of i ≡ None
-    → sent end.ring ≡ [] → IsPair end.ring reader.ring → IsInputOf given i reader
-input_missing {P} given i end reader child is path new pair = record {
-  thread = subst (λ c. IfSome c (λ child. IsTaskOf (path_of i) child.handle.promise.task.value reader)) (sym child) tt;
-  ended = subst (λ (e : Option InputEnd). IfSome e (λ end. IsEndOf (bytes_of given i) end reader)) (sym is) (record { pair = pair; items = nothing });
-}
+behind_more : (given : List ℕ → Option (List ℕ)) (path : Option (List ℕ)) (came messages : List Sent) (next : Sent) → CameBehind path came messages → order_of given came next
+    → CameBehind path (came ++ next ∷ []) (messages ++ next ∷ []) × AreMessagesOf (cleaned (given_by given path)) (messages ++ next ∷ [])
+behind_more given path [] messages next behind allowed = absurd behind
+behind_more given path (Lines text ∷ came) messages next behind allowed = absurd behind
+behind_more given path (End ∷ came) messages next behind allowed = absurd behind
+behind_more given path (Path from ∷ came) messages next behind allowed = (
+  (behind.0, ap (λ l. l ++ next ∷ []) behind.1),
+  subst (λ p. AreMessagesOf (cleaned (given_by given p)) (messages ++ next ∷ [])) behind.0
+      (subst (λ l. AreMessagesOf (cleaned (given_by given (option_map string_bytes from))) (l ++ next ∷ [])) behind.1 allowed),
+)
+
+-- one more came, or none
+input_gathered : {O : Type 0} (given : List ℕ → Option (List ℕ)) (path : Option (List ℕ)) (desk : ℕ) (is_cut : Bool) (old new : Reader O) (before after : List Run)
+    → IsInputOf given path old → IsGathered (order_of given) desk is_cut old new before after → IsInputOf given path new
+input_gathered {O} given path desk is_cut old new before after of g = go g.message g.came g.allowed g.ends
   where
-    some_same : {x y : List ℕ} → Some x ≡ Some y → x ≡ y
-    some_same same = cc
+    ended : (more : List Sent) → new.has_ended ≡ (old.has_ended || list_any is_end more) → new.has_ended ≡ list_any is_end (of.messages ++ more)
+    ended more is = is ∙ ap (λ b. b || list_any is_end more) of.ends ∙ sym (list_any-append is_end of.messages more)
 
-    nothing : AreItemsOf (is_none end.fault) (bytes_of given i) (sent end.ring)
-    nothing = λ bytes known.
-        let none : bytes ≡ [] = some_same (sym known ∙ ap (given_by given) path) in
-        ([], ap (λ b. clean_lines (lines_of b)) none ∙ sym (append-nil (text_sent (sent end.ring)) ∙ ap text_sent new), λ t. refl)
+    go : (m : Option Sent) → received new.ring ≡ received old.ring ++ option_to_list m → IfSome m (order_of given (received old.ring))
+        → new.has_ended ≡ (old.has_ended || list_any is_end (option_to_list m)) → IsInputOf given path new
+    go None came allowed ends = record {
+      messages = of.messages;
+      came = subst (λ l. CameBehind path l of.messages) (sym (came ∙ append-nil (received old.ring))) of.came;
+      of = of.of;
+      ends = ended [] ends ∙ ap (list_any is_end) (append-nil of.messages);
+    }
+    go (Some next) came allowed ends =
+        let (behind, all) = behind_more given path (received old.ring) of.messages next of.came allowed in
+        record { messages = of.messages ++ next ∷ []; came = subst (λ l. CameBehind path l (of.messages ++ next ∷ [])) (sym came) behind; of = all; ends = ended (next ∷ []) ends }
+
+pub inputs_gathered : {O : Type 0} (given : List ℕ → Option (List ℕ)) (desks : List Desk) (old new : List (Reader O)) (before after : List Run) → length old ≡ length desks
+    → AreGathered (order_of given) desks old new before after → InputsGoOn given old new
+inputs_gathered given desks old new before after as_many g listed of = record {
+  count = g.count ∙ of.count;
+  each = λ k plan reader within.
+      let in_old : k < length old = omega (arith, within, of.count) in
+      input_gathered given _ k _ (get_or old k reader) (get_or new k reader) before after (of.each k plan reader within)
+      (g.each k reader (one_of desks k (omega (arith, in_old, as_many))) in_old);
+}
+
+pub inputs_kept : {O : Type 0} (given : List ℕ → Option (List ℕ)) (old new : List (Reader O)) → AreReadersKept old new → InputsGoOn given old new
+inputs_kept given old new kept listed of = record {
+  count = kept.count ∙ of.count;
+  each = λ k plan reader within.
+      let was = of.each k plan reader within in
+      let is = kept.each k reader (omega (arith, within, of.count)) in
+      record { messages = was.messages; came = subst (λ l. CameBehind (option_map string_bytes (get_or listed k plan).input) l was.messages) (sym is.ring) was.came; of = was.of; ends = is.ended ∙ was.ends };
+}
+
+pub inputs_twice : {O : Type 0} (given : List ℕ → Option (List ℕ)) (a b d : List (Reader O)) → InputsGoOn given a b → InputsGoOn given b d → InputsGoOn given a d
+inputs_twice given a b d one other listed of = other listed (one listed of)
+
+pub input_begins : {O : Type 0} (given : List ℕ → Option (List ℕ)) (path : Option (List ℕ)) (reader : Reader O) → IsNewReader path reader → IsInputOf given path reader
+input_begins given path reader new = record { messages = []; came = new.came; of = none_of (cleaned (given_by given path)); ends = new.ended }
+
+-- The lines that were served
+
+text_behind : (path : Option (List ℕ)) (came messages : List Sent) → CameBehind path came messages → text_sent came ≡ text_sent messages
+text_behind path [] messages behind = absurd behind
+text_behind path (Lines text ∷ came) messages behind = absurd behind
+text_behind path (End ∷ came) messages behind = absurd behind
+text_behind path (Path from ∷ came) messages behind = ap text_sent behind.1
+
+pub no_text : (path : Option (List ℕ)) (came : List Sent) → CameBehind path came [] → text_sent came ≡ []
+no_text path came behind = text_behind path came [] behind
+
+whole_behind : (path : Option (List ℕ)) (came messages : List Sent) → CameBehind path came messages → HaveWholeLines messages → HaveWholeLines came
+whole_behind path [] messages behind whole = absurd behind
+whole_behind path (Lines text ∷ came) messages behind whole = absurd behind
+whole_behind path (End ∷ came) messages behind whole = absurd behind
+whole_behind path (Path from ∷ came) messages behind whole = (inl refl, subst HaveWholeLines (sym behind.1) whole)
+
+whole_front : (front rest : List Sent) → HaveWholeLines (front ++ rest) → IsWholeLines (text_sent front)
+whole_front [] rest whole = inl refl
+whole_front (message ∷ front) rest whole = both (text_of_one message) (text_sent front) whole.0 (whole_front front rest whole.1)
+
+-- they are whole, and a prefix of those of the input
+pub own_whole : {O : Type 0} (given : List ℕ → Option (List ℕ)) (path : Option (List ℕ)) (reader : Reader O) (is_cut : Bool) (text : List ℕ) → IsInputOf given path reader
+    → IsTextOf (received reader.ring) is_cut text → IsWholeLines text
+own_whole given path reader is_cut text of t =
+    subst IsWholeLines (sym t.text_is)
+    (whole_front t.taken t.dropped (subst HaveWholeLines t.came_is (whole_behind path (received reader.ring) of.messages of.came of.of.whole)))
+
+pub own_begun : {O : Type 0} (given : List ℕ → Option (List ℕ)) (path : Option (List ℕ)) (reader : Reader O) (is_cut : Bool) (text bytes : List ℕ) → IsInputOf given path reader
+    → IsTextOf (received reader.ring) is_cut text → (is_cut ≡ false → reader.has_ended ≡ true) → given_by given path ≡ Some bytes
+    → (rest : List ℕ) × (clean_lines (lines_of bytes) ≡ text ++ rest) × (is_cut ≡ false → rest ≡ [])
+own_begun given path reader is_cut text bytes of t ended known =
+    let (rest, is, all) = of.of.begun (clean_lines (lines_of bytes)) (ap cleaned known) in
+    let came : text_sent of.messages ≡ text ++ text_sent t.dropped =
+    sym (text_behind path (received reader.ring) of.messages of.came) ∙ ap text_sent t.came_is ∙ flat_map-append text_of_one t.taken t.dropped
+    ∙ ap (λ l. l ++ text_sent t.dropped) (sym t.text_is) in (
+      text_sent t.dropped ++ rest,
+      is ∙ ap (λ l. l ++ rest) came ∙ append_assoc text (text_sent t.dropped) rest,
+      λ uncut. ap (λ l. text_sent l ++ rest) (t.all uncut) ∙ all (sym of.ends ∙ ended uncut),
+    )

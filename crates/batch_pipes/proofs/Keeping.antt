@@ -1,7 +1,7 @@
 -- Desks and readers that are left as they were, and desks to which more was handed on.
-use Rattle.std.proofs.Common.{◌≡◌, ◌≢◌, ◌<◌, ◌≤◌, ◌+◌, ◌⊎◌, ◌||◌, Bool, true, false, List, Option, ℕ, length, get_or, set, refl, sym, ap, ◌∙◌, subst, arith, inl, inr, get_or-set_other, get_or-set_same}
+use Rattle.std.proofs.Common.{◌≡◌, ◌≢◌, ◌<◌, ◌≤◌, ◌+◌, ◌⊎◌, ◌||◌, Bool, true, false, List, ℕ, length, get_or, set, refl, sym, ap, ◌∙◌, subst, arith, inl, inr, get_or-set_other, get_or-set_same}
 use Rattle.std.proofs.lemmas.Bool.{cases_lt, false≢true}
-use Rattle.rtrb.specs.Ring.{SameConsumer, SameProducer, received, sent}
+use Rattle.rtrb.specs.Ring.{SameProducer, sent}
 use Rattle.batch_serve.specs.Rounds.{AreHandedOn, AreSameWriters, IsHandedOn}
 use Rattle.batch_serve.specs.Runs.{Run}
 use Rattle.batch_serve.specs.Told.{AreTold}
@@ -13,7 +13,6 @@ use Rattle.batch_serve.proofs.Gathering.{was_here}
 use Rattle.batch_pipes.proofs.Lists.{one_of}
 use Rattle.batch_pipes.proofs.Rings.{producer_on, same_ring}
 use Rattle.batch_pipes.specs.Kept.{AreReadersKept, AreSameDesks, IsDeskKept, IsDone, IsReaderKept}
-use Rattle.batch_pipes.specs.declared.input.Input.{Input}
 
 pub kept_as_it_is : (desk : Desk) → IsDeskKept desk desk
 kept_as_it_is desk = record { unit = refl; cut = λ uncut. uncut; waits = λ _. refl; account = λ all told h. h }
@@ -58,28 +57,25 @@ pub handed_some : (old new : Desk) (before after : Writer) → SameProducer befo
     → ((all : List (List ℕ)) → IsAccount all (sent before.ring) old.waiting → IsAccount all (sent after.ring) new.waiting) → IsHandedOn old new before after
 handed_some old new before after ring unit same account = record { ring = ring; unit = unit; cut = λ uncut. sym same ∙ uncut; account = account }
 
-pub reader_kept : (old new : Reader) → SameConsumer old.ring new.ring → received new.ring ≡ received old.ring → new.has_ended ≡ old.has_ended → IsReaderKept old new
-reader_kept old new same ring ended = record { same = same; ring = ring; ended = ended }
-
 -- one reader more is left as it was
-pub readers_more : (first now : List Reader) (i : ℕ) (old new : Reader) → i < length now → old ≡ get_or now i old → IsReaderKept old new
-    → ((k : ℕ) (reader : Reader) → k < i → IsReaderKept (get_or first k reader) (get_or now k reader))
-    → ((k : ℕ) (reader : Reader) → i ≤ k → get_or now k reader ≡ get_or first k reader)
-    → (k : ℕ) (reader : Reader) → k < i + 1 → IsReaderKept (get_or first k reader) (get_or (set now i new) k reader)
-readers_more first now i old new within is kept so_far rest k reader below = go (cases_lt k i)
+pub readers_more : {O : Type 0} (first now : List (Reader O)) (i : ℕ) (old new : Reader O) → i < length now → old ≡ get_or now i old → IsReaderKept old new
+    → ((k : ℕ) (reader : Reader O) → k < i → IsReaderKept (get_or first k reader) (get_or now k reader))
+    → ((k : ℕ) (reader : Reader O) → i ≤ k → get_or now k reader ≡ get_or first k reader)
+    → (k : ℕ) (reader : Reader O) → k < i + 1 → IsReaderKept (get_or first k reader) (get_or (set now i new) k reader)
+readers_more {O} first now i old new within is kept so_far rest k reader below = go (cases_lt k i)
   where
     go : (k < i) ⊎ (i ≤ k) → IsReaderKept (get_or first k reader) (get_or (set now i new) k reader)
     go (inl lt) =
         let apart : k ≢ i = omega arith in
-        subst (λ (r : Reader). IsReaderKept (get_or first k reader) r) (sym (get_or-set_other now i k new reader apart)) (so_far k reader lt)
+        subst (λ (r : Reader O). IsReaderKept (get_or first k reader) r) (sym (get_or-set_other now i k new reader apart)) (so_far k reader lt)
     go (inr le) =
         let at : k ≡ i = omega arith in
-        subst (λ (r : Reader). IsReaderKept r (get_or (set now i new) k reader))
+        subst (λ (r : Reader O). IsReaderKept r (get_or (set now i new) k reader))
         (sym (ap (λ n. get_or first n reader) at ∙ was_here first now i old reader within is (rest i reader (omega arith))))
         (subst (IsReaderKept old) (sym (ap (λ n. get_or (set now i new) n reader) at ∙ get_or-set_same now i new reader within)) kept)
 
-pub readers_as_they_are : (readers : List Reader) → AreReadersKept readers readers
-readers_as_they_are readers = record { count = refl; each = λ k reader within. record { same = ((refl, refl, refl, refl), refl); ring = refl; ended = refl } }
+pub readers_as_they_are : {O : Type 0} (readers : List (Reader O)) → AreReadersKept readers readers
+readers_as_they_are readers = record { count = refl; each = λ k reader within. record { ring = refl; ended = refl } }
 
 -- neither of two, where not one of them
 neither : (a b c : Bool) → c ≡ (a || b) → c ≡ false → (a ≡ false) × (b ≡ false)
@@ -87,14 +83,12 @@ neither false b c is none = (refl, sym is ∙ none)
 neither true b c is none = absurd (false≢true (sym none ∙ is))
 
 -- one desk more is done, if none of them has more to come
-pub done_more : {P : Type 0} (given : List ℕ → Option (List ℕ)) (desks : List Desk) (inputs : List (Input P)) (readers : List Reader) (i : ℕ) (desk : Desk) (input : Input P) (reader : Reader)
-    (sends waits more_sends more_waits all_sends all_waits : Bool) → i < length desks → i < length inputs → i < length readers → all_sends ≡ (sends || more_sends) → all_waits ≡ (waits || more_waits)
-    → (more_sends ≡ false → more_waits ≡ false → IsDone given desk input reader)
-    → (sends ≡ false → waits ≡ false → (k : ℕ) (d : Desk) (n : Input P) (r : Reader) → k < i → IsDone given (get_or desks k d) (get_or inputs k n) (get_or readers k r))
-    → all_sends ≡ false → all_waits ≡ false → (k : ℕ) (d : Desk) (n : Input P) (r : Reader) → k < i + 1
-    → IsDone given (get_or (set desks i desk) k d) (get_or (set inputs i input) k n) (get_or (set readers i reader) k r)
-done_more {P} given desks inputs readers i desk input reader sends waits more_sends more_waits all_sends all_waits in_desks in_inputs in_readers sends_is waits_is here so_far no_sends no_waits k d n r below =
-    go (cases_lt k i)
+pub done_more : {O : Type 0} (desks : List Desk) (readers : List (Reader O)) (i : ℕ) (desk : Desk) (reader : Reader O) (sends waits more_sends more_waits all_sends all_waits : Bool)
+    → i < length desks → i < length readers → all_sends ≡ (sends || more_sends) → all_waits ≡ (waits || more_waits)
+    → (more_sends ≡ false → more_waits ≡ false → IsDone desk reader)
+    → (sends ≡ false → waits ≡ false → (k : ℕ) (d : Desk) (r : Reader O) → k < i → IsDone (get_or desks k d) (get_or readers k r))
+    → all_sends ≡ false → all_waits ≡ false → (k : ℕ) (d : Desk) (r : Reader O) → k < i + 1 → IsDone (get_or (set desks i desk) k d) (get_or (set readers i reader) k r)
+done_more {O} desks readers i desk reader sends waits more_sends more_waits all_sends all_waits in_desks in_readers sends_is waits_is here so_far no_sends no_waits k d r below = go (cases_lt k i)
   where
     none_sends : (sends ≡ false) × (more_sends ≡ false)
     none_sends = neither sends more_sends all_sends sends_is no_sends
@@ -102,22 +96,18 @@ done_more {P} given desks inputs readers i desk input reader sends waits more_se
     none_waits : (waits ≡ false) × (more_waits ≡ false)
     none_waits = neither waits more_waits all_waits waits_is no_waits
 
-    all : (x : Desk) (y : Input P) (z : Reader) → get_or (set desks i desk) k d ≡ x → get_or (set inputs i input) k n ≡ y → get_or (set readers i reader) k r ≡ z → IsDone given x y z
-        → IsDone given (get_or (set desks i desk) k d) (get_or (set inputs i input) k n) (get_or (set readers i reader) k r)
-    all x y z p q s done =
-        subst (λ (a : Desk). IsDone given a (get_or (set inputs i input) k n) (get_or (set readers i reader) k r)) (sym p)
-        (subst (λ (a : Input P). IsDone given x a (get_or (set readers i reader) k r)) (sym q) (subst (IsDone given x y) (sym s) done))
+    all : (x : Desk) (z : Reader O) → get_or (set desks i desk) k d ≡ x → get_or (set readers i reader) k r ≡ z → IsDone x z
+        → IsDone (get_or (set desks i desk) k d) (get_or (set readers i reader) k r)
+    all x z p s done = subst (λ (a : Desk). IsDone a (get_or (set readers i reader) k r)) (sym p) (subst (λ (e : Reader O). IsDone x e) (sym s) done)
 
-    go : (k < i) ⊎ (i ≤ k) → IsDone given (get_or (set desks i desk) k d) (get_or (set inputs i input) k n) (get_or (set readers i reader) k r)
+    go : (k < i) ⊎ (i ≤ k) → IsDone (get_or (set desks i desk) k d) (get_or (set readers i reader) k r)
     go (inl lt) =
         let apart : k ≢ i = omega arith in
-        all (get_or desks k d) (get_or inputs k n) (get_or readers k r) (get_or-set_other desks i k desk d apart) (get_or-set_other inputs i k input n apart)
-        (get_or-set_other readers i k reader r apart) (so_far none_sends.0 none_waits.0 k d n r lt)
+        all (get_or desks k d) (get_or readers k r) (get_or-set_other desks i k desk d apart) (get_or-set_other readers i k reader r apart) (so_far none_sends.0 none_waits.0 k d r lt)
     go (inr le) =
         let at : k ≡ i = omega arith in
-        all desk input reader (ap (λ m. get_or (set desks i desk) m d) at ∙ get_or-set_same desks i desk d in_desks)
-        (ap (λ m. get_or (set inputs i input) m n) at ∙ get_or-set_same inputs i input n in_inputs)
-        (ap (λ m. get_or (set readers i reader) m r) at ∙ get_or-set_same readers i reader r in_readers) (here none_sends.1 none_waits.1)
+        all desk reader (ap (λ m. get_or (set desks i desk) m d) at ∙ get_or-set_same desks i desk d in_desks) (ap (λ m. get_or (set readers i reader) m r) at ∙ get_or-set_same readers i reader r in_readers)
+        (here none_sends.1 none_waits.1)
 
 -- Desks that are the same
 

@@ -1,7 +1,7 @@
 -- Desks whose rings are made one after the other.
-use Rattle.std.proofs.Common.{◌≡◌, ◌<◌, ◌+◌, None, ℕ, zero, suc, List, [], ◌∷◌, ◌++◌, length, get_or, refl, sym, ap, subst, arith, ◌∙◌}
+use Rattle.std.proofs.Common.{◌≡◌, ◌<◌, ◌+◌, None, ℕ, zero, suc, List, [], ◌∷◌, ◌++◌, length, get_or, option_map, string_bytes, refl, sym, ap, subst, arith, ◌∙◌}
 use Rattle.std.proofs.lemmas.List.{map-append}
-use Rattle.rtrb.specs.Ring.{received, sent}
+use Rattle.rtrb.specs.Ring.{sent}
 use Rattle.batch_reader.specs.declared.desk.Desk as plans
 use Rattle.batch_engine.specs.View.{EngineView}
 use Rattle.batch_serve.specs.declared.desk.Desk.{Desk}
@@ -9,8 +9,10 @@ use Rattle.batch_serve.specs.declared.desk_server.DeskServer.{DeskServer}
 use Rattle.batch_serve.specs.declared.rounds.Reader.{Reader}
 use Rattle.batch_serve.specs.declared.rounds.Writer.{Writer}
 use Rattle.batch_pipes.proofs.Lists.{both_more, length_more}
+use Rattle.batch_pipes.specs.Inputs.{IsNewReader}
 use Rattle.batch_pipes.specs.Kept.{ArePortsOf}
 use Rattle.batch_pipes.specs.Opened.{IsOpened, IsOpenedOn}
+use Rattle.batch_pipes.specs.declared.input_order.InputOrder.{InputOrder}
 use Rattle.batch_pipes.specs.declared.ports.Ports.{Ports}
 
 -- a property of each element, and of one more
@@ -32,7 +34,7 @@ of_each P xs new y other k n is count all last within =
     subst (λ l. P (get_or l k other)) (sym is)
     (of_last P xs y other k (λ j o lt. all j o (omega (arith, lt, count))) last (omega (arith, within, count, length_more xs y)))
 
-pub ports_more : (plan : plans.Desk) (old new : DeskServer) (before after : Ports) → IsOpenedOn plan old new before after → ArePortsOf old.desks.items before → ArePortsOf new.desks.items after
+pub ports_more : {P : Type 0} (plan : plans.Desk) (old new : DeskServer) (before after : Ports P) → IsOpenedOn plan old new before after → ArePortsOf old.desks.items before → ArePortsOf new.desks.items after
 ports_more plan old new before after on of =
     let desks : length new.desks.items ≡ length old.desks.items + 1 = ap length on.desks.desks ∙ length_more old.desks.items on.desk in
     let readers : length after.readers.items ≡ length before.readers.items + 1 = ap length on.ports.readers ∙ length_more before.readers.items on.reader in
@@ -43,9 +45,9 @@ ports_more plan old new before after on of =
       threads = omega (arith, on.ports.threads, desks, of.threads);
     }
 
-pub opened_more : (engine : EngineView) (desks : List plans.Desk) (desk : plans.Desk) (old new : DeskServer) (before after : Ports) → ArePortsOf old.desks.items before
+pub opened_more : {P : Type 0} (engine : EngineView) (desks : List plans.Desk) (desk : plans.Desk) (old new : DeskServer) (before after : Ports P) → ArePortsOf old.desks.items before
     → length old.desks.items ≡ length desks → IsOpened engine desks old before → IsOpenedOn desk old new before after → IsOpened engine (desks ++ desk ∷ []) new after
-opened_more engine desks desk old new before after of as_many so_far on =
+opened_more {P} engine desks desk old new before after of as_many so_far on =
     let n : ℕ = length old.desks.items in
     let count : length new.desks.items ≡ n + 1 = ap length on.desks.desks ∙ length_more old.desks.items on.desk in
     record {
@@ -59,15 +61,17 @@ opened_more engine desks desk old new before after of as_many so_far on =
       empty = record {
         waits = λ k other within. of_each (λ (d : Desk). d.waiting.lines ≡ []) old.desks.items new.desks.items on.desk other k n on.desks.desks refl so_far.empty.waits on.waits
             (omega (arith, within, count));
-        came = λ k reader within. of_each (λ (r : Reader). received r.ring ≡ []) before.readers.items after.readers.items on.reader reader k n on.ports.readers of.readers so_far.empty.came on.came
-            (omega (arith, within, count));
+        came = λ k plan reader within.
+            subst (λ (l : List (Reader (InputOrder P))). IsNewReader (option_map string_bytes (get_or (desks ++ desk ∷ []) k plan).input) (get_or l k reader)) (sym on.ports.readers)
+            (both_more (λ _ (r : Reader (InputOrder P)) (p : plans.Desk). IsNewReader (option_map string_bytes p.input) r) before.readers.items desks on.reader desk (of.readers ∙ as_many) on.came
+            (λ j r p lt. so_far.empty.came j p r (omega (arith, lt, of.readers))) k reader plan (omega (arith, within, count, of.readers)));
         went = λ k writer within. of_each (λ (w : Writer). sent w.ring ≡ []) before.writers.items after.writers.items on.writer writer k n on.ports.writers of.writers so_far.empty.went on.went
             (omega (arith, within, count));
       };
     }
 
 -- so it is of a server that has no desk
-pub opened_none : (s : DeskServer) (p : Ports) → s.desks.items ≡ [] → s.names.items ≡ [] → s.last ≡ None → s.group.items ≡ [] → IsOpened s.engine [] s p
+pub opened_none : {P : Type 0} (s : DeskServer) (p : Ports P) → s.desks.items ≡ [] → s.names.items ≡ [] → s.last ≡ None → s.group.items ≡ [] → IsOpened s.engine [] s p
 opened_none s p none named last group = record {
   engine_is = refl;
   names = named;
@@ -76,7 +80,7 @@ opened_none s p none named last group = record {
   group = group;
   empty = record {
     waits = λ k other within. absurd (omega (arith, within, ap length none));
-    came = λ k reader within. absurd (omega (arith, within, ap length none));
+    came = λ k plan reader within. absurd (omega (arith, within, ap length none));
     went = λ k writer within. absurd (omega (arith, within, ap length none));
   };
 }

@@ -1,13 +1,12 @@
 -- Rounds lead a service on.
-use Rattle.std.proofs.Common.{◌≡◌, ◌<◌, ℕ, zero, suc, Bool, true, false, List, [], ◌∷◌, ◌++◌, length, get_or, flat_map, Option, None, Result, Ok, Err, OnOk, codes, decimal, inl, inr, refl, sym, ap, subst, arith, append-nil, ◌∙◌}
+use Rattle.std.proofs.Common.{◌≡◌, ◌<◌, ℕ, zero, suc, Bool, true, false, List, [], ◌∷◌, ◌++◌, length, get_or, flat_map, map, Option, None, Result, Ok, Err, OnOk, codes, decimal, inl, inr, refl, sym, ap, subst, arith, append-nil, ◌∙◌}
 use Rattle.std.proofs.lemmas.Grind.{flat_map-append}
 use Rattle.std.proofs.lemmas.List.Elements.{All-append, All-nil}
 use Rattle.std.proofs.KnownBytes.{Appends-nil, Appends-trans}
 use Rattle.std.specs.Io.KnownBytes.{Appends}
 use Rattle.batch_engine.specs.View.{EngineView, plant_of, setup}
-use Rattle.rtrb.specs.Ring.{sent}
-use Rattle.batch_serve.specs.Lives.{IsLife}
-use Rattle.batch_serve.specs.Rounds.{AreGathered, IsHandedOver, text_sent}
+use Rattle.rtrb.specs.Ring.{received, sent}
+use Rattle.batch_serve.specs.Rounds.{AreGathered, IsHandedOver, IsTextOf, text_sent}
 use Rattle.batch_serve.specs.Runs.{AreOfDesks, Run, due_of, last_of, own_text, runs_text}
 use Rattle.batch_serve.specs.Served.{AreServed}
 use Rattle.batch_serve.specs.Turns.{IsSameBut, IsTurned}
@@ -15,24 +14,26 @@ use Rattle.batch_serve.specs.Waits.{IsAccount}
 use Rattle.batch_serve.specs.declared.desk.Desk.{Desk}
 use Rattle.batch_serve.specs.declared.desk_server.DeskServer.{DeskServer}
 use Rattle.batch_serve.specs.declared.rounds.Reader.{Reader}
+use Rattle.batch_serve.specs.declared.rounds.Sent.{Sent}
 use Rattle.batch_serve.specs.declared.rounds.Writer.{Writer}
 use Rattle.batch_serve.proofs.Gathering.{lines_go_on}
 use Rattle.batch_serve.proofs.GoingOn.{texts_go_on}
 use Rattle.batch_serve.proofs.LivesKept.{last_same, life_turned, lives_take}
 use Rattle.batch_reader.specs.DeskNames.{desk_names}
 use Rattle.batch_reader.specs.declared.desk.Desk as plans
+use Rattle.batch_pipes.proofs.InputsKept.{input_begins, no_text, own_begun, own_whole}
 use Rattle.batch_pipes.proofs.Lists.{one_of}
 use Rattle.batch_pipes.proofs.OutputsKept.{is_given_back}
-use Rattle.batch_pipes.specs.Ended.{AreDesksEnded, IsGivenBack, given_by}
-use Rattle.batch_pipes.specs.Inputs.{AreInputsKept, AreInputsOpened}
+use Rattle.batch_pipes.specs.Ended.{AreDesksEnded, IsGivenBack}
+use Rattle.batch_pipes.specs.Inputs.{AreInputsOf, InputsGoOn}
 use Rattle.batch_pipes.specs.Kept.{AreDone, AreReadersKept, ArePortsOf, AreSameDesks}
 use Rattle.batch_pipes.specs.Opened.{IsOpened}
 use Rattle.batch_pipes.specs.OutputEnds.{IsHandedBack}
 use Rattle.batch_pipes.specs.Outputs.{AreOutputsKept, AreOutputsOpened, AreSettled, Asked, asked_by, asked_of}
 use Rattle.batch_serve.specs.Comments.{time_text}
 use Rattle.batch_wire.specs.Written.{Writes}
-use Rattle.batch_pipes.specs.Service.{AppendsTime, AppendsTimed, AreDesksServed, AreTimes, IsService, IsTime, Opening, Part, beginning, told_to}
-use Rattle.batch_pipes.specs.declared.input.Input.{Input}
+use Rattle.batch_pipes.specs.Service.{AppendsTime, AppendsTimed, AreDesksServed, AreTimes, IsService, IsTime, Opening, Part, Rings, beginning, came_from, rings_of, told_to}
+use Rattle.batch_pipes.specs.declared.input_order.InputOrder.{InputOrder}
 use Rattle.batch_pipes.specs.declared.outcome.OutputOutcome.{OutputOutcome}
 use Rattle.batch_pipes.specs.declared.output.Output.{Output}
 use Rattle.batch_pipes.specs.declared.ports.Ports.{Ports}
@@ -86,40 +87,55 @@ time_joined old head mid new digits milliseconds (Err e) begun is more ended = t
 
 -- Steps of a round
 
+of_one : {A B : Type 0} (f : A → B) (xs : List A) (k : ℕ) (x : A) (none : B) → k < length xs → get_or (map f xs) k none ≡ f (get_or xs k x)
+of_one f [] k x none within = absurd (omega (arith, within))
+of_one f (y ∷ xs) zero x none within = refl
+of_one f (y ∷ xs) (suc k) x none within = of_one f xs k x none (omega (arith, within))
+
 told_at : (writers : List Writer) (k : ℕ) (writer : Writer) → k < length writers → told_to writers k ≡ sent (get_or writers k writer).ring
-told_at [] k writer within = absurd (omega (arith, within))
-told_at (w ∷ writers) zero writer within = refl
-told_at (w ∷ writers) (suc k) writer within = told_at writers k writer (omega (arith, within))
+told_at writers k writer within = of_one (λ (w : Writer). sent w.ring) writers k writer [] within
+
+came_at : {O : Type 0} (readers : List (Reader O)) (k : ℕ) (reader : Reader O) → k < length readers → came_from readers k ≡ received (get_or readers k reader).ring
+came_at {O} readers k reader within = of_one (λ (r : Reader O). received r.ring) readers k reader [] within
 
 -- lines are taken from readers
-pub service_gathered : {K : Type 0} (is_safe : K → Type 0) (keeper : K) (times : Bool) (begun : Opening) (kept : List ℕ) (recorded : Option (List ℕ)) (old new : DeskServer)
-    (before after : Ports) → IsSameBut old new → AreGathered old.desks.items before.readers.items after.readers.items old.group.items new.group.items
-    → after.writers.items ≡ before.writers.items → length before.readers.items ≡ length old.desks.items
-    → IsService times begun (is_safe keeper) kept recorded old before → IsService times begun (is_safe keeper) kept recorded new after
-service_gathered is_safe keeper times begun kept recorded old new before after same gathered writers count s = record {
+pub service_gathered : {K O : Type 0} (is_safe : K → Type 0) (allows : List Sent → Sent → Type 0) (keeper : K) (times : Bool) (begun : Opening) (kept : List ℕ)
+    (recorded : Option (List ℕ)) (old new : DeskServer) (told : ℕ → List (List ℕ)) (before after : List (Reader O)) → IsSameBut old new
+    → AreGathered allows old.desks.items before after old.group.items new.group.items → length before ≡ length old.desks.items
+    → IsService times begun (is_safe keeper) kept recorded old (record { told = told; came = came_from before })
+    → IsService times begun (is_safe keeper) kept recorded new (record { told = told; came = came_from after })
+service_gathered {K} {O} is_safe allows keeper times begun kept recorded old new told before after same gathered count s = record {
   runs = s.runs;
   answers = s.answers;
   names = same.names ∙ s.names;
-  life = subst (λ (l : List Writer). IsLife (beginning begun) (is_safe keeper) s.runs s.answers (record { kept = kept; recorded = None; told = told_to l }) new) (sym writers)
-      (lives_take is_safe keeper (beginning begun) s.runs s.answers (record { kept = kept; recorded = None; told = told_to before.writers.items }) old new s.life same);
+  life = lives_take is_safe keeper (beginning begun) s.runs s.answers (record { kept = kept; recorded = None; told = told }) old new s.life same;
   is_recorded = subst (λ (n : List (List ℕ)). AppendsTimed times begun.recorded recorded (runs_text n None s.answers)) (sym same.names) s.is_recorded;
   of_desks = (
     subst (λ (l : List Desk). AreOfDesks (length l) s.runs) (sym same.desks) s.of_desks.0,
     subst (λ (l : List Desk). AreOfDesks (length l) new.group.items) (sym same.desks) (gathered.of_desks s.of_desks.1),
   );
-  lines = λ k desk reader within uncut.
-      let is_uncut : (get_or old.desks.items k desk).waiting.is_cut ≡ false = subst (λ (l : List Desk). (get_or l k desk).waiting.is_cut ≡ false) same.desks uncut in
+  lines = λ k desk within.
       let in_old : k < length old.desks.items = omega (arith, within, ap length same.desks) in
-      lines_go_on k s.runs old.group.items new.group.items (get_or before.readers.items k reader) (get_or after.readers.items k reader)
-      (s.lines k desk reader in_old is_uncut) (gathered.each k reader desk (omega (arith, in_old, count)) is_uncut);
+      let in_before : k < length before = omega (arith, in_old, count) in
+      let reader : Reader O = one_of before k in_before in
+      let is_cut : Bool = (get_or old.desks.items k desk).waiting.is_cut in
+      subst (λ (l : List Desk). IsTextOf (came_from after k) (get_or l k desk).waiting.is_cut (own_text k (s.runs ++ new.group.items))) (sym same.desks)
+      (subst (λ l. IsTextOf l is_cut (own_text k (s.runs ++ new.group.items))) (sym (came_at after k reader (omega (arith, in_before, gathered.count))))
+      (lines_go_on {O = O} allows k is_cut s.runs old.group.items new.group.items (get_or before k reader) (get_or after k reader)
+      (subst (λ l. IsTextOf l is_cut (own_text k (s.runs ++ old.group.items))) (came_at before k reader in_before) (s.lines k desk in_old)) (gathered.each k reader desk in_before)));
 }
+
+-- the desk may be cut now
+text_cut : (came : List Sent) (was_cut is_cut : Bool) (text : List ℕ) → (is_cut ≡ false → was_cut ≡ false) → IsTextOf came was_cut text → IsTextOf came is_cut text
+text_cut came was_cut is_cut text cut t =
+    record { taken = t.taken; dropped = t.dropped; came_is = t.came_is; text_is = t.text_is; all = λ uncut. t.all (cut uncut) }
 
 -- a turn is made, behind a comment or none
 pub service_turned : {K : Type 0} (is_safe : K → Type 0) (keeper after_keeper : K) (times : Bool) (begun : Opening) (kept kept_after : List ℕ) (recorded mid recorded_after : Option (List ℕ))
-    (comment : List ℕ) (old new : DeskServer) (ports : Ports) → (is_safe after_keeper → is_safe keeper)
+    (comment : List ℕ) (old new : DeskServer) (rings : Rings) → (is_safe after_keeper → is_safe keeper)
     → IsTurned old new (is_safe after_keeper) kept kept_after begun.again mid recorded_after → IsTime times comment → Appends recorded mid comment
-    → IsService times begun (is_safe keeper) kept recorded old ports → IsService times begun (is_safe after_keeper) kept_after recorded_after new ports
-service_turned is_safe keeper after_keeper times begun kept kept_after recorded mid recorded_after comment old new ports stays turn is_time commented s =
+    → IsService times begun (is_safe keeper) kept recorded old rings → IsService times begun (is_safe after_keeper) kept_after recorded_after new rings
+service_turned is_safe keeper after_keeper times begun kept kept_after recorded mid recorded_after comment old new rings stays turn is_time commented s =
     let untold : IsTurned old new (is_safe after_keeper) kept kept_after begun.again None None = record {
       answers = turn.answers;
       kept = turn.kept;
@@ -145,7 +161,7 @@ service_turned is_safe keeper after_keeper times begun kept kept_after recorded 
       answers = s.answers ++ turn.answers;
       names = turn.names ∙ s.names;
       life = life_turned is_safe keeper after_keeper (beginning begun) kept_after None s.runs s.answers
-          (record { kept = kept; recorded = None; told = told_to ports.writers.items }) old new s.life stays untold;
+          (record { kept = kept; recorded = None; told = rings.told }) old new s.life stays untold;
       is_recorded = subst (AppendsTimed times begun.recorded recorded_after) text
           (timed_more times begun.recorded recorded recorded_after (runs_text names None s.answers) comment more s.is_recorded is_time appends);
       of_desks = (
@@ -153,18 +169,19 @@ service_turned is_safe keeper after_keeper times begun kept kept_after recorded 
             (All-append (λ (run : Run). run.desk < length old.desks.items) s.runs old.group.items s.of_desks.0 s.of_desks.1),
         subst (λ (l : List Run). AreOfDesks (length new.desks.items) l) (sym turn.group) (All-nil (λ (run : Run). run.desk < length new.desks.items)),
       );
-      lines = λ k desk reader within uncut.
+      lines = λ k desk within.
           let in_old : k < length old.desks.items = omega (arith, within, turn.told.count) in
-          ap (own_text k) (ap (λ (g : List Run). (s.runs ++ old.group.items) ++ g) turn.group ∙ append-nil (s.runs ++ old.group.items))
-          ∙ s.lines k desk reader in_old ((turn.told.each k desk in_old).cut uncut);
+          subst (λ l. IsTextOf (rings.came k) (get_or new.desks.items k desk).waiting.is_cut (own_text k l))
+          (sym (ap (λ (g : List Run). (s.runs ++ old.group.items) ++ g) turn.group ∙ append-nil (s.runs ++ old.group.items)))
+          (text_cut (rings.came k) _ _ _ (turn.told.each k desk in_old).cut (s.lines k desk in_old));
     }
 
 -- queued lines are handed on, or desks are cut, and nothing is taken from readers
-pub service_handed : {K : Type 0} (is_safe : K → Type 0) (keeper : K) (times : Bool) (begun : Opening) (kept : List ℕ) (recorded : Option (List ℕ)) (old new : DeskServer)
-    (before after : Ports) → IsHandedOver old new before.writers.items after.writers.items → AreReadersKept before.readers.items after.readers.items
+pub service_handed : {K P : Type 0} (is_safe : K → Type 0) (keeper : K) (times : Bool) (begun : Opening) (kept : List ℕ) (recorded : Option (List ℕ)) (old new : DeskServer)
+    (before after : Ports P) → IsHandedOver old new before.writers.items after.writers.items → AreReadersKept before.readers.items after.readers.items
     → ArePortsOf old.desks.items before
-    → IsService times begun (is_safe keeper) kept recorded old before → IsService times begun (is_safe keeper) kept recorded new after
-service_handed is_safe keeper times begun kept recorded old new before after handed readers of s = record {
+    → IsService times begun (is_safe keeper) kept recorded old (rings_of before) → IsService times begun (is_safe keeper) kept recorded new (rings_of after)
+service_handed {K} {P} is_safe keeper times begun kept recorded old new before after handed readers of s = record {
   runs = s.runs;
   answers = s.answers;
   names = handed.names ∙ s.names;
@@ -184,14 +201,17 @@ service_handed is_safe keeper times begun kept recorded old new before after han
     subst (λ (n : ℕ). AreOfDesks n new.group.items) (sym handed.handed.count)
         (subst (λ (l : List Run). AreOfDesks (length old.desks.items) l) (sym handed.group) s.of_desks.1),
   );
-  lines = λ k desk reader within uncut.
+  lines = λ k desk within.
       let in_old : k < length old.desks.items = omega (arith, within, handed.handed.count) in
       let in_writers : k < length before.writers.items = omega (arith, in_old, of.writers) in
       let in_readers : k < length before.readers.items = omega (arith, in_old, of.readers) in
       let writer : Writer = one_of before.writers.items k in_writers in
-      ap (λ (g : List Run). own_text k (s.runs ++ g)) handed.group
-      ∙ s.lines k desk reader in_old ((handed.handed.each k desk writer in_writers).cut uncut)
-      ∙ ap text_sent (sym (readers.each k reader in_readers).ring);
+      let reader : Reader (InputOrder P) = one_of before.readers.items k in_readers in
+      let came : came_from before.readers.items k ≡ came_from after.readers.items k =
+      came_at before.readers.items k reader in_readers ∙ sym (readers.each k reader in_readers).ring ∙ sym (came_at after.readers.items k reader (omega (arith, in_readers, readers.count))) in
+      subst (λ l. IsTextOf (came_from after.readers.items k) (get_or new.desks.items k desk).waiting.is_cut (own_text k (s.runs ++ l))) (sym handed.group)
+      (subst (λ l. IsTextOf l (get_or new.desks.items k desk).waiting.is_cut (own_text k (s.runs ++ old.group.items))) came
+      (text_cut (came_from before.readers.items k) _ _ _ (handed.handed.each k desk writer in_writers).cut (s.lines k desk in_old)));
 }
   where
     handed_on : (k : ℕ) (other : Desk) → k < length old.desks.items
@@ -208,10 +228,11 @@ service_handed is_safe keeper times begun kept recorded old new before after han
         (subst (λ (l : List (List ℕ)). IsAccount all l (get_or new.desks.items k other).waiting) (sym (told_at after.writers.items k writer in_after)) (one.account all was))
 
 -- it begins with desks whose rings are made
-pub service_begins : {K : Type 0} (is_safe : K → Type 0) (keeper : K) (times : Bool) (begun : Opening) (engine : EngineView) (desks : List plans.Desk) (s : DeskServer) (p : Ports)
-    → engine.cleared ≡ begun.set → plant_of engine ≡ begun.plant → desk_names desks ≡ begun.names → ArePortsOf s.desks.items p → IsOpened engine desks s p
-    → IsService times begun (is_safe keeper) begun.kept begun.recorded s p
-service_begins is_safe keeper times begun engine desks s p cleared plant named of opened = record {
+pub service_begins : {K P : Type 0} (is_safe : K → Type 0) (keeper : K) (times : Bool) (begun : Opening) (engine : EngineView) (desks : List plans.Desk) (s : DeskServer) (p : Ports P)
+    → engine.cleared ≡ begun.set → plant_of engine ≡ begun.plant → desk_names desks ≡ begun.names → ArePortsOf s.desks.items p → length s.desks.items ≡ length desks
+    → IsOpened engine desks s p
+    → IsService times begun (is_safe keeper) begun.kept begun.recorded s (rings_of p)
+service_begins {K} {P} is_safe keeper times begun engine desks s p cleared plant named of as_many opened = record {
   runs = [];
   answers = [];
   names = opened.names ∙ named;
@@ -234,7 +255,17 @@ service_begins is_safe keeper times begun engine desks s p cleared plant named o
     All-nil (λ (run : Run). run.desk < length s.desks.items),
     subst (λ (l : List Run). AreOfDesks (length s.desks.items) l) (sym opened.group) (All-nil (λ (run : Run). run.desk < length s.desks.items)),
   );
-  lines = λ k desk reader within uncut. ap (own_text k) opened.group ∙ ap text_sent (sym (opened.empty.came k reader within));
+  lines = λ k desk within.
+      let in_readers : k < length p.readers.items = omega (arith, within, of.readers) in
+      let reader : Reader (InputOrder P) = one_of p.readers.items k in_readers in
+      let plan : plans.Desk = one_of desks k (omega (arith, within, as_many)) in
+      record {
+        taken = came_from p.readers.items k;
+        dropped = [];
+        came_is = sym (append-nil (came_from p.readers.items k));
+        text_is = ap (own_text k) opened.group ∙ sym (ap text_sent (came_at p.readers.items k reader in_readers) ∙ no_text _ _ (opened.empty.came k plan reader within).came);
+        all = λ uncut. refl;
+      };
 }
   where
     nothing_told : (k : ℕ) → k < length s.desks.items → told_to p.writers.items k ++ [] ≡ []
@@ -244,7 +275,7 @@ service_begins is_safe keeper times begun engine desks s p cleared plant named o
         append-nil (told_to p.writers.items k) ∙ told_at p.writers.items k writer in_writers ∙ opened.empty.went k writer within
 
 -- its outcome
-pub service_ends : {K : Type 0} (is_safe : K → Type 0) (keeper : K) (times : Bool) (begun : Opening) (kept : List ℕ) (recorded : Option (List ℕ)) (s : DeskServer) (p : Ports)
+pub service_ends : {K : Type 0} (is_safe : K → Type 0) (keeper : K) (times : Bool) (begun : Opening) (kept : List ℕ) (recorded : Option (List ℕ)) (s : DeskServer) (p : Rings)
     → IsService times begun (is_safe keeper) kept recorded s p → AreDesksServed times begun (is_safe keeper) kept recorded
 service_ends is_safe keeper times begun kept recorded s p service = record {
   runs = service.runs;
@@ -259,26 +290,31 @@ service_ends is_safe keeper times begun kept recorded s p service = record {
 
 -- its outcome for each desk
 pub desks_end : {K P W : Type 0} (is_safe : K → Type 0) (keeper : K) (times : Bool) (begun : Opening) (given stands : List ℕ → Option (List ℕ)) (contents : W → Option (List ℕ))
-    (hands_back : List ℕ → Written W → Type 0) (fronts : List (List ℕ)) (listed : List plans.Desk) (kept : List ℕ) (recorded : Option (List ℕ)) (engine : EngineView) (s0 s : DeskServer) (p0 p : Ports) (first inputs : List (Input P))
-    (first_outputs outputs : List (Output W P)) (outcomes : List (OutputOutcome W P)) → IsService times begun (is_safe keeper) kept recorded s p
-    → s.group.items ≡ [] → ArePortsOf s.desks.items p → IsOpened engine listed s0 p0 → AreSameDesks s0.desks.items s.desks.items → AreInputsOpened given listed first p0.readers.items
-    → AreInputsKept given first inputs p.readers.items → AreOutputsOpened (IsHandedBack contents stands hands_back) fronts listed first_outputs p0.writers.items
-    → AreOutputsKept (IsHandedBack contents stands hands_back) first_outputs outputs p.writers.items → AreSettled (IsHandedBack contents stands hands_back) outputs p.writers.items outcomes → AreDone given s.desks.items inputs p.readers.items
+    (hands_back : List ℕ → Written W → Type 0) (fronts : List (List ℕ)) (listed : List plans.Desk) (kept : List ℕ) (recorded : Option (List ℕ)) (engine : EngineView) (s0 s : DeskServer) (p0 p : Ports P)
+    (first_outputs outputs : List (Output W P)) (outcomes : List (OutputOutcome W P)) → IsService times begun (is_safe keeper) kept recorded s (rings_of p)
+    → s.group.items ≡ [] → ArePortsOf s.desks.items p → IsOpened engine listed s0 p0 → AreSameDesks s0.desks.items s.desks.items → InputsGoOn given p0.readers.items p.readers.items
+    → length s0.desks.items ≡ length listed → length p0.readers.items ≡ length listed → AreOutputsOpened (IsHandedBack contents stands hands_back) fronts listed first_outputs p0.writers.items
+    → AreOutputsKept (IsHandedBack contents stands hands_back) first_outputs outputs p.writers.items → AreSettled (IsHandedBack contents stands hands_back) outputs p.writers.items outcomes → AreDone s.desks.items p.readers.items
     → AreDesksEnded times begun given stands contents hands_back fronts listed s.desks.items outcomes (is_safe keeper) kept recorded
 unfolding service_ends
-desks_end {K} {P} {W} is_safe keeper times begun given stands contents hands_back fronts listed kept recorded engine s0 s p0 p first inputs first_outputs outputs outcomes service group of opened_on same opened
-    input_kept outputs_opened output_kept settled done = record {
-      service = service_ends is_safe keeper times begun kept recorded s p service;
+desks_end {K} {P} {W} is_safe keeper times begun given stands contents hands_back fronts listed kept recorded engine s0 s p0 p first_outputs outputs outcomes service group of opened_on same go_on
+    as_many read outputs_opened output_kept settled done = record {
+      service = service_ends is_safe keeper times begun kept recorded s (rings_of p) service;
       count = count;
       of_desks = subst (λ (n : ℕ). AreOfDesks n service.runs) count service.of_desks.0;
-      whole = λ k plan desk within uncut bytes known.
+      own = λ k plan desk within.
           let in_desks : k < length s.desks.items = omega (arith, within, count) in
-          let in_first : k < length first = omega (arith, within, opened.count) in
-          let reader : Reader = reader_at k within in
-          let input : Input P = input_at k within in
-          let path = input_kept.paths k input in_first ∙ opened.paths k input plan within in
-          ap (own_text k) (sym (append-nil service.runs) ∙ ap (λ g. service.runs ++ g) (sym group)) ∙ service.lines k desk reader in_desks uncut
-          ∙ (done k desk input reader in_desks uncut).2 bytes (ap (given_by given) path ∙ known);
+          let in_readers : k < length p.readers.items = omega (arith, in_desks, of.readers) in
+          let reader : Reader (InputOrder P) = one_of p.readers.items k in_readers in
+          let is_cut : Bool = (get_or s.desks.items k desk).waiting.is_cut in
+          let input = inputs.each k plan reader within in
+          let text : IsTextOf (received (get_or p.readers.items k reader).ring) is_cut (own_text k service.runs) =
+          subst (λ l. IsTextOf l is_cut (own_text k service.runs)) (came_at p.readers.items k reader in_readers)
+          (subst (λ l. IsTextOf (came_from p.readers.items k) is_cut (own_text k l)) (ap (λ g. service.runs ++ g) group ∙ append-nil service.runs) (service.lines k desk in_desks)) in
+          record {
+            whole = own_whole given _ (get_or p.readers.items k reader) is_cut _ input text;
+            begun = λ bytes known. own_begun given _ (get_or p.readers.items k reader) is_cut _ bytes input text (λ uncut. (done k desk reader in_desks uncut).0) known;
+          };
       outputs = settled.count ∙ output_kept.count ∙ outputs_opened.count;
       told = λ k plan desk w within.
           let in_desks : k < length s.desks.items = omega (arith, within, count) in
@@ -298,14 +334,14 @@ desks_end {K} {P} {W} is_safe keeper times begun given stands contents hands_bac
           subst (λ (a : Asked). IsGivenBack contents stands hands_back a.path a.front (due_of k (get_or listed k plan).unit service.answers) at outcome) asked
           (subst (λ (u : Option (List ℕ)). IsGivenBack contents stands hands_back (asked_of output).path (asked_of output).front (due_of k u service.answers) at outcome) unit
           (is_given_back contents stands hands_back (asked_of output) (due_of k at.unit service.answers) (get_or p.writers.items k writer) at outcome account
-          (λ uncut. (done k desk (input_at k within) (reader_at k within) in_desks uncut).1) (settled.each k o writer w in_outputs)));
+          (λ uncut. (done k desk (one_of p.readers.items k (omega (arith, in_desks, of.readers))) in_desks uncut).1) (settled.each k o writer w in_outputs)));
     }
   where
     count : length s.desks.items ≡ length listed
-    count = sym of.readers ∙ sym input_kept.of.count ∙ input_kept.count ∙ opened.count
+    count = same.count ∙ as_many
 
-    reader_at : (k : ℕ) → k < length listed → Reader
-    reader_at k within = one_of p.readers.items k (omega (arith, within, count, of.readers))
-
-    input_at : (k : ℕ) → k < length listed → Input P
-    input_at k within = one_of inputs k (omega (arith, within, opened.count, input_kept.count))
+    inputs : AreInputsOf given listed p.readers.items
+    inputs = go_on listed (record {
+      count = read;
+      each = λ k plan reader within. input_begins given _ (get_or p0.readers.items k reader) (opened_on.empty.came k plan reader (omega (arith, within, as_many)));
+    })

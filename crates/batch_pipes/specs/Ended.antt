@@ -4,24 +4,23 @@ use Rattle.std.specs.Io.KnownBytes.{Appends}
 use Rattle.batch_reader.specs.declared.desk.Desk as plans
 use Rattle.batch_wire.specs.Transcript.{lines_of}
 use Rattle.batch_serve.specs.CleanLines.{clean_lines}
+use Rattle.batch_serve.specs.Replays.{IsWholeLines}
 use Rattle.batch_serve.specs.Runs.{AreOfDesks, Run, due_of, own_text}
 use Rattle.batch_serve.specs.Threads.{lines_text}
 use Rattle.batch_serve.specs.declared.desk.Desk.{Desk}
+use Rattle.batch_pipes.specs.InputOrder.{given_by}
 use Rattle.batch_pipes.specs.Service.{AreDesksServed, Opening}
 use Rattle.batch_pipes.specs.Streams.{HasNoOutput, HoldsBeginning}
 use Rattle.batch_pipes.specs.declared.outcome.OutputOutcome.{OutputOutcome}
 use Rattle.batch_pipes.specs.declared.outcome.OutputOutcome.TheVariants.{Absent, Joined, Unjoined}
 use Rattle.batch_pipes.specs.declared.written.Written.{Written}
 
--- the bytes of the stream of this path, where they are known; if there is no path, there are none
-abbrev pub given_by : (List ℕ → Option (List ℕ)) → Option (List ℕ) → Option (List ℕ)
-given_by given None = Some []
-given_by given (Some path) = given path
-
--- unless the desk is cut, its lines that were served are all those of its input, as a journal has them, in order, each once
-abbrev pub IsWhollyServed : (List ℕ → Option (List ℕ)) → ℕ → plans.Desk → Desk → List Run → Type 0
-IsWhollyServed given k plan desk runs = desk.waiting.is_cut ≡ false → (bytes : List ℕ) → given_by given (option_map string_bytes plan.input) ≡ Some bytes
-    → own_text k runs ≡ clean_lines (lines_of bytes)
+-- the desk's lines that were served are whole, and a prefix of those of its input, as a journal has them, in order, each once; unless
+-- the desk is cut, they are all of them
+pub record AreOwnServed (given : List ℕ → Option (List ℕ)) (k : ℕ) (plan : plans.Desk) (desk : Desk) (runs : List Run) : Type 0 where
+  pub whole : IsWholeLines (own_text k runs)
+  pub begun : (bytes : List ℕ) → given_by given (option_map string_bytes plan.input) ≡ Some bytes
+      → (rest : List ℕ) × (clean_lines (lines_of bytes) ≡ own_text k runs ++ rest) × (desk.waiting.is_cut ≡ false → rest ≡ [])
 
 -- a desk's output holds a prefix of its contents at the opening, the front and the lines due. If the desk isn't cut and its output
 -- ended well, it holds all but the last lines, as many as are left. There is an output, unless it couldn't be opened or had no memory
@@ -42,13 +41,13 @@ IsGivenBack contents stands hands_back path front due desk (Joined w left) =
     (at : List ℕ) × (path ≡ Some at) × hands_back at w × IsTold contents (stands at) front due desk w left
 IsGivenBack contents stands hands_back path front due desk (Unjoined thread) = path ≡ Some (string_bytes thread.handle.promise.task.value.path)
 
--- runs of lines of these desks were served, with all lines of each; the output of each, or its thread, is given back. Both as above
+-- runs of lines of these desks were served, those of each as above; the output of each, or its thread, is given back, as above
 pub record AreDesksEnded {W P : Type 0} (times : Bool) (begun : Opening) (given stands : List ℕ → Option (List ℕ)) (contents : W → Option (List ℕ)) (hands_back : List ℕ → Written W → Type 0)
     (fronts : List (List ℕ)) (listed : List plans.Desk) (desks : List Desk) (outcomes : List (OutputOutcome W P)) (safe : Type 0) (kept : List ℕ) (recorded : Option (List ℕ)) : Type 0 where
   pub service : AreDesksServed times begun safe kept recorded
   pub count : length desks ≡ length listed
   pub of_desks : AreOfDesks (length listed) service.runs
-  pub whole : (k : ℕ) (plan : plans.Desk) (desk : Desk) → k < length listed → IsWhollyServed given k (get_or listed k plan) (get_or desks k desk) service.runs
+  pub own : (k : ℕ) (plan : plans.Desk) (desk : Desk) → k < length listed → AreOwnServed given k (get_or listed k plan) (get_or desks k desk) service.runs
   pub outputs : length outcomes ≡ length listed
   pub told : (k : ℕ) (plan : plans.Desk) (desk : Desk) (outcome : OutputOutcome W P) → k < length listed
       → IsGivenBack contents stands hands_back (option_map string_bytes (get_or listed k plan).output) (get_or fronts k []) (due_of k (get_or listed k plan).unit service.answers)

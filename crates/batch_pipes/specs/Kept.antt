@@ -1,11 +1,9 @@
 -- private: the parts of desks and readers that looking after desks leaves as they were.
-use Rattle.std.specs.Prelude.{◌≡◌, ℕ, ◌<◌, true, false, List, [], Option, length, get_or}
-use Rattle.rtrb.specs.Ring.{SameConsumer, received}
+use Rattle.std.specs.Prelude.{◌≡◌, ℕ, ◌<◌, true, false, List, [], length, get_or}
+use Rattle.rtrb.specs.Ring.{received}
 use Rattle.batch_serve.specs.Waits.{IsAccount}
 use Rattle.batch_serve.specs.declared.desk.Desk.{Desk}
 use Rattle.batch_serve.specs.declared.rounds.Reader.{Reader}
-use Rattle.batch_pipes.specs.Inputs.{HasAllCome}
-use Rattle.batch_pipes.specs.declared.input.Input.{Input}
 use Rattle.batch_pipes.specs.declared.ports.Ports.{Ports}
 
 -- the desk is as it was, or cut now
@@ -21,26 +19,24 @@ pub record AreSameDesks (old new : List Desk) : Type 0 where
   pub units : (k : ℕ) (desk : Desk) → k < length old → (get_or new k desk).unit ≡ (get_or old k desk).unit
 
 -- nothing was taken from the reader
-pub record IsReaderKept (old new : Reader) : Type 0 where
-  pub same : SameConsumer old.ring new.ring
+pub record IsReaderKept {O : Type 0} (old new : Reader O) : Type 0 where
   pub ring : received new.ring ≡ received old.ring
   pub ended : new.has_ended ≡ old.has_ended
 
 -- so it is of each
-pub record AreReadersKept (old new : List Reader) : Type 0 where
+pub record AreReadersKept {O : Type 0} (old new : List (Reader O)) : Type 0 where
   pub count : length new ≡ length old
-  pub each : (k : ℕ) (reader : Reader) → k < length old → IsReaderKept (get_or old k reader) (get_or new k reader)
+  pub each : (k : ℕ) (reader : Reader O) → k < length old → IsReaderKept (get_or old k reader) (get_or new k reader)
 
--- unless the desk is cut, all its lines came, and none are queued for it
-abbrev pub IsDone : {P : Type 0} → (List ℕ → Option (List ℕ)) → Desk → Input P → Reader → Type 0
-IsDone given desk input reader = desk.waiting.is_cut ≡ false → (reader.has_ended ≡ true) × (desk.waiting.lines ≡ []) × HasAllCome given input reader
+-- unless the desk is cut, the end of its lines came, and none are queued for it
+abbrev pub IsDone : {O : Type 0} → Desk → Reader O → Type 0
+IsDone desk reader = desk.waiting.is_cut ≡ false → (reader.has_ended ≡ true) × (desk.waiting.lines ≡ [])
 
-abbrev pub AreDone : {P : Type 0} → (List ℕ → Option (List ℕ)) → List Desk → List (Input P) → List Reader → Type 0
-AreDone {P} given desks inputs readers =
-    (k : ℕ) (desk : Desk) (input : Input P) (reader : Reader) → k < length desks → IsDone given (get_or desks k desk) (get_or inputs k input) (get_or readers k reader)
+abbrev pub AreDone : {O : Type 0} → List Desk → List (Reader O) → Type 0
+AreDone {O} desks readers = (k : ℕ) (desk : Desk) (reader : Reader O) → k < length desks → IsDone (get_or desks k desk) (get_or readers k reader)
 
 -- each desk has its rings and its threads
-pub record ArePortsOf (desks : List Desk) (ports : Ports) : Type 0 where
+pub record ArePortsOf {P : Type 0} (desks : List Desk) (ports : Ports P) : Type 0 where
   pub readers : length ports.readers.items ≡ length desks
   pub writers : length ports.writers.items ≡ length desks
   pub threads : length ports.threads.items ≡ length desks

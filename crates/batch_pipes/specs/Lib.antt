@@ -1,5 +1,5 @@
 pub mod Ended
-pub mod InputEnds
+pub mod InputOrder
 pub mod Inputs
 pub mod Kept
 pub mod Opened

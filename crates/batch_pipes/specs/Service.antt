@@ -1,5 +1,5 @@
 -- trusted: the effect of rounds of serving desks.
-use Rattle.std.specs.Prelude.{◌≡◌, ◌⊎◌, ℕ, ◌<◌, Bool, true, false, List, [], ◌∷◌, ◌++◌, length, get_or, map, flat_map, Option, None, ⊤}
+use Rattle.std.specs.Prelude.{◌≡◌, ◌⊎◌, ℕ, ◌<◌, Bool, true, List, [], ◌∷◌, ◌++◌, length, get_or, map, flat_map, Option, None, ⊤}
 use Rattle.std.specs.Io.KnownBytes.{Appends}
 use Rattle.batch_model.specs.Plant.{Plant}
 use Rattle.batch_engine.specs.View.{setup}
@@ -7,12 +7,13 @@ use Rattle.batch_serve.specs.Comments.{time_text}
 use Rattle.batch_verify.specs.ClearedSet.{ClearedSet}
 use Rattle.rtrb.specs.Ring.{received, sent}
 use Rattle.batch_serve.specs.Lives.{Beginning, IsLife}
-use Rattle.batch_serve.specs.Rounds.{text_sent}
+use Rattle.batch_serve.specs.Rounds.{IsTextOf}
 use Rattle.batch_serve.specs.Runs.{AreOfDesks, Run, own_text, runs_text}
 use Rattle.batch_serve.specs.Served.{AreServed, AreWhole, ShowNoWant}
 use Rattle.batch_serve.specs.declared.desk.Desk.{Desk}
 use Rattle.batch_serve.specs.declared.desk_server.DeskServer.{DeskServer}
 use Rattle.batch_serve.specs.declared.rounds.Reader.{Reader}
+use Rattle.batch_serve.specs.declared.rounds.Sent.{Sent}
 use Rattle.batch_serve.specs.declared.rounds.Writer.{Writer}
 use Rattle.batch_pipes.specs.declared.ports.Ports.{Ports}
 
@@ -65,35 +66,45 @@ pub record Opening : Type 0 where
 abbrev pub beginning : Opening → Beginning
 beginning begun = record { set = begun.set; plant = begun.plant; kept = begun.kept; recorded = None; again = begun.again }
 
--- the lines that went into the ring of the desk's writer
+-- the lines that went into the ring of the writer of the desk at a place, and the messages that came out of that of its reader
+pub record Rings : Type 0 where
+  pub told : ℕ → List (List ℕ)
+  pub came : ℕ → List Sent
+
 abbrev pub told_to : List Writer → ℕ → List (List ℕ)
 told_to writers desk = get_or (map (λ (w : Writer). sent w.ring) writers) desk []
 
+abbrev pub came_from : {O : Type 0} → List (Reader O) → ℕ → List Sent
+came_from {O} readers desk = get_or (map (λ (r : Reader O). received r.ring) readers) desk []
+
+abbrev pub rings_of : {P : Type 0} → Ports P → Rings
+rings_of ports = record { told = told_to ports.writers.items; came = came_from ports.readers.items }
+
 -- since then these runs were served, with these answers, which are recorded; the runs are kept, if their keeper has kept all so far.
--- The lines sent to each desk are those that went into the ring of its writer, and the rest is queued. For each desk that isn't cut,
--- the lines that were served, or are to be served next, are all that came out of the ring of its reader. No run is of another desk
-pub record IsService (times : Bool) (begun : Opening) (safe : Type 0) (kept : List ℕ) (recorded : Option (List ℕ)) (s : DeskServer) (p : Ports) : Type 0 where
+-- The lines sent to each desk are those that went into the ring of its writer, and the rest is queued. The lines of each that were
+-- served, or are to be served next, are those of a prefix of the messages that came out of the ring of its reader, and of all of them
+-- unless it is cut. No run is of another desk
+pub record IsService (times : Bool) (begun : Opening) (safe : Type 0) (kept : List ℕ) (recorded : Option (List ℕ)) (s : DeskServer) (rings : Rings) : Type 0 where
   pub runs : List Run
   pub answers : List Run
   pub names : s.names.items ≡ begun.names
-  pub life : IsLife (beginning begun) safe runs answers (record { kept = kept; recorded = None; told = told_to p.writers.items }) s
+  pub life : IsLife (beginning begun) safe runs answers (record { kept = kept; recorded = None; told = rings.told }) s
   pub is_recorded : AppendsTimed times begun.recorded recorded (runs_text s.names.items None answers)
   pub of_desks : AreOfDesks (length s.desks.items) runs × AreOfDesks (length s.desks.items) s.group.items
-  pub lines : (k : ℕ) (desk : Desk) (reader : Reader) → k < length s.desks.items → (get_or s.desks.items k desk).waiting.is_cut ≡ false
-      → own_text k (runs ++ s.group.items) ≡ text_sent (received (get_or p.readers.items k reader).ring)
+  pub lines : (k : ℕ) (desk : Desk) → k < length s.desks.items → IsTextOf (rings.came k) (get_or s.desks.items k desk).waiting.is_cut (own_text k (runs ++ s.group.items))
 
 -- each account of the service that holds before holds after
 abbrev pub GoesOn : (times again : Bool) (safe_before safe_after : Type 0) (kept_before kept_after : List ℕ) (recorded_before recorded_after : Option (List ℕ))
-    (old new : DeskServer) (before after : Ports) → Type 0
+    (old new : DeskServer) (before after : Rings) → Type 0
 GoesOn times again safe_before safe_after kept_before kept_after recorded_before recorded_after old new before after =
     (begun : Opening) → begun.again ≡ again → IsService times begun safe_before kept_before recorded_before old before
     → IsService times begun safe_after kept_after recorded_after new after
 
--- the same of a turn, which leaves the ports as they are
+-- the same of a turn, which leaves the rings as they are
 abbrev pub TurnsOn : (times again : Bool) (safe_before safe_after : Type 0) (kept_before kept_after : List ℕ) (recorded_before recorded_after : Option (List ℕ))
     (old new : DeskServer) → Type 0
 TurnsOn times again safe_before safe_after kept_before kept_after recorded_before recorded_after old new =
-    (ports : Ports) → GoesOn times again safe_before safe_after kept_before kept_after recorded_before recorded_after old new ports ports
+    (rings : Rings) → GoesOn times again safe_before safe_after kept_before kept_after recorded_before recorded_after old new rings rings
 
 -- Serving to its end
 

@@ -1,15 +1,18 @@
 -- surface: the lines that the thread of a desk's input hands over, and the text that the thread of its output writes.
-use Rattle.std.specs.Prelude.{◌≡◌, ℕ, Bool, true, List, [], ◌++◌, Option, Some, None, IfSome, ⊤}
+use Rattle.std.specs.Prelude.{◌≡◌, ℕ, Bool, true, List, [], ◌++◌, Option, Some, None, IfSome, string_bytes, ⊤}
 use Rattle.std.specs.Io.KnownBytes.{Appends}
 use Rattle.std.specs.List.{list_any}
+use Rattle.rtrb.specs.Ring.{sent}
 use Rattle.batch_wire.specs.Transcript.{lines_of}
 use Rattle.batch_wire.specs.Written.{AppendsBeginning}
 use Rattle.batch_serve.specs.CleanLines.{clean_lines}
 use Rattle.batch_serve.specs.Rounds.{is_end, text_sent}
 use Rattle.batch_serve.specs.Threads.{lines_text}
 use Rattle.batch_serve.specs.declared.rounds.Sent.{Sent}
+use Rattle.batch_pipes.specs.InputOrder.{CameBehind}
 use Rattle.batch_pipes.specs.declared.fault.PipeFault.{PipeFault}
 use Rattle.batch_pipes.specs.declared.fault.PipeFault.TheVariants.{Memory, OutputUnopened}
+use Rattle.batch_pipes.specs.declared.reading.InputTask.{InputTask}
 use Rattle.batch_pipes.specs.declared.written.Written.{Written}
 
 -- a prefix of the lines of the input, as a journal has them, was handed over; if it ended well, all of them, and the end
@@ -19,6 +22,10 @@ pub record HandsOver (ended : Bool) (input : Option (List ℕ)) (before after : 
   pub begun : (bytes : List ℕ) → input ≡ Some bytes
       → (rest : List ℕ) × (clean_lines (lines_of bytes) ≡ text_sent items ++ rest) × (ended ≡ true → rest ≡ [])
   pub told : ended ≡ true → list_any is_end items ≡ true
+
+-- the task is to hand over the input of its path, of which nothing was handed over
+abbrev pub IsNew : {P : Type 0} → InputTask P → Type 0
+IsNew task = CameBehind (Some (string_bytes task.path)) (sent task.ring) []
 
 -- a prefix of the front and the lines that came, as one text, was written; if it ended well, all of that
 pub record IsWrittenBehind (front : List ℕ) (ended : Bool) (before after : List (List ℕ)) (old new : Option (List ℕ)) : Type 0 where

@@ -11,7 +11,6 @@ use crate::outcome::OutputOutcome;
 use crate::output::Output;
 use crate::pace::PATIENCE;
 use crate::pipes::Outputs;
-use crate::ports::Ports;
 use batch_serve::{DeskServer, Pause, Writer};
 use std::alloc::{AllocError, Global};
 use std::io::Write;
@@ -29,16 +28,15 @@ pub(crate) fn finish<T: Threads, W: Write + Drop, P: Outputs<W> + Drop, E: Write
     threads: &T,
     alloc: Global,
     server: &DeskServer,
-    ports: Ports,
+    writers: Vec<Writer>,
     outputs: Vec<Output<W, P>>,
     errors: &mut E,
     rest: &mut S,
 ) -> Result<Vec<OutputOutcome<W, P>>, AllocError>
-    requires { AreOutputsOf (IsHandedBack W.contents P.stands P.hands_back) outputs.items ports.writers.items }
-    ensures { IfOk result (λ outcomes. AreSettled (IsHandedBack W.contents P.stands P.hands_back) outputs.items ports.writers.items outcomes.items) }
+    requires { AreOutputsOf (IsHandedBack W.contents P.stands P.hands_back) outputs.items writers.items }
+    ensures { IfOk result (λ outcomes. AreSettled (IsHandedBack W.contents P.stands P.hands_back) outputs.items writers.items outcomes.items) }
 {
     let mut outputs = outputs;
-    let Ports { writers, .. } = ports;
     finish_each(&mut outputs, writers);
     let outcomes = settle_each(threads, alloc, server, outputs, errors, rest)?;
     Ok(outcomes)

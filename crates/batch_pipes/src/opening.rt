@@ -1,23 +1,23 @@
 //! Starting the threads of desks.
-ghost use Rattle.std.specs.Prelude.{◌≡◌, [], ◌∷◌, ◌++◌, get_or, None, Some, IfOk, IsSome, OnOk, option_map, string_bytes};
-ghost use Rattle.rtrb.specs.Ring.{IsPair, received, sent};
-ghost use Rattle.batch_pipes.specs.Inputs.{AreInputsOpened, IsInputAdded, IsInputOf, IsInputOpened, path_of};
+ghost use Rattle.std.specs.Prelude.{◌≡◌, ◌<◌, [], ◌∷◌, ◌++◌, get_or, None, Some, IfOk, IsSome, OnOk, option_map, string_bytes};
+ghost use Rattle.rtrb.specs.Ring.{IsPair, known_free, received, sent};
+ghost use Rattle.batch_pipes.specs.InputOrder.{CameBehind};
+ghost use Rattle.batch_pipes.specs.Inputs.{IsNewReader};
 ghost use Rattle.batch_pipes.specs.Kept.{ArePortsOf};
 ghost use Rattle.batch_pipes.specs.Opened.{IsDeskAdded, IsOpened, IsOpenedOn};
 ghost use Rattle.batch_pipes.specs.OutputEnds.{IsHandedBack};
 ghost use Rattle.batch_pipes.specs.Outputs.{AreOutputsOpened, IsOutputAdded, IsOutputOf, IsOutputOpened, asked_by, asked_of};
-ghost use Rattle.batch_serve.specs.declared.rounds.Reader.{Reader as OneReader};
 ghost use Rattle.batch_serve.specs.declared.rounds.Writer.{Writer as OneWriter};
 
-use crate::fault::{DesksFault, PipeFault};
+use crate::fault::DesksFault;
 use crate::flag::Flag;
-use crate::input::{Input, InputChild};
-use crate::input_thread::start_input;
+use crate::input::Input;
+use crate::input_order::InputOrder;
 use crate::output::{Output, OutputChild};
 use crate::output_thread::start_output;
-use crate::pipes::{Outputs, Pipes};
+use crate::pipes::{InputBytes, Outputs, Pipes};
 use crate::ports::{DeskThreads, Ports};
-use crate::reading::{InputEnd, InputTask};
+use crate::reading::InputTask;
 use crate::writing::OutputTask;
 use batch_engine::Engine;
 use batch_reader::{Desk, Desks};
@@ -49,15 +49,13 @@ pub(crate) fn open<
     engine: Engine,
     desks: Desks,
     fronts: &[Lines],
-) -> Result<(DeskServer, Ports, Vec<Input<P>>, Vec<Output<W, P>>), DesksFault>
+) -> Result<(DeskServer, Ports<P>, Vec<Output<W, P>>), DesksFault>
     ensures ports { IfOk result (λ opened. ArePortsOf opened.0.desks.items opened.1) }
     ensures opened { IfOk result (λ opened. IsOpened engine desks.desks.items opened.0 opened.1) }
-    ensures inputs { IfOk result (λ opened. AreInputsOpened P.given desks.desks.items opened.2.items opened.1.readers.items) }
-    ensures outputs { IfOk result (λ opened. AreOutputsOpened (IsHandedBack W.contents P.stands P.hands_back) fronts.now desks.desks.items opened.3.items opened.1.writers.items) }
+    ensures outputs { IfOk result (λ opened. AreOutputsOpened (IsHandedBack W.contents P.stands P.hands_back) fronts.now desks.desks.items opened.2.items opened.1.writers.items) }
 {
     let mut server = DeskServer::new(alloc, engine, Vec::new(alloc), Vec::new(alloc));
     let mut ports = Ports::new(alloc);
-    let mut inputs = Vec::new(alloc);
     let mut outputs = Vec::new(alloc);
     open_each(
         threads,
@@ -67,10 +65,9 @@ pub(crate) fn open<
         fronts,
         &mut server,
         &mut ports,
-        &mut inputs,
         &mut outputs,
     )?;
-    Ok((server, ports, inputs, outputs))
+    Ok((server, ports, outputs))
 }
 
 /// Adds the desks to a server that has none, and starts their threads.
@@ -85,25 +82,20 @@ fn open_each<
     desks: Desks,
     fronts: &[Lines],
     server: &mut DeskServer,
-    ports: &mut Ports,
-    inputs: &mut Vec<Input<P>>,
+    ports: &mut Ports<P>,
     outputs: &mut Vec<Output<W, P>>,
 ) -> Result<(), DesksFault>
     requires ports { ArePortsOf server.old.desks.items ports.old }
     requires opened { IsOpened server.old.engine [] server.old ports.old }
-    requires inputs { AreInputsOpened P.given [] inputs.old.items ports.old.readers.items }
     requires outputs { AreOutputsOpened (IsHandedBack W.contents P.stands P.hands_back) fronts.now [] outputs.old.items ports.old.writers.items }
     ensures ports { OnOk result (ArePortsOf server.new.desks.items ports.new) }
     ensures opened { OnOk result (IsOpened server.old.engine desks.desks.items server.new ports.new) }
-    ensures inputs { OnOk result (AreInputsOpened P.given desks.desks.items inputs.new.items ports.new.readers.items) }
     ensures outputs { OnOk result (AreOutputsOpened (IsHandedBack W.contents P.stands P.hands_back) fronts.now desks.desks.items outputs.new.items ports.new.writers.items) }
 {
     let Desks { desks } = desks;
     for desk in desks {
         let front = front_at(alloc, fronts, outputs.len())?;
-        open_desk(
-            threads, alloc, pipes, desk, front, server, ports, inputs, outputs,
-        )?;
+        open_desk(threads, alloc, pipes, desk, front, server, ports, outputs)?;
     }
     Ok(())
 }
@@ -120,12 +112,10 @@ fn open_desk<
     desk: Desk,
     front: Vec<u8>,
     server: &mut DeskServer,
-    ports: &mut Ports,
-    inputs: &mut Vec<Input<P>>,
+    ports: &mut Ports<P>,
     outputs: &mut Vec<Output<W, P>>,
 ) -> Result<(), DesksFault>
     ensures desk { OnOk result (IsOpenedOn desk server.old server.new ports.old ports.new) }
-    ensures input { OnOk result (IsInputAdded P.given (option_map string_bytes desk.input) inputs.old.items inputs.new.items ports.old.readers.items ports.new.readers.items) }
     ensures output { OnOk result (IsOutputAdded (IsHandedBack W.contents P.stands P.hands_back) (asked_by desk front.items) outputs.old.items outputs.new.items ports.old.writers.items ports.new.writers.items) }
 {
     let Desk {
@@ -141,10 +131,9 @@ fn open_desk<
     let told = Told::new(alloc, unit, lag);
     add_desk(server, name, told)?;
     let (reader, input) = open_input(threads, alloc, pipes, input, stays, &stop)?;
-    add_input(inputs, input)?;
     let (writer, output) = open_output(threads, alloc, pipes, output, front, &stop)?;
     add_output(outputs, output)?;
-    ports.add(reader, writer, DeskThreads::new(stop))?;
+    ports.add(reader, writer, DeskThreads::new(input, stop))?;
     Ok(())
 }
 
@@ -163,16 +152,6 @@ fn add_desk(server: &mut DeskServer, name: Name, desk: Told) -> Result<(), Alloc
 {
     server.names.push(name)?;
     server.desks.push(desk)?;
-    Ok(())
-}
-
-/// Adds the input of a desk.
-///
-/// The error is that there is no memory for it.
-fn add_input<P: Pipes + Drop>(inputs: &mut Vec<Input<P>>, input: Input<P>) -> Result<(), AllocError>
-    ensures { OnOk result (inputs.new.items ≡ inputs.old.items ++ input ∷ []) }
-{
-    inputs.push(input)?;
     Ok(())
 }
 
@@ -209,39 +188,66 @@ fn open_input<T: Threads, P: Pipes + Send + Drop + 'static>(
     path: Option<String>,
     stays: bool,
     stop: &Flag,
-) -> Result<(Reader, Input<P>), DesksFault>
-    ensures { IfOk result (λ opened. IsInputOpened P.given (option_map string_bytes path) opened.0 opened.1) }
+) -> Result<(Reader<InputOrder<P>>, Input), DesksFault>
+    // claim: input of a desk
+    ensures { IfOk result (λ opened. IsNewReader (option_map string_bytes path) opened.0) }
 {
-    let (producer, consumer) = RingBuffer::new(alloc, TEXTS)?;
-    let reader = Reader {
-        ring: consumer,
-        has_ended: path.is_none(),
-        rests: false,
-    };
-    let known = Snapshot::of(&path);
+    let (ring, reader) = input_ring(alloc, &path)?;
     let input = match path {
-        Some(path) => read_input(threads, alloc, pipes, path, stays, producer, stop, known)?,
-        None => no_input(producer, known),
+        Some(path) => read_input(threads, alloc, pipes, path, stays, ring, stop)?,
+        None => no_input(ring),
     };
     Ok((reader, input))
 }
 
+/// The ring of a desk's lines. The path of the desk's input went through it, and nothing else.
+///
+/// The error is that there is no memory for it.
+fn input_ring<P: InputBytes>(
+    alloc: Global,
+    path: &Option<String>,
+) -> Result<(Producer<Sent, Global, InputOrder<P>>, Reader<InputOrder<P>>), AllocError>
+    ensures went { IfOk result (λ ends. CameBehind (option_map string_bytes path.now) (sent ends.0) []) }
+    ensures place { IfOk result (λ ends. 0 < known_free ends.0) }
+    ensures reader { IfOk result (λ ends. IsNewReader (option_map string_bytes path.now) ends.1) }
+{
+    let (mut producer, mut ring) = RingBuffer::with_protocol::<Global, InputOrder<P>>(
+        alloc, TEXTS,
+    )?;
+    producer.push_reserved(Sent::Path(copy_path(alloc, path)?));
+    ring.slots_beside(&mut producer);
+    let _path = ring.pop_known();
+    let reader = Reader {
+        ring,
+        has_ended: false,
+        rests: false,
+    };
+    Ok((producer, reader))
+}
+
+/// A copy of a path.
+///
+/// The error is that there is no memory for it.
+fn copy_path(alloc: Global, path: &Option<String>) -> Result<Option<String>, AllocError>
+    ensures { IfOk result (λ copy. option_map string_bytes copy ≡ option_map string_bytes path.now) }
+{
+    match path {
+        Some(path) => Ok(Some(path.to_string(alloc)?)),
+        None => Ok(None),
+    }
+}
+
 /// The input of this path, with the thread that reads it.
-#[tactic(auto, using(crate::proofs::InputsKept::input_started))]
 fn read_input<T: Threads, P: Pipes + Send + Drop + 'static>(
     threads: &T,
     alloc: Global,
     pipes: &P,
     path: String,
     stays: bool,
-    ring: Producer<Sent>,
+    ring: Producer<Sent, Global, InputOrder<P>>,
     stop: &Flag,
-    known: Snapshot<Option<String>>,
-) -> Result<Input<P>, DesksFault>
-    requires path { option_map string_bytes known.value ≡ Some (string_bytes path) }
-    requires new { sent ring ≡ [] }
-    ensures path { IfOk result (λ input. path_of input ≡ Some (string_bytes path)) }
-    ensures input { IfOk result (λ input. (reader : OneReader) → IsPair ring reader.ring → IsInputOf P.given input reader) }
+) -> Result<Input, DesksFault>
+    requires { CameBehind (Some (string_bytes path)) (sent ring) [] }
 {
     let (done, ended) = Flag::pair(alloc)?;
     let task = InputTask {
@@ -251,27 +257,17 @@ fn read_input<T: Threads, P: Pipes + Send + Drop + 'static>(
         stop: stop.another()?,
         done: ended,
     };
-    let handle = start_input(threads, alloc, pipes.another(), task)?;
-    Ok(Input {
-        path: known,
-        child: Some(InputChild { handle, done }),
-        end: None,
-    })
+    Input::start(threads, alloc, pipes.another(), task, done)
 }
 
-/// The input of a desk that has none: nothing comes.
-#[tactic(auto, using(crate::proofs::InputsKept::input_missing))]
-fn no_input<P: Pipes + Drop>(ring: Producer<Sent>, known: Snapshot<Option<String>>) -> Input<P>
-    requires path { known.value ≡ None }
-    requires new { sent ring ≡ [] }
-    ensures path { path_of result ≡ None }
-    ensures input { (reader : OneReader) → IsPair ring reader.ring → IsInputOf P.given result reader }
+/// The input of a desk that has none: its end comes at once.
+fn no_input<P: InputBytes>(ring: Producer<Sent, Global, InputOrder<P>>) -> Input
+    requires went { CameBehind None (sent ring) [] }
+    requires place { 0 < known_free ring }
 {
-    Input {
-        path: known,
-        child: None,
-        end: Some(InputEnd { ring, fault: None }),
-    }
+    let mut ring = ring;
+    ring.push_reserved(Sent::End);
+    Input::none()
 }
 
 /// The ring of the lines for a desk, and the thread that writes them behind the front, if the desk has an output.

@@ -1,7 +1,7 @@
 //! Where the inputs and outputs of desks are opened.
 ghost use Rattle.std.specs.Prelude.{is_ok, string_bytes};
-ghost use Rattle.rtrb.specs.Ring.{SameConsumer, SameProducer, received, sent};
-ghost use Rattle.batch_pipes.specs.Streams.{HandsOver, IsWrittenOut};
+ghost use Rattle.rtrb.specs.Ring.{SameConsumer, received, sent};
+ghost use Rattle.batch_pipes.specs.Streams.{HandsOver, IsNew, IsWrittenOut};
 
 use crate::fault::PipeFault;
 use crate::reading::InputTask;
@@ -10,20 +10,23 @@ use crate::written::Written;
 use std::alloc::Global;
 use std::io::Write;
 
-/// Where the inputs of desks are opened, and in the thread that calls read.
-pub trait Pipes {
+/// The bytes of the inputs of desks.
+pub trait InputBytes {
     ghost use Rattle.std.specs.Prelude.{ℕ, List, Option, None};
 
     /// The bytes that the input of a path gives to its end, where they are known. Nobody can give those of a real file.
     ghost given: { List ℕ → Option (List ℕ) } = { λ _. None };
+}
 
+/// Where the inputs of desks are opened, and in the thread that calls read.
+pub trait Pipes: InputBytes {
     /// The same, for another thread.
     fn another(&self) -> Self;
 
     /// Opens the task's input, and has it read by `InputTask::read`. Both may wait for whoever is at the other end.
-    fn run_input(&self, alloc: Global, task: &mut InputTask) -> Result<(), PipeFault>
-        ensures handed { HandsOver (is_ok result) (given (string_bytes task.old.path)) (sent task.old.ring) (sent task.new.ring) }
-        ensures ring { SameProducer task.old.ring task.new.ring };
+    fn run_input(&self, alloc: Global, task: &mut InputTask<Self>) -> Result<(), PipeFault>
+        requires { IsNew task.old }
+        ensures { HandsOver (is_ok result) (Self.given (string_bytes task.old.path)) (sent task.old.ring) (sent task.new.ring) };
 }
 
 /// Where the outputs of desks are opened, and in the thread that calls written.

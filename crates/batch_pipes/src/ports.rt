@@ -4,13 +4,17 @@ ghost use Rattle.batch_pipes.specs.Opened.{ArePortsAdded};
 
 use crate::fault::PipeFault;
 use crate::flag::Flag;
+use crate::input::Input;
+use crate::input_order::InputOrder;
 use crate::pace::Pace;
+use crate::pipes::InputBytes;
 use batch_serve::{Reader, Writer};
 use std::alloc::{AllocError, Global};
 
-/// How a desk's output goes on, and whether the desk is cut.
+/// The input of a desk, how its output goes on, and whether the desk is cut.
 #[derive(Drop)]
 pub(crate) struct DeskThreads {
+    pub(crate) input: Input,
     /// Raised once the desk is cut.
     pub(crate) stop: Flag,
     pub(crate) pace: Pace,
@@ -22,8 +26,9 @@ pub(crate) struct DeskThreads {
 
 impl DeskThreads {
     /// The state of a desk that isn't cut.
-    pub(crate) fn new(stop: Flag) -> DeskThreads {
+    pub(crate) fn new(input: Input, stop: Flag) -> DeskThreads {
         DeskThreads {
+            input,
             stop,
             pace: Pace::new(),
             why: None,
@@ -34,15 +39,15 @@ impl DeskThreads {
 
 /// The ends of all rings, and the threads of all desks, in the order of the desks.
 #[derive(Drop)]
-pub(crate) struct Ports {
-    pub(crate) readers: Vec<Reader>,
+pub(crate) struct Ports<P: InputBytes> {
+    pub(crate) readers: Vec<Reader<InputOrder<P>>>,
     pub(crate) writers: Vec<Writer>,
     pub(crate) threads: Vec<DeskThreads>,
 }
 
-impl Ports {
+impl<P: InputBytes> Ports<P> {
     /// The ports of no desk.
-    pub(crate) fn new(alloc: Global) -> Ports
+    pub(crate) fn new(alloc: Global) -> Ports<P>
         ensures readers { result.readers.items ≡ [] }
         ensures writers { result.writers.items ≡ [] }
         ensures threads { result.threads.items ≡ [] }
@@ -59,7 +64,7 @@ impl Ports {
     /// The error is that there is no memory for them.
     pub(crate) fn add(
         &mut self,
-        reader: Reader,
+        reader: Reader<InputOrder<P>>,
         writer: Writer,
         threads: DeskThreads,
     ) -> Result<(), AllocError>

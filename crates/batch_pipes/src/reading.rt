@@ -1,16 +1,18 @@
 //! The thread of a desk's input.
-ghost use Rattle.std.specs.Prelude.{◌≡◌, ◌<◌, length, is_none, is_ok, string_bytes};
+ghost use Rattle.std.specs.Prelude.{◌≡◌, ◌<◌, length, is_ok, string_bytes};
 ghost use Rattle.rtrb.specs.Ring.{SameProducer, sent};
-ghost use Rattle.batch_pipes.specs.InputEnds.{IsInputRun};
-ghost use Rattle.batch_pipes.specs.Streams.{HandsOver};
+ghost use Rattle.batch_serve.specs.Threads.{MayHandOver};
+ghost use Rattle.batch_pipes.specs.InputOrder.{IsGiven, cleaned};
+ghost use Rattle.batch_pipes.specs.Streams.{HandsOver, IsNew};
 
 use crate::fault::PipeFault;
 use crate::flag::Flag;
+use crate::input_order::InputOrder;
 use crate::noted::Noted;
-use crate::pipes::Pipes;
+use crate::pipes::{InputBytes, Pipes};
 use crate::rest::DeskRest;
 use batch_serve::{CleanReader, Pause, Sent, read_lines};
-use rtrb::Producer;
+use rtrb::{Producer, Protocol};
 use std::alloc::Global;
 use std::io::Read;
 
@@ -19,17 +21,20 @@ const ROOM: usize = 4_096;
 
 /// The task of the thread of a desk's input.
 #[derive(Drop)]
-pub struct InputTask {
+pub struct InputTask<P: InputBytes> {
     pub(crate) path: String,
     pub(crate) stays: bool,
-    pub(crate) ring: Producer<Sent>,
+    // the path went through it
+    pub(crate) ring: Producer<Sent, Global, InputOrder<P>>,
     pub(crate) stop: Flag,
     pub(crate) done: Flag,
 }
 
-impl InputTask {
+impl<P: InputBytes> InputTask<P> {
     /// The path of the input.
-    pub fn path(&self) -> &str {
+    pub fn path(&self) -> &str
+        ensures { result.now ≡ string_bytes self.now.path }
+    {
         self.path.as_str()
     }
 
@@ -38,7 +43,7 @@ impl InputTask {
         self.stays
     }
 
-    /// Hands over the lines of the input, to its end.
+    /// Hands over the lines of the input, to its end. Its bytes are those that are known for its path, if any are.
     ///
     /// The errors are that it was told to end, that the input failed, and that there is no memory.
     // claim: thread of an input
@@ -49,6 +54,8 @@ impl InputTask {
         input: R,
         rest: S,
     ) -> Result<(), PipeFault>
+        requires new { IsNew self.old }
+        requires given { IsGiven (P.given (string_bytes self.old.path)) (R.remaining input) }
         ensures handed { HandsOver (is_ok result) (R.remaining input) (sent self.old.ring) (sent self.new.ring) }
         ensures ring { SameProducer self.old.ring self.new.ring }
     {
@@ -64,14 +71,15 @@ impl InputTask {
 }
 
 /// Hands over the lines of an input, to its end, through this room.
-fn hand_over<R: Read + Drop, S: Pause>(
+fn hand_over<R: Read + Drop, O: Protocol<Sent>, S: Pause>(
     alloc: Global,
     input: R,
     room: &mut [u8],
-    ring: &mut Producer<Sent>,
+    ring: &mut Producer<Sent, Global, O>,
     rest: &mut S,
 ) -> Result<(), PipeFault>
-    requires { 0 < length room.old }
+    requires room { 0 < length room.old }
+    requires allowed { MayHandOver O.allows (sent ring.old) (cleaned (R.remaining input)) }
     ensures handed { HandsOver (is_ok result) (R.remaining input) (sent ring.old) (sent ring.new) }
     ensures ring { SameProducer ring.old ring.new }
 {
@@ -94,33 +102,16 @@ fn fault_of<R: Read, S: Pause>(lines: &Noted<CleanReader<R>>, rest: &mut S) -> P
     }
 }
 
-/// The result of the thread of an input.
-#[derive(Drop)]
-pub(crate) struct InputEnd {
-    // its end of the ring
-    pub(crate) ring: Producer<Sent>,
-    // why it ended before its time
-    pub(crate) fault: Option<PipeFault>,
-}
-
-/// Opens the input and hands over its lines, to its end.
-#[tactic(auto, using(crate::proofs::InputsKept::input_run))]
-pub(crate) fn run_input<P: Pipes + Drop>(alloc: Global, pipes: P, task: InputTask) -> InputEnd
-    ensures { IsInputRun (P.given (string_bytes task.path)) task result }
+/// Opens the input and hands over its lines, to its end. Returns why it ended before its time, if it did.
+pub(crate) fn run_input<P: Pipes + Drop>(
+    alloc: Global,
+    pipes: P,
+    task: InputTask<P>,
+) -> Option<PipeFault>
+    requires { IsNew task }
 {
     let mut task = task;
     let ended = pipes.run_input(alloc, &mut task);
     task.done.raise();
-    let fault = fault_in(ended);
-    let InputTask { ring, .. } = task;
-    InputEnd { ring, fault }
-}
-
-fn fault_in(ended: Result<(), PipeFault>) -> Option<PipeFault>
-    ensures { is_none result ≡ is_ok ended }
-{
-    match ended {
-        Ok(()) => None,
-        Err(fault) => Some(fault),
-    }
+    ended.err()
 }

@@ -1,10 +1,12 @@
 //! Rounds: lines that came are served, and queued lines go on.
 ghost use Rattle.std.specs.Prelude.{◌≡◌, [], length, OnOk};
-ghost use Rattle.batch_serve.specs.Rounds.{AreSameReaders, AreSameWriters};
+ghost use Rattle.batch_serve.specs.Rounds.{AreSameWriters};
+ghost use Rattle.batch_pipes.specs.Inputs.{InputsGoOn};
 ghost use Rattle.batch_pipes.specs.Kept.{ArePortsOf, AreSameDesks};
-ghost use Rattle.batch_pipes.specs.Service.{GoesOn, TurnsOn};
+ghost use Rattle.batch_pipes.specs.Service.{GoesOn, TurnsOn, rings_of};
 
 use crate::fault::DesksFault;
+use crate::pipes::InputBytes;
 use crate::ports::Ports;
 use crate::times::write_time;
 use crate::timing::Timing;
@@ -15,24 +17,23 @@ use std::time::Clock;
 
 /// Takes the lines that the readers handed over, serves them, and hands on queued lines. Returns whether there were lines to serve.
 // claim: a round of desks
-pub(crate) fn serve_round<C: Clock, K: Keep, W: Write>(
+pub(crate) fn serve_round<P: InputBytes, C: Clock, K: Keep, W: Write>(
     alloc: Global,
     server: &mut DeskServer,
-    ports: &mut Ports,
+    ports: &mut Ports<P>,
     timing: &Timing<C>,
     keep: &mut K,
     output: &mut W,
 ) -> Result<bool, DesksFault>
     requires { ArePortsOf server.old.desks.items ports.old }
     ensures ports { OnOk result (ArePortsOf server.new.desks.items ports.new) }
-    ensures readers { OnOk result (AreSameReaders ports.old.readers.items ports.new.readers.items) }
-    ensures count { OnOk result (length ports.new.readers.items ≡ length ports.old.readers.items) }
+    ensures inputs { OnOk result (InputsGoOn P.given ports.old.readers.items ports.new.readers.items) }
     ensures writers { OnOk result (AreSameWriters ports.old.writers.items ports.new.writers.items) }
     ensures writer_count { OnOk result (length ports.new.writers.items ≡ length ports.old.writers.items) }
     ensures desks { OnOk result (AreSameDesks server.old.desks.items server.new.desks.items) }
     ensures group { OnOk result (server.new.group.items ≡ []) }
     ensures service { OnOk result (GoesOn timing.now.times K.again (K.is_safe keep.old) (K.is_safe keep.new) (K.kept keep.old) (K.kept keep.new)
-        (W.contents output.old) (W.contents output.new) server.old server.new ports.old ports.new) }
+        (W.contents output.old) (W.contents output.new) server.old server.new (rings_of ports.old) (rings_of ports.new)) }
 {
     server.gather(&mut ports.readers)?;
     let serves = serve_group(alloc, server, timing, keep, output)?;

@@ -3,15 +3,14 @@ ghost use Rattle.std.specs.Prelude.{◌≡◌, [], IfOk, OnOk};
 ghost use Rattle.batch_engine.specs.View.{plant_of};
 ghost use Rattle.batch_reader.specs.DeskNames.{desk_names};
 ghost use Rattle.batch_pipes.specs.Ended.{AreDesksEnded};
-ghost use Rattle.batch_pipes.specs.Inputs.{AreInputsKept, AreInputsOf};
+ghost use Rattle.batch_pipes.specs.Inputs.{InputsGoOn};
 ghost use Rattle.batch_pipes.specs.Kept.{AreDone, ArePortsOf, AreSameDesks};
 ghost use Rattle.batch_pipes.specs.OutputEnds.{IsHandedBack};
 ghost use Rattle.batch_pipes.specs.Outputs.{AreOutputsKept, AreOutputsOf};
-ghost use Rattle.batch_pipes.specs.Service.{GoesOn};
+ghost use Rattle.batch_pipes.specs.Service.{GoesOn, rings_of};
 
 use crate::ending::finish;
 use crate::fault::DesksFault;
-use crate::input::Input;
 use crate::opening::open;
 use crate::outcome::OutputOutcome;
 use crate::output::Output;
@@ -33,7 +32,7 @@ use std::time::Clock;
 pub struct DesksEnd<W: Write + Drop, P: Outputs<W> + Drop> {
     /// How many batches are neither complete, stopped nor aborted.
     pub unfinished: usize,
-    /// The desks. All lines of the input of a desk that isn't cut were served.
+    /// The desks. The first lines of the input of each were served, and all of one that isn't cut.
     pub desks: Vec<Desk>,
     /// The outcomes of their outputs, in the order of the desks.
     pub outputs: Vec<OutputOutcome<W, P>>,
@@ -78,15 +77,12 @@ pub fn serve_desks<
       again = K.again;
     }) P.given P.stands O.contents P.hands_back fronts.now desks.desks.items end.desks.items end.outputs.items (K.is_safe keep.new) (K.kept keep.new) (W.contents output.new)) }
 {
-    let (mut server, mut ports, mut inputs, mut outputs) = open(
-        threads, alloc, pipes, engine, desks, fronts,
-    )?;
+    let (mut server, mut ports, mut outputs) = open(threads, alloc, pipes, engine, desks, fronts)?;
     run_rounds(
         threads,
         alloc,
         &mut server,
         &mut ports,
-        &mut inputs,
         &mut outputs,
         timing,
         keep,
@@ -94,7 +90,8 @@ pub fn serve_desks<
         errors,
         rest,
     )?;
-    let outputs = finish(threads, alloc, &server, ports, outputs, errors, rest)?;
+    let Ports { writers, .. } = ports;
+    let outputs = finish(threads, alloc, &server, writers, outputs, errors, rest)?;
     let DeskServer { engine, desks, .. } = server;
     Ok(DesksEnd {
         unfinished: engine.unfinished(),
@@ -117,8 +114,7 @@ fn run_rounds<
     threads: &T,
     alloc: Global,
     server: &mut DeskServer,
-    ports: &mut Ports,
-    inputs: &mut Vec<Input<P>>,
+    ports: &mut Ports<P>,
     outputs: &mut Vec<Output<O, P>>,
     timing: &Timing<C>,
     keep: &mut K,
@@ -127,22 +123,22 @@ fn run_rounds<
     rest: &mut S,
 ) -> Result<(), DesksFault>
     requires ports { ArePortsOf server.old.desks.items ports.old }
-    requires inputs { AreInputsOf P.given inputs.old.items ports.old.readers.items }
     requires outputs { AreOutputsOf (IsHandedBack O.contents P.stands P.hands_back) outputs.old.items ports.old.writers.items }
     ensures ports { OnOk result (ArePortsOf server.new.desks.items ports.new) }
-    ensures inputs { OnOk result (AreInputsKept P.given inputs.old.items inputs.new.items ports.new.readers.items) }
+    // claim: input of a desk
+    ensures inputs { OnOk result (InputsGoOn P.given ports.old.readers.items ports.new.readers.items) }
     ensures outputs { OnOk result (AreOutputsKept (IsHandedBack O.contents P.stands P.hands_back) outputs.old.items outputs.new.items ports.new.writers.items) }
     ensures group { OnOk result (server.new.group.items ≡ []) }
     ensures desks { OnOk result (AreSameDesks server.old.desks.items server.new.desks.items) }
     // claim: end of desks
-    ensures done { OnOk result (AreDone P.given server.new.desks.items inputs.new.items ports.new.readers.items) }
+    ensures done { OnOk result (AreDone server.new.desks.items ports.new.readers.items) }
     ensures service { OnOk result (GoesOn timing.now.times K.again (K.is_safe keep.old) (K.is_safe keep.new) (K.kept keep.old) (K.kept keep.new)
-        (W.contents output.old) (W.contents output.new) server.old server.new ports.old ports.new) }
+        (W.contents output.old) (W.contents output.new) server.old server.new (rings_of ports.old) (rings_of ports.new)) }
 {
     let mut ends = false;
     for _ in 0..u64::MAX {
         let serves = serve_round(alloc, server, ports, timing, keep, output)?;
-        let outlook = tend_desks(threads, alloc, server, ports, inputs, outputs, ends, errors);
+        let outlook = tend_desks(threads, alloc, server, ports, outputs, ends, errors);
         if outlook.is_over() {
             return Ok(());
         }

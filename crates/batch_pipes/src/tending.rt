@@ -1,21 +1,20 @@
 //! Looking after the desks between turns.
 ghost use Rattle.std.specs.Prelude.{◌≡◌, ◌||◌, true, false, IsTrue};
 ghost use Rattle.batch_serve.specs.Rounds.{AreHandedOn, IsHandedOn, IsHandedOver};
-ghost use Rattle.batch_pipes.specs.Inputs.{AreInputsKept, AreInputsOf, IsInputKept, IsInputOf};
 ghost use Rattle.batch_pipes.specs.Kept.{AreDone, AreReadersKept, ArePortsOf, IsDone, IsReaderKept};
 ghost use Rattle.batch_pipes.specs.OutputEnds.{IsHandedBack};
 ghost use Rattle.batch_pipes.specs.Outputs.{AreOutputsKept, AreOutputsOf, IsOutputKept, IsOutputOf};
-ghost use Rattle.batch_pipes.specs.declared.input.Came.TheVariants.{Whole};
 
 use crate::cutting::{cut_if_failed, cut_if_stalled, tell_cut};
 use crate::dropping::drop_unseen;
-use crate::input::{Came, Input};
+use crate::input_order::InputOrder;
 use crate::output::Output;
 use crate::pace::lines_left;
 use crate::pipes::{Outputs, Pipes};
 use crate::ports::{DeskThreads, Ports};
-use batch_serve::{Desk, DeskServer, Reader, Writer};
+use batch_serve::{Desk, DeskServer, Reader, Sent, Writer};
 use batch_text::Name;
+use rtrb::Protocol;
 use std::alloc::Global;
 use std::io::Write;
 use std::thread::Threads;
@@ -66,22 +65,19 @@ pub(crate) fn tend_desks<T: Threads, O: Write + Drop, P: Pipes + Outputs<O> + Dr
     threads: &T,
     alloc: Global,
     server: &mut DeskServer,
-    ports: &mut Ports,
-    inputs: &mut Vec<Input<P>>,
+    ports: &mut Ports<P>,
     outputs: &mut Vec<Output<O, P>>,
     ends: bool,
     errors: &mut E,
 ) -> Outlook
     requires ports { ArePortsOf server.old.desks.items ports.old }
-    requires inputs { AreInputsOf P.given inputs.old.items ports.old.readers.items }
     requires outputs { AreOutputsOf (IsHandedBack O.contents P.stands P.hands_back) outputs.old.items ports.old.writers.items }
     ensures ports { ArePortsOf server.new.desks.items ports.new }
     ensures desks { IsHandedOver server.old server.new ports.old.writers.items ports.new.writers.items }
     ensures readers { AreReadersKept ports.old.readers.items ports.new.readers.items }
-    ensures inputs { AreInputsKept P.given inputs.old.items inputs.new.items ports.new.readers.items }
     ensures outputs { AreOutputsKept (IsHandedBack O.contents P.stands P.hands_back) outputs.old.items outputs.new.items ports.new.writers.items }
     // claim: end of desks
-    ensures done { result.sends ≡ false → result.waits ≡ false → AreDone P.given server.new.desks.items inputs.new.items ports.new.readers.items }
+    ensures done { result.sends ≡ false → result.waits ≡ false → AreDone server.new.desks.items ports.new.readers.items }
 {
     tend_each(
         threads,
@@ -89,7 +85,6 @@ pub(crate) fn tend_desks<T: Threads, O: Write + Drop, P: Pipes + Outputs<O> + Dr
         &server.names,
         &mut server.desks,
         ports,
-        inputs,
         outputs,
         ends,
         errors,
@@ -101,31 +96,27 @@ fn tend_each<T: Threads, O: Write + Drop, P: Pipes + Outputs<O> + Drop, E: Write
     alloc: Global,
     names: &[Name],
     desks: &mut Vec<Desk>,
-    ports: &mut Ports,
-    inputs: &mut Vec<Input<P>>,
+    ports: &mut Ports<P>,
     outputs: &mut Vec<Output<O, P>>,
     ends: bool,
     errors: &mut E,
 ) -> Outlook
     requires ports { ArePortsOf desks.old.items ports.old }
-    requires inputs { AreInputsOf P.given inputs.old.items ports.old.readers.items }
     requires outputs { AreOutputsOf (IsHandedBack O.contents P.stands P.hands_back) outputs.old.items ports.old.writers.items }
     ensures ports { ArePortsOf desks.new.items ports.new }
     ensures desks { AreHandedOn desks.old.items desks.new.items ports.old.writers.items ports.new.writers.items }
     ensures readers { AreReadersKept ports.old.readers.items ports.new.readers.items }
-    ensures inputs { AreInputsKept P.given inputs.old.items inputs.new.items ports.new.readers.items }
     ensures outputs { AreOutputsKept (IsHandedBack O.contents P.stands P.hands_back) outputs.old.items outputs.new.items ports.new.writers.items }
-    ensures done { result.sends ≡ false → result.waits ≡ false → AreDone P.given desks.new.items inputs.new.items ports.new.readers.items }
+    ensures done { result.sends ≡ false → result.waits ≡ false → AreDone desks.new.items ports.new.readers.items }
 {
     let mut outlook = Outlook::nothing();
     for at in 0..desks.len() {
-        let input = &mut inputs[at];
         let output = &mut outputs[at];
         let own = &mut ports.threads[at];
         let reader = &mut ports.readers[at];
         let writer = &mut ports.writers[at];
         let desk = &mut desks[at];
-        let other = tend(threads, desk, own, input, output, reader, writer, ends);
+        let other = tend(threads, desk, own, output, reader, writer, ends);
         tell_cut(alloc, desk, names.get(at), own, errors);
         outlook = outlook.with(other);
     }
@@ -139,29 +130,26 @@ fn tend<T: Threads, O: Write + Drop, P: Pipes + Outputs<O> + Drop>(
     threads: &T,
     desk: &mut Desk,
     own: &mut DeskThreads,
-    input: &mut Input<P>,
     output: &mut Output<O, P>,
-    reader: &mut Reader,
+    reader: &mut Reader<InputOrder<P>>,
     writer: &mut Writer,
     ends: bool,
 ) -> Outlook
-    requires input { IsInputOf P.given input.old reader.old }
-    requires output { IsOutputOf (IsHandedBack O.contents P.stands P.hands_back) output.old writer.old }
+    requires { IsOutputOf (IsHandedBack O.contents P.stands P.hands_back) output.old writer.old }
     ensures desk { IsHandedOn desk.old desk.new writer.old writer.new }
     ensures reader { IsReaderKept reader.old reader.new }
-    ensures input { IsInputKept P.given input.old input.new reader.new }
     ensures output { IsOutputKept (IsHandedBack O.contents P.stands P.hands_back) output.old output.new writer.new }
-    ensures done { result.sends ≡ false → result.waits ≡ false → IsDone P.given desk.new input.new reader.new }
+    ensures done { result.sends ≡ false → result.waits ≡ false → IsDone desk.new reader.new }
 {
     drop_unseen(desk, &mut output.unseen, writer);
     let left = lines_left(desk, writer);
     own.pace.record_lines_left(left);
-    let came = input.poll(threads, reader);
+    let fault = own.input.poll(threads, reader);
     output.join_if_done(threads);
-    cut_if_failed(desk, own, came.fault(), output.fault());
+    cut_if_failed(desk, own, fault, output.fault());
     cut_if_stalled(desk, own, ends);
     reader.rests = is_to_rest(desk, own);
-    outlook_of(desk, own, reader, came, left)
+    outlook_of(desk, own, reader, left)
 }
 
 /// Whether a desk isn't to be read for now.
@@ -169,9 +157,14 @@ fn is_to_rest(desk: &Desk, own: &DeskThreads) -> bool {
     desk.waiting.len() > 0 && !own.pace.is_stalled()
 }
 
-/// The outlook of a desk to which so many lines are on their way, and whose input came so far.
-fn outlook_of(desk: &Desk, own: &DeskThreads, reader: &Reader, came: Came, left: usize) -> Outlook
-    ensures sends { result.sends ≡ false → desk.now.waiting.is_cut ≡ false → (reader.now.has_ended ≡ true) × (came ≡ Whole) }
+/// The outlook of a desk to which so many lines are on their way.
+fn outlook_of<O: Protocol<Sent>>(
+    desk: &Desk,
+    own: &DeskThreads,
+    reader: &Reader<O>,
+    left: usize,
+) -> Outlook
+    ensures sends { result.sends ≡ false → desk.now.waiting.is_cut ≡ false → reader.now.has_ended ≡ true }
     ensures waits { result.waits ≡ false → desk.now.waiting.is_cut ≡ false → left ≡ 0 }
 {
     if desk.is_cut() {
@@ -179,7 +172,7 @@ fn outlook_of(desk: &Desk, own: &DeskThreads, reader: &Reader, came: Came, left:
     }
     let waits = left > 0;
     Outlook {
-        sends: !(reader.has_ended && came.is_whole()),
+        sends: !reader.has_ended,
         waits,
         goes: waits && !own.pace.is_stalled(),
     }

@@ -1,5 +1,5 @@
 //! The thread of a desk's output.
-ghost use Rattle.std.specs.Prelude.{◌≡◌, [], true, None, IsTrue};
+ghost use Rattle.std.specs.Prelude.{◌≡◌, [], true, None, IsTrue, string_bytes};
 ghost use Rattle.std.specs.Io.Buffered.{writer_buffer, writer_contents, writer_inner};
 ghost use Rattle.rtrb.specs.Ring.{SameConsumer, received};
 ghost use Rattle.batch_pipes.specs.OutputEnds.{IsHandedBack, IsOutputRun};
@@ -34,7 +34,9 @@ pub struct OutputTask {
 
 impl OutputTask {
     /// The path of the output.
-    pub fn path(&self) -> &str {
+    pub fn path(&self) -> &str
+        ensures { result.now ≡ string_bytes self.now.path }
+    {
         self.path.as_str()
     }
 

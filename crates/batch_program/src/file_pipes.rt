@@ -1,5 +1,5 @@
 //! The pipes of the process.
-use batch_pipes::{InputTask, OutputTask, Outputs, PipeFault, Pipes, Written};
+use batch_pipes::{InputBytes, InputTask, OutputTask, Outputs, PipeFault, Pipes, Written};
 use batch_serve::Pause;
 use std::alloc::Global;
 use std::fs::{File, OpenOptions};
@@ -35,6 +35,8 @@ impl FilePipes {
     }
 }
 
+impl InputBytes for FilePipes {}
+
 impl Pipes for FilePipes {
     fn another(&self) -> FilePipes {
         FilePipes {
@@ -43,7 +45,7 @@ impl Pipes for FilePipes {
         }
     }
 
-    fn run_input(&self, alloc: Global, task: &mut InputTask) -> Result<(), PipeFault> {
+    fn run_input(&self, alloc: Global, task: &mut InputTask<FilePipes>) -> Result<(), PipeFault> {
         let opened = OpenOptions::new()
             .read(true)
             .write(task.stays())

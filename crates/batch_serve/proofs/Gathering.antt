@@ -1,18 +1,19 @@
 -- Desks whose lines are taken, and to which lines are handed on, one after the other.
-use Rattle.std.proofs.Common.{◌≡◌, ◌≢◌, ◌<◌, ◌≤◌, ◌+◌, ◌⊎◌, ℕ, Bool, true, false, ◌||◌, length, length-append, refl, get_or, set, cond, eqb, List, [], ◌∷◌, ◌++◌, append-nil, append_assoc, sym, ◌∙◌, ap, subst, arith, inl, inr, get_or-set_other, get_or-set_same}
-use Rattle.std.proofs.lemmas.Bool.{cases_lt, false≢true, ne_eqb}
+use Rattle.std.proofs.Common.{◌≡◌, ◌≢◌, ◌<◌, ◌≤◌, ◌+◌, ◌⊎◌, ℕ, Bool, true, false, ◌||◌, length, length-append, refl, get_or, set, cond, eqb, List, [], ◌∷◌, ◌++◌, append-nil, append_assoc, sym, ◌∙◌, ap, subst, arith, inl, inr, get_or-set_other, get_or-set_same, Some, None, option_to_list, if◌then◌else◌}
+use Rattle.std.proofs.lemmas.Bool.{cases_lt, eq-eqb, false≢true, ne_eqb}
 use Rattle.std.proofs.lemmas.Grind.{flat_map-append}
 use Rattle.std.proofs.lemmas.List.{get_or_default}
 use Rattle.std.proofs.lemmas.List.Elements.{All-push}
-use Rattle.std.specs.List.{list_any}
 use Rattle.rtrb.specs.Ring.{SameConsumer, received, sent}
-use Rattle.batch_serve.specs.Rounds.{IsCutIfLate, IsGathered, LinesGoOn, is_end, text_of_one, text_sent}
+use Rattle.batch_serve.specs.Rounds.{IsCutIfLate, IsGathered, IsTextOf, LinesGoOn, is_end, text_of_one, text_sent}
 use Rattle.batch_serve.specs.Runs.{AreOfDesks, Run, own_text}
-use Rattle.batch_serve.specs.Turns.{IsSameBut}
+use Rattle.batch_serve.specs.Turns.{IsSameBut, with_run}
 use Rattle.batch_serve.specs.Waits.{IsLate, Waits, cut_off}
 use Rattle.batch_serve.specs.declared.desk.Desk.{Desk}
 use Rattle.batch_serve.specs.declared.desk_server.DeskServer.{DeskServer}
 use Rattle.batch_serve.specs.declared.rounds.Reader.{Reader}
+use Rattle.batch_serve.specs.declared.rounds.Sent.{Sent}
+use Rattle.batch_serve.specs.declared.rounds.Sent.TheVariants.{End, Lines}
 use Rattle.batch_serve.specs.declared.rounds.Writer.{Writer}
 
 -- a run of one desk is none of another's
@@ -26,6 +27,80 @@ own_other desk other group text apart =
 pub of_desks_more : (count desk : ℕ) (group : List Run) (text : List ℕ) → desk < count → AreOfDesks count group → AreOfDesks count (group ++ record { desk = desk; text = text } ∷ [])
 of_desks_more count desk group text within of = All-push (λ (run : Run). run.desk < count) group (record { desk = desk; text = text }) of within
 
+-- Messages of one desk
+
+or_false : (b : Bool) → (b || false) ≡ b
+or_false true = refl
+or_false false = refl
+
+-- lines came, and they are the desk's, unless it is cut
+pub lines_gathered : {O : Type 0} (allows : List Sent → Sent → Type 0) (desk : ℕ) (is_cut : Bool) (before after : Reader O) (old new : List Run) (text : List ℕ)
+    → SameConsumer before.ring after.ring → received after.ring ≡ received before.ring ++ Lines text ∷ [] → allows (received before.ring) (Lines text) → after.has_ended ≡ before.has_ended
+    → (is_cut ≡ false → new ≡ with_run old desk text) → (is_cut ≡ true → new ≡ old) → IsGathered allows desk is_cut before after old new
+lines_gathered allows desk is_cut before after old new text ring came allowed ended taken cut = record {
+  ring = ring;
+  message = Some (Lines text);
+  came = came;
+  allowed = allowed;
+  own = own is_cut taken cut;
+  ends = ended ∙ sym (or_false before.has_ended);
+}
+  where
+    of_run : (t : List ℕ) → own_text desk (with_run old desk t) ≡ own_text desk old ++ (t ++ [])
+    of_run [] = sym (append-nil (own_text desk old))
+    of_run (b ∷ t) =
+        flat_map-append (λ (run : Run). cond (eqb run.desk desk) run.text []) old (record { desk = desk; text = b ∷ t } ∷ [])
+        ∙ ap (λ c. own_text desk old ++ (cond c (b ∷ t) [] ++ [])) (eq-eqb desk desk refl)
+
+    own : (c : Bool) → (c ≡ false → new ≡ with_run old desk text) → (c ≡ true → new ≡ old)
+        → own_text desk new ≡ own_text desk old ++ (if c then [] else text_sent (option_to_list (Some (Lines text))))
+    own false taken cut = ap (own_text desk) (taken refl) ∙ of_run text
+    own true taken cut = ap (own_text desk) (cut refl) ∙ sym (append-nil (own_text desk old))
+
+-- a message without a line came
+pub no_line_gathered : {O : Type 0} (allows : List Sent → Sent → Type 0) (desk : ℕ) (is_cut : Bool) (before after : Reader O) (group : List Run) (message : Sent)
+    → SameConsumer before.ring after.ring → received after.ring ≡ received before.ring ++ message ∷ [] → allows (received before.ring) message → text_of_one message ≡ []
+    → after.has_ended ≡ (before.has_ended || is_end message) → IsGathered allows desk is_cut before after group group
+no_line_gathered allows desk is_cut before after group message ring came allowed none ended = record {
+  ring = ring;
+  message = Some message;
+  came = came;
+  allowed = allowed;
+  own = own is_cut;
+  ends = ended ∙ ap (λ b. before.has_ended || b) (sym (or_false (is_end message)));
+}
+  where
+    own : (c : Bool) → own_text desk group ≡ own_text desk group ++ (if c then [] else text_sent (message ∷ []))
+    own true = sym (append-nil (own_text desk group))
+    own false = sym (ap (λ t. own_text desk group ++ (t ++ [])) none ∙ append-nil (own_text desk group))
+
+pub end_gathered : {O : Type 0} (allows : List Sent → Sent → Type 0) (desk : ℕ) (is_cut : Bool) (before after : Reader O) (group : List Run) → SameConsumer before.ring after.ring
+    → received after.ring ≡ received before.ring ++ End ∷ [] → allows (received before.ring) End → after.has_ended ≡ true → IsGathered allows desk is_cut before after group group
+end_gathered allows desk is_cut before after group ring came allowed ended =
+    no_line_gathered allows desk is_cut before after group End ring came allowed refl (ended ∙ sym (or_true before.has_ended))
+  where
+    or_true : (b : Bool) → (b || true) ≡ true
+    or_true true = refl
+    or_true false = refl
+
+-- none came
+pub nothing_gathered : {O : Type 0} (allows : List Sent → Sent → Type 0) (desk : ℕ) (is_cut : Bool) (before after : Reader O) (group : List Run) → SameConsumer before.ring after.ring
+    → received after.ring ≡ received before.ring → after.has_ended ≡ before.has_ended → IsGathered allows desk is_cut before after group group
+nothing_gathered allows desk is_cut before after group ring came ended = record {
+  ring = ring;
+  message = None;
+  came = came ∙ sym (append-nil (received before.ring));
+  allowed = tt;
+  own = own is_cut;
+  ends = ended ∙ sym (or_false before.has_ended);
+}
+  where
+    own : (c : Bool) → own_text desk group ≡ own_text desk group ++ (if c then [] else [])
+    own true = sym (append-nil (own_text desk group))
+    own false = sym (append-nil (own_text desk group))
+
+-- Desks one after the other
+
 -- the element at a place that hasn't changed is that of the first list
 pub was_here : {T : Type 0} (first now : List T) (i : ℕ) (old other : T) → i < length now → old ≡ get_or now i old → get_or now i other ≡ get_or first i other → get_or first i other ≡ old
 was_here first now i old other within is same = sym (is ∙ get_or_default now i old other within ∙ same)
@@ -37,56 +112,48 @@ kept_behind first now i new rest k other above =
     get_or-set_other now i k new other apart ∙ rest k other (omega arith)
 
 -- the lines of one more desk were taken
-pub gathered_more : (desks : List Desk) (first now : List Reader) (i : ℕ) (old new : Reader) (start before after : List Run) → i < length now → old ≡ get_or now i old
-    → ((other : Desk) → (get_or desks i other).waiting.is_cut ≡ false → IsGathered i old new before after)
+pub gathered_more : {O : Type 0} (allows : List Sent → Sent → Type 0) (desks : List Desk) (first now : List (Reader O)) (i : ℕ) (old new : Reader O) (start before after : List Run)
+    → i < length now → old ≡ get_or now i old → ((other : Desk) → IsGathered allows i (get_or desks i other).waiting.is_cut old new before after)
     → ((k : ℕ) → (k ≡ i → ⊥) → own_text k after ≡ own_text k before)
-    → ((k : ℕ) (reader : Reader) (other : Desk) → k < i → (get_or desks k other).waiting.is_cut ≡ false → IsGathered k (get_or first k reader) (get_or now k reader) start before)
-    → ((k : ℕ) (reader : Reader) → i ≤ k → get_or now k reader ≡ get_or first k reader)
+    → ((k : ℕ) (reader : Reader O) (other : Desk) → k < i → IsGathered allows k (get_or desks k other).waiting.is_cut (get_or first k reader) (get_or now k reader) start before)
+    → ((k : ℕ) (reader : Reader O) → i ≤ k → get_or now k reader ≡ get_or first k reader)
     → ((k : ℕ) → i ≤ k → own_text k before ≡ own_text k start)
-    → (k : ℕ) (reader : Reader) (other : Desk) → k < i + 1 → (get_or desks k other).waiting.is_cut ≡ false
-    → IsGathered k (get_or first k reader) (get_or (set now i new) k reader) start after
-gathered_more desks first now i old new start before after within is came others so_far rest own k reader other below uncut = go (cases_lt k i)
+    → (k : ℕ) (reader : Reader O) (other : Desk) → k < i + 1
+    → IsGathered allows k (get_or desks k other).waiting.is_cut (get_or first k reader) (get_or (set now i new) k reader) start after
+gathered_more {O} allows desks first now i old new start before after within is came others so_far rest own k reader other below = go (cases_lt k i)
   where
-    here : k ≡ i → IsGathered k (get_or first k reader) (get_or (set now i new) k reader) start after
-    here at =
-        let g = came other (subst (λ n. (get_or desks n other).waiting.is_cut ≡ false) at uncut) in
-        let then_is : get_or (set now i new) k reader ≡ new = ap (λ n. get_or (set now i new) n reader) at ∙ get_or-set_same now i new reader within in
-        let first_is : get_or first k reader ≡ old = ap (λ n. get_or first n reader) at ∙ was_here first now i old reader within is (rest i reader (omega arith)) in
+    all : (a b : Reader O) (d : ℕ) → a ≡ old → b ≡ new → d ≡ i → own_text i before ≡ own_text i start → IsGathered allows d (get_or desks d other).waiting.is_cut a b start after
+    all a b d is_old is_new at same =
+        let g : IsGathered allows d (get_or desks d other).waiting.is_cut a b before after =
+        subst (λ (x : Reader O). IsGathered allows d (get_or desks d other).waiting.is_cut x b before after) (sym is_old)
+        (subst (λ (x : Reader O). IsGathered allows d (get_or desks d other).waiting.is_cut old x before after) (sym is_new)
+        (subst (λ n. IsGathered allows n (get_or desks n other).waiting.is_cut old new before after) (sym at) (came other))) in
         record {
-          more = g.more;
-          came = ap (λ (r : Reader). received r.ring) then_is ∙ g.came ∙ ap (λ (r : Reader). received r.ring ++ g.more) (sym first_is);
-          own = ap (λ n. own_text n after) at ∙ g.own ∙ ap (λ l. l ++ text_sent g.more) (own i (omega arith)) ∙ ap (λ n. own_text n start ++ text_sent g.more) (sym at);
-          ends = ap (λ (r : Reader). r.has_ended) then_is ∙ g.ends ∙ ap (λ (r : Reader). r.has_ended || list_any is_end g.more) (sym first_is);
+          ring = g.ring;
+          message = g.message;
+          came = g.came;
+          allowed = g.allowed;
+          own = g.own ∙ ap (λ l. l ++ (if (get_or desks d other).waiting.is_cut then [] else text_sent (option_to_list g.message)))
+              (ap (λ n. own_text n before) at ∙ same ∙ sym (ap (λ n. own_text n start) at));
+          ends = g.ends;
         }
 
-    go : (k < i) ⊎ (i ≤ k) → IsGathered k (get_or first k reader) (get_or (set now i new) k reader) start after
+    go : (k < i) ⊎ (i ≤ k) → IsGathered allows k (get_or desks k other).waiting.is_cut (get_or first k reader) (get_or (set now i new) k reader) start after
     go (inl lt) =
         let apart : k ≢ i = omega arith in
-        let g = so_far k reader other lt uncut in
+        let g = so_far k reader other lt in
         record {
-          more = g.more;
-          came = ap (λ (r : Reader). received r.ring) (get_or-set_other now i k new reader apart) ∙ g.came;
+          ring = subst (λ (r : Reader O). SameConsumer (get_or first k reader).ring r.ring) (sym (get_or-set_other now i k new reader apart)) g.ring;
+          message = g.message;
+          came = ap (λ (r : Reader O). received r.ring) (get_or-set_other now i k new reader apart) ∙ g.came;
+          allowed = g.allowed;
           own = others k apart ∙ g.own;
-          ends = ap (λ (r : Reader). r.has_ended) (get_or-set_other now i k new reader apart) ∙ g.ends;
+          ends = ap (λ (r : Reader O). r.has_ended) (get_or-set_other now i k new reader apart) ∙ g.ends;
         }
-    go (inr le) = here (omega arith)
-
--- one reader more has the end of the same ring
-pub rings_more : (first now : List Reader) (i : ℕ) (old new : Reader) → i < length now → old ≡ get_or now i old → SameConsumer old.ring new.ring
-    → ((k : ℕ) (reader : Reader) → k < i → SameConsumer (get_or first k reader).ring (get_or now k reader).ring)
-    → ((k : ℕ) (reader : Reader) → i ≤ k → get_or now k reader ≡ get_or first k reader)
-    → (k : ℕ) (reader : Reader) → k < i + 1 → SameConsumer (get_or first k reader).ring (get_or (set now i new) k reader).ring
-rings_more first now i old new within is same so_far rest k reader below = go (cases_lt k i)
-  where
-    go : (k < i) ⊎ (i ≤ k) → SameConsumer (get_or first k reader).ring (get_or (set now i new) k reader).ring
-    go (inl lt) =
-        let apart : k ≢ i = omega arith in
-        subst (λ (r : Reader). SameConsumer (get_or first k reader).ring r.ring) (sym (get_or-set_other now i k new reader apart)) (so_far k reader lt)
     go (inr le) =
         let at : k ≡ i = omega arith in
-        subst (λ (r : Reader). SameConsumer r.ring (get_or (set now i new) k reader).ring)
-        (sym (ap (λ n. get_or first n reader) at ∙ was_here first now i old reader within is (rest i reader (omega arith))))
-        (subst (λ (r : Reader). SameConsumer old.ring r.ring) (sym (ap (λ n. get_or (set now i new) n reader) at ∙ get_or-set_same now i new reader within)) same)
+        all (get_or first k reader) (get_or (set now i new) k reader) k (ap (λ n. get_or first n reader) at ∙ was_here first now i old reader within is (rest i reader (omega arith)))
+        (ap (λ n. get_or (set now i new) n reader) at ∙ get_or-set_same now i new reader within) at (own i (omega arith))
 
 -- and those of the others are as they were
 pub own_behind : (i : ℕ) (start before after : List Run) → ((k : ℕ) → (k ≡ i → ⊥) → own_text k after ≡ own_text k before)
@@ -146,13 +213,38 @@ same_on a b d one other = record {
   last = other.last ∙ one.last;
 }
 
--- all that came out of the ring was served, or is in the group
-pub lines_go_on : LinesGoOn
-lines_go_on desk runs group after old new so_far g =
-    let own : List Run → List ℕ = own_text desk in
-    flat_map-append (λ (run : Run). cond (eqb run.desk desk) run.text []) runs after
-    ∙ ap (λ l. own runs ++ l) g.own
-    ∙ sym (append_assoc (own runs) (own group) (text_sent g.more))
-    ∙ ap (λ l. l ++ text_sent g.more) (sym (flat_map-append (λ (run : Run). cond (eqb run.desk desk) run.text []) runs group) ∙ so_far)
-    ∙ sym (flat_map-append text_of_one (received old.ring) g.more)
-    ∙ ap text_sent (sym g.came)
+-- a message more is taken, or dropped if the desk is cut
+pub lines_go_on : {O : Type 0} (allows : List Sent → Sent → Type 0) → LinesGoOn O allows
+lines_go_on {O} allows desk is_cut runs group after old new so_far g = go is_cut so_far.all g.own
+  where
+    more : List Sent
+    more = option_to_list g.message
+
+    own : List Run → List ℕ
+    own = own_text desk
+
+    both : (l : List Run) → own (runs ++ l) ≡ own runs ++ own l
+    both l = flat_map-append (λ (run : Run). cond (eqb run.desk desk) run.text []) runs l
+
+    grown : (text : List ℕ) → own after ≡ own group ++ text → own (runs ++ after) ≡ text_sent so_far.taken ++ text
+    grown text is =
+        both after ∙ ap (λ l. own runs ++ l) is ∙ sym (append_assoc (own runs) (own group) text) ∙ ap (λ l. l ++ text) (sym (both group) ∙ so_far.text_is)
+
+    came : received new.ring ≡ so_far.taken ++ (so_far.dropped ++ more)
+    came = g.came ∙ ap (λ l. l ++ more) so_far.came_is ∙ append_assoc so_far.taken so_far.dropped more
+
+    go : (c : Bool) → (c ≡ false → so_far.dropped ≡ []) → own after ≡ own group ++ (if c then [] else text_sent more) → IsTextOf (received new.ring) c (own (runs ++ after))
+    go true all is = record {
+      taken = so_far.taken;
+      dropped = so_far.dropped ++ more;
+      came_is = came;
+      text_is = grown [] is ∙ append-nil (text_sent so_far.taken);
+      all = λ uncut. absurd (false≢true (sym uncut));
+    }
+    go false all is = record {
+      taken = so_far.taken ++ more;
+      dropped = [];
+      came_is = came ∙ ap (λ l. so_far.taken ++ (l ++ more)) (all refl) ∙ sym (append-nil (so_far.taken ++ more));
+      text_is = grown (text_sent more) is ∙ sym (flat_map-append text_of_one so_far.taken more);
+      all = λ uncut. refl;
+    }

@@ -1,27 +1,35 @@
 -- The messages of readers, and the output of writers, step by step.
-use Rattle.std.proofs.Common.{◌≡◌, ℕ, Bool, true, false, List, [], ◌∷◌, ◌++◌, Option, Result, Ok, Err, refl, sym, ap, subst, append_assoc, append-nil, ◌∙◌}
+use Rattle.std.proofs.Common.{◌≡◌, ℕ, Bool, true, false, List, [], ◌∷◌, ◌++◌, Option, Some, None, Result, Ok, Err, inl, refl, sym, ap, subst, append_assoc, append-nil, ◌||◌, ◌∙◌}
 use Rattle.std.proofs.KnownBytes.{Appends-nil, Appends-kept, Appends-trans, Consumes-kept, Consumes-nil, Consumes-trans, Keeps-refl}
 use Rattle.std.proofs.lemmas.Bool.{false≢true}
 use Rattle.std.proofs.lemmas.Grind.{flat_map-append}
+use Rattle.std.proofs.lemmas.List.Folds.{list_any-append}
 use Rattle.std.specs.Io.KnownBytes.{Appends, Consumes, IsAtEnd, Keeps}
 use Rattle.std.specs.List.{list_any}
 use Rattle.batch_wire.specs.Written.{AppendsBeginning, Writes}
-use Rattle.batch_serve.specs.Rounds.{is_end, text_of_one, text_sent}
-use Rattle.batch_serve.specs.Threads.{IsRead, IsWritten, ReadsOn, WritesOn, lines_text}
+use Rattle.batch_serve.specs.Replays.{IsWholeLines}
+use Rattle.batch_serve.specs.Rounds.{AreMessagesOf, HaveWholeLines, is_end, text_of_one, text_sent}
+use Rattle.batch_serve.specs.Threads.{IsRead, IsWritten, MayHandOver, ReadsOn, WritesOn, lines_text}
 use Rattle.batch_serve.specs.declared.rounds.Sent.{Sent}
-use Rattle.batch_serve.specs.declared.rounds.Sent.TheVariants.{Lines, End}
+use Rattle.batch_serve.specs.declared.rounds.Sent.TheVariants.{Path, Lines, End}
 
 -- Readers
 
-pub lines_read : (old new : Option (List ℕ)) (before after : List Sent) (text : List ℕ) → Consumes old new text → after ≡ before ++ Lines text ∷ [] → ReadsOn old new before after
-lines_read old new before after text read went = record { items = Lines text ∷ []; went = went; read = subst (Consumes old new) (sym (append-nil text)) read }
+whole_both : (xs ys : List Sent) → HaveWholeLines xs → HaveWholeLines ys → HaveWholeLines (xs ++ ys)
+whole_both [] ys one other = other
+whole_both (x ∷ xs) ys one other = (one.0, whole_both xs ys one.1 other)
+
+pub lines_read : (old new : Option (List ℕ)) (before after : List Sent) (text : List ℕ) → Consumes old new text → IsWholeLines text → after ≡ before ++ Lines text ∷ []
+    → ReadsOn old new before after
+lines_read old new before after text read whole went = record { items = Lines text ∷ []; whole = (whole, tt); went = went; read = subst (Consumes old new) (sym (append-nil text)) read }
 
 pub nothing_read : (old new : Option (List ℕ)) (before after : List Sent) → Keeps old new → after ≡ before → ReadsOn old new before after
-nothing_read old new before after kept same = record { items = []; went = same ∙ sym (append-nil before); read = Consumes-kept old old new [] (Consumes-nil old) kept }
+nothing_read old new before after kept same = record { items = []; whole = tt; went = same ∙ sym (append-nil before); read = Consumes-kept old old new [] (Consumes-nil old) kept }
 
 pub lines_lost : (old new : Option (List ℕ)) (before after : List Sent) (text : List ℕ) → Consumes old new text → after ≡ before → IsRead false old new before after
 lines_lost old new before after text read same = record {
   items = [];
+  whole = tt;
   rest = text;
   went = same ∙ sym (append-nil before);
   read = read;
@@ -33,12 +41,13 @@ lines_lost old new before after text read same = record {
 pub end_read : (told : Bool) (old new : Option (List ℕ)) (before after : List Sent) → Consumes old new [] → IsAtEnd new
     → (told ≡ true → after ≡ before ++ End ∷ []) → (told ≡ false → after ≡ before) → IsRead told old new before after
 end_read true old new before after read end went stays =
-    record { items = End ∷ []; rest = []; went = went refl; read = read; all = λ t. refl; end = λ t. end; told = λ t. refl }
+    record { items = End ∷ []; whole = (inl refl, tt); rest = []; went = went refl; read = read; all = λ t. refl; end = λ t. end; told = λ t. refl }
 end_read false old new before after read end went stays = lines_lost old new before after [] read (stays refl)
 
 pub reads_twice : (a b d : Option (List ℕ)) (x y z : List Sent) → ReadsOn a b x y → ReadsOn b d y z → ReadsOn a d x z
 reads_twice a b d x y z one other = record {
   items = one.items ++ other.items;
+  whole = whole_both one.items other.items one.whole other.whole;
   went = other.went ∙ ap (λ l. l ++ other.items) one.went ∙ append_assoc x one.items other.items;
   read = subst (Consumes a d) (sym (flat_map-append text_of_one one.items other.items)) (Consumes-trans a b d (text_sent one.items) (text_sent other.items) one.read other.read);
 }
@@ -46,12 +55,14 @@ reads_twice a b d x y z one other = record {
 -- the end is among all items, if it is among the last
 any_behind : (front items : List Sent) → list_any is_end items ≡ true → list_any is_end (front ++ items) ≡ true
 any_behind [] items is = is
+any_behind (Path path ∷ front) items is = any_behind front items is
 any_behind (Lines text ∷ front) items is = any_behind front items is
 any_behind (End ∷ front) items is = refl
 
 pub reads_then : (ended : Bool) (a b d : Option (List ℕ)) (x y z : List Sent) → ReadsOn a b x y → IsRead ended b d y z → IsRead ended a d x z
 reads_then ended a b d x y z one other = record {
   items = one.items ++ other.items;
+  whole = whole_both one.items other.items one.whole other.whole;
   rest = other.rest;
   went = other.went ∙ ap (λ l. l ++ other.items) one.went ∙ append_assoc x one.items other.items;
   read = subst (Consumes a d)
@@ -65,6 +76,7 @@ reads_then ended a b d x y z one other = record {
 pub reads_stop : (old new : Option (List ℕ)) (before after : List Sent) → ReadsOn old new before after → IsRead false old new before after
 reads_stop old new before after one = record {
   items = one.items;
+  whole = one.whole;
   rest = [];
   went = one.went;
   read = subst (Consumes old new) (sym (append-nil (text_sent one.items))) one.read;
@@ -72,6 +84,63 @@ reads_stop old new before after one = record {
   end = λ t. absurd (false≢true t);
   told = λ t. absurd (false≢true t);
 }
+
+-- Messages that a protocol allows
+
+-- the messages of the rest of an input, behind those of its front, none of which was the end
+messages_behind : (front messages : List Sent) (a b : Option (List ℕ)) → HaveWholeLines front → list_any is_end front ≡ false → Consumes a b (text_sent front) → AreMessagesOf b messages
+    → AreMessagesOf a (front ++ messages)
+messages_behind front messages a b whole no_end read rest = record { whole = whole_both front messages whole rest.whole; begun = begun a b read rest }
+  where
+    begun : (x y : Option (List ℕ)) → Consumes x y (text_sent front) → AreMessagesOf y messages → (text : List ℕ) → x ≡ Some text
+        → (more : List ℕ) × (text ≡ text_sent (front ++ messages) ++ more) × (list_any is_end (front ++ messages) ≡ true → more ≡ [])
+    begun None y read of text known = absurd cc
+    begun (Some xs) None read of text known = absurd read
+    begun (Some xs) (Some ys) read of text known =
+        let (more, is, all) = of.begun ys refl in
+        let same : text ≡ xs = cc in (
+          more,
+          same ∙ read ∙ ap (λ l. text_sent front ++ l) is ∙ sym (append_assoc (text_sent front) (text_sent messages) more)
+              ∙ ap (λ l. l ++ more) (sym (flat_map-append text_of_one front messages)),
+          λ t. all (ap (λ b. b || list_any is_end messages) (sym no_end) ∙ sym (list_any-append is_end front messages) ∙ t),
+        )
+
+-- those of the front were handed over
+may_go_on : (allows : List Sent → Sent → Type 0) (before after front : List Sent) (a b : Option (List ℕ)) → MayHandOver allows before a → HaveWholeLines front → list_any is_end front ≡ false
+    → Consumes a b (text_sent front) → after ≡ before ++ front → MayHandOver allows after b
+may_go_on allows before after front a b may whole no_end read went messages next of =
+    subst (λ l. allows l next) (sym (append_assoc before front messages) ∙ ap (λ l. l ++ messages) (sym went))
+    (may (front ++ messages) next
+    (subst (AreMessagesOf a) (sym (append_assoc front messages (next ∷ []))) (messages_behind front (messages ++ next ∷ []) a b whole no_end read of)))
+
+pub may_after_lines : (allows : List Sent → Sent → Type 0) (before after : List Sent) (a b : Option (List ℕ)) (text : List ℕ) → MayHandOver allows before a → IsWholeLines text
+    → Consumes a b text → after ≡ before ++ Lines text ∷ [] → MayHandOver allows after b
+may_after_lines allows before after a b text may whole read went =
+    may_go_on allows before after (Lines text ∷ []) a b may (whole, tt) refl (subst (Consumes a b) (sym (append-nil text)) read) went
+
+pub may_after_nothing : (allows : List Sent → Sent → Type 0) (before after : List Sent) (a b : Option (List ℕ)) → MayHandOver allows before a → Keeps a b → after ≡ before
+    → MayHandOver allows after b
+may_after_nothing allows before after a b may kept same =
+    may_go_on allows before after [] a b may tt refl (Consumes-kept a a b [] (Consumes-nil a) kept) (same ∙ sym (append-nil before))
+
+may_now : (allows : List Sent → Sent → Type 0) (before : List Sent) (message : Sent) (a : Option (List ℕ)) → MayHandOver allows before a → AreMessagesOf a (message ∷ []) → allows before message
+may_now allows before message a may of = subst (λ l. allows l message) (append-nil before) (may [] message of)
+
+pub may_lines : (allows : List Sent → Sent → Type 0) (before : List Sent) (a b : Option (List ℕ)) (text : List ℕ) → MayHandOver allows before a → IsWholeLines text → Consumes a b text
+    → allows before (Lines text)
+may_lines allows before a b text may whole read =
+    may_now allows before (Lines text) a may (messages_behind (Lines text ∷ []) [] a b (whole, tt) refl (subst (Consumes a b) (sym (append-nil text)) read)
+    (record { whole = tt; begun = λ more known. (more, refl, λ t. absurd (false≢true t)) }))
+
+pub may_end : (allows : List Sent → Sent → Type 0) (before : List Sent) (a b : Option (List ℕ)) → MayHandOver allows before a → Consumes a b [] → IsAtEnd b → allows before End
+may_end allows before a b may read end = may_now allows before End a may (record { whole = (inl refl, tt); begun = begun a b read end })
+  where
+    begun : (x y : Option (List ℕ)) → Consumes x y [] → IsAtEnd y → (text : List ℕ) → x ≡ Some text → (more : List ℕ) × (text ≡ more) × (true ≡ true → more ≡ [])
+    begun None y read end text known = absurd cc
+    begun (Some xs) None read end text known = absurd read
+    begun (Some xs) (Some ys) read end text known =
+        let same : text ≡ xs = cc in
+        (text, refl, λ t. same ∙ read ∙ end)
 
 -- Writers
 

@@ -12,7 +12,7 @@ use Rattle.batch_wire.specs.declared.fault.WireFault.{WireFault}
 use Rattle.batch_wire.specs.declared.fault.WireFault.TheVariants.{Memory}
 use Rattle.batch_serve.specs.Replays.{IsWholeLines, TranscriptsAreWhole}
 
-both : (a b : List ℕ) → IsWholeLines a → IsWholeLines b → IsWholeLines (a ++ b)
+pub both : (a b : List ℕ) → IsWholeLines a → IsWholeLines b → IsWholeLines (a ++ b)
 both a b (inl none) others = subst (λ l. IsWholeLines (l ++ b)) (sym none) others
 both a b (inr (front, ends)) (inl none) = inr (front, ap (λ l. a ++ l) none ∙ append-nil a ∙ ends)
 both a b (inr one) (inr (front, ends)) = inr (a ++ front, ap (λ l. a ++ l) ends ∙ sym (append_assoc a front (10 ∷ [])))

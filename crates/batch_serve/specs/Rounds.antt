@@ -1,7 +1,8 @@
 -- surface: the messages out of the rings of readers, and the lines into the rings of writers.
-use Rattle.std.specs.Prelude.{◌≡◌, ℕ, ◌+◌, ◌<◌, ◌≤◌, Bool, true, false, ◌||◌, List, [], ◌++◌, length, get_or, flat_map}
+use Rattle.std.specs.Prelude.{◌≡◌, ℕ, ◌+◌, ◌<◌, ◌≤◌, Bool, true, false, ◌||◌, List, [], ◌∷◌, ◌++◌, length, get_or, flat_map, Option, Some, IfSome, option_to_list, if◌then◌else◌, ⊤}
 use Rattle.std.specs.List.{list_any}
 use Rattle.rtrb.specs.Ring.{SameConsumer, SameProducer, received, sent}
+use Rattle.batch_serve.specs.Replays.{IsWholeLines}
 use Rattle.batch_serve.specs.Runs.{AreOfDesks, Run, own_text}
 use Rattle.batch_serve.specs.Waits.{IsAccount}
 use Rattle.batch_serve.specs.declared.desk.Desk.{Desk}
@@ -11,53 +12,68 @@ use Rattle.batch_serve.specs.declared.rounds.Writer.{Writer}
 use Rattle.batch_serve.specs.declared.rounds.Sent.{Sent}
 use Rattle.batch_serve.specs.declared.rounds.Sent.TheVariants.{Lines, End}
 
+-- Messages
+
 abbrev pub text_of_one : Sent → List ℕ
 text_of_one (Lines text) = text
-text_of_one End = []
+text_of_one _ = []
 
 -- the text of all lines that were handed over
 abbrev pub text_sent : List Sent → List ℕ
-text_sent items = flat_map text_of_one items
+text_sent messages = flat_map text_of_one messages
 
 abbrev pub is_end : Sent → Bool
-is_end (Lines text) = false
 is_end End = true
+is_end _ = false
 
--- more messages came out of the desk's ring, with the end or without, and the desk's own lines grew by those in them
-pub record IsTaken (desk : ℕ) (before after : List Sent) (ended : Bool) (old new : List Run) : Type 0 where
-  pub more : List Sent
-  pub came : after ≡ before ++ more
-  pub own : own_text desk new ≡ own_text desk old ++ text_sent more
-  pub ends : ended ≡ list_any is_end more
+-- the text of each message is whole lines
+abbrev pub HaveWholeLines : List Sent → Type 0
+HaveWholeLines [] = ⊤
+HaveWholeLines (message ∷ messages) = IsWholeLines (text_of_one message) × HaveWholeLines messages
 
--- the same, and the reader knows of the end
-pub record IsGathered (desk : ℕ) (before after : Reader) (old new : List Run) : Type 0 where
-  pub more : List Sent
-  pub came : received after.ring ≡ received before.ring ++ more
-  pub own : own_text desk new ≡ own_text desk old ++ text_sent more
-  pub ends : after.has_ended ≡ (before.has_ended || list_any is_end more)
+-- whole lines, a prefix of the text of an input; all of it if the end is among them
+pub record AreMessagesOf (input : Option (List ℕ)) (messages : List Sent) : Type 0 where
+  pub whole : HaveWholeLines messages
+  pub begun : (text : List ℕ) → input ≡ Some text → (rest : List ℕ) × (text ≡ text_sent messages ++ rest) × (list_any is_end messages ≡ true → rest ≡ [])
 
--- the readers have the ends of the same rings
-abbrev pub AreSameReaders : List Reader → List Reader → Type 0
-AreSameReaders old new = (desk : ℕ) (reader : Reader) → desk < length old → SameConsumer (get_or old desk reader).ring (get_or new desk reader).ring
+-- Readers
+
+-- at most one message came out of the desk's ring, which allows it; the desk's own lines grew by its text, unless the desk is cut; the
+-- reader knows of the end, and has the end of the same ring
+pub record IsGathered {O : Type 0} (allows : List Sent → Sent → Type 0) (desk : ℕ) (is_cut : Bool) (before after : Reader O) (old new : List Run) : Type 0 where
+  pub ring : SameConsumer before.ring after.ring
+  pub message : Option Sent
+  pub came : received after.ring ≡ received before.ring ++ option_to_list message
+  pub allowed : IfSome message (allows (received before.ring))
+  pub own : own_text desk new ≡ own_text desk old ++ (if is_cut then [] else text_sent (option_to_list message))
+  pub ends : after.has_ended ≡ (before.has_ended || list_any is_end (option_to_list message))
+
+-- so it is of each desk
+pub record AreGathered {O : Type 0} (allows : List Sent → Sent → Type 0) (desks : List Desk) (old new : List (Reader O)) (before after : List Run) : Type 0 where
+  pub count : length new ≡ length old
+  pub of_desks : AreOfDesks (length desks) before → AreOfDesks (length desks) after
+  pub each : (desk : ℕ) (reader : Reader O) (other : Desk) → desk < length old
+      → IsGathered allows desk (get_or desks desk other).waiting.is_cut (get_or old desk reader) (get_or new desk reader) before after
+
+-- the text is that of a prefix of the messages that came, and of all of them, unless the desk is cut
+pub record IsTextOf (came : List Sent) (is_cut : Bool) (text : List ℕ) : Type 0 where
+  pub taken : List Sent
+  pub dropped : List Sent
+  pub came_is : came ≡ taken ++ dropped
+  pub text_is : text ≡ text_sent taken
+  pub all : is_cut ≡ false → dropped ≡ []
+
+-- if that is so of the lines of a desk that were served, with those of the group, it stays so when more come
+abbrev pub LinesGoOn : (O : Type 0) → (List Sent → Sent → Type 0) → Type 0
+LinesGoOn O allows =
+    (desk : ℕ) (is_cut : Bool) (runs group after : List Run) (old new : Reader O) → IsTextOf (received old.ring) is_cut (own_text desk (runs ++ group))
+    → IsGathered allows desk is_cut old new group after → IsTextOf (received new.ring) is_cut (own_text desk (runs ++ after))
+
+-- Writers
 
 -- the writers have the ends of the same rings
 abbrev pub AreSameWriters : List Writer → List Writer → Type 0
 AreSameWriters old new = (desk : ℕ) (writer : Writer) → desk < length old → SameProducer (get_or old desk writer).ring (get_or new desk writer).ring
-
--- so it is of each desk that isn't cut
-pub record AreGathered (desks : List Desk) (old new : List Reader) (before after : List Run) : Type 0 where
-  pub count : length new ≡ length old
-  pub rings : AreSameReaders old new
-  pub of_desks : AreOfDesks (length desks) before → AreOfDesks (length desks) after
-  pub each : (desk : ℕ) (reader : Reader) (other : Desk) → desk < length old → (get_or desks desk other).waiting.is_cut ≡ false
-      → IsGathered desk (get_or old desk reader) (get_or new desk reader) before after
-
--- if the lines of a desk that were served, with those of the group, are all that came out of its ring, that stays so when more come
-abbrev pub LinesGoOn : Type 0
-LinesGoOn =
-    (desk : ℕ) (runs group after : List Run) (old new : Reader) → own_text desk (runs ++ group) ≡ text_sent (received old.ring)
-    → IsGathered desk old new group after → own_text desk (runs ++ after) ≡ text_sent (received new.ring)
 
 -- in any account of the desk, the lines that went into its ring are a prefix of its queue
 pub record IsHandedOn (old new : Desk) (before after : Writer) : Type 0 where

@@ -3,20 +3,26 @@ use Rattle.std.specs.Prelude.{◌≡◌, ℕ, Bool, true, List, [], ◌∷◌, �
 use Rattle.std.specs.Io.KnownBytes.{Appends, Consumes, IsAtEnd}
 use Rattle.std.specs.List.{list_any}
 use Rattle.batch_wire.specs.Written.{AppendsBeginning}
-use Rattle.batch_serve.specs.Rounds.{is_end, text_sent}
+use Rattle.batch_serve.specs.Rounds.{AreMessagesOf, HaveWholeLines, is_end, text_sent}
 use Rattle.batch_serve.specs.declared.rounds.Sent.{Sent}
 
 -- Readers
 
--- all that was read was handed over
+-- each message of an input may follow those before it, behind these
+abbrev pub MayHandOver : (List Sent → Sent → Type 0) → List Sent → Option (List ℕ) → Type 0
+MayHandOver allows before input = (messages : List Sent) (next : Sent) → AreMessagesOf input (messages ++ next ∷ []) → allows (before ++ messages) next
+
+-- all that was read was handed over, in whole lines
 pub record ReadsOn (old new : Option (List ℕ)) (before after : List Sent) : Type 0 where
   pub items : List Sent
+  pub whole : HaveWholeLines items
   pub went : after ≡ before ++ items
   pub read : Consumes old new (text_sent items)
 
--- a prefix of the text read was handed over; if it ended well, all of it, to the end of the input, and the end was handed over
+-- whole lines, a prefix of the text read, were handed over; if it ended well, all of it, to the end of the input, and then the end
 pub record IsRead (ended : Bool) (old new : Option (List ℕ)) (before after : List Sent) : Type 0 where
   pub items : List Sent
+  pub whole : HaveWholeLines items
   pub rest : List ℕ
   pub went : after ≡ before ++ items
   pub read : Consumes old new (text_sent items ++ rest)

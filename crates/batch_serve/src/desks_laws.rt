@@ -11,7 +11,9 @@ ghost use Rattle.batch_serve.specs.RowsOfWaits.{FrontIsTold, NoOtherIsTold, Rest
 
 use crate::keep::Keep;
 use crate::laws::transcripts_are_safe;
+use crate::rounds::Sent;
 use batch_verify::Cleared;
+use rtrb::Protocol;
 
 /// Worked rows: the first lines may have been sent, and the rest is queued. No other line is sent, and none out of order. The rest is
 /// lost if the desk is cut.
@@ -81,9 +83,9 @@ pub fn lives_go_on<K: Keep>()
     ensures hand_on { LivesHandOn K.is_safe }
 {}
 
-/// As long as a desk isn't cut, its lines that were served, and those that are to be served in the next turn, are all that came out of
-/// the ring of its reader. That stays so as more come.
+/// The lines of a desk that were served, and those that are to be served in the next turn, are those of a prefix of the messages that
+/// came out of the ring of its reader, and of all of them as long as it isn't cut. That stays so as more come.
 // claim: lines from readers
-pub fn lines_go_on()
-    ensures { LinesGoOn }
+pub fn lines_go_on<O: Protocol<Sent>>()
+    ensures { LinesGoOn O O.allows }
 {}

@@ -1,12 +1,13 @@
 //! The reader of a desk: the lines of its input go into a ring.
-ghost use Rattle.std.specs.Prelude.{◌≡◌, ◌<◌, ◌++◌, ◌∷◌, [], length, true, false};
+ghost use Rattle.std.specs.Prelude.{◌≡◌, ◌<◌, ◌++◌, ◌∷◌, [], length, true, false, IfSome, IsNone};
 ghost use Rattle.rtrb.specs.Ring.{SameProducer, known_free, sent};
-ghost use Rattle.batch_serve.specs.Threads.{IsRead, ReadsNext};
+ghost use Rattle.batch_serve.specs.Replays.{IsWholeLines};
+ghost use Rattle.batch_serve.specs.Threads.{IsRead, MayHandOver, ReadsNext};
 ghost use Rattle.batch_serve.specs.Pieces.{HasGot};
 
 use crate::pause::Pause;
 use crate::rounds::{Lines, Sent};
-use rtrb::Producer;
+use rtrb::{Producer, Protocol};
 use std::alloc::Global;
 use std::io::{ErrorKind, Read};
 
@@ -17,24 +18,26 @@ enum Got {
     // it was interrupted
     Nothing,
     End,
-    // it failed, or there is no memory for the bytes read
+    // it failed, or gave no whole lines, or there is no memory for them
     Fault,
 }
 
 /// Puts the lines of an input into the ring, to its end. Each read gives whole lines (`crate::CleanReader`), into this room.
 ///
-/// Returns true if the input has ended and the ring has its end; false if the input failed, there was no memory for a line, the ring's
-/// other end is gone, or the pause says to end.
+/// Returns true if the input has ended and the ring has its end; false if the input failed or gave no whole lines, there was no memory
+/// for a line, the ring's other end is gone, or the pause says to end. The ring's protocol allows the lines of the input, in order, and
+/// the end behind all of them.
 // claim: reader of a desk
-#[tactic(auto, using(crate::proofs::Threading::reads_begin, crate::proofs::Threading::reads_twice, crate::proofs::Threading::reads_then, crate::proofs::Threading::reads_stop))]
-pub fn read_lines<R: Read, P: Pause>(
+#[tactic(auto, using(crate::proofs::Threading::reads_begin, crate::proofs::Threading::reads_twice, crate::proofs::Threading::reads_stop))]
+pub fn read_lines<R: Read, O: Protocol<Sent>, P: Pause>(
     alloc: Global,
     input: &mut R,
     room: &mut [u8],
-    ring: &mut Producer<Sent>,
+    ring: &mut Producer<Sent, Global, O>,
     pause: &mut P,
 ) -> bool
-    requires { 0 < length room.old }
+    requires room { 0 < length room.old }
+    requires allowed { MayHandOver O.allows (sent ring.old) (R.remaining input.old) }
     ensures read { IsRead result (R.remaining input.old) (R.remaining input.new) (sent ring.old) (sent ring.new) }
     ensures ring { SameProducer ring.old ring.new }
 {
@@ -47,15 +50,17 @@ pub fn read_lines<R: Read, P: Pause>(
 }
 
 /// Reads once, and puts the lines or the end into the ring. Returns the result of `read_lines`, if that ends it.
-#[tactic(auto, using(crate::proofs::Threading::lines_read, crate::proofs::Threading::nothing_read, crate::proofs::Threading::lines_lost, crate::proofs::Threading::end_read))]
-fn read_next<R: Read, P: Pause>(
+#[tactic(auto, using(crate::proofs::Threading::lines_read, crate::proofs::Threading::nothing_read, crate::proofs::Threading::lines_lost, crate::proofs::Threading::end_read, crate::proofs::Threading::may_after_nothing))]
+fn read_next<R: Read, O: Protocol<Sent>, P: Pause>(
     alloc: Global,
     input: &mut R,
     room: &mut [u8],
-    ring: &mut Producer<Sent>,
+    ring: &mut Producer<Sent, Global, O>,
     pause: &mut P,
 ) -> Option<bool>
-    requires { 0 < length room.old }
+    requires room { 0 < length room.old }
+    requires allowed { MayHandOver O.allows (sent ring.old) (R.remaining input.old) }
+    ensures allowed { IsNone result → MayHandOver O.allows (sent ring.new) (R.remaining input.new) }
     ensures read { ReadsNext result (R.remaining input.old) (R.remaining input.new) (sent ring.old) (sent ring.new) }
     ensures ring { SameProducer ring.old ring.new }
 {
@@ -82,17 +87,32 @@ fn read_once<R: Read>(alloc: Global, input: &mut R, room: &mut [u8]) -> Got
 {
     match input.read(room) {
         Ok(0) => Got::End,
-        Ok(count) => match room[..count].to_vec(alloc) {
-            Ok(text) => Got::Lines(Lines::new(text)),
-            Err(_) => Got::Fault,
+        Ok(count) => match copy_lines(alloc, &room[..count]) {
+            Some(lines) => Got::Lines(lines),
+            None => Got::Fault,
         },
         Err(error) if error.kind() == ErrorKind::Interrupted => Got::Nothing,
         Err(_) => Got::Fault,
     }
 }
 
+/// A copy of a text, if it is whole lines, and there is memory for it.
+fn copy_lines(alloc: Global, text: &[u8]) -> Option<Lines>
+    ensures { IfSome result (λ lines. (lines ≡ text.now) × IsWholeLines text.now) }
+{
+    match text.split_last() {
+        Some((last, _)) if *last == b'\n' => text.to_vec(alloc).ok().map(Lines::new),
+        _ => None,
+    }
+}
+
 /// Puts an item into the ring, once there is place. Returns false if the other end is gone, or the pause says to end.
-fn hand_over<P: Pause>(ring: &mut Producer<Sent>, item: Sent, pause: &mut P) -> bool
+fn hand_over<O: Protocol<Sent>, P: Pause>(
+    ring: &mut Producer<Sent, Global, O>,
+    item: Sent,
+    pause: &mut P,
+) -> bool
+    requires { O.allows (sent ring.old) item }
     ensures ring { SameProducer ring.old ring.new }
     ensures went { result ≡ true → sent ring.new ≡ sent ring.old ++ item ∷ [] }
     ensures stays { result ≡ false → sent ring.new ≡ sent ring.old }
@@ -106,7 +126,10 @@ fn hand_over<P: Pause>(ring: &mut Producer<Sent>, item: Sent, pause: &mut P) -> 
 }
 
 /// Waits until the ring has a place. Returns false if the other end is gone, or the pause says to end.
-fn wait_for_place<P: Pause>(ring: &mut Producer<Sent>, pause: &mut P) -> bool
+fn wait_for_place<O: Protocol<Sent>, P: Pause>(
+    ring: &mut Producer<Sent, Global, O>,
+    pause: &mut P,
+) -> bool
     ensures ring { SameProducer ring.old ring.new }
     ensures stays { sent ring.new ≡ sent ring.old }
     ensures place { result ≡ true → 0 < known_free ring.new }

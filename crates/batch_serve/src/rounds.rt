@@ -1,7 +1,6 @@
 //! Rounds: lines go from the readers of desks to the next turn, and from the queues of desks to their writers.
-ghost use Rattle.std.specs.Prelude.{◌≡◌, ◌<◌, ◌≤◌, ℕ, length, get_or, false, IfOk, OnOk};
-ghost use Rattle.rtrb.specs.Ring.{SameConsumer, received};
-ghost use Rattle.batch_serve.specs.Rounds.{AreCutIfLate, AreGathered, AreHandedOn, IsCutIfLate, IsGathered, IsHandedOn, IsHandedOver, IsTaken};
+ghost use Rattle.std.specs.Prelude.{◌≡◌, ◌<◌, ◌≤◌, ℕ, length, get_or, OnOk};
+ghost use Rattle.batch_serve.specs.Rounds.{AreCutIfLate, AreGathered, AreHandedOn, IsCutIfLate, IsGathered, IsHandedOn, IsHandedOver};
 ghost use Rattle.batch_serve.specs.Runs.{AreOfDesks, own_text};
 ghost use Rattle.batch_serve.specs.Turns.{IsSameBut};
 ghost use Rattle.batch_serve.specs.declared.desk.Desk.{Desk as OneDesk};
@@ -10,8 +9,8 @@ use crate::desk::Desk;
 use crate::desk_server::DeskServer;
 use crate::desks_fault::CutReason;
 use crate::line::Line;
-use rtrb::{Consumer, Producer};
-use std::alloc::AllocError;
+use rtrb::{Consumer, Producer, Protocol};
+use std::alloc::{AllocError, Global};
 use std::marker::Model;
 
 /// Whole lines. A contract sees them as the list of their bytes.
@@ -54,17 +53,20 @@ impl Lines {
 /// A message from the reader of a desk.
 #[derive(Drop)]
 pub enum Sent {
+    /// The path of the desk's input, if it has one. The maker of the ring sends it first. No code looks at it: by it the ring's
+    /// protocol knows the input.
+    Path(Option<String>),
     /// Whole lines that the desk sent.
     Lines(Lines),
     /// Nothing more comes.
     End,
 }
 
-/// The ring through which a desk's reader sends its messages.
+/// The ring through which a desk's reader sends its messages. Its protocol states their order.
 #[derive(Drop)]
-pub struct Reader {
+pub struct Reader<O: Protocol<Sent>> {
     /// The ring.
-    pub ring: Consumer<Sent>,
+    pub ring: Consumer<Sent, Global, O>,
     /// Whether the end came.
     pub has_ended: bool,
     /// Whether nothing is to be taken from it for now.
@@ -79,14 +81,17 @@ pub struct Writer {
 }
 
 impl DeskServer {
-    /// Receives the next message, if there is one, from each reader that doesn't rest.
+    /// Receives the next message, if there is one, from each reader that doesn't rest. The lines of a desk that is cut are dropped.
     ///
     /// The error is that there is no memory for one run more. The message is lost then, and serving must end.
     // claim: lines from readers
-    pub fn gather(&mut self, readers: &mut Vec<Reader>) -> Result<(), AllocError>
+    pub fn gather<O: Protocol<Sent>>(
+        &mut self,
+        readers: &mut Vec<Reader<O>>,
+    ) -> Result<(), AllocError>
         requires { length readers.old.items ≤ length self.old.desks.items }
         ensures same { IsSameBut self.old self.new }
-        ensures gathered { OnOk result (AreGathered self.old.desks.items readers.old.items readers.new.items self.old.group.items self.new.group.items) }
+        ensures gathered { OnOk result (AreGathered O.allows self.old.desks.items readers.old.items readers.new.items self.old.group.items self.new.group.items) }
     {
         for desk in 0..readers.len() {
             self.gather_one(desk, &mut readers[desk])?;
@@ -95,41 +100,28 @@ impl DeskServer {
     }
 
     /// Receives the next message, if there is one, from the reader of a desk, if it doesn't rest.
-    fn gather_one(&mut self, desk: usize, reader: &mut Reader) -> Result<(), AllocError>
+    #[tactic(auto, using(crate::proofs::Gathering::lines_gathered, crate::proofs::Gathering::no_line_gathered, crate::proofs::Gathering::end_gathered, crate::proofs::Gathering::nothing_gathered))]
+    fn gather_one<O: Protocol<Sent>>(
+        &mut self,
+        desk: usize,
+        reader: &mut Reader<O>,
+    ) -> Result<(), AllocError>
         requires { desk < length self.old.desks.items }
-        ensures ring { SameConsumer reader.old.ring reader.new.ring }
         ensures same { IsSameBut self.old self.new }
-        ensures gathered { OnOk result ((other : OneDesk) → (get_or self.old.desks.items desk other).waiting.is_cut ≡ false
-            → IsGathered desk reader.old reader.new self.old.group.items self.new.group.items) }
+        ensures gathered { OnOk result ((other : OneDesk) → IsGathered O.allows desk (get_or self.old.desks.items desk other).waiting.is_cut reader.old reader.new self.old.group.items self.new.group.items) }
         ensures others { (other : ℕ) → (other ≡ desk → ⊥) → own_text other self.new.group.items ≡ own_text other self.old.group.items }
         ensures of_desks { AreOfDesks (length self.old.desks.items) self.old.group.items → AreOfDesks (length self.old.desks.items) self.new.group.items }
     {
         if reader.rests {
             return Ok(());
         }
-        let ended = self.take_sent(desk, &mut reader.ring)?;
-        reader.has_ended = reader.has_ended || ended;
-        Ok(())
-    }
-
-    /// Receives the next message of a desk's reader, if there is one. Returns whether it was the end.
-    fn take_sent(&mut self, desk: usize, ring: &mut Consumer<Sent>) -> Result<bool, AllocError>
-        requires { desk < length self.old.desks.items }
-        ensures ring { SameConsumer ring.old ring.new }
-        ensures same { IsSameBut self.old self.new }
-        ensures taken { IfOk result (λ ended. (other : OneDesk) → (get_or self.old.desks.items desk other).waiting.is_cut ≡ false
-            → IsTaken desk (received ring.old) (received ring.new) ended self.old.group.items self.new.group.items) }
-        ensures others { (other : ℕ) → (other ≡ desk → ⊥) → own_text other self.new.group.items ≡ own_text other self.old.group.items }
-        ensures of_desks { AreOfDesks (length self.old.desks.items) self.old.group.items → AreOfDesks (length self.old.desks.items) self.new.group.items }
-    {
-        match ring.pop() {
-            Ok(Sent::Lines(lines)) => {
-                self.push_lines(desk, lines.into_text())?;
-                Ok(false)
-            }
-            Ok(Sent::End) => Ok(true),
-            Err(_) => Ok(false),
+        match reader.ring.pop() {
+            Ok(Sent::Lines(lines)) => self.push_lines(desk, lines.into_text())?,
+            Ok(Sent::End) => reader.has_ended = true,
+            Ok(Sent::Path(_path)) => {}
+            Err(_) => {}
         }
+        Ok(())
     }
 
     /// Moves the lines queued for each desk into its writer's ring, as far as there is place. A desk for which more lines are then

@@ -1,7 +1,6 @@
 use Rattle.std.proofs.Common.{ap, subst, ◌∙◌}
 use Rattle.batch_engine.specs.View.{EngineView}
 use Rattle.batch_pipes.specs.Opened.{IsOpened}
-use Rattle.batch_pipes.proofs.InputsKept.{inputs_none}
 use Rattle.batch_pipes.proofs.OutputsKept.{outputs_none}
 use Rattle.batch_pipes.proofs.RingsMade.{opened_none}
 use Rattle.batch_pipes.proofs.opening.open.Goals as goal
@@ -10,10 +9,6 @@ pub open_each-requires-clause-opened : goal.open_each-requires-clause-opened
 open_each-requires-clause-opened g c κs within =
     opened_none c.new-server.result c.new-ports.result (ap (λ v. v.items) c.new-server.ensures.desks ∙ c.new-2.ensures.items) (ap (λ v. v.items) c.new-server.ensures.names ∙ c.new.ensures.items)
     c.new-server.ensures.last c.new-server.ensures.group
-
-pub open_each-requires-clause-inputs : goal.open_each-requires-clause-inputs
-open_each-requires-clause-inputs g c κs within =
-    inputs_none g.P.Pipes.given c.new-inputs.result.items c.new-ports.result.readers.items c.new-inputs.ensures.items c.new-ports.ensures.readers
 
 pub open_each-requires-clause-outputs : goal.open_each-requires-clause-outputs
 open_each-requires-clause-outputs g c κs within =

@@ -13,18 +13,8 @@ returns-clause-desk g c = record {
   lag = λ some. ap (λ (w : Waits (List ℕ)). w.lag) c.new-told.ensures.waiting ∙ c.lag_of-lag.ensures some;
   uncut = ap (λ (w : Waits (List ℕ)). w.is_cut) c.new-told.ensures.waiting;
   waits = ap (λ (w : Waits (List ℕ)). w.lines) c.new-told.ensures.waiting;
-  came = c.in_ok-reader.ensures.came;
+  came = c.in_ok-reader.ensures;
   went = c.in_ok-writer.ensures.went;
-}
-
-pub returns-clause-input : goal.returns-clause-input
-returns-clause-input g c = record {
-  input = c.in_ok-reader.input;
-  reader = c.in_ok-reader.reader;
-  inputs = c.in_ok-add_input.ensures;
-  readers = c.in_ok-add.ensures.readers;
-  of = c.in_ok-reader.ensures.of;
-  is_path = c.in_ok-reader.ensures.is_path;
 }
 
 pub returns-clause-output : goal.returns-clause-output

@@ -1,10 +1,8 @@
 use Rattle.std.proofs.Common.{◌≡◌, ◌∷◌, [], length, get_or, sym, ap, subst, ◌∙◌, append_assoc, append-nil, arith}
 use Rattle.std.specs.Vec.Iter.{into_iter_items}
-use Rattle.batch_pipes.specs.Inputs.{AreInputsOpened}
 use Rattle.batch_pipes.specs.Opened.{IsOpened}
 use Rattle.batch_pipes.specs.OutputEnds.{IsHandedBack}
 use Rattle.batch_pipes.specs.Outputs.{AreOutputsOpened}
-use Rattle.batch_pipes.proofs.InputsKept.{inputs_more}
 use Rattle.batch_pipes.proofs.OutputsKept.{outputs_more}
 use Rattle.batch_pipes.proofs.RingsMade.{nothing_left, opened_more, ports_more}
 use Rattle.batch_pipes.proofs.opening.open_each.Goals as goal
@@ -23,8 +21,6 @@ loop-desk-preserved g c =
       ports = ports_more desk at.server c.open_desk.new.server at.ports c.open_desk.new.ports c.in_ok-open_desk.ensures.desk so_far.ports;
       opened = opened_more c.args.server.now.engine at.yielded desk at.server c.open_desk.new.server at.ports c.open_desk.new.ports so_far.ports as_many so_far.opened
           c.in_ok-open_desk.ensures.desk;
-      inputs = inputs_more g.P.Pipes.given at.yielded desk at.inputs.items c.open_desk.new.inputs.items at.ports.readers.items c.open_desk.new.ports.readers.items so_far.inputs
-          c.in_ok-open_desk.ensures.input;
       outputs = outputs_more _ c.args.fronts.now at.yielded desk c.in_ok-front.front.items at.outputs.items c.open_desk.new.outputs.items
           at.ports.writers.items c.open_desk.new.ports.writers.items so_far.outputs (c.in_ok-front.ensures ∙ ap (λ n. get_or c.args.fronts.now n []) as_long)
           c.in_ok-open_desk.ensures.output;
@@ -37,14 +33,6 @@ returns-clause-opened g c =
     let empty : into_iter_items at.desk-iterator ≡ [] = nothing_left _ (sym at.invariant.count ∙ none.0) in
     let all = sym (append-nil at.yielded) ∙ rw empty at at.invariant.left ∙ c.into_iter-desk-iterator.ensures.into_iter_gives.0 in
     subst (λ l. IsOpened c.args.server.now.engine l at.server at.ports) all at.invariant.opened
-
-pub returns-clause-inputs : goal.returns-clause-inputs
-returns-clause-inputs g c =
-    let at = c.loop-desk in
-    let none = c.in-None.ensures.steps in
-    let empty : into_iter_items at.desk-iterator ≡ [] = nothing_left _ (sym at.invariant.count ∙ none.0) in
-    let all = sym (append-nil at.yielded) ∙ rw empty at at.invariant.left ∙ c.into_iter-desk-iterator.ensures.into_iter_gives.0 in
-    subst (λ l. AreInputsOpened g.P.Pipes.given l at.inputs.items at.ports.readers.items) all at.invariant.inputs
 
 pub returns-clause-outputs : goal.returns-clause-outputs
 returns-clause-outputs g c =

@@ -1,6 +1,5 @@
 use Rattle.std.proofs.Common.{◌≡◌, ◌++◌, length}
 use Rattle.std.specs.Vec.Iter.{into_iter_items, into_iter_len}
-use Rattle.batch_pipes.specs.Inputs.{AreInputsOpened}
 use Rattle.batch_pipes.specs.Kept.{ArePortsOf}
 use Rattle.batch_pipes.specs.Opened.{IsOpened}
 use Rattle.batch_pipes.specs.OutputEnds.{IsHandedBack}
@@ -14,6 +13,5 @@ invariant-loop-desk g l = record {
   count : into_iter_len l.desk-iterator ≡ length (into_iter_items l.desk-iterator);
   ports : ArePortsOf l.server.desks.items l.ports;
   opened : IsOpened l.initial.server.engine l.yielded l.server l.ports;
-  inputs : AreInputsOpened g.P.Pipes.given l.yielded l.inputs.items l.ports.readers.items;
   outputs : AreOutputsOpened (IsHandedBack g.W.Write.contents g.P.Outputs.stands g.P.Outputs.hands_back) l.fronts l.yielded l.outputs.items l.ports.writers.items;
 }

@@ -1,6 +1,8 @@
-use Rattle.std.proofs.Common.{ap, arith, length, refl, ◌∙◌}
+use Rattle.std.proofs.Common.{ap, arith, length, ◌∙◌}
+use Rattle.batch_pipes.proofs.InputsKept.{inputs_gathered, order_of}
 use Rattle.batch_pipes.proofs.Keeping.{desks_handed, desks_same, desks_twice, readers_as_they_are, writers_handed}
 use Rattle.batch_pipes.proofs.Serviced.{service_gathered, service_handed}
+use Rattle.batch_pipes.specs.Service.{rings_of, told_to}
 use Rattle.batch_pipes.specs.declared.ports.Ports.{Ports}
 use Rattle.batch_pipes.proofs.rounds.serve_round.Goals as goal
 
@@ -18,11 +20,11 @@ pub returns-clause-service : goal.returns-clause-service
 returns-clause-service g c = λ begun again s.
     let is_safe = g.K.Keep.is_safe in
     let times = c.args.timing.now.times in
-    let gathered_ports : Ports = record c.args.ports.now { readers = c.gather.new.readers } in
-    let handed_ports : Ports = record gathered_ports { writers = c.hand_on.new.writers } in
-    let gathered = service_gathered is_safe c.args.keep.now times begun (g.K.Keep.kept c.args.keep.now) (g.W.Write.contents c.args.output.now) c.args.server.now c.gather.new.self
-    c.args.ports.now gathered_ports c.gather.ensures.same c.in_ok-gather.ensures.gathered refl c.requires.readers s in
-    let served = c.in_ok-serves.ensures.service gathered_ports begun again gathered in
+    let gathered_ports : Ports g.row.P.Denot = record c.args.ports.now { readers = c.gather.new.readers } in
+    let handed_ports : Ports g.row.P.Denot = record gathered_ports { writers = c.hand_on.new.writers } in
+    let gathered = service_gathered is_safe (order_of g.P.InputBytes.given) c.args.keep.now times begun (g.K.Keep.kept c.args.keep.now) (g.W.Write.contents c.args.output.now) c.args.server.now
+    c.gather.new.self (told_to c.args.ports.now.writers.items) c.args.ports.now.readers.items c.gather.new.readers.items c.gather.ensures.same c.in_ok-gather.ensures.gathered c.requires.readers s in
+    let served = c.in_ok-serves.ensures.service (rings_of gathered_ports) begun again gathered in
     service_handed is_safe c.serve_group.new.keep times begun (g.K.Keep.kept c.serve_group.new.keep) (g.W.Write.contents c.serve_group.new.output) c.serve_group.new.server c.hand_on.new.self
     gathered_ports handed_ports c.hand_on.ensures.handed (readers_as_they_are c.gather.new.readers.items)
     (record {
@@ -32,8 +34,9 @@ returns-clause-service g c = λ begun again s.
     })
     served
 
-pub returns-clause-readers : goal.returns-clause-readers
-returns-clause-readers g c = c.in_ok-gather.ensures.gathered.rings
+pub returns-clause-inputs : goal.returns-clause-inputs
+returns-clause-inputs g c =
+    inputs_gathered g.P.InputBytes.given c.args.server.now.desks.items c.args.ports.now.readers.items c.gather.new.readers.items _ _ c.requires.readers c.in_ok-gather.ensures.gathered
 
 pub returns-clause-group : goal.returns-clause-group
 returns-clause-group g c = c.hand_on.ensures.handed.group ∙ c.in_ok-serves.ensures.group

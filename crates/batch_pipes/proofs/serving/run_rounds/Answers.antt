@@ -1,5 +1,5 @@
 use Rattle.std.proofs.Common.{refl, ◌∙◌}
-use Rattle.batch_pipes.proofs.InputsKept.{inputs_as_they_are, inputs_on, inputs_twice}
+use Rattle.batch_pipes.proofs.InputsKept.{inputs_kept, inputs_twice}
 use Rattle.batch_pipes.proofs.Keeping.{desks_handed, desks_same, desks_twice}
 use Rattle.batch_pipes.proofs.OutputsKept.{outputs_as_they_are, outputs_on, outputs_twice}
 use Rattle.batch_pipes.proofs.Serviced.{service_handed}
@@ -8,7 +8,7 @@ use Rattle.batch_pipes.proofs.serving.run_rounds.Goals as goal
 pub loop-init : goal.loop-init
 loop-init g c = record {
   ports = c.requires.ports;
-  inputs = inputs_as_they_are g.P.Pipes.given c.args.inputs.now.items c.args.ports.now.readers.items c.requires.inputs;
+  inputs = λ listed of. of;
   outputs = outputs_as_they_are _ c.args.outputs.now.items c.args.ports.now.writers.items c.requires.outputs;
   desks = desks_same _ _ refl;
   goes = λ begun again s. s;
@@ -17,8 +17,9 @@ loop-init g c = record {
 pub loop-preserved : goal.loop-preserved
 loop-preserved g c = record {
   ports = c.tend_desks-outlook.ensures.ports;
-  inputs = inputs_twice g.P.Pipes.given c.args.inputs.now.items c.loop.inputs.items c.tend_desks-outlook.new.inputs.items c.loop.ports.readers.items c.tend_desks-outlook.new.ports.readers.items
-      c.loop.invariant.inputs c.tend_desks-outlook.ensures.inputs;
+  inputs = inputs_twice g.P.InputBytes.given c.args.ports.now.readers.items c.loop.ports.readers.items c.tend_desks-outlook.new.ports.readers.items c.loop.invariant.inputs
+      (inputs_twice g.P.InputBytes.given c.loop.ports.readers.items c.serve_round.new.ports.readers.items c.tend_desks-outlook.new.ports.readers.items c.in_ok-serves.ensures.inputs
+      (inputs_kept g.P.InputBytes.given c.serve_round.new.ports.readers.items c.tend_desks-outlook.new.ports.readers.items c.tend_desks-outlook.ensures.readers));
   outputs = outputs_twice _ c.args.outputs.now.items c.loop.outputs.items c.tend_desks-outlook.new.outputs.items c.loop.ports.writers.items
       c.tend_desks-outlook.new.ports.writers.items c.loop.invariant.outputs c.tend_desks-outlook.ensures.outputs;
   desks = desks_twice _ c.loop.server.desks.items _ c.loop.invariant.desks (desks_twice _ c.serve_round.new.server.desks.items _ c.in_ok-serves.ensures.desks
@@ -40,14 +41,11 @@ returns-then-is_over-clause-service g c = λ begun again s.
     c.serve_round.new.server c.tend_desks-outlook.new.server c.serve_round.new.ports c.tend_desks-outlook.new.ports c.tend_desks-outlook.ensures.desks c.tend_desks-outlook.ensures.readers
     c.in_ok-serves.ensures.ports (c.in_ok-serves.ensures.service begun again (c.loop.invariant.goes begun again s))
 
-pub tend_desks-outlook-requires-clause-inputs : goal.tend_desks-outlook-requires-clause-inputs
-tend_desks-outlook-requires-clause-inputs g c =
-    inputs_on g.P.Pipes.given c.loop.inputs.items c.loop.ports.readers.items c.serve_round.new.ports.readers.items c.in_ok-serves.ensures.count c.in_ok-serves.ensures.readers c.loop.invariant.inputs.of
-
 pub returns-then-is_over-clause-inputs : goal.returns-then-is_over-clause-inputs
 returns-then-is_over-clause-inputs g c =
-    inputs_twice g.P.Pipes.given c.args.inputs.now.items c.loop.inputs.items c.tend_desks-outlook.new.inputs.items c.loop.ports.readers.items c.tend_desks-outlook.new.ports.readers.items
-    c.loop.invariant.inputs c.tend_desks-outlook.ensures.inputs
+    inputs_twice g.P.InputBytes.given c.args.ports.now.readers.items c.loop.ports.readers.items c.tend_desks-outlook.new.ports.readers.items c.loop.invariant.inputs
+    (inputs_twice g.P.InputBytes.given c.loop.ports.readers.items c.serve_round.new.ports.readers.items c.tend_desks-outlook.new.ports.readers.items c.in_ok-serves.ensures.inputs
+    (inputs_kept g.P.InputBytes.given c.serve_round.new.ports.readers.items c.tend_desks-outlook.new.ports.readers.items c.tend_desks-outlook.ensures.readers))
 
 pub returns-then-is_over-clause-group : goal.returns-then-is_over-clause-group
 returns-then-is_over-clause-group g c = c.tend_desks-outlook.ensures.desks.group ∙ c.in_ok-serves.ensures.group

@@ -5,11 +5,9 @@ use Rattle.batch_serve.specs.declared.rounds.Writer.{Writer}
 use Rattle.batch_serve.proofs.Gathering.{each_more, kept_behind}
 use Rattle.batch_pipes.specs.declared.ports.DeskThreads.{DeskThreads}
 use Rattle.batch_serve.specs.Rounds.{IsHandedOn}
-use Rattle.batch_pipes.specs.Inputs.{path_of}
 use Rattle.batch_pipes.specs.Outputs.{asked_of}
-use Rattle.batch_pipes.specs.declared.input.Input.{Input}
+use Rattle.batch_pipes.specs.declared.input_order.InputOrder.{InputOrder}
 use Rattle.batch_pipes.specs.declared.output.Output.{Output}
-use Rattle.batch_pipes.proofs.InputsKept.{input_here, inputs_set}
 use Rattle.batch_pipes.proofs.Keeping.{done_more, readers_more}
 use Rattle.batch_pipes.proofs.Lists.{same_set}
 use Rattle.batch_pipes.proofs.OutputsKept.{output_here, outputs_set}
@@ -19,11 +17,10 @@ pub loop-at-preserved : goal.loop-at-preserved
 loop-at-preserved g c =
     let so_far = c.loop-at.invariant in
     let i = c.loop-at.at in
-    let in_inputs : i < length c.loop-at.inputs.items = omega (arith, so_far.count, so_far.ports.readers, so_far.inputs.of.count) in
     let in_outputs : i < length c.loop-at.outputs.items = omega (arith, so_far.count, so_far.ports.writers, so_far.outputs.of.count) in
     record {
       ports = record {
-        readers = omega (arith, length-set {A = Reader}, length-set {A = Desk}, so_far.ports.readers);
+        readers = omega (arith, length-set {A = Reader (InputOrder g.row.P.Denot)}, length-set {A = Desk}, so_far.ports.readers);
         writers = omega (arith, length-set {A = Writer}, length-set {A = Desk}, so_far.ports.writers);
         threads = omega (arith, length-set {A = DeskThreads}, length-set {A = Desk}, so_far.ports.threads);
       };
@@ -35,12 +32,6 @@ loop-at-preserved g c =
       rest_writers = kept_behind c.args.ports.now.writers.items c.loop-at.ports.writers.items i c.tend-other.new.writer so_far.rest_writers;
       readers = readers_more c.args.ports.now.readers.items c.loop-at.ports.readers.items i c.index_mut-reader.result.now c.tend-other.new.reader
           (omega (arith, so_far.count, so_far.ports.readers)) c.index_mut-reader.ensures.value c.tend-other.ensures.reader so_far.readers so_far.rest_readers;
-      inputs = record {
-        of = inputs_set g.P.Pipes.given c.loop-at.inputs.items c.loop-at.ports.readers.items i c.tend-other.new.input c.tend-other.new.reader in_inputs c.tend-other.ensures.input.of so_far.inputs.of;
-        count = omega (arith, length-set {A = Input g.row.P.Denot}, so_far.inputs.count);
-        paths = same_set path_of c.args.inputs.now.items c.loop-at.inputs.items i c.index_mut-input.result.now c.tend-other.new.input in_inputs so_far.inputs.count c.index_mut-input.ensures.value
-            c.tend-other.ensures.input.path so_far.inputs.paths;
-      };
       outputs = record {
         of = outputs_set _ c.loop-at.outputs.items c.loop-at.ports.writers.items i c.tend-other.new.output c.tend-other.new.writer in_outputs
             c.tend-other.ensures.output.of so_far.outputs.of;
@@ -48,24 +39,17 @@ loop-at-preserved g c =
         asked = same_set asked_of c.args.outputs.now.items c.loop-at.outputs.items i c.index_mut-output.result.now c.tend-other.new.output in_outputs so_far.outputs.count
             c.index_mut-output.ensures.value c.tend-other.ensures.output.asked so_far.outputs.asked;
       };
-      done = done_more g.P.Pipes.given c.loop-at.desks.items c.loop-at.inputs.items c.loop-at.ports.readers.items i c.tend-other.new.desk c.tend-other.new.input c.tend-other.new.reader
-          c.loop-at.outlook.sends c.loop-at.outlook.waits c.tend-other.result.sends c.tend-other.result.waits _ _ (omega (arith, so_far.count)) in_inputs
+      done = done_more c.loop-at.desks.items c.loop-at.ports.readers.items i c.tend-other.new.desk c.tend-other.new.reader
+          c.loop-at.outlook.sends c.loop-at.outlook.waits c.tend-other.result.sends c.tend-other.result.waits _ _ (omega (arith, so_far.count))
           (omega (arith, so_far.count, so_far.ports.readers)) c.with-outlook.ensures.sends c.with-outlook.ensures.waits c.tend-other.ensures.done so_far.done;
       rest_readers = kept_behind c.args.ports.now.readers.items c.loop-at.ports.readers.items i c.tend-other.new.reader so_far.rest_readers;
     }
 
 pub returns-clause-done : goal.returns-clause-done
-returns-clause-done g c = λ no_sends no_waits k desk input reader within. c.loop-at.invariant.done no_sends no_waits k desk input reader (omega (arith, within, c.loop-at.invariant.count))
+returns-clause-done g c = λ no_sends no_waits k desk reader within. c.loop-at.invariant.done no_sends no_waits k desk reader (omega (arith, within, c.loop-at.invariant.count))
 
-pub tend-other-requires-clause-input : goal.tend-other-requires-clause-input
-tend-other-requires-clause-input g c =
-    let so_far = c.loop-at.invariant in
-    let within : c.loop-at.at < length c.loop-at.inputs.items = omega (arith, so_far.count, so_far.ports.readers, so_far.inputs.of.count) in
-    input_here g.P.Pipes.given c.loop-at.inputs.items c.loop-at.ports.readers.items c.loop-at.at c.index_mut-input.result.now c.index_mut-reader.result.now within
-    c.index_mut-input.ensures.value c.index_mut-reader.ensures.value so_far.inputs.of
-
-pub tend-other-requires-clause-output : goal.tend-other-requires-clause-output
-tend-other-requires-clause-output g c =
+pub tend-other-requires : goal.tend-other-requires
+tend-other-requires g c =
     let so_far = c.loop-at.invariant in
     let within : c.loop-at.at < length c.loop-at.outputs.items = omega (arith, so_far.count, so_far.ports.writers, so_far.outputs.of.count) in
     output_here _ c.loop-at.outputs.items c.loop-at.ports.writers.items c.loop-at.at c.index_mut-output.result.now c.index_mut-writer.result.now within

@@ -3,8 +3,6 @@ use Rattle.batch_serve.specs.Rounds.{IsHandedOn}
 use Rattle.batch_serve.specs.declared.desk.Desk.{Desk}
 use Rattle.batch_serve.specs.declared.rounds.Reader.{Reader}
 use Rattle.batch_serve.specs.declared.rounds.Writer.{Writer}
-use Rattle.batch_pipes.specs.Inputs.{AreInputsKept}
-use Rattle.batch_pipes.specs.declared.input.Input.{Input}
 use Rattle.batch_pipes.specs.OutputEnds.{IsHandedBack}
 use Rattle.batch_pipes.specs.Outputs.{AreOutputsKept}
 use Rattle.batch_pipes.specs.Kept.{ArePortsOf, IsDone, IsReaderKept}
@@ -19,10 +17,9 @@ invariant-loop-at g l = record {
       → IsHandedOn (get_or l.initial.desks.items k other) (get_or l.desks.items k other) (get_or l.initial.ports.writers.items k writer) (get_or l.ports.writers.items k writer);
   rest_desks : (k : ℕ) (other : Desk) → l.at ≤ k → get_or l.desks.items k other ≡ get_or l.initial.desks.items k other;
   rest_writers : (k : ℕ) (writer : Writer) → l.at ≤ k → get_or l.ports.writers.items k writer ≡ get_or l.initial.ports.writers.items k writer;
-  readers : (k : ℕ) (reader : Reader) → k < l.at → IsReaderKept (get_or l.initial.ports.readers.items k reader) (get_or l.ports.readers.items k reader);
-  inputs : AreInputsKept g.P.Pipes.given l.initial.inputs.items l.inputs.items l.ports.readers.items;
+  readers : (k : ℕ) (reader : Reader _) → k < l.at → IsReaderKept (get_or l.initial.ports.readers.items k reader) (get_or l.ports.readers.items k reader);
   outputs : AreOutputsKept (IsHandedBack g.O.Write.contents g.P.Outputs.stands g.P.Outputs.hands_back) l.initial.outputs.items l.outputs.items l.ports.writers.items;
-  done : l.outlook.sends ≡ false → l.outlook.waits ≡ false → (k : ℕ) (desk : Desk) (input : Input _) (reader : Reader) → k < l.at
-      → IsDone g.P.Pipes.given (get_or l.desks.items k desk) (get_or l.inputs.items k input) (get_or l.ports.readers.items k reader);
-  rest_readers : (k : ℕ) (reader : Reader) → l.at ≤ k → get_or l.ports.readers.items k reader ≡ get_or l.initial.ports.readers.items k reader;
+  done : l.outlook.sends ≡ false → l.outlook.waits ≡ false → (k : ℕ) (desk : Desk) (reader : Reader _) → k < l.at
+      → IsDone (get_or l.desks.items k desk) (get_or l.ports.readers.items k reader);
+  rest_readers : (k : ℕ) (reader : Reader _) → l.at ≤ k → get_or l.ports.readers.items k reader ≡ get_or l.initial.ports.readers.items k reader;
 }

@@ -2,4 +2,4 @@ use Rattle.batch_serve.proofs.Gathering.{lines_go_on}
 use Rattle.batch_serve.proofs.desks_laws.lines_go_on.Goals as goal
 
 pub returns : goal.returns
-returns c = lines_go_on
+returns g c = lines_go_on g.O.Protocol.allows

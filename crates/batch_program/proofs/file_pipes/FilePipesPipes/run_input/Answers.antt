@@ -2,5 +2,5 @@ use Rattle.std.proofs.Common.{None}
 use Rattle.batch_pipes.proofs.Streaming.{nothing_handed}
 use Rattle.batch_program.proofs.file_pipes.FilePipesPipes.run_input.Goals as goal
 
-pub returns-in-Err-clause-handed : goal.returns-in-Err-clause-handed
-returns-in-Err-clause-handed c = nothing_handed None _
+pub returns-in-Err : goal.returns-in-Err
+returns-in-Err c = nothing_handed None _
