@@ -139,7 +139,7 @@ impl Port {
     }
 
     /// Appends a move to the port's queue, if it is in the port's scope.
-    pub(crate) fn tell_line(&mut self, line: Line)
+    pub(crate) fn queue_move(&mut self, line: Line)
         requires { HasRoom self.old }
         ensures { self.new ≡ owe_line line self.old }
     {

@@ -21,12 +21,12 @@ pub(crate) fn reserve_each(ports: &mut Vec<Port>) -> Result<(), HubFault>
 }
 
 /// Appends a move to the queue of each open port that has it in its scope.
-pub(crate) fn tell_each(ports: &mut Vec<Port>, line: Line)
+pub(crate) fn queue_for_each(ports: &mut Vec<Port>, line: Line)
     requires { AllHaveRoom ports.old.items }
     ensures { ports.new.items ≡ map (owe_line line) ports.old.items }
 {
     for index in 0..ports.len() {
         let port = &mut ports[index];
-        port.tell_line(line);
+        port.queue_move(line);
     }
 }

@@ -8,7 +8,7 @@ ghost use Rattle.batch_desk.specs.declared.fault.HubFault.TheVariants.{Memory, U
 
 use crate::fault::HubFault;
 use crate::hub::Hub;
-use crate::ports::{reserve_each, tell_each};
+use crate::ports::{queue_for_each, reserve_each};
 use crate::turned::Turned;
 use batch_engine::Out;
 
@@ -62,7 +62,7 @@ impl Hub {
             unreachable!()
         };
         self.outs.push_reserved(Out::Move(line));
-        tell_each(&mut self.ports, line);
+        queue_for_each(&mut self.ports, line);
         Ok(())
     }
 

@@ -60,7 +60,7 @@ pub(crate) fn cut_if_stalled(desk: &mut Desk, own: &mut DeskThreads, ends: bool)
 }
 
 /// Reports that a desk is cut, if it is and that wasn't reported.
-pub(crate) fn tell_cut<E: Write>(
+pub(crate) fn report_if_cut<E: Write>(
     alloc: Global,
     desk: &Desk,
     name: Option<&Name>,
@@ -72,7 +72,7 @@ pub(crate) fn tell_cut<E: Write>(
     }
     own.is_told = true;
     if let Some(name) = name {
-        tell_line(alloc, name, why_cut(desk, own), errors);
+        report_cut(alloc, name, why_cut(desk, own), errors);
     }
 }
 
@@ -85,7 +85,7 @@ fn why_cut(desk: &Desk, own: &DeskThreads) -> Cut {
 }
 
 /// Reports that a desk is cut, and why.
-pub(crate) fn tell_line<E: Write>(alloc: Global, name: &Name, why: Cut, errors: &mut E) {
+pub(crate) fn report_cut<E: Write>(alloc: Global, name: &Name, why: Cut, errors: &mut E) {
     if let Ok(line) = format!(in alloc; "batchd: desk {name} is cut: {why}\n") {
         let _ = write_all(errors, line.as_bytes());
         let _ = errors.flush();

@@ -5,7 +5,7 @@ ghost use Rattle.batch_pipes.specs.Outputs.{AreEnding, AreOutputsKept, AreOutput
 ghost use Rattle.batch_pipes.specs.declared.output.Output.{Output as OneOutput};
 ghost use Rattle.batch_serve.specs.declared.rounds.Writer.{Writer as OneWriter};
 
-use crate::cutting::tell_line;
+use crate::cutting::report_cut;
 use crate::fault::{Cut, PipeFault};
 use crate::outcome::OutputOutcome;
 use crate::output::Output;
@@ -79,7 +79,7 @@ fn settle_each<T: Threads, W: Write + Drop, P: Outputs<W> + Drop, E: Write, S: P
         let is_cut = is_cut(server, at);
         let (outcome, fault) = end_output(threads, output, is_cut, &mut patience, rest);
         if let Some(fault) = fault {
-            tell_at(alloc, server, at, fault, errors);
+            report_fault(alloc, server, at, fault, errors);
         }
         all.push(outcome)?;
     }
@@ -93,7 +93,7 @@ fn is_cut(server: &DeskServer, at: usize) -> bool {
     }
 }
 
-fn tell_at<E: Write>(
+fn report_fault<E: Write>(
     alloc: Global,
     server: &DeskServer,
     at: usize,
@@ -101,7 +101,7 @@ fn tell_at<E: Write>(
     errors: &mut E,
 ) {
     if let Some(name) = server.names.get(at) {
-        tell_line(alloc, name, Cut::Pipe(fault), errors);
+        report_cut(alloc, name, Cut::Pipe(fault), errors);
     }
 }
 

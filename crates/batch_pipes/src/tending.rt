@@ -5,7 +5,7 @@ ghost use Rattle.batch_pipes.specs.Kept.{AreDone, AreReadersKept, ArePortsOf, Is
 ghost use Rattle.batch_pipes.specs.OutputEnds.{IsHandedBack};
 ghost use Rattle.batch_pipes.specs.Outputs.{AreOutputsKept, AreOutputsOf, IsOutputKept, IsOutputOf};
 
-use crate::cutting::{cut_if_failed, cut_if_stalled, tell_cut};
+use crate::cutting::{cut_if_failed, cut_if_stalled, report_if_cut};
 use crate::dropping::drop_unseen;
 use crate::input_order::InputOrder;
 use crate::output::Output;
@@ -117,7 +117,7 @@ fn tend_each<T: Threads, O: Write + Drop, P: Pipes + Outputs<O> + Drop, E: Write
         let writer = &mut ports.writers[at];
         let desk = &mut desks[at];
         let other = tend(threads, desk, own, output, reader, writer, ends);
-        tell_cut(alloc, desk, names.get(at), own, errors);
+        report_if_cut(alloc, desk, names.get(at), own, errors);
         outlook = outlook.with(other);
     }
     outlook

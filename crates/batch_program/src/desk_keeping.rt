@@ -11,9 +11,9 @@ ghost use Rattle.batch_program.specs.JournalRuns.{disks_of};
 ghost use Rattle.batch_program.specs.Keeping.{AreDesksToldBehind};
 
 use crate::desk_runner::DeskRunner;
-use crate::desk_serving::tell_ended;
+use crate::desk_serving::report_ended;
 use crate::journal_faults::{
-    complain_block, complain_disk, complain_unopened, refuse_start, tell_cut,
+    complain_block, complain_disk, complain_unopened, refuse_start, report_cut_off,
 };
 use crate::journals::Journals;
 use crate::keeping::{Messages, write_block};
@@ -121,7 +121,7 @@ fn serve_file<D: Disk, K: Clock + Drop, P: DeskRunner, W: Write, E: Write, C: Ru
     let DeskSet { desks, digested } = served;
     match start_desks(alloc, digested.set, &mut disk, digested.documents, names) {
         Ok((started, blocks)) => {
-            tell_cut(alloc, messages.quiet, messages.path, started.cut, errors);
+            report_cut_off(alloc, messages.quiet, messages.path, started.cut, errors);
             let Started {
                 engine,
                 sum,
@@ -184,12 +184,12 @@ fn serve_behind<D: Disk, K: Clock + Drop, P: DeskRunner, W: Write, E: Write, C: 
         output,
         errors,
     );
-    let status = tell_kept(alloc, messages, ended, output.failure(), errors);
+    let status = report_kept(alloc, messages, ended, output.failure(), errors);
     (status, groups.into_disk())
 }
 
 /// Reports how many batches are left, or why serving over the journal stopped, and gives the exit status.
-fn tell_kept<E: Write>(
+fn report_kept<E: Write>(
     alloc: Global,
     messages: Messages,
     ended: Result<usize, DesksFault>,
@@ -201,6 +201,6 @@ fn tell_kept<E: Write>(
 {
     match ended {
         Err(DesksFault::Journal) => { complain_disk(alloc, messages.path, DiskError::File, errors) }
-        _ => tell_ended(alloc, messages.quiet, ended, reason, errors),
+        _ => report_ended(alloc, messages.quiet, ended, reason, errors),
     }
 }

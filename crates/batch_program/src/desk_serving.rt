@@ -8,7 +8,7 @@ ghost use Rattle.batch_program.specs.JournalRuns.{disks_of};
 use crate::desk_keeping::keep_desk_set;
 use crate::desk_runner::DeskRunner;
 use crate::journals::Journals;
-use crate::program::tell_left;
+use crate::program::report_left;
 use batch_engine::Engine;
 use batch_pipes::{DesksFault, Noted};
 use batch_serve::{NoJournal, service_is_safe};
@@ -77,11 +77,11 @@ fn serve_desk_set<P: DeskRunner, W: Write, E: Write>(
         output,
         errors,
     );
-    tell_ended(alloc, quiet, ended, output.failure(), errors)
+    report_ended(alloc, quiet, ended, output.failure(), errors)
 }
 
 /// Reports how many batches are left, or why serving stopped, with the output's reason, and gives the exit status.
-pub(crate) fn tell_ended<E: Write>(
+pub(crate) fn report_ended<E: Write>(
     alloc: Global,
     quiet: bool,
     ended: Result<usize, DesksFault>,
@@ -92,15 +92,15 @@ pub(crate) fn tell_ended<E: Write>(
 {
     match ended {
         Ok(left) => {
-            tell_left(alloc, quiet, left, errors);
+            report_left(alloc, quiet, left, errors);
             SUCCESS
         }
-        Err(fault) => tell_fault(fault, reason, errors),
+        Err(fault) => report_fault(fault, reason, errors),
     }
 }
 
 /// Reports why serving stopped, and gives the exit status.
-fn tell_fault<E: Write>(fault: DesksFault, reason: Option<io::Error>, errors: &mut E) -> u8
+fn report_fault<E: Write>(fault: DesksFault, reason: Option<io::Error>, errors: &mut E) -> u8
     ensures { result ≡ status_of_fault fault }
 {
     let status = desks_status(fault);

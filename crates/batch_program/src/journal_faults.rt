@@ -99,7 +99,7 @@ fn refusal_text(alloc: Global, path: &str, refusal: RecoveryFault) -> Result<Str
 }
 
 /// Reports how many bytes were cut off behind the last whole group, if there were any and quiet isn't asked for.
-pub(crate) fn tell_cut<E: Write>(
+pub(crate) fn report_cut_off<E: Write>(
     alloc: Global,
     quiet: bool,
     path: &str,

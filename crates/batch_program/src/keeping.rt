@@ -14,10 +14,10 @@ ghost use Rattle.batch_program.specs.JournalRuns.{IsJournalRun, IsOverFile, IsSh
 ghost use Rattle.batch_program.specs.Keeping.{IsToldBehind, cleaned};
 
 use crate::journal_faults::{
-    complain_block, complain_stopped, complain_unopened, refuse_start, tell_cut,
+    complain_block, complain_stopped, complain_unopened, refuse_start, report_cut_off,
 };
 use crate::journals::Journals;
-use crate::program::{MAX_READS, tell_left};
+use crate::program::{MAX_READS, report_left};
 use batch_cli::Comments;
 use batch_engine::Engine;
 use batch_journal::{Disk, Run};
@@ -139,7 +139,7 @@ fn serve_file<D: Disk, K: Clock + Drop, R: Read, W: Write, E: Write, C: Run>(
 {
     match start(alloc, digested.set, &mut disk, digested.documents) {
         Ok(started) => {
-            tell_cut(alloc, messages.quiet, messages.path, started.cut, errors);
+            report_cut_off(alloc, messages.quiet, messages.path, started.cut, errors);
             let Started {
                 mut engine,
                 sum,
@@ -210,7 +210,7 @@ fn serve_behind<D: Disk, K: Clock + Drop, R: Read, W: Write, E: Write, C: Run>(
     let (served, disk, output) = serve_shown::<CleanReader<&mut Noted<R>>, D, K, Noted<W>, C>(
         alloc, engine, reader, journal, output, remarking,
     );
-    let status = tell_end(
+    let status = report_end(
         alloc,
         messages,
         served,
@@ -255,7 +255,7 @@ fn serve_shown<R: Read + Drop, D: Disk, K: Clock + Drop, W: Write, C: Run>(
 }
 
 /// Reports how many batches the end of the input left unfinished, or why serving stopped, and gives the exit status.
-fn tell_end<R: Read, W: Write, E: Write>(
+fn report_end<R: Read, W: Write, E: Write>(
     alloc: Global,
     messages: Messages,
     served: Result<(), KeepFault>,
@@ -269,7 +269,7 @@ fn tell_end<R: Read, W: Write, E: Write>(
 {
     match served {
         Ok(()) => {
-            tell_left(alloc, messages.quiet, left, errors);
+            report_left(alloc, messages.quiet, left, errors);
             SUCCESS
         }
         Err(fault) => complain_stopped(alloc, messages.path, fault, input, output, errors),

@@ -40,7 +40,7 @@ pub use process::{run_on_files, run_process};
 pub use program::{MAX_READS, run_program};
 pub use record_audit::audit_record;
 pub use record_drawing::{draw_record_at, draw_record_of};
-pub use record_status::{tell_record, tell_status};
+pub use record_status::{print_record_state, print_status};
 pub use records::Records;
 pub use statuses::serving_status;
 pub use threads::{TURNS, ThreadsOf};

@@ -12,7 +12,7 @@ use crate::plant::report_of_plant;
 use crate::plant_runner::PlantRunner;
 use crate::record_audit::audit_record;
 use crate::record_drawing::draw_record_at;
-use crate::record_status::tell_record;
+use crate::record_status::print_record_state;
 use crate::records::Records;
 use crate::statuses::serving_status;
 use batch_cli::Comments;
@@ -118,7 +118,7 @@ pub fn run_program<
             (status, output)
         }
         Course::Reads { path } => {
-            let status = tell_record(alloc, path, documents, input, &mut output, errors);
+            let status = print_record_state(alloc, path, documents, input, &mut output, errors);
             (status, output)
         }
         Course::Draws { path } => {
@@ -157,7 +157,7 @@ fn serve_plainly<R: Read, W: Write, E: Write>(
 {
     let served = serve_set(alloc, set, input, &mut output, &mut NoRemarks, MAX_READS);
     let reason = reason_of(served, input, &output);
-    (tell_served(alloc, quiet, served, reason, errors), output)
+    (report_served(alloc, quiet, served, reason, errors), output)
 }
 
 /// The same with comments in the record. Their time is that of the journals' clock.
@@ -183,7 +183,7 @@ fn serve_with_comments<J: Journals, R: Read, W: Write, E: Write>(
     let remarking = Remarking::new(journals.clock(), comments.echo, comments.times);
     let (served, output) = serve_remarked(alloc, set, input, output, remarking, MAX_READS);
     let reason = reason_of(served, input, &output);
-    (tell_served(alloc, quiet, served, reason, errors), output)
+    (report_served(alloc, quiet, served, reason, errors), output)
 }
 
 /// The reason of the stream that stopped serving. A writer that accepts nothing gives none.
@@ -201,7 +201,7 @@ fn reason_of<R, W>(
 
 /// Reports why serving stopped, or how many batches the end of the input left unfinished, and gives the exit status.
 // claim: status of serving
-fn tell_served<E: Write>(
+fn report_served<E: Write>(
     alloc: Global,
     quiet: bool,
     served: Result<usize, SetFault>,
@@ -213,7 +213,7 @@ fn tell_served<E: Write>(
 {
     let status = serving_status(served);
     match (served, reason) {
-        (Ok(left), _) => tell_left(alloc, quiet, left, errors),
+        (Ok(left), _) => report_left(alloc, quiet, left, errors),
         (Err(fault), Some(reason)) => return complain(errors, Stop { fault, reason }, status),
         (Err(fault), None) => return complain(errors, fault, status),
     }
@@ -221,7 +221,7 @@ fn tell_served<E: Write>(
 }
 
 /// Reports how many batches are neither complete, stopped nor aborted, if there are any and quiet isn't asked for.
-pub(crate) fn tell_left<E: Write>(alloc: Global, quiet: bool, left: usize, errors: &mut E)
+pub(crate) fn report_left<E: Write>(alloc: Global, quiet: bool, left: usize, errors: &mut E)
     ensures { IsLeftTold quiet (record { before = E.contents errors.old; after = E.contents errors.new }) left }
 {
     if quiet || left == 0 {

@@ -52,7 +52,7 @@ pub fn audit_record<D: Records, R: Read, W: Write, E: Write>(
         (record { before = E.contents errors.old; after = E.contents errors.new }) result }
 {
     match record_at(alloc, &words.path, records) {
-        Ok(text) => tell_audit(alloc, set, words.beginning, &text, input, output, errors),
+        Ok(text) => print_audit(alloc, set, words.beginning, &text, input, output, errors),
         Err(reason) => complain_unread(alloc, &words.path, reason, errors),
     }
 }
@@ -68,7 +68,7 @@ fn record_at<D: Records>(alloc: Global, path: &str, records: &D) -> io::Result<V
 }
 
 /// Prints whether the text is the record of the event lines of the input over the set, and gives the exit status.
-fn tell_audit<R: Read, W: Write, E: Write>(
+fn print_audit<R: Read, W: Write, E: Write>(
     alloc: Global,
     set: Cleared,
     beginning: bool,
@@ -83,13 +83,13 @@ fn tell_audit<R: Read, W: Write, E: Write>(
         ⊎ IsUntold (record { before = W.contents output.old; after = W.contents output.new }) result }
 {
     match audit(alloc, set, input, text) {
-        Ok(finding) => tell_finding(alloc, beginning, finding, output, errors),
+        Ok(finding) => print_finding(alloc, beginning, finding, output, errors),
         Err(fault) => complain_unfound(fault, input.failure(), errors),
     }
 }
 
 /// Prints the finding on a record, and gives the exit status.
-fn tell_finding<W: Write, E: Write>(
+fn print_finding<W: Write, E: Write>(
     alloc: Global,
     beginning: bool,
     finding: Finding,

@@ -38,7 +38,7 @@ struct FailedOpen {
 
 /// Prints the state to which the record at the path leads, or the one on the input if no path is given, and gives the exit status.
 // claim: record told
-pub fn tell_record<D: Records, R: Read, W: Write, E: Write>(
+pub fn print_record_state<D: Records, R: Read, W: Write, E: Write>(
     alloc: Global,
     path: Option<String>,
     records: &D,
@@ -56,9 +56,9 @@ pub fn tell_record<D: Records, R: Read, W: Write, E: Write>(
         (record { before = E.contents errors.old; after = E.contents errors.new }) result }
 {
     match path {
-        None => tell_status(alloc, input, output, errors),
+        None => print_status(alloc, input, output, errors),
         Some(path) => match records.open(&path) {
-            Ok(opened) => tell_status(alloc, &mut Noted::new(opened), output, errors),
+            Ok(opened) => print_status(alloc, &mut Noted::new(opened), output, errors),
             Err(reason) => complain_unopened(alloc, &path, reason, errors),
         },
     }
@@ -66,7 +66,7 @@ pub fn tell_record<D: Records, R: Read, W: Write, E: Write>(
 
 /// Prints the state to which the reader's record leads, or which line is none of a record, and gives the exit status.
 // claim: record told; no record
-pub fn tell_status<R: Read, W: Write, E: Write>(
+pub fn print_status<R: Read, W: Write, E: Write>(
     alloc: Global,
     input: &mut Noted<R>,
     output: &mut W,

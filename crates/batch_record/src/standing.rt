@@ -117,7 +117,7 @@ impl Standing {
 
 impl Standing {
     /// Applies an out to the shares of holders.
-    pub fn tell_holders(&mut self, alloc: Global, told: Told<'_>) -> Result<(), NoMemory>
+    pub fn apply_to_holders(&mut self, alloc: Global, told: Told<'_>) -> Result<(), NoMemory>
         ensures ok { OnOk result (HoldersAfter self.old.shares.items (out_of told.entry) self.new.shares.items) }
         ensures err { OnErr result (self.new.shares.items ≡ self.old.shares.items) }
     {
@@ -130,7 +130,7 @@ impl Standing {
     }
 
     /// Applies an out to the shares of waiting acts.
-    pub fn tell_waiters(&mut self, alloc: Global, told: Told<'_>) -> Result<(), NoMemory>
+    pub fn apply_to_waiters(&mut self, alloc: Global, told: Told<'_>) -> Result<(), NoMemory>
         ensures ok { OnOk result (WaitersAfter self.old.shares.items (out_of told.entry) self.new.shares.items) }
         ensures err { OnErr result (self.new.shares.items ≡ self.old.shares.items) }
     {

@@ -50,8 +50,8 @@ impl Status {
         ensures { OnOk result ((tale : Tale) → Keeps self.old tale → Keeps self.new (tale_after tale (out_of told.entry))) }
     {
         self.batches.apply_out(alloc, told)?;
-        self.holders.tell_holders(alloc, told)?;
-        self.waiters.tell_waiters(alloc, told)?;
+        self.holders.apply_to_holders(alloc, told)?;
+        self.waiters.apply_to_waiters(alloc, told)?;
         self.live.apply_out(alloc, told)
     }
 }

@@ -48,7 +48,7 @@ impl Desk {
     }
 
     /// Queues a line, if it is due. If there is no memory for the line, the desk is cut.
-    fn tell_line(&mut self, alloc: Global, line: &[u8], is_own: bool)
+    fn queue_line(&mut self, alloc: Global, line: &[u8], is_own: bool)
         ensures unit { self.new.unit ≡ self.old.unit }
         ensures cut { self.new.waiting.is_cut ≡ false → self.old.waiting.is_cut ≡ false }
         ensures account { (all told : List (List ℕ)) → IsAccount all told self.old.waiting
@@ -71,7 +71,7 @@ impl Desk {
     }
 
     /// Queues the lines that it is due of a text, which answers its own lines or another desk's.
-    fn tell_text(&mut self, alloc: Global, text: &[u8], is_own: bool)
+    fn queue_lines(&mut self, alloc: Global, text: &[u8], is_own: bool)
         ensures unit { self.new.unit ≡ self.old.unit }
         ensures cut { self.new.waiting.is_cut ≡ false → self.old.waiting.is_cut ≡ false }
         ensures account { (all told : List (List ℕ)) → IsAccount all told self.old.waiting
@@ -79,28 +79,28 @@ impl Desk {
     {
         let mut rest = text;
         while let Some(at) = line_feed(rest) {
-            self.tell_line(alloc, &rest[..at], is_own);
+            self.queue_line(alloc, &rest[..at], is_own);
             rest = &rest[at + 1..];
         }
     }
 
     /// Queues the lines of the answers that it is due, as the desk at this place.
-    pub fn tell_answers(&mut self, alloc: Global, answers: &[Run], desk: usize)
+    pub fn queue_answers(&mut self, alloc: Global, answers: &[Run], desk: usize)
         ensures { IsTold desk answers.now self.old self.new }
     {
         for answer in answers {
             let is_own = answer.desk() == desk;
-            self.tell_text(alloc, answer.text(), is_own);
+            self.queue_lines(alloc, answer.text(), is_own);
         }
     }
 }
 
 /// Queues for each desk the lines of the answers that it is due.
-pub fn tell_each(alloc: Global, desks: &mut Vec<Desk>, answers: &[Run])
+pub fn queue_for_each(alloc: Global, desks: &mut Vec<Desk>, answers: &[Run])
     ensures { AreTold answers.now desks.old.items desks.new.items }
 {
     for desk in 0..desks.len() {
-        desks[desk].tell_answers(alloc, answers, desk);
+        desks[desk].queue_answers(alloc, answers, desk);
     }
 }
 

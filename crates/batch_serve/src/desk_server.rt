@@ -6,7 +6,7 @@ ghost use Rattle.batch_serve.specs.Served.{AreWhole, ShowNoWant};
 ghost use Rattle.batch_serve.specs.Turns.{IsSameBut, IsTurned, MayBeKept, with_run};
 ghost use Rattle.batch_serve.specs.declared.desk.Desk.{Desk as OneDesk};
 
-use crate::desk::{Desk, tell_each};
+use crate::desk::{Desk, queue_for_each};
 use crate::desks_fault::TurnFault;
 use crate::desks_remarks::{last_of, runs_text};
 use crate::desks_serving::serve_runs;
@@ -105,7 +105,7 @@ impl DeskServer {
         check_want(keep.is_served_again(), &answers)?;
         let text = runs_text(alloc, &self.names, self.last, &answers)?;
         write_record(output, &text)?;
-        tell_each(alloc, &mut self.desks, &answers);
+        queue_for_each(alloc, &mut self.desks, &answers);
         self.last = last_of(self.last, &self.group);
         self.group.clear();
         Ok(())

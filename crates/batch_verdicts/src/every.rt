@@ -96,7 +96,7 @@ fn read_sound<D: Documents, E: Write>(
         &read.recipes,
         errors,
     );
-    keep_rules(alloc, &read.cell, &read.recipes, &read.sources)?;
+    find_broken_rules(alloc, &read.cell, &read.recipes, &read.sources)?;
     Ok(read)
 }
 
@@ -111,8 +111,8 @@ fn read_all<D: Documents>(
     ensures halted { IfErr result (HaltsAtAll (D.gives documents.now) cell.now (map string_bytes recipes.now)) }
 {
     let mut refusals = Vec::new(alloc);
-    let cell = look_at_cell(alloc, documents, cell, &mut refusals)?;
-    let looked = look_at_recipes(alloc, documents, recipes, refusals)?;
+    let cell = cell_or_refusal(alloc, documents, cell, &mut refusals)?;
+    let looked = recipes_or_refusals(alloc, documents, recipes, refusals)?;
     let Some(cell) = cell else {
         return Err(Halt::Every(looked.refusals));
     };
@@ -128,7 +128,7 @@ fn read_all<D: Documents>(
 
 /// The cell of the document at the path. If that is refused, its refusal is appended to the others.
 #[tactic(auto, using(crate::proofs::Looked::cell_unread))]
-fn look_at_cell<D: Documents>(
+fn cell_or_refusal<D: Documents>(
     alloc: Global,
     documents: &D,
     path: &str,
@@ -158,7 +158,7 @@ struct Looked {
 }
 
 /// The recipes of the documents at these paths that aren't refused. The refusals of the others are appended to those before.
-fn look_at_recipes<D: Documents>(
+fn recipes_or_refusals<D: Documents>(
     alloc: Global,
     documents: &D,
     paths: &[String],
@@ -174,14 +174,14 @@ fn look_at_recipes<D: Documents>(
         refusals,
     };
     for path in paths {
-        look_at_recipe(alloc, documents, path.as_str(), &mut looked)?;
+        add_recipe(alloc, documents, path.as_str(), &mut looked)?;
     }
     Ok(looked)
 }
 
 /// Reads one more document.
 #[tactic(auto, using(crate::proofs::Looked::recipe_unread))]
-fn look_at_recipe<D: Documents>(
+fn add_recipe<D: Documents>(
     alloc: Global,
     documents: &D,
     path: &str,
@@ -201,7 +201,7 @@ fn look_at_recipe<D: Documents>(
 }
 
 /// Searches for rules that the recipes of a set break. All recipes that break one are reported, each by the first that it breaks.
-fn keep_rules(
+fn find_broken_rules(
     alloc: Global,
     cell: &Cell,
     recipes: &[Recipe],

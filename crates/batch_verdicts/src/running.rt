@@ -15,7 +15,7 @@ use crate::digested::clear_digested;
 use crate::documents::{Documents, clear_documents, show_documents, verify_documents};
 use crate::every::{check_asked, draw_asked};
 use crate::refusal::{DocumentRefusal, Halt};
-use crate::saying::{say_every, write_sentence};
+use crate::saying::{write_sentence, write_sentences};
 use batch_cli::{
     AuditWords, CommandFault, CommandWords, Comments, DeskWords, Judgement, PlantOptions, Source,
     Subcommand, parse,
@@ -139,7 +139,9 @@ fn run_command<D: Documents, O: Write, E: Write>(
         Subcommand::Plant { source, options } => {
             plant(alloc, quiet, &source, options, documents, output, errors)
         }
-        Subcommand::Explain { texts } => { Course::Ends(tell_codes(alloc, &texts, output, errors)) }
+        Subcommand::Explain { texts } => {
+            Course::Ends(print_codes(alloc, &texts, output, errors))
+        }
     }
 }
 
@@ -398,7 +400,7 @@ fn refuse_every<O: Write, E: Write>(
     };
     match write_out(output, text.as_bytes()) {
         Ok(()) => {
-            say_every(alloc, quiet, refusals, errors);
+            write_sentences(alloc, quiet, refusals, errors);
             status_of_every(refusals)
         }
         Err(error) => unwritten(errors, error),
@@ -435,7 +437,7 @@ fn is_one_for_memory(refusals: &[DocumentRefusal]) -> bool
 }
 
 /// Prints the explanation of the first code in the texts, or without texts the meaning of each code.
-fn tell_codes<O: Write, E: Write>(
+fn print_codes<O: Write, E: Write>(
     alloc: Global,
     texts: &[String],
     output: &mut O,

@@ -33,7 +33,7 @@ fn write_line<E: Write>(alloc: Global, sentence: &Sentence, errors: &mut E)
 
 /// Writes the sentences of the refusals, a line each, unless quiet is asked for. If there is no memory for the lines, they are left
 /// out; if they can't be written, the rest of them is.
-pub(crate) fn say_every<E: Write>(
+pub(crate) fn write_sentences<E: Write>(
     alloc: Global,
     quiet: bool,
     refusals: &[DocumentRefusal],

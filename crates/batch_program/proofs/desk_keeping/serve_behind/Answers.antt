@@ -12,7 +12,7 @@ returns-in-Err-clause-told g c = inr (c.in-Err.ensures, c.complain_block-status.
 pub returns-clause-told : goal.returns-clause-told
 returns-clause-told g c =
     let ended = c.serve_desks-ended in
-    let told = c.tell_kept-status.ensures in
+    let told = c.report_kept-status.ensures in
     inl (
       _,
       c.in_default.ensures,

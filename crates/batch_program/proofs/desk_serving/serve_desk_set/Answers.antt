@@ -12,5 +12,5 @@ returns g c =
       ended.result,
       record_served c.args.times _ _ _ _ c.args.served.digested.set c.in-Ok.engine _ _ _ ended.result c.service_is_safe.ensures c.in-Ok.ensures.cleared c.in-Ok.ensures.opening
           ended.ensures,
-      c.tell_ended.ensures,
+      c.report_ended.ensures,
     )

@@ -24,8 +24,8 @@ returns-clause-told g c =
       shown,
       record {
         answers = λ well. answered (setup c.args.engine.now.cleared) (plant_of c.args.engine.now) _ served.result.0 unread _ _ _ c.clean_lines_serve_alike.ensures reader_is
-            (c.tell_end-status.ensures.well well) told;
+            (c.report_end-status.ensures.well well) told;
         never_lost = λ d start base. where_known unread _ _ reader_is (λ all known. lost d input_is all start (input_is ∙ known) base);
-        ends = c.tell_end-status.ensures.ends;
+        ends = c.report_end-status.ensures.ends;
       },
     )

@@ -56,8 +56,8 @@ pub returns-in-Reads : goal.returns-in-Reads
 returns-in-Reads g c =
     let path = c.in-Reads.path in
     let (asked, kept, silent) = record_to_read (g.D.Documents.gives c.args.documents.now) (map string_bytes c.args.words.now) _ _ _ path c.run_words.ensures c.in-Reads.is in
-    reads (option_map string_bytes path) c.tell_record-status.result asked
-    (record_kept (g.D.Records.holds c.args.documents.now) (option_map string_bytes path) _ _ _ _ _ _ _ _ _ kept silent c.tell_record-status.ensures)
+    reads (option_map string_bytes path) c.print_record_state-status.result asked
+    (record_kept (g.D.Records.holds c.args.documents.now) (option_map string_bytes path) _ _ _ _ _ _ _ _ _ kept silent c.print_record_state-status.ensures)
 
 pub returns-in-Draws : goal.returns-in-Draws
 returns-in-Draws g c =

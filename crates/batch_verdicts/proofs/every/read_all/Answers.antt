@@ -10,7 +10,7 @@ pub returns-clause-read : goal.returns-clause-read
 returns-clause-read g c =
     let gives = g.D.Documents.gives c.args.documents.now in
     let looked = c.in_ok-looked.looked in
-    let before = c.look_at_cell.new.refusals.items in
+    let before = c.cell_or_refusal.new.refusals.items in
     let At : Option Cell → Type 0 = λ cell. IsCellLooked gives c.args.cell.now [] cell before in
     let cell = subst At c.in-Some.is (rw c.new-refusals.ensures.items at c.in_ok-cell.ensures.looked) in
     let none : length looked.refusals.items ≡ 0 = search rules in
@@ -21,7 +21,7 @@ pub returns-then-not-is_empty-clause-halted : goal.returns-then-not-is_empty-cla
 returns-then-not-is_empty-clause-halted g c =
     let gives = g.D.Documents.gives c.args.documents.now in
     let looked = c.in_ok-looked.looked in
-    let before = c.look_at_cell.new.refusals.items in
+    let before = c.cell_or_refusal.new.refusals.items in
     let At : Option Cell → Type 0 = λ cell. IsCellLooked gives c.args.cell.now [] cell before in
     let cell = subst At c.in-Some.is (rw c.new-refusals.ensures.items at c.in_ok-cell.ensures.looked) in
     let some : 0 < length looked.refusals.items = search rules in
@@ -35,7 +35,7 @@ pub returns-in_default-clause-halted : goal.returns-in_default-clause-halted
 returns-in_default-clause-halted g c =
     let gives = g.D.Documents.gives c.args.documents.now in
     let looked = c.in_ok-looked.looked in
-    let before = c.look_at_cell.new.refusals.items in
+    let before = c.cell_or_refusal.new.refusals.items in
     let At : Option Cell → Type 0 = λ cell. IsCellLooked gives c.args.cell.now [] cell before in
     let cell = subst At c.in_default.is (rw c.new-refusals.ensures.items at c.in_ok-cell.ensures.looked) in
     inl (cell_refused gives c.args.cell.now (map string_bytes c.args.recipes.now) before looked.recipes.items looked.refusals.items cell

@@ -48,7 +48,7 @@ returns-in-Plant g c = rw c.in-Plant.is (rw (c.in-Plant.source-is, c.in-Plant.op
 
 pub returns : goal.returns
 returns g c =
-    rw c.in-Explain.is (explains (map string_bytes c.deref-in-Explain.result.now) _ (cc (c.deref-in-Explain.ensures.value, c.in-Explain.texts-is)) c.tell_codes.ensures)
+    rw c.in-Explain.is (explains (map string_bytes c.deref-in-Explain.result.now) _ (cc (c.deref-in-Explain.ensures.value, c.in-Explain.texts-is)) c.print_codes.ensures)
 
 pub returns-in-ServeDesks : goal.returns-in-ServeDesks
 returns-in-ServeDesks g c =

@@ -4,7 +4,7 @@ use Rattle.batch_serve.specs.Dues.{is_due}
 use Rattle.batch_wire.specs.Transcript.{whole_lines}
 use Rattle.batch_serve.specs.Waits.{IsAccount}
 use Rattle.batch_serve.proofs.TextLines.{lines_more, told_line, whole_first, whole_none}
-use Rattle.batch_serve.proofs.desk.Desk.tell_text.Goals as goal
+use Rattle.batch_serve.proofs.desk.Desk.queue_lines.Goals as goal
 
 pub overflow_add-rest : goal.overflow_add-rest
 overflow_add-rest c = search (rules, c.in-Some.ensures.within, c.loop-at.invariant.within)
@@ -17,13 +17,13 @@ loop-at-preserved c =
     let line = take at rest in
     record {
       within = omega (arith, so_far.within, ap length (take_rest rest (at + 1)), length-drop (at + 1) rest);
-      unit = c.tell_line.ensures.unit ∙ so_far.unit;
-      cut = λ uncut. so_far.cut (c.tell_line.ensures.cut uncut);
+      unit = c.queue_line.ensures.unit ∙ so_far.unit;
+      cut = λ uncut. so_far.cut (c.queue_line.ensures.cut uncut);
       front = so_far.front ++ line ∷ [];
       splits = lines_more c.args.text.now rest line (drop (at + 1) rest) so_far.front so_far.splits (whole_first rest at (sym c.in-Some.ensures.value))
           ∙ ap (λ l. (so_far.front ++ line ∷ []) ++ whole_lines l) (sym (take_rest rest (at + 1)));
-      account = λ all told h. subst (λ (l : List (List ℕ)). IsAccount l told c.tell_line.new.self.waiting) (told_line c.args.is_own c.args.self.now.unit c.loop-at.self.unit all so_far.front line so_far.unit)
-          (c.tell_line.ensures.account (all ++ filter (is_due c.args.is_own c.args.self.now.unit) so_far.front) told (so_far.account all told h));
+      account = λ all told h. subst (λ (l : List (List ℕ)). IsAccount l told c.queue_line.new.self.waiting) (told_line c.args.is_own c.args.self.now.unit c.loop-at.self.unit all so_far.front line so_far.unit)
+          (c.queue_line.ensures.account (all ++ filter (is_due c.args.is_own c.args.self.now.unit) so_far.front) told (so_far.account all told h));
     }
 
 pub returns-clause-account : goal.returns-clause-account

@@ -2,7 +2,7 @@ use Rattle.std.proofs.Common.{◌≡◌, ℕ, ◌+◌, ◌-◌, ◌<◌, ◌++�
 use Rattle.std.proofs.lemmas.List.{get_or-append_right, length-map}
 use Rattle.std.proofs.lemmas.List.Edits.{map_over_more}
 use Rattle.batch_desk.specs.PortSteps.{owe_line}
-use Rattle.batch_desk.proofs.ports.tell_each.Goals as goal
+use Rattle.batch_desk.proofs.ports.queue_for_each.Goals as goal
 
 -- from its index on the loop has changed nothing yet
 untold : {X : Type 0} (f : X → X) (xs ys : List X) (i : ℕ) (x : X) → i < length xs → ys ≡ map f (take i xs) ++ drop i xs → x ≡ get_or ys i x → x ≡ get_or xs i x
@@ -11,8 +11,8 @@ untold f xs ys i x lt is at =
     let here : i + (i - i) ≡ i = omega arith in
     at ∙ (ap (λ zs. get_or zs i x) is ∙ (get_or-append_right (map f (take i xs)) (drop i xs) i i x told (omega arith) ∙ (get_or-drop i xs (i - i) x ∙ ap (λ k. get_or xs k x) here)))
 
-pub tell_line-requires : goal.tell_line-requires
-tell_line-requires c =
+pub queue_move-requires : goal.queue_move-requires
+queue_move-requires c =
     let x = c.index_mut-port.result.now in
     let was : x ≡ get_or c.args.ports.now.items c.loop-index.index x =
     untold (owe_line c.args.line) c.args.ports.now.items c.loop-index.ports.items c.loop-index.index x (omega arith) c.loop-index.invariant c.index_mut-port.ensures.value in
@@ -20,5 +20,5 @@ tell_line-requires c =
 
 pub loop-index-preserved : goal.loop-index-preserved
 loop-index-preserved c =
-    ap (λ p. set c.loop-index.ports.items c.loop-index.index p) c.tell_line.ensures
+    ap (λ p. set c.loop-index.ports.items c.loop-index.index p) c.queue_move.ensures
     ∙ map_over_more (owe_line c.args.line) c.args.ports.now.items c.loop-index.ports.items c.loop-index.index _ (omega arith) c.loop-index.invariant c.index_mut-port.ensures.value

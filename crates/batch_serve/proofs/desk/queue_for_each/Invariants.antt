@@ -1,7 +1,7 @@
 use Rattle.std.proofs.Common.{◌≡◌, ◌<◌, ◌≤◌, ℕ, length, get_or}
 use Rattle.batch_serve.specs.Told.{IsTold}
 use Rattle.batch_serve.specs.declared.desk.Desk.{Desk}
-use Rattle.batch_serve.proofs.desk.tell_each.Given as goal
+use Rattle.batch_serve.proofs.desk.queue_for_each.Given as goal
 
 -- the desks before this one are told, and the others as they were
 abbrev pub invariant-loop-desk : goal.invariant-loop-desk

@@ -1,6 +1,6 @@
 use Rattle.std.proofs.Common.{map, take, string_bytes}
 use Rattle.batch_verdicts.specs.Looking.{LooksOn}
-use Rattle.batch_verdicts.proofs.every.look_at_recipes.Given as goal
+use Rattle.batch_verdicts.proofs.every.recipes_or_refusals.Given as goal
 
 abbrev pub invariant-loop-path : goal.invariant-loop-path
 invariant-loop-path g l =

@@ -1,7 +1,7 @@
 use Rattle.std.proofs.Common.{subst}
 use Rattle.batch_verdicts.specs.Halting.{HaltsAtCell}
 use Rattle.batch_verdicts.specs.declared.refusal.Halt.{Halt}
-use Rattle.batch_verdicts.proofs.every.look_at_cell.Goals as goal
+use Rattle.batch_verdicts.proofs.every.cell_or_refusal.Goals as goal
 
 pub returns-in-Err-Refused-clause-looked : goal.returns-in-Err-Refused-clause-looked
 returns-in-Err-Refused-clause-looked g c =

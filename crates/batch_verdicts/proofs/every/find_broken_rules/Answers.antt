@@ -4,7 +4,7 @@ use Rattle.std.proofs.lemmas.Result.{err_from_is_err_and}
 use Rattle.batch_verify.proofs.RecipeLemmas.{set_length}
 use Rattle.batch_verdicts.specs.Every.{AreRulesRefused}
 use Rattle.batch_verdicts.specs.declared.refusal.DocumentRefusal.{DocumentRefusal}
-use Rattle.batch_verdicts.proofs.every.keep_rules.Goals as goal
+use Rattle.batch_verdicts.proofs.every.find_broken_rules.Goals as goal
 
 pub rule_refusals-requires : goal.rule_refusals-requires
 rule_refusals-requires c = set_length c.args.cell.now c.args.recipes.now ((c.is_recipe_set.ensures c.args.cell.now).0 c.if-not-is_recipe_set.false)

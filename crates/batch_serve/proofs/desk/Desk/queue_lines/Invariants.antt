@@ -2,7 +2,7 @@ use Rattle.std.proofs.Common.{◌≡◌, ◌≤◌, List, ℕ, ◌++◌, filter,
 use Rattle.batch_serve.specs.Dues.{is_due}
 use Rattle.batch_wire.specs.Transcript.{whole_lines}
 use Rattle.batch_serve.specs.Waits.{IsAccount}
-use Rattle.batch_serve.proofs.desk.Desk.tell_text.Given as goal
+use Rattle.batch_serve.proofs.desk.Desk.queue_lines.Given as goal
 
 -- the first lines were told
 abbrev pub invariant-loop-at : goal.invariant-loop-at
