@@ -5,6 +5,7 @@ pub mod Kept
 pub mod Opened
 pub mod OutputEnds
 pub mod Outputs
+pub mod RowsOfInputs
 pub mod RowsOfOutputs
 pub mod Service
 pub mod Streams

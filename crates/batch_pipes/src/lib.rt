@@ -30,7 +30,7 @@ mod written;
 
 pub use fault::{DesksFault, PipeFault};
 pub use input_order::InputOrder;
-pub use laws::output_rows;
+pub use laws::{input_rows, output_rows};
 pub use noted::Noted;
 pub use outcome::OutputOutcome;
 pub use output::OutputChild;
