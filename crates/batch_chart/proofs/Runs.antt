@@ -26,7 +26,7 @@ use Rattle.batch_chart.specs.Outlined.{end_at, Stands}
 use Rattle.batch_chart.specs.Noting.{stage_signs}
 use Rattle.batch_chart.specs.Neat.{act_shows, runs_below, is_single, shown_of, AreNeat}
 use Rattle.batch_chart.specs.Nexts.{IsInOrder}
-use Rattle.batch_chart.specs.NodesOf.{most_by, node_at, own_units}
+use Rattle.batch_chart.specs.NodesOf.{most_by, needs_in, node_at, own_units}
 use Rattle.batch_chart.specs.Running.{IsLaid, IsAlive}
 use Rattle.batch_chart.specs.Stages.{stage_at, is_finished}
 use Rattle.batch_chart.specs.Upkeep.{IsKeptUp}
@@ -126,26 +126,27 @@ nothing-held count most held room e lt = subst (λ l. AreHeld count most l room)
 
 -- it runs, where its stages live and its signs go by them
 pub runs-by : (chart : Recipe) (running : Running) (t : Tree) → IsChartOf t chart → IsAlive t running.stages.items → length running.signs ≡ length chart.outline.entries.items → AreHeld (node_count t) (most_by own_units t) running.held.items (deque_capacity running.held)
-    → AreNeat chart.outline.entries.items chart 0 (length chart.outline.entries.items) running.stages.items running.signs → IsRunningOf t running
-runs-by chart running t laid alive count held neat = record {
+    → running.needs ≡ needs_in t → AreNeat chart.outline.entries.items chart 0 (length chart.outline.entries.items) running.stages.items running.signs → IsRunningOf t running
+runs-by chart running t laid alive count held needs neat = record {
   alive = alive;
   count = count ∙ laid.count;
   held = held;
+  needs = needs;
   neat = λ ms es other. neat-anywhere t chart.outline.entries.items ms chart es laid other running.stages.items running.signs neat;
 }
 
 -- a call has changed the stages, and the signs with them
-pub went-on : (chart : Recipe) (old new : Running) (ys : List Stage) → new.stages.items ≡ ys → IsKeptUp chart.outline.entries.items chart old.stages.items ys old.signs new.signs → (t : Tree) → IsChartOf t chart → IsRunningOf t old → IsAlive t ys → new.held ≡ old.held
+pub went-on : (chart : Recipe) (old new : Running) (ys : List Stage) → new.stages.items ≡ ys → IsKeptUp chart.outline.entries.items chart old.stages.items ys old.signs new.signs → (t : Tree) → IsChartOf t chart → IsRunningOf t old → IsAlive t ys → new.held ≡ old.held → new.needs ≡ old.needs
     → IsRunningOf t new
-went-on chart old new ys is up t laid ran alive same =
+went-on chart old new ys is up t laid ran alive same needs =
     runs-by chart new t laid (subst (IsAlive t) (sym is) alive) (up.count ∙ ran.count ∙ sym laid.count) (subst (λ z. AreHeld (node_count t) (most_by own_units t) z.items (deque_capacity z)) (sym same) ran.held)
-    (subst (λ z. AreNeat chart.outline.entries.items chart 0 (length chart.outline.entries.items) z new.signs) (sym is) (up.keeps (ran.neat chart.outline.entries.items chart laid)))
+    (needs ∙ ran.needs) (subst (λ z. AreNeat chart.outline.entries.items chart 0 (length chart.outline.entries.items) z new.signs) (sym is) (up.keeps (ran.neat chart.outline.entries.items chart laid)))
 
 pub started-runs : (chart : Recipe) (running : Running) (ys : List Stage) → running.stages.items ≡ ys → HasStarted (length chart.outline.entries.items) ys → AreStarted chart.outline.entries.items ys running.signs → (t : Tree) (vs : ValueList) → IsChartOf t chart
-    → running.held.items ≡ [] → most_by own_units t < deque_capacity running.held → IsRunningOf t running × (remains t running ≡ reach_by vs t) × RunsAs t running (reach_by vs t) []
-started-runs chart running ys is started shown t vs laid none room =
+    → running.held.items ≡ [] → most_by own_units t < deque_capacity running.held → running.needs ≡ needs_in t → IsRunningOf t running × (remains t running ≡ reach_by vs t) × RunsAs t running (reach_by vs t) []
+started-runs chart running ys is started shown t vs laid none room needs =
     let h = started.means t vs laid.root laid.count in (
-      runs-by chart running t laid (subst (IsAlive t) (sym is) h.0) shown.0 (nothing-held (node_count t) (most_by own_units t) running.held.items (deque_capacity running.held) none room) (subst (λ z. AreNeat chart.outline.entries.items chart 0 (length chart.outline.entries.items) z running.signs) (sym is) (shown.1 chart t laid)),
+      runs-by chart running t laid (subst (IsAlive t) (sym is) h.0) shown.0 (nothing-held (node_count t) (most_by own_units t) running.held.items (deque_capacity running.held) none room) needs (subst (λ z. AreNeat chart.outline.entries.items chart 0 (length chart.outline.entries.items) z running.signs) (sym is) (shown.1 chart t laid)),
       ap (meaning t 0) is ∙ h.1,
       record {
         rest = sym (ap (meaning t 0) is ∙ h.1);
@@ -154,14 +155,15 @@ started-runs chart running ys is started shown t vs laid none room =
       },
     )
 
-pub stopped-runs : (old new : Running) (ys : List Stage) → new.stages.items ≡ ys → HasWithdrawn old.stages.items ys → AreWithdrawn old.stages.items ys old.signs new.signs → (t : Tree) → new.held ≡ old.held → IsRunningOf t old
+pub stopped-runs : (old new : Running) (ys : List Stage) → new.stages.items ≡ ys → HasWithdrawn old.stages.items ys → AreWithdrawn old.stages.items ys old.signs new.signs → (t : Tree) → new.held ≡ old.held → new.needs ≡ old.needs → IsRunningOf t old
     → IsRunningOf t new × (remains t new ≡ withdrawn (remains t old)) × ((r : Rest) (early : List InAdvance) → RunsAs t old r early → RunsAs t new (withdrawn r) early)
-stopped-runs old new ys is stopped shown t same ran =
+stopped-runs old new ys is stopped shown t same needs ran =
     let h = stopped.means t ran.alive in (
       record {
         alive = subst (IsAlive t) (sym is) h.0;
         count = shown.0 ∙ ran.count;
         held = subst (λ z. AreHeld (node_count t) (most_by own_units t) z.items (deque_capacity z)) (sym same) ran.held;
+        needs = needs ∙ ran.needs;
         neat = λ ns doc laid.
             subst (λ z. AreNeat ns doc 0 (length ns) z new.signs) (sym is) (withdrawn-neat ns doc old.stages.items ys old.signs new.signs shown.1 shown.2 0 (length ns) (ran.neat ns doc laid));
       },

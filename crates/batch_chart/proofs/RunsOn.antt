@@ -53,7 +53,7 @@ module _ (chart : Recipe) (t : Tree) (laid : IsChartOf t chart) where
 
   -- the chart has the stages `mid`, the reached acts have taken over the units held for them, and those are held no more
   module _ (old new : Running) (mid ys : List Stage) (signs : List ℕ) (held : List Passed) (is : new.stages.items ≡ ys) (kept : IsKeptUp ns chart old.stages.items mid old.signs signs) (over : IsTakenBy ns chart (is_early held) mid ys signs new.signs)
-      (left : new.held.items ≡ still_held ys held) (capacity : deque_capacity new.held ≡ deque_capacity old.held) (before : AreHeld (node_count t) (most_by own_units t) held (deque_capacity old.held)) (ran : IsRunningOf t old) (alive : IsAlive t mid) where
+      (left : new.held.items ≡ still_held ys held) (capacity : deque_capacity new.held ≡ deque_capacity old.held) (needs : new.needs ≡ old.needs) (before : AreHeld (node_count t) (most_by own_units t) held (deque_capacity old.held)) (ran : IsRunningOf t old) (alive : IsAlive t mid) where
     neat : AreNeat ns chart 0 (length ns) mid signs
     neat = kept.keeps (ran.neat ns chart laid)
 
@@ -61,6 +61,7 @@ module _ (chart : Recipe) (t : Tree) (laid : IsChartOf t chart) where
     runs-over =
         runs-by chart new t laid (subst (IsAlive t) (sym is) (over.means t laid alive).0) (over.kept.count ∙ kept.count ∙ ran.count ∙ sym laid.count)
         (subst (λ l. AreHeld (node_count t) (most_by own_units t) l (deque_capacity new.held)) (sym left) (subst (λ n. AreHeld (node_count t) (most_by own_units t) (still_held ys held) n) (sym capacity) (held-left (node_count t) (most_by own_units t) held (deque_capacity old.held) (λ p. not (is_ready (stage_at ys p.to))) before)))
+        (needs ∙ ran.needs)
         (subst (λ z. AreNeat ns chart 0 (length ns) z new.signs) (sym is) (over.kept.keeps neat))
 
     module _ (was : Rest) (waiting : AreWaiting (in_advance t held) was) (fresh : (a : Rest) → Has (acts (meaning t 0 mid)) a → Nowhere (place_of a) (acts was) → IsFresh a) where
@@ -134,7 +135,7 @@ module _ (chart : Recipe) (t : Tree) (laid : IsChartOf t chart) where
   act-rest (machine.grant n p need) vs r h = refl
 
   module _ (old new : Running) (ys : List Stage) (is : new.stages.items ≡ ys) (vs : ValueList) (m : Move) (h : IsMovedOn ns chart vs m (held_after old.held.items m) old.stages.items ys old.signs new.signs) (can : Allows ns old.stages.items m)
-      (left : new.held.items ≡ still_held ys (held_after old.held.items m)) (capacity : deque_capacity new.held ≡ deque_capacity old.held) (ran : IsRunningOf t old) where
+      (left : new.held.items ≡ still_held ys (held_after old.held.items m)) (capacity : deque_capacity new.held ≡ deque_capacity old.held) (needs : new.needs ≡ old.needs) (ran : IsRunningOf t old) where
     made-alive : IsAlive t h.mid
     made-alive = (h.made.means t laid ran.alive).0
 
@@ -142,7 +143,7 @@ module _ (chart : Recipe) (t : Tree) (laid : IsChartOf t chart) where
     made-held = held-kept (node_count t) (most_by own_units t) old.held.items (deque_capacity old.held) m ran.held (passes-within ns old.stages.items m (node_count t) can (sym laid.count))
 
     pub moved-running : IsRunningOf t new
-    moved-running = runs-over old new h.mid ys h.signs (held_after old.held.items m) is h.kept h.over left capacity made-held ran made-alive
+    moved-running = runs-over old new h.mid ys h.signs (held_after old.held.items m) is h.kept h.over left capacity needs made-held ran made-alive
 
     pub moved-runs : (b : Batch) → b.values ≡ vs → RunsAs t old b.rest b.in_advance → Awaits t b.rest b.in_advance m → RunsAs t new (batch_after (move_of t b m) b).rest (batch_after (move_of t b m) b).in_advance
     moved-runs b v runs awaits = go (acts-or-state m b)
@@ -165,7 +166,7 @@ module _ (chart : Recipe) (t : Tree) (laid : IsChartOf t chart) where
             → RunsAs t new (raised (passing (move_of t b m) b).in_advance (meaning t 0 h.mid)) (filter (λ x. not (is_reached (raised (passing (move_of t b m) b).in_advance (meaning t 0 h.mid)) x.place)) (passing (move_of t b m) b).in_advance)
         over-all f =
             subst (λ l. RunsAs t new (raised l (meaning t 0 h.mid)) (filter (λ x. not (is_reached (raised l (meaning t 0 h.mid)) x.place)) l)) (sym passed)
-            (over-runs old new h.mid ys h.signs (held_after old.held.items m) is h.kept h.over left capacity made-held ran made-alive b.rest (subst (λ l. AreWaiting l b.rest) passed waits) f)
+            (over-runs old new h.mid ys h.signs (held_after old.held.items m) is h.kept h.over left capacity needs made-held ran made-alive b.rest (subst (λ l. AreWaiting l b.rest) passed waits) f)
 
         go : IsActMove (move_of t b m) ⊎ ((x : State) × (m ≡ move.State x)) → RunsAs t new (batch_after (move_of t b m) b).rest (batch_after (move_of t b m) b).in_advance
         go (inl is_act) =
@@ -190,18 +191,18 @@ module _ (chart : Recipe) (t : Tree) (laid : IsChartOf t chart) where
                 }
 
   module _ (old new : Running) (ys : List Stage) (is : new.stages.items ≡ ys) (vs : ValueList) (k : ℕ) (word : Report) (h : IsReportedOn ns chart vs k word old.held.items old.stages.items ys old.signs new.signs)
-      (left : new.held.items ≡ still_held ys old.held.items) (capacity : deque_capacity new.held ≡ deque_capacity old.held) (x : State) (e : PhaseEnd) (live : IsLiveIn ns old.stages.items k x) (accepts : after_report x word ≡ Some e) (ran : IsRunningOf t old) where
+      (left : new.held.items ≡ still_held ys old.held.items) (capacity : deque_capacity new.held ≡ deque_capacity old.held) (needs : new.needs ≡ old.needs) (x : State) (e : PhaseEnd) (live : IsLiveIn ns old.stages.items k x) (accepts : after_report x word ≡ Some e) (ran : IsRunningOf t old) where
     reported-alive : IsAlive t h.mid
     reported-alive = ((h.reported x e live accepts).means t laid ran.alive).0
 
     pub reported-running : IsRunningOf t new
-    reported-running = runs-over old new h.mid ys h.signs old.held.items is h.kept h.over left capacity ran.held ran reported-alive
+    reported-running = runs-over old new h.mid ys h.signs old.held.items is h.kept h.over left capacity needs ran.held ran reported-alive
 
     pub reported-runs : (b : Batch) → b.values ≡ vs → RunsAs t old b.rest b.in_advance → RunsAs t new (in_act (place_at t k) (phase_after e) b).rest (in_act (place_at t k) (phase_after e) b).in_advance
     reported-runs b v runs =
         subst (λ z. RunsAs t new (with_rest z b).rest (with_rest z b).in_advance) (sym same)
         (subst (λ l. RunsAs t new (raised l (meaning t 0 h.mid)) (filter (λ y. not (is_reached (raised l (meaning t 0 h.mid)) y.place)) l)) (sym runs.held)
-        (over-runs old new h.mid ys h.signs old.held.items is h.kept h.over left capacity ran.held ran reported-alive b.rest (subst (λ l. AreWaiting l b.rest) runs.held runs.waiting)
+        (over-runs old new h.mid ys h.signs old.held.items is h.kept h.over left capacity needs ran.held ran reported-alive b.rest (subst (λ l. AreWaiting l b.rest) runs.held runs.waiting)
         (λ a i n. fresh-where-none vs (place_at t k) (phase_after e) (stays-tidy (phase_after e) (phase_after-stays e)) b.rest a (subst (λ r. Has (acts r) a) now i) n)))
       where
         now : meaning t 0 h.mid ≡ advance_by vs (changed_at (place_at t k) (phase_after e) b.rest)

@@ -7,16 +7,28 @@ use Rattle.batch_recipe.specs.Conditions.{Name}
 use Rattle.batch_recipe.specs.declared.entry.Entry.{Entry}
 use Rattle.batch_recipe.specs.declared.recipe.Recipe.{Recipe}
 use Rattle.batch_recipe.proofs.Below.{some_count}
-use Rattle.batch_chart.specs.Most.{is_par, joined, most_of, own_by, own_of}
+use Rattle.batch_chart.specs.Most.{AreFew, Counted, Needs, Units, count_of, is_par, joined, most_of, own_by, own_of}
+use Rattle.batch_chart.specs.declared.most.TheConstants.{NONE}
 use Rattle.batch_chart.specs.NodesOf.{most_by, most_of_chosen, most_of_one}
 use Rattle.batch_chart.specs.Outlined.{end_at, kind_at, Stands, AreStanding, AreChoices}
 use Rattle.batch_chart.specs.Running.{IsLaid}
-use Rattle.batch_chart.specs.declared.most.Counted.{Counted}
-use Rattle.batch_chart.specs.declared.most.Counted.TheVariants.{Needs, Units}
 use Rattle.batch_chart.specs.declared.node.Kind.{Kind}
 use Rattle.batch_chart.specs.declared.node.Kind.TheVariants.{Skip, Act, Seq, Par, Sel, Loop}
 use Rattle.batch_chart.specs.declared.node.Kind.TheVariants as kind
 use Rattle.batch_chart.proofs.Standing.{stood, RowAt, row_at, row-at, row-end}
+
+-- Counts
+
+pub none-counted : (counted : Counted) → count_of counted NONE ≡ 0
+none-counted Needs = omega arith
+none-counted Units = omega arith
+
+pub none-few : (n : ℕ) → AreFew n NONE
+none-few n counted = omega (arith, none-counted counted)
+
+-- those of one chart
+pub one-counted : (counted : Counted) (t : Tree) (result : ℕ) → result ≡ joined false (count_of counted NONE) (most_of false counted (tree t no_trees)) → result ≡ most_by (own_by counted) t
+one-counted counted t result h = omega (arith, h, none-counted counted)
 
 -- The charts right below a node
 

@@ -180,7 +180,6 @@ module _ (v : EngineView) (k : IsKept v) where
   room-kept room more =
       record {
         cleared = k.cleared;
-        numbers = k.numbers;
         batches = k.batches;
         cell = record { capacities = k.cell.capacities; shares = k.cell.shares; lines = k.cell.lines };
         tracked = record {

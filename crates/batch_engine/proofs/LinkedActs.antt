@@ -26,7 +26,7 @@ use Rattle.batch_chart.specs.NodesOf.{node_at, phase_in, phase_named, task_of, n
 use Rattle.batch_chart.specs.Outlined.{entry_at, kind_at, kind_by, kind_of, phase_name, unit_choice, unit_name, unit_under, StandsOn}
 use Rattle.batch_chart.specs.Outlined as Outlined
 use Rattle.batch_chart.proofs.NodesStand.{stands-at}
-use Rattle.batch_set.specs.Linking.{run_phase}
+use Rattle.batch_set.specs.Linking.{IsLinked, IsLinkedSet, run_phase}
 use Rattle.batch_set.specs.Looked.{needs_by, number_for, phase_on, unit_by}
 use Rattle.batch_set.specs.Sources.{IsSource, SayNeeds}
 use Rattle.batch_set.specs.declared.cell_phases.CellPhases.{CellPhases}
@@ -34,21 +34,21 @@ use Rattle.batch_set.specs.declared.linked.LinkedNeed.{LinkedNeed}
 use Rattle.batch_set.specs.declared.linked.LinkedRecipe.{LinkedRecipe}
 use Rattle.batch_set.specs.declared.linked.Source.{Source}
 use Rattle.batch_set.proofs.PhaseNumbers.{phases-said}
+use Rattle.batch_set.specs.declared.linked_set.LinkedSet.{LinkedSet}
 use Rattle.batch_set.proofs.Positions.{name-at}
 use Rattle.batch_set.proofs.Sources.{needs-said, said-at, units-said}
 use Rattle.batch_engine.specs.Kept.{IsKept}
 use Rattle.batch_engine.specs.Names.{resource_name}
 use Rattle.batch_engine.specs.Names as Names
-use Rattle.batch_engine.specs.Numbered.{IsRecipeNumbered, phase_by}
+use Rattle.batch_engine.specs.Numbered.{phase_by}
 use Rattle.batch_engine.specs.Steps.{IsNumberAt, IsPhaseAt}
 use Rattle.batch_engine.specs.View.{EngineView, bound_to, number_of, recipe_made, setup, tree_of}
 use Rattle.batch_engine.specs.declared.batch.Batch.{Batch}
-use Rattle.batch_engine.specs.declared.numbers.PhaseNumber.{PhaseNumber}
-use Rattle.batch_engine.specs.declared.numbers.RecipeNumbers.{RecipeNumbers}
-use Rattle.batch_engine.specs.declared.numbers.TheConstants.{NO_PHASE}
+use Rattle.batch_engine.specs.declared.phase_number.PhaseNumber.{PhaseNumber}
+use Rattle.batch_engine.specs.declared.phase_number.TheConstants.{NO_PHASE}
 use Rattle.batch_engine.proofs.Finding.{batch-runs, chart-for, is-control}
 use Rattle.batch_engine.proofs.Numbered.{need-numbered, node-named, nothing-named, phase-among, phase-named, unit-named, unit-number}
-use Rattle.batch_engine.proofs.NumbersFound.{act-here}
+use Rattle.batch_engine.proofs.ActsHere.{act-here}
 use Rattle.batch_engine.proofs.Taken.{source-number, unit-numbers}
 use Rattle.batch_engine.proofs.Telling.{tree-is}
 
@@ -108,15 +108,15 @@ nothing-run c here o e none empty =
     })
 
 module _ (v : EngineView) (k : IsKept v) (i : ℕ) (b : Batch) (at : slice_get v.batches i ≡ Some b) (r : Recipe) (listed : slice_get v.cleared.recipes b.recipe ≡ Some r)
-    (x : RecipeNumbers) (numbered : slice_get v.numbers.recipes.items b.recipe ≡ Some x) where
+    (set : LinkedSet) (linked : IsLinkedSet v.cleared.cell v.cleared.recipes set) (x : LinkedRecipe) (read : slice_get set.recipes.items b.recipe ≡ Some x) where
   abbrev bound : Binding
   bound = bound_to v.cleared b.recipe b.units
 
   abbrev tree : Tree
   tree = tree_of v.cleared b
 
-  numbers : IsRecipeNumbered v.cleared.cell v.numbers.phases r x
-  numbers = k.numbers.recipes_are.each b.recipe r x listed numbered
+  is-linked : IsLinked v.cleared.cell set.phases r x
+  is-linked = linked.linked.each b.recipe x read r listed
 
   number-here : (source : Source) (name : Name) → IsSource v.cleared.cell r.roles.items bound source name → number_for b.units source ≡ number_of v.cleared name
   number-here = source-number v.cleared b.recipe r listed b.units (batch-runs v k i b at).units
@@ -125,15 +125,15 @@ module _ (v : EngineView) (k : IsKept v) (i : ℕ) (b : Batch) (at : slice_get v
     -- The needs of the act at a node
 
     pub need-here : (need : ℕ) → need < length (step_at tree node).needs
-        → (linked : LinkedNeed) × (slice_get (needs_by x.linked e.kind) need ≡ Some linked) × IsNumberAt v.cleared b node need (unwrap_or (number_for b.units linked.source) 0) linked.units
+        → (linked : LinkedNeed) × (slice_get (needs_by x e.kind) need ≡ Some linked) × IsNumberAt v.cleared b node need (unwrap_or (number_for b.units linked.source) 0) linked.units
     need-here need less =
         let same = tree-is v.cleared b.recipe r listed b.units in
         let a = act-here r bound node e is need (subst (λ (t : Tree). need < length (step_at t node).needs) same less) in
         let needs_are : (step_at tree node).needs ≡ needs_with (sites bound r.acts) a.0 = ap (λ (t : Tree). (step_at t node).needs) same ∙ a.2 in
         let own : Need = need_at tree node need in
         let found =
-        said-at v.cleared.cell r.roles.items bound (needs_by x.linked e.kind) (step_at tree node).needs
-        (subst (SayNeeds v.cleared.cell r.roles.items bound (needs_by x.linked e.kind)) (sym needs_are) (needs-said v.cleared.cell v.numbers.phases r x.linked numbers.linked bound e.kind a.0 a.1))
+        said-at v.cleared.cell r.roles.items bound (needs_by x e.kind) (step_at tree node).needs
+        (subst (SayNeeds v.cleared.cell r.roles.items bound (needs_by x e.kind)) (sym needs_are) (needs-said v.cleared.cell set.phases r x is-linked bound e.kind a.0 a.1))
         need own (slice_get-get_or (step_at tree node).needs need no_need less) in
         let known = need-numbered v.cleared k.cleared (recipe_made v.cleared b) (is-control v k i b at) node need few less in (
           found.0,
@@ -153,10 +153,10 @@ module _ (v : EngineView) (k : IsKept v) (i : ℕ) (b : Batch) (at : slice_get v
     phase-there step f = kind-is ∙ ap (λ (z : entry.Kind). kind_by z e.needs e.detail) f
 
     abbrev run : Option PhaseNumber
-    run = phase_by x.linked v.numbers.phases b.units e.detail e.kind
+    run = phase_by x set.phases b.units e.detail e.kind
 
     no-run : ((step : ℕ) → e.kind ≡ at_level Phases step → ⊥) → run ≡ None
-    no-run other = none-run x.linked v.numbers.phases b.units e.detail e.kind other
+    no-run other = none-run x set.phases b.units e.detail e.kind other
 
     phase-run : (p : Phase) (needs step : ℕ) (offers : list_any (same_name p.name) (unit_phases v.cleared.cell.modules.items p.unit) ≡ true) → kind_at r.outline.entries.items node ≡ kind_by (at_level Phases step) needs 0
         → phase_name r step ≡ Some p.name → unit_name bound (unit_choice r (unit_under r.outline.entries.items node)) ≡ Some p.unit
@@ -168,14 +168,14 @@ module _ (v : EngineView) (k : IsKept v) (i : ℕ) (b : Batch) (at : slice_get v
         let s = run-by r step p.name named in
         let there : slice_get (units_of v.cleared.cell) u.0 ≡ Some p.unit = name-at (units_of v.cleared.cell) p.unit u.0 u.1 in
         let within : u.0 < length (units_of v.cleared.cell) = slice_get_within (units_of v.cleared.cell) u.0 p.unit there in
-        let source : IsSource v.cleared.cell r.roles.items bound (unit_by x.linked e.detail) p.unit =
-        subst (IsSource v.cleared.cell r.roles.items bound (unit_by x.linked e.detail)) a.4 (units-said v.cleared.cell v.numbers.phases r x.linked numbers.linked bound e.detail a.0 a.1 a.2 a.3) in
+        let source : IsSource v.cleared.cell r.roles.items bound (unit_by x e.detail) p.unit =
+        subst (IsSource v.cleared.cell r.roles.items bound (unit_by x e.detail)) a.4 (units-said v.cleared.cell set.phases r x is-linked bound e.detail a.0 a.1 a.2 a.3) in
         let resource : number_of v.cleared p.unit ≡ Some u.0 = subst (λ (name : Name). number_of v.cleared name ≡ Some u.0) (unit-named v.cleared u.0 p.unit there) (unit-numbers v.cleared u.0 within).0 in
-        let unit : number_for b.units (unit_by x.linked e.detail) ≡ Some u.0 = number-here (unit_by x.linked e.detail) p.unit source ∙ resource in
-        let phase : phase_on x.linked v.numbers.phases step u.0 ≡ Some q.0 =
-        phases-said v.cleared.cell v.numbers.phases k.numbers.phases r x.linked numbers.linked step s.0 p.name s.1 s.2 u.0 q.0 within q.1 in
-        ap (phase_by x.linked v.numbers.phases b.units e.detail) (phase-kind e.kind e.needs e.detail needs step (sym kind-is ∙ f))
-        ∙ (ap (λ (o : Option ℕ). option_and_then (λ unit. option_map (λ phase. let y : PhaseNumber = record { unit = unit; phase = phase } in y) (phase_on x.linked v.numbers.phases step unit)) o) unit
+        let unit : number_for b.units (unit_by x e.detail) ≡ Some u.0 = number-here (unit_by x e.detail) p.unit source ∙ resource in
+        let phase : phase_on x set.phases step u.0 ≡ Some q.0 =
+        phases-said v.cleared.cell set.phases linked.phases r x is-linked step s.0 p.name s.1 s.2 u.0 q.0 within q.1 in
+        ap (phase_by x set.phases b.units e.detail) (phase-kind e.kind e.needs e.detail needs step (sym kind-is ∙ f))
+        ∙ (ap (λ (o : Option ℕ). option_and_then (λ unit. option_map (λ phase. let y : PhaseNumber = record { unit = unit; phase = phase } in y) (phase_on x set.phases step unit)) o) unit
         ∙ ap (option_map (λ phase. let y : PhaseNumber = record { unit = u.0; phase = phase } in y)) phase)
 
     act-run : (here : Tree) → StandsOn (Some bound) r.outline.entries.items r node here → IsOffered (setup v.cleared) here → IsRun v.cleared here (unwrap_or run NO_PHASE)

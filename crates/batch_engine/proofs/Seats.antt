@@ -12,6 +12,9 @@ use Rattle.batch_matrix.specs.declared.command.Command.{Command}
 use Rattle.batch_recipe.specs.Nodes.{node_count}
 use Rattle.batch_recipe.specs.declared.entry.Entry.{Entry}
 use Rattle.batch_recipe.specs.declared.recipe.Recipe as document
+use Rattle.batch_set.specs.Linking.{IsLinkedSet}
+use Rattle.batch_set.specs.declared.linked.LinkedRecipe.{LinkedRecipe}
+use Rattle.batch_set.specs.declared.linked_set.LinkedSet.{LinkedSet}
 use Rattle.batch_verify.specs.ClearedSet.{ClearedSet}
 use Rattle.batch_arbiter.specs.Allocation.{Allocation}
 use Rattle.batch_chart.specs.Charts.{CanMake, IsChartOf, IsRunning, IsRunningOf}
@@ -20,8 +23,6 @@ use Rattle.batch_chart.specs.Passing.{IsBatchOf, IsTreeOf}
 use Rattle.batch_chart.specs.declared.chart_move.Move.{Move}
 use Rattle.batch_engine.specs.Batches.{BatchList, with_batch_at}
 use Rattle.batch_engine.specs.declared.batch.Batch.{Batch}
-use Rattle.batch_engine.specs.declared.numbers.Numbers.{Numbers}
-use Rattle.batch_engine.specs.declared.numbers.RecipeNumbers.{RecipeNumbers}
 use Rattle.batch_engine.specs.View.{EngineView, batch_of, bound_to, plant_of, seen, setup, tree_of}
 use Rattle.batch_engine.specs.Kept.{IsCounted, IsKept}
 use Rattle.batch_engine.specs.Orders.{IsOrdered}
@@ -30,7 +31,6 @@ use Rattle.batch_engine.proofs.BatchPlaces.{made_by}
 use Rattle.batch_engine.proofs.Filing.{own-numbers-set}
 use Rattle.batch_engine.proofs.Finding.{batch-runs, chart-here, got-batch, got-chart, in-charts, runs-here}
 use Rattle.batch_engine.proofs.Made.{Becomes, same-next}
-use Rattle.batch_engine.proofs.NumbersFound.{got-numbers, in-numbers}
 use Rattle.batch_engine.proofs.Ordering.{Ordered}
 use Rattle.batch_engine.proofs.Room.{needs-set}
 use Rattle.batch_engine.proofs.Seeking.{found-at}
@@ -121,19 +121,25 @@ found-here {v} {w} {n} {i} {b} e k p h =
 -- The act at a node of the batch
 
 -- if a move of it gives back a need, passes it on, or asks for it
-pub needs-there : {v : EngineView} {ns : Numbers} {x : document.Recipe} {node need : ℕ} {b : Batch} (i : ℕ) → ns ≡ v.numbers → IsKept v → slice_get v.batches i ≡ Some b
-    → slice_get v.cleared.recipes b.recipe ≡ Some x → node < node_count (tree_of v.cleared b) → need < length (step_at (tree_of v.cleared b) node).needs → IsNeedAt v ns x b node need
-needs-there i e k at listed few less = record { kept = k; numbers_are = e; index = i; at = at; listed = listed; few = few; less = less }
+pub needs-there : {v : EngineView} {set : LinkedSet} {x : document.Recipe} {node need : ℕ} {b : Batch} (i : ℕ) → IsLinkedSet v.cleared.cell v.cleared.recipes set → IsKept v → slice_get v.batches i ≡ Some b
+    → slice_get v.cleared.recipes b.recipe ≡ Some x → node < node_count (tree_of v.cleared b) → need < length (step_at (tree_of v.cleared b) node).needs → IsNeedAt v set x b node need
+needs-there i linked k at listed few less = record { kept = k; linked = linked; index = i; at = at; listed = listed; few = few; less = less }
 
--- the numbers of its recipe, as they are read
-pub numbers-read : {v : EngineView} {ns : Numbers} {i q : ℕ} {b : Batch} {x : RecipeNumbers} → ns ≡ v.numbers → IsRead v i b → q ≡ b.recipe → x ≡ get_or ns.recipes.items q x
-    → slice_get v.numbers.recipes.items b.recipe ≡ Some x
-numbers-read {v} {ns} {i} {q} {b} {x} e r is h = got-numbers v ns q b.recipe x e is (in-numbers v r.kept i b r.at) h
+-- the recipes of the engine are linked so
+pub linked-here : {v w : EngineView} {set : LinkedSet} → w ≡ v → IsLinkedSet w.cleared.cell w.cleared.recipes set → IsLinkedSet v.cleared.cell v.cleared.recipes set
+linked-here {v} {w} {set} e h = subst (λ (z : EngineView). IsLinkedSet z.cleared.cell z.cleared.recipes set) e h
 
-pub numbers-within : {v : EngineView} {ns : Numbers} {i : ℕ} {b : Batch} → ns ≡ v.numbers → IsRead v i b → b.recipe < length ns.recipes.items
-numbers-within {v} {ns} {i} {b} e r = subst (λ (z : Numbers). b.recipe < length z.recipes.items) (sym e) (in-numbers v r.kept i b r.at)
+-- its linked recipe is among them
+pub linked-within : {v : EngineView} {set : LinkedSet} {i : ℕ} {b : Batch} → IsLinkedSet v.cleared.cell v.cleared.recipes set → IsRead v i b → b.recipe < length set.recipes.items
+linked-within {v} {set} {i} {b} linked r = omega (arith, (batch-runs v r.kept i b r.at).known, linked.linked.count)
 
--- and of its entries
+-- as it is read
+pub linked-read : {v : EngineView} {set : LinkedSet} {i q : ℕ} {b : Batch} {x : LinkedRecipe} → IsLinkedSet v.cleared.cell v.cleared.recipes set → IsRead v i b → q ≡ b.recipe → x ≡ get_or set.recipes.items q x
+    → slice_get set.recipes.items b.recipe ≡ Some x
+linked-read {v} {set} {i} {q} {b} {x} linked r is h =
+    slice_get_read set.recipes.items (length set.recipes.items) b.recipe x refl (linked-within linked r) (h ∙ ap (λ j. get_or set.recipes.items j x) is)
+
+-- an entry of its recipe is among them, as it is read
 pub entry-within : {v : EngineView} {i node : ℕ} {b : Batch} {x : document.Recipe} → IsRead v i b → slice_get v.cleared.recipes b.recipe ≡ Some x → node < node_count (tree_of v.cleared b) → node < length x.outline.entries.items
 entry-within {v} {i} {node} {b} {x} r listed few = omega (arith, few, (chart-here v r.kept i b r.at x listed).count)
 
@@ -145,12 +151,12 @@ entry-read {v} {i} {node} {k} {b} {x} {e} r listed few is h =
 -- Once another batch of its number, its recipe and its units stands there
 
 -- the invariant of the fields, where f changed the arbiter
-pub counted-set : {v : EngineView} {c : ClearedSet} {ns : Numbers} {r : BatchList} {n needs : ℕ} {a a' : Allocation} {b : Batch} (i : ℕ) (b' : Batch) (f : Allocation → Allocation)
-    → seen c ns r.batches n a ≡ v → IsCounted r needs (seen c ns r.batches n a) → b ≡ get_or r.batches i b → b'.number ≡ b.number → made_by b' ≡ made_by b
-    → a' ≡ f a → IsKept (changed v i b' (f v.allocation)) → IsCounted (with_batch_at i r b') needs (changed (seen c ns r.batches n a) i b' a')
-counted-set {v} {c} {ns} {r} {n} {needs} {a} {a'} {b} i b' f e h at number made is k =
+pub counted-set : {v : EngineView} {c : ClearedSet} {r : BatchList} {n needs : ℕ} {a a' : Allocation} {b : Batch} (i : ℕ) (b' : Batch) (f : Allocation → Allocation)
+    → seen c r.batches n a ≡ v → IsCounted r needs (seen c r.batches n a) → b ≡ get_or r.batches i b → b'.number ≡ b.number → made_by b' ≡ made_by b
+    → a' ≡ f a → IsKept (changed v i b' (f v.allocation)) → IsCounted (with_batch_at i r b') needs (changed (seen c r.batches n a) i b' a')
+counted-set {v} {c} {r} {n} {needs} {a} {a'} {b} i b' f e h at number made is k =
     record {
-      kept = subst (λ (z : Allocation). IsKept (changed (seen c ns r.batches n a) i b' z)) (sym is) (subst (λ (z : EngineView). IsKept (changed z i b' (f z.allocation))) (sym e) k);
+      kept = subst (λ (z : Allocation). IsKept (changed (seen c r.batches n a) i b' z)) (sym is) (subst (λ (z : EngineView). IsKept (changed z i b' (f z.allocation))) (sym e) k);
       numbers = own-numbers-set r i b b' at number h.numbers;
       needs_are = needs-set c r i b b' at made needs h.needs_are;
     }

@@ -78,7 +78,6 @@ module _ (v : EngineView) (k : IsKept v) (i : ℕ) (b b' : Batch) (m : Move) (t 
   kept-after shares cell once room =
       record {
         cleared = k.cleared;
-        numbers = k.numbers;
         batches = Each-set (IsRunningBatch v.cleared) v.batches i b' k.batches
             (record {
               known = subst (λ (r : ℕ × List ℕ). r.0 < length v.cleared.recipes) (sym t.made) (Rattle.batch_engine.proofs.Finding.batch-runs v k i b t.at).known;

@@ -16,7 +16,6 @@ use Rattle.batch_chart.specs.NodesOf.{needs_in}
 use Rattle.batch_chart.specs.Charts.{IsRunningOf}
 use Rattle.batch_engine.specs.declared.batch.Batch.{Batch}
 use Rattle.batch_engine.specs.Batches.{BatchList, HaveOwnNumbers}
-use Rattle.batch_engine.specs.Numbered.{AreNumbered}
 use Rattle.batch_engine.specs.View.{EngineView, setup, acts_of, names_of, number_of, plant_of, tree_of}
 
 -- a record leads to the plant, and the shares of each resource are those that it tells, in the same order
@@ -57,7 +56,6 @@ HasRoom v = needs_of_all v.cleared v.batches ≤ v.allocation.room + claims v.al
 
 pub record IsKept (v : EngineView) : Type 0 where
   pub cleared : CanBeCleared (setup v.cleared)
-  pub numbers : AreNumbered v.cleared.cell v.cleared.recipes v.numbers
   pub batches : Each (IsRunningBatch v.cleared) v.batches
   pub cell : IsOfCell v.cleared v.allocation
   pub tracked : IsTracked v

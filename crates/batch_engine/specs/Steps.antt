@@ -19,11 +19,12 @@ use Rattle.batch_engine.specs.declared.line.ClaimKind.{ClaimKind}
 use Rattle.batch_engine.specs.declared.line.Line.{Line}
 use Rattle.batch_engine.specs.declared.step.Step.{Step}
 use Rattle.batch_engine.specs.declared.step.Step.TheVariants.{Own, Grant}
-use Rattle.batch_engine.specs.declared.numbers.Numbers.{Numbers}
 use Rattle.batch_engine.specs.Kept.{IsKept}
 use Rattle.batch_engine.specs.Marked.{HasNoMove}
 use Rattle.batch_engine.specs.Names.{resource_name, phase_name}
 use Rattle.batch_engine.specs.Surface as Surface
+use Rattle.batch_set.specs.Linking.{IsLinkedSet}
+use Rattle.batch_set.specs.declared.linked_set.LinkedSet.{LinkedSet}
 use Rattle.batch_verify.specs.ClearedSet.{ClearedSet}
 use Rattle.batch_engine.specs.View.{EngineView, setup, batch_of, number_of, plant_of, tree_of}
 
@@ -123,10 +124,10 @@ pub record Makes (old new : EngineView) (m : Model.Move) : Type 0 where
 abbrev pub MakesNext : EngineView → EngineView → Type 0
 MakesNext old new = (m : Model.Move) → IsNext old m → Makes old new m
 
--- the act at the node of a batch of the engine, which has these numbers, has this need; the batch is one of this recipe
-pub record IsNeedAt (v : EngineView) (numbers : Numbers) (recipe : document.Recipe) (b : Batch) (node need : ℕ) : Type 0 where
+-- the act at the node of a batch of the engine, whose recipes are linked so, has this need; the batch is one of this recipe
+pub record IsNeedAt (v : EngineView) (set : LinkedSet) (recipe : document.Recipe) (b : Batch) (node need : ℕ) : Type 0 where
   pub kept : IsKept v
-  pub numbers_are : numbers ≡ v.numbers
+  pub linked : IsLinkedSet v.cleared.cell v.cleared.recipes set
   pub index : ℕ
   pub at : slice_get v.batches index ≡ Some b
   pub listed : slice_get v.cleared.recipes b.recipe ≡ Some recipe
@@ -146,9 +147,9 @@ pub record IsMover (v : EngineView) (i : ℕ) (b : Batch) (m : Move) : Type 0 wh
   pub about : StandsFor (tree_of v.cleared b) (remains (tree_of v.cleared b) b.running) m
   pub is : IsNext v (move_of (tree_of v.cleared b) (batch_of v.cleared b) m)
 
--- these are the engine's numbers, the batch's recipe, and the arbiter
-abbrev pub IsMaking : EngineView → Numbers → document.Recipe → Allocation → ℕ → Batch → Move → Type 0
-IsMaking v numbers recipe allocation i b m = IsMover v i b m × (numbers ≡ v.numbers) × (slice_get v.cleared.recipes b.recipe ≡ Some recipe) × (allocation ≡ v.allocation)
+-- these are the linked recipes of the engine, the batch's recipe, and the arbiter
+abbrev pub IsMaking : EngineView → LinkedSet → document.Recipe → Allocation → ℕ → Batch → Move → Type 0
+IsMaking v set recipe allocation i b m = IsMover v i b m × IsLinkedSet v.cleared.cell v.cleared.recipes set × (slice_get v.cleared.recipes b.recipe ≡ Some recipe) × (allocation ≡ v.allocation)
 
 -- the arbiter carries out the ask, the release or the pass that is the batch's move; by another move it stays as it is
 abbrev pub IsClaimed : ClearedSet → Batch → Move → Allocation → Allocation → Type 0

@@ -16,19 +16,17 @@ use Rattle.batch_chart.specs.Charts.{remains}
 use Rattle.batch_chart.specs.Early.{in_advance}
 use Rattle.batch_engine.specs.Names.{roles_told}
 use Rattle.batch_engine.specs.declared.batch.Batch.{Batch}
-use Rattle.batch_engine.specs.declared.numbers.Numbers.{Numbers}
 
 pub record EngineView : Type 0 where
   pub cleared : ClearedSet
-  pub numbers : Numbers
   -- by rising number
   pub batches : List Batch
   pub next_number : ℕ
   pub allocation : Allocation
 
-abbrev pub seen : ClearedSet → Numbers → List Batch → ℕ → Allocation → EngineView
-seen cleared numbers batches next_number allocation =
-    record { cleared = cleared; numbers = numbers; batches = batches; next_number = next_number; allocation = allocation }
+abbrev pub seen : ClearedSet → List Batch → ℕ → Allocation → EngineView
+seen cleared batches next_number allocation =
+    record { cleared = cleared; batches = batches; next_number = next_number; allocation = allocation }
 
 -- the setup of the machine
 abbrev pub setup : ClearedSet → Setup

@@ -13,8 +13,6 @@ ghost use Rattle.batch_engine.specs.View.{setup, plant_of};
 use crate::batch::Batch;
 use crate::batches::Batches;
 use crate::event::Event;
-use crate::numbering::number_set;
-use crate::numbers::Numbers;
 use crate::reply::Reply;
 use batch_arbiter::Arbiter;
 use batch_verify::Cleared;
@@ -26,7 +24,6 @@ use std::marker::Model;
 pub struct Control {
     pub(crate) alloc: Global,
     pub(crate) cleared: Cleared,
-    pub(crate) numbers: Numbers,
     pub(crate) batches: Batches,
     /// How many needs all batches together can hold and ask for at once.
     pub(crate) needs: usize,
@@ -39,17 +36,16 @@ impl Model for Control {
     ghost use Rattle.batch_arbiter.specs.contracts.arbiter.Arbiter as arbiter_contracts;
     ghost use Rattle.batch_verify.specs.contracts.cleared.Cleared as cleared_contracts;
     ghost use Rattle.batch_engine.specs.contracts.batch.Batch as batch_contracts;
-    ghost use Rattle.batch_engine.specs.contracts.numbers.Numbers as numbers_contracts;
     ghost use Rattle.batch_engine.specs.Kept.{IsCounted};
     ghost use Rattle.batch_engine.specs.View.{EngineView, seen};
 
     ghost Value = { EngineView };
 
-    ghost coded = { Prim.hlevel (codes, batch_contracts.the_row.coded, cleared_contracts.the_row.coded, arbiter_contracts.the_row.coded, numbers_contracts.the_row.coded) };
+    ghost coded = { Prim.hlevel (codes, batch_contracts.the_row.coded, cleared_contracts.the_row.coded, arbiter_contracts.the_row.coded) };
 
-    ghost view = { λ e. seen e.cleared e.numbers e.batches.batches e.next_number e.arbiter };
+    ghost view = { λ e. seen e.cleared e.batches.batches e.next_number e.arbiter };
 
-    ghost invariant = { λ e. IsCounted e.batches e.needs (seen e.cleared e.numbers e.batches.batches e.next_number e.arbiter) };
+    ghost invariant = { λ e. IsCounted e.batches e.needs (seen e.cleared e.batches.batches e.next_number e.arbiter) };
 }
 
 impl Control {
@@ -59,16 +55,14 @@ impl Control {
         ensures cleared { IfOk result (λ control. control.cleared ≡ cleared) }
         ensures back { IfErr result (λ fault. fault.1 ≡ cleared) }
     {
-        let Ok(numbers) = number_set(alloc, cleared.cell(), cleared.recipes()) else {
-            return Err((AllocError, cleared));
-        };
+        // `recipes` promises that they are cleared.
+        let _recipes = cleared.recipes();
         let Ok(arbiter) = Arbiter::new(alloc, cleared.cell()) else {
             return Err((AllocError, cleared));
         };
         Ok(Control {
             alloc,
             cleared,
-            numbers,
             batches: Batches::new(alloc),
             needs: 0,
             next_number: 1,

@@ -1,5 +1,6 @@
 //! Creating batches.
 ghost use Rattle.std.specs.Prelude.{◌≡◌, ◌<◌, ◌+◌, ◌↔◌, IsTrue, List, ℕ, None, length, position, MatchResult};
+ghost use Rattle.batch_chart.specs.Charts.{IsRunningOf};
 ghost use Rattle.batch_chart.specs.NodesOf.{needs_in};
 ghost use Rattle.batch_model.specs.Events as Events;
 ghost use Rattle.batch_model.specs.Events.{is_full};
@@ -8,6 +9,7 @@ ghost use Rattle.batch_model.specs.Plant.{scaled};
 ghost use Rattle.batch_model.specs.Recipes.{formula_of};
 ghost use Rattle.batch_model.specs.declared.limits.TheConstants.{MAX_LIVE_BATCHES};
 ghost use Rattle.batch_recipe.specs.Conditions.{ValueList, same_name};
+ghost use Rattle.batch_recipe.specs.Tree.{Tree};
 ghost use Rattle.batch_engine.specs.Answered.{IsAnswered, MayWant};
 ghost use Rattle.batch_engine.specs.Creates.{IsChosen, IsCreate, IsRefusedFor};
 ghost use Rattle.batch_engine.specs.Kept.{needs_of_all};
@@ -100,13 +102,13 @@ fn recipe_named(recipes: &[Recipe], name: &Name) -> Option<usize>
 }
 
 impl Control {
-    /// How many needs all batches and a further one of the recipe can hold and ask for at once.
-    fn needs_with(&self, recipe: u16) -> usize
-        requires known { recipe < length self.now.cleared.recipes }
+    /// How many needs all batches and a further one with this chart can hold and ask for at once.
+    fn needs_with(&self, running: &Running) -> usize
         requires free { length self.now.batches < MAX_LIVE_BATCHES }
-        ensures { (units : List ℕ) → result ≡ needs_of_all self.now.cleared self.now.batches + needs_in (tree_at self.now.cleared recipe units) }
+        requires runs { (recipe : ℕ) × (units : List ℕ) × IsRunningOf (tree_at self.now.cleared recipe units) running.now }
+        ensures { (t : Tree) → IsRunningOf t running.now → result ≡ needs_of_all self.now.cleared self.now.batches + needs_in t }
     {
-        self.needs + self.numbers.recipes[usize::from(recipe)].needs
+        self.needs + running.needs()
     }
 
     /// Makes a batch, once all its room is made.
@@ -115,10 +117,10 @@ impl Control {
         ensures { (name : List ℕ) (pairs : List (List ℕ × List ℕ)) → IsCreate self.old recipe name size pairs units values
             → IsAnswered self.old (Events.create name size pairs) result self.new }
     {
-        let needs = self.needs_with(recipe);
         let Ok(running) = Running::new(self.alloc, self.cleared.recipe(recipe)) else {
             return Reply::Refused(Refusal::Memory);
         };
+        let needs = self.needs_with(&running);
         let Ok(()) = self.arbiter.reserve(needs) else {
             return Reply::Refused(Refusal::Memory);
         };

@@ -20,13 +20,12 @@ impl Model for Engine {
     ghost use Rattle.batch_arbiter.specs.contracts.arbiter.Arbiter as arbiter_contracts;
     ghost use Rattle.batch_verify.specs.contracts.cleared.Cleared as cleared_contracts;
     ghost use Rattle.batch_engine.specs.contracts.batch.Batch as batch_contracts;
-    ghost use Rattle.batch_engine.specs.contracts.numbers.Numbers as numbers_contracts;
     ghost use Rattle.batch_engine.specs.Marked.{IsEngine};
     ghost use Rattle.batch_engine.specs.View.{EngineView};
 
     ghost Value = { EngineView };
 
-    ghost coded = { Prim.hlevel (codes, batch_contracts.the_row.coded, cleared_contracts.the_row.coded, arbiter_contracts.the_row.coded, numbers_contracts.the_row.coded) };
+    ghost coded = { Prim.hlevel (codes, batch_contracts.the_row.coded, cleared_contracts.the_row.coded, arbiter_contracts.the_row.coded) };
 
     ghost view = { λ e. e.control };
 

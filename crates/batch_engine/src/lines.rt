@@ -11,8 +11,8 @@ ghost use Rattle.batch_engine.specs.Steps.{IsNext, IsNextStep, IsNodeAt, IsOwnSt
 use crate::batch::Batch;
 use crate::control::Control;
 use crate::line::{ClaimKind, Line};
-use crate::numbers::{NO_PHASE, PhaseNumber, phase_by};
 use crate::pending::resource_at;
+use crate::phase_number::{NO_PHASE, PhaseNumber, phase_by};
 use crate::step::Step;
 use batch_chart::Move;
 use batch_matrix::Command;
@@ -83,10 +83,11 @@ impl Control {
         requires { IsNodeAt self.now batch.now node }
         ensures { IsPhaseAt self.now.cleared batch.now node result.unit result.phase }
     {
-        let numbers = &self.numbers.recipes[usize::from(batch.recipe)];
+        let set = self.cleared.linked();
+        let own = &set.recipes[usize::from(batch.recipe)];
         let chart = self.cleared.recipe(batch.recipe);
         let entry = &chart.outline.entries[usize::from(node)];
-        phase_by(&numbers.linked, &self.numbers.phases, entry, &batch.units).unwrap_or(NO_PHASE)
+        phase_by(own, &set.phases, entry, &batch.units).unwrap_or(NO_PHASE)
     }
 
     /// The line of a command to a phase of a batch.
@@ -131,6 +132,7 @@ impl Control {
         let number = batch.number;
         let recipe = batch.recipe;
         let chart = self.cleared.recipe(recipe);
+        let set = self.cleared.linked();
         match made {
             Move::Send { node, command } => self.send_line(batch, node, command),
             Move::State(state) => Line::State {
@@ -138,11 +140,11 @@ impl Control {
                 state,
             },
             Move::Release { node, need } => {
-                let share = resource_at(&self.numbers, chart, batch, node, need);
+                let share = resource_at(set, chart, batch, node, need);
                 claim_line(ClaimKind::Released, batch, node, share)
             }
             Move::Pass { node, to, need } => {
-                let share = resource_at(&self.numbers, chart, batch, node, need);
+                let share = resource_at(set, chart, batch, node, need);
                 pass_line(batch, node, to, share)
             }
             Move::Begin { node } => Line::Begin {
@@ -157,7 +159,7 @@ impl Control {
                 node,
             },
             Move::Ask { node, need } => {
-                let share = resource_at(&self.numbers, chart, batch, node, need);
+                let share = resource_at(set, chart, batch, node, need);
                 claim_line(ClaimKind::Asked, batch, node, share)
             }
         }

@@ -1,5 +1,5 @@
 //! Live phases.
-use crate::numbers::PhaseNumber;
+use crate::phase_number::PhaseNumber;
 use batch_matrix::State;
 
 /// A live phase of a batch.

@@ -6,31 +6,31 @@ ghost use Rattle.batch_engine.specs.View.{EngineView};
 
 use crate::batch::Batch;
 use crate::control::Control;
-use crate::numbers::Numbers;
 use crate::pending::resource_at;
 use crate::step::Step;
 use batch_arbiter::Arbiter;
 use batch_chart::Move;
 use batch_matrix::State;
 use batch_recipe::Recipe;
+use batch_set::LinkedSet;
 
 /// An act that asks for a resource joins its line, one that releases it gives it back, and one that passes it on hands its share over.
 /// Other moves need nothing of the arbiter.
-fn claim(arbiter: &mut Arbiter, numbers: &Numbers, recipe: &Recipe, batch: &Batch, made: Move)
-    requires { (v : EngineView) × (i : ℕ) × IsMaking v numbers.now recipe.now arbiter.old i batch.now made }
-    ensures { (v : EngineView) (i : ℕ) → IsMaking v numbers.now recipe.now arbiter.old i batch.now made → IsClaimed v.cleared batch.now made arbiter.old arbiter.new }
+fn claim(arbiter: &mut Arbiter, set: &LinkedSet, recipe: &Recipe, batch: &Batch, made: Move)
+    requires { (v : EngineView) × (i : ℕ) × IsMaking v set.now recipe.now arbiter.old i batch.now made }
+    ensures { (v : EngineView) (i : ℕ) → IsMaking v set.now recipe.now arbiter.old i batch.now made → IsClaimed v.cleared batch.now made arbiter.old arbiter.new }
 {
     match made {
         Move::Ask { node, need } => {
-            let (resource, units) = resource_at(numbers, recipe, batch, node, need);
+            let (resource, units) = resource_at(set, recipe, batch, node, need);
             arbiter.ask(resource, units, batch.number, node);
         }
         Move::Release { node, need } => {
-            let (resource, _units) = resource_at(numbers, recipe, batch, node, need);
+            let (resource, _units) = resource_at(set, recipe, batch, node, need);
             arbiter.release(resource, batch.number, node);
         }
         Move::Pass { node, to, need } => {
-            let (resource, _units) = resource_at(numbers, recipe, batch, node, need);
+            let (resource, _units) = resource_at(set, recipe, batch, node, need);
             arbiter.pass(resource, batch.number, node, to);
         }
         _ => {}
@@ -54,8 +54,9 @@ impl Control {
         ensures { MakesNext self.old self.new }
     {
         let batch = &mut self.batches[index];
+        let set = self.cleared.linked();
         let chart = self.cleared.recipe(batch.recipe);
-        claim(&mut self.arbiter, &self.numbers, chart, batch, made);
+        claim(&mut self.arbiter, set, chart, batch, made);
         batch.running.make_move(chart, made, &batch.values);
     }
 

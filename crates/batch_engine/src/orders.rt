@@ -47,10 +47,11 @@ impl Control {
         ensures asks { AsksAtMost self.now.allocation batch.now.number result }
     {
         let chart = self.cleared.recipe(batch.recipe);
+        let set = self.cleared.linked();
         let mut asks = [0; MAX_RESOURCES];
         let mut from = 0;
         while let Some((node, need)) = batch.running.waiting(chart, from) {
-            let (resource, _units) = resource_at(&self.numbers, chart, batch, node, need);
+            let (resource, _units) = resource_at(set, chart, batch, node, need);
             asks[usize::from(resource)] += 1;
             from = node + 1;
         }
@@ -120,7 +121,7 @@ impl Control {
             return Reply::Refused(Refusal::NotIdle(state));
         };
         let removed = self.batches.remove(index);
-        self.needs -= self.numbers.recipes[usize::from(removed.recipe)].needs;
+        self.needs -= removed.running.needs();
         Reply::Removed { batch: number }
     }
 }

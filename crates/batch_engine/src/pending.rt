@@ -10,12 +10,11 @@ ghost use Rattle.batch_engine.specs.View.{EngineView};
 use crate::batch::Batch;
 use crate::control::Control;
 use crate::marks::Marks;
-use crate::numbers::Numbers;
 use crate::step::Step;
 use batch_arbiter::Arbiter;
 use batch_matrix::State;
 use batch_recipe::{MAX_NODES, Recipe};
-use batch_set::LinkedNeed;
+use batch_set::{LinkedNeed, LinkedSet};
 
 /// The number of a batch's acts in line that are checked one by one before the lines themselves are searched.
 const FEW_ACTS: u16 = 8;
@@ -72,18 +71,18 @@ fn need_in(needs: &[LinkedNeed], need: u16) -> Option<LinkedNeed>
 
 /// The number of the resource that an act of a batch of the recipe needs, and how many units of it.
 pub(crate) fn resource_at(
-    numbers: &Numbers,
+    set: &LinkedSet,
     recipe: &Recipe,
     batch: &Batch,
     node: u16,
     need: u16,
 ) -> (u16, u32)
-    requires { (v : EngineView) × IsNeedAt v numbers.now recipe.now batch.now node need }
-    ensures { (v : EngineView) → IsNeedAt v numbers.now recipe.now batch.now node need → IsNumberAt v.cleared batch.now node need result.0 result.1 }
+    requires { (v : EngineView) × IsNeedAt v set.now recipe.now batch.now node need }
+    ensures { (v : EngineView) → IsNeedAt v set.now recipe.now batch.now node need → IsNumberAt v.cleared batch.now node need result.0 result.1 }
 {
     let entry = &recipe.outline.entries[usize::from(node)];
-    let own = &numbers.recipes[usize::from(batch.recipe)];
-    let needs = own.linked.needs(entry.kind);
+    let own = &set.recipes[usize::from(batch.recipe)];
+    let needs = own.needs(entry.kind);
     match need_in(needs, need) {
         Some(wanted) => {
             let resource = wanted.source.for_units(&batch.units);
@@ -113,10 +112,11 @@ impl Control {
         ensures { IsFirstGrant self.now batch.now result }
     {
         let chart = self.cleared.recipe(batch.recipe);
+        let set = self.cleared.linked();
         let mut from = 0;
         let mut looked = 0;
         while let Some((node, need)) = batch.running.waiting(chart, from) {
-            let (resource, units) = resource_at(&self.numbers, chart, batch, node, need);
+            let (resource, units) = resource_at(set, chart, batch, node, need);
             if serves(&self.arbiter, resource, batch.number, node) {
                 return Some((node, resource, units));
             }

@@ -1,5 +1,5 @@
 -- Rows that are made one after another, and look-ups in them.
-use Rattle.std.proofs.Common.{◌≡◌, ℕ, List, [], ◌∷◌, ◌++◌, ◌+◌, ◌<◌, ◌≤◌, suc, length, drop, get_or, map, Option, Some, Vec, slice_get, sym, ap, ◌∙◌, add-one, drop-cons, drop_of_length-le, append_assoc, append-nil}
+use Rattle.std.proofs.Common.{◌≡◌, ℕ, List, [], ◌∷◌, ◌++◌, ◌+◌, ◌<◌, ◌≤◌, zero, suc, length, drop, get_or, map, Option, Some, Vec, slice_get, sym, ap, subst, ◌∙◌, add-one, drop-cons, drop_of_length-le, append_assoc, append-nil}
 use Rattle.std.specs.Global.{Global}
 use Rattle.std.specs.Prelude.{option_map, unwrap_or}
 use Rattle.std.proofs.lemmas.List.{map-append}
@@ -33,3 +33,11 @@ pub row-there : {A X : Type 0} (f : A → List X) (table : List (Vec X Global)) 
 row-there {A} {X} f table xs h k x at =
     ap (λ (o : Option (List X)). unwrap_or o [])
     (sym (slice_get-map (λ (r : Vec X Global). r.items) table k) ∙ (ap (λ (rows : List (List X)). slice_get rows k) h ∙ (slice_get-map f xs k ∙ ap (option_map f) at)))
+
+-- a row more, of which the same is so as of those before
+pub pushed : {X : Type 0} (P : ℕ → X → Type 0) (xs : List X) (y : X) → ((k : ℕ) (x : X) → slice_get xs k ≡ Some x → P k x) → P (length xs) y
+    → (k : ℕ) (x : X) → slice_get (xs ++ y ∷ []) k ≡ Some x → P k x
+pushed P [] y h p zero x e = let same : y ≡ x = cc in subst (P 0) same p
+pushed P [] y h p (suc k) x e = absurd cc
+pushed P (z ∷ xs) y h p zero x e = h 0 x e
+pushed P (z ∷ xs) y h p (suc k) x e = pushed (λ k. P (suc k)) xs y (λ k. h (suc k)) p k x e

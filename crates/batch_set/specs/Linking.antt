@@ -1,5 +1,5 @@
 -- surface: the numbers of the resources, units and phases that a recipe's acts name in a cell.
-use Rattle.std.specs.Prelude.{◌≡◌, ℕ, ◌+◌, List, [], ◌∷◌, ◌++◌, flat_map, map, Option, Some, None, position, Vec, true, false, nat_eq}
+use Rattle.std.specs.Prelude.{◌≡◌, ℕ, ◌+◌, List, [], ◌∷◌, ◌++◌, flat_map, length, map, Option, Some, None, position, slice_get, Vec, true, false, nat_eq}
 use Rattle.std.specs.Global.{Global}
 use Rattle.std.specs.Cmp.Lexicographic.{pointwise}
 use Rattle.indexmap.specs.IndexSet.{insert_all}
@@ -20,6 +20,7 @@ use Rattle.batch_recipe.specs.declared.role.Role as declared
 use Rattle.batch_set.specs.declared.cell_phases.CellPhases.{CellPhases}
 use Rattle.batch_set.specs.declared.linked.LinkedNeed.{LinkedNeed}
 use Rattle.batch_set.specs.declared.linked.LinkedRecipe.{LinkedRecipe}
+use Rattle.batch_set.specs.declared.linked_set.LinkedSet.{LinkedSet}
 use Rattle.batch_set.specs.declared.linked.Source.{Source}
 use Rattle.batch_set.specs.declared.linked.Source.TheVariants.{Resource, Role, Unknown}
 
@@ -138,3 +139,13 @@ pub record IsLinked (cell : Cell) (known : CellPhases) (recipe : document.Recipe
   pub phases : table_items linked.phases.items ≡ map (needs_linked cell recipe) recipe.acts.phases.items
   pub candidates : table_items linked.candidates.items ≡ map (candidate_numbers cell) recipe.roles.items
   pub runs : linked.runs.items ≡ map (run_by known.names.keys) recipe.acts.phases.items
+
+-- each recipe is linked, in their order
+pub record AreLinked (cell : Cell) (known : CellPhases) (recipes : List document.Recipe) (linked : List LinkedRecipe) : Type 0 where
+  pub count : length linked ≡ length recipes
+  pub each : (k : ℕ) (own : LinkedRecipe) → slice_get linked k ≡ Some own → (recipe : document.Recipe) → slice_get recipes k ≡ Some recipe → IsLinked cell known recipe own
+
+-- the recipes of a set, and the phases of their cell
+pub record IsLinkedSet (cell : Cell) (recipes : List document.Recipe) (set : LinkedSet) : Type 0 where
+  pub phases : ArePhasesOf cell set.phases
+  pub linked : AreLinked cell set.phases recipes set.recipes.items

@@ -6,9 +6,11 @@
 mod cell_phases;
 mod laws;
 mod linked;
+mod linked_set;
 mod linking;
 
 pub use cell_phases::CellPhases;
 pub use laws::{needs_say_names, phases_say_names, units_say_names};
 pub use linked::{LinkedNeed, LinkedRecipe, Source};
+pub use linked_set::LinkedSet;
 pub use linking::link;

@@ -14,17 +14,17 @@ use Rattle.batch_engine.proofs.Seats.{needs-there}
 use Rattle.batch_engine.proofs.moves.claim.Goals as goal
 use Rattle.batch_engine.proofs.moves.claim.Goals.{In-Ask, In-Pass, In-Release}
 
-asks : (c : In-Ask) {v : EngineView} {i : ℕ} → IsMaking v c.args.numbers.now c.args.recipe.now c.args.arbiter.now i c.args.batch.now c.args.made
-    → IsMaking v c.args.numbers.now c.args.recipe.now c.args.arbiter.now i c.args.batch.now (Ask c.in-Ask.node c.in-Ask.need)
-asks c {v} {i} h = subst (IsMaking v c.args.numbers.now c.args.recipe.now c.args.arbiter.now i c.args.batch.now) c.in-Ask.is h
+asks : (c : In-Ask) {v : EngineView} {i : ℕ} → IsMaking v c.args.set.now c.args.recipe.now c.args.arbiter.now i c.args.batch.now c.args.made
+    → IsMaking v c.args.set.now c.args.recipe.now c.args.arbiter.now i c.args.batch.now (Ask c.in-Ask.node c.in-Ask.need)
+asks c {v} {i} h = subst (IsMaking v c.args.set.now c.args.recipe.now c.args.arbiter.now i c.args.batch.now) c.in-Ask.is h
 
-releases : (c : In-Release) {v : EngineView} {i : ℕ} → IsMaking v c.args.numbers.now c.args.recipe.now c.args.arbiter.now i c.args.batch.now c.args.made
-    → IsMaking v c.args.numbers.now c.args.recipe.now c.args.arbiter.now i c.args.batch.now (Release c.in-Release.node c.in-Release.need)
-releases c {v} {i} h = subst (IsMaking v c.args.numbers.now c.args.recipe.now c.args.arbiter.now i c.args.batch.now) c.in-Release.is h
+releases : (c : In-Release) {v : EngineView} {i : ℕ} → IsMaking v c.args.set.now c.args.recipe.now c.args.arbiter.now i c.args.batch.now c.args.made
+    → IsMaking v c.args.set.now c.args.recipe.now c.args.arbiter.now i c.args.batch.now (Release c.in-Release.node c.in-Release.need)
+releases c {v} {i} h = subst (IsMaking v c.args.set.now c.args.recipe.now c.args.arbiter.now i c.args.batch.now) c.in-Release.is h
 
-passes : (c : In-Pass) {v : EngineView} {i : ℕ} → IsMaking v c.args.numbers.now c.args.recipe.now c.args.arbiter.now i c.args.batch.now c.args.made
-    → IsMaking v c.args.numbers.now c.args.recipe.now c.args.arbiter.now i c.args.batch.now (Pass c.in-Pass.node c.in-Pass.to c.in-Pass.need)
-passes c {v} {i} h = subst (IsMaking v c.args.numbers.now c.args.recipe.now c.args.arbiter.now i c.args.batch.now) c.in-Pass.is h
+passes : (c : In-Pass) {v : EngineView} {i : ℕ} → IsMaking v c.args.set.now c.args.recipe.now c.args.arbiter.now i c.args.batch.now c.args.made
+    → IsMaking v c.args.set.now c.args.recipe.now c.args.arbiter.now i c.args.batch.now (Pass c.in-Pass.node c.in-Pass.to c.in-Pass.need)
+passes c {v} {i} h = subst (IsMaking v c.args.set.now c.args.recipe.now c.args.arbiter.now i c.args.batch.now) c.in-Pass.is h
 
 pub resource_at-resource-requires : goal.resource_at-resource-requires
 resource_at-resource-requires c = let h = asks (goal.at.resource_at-resource-requires c).In-Ask c.requires.2 in (c.requires.0, needs-there c.requires.1 h.1 h.0.kept h.0.at h.2 h.0.about.0 h.0.about.1)

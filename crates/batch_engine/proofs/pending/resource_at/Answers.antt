@@ -5,17 +5,17 @@ use Rattle.batch_set.specs.declared.linked.LinkedNeed.{LinkedNeed}
 use Rattle.batch_engine.specs.Steps.{IsNeedAt, IsNumberAt}
 use Rattle.batch_engine.specs.View.{EngineView}
 use Rattle.batch_engine.proofs.LinkedActs.{need-here}
-use Rattle.batch_engine.proofs.Seats.{IsRead, entry-read, entry-within, numbers-read, numbers-within}
+use Rattle.batch_engine.proofs.Seats.{IsRead, entry-read, entry-within, linked-read, linked-within}
 use Rattle.batch_engine.proofs.pending.resource_at.Goals as goal
 use Rattle.batch_engine.proofs.pending.resource_at.Goals.{After-index-own}
 
 -- the need, as it is read
-need : (c : After-index-own) (v : EngineView) → IsNeedAt v c.args.numbers.now c.args.recipe.now c.args.batch.now c.args.node c.args.need
-    → (linked : LinkedNeed) × (slice_get (needs_by c.index-own.result.now.linked c.index-entry.result.now.kind) c.args.need ≡ Some linked)
+need : (c : After-index-own) (v : EngineView) → IsNeedAt v c.args.set.now c.args.recipe.now c.args.batch.now c.args.node c.args.need
+    → (linked : LinkedNeed) × (slice_get (needs_by c.index-own.result.now c.index-entry.result.now.kind) c.args.need ≡ Some linked)
     × IsNumberAt v.cleared c.args.batch.now c.args.node c.args.need (unwrap_or (number_for c.args.batch.now.units linked.source) 0) linked.units
 need c v h =
     let r : IsRead v h.index c.args.batch.now = record { kept = h.kept; at = h.at } in
-    need-here v h.kept h.index c.args.batch.now h.at c.args.recipe.now h.listed c.index-own.result.now (numbers-read h.numbers_are r c.from-2.ensures c.index-own.ensures)
+    need-here v h.kept h.index c.args.batch.now h.at c.args.recipe.now h.listed c.args.set.now h.linked c.index-own.result.now (linked-read h.linked r c.from-2.ensures c.index-own.ensures)
     c.args.node h.few c.index-entry.result.now (entry-read r h.listed h.few c.from.ensures c.index-entry.ensures) c.args.need h.less
 
 pub index-entry-requires : goal.index-entry-requires
@@ -28,7 +28,7 @@ pub index-own-requires : goal.index-own-requires
 index-own-requires c =
     let h = c.requires.1 in
     let r : IsRead c.requires.0 h.index c.args.batch.now = record { kept = h.kept; at = h.at } in
-    omega (arith, c.from-2.ensures, numbers-within h.numbers_are r)
+    omega (arith, c.from-2.ensures, linked-within h.linked r)
 
 pub returns-in-Some : goal.returns-in-Some
 returns-in-Some c =

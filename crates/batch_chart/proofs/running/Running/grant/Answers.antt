@@ -14,4 +14,4 @@ returns c = λ t laid old.
     let h = changed.means t laid old.alive in
     let up = rw (c.deref.ensures.value, c.deref_mut.ensures.value) at c.grant_at.ensures.kept in
     let is = with_items_is c.args.self.now.stages c.grant_at.new.stages (c.grant_at.auto.stages ∙ c.deref_mut.ensures.len) in
-    (went-on c.args.chart.now c.args.self.now _ _ is up t laid old h.0 refl, ap (meaning t 0) is ∙ h.1, granted-runs c.args.chart.now t laid c.args.self.now _ _ is refl c.args.node changed old))
+    (went-on c.args.chart.now c.args.self.now _ _ is up t laid old h.0 refl refl, ap (meaning t 0) is ∙ h.1, granted-runs c.args.chart.now t laid c.args.self.now _ _ is refl c.args.node changed old))

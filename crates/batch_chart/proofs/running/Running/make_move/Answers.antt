@@ -17,6 +17,6 @@ returns c = λ t laid old.
     let is = with_items_is c.args.self.now.stages c.move_on.new.stages (c.move_on.auto.stages ∙ c.deref_mut.ensures.len) in
     let left = rw (c.deref-2.ensures.value, is, c.hold.ensures.items) at c.forget.ensures.items in
     let capacity = c.forget.ensures.capacity ∙ c.hold.ensures.capacity in (
-      moved-running c.args.chart.now t laid c.args.self.now _ _ is c.args.values.now c.args.wanted h c.requires.possible left capacity old,
-      moved-runs c.args.chart.now t laid c.args.self.now _ _ is c.args.values.now c.args.wanted h c.requires.possible left capacity old,
+      moved-running c.args.chart.now t laid c.args.self.now _ _ is c.args.values.now c.args.wanted h c.requires.possible left capacity refl old,
+      moved-runs c.args.chart.now t laid c.args.self.now _ _ is c.args.values.now c.args.wanted h c.requires.possible left capacity refl old,
     ))

@@ -1,11 +1,11 @@
-use Rattle.std.proofs.Common.{◌<◌, ◌+◌, refl, sym, ap, subst, arith, set}
+use Rattle.std.proofs.Common.{◌<◌, ◌+◌, refl, sym, subst, arith, set}
 use Rattle.std.specs.Prelude.{slice_index}
 use Rattle.batch_chart.specs.NodesOf.{need_at}
 use Rattle.batch_engine.specs.Steps.{IsNumberAt}
 use Rattle.batch_engine.specs.View.{EngineView, tree_of}
 use Rattle.batch_engine.specs.declared.batch.Batch.{Batch}
 use Rattle.batch_engine.proofs.LineAsks.{AreCounted, counted-all, counted-more, counted-none, few-resources, resource-within}
-use Rattle.batch_engine.proofs.Seats.{IsSeat, needs-there, read-own, seat-of}
+use Rattle.batch_engine.proofs.Seats.{IsSeat, linked-here, needs-there, read-own, seat-of}
 use Rattle.batch_engine.proofs.control.Control.asks_by_resource.Goals as goal
 use Rattle.batch_engine.proofs.control.Control.asks_by_resource.Goals.{After-recipe-chart, After-resource_at-resource}
 
@@ -17,7 +17,7 @@ number : (c : After-resource_at-resource) → IsSeat c.args.self.now c.requires.
     → IsNumberAt c.args.self.now.cleared c.args.batch.now c.in-Some.node c.in-Some.need c.resource_at-resource.result.0 c.resource_at-resource.result.1
 number c s =
     let asks = c.in-Some.ensures.some.1 (tree_of c.args.self.now.cleared c.args.batch.now) s.chart s.runs in
-    c.resource_at-resource.ensures c.args.self.now (needs-there c.requires.0 (ap (λ (z : EngineView). z.numbers) c.self.view_is) s.kept s.at s.listed asks.0 asks.1)
+    c.resource_at-resource.ensures c.args.self.now (needs-there c.requires.0 (linked-here c.self.view_is c.linked-set.ensures) s.kept s.at s.listed asks.0 asks.1)
 
 pub waiting-requires : goal.waiting-requires
 waiting-requires c = (seat (goal.at.waiting-requires c).After-recipe-chart).running
@@ -26,7 +26,7 @@ pub resource_at-resource-requires : goal.resource_at-resource-requires
 resource_at-resource-requires c =
     let s = seat (goal.at.resource_at-resource-requires c).After-recipe-chart in
     let asks = c.in-Some.ensures.some.1 (tree_of c.args.self.now.cleared c.args.batch.now) s.chart s.runs in
-    (c.args.self.now, needs-there c.requires.0 (ap (λ (z : EngineView). z.numbers) c.self.view_is) s.kept s.at s.listed asks.0 asks.1)
+    (c.args.self.now, needs-there c.requires.0 (linked-here c.self.view_is c.linked-set.ensures) s.kept s.at s.listed asks.0 asks.1)
 
 -- there is a count of it
 within : (c : After-resource_at-resource) → IsSeat c.args.self.now c.requires.0 c.args.batch.now c.recipe-chart.result.now → c.resource_at-resource.result.0 < 384

@@ -6,7 +6,7 @@ use Rattle.batch_engine.specs.declared.batch.Batch.{Batch}
 use Rattle.batch_engine.specs.Steps.{IsNumberAt}
 use Rattle.batch_engine.specs.View.{EngineView, tree_of}
 use Rattle.batch_engine.proofs.Finding.{first-grant, first-serves, first_here, goes-on, known-resource, no-grants, passed}
-use Rattle.batch_engine.proofs.Seats.{IsSeat, needs-there, read-own, seat-of}
+use Rattle.batch_engine.proofs.Seats.{IsSeat, linked-here, needs-there, read-own, seat-of}
 use Rattle.batch_engine.proofs.Skipping.{skipped}
 use Rattle.batch_engine.proofs.control.Control.first_grant.Goals as goal
 use Rattle.batch_engine.proofs.control.Control.first_grant.Goals.{After-recipe-chart, After-resource_at-resource}
@@ -19,14 +19,14 @@ pub resource_at-resource-requires : goal.resource_at-resource-requires
 resource_at-resource-requires c =
     let s = seat (goal.at.resource_at-resource-requires c).After-recipe-chart c.requires.0 c.requires.1 in
     let asks = c.in-Some.ensures.some.1 (tree_of c.args.self.now.cleared c.args.batch.now) s.chart s.runs in
-    (c.args.self.now, needs-there c.requires.0 (ap (λ (z : EngineView). z.numbers) c.self.view_is) s.kept s.at s.listed asks.0 asks.1)
+    (c.args.self.now, needs-there c.requires.0 (linked-here c.self.view_is c.linked-set.ensures) s.kept s.at s.listed asks.0 asks.1)
 
 -- the number of the resource that the act waits for
 number : (c : After-resource_at-resource) → IsSeat c.args.self.now c.requires.0 c.args.batch.now c.recipe-chart.result.now
     → IsNumberAt c.args.self.now.cleared c.args.batch.now c.in-Some.node c.in-Some.need c.resource_at-resource.result.0 c.resource_at-resource.result.1
 number c s =
     let asks = c.in-Some.ensures.some.1 (tree_of c.args.self.now.cleared c.args.batch.now) s.chart s.runs in
-    c.resource_at-resource.ensures c.args.self.now (needs-there c.requires.0 (ap (λ (z : EngineView). z.numbers) c.self.view_is) s.kept s.at s.listed asks.0 asks.1)
+    c.resource_at-resource.ensures c.args.self.now (needs-there c.requires.0 (linked-here c.self.view_is c.linked-set.ensures) s.kept s.at s.listed asks.0 asks.1)
 
 pub returns-then-serves : goal.returns-then-serves
 returns-then-serves c =

@@ -1,4 +1,4 @@
-use Rattle.std.proofs.Common.{◌≡◌, ap, refl, sym, subst, ℕ, Some}
+use Rattle.std.proofs.Common.{◌≡◌, refl, sym, subst, ℕ, Some}
 use Rattle.std.specs.Prelude.{slice_get}
 use Rattle.batch_chart.specs.declared.chart_move.Move.{Move}
 use Rattle.batch_chart.specs.declared.chart_move.Move.TheVariants as Chart
@@ -7,7 +7,7 @@ use Rattle.batch_engine.specs.declared.line.Line.{Line}
 use Rattle.batch_engine.specs.Steps.{IsMover, IsNext, Tells, TellsNext}
 use Rattle.batch_engine.specs.View.{EngineView}
 use Rattle.batch_engine.proofs.Finding.{got-chart}
-use Rattle.batch_engine.proofs.Seats.{chart-within, mover, needs-there}
+use Rattle.batch_engine.proofs.Seats.{chart-within, linked-here, mover, needs-there}
 use Rattle.batch_engine.proofs.Telling.{ask-told, begin-told, end-told, pass-told, release-told, state-told}
 use Rattle.batch_engine.proofs.control.Control.own_line.Goals as goal
 use Rattle.batch_engine.proofs.control.Control.own_line.Goals.{After-index-batch, After-recipe-chart}
@@ -47,39 +47,39 @@ pub resource_at-share-requires : goal.resource_at-share-requires
 resource_at-share-requires c =
     let w = goal.at.resource_at-share-requires c in
     let h = moves w.After-index-batch (Chart.Release c.in-Release.node c.in-Release.need) c.in-Release.is in
-    (c.args.self.now, needs-there c.args.index (ap (λ (z : EngineView). z.numbers) c.self.view_is) h.kept h.at (listed w.After-recipe-chart) h.about.0 h.about.1)
+    (c.args.self.now, needs-there c.args.index (linked-here c.self.view_is c.linked-set.ensures) h.kept h.at (listed w.After-recipe-chart) h.about.0 h.about.1)
 
 pub returns-in-Release : goal.returns-in-Release
 returns-in-Release c =
     let w = goal.at.returns-in-Release c in
     let h = moves w.After-index-batch (Chart.Release c.in-Release.node c.in-Release.need) c.in-Release.is in
-    let number = c.resource_at-share.ensures c.args.self.now (needs-there c.args.index (ap (λ (z : EngineView). z.numbers) c.self.view_is) h.kept h.at (listed w.After-recipe-chart) h.about.0 h.about.1) in
+    let number = c.resource_at-share.ensures c.args.self.now (needs-there c.args.index (linked-here c.self.view_is c.linked-set.ensures) h.kept h.at (listed w.After-recipe-chart) h.about.0 h.about.1) in
     next h (subst (Tells c.args.self.now c.index-batch.result.now (Chart.Release c.in-Release.node c.in-Release.need)) (sym c.claim_line.ensures) (release-told c.args.self.now h.kept c.args.index c.index-batch.result.now h.at number))
 
 pub resource_at-share-requires-in-Pass : goal.resource_at-share-requires-in-Pass
 resource_at-share-requires-in-Pass c =
     let w = goal.at.resource_at-share-requires-in-Pass c in
     let h = moves w.After-index-batch (Chart.Pass c.in-Pass.node c.in-Pass.to c.in-Pass.need) c.in-Pass.is in
-    (c.args.self.now, needs-there c.args.index (ap (λ (z : EngineView). z.numbers) c.self.view_is) h.kept h.at (listed w.After-recipe-chart) h.about.0 h.about.2)
+    (c.args.self.now, needs-there c.args.index (linked-here c.self.view_is c.linked-set.ensures) h.kept h.at (listed w.After-recipe-chart) h.about.0 h.about.2)
 
 pub returns-in-Pass : goal.returns-in-Pass
 returns-in-Pass c =
     let w = goal.at.returns-in-Pass c in
     let h = moves w.After-index-batch (Chart.Pass c.in-Pass.node c.in-Pass.to c.in-Pass.need) c.in-Pass.is in
-    let number = c.resource_at-share-in-Pass.ensures c.args.self.now (needs-there c.args.index (ap (λ (z : EngineView). z.numbers) c.self.view_is) h.kept h.at (listed w.After-recipe-chart) h.about.0 h.about.2) in
+    let number = c.resource_at-share-in-Pass.ensures c.args.self.now (needs-there c.args.index (linked-here c.self.view_is c.linked-set.ensures) h.kept h.at (listed w.After-recipe-chart) h.about.0 h.about.2) in
     next h (subst (Tells c.args.self.now c.index-batch.result.now (Chart.Pass c.in-Pass.node c.in-Pass.to c.in-Pass.need)) (sym c.pass_line.ensures) (pass-told c.args.self.now h.kept c.args.index c.index-batch.result.now h.at c.in-Pass.to number))
 
 pub resource_at-share-requires-in-Ask : goal.resource_at-share-requires-in-Ask
 resource_at-share-requires-in-Ask c =
     let w = goal.at.resource_at-share-requires-in-Ask c in
     let h = moves w.After-index-batch (Chart.Ask c.in-Ask.node c.in-Ask.need) c.in-Ask.is in
-    (c.args.self.now, needs-there c.args.index (ap (λ (z : EngineView). z.numbers) c.self.view_is) h.kept h.at (listed w.After-recipe-chart) h.about.0 h.about.1)
+    (c.args.self.now, needs-there c.args.index (linked-here c.self.view_is c.linked-set.ensures) h.kept h.at (listed w.After-recipe-chart) h.about.0 h.about.1)
 
 pub returns-in-Ask : goal.returns-in-Ask
 returns-in-Ask c =
     let w = goal.at.returns-in-Ask c in
     let h = moves w.After-index-batch (Chart.Ask c.in-Ask.node c.in-Ask.need) c.in-Ask.is in
-    let number = c.resource_at-share-in-Ask.ensures c.args.self.now (needs-there c.args.index (ap (λ (z : EngineView). z.numbers) c.self.view_is) h.kept h.at (listed w.After-recipe-chart) h.about.0 h.about.1) in
+    let number = c.resource_at-share-in-Ask.ensures c.args.self.now (needs-there c.args.index (linked-here c.self.view_is c.linked-set.ensures) h.kept h.at (listed w.After-recipe-chart) h.about.0 h.about.1) in
     next h (subst (Tells c.args.self.now c.index-batch.result.now (Chart.Ask c.in-Ask.node c.in-Ask.need)) (sym c.claim_line-in-Ask.ensures) (ask-told c.args.self.now h.kept c.args.index c.index-batch.result.now h.at number))
 
 pub returns-in-State : goal.returns-in-State

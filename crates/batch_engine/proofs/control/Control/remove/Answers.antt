@@ -4,29 +4,29 @@ use Rattle.batch_model.specs.Events as Events
 use Rattle.batch_model.specs.Runs.{Reacts}
 use Rattle.batch_engine.specs.Batches.{BatchList, HaveOwnNumbers}
 use Rattle.batch_engine.specs.Kept.{IsKept, needs_of_all}
-use Rattle.batch_engine.specs.View.{EngineView, batch_of, plant_of, seen, setup}
+use Rattle.batch_engine.specs.View.{EngineView, batch_of, plant_of, seen, setup, tree_of}
 use Rattle.batch_engine.proofs.Filing.{own-numbers-remove}
 use Rattle.batch_engine.proofs.Reacting.{with}
 use Rattle.batch_engine.proofs.Removing.{remove-busy, remove-kept, remove-reacts, remove-unknown}
 use Rattle.batch_engine.proofs.Room.{needs-removed}
-use Rattle.batch_engine.proofs.NumbersFound.{needs-here}
-use Rattle.batch_engine.proofs.Seats.{IsFound, IsRead, found-here, numbers-read, read-there}
+use Rattle.batch_engine.proofs.Finding.{batch-runs}
+use Rattle.batch_engine.proofs.Seats.{IsFound, IsRead, found-here, read-there}
 use Rattle.batch_engine.proofs.Seeking.{none-found}
 use Rattle.batch_engine.proofs.control.Control.remove.Goals as goal
-use Rattle.batch_engine.proofs.control.Control.remove.Goals.{After-index, After-index-2}
+use Rattle.batch_engine.proofs.control.Control.remove.Goals.{After-index, After-needs}
 
 found : (c : After-index) → IsFound c.args.self.now c.args.number c.in-Some.index c.index.result.now
 found c = found-here c.self.view_is c.self.invariant.kept (sym c.index_of.ensures ∙ c.in-Some.is) c.index.ensures
 
 -- the needs of the batch that is removed were counted
-counted : (c : After-index-2) → IsFound c.args.self.now c.args.number c.in-Some.index c.index.result.now
-    → c.self.inside.needs ≡ needs_of_all c.args.self.now.cleared (remove c.args.self.now.batches c.in-Some.index) + c.index-2.result.now.needs
+counted : (c : After-needs) → IsFound c.args.self.now c.args.number c.in-Some.index c.index.result.now
+    → c.self.inside.needs ≡ needs_of_all c.args.self.now.cleared (remove c.args.self.now.batches c.in-Some.index) + c.needs.result
 counted c f =
     let v : EngineView = c.args.self.now in
     let r : IsRead v c.in-Some.index c.remove-removed.result = read-there c.self.view_is c.self.invariant.kept f.at c.remove-removed.ensures.value in
     omega (
       arith,
-      needs-here v r.kept c.remove-removed.result.recipe c.index-2.result.now (numbers-read (ap (λ (z : EngineView). z.numbers) c.self.view_is) r c.from.ensures c.index-2.ensures) c.remove-removed.result.units,
+      c.needs.ensures (tree_of v.cleared c.remove-removed.result) (batch-runs v r.kept c.in-Some.index c.remove-removed.result r.at).runs,
       needs-removed v.cleared v.batches c.in-Some.index c.remove-removed.result r.at,
       c.self.invariant.needs_are,
       ap (λ (z : EngineView). needs_of_all z.cleared z.batches) c.self.view_is,
@@ -45,7 +45,7 @@ returns-in_default-state c =
     }
 
 pub overflow_sub-self : goal.overflow_sub-self
-overflow_sub-self c = let w = goal.at.overflow_sub-self c in omega (arith, counted w.After-index-2 (found w.After-index))
+overflow_sub-self c = let w = goal.at.overflow_sub-self c in omega (arith, counted w.After-needs (found w.After-index))
 
 pub invariant_of-self : goal.invariant_of-self
 invariant_of-self c =
@@ -53,9 +53,9 @@ invariant_of-self c =
     let v : EngineView = c.args.self.now in
     let i : ℕ = c.in-Some.index in
     let f = found w.After-index in
-    let left : c.self.inside.needs - c.index-2.result.now.needs ≡ needs_of_all v.cleared (remove v.batches i) = omega (arith, counted w.After-index-2 f) in
+    let left : c.self.inside.needs - c.needs.result ≡ needs_of_all v.cleared (remove v.batches i) = omega (arith, counted w.After-needs f) in
     record {
-      kept = subst (λ (r : BatchList). IsKept (seen c.self.inside.cleared c.self.inside.numbers r.batches c.self.inside.next_number c.self.inside.arbiter)) (sym c.remove-removed.ensures.rest)
+      kept = subst (λ (r : BatchList). IsKept (seen c.self.inside.cleared r.batches c.self.inside.next_number c.self.inside.arbiter)) (sym c.remove-removed.ensures.rest)
           (subst (λ (z : EngineView). IsKept (with z (remove z.batches i) z.next_number z.allocation)) (sym c.self.view_is) (remove-kept v f.kept i c.index.result.now f.at c.in-Idle.is c.args.number c.requires f.is));
       numbers = subst HaveOwnNumbers (sym c.remove-removed.ensures.rest) (own-numbers-remove c.self.inside.batches i c.self.invariant.numbers);
       needs_are = left ∙ sym (ap (λ (z : EngineView). needs_of_all z.cleared (remove z.batches i)) c.self.view_is) ∙ sym (ap (λ (r : BatchList). needs_of_all c.self.inside.cleared r.batches) c.remove-removed.ensures.rest);
@@ -69,7 +69,7 @@ returns c =
     record {
       cleared = ap (λ (z : EngineView). z.cleared) c.self.view_is;
       reacts =
-          subst (λ (r : BatchList). Reacts (setup v.cleared) (plant_of v) (Events.remove c.args.number) (Events.removed c.args.number) (plant_of (seen c.self.inside.cleared c.self.inside.numbers r.batches c.self.inside.next_number c.self.inside.arbiter))) (sym c.remove-removed.ensures.rest)
+          subst (λ (r : BatchList). Reacts (setup v.cleared) (plant_of v) (Events.remove c.args.number) (Events.removed c.args.number) (plant_of (seen c.self.inside.cleared r.batches c.self.inside.next_number c.self.inside.arbiter))) (sym c.remove-removed.ensures.rest)
           (subst (λ (z : EngineView). Reacts (setup v.cleared) (plant_of v) (Events.remove c.args.number) (Events.removed c.args.number) (plant_of (with z (remove z.batches i) z.next_number z.allocation))) (sym c.self.view_is)
           (subst (λ n. Reacts (setup v.cleared) (plant_of v) (Events.remove c.args.number) (Events.removed n) (plant_of (with v (remove v.batches i) v.next_number v.allocation))) f.number
           (remove-reacts v f.kept i c.index.result.now f.at c.in-Idle.is c.args.number c.requires f.is)));

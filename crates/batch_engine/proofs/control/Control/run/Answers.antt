@@ -9,7 +9,7 @@ use Rattle.batch_engine.specs.Steps.{IsClaimed, IsMaking, IsMover, IsOfAct}
 use Rattle.batch_engine.specs.View.{EngineView, batch_of, tree_of}
 use Rattle.batch_engine.proofs.Made.{Becomes, MadeChart, ask-made, pass-made, release-made, run-quiet}
 use Rattle.batch_engine.proofs.RoomForAsk.{room-for-ask}
-use Rattle.batch_engine.proofs.Seats.{IsSeat, chart-within, closed-makes, counted-set, mover, seat-of}
+use Rattle.batch_engine.proofs.Seats.{IsSeat, chart-within, closed-makes, counted-set, linked-here, mover, seat-of}
 use Rattle.batch_engine.proofs.Space.{space-in-advance}
 use Rattle.batch_engine.proofs.Stepping.{changed}
 use Rattle.batch_engine.proofs.control.Control.run.Goals as goal
@@ -39,11 +39,11 @@ moves c = mover c.self.view_is c.self.invariant.kept c.requires.step c.index_mut
 seat : (c : After-recipe-chart) → IsMover c.args.self.now c.args.index c.index_mut-batch.result.now c.args.made → IsSeat c.args.self.now c.args.index c.index_mut-batch.result.now c.recipe-chart.result.now
 seat c h = seat-of c.self.view_is (record { kept = h.kept; at = h.at }) c.recipe-chart.ensures
 
--- these are the engine's numbers, the batch's recipe, and the arbiter
-makes : (c : After-recipe-chart) → IsMaking c.args.self.now c.self.inside.numbers c.recipe-chart.result.now c.self.inside.arbiter c.args.index c.index_mut-batch.result.now c.args.made
+-- these are the engine's linked recipes, the batch's recipe, and the arbiter
+makes : (c : After-recipe-chart) → IsMaking c.args.self.now c.linked-set.result.now c.recipe-chart.result.now c.self.inside.arbiter c.args.index c.index_mut-batch.result.now c.args.made
 makes c =
     let h = mover c.self.view_is c.self.invariant.kept c.requires.step c.index_mut-batch.ensures.value in
-    (h, ap (λ (z : EngineView). z.numbers) c.self.view_is, (seat c h).listed, ap (λ (z : EngineView). z.allocation) c.self.view_is)
+    (h, linked-here c.self.view_is c.linked-set.ensures, (seat c h).listed, ap (λ (z : EngineView). z.allocation) c.self.view_is)
 
 pub claim-requires : goal.claim-requires
 claim-requires c = (c.args.self.now, c.args.index, makes (goal.at.claim-requires c).After-recipe-chart)
@@ -70,7 +70,7 @@ make_move-requires-clause-space c =
 abbrev own : After-make_move → Batch
 own c = record (c.index_mut-batch.result.now) { running = c.make_move.new.self }
 
-made : (c : After-make_move) (h : IsMaking c.args.self.now c.self.inside.numbers c.recipe-chart.result.now c.self.inside.arbiter c.args.index c.index_mut-batch.result.now c.args.made)
+made : (c : After-make_move) (h : IsMaking c.args.self.now c.linked-set.result.now c.recipe-chart.result.now c.self.inside.arbiter c.args.index c.index_mut-batch.result.now c.args.made)
     → IsSeat c.args.self.now c.args.index c.index_mut-batch.result.now c.recipe-chart.result.now
     → Becomes c.args.self.now (changed c.args.self.now c.args.index (own c) c.claim.new.arbiter) (move_of (tree_of c.args.self.now.cleared c.index_mut-batch.result.now) (batch_of c.args.self.now.cleared c.index_mut-batch.result.now) c.args.made)
 made c h s =

@@ -1,6 +1,5 @@
--- Look-ups among the numbers of acts.
-use Rattle.std.proofs.Common.{◌≡◌, ◌<◌, refl, sym, ◌∙◌, ap, ap₂, subst, ℕ, zero, suc, List, [], ◌∷◌, ◌++◌, Option, Some, None, arith, length, get_or, slice_get}
-use Rattle.std.proofs.lemmas.Option.{slice_get_read, slice_get_within}
+-- The act at a node that needs something.
+use Rattle.std.proofs.Common.{◌≡◌, ◌<◌, refl, ◌∙◌, ap, subst, ℕ, zero, suc, List, [], ◌∷◌, Option, Some, None, arith, length, get_or, slice_get}
 use Rattle.batch_recipe.specs.ActsAtNodes.{ActList, AreActsAt, IsActAt, IsNoAct, procedure_acts}
 use Rattle.batch_recipe.specs.Conditions.{Name}
 use Rattle.batch_recipe.specs.Expanding.{Binding, act_tree_with, named_tree_with, needs_with}
@@ -15,16 +14,7 @@ use Rattle.batch_recipe.specs.declared.need.Need.{Need}
 use Rattle.batch_recipe.specs.declared.recipe.Recipe.{Recipe}
 use Rattle.batch_recipe.proofs.Climbing.{act_at}
 use Rattle.batch_recipe.proofs.NodeActs.{procedure_acts_are}
-use Rattle.batch_chart.specs.NodesOf.{needs_in, node_at, step_at, step_of}
-use Rattle.batch_engine.specs.Kept.{IsKept}
-use Rattle.batch_engine.specs.View.{EngineView, bound_to, tree_at}
-use Rattle.batch_engine.specs.declared.batch.Batch.{Batch}
-use Rattle.batch_engine.specs.declared.numbers.Numbers.{Numbers}
-use Rattle.batch_engine.specs.declared.numbers.RecipeNumbers.{RecipeNumbers}
-use Rattle.batch_engine.proofs.Finding.{batch-runs}
-use Rattle.batch_engine.proofs.Telling.{some-at, tree-is}
-
--- The act at a node
+use Rattle.batch_chart.specs.NodesOf.{node_at, step_at, step_of}
 
 -- the node is that of this act, on some unit, where the roles are bound
 abbrev IsOfAct : Binding → Acts → Act → Tree → Type 0
@@ -62,29 +52,3 @@ act-here r bound k e is i less = go (act_of r.acts e.kind) refl
         let none = no-act-at-node bound r.acts k (act_at r k e is ∙ ap Some q) in
         absurd (omega (arith, less, ap (λ (ns : List Need). length ns) (none-needed (node_at (bound_tree bound r.acts) k).here none)))
     go (Some a) q = (a, q, ap (λ (t : Tree). (step_of t).needs) (act-at-node bound r.acts k a (act_at r k e is ∙ ap Some q)).3)
-
--- The numbers of a recipe's acts
-
-pub got-numbers : (v : EngineView) (ns : Numbers) (k i : ℕ) (x : RecipeNumbers) → ns ≡ v.numbers → k ≡ i → i < length v.numbers.recipes.items → x ≡ get_or ns.recipes.items k x
-    → slice_get v.numbers.recipes.items i ≡ Some x
-got-numbers v ns k i x e q l h =
-    slice_get_read v.numbers.recipes.items (length v.numbers.recipes.items) i x refl l (h ∙ ap₂ (λ (z : Numbers) j. get_or z.recipes.items j x) e q)
-
--- how many needs the acts have, whatever units take the roles
-pub needs-here : (v : EngineView) → IsKept v → (recipe : ℕ) (x : RecipeNumbers) → slice_get v.numbers.recipes.items recipe ≡ Some x → (units : List ℕ) → x.needs ≡ needs_in (tree_at v.cleared recipe units)
-needs-here v k recipe x e units =
-    let within : recipe < length v.numbers.recipes.items = slice_get_within v.numbers.recipes.items recipe x e in
-    let r = some-at v.cleared.recipes recipe (omega (arith, within, k.numbers.recipes_are.count)) in
-    (k.numbers.recipes_are.each recipe r.0 x r.1 e).needs (bound_to v.cleared recipe units) ∙ ap needs_in (sym (tree-is v.cleared recipe r.0 r.1 units))
-
-pub in-numbers : (v : EngineView) (k : IsKept v) (i : ℕ) (b : Batch) → slice_get v.batches i ≡ Some b → b.recipe < length v.numbers.recipes.items
-in-numbers v k i b at = omega (arith, (batch-runs v k i b at).known, k.numbers.recipes_are.count)
-
--- One recipe more
-
-pub pushed : {X : Type 0} (P : ℕ → X → Type 0) (xs : List X) (y : X) → ((k : ℕ) (x : X) → slice_get xs k ≡ Some x → P k x) → P (length xs) y
-    → (k : ℕ) (x : X) → slice_get (xs ++ y ∷ []) k ≡ Some x → P k x
-pushed P [] y h p zero x e = let same : y ≡ x = cc in subst (P 0) same p
-pushed P [] y h p (suc k) x e = absurd cc
-pushed P (z ∷ xs) y h p zero x e = h 0 x e
-pushed P (z ∷ xs) y h p (suc k) x e = pushed (λ k. P (suc k)) xs y (λ k. h (suc k)) p k x e

@@ -1,4 +1,4 @@
-//! Numbers of the resources that acts need and of the phases that they run.
+//! Numbers of the phases that acts run.
 ghost use Rattle.std.specs.Prelude.{◌≡◌};
 ghost use Rattle.batch_engine.specs.Numbered.{phase_by};
 
@@ -17,21 +17,6 @@ pub const NO_PHASE: PhaseNumber = PhaseNumber {
     unit: u16::MAX,
     phase: u16::MAX,
 };
-
-/// A recipe by the numbers of the names in its acts.
-#[derive(Drop)]
-pub struct RecipeNumbers {
-    pub linked: LinkedRecipe,
-    /// How many needs a batch can hold and ask for at once.
-    pub needs: usize,
-}
-
-/// The recipes of a set, and the phases of its cell.
-#[derive(Drop)]
-pub struct Numbers {
-    pub recipes: Vec<RecipeNumbers>,
-    pub phases: CellPhases,
-}
 
 /// The phase that the act at this entry of the recipe runs, if these units take the roles.
 #[inline(always)]
