@@ -20,7 +20,6 @@ use Rattle.batch_recipe.proofs.Asking.{own_needs}
 use Rattle.batch_recipe.proofs.Climbing.{entry_in}
 use Rattle.batch_recipe.proofs.Linking.{as_many_entries}
 use Rattle.batch_recipe.proofs.Shaping.{is_outline}
-use Rattle.batch_check.specs.declared.act_needs.ActNeeds.{ActNeeds}
 use Rattle.batch_check.specs.declared.edge.Edge.{Edge}
 use Rattle.batch_check.specs.declared.edge_set.EdgeSet.{EdgeSet}
 use Rattle.batch_check.specs.declared.path.Path.{Path}
@@ -31,7 +30,7 @@ use Rattle.batch_check.specs.Takings.{Taking}
 use Rattle.batch_check.specs.Edges.{Covers, Follows, number_of_resource, numbers_of_resources}
 use Rattle.batch_check.specs.Joining.{needs_in}
 use Rattle.batch_check.specs.Pairs.{ArePaired, Keeps}
-use Rattle.batch_check.specs.Sites.{StandFor, bound_on, count_with_roles, needs_at, nodes_on, own_at, resource_count, resource_on, resources_on, sites_on, units_on}
+use Rattle.batch_check.specs.Sites.{StandFor, bound_on, count_with_roles, needs_at, nodes_on, resource_count, resource_on, resources_on, sites_on, units_on}
 use Rattle.batch_check.specs.Collecting.{GoesOn, HasAsked, IsAmong, IsAskedAt, IsCollected, IsPathOf, IsReady, PairsAll, StandsOn, is_joined, kept_at_top, kept_by, with_joined}
 use Rattle.batch_check.proofs.Asking.{Follows-keeps, GoesOn-append, GoesOn-grown, GoesOn-none, IsPathOf-append}
 use Rattle.batch_check.proofs.Bound.{each_at}
@@ -259,11 +258,11 @@ module _ (site : Site) (number : ℕ) (kept : Option (List (Option ℕ))) (top :
 -- The acts whose own needs are joined
 
 -- where an act's flag is set, there are edges between its own needs
-abbrev pub AreJoined : ActNeeds → List Bool → EdgeSet → Type 0
-AreJoined needs joined edges = (number : ℕ) → IsTrue (slice_index_or joined number false) → Follows edges.edges.items None (own_at needs (kind.Act Phases number))
+abbrev pub AreJoined : (Kind → List (Option ℕ)) → List Bool → EdgeSet → Type 0
+AreJoined own joined edges = (number : ℕ) → IsTrue (slice_index_or joined number false) → Follows edges.edges.items None (own (kind.Act Phases number))
 
-pub AreJoined-none : (needs : ActNeeds) (joined : List Bool) (n : ℕ) (edges : EdgeSet) → joined ≡ replicate n false → AreJoined needs joined edges
-AreJoined-none needs joined n edges is = λ number told.
+pub AreJoined-none : (own : Kind → List (Option ℕ)) (joined : List Bool) (n : ℕ) (edges : EdgeSet) → joined ≡ replicate n false → AreJoined own joined edges
+AreJoined-none own joined n edges is = λ number told.
     let none : get_or joined number false ≡ false = ap (λ (flags : List Bool). get_or flags number false) is ∙ all_false number (cases_lt number n) in
     let bad : false ≡ true = sym none ∙ told in
     absurd cc
@@ -272,15 +271,15 @@ AreJoined-none needs joined n edges is = λ number told.
     all_false k (inl within) = get_or-replicate n k false false within
     all_false k (inr past) = get_or_past (replicate n false) k false (omega (arith, past, length-replicate n false))
 
-pub AreJoined-at : (needs : ActNeeds) (joined : List Bool) (edges : EdgeSet) (k : Kind) → AreJoined needs joined edges → IsTrue (is_joined joined k) → Follows edges.edges.items None (own_at needs k)
-AreJoined-at needs joined edges (kind.Act Phases number) h is = h number is
-AreJoined-at needs joined edges _ h is = let bad : false ≡ true = is in absurd cc
+pub AreJoined-at : (own : Kind → List (Option ℕ)) (joined : List Bool) (edges : EdgeSet) (k : Kind) → AreJoined own joined edges → IsTrue (is_joined joined k) → Follows edges.edges.items None (own k)
+AreJoined-at own joined edges (kind.Act Phases number) h is = h number is
+AreJoined-at own joined edges _ h is = let bad : false ≡ true = is in absurd cc
 
-pub AreJoined-with : (needs : ActNeeds) (joined : List Bool) (old new : EdgeSet) (k : Kind) → AreJoined needs joined old → Keeps old.edges.items new.edges.items
-    → Follows new.edges.items None (own_at needs k) → AreJoined needs (with_joined joined k) new
-AreJoined-with needs joined old new (kind.Act Phases place) h kept follows = λ number is. at number is (cases_eq number place)
+pub AreJoined-with : (own : Kind → List (Option ℕ)) (joined : List Bool) (old new : EdgeSet) (k : Kind) → AreJoined own joined old → Keeps old.edges.items new.edges.items
+    → Follows new.edges.items None (own k) → AreJoined own (with_joined joined k) new
+AreJoined-with own joined old new (kind.Act Phases place) h kept follows = λ number is. at number is (cases_eq number place)
   where
-    at : (number : ℕ) → IsTrue (get_or (set joined place true) number false) → (number ≡ place) ⊎ (number ≢ place) → Follows new.edges.items None (own_at needs (kind.Act Phases number))
-    at number is (inl same) = subst (λ n. Follows new.edges.items None (own_at needs (kind.Act Phases n))) (sym same) follows
-    at number is (inr other) = Follows-keeps old.edges.items new.edges.items kept None (own_at needs (kind.Act Phases number)) (h number (subst IsTrue (get_or-set_other joined place number true false other) is))
-AreJoined-with needs joined old new _ h kept follows = λ number is. Follows-keeps old.edges.items new.edges.items kept None (own_at needs (kind.Act Phases number)) (h number is)
+    at : (number : ℕ) → IsTrue (get_or (set joined place true) number false) → (number ≡ place) ⊎ (number ≢ place) → Follows new.edges.items None (own (kind.Act Phases number))
+    at number is (inl same) = subst (λ n. Follows new.edges.items None (own (kind.Act Phases n))) (sym same) follows
+    at number is (inr other) = Follows-keeps old.edges.items new.edges.items kept None (own (kind.Act Phases number)) (h number (subst IsTrue (get_or-set_other joined place number true false other) is))
+AreJoined-with own joined old new _ h kept follows = λ number is. Follows-keeps old.edges.items new.edges.items kept None (own (kind.Act Phases number)) (h number is)

@@ -8,9 +8,9 @@ pub mod Told
 pub mod Pairs
 pub mod Joins
 pub mod Needs
+pub mod Numbers
 pub mod Roles
 pub mod Taken
-pub mod Tables
 pub mod Asking
 pub mod Collects
 pub mod Known

@@ -1,27 +1,16 @@
 -- Numbers of roles, and the units that they stand for.
-use Rattle.std.proofs.Common.{◌≡◌, ℕ, ◌+◌, ◌-◌, ◌<◌, ◌≤◌, ◌⊎◌, Bool, true, false, cond, ◌||◌, inl, inr, List, [], ◌∷◌, map, length, get_or, slice_get, zero, suc, IsTrue, is_some, position, find, Option, Some, None, option_map, option_and_then, refl, sym, ap, ◌∙◌, subst, arith, lt-ltb, le-ltb}
-use Rattle.std.specs.List.{Contains, list_any}
-use Rattle.std.proofs.lemmas.Bool.{cases_lt, true≢false}
-use Rattle.std.proofs.lemmas.List.{get_or-map, get_or_past, length-map}
-use Rattle.std.proofs.lemmas.List.Quantifiers.{position-Some}
+use Rattle.std.proofs.Common.{◌≡◌, ℕ, ◌-◌, ◌<◌, ◌≤◌, ◌⊎◌, inl, inr, List, [], ◌∷◌, map, length, get_or, slice_get, zero, suc, IsTrue, Option, Some, None, option_and_then, refl, sym, ap, ◌∙◌, subst, lt-ltb, le-ltb}
+use Rattle.std.specs.List.{Contains}
+use Rattle.std.proofs.lemmas.Bool.{cases_lt}
+use Rattle.std.proofs.lemmas.List.{get_or_past}
 use Rattle.std.proofs.lemmas.Option.{none-some, same_Some, slice_get-get_or}
-use Rattle.std.proofs.lemmas.Slice.Eq.{bytes_eq-Decides}
-use Rattle.batch_cell.specs.LookUps.{resources_of, units_of_class}
-use Rattle.batch_recipe.specs.Conditions.{Name, same_name}
-use Rattle.batch_recipe.specs.declared.role.Role.{Role}
-use Rattle.batch_verify.specs.Bindings.{candidate_of, nobody, taking}
-use Rattle.batch_verify.proofs.Finding.{found_is_among}
-use Rattle.batch_verify.proofs.Taking.{nobody_unknown}
 use Rattle.batch_check.specs.declared.edge.Edge.{Edge}
-use Rattle.batch_check.specs.declared.site.Site.{Site}
 use Rattle.batch_check.specs.Collecting.{AreTakenIn}
-use Rattle.batch_check.specs.Edges.{Follows, Joins, has_pair, number_of_resource}
+use Rattle.batch_check.specs.Edges.{Follows, Joins, has_pair}
 use Rattle.batch_check.specs.Joining.{AreBelow}
 use Rattle.batch_check.specs.Pairs.{ArePaired}
-use Rattle.batch_check.specs.Sites.{StandsForUnit, bound_on, resource_count, resource_on, units_on}
-use Rattle.batch_check.specs.Takings.{Taking, resource_for}
+use Rattle.batch_check.specs.Takings.{resource_for}
 use Rattle.batch_check.proofs.Joins.{Contains-at}
-use Rattle.batch_check.proofs.Needs.{number_within}
 use Rattle.batch_check.proofs.Rising.{edge_of}
 
 -- Resources that numbers stand for
@@ -42,68 +31,6 @@ resource_for-within count units n k below is = go (cases_lt n count)
     go : (n < count) ⊎ (count ≤ n) → k < count
     go (inl own) = let same : n ≡ k = same_Some n k (sym (resource_for-below count units n own) ∙ is) in subst (λ m. m < count) same own
     go (inr past) = below k (found (n - count) (sym (resource_for-past count units n past) ∙ is) (cases_lt (n - count) (length units)))
-
--- Units
-
--- a name is no role where it is at no place among them
-no_role : (p : Role → Bool) (roles : List Role) → list_any p roles ≡ false → find p roles ≡ None
-no_role p [] h = refl
-no_role p (role ∷ roles) h = go (p role) h (no_role p roles)
-  where
-    go : (b : Bool) → (b || list_any p roles) ≡ false → (list_any p roles ≡ false → find p roles ≡ None) → cond b (Some role) (find p roles) ≡ None
-    go true h more = absurd (true≢false h)
-    go false h more = more h
-
-module _ (site : Site) where
-  pub resource_stands : (name : Name) → StandsForUnit site (λ t. name) (number_of_resource site.cell.now name)
-  resource_stands name = record {
-    below = λ k is. omega (arith, number_within site.cell.now name k is);
-    taken = λ t. go t (number_of_resource site.cell.now name) refl;
-  }
-    where
-      go : (t : Taking) (o : Option ℕ) → number_of_resource site.cell.now name ≡ o → option_and_then (resource_on site t) o ≡ o
-      go t None is = refl
-      go t (Some k) is = resource_for-below (resource_count site) (units_on site t) k (number_within site.cell.now name k is)
-
-  -- the role with this name
-  abbrev is_named : Name → Role → Bool
-  is_named name role = same_name role.name name
-
-  abbrev roles : List Role
-  roles = site.recipe.now.roles.items
-
-  pub role_stands : (name : Name) → StandsForUnit site (λ t. bound_on site t name) (option_map (λ n. resource_count site + n) (position (is_named name) roles))
-  role_stands name = record { below = λ k is. below k (position (is_named name) roles) refl is; taken = λ t. taken t (position (is_named name) roles) refl }
-    where
-      no_name : Role
-      no_name = record { name = name; class = [] }
-
-      below : (k : ℕ) (o : Option ℕ) → position (is_named name) roles ≡ o → option_map (λ n. resource_count site + n) o ≡ Some k → k < resource_count site + length roles
-      below k None at is = absurd (none-some k is)
-      below k (Some n) at is = omega (arith, same_Some (resource_count site + n) k is, (position-Some (is_named name) roles n no_name at).0)
-
-      taken : (t : Taking) (o : Option ℕ) → position (is_named name) roles ≡ o
-          → option_and_then (resource_on site t) (option_map (λ n. resource_count site + n) o) ≡ number_of_resource site.cell.now (bound_on site t name)
-      taken t None at =
-          let nowhere : find (is_named name) roles ≡ None = no_role (is_named name) roles (sym (found_is_among (is_named name) roles) ∙ ap (λ (o : Option ℕ). is_some o) at) in
-          let untaken : taking site.cell.now roles (t name) name ≡ None =
-          ap (λ (o : Option Role). let r : Option Name = elim o [ None ↦ None | Some role ↦ candidate_of (units_of_class site.cell.now role.class) (t name) ] in r) nowhere in
-          let nobody_there : bound_on site t name ≡ nobody (resources_of site.cell.now) =
-          ap (λ (o : Option Name). let r : Name = elim o [ None ↦ nobody (resources_of site.cell.now) | Some unit ↦ unit ] in r) untaken in
-          sym (ap (number_of_resource site.cell.now) nobody_there ∙ nobody_unknown (resources_of site.cell.now))
-      taken t (Some n) at =
-          let found = position-Some (is_named name) roles n no_name at in
-          let role : Role = get_or roles n no_name in
-          let same : role.name ≡ name = (bytes_eq-Decides role.name name).0 found.1 in
-          let taken_by : Role → Name = λ r. bound_on site t r.name in
-          let count = resource_count site in
-          let units = units_on site t in
-          let place : (count + n) - count ≡ n = omega arith in
-          resource_for-past count units (count + n) (omega arith)
-          ∙ (ap (λ i. get_or units i None) place
-          ∙ (get_or-map (number_of_resource site.cell.now) (map taken_by roles) n [] None (omega (arith, length-map roles taken_by, found.0))
-          ∙ (ap (number_of_resource site.cell.now) (get_or-map taken_by roles n no_name [] found.0)
-          ∙ ap (λ (x : Name). number_of_resource site.cell.now (bound_on site t x)) same)))
 
 -- Edges
 

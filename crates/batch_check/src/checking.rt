@@ -5,6 +5,7 @@ ghost use Rattle.batch_model.specs.Lists.{Each};
 ghost use Rattle.batch_model.specs.Cleared.{CanBeCleared, IsCleared};
 ghost use Rattle.batch_model.specs.Setups.{master_of, setup_of};
 ghost use Rattle.batch_model.specs.declared.limits.TheConstants.{MAX_RECIPES};
+ghost use Rattle.batch_set.specs.Linking.{IsLinkedSet};
 ghost use Rattle.batch_verify.specs.CertificateText.{AreInOrderOfName};
 ghost use Rattle.batch_verify.specs.Ranked.{rank_of, RanksAll};
 ghost use Rattle.batch_check.specs.Checking.{IsFault, IsSoundMaster};
@@ -20,6 +21,7 @@ use crate::shortest::shortest_circle;
 use crate::turning::turned;
 use batch_cell::Cell;
 use batch_recipe::Recipe;
+use batch_set::LinkedSet;
 use batch_verify::{Certificate, first_broken, is_recipe_set};
 use std::alloc::Global;
 
@@ -48,21 +50,29 @@ pub fn check(alloc: Global, cell: &Cell, recipes: &[Recipe]) -> Result<Certifica
     if !is_recipe_set(recipes) {
         return Err(CheckFault::Recipes);
     }
-    check_each(alloc, cell, recipes)?;
-    let ranks = ranks_of(alloc, cell, recipes)?;
+    let linked = LinkedSet::new(alloc, cell, recipes)?;
+    check_each(alloc, cell, recipes, &linked)?;
+    let ranks = ranks_of(alloc, cell, recipes, &linked)?;
     let ranks = ranks_by_name(alloc, cell, &ranks)?;
     Ok(Certificate { ranks })
 }
 
-/// Checks the recipes one after another by the rules that don't speak of ranks.
-fn check_each(alloc: Global, cell: &Cell, recipes: &[Recipe]) -> Result<(), CheckFault>
-    requires { length recipes.now ≤ MAX_RECIPES }
+/// Checks the recipes one after another by the rules that don't speak of ranks. `linked` are the recipes by number.
+fn check_each(
+    alloc: Global,
+    cell: &Cell,
+    recipes: &[Recipe],
+    linked: &LinkedSet,
+) -> Result<(), CheckFault>
+    requires few { length recipes.now ≤ MAX_RECIPES }
+    requires linked { IsLinkedSet cell.now recipes.now linked.now }
     ensures sound { OnOk result
         (Each (IsSoundMaster (setup_of cell.now recipes.now)) (map (master_of cell.now) recipes.now)) }
     ensures fault { IfErr result (IsRecipeFault (setup_of cell.now recipes.now)) }
 {
     for (number, recipe) in recipes.iter().enumerate() {
-        match first_broken(alloc, cell, recipe, None)? {
+        let own = &linked.recipes[number];
+        match first_broken(alloc, cell, recipe, None, own)? {
             None => {}
             Some(broken) => {
                 let recipe = number as u16;
@@ -73,21 +83,23 @@ fn check_each(alloc: Global, cell: &Cell, recipes: &[Recipe]) -> Result<(), Chec
     Ok(())
 }
 
-/// The least ranks that rise along all paths of the recipes, by number, or a circle with the fewest edges.
-pub(crate) fn ranks_of(
+/// The least ranks that rise along all paths of the recipes, by number, or a circle with the fewest edges. `linked` are the recipes by number.
+fn ranks_of(
     alloc: Global,
     cell: &Cell,
     recipes: &[Recipe],
+    linked: &LinkedSet,
 ) -> Result<Vec<u32>, CheckFault>
-    requires { length recipes.now ≤ MAX_RECIPES }
+    requires few { length recipes.now ≤ MAX_RECIPES }
+    requires linked { IsLinkedSet cell.now recipes.now linked.now }
     ensures least { IfOk result (λ ranks. AreLeastRanks cell.now recipes.now ranks.items) }
     ensures fault { IfErr result (IsCircleFault cell.now recipes.now) }
 {
-    let mut set = edges_of(alloc, cell, recipes)?;
+    let mut set = edges_of(alloc, cell, recipes, linked)?;
     match least_ranks(alloc, cell.resources(), &set.edges)? {
         Ranking::Ranks(ranks) => Ok(ranks),
         Ranking::Circle(circle) => {
-            add_pairs(alloc, cell, recipes, &mut set)?;
+            add_pairs(alloc, cell, recipes, linked, &mut set)?;
             let shortest = shortest_circle(alloc, cell.resources(), &set.edges, circle)?;
             Err(CheckFault::Circle(turned(cell, shortest)))
         }

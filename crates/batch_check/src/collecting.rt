@@ -1,26 +1,28 @@
 //! The edges of a recipe's nodes.
 ghost use Rattle.std.specs.Prelude.{◌≡◌, slice_index_or, IfOk};
 ghost use Rattle.batch_check.specs.Collecting.{IsCollected, is_joined, kept_at_top, with_joined};
+ghost use Rattle.batch_check.specs.Sites.{IsLinkedAt};
 
-use crate::act_needs::ActNeeds;
 use crate::edge_set::EdgeSet;
 use crate::path::{Path, Reach, ask_act};
 use crate::site::Site;
 use batch_recipe::{Entry, Kind, LabelTable};
+use batch_set::LinkedRecipe;
 use std::alloc::{AllocError, Global};
 
 /// The edges of the nodes of the site's recipe, which has this number, between resources and roles: the roles' numbers come after those
-/// of the resources.
+/// of the resources. `linked` is the recipe by number.
 pub(crate) fn collect(
     alloc: Global,
     site: &Site,
+    linked: &LinkedRecipe,
     number: u16,
     reach: Reach,
 ) -> Result<EdgeSet, AllocError>
+    requires { IsLinkedAt site.now.cell.now site.now.recipe.now linked.now }
     ensures { IfOk result (λ set. IsCollected site.now (kept_at_top reach) number set.edges.items) }
 {
     let mut edges = EdgeSet::new(alloc, site.count_with_roles())?;
-    let needs = ActNeeds::new(alloc, site)?;
     let top = Path::top(alloc, number, reach);
     // The path to each node so far, by number.
     let mut paths = Vec::with_capacity(alloc, site.recipe.outline.entries.len())?;
@@ -29,7 +31,8 @@ pub(crate) fn collect(
     for (node, entry) in site.recipe.outline.entries.iter().enumerate() {
         let above = path_above(&paths, entry, &top);
         let known = is_joined(&joined, entry.kind);
-        let path = ask_act(needs.of(entry.kind), known, above, node as u16, &mut edges)?;
+        let needs = linked.needs(entry.kind);
+        let path = ask_act(alloc, site, needs, known, above, node as u16, &mut edges)?;
         set_joined(&mut joined, entry.kind);
         paths.push(path)?;
     }

@@ -5,7 +5,9 @@ ghost use Rattle.batch_recipe.specs.declared.recipe.Recipe.{Recipe};
 ghost use Rattle.batch_check.specs.Collecting.{AreAdded, HasAllPairs, IsAdded, kept_at_top};
 ghost use Rattle.batch_check.specs.Edges.{AreEdgesOf};
 ghost use Rattle.batch_check.specs.LeastRanking.{HasEndsBelow};
+ghost use Rattle.batch_check.specs.Sites.{IsLinkedAt};
 ghost use Rattle.batch_model.specs.declared.limits.TheConstants.{MAX_RECIPES};
+ghost use Rattle.batch_set.specs.Linking.{IsLinkedSet};
 
 use crate::binding::{
     add_raised, add_taken, edges_behind, edges_of_roles, units_by, units_of_each,
@@ -17,23 +19,26 @@ use crate::path::Reach;
 use crate::site::Site;
 use batch_cell::Cell;
 use batch_recipe::Recipe;
+use batch_set::{LinkedRecipe, LinkedSet};
 use std::alloc::{AllocError, Global};
 
 /// The orders in which the recipes ask for resources: an edge for each two that follow one another on a path, whatever units take
-/// the roles.
+/// the roles. `linked` are the recipes by number.
 pub(crate) fn edges_of(
     alloc: Global,
     cell: &Cell,
     recipes: &[Recipe],
+    linked: &LinkedSet,
 ) -> Result<EdgeSet, AllocError>
-    requires { length recipes.now ≤ MAX_RECIPES }
+    requires few { length recipes.now ≤ MAX_RECIPES }
+    requires linked { IsLinkedSet cell.now recipes.now linked.now }
     ensures sized { IfOk result (λ set. set.count ≡ length (resources_of cell.now)) }
     // claim: circle stands; all paths
     ensures edges { IfOk result (λ set. AreEdgesOf cell.now recipes.now set.edges.items) }
     ensures within { IfOk result (λ set. HasEndsBelow (length (resources_of cell.now)) set.edges.items) }
 {
     let mut set = EdgeSet::new(alloc, cell.resources())?;
-    add_all(alloc, cell, recipes, Reach::Next, &mut set)?;
+    add_all(alloc, cell, recipes, linked, Reach::Next, &mut set)?;
     Ok(set)
 }
 
@@ -42,15 +47,17 @@ pub(crate) fn add_pairs(
     alloc: Global,
     cell: &Cell,
     recipes: &[Recipe],
+    linked: &LinkedSet,
     set: &mut EdgeSet,
 ) -> Result<(), AllocError>
     requires few { length recipes.now ≤ MAX_RECIPES }
+    requires linked { IsLinkedSet cell.now recipes.now linked.now }
     requires sized { set.old.count ≡ length (resources_of cell.now) }
     requires edges { AreEdgesOf cell.now recipes.now set.old.edges.items }
     ensures pairs { OnOk result (HasAllPairs cell.now recipes.now set.old set.new) }
     ensures within { OnOk result (HasEndsBelow (length (resources_of cell.now)) set.new.edges.items) }
 {
-    add_all(alloc, cell, recipes, Reach::Whole, set)
+    add_all(alloc, cell, recipes, linked, Reach::Whole, set)
 }
 
 /// Adds the edges of the recipes, one after another.
@@ -58,15 +65,18 @@ fn add_all(
     alloc: Global,
     cell: &Cell,
     recipes: &[Recipe],
+    linked: &LinkedSet,
     reach: Reach,
     set: &mut EdgeSet,
 ) -> Result<(), AllocError>
     requires few { length recipes.now ≤ MAX_RECIPES }
+    requires linked { IsLinkedSet cell.now recipes.now linked.now }
     requires sized { set.old.count ≡ length (resources_of cell.now) }
     ensures { OnOk result (AreAdded cell.now (kept_at_top reach) recipes.now recipes.now set.old set.new) }
 {
     for (number, recipe) in recipes.iter().enumerate() {
-        add_edges(alloc, cell, recipe, number as u16, reach, set)?;
+        let own = &linked.recipes[number];
+        add_edges(alloc, cell, recipe, own, number as u16, reach, set)?;
     }
     Ok(())
 }
@@ -77,16 +87,18 @@ fn add_edges(
     alloc: Global,
     cell: &Cell,
     recipe: &Recipe,
+    linked: &LinkedRecipe,
     number: u16,
     reach: Reach,
     edges: &mut EdgeSet,
 ) -> Result<(), AllocError>
-    requires { edges.old.count ≡ length (resources_of cell.now) }
+    requires sized { edges.old.count ≡ length (resources_of cell.now) }
+    requires linked { IsLinkedAt cell.now recipe.now linked.now }
     ensures { OnOk result ((recipes : List Recipe) → slice_get recipes number ≡ Some recipe.now
         → IsAdded cell.now (kept_at_top reach) recipes recipe.now edges.old edges.new) }
 {
     let site = Site { cell, recipe };
-    let collected = collect(alloc, &site, number, reach)?;
+    let collected = collect(alloc, &site, linked, number, reach)?;
     let first = units_by(alloc, cell, &recipe.roles, 0)?;
     add_taken(&collected.edges, &first, edges)?;
     let of_roles = edges_of_roles(alloc, cell.resources(), &collected.edges)?;

@@ -12,6 +12,7 @@ use crate::edges::edges_of;
 use crate::fault::CheckFault;
 use batch_cell::Cell;
 use batch_recipe::Recipe;
+use batch_set::LinkedSet;
 use batch_verify::is_recipe_set;
 use std::alloc::{AllocError, Global};
 
@@ -35,7 +36,8 @@ pub fn graph_of(
     if !is_recipe_set(recipes) {
         return Err(CheckFault::Recipes);
     }
-    let mut set = edges_of(alloc, cell, recipes)?;
+    let linked = LinkedSet::new(alloc, cell, recipes)?;
+    let mut set = edges_of(alloc, cell, recipes, &linked)?;
     add_each(circle, &mut set)?;
     Ok(set.edges)
 }

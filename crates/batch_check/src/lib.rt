@@ -1,7 +1,6 @@
 //! The check of a set of recipes: the least ranking of a cell's resources that clears them, or why there is none.
 #![tactic(auto)]
 
-mod act_needs;
 mod asked;
 mod binding;
 mod checking;

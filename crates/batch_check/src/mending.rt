@@ -11,6 +11,7 @@ use crate::fault::CheckFault;
 use crate::ranking::{Ranking, least_ranks};
 use batch_cell::Cell;
 use batch_recipe::Recipe;
+use batch_set::LinkedSet;
 use batch_verify::is_recipe_set;
 use std::alloc::{AllocError, Global};
 
@@ -43,8 +44,9 @@ fn rise_along_others(
     requires { length recipes.now ≤ MAX_RECIPES }
     ensures { IfOk result (λ rise. TellRises cell.now recipes.now edges.now rise.items) }
 {
-    let mut set = edges_of(alloc, cell, recipes)?;
-    add_pairs(alloc, cell, recipes, &mut set)?;
+    let linked = LinkedSet::new(alloc, cell, recipes)?;
+    let mut set = edges_of(alloc, cell, recipes, &linked)?;
+    add_pairs(alloc, cell, recipes, &linked, &mut set)?;
     let mut rise = Vec::with_capacity(alloc, edges.len())?;
     for edge in edges {
         let rises = rises_along_others(alloc, cell.resources(), &set.edges, *edge)?;

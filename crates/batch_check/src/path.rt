@@ -4,10 +4,13 @@ ghost use Rattle.std.specs.Option.{ForSome};
 ghost use Rattle.batch_check.specs.Collecting.{HasAsked, IsCopy, IsReady, ends_in, kept_at_top, kept_by};
 ghost use Rattle.batch_check.specs.Edges.{Follows};
 ghost use Rattle.batch_check.specs.Joining.{AreBelow};
+ghost use Rattle.batch_check.specs.Sites.{numbers_of};
 
 use crate::asked::Asked;
 use crate::edge_set::EdgeSet;
 use crate::joining::{join, join_and_push};
+use crate::site::Site;
+use batch_set::LinkedNeed;
 use std::alloc::{AllocError, Global};
 
 /// Which two needs of a path an edge joins.
@@ -80,7 +83,7 @@ fn ask(need: Option<u16>, path: Path, node: u16, edges: &mut EdgeSet) -> Result<
 }
 
 /// The path after these needs of the act at the node, in their order. Adds the edges to them.
-pub(crate) fn ask_each(
+fn ask_each(
     needs: &[Option<u16>],
     path: &Path,
     node: u16,
@@ -108,21 +111,24 @@ pub(crate) fn ask_each(
 /// The path after these needs of the act at the node, in their order. Adds the edges to them; where the needs are joined, those
 /// between them are there already.
 pub(crate) fn ask_act(
-    needs: &[Option<u16>],
+    alloc: Global,
+    site: &Site,
+    needs: &[LinkedNeed],
     joined: bool,
     path: &Path,
     node: u16,
     edges: &mut EdgeSet,
 ) -> Result<Path, AllocError>
     requires ready { IsReady path.now edges.old }
-    requires needs { AreBelow edges.old.count needs.now }
-    requires joined { IsTrue joined → Follows edges.old.edges.items None needs.now }
-    ensures { IfOk result (HasAsked path.now node needs.now edges.old edges.new) }
+    requires needs { AreBelow edges.old.count (numbers_of site.now needs.now) }
+    requires joined { IsTrue joined → Follows edges.old.edges.items None (numbers_of site.now needs.now) }
+    ensures { IfOk result (HasAsked path.now node (numbers_of site.now needs.now) edges.old edges.new) }
 {
     if !joined || path.asked.is_some() {
-        return ask_each(needs, path, node, edges);
+        let numbers = site.numbers_of(alloc, needs)?;
+        return ask_each(&numbers, path, node, edges);
     }
-    let last = ask_again(needs, path.recipe, path.last, node, edges)?;
+    let last = ask_again(site, needs, path.recipe, path.last, node, edges)?;
     Ok(Path {
         recipe: path.recipe,
         last,
@@ -152,20 +158,21 @@ fn ask_in_turn(
 
 /// The last need after these of the act at the node, between which there are edges already. Adds the edge to the first of them.
 fn ask_again(
-    needs: &[Option<u16>],
+    site: &Site,
+    needs: &[LinkedNeed],
     recipe: u16,
     before: Option<u16>,
     node: u16,
     edges: &mut EdgeSet,
 ) -> Result<Option<u16>, AllocError>
     requires before { ForSome before (λ number. number < edges.old.count) }
-    requires needs { AreBelow edges.old.count needs.now }
-    requires joined { Follows edges.old.edges.items None needs.now }
-    ensures { IfOk result (λ last. HasAsked (ends_in recipe before) node needs.now edges.old edges.new (ends_in recipe last)) }
+    requires needs { AreBelow edges.old.count (numbers_of site.now needs.now) }
+    requires joined { Follows edges.old.edges.items None (numbers_of site.now needs.now) }
+    ensures { IfOk result (λ last. HasAsked (ends_in recipe before) node (numbers_of site.now needs.now) edges.old edges.new (ends_in recipe last)) }
 {
     let [first, ..] = needs else {
         return Ok(before);
     };
-    join(recipe, node, before, *first, edges)?;
-    Ok(needs[needs.len() - 1])
+    join(recipe, node, before, site.number_of(first.source), edges)?;
+    Ok(site.number_of(needs[needs.len() - 1].source))
 }

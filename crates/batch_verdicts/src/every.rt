@@ -21,6 +21,7 @@ use batch_cell::Cell;
 use batch_check::CheckFault;
 use batch_messages::Source;
 use batch_recipe::Recipe;
+use batch_set::LinkedSet;
 use batch_verify::{first_broken, is_recipe_set};
 use std::alloc::Global;
 use std::io::Write;
@@ -231,9 +232,11 @@ fn rule_refusals(
     ensures refused { IfOk result (λ refusals. AreRulesRefused cell.now recipes.now 0 recipes.now refusals.items) }
     ensures memory { IfErr result (λ halt. halt ≡ Memory) }
 {
+    let linked = LinkedSet::new(alloc, cell, recipes)?;
     let mut refusals = Vec::new(alloc);
     for (number, recipe) in recipes.iter().enumerate() {
-        if let Some(broken) = first_broken(alloc, cell, recipe, None)? {
+        let own = &linked.recipes[number];
+        if let Some(broken) = first_broken(alloc, cell, recipe, None, own)? {
             let recipe = number as u16;
             let fault = CheckFault::Recipe { recipe, broken };
             let refusal = rule_refusal(alloc, cell, recipes, sources, &fault)?;

@@ -30,7 +30,6 @@ pub mod Owners
 pub mod Choices
 pub mod Covering
 pub mod Least
-pub mod Reserving
 pub mod Served
 pub mod Tried
 pub mod Bound

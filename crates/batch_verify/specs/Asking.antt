@@ -1,4 +1,4 @@
--- private: the needs of acts by number.
+-- surface: the needs of acts by number.
 use Rattle.std.specs.Prelude.{◌≡◌, ℕ, List, [], ◌∷◌, length, map, Bool, nat_le, nat_lt, if◌then◌else◌, Option, Some, None, Result, Ok, Err, position, MatchResult}
 use Rattle.std.specs.List.{slice_index_or}
 use Rattle.std.specs.Option.{is_some}

@@ -3,32 +3,13 @@ ghost use Rattle.std.specs.Prelude.{◌≡◌, ◌<◌, length, IfOk};
 ghost use Rattle.std.specs.List.{list_all};
 ghost use Rattle.std.specs.Option.{ForSome};
 ghost use Rattle.batch_cell.specs.LookUps.{resources_of, units_of};
-ghost use Rattle.batch_verify.specs.Asking.{SaysAsks, among_first, ask_by, asks_on, is_fitting, is_found, number_by, unit_by};
+ghost use Rattle.batch_verify.specs.Asking.{among_first, ask_by, asks_on, is_fitting, is_found, number_by, unit_by};
 ghost use Rattle.batch_verify.specs.Walking.{known_unit};
 
 use crate::rule::Rule;
 use crate::site::Site;
-use batch_cell::Cell;
-use batch_recipe::{Act, Recipe};
-use batch_set::{CellPhases, LinkedNeed, LinkedRecipe, Source, link};
-use indexmap::IndexSet;
-use std::alloc::{AllocError, Global};
-
-/// The linked recipe without the numbers of phases, which are looked up in the cell.
-pub(crate) fn link_needs(
-    alloc: Global,
-    cell: &Cell,
-    recipe: &Recipe,
-) -> Result<LinkedRecipe, AllocError>
-    ensures { IfOk result (SaysAsks cell.now recipe.now) }
-{
-    let phases = CellPhases {
-        names: IndexSet::new(alloc),
-        numbers: Vec::new(alloc),
-    };
-    let linked = link(alloc, cell, &phases, recipe)?;
-    Ok(linked)
-}
+use batch_recipe::Act;
+use batch_set::{LinkedNeed, Source};
 
 /// The number of the source's resource, where these units take the roles.
 pub(crate) fn number_by(takers: &[Option<u16>], source: Source) -> Option<u16>

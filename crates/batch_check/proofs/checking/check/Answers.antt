@@ -12,7 +12,7 @@ use Rattle.batch_check.proofs.checking.check.Goals as goal
 
 pub returns-in_err-check_each-clause-none : goal.returns-in_err-check_each-clause-none
 returns-in_err-check_each-clause-none c =
-    let p = err_from_is_err_and c.from_residual.result c.from_residual.ensures.1 in
+    let p = err_from_is_err_and c.from_residual-in_err-check_each.result c.from_residual-in_err-check_each.ensures.1 in
     rw (p.1, p.2) (λ known. recipe_fault_none (setup_of c.args.cell.now c.args.recipes.now) c.in_err-check_each.field-0.0 c.in_err-check_each.ensures.fault known)
 
 pub returns-in_err-ranks-clause-none : goal.returns-in_err-ranks-clause-none
@@ -57,5 +57,5 @@ returns-clause-tight c =
     subst (λ (rank : Ranking). RanksTightly cell c.args.recipes.now rank) (sym (TellsRanks-certificate cell ranks entries c.in_ok-ranks.ensures.least.complete h).by_name)
     (c.in_ok-ranks.ensures.least.tight (candidates_known cell c.args.recipes.now c.args.recipes.now c.in_ok-check_each.ensures.sound) (needs_known cell c.args.recipes.now c.args.recipes.now c.in_ok-check_each.ensures.sound))
 
-pub check_each-requires : goal.check_each-requires
-check_each-requires c = set_length c.args.cell.now c.args.recipes.now ((c.is_recipe_set.ensures c.args.cell.now).0 c.if-not-is_recipe_set.false)
+pub check_each-requires-clause-few : goal.check_each-requires-clause-few
+check_each-requires-clause-few c = set_length c.args.cell.now c.args.recipes.now ((c.is_recipe_set.ensures c.args.cell.now).0 c.if-not-is_recipe_set.false)

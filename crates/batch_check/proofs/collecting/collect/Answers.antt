@@ -1,4 +1,4 @@
-use Rattle.std.proofs.Common.{◌≡◌, ℕ, ◌+◌, Bool, List, IsTrue, Option, Some, None, get_or, slice_get, length, sym, ap, ◌∙◌, subst, arith}
+use Rattle.std.proofs.Common.{◌≡◌, ◌+◌, Bool, List, IsTrue, Some, None, get_or, slice_get, length, sym, ap, ◌∙◌, subst, arith}
 use Rattle.std.specs.List.{Contains}
 use Rattle.std.proofs.lemmas.List.{with_items_is}
 use Rattle.std.proofs.lemmas.Option.{slice_get-get_or}
@@ -6,12 +6,13 @@ use Rattle.batch_recipe.specs.declared.entry.Entry.{Entry}
 use Rattle.batch_recipe.specs.declared.entry.Kind.TheVariants as kind
 use Rattle.batch_check.specs.Edges.{Follows}
 use Rattle.batch_check.specs.Collecting.{IsReady, is_joined, kept_at_top, with_joined}
-use Rattle.batch_check.specs.Sites.{own_at}
+use Rattle.batch_check.specs.Sites.{numbers_at, numbers_of}
+use Rattle.batch_set.specs.declared.linked.LinkedNeed.{LinkedNeed}
 use Rattle.batch_check.specs.declared.path.Path.{Path}
 use Rattle.batch_check.proofs.Asking.{Follows-alone}
 use Rattle.batch_check.proofs.Collects.{AreJoined, AreJoined-at, AreJoined-none, AreJoined-with, IsTop, KeepsPaths, KeepsPaths-first, KeepsPaths-more, all_collected, is_above, top_of}
 use Rattle.batch_check.proofs.Names.{resources_few}
-use Rattle.batch_check.proofs.Tables.{own_stands}
+use Rattle.batch_check.proofs.Numbers.{numbers_stand}
 use Rattle.batch_check.proofs.collecting.collect.Goals as goal
 use Rattle.batch_check.proofs.collecting.collect.Goals.{After-path_above-above, After-top-top}
 
@@ -39,7 +40,7 @@ loop-node-init c =
           rw c.in_ok-paths.ensures.items
           (KeepsPaths-first c.args.site.now c.args.number (kept_at_top c.args.reach) c.top-top.result top c.in_ok-edges.edges
           (c.in_ok-edges.ensures.0 ∙ c.count_with_roles.ensures) c.in_ok-edges.ensures.1);
-      joined = AreJoined-none c.in_ok-needs.needs c.in_ok-joined.joined.items c.len-2.result c.in_ok-edges.edges (c.in_ok-joined.ensures.items_if_clones_equal (λ y e. e));
+      joined = AreJoined-none (numbers_at c.args.site.now c.args.linked.now) c.in_ok-joined.joined.items c.len-2.result c.in_ok-edges.edges (c.in_ok-joined.ensures.items_if_clones_equal (λ y e. e));
     }
 
 pub ask_act-requires-clause-ready : goal.ask_act-requires-clause-ready
@@ -53,27 +54,27 @@ ask_act-requires-clause-ready c =
 pub ask_act-requires-clause-needs : goal.ask_act-requires-clause-needs
 ask_act-requires-clause-needs c = λ number among.
     let at = (goal.at.ask_act-requires-clause-needs c).After-path_above-above in
-    let own = own_stands c.args.site.now c.in_ok-needs.needs c.in_ok-needs.ensures (entry at).kind in
-    omega (arith, own.below number (subst (λ (needs : List (Option ℕ)). Contains needs (Some number)) c.of.ensures among), c.loop-node.invariant.paths.sized)
+    let own = numbers_stand c.args.site.now c.args.linked.now c.requires (entry at).kind in
+    omega (arith, own.below number (subst (λ (needs : List LinkedNeed). Contains (numbers_of c.args.site.now needs) (Some number)) c.needs-needs.ensures among), c.loop-node.invariant.paths.sized)
 
 pub ask_act-requires-clause-joined : goal.ask_act-requires-clause-joined
 ask_act-requires-clause-joined c = λ is.
     let at = (goal.at.ask_act-requires-clause-joined c).After-path_above-above in
     let flag : is_joined c.loop-node.joined.items (entry at).kind ≡ c.is_joined-known.result =
     ap (λ joined. is_joined joined (entry at).kind) (sym c.deref-in-loop-node.ensures.value) ∙ sym c.is_joined-known.ensures in
-    subst (λ (own : List (Option ℕ)). Follows c.loop-node.edges.edges.items None own) (sym c.of.ensures)
-    (AreJoined-at c.in_ok-needs.needs c.loop-node.joined.items c.loop-node.edges (entry at).kind c.loop-node.invariant.joined (subst IsTrue (sym flag) is))
+    subst (λ (needs : List LinkedNeed). Follows c.loop-node.edges.edges.items None (numbers_of c.args.site.now needs)) (sym c.needs-needs.ensures)
+    (AreJoined-at (numbers_at c.args.site.now c.args.linked.now) c.loop-node.joined.items c.loop-node.edges (entry at).kind c.loop-node.invariant.joined (subst IsTrue (sym flag) is))
 
 pub loop-node-preserved : goal.loop-node-preserved
 loop-node-preserved c =
     let at = (goal.at.loop-node-preserved c).After-path_above-above in
     let top = is_top (goal.at.loop-node-preserved c).After-top-top in
-    let needs = c.in_ok-needs.needs in
-    let own = own_stands c.args.site.now needs c.in_ok-needs.ensures (entry at).kind in
-    let asked = rw (above_is at, c.of.ensures) at c.in_ok-path.ensures in
+    let needs = numbers_at c.args.site.now c.args.linked.now in
+    let own = numbers_stand c.args.site.now c.args.linked.now c.requires (entry at).kind in
+    let asked = rw (above_is at, c.needs-needs.ensures) at c.in_ok-path.ensures in
     let joined : AreJoined needs (with_joined c.loop-node.joined.items (entry at).kind) c.ask_act.new.edges =
     AreJoined-with needs c.loop-node.joined.items c.loop-node.edges c.ask_act.new.edges (entry at).kind c.loop-node.invariant.joined asked.grown.kept
-    (Follows-alone c.ask_act.new.edges.edges.items (get_or c.loop-node.paths.items (entry at).parent c.top-top.result).last (own_at needs (entry at).kind) asked.further.covering) in
+    (Follows-alone c.ask_act.new.edges.edges.items (get_or c.loop-node.paths.items (entry at).parent c.top-top.result).last (needs (entry at).kind) asked.further.covering) in
     let flags : c.set_joined.new.joined ≡ with_joined c.loop-node.joined.items (entry at).kind =
     c.set_joined.ensures ∙ ap (λ joined. with_joined joined (entry at).kind) c.deref_mut.ensures.value in
     let written = with_items_is c.loop-node.joined c.set_joined.new.joined (c.set_joined.auto.joined ∙ c.deref_mut.ensures.len) in
@@ -82,7 +83,7 @@ loop-node-preserved c =
           subst (λ (paths : List Path). KeepsPaths c.args.site.now c.top-top.result c.ask_act.new.edges paths (c.loop-node.node + 1))
           (sym c.in_ok-push.ensures.items)
           (KeepsPaths-more c.args.site.now c.args.number (kept_at_top c.args.reach) c.top-top.result top
-          c.loop-node.edges c.loop-node.paths.items c.loop-node.node c.loop-node.invariant.paths (entry at) (is_entry at) (own_at needs (entry at).kind) own c.in_ok-path.path c.ask_act.new.edges asked);
+          c.loop-node.edges c.loop-node.paths.items c.loop-node.node c.loop-node.invariant.paths (entry at) (is_entry at) (needs (entry at).kind) own c.in_ok-path.path c.ask_act.new.edges asked);
       joined = subst (λ (flags : List Bool). AreJoined needs flags c.ask_act.new.edges) (sym (written ∙ flags)) joined;
     }
 

@@ -44,7 +44,7 @@ pub add_taken-requires : goal.add_taken-requires
 add_taken-requires c =
     let cell = c.args.cell.now in
     let roles = c.args.recipe.now.roles.items in
-    units_below cell roles c.args.edges.now.count (alike 0) c.deref-3.result.now c.requires
+    units_below cell roles c.args.edges.now.count (alike 0) c.deref-3.result.now c.requires.sized
     (c.deref-3.ensures.value ∙ (c.in_ok-first.ensures ∙ ap (λ (rs : List Role). units_by cell rs (alike 0)) c.deref.ensures.value))
 
 pub loop-taken-init : goal.loop-taken-init
@@ -53,7 +53,7 @@ loop-taken-init c =
     let cell = c.args.cell.now in
     let collected = c.in_ok-collected.collected.edges.items in
     let of_roles = c.in_ok-of_roles.of_roles.items in
-    KeepsBindings-first site (kept_at_top c.args.reach) c.args.number collected of_roles c.args.edges.now c.requires c.in_ok-collected.ensures
+    KeepsBindings-first site (kept_at_top c.args.reach) c.args.number collected of_roles c.args.edges.now c.requires.sized c.in_ok-collected.ensures
     (of_roles_by c.resources.result (resource_count site) c.deref-4.result.now collected of_roles c.resources.ensures c.deref-4.ensures.value c.in_ok-of_roles.ensures)
     c.add_taken.new.set
     (taken_by c.deref-3.result.now (units_on site (alike 0)) c.deref-2.result.now collected c.args.edges.now c.add_taken.new.set
@@ -63,7 +63,7 @@ pub add_taken-requires-in-loop-taken : goal.add_taken-requires-in-loop-taken
 add_taken-requires-in-loop-taken c =
     let cell = c.args.cell.now in
     let roles = c.args.recipe.now.roles.items in
-    units_below cell roles c.loop-taken.edges.count (alike c.loop-taken.taken-index) c.deref-in-loop-taken-2.result.now (c.loop-taken.invariant.grown.same_count ∙ c.requires)
+    units_below cell roles c.loop-taken.edges.count (alike c.loop-taken.taken-index) c.deref-in-loop-taken-2.result.now (c.loop-taken.invariant.grown.same_count ∙ c.requires.sized)
     (c.deref-in-loop-taken-2.ensures.value
     ∙ units_read cell roles (binding_count cell roles) c.deref-taken-items.result.now c.in_ok-units.units.items c.loop-taken.taken-index c.taken-item.result
     (units_of cell c.deref-5.result.now roles c.in_ok-units.units.items c.deref-5.ensures.value c.in_ok-units.ensures) c.deref-taken-items.ensures.value c.loop-taken-test.true c.taken-item.is)
@@ -75,7 +75,7 @@ loop-taken-preserved c =
     let roles = c.args.recipe.now.roles.items in
     let collected = c.in_ok-collected.collected.edges.items in
     let of_roles = c.in_ok-of_roles.of_roles.items in
-    KeepsBindings-alike site (kept_at_top c.args.reach) c.args.number collected of_roles c.args.edges.now c.requires c.in_ok-collected.ensures
+    KeepsBindings-alike site (kept_at_top c.args.reach) c.args.number collected of_roles c.args.edges.now c.requires.sized c.in_ok-collected.ensures
     (of_roles_by c.resources.result (resource_count site) c.deref-4.result.now collected of_roles c.resources.ensures c.deref-4.ensures.value c.in_ok-of_roles.ensures)
     c.loop-taken.taken-index (resource_count site) c.loop-taken.edges c.add_taken-in-loop-taken.new.set c.loop-taken.invariant
     (taken_by c.deref-in-loop-taken-2.result.now (units_on site (alike c.loop-taken.taken-index)) c.deref-in-loop-taken.result.now of_roles c.loop-taken.edges c.add_taken-in-loop-taken.new.set
@@ -91,7 +91,7 @@ loop-role-init c =
     let of_roles = c.in_ok-of_roles.of_roles.items in
     let units = c.in_ok-units.units.items in
     subst (λ done. KeepsBindings site c.args.number collected of_roles (length units) done c.args.edges.now c.loop-taken.edges) (sym c.resources-role.ensures)
-    (KeepsBindings-fewer site (kept_at_top c.args.reach) c.args.number collected of_roles c.args.edges.now c.requires c.in_ok-collected.ensures
+    (KeepsBindings-fewer site (kept_at_top c.args.reach) c.args.number collected of_roles c.args.edges.now c.requires.sized c.in_ok-collected.ensures
     (of_roles_by c.resources.result (resource_count site) c.deref-4.result.now collected of_roles c.resources.ensures c.deref-4.ensures.value c.in_ok-of_roles.ensures)
     c.loop-taken.taken-index (resource_count site) c.loop-taken.edges c.loop-taken.edges c.loop-taken.invariant (length units)
     (omega (arith, c.loop-taken-test.false, ap (λ (us : List Units). length us) c.deref-taken-items.ensures.value)))
@@ -106,7 +106,7 @@ add_raised-requires c =
     let place_is : c.loop-role.role ≡ resource_count site + place = omega (arith, c.from-place.ensures, c.resources-in-loop-role.ensures, c.loop-role.auto.role, c.resources-role.ensures) in
     subst (λ (us : List Units). AreUnitsWithin place c.loop-role.edges.count us) (sym c.deref-in-loop-role-2.ensures.value)
     (units_within cell roles c.loop-role.edges.count (binding_count cell roles) units (units_of cell c.deref-5.result.now roles units c.deref-5.ensures.value c.in_ok-units.ensures)
-    (c.loop-role.invariant.grown.same_count ∙ c.requires) place (omega (arith, place_is, c.loop-role-test.true, c.count_with_roles-role-end.ensures)))
+    (c.loop-role.invariant.grown.same_count ∙ c.requires.sized) place (omega (arith, place_is, c.loop-role-test.true, c.count_with_roles-role-end.ensures)))
 
 pub loop-role-preserved : goal.loop-role-preserved
 loop-role-preserved c =
@@ -120,7 +120,7 @@ loop-role-preserved c =
     let place : ℕ = c.from-place.result in
     let place_is : c.loop-role.role ≡ resource_count site + place = omega (arith, c.from-place.ensures, c.resources-in-loop-role.ensures, c.loop-role.auto.role, c.resources-role.ensures) in
     let role = item_at roles place (omega (arith, place_is, c.loop-role-test.true, c.count_with_roles-role-end.ensures)) in
-    KeepsBindings-apart site (kept_at_top c.args.reach) c.args.number collected of_roles c.args.edges.now c.requires c.in_ok-collected.ensures
+    KeepsBindings-apart site (kept_at_top c.args.reach) c.args.number collected of_roles c.args.edges.now c.requires.sized c.in_ok-collected.ensures
     (of_roles_by c.resources.result (resource_count site) c.deref-4.result.now collected of_roles c.resources.ensures c.deref-4.ensures.value c.in_ok-of_roles.ensures)
     (length units) c.loop-role.role c.loop-role.edges c.add_raised.new.set c.loop-role.invariant units
     (units_of cell c.deref-5.result.now roles units c.deref-5.ensures.value c.in_ok-units.ensures) place place_is role.0 role.1 behind
@@ -137,6 +137,6 @@ returns c =
     let of_roles = c.in_ok-of_roles.of_roles.items in
     let units = c.in_ok-units.units.items in
     let are = units_of cell c.deref-5.result.now roles units c.deref-5.ensures.value c.in_ok-units.ensures in
-    added_all site (kept_at_top c.args.reach) c.args.number collected of_roles c.args.edges.now c.requires c.in_ok-collected.ensures
+    added_all site (kept_at_top c.args.reach) c.args.number collected of_roles c.args.edges.now c.requires.sized c.in_ok-collected.ensures
     (of_roles_by c.resources.result (resource_count site) c.deref-4.result.now collected of_roles c.resources.ensures c.deref-4.ensures.value c.in_ok-of_roles.ensures)
     (length units) c.loop-role.role c.loop-role.edges (omega (arith, are.as_many)) (omega (arith, c.loop-role-test.false, c.count_with_roles-role-end.ensures)) c.loop-role.invariant

@@ -5,8 +5,8 @@ use Rattle.batch_check.proofs.Recipes.{edges_with, standing_within}
 use Rattle.batch_verify.proofs.RecipeLemmas.{set_length}
 use Rattle.batch_check.proofs.graph.graph_of.Goals as goal
 
-pub edges_of-requires : goal.edges_of-requires
-edges_of-requires c = set_length c.args.cell.now c.args.recipes.now ((c.is_recipe_set.ensures c.args.cell.now).0 c.if-not-is_recipe_set.false)
+pub edges_of-requires-clause-few : goal.edges_of-requires-clause-few
+edges_of-requires-clause-few c = set_length c.args.cell.now c.args.recipes.now ((c.is_recipe_set.ensures c.args.cell.now).0 c.if-not-is_recipe_set.false)
 
 pub add_each-requires : goal.add_each-requires
 add_each-requires c =

@@ -6,7 +6,7 @@ use Rattle.batch_verify.specs.Refusals.{ranking_in}
 use Rattle.batch_verify.specs.Trials.{rank_or_0, roles_raised}
 use Rattle.batch_verify.proofs.Least.{IsLeast}
 use Rattle.batch_verify.proofs.Trials.{Both, ByNumber}
-use Rattle.batch_verify.proofs.walk.first_broken_by.Given as goal
+use Rattle.batch_verify.proofs.walk.first_broken.Given as goal
 
 abbrev pub invariant-loop-number : goal.invariant-loop-number
 invariant-loop-number l =
