@@ -21,15 +21,15 @@ loop-number-preserved c =
     let i = c.loop-number.number in
     let recipe = c.index-recipes-number.result in
     let before = c.loop-number.refusals.items in
-    elim c.match-branch-2.branch [
-      | in-Some+in_ok-refusal+in_ok-push+in-Circle-1 w ↦ rules_next cell recipes recipes i recipe before (w.in_ok-refusal.refusal ∷ []) c.match-branch-2.refusals.items
+    elim c.match-branch-3.branch [
+      | in-Some+in_ok-refusal+in_ok-push+in-Circle-1 w ↦ rules_next cell recipes recipes i recipe before (w.in_ok-refusal.refusal ∷ []) c.match-branch-3.refusals.items
           c.loop-number-test.true c.index-recipes-number.is c.loop-number.invariant
           (inr (w.in-Some.broken, w.in_ok-refusal.refusal, rw w.in-Some.is at (c.in_ok-broken.ensures recipes), w.in_ok-refusal.ensures.text, w.in_ok-refusal.ensures.kind, refl))
           (rw w.refusals-is w.in_ok-push.ensures.items)
-      | in-Some+in_ok-refusal+in_ok-push+in-Recipes-1 w ↦ rules_next cell recipes recipes i recipe before (w.in_ok-refusal.refusal ∷ []) c.match-branch-2.refusals.items
+      | in-Some+in_ok-refusal+in_ok-push+in-Recipes-1 w ↦ rules_next cell recipes recipes i recipe before (w.in_ok-refusal.refusal ∷ []) c.match-branch-3.refusals.items
           c.loop-number-test.true c.index-recipes-number.is c.loop-number.invariant
           (inr (w.in-Some.broken, w.in_ok-refusal.refusal, rw w.in-Some.is at (c.in_ok-broken.ensures recipes), w.in_ok-refusal.ensures.text, w.in_ok-refusal.ensures.kind, refl))
           (rw w.refusals-is w.in_ok-push.ensures.items)
-      | in_default w ↦ rules_next cell recipes recipes i recipe before [] c.match-branch-2.refusals.items c.loop-number-test.true c.index-recipes-number.is
+      | in_default w ↦ rules_next cell recipes recipes i recipe before [] c.match-branch-3.refusals.items c.loop-number-test.true c.index-recipes-number.is
           c.loop-number.invariant (inl (rw w.in_default.is at (c.in_ok-broken.ensures recipes), refl)) (rw w.refusals-is (sym (append-nil before)))
     ]
