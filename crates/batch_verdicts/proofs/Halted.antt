@@ -3,24 +3,11 @@ use Rattle.std.proofs.Common.{◌≡◌, ℕ, ◌<◌, List, [], ◌∷◌, Resu
 use Rattle.batch_cell.specs.declared.cell.Cell.{Cell}
 use Rattle.batch_recipe.specs.declared.recipe.Recipe.{Recipe}
 use Rattle.batch_verify.specs.CertificateText.{Rank}
-use Rattle.batch_verdicts.specs.Halting.{HaltsAtRecipe, HaltsAtRecipes, HaltsClearing, HaltsOver}
+use Rattle.batch_verdicts.specs.Halting.{HaltsAtRecipe, HaltsAtRecipes, HaltsClearing}
 use Rattle.batch_verdicts.specs.Judging.{RefusesSet}
-use Rattle.batch_verdicts.specs.Reading.{AreRead, AreReadWarned, Gives, IsSoWarned, ReadsRecipes, Warns}
+use Rattle.batch_verdicts.specs.Reading.{AreRead, Gives, ReadsRecipes}
 use Rattle.batch_verdicts.specs.declared.refusal.Halt.{Halt}
 use Rattle.batch_verdicts.specs.declared.refusal.Halt.TheVariants.{Memory}
-
--- a fact of the cell and the recipes that were read and warned of
-pub so_of_read : (gives : Gives) (warns : Warns) (cell : List ℕ) (paths : List (List ℕ)) (c : Cell) (rs : List Recipe) (is_so : Cell → List Recipe → Type 0)
-    → AreReadWarned gives warns cell paths c rs → is_so c rs → IsSoWarned gives warns cell paths is_so
-so_of_read gives warns cell paths c rs is_so read so =
-    record { equipment = c; recipes = rs; cell_read = read.cell_read; recipes_read = read.recipes_read; judged = (read.warned, so) }
-
--- they were read, or the first that wasn't ended it
-pub judged_over : {A : Type 0} (gives : Gives) (warns : Warns) (cell : List ℕ) (paths : List (List ℕ)) (c : Cell) (rs : List Recipe)
-    (refuses : Halt → Cell → List Recipe → Type 0) (r : Result A Halt) → AreReadWarned gives warns cell paths c rs → IfErr r (λ h. refuses h c rs)
-    → IfErr r (λ h. HaltsOver gives warns cell paths (refuses h) h)
-judged_over gives warns cell paths c rs refuses (Ok x) read k = tt
-judged_over gives warns cell paths c rs refuses (Err h) read k = inr (so_of_read gives warns cell paths c rs (refuses h) read k)
 
 -- memory may be wanting anywhere
 pub halts_without_memory : (gives : Gives) (paths : List (List ℕ)) → HaltsAtRecipes gives paths Memory

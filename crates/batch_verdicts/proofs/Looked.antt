@@ -1,13 +1,13 @@
 -- Looking at one document after the other.
-use Rattle.std.proofs.Common.{◌≡◌, ℕ, ◌+◌, ◌<◌, ◌++◌, List, [], ◌∷◌, Some, None, Result, Ok, Err, IfErr, inl, inr, length, map, take, get_or, suc, zero, refl, ap, sym, subst, arith, append_assoc, append-nil, ◌∙◌}
+use Rattle.std.proofs.Common.{◌≡◌, ℕ, Bool, ◌+◌, ◌<◌, ◌++◌, List, [], ◌∷◌, Some, None, Result, Ok, Err, IfErr, inl, inr, length, map, take, get_or, suc, zero, refl, ap, sym, subst, arith, append_assoc, append-nil, ◌∙◌}
 use Rattle.std.proofs.lemmas.List.{map-append, take_more}
 use Rattle.std.specs.Prelude.{String}
 use Rattle.std.specs.Global.{Global}
 use Rattle.batch_cell.specs.declared.cell.Cell.{Cell}
 use Rattle.batch_recipe.specs.declared.recipe.Recipe.{Recipe}
-use Rattle.batch_verdicts.specs.Every.{AreLooked, AreRefusalsOf, HaltsAtLook, HaltsLooking, IsOneUnread, RefusesRules}
+use Rattle.batch_verdicts.specs.Every.{AreLooked, AreRefusalsOf, HaltsAsked, HaltsAtLook, IsOneUnread, RefusesRules}
 use Rattle.batch_verdicts.specs.Halting.{HaltsAtCell, HaltsAtRecipe}
-use Rattle.batch_verdicts.specs.Looking.{AreAllRead, IsCellLooked, IsLooked, IsSoundlyRead, LooksOn}
+use Rattle.batch_verdicts.specs.Looking.{AreAllRead, IsCellLooked, IsLooked, IsReadAsked, LooksOn}
 use Rattle.batch_verdicts.specs.Reading.{AreReadWarned, Gives, IsSoWarned, IsUnread, ReadsRecipe, ReadsRecipes, Warns}
 use Rattle.batch_verdicts.specs.declared.refusal.DocumentRefusal.{DocumentRefusal}
 use Rattle.batch_verdicts.specs.declared.refusal.Halt.{Halt}
@@ -126,17 +126,17 @@ cell_refused gives cell paths before rs refusals (refusal, halts, first) (here, 
 
 -- Sound recipes
 
--- a fact of documents that were read and of which no rule is broken
-pub so_of_sound : (gives : Gives) (warns : Warns) (cell : List ℕ) (paths : List (List ℕ)) (c : Cell) (rs : List Recipe) (is_so : Cell → List Recipe → Type 0)
-    → IsSoundlyRead gives warns cell paths c rs → is_so c rs → IsSoWarned gives warns cell paths is_so
-so_of_sound gives warns cell paths c rs is_so (read, kept) so =
+-- a fact of documents that were read
+pub so_of_asked : (all : Bool) (gives : Gives) (warns : Warns) (cell : List ℕ) (paths : List (List ℕ)) (c : Cell) (rs : List Recipe) (is_so : Cell → List Recipe → Type 0)
+    → IsReadAsked all gives warns cell paths c rs → is_so c rs → IsSoWarned gives warns cell paths is_so
+so_of_asked all gives warns cell paths c rs is_so (read, kept) so =
     record { equipment = c; recipes = rs; cell_read = read.cell_read; recipes_read = read.recipes_read; judged = (read.warned, so) }
 
-pub judged_looking : {A : Type 0} (gives : Gives) (warns : Warns) (cell : List ℕ) (paths : List (List ℕ)) (c : Cell) (rs : List Recipe)
-    (refuses : Halt → Cell → List Recipe → Type 0) (r : Result A Halt) → IsSoundlyRead gives warns cell paths c rs → IfErr r (λ h. refuses h c rs)
-    → IfErr r (λ h. HaltsLooking gives warns cell paths (refuses h) h)
-judged_looking gives warns cell paths c rs refuses (Ok x) read k = tt
-judged_looking gives warns cell paths c rs refuses (Err h) (read, kept) k =
+pub judged_asked : {A : Type 0} (all : Bool) (gives : Gives) (warns : Warns) (cell : List ℕ) (paths : List (List ℕ)) (c : Cell) (rs : List Recipe)
+    (refuses : Halt → Cell → List Recipe → Type 0) (r : Result A Halt) → IsReadAsked all gives warns cell paths c rs → IfErr r (λ h. refuses h c rs)
+    → IfErr r (λ h. HaltsAsked all gives warns cell paths (refuses h) h)
+judged_asked all gives warns cell paths c rs refuses (Ok x) read k = tt
+judged_asked all gives warns cell paths c rs refuses (Err h) (read, kept) k =
     inr (record { equipment = c; recipes = rs; cell_read = read.cell_read; recipes_read = read.recipes_read; judged = (read.warned, (kept, k)) })
 
 -- rules are broken

@@ -1,5 +1,5 @@
 -- Where edges lead, and which of them lie on circles.
-use Rattle.std.proofs.Common.{◌≡◌, ℕ, ◌+◌, ◌<◌, List, [], ◌∷◌, ◌++◌, Bool, true, false, inl, inr, All, Contains, set, length, zero, suc, arith, refl, sym, subst, ◌∙◌, get_or-set_other}
+use Rattle.std.proofs.Common.{◌≡◌, ℕ, ◌<◌, List, [], ◌∷◌, ◌++◌, Bool, true, false, inl, inr, All, Contains, set, length, zero, suc, arith, refl, sym, subst, ◌∙◌, get_or-set_other}
 use Rattle.std.proofs.lemmas.Bool.{cases_eq}
 use Rattle.std.proofs.lemmas.List.Elements.{All-append}
 use Rattle.batch_check.specs.LeastRanking.{LeadsAlong}

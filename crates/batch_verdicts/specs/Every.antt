@@ -1,5 +1,5 @@
 -- trusted: all refusals of documents, and the recipes that break a rule, as `check --all` reports them.
-use Rattle.std.specs.Prelude.{◌≡◌, ◌⊎◌, ℕ, ◌+◌, Bool, true, false, List, [], ◌∷◌, ◌++◌, None, string_bytes}
+use Rattle.std.specs.Prelude.{◌≡◌, ◌⊎◌, ℕ, ◌+◌, Bool, true, false, List, [], ◌∷◌, ◌++◌, None, ⊤, string_bytes}
 use Rattle.batch_cell.specs.declared.cell.Cell.{Cell}
 use Rattle.batch_recipe.specs.declared.recipe.Recipe.{Recipe}
 use Rattle.batch_model.specs.Setups.{master_of, setup_of}
@@ -9,7 +9,7 @@ use Rattle.batch_verify.specs.declared.rule.Broken.{Broken}
 use Rattle.batch_check.specs.Checking.{IsSoundMaster}
 use Rattle.batch_check.specs.declared.fault.CheckFault.TheVariants as check
 use Rattle.batch_verdicts.specs.Drawing.{RefusesDrawing}
-use Rattle.batch_verdicts.specs.Halting.{HaltsAtCell, HaltsAtRecipe, HaltsCheck, HaltsDrawing}
+use Rattle.batch_verdicts.specs.Halting.{HaltsAtCell, HaltsAtDocuments, HaltsAtRecipe}
 use Rattle.batch_verdicts.specs.Judging.{RefusesCheck}
 use Rattle.batch_verdicts.specs.Reading.{Gives, IsSoWarned, IsUnread, ReadsCell, ReadsRecipe, Warns}
 use Rattle.batch_verdicts.specs.VerdictTexts.{fault_text}
@@ -89,17 +89,25 @@ abbrev pub HaltsAtLook : Gives → Warns → List ℕ → List (List ℕ) → Ha
 HaltsAtLook gives warns cell paths h =
     (HaltsAtAll gives cell paths h × warns []) ⊎ IsSoWarned gives warns cell paths (λ c rs. RefusesRules c rs h)
 
--- or none is, and this is so of them
-abbrev pub HaltsLooking : Gives → Warns → List ℕ → List (List ℕ) → (Cell → List Recipe → Type 0) → Halt → Type 0
-HaltsLooking gives warns cell paths is_so h =
-    HaltsAtLook gives warns cell paths h ⊎ IsSoWarned gives warns cell paths (λ c rs. AreRulesKept c rs × is_so c rs)
+-- a command ends so before the recipes are judged, if all refusals are to be reported, and if the first alone is
+abbrev pub HaltsBefore : Bool → Gives → Warns → List ℕ → List (List ℕ) → Halt → Type 0
+HaltsBefore true gives warns cell paths h = HaltsAtLook gives warns cell paths h
+HaltsBefore false gives warns cell paths h = HaltsAtDocuments gives cell paths h × warns []
 
--- why `check` prints no certificate, if all refusals are to be reported, and if the first alone is
+-- if all are to be reported, no rule is broken
+abbrev pub AreKeptIf : Bool → Cell → List Recipe → Type 0
+AreKeptIf true c rs = AreRulesKept c rs
+AreKeptIf false c rs = ⊤
+
+-- it ends so, or this is so of the recipes
+abbrev pub HaltsAsked : Bool → Gives → Warns → List ℕ → List (List ℕ) → (Cell → List Recipe → Type 0) → Halt → Type 0
+HaltsAsked all gives warns cell paths is_so h =
+    HaltsBefore all gives warns cell paths h ⊎ IsSoWarned gives warns cell paths (λ c rs. AreKeptIf all c rs × is_so c rs)
+
+-- why `check` prints no certificate
 abbrev pub HaltsChecking : Bool → Gives → Warns → List ℕ → List (List ℕ) → Halt → Type 0
-HaltsChecking true gives warns cell paths h = HaltsLooking gives warns cell paths (λ c rs. RefusesCheck c rs h) h
-HaltsChecking false gives warns cell paths h = HaltsCheck gives warns cell paths h
+HaltsChecking all gives warns cell paths h = HaltsAsked all gives warns cell paths (λ c rs. RefusesCheck c rs h) h
 
 -- the same of a drawing
-abbrev pub HaltsDrawingOf : Bool → Gives → Warns → List ℕ → List (List ℕ) → Halt → Type 0
-HaltsDrawingOf true gives warns cell paths h = HaltsLooking gives warns cell paths (λ c rs. RefusesDrawing c rs h) h
-HaltsDrawingOf false gives warns cell paths h = HaltsDrawing gives warns cell paths h
+abbrev pub HaltsDrawing : Bool → Gives → Warns → List ℕ → List (List ℕ) → Halt → Type 0
+HaltsDrawing all gives warns cell paths h = HaltsAsked all gives warns cell paths (λ c rs. RefusesDrawing c rs h) h

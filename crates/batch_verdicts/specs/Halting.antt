@@ -3,9 +3,8 @@ use Rattle.std.specs.Prelude.{◌≡◌, ℕ, List, [], ◌∷◌, Some, ◌⊎�
 use Rattle.batch_cell.specs.declared.cell.Cell.{Cell}
 use Rattle.batch_recipe.specs.declared.recipe.Recipe.{Recipe}
 use Rattle.batch_verify.specs.CertificateText.{Rank}
-use Rattle.batch_verdicts.specs.Drawing.{RefusesDrawing}
-use Rattle.batch_verdicts.specs.Judging.{RefusesCell, RefusesCertificate, RefusesCheck, RefusesRecipe, RefusesSet}
-use Rattle.batch_verdicts.specs.Reading.{AreRead, Gives, IsSoWarned, IsUnread, ReadsCell, ReadsCertificate, ReadsRecipe, Warns}
+use Rattle.batch_verdicts.specs.Judging.{RefusesCell, RefusesCertificate, RefusesRecipe, RefusesSet}
+use Rattle.batch_verdicts.specs.Reading.{AreRead, Gives, IsUnread, ReadsCell, ReadsCertificate, ReadsRecipe, Warns}
 use Rattle.batch_verdicts.specs.WarningTexts.{warnings_text}
 use Rattle.batch_verdicts.specs.declared.refusal.Halt.{Halt}
 use Rattle.batch_verdicts.specs.declared.refusal.Halt.TheVariants.{Memory}
@@ -29,18 +28,6 @@ HaltsAtRecipes gives (path ∷ paths) h = HaltsAtRecipe gives path h ⊎ ((r : R
 -- the first document that can't be read or is refused
 abbrev pub HaltsAtDocuments : Gives → List ℕ → List (List ℕ) → Halt → Type 0
 HaltsAtDocuments gives cell recipes h = HaltsAtCell gives cell h ⊎ ((c : Cell) × ReadsCell gives cell c × HaltsAtRecipes gives recipes h)
-
--- one of them does, with no word of warning, or all are read, the program warns of them, and this is so of them
-abbrev pub HaltsOver : Gives → Warns → List ℕ → List (List ℕ) → (Cell → List Recipe → Type 0) → Halt → Type 0
-HaltsOver gives warns cell recipes is_so h = (HaltsAtDocuments gives cell recipes h × warns []) ⊎ IsSoWarned gives warns cell recipes is_so
-
--- the recipes can't be cleared
-abbrev pub HaltsCheck : Gives → Warns → List ℕ → List (List ℕ) → Halt → Type 0
-HaltsCheck gives warns cell recipes h = HaltsOver gives warns cell recipes (λ c rs. RefusesCheck c rs h) h
-
--- the same with a drawing
-abbrev pub HaltsDrawing : Gives → Warns → List ℕ → List (List ℕ) → Halt → Type 0
-HaltsDrawing gives warns cell recipes h = HaltsOver gives warns cell recipes (λ c rs. RefusesDrawing c rs h) h
 
 -- the first document of a set that can't be read or is refused
 abbrev pub HaltsReading : Gives → List ℕ → List ℕ → List (List ℕ) → Halt → Type 0

@@ -1,8 +1,8 @@
 -- private: looking at one document after the other.
-use Rattle.std.specs.Prelude.{◌≡◌, ◌⊎◌, List, [], ◌∷◌, ◌++◌, ℕ, Option, Some, None}
+use Rattle.std.specs.Prelude.{◌≡◌, ◌⊎◌, List, [], ◌∷◌, ◌++◌, ℕ, Bool, Option, Some, None}
 use Rattle.batch_cell.specs.declared.cell.Cell.{Cell}
 use Rattle.batch_recipe.specs.declared.recipe.Recipe.{Recipe}
-use Rattle.batch_verdicts.specs.Every.{AreLooked, AreRulesKept}
+use Rattle.batch_verdicts.specs.Every.{AreLooked, AreKeptIf}
 use Rattle.batch_verdicts.specs.Halting.{HaltsAtCell, HaltsAtRecipe}
 use Rattle.batch_verdicts.specs.Reading.{AreReadWarned, Gives, ReadsCell, ReadsRecipe, ReadsRecipes, Warns}
 use Rattle.batch_verdicts.specs.declared.refusal.DocumentRefusal.{DocumentRefusal}
@@ -29,6 +29,6 @@ LooksOn gives paths before recipes after =
 abbrev pub AreAllRead : Gives → List ℕ → List (List ℕ) → Cell → List Recipe → Type 0
 AreAllRead gives cell paths c rs = ReadsCell gives cell c × ReadsRecipes gives paths rs
 
--- and it is warned of them, and no rule is broken
-abbrev pub IsSoundlyRead : Gives → Warns → List ℕ → List (List ℕ) → Cell → List Recipe → Type 0
-IsSoundlyRead gives warns cell paths c rs = AreReadWarned gives warns cell paths c rs × AreRulesKept c rs
+-- they are read and warned of, and if all refusals are to be reported, no rule is broken
+abbrev pub IsReadAsked : Bool → Gives → Warns → List ℕ → List (List ℕ) → Cell → List Recipe → Type 0
+IsReadAsked all gives warns cell paths c rs = AreReadWarned gives warns cell paths c rs × AreKeptIf all c rs

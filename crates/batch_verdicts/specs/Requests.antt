@@ -4,7 +4,7 @@ use Rattle.batch_verify.specs.ClearedSet.{ClearedSet}
 use Rattle.batch_cli.specs.CommandLine.{Judgement, check, draw, verify, Source, demo, documents, Request, judge, serve, tell, audit, plant, explain, show, keep, write, remark, picture, serve_desks}
 use Rattle.batch_verdicts.specs.DemoDocuments.{demo_text}
 use Rattle.batch_verdicts.specs.DeskSets.{HaltsDesks}
-use Rattle.batch_verdicts.specs.Every.{HaltsChecking, HaltsDrawingOf}
+use Rattle.batch_verdicts.specs.Every.{HaltsChecking, HaltsDrawing}
 use Rattle.batch_verdicts.specs.Halting.{HaltsAtDocuments, HaltsClearing, HaltsVerifying}
 use Rattle.batch_verdicts.specs.Reading.{AreCleared, ChecksDocuments, DrawsDocuments, Gives, VerifiesDocuments, Warns, ShowsDocuments}
 use Rattle.batch_verdicts.specs.declared.demo.TheConstants.{CELL_PATH, CERTIFICATE_PATH, RECIPE_PATH}
@@ -38,7 +38,7 @@ IsSetOf gives (documents cell certificate recipes) set = AreCleared gives cell c
 
 abbrev pub HaltsJudgement : Gives → Warns → Judgement → Halt → Type 0
 HaltsJudgement gives warns (check all cell recipes) h = HaltsChecking all gives warns cell recipes h
-HaltsJudgement gives warns (draw all cell recipes) h = HaltsDrawingOf all gives warns cell recipes h
+HaltsJudgement gives warns (draw all cell recipes) h = HaltsDrawing all gives warns cell recipes h
 HaltsJudgement gives warns (verify cell certificate recipes) h = HaltsVerifying gives warns cell certificate recipes h
 HaltsJudgement gives warns (show cell recipes) h = HaltsAtDocuments gives cell recipes h × warns []
 

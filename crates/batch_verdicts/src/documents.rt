@@ -1,12 +1,11 @@
 //! Reading and judging documents, each before the next.
 ghost use Rattle.std.specs.Prelude.{◌≡◌, ℕ, List, [], Option, map, IfOk, IfErr, string_bytes};
-ghost use Rattle.batch_verdicts.specs.Halting.{HaltsAtCell, HaltsAtCertificate, HaltsAtDocuments, HaltsAtRecipe, HaltsAtRecipes, HaltsCheck, HaltsClearing, HaltsDrawing, HaltsReading, HaltsVerifying};
-ghost use Rattle.batch_verdicts.specs.Reading.{AreCleared, AreRead, AreReadWarned, ChecksDocuments, DrawsDocuments, IsUnread, ReadsCell, ReadsCertificate, ReadsRecipe, ReadsRecipes, VerifiesDocuments, ShowsDocuments};
+ghost use Rattle.batch_verdicts.specs.Halting.{HaltsAtCell, HaltsAtCertificate, HaltsAtDocuments, HaltsAtRecipe, HaltsAtRecipes, HaltsClearing, HaltsReading, HaltsVerifying};
+ghost use Rattle.batch_verdicts.specs.Reading.{AreCleared, AreRead, AreReadWarned, IsUnread, ReadsCell, ReadsCertificate, ReadsRecipe, ReadsRecipes, VerifiesDocuments, ShowsDocuments};
 ghost use Rattle.batch_verdicts.specs.Saying.{IsWarned};
 
-use crate::drawing::draw_recipes;
 use crate::judging::{
-    MAX_CERTIFICATE_LEN, check_recipes, clear_recipes, judge_cell, judge_certificate, judge_recipe,
+    MAX_CERTIFICATE_LEN, clear_recipes, judge_cell, judge_certificate, judge_recipe,
 };
 use crate::refusal::Halt;
 use crate::warnings::warn;
@@ -30,46 +29,6 @@ pub trait Documents {
         ensures unread { IfErr result (IsUnread (gives self.now) path.now) };
 }
 
-/// The output of `check` on the documents at these paths. The first document that can't be read or is refused ends it. Once all are
-/// read, it warns of them on the errors, unless quiet is asked for.
-pub fn check_documents<D: Documents, E: Write>(
-    alloc: Global,
-    documents: &D,
-    cell: &str,
-    recipes: &[String],
-    quiet: bool,
-    errors: &mut E,
-) -> Result<String, Halt>
-    // claim: verdict on documents
-    ensures verdict { IfOk result (λ text. ChecksDocuments (D.gives documents.now) (IsWarned quiet (E.contents errors.old) (E.contents errors.new))
-        cell.now (map string_bytes recipes.now) (string_bytes text)) }
-    // claim: end of a command; path of a refusal
-    ensures halted { IfErr result (HaltsCheck (D.gives documents.now) (IsWarned quiet (E.contents errors.old) (E.contents errors.new))
-        cell.now (map string_bytes recipes.now)) }
-{
-    let read = read_warned(alloc, documents, cell, recipes, quiet, errors)?;
-    check_recipes(alloc, &read.cell, &read.recipes, &read.sources)
-}
-
-/// The drawing that `check --dot` makes of the documents at these paths. It ends and warns as [`check_documents`] does, and draws
-/// a circle.
-pub fn draw_documents<D: Documents, E: Write>(
-    alloc: Global,
-    documents: &D,
-    cell: &str,
-    recipes: &[String],
-    quiet: bool,
-    errors: &mut E,
-) -> Result<String, Halt>
-    ensures verdict { IfOk result (λ text. DrawsDocuments (D.gives documents.now) (IsWarned quiet (E.contents errors.old) (E.contents errors.new))
-        cell.now (map string_bytes recipes.now) (string_bytes text)) }
-    ensures halted { IfErr result (HaltsDrawing (D.gives documents.now) (IsWarned quiet (E.contents errors.old) (E.contents errors.new))
-        cell.now (map string_bytes recipes.now)) }
-{
-    let read = read_warned(alloc, documents, cell, recipes, quiet, errors)?;
-    draw_recipes(alloc, &read.cell, &read.recipes, &read.sources)
-}
-
 /// The contents of the documents of a cell and of its recipes.
 #[derive(Drop)]
 pub(crate) struct CellDocuments {
@@ -79,8 +38,8 @@ pub(crate) struct CellDocuments {
     pub(crate) sources: Vec<Source>,
 }
 
-/// Reads the documents, and warns of them.
-fn read_warned<D: Documents, E: Write>(
+/// Reads the documents, and warns of them. The first that can't be read or is refused ends it.
+pub(crate) fn read_warned<D: Documents, E: Write>(
     alloc: Global,
     documents: &D,
     cell: &str,
@@ -107,7 +66,7 @@ fn read_warned<D: Documents, E: Write>(
 }
 
 /// The output of `verify` on the documents at these paths: it accepts the set that [`clear_documents`] gives, and its errors
-/// are those of that call. It warns as [`check_documents`] does.
+/// are those of that call. It warns as [`crate::check_asked`] does.
 pub fn verify_documents<D: Documents, E: Write>(
     alloc: Global,
     documents: &D,
@@ -131,7 +90,7 @@ pub fn verify_documents<D: Documents, E: Write>(
 }
 
 /// The output of `show` on the documents at these paths: the nodes of the recipes, whether they can be cleared or not. The first
-/// document that can't be read or is refused ends it, as [`check_documents`].
+/// document that can't be read or is refused ends it, as [`crate::check_asked`].
 // claim: nodes shown
 pub fn show_documents<D: Documents>(
     alloc: Global,

@@ -1,17 +1,15 @@
 //! Judging all documents, and reporting all refusals of them.
-ghost use Rattle.std.specs.Prelude.{◌≡◌, ◌≤◌, ℕ, List, OnOk, IfOk, IfErr, length, map, string_bytes};
+ghost use Rattle.std.specs.Prelude.{◌≡◌, ◌≤◌, ℕ, true, List, OnOk, IfOk, IfErr, length, map, string_bytes};
 ghost use Rattle.batch_model.specs.declared.limits.TheConstants.{MAX_RECIPES};
-ghost use Rattle.batch_verdicts.specs.Every.{AreRulesKept, AreRulesRefused, HaltsAtAll, HaltsAtLook, HaltsChecking, HaltsDrawingOf, IsOneUnread, RefusesRules};
+ghost use Rattle.batch_verdicts.specs.Every.{AreRulesKept, AreRulesRefused, HaltsAtAll, HaltsBefore, HaltsChecking, HaltsDrawing, IsOneUnread, RefusesRules};
 ghost use Rattle.batch_verdicts.specs.Judging.{fault_kind};
-ghost use Rattle.batch_verdicts.specs.Looking.{AreAllRead, IsCellLooked, IsLooked, IsSoundlyRead, LooksOn};
+ghost use Rattle.batch_verdicts.specs.Looking.{AreAllRead, IsCellLooked, IsLooked, IsReadAsked, LooksOn};
 ghost use Rattle.batch_verdicts.specs.Reading.{ChecksDocuments, DrawsDocuments, IsUnread};
 ghost use Rattle.batch_verdicts.specs.Saying.{IsWarned};
 ghost use Rattle.batch_verdicts.specs.VerdictTexts.{fault_text};
 ghost use Rattle.batch_verdicts.specs.declared.refusal.Halt.TheVariants.{Memory};
 
-use crate::documents::{
-    CellDocuments, Documents, check_documents, draw_documents, read_cell, read_recipe,
-};
+use crate::documents::{CellDocuments, Documents, read_cell, read_recipe, read_warned};
 use crate::drawing::draw_recipes;
 use crate::judging::{check_recipes, fault_halt};
 use crate::refusal::{DocumentRefusal, Halt};
@@ -26,8 +24,9 @@ use batch_verify::{first_broken, is_recipe_set};
 use std::alloc::Global;
 use std::io::Write;
 
-/// The output of `check` on the documents at these paths. With `all` it judges all documents and reports all their refusals; if there
-/// are none, it reports each recipe that breaks a rule, by the first that it breaks. Else it ends as [`check_documents`].
+/// The output of `check` on the documents at these paths. The first document that can't be read or is refused ends it. Once all are
+/// read, it warns of them on the errors, unless quiet is asked for. With `all` it judges all documents and reports all their refusals;
+/// if there are none, it reports each recipe that breaks a rule, by the first that it breaks.
 // claim: everything told
 pub fn check_asked<D: Documents, E: Write>(
     alloc: Global,
@@ -38,19 +37,18 @@ pub fn check_asked<D: Documents, E: Write>(
     quiet: bool,
     errors: &mut E,
 ) -> Result<String, Halt>
+    // claim: verdict on documents
     ensures verdict { IfOk result (λ text. ChecksDocuments (D.gives documents.now) (IsWarned quiet (E.contents errors.old) (E.contents errors.new))
         cell.now (map string_bytes recipes.now) (string_bytes text)) }
+    // claim: end of a command; path of a refusal
     ensures halted { IfErr result (HaltsChecking all (D.gives documents.now) (IsWarned quiet (E.contents errors.old) (E.contents errors.new))
         cell.now (map string_bytes recipes.now)) }
 {
-    if !all {
-        return check_documents(alloc, documents, cell, recipes, quiet, errors);
-    }
-    let read = read_sound(alloc, documents, cell, recipes, quiet, errors)?;
+    let read = read_asked(alloc, documents, all, cell, recipes, quiet, errors)?;
     check_recipes(alloc, &read.cell, &read.recipes, &read.sources)
 }
 
-/// The drawing that `check --dot` makes of the documents at these paths. It ends as [`check_asked`], or as [`draw_documents`].
+/// The drawing that `check --dot` makes of the documents at these paths. It ends and warns as [`check_asked`] does, and draws a circle.
 // claim: everything told
 pub fn draw_asked<D: Documents, E: Write>(
     alloc: Global,
@@ -63,14 +61,33 @@ pub fn draw_asked<D: Documents, E: Write>(
 ) -> Result<String, Halt>
     ensures verdict { IfOk result (λ text. DrawsDocuments (D.gives documents.now) (IsWarned quiet (E.contents errors.old) (E.contents errors.new))
         cell.now (map string_bytes recipes.now) (string_bytes text)) }
-    ensures halted { IfErr result (HaltsDrawingOf all (D.gives documents.now) (IsWarned quiet (E.contents errors.old) (E.contents errors.new))
+    ensures halted { IfErr result (HaltsDrawing all (D.gives documents.now) (IsWarned quiet (E.contents errors.old) (E.contents errors.new))
         cell.now (map string_bytes recipes.now)) }
 {
-    if !all {
-        return draw_documents(alloc, documents, cell, recipes, quiet, errors);
-    }
-    let read = read_sound(alloc, documents, cell, recipes, quiet, errors)?;
+    let read = read_asked(alloc, documents, all, cell, recipes, quiet, errors)?;
     draw_recipes(alloc, &read.cell, &read.recipes, &read.sources)
+}
+
+/// Reads the documents, and warns of them. With `all` it reads all of them, and searches for rules that the recipes break.
+fn read_asked<D: Documents, E: Write>(
+    alloc: Global,
+    documents: &D,
+    all: bool,
+    cell: &str,
+    recipes: &[String],
+    quiet: bool,
+    errors: &mut E,
+) -> Result<CellDocuments, Halt>
+    ensures read { IfOk result (λ read. IsReadAsked all (D.gives documents.now) (IsWarned quiet (E.contents errors.old) (E.contents errors.new))
+        cell.now (map string_bytes recipes.now) read.cell read.recipes.items) }
+    ensures halted { IfErr result (HaltsBefore all (D.gives documents.now) (IsWarned quiet (E.contents errors.old) (E.contents errors.new))
+        cell.now (map string_bytes recipes.now)) }
+{
+    if all {
+        read_sound(alloc, documents, cell, recipes, quiet, errors)
+    } else {
+        read_warned(alloc, documents, cell, recipes, quiet, errors)
+    }
 }
 
 /// Reads all documents, warns of them, and searches for rules that the recipes break.
@@ -82,9 +99,9 @@ fn read_sound<D: Documents, E: Write>(
     quiet: bool,
     errors: &mut E,
 ) -> Result<CellDocuments, Halt>
-    ensures read { IfOk result (λ read. IsSoundlyRead (D.gives documents.now) (IsWarned quiet (E.contents errors.old) (E.contents errors.new))
+    ensures read { IfOk result (λ read. IsReadAsked true (D.gives documents.now) (IsWarned quiet (E.contents errors.old) (E.contents errors.new))
         cell.now (map string_bytes recipes.now) read.cell read.recipes.items) }
-    ensures halted { IfErr result (HaltsAtLook (D.gives documents.now) (IsWarned quiet (E.contents errors.old) (E.contents errors.new))
+    ensures halted { IfErr result (HaltsBefore true (D.gives documents.now) (IsWarned quiet (E.contents errors.old) (E.contents errors.new))
         cell.now (map string_bytes recipes.now)) }
 {
     let read = read_all(alloc, documents, cell, recipes)?;

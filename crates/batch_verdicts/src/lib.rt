@@ -23,9 +23,7 @@ mod warnings;
 pub use course::Course;
 pub use desks::{DeskSet, clear_desks};
 pub use digested::{Digested, clear_digested};
-pub use documents::{
-    Documents, check_documents, clear_documents, draw_documents, show_documents, verify_documents,
-};
+pub use documents::{Documents, clear_documents, show_documents, verify_documents};
 pub use drawing::draw_recipes;
 pub use every::{check_asked, draw_asked};
 pub use files::FilesOf;

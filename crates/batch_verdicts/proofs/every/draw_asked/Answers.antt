@@ -2,7 +2,7 @@ use Rattle.std.proofs.Common.{List, inl, subst, string_bytes}
 use Rattle.std.proofs.lemmas.Result.{err_from_is_err_and, IfOk-weaker}
 use Rattle.batch_recipe.specs.declared.recipe.Recipe.{Recipe}
 use Rattle.batch_verdicts.specs.Drawing.{IsDrawn, RefusesDrawing}
-use Rattle.batch_verdicts.proofs.Looked.{judged_looking, so_of_sound}
+use Rattle.batch_verdicts.proofs.Looked.{judged_asked, so_of_asked}
 use Rattle.batch_verdicts.proofs.every.draw_asked.Goals as goal
 
 pub returns-clause-verdict : goal.returns-clause-verdict
@@ -10,16 +10,16 @@ returns-clause-verdict g c =
     let read = c.in_ok-read.read in
     IfOk-weaker c.draw_recipes.result _ _
     (λ text judged. let So : List Recipe → Type 0 = λ rs. IsDrawn read.cell rs (string_bytes text) in
-    so_of_sound _ _ _ _ read.cell read.recipes.items _ c.in_ok-read.ensures.read (subst So c.deref.ensures.value judged))
+    so_of_asked c.args.all _ _ _ _ read.cell read.recipes.items _ c.in_ok-read.ensures.read (subst So c.deref.ensures.value judged))
     c.draw_recipes.ensures.drawn
 
 pub returns-clause-halted : goal.returns-clause-halted
 returns-clause-halted g c =
     let read = c.in_ok-read.read in
-    rw c.if-not-all.false (judged_looking _ _ _ _ read.cell read.recipes.items (λ h c rs. RefusesDrawing c rs h) c.draw_recipes.result c.in_ok-read.ensures.read
-    (rw c.deref.ensures.value at c.draw_recipes.ensures.refused))
+    judged_asked c.args.all _ _ _ _ read.cell read.recipes.items (λ h c rs. RefusesDrawing c rs h) c.draw_recipes.result c.in_ok-read.ensures.read
+    (rw c.deref.ensures.value at c.draw_recipes.ensures.refused)
 
 pub returns-in_err-read-clause-halted : goal.returns-in_err-read-clause-halted
 returns-in_err-read-clause-halted g c =
     let p = err_from_is_err_and c.from_residual.result c.from_residual.ensures.1 in
-    rw (p.1, p.2, c.if-not-all.false) (inl c.in_err-read.ensures.halted)
+    rw (p.1, p.2) (inl c.in_err-read.ensures.halted)
