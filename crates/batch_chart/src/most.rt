@@ -94,7 +94,7 @@ fn most_among(nodes: &[Entry], n: usize, end: usize, together: bool, before: Cou
     most_among(nodes, next, end, together, most)
 }
 
-/// The most needs that acts of the recipe have which are reached at once, and the most units that are held in advance.
+/// The needs of the acts that are reached at once, and the units that are held in advance for them, each at most.
 pub(crate) fn most(chart: &Recipe) -> Counts
     ensures most { (counted : Counted) (t : Tree) → IsChartOf t chart.now → count_of counted result ≡ most_by (own_by counted) t }
     ensures few { AreFew MAX_NODES result }

@@ -81,10 +81,10 @@ module _ (site : Site) (t : Taking) where
     | inr later ↦ needs_below links needs h.2 k later
   ]
 
--- the number of the need at a place
 abbrev pub no_need : LinkedNeed
 no_need = record { source = Resource 0; units = 0 }
 
+-- the number of the need at a place
 pub number_there : (site : Site) (links : List LinkedNeed) (k : ℕ) → k < length links → number_of site (get_or links k no_need).source ≡ get_or (numbers_of site links) k None
 number_there site links k within = sym (get_or-map (λ (link : LinkedNeed). number_of site link.source) links k no_need None within)
 

@@ -81,6 +81,6 @@ numbers_of site needs = map (λ need. number_of site need.source) needs
 abbrev pub numbers_at : Site → LinkedRecipe → Kind → List (Option ℕ)
 numbers_at site linked k = numbers_of site (needs_by linked k)
 
--- the recipe is linked, whatever phases the cell has
+-- the recipe is linked, by some numbers of phases
 abbrev pub IsLinkedAt : Cell → Recipe → LinkedRecipe → Type 0
 IsLinkedAt cell recipe linked = (known : CellPhases) × IsLinked cell known recipe linked

@@ -57,7 +57,7 @@ pub fn check(alloc: Global, cell: &Cell, recipes: &[Recipe]) -> Result<Certifica
     Ok(Certificate { ranks })
 }
 
-/// Checks the recipes one after another by the rules that don't speak of ranks. `linked` are the recipes by number.
+/// Checks the recipes one after another by the rules that don't speak of ranks. `linked` has the numbers of the recipes' needs.
 fn check_each(
     alloc: Global,
     cell: &Cell,
@@ -83,7 +83,8 @@ fn check_each(
     Ok(())
 }
 
-/// The least ranks that rise along all paths of the recipes, by number, or a circle with the fewest edges. `linked` are the recipes by number.
+/// The least ranks that rise along all paths of the recipes, by number, or a circle with the fewest edges. `linked` has the numbers of
+/// the recipes' needs.
 fn ranks_of(
     alloc: Global,
     cell: &Cell,

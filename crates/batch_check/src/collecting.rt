@@ -11,7 +11,7 @@ use batch_set::LinkedRecipe;
 use std::alloc::{AllocError, Global};
 
 /// The edges of the nodes of the site's recipe, which has this number, between resources and roles: the roles' numbers come after those
-/// of the resources. `linked` is the recipe by number.
+/// of the resources. `linked` has the numbers of the recipe's needs.
 pub(crate) fn collect(
     alloc: Global,
     site: &Site,

@@ -23,7 +23,7 @@ use batch_set::{LinkedRecipe, LinkedSet};
 use std::alloc::{AllocError, Global};
 
 /// The orders in which the recipes ask for resources: an edge for each two that follow one another on a path, whatever units take
-/// the roles. `linked` are the recipes by number.
+/// the roles. `linked` has the numbers of the recipes' needs.
 pub(crate) fn edges_of(
     alloc: Global,
     cell: &Cell,

@@ -1,7 +1,8 @@
 //! The conditions on the parts of a recipe.
-ghost use Rattle.std.specs.Prelude.{◌≡◌, ◌≢◌, ◌<◌, ◌≤◌, true, [], length, IfErr, IsErrOf, OnOk};
+ghost use Rattle.std.specs.Prelude.{◌≡◌, ◌≢◌, ◌<◌, ◌≤◌, true, [], length, IfErr, IfOk, IsErrOf, OnOk};
 ghost use Rattle.std.specs.List.{list_all};
-ghost use Rattle.batch_recipe.specs.WellFormed.{act_names, is_among, is_well_formed, is_work, value_names};
+ghost use Rattle.batch_recipe.specs.TableNames.{AreNamesOf};
+ghost use Rattle.batch_recipe.specs.WellFormed.{is_among, is_well_formed, is_work, value_names};
 ghost use Rattle.batch_recipe.specs.declared.recipe.TheConstants.{MAX_ENTRIES, MAX_ACTS};
 ghost use Rattle.batch_recipe.specs.declared.role.TheConstants.{MAX_ROLES};
 ghost use Rattle.batch_reader.specs.Faults.{IsAmong, IsNamingFault, IsToldIn, IsWrong, Tells, is_of_recipe};
@@ -16,17 +17,19 @@ ghost use Rattle.batch_reader.specs.declared.fault.TableKind.{TableKind};
 
 use crate::chart_names::is_declared;
 use crate::fault::{EntryFault, Spot, TableFault, TableKind};
-use crate::recipe_names::{RecipeNames, recipe_names};
+use crate::recipe_names::recipe_names;
 use crate::reports::check_reports;
 use crate::reserves::check_reserves;
 use crate::roles::check_roles;
 use crate::tables::check_count;
-use batch_recipe::{Act, Acts, MAX_ACTS, MAX_ENTRIES, MAX_ROLES, Quantity, Role, Work};
+use batch_recipe::{
+    Act, Acts, MAX_ACTS, MAX_ENTRIES, MAX_ROLES, Quantity, RecipeNames, Role, Work,
+};
 use batch_text::Name;
 use indexmap::IndexSet;
 use std::alloc::Global;
 
-/// Tests the counts and the names of a recipe's parts, but not how large the expanded tree is.
+/// Tests the counts and the names of a recipe's parts, but not how large the expanded tree is, and returns the names.
 pub(crate) fn check_recipe(
     alloc: Global,
     inputs: &[Quantity],
@@ -34,19 +37,21 @@ pub(crate) fn check_recipe(
     outputs: &[Name],
     roles: &[Role],
     acts: &Acts,
-) -> Result<(), TableFault>
+) -> Result<RecipeNames, TableFault>
     requires { AreFormed acts.now }
     ensures ok { OnOk result (HasSoundTables inputs.now parameters.now outputs.now roles.now acts.now) }
+    ensures names { IfOk result (λ names. AreNamesOf names.acts acts.now) }
     ensures refused { IfErr result (λ fault. fault ≢ TableFault.Memory
         → ¬ (IsSoundRecipe inputs.now parameters.now outputs.now roles.now acts.now)) }
     ensures told { IfErr result (IsAmong is_of_recipe) }
     ensures stands { IfErr result (Tells (λ spot. IsPartFault (record { inputs = inputs.now; parameters = parameters.now; outputs = outputs.now; roles = roles.now; acts = acts.now }) spot.kind spot.entry)) }
 {
     check_counts(inputs, parameters, outputs, roles, acts)?;
-    check_names(alloc, inputs, parameters, outputs, acts)?;
+    let names = check_names(alloc, inputs, parameters, outputs, acts)?;
     check_roles(alloc, roles, acts)?;
     check_reports(outputs, acts)?;
-    check_reserves(acts)
+    check_reserves(acts)?;
+    Ok(names)
 }
 
 /// Tests how many tables of each kind there are.
@@ -80,15 +85,16 @@ fn check_counts(
     Ok(())
 }
 
-/// Tests that names differ, and that the acts name nothing that isn't declared.
+/// Tests that names differ, and that the acts name nothing that isn't declared, and returns the names.
 fn check_names(
     alloc: Global,
     inputs: &[Quantity],
     parameters: &[Quantity],
     outputs: &[Name],
     acts: &Acts,
-) -> Result<(), TableFault>
+) -> Result<RecipeNames, TableFault>
     requires { AreFormed acts.now }
+    ensures names { IfOk result (λ names. AreNamesOf names.acts acts.now) }
     ensures ok { OnOk result (is_well_formed (value_names inputs.now parameters.now outputs.now) acts.now ≡ true) }
     ensures refused { IfErr result (λ fault. fault ≢ TableFault.Memory
         → is_well_formed (value_names inputs.now parameters.now outputs.now) acts.now ≢ true) }
@@ -96,15 +102,14 @@ fn check_names(
     ensures stands { IfErr result (Tells (λ spot. IsNamingFault inputs.now parameters.now outputs.now acts.now spot.kind spot.entry)) }
 {
     let names = recipe_names(alloc, inputs, parameters, outputs, acts)?;
-    check_acts(alloc, acts, &names)
+    check_acts(alloc, acts, &names)?;
+    Ok(names)
 }
 
 /// Tests that the acts name nothing that isn't declared.
 fn check_acts(alloc: Global, acts: &Acts, names: &RecipeNames) -> Result<(), TableFault>
     requires formed { AreFormed acts.now }
-    requires unit_procedures { names.now.acts.unit_procedures.keys ≡ act_names acts.now.unit_procedures.items }
-    requires operations { names.now.acts.operations.keys ≡ act_names acts.now.operations.items }
-    requires phases { names.now.acts.phases.keys ≡ act_names acts.now.phases.items }
+    requires names { AreNamesOf names.now.acts acts.now }
     ensures ok { OnOk result (acts_are_declared names.now.values.keys acts.now ≡ true) }
     ensures refused { IfErr result (λ fault. acts_are_declared names.now.values.keys acts.now ≢ true) }
     ensures told { IfErr result (λ fault. (fault ≢ TableFault.Memory) × (IsAmong is_of_recipe fault × IsWrong EntryFault.Undeclared fault)) }

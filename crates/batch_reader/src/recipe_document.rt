@@ -2,6 +2,7 @@
 ghost use Rattle.std.specs.Prelude.{◌≡◌, ◌≢◌, ◌<◌, true, Err, codes, length, IfOk, IfErr, IsErrOf, IsSome, IsUtf8};
 ghost use Rattle.toml.specs.Parse.{parse_document};
 ghost use Rattle.toml.specs.View.{table_view};
+ghost use Rattle.batch_recipe.specs.TableNames.{AreNamesOf};
 ghost use Rattle.batch_recipe.specs.declared.acts.Acts.{Acts};
 ghost use Rattle.batch_recipe.specs.declared.header.Header.{Header};
 ghost use Rattle.batch_recipe.specs.declared.recipe.Recipe.{Recipe};
@@ -27,7 +28,7 @@ use crate::recipe_checks::check_recipe;
 use crate::tables::tables_at;
 use batch_recipe::{
     Act, Acts, Header, MAX_SIZE, MAX_TEXT_LEN, MAX_VERSION_LEN, OutlineFault, Quantity, Recipe,
-    RecipeParts, Role,
+    RecipeNames, RecipeParts, Role,
 };
 use batch_text::Name;
 use std::alloc::Global;
@@ -89,6 +90,7 @@ fn recipe_from_table(alloc: Global, table: &Table) -> Result<Recipe, TableFault>
         outputs: parts.values.outputs,
         roles: parts.roles,
         acts: parts.acts,
+        names: parts.names,
     };
     match Recipe::new(alloc, parts) {
         Ok(made) => Ok(made),
@@ -139,12 +141,13 @@ fn top_at(alloc: Global, table: &Table) -> Result<Top, TableFault>
     })
 }
 
-/// The values, the roles and the acts of a recipe, as its tables declare them.
+/// The values, the roles and the acts of a recipe, as its tables declare them, and the names of the values and acts.
 #[derive(Drop)]
 struct Parts {
     values: ValueTables,
     roles: Vec<Role>,
     acts: Acts,
+    names: RecipeNames,
 }
 
 /// Reads the tables of a recipe, and checks their counts and names. The procedure gets the name.
@@ -155,6 +158,7 @@ fn parts_at(alloc: Global, table: &Table, name: Name) -> Result<Parts, TableFaul
     ensures outputs { IfOk result (λ parts. HasTables IsOutputTable (codes "output") (table_view table.now) parts.values.outputs.items) }
     ensures roles { IfOk result (λ parts. HasTables IsRoleTable (codes "role") (table_view table.now) parts.roles.items) }
     ensures acts { IfOk result (λ parts. HasActs (table_view table.now) parts.acts) }
+    ensures names { IfOk result (λ parts. AreNamesOf parts.names.acts parts.acts) }
     ensures sound { IfOk result (λ parts. HasSoundTables parts.values.inputs.items parts.values.parameters.items parts.values.outputs.items parts.roles.items parts.acts) }
     ensures refused { IfErr result (λ fault. fault ≢ TableFault.Memory
         → (recipe : Recipe) → ¬ (IsRecipeTable (table_view table.now) recipe)) }
@@ -164,7 +168,7 @@ fn parts_at(alloc: Global, table: &Table, name: Name) -> Result<Parts, TableFaul
     let values = values_at(alloc, table)?;
     let roles = tables_at::<Role>(alloc, table, "role", TableKind::Role)?;
     let acts = acts_at(alloc, table, name)?;
-    check_recipe(
+    let names = check_recipe(
         alloc,
         &values.inputs,
         &values.parameters,
@@ -176,6 +180,7 @@ fn parts_at(alloc: Global, table: &Table, name: Name) -> Result<Parts, TableFaul
         values,
         roles,
         acts,
+        names,
     })
 }
 

@@ -1,6 +1,7 @@
-//! The names that a recipe declares.
+//! Reading the names of a recipe's values and acts.
 ghost use Rattle.std.specs.Prelude.{◌≡◌, ◌≢◌, ◌⊎◌, true, map, IfErr, IfOk, OnOk};
-ghost use Rattle.batch_recipe.specs.WellFormed.{act_names, are_distinct, value_names};
+ghost use Rattle.batch_recipe.specs.TableNames.{AreNamesOf};
+ghost use Rattle.batch_recipe.specs.WellFormed.{are_distinct, value_names};
 ghost use Rattle.batch_reader.specs.Faults.{IsAmong, IsToldIn, IsWrong, Tells, is_of_recipe};
 ghost use Rattle.batch_reader.specs.PartFaults.{AreDistinct, FailsFirst, HasActTwice, HasValueTwice};
 ghost use Rattle.batch_reader.specs.Naming.{act_names_differ, names_differ};
@@ -8,7 +9,7 @@ ghost use Rattle.batch_reader.specs.declared.fault.EntryFault.{EntryFault};
 
 use crate::fault::{TableFault, TableKind};
 use crate::names::{Named, add_names};
-use batch_recipe::{Act, Acts, Quantity};
+use batch_recipe::{Act, Acts, Quantity, RecipeNames, TableNames};
 use batch_text::Name;
 use indexmap::IndexSet;
 use std::alloc::Global;
@@ -38,36 +39,6 @@ impl Named for Name {
     }
 }
 
-/// The names to which the charts of a recipe and its phase steps may refer.
-pub(crate) struct RecipeNames {
-    /// The inputs, parameters and outputs.
-    pub(crate) values: IndexSet<Name>,
-    pub(crate) acts: ActNames,
-}
-
-impl Drop for RecipeNames {
-    fn drop(self) {
-        let RecipeNames { values: _, acts: _ } = self;
-    }
-}
-
-/// The names of a recipe's acts, table by table.
-pub(crate) struct ActNames {
-    pub(crate) unit_procedures: IndexSet<Name>,
-    pub(crate) operations: IndexSet<Name>,
-    pub(crate) phases: IndexSet<Name>,
-}
-
-impl Drop for ActNames {
-    fn drop(self) {
-        let ActNames {
-            unit_procedures: _,
-            operations: _,
-            phases: _,
-        } = self;
-    }
-}
-
 /// The names of a recipe, where those that have to differ do.
 pub(crate) fn recipe_names(
     alloc: Global,
@@ -77,9 +48,7 @@ pub(crate) fn recipe_names(
     acts: &Acts,
 ) -> Result<RecipeNames, TableFault>
     ensures values { IfOk result (λ names. names.values.keys ≡ value_names inputs.now parameters.now outputs.now) }
-    ensures unit_procedures { IfOk result (λ names. names.acts.unit_procedures.keys ≡ act_names acts.now.unit_procedures.items) }
-    ensures operations { IfOk result (λ names. names.acts.operations.keys ≡ act_names acts.now.operations.items) }
-    ensures phases { IfOk result (λ names. names.acts.phases.keys ≡ act_names acts.now.phases.items) }
+    ensures acts { IfOk result (λ names. AreNamesOf names.acts acts.now) }
     ensures differ { OnOk result (names_differ (value_names inputs.now parameters.now outputs.now) acts.now ≡ true) }
     ensures refused { IfErr result (λ fault. fault ≢ TableFault.Memory
         → names_differ (value_names inputs.now parameters.now outputs.now) acts.now ≢ true) }
@@ -92,10 +61,8 @@ pub(crate) fn recipe_names(
 }
 
 /// The names of the acts, where those of each table differ.
-fn names_of_acts(alloc: Global, acts: &Acts) -> Result<ActNames, TableFault>
-    ensures unit_procedures { IfOk result (λ names. names.unit_procedures.keys ≡ act_names acts.now.unit_procedures.items) }
-    ensures operations { IfOk result (λ names. names.operations.keys ≡ act_names acts.now.operations.items) }
-    ensures phases { IfOk result (λ names. names.phases.keys ≡ act_names acts.now.phases.items) }
+fn names_of_acts(alloc: Global, acts: &Acts) -> Result<TableNames, TableFault>
+    ensures ok { IfOk result (λ names. AreNamesOf names acts.now) }
     ensures differ { OnOk result (act_names_differ acts.now ≡ true) }
     ensures refused { IfErr result (λ fault. fault ≢ TableFault.Memory → act_names_differ acts.now ≢ true) }
     ensures told { IfErr result (λ fault. IsAmong is_of_recipe fault × IsWrong EntryFault.Duplicate fault) }
@@ -104,7 +71,7 @@ fn names_of_acts(alloc: Global, acts: &Acts) -> Result<ActNames, TableFault>
     let unit_procedures = distinct_names(alloc, &acts.unit_procedures, TableKind::UnitProcedure)?;
     let operations = distinct_names(alloc, &acts.operations, TableKind::Operation)?;
     let phases = distinct_names(alloc, &acts.phases, TableKind::Phase)?;
-    Ok(ActNames {
+    Ok(TableNames {
         unit_procedures,
         operations,
         phases,

@@ -3,7 +3,9 @@ ghost use Rattle.std.specs.Prelude.{◌≡◌, ◌++◌, [], ◌∷◌, map, IfO
 
 use crate::chart::Chart;
 use crate::condition::{Cond, Term};
+use crate::node_condition::NodeCond;
 use batch_text::Name;
+use indexmap::IndexSet;
 use std::alloc::{AllocError, Global};
 
 fn copy_name(alloc: Global, name: &Name) -> Result<Name, AllocError>
@@ -36,29 +38,31 @@ fn copy_condition(alloc: Global, condition: &Cond) -> Result<Cond, AllocError>
     })
 }
 
-/// Adds a copy of the condition.
+/// Adds a copy of the condition on these values.
 pub fn push_condition(
     alloc: Global,
-    conditions: &mut Vec<Cond>,
+    conditions: &mut Vec<NodeCond>,
+    values: &IndexSet<Name>,
     condition: &Cond,
 ) -> Result<(), AllocError>
     ensures { IfOk result (λ _. conditions.new.items ≡ conditions.old.items ++ condition.now ∷ []) }
 {
     let condition = copy_condition(alloc, condition)?;
-    conditions.push(condition)?;
+    conditions.push(NodeCond::new(condition, values))?;
     Ok(())
 }
 
-/// Adds copies of the conditions of a selection's branches.
+/// Adds copies of the conditions of a selection's branches on these values.
 pub fn push_conditions(
     alloc: Global,
-    conditions: &mut Vec<Cond>,
+    conditions: &mut Vec<NodeCond>,
+    values: &IndexSet<Name>,
     choices: &[(Cond, Chart)],
 ) -> Result<(), AllocError>
     ensures { IfOk result (λ _. conditions.new.items ≡ conditions.old.items ++ map (λ choice. choice.0) choices.now) }
 {
     for choice in choices {
-        push_condition(alloc, conditions, &choice.0)?;
+        push_condition(alloc, conditions, values, &choice.0)?;
     }
     Ok(())
 }

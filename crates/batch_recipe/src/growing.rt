@@ -10,7 +10,8 @@ use crate::chart::Chart;
 use crate::condition::Cond;
 use crate::copying::{push_condition, push_conditions};
 use crate::entry::{Entry, Kind};
-use crate::label_index::Labels;
+use crate::labels::Labels;
+use crate::node_condition::NodeCond;
 use crate::outline_fault::OutlineFault;
 use crate::recipe::MAX_NODES;
 use batch_text::Name;
@@ -91,7 +92,7 @@ fn finish(nodes: &mut Vec<Entry>, node: u16)
 pub fn grow_act(
     alloc: Global,
     nodes: &mut Vec<Entry>,
-    conditions: &mut Vec<Cond>,
+    conditions: &mut Vec<NodeCond>,
     labels: &Labels<'_>,
     act: &Act,
     kind: Kind,
@@ -138,7 +139,7 @@ fn grow_bare(nodes: &mut Vec<Entry>, parent: u16, child: u16) -> Result<(), Outl
 fn grow(
     alloc: Global,
     nodes: &mut Vec<Entry>,
-    conditions: &mut Vec<Cond>,
+    conditions: &mut Vec<NodeCond>,
     labels: &Labels<'_>,
     chart: &Chart,
     seat: Seat,
@@ -164,7 +165,7 @@ fn grow(
 fn grow_label(
     alloc: Global,
     nodes: &mut Vec<Entry>,
-    conditions: &mut Vec<Cond>,
+    conditions: &mut Vec<NodeCond>,
     labels: &Labels<'_>,
     name: &Name,
     seat: Seat,
@@ -200,7 +201,7 @@ fn grow_label(
 fn grow_parts(
     alloc: Global,
     nodes: &mut Vec<Entry>,
-    conditions: &mut Vec<Cond>,
+    conditions: &mut Vec<NodeCond>,
     labels: &Labels<'_>,
     kind: Kind,
     parts: &[Chart],
@@ -226,7 +227,7 @@ fn grow_parts(
 fn grow_each(
     alloc: Global,
     nodes: &mut Vec<Entry>,
-    conditions: &mut Vec<Cond>,
+    conditions: &mut Vec<NodeCond>,
     labels: &Labels<'_>,
     parts: &[Chart],
     seat: Seat,
@@ -255,7 +256,7 @@ fn grow_each(
 fn grow_selection(
     alloc: Global,
     nodes: &mut Vec<Entry>,
-    conditions: &mut Vec<Cond>,
+    conditions: &mut Vec<NodeCond>,
     labels: &Labels<'_>,
     choices: &[(Cond, Chart)],
     last: &Chart,
@@ -267,7 +268,7 @@ fn grow_selection(
 {
     let first = conditions.len();
     let node = begin(nodes, Kind::Sel, 0, first, seat.parent, seat.child)?;
-    let Ok(()) = push_conditions(alloc, conditions, choices) else {
+    let Ok(()) = push_conditions(alloc, conditions, &labels.names.values, choices) else {
         return Err(OutlineFault::Memory);
     };
     let below = Seat {
@@ -285,7 +286,7 @@ fn grow_selection(
 fn grow_choices(
     alloc: Global,
     nodes: &mut Vec<Entry>,
-    conditions: &mut Vec<Cond>,
+    conditions: &mut Vec<NodeCond>,
     labels: &Labels<'_>,
     choices: &[(Cond, Chart)],
     last: &Chart,
@@ -322,7 +323,7 @@ fn grow_choices(
 fn grow_loop(
     alloc: Global,
     nodes: &mut Vec<Entry>,
-    conditions: &mut Vec<Cond>,
+    conditions: &mut Vec<NodeCond>,
     labels: &Labels<'_>,
     turns: u64,
     turn: &(Cond, Chart),
@@ -334,7 +335,7 @@ fn grow_loop(
 {
     let number = conditions.len();
     let node = begin(nodes, Kind::Loop(turns), 0, number, seat.parent, seat.child)?;
-    let Ok(()) = push_condition(alloc, conditions, &turn.0) else {
+    let Ok(()) = push_condition(alloc, conditions, &labels.names.values, &turn.0) else {
         return Err(OutlineFault::Memory);
     };
     let below = Seat {

@@ -1,5 +1,6 @@
 //! The parts of which a recipe is made.
 ghost use Rattle.std.specs.Prelude.{◌≡◌, ◌≤◌, ◌<◌, length, true, IfOk, IsErrOf};
+ghost use Rattle.batch_recipe.specs.TableNames.{AreNamesOf};
 ghost use Rattle.batch_recipe.specs.Parts.{IsMadeOf};
 ghost use Rattle.batch_recipe.specs.Procedure.{procedure_nodes};
 ghost use Rattle.batch_recipe.specs.WellFormed.{are_kinds, are_reports, are_reserves, are_roles, has_free_names, is_well_formed, value_names};
@@ -13,11 +14,12 @@ use crate::outline::Outline;
 use crate::outline_fault::OutlineFault;
 use crate::quantity::Quantity;
 use crate::recipe::Recipe;
+use crate::recipe_names::RecipeNames;
 use crate::role::Role;
 use batch_text::Name;
 use std::alloc::Global;
 
-/// The parts of which a recipe is made, each as the field of that name in `Recipe`.
+/// The parts of which a recipe is made, each as the field of that name in `Recipe`, and the names of its values and acts.
 #[derive(Drop)]
 pub struct RecipeParts {
     pub header: Header,
@@ -27,6 +29,7 @@ pub struct RecipeParts {
     pub outputs: Vec<Name>,
     pub roles: Vec<Role>,
     pub acts: Acts,
+    pub names: RecipeNames,
 }
 
 impl Recipe {
@@ -52,10 +55,11 @@ impl Recipe {
         requires kinds { are_kinds parts.acts ≡ true }
         requires well_formed { is_well_formed (value_names parts.inputs.items parts.parameters.items parts.outputs.items) parts.acts ≡ true }
         requires free_names { has_free_names (value_names parts.inputs.items parts.parameters.items parts.outputs.items) parts.acts ≡ true }
+        requires names { AreNamesOf parts.names.acts parts.acts }
         ensures ok { IfOk result (λ recipe. IsMadeOf recipe parts) }
         ensures many { IsErrOf result OutlineFault.TooMany → MAX_NODES < length (procedure_nodes parts.acts) }
     {
-        let outline = Outline::new(alloc, &parts.acts)?;
+        let outline = Outline::new(alloc, &parts.acts, &parts.names)?;
         Ok(Recipe {
             header: parts.header,
             basis: parts.basis,

@@ -1,5 +1,5 @@
 //! The values of a batch by name, and the outputs that reports name.
-ghost use Rattle.std.specs.Prelude.{◌≡◌, not, position};
+ghost use Rattle.std.specs.Prelude.{◌≡◌, ℕ, Some, false, not, position, slice_get, IfSome, IsNone};
 ghost use Rattle.std.specs.List.{list_any};
 ghost use Rattle.batch_recipe.specs.Conditions.{same_name, value_of};
 ghost use Rattle.batch_recipe.specs.Values.{are_outputs, have_output, with_outputs_zero, with_value, with_values};
@@ -11,27 +11,22 @@ use std::marker::Model;
 /// The values of a batch, by name: inputs, parameters and outputs.
 #[derive(Drop)]
 pub struct Values {
-    /// Names and values in the order inputs, parameters, outputs.
-    pub entries: Vec<(Name, u64)>,
+    /// Names and values in the order inputs, parameters, outputs. No name stands twice.
+    pub(crate) entries: Vec<(Name, u64)>,
 }
 
 impl Model for Values {
     ghost use Rattle.std.specs.Prelude.{List, ℕ};
+    ghost use Rattle.batch_recipe.specs.DistinctValues.{HaveDistinctValueNames};
 
     ghost Value = { List (List ℕ × ℕ) };
 
     ghost view = { λ values. values.entries.items };
+
+    ghost invariant = { λ values. HaveDistinctValueNames values.entries.items };
 }
 
 impl Values {
-    /// Values that are looked up in this order: if a name has several, the first counts.
-    // claim: values by name
-    pub fn new(entries: Vec<(Name, u64)>) -> Values
-        ensures { result ≡ entries.items }
-    {
-        Values { entries }
-    }
-
     /// The value with this name.
     // claim: values by name
     pub fn value_of(&self, name: &Name) -> Option<u64>
@@ -43,12 +38,23 @@ impl Values {
             .map(|entry| entry.1)
     }
 
-    /// Sets each value with this name. If none has the name, nothing changes.
-    // claim: outputs set
-    pub fn set(&mut self, name: &Name, value: u64)
+    /// The value with this name, looked for at the position first.
+    pub(crate) fn value_from(&self, position: usize, name: &Name) -> Option<u64>
+        ensures { result ≡ value_of self.now name.now }
+    {
+        match self.entries.get(position) {
+            Some(entry) if entry.0 == *name => Some(entry.1),
+            _ => self.value_of(name),
+        }
+    }
+
+    /// Sets the value with this name. If none has the name, nothing changes.
+    fn set(&mut self, name: &Name, value: u64)
         ensures { self.new ≡ with_value name.now value self.old }
     {
-        set_entries(&mut self.entries, name, value);
+        if let Some(position) = position_from_end(&self.entries, name) {
+            self.entries[position].1 = value;
+        }
     }
 
     /// Sets each of these outputs, as a report names them.
@@ -72,15 +78,17 @@ impl Values {
     }
 }
 
-/// Sets the entries with this name.
-fn set_entries(entries: &mut [(Name, u64)], name: &Name, value: u64)
-    ensures { entries.new ≡ with_value name.now value entries.old }
+/// The position of the name. The search begins at the end, where the outputs stand.
+fn position_from_end(entries: &[(Name, u64)], name: &Name) -> Option<usize>
+    ensures some { IfSome result (λ position. (value : ℕ) × (slice_get entries.now position ≡ Some (name.now, value))) }
+    ensures none { IsNone result → have_output entries.now name.now ≡ false }
 {
-    for index in 0..entries.len() {
-        if entries[index].0 == *name {
-            entries[index].1 = value;
+    for position in (0..entries.len()).rev() {
+        if entries[position].0 == *name {
+            return Some(position);
         }
     }
+    None
 }
 
 /// Whether a report may set these outputs of a recipe: each is one of the names, none is named twice, and no value is above

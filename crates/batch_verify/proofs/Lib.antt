@@ -11,7 +11,7 @@ pub mod Phases
 pub mod NameSets
 pub mod RunningApart
 pub mod NodePhases
-pub mod Offers
+pub mod PassedSteps
 pub mod TreesApart
 pub mod Marking
 pub mod Entering

@@ -7,7 +7,7 @@ pub mod Comparing
 pub mod Covering
 pub mod Judging
 pub mod NodePhases
-pub mod Offers
+pub mod PassedSteps
 pub mod Ranked
 pub mod Refusals
 pub mod RunningNodes

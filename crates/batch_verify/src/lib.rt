@@ -13,7 +13,7 @@ mod judgement;
 mod laws;
 mod lines;
 mod names;
-mod offering;
+mod passed;
 mod ranking;
 mod reading;
 mod recipes;

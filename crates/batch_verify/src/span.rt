@@ -8,15 +8,16 @@ ghost use Rattle.batch_recipe.specs.declared.role.Role as declared;
 ghost use Rattle.batch_model.specs.Recipes.{recipe_of};
 ghost use Rattle.batch_model.specs.Setups.{setup_of};
 ghost use Rattle.batch_set.specs.Looked.{needs_by};
-ghost use Rattle.batch_set.specs.declared.linked.Source as place;
 ghost use Rattle.batch_verify.specs.Asking.{SaysAsks};
 ghost use Rattle.batch_verify.specs.Charts.{AreFaults};
 ghost use Rattle.batch_verify.specs.Refusals.{IsVerdict, ranking_in};
+ghost use Rattle.batch_verify.specs.PassedSteps.{Allows};
 ghost use Rattle.batch_verify.specs.Spans.{AreAskedInEach, ClassOffers, ComesBelow, GivesUnits, IsPassed, PhaseOffered, SourceOffers, no_span};
+ghost use Rattle.batch_verify.specs.declared.passed.Passed as passed;
 ghost use Rattle.batch_verify.specs.declared.span.Span as span;
 
 use crate::asking::{look_up, number_by, resource_by, unit_from};
-use crate::offering::{note_unit, offering_unit};
+use crate::passed::{Passed, allows, note_passed, passed_at};
 use crate::rising::{rank_by, rise};
 use crate::rule::Rule;
 use crate::site::Site;
@@ -60,16 +61,16 @@ pub(crate) fn is_clear(
         ranks,
     };
     let mut spans = Vec::with_capacity(alloc, recipe.outline.entries.len())?;
-    let mut offering = vec![in alloc; None; recipe.acts.phases.len()]?;
+    let mut passed = vec![in alloc; None; recipe.acts.phases.len()]?;
     for entry in &recipe.outline.entries {
-        let known = offering_unit(&offering, entry.kind);
+        let known = passed_at(&passed, entry.kind);
         let above = span_above(&spans, entry);
         let fault = faults[spans.len()];
         match span_below(&low, &highest, &recipe.roles, entry, fault, known, above) {
             None => return Ok(false),
-            Some(span) => {
-                note_unit(&mut offering, entry.kind, span.unit);
-                spans.push(span)?;
+            Some(own) => {
+                note_passed(&mut passed, entry.kind, own);
+                spans.push(own.within)?;
             }
         }
     }
@@ -90,32 +91,41 @@ fn span_above(spans: &[Span], entry: &Entry) -> Span
     }
 }
 
-/// The span of the path below the node. None where the node may break a rule.
+/// The spans of the path above and below the node, or those that are known of its act if they allow the span above it. None where the
+/// node may break a rule.
 fn span_below(
     low: &Site,
     highest: &[Option<u16>],
     roles: &[Role],
     entry: &Entry,
     fault: Option<Rule>,
-    known: Option<Source>,
+    known: Option<Passed>,
     above: Span,
-) -> Option<Span>
-    requires { (a : act.Act) (source : place.Source) → act_of low.now.acts.now entry.now.kind ≡ Some a → known ≡ Some source → SourceOffers low.now.cell.now roles.now (Some source) a.work }
-    ensures fault { IfSome result (λ within. fault ≡ None) }
-    ensures act { IfSome result (λ within. (a : act.Act) → act_of low.now.acts.now entry.now.kind ≡ Some a
-        → IsPassed low.now.cell.now (option_copied low.now.ranks) roles.now low.now.takers.now highest.now (needs_by low.now.linked.now entry.now.kind) a above within) }
-    ensures chart { act_of low.now.acts.now entry.now.kind ≡ None → IfSome result (λ within. within ≡ above) }
+) -> Option<Passed>
+    requires { (a : act.Act) (spans : passed.Passed) → act_of low.now.acts.now entry.now.kind ≡ Some a → known ≡ Some spans
+        → IsPassed low.now.cell.now (option_copied low.now.ranks) roles.now low.now.takers.now highest.now (needs_by low.now.linked.now entry.now.kind) a spans.above spans.within }
+    ensures fault { IfSome result (λ spans. fault ≡ None) }
+    ensures act { IfSome result (λ spans. (a : act.Act) → act_of low.now.acts.now entry.now.kind ≡ Some a
+        → Allows spans above × IsPassed low.now.cell.now (option_copied low.now.ranks) roles.now low.now.takers.now highest.now (needs_by low.now.linked.now entry.now.kind) a spans.above spans.within) }
+    ensures chart { act_of low.now.acts.now entry.now.kind ≡ None → IfSome result (λ spans. spans.within ≡ above) }
 {
     if fault.is_some() {
         return None;
     }
-    match entry.kind.act(low.acts) {
-        None => Some(above),
-        Some(act) => {
-            let needs = low.linked.needs(entry.kind);
-            span_within(low, highest, roles, act, needs, known, above)
-        }
+    let Some(act) = entry.kind.act(low.acts) else {
+        return Some(Passed {
+            above,
+            within: above,
+        });
+    };
+    if let Some(spans) = known
+        && allows(spans, above)
+    {
+        return Some(spans);
     }
+    let needs = low.linked.needs(entry.kind);
+    let within = span_within(low, highest, roles, act, needs, above)?;
+    Some(Passed { above, within })
 }
 
 /// The span of the path below the act with these needs. None where the act may break a rule.
@@ -125,15 +135,13 @@ fn span_within(
     roles: &[Role],
     act: &Act,
     needs: &[LinkedNeed],
-    known: Option<Source>,
     above: Span,
 ) -> Option<Span>
-    requires { (source : place.Source) → known ≡ Some source → SourceOffers low.now.cell.now roles.now (Some source) act.now.work }
     ensures { IfSome result (IsPassed low.now.cell.now (option_copied low.now.ranks) roles.now low.now.takers.now highest.now needs.now act.now above) }
 {
     let unit = source_under(low, act, needs, above.unit)?;
     let last = after_needs(low, highest, needs, above.last)?;
-    if !each_offers(low.cell, roles, unit, known, &act.work) {
+    if !each_offers(low.cell, roles, unit, &act.work) {
         return None;
     }
     Some(Span { unit, last })
@@ -199,34 +207,14 @@ fn after_need(
     }
 }
 
-/// Whether each unit that the source may give offers the phase, if the work runs one. Nothing is looked up for the known source.
-fn each_offers(
-    cell: &Cell,
-    roles: &[Role],
-    unit: Option<Source>,
-    known: Option<Source>,
-    work: &Work,
-) -> bool
-    requires { (source : place.Source) → known ≡ Some source → SourceOffers cell.now roles.now (Some source) work.now }
+/// Whether each unit that the source may give offers the phase, if the work runs one.
+fn each_offers(cell: &Cell, roles: &[Role], unit: Option<Source>, work: &Work) -> bool
     ensures { result ≡ true → SourceOffers cell.now roles.now unit work.now }
 {
     match (work, unit) {
         (Work::Follows(_), _) => true,
         (Work::Runs { .. }, None) => false,
-        (Work::Runs { phase, .. }, Some(source)) => {
-            is_known(known, source) || source_offers(cell, roles, source, phase)
-        }
-    }
-}
-
-/// Whether the source is the known one.
-fn is_known(known: Option<Source>, source: Source) -> bool
-    ensures { result ≡ true → known ≡ Some source }
-{
-    match (known, source) {
-        (Some(Source::Resource(one)), Source::Resource(other)) => one == other,
-        (Some(Source::Role(one)), Source::Role(other)) => one == other,
-        _ => false,
+        (Work::Runs { phase, .. }, Some(source)) => source_offers(cell, roles, source, phase),
     }
 }
 

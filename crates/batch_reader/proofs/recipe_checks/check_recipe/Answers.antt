@@ -1,5 +1,5 @@
 use Rattle.std.proofs.Common.{◌&&◌}
-use Rattle.std.proofs.lemmas.Result.{err_from_is_err_and, on_ok_weaker, IfErr-weaker}
+use Rattle.std.proofs.lemmas.Result.{err_from_is_err_and}
 use Rattle.std.specs.List.{list_all}
 use Rattle.batch_recipe.specs.WellFormed.{reports_among, reports_few, reports_once}
 use Rattle.batch_reader.proofs.Truth.{and_true, both_true}
@@ -8,17 +8,17 @@ use Rattle.batch_reader.proofs.PartsTold.{naming_fault, report_fault, reserve_fa
 use Rattle.batch_reader.specs.PartFaults.{Parts}
 use Rattle.batch_reader.proofs.recipe_checks.check_recipe.Goals as goal
 
-pub returns-in_err-check_names-clause-stands : goal.returns-in_err-check_names-clause-stands
-returns-in_err-check_names-clause-stands c =
-    let p = err_from_is_err_and c.from_residual-in_err-check_names.result c.from_residual-in_err-check_names.ensures.1 in
+pub returns-in_err-names-clause-stands : goal.returns-in_err-names-clause-stands
+returns-in_err-names-clause-stands c =
+    let p = err_from_is_err_and c.from_residual-in_err-names.result c.from_residual-in_err-names.ensures.1 in
     let parts : Parts = record { inputs = c.args.inputs.now; parameters = c.args.parameters.now; outputs = c.args.outputs.now; roles = c.args.roles.now; acts = c.args.acts.now } in
-    rw (p.1, p.2) (tells_weaker _ _ (λ spot. naming_fault parts spot.kind spot.entry) _ c.in_err-check_names.ensures.stands)
+    rw (p.1, p.2) (tells_weaker _ _ (λ spot. naming_fault parts spot.kind spot.entry) _ c.in_err-names.ensures.stands)
 
 pub returns-clause-ok : goal.returns-clause-ok
 returns-clause-ok c =
     let counts = c.in_ok-check_counts.ensures in
     let steps = c.args.acts.now.phases.items in
-    on_ok_weaker c.check_reserves.result (λ reserves. record {
+    record {
       few_inputs = counts.values.0;
       few_parameters = counts.values.1;
       few_outputs = counts.values.2;
@@ -29,14 +29,16 @@ returns-clause-ok c =
       few_operations = counts.few_acts.1;
       some_phases = counts.some_acts.2;
       few_phases = counts.few_acts.2;
-      well_formed = c.in_ok-check_names.ensures.ok;
+      well_formed = c.in_ok-names.ensures.ok;
       own_roles = c.in_ok-check_roles.ensures.ok;
       own_reports = and_true (list_all reports_few steps) (list_all reports_once steps && list_all (reports_among c.args.outputs.now) steps) c.requires.few_reports c.in_ok-check_reports.ensures.ok;
-      own_reserves = reserves;
-    }) c.check_reserves.ensures.ok
+      own_reserves = c.in_ok-check_reserves.ensures.ok;
+    }
 
-pub returns-clause-refused : goal.returns-clause-refused
-returns-clause-refused c = IfErr-weaker c.check_reserves.result _ _ (λ fault wrong known sound. wrong sound.own_reserves) c.check_reserves.ensures.refused
+pub returns-in_err-check_reserves-clause-refused : goal.returns-in_err-check_reserves-clause-refused
+returns-in_err-check_reserves-clause-refused c =
+    let p = err_from_is_err_and c.from_residual-in_err-check_reserves.result c.from_residual-in_err-check_reserves.ensures.1 in
+    rw (p.1, p.2) (λ known sound. c.in_err-check_reserves.ensures.refused sound.own_reserves)
 
 pub returns-in_err-check_reports-clause-refused : goal.returns-in_err-check_reports-clause-refused
 returns-in_err-check_reports-clause-refused c =
@@ -62,7 +64,8 @@ returns-in_err-check_roles-clause-stands c =
     let parts : Parts = record { inputs = c.args.inputs.now; parameters = c.args.parameters.now; outputs = c.args.outputs.now; roles = c.args.roles.now; acts = c.args.acts.now } in
     rw (p.1, p.2) (tells_weaker _ _ (λ spot. role_fault parts spot.kind spot.entry) _ c.in_err-check_roles.ensures.stands)
 
-pub returns-clause-stands : goal.returns-clause-stands
-returns-clause-stands c =
+pub returns-in_err-check_reserves-clause-stands : goal.returns-in_err-check_reserves-clause-stands
+returns-in_err-check_reserves-clause-stands c =
+    let p = err_from_is_err_and c.from_residual-in_err-check_reserves.result c.from_residual-in_err-check_reserves.ensures.1 in
     let parts : Parts = record { inputs = c.args.inputs.now; parameters = c.args.parameters.now; outputs = c.args.outputs.now; roles = c.args.roles.now; acts = c.args.acts.now } in
-    IfErr-weaker c.check_reserves.result _ _ (λ fault. tells_weaker _ _ (λ spot. reserve_fault parts spot.kind spot.entry) fault) c.check_reserves.ensures.stands
+    rw (p.1, p.2) (tells_weaker _ _ (λ spot. reserve_fault parts spot.kind spot.entry) _ c.in_err-check_reserves.ensures.stands)

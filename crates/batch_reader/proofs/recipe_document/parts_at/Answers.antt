@@ -57,21 +57,21 @@ returns-in_err-acts-clause-stands c =
 pub check_recipe-requires : goal.check_recipe-requires
 check_recipe-requires c = formed_of_tables _ c.in_ok-acts.acts c.in_ok-acts.ensures.ok
 
-pub returns-in_err-check_recipe-clause-refused : goal.returns-in_err-check_recipe-clause-refused
-returns-in_err-check_recipe-clause-refused c =
-    let p = err_from_is_err_and c.from_residual-in_err-check_recipe.result c.from_residual-in_err-check_recipe.ensures.1 in
+pub returns-in_err-names-clause-refused : goal.returns-in_err-names-clause-refused
+returns-in_err-names-clause-refused c =
+    let p = err_from_is_err_and c.from_residual-in_err-names.result c.from_residual-in_err-names.ensures.1 in
     rw (p.1, p.2) (λ known. unsound_recipe_refused _ c.in_ok-values.values.inputs.items c.in_ok-values.values.parameters.items c.in_ok-values.values.outputs.items c.in_ok-roles.roles.items c.in_ok-acts.acts
     c.in_ok-values.ensures.inputs c.in_ok-values.ensures.parameters c.in_ok-values.ensures.outputs c.in_ok-roles.ensures.ok c.in_ok-acts.ensures.ok
-    (rw (c.deref.ensures.value, c.deref-2.ensures.value, c.deref-3.ensures.value, c.deref-4.ensures.value) at (c.in_err-check_recipe.ensures.refused known)))
+    (rw (c.deref.ensures.value, c.deref-2.ensures.value, c.deref-3.ensures.value, c.deref-4.ensures.value) at (c.in_err-names.ensures.refused known)))
 
-pub returns-in_err-check_recipe-clause-told : goal.returns-in_err-check_recipe-clause-told
-returns-in_err-check_recipe-clause-told c =
-    let p = err_from_is_err_and c.from_residual-in_err-check_recipe.result c.from_residual-in_err-check_recipe.ensures.1 in
-    rw (p.1, p.2) c.in_err-check_recipe.ensures.told
+pub returns-in_err-names-clause-told : goal.returns-in_err-names-clause-told
+returns-in_err-names-clause-told c =
+    let p = err_from_is_err_and c.from_residual-in_err-names.result c.from_residual-in_err-names.ensures.1 in
+    rw (p.1, p.2) c.in_err-names.ensures.told
 
-pub returns-in_err-check_recipe-clause-stands : goal.returns-in_err-check_recipe-clause-stands
-returns-in_err-check_recipe-clause-stands c =
-    let p = err_from_is_err_and c.from_residual-in_err-check_recipe.result c.from_residual-in_err-check_recipe.ensures.1 in
+pub returns-in_err-names-clause-stands : goal.returns-in_err-names-clause-stands
+returns-in_err-names-clause-stands c =
+    let p = err_from_is_err_and c.from_residual-in_err-names.result c.from_residual-in_err-names.ensures.1 in
     rw (p.1, p.2) (tells_weaker _ (IsWrongAt (table_view c.args.table.now)) (λ spot wrong h. inr (inr (record {
       parts = record { inputs = c.in_ok-values.values.inputs.items; parameters = c.in_ok-values.values.parameters.items; outputs = c.in_ok-values.values.outputs.items; roles = c.in_ok-roles.roles.items; acts = c.in_ok-acts.acts };
       inputs = c.in_ok-values.ensures.inputs;
@@ -80,8 +80,8 @@ returns-in_err-check_recipe-clause-stands c =
       roles = c.in_ok-roles.ensures.ok;
       acts = c.in_ok-acts.ensures.ok;
       fault = h;
-    }))) _ (rw (c.deref.ensures.value, c.deref-2.ensures.value, c.deref-3.ensures.value, c.deref-4.ensures.value) at c.in_err-check_recipe.ensures.stands))
+    }))) _ (rw (c.deref.ensures.value, c.deref-2.ensures.value, c.deref-3.ensures.value, c.deref-4.ensures.value) at c.in_err-names.ensures.stands))
 
 pub returns-clause-sound : goal.returns-clause-sound
 returns-clause-sound c =
-    rw (c.deref.ensures.value, c.deref-2.ensures.value, c.deref-3.ensures.value, c.deref-4.ensures.value) at c.in_ok-check_recipe.ensures.ok
+    rw (c.deref.ensures.value, c.deref-2.ensures.value, c.deref-3.ensures.value, c.deref-4.ensures.value) at c.in_ok-names.ensures.ok

@@ -62,6 +62,7 @@ new-requires c =
       some_phases = sound.some_phases;
       few_phases = sound.few_phases;
       kinds = kinds_of_tables _ c.in_ok-parts.parts.acts tables.acts;
+      names = tables.names;
       well_formed = sound.well_formed;
       free_names = free_names_of_tables _ values.inputs.items values.parameters.items values.outputs.items c.in_ok-parts.parts.acts tables.inputs tables.parameters tables.outputs tables.acts;
     }

@@ -8,18 +8,18 @@ use Rattle.batch_recipe.specs.declared.entry.Kind.TheVariants as kind
 use Rattle.batch_recipe.specs.declared.role.Role.{Role}
 use Rattle.batch_recipe.proofs.Climbing.{as_many}
 use Rattle.batch_set.specs.Looked.{needs_by}
-use Rattle.batch_set.specs.declared.linked.Source.{Source}
 use Rattle.batch_verify.specs.Asking.{takers_of}
-use Rattle.batch_verify.specs.Offers.{AreOffered, offering_unit, with_offering}
+use Rattle.batch_verify.specs.PassedSteps.{Allows, passed_at, with_passed}
 use Rattle.batch_verify.specs.Refusals.{ranking_in}
 use Rattle.batch_verify.specs.Spans.{AreBetween, IsPassed}
 use Rattle.batch_verify.specs.Trials.{bound_by}
 use Rattle.batch_verify.specs.declared.rule.Rule.{Rule}
+use Rattle.batch_verify.specs.declared.passed.Passed.{Passed}
 use Rattle.batch_verify.specs.declared.span.Span.{Span}
 use Rattle.batch_verify.specs.declared.trial.Trial.TheVariants.{Leveled}
 use Rattle.batch_verify.proofs.Between.{between}
 use Rattle.batch_verify.proofs.Clears.{Clears-none, Clears-more}
-use Rattle.batch_verify.proofs.Offers.{AreOffered-none, AreOffered-with}
+use Rattle.batch_verify.proofs.PassedSteps.{AreNoted, AreNoted-none, AreNoted-with, HasPassed, IsPassed-allowed}
 use Rattle.batch_verify.proofs.Paths.{paths_end}
 use Rattle.batch_verify.proofs.Tried.{differ, own_role}
 use Rattle.batch_verify.proofs.span.is_clear.Goals as goal
@@ -28,13 +28,13 @@ abbrev no_entry : Entry
 no_entry = record { kind = kind.Skip; end = 0; parent = 0; child = 0; needs = 0; detail = 0 }
 
 -- all are None, where no other clone of None is one
-are_none : (P : Option Source → Type 0) (units : List (Option Source)) (n : ℕ) → (((unit : Option Source) → P unit → unit ≡ None) → units ≡ replicate n None) → ((unit : Source) → ¬ (P (Some unit)))
-    → units ≡ replicate n None
-are_none P units n clones bad = clones only
+are_none : (P : Option Passed → Type 0) (all : List (Option Passed)) (n : ℕ) → (((spans : Option Passed) → P spans → spans ≡ None) → all ≡ replicate n None) → ((spans : Passed) → ¬ (P (Some spans)))
+    → all ≡ replicate n None
+are_none P all n clones bad = clones only
   where
-    only : (unit : Option Source) → P unit → unit ≡ None
+    only : (spans : Option Passed) → P spans → spans ≡ None
     only None h = refl
-    only (Some unit) h = absurd (bad unit h)
+    only (Some spans) h = absurd (bad spans h)
 
 pub loop-entry-init : goal.loop-entry-init
 loop-entry-init c =
@@ -44,7 +44,7 @@ loop-entry-init c =
       clears =
           rw c.in_ok-spans.ensures.items
           (Clears-none cell (option_copied c.args.ranks) r c.args.linked.now (takers_of cell (bound_by cell r.roles.items (Leveled false c.args.ranks)) r.roles.items) c.in_ok-highest.highest.items);
-      offered = subst (AreOffered cell r.roles.items r.acts) (sym (are_none _ _ _ c.in_ok-offering.ensures.items_if_clones_equal (λ unit bad. bad))) (AreOffered-none cell r.roles.items r.acts c.len-2.result);
+      noted = rw (are_none _ _ _ c.in_ok-passed.ensures.items_if_clones_equal (λ spans bad. bad)) (AreNoted-none _ c.len-2.result);
     }
 
 pub bounds-faults-len : goal.bounds-faults-len
@@ -52,10 +52,11 @@ bounds-faults-len c =
     omega (arith, c.len-in-loop-entry.ensures, c.loop-entry.invariant.clears.size, c.loop-entry-test.true, ap length c.deref-entry-items.ensures.value, as_many c.args.recipe.now, c.requires.faults.as_many)
 
 pub span_below-requires : goal.span_below-requires
-span_below-requires c = λ a source act_is known.
+span_below-requires c = λ a spans act_is known.
     let entry : Entry = get_or c.deref-entry-items.result.now c.loop-entry.entry-index no_entry in
-    rw c.deref-in-loop-entry-4.ensures.value
-    (c.loop-entry.invariant.offered entry.kind a source act_is (ap (λ units. offering_unit units entry.kind) (sym c.deref-in-loop-entry.ensures.value) ∙ (sym c.offering_unit-known.ensures ∙ known)))
+    let lowest = c.deref-3.ensures.value ∙ (c.in_ok-lowest.ensures ∙ ap (λ (roles : List Role). takers_of c.args.cell.now (bound_by c.args.cell.now roles (Leveled false c.args.ranks)) roles) c.deref.ensures.value) in
+    rw (lowest, c.deref-in-loop-entry-3.ensures.value, c.deref-in-loop-entry-4.ensures.value)
+    (c.loop-entry.invariant.noted entry.kind spans (ap (λ all. passed_at all entry.kind) (sym c.deref-in-loop-entry.ensures.value) ∙ (sym c.passed_at-known.ensures ∙ known)) a act_is)
 
 pub loop-entry-preserved : goal.loop-entry-preserved
 loop-entry-preserved c =
@@ -68,12 +69,12 @@ loop-entry-preserved c =
     let n = c.loop-entry.entry-index in
     let h = c.loop-entry.invariant.clears in
     let spans = c.loop-entry.spans.items in
-    let offering = c.loop-entry.offering.items in
+    let noted = c.loop-entry.passed.items in
     let entry : Entry = get_or c.deref-entry-items.result.now n no_entry in
     let is : slice_get r.outline.entries.items n ≡ Some entry =
     ap (λ xs. slice_get xs n) (sym c.deref-entry-items.ensures.value) ∙ slice_get-get_or c.deref-entry-items.result.now n no_entry c.loop-entry-test.true in
     let above = c.span_above-above.result in
-    let below = c.in-Some.span in
+    let own = c.in-Some.own in
     let node : n ≡ c.len-in-loop-entry.result = omega (arith, c.len-in-loop-entry.ensures, h.size) in
     let fault : Option Rule = get_or c.args.faults.now c.len-in-loop-entry.result None in
     let fault_is : slice_get c.args.faults.now n ≡ Some fault =
@@ -81,18 +82,20 @@ loop-entry-preserved c =
     (omega (arith, node, c.loop-entry-test.true, ap length c.deref-entry-items.ensures.value, as_many r, c.requires.faults.as_many)) in
     let some = (λ (o : Span) (o_is : slice_get spans entry.parent ≡ Some o). c.span_above-above.ensures.some o (ap (λ xs. slice_get xs entry.parent) c.deref-in-loop-entry-2.ensures.value ∙ o_is)) in
     let none = (λ (past : length spans ≤ entry.parent). c.span_above-above.ensures.none (omega (arith, past, ap length c.deref-in-loop-entry-2.ensures.value))) in
-    let passed : (a : Act) → act_of r.acts entry.kind ≡ Some a → IsPassed cell ranks r.roles.items low high (needs_by c.args.linked.now entry.kind) a above below =
+    let both : (a : Act) → act_of r.acts entry.kind ≡ Some a → Allows own above × IsPassed cell ranks r.roles.items low high (needs_by c.args.linked.now entry.kind) a own.above own.within =
     (λ a act_is. rw (lowest, c.deref-in-loop-entry-3.ensures.value, c.deref-in-loop-entry-4.ensures.value) at (c.in-Some.ensures.act a act_is)) in
-    let noted : c.note_unit.new.units ≡ with_offering offering entry.kind below.unit = c.note_unit.ensures ∙ ap (λ units. with_offering units entry.kind below.unit) c.deref_mut.ensures.value in
-    let written = with_items_is c.loop-entry.offering c.note_unit.new.units (c.note_unit.auto.units ∙ c.deref_mut.ensures.len) in
+    let passed : (a : Act) → act_of r.acts entry.kind ≡ Some a → IsPassed cell ranks r.roles.items low high (needs_by c.args.linked.now entry.kind) a above own.within =
+    (λ a act_is. IsPassed-allowed cell ranks r.roles.items low high (needs_by c.args.linked.now entry.kind) a own above (both a act_is).0 (both a act_is).1) in
+    let more : c.note_passed.new.passed ≡ with_passed noted entry.kind own = c.note_passed.ensures ∙ ap (λ all. with_passed all entry.kind own) c.deref_mut.ensures.value in
+    let written = with_items_is c.loop-entry.passed c.note_passed.new.passed (c.note_passed.auto.passed ∙ c.deref_mut.ensures.len) in
     record {
       clears =
           rw c.in_ok-push-in-Some.ensures.items
-          (Clears-more cell ranks r c.args.linked.now low high c.requires.linked c.args.faults.now c.requires.faults spans n h entry is above some none fault fault_is c.in-Some.ensures.fault below passed
+          (Clears-more cell ranks r c.args.linked.now low high c.requires.linked c.args.faults.now c.requires.faults spans n h entry is above some none fault fault_is c.in-Some.ensures.fault own.within passed
           c.in-Some.ensures.chart);
-      offered =
-          subst (AreOffered cell r.roles.items r.acts) (sym (written ∙ noted))
-          (AreOffered-with cell r.roles.items r.acts offering entry.kind below.unit c.loop-entry.invariant.offered (λ a act_is. (passed a act_is).offered));
+      noted =
+          subst (AreNoted (HasPassed cell ranks r c.args.linked.now low high)) (sym (written ∙ more))
+          (AreNoted-with (HasPassed cell ranks r c.args.linked.now low high) noted entry.kind own c.loop-entry.invariant.noted (λ a act_is. (both a act_is).1));
     }
 
 pub returns : goal.returns

@@ -1,14 +1,14 @@
 use Rattle.std.specs.Prelude.{false}
 use Rattle.std.specs.Option.{option_copied}
 use Rattle.batch_verify.specs.Asking.{takers_of}
-use Rattle.batch_verify.specs.Offers.{AreOffered}
 use Rattle.batch_verify.specs.Trials.{bound_by}
 use Rattle.batch_verify.specs.declared.trial.Trial.TheVariants.{Leveled}
 use Rattle.batch_verify.proofs.Clears.{Clears}
+use Rattle.batch_verify.proofs.PassedSteps.{AreNoted, HasPassed}
 use Rattle.batch_verify.proofs.span.is_clear.Given as goal
 
 abbrev pub invariant-loop-entry : goal.invariant-loop-entry
 invariant-loop-entry l = record {
   clears : Clears l.cell (option_copied l.ranks) l.recipe l.linked (takers_of l.cell (bound_by l.cell l.recipe.roles.items (Leveled false l.ranks)) l.recipe.roles.items) l.highest.items l.spans.items l.entry-index;
-  offered : AreOffered l.cell l.recipe.roles.items l.recipe.acts l.offering.items;
+  noted : AreNoted (HasPassed l.cell (option_copied l.ranks) l.recipe l.linked (takers_of l.cell (bound_by l.cell l.recipe.roles.items (Leveled false l.ranks)) l.recipe.roles.items) l.highest.items) l.passed.items;
 }

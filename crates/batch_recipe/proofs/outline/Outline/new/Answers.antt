@@ -2,7 +2,6 @@ use Rattle.std.proofs.Common.{◌≡◌, ℕ, ◌+◌, ◌<◌, ◌++◌, List, 
 use Rattle.std.proofs.lemmas.Result.{err_from_is_err_and}
 use Rattle.batch_recipe.specs.Expanding.{unbound}
 use Rattle.batch_recipe.specs.Growing.{HasGrown, act_entries, act_conditions}
-use Rattle.batch_recipe.specs.declared.acts.Acts.{Acts}
 use Rattle.batch_recipe.specs.declared.acts.LabelTable.TheVariants.{UnitProcedures}
 use Rattle.batch_recipe.specs.declared.condition.Cond.{Cond}
 use Rattle.batch_recipe.specs.declared.entry.Entry.{Entry}
@@ -24,8 +23,7 @@ returns-in_err-grow_act-clause-many c = λ h.
     let is : c.in_err-grow_act.field-0.0 ≡ TooMany = the_fault c.in_err-grow_act.field-0.0 (subst (λ (r : Result Outline OutlineFault). IsErrOf r TooMany) (p.1 ∙ ap Err p.2) h) in
     let entries : ℕ → ℕ → List Entry = λ n j. act_entries acts (Some UnitProcedures) kind.Procedure 0 n j 0 0 acts.procedure in
     let many : 4096 < length c.new-entries.result.items + length (entries (length c.new-entries.result.items) (length c.new-conditions.result.items)) =
-    subst (λ (f : OutlineFault). HasGrown c.new-entries.result.items (entries (length c.new-entries.result.items) (length c.new-conditions.result.items)) c.grow_act.new.nodes.items (Err f)) is
-    (subst (λ (a : Acts). HasGrown c.new-entries.result.items (act_entries a (Some UnitProcedures) kind.Procedure 0 (length c.new-entries.result.items) (length c.new-conditions.result.items) 0 0 acts.procedure) c.grow_act.new.nodes.items (Err c.in_err-grow_act.field-0.0)) c.in-Ok.ensures c.in_err-grow_act.ensures.grown) in
+    subst (λ (f : OutlineFault). HasGrown c.new-entries.result.items (entries (length c.new-entries.result.items) (length c.new-conditions.result.items)) c.grow_act.new.nodes.items (Err f)) is c.in_err-grow_act.ensures.grown in
     let none = ap (λ xs. length {A = Entry} xs + length (entries (length xs) (length c.new-conditions.result.items))) c.new-entries.ensures.items in
     let nothing = ap (λ xs. length (entries 0 (length {A = Cond} xs))) c.new-conditions.ensures.items in
     omega (arith, many, none, nothing, as_many_entries acts (entries 0 0) (is_outline acts) unbound)
@@ -34,13 +32,9 @@ pub returns-clause-ok : goal.returns-clause-ok
 returns-clause-ok c =
     let acts = c.args.acts.now in
     let entries : ℕ → ℕ → List Entry = λ n j. act_entries acts (Some UnitProcedures) kind.Procedure 0 n j 0 0 acts.procedure in
-    let is : c.grow_act.new.nodes.items ≡ entries 0 0 =
-    (rw c.in-Ok.ensures at c.in_ok-grow_act.ensures.grown.0) ∙ (ap (λ xs. xs ++ entries (length xs) (length c.new-conditions.result.items)) c.new-entries.ensures.items ∙ ap (λ xs. entries 0 (length {A = Cond} xs)) c.new-conditions.ensures.items) in
-    is
+    c.in_ok-grow_act.ensures.grown.0 ∙ (ap (λ xs. xs ++ entries (length xs) (length c.new-conditions.result.items)) c.new-entries.ensures.items ∙ ap (λ xs. entries 0 (length {A = Cond} xs)) c.new-conditions.ensures.items)
 
 pub returns-clause-conditions : goal.returns-clause-conditions
 returns-clause-conditions c =
     let acts = c.args.acts.now in
-    let is : c.grow_act.new.conditions.items ≡ act_conditions acts (Some UnitProcedures) acts.procedure =
-    (rw c.in-Ok.ensures at c.in_ok-grow_act.ensures.added) ∙ ap (λ xs. xs ++ act_conditions acts (Some UnitProcedures) acts.procedure) c.new-conditions.ensures.items in
-    is
+    c.in_ok-grow_act.ensures.added ∙ ap (λ xs. xs ++ act_conditions acts (Some UnitProcedures) acts.procedure) c.new-conditions.ensures.items

@@ -1,0 +1,77 @@
+-- The spans on which phase steps passed.
+use Rattle.std.proofs.Common.{◌≡◌, ◌≢◌, ◌⊎◌, ◌<◌, ◌≤◌, ℕ, List, length, Option, Some, None, get_or, replicate, set, sym, ap, ◌∙◌, subst, arith, inl, inr}
+use Rattle.std.proofs.lemmas.Bool.{cases_eq, cases_lt}
+use Rattle.std.proofs.lemmas.List.{get_or-replicate, get_or-set_other, get_or-set_same, get_or_past, length-replicate, length-set}
+use Rattle.batch_cell.specs.declared.cell.Cell as equipment
+use Rattle.batch_recipe.specs.Outlines.{act_of}
+use Rattle.batch_recipe.specs.declared.act.Act.{Act}
+use Rattle.batch_recipe.specs.declared.acts.LabelTable.TheVariants.{Phases}
+use Rattle.batch_recipe.specs.declared.entry.Kind.{Kind}
+use Rattle.batch_recipe.specs.declared.entry.Kind.TheVariants as kind
+use Rattle.batch_recipe.specs.declared.recipe.Recipe as document
+use Rattle.batch_recipe.specs.declared.role.Role.{Role}
+use Rattle.batch_set.specs.Looked.{needs_by}
+use Rattle.batch_set.specs.declared.linked.LinkedNeed.{LinkedNeed}
+use Rattle.batch_set.specs.declared.linked.LinkedRecipe.{LinkedRecipe}
+use Rattle.batch_set.specs.declared.linked.Source.{Source}
+use Rattle.batch_verify.specs.PassedSteps.{Allows, passed_at, with_passed}
+use Rattle.batch_verify.specs.Spans.{ComesBelow, IsAtMost, IsPassed}
+use Rattle.batch_verify.specs.declared.passed.Passed.{Passed}
+use Rattle.batch_verify.specs.declared.span.Span.{Span}
+
+-- P holds of the spans noted for each act
+abbrev pub AreNoted : (Kind → Passed → Type 0) → List (Option Passed) → Type 0
+AreNoted P passed = (k : Kind) (p : Passed) → passed_at passed k ≡ Some p → P k p
+
+module _ (P : Kind → Passed → Type 0) where
+  -- at first none are noted
+  pub AreNoted-none : (n : ℕ) → AreNoted P (replicate n None)
+  AreNoted-none n (kind.Act Phases number) p known = by (cases_lt number n)
+    where
+      passed : List (Option Passed)
+      passed = replicate n None
+
+      by : (number < n) ⊎ (n ≤ number) → P (kind.Act Phases number) p
+      by (inl within) = let bad : None ≡ Some p = sym (get_or-replicate n number None None within) ∙ known in absurd cc
+      by (inr past) = let bad : None ≡ Some p = sym (get_or_past passed number None (omega (arith, past, length-replicate {A = Option Passed} n None))) ∙ known in absurd cc
+  AreNoted-none n _ p known = let bad : None ≡ Some p = known in absurd cc
+
+  -- those of an act of which it is so are noted
+  pub AreNoted-with : (passed : List (Option Passed)) (k : Kind) (p : Passed) → AreNoted P passed → P k p → AreNoted P (with_passed passed k p)
+  AreNoted-with passed (kind.Act Phases place) p h is = at
+    where
+      here : (q : Passed) → get_or (set passed place (Some p)) place None ≡ Some q → (place < length passed) ⊎ (length passed ≤ place) → P (kind.Act Phases place) q
+      here q known (inl within) =
+          let both : Some p ≡ Some q = sym (get_or-set_same passed place (Some p) None within) ∙ known in
+          let same : p ≡ q = cc in
+          subst (P (kind.Act Phases place)) same is
+      here q known (inr past) =
+          let bad : None ≡ Some q = sym (get_or_past (set passed place (Some p)) place None (omega (arith, past, length-set passed place (Some p)))) ∙ known in absurd cc
+
+      at : AreNoted P (set passed place (Some p))
+      at (kind.Act Phases number) q known = by (cases_eq number place)
+        where
+          by : (number ≡ place) ⊎ (number ≢ place) → P (kind.Act Phases number) q
+          by (inl same) = subst (λ m. P (kind.Act Phases m) q) (sym same) (here q (ap (λ m. get_or (set passed place (Some p)) m None) (sym same) ∙ known) (cases_lt place (length passed)))
+          by (inr other) = h (kind.Act Phases number) q (sym (get_or-set_other passed place number (Some p) None other) ∙ known)
+      at _ q known = let bad : None ≡ Some q = known in absurd cc
+  AreNoted-with passed _ p h is = h
+
+-- the act of the kind passes on these spans
+abbrev pub HasPassed : equipment.Cell → Option (List ℕ) → document.Recipe → LinkedRecipe → List (Option ℕ) → List (Option ℕ) → Kind → Passed → Type 0
+HasPassed c ranks r linked lowest highest k p = (a : Act) → act_of r.acts k ≡ Some a → IsPassed c ranks r.roles.items lowest highest (needs_by linked k) a p.above p.within
+
+at_most : (a b c : Option ℕ) → IsAtMost a b → IsAtMost b c → IsAtMost a c
+at_most None b c f g = tt
+at_most (Some a) (Some b) (Some c) f g = omega (arith, f, g)
+at_most (Some a) (Some b) None f g = g
+at_most (Some a) None c f g = absurd f
+
+-- an act that passed on spans passes from a span that these allow
+pub IsPassed-allowed : (c : equipment.Cell) (ranks : Option (List ℕ)) (roles : List Role) (lowest highest : List (Option ℕ)) (links : List LinkedNeed) (a : Act) (p : Passed) (above : Span)
+    → Allows p above → IsPassed c ranks roles lowest highest links a p.above p.within → IsPassed c ranks roles lowest highest links a above p.within
+IsPassed-allowed c ranks roles lowest highest links a p above allows h = record {
+  comes = subst (λ (unit : Option Source). ComesBelow c ranks roles lowest highest a.unit links unit p.within.unit) allows.unit h.comes;
+  asked = λ takers between before most. h.asked takers between before (at_most before above.last p.above.last most allows.last);
+  offered = h.offered;
+}
