@@ -12,8 +12,11 @@ pub mod NameSets
 pub mod RunningApart
 pub mod NodePhases
 pub mod PassedSteps
+pub mod PhaseBits
+pub mod PhaseNames
+pub mod PhasesBelow
 pub mod TreesApart
-pub mod Marking
+pub mod OtherActs
 pub mod Entering
 pub mod Levels
 pub mod Verdicts

@@ -21,12 +21,12 @@ use Rattle.batch_verify.specs.Walking.{phase_names, Gathers}
 use Rattle.batch_verify.proofs.Phases.{is_among-append}
 use Rattle.batch_verify.proofs.RunningApart.{AreApart, KeepsApart, KeepsApart-all, KeepsApart-own, KeepsApart-more}
 
-phases_along-append : (xs ys : ActList) → phases_along (xs ++ ys) ≡ phases_along xs ++ phases_along ys
+pub phases_along-append : (xs ys : ActList) → phases_along (xs ++ ys) ≡ phases_along xs ++ phases_along ys
 phases_along-append [] ys = refl
 phases_along-append (o ∷ xs) ys = ap (λ names. phase_at o ++ names) (phases_along-append xs ys) ∙ sym (append_assoc (phase_at o) (phases_along xs) (phases_along ys))
 
 -- the phases that are run from one node to the next number
-phases_between-more : (acts : ActList) (first k : ℕ) (o : Option Act) → first ≤ k → slice_get acts k ≡ Some o → phases_between acts first (k + 1) ≡ phases_between acts first k ++ phase_at o
+pub phases_between-more : (acts : ActList) (first k : ℕ) (o : Option Act) → first ≤ k → slice_get acts k ≡ Some o → phases_between acts first (k + 1) ≡ phases_between acts first k ++ phase_at o
 phases_between-more acts first k o past is =
     let in' = slice_get_within acts k o is in
     let read : get_or acts k o ≡ o = option_is (get_or acts k o) o (sym (slice_get-get_or acts k o in') ∙ is) in
@@ -78,6 +78,13 @@ module _ (ns : List Node) (first end : ℕ) where
 
   abbrev pub KeepsTrees : ℕ → List Name → Type 0
   KeepsTrees node earlier = (trees : Trees) → AreHere ns first end trees → Keeps node earlier trees
+
+  pub KeepsTrees-none : KeepsTrees first []
+  KeepsTrees-none trees h = record {
+    left = trees;
+    stand = h;
+    apart = record { from_left = λ none run. run; to_left = λ run. ((λ x a b. let bad : false ≡ true = a in cc), run) };
+  }
 
   later : (k : ℕ) (ts : Trees) → AreHere ns k end ts → k ≤ end
   later k no_trees h = omega (arith, h)

@@ -1,14 +1,18 @@
 //! The rules on `par`s, loops and reserved unit procedures. They don't depend on the units that take the roles.
-ghost use Rattle.std.specs.Prelude.{◌≡◌, ◌≢◌, ◌<◌, ◌≤◌, map, length, slice_get, Some, None, IfOk};
+ghost use Rattle.std.specs.Prelude.{◌≡◌, ◌≢◌, ◌<◌, ◌≤◌, List, map, length, slice_get, Some, None, IfOk};
+ghost use Rattle.batch_recipe.specs.Conditions.{Name};
 ghost use Rattle.batch_recipe.specs.Nodes.{Node};
 ghost use Rattle.batch_recipe.specs.Outlines.{act_of, form_of};
 ghost use Rattle.batch_recipe.specs.Links.{form_at};
 ghost use Rattle.batch_recipe.specs.Procedure.{procedure_nodes};
 ghost use Rattle.batch_model.specs.Cleared.{below, surely_runs, Part};
+ghost use Rattle.batch_verify.specs.PhaseSets.{AreSetsFrom};
 ghost use Rattle.batch_verify.specs.Charts.{depth_is, of_chart, reserve_count, AreFaults, IsChartFault, ReservesAs};
 
 use crate::branch_phases::branches_run_apart;
 use crate::depth::Depth;
+use crate::phase_set::PhaseSet;
+use crate::phase_sets::phase_sets;
 use crate::reserve_faults::reserves_follow;
 use crate::rule::Rule;
 use crate::running_nodes::running_nodes;
@@ -39,38 +43,39 @@ fn depth_below(acts: &Acts, entry: &Entry, depth: Depth) -> Depth
 
 /// The rule that the node breaks as a `par` or a loop.
 fn chart_fault(
-    alloc: Global,
     recipe: &Recipe,
     runs: &[bool],
+    sets: &[PhaseSet],
     entry: &Entry,
     node: u16,
     depth: Depth,
-) -> Result<Option<Rule>, AllocError>
+) -> Option<Rule>
     requires known { node < length runs.now }
     requires runs { runs.now ≡ map (λ x. surely_runs x.here) (procedure_nodes recipe.now.acts) }
-    ensures { IfOk result (λ fault. (x : Node) → slice_get (procedure_nodes recipe.now.acts) node ≡ Some x → form_of entry.now.kind ≡ form_at x.here
-        → IsChartFault (record { level = depth_is depth; node = x }) fault) }
+    requires sets { (names : List Name) × AreSetsFrom names (procedure_nodes recipe.now.acts) sets.now 0 }
+    ensures { (x : Node) → slice_get (procedure_nodes recipe.now.acts) node ≡ Some x → form_of entry.now.kind ≡ form_at x.here
+        → IsChartFault (record { level = depth_is depth; node = x }) result }
 {
     match entry.kind {
         Kind::Par => match depth {
             Depth::InOperation => {
-                if branches_run_apart(alloc, recipe, node)? {
-                    Ok(None)
+                if branches_run_apart(recipe, sets, node) {
+                    None
                 } else {
-                    Ok(Some(Rule::SamePhaseInParallel))
+                    Some(Rule::SamePhaseInParallel)
                 }
             }
-            Depth::Procedure | Depth::InProcedure | Depth::InUnitProcedure => Ok(None),
+            Depth::Procedure | Depth::InProcedure | Depth::InUnitProcedure => None,
         },
         // Every way through a loop runs a phase just where every way through its body does.
         Kind::Loop(_) => {
             if runs[usize::from(node)] {
-                Ok(None)
+                None
             } else {
-                Ok(Some(Rule::LoopWithoutPhase))
+                Some(Rule::LoopWithoutPhase)
             }
         }
-        Kind::Skip | Kind::Procedure | Kind::Act(..) | Kind::Seq | Kind::Sel => Ok(None),
+        Kind::Skip | Kind::Procedure | Kind::Act(..) | Kind::Seq | Kind::Sel => None,
     }
 }
 
@@ -106,13 +111,14 @@ pub(crate) fn chart_faults(alloc: Global, recipe: &Recipe) -> Result<Vec<Option<
     ensures { IfOk result (λ faults. AreFaults recipe.now.acts faults.items) }
 {
     let runs = running_nodes(alloc, recipe)?;
+    let sets = phase_sets(alloc, recipe)?;
     let nodes = recipe.outline.entries.len();
     let mut below = Vec::with_capacity(alloc, nodes)?;
     let mut faults = Vec::with_capacity(alloc, nodes)?;
     for entry in &recipe.outline.entries {
         let depth = depth_above(&below, entry);
         let node = faults.len() as u16;
-        let chart = chart_fault(alloc, recipe, &runs, entry, node, depth)?;
+        let chart = chart_fault(recipe, &runs, &sets, entry, node, depth);
         faults.push(reserve_fault(recipe, entry, node, chart))?;
         below.push(depth_below(&recipe.acts, entry, depth))?;
     }

@@ -1,19 +1,13 @@
-use Rattle.std.proofs.Common.{◌≡◌, ◌+◌, ◌<◌, ◌≤◌, ◌↔◌, length, get_or, slice_get, Some, ap, ◌∙◌, arith}
-use Rattle.std.specs.Bool.{IsTrue}
+use Rattle.std.proofs.Common.{◌<◌, ◌≤◌, length, get_or, ap, ◌∙◌, arith}
 use Rattle.std.proofs.lemmas.Grind.{common_steps}
 use Rattle.std.proofs.lemmas.Option.{slice_get_within}
-use Rattle.std.proofs.lemmas.Result.{IfOk-weaker}
-use Rattle.batch_recipe.specs.Children.{AreHere}
-use Rattle.batch_recipe.specs.Nodes.{Node}
-use Rattle.batch_recipe.specs.Tree.{Trees, par}
 use Rattle.batch_recipe.proofs.Climbing.{as_many, ns}
 use Rattle.batch_recipe.proofs.Reaching.{end_read}
-use Rattle.batch_model.specs.Cleared.{BranchesRunApart}
 use Rattle.batch_verify.proofs.TreesApart.{branches_stand, ends_at}
 use Rattle.batch_verify.proofs.branch_phases.branches_run_apart.Goals as goal
 
-pub trees_run_apart-requires : goal.trees_run_apart-requires
-trees_run_apart-requires c =
+pub trees_run_apart-requires-clause-end : goal.trees_run_apart-requires-clause-end
+trees_run_apart-requires-clause-end c =
     let r = c.args.recipe.now in
     let e = c.in-Some.entry.now in
     let within : c.from.result < length c.deref.result.now = grind (arith, common_steps, c.in-Some.ensures.lookup) in
@@ -28,14 +22,9 @@ returns-in-None c = λ x branches is _.
     absurd (omega (arith, past, c.from.ensures, ap length c.deref.ensures.value, as_many r, slice_get_within (ns r) c.args.node x is))
 
 pub returns-in-Some : goal.returns-in-Some
-returns-in-Some c =
+returns-in-Some c = λ x branches is par_is.
     let r = c.args.recipe.now in
     let e = c.in-Some.entry.now in
-    IfOk-weaker c.trees_run_apart.result
-    (λ apart. (trees : Trees) → AreHere (ns r) (c.args.node + 1) e.end trees → IsTrue apart ↔ BranchesRunApart trees)
-    (λ apart. (x : Node) (branches : Trees) → slice_get (ns r) c.args.node ≡ Some x → x.here ≡ par branches → IsTrue apart ↔ BranchesRunApart branches)
-    (λ apart h x branches is par_is.
     let in' = slice_get_within (ns r) c.args.node x is in
     let size = ends_at r c.args.node c.from.result e in' c.from.ensures (c.in-Some.ensures.lookup.1 ∙ ap (λ xs. get_or xs c.from.result e) c.deref.ensures.value) x is in
-    h branches (branches_stand r c.args.node e.end x branches is par_is size))
-    c.trees_run_apart.ensures
+    c.trees_run_apart.ensures branches (branches_stand r c.args.node e.end x branches is par_is size)

@@ -11,8 +11,8 @@ use Rattle.batch_verify.specs.Charts.{ReservesAs}
 use Rattle.batch_verify.proofs.Faults.{KeepsFaults-none, KeepsFaults-more, all_faults}
 use Rattle.batch_verify.proofs.charts.chart_faults.Goals as goal
 
-pub chart_fault-requires-clause-known : goal.chart_fault-requires-clause-known
-chart_fault-requires-clause-known c =
+pub chart_fault-chart-requires-clause-known : goal.chart_fault-chart-requires-clause-known
+chart_fault-chart-requires-clause-known c =
     let nodes = procedure_nodes c.args.recipe.now.acts in
     let runs : length c.in_ok-runs.runs.items ≡ length nodes = ap length c.in_ok-runs.ensures ∙ length-map nodes (λ (x : Node). surely_runs x.here) in
     omega (arith, c.len-node.ensures, c.loop-entry.invariant.many, c.loop-entry-test.true, ap length c.deref-entry-items.ensures.value, as_many c.args.recipe.now, runs, ap length c.deref-in-loop-entry.ensures.value)
@@ -44,8 +44,8 @@ loop-entry-preserved c =
     let more = KeepsFaults-more r c.loop-entry.below.items c.loop-entry.faults.items n h entry is c.depth_above-depth.result
     (λ d d_is. c.depth_above-depth.ensures.some d (ap (λ xs. slice_get xs entry.parent) c.deref.ensures.value ∙ d_is))
     (λ past. c.depth_above-depth.ensures.none (omega (arith, past, ap length c.deref.ensures.value)))
-    c.depth_below.result c.depth_below.ensures.act c.depth_below.ensures.chart c.in_ok-chart.chart c.reserve_fault.result
-    (λ x x_is formed. c.in_ok-chart.ensures x (subst (λ k. slice_get (procedure_nodes r.acts) k ≡ Some x) node x_is) formed)
+    c.depth_below.result c.depth_below.ensures.act c.depth_below.ensures.chart c.chart_fault-chart.result c.reserve_fault.result
+    (λ x x_is formed. c.chart_fault-chart.ensures x (subst (λ k. slice_get (procedure_nodes r.acts) k ≡ Some x) node x_is) formed)
     (λ x broken. let both = c.reserve_fault.ensures x broken in (both.0, subst (λ k. ReservesAs r.acts k c.reserve_fault.result) (sym node) both.1)) in
     rw (c.in_ok-push.ensures.items, c.in_ok-push-2.ensures.items) more
 
