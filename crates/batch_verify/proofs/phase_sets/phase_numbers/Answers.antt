@@ -31,5 +31,8 @@ loop-step-preserved c =
     ])
 
 pub returns : goal.returns
-returns c = (names_at c.loop-step.names.keys, HaveNumbers-all (names_at c.loop-step.names.keys) c.args.steps.now c.loop-step.numbers.items c.requires
-    (subst (λ steps. HaveNumbers (names_at c.loop-step.names.keys) steps c.loop-step.numbers.items) (take_all c.loop-step.step-index c.args.steps.now (omega (arith, c.loop-step-test.false))) c.loop-step.invariant))
+returns c = (
+  names_at c.loop-step.names.keys,
+  HaveNumbers-all (names_at c.loop-step.names.keys) c.args.steps.now c.loop-step.numbers.items c.requires
+      (subst (λ steps. HaveNumbers (names_at c.loop-step.names.keys) steps c.loop-step.numbers.items) (take_all c.loop-step.step-index c.args.steps.now (omega (arith, c.loop-step-test.false))) c.loop-step.invariant),
+)

@@ -28,6 +28,8 @@ loop-node-preserved c = λ names n.
 pub returns : goal.returns
 returns c =
     let names = c.in_ok-numbers.ensures.0 in
-    let none : c.loop-node.node ≡ 0 = omega (arith, c.loop-node-test.false) in
-    (names, subst (AreSetsFrom names (procedure_nodes c.args.recipe.now.acts) c.loop-node.sets.items) none
-    (c.loop-node.invariant names (subst (λ (steps : List Act). AreNumbered names steps c.in_ok-numbers.numbers.items) c.deref.ensures.value c.in_ok-numbers.ensures.1)))
+    let none : c.loop-node.node ≡ 0 = omega (arith, c.loop-node-test.false) in (
+      names,
+      subst (AreSetsFrom names (procedure_nodes c.args.recipe.now.acts) c.loop-node.sets.items) none
+          (c.loop-node.invariant names (subst (λ (steps : List Act). AreNumbered names steps c.in_ok-numbers.numbers.items) c.deref.ensures.value c.in_ok-numbers.ensures.1)),
+    )

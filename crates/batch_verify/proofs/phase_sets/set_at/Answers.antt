@@ -29,9 +29,12 @@ loop-below-init c =
     let x = end_read r k c.from.result e c.requires.node c.from.ensures c.index-entry.ensures in
     let acted = act_at r k e (read_at r k c.from.result e c.requires.node c.from.ensures c.index-entry.ensures) in
     let own : phases_between acts k (k + 1) ≡ phase_at (act_of r.acts e.kind) =
-    phases_between-more acts k k (act_of r.acts e.kind) (omega arith) acted ∙ ap (λ names. names ++ phase_at (act_of r.acts e.kind)) (none_between acts k) in
-    (omega arith, omega (arith, x.2, some_count x.0.here), λ names n s.
-    subst (λ names'. IsSetOf names names' c.own_set-set.result) (own_is r.acts r.kinds e.kind ∙ sym own) (c.own_set-set.ensures names r.acts.phases.items n))
+    phases_between-more acts k k (act_of r.acts e.kind) (omega arith) acted ∙ ap (λ names. names ++ phase_at (act_of r.acts e.kind)) (none_between acts k) in (
+      omega arith,
+      omega (arith, x.2, some_count x.0.here),
+      λ names n s.
+          subst (λ names'. IsSetOf names names' c.own_set-set.result) (own_is r.acts r.kinds e.kind ∙ sym own) (c.own_set-set.ensures names r.acts.phases.items n),
+    )
 
 pub bounds-sets-from : goal.bounds-sets-from
 bounds-sets-from c =
@@ -70,13 +73,16 @@ loop-below-preserved c =
     let child = get_or sets c.from-in-loop-below.result none in
     let there : slice_get sets b ≡ Some child =
     ap (slice_get sets) (sym c.from-in-loop-below.ensures) ∙ slice_get-get_or sets c.from-in-loop-below.result none (omega (arith, in', c.from-in-loop-below.ensures, c.requires.sized)) in
-    let split = between_split acts k b e.end (omega (arith, inv.0)) (omega (arith, y.2)) (omega (arith, slice_get_within acts b (act_of r.acts e.kind) acted)) in
-    (omega (arith, inv.0, y.2), omega (arith, ends, x.2, y.2), λ names n s.
-    let own : IsSetOf names (phases_between acts b e.end) child =
-    subst (λ names'. IsSetOf names names' child) (node_phases r.acts b y.0 y.1 ∙ ap (phases_between acts b) (sym y.2))
-    (s.each b y.0 child (omega (arith, inv.0)) y.1 there) in
-    IsSetOf-joined names (phases_between acts k b) (phases_between acts b e.end) (phases_between acts k e.end) c.loop-below.set child _ c.joined-set.ensures (inv.2 names n s) own
-    (λ z. ap (λ names'. is_among names' z) split ∙ is_among-append (phases_between acts k b) (phases_between acts b e.end) z))
+    let split = between_split acts k b e.end (omega (arith, inv.0)) (omega (arith, y.2)) (omega (arith, slice_get_within acts b (act_of r.acts e.kind) acted)) in (
+      omega (arith, inv.0, y.2),
+      omega (arith, ends, x.2, y.2),
+      λ names n s.
+          let own : IsSetOf names (phases_between acts b e.end) child =
+          subst (λ names'. IsSetOf names names' child) (node_phases r.acts b y.0 y.1 ∙ ap (phases_between acts b) (sym y.2))
+          (s.each b y.0 child (omega (arith, inv.0)) y.1 there) in
+          IsSetOf-joined names (phases_between acts k b) (phases_between acts b e.end) (phases_between acts k e.end) c.loop-below.set child _ c.joined-set.ensures (inv.2 names n s) own
+          (λ z. ap (λ names'. is_among names' z) split ∙ is_among-append (phases_between acts k b) (phases_between acts b e.end) z),
+    )
 
 pub returns : goal.returns
 returns c = λ names x n s is.
