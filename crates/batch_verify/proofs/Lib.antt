@@ -8,12 +8,13 @@ pub mod Finding
 pub mod Followers
 pub mod Ranks
 pub mod Phases
-pub mod NameSets
 pub mod RunningApart
 pub mod NodePhases
 pub mod PassedSteps
+pub mod PhaseBits
+pub mod PhaseSets
+pub mod PhasesBelow
 pub mod TreesApart
-pub mod Marking
 pub mod Entering
 pub mod Levels
 pub mod Verdicts

@@ -8,6 +8,7 @@ pub mod Covering
 pub mod Judging
 pub mod NodePhases
 pub mod PassedSteps
+pub mod PhaseSets
 pub mod Ranked
 pub mod Refusals
 pub mod RunningNodes

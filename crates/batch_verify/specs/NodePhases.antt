@@ -1,14 +1,10 @@
 -- private: the phases that the acts at nodes run.
-use Rattle.std.specs.Prelude.{◌≡◌, ℕ, Bool, true, false, length, slice_get, slice_index_or, List, [], ◌∷◌, ◌++◌, take, drop, Option, Some, None}
+use Rattle.std.specs.Prelude.{ℕ, List, [], ◌∷◌, ◌++◌, take, drop, Option, Some, None}
 use Rattle.batch_recipe.specs.ActsAtNodes.{ActList}
 use Rattle.batch_recipe.specs.Conditions.{Name}
 use Rattle.batch_recipe.specs.declared.act.Act.{Act}
 use Rattle.batch_recipe.specs.declared.act.Work.{Work}
 use Rattle.batch_recipe.specs.declared.act.Work.TheVariants.{Follows, Runs}
-use Rattle.batch_recipe.specs.declared.acts.LabelTable.TheVariants.{Phases}
-use Rattle.batch_recipe.specs.declared.entry.Kind.{Kind}
-use Rattle.batch_recipe.specs.declared.entry.Kind.TheVariants as kind
-use Rattle.batch_verify.specs.Walking.{Gathers}
 
 -- the phase that the work runs itself, if it runs one
 abbrev pub phase_run : Work → List Name
@@ -28,15 +24,3 @@ phases_along (a ∷ acts) = phase_at a ++ phases_along acts
 -- those of the acts at the nodes from one number to another
 abbrev pub phases_between : ActList → ℕ → ℕ → List Name
 phases_between acts first end = phases_along (drop first (take end acts))
-
--- the phase of each phase step that is marked, by its number, is among the names
-pub record AreMarked (steps : List Act) (marks : List Bool) (names : List Name) : Type 0 where
-  pub sized : length marks ≡ length steps
-  pub there : (number : ℕ) → slice_index_or marks number false ≡ true → Gathers names (phase_at (slice_get steps number)) names
-
--- the phase step with the number in its table, or none
-abbrev pub IsStep : Kind → ℕ → Type 0
-IsStep k number = k ≡ kind.Act Phases number
-
-abbrev pub IsNoStep : Kind → Type 0
-IsNoStep k = (number : ℕ) → IsStep k number → ⊥

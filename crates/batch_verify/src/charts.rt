@@ -6,12 +6,13 @@ ghost use Rattle.batch_recipe.specs.Links.{form_at};
 ghost use Rattle.batch_recipe.specs.Procedure.{procedure_nodes};
 ghost use Rattle.batch_model.specs.Cleared.{below, surely_runs, Part};
 ghost use Rattle.batch_verify.specs.Charts.{depth_is, of_chart, reserve_count, AreFaults, IsChartFault, ReservesAs};
+ghost use Rattle.batch_verify.specs.PhaseSets.{AreApartAs};
 
-use crate::branch_phases::branches_run_apart;
 use crate::depth::Depth;
 use crate::reserve_faults::reserves_follow;
 use crate::rule::Rule;
 use crate::running_nodes::running_nodes;
+use crate::tree_phases::tree_phases;
 use batch_recipe::{Acts, Entry, Kind, Recipe};
 use std::alloc::{AllocError, Global};
 
@@ -37,40 +38,32 @@ fn depth_below(acts: &Acts, entry: &Entry, depth: Depth) -> Depth
     }
 }
 
-/// The rule that the node breaks as a `par` or a loop.
-fn chart_fault(
-    alloc: Global,
-    recipe: &Recipe,
-    runs: &[bool],
-    entry: &Entry,
-    node: u16,
-    depth: Depth,
-) -> Result<Option<Rule>, AllocError>
-    requires known { node < length runs.now }
-    requires runs { runs.now ≡ map (λ x. surely_runs x.here) (procedure_nodes recipe.now.acts) }
-    ensures { IfOk result (λ fault. (x : Node) → slice_get (procedure_nodes recipe.now.acts) node ≡ Some x → form_of entry.now.kind ≡ form_at x.here
-        → IsChartFault (record { level = depth_is depth; node = x }) fault) }
+/// The rule that a node breaks as a `par` or a loop: by its kind, its level, whether its branches run apart, and whether it surely runs a
+/// phase.
+fn chart_fault(kind: Kind, depth: Depth, apart: bool, runs: bool) -> Option<Rule>
+    ensures { (x : Node) → form_of kind ≡ form_at x.here → AreApartAs x.here apart → runs ≡ surely_runs x.here
+        → IsChartFault (record { level = depth_is depth; node = x }) result }
 {
-    match entry.kind {
+    match kind {
         Kind::Par => match depth {
             Depth::InOperation => {
-                if branches_run_apart(alloc, recipe, node)? {
-                    Ok(None)
+                if apart {
+                    None
                 } else {
-                    Ok(Some(Rule::SamePhaseInParallel))
+                    Some(Rule::SamePhaseInParallel)
                 }
             }
-            Depth::Procedure | Depth::InProcedure | Depth::InUnitProcedure => Ok(None),
+            Depth::Procedure | Depth::InProcedure | Depth::InUnitProcedure => None,
         },
         // Every way through a loop runs a phase just where every way through its body does.
         Kind::Loop(_) => {
-            if runs[usize::from(node)] {
-                Ok(None)
+            if runs {
+                None
             } else {
-                Ok(Some(Rule::LoopWithoutPhase))
+                Some(Rule::LoopWithoutPhase)
             }
         }
-        Kind::Skip | Kind::Procedure | Kind::Act(..) | Kind::Seq | Kind::Sel => Ok(None),
+        Kind::Skip | Kind::Procedure | Kind::Act(..) | Kind::Seq | Kind::Sel => None,
     }
 }
 
@@ -105,6 +98,7 @@ fn reserve_fault(recipe: &Recipe, entry: &Entry, node: u16, chart: Option<Rule>)
 pub(crate) fn chart_faults(alloc: Global, recipe: &Recipe) -> Result<Vec<Option<Rule>>, AllocError>
     ensures { IfOk result (λ faults. AreFaults recipe.now.acts faults.items) }
 {
+    let trees = tree_phases(alloc, recipe)?;
     let runs = running_nodes(alloc, recipe)?;
     let nodes = recipe.outline.entries.len();
     let mut below = Vec::with_capacity(alloc, nodes)?;
@@ -112,7 +106,8 @@ pub(crate) fn chart_faults(alloc: Global, recipe: &Recipe) -> Result<Vec<Option<
     for entry in &recipe.outline.entries {
         let depth = depth_above(&below, entry);
         let node = faults.len() as u16;
-        let chart = chart_fault(alloc, recipe, &runs, entry, node, depth)?;
+        let apart = trees[usize::from(node)].apart;
+        let chart = chart_fault(entry.kind, depth, apart, runs[usize::from(node)]);
         faults.push(reserve_fault(recipe, entry, node, chart))?;
         below.push(depth_below(&recipe.acts, entry, depth))?;
     }

@@ -3,7 +3,6 @@
 
 mod asking;
 mod bindings;
-mod branch_phases;
 mod certificate;
 mod charts;
 mod cleared;
@@ -12,8 +11,8 @@ mod depth;
 mod judgement;
 mod laws;
 mod lines;
-mod names;
 mod passed;
+mod phase_set;
 mod ranking;
 mod reading;
 mod recipes;
@@ -25,6 +24,7 @@ mod rule;
 mod running_nodes;
 mod site;
 mod span;
+mod tree_phases;
 mod trial;
 mod walk;
 

@@ -1,0 +1,73 @@
+-- The phases that are run from one node to another, tree by tree.
+use Rattle.std.proofs.Common.{◌≡◌, ◌<◌, ◌≤◌, ◌+◌, ◌++◌, ℕ, zero, suc, Bool, List, [], ◌∷◌, length, drop, take, true, Some, refl, sym, ap, ◌∙◌, arith}
+use Rattle.std.specs.Prelude.{slice_get}
+use Rattle.std.specs.List.{list_all}
+use Rattle.std.proofs.lemmas.Bool.{and_parts}
+use Rattle.std.proofs.lemmas.List.{drop-append-le, length-take-le}
+use Rattle.batch_recipe.specs.ActsAtNodes.{ActList}
+use Rattle.batch_recipe.specs.Expanding.{unbound}
+use Rattle.batch_recipe.specs.Links.{IsEntryOf, form_at}
+use Rattle.batch_recipe.specs.Nodes.{Node, node_count}
+use Rattle.batch_recipe.specs.Outlines.{a_par, act_of, form_of}
+use Rattle.batch_recipe.specs.Tree.{Trees, par}
+use Rattle.batch_recipe.specs.WellFormed.{are_kinds, has_chart}
+use Rattle.batch_recipe.specs.declared.act.Act.{Act}
+use Rattle.batch_recipe.specs.declared.acts.Acts.{Acts}
+use Rattle.batch_recipe.specs.declared.entry.Entry.{Entry}
+use Rattle.batch_recipe.specs.declared.entry.Kind.{Kind}
+use Rattle.batch_recipe.specs.declared.recipe.Recipe.{Recipe}
+use Rattle.batch_recipe.proofs.Below.{place_within}
+use Rattle.batch_recipe.proofs.Climbing.{entry_at, ns}
+use Rattle.batch_recipe.proofs.Reaching.{below_place}
+use Rattle.batch_verify.specs.NodePhases.{phase_at, phase_run, phases_along, phases_between}
+use Rattle.batch_verify.specs.PhaseSets.{own_phases}
+use Rattle.batch_verify.proofs.TreesApart.{phases_along-append}
+
+-- a node with a number of a tree ends within the tree
+pub nested : (r : Recipe) (k : ℕ) (x : Node) → slice_get (ns r) k ≡ Some x → (b : ℕ) (z : Node) → slice_get (ns r) b ≡ Some z → k ≤ b → b < k + node_count x.here → b + node_count z.here ≤ k + node_count x.here
+nested r k x is b z at low high =
+    let p = place_within unbound r.acts k x is b z at low high in
+    (below_place r (b + 1) b z (omega arith) at k x is p.0 p.1).1
+
+take_split : {X : Type 0} (xs : List X) (b e : ℕ) → b ≤ e → take e xs ≡ take b xs ++ drop b (take e xs)
+take_split xs zero e h = refl
+take_split [] (suc b) zero h = refl
+take_split [] (suc b) (suc e) h = refl
+take_split (x ∷ xs) (suc b) zero h = absurd (omega (arith, h))
+take_split (x ∷ xs) (suc b) (suc e) h = ap (λ ys. x ∷ ys) (take_split xs b e (omega (arith, h)))
+
+pub between_split : (acts : ActList) (first b e : ℕ) → first ≤ b → b ≤ e → b ≤ length acts → phases_between acts first e ≡ phases_between acts first b ++ phases_between acts b e
+between_split acts first b e low high within =
+    ap phases_along (ap (drop first) (take_split acts b e high) ∙ drop-append-le first (take b acts) (drop b (take e acts)) (omega (arith, low, length-take-le b acts within)))
+    ∙ phases_along-append (drop first (take b acts)) (drop b (take e acts))
+
+pub none_between : (acts : ActList) (k : ℕ) → phases_between acts k k ≡ []
+none_between [] zero = refl
+none_between [] (suc k) = refl
+none_between (o ∷ acts) zero = refl
+none_between (o ∷ acts) (suc k) = none_between acts k
+
+runs_none : (a : Act) → has_chart a ≡ true → phase_run a.work ≡ []
+runs_none a h = grind arith
+
+none_in : (p : Act → Bool) → ((a : Act) → p a ≡ true → has_chart a ≡ true) → (acts : List Act) → list_all p acts ≡ true → (number : ℕ) → phase_at (slice_get acts number) ≡ []
+none_in p charted [] h number = refl
+none_in p charted (a ∷ acts) h zero = runs_none a (charted a (and_parts (p a) (list_all p acts) h).0)
+none_in p charted (a ∷ acts) h (suc number) = none_in p charted acts (and_parts (p a) (list_all p acts) h).1 number
+
+-- an act that is no phase step runs no phase itself
+pub own_is : (acts : Acts) → are_kinds acts ≡ true → (k : Kind) → own_phases acts.phases.items k ≡ phase_at (act_of acts k)
+own_is acts kinds k = grind (arith, and_parts, runs_none, none_in)
+
+-- a `par` runs no phase itself
+pub par_runs_none : (r : Recipe) (k : ℕ) (e : Entry) → slice_get r.outline.entries.items k ≡ Some e → (x : Node) (branches : Trees) → slice_get (ns r) k ≡ Some x → x.here ≡ par branches → phase_at (act_of r.acts e.kind) ≡ []
+par_runs_none r k e read x branches is par_is = none e.kind (h.shaped.formed ∙ ap form_at (ap (λ (y : Node). y.here) same ∙ par_is))
+  where
+    h : IsEntryOf (ns r) k e
+    h = entry_at r k e read
+
+    same : h.at ≡ x
+    same = let both : Some h.at ≡ Some x = sym h.numbered ∙ is in cc
+
+    none : (kind : Kind) → form_of kind ≡ a_par → phase_at (act_of r.acts kind) ≡ []
+    none kind f = grind arith

@@ -1,0 +1,67 @@
+-- private: sets of phases, by number.
+use Rattle.std.specs.Prelude.{◌≡◌, ◌≤◌, ◌-◌, ◌↔◌, ℕ, Bool, true, false, nat_eq, nat_lt, IsTrue, List, [], length, Option, Some, None, get_or, slice_get, position}
+use Rattle.std.specs.Int.{bit_at}
+use Rattle.batch_recipe.specs.Conditions.{Name}
+use Rattle.batch_recipe.specs.Nodes.{Node}
+use Rattle.batch_recipe.specs.Procedure.{procedure_nodes}
+use Rattle.batch_recipe.specs.Tree.{Tree, Trees, par}
+use Rattle.batch_recipe.specs.WellFormed.{is_among}
+use Rattle.batch_recipe.specs.declared.act.Act.{Act}
+use Rattle.batch_recipe.specs.declared.acts.Acts.{Acts}
+use Rattle.batch_recipe.specs.declared.acts.LabelTable.TheVariants.{Phases}
+use Rattle.batch_recipe.specs.declared.entry.Kind.{Kind}
+use Rattle.batch_recipe.specs.declared.entry.Kind.TheVariants as kind
+use Rattle.batch_model.specs.Cleared.{phases, BranchesRunApart}
+use Rattle.batch_verify.specs.NodePhases.{phase_at, phase_run}
+use Rattle.batch_verify.specs.Walking.{phase_names}
+use Rattle.batch_verify.specs.declared.phase_set.PhaseSet.{PhaseSet}
+use Rattle.batch_verify.specs.declared.tree_phases.TreePhases.{TreePhases}
+
+-- the number is in the set: it has a bit of the low word, or one of the high word
+abbrev pub has_in : Bool → PhaseSet → ℕ → Bool
+has_in true set k = nat_eq (bit_at set.low k) 1
+has_in false set k = nat_eq (bit_at set.high (k - 128)) 1
+
+abbrev pub has : PhaseSet → ℕ → Bool
+has set k = has_in (nat_lt k 128) set k
+
+-- the act runs the phase itself
+abbrev pub runs : Name → Act → Bool
+runs phase a = is_among (phase_run a.work) phase
+
+-- the number of a phase: that of the first phase step that runs it
+abbrev pub number_of : List Act → Name → Option ℕ
+number_of steps phase = position (runs phase) steps
+
+abbrev pub has_some : PhaseSet → Option ℕ → Bool
+has_some set None = false
+has_some set (Some k) = has set k
+
+-- the set has the numbers of these phases, and no others
+pub record IsSetOf (steps : List Act) (xs : List Name) (set : PhaseSet) : Type 0 where
+  pub among : (phase : Name) → is_among xs phase ≡ has_some set (number_of steps phase)
+  pub named : (k : ℕ) → has set k ≡ true → (phase : Name) × (number_of steps phase ≡ Some k)
+
+-- each step has the set of the phase that it runs
+pub record HaveSets (steps : List Act) (sets : List PhaseSet) : Type 0 where
+  pub sized : length sets ≡ length steps
+  pub each : (i : ℕ) (a : Act) (set : PhaseSet) → slice_get steps i ≡ Some a → slice_get sets i ≡ Some set → IsSetOf steps (phase_run a.work) set
+
+-- the phase of the act, if it is a phase step
+abbrev pub own_phases : List Act → Kind → List Name
+own_phases steps (kind.Act Phases step) = phase_at (slice_get steps step)
+own_phases steps _ = []
+
+-- the flag says of a `par` whether its branches run apart
+abbrev pub AreApartAs : Tree → Bool → Type 0
+AreApartAs here apart = (branches : Trees) → here ≡ par branches → IsTrue apart ↔ BranchesRunApart branches
+
+-- of the tree at a node: its phases, and whether its branches run apart
+pub record IsOfTree (acts : Acts) (x : Node) (tree : TreePhases) : Type 0 where
+  pub set : IsSetOf acts.phases.items (phase_names (phases x.here)) tree.set
+  pub apart : AreApartAs x.here tree.apart
+
+-- it is known of each node from number n on
+pub record AreKnownFrom (acts : Acts) (trees : List TreePhases) (n : ℕ) : Type 0 where
+  pub sized : length trees ≡ length (procedure_nodes acts)
+  pub each : (k : ℕ) (x : Node) (none : TreePhases) → n ≤ k → slice_get (procedure_nodes acts) k ≡ Some x → IsOfTree acts x (get_or trees k none)
