@@ -4,9 +4,8 @@ use Rattle.std.specs.Global.{Global}
 use Rattle.std.specs.Prelude.{unwrap_or}
 use Rattle.std.proofs.lemmas.List.{get_or-map}
 use Rattle.std.proofs.lemmas.List.Elements.{Contains-append_cases}
-use Rattle.std.proofs.lemmas.Option.{get_or_from_slice_get, none-some, same_Some, slice_get-map, slice_get_read, slice_get_within}
+use Rattle.std.proofs.lemmas.Option.{get_or_from_slice_get, none-some, same_Some, slice_get-map, slice_get_within}
 use Rattle.batch_cell.specs.LookUps.{resources_of as cell_resources}
-use Rattle.batch_cell.specs.declared.cell.Cell.{Cell}
 use Rattle.batch_recipe.specs.Conditions.{Name}
 use Rattle.batch_recipe.specs.Expanding.{needs_with}
 use Rattle.batch_recipe.specs.Links.{asked_at}
@@ -17,22 +16,20 @@ use Rattle.batch_recipe.specs.declared.acts.LabelTable.TheVariants.{UnitProcedur
 use Rattle.batch_recipe.specs.declared.entry.Kind.{Kind}
 use Rattle.batch_recipe.specs.declared.entry.Kind.TheVariants as kind
 use Rattle.batch_recipe.specs.declared.need.Need.{Need}
-use Rattle.batch_recipe.specs.declared.recipe.Recipe.{Recipe}
 use Rattle.batch_recipe.specs.declared.role.Role as declared
-use Rattle.batch_set.specs.Linking.{IsLinkedSet, needs_linked, table_items}
+use Rattle.batch_set.specs.Linking.{IsLinkedIn, needs_linked, table_items}
 use Rattle.batch_set.specs.Looked.{needs_by, row_at}
 use Rattle.batch_set.specs.Sources.{IsSource, SayNeeds}
 use Rattle.batch_set.specs.declared.linked.LinkedNeed.{LinkedNeed}
 use Rattle.batch_set.specs.declared.linked.LinkedRecipe.{LinkedRecipe}
 use Rattle.batch_set.specs.declared.linked.Source.{Source}
 use Rattle.batch_set.specs.declared.linked.Source.TheVariants.{Resource, Role, Unknown}
-use Rattle.batch_set.specs.declared.linked_set.LinkedSet.{LinkedSet}
 use Rattle.batch_set.proofs.Sources.{needs-said}
 use Rattle.batch_verify.proofs.ResourceNumbers.{number-at}
 use Rattle.batch_check.specs.declared.site.Site.{Site}
 use Rattle.batch_check.specs.Edges.{number_of_resource, numbers_of_resources}
 use Rattle.batch_check.specs.Joining.{AreBelow}
-use Rattle.batch_check.specs.Sites.{IsLinkedAt, StandFor, bound_on, count_with_roles, needs_at, number_of, numbers_at, numbers_of, resource_count, resource_on, resources_on, sites_on, units_on}
+use Rattle.batch_check.specs.Sites.{StandFor, bound_on, count_with_roles, needs_at, number_of, numbers_at, numbers_of, resource_count, resource_on, resources_on, sites_on, units_on}
 use Rattle.batch_check.specs.Takings.{Taking, alike}
 use Rattle.batch_check.proofs.Joins.{Contains-none, Contains-one}
 use Rattle.batch_check.proofs.Roles.{resource_for-below, resource_for-past}
@@ -94,7 +91,7 @@ no_row f table acts h n none =
     ap (λ (o : Option (List LinkedNeed)). unwrap_or o [])
     (sym (slice_get-map (λ (r : Vec LinkedNeed Global). r.items) table n) ∙ (ap (λ (rows : List (List LinkedNeed)). slice_get rows n) h ∙ (slice_get-map f acts n ∙ ap (option_map f) none)))
 
-module _ (site : Site) (linked : LinkedRecipe) (h : IsLinkedAt site.cell.now site.recipe.now linked) where
+module _ (site : Site) (linked : LinkedRecipe) (h : IsLinkedIn site.cell.now site.recipe.now linked) where
   no_needs : (k : Kind) → act_of site.recipe.now.acts k ≡ None → needs_by linked k ≡ []
   no_needs kind.Procedure is = absurd cc
   no_needs (kind.Act UnitProcedures n) is = no_row (needs_linked site.cell.now site.recipe.now) linked.unit_procedures.items site.recipe.now.acts.unit_procedures.items h.1.unit_procedures n is
@@ -119,11 +116,3 @@ module _ (site : Site) (linked : LinkedRecipe) (h : IsLinkedAt site.cell.now sit
       go None is =
           subst (λ (links : List LinkedNeed). StandFor site (needs_at site k) (numbers_of site links)) (sym (no_needs k is))
           (record { below = λ n among. absurd (Contains-none (Some n) among); taken = λ t. ap (λ (o : Option Act). asked_of o t) (sym is) })
-
--- the recipe with a number of a linked set
-pub recipe_linked : (cell : Cell) (recipes : List Recipe) (set : LinkedSet) → IsLinkedSet cell recipes set → (k : ℕ) (recipe : Recipe) (own : LinkedRecipe) → k < length recipes
-    → recipe ≡ get_or recipes k recipe → own ≡ get_or set.recipes.items k own → IsLinkedAt cell recipe own
-recipe_linked cell recipes set h k recipe own within recipe_is own_is = (
-  set.phases,
-  h.linked.each k own (slice_get_read set.recipes.items (length set.recipes.items) k own refl (omega (arith, h.linked.count, within)) own_is) recipe (slice_get_read recipes (length recipes) k recipe refl within recipe_is),
-)

@@ -1,7 +1,6 @@
 -- private: the needs of the acts of a recipe, by number, whatever units take its roles.
 use Rattle.std.specs.Prelude.{◌≡◌, ℕ, ◌+◌, List, length, map, Option, Some, None, option_and_then}
 use Rattle.batch_cell.specs.LookUps.{resources_of as cell_resources}
-use Rattle.batch_cell.specs.declared.cell.Cell.{Cell}
 use Rattle.batch_recipe.specs.Expanding.{Binding, Sites}
 use Rattle.batch_recipe.specs.Links.{asked_at}
 use Rattle.batch_recipe.specs.Needs.{resources_of}
@@ -9,10 +8,7 @@ use Rattle.batch_recipe.specs.Nodes.{Node}
 use Rattle.batch_recipe.specs.Outlines.{act_of}
 use Rattle.batch_recipe.specs.Procedure.{bound_nodes, sites}
 use Rattle.batch_recipe.specs.declared.entry.Kind.{Kind}
-use Rattle.batch_recipe.specs.declared.recipe.Recipe.{Recipe}
-use Rattle.batch_set.specs.Linking.{IsLinked}
 use Rattle.batch_set.specs.Looked.{needs_by}
-use Rattle.batch_set.specs.declared.cell_phases.CellPhases.{CellPhases}
 use Rattle.batch_set.specs.declared.linked.LinkedNeed.{LinkedNeed}
 use Rattle.batch_set.specs.declared.linked.LinkedRecipe.{LinkedRecipe}
 use Rattle.batch_set.specs.declared.linked.Source.{Source}
@@ -80,7 +76,3 @@ numbers_of site needs = map (λ need. number_of site need.source) needs
 -- those of the act at a node
 abbrev pub numbers_at : Site → LinkedRecipe → Kind → List (Option ℕ)
 numbers_at site linked k = numbers_of site (needs_by linked k)
-
--- the recipe is linked, by some numbers of phases
-abbrev pub IsLinkedAt : Cell → Recipe → LinkedRecipe → Type 0
-IsLinkedAt cell recipe linked = (known : CellPhases) × IsLinked cell known recipe linked

@@ -1,7 +1,7 @@
 //! The edges of a recipe's nodes.
 ghost use Rattle.std.specs.Prelude.{◌≡◌, slice_index_or, IfOk};
+ghost use Rattle.batch_set.specs.Linking.{IsLinkedIn};
 ghost use Rattle.batch_check.specs.Collecting.{IsCollected, is_joined, kept_at_top, with_joined};
-ghost use Rattle.batch_check.specs.Sites.{IsLinkedAt};
 
 use crate::edge_set::EdgeSet;
 use crate::path::{Path, Reach, ask_act};
@@ -19,7 +19,7 @@ pub(crate) fn collect(
     number: u16,
     reach: Reach,
 ) -> Result<EdgeSet, AllocError>
-    requires { IsLinkedAt site.now.cell.now site.now.recipe.now linked.now }
+    requires { IsLinkedIn site.now.cell.now site.now.recipe.now linked.now }
     ensures { IfOk result (λ set. IsCollected site.now (kept_at_top reach) number set.edges.items) }
 {
     let mut edges = EdgeSet::new(alloc, site.count_with_roles())?;

@@ -5,9 +5,8 @@ ghost use Rattle.batch_recipe.specs.declared.recipe.Recipe.{Recipe};
 ghost use Rattle.batch_check.specs.Collecting.{AreAdded, HasAllPairs, IsAdded, kept_at_top};
 ghost use Rattle.batch_check.specs.Edges.{AreEdgesOf};
 ghost use Rattle.batch_check.specs.LeastRanking.{HasEndsBelow};
-ghost use Rattle.batch_check.specs.Sites.{IsLinkedAt};
 ghost use Rattle.batch_model.specs.declared.limits.TheConstants.{MAX_RECIPES};
-ghost use Rattle.batch_set.specs.Linking.{IsLinkedSet};
+ghost use Rattle.batch_set.specs.Linking.{IsLinkedIn, IsLinkedSet};
 
 use crate::binding::{
     add_raised, add_taken, edges_behind, edges_of_roles, units_by, units_of_each,
@@ -93,7 +92,7 @@ fn add_edges(
     edges: &mut EdgeSet,
 ) -> Result<(), AllocError>
     requires sized { edges.old.count ≡ length (resources_of cell.now) }
-    requires linked { IsLinkedAt cell.now recipe.now linked.now }
+    requires linked { IsLinkedIn cell.now recipe.now linked.now }
     ensures { OnOk result ((recipes : List Recipe) → slice_get recipes number ≡ Some recipe.now
         → IsAdded cell.now (kept_at_top reach) recipes recipe.now edges.old edges.new) }
 {

@@ -140,6 +140,10 @@ pub record IsLinked (cell : Cell) (known : CellPhases) (recipe : document.Recipe
   pub candidates : table_items linked.candidates.items ≡ map (candidate_numbers cell) recipe.roles.items
   pub runs : linked.runs.items ≡ map (run_by known.names.keys) recipe.acts.phases.items
 
+-- the same, whatever numbers the phases have
+abbrev pub IsLinkedIn : Cell → document.Recipe → LinkedRecipe → Type 0
+IsLinkedIn cell recipe linked = (known : CellPhases) × IsLinked cell known recipe linked
+
 -- each recipe is linked, in their order
 pub record AreLinked (cell : Cell) (known : CellPhases) (recipes : List document.Recipe) (linked : List LinkedRecipe) : Type 0 where
   pub count : length linked ≡ length recipes

@@ -13,22 +13,23 @@ use Rattle.batch_cell.proofs.Resources.{no_resource_no_unit, resource_is_no_unit
 use Rattle.batch_recipe.specs.Conditions.{Name, same_name}
 use Rattle.batch_recipe.specs.Expanding.{Binding, Sites, asked_by, needs_with, unit_chosen, unit_named, unit_with}
 use Rattle.batch_recipe.specs.Needs as needs
+use Rattle.batch_recipe.specs.Outlines.{act_of}
 use Rattle.batch_recipe.specs.Procedure.{sites}
 use Rattle.batch_recipe.specs.declared.act.Act.{Act}
 use Rattle.batch_recipe.specs.declared.act.UnitChoice.{UnitChoice}
+use Rattle.batch_recipe.specs.declared.entry.Kind.{Kind}
 use Rattle.batch_recipe.specs.declared.need.Need.{Need}
 use Rattle.batch_recipe.specs.declared.recipe.Recipe as document
 use Rattle.batch_recipe.specs.declared.role.Role as declared
-use Rattle.batch_set.specs.Linking.{IsLinked}
+use Rattle.batch_set.specs.Linking.{IsLinkedIn}
 use Rattle.batch_set.specs.Looked.{needs_by}
 use Rattle.batch_set.specs.Sources.{IsSource, SayNeeds}
-use Rattle.batch_set.specs.declared.cell_phases.CellPhases.{CellPhases}
 use Rattle.batch_set.specs.declared.linked.LinkedNeed.{LinkedNeed}
 use Rattle.batch_set.specs.declared.linked.LinkedRecipe.{LinkedRecipe}
 use Rattle.batch_set.specs.declared.linked.Source.{Source}
 use Rattle.batch_set.specs.declared.linked.Source.TheVariants.{Resource, Role, Unknown}
 use Rattle.batch_set.proofs.Sources.{needs-said}
-use Rattle.batch_verify.specs.Asking.{Ask, IsRise, SaysAsks, among_first, ask_by, ask_of, asks_by, asks_of, is_fitting, is_found, number_by, ranks_along, ranks_asked, takers_of, unit_by}
+use Rattle.batch_verify.specs.Asking.{Ask, IsRise, among_first, ask_by, ask_of, asks_by, asks_of, is_fitting, is_found, number_by, ranks_along, ranks_asked, takers_of, unit_by}
 use Rattle.batch_verify.specs.Refusals.{rank_in, ranking_in}
 use Rattle.batch_verify.specs.Walking.{RisesFrom, is_of_resource, is_within_capacity, known_unit, last_from, unit_under}
 use Rattle.batch_verify.specs.declared.rule.Rule.{Rule}
@@ -65,9 +66,11 @@ module _ (c : equipment.Cell) (roles : List declared.Role) (bound : Binding) whe
       ap (λ (ask : Ask). ask ∷ asks_by c (takers_of c bound roles) links) (ask-is link need h.0 h.1)
       ∙ ap (λ (asks : List Ask). ask_of c need ∷ asks) (asks-are links needs h.2)
 
-pub says-asks : (c : equipment.Cell) (phases : CellPhases) (recipe : document.Recipe) (linked : LinkedRecipe) → IsLinked c phases recipe linked → SaysAsks c recipe linked
-says-asks c phases recipe linked h bound kind a is =
-    asks-are c recipe.roles.items bound (needs_by linked kind) (needs_with (sites bound recipe.acts) a) (needs-said c phases recipe linked h bound kind a is)
+-- the linked recipe has the asks of each act, whatever units take the roles
+pub says-asks : (c : equipment.Cell) (recipe : document.Recipe) (linked : LinkedRecipe) → IsLinkedIn c recipe linked → (bound : Binding) (kind : Kind) (a : Act) → act_of recipe.acts kind ≡ Some a
+    → asks_by c (takers_of c bound recipe.roles.items) (needs_by linked kind) ≡ asks_of c (needs_with (sites bound recipe.acts) a)
+says-asks c recipe linked h bound kind a is =
+    asks-are c recipe.roles.items bound (needs_by linked kind) (needs_with (sites bound recipe.acts) a) (needs-said c h.0 recipe linked h.1 bound kind a is)
 
 -- the unit with this number
 unit-number : (c : equipment.Cell) (p : Name → Bool) → among_first (length (units_of c)) (position p (resources_of c)) ≡ position p (units_of c)

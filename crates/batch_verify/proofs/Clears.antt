@@ -12,10 +12,11 @@ use Rattle.batch_recipe.specs.declared.entry.Entry.{Entry}
 use Rattle.batch_recipe.specs.declared.recipe.Recipe.{Recipe}
 use Rattle.batch_recipe.specs.declared.role.Role.{Role}
 use Rattle.batch_model.specs.Cleared.{Level, Ranking}
+use Rattle.batch_set.specs.Linking.{IsLinkedIn}
 use Rattle.batch_set.specs.Looked.{needs_by}
 use Rattle.batch_set.specs.declared.linked.LinkedNeed.{LinkedNeed}
 use Rattle.batch_set.specs.declared.linked.LinkedRecipe.{LinkedRecipe}
-use Rattle.batch_verify.specs.Asking.{SaysAsks, asks_by, ranks_along, takers_of}
+use Rattle.batch_verify.specs.Asking.{asks_by, ranks_along, takers_of}
 use Rattle.batch_verify.specs.Charts.{AreFaults}
 use Rattle.batch_verify.specs.Refusals.{ranking_in}
 use Rattle.batch_verify.specs.Spans.{AreBetween, IsPassed, IsWithin, no_span}
@@ -23,7 +24,7 @@ use Rattle.batch_verify.specs.Walking.{IsEntered, kept, last_rank, no_path}
 use Rattle.batch_verify.specs.declared.rule.Rule.{Rule}
 use Rattle.batch_verify.specs.declared.site.Path.{Path}
 use Rattle.batch_verify.specs.declared.span.Span.{Span}
-use Rattle.batch_verify.proofs.AskedByName.{rise-is}
+use Rattle.batch_verify.proofs.AskedByName.{rise-is, says-asks}
 use Rattle.batch_verify.proofs.Entering.{entered}
 use Rattle.batch_verify.proofs.Faults.{one_more}
 use Rattle.batch_verify.proofs.Paths.{IsNumber, KeepsPaths, KeepsPaths-more, Looked, fault_known, looked}
@@ -59,7 +60,7 @@ module _ (c : equipment.Cell) (ranks : Option (List ℕ)) (r : Recipe) (linked :
     };
   }
 
-  module _ (says : SaysAsks c r linked) (faults : List (Option Rule)) (all : AreFaults r.acts faults) (spans : List Span) (n : ℕ) (h : Clears spans n)
+  module _ (is_linked : IsLinkedIn c r linked) (faults : List (Option Rule)) (all : AreFaults r.acts faults) (spans : List Span) (n : ℕ) (h : Clears spans n)
       (e : Entry) (is : slice_get r.outline.entries.items n ≡ Some e) (s : Span) (some : (o : Span) → slice_get spans e.parent ≡ Some o → s ≡ o) (none : length spans ≤ e.parent → s ≡ no_span)
       (fault : Option Rule) (fault_is : slice_get faults n ≡ Some fault) (whole : fault ≡ None) (q : Span)
       (passed : (a : Act) → act_of r.acts e.kind ≡ Some a → IsPassed c ranks roles lowest highest (needs_by linked e.kind) a s q) (keeps : act_of r.acts e.kind ≡ None → q ≡ s) where
@@ -121,7 +122,7 @@ module _ (c : equipment.Cell) (ranks : Option (List ℕ)) (r : Recipe) (linked :
               let asked = pass.asked (takers bound) between p.last above_within.1 in
               let next : Option ℕ = last_rank p.last (ranks_along ranks (asks_by c (takers bound) links)) in
               let on : Sites = sites bound r.acts in
-              let e_is = says bound e.kind a o_is in
+              let e_is = says-asks c r linked is_linked bound e.kind a o_is in
               let rises = rise-is c (takers bound) links on a e_is ranks p.last (Ok next) (asked.rising, refl) in
               let own : (level : Level) → IsEntered c on ranking fault level p a (Ok (record { unit = unit.unit; last = next })) =
               λ level procedure acts recipes on_unit place above kind stands so_far known. entered c on ranking level p a procedure acts recipes on_unit place above kind stands so_far (takers bound) links e_is

@@ -1,5 +1,5 @@
 -- Sets of the phases of trees.
-use Rattle.std.proofs.Common.{◌≡◌, ◌≤◌, ◌<◌, ◌+◌, ◌↔◌, ℕ, zero, suc, Bool, true, false, ◌||◌, ◌⊎◌, cond, nat_eq, nat_lt, List, [], ◌∷◌, ◌++◌, length, get_or, set, inl, inr, Option, None, Some, refl, sym, ap, ap₂, ◌∙◌, subst, arith}
+use Rattle.std.proofs.Common.{◌≡◌, ◌≤◌, ◌<◌, ◌+◌, ◌↔◌, ℕ, Bool, true, false, ◌||◌, ◌⊎◌, cond, nat_eq, nat_lt, List, [], ◌∷◌, ◌++◌, length, get_or, set, inl, inr, Option, None, Some, refl, sym, ap, ap₂, ◌∙◌, subst, arith}
 use Rattle.std.specs.Prelude.{slice_get}
 use Rattle.std.specs.List.{position_or_len}
 use Rattle.std.specs.Cmp.Lexicographic.{bytes_decides}

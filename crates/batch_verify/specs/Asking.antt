@@ -1,22 +1,15 @@
--- surface: the needs of acts by number.
+-- private: the needs of acts by number.
 use Rattle.std.specs.Prelude.{◌≡◌, ℕ, List, [], ◌∷◌, length, map, Bool, nat_le, nat_lt, if◌then◌else◌, Option, Some, None, Result, Ok, Err, position, MatchResult}
 use Rattle.std.specs.List.{slice_index_or}
 use Rattle.std.specs.Option.{is_some}
 use Rattle.batch_cell.specs.LookUps.{capacities_of, resources_of, units_of}
 use Rattle.batch_cell.specs.declared.cell.Cell as equipment
 use Rattle.batch_recipe.specs.Conditions.{same_name}
-use Rattle.batch_recipe.specs.Expanding.{Binding, needs_with}
-use Rattle.batch_recipe.specs.Outlines.{act_of}
-use Rattle.batch_recipe.specs.Procedure.{sites}
-use Rattle.batch_recipe.specs.declared.act.Act.{Act}
+use Rattle.batch_recipe.specs.Expanding.{Binding}
 use Rattle.batch_recipe.specs.declared.act.UnitChoice.{UnitChoice}
-use Rattle.batch_recipe.specs.declared.entry.Kind.{Kind}
 use Rattle.batch_recipe.specs.declared.need.Need.{Need}
-use Rattle.batch_recipe.specs.declared.recipe.Recipe as document
 use Rattle.batch_recipe.specs.declared.role.Role as declared
-use Rattle.batch_set.specs.Looked.{needs_by}
 use Rattle.batch_set.specs.declared.linked.LinkedNeed.{LinkedNeed}
-use Rattle.batch_set.specs.declared.linked.LinkedRecipe.{LinkedRecipe}
 use Rattle.batch_set.specs.declared.linked.Source.{Source}
 use Rattle.batch_set.specs.declared.linked.Source.TheVariants.{Resource, Role, Unknown}
 use Rattle.batch_verify.specs.Walking.{Rises, known_unit, last_rank}
@@ -94,9 +87,3 @@ takers_of c bound roles = map (λ role. position (same_name (bound role.name)) (
 -- the asks at a node
 abbrev pub asks_on : site.Site → List LinkedNeed → List Ask
 asks_on s needs = asks_by s.cell.now s.takers.now needs
-
--- the linked recipe has the asks of each act, whatever units take the roles
-abbrev pub SaysAsks : equipment.Cell → document.Recipe → LinkedRecipe → Type 0
-SaysAsks c recipe linked =
-    (bound : Binding) (kind : Kind) (a : Act) → act_of recipe.acts kind ≡ Some a
-    → asks_by c (takers_of c bound recipe.roles.items) (needs_by linked kind) ≡ asks_of c (needs_with (sites bound recipe.acts) a)

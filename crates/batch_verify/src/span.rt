@@ -7,8 +7,8 @@ ghost use Rattle.batch_recipe.specs.declared.recipe.Recipe as document;
 ghost use Rattle.batch_recipe.specs.declared.role.Role as declared;
 ghost use Rattle.batch_model.specs.Recipes.{recipe_of};
 ghost use Rattle.batch_model.specs.Setups.{setup_of};
+ghost use Rattle.batch_set.specs.Linking.{IsLinkedIn};
 ghost use Rattle.batch_set.specs.Looked.{needs_by};
-ghost use Rattle.batch_verify.specs.Asking.{SaysAsks};
 ghost use Rattle.batch_verify.specs.Charts.{AreFaults};
 ghost use Rattle.batch_verify.specs.Refusals.{IsVerdict, ranking_in};
 ghost use Rattle.batch_verify.specs.PassedSteps.{Allows};
@@ -47,7 +47,7 @@ pub(crate) fn is_clear(
     linked: &LinkedRecipe,
 ) -> Result<bool, AllocError>
     requires faults { AreFaults recipe.now.acts faults.now }
-    requires linked { SaysAsks cell.now recipe.now linked.now }
+    requires linked { IsLinkedIn cell.now recipe.now linked.now }
     ensures { IfOk result (λ clear. clear ≡ true → (bound : Binding) → GivesUnits cell.now recipe.now.roles.items bound → (recipes : List document.Recipe)
         → IsVerdict (setup_of cell.now recipes) (ranking_in cell.now (option_copied ranks.entry)) (recipe_of recipe.now bound) None) }
 {

@@ -59,7 +59,7 @@ fn step_set(steps: &[Act], step: &Act) -> PhaseSet
     match &step.work {
         Work::Follows(_) => PhaseSet::new(),
         Work::Runs { phase, .. } => match number_of(steps, phase) {
-            None => PhaseSet::new(),
+            None => unreachable!(),
             Some(number) => PhaseSet::of(number as u8),
         },
     }

@@ -1,8 +1,7 @@
 use Rattle.std.proofs.Common.{arith}
 use Rattle.batch_model.specs.Setups.{master_of, setup_of}
 use Rattle.batch_check.proofs.Verdicts.{recipe_at, sound_more}
-use Rattle.batch_check.proofs.Numbers.{recipe_linked}
-use Rattle.batch_verify.proofs.AskedByName.{says-asks}
+use Rattle.batch_set.proofs.SetRecipes.{recipe_linked}
 use Rattle.batch_check.proofs.checking.check_each.Goals as goal
 
 pub index-own-requires : goal.index-own-requires
@@ -10,9 +9,8 @@ index-own-requires c = omega (arith, c.requires.linked.linked.count, c.loop-numb
 
 pub first_broken-requires : goal.first_broken-requires
 first_broken-requires c =
-    let linked = recipe_linked c.args.cell.now c.args.recipes.now c.args.linked.now c.requires.linked c.loop-number.number c.index-recipes-number.result c.index-own.result.now
-    c.loop-number-test.true c.index-recipes-number.is c.index-own.ensures in
-    says-asks c.args.cell.now linked.0 c.index-recipes-number.result c.index-own.result.now linked.1
+    recipe_linked c.args.cell.now c.args.recipes.now c.args.linked.now c.requires.linked c.loop-number.number c.index-recipes-number.result c.index-own.result.now
+    c.loop-number-test.true c.index-recipes-number.is c.index-own.ensures
 
 pub returns-in-Some-clause-fault : goal.returns-in-Some-clause-fault
 returns-in-Some-clause-fault c =

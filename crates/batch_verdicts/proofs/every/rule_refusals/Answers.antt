@@ -1,6 +1,5 @@
 use Rattle.std.proofs.Common.{inl, inr, [], ◌∷◌, refl, sym, append-nil, arith}
-use Rattle.batch_verify.proofs.AskedByName.{says-asks}
-use Rattle.batch_check.proofs.Numbers.{recipe_linked}
+use Rattle.batch_set.proofs.SetRecipes.{recipe_linked}
 use Rattle.batch_verdicts.proofs.RulesBroken.{rules_next}
 use Rattle.batch_verdicts.proofs.every.rule_refusals.Goals as goal
 use Rattle.batch_verdicts.proofs.every.rule_refusals.Goals.{in-Some+in_ok-refusal+in_ok-push+in-Circle-1, in-Some+in_ok-refusal+in_ok-push+in-Recipes-1, in_default}
@@ -10,9 +9,8 @@ index-own-requires c = omega (arith, c.in_ok-linked.ensures.linked.count, c.loop
 
 pub first_broken-requires : goal.first_broken-requires
 first_broken-requires c =
-    let linked = recipe_linked c.args.cell.now c.args.recipes.now c.in_ok-linked.linked c.in_ok-linked.ensures c.loop-number.number c.index-recipes-number.result c.index-own.result.now
-    c.loop-number-test.true c.index-recipes-number.is c.index-own.ensures in
-    says-asks c.args.cell.now linked.0 c.index-recipes-number.result c.index-own.result.now linked.1
+    recipe_linked c.args.cell.now c.args.recipes.now c.in_ok-linked.linked c.in_ok-linked.ensures c.loop-number.number c.index-recipes-number.result c.index-own.result.now
+    c.loop-number-test.true c.index-recipes-number.is c.index-own.ensures
 
 pub loop-number-preserved : goal.loop-number-preserved
 loop-number-preserved c =

@@ -4,9 +4,9 @@ use Rattle.batch_verify.specs.PhaseSets.{IsSetOf}
 use Rattle.batch_verify.proofs.PhaseSets.{IsSetOf-one, has_number}
 use Rattle.batch_verify.proofs.tree_phases.step_set.Goals as goal
 
-pub returns-in-None : goal.returns-in-None
-returns-in-None c =
-    absurd (has_number c.args.steps.now c.requires.among.0 c.args.step.now c.in-Runs.phase c.requires.among.1 (ap phase_run c.in-Runs.is) (sym c.number_of.ensures ∙ c.in-None.is))
+pub unreachable-requires : goal.unreachable-requires
+unreachable-requires c =
+    (has_number c.args.steps.now c.requires.among.0 c.args.step.now c.in-Runs.phase c.requires.among.1 (ap phase_run c.in-Runs.is) (sym c.number_of.ensures ∙ c.in-None.is))
 
 pub returns-in-Some : goal.returns-in-Some
 returns-in-Some c =

@@ -15,6 +15,7 @@ use Rattle.batch_verify.specs.Ways.{bound_parts}
 use Rattle.batch_verify.specs.declared.rule.Rule.{Rule}
 use Rattle.batch_verify.specs.declared.site.Path.{Path}
 use Rattle.batch_recipe.specs.Procedure.{bound_tree, sites}
+use Rattle.batch_verify.proofs.AskedByName.{says-asks}
 use Rattle.batch_verify.proofs.Paths.{KeepsPaths-more, number_above, looked, fault_known, path_stops, paths_end}
 use Rattle.batch_verify.proofs.walk.broken_on.Goals as goal
 
@@ -62,7 +63,7 @@ returns-in-Err c = λ recipes.
     ap (slice_get c.args.faults.now) node ∙ slice_get-get_or c.args.faults.now c.len-node.result None
     (omega (arith, node, c.loop-entry-test.true, ap length c.deref-entry-items.ensures.value, as_many r, c.requires.faults.as_many)) in
     let entered = (λ (a : Act) (act_is : act_of r.acts entry.kind ≡ Some a). c.in-Err.ensures.act a act_is (sites bound r.acts)
-    (ap (λ (takers : List (Option ℕ)). asks_by cell takers (needs_by c.args.linked.now entry.kind)) takers ∙ c.requires.linked bound entry.kind a act_is)) in
+    (ap (λ (takers : List (Option ℕ)). asks_by cell takers (needs_by c.args.linked.now entry.kind)) takers ∙ says-asks cell c.args.recipe.now c.args.linked.now c.requires.linked bound entry.kind a act_is)) in
     let some = (λ (q : Path) (q_is : slice_get paths entry.parent ≡ Some q). c.path_above-above.ensures.some q (ap (λ xs. slice_get xs entry.parent) c.deref-in-loop-entry.ensures.value ∙ q_is)) in
     let none = (λ (past : length paths ≤ entry.parent). c.path_above-above.ensures.none (omega (arith, past, ap length c.deref-in-loop-entry.ensures.value))) in
     let known = fault_known cell ranking bound r paths n h entry is above some none c.args.faults.now c.requires.faults fault fault_is in
@@ -91,7 +92,7 @@ loop-entry-preserved c =
     ap (slice_get c.args.faults.now) node ∙ slice_get-get_or c.args.faults.now c.len-node.result None
     (omega (arith, node, c.loop-entry-test.true, ap length c.deref-entry-items.ensures.value, as_many r, c.requires.faults.as_many)) in
     let entered = (λ (a : Act) (act_is : act_of r.acts entry.kind ≡ Some a). c.in-Ok.ensures.act a act_is (sites bound r.acts)
-    (ap (λ (takers : List (Option ℕ)). asks_by cell takers (needs_by c.args.linked.now entry.kind)) takers ∙ c.requires.linked bound entry.kind a act_is)) in
+    (ap (λ (takers : List (Option ℕ)). asks_by cell takers (needs_by c.args.linked.now entry.kind)) takers ∙ says-asks cell c.args.recipe.now c.args.linked.now c.requires.linked bound entry.kind a act_is)) in
     let some = (λ (q : Path) (q_is : slice_get paths entry.parent ≡ Some q). c.path_above-above.ensures.some q (ap (λ xs. slice_get xs entry.parent) c.deref-in-loop-entry.ensures.value ∙ q_is)) in
     let none = (λ (past : length paths ≤ entry.parent). c.path_above-above.ensures.none (omega (arith, past, ap length c.deref-in-loop-entry.ensures.value))) in
     let known = fault_known cell ranking bound r paths n h entry is above some none c.args.faults.now c.requires.faults fault fault_is in
