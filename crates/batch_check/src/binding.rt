@@ -41,7 +41,7 @@ pub(crate) fn units_by(
     Ok(units)
 }
 
-/// The same for each number of a candidate.
+/// For each number of a candidate the units that take the roles then.
 pub(crate) fn units_of_each(
     alloc: Global,
     cell: &Cell,

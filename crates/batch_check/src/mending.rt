@@ -15,8 +15,7 @@ use batch_set::LinkedSet;
 use batch_verify::is_recipe_set;
 use std::alloc::{AllocError, Global};
 
-/// Of each of these edges whether ranks could rise along the paths of the recipes, were it not for the order in which the edge has its
-/// two resources.
+/// For each edge whether ranks can rise along all paths of the recipes once the order of its two resources is left out.
 ///
 /// The recipe and the node of the edge don't matter. The faults are [`CheckFault::Recipes`] and [`CheckFault::Memory`] alone.
 // claim: order left out

@@ -25,7 +25,7 @@ pub(crate) fn ranks_by_name(
     Ok(entries)
 }
 
-/// The same name. A copy fails for want of memory alone.
+/// A copy of the name. It fails for want of memory alone.
 fn copied(alloc: Global, name: &Name) -> Result<Name, AllocError>
     ensures { IfOk result (λ copy. copy ≡ name.now) }
 {

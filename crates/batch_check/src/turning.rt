@@ -9,7 +9,7 @@ ghost use Rattle.batch_check.specs.declared.edge.Edge.{Edge};
 use crate::edge::Edge;
 use batch_cell::Cell;
 
-/// The same circle, from the edge whose `earlier` has the least name.
+/// The circle, begun at the edge whose `earlier` has the least name.
 pub(crate) fn turned(cell: &Cell, mut circle: Vec<Edge>) -> Vec<Edge>
     requires some { 0 < length circle.items }
     requires within { HasEndsBelow (length (resources_of cell.now)) circle.items }

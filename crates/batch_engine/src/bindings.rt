@@ -40,7 +40,7 @@ fn are_of_roles(roles: &[Role], pairs: &[(Name, Name)]) -> bool
     true
 }
 
-/// The name of the unit that the first pair of a role gives it.
+/// The first pair that names this role.
 fn given<'a>(pairs: &'a [(Name, Name)], role: &Name) -> Option<&'a (Name, Name)>
     ensures { option_copied result ≡ find (λ pair. same_name pair.0 role.now) pairs.now }
 {

@@ -36,7 +36,7 @@ pub fn audit<R: Read>(
     audit_lines(alloc, cleared, &input, text)
 }
 
-/// The same of lines that were read.
+/// Whether the record may be that of these lines.
 fn audit_lines(
     alloc: Global,
     cleared: Cleared,
@@ -51,7 +51,7 @@ fn audit_lines(
     }
 }
 
-/// The same by an engine to which nothing was given yet.
+/// Whether the record may be that of these lines, by an engine to which nothing was given yet.
 fn audit_each(
     alloc: Global,
     engine: &mut Engine,

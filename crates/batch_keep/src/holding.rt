@@ -68,8 +68,8 @@ pub fn serve_holding<R: Read + Drop, D: Disk, K: Clock + Drop, W: Write>(
     )
 }
 
-/// The same, of a run that began at an earlier moment: the caller says from which one on a crash left the journal's lines. The remarks
-/// on a line are written behind the answers before it, which are written then.
+/// Serves as `serve_holding` does, for a run that began at an earlier moment, which the caller names: since then a crash left the
+/// journal's lines. The remarks on a line are written behind the answers before it, which are written then.
 // claim: an earlier beginning
 pub fn serve_started<
     R: Read + Drop,

@@ -72,7 +72,7 @@ pub fn serve_journalled<R: Read + Drop, D: Disk, K: Clock + Drop, W: Write>(
     )
 }
 
-/// The same over a disk in memory, which is one.
+/// Serves over a disk in memory.
 pub fn serve_in_memory<K: Clock + Drop>(
     alloc: Global,
     engine: &mut Engine,

@@ -97,7 +97,7 @@ pub fn start<D: Disk>(
     Ok(started)
 }
 
-/// The same over desks of these names, of which each has a block of its own.
+/// Starts as `start` does, over desks of these names, of which each has a block of its own.
 ///
 /// # Errors
 ///

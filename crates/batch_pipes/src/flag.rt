@@ -20,7 +20,7 @@ impl Flag {
         Ok((flag, other))
     }
 
-    /// The same flag, for another thread.
+    /// A handle of the flag, for another thread.
     pub(crate) fn another(&self) -> Result<Flag, AllocError> {
         Ok(Flag(Arc::try_clone(&self.0)?))
     }

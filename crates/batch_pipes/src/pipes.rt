@@ -20,7 +20,7 @@ pub trait InputBytes {
 
 /// Where the inputs of desks are opened, and in the thread that calls read.
 pub trait Pipes: InputBytes {
-    /// The same, for another thread.
+    /// A handle of the pipes, for another thread.
     fn another(&self) -> Self;
 
     /// Opens the task's input, and has it read by `InputTask::read`. Both may wait for whoever is at the other end.

@@ -13,7 +13,7 @@ impl Flag {
         Ok(Flag(Arc::new(alloc, AtomicU64::new(0))?))
     }
 
-    /// The same flag, for another worker.
+    /// A handle of the flag, for another worker.
     pub(crate) fn another(&self) -> Result<Flag, AllocError> {
         Ok(Flag(Arc::try_clone(&self.0)?))
     }

@@ -78,7 +78,7 @@ fn names_of(alloc: Global, desks: &Desks) -> Result<Vec<Name>, AllocError> {
     Ok(names)
 }
 
-/// The same over the opened file, which is returned.
+/// Serves the desks over the opened file of the journal, and returns it.
 fn serve_opened<D: Disk, K: Clock + Drop, P: DeskRunner, W: Write, E: Write>(
     alloc: Global,
     runner: &P,

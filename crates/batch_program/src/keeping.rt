@@ -88,7 +88,7 @@ fn remarking_of<K: Clock + Drop>(clock: K, comments: Comments) -> Option<Remarki
     }
 }
 
-/// The same over the opened file, which is returned.
+/// Serves over the opened file of the journal, and returns it.
 fn serve_opened<D: Disk, K: Clock + Drop, R: Read, W: Write, E: Write>(
     alloc: Global,
     digested: Digested,

@@ -160,7 +160,7 @@ fn serve_plainly<R: Read, W: Write, E: Write>(
     (report_served(alloc, quiet, served, reason, errors), output)
 }
 
-/// The same with comments in the record. Their time is that of the journals' clock.
+/// Serves with comments in the record. Their time is that of the journals' clock.
 fn serve_with_comments<J: Journals, R: Read, W: Write, E: Write>(
     alloc: Global,
     set: Cleared,

@@ -25,7 +25,7 @@ pub struct Batches {
 }
 
 impl Batches {
-    /// None.
+    /// No batches.
     pub fn new(alloc: Global) -> Batches
         ensures { (number : ℕ) → listed_in result number ≡ None }
     {

@@ -37,7 +37,7 @@ const LEGEND: &str =
     "A bar: a batch, with its number, holds the resource. Hatched: it waits for it.";
 
 /// A bar's place in its row.
-#[derive(Clone, Copy, Debug, PartialEq, Eq)]
+#[derive(Clone, Copy)]
 struct Spot {
     resource: usize,
     lane: usize,

@@ -42,7 +42,7 @@ pub struct LivePhases {
 }
 
 impl LivePhases {
-    /// None.
+    /// No phases.
     pub fn new(alloc: Global) -> LivePhases
         ensures { result.phases.items ≡ [] }
     {

@@ -30,7 +30,7 @@ pub struct Standing {
 }
 
 impl Standing {
-    /// None.
+    /// No shares.
     pub fn new(alloc: Global) -> Standing
         ensures { result.shares.items ≡ [] }
     {

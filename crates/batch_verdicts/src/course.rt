@@ -19,14 +19,14 @@ pub enum Course {
         set: Cleared,
         quiet: bool,
     },
-    /// The same with comments in the record.
+    /// The set is run, with comments in the record.
     Remarks {
         set: Cleared,
         quiet: bool,
         comments: Comments,
     },
-    /// The same over a set whose documents have these digits, with a journal in the file at this path, and with comments in the record
-    /// or without them.
+    /// The set, whose documents have these digits, is run with a journal in the file at this path, and with comments in the record or
+    /// without them.
     Keeps {
         digested: Digested,
         quiet: bool,

@@ -43,7 +43,7 @@ pub fn clear_digested<D: Documents>(
     clear_behind(alloc, documents, cell, digest, certificate, recipes)
 }
 
-/// The same of a cell that is read already, and whose text alone the digest has taken.
+/// Clears the recipes for a cell that is read already, and whose text alone the digest has taken.
 pub(crate) fn clear_behind<D: Documents>(
     alloc: Global,
     documents: &D,

@@ -96,7 +96,7 @@ impl RecipePlaces {
         self.find_place(cleared, site.recipe, site.node)
     }
 
-    /// The same, if the batch is already there.
+    /// The end of the place of a node, if the batch is already there.
     #[inline(always)]
     fn find_place(&mut self, cleared: &Cleared, recipe: u16, node: u16) -> Option<usize>
         requires { AreKnownIn cleared.now self.old }
@@ -114,7 +114,7 @@ impl RecipePlaces {
         }
     }
 
-    /// The same in the recipe whose places are known.
+    /// The end of the place of a node in the recipe whose places are known.
     #[inline(always)]
     fn find_in(&mut self, recipe: &Recipe, node: u16) -> Option<usize>
         requires { AreKnownBy (text_of_place recipe.now) self.old }
@@ -189,7 +189,7 @@ impl RecipePlaces {
         Some(end)
     }
 
-    /// The same of the node above another one, which mostly is the last node once those after it are forgotten.
+    /// The end of the place of the node above another one, which mostly is the last node once those after it are forgotten.
     #[inline(always)]
     #[cycle(reach)]
     fn reach_above(&mut self, recipe: &Recipe, node: u16) -> Option<usize>

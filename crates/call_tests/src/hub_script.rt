@@ -23,7 +23,7 @@ fn stage_told(
     answers(alloc, &mut stage, cleared, script)
 }
 
-/// The same, where the first desk finishes at the line `finish`, and the hub ends behind the script.
+/// The answers to a script, where the first desk finishes at the line `finish`, and the hub ends behind the script.
 fn told_of_set(
     alloc: Global,
     cleared: &mut Cleared,
