@@ -7,7 +7,7 @@ use Rattle.batch_set.specs.Linking.{IsLinkedIn, IsLinkedSet}
 use Rattle.batch_set.specs.declared.linked.LinkedRecipe.{LinkedRecipe}
 use Rattle.batch_set.specs.declared.linked_set.LinkedSet.{LinkedSet}
 
--- the recipe with a number of the set is linked
+-- each recipe of a linked set is linked
 pub recipe_linked : (cell : Cell) (recipes : List Recipe) (set : LinkedSet) → IsLinkedSet cell recipes set → (k : ℕ) (recipe : Recipe) (own : LinkedRecipe) → k < length recipes
     → recipe ≡ get_or recipes k recipe → own ≡ get_or set.recipes.items k own → IsLinkedIn cell recipe own
 recipe_linked cell recipes set h k recipe own within recipe_is own_is = (

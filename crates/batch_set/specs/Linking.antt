@@ -140,7 +140,7 @@ pub record IsLinked (cell : Cell) (known : CellPhases) (recipe : document.Recipe
   pub candidates : table_items linked.candidates.items ≡ map (candidate_numbers cell) recipe.roles.items
   pub runs : linked.runs.items ≡ map (run_by known.names.keys) recipe.acts.phases.items
 
--- the same, whatever numbers the phases have
+-- the recipe is linked in the cell, by some numbers of phases
 abbrev pub IsLinkedIn : Cell → document.Recipe → LinkedRecipe → Type 0
 IsLinkedIn cell recipe linked = (known : CellPhases) × IsLinked cell known recipe linked
 

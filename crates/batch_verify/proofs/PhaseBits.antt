@@ -2,7 +2,7 @@
 use Rattle.std.proofs.Common.{◌≡◌, ◌<◌, ◌≤◌, ◌+◌, ◌-◌, ◌*◌, ◌%◌, ◌||◌, ℕ, Bool, true, false, nat_eq, nat_lt, bit_and, bit_or, inl, inr, refl, sym, ap, ◌∙◌, subst, arith}
 use Rattle.std.specs.Prelude.{◌^◌, min}
 use Rattle.std.specs.Int.{bit_at}
-use Rattle.std.proofs.lemmas.Bool.{cases_lt}
+use Rattle.std.proofs.lemmas.Bool.{cases_lt, eqb-false, eqb-true, le-ltb, lt-ltb}
 use Rattle.std.proofs.lemmas.Nat.{one_shl}
 use Rattle.std.proofs.lemmas.Nat.Bits.{bit_at-lt, bit_at-pow_other, bit_at-pow_same, bit_at-zero, bit_at_above, bit_at_and, bit_at_or, same_from_bits}
 use Rattle.batch_verify.specs.PhaseSets.{has, has_in}
@@ -15,21 +15,12 @@ pub joined_has : (t : Bool) (a b c : PhaseSet) → c.low ≡ bit_or a.low b.low 
 joined_has true a b c low high k = ap (λ w. nat_eq (bit_at w k) 1) low ∙ or_bit a.low b.low k
 joined_has false a b c low high k = ap (λ w. nat_eq (bit_at w (k - 128)) 1) high ∙ or_bit a.high b.high (k - 128)
 
-pub equal : (m n : ℕ) → nat_eq m n ≡ true → m ≡ n
-equal m n e = grind arith
-
-pub self_equal : (m n : ℕ) → m ≡ n → nat_eq m n ≡ true
-self_equal m n e = grind arith
-
-differ : (m n : ℕ) → nat_eq m n ≡ false → m ≡ n → ⊥
-differ m n e f = grind arith
-
 one_bit : (at k : ℕ) → at < 128 → (t : Bool) → nat_eq k at ≡ t → nat_eq (bit_at (1 * 2 ^ at % 2 ^ 128) k) 1 ≡ t
 one_bit at k few t e = ap (λ w. nat_eq (bit_at w k) 1) (one_shl at 128 few) ∙ by t e
   where
     by : (t : Bool) → nat_eq k at ≡ t → nat_eq (bit_at (2 ^ at) k) 1 ≡ t
-    by true e = subst (λ z. nat_eq (bit_at (2 ^ at) z) 1 ≡ true) (sym (equal k at e)) (ap (λ b. nat_eq b 1) (bit_at-pow_same at))
-    by false e = ap (λ b. nat_eq b 1) (bit_at-pow_other at k (differ k at e))
+    by true e = subst (λ z. nat_eq (bit_at (2 ^ at) z) 1 ≡ true) (sym (eqb-true k at e)) (ap (λ b. nat_eq b 1) (bit_at-pow_same at))
+    by false e = ap (λ b. nat_eq b 1) (bit_at-pow_other at k (eqb-false k at e))
 
 no_bit : (k : ℕ) → nat_eq (bit_at 0 k) 1 ≡ false
 no_bit k = ap (λ b. nat_eq b 1) (bit_at-zero k)
@@ -56,7 +47,7 @@ high_has c at many few high low k false e =
 pub none_common : (a b : ℕ) → bit_and a b ≡ 0 → (k : ℕ) → nat_eq (bit_at a k) 1 ≡ true → nat_eq (bit_at b k) 1 ≡ true → ⊥
 none_common a b e k x y =
     let bit : min (bit_at a k) (bit_at b k) ≡ 0 = sym (bit_at_and a b k) ∙ (ap (λ w. bit_at w k) e ∙ bit_at-zero k) in
-    absurd (omega (arith, bit, equal (bit_at a k) 1 x, equal (bit_at b k) 1 y))
+    absurd (omega (arith, bit, eqb-true (bit_at a k) 1 x, eqb-true (bit_at b k) 1 y))
 
 least : (x y : ℕ) → x < 2 → (nat_eq x 1 ≡ true → nat_eq y 1 ≡ true → ⊥) → y < 2 → min x y ≡ 0
 least x y few h less = grind arith
@@ -71,7 +62,7 @@ no_common a b fits h = same_from_bits (bit_and a b) 0 (λ i. bit_at_and a b i �
     ]
 
 -- no bit is set in both words
-abbrev pub ShareNone : ℕ → ℕ → Type 0
+abbrev ShareNone : ℕ → ℕ → Type 0
 ShareNone a b = (k : ℕ) → nat_eq (bit_at a k) 1 ≡ true → nat_eq (bit_at b k) 1 ≡ true → ⊥
 
 pub disjoint_has : (a b : PhaseSet) → ShareNone a.low b.low → ShareNone a.high b.high → (t : Bool) (k : ℕ) → has_in t a k ≡ true → has_in t b k ≡ true → ⊥
@@ -82,17 +73,11 @@ module _ (a b : PhaseSet) (h : (k : ℕ) → has a k ≡ true → has b k ≡ tr
   at : (k : ℕ) (t : Bool) → nat_lt k 128 ≡ t → has_in t a k ≡ true → has_in t b k ≡ true → ⊥
   at k t e x y = h k (ap (λ b'. has_in b' a k) e ∙ x) (ap (λ b'. has_in b' b k) e ∙ y)
 
-  in_low : (k : ℕ) → k < 128 → nat_lt k 128 ≡ true
-  in_low k few = grind arith
-
-  in_high : (k : ℕ) → nat_lt (k + 128) 128 ≡ false
-  in_high k = grind arith
-
   behind : (k : ℕ) → (k + 128) - 128 ≡ k
   behind k = omega arith
 
   pub low_shares : (k : ℕ) → k < 128 → nat_eq (bit_at a.low k) 1 ≡ true → nat_eq (bit_at b.low k) 1 ≡ true → ⊥
-  low_shares k few x y = at k true (in_low k few) x y
+  low_shares k few x y = at k true (lt-ltb k 128 few) x y
 
   pub high_shares : (k : ℕ) → k < 128 → nat_eq (bit_at a.high k) 1 ≡ true → nat_eq (bit_at b.high k) 1 ≡ true → ⊥
-  high_shares k few x y = at (k + 128) false (in_high k) (ap (λ i. nat_eq (bit_at a.high i) 1) (behind k) ∙ x) (ap (λ i. nat_eq (bit_at b.high i) 1) (behind k) ∙ y)
+  high_shares k few x y = at (k + 128) false (le-ltb (k + 128) 128 (omega arith)) (ap (λ i. nat_eq (bit_at a.high i) 1) (behind k) ∙ x) (ap (λ i. nat_eq (bit_at b.high i) 1) (behind k) ∙ y)

@@ -1,13 +1,10 @@
 -- Sets of the phases of trees.
-use Rattle.std.proofs.Common.{◌≡◌, ◌≤◌, ◌<◌, ◌+◌, ◌↔◌, ℕ, Bool, true, false, ◌||◌, ◌⊎◌, cond, nat_eq, nat_lt, List, [], ◌∷◌, ◌++◌, length, get_or, set, inl, inr, Option, None, Some, refl, sym, ap, ap₂, ◌∙◌, subst, arith}
-use Rattle.std.specs.Prelude.{slice_get}
-use Rattle.std.specs.List.{position_or_len}
+use Rattle.std.proofs.Common.{◌≡◌, ◌≤◌, ◌<◌, ◌+◌, ◌↔◌, ℕ, Bool, true, false, ◌||◌, ◌⊎◌, cond, nat_eq, List, [], ◌∷◌, ◌++◌, length, get_or, set, inl, inr, Option, None, Some, refl, sym, ap, ap₂, ◌∙◌, subst, arith, position, unwrap_or, slice_get}
+use Rattle.std.specs.Borrow.{Bor}
 use Rattle.std.specs.Cmp.Lexicographic.{bytes_decides}
-use Rattle.std.proofs.lemmas.Bool.{cases_eq, or_cases}
+use Rattle.std.proofs.lemmas.Bool.{cases_eq, eq-eqb, eqb-true, false_from_ne_true, ne_eqb, or_cases}
 use Rattle.std.proofs.lemmas.List.{get_or-set_same, get_or-set_other, length-set}
 use Rattle.std.proofs.lemmas.List.Quantifiers.{position-Some}
-use Rattle.std.proofs.lemmas.List.Sums.{fails_before_first}
-use Rattle.std.proofs.lemmas.Option.{slice_get-get_or, slice_get_within}
 use Rattle.batch_recipe.specs.Conditions.{Name, same_name}
 use Rattle.batch_recipe.specs.Nodes.{Node}
 use Rattle.batch_recipe.specs.Procedure.{procedure_nodes}
@@ -16,8 +13,9 @@ use Rattle.batch_recipe.specs.declared.act.Act.{Act}
 use Rattle.batch_recipe.specs.declared.act.Work.{Work}
 use Rattle.batch_recipe.specs.declared.act.Work.TheVariants.{Follows, Runs}
 use Rattle.batch_recipe.specs.declared.acts.Acts.{Acts}
+use Rattle.batch_recipe.proofs.Finding.{position_front, position_later, position_nowhere}
 use Rattle.batch_verify.specs.NodePhases.{phase_run}
-use Rattle.batch_verify.specs.PhaseSets.{has, has_some, number_of, runs, AreKnownFrom, IsOfTree, IsSetOf}
+use Rattle.batch_verify.specs.PhaseSets.{has, has_some, number_in, number_of, runs, AreKnownFrom, GivesNumber, IsOfTree, IsSetOf}
 use Rattle.batch_verify.specs.declared.phase_set.PhaseSet.{PhaseSet}
 use Rattle.batch_verify.specs.declared.tree_phases.TreePhases.{TreePhases}
 use Rattle.batch_verify.proofs.Phases.{is_among-append}
@@ -39,20 +37,42 @@ one_phase [] x y n e f = let bad : ◌≡◌ {A = Option ℕ} None (Some n) = e 
 one_phase (a ∷ steps) x y n e f =
     same_run (get_or (a ∷ steps) n a).work x y (position-Some (runs x) (a ∷ steps) n a e).1 (position-Some (runs y) (a ∷ steps) n a f).1
 
--- a phase that a step runs has a number
-pub has_number : (steps : List Act) (i : ℕ) (a : Act) (x : Name) → slice_get steps i ≡ Some a → phase_run a.work ≡ x ∷ [] → number_of steps x ≡ None → ⊥
-has_number steps i a x is run none =
-    let past : length steps ≤ position_or_len (runs x) steps = behind (position_or_len (runs x) steps) (length steps) (nat_lt (position_or_len (runs x) steps) (length steps)) refl none in
-    let within = slice_get_within steps i a is in
-    let fails = fails_before_first (runs x) steps i a (omega (arith, within, past)) in
-    let both : Some (get_or steps i a) ≡ Some a = sym (slice_get-get_or steps i a within) ∙ is in
-    let same : get_or steps i a ≡ a = cc in
-    let runs_it : runs x a ≡ true = ap (λ xs. is_among xs x) run ∙ ap (λ b. b || false) ((bytes_decides x x).1 refl) in
-    let bad : true ≡ false = sym runs_it ∙ (ap (runs x) (sym same) ∙ fails) in absurd cc
+-- a step that doesn't run the phase changes no number
+unseen : (prior : List Act) (a : Act) (x : Name) → runs x a ≡ false → number_of (prior ++ a ∷ []) x ≡ number_of prior x
+unseen prior a x is = by (number_of prior x) refl
   where
-    behind : (m n : ℕ) (b : Bool) → nat_lt m n ≡ b → cond b (Some m) None ≡ None → n ≤ m
-    behind m n true e f = absurd cc
-    behind m n false e f = grind arith
+    last : number_of (a ∷ []) x ≡ None
+    last = rw (is, position) refl
+
+    by : (o : Option ℕ) → number_of prior x ≡ o → number_of (prior ++ a ∷ []) x ≡ number_of prior x
+    by None f = position_nowhere (runs x) prior (a ∷ []) f last ∙ sym f
+    by (Some k) f = position_front (runs x) prior (a ∷ []) k f ∙ sym f
+
+-- the number of the phase that one more step runs
+pub numbered : (prior : List Act) (a : Act) (phase : Name) (old new : List (Bor Name × ℕ)) (next n : ℕ) → phase_run a.work ≡ phase ∷ [] → next ≡ length prior → ((x : Name) → number_in old x ≡ number_of prior x)
+    → GivesNumber old new phase next n → (x : Name) → number_in new x ≡ number_of (prior ++ a ∷ []) x
+numbered prior a phase old new next n run size known g x = g.all x ∙ by (same_name phase x) refl (number_of prior x) refl
+  where
+    by : (b : Bool) → same_name phase x ≡ b → (o : Option ℕ) → number_of prior x ≡ o → cond b (Some n) (number_in old x) ≡ number_of (prior ++ a ∷ []) x
+    by true e o f =
+        let same : phase ≡ x = (bytes_decides phase x).0 e in
+        let own : n ≡ unwrap_or o next = g.own ∙ ap (λ p. unwrap_or p next) (known phase ∙ (ap (number_of prior) same ∙ f)) in
+        let runs_it : runs x a ≡ true = ap (λ xs. is_among xs x) run ∙ ap (λ b. b || false) ((bytes_decides x phase).1 (sym same)) in
+        ap Some own ∙ found o f (rw (runs_it, position) refl)
+      where
+        found : (o : Option ℕ) → number_of prior x ≡ o → number_of (a ∷ []) x ≡ Some 0 → Some (unwrap_or o next) ≡ number_of (prior ++ a ∷ []) x
+        found None f last = ap Some (omega (arith, size)) ∙ sym (position_later (runs x) prior (a ∷ []) 0 f last)
+        found (Some k) f last = sym (position_front (runs x) prior (a ∷ []) k f)
+    by false e o f =
+        let other : same_name x phase ≡ false = false_from_ne_true (same_name x phase) (λ s.
+        let bad : true ≡ false = sym ((bytes_decides phase x).1 (sym ((bytes_decides x phase).0 s))) ∙ e in cc) in
+        known x ∙ sym (unseen prior a x (ap (λ xs. is_among xs x) run ∙ ap (λ b. b || false) other))
+
+pub numbered_own : {old new : List (Bor Name × ℕ)} {phase : Name} {next n : ℕ} → GivesNumber old new phase next n → number_in new phase ≡ Some n
+numbered_own {old} {new} {phase} {next} {n} g = g.all phase ∙ ap (λ b. cond b (Some n) (number_in old phase)) ((bytes_decides phase phase).1 refl)
+
+pub numbered_still : (prior : List Act) (a : Act) (x : Name) → phase_run a.work ≡ [] → number_of (prior ++ a ∷ []) x ≡ number_of prior x
+numbered_still prior a x run = unseen prior a x (ap (λ xs. is_among xs x) run)
 
 -- Sets
 
@@ -69,26 +89,17 @@ IsSetOf-none steps set h = record {
 pub IsSetOf-one : (steps : List Act) (phase : Name) (n : ℕ) (set : PhaseSet) → ((k : ℕ) → has set k ≡ nat_eq k n) → number_of steps phase ≡ Some n → IsSetOf steps (phase ∷ []) set
 IsSetOf-one steps phase n set h is = record {
   among = λ x. by x (same_name x phase) refl (number_of steps x) refl;
-  named = λ k in'. (phase, is ∙ ap Some (sym (equal k n (sym (h k) ∙ in'))));
+  named = λ k in'. (phase, is ∙ ap Some (sym (eqb-true k n (sym (h k) ∙ in'))));
 }
   where
-    equal : (i j : ℕ) → nat_eq i j ≡ true → i ≡ j
-    equal i j e = grind arith
-
-    own : (i j : ℕ) → i ≡ j → nat_eq i j ≡ true
-    own i j e = grind arith
-
-    other : (i j : ℕ) → (i ≡ j → ⊥) → nat_eq i j ≡ false
-    other i j e = grind arith
-
     by : (x : Name) (b : Bool) → same_name x phase ≡ b → (o : Option ℕ) → number_of steps x ≡ o → (b || false) ≡ has_some set o
     by x true e o number =
         let same : x ≡ phase = (bytes_decides x phase).0 e in
         let here : Some n ≡ o = sym is ∙ (ap (number_of steps) (sym same) ∙ number) in
-        subst (λ p. true ≡ has_some set p) here (sym (h n ∙ own n n refl))
+        subst (λ p. true ≡ has_some set p) here (sym (h n ∙ eq-eqb n n refl))
     by x false e None number = refl
     by x false e (Some k) number =
-        sym (h k ∙ other k n (λ one.
+        sym (h k ∙ ne_eqb k n (λ one.
         let same = one_phase steps x phase n (number ∙ ap Some one) is in
         let bad : false ≡ true = sym e ∙ (bytes_decides x phase).1 same in cc))
 

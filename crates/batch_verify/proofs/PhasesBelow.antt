@@ -1,9 +1,10 @@
 -- The phases that are run from one node to another, tree by tree.
-use Rattle.std.proofs.Common.{◌≡◌, ◌<◌, ◌≤◌, ◌+◌, ◌++◌, ℕ, zero, suc, Bool, List, [], ◌∷◌, length, drop, take, true, Some, refl, sym, ap, ◌∙◌, arith}
+use Rattle.std.proofs.Common.{◌≡◌, ◌<◌, ◌≤◌, ◌+◌, ◌++◌, ℕ, zero, suc, Bool, List, [], ◌∷◌, length, drop, take, true, Option, Some, append-nil, refl, sym, ap, ◌∙◌, arith}
 use Rattle.std.specs.Prelude.{slice_get}
 use Rattle.std.specs.List.{list_all}
 use Rattle.std.proofs.lemmas.Bool.{and_parts}
-use Rattle.std.proofs.lemmas.List.{drop-append-le, length-take-le}
+use Rattle.std.proofs.lemmas.List.{drop-append-le, drop-take, drop_more, length-take-le, take-append-drop, take-take}
+use Rattle.std.proofs.lemmas.Option.{get_or_from_slice_get, slice_get_within}
 use Rattle.batch_recipe.specs.ActsAtNodes.{ActList}
 use Rattle.batch_recipe.specs.Expanding.{unbound}
 use Rattle.batch_recipe.specs.Links.{IsEntryOf, form_at}
@@ -29,23 +30,15 @@ nested r k x is b z at low high =
     let p = place_within unbound r.acts k x is b z at low high in
     (below_place r (b + 1) b z (omega arith) at k x is p.0 p.1).1
 
-take_split : {X : Type 0} (xs : List X) (b e : ℕ) → b ≤ e → take e xs ≡ take b xs ++ drop b (take e xs)
-take_split xs zero e h = refl
-take_split [] (suc b) zero h = refl
-take_split [] (suc b) (suc e) h = refl
-take_split (x ∷ xs) (suc b) zero h = absurd (omega (arith, h))
-take_split (x ∷ xs) (suc b) (suc e) h = ap (λ ys. x ∷ ys) (take_split xs b e (omega (arith, h)))
-
 pub between_split : (acts : ActList) (first b e : ℕ) → first ≤ b → b ≤ e → b ≤ length acts → phases_between acts first e ≡ phases_between acts first b ++ phases_between acts b e
 between_split acts first b e low high within =
-    ap phases_along (ap (drop first) (take_split acts b e high) ∙ drop-append-le first (take b acts) (drop b (take e acts)) (omega (arith, low, length-take-le b acts within)))
+    ap phases_along (ap (drop first) (sym (take-append-drop b (take e acts)) ∙ ap (λ xs. xs ++ drop b (take e acts)) (take-take b e acts high)) ∙ drop-append-le first (take b acts) (drop b (take e acts)) (omega (arith, low, length-take-le b acts within)))
     ∙ phases_along-append (drop first (take b acts)) (drop b (take e acts))
 
-pub none_between : (acts : ActList) (k : ℕ) → phases_between acts k k ≡ []
-none_between [] zero = refl
-none_between [] (suc k) = refl
-none_between (o ∷ acts) zero = refl
-none_between (o ∷ acts) (suc k) = none_between acts k
+pub one_between : (acts : ActList) (k : ℕ) (o : Option Act) → slice_get acts k ≡ Some o → phases_between acts k (k + 1) ≡ phase_at o
+one_between acts k o is =
+    ap phases_along (drop-take k 1 acts ∙ ap (take 1) (drop_more acts k o (slice_get_within acts k o is) ∙ ap (λ p. p ∷ drop (k + 1) acts) (get_or_from_slice_get acts k o o is)))
+    ∙ append-nil (phase_at o)
 
 runs_none : (a : Act) → has_chart a ≡ true → phase_run a.work ≡ []
 runs_none a h = grind arith

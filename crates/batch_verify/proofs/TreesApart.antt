@@ -1,41 +1,25 @@
 -- Trees that stand one after another, and their phases.
-use Rattle.std.proofs.Common.{◌≡◌, ◌↔◌, ℕ, Bool, true, false, ◌+◌, ◌<◌, ◌≤◌, List, [], ◌∷◌, ◌++◌, ◌&&◌, length, Option, Some, slice_get, get_or, take, drop, sym, ap, ◌∙◌, refl, subst, arith, append_assoc, append-nil}
+use Rattle.std.proofs.Common.{◌≡◌, ◌↔◌, ℕ, Bool, true, false, ◌+◌, ◌<◌, ◌≤◌, List, [], ◌∷◌, ◌++◌, ◌&&◌, length, Some, slice_get, get_or, sym, ap, ◌∙◌, refl, subst, arith, append_assoc}
 use Rattle.std.specs.Bool.{IsTrue}
-use Rattle.std.proofs.lemmas.List.{take_more, drop-append-le, length-take-le}
-use Rattle.std.proofs.lemmas.Option.{slice_get_within, slice_get-get_or}
 use Rattle.batch_recipe.specs.ActsAtNodes.{ActList}
 use Rattle.batch_recipe.specs.Children.{AreHere, HasBelow, IsHere}
 use Rattle.batch_recipe.specs.Conditions.{Name}
 use Rattle.batch_recipe.specs.Expanding.{unbound}
 use Rattle.batch_recipe.specs.Nodes.{Node, node_count}
 use Rattle.batch_recipe.specs.Tree.{Tree, par, Trees, no_trees, tree}
-use Rattle.batch_recipe.specs.declared.act.Act.{Act}
 use Rattle.batch_recipe.specs.declared.entry.Entry.{Entry}
 use Rattle.batch_recipe.specs.declared.recipe.Recipe.{Recipe}
 use Rattle.batch_recipe.proofs.Below.{has_below, some_count}
 use Rattle.batch_recipe.proofs.Climbing.{ns, entry_at}
 use Rattle.batch_recipe.proofs.Reaching.{read_at}
 use Rattle.batch_model.specs.Cleared.{phases, BranchesRunApart}
-use Rattle.batch_verify.specs.NodePhases.{phase_at, phases_along, phases_between}
+use Rattle.batch_verify.specs.NodePhases.{phase_at, phases_along}
 use Rattle.batch_verify.specs.Walking.{phase_names}
 use Rattle.batch_verify.proofs.RunningApart.{AreApart, KeepsApart, KeepsApart-next}
 
 pub phases_along-append : (xs ys : ActList) → phases_along (xs ++ ys) ≡ phases_along xs ++ phases_along ys
 phases_along-append [] ys = refl
 phases_along-append (o ∷ xs) ys = ap (λ names. phase_at o ++ names) (phases_along-append xs ys) ∙ sym (append_assoc (phase_at o) (phases_along xs) (phases_along ys))
-
--- the phases that are run from one node to the next number
-pub phases_between-more : (acts : ActList) (first k : ℕ) (o : Option Act) → first ≤ k → slice_get acts k ≡ Some o → phases_between acts first (k + 1) ≡ phases_between acts first k ++ phase_at o
-phases_between-more acts first k o past is =
-    let in' = slice_get_within acts k o is in
-    let read : get_or acts k o ≡ o = option_is (get_or acts k o) o (sym (slice_get-get_or acts k o in') ∙ is) in
-    let long : first ≤ length (take k acts) = omega (arith, past, length-take-le k acts (omega (arith, in'))) in
-    let cut : drop first (take (k + 1) acts) ≡ drop first (take k acts) ++ o ∷ [] =
-    ap (drop first) (take_more acts k o in' ∙ ap (λ p. take k acts ++ p ∷ []) read) ∙ drop-append-le first (take k acts) (o ∷ []) long in
-    ap phases_along cut ∙ (phases_along-append (drop first (take k acts)) (o ∷ []) ∙ ap (λ names. phases_between acts first k ++ names) (append-nil (phase_at o)))
-  where
-    option_is : (a b : Option Act) → Some a ≡ Some b → a ≡ b
-    option_is a b e = cc
 
 -- where the tree at a node ends
 pub ends_at : (r : Recipe) (k from : ℕ) (e : Entry) → k < length (ns r) → from ≡ k → e ≡ get_or r.outline.entries.items from e → (x : Node) → slice_get (ns r) k ≡ Some x → e.end ≡ k + node_count x.here

@@ -1,9 +1,8 @@
 //! The rules on `par`s, loops and reserved unit procedures. They don't depend on the units that take the roles.
-ghost use Rattle.std.specs.Prelude.{◌≡◌, ◌≢◌, ◌<◌, ◌≤◌, map, length, slice_get, Some, None, IfOk};
+ghost use Rattle.std.specs.Prelude.{◌≡◌, ◌≢◌, ◌≤◌, length, slice_get, Some, None, IfOk};
 ghost use Rattle.batch_recipe.specs.Nodes.{Node};
 ghost use Rattle.batch_recipe.specs.Outlines.{act_of, form_of};
 ghost use Rattle.batch_recipe.specs.Links.{form_at};
-ghost use Rattle.batch_recipe.specs.Procedure.{procedure_nodes};
 ghost use Rattle.batch_model.specs.Cleared.{below, surely_runs, Part};
 ghost use Rattle.batch_verify.specs.Charts.{depth_is, of_chart, reserve_count, AreFaults, IsChartFault, ReservesAs};
 ghost use Rattle.batch_verify.specs.PhaseSets.{AreApartAs};
@@ -105,10 +104,9 @@ pub(crate) fn chart_faults(alloc: Global, recipe: &Recipe) -> Result<Vec<Option<
     let mut faults = Vec::with_capacity(alloc, nodes)?;
     for entry in &recipe.outline.entries {
         let depth = depth_above(&below, entry);
-        let node = faults.len() as u16;
-        let apart = trees[usize::from(node)].apart;
-        let chart = chart_fault(entry.kind, depth, apart, runs[usize::from(node)]);
-        faults.push(reserve_fault(recipe, entry, node, chart))?;
+        let node = faults.len();
+        let chart = chart_fault(entry.kind, depth, trees[node].apart, runs[node]);
+        faults.push(reserve_fault(recipe, entry, node as u16, chart))?;
         below.push(depth_below(&recipe.acts, entry, depth))?;
     }
     Ok(faults)

@@ -1,9 +1,8 @@
 //! Sets of the phases of a recipe, by number.
 ghost use Rattle.std.specs.Prelude.{◌≡◌, ◌<◌, ◌||◌, ◌↔◌, ℕ, false, nat_eq, true};
-ghost use Rattle.std.specs.Int.{bit_at};
-ghost use Rattle.batch_verify.specs.PhaseSets.{has};
+ghost use Rattle.batch_verify.specs.PhaseSets.{has, is_set};
 
-/// A set of numbers below 256, of which each has a bit. A recipe has at most 256 phase steps.
+/// A set of numbers below 256, of which each has a bit. A recipe has at most `MAX_ACTS` phase steps, 256.
 #[derive(Clone, Copy)]
 pub(crate) struct PhaseSet {
     low: u128,
@@ -35,7 +34,7 @@ impl PhaseSet {
         }
     }
 
-    /// The numbers of both sets.
+    /// The numbers that are in one of the two sets.
     pub(crate) fn joined(self, other: PhaseSet) -> PhaseSet
         ensures { (k : ℕ) → has result k ≡ (has self k || has other k) }
     {
@@ -55,8 +54,8 @@ impl PhaseSet {
 
 /// Whether no bit is set in both words.
 fn share_no_bit(one: u128, other: u128) -> bool
-    ensures none { result ≡ true → (k : ℕ) → nat_eq (bit_at one k) 1 ≡ true → nat_eq (bit_at other k) 1 ≡ true → ⊥ }
-    ensures all { ((k : ℕ) → k < 128 → nat_eq (bit_at one k) 1 ≡ true → nat_eq (bit_at other k) 1 ≡ true → ⊥) → result ≡ true }
+    ensures none { result ≡ true → (k : ℕ) → is_set one k ≡ true → is_set other k ≡ true → ⊥ }
+    ensures all { ((k : ℕ) → k < 128 → is_set one k ≡ true → is_set other k ≡ true → ⊥) → result ≡ true }
 {
     one & other == 0
 }

@@ -1,26 +1,27 @@
 //! The phases of the tree at each node of a recipe, and whether its branches run apart.
-ghost use Rattle.std.specs.Prelude.{◌≡◌, ◌<◌, ◌≤◌, ◌+◌, ℕ, List, Some, length, slice_get, IfOk};
+ghost use Rattle.std.specs.Prelude.{◌≡◌, ◌<◌, ◌≤◌, ◌+◌, List, Some, length, slice_get, IfOk};
 ghost use Rattle.batch_recipe.specs.Nodes.{Node};
 ghost use Rattle.batch_recipe.specs.Procedure.{procedure_nodes};
 ghost use Rattle.batch_recipe.specs.declared.act.Act as act;
-ghost use Rattle.batch_verify.specs.NodePhases.{phase_run};
-ghost use Rattle.batch_verify.specs.PhaseSets.{number_of, own_phases, runs, AreKnownFrom, HaveSets, IsOfTree, IsSetOf};
+ghost use Rattle.batch_recipe.specs.declared.recipe.TheConstants.{MAX_ACTS};
+ghost use Rattle.batch_verify.specs.PhaseSets.{own_phases, AreKnownFrom, GivesNumber, HaveSets, IsOfTree, IsSetOf};
 
 use crate::phase_set::PhaseSet;
 use batch_recipe::{Act, Kind, LabelTable, Recipe, Work, node_count};
 use batch_text::Name;
+use indexmap::IndexMap;
 use std::alloc::{AllocError, Global};
 
-/// What the tree at a node runs.
+/// The phases of the tree at a node, and whether its branches run apart.
 #[derive(Clone, Copy)]
 pub(crate) struct TreePhases {
     /// The phases, by number.
     set: PhaseSet,
-    /// No two of the trees right below the node run the same phase.
+    /// Whether no two of the trees right below the node run the same phase.
     pub(crate) apart: bool,
 }
 
-/// What the tree at each node runs, by the node's number.
+/// The phases of the tree at each node, by the node's number, and whether its branches run apart.
 pub(crate) fn tree_phases(alloc: Global, recipe: &Recipe) -> Result<Vec<TreePhases>, AllocError>
     ensures { IfOk result (λ trees. AreKnownFrom recipe.now.acts trees.items 0) }
 {
@@ -38,51 +39,39 @@ pub(crate) fn tree_phases(alloc: Global, recipe: &Recipe) -> Result<Vec<TreePhas
     Ok(trees)
 }
 
-/// For each phase step the set of the phase that it runs.
+/// For each phase step the set of the phase that it runs. The number of a phase is that of the first phase step that runs it.
 fn step_sets(alloc: Global, steps: &[Act]) -> Result<Vec<PhaseSet>, AllocError>
-    requires { length steps.now ≤ 256 }
+    requires { length steps.now ≤ MAX_ACTS }
     ensures { IfOk result (λ sets. HaveSets steps.now sets.items) }
 {
+    let mut numbers = IndexMap::new(alloc);
     let mut sets = Vec::with_capacity(alloc, steps.len())?;
-    for step in steps {
-        sets.push(step_set(steps, step))?;
+    for (index, step) in steps.iter().enumerate() {
+        let set = match &step.work {
+            Work::Follows(_) => PhaseSet::new(),
+            Work::Runs { phase, .. } => PhaseSet::of(number_of(&mut numbers, phase, index as u8)?),
+        };
+        sets.push(set)?;
     }
     Ok(sets)
 }
 
-/// The set of the phase that one of the phase steps runs.
-fn step_set(steps: &[Act], step: &Act) -> PhaseSet
-    requires few { length steps.now ≤ 256 }
-    requires among { (i : ℕ) × (slice_get steps.now i ≡ Some step.now) }
-    ensures { IsSetOf steps.now (phase_run step.now.work) result }
+/// The number of a phase. If it has none yet, it is given `next`.
+fn number_of<'a>(
+    numbers: &mut IndexMap<&'a Name, u8>,
+    phase: &'a Name,
+    next: u8,
+) -> Result<u8, AllocError>
+    ensures { IfOk result (GivesNumber numbers.old.entries numbers.new.entries phase.now next) }
 {
-    match &step.work {
-        Work::Follows(_) => PhaseSet::new(),
-        Work::Runs { phase, .. } => match number_of(steps, phase) {
-            None => unreachable!(),
-            Some(number) => PhaseSet::of(number as u8),
-        },
+    if let Some(number) = numbers.get(&phase) {
+        return Ok(*number);
     }
+    numbers.insert(phase, next)?;
+    Ok(next)
 }
 
-/// The number of a phase: that of the first phase step that runs it.
-fn number_of(steps: &[Act], phase: &Name) -> Option<usize>
-    ensures { result ≡ number_of steps.now phase.now }
-{
-    steps.iter().position(|step| runs(step, phase))
-}
-
-/// Whether the act runs the phase itself.
-fn runs(act: &Act, phase: &Name) -> bool
-    ensures { result ≡ runs phase.now act.now }
-{
-    match &act.work {
-        Work::Runs { phase: own, .. } => *phase == *own,
-        Work::Follows(_) => false,
-    }
-}
-
-/// What the tree at the node runs, where that is known of all nodes after it.
+/// The phases of the tree at the node, and whether its branches run apart, where both are known of all nodes after it.
 fn tree_at(recipe: &Recipe, sets: &[PhaseSet], trees: &[TreePhases], node: u16) -> TreePhases
     requires node { node < length (procedure_nodes recipe.now.acts) }
     requires sets { HaveSets recipe.now.acts.phases.items sets.now }

@@ -1,7 +1,7 @@
-use Rattle.std.proofs.Common.{◌≡◌, ◌<◌, ℕ, Bool, List, length, map, Some, get_or, slice_get, sym, ap, ◌∙◌, subst, arith}
+use Rattle.std.proofs.Common.{◌≡◌, ◌<◌, Bool, List, length, map, Some, get_or, slice_get, sym, ap, ◌∙◌, subst, refl, arith}
 use Rattle.std.specs.Prelude.{option_map}
 use Rattle.std.proofs.lemmas.List.{length-map}
-use Rattle.std.proofs.lemmas.Option.{slice_get-get_or, slice_get-map}
+use Rattle.std.proofs.lemmas.Option.{slice_get-get_or, slice_get-map, slice_get_read}
 use Rattle.batch_recipe.specs.Nodes.{Node}
 use Rattle.batch_recipe.specs.Procedure.{procedure_nodes}
 use Rattle.batch_recipe.specs.declared.entry.Entry.{Entry}
@@ -17,17 +17,13 @@ use Rattle.batch_verify.proofs.charts.chart_faults.Goals as goal
 runs_long : (r : Recipe) (runs : List Bool) → runs ≡ map (λ x. surely_runs x.here) (procedure_nodes r.acts) → length runs ≡ length r.outline.entries.items
 runs_long r runs is = ap length is ∙ (length-map (procedure_nodes r.acts) (λ (x : Node). surely_runs x.here) ∙ sym (as_many r))
 
--- an element that was read
-read_there : {X : Type 0} (xs : List X) (k from : ℕ) (x : X) → from ≡ k → x ≡ get_or xs from x → k < length xs → slice_get xs k ≡ Some x
-read_there xs k from x same is within = ap (slice_get xs) (sym same) ∙ (slice_get-get_or xs from x (omega (arith, same, within)) ∙ ap Some (sym is))
-
 pub index-requires : goal.index-requires
 index-requires c =
-    omega (arith, c.len-node.ensures, c.loop-entry.invariant.many, c.loop-entry-test.true, ap length c.deref-entry-items.ensures.value, c.from.ensures, c.in_ok-trees.ensures.sized, as_many c.args.recipe.now)
+    omega (arith, c.len-node.ensures, c.loop-entry.invariant.many, c.loop-entry-test.true, ap length c.deref-entry-items.ensures.value, c.in_ok-trees.ensures.sized, as_many c.args.recipe.now)
 
 pub index-requires-in-loop-entry : goal.index-requires-in-loop-entry
 index-requires-in-loop-entry c =
-    omega (arith, c.len-node.ensures, c.loop-entry.invariant.many, c.loop-entry-test.true, ap length c.deref-entry-items.ensures.value, c.from-in-loop-entry.ensures, runs_long c.args.recipe.now c.in_ok-runs.runs.items c.in_ok-runs.ensures)
+    omega (arith, c.len-node.ensures, c.loop-entry.invariant.many, c.loop-entry-test.true, ap length c.deref-entry-items.ensures.value, runs_long c.args.recipe.now c.in_ok-runs.runs.items c.in_ok-runs.ensures)
 
 pub reserve_fault-requires : goal.reserve_fault-requires
 reserve_fault-requires c =
@@ -62,9 +58,9 @@ loop-entry-preserved c =
     let at = subst (λ k. slice_get (procedure_nodes r.acts) k ≡ Some x) node x_is in
     let runs : slice_get (map (λ (y : Node). surely_runs y.here) (procedure_nodes r.acts)) c.len-node.result ≡ Some (surely_runs x.here) =
     slice_get-map (λ (y : Node). surely_runs y.here) (procedure_nodes r.acts) c.len-node.result ∙ ap (option_map (λ (y : Node). surely_runs y.here)) at in
-    let run = read_there c.in_ok-runs.runs.items c.len-node.result c.from-in-loop-entry.result c.index-in-loop-entry.result.now c.from-in-loop-entry.ensures c.index-in-loop-entry.ensures
-    (omega (arith, within, runs_long r c.in_ok-runs.runs.items c.in_ok-runs.ensures)) in
-    let tree = rw (← c.from.ensures, ← c.index.ensures) at (c.in_ok-trees.ensures.each c.len-node.result x c.index.result.now (omega arith) at) in
+    let run = slice_get_read c.in_ok-runs.runs.items (length c.in_ok-runs.runs.items) c.len-node.result c.index-in-loop-entry.result.now refl
+    (omega (arith, within, runs_long r c.in_ok-runs.runs.items c.in_ok-runs.ensures)) c.index-in-loop-entry.ensures in
+    let tree = rw (← c.index.ensures) at (c.in_ok-trees.ensures.each c.len-node.result x c.index.result.now (omega arith) at) in
     c.chart_fault-chart.ensures x formed tree.apart (same_at c.in_ok-runs.runs.items c.len-node.result _ _ run (ap (λ bs. slice_get bs c.len-node.result) c.in_ok-runs.ensures ∙ runs)))
     (λ x broken. let both = c.reserve_fault.ensures x broken in (both.0, subst (λ k. ReservesAs r.acts k c.reserve_fault.result) (sym node) both.1)) in
     rw (c.in_ok-push.ensures.items, c.in_ok-push-2.ensures.items) more

@@ -7,14 +7,14 @@ use Rattle.batch_recipe.proofs.Below.{some_count}
 use Rattle.batch_recipe.proofs.Climbing.{act_at, as_many, ns}
 use Rattle.batch_recipe.proofs.Reaching.{end_read, read_at}
 use Rattle.batch_model.specs.Cleared.{phases}
-use Rattle.batch_verify.specs.NodePhases.{phase_at, phases_between}
+use Rattle.batch_verify.specs.NodePhases.{phases_between}
 use Rattle.batch_verify.specs.PhaseSets.{IsOfTree, IsSetOf}
 use Rattle.batch_verify.specs.Walking.{phase_names}
 use Rattle.batch_verify.specs.declared.tree_phases.TreePhases.{TreePhases}
 use Rattle.batch_verify.proofs.NodePhases.{node_phases}
 use Rattle.batch_verify.proofs.PhaseSets.{IsSetOf-joined, apart_as_disjoint}
-use Rattle.batch_verify.proofs.PhasesBelow.{between_split, nested, none_between, own_is, par_runs_none}
-use Rattle.batch_verify.proofs.TreesApart.{AreLeft, AreLeft-all, AreLeft-first, AreLeft-next, branches_stand, ends_at, phases_between-more}
+use Rattle.batch_verify.proofs.PhasesBelow.{between_split, nested, one_between, own_is, par_runs_none}
+use Rattle.batch_verify.proofs.TreesApart.{AreLeft, AreLeft-all, AreLeft-first, AreLeft-next, branches_stand, ends_at}
 use Rattle.batch_verify.proofs.tree_phases.tree_at.Goals as goal
 use Rattle.batch_verify.proofs.tree_phases.tree_at.Goals.{then-is_disjoint, else-is_disjoint}
 
@@ -29,8 +29,7 @@ loop-below-init c =
     let e = c.index-entry.result.now in
     let x = end_read r k c.from.result e c.requires.node c.from.ensures c.index-entry.ensures in
     let read = read_at r k c.from.result e c.requires.node c.from.ensures c.index-entry.ensures in
-    let own : phases_between acts k (k + 1) ≡ phase_at (act_of r.acts e.kind) =
-    phases_between-more acts k k (act_of r.acts e.kind) (omega arith) (act_at r k e read) ∙ ap (λ names. names ++ phase_at (act_of r.acts e.kind)) (none_between acts k) in (
+    let own = one_between acts k (act_of r.acts e.kind) (act_at r k e read) in (
       omega arith,
       omega (arith, x.2, some_count x.0.here),
       subst (λ names. IsSetOf r.acts.phases.items names c.own_set-set.result) (own_is r.acts r.kinds e.kind ∙ sym own) (c.own_set-set.ensures r.acts.phases.items c.requires.sets),
