@@ -25,7 +25,7 @@ fn read(path: &str) -> Result<String, String> {
     std::fs::read_to_string(path).map_err(|error| format!("{path}: {error}"))
 }
 
-/// What the documents come to: a text, and whether they are accepted.
+/// The verdict on the documents: a text, and whether they are accepted.
 type Verdict = (String, bool);
 
 /// Walks along the recipes one by one; gives the refusal of the first that breaks a rule.

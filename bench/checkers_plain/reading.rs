@@ -3,7 +3,7 @@
 use std::collections::{HashMap, HashSet};
 
 pub struct Cell {
-    /// Units first, then free modules, then what is shared. Their positions are their numbers.
+    /// Units first, then free modules, then shared resources. Their positions are their numbers.
     pub resources: Vec<String>,
     pub capacities: Vec<u32>,
     pub numbers: HashMap<String, usize>,
@@ -205,7 +205,7 @@ impl Cell {
     }
 }
 
-/// What the charts of a recipe name: acts by their tables, and values; and the numbers of phases that are run.
+/// The names that the charts of a recipe say: of acts, by their tables, and of values; and the numbers of phases that are run.
 struct Names<'a> {
     acts: [HashMap<&'a str, usize>; 3],
     values: HashSet<&'a str>,
@@ -298,7 +298,7 @@ fn read_task<'a>(
     })
 }
 
-/// What is left of a chart's text, and what its names mean.
+/// The rest of a chart's text, and the meanings of its names.
 struct ChartText<'a, 'n> {
     rest: &'a str,
     labels: &'n HashMap<&'a str, usize>,

@@ -27,7 +27,7 @@ pub struct Broken {
     pub place: String,
 }
 
-/// What was met on the paths of all recipes.
+/// The orders of asking that were met on the paths of all recipes.
 pub struct Found {
     /// Of each resource, which ones are asked for right after it, as bits.
     pub onward: Vec<Vec<u64>>,
@@ -35,7 +35,7 @@ pub struct Found {
     pub pairs: Option<HashMap<(usize, usize), (String, String)>>,
 }
 
-/// What a part of a chart runs.
+/// The phases that a part of a chart runs.
 #[derive(Clone, Copy, Default)]
 struct Runs {
     phases: [u64; 4],
@@ -63,7 +63,7 @@ struct Walk<'a> {
     recipe: &'a Recipe,
     ranks: Option<&'a [u32]>,
     found: &'a mut Found,
-    /// What is asked for on the way to here, and the unit on which phases run.
+    /// The resources that are asked for on the way to here, and the unit on which phases run.
     asked: Vec<usize>,
     unit: Option<usize>,
     place: Vec<usize>,

@@ -45,7 +45,7 @@ pub enum Reply {
     Refused(Refusal),
 }
 
-/// What a move does.
+/// The deed of a move.
 #[derive(Clone, Copy)]
 pub enum Deed {
     State(State),
@@ -65,7 +65,7 @@ pub struct BatchAct {
     pub node: usize,
 }
 
-/// What is done at an act; where the batch changes its state, at the root.
+/// A deed at an act; where the batch changes its state, at the root.
 #[derive(Clone, Copy)]
 pub struct Move {
     pub act: BatchAct,
@@ -94,7 +94,7 @@ impl Nodes {
     }
 }
 
-/// A batch, with its acts by what they can do next.
+/// A batch, with its acts by the steps that they can take next.
 struct Batch {
     recipe: usize,
     state: State,
@@ -158,7 +158,7 @@ impl Batch {
         }
     }
 
-    /// The act has ended, and gives back what it holds.
+    /// The act has ended, and gives back the needs that it holds.
     fn end(&mut self, recipe: &Recipe, node: usize) {
         let held = recipe.nodes[node].needs.len();
         self.counts[node] = held as u16;

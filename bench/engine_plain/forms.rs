@@ -70,7 +70,7 @@ pub struct Forms {
 }
 
 impl Forms {
-    /// What the text says, or the first line that says nothing.
+    /// The forms of the text, or the first line that says nothing.
     pub fn read(text: &str) -> Result<Forms, String> {
         let mut forms = Forms::default();
         // the nodes on the way from the root to the last one that was read

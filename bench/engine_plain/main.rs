@@ -1,6 +1,6 @@
 //! The plain engine beside which `bench/engine` times batchd: a worklist of batches that may have a move, and nothing proved.
 //!
-//! It is limited to what the bench has: recipes of `seq`, `par`, acts, phases and needs, without values, roles, `sel` or `loop`;
+//! It is limited to the parts that the bench has: recipes of `seq`, `par`, acts, phases and needs, without values, roles, `sel` or `loop`;
 //! the events `create`, `start`, `reset` and `report .. done`. On these it writes the record that batchd writes, byte for byte.
 //!
 //! ```text
@@ -51,7 +51,7 @@ fn serve(forms: &Forms) -> Result<(), Box<dyn Error>> {
     while input.read_line(&mut line)? > 0 {
         answer(&mut engine, &line, &mut record, |_| {})?;
         line.clear();
-        // what is written is handed on before the input is asked for more
+        // the written text is handed on before the input is asked for more
         if record.text.len() >= PIECE || input.buffer().is_empty() {
             out.write_all(&record.text)?;
             record.text.clear();

@@ -1,4 +1,4 @@
-/* Appends what one read of standard input brings to a file, syncs it, and answers each line: what any server with a journal does at least. */
+/* Appends the bytes of one read of standard input to a file, syncs it, and answers each line: the least work of any server with a journal. */
 #include <fcntl.h>
 #include <string.h>
 #include <unistd.h>

@@ -95,7 +95,7 @@ fn read_lines(mut input: File, desk: usize, texts: &SyncSender<Sent>) -> io::Res
     }
 }
 
-/// Writes the lines that come, and hands on what is written whenever none is there.
+/// Writes the lines that come, and hands on the written text whenever no line is there.
 fn write_lines(output: File, mut lines: Source<Vec<u8>>) -> io::Result<()> {
     let mut output = BufWriter::with_capacity(ROOM, output);
     loop {
@@ -111,7 +111,7 @@ fn write_lines(output: File, mut lines: Source<Vec<u8>>) -> io::Result<()> {
     }
 }
 
-/// Answers what comes, to its end: the answers to a text go to the record first.
+/// Answers the texts that come, to their end: the answers to a text go to the record first.
 fn echo(mut texts: Source<Sent>, desks: &[SyncSender<Vec<u8>>]) -> io::Result<()> {
     let mut record = BufWriter::new(io::stdout().lock());
     while let Some((desk, text)) = texts.next() {

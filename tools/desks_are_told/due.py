@@ -8,7 +8,7 @@ def text(lines):
 
 
 def due(record, name, unit):
-    """What the desk of this name, the link of a unit or of none, is due of the record's lines, by its comments."""
+    """The lines of the record that are due to the desk of this name, the link of a unit or of none, by the record's comments."""
     own = False
     for line in record:
         if line.startswith(b"# from "):

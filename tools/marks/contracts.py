@@ -1,4 +1,4 @@
-"""Reads the types, traits and functions of src/, and what a crate makes public."""
+"""Reads the types, traits and functions of src/, and the names that a crate makes public."""
 import re
 from dataclasses import dataclass, field
 from functools import cache
@@ -9,7 +9,7 @@ ITEM = re.compile(r"(?P<public>pub(?P<within>\([^)]*\))? )?(?:const (?=fn))?(?P<
 
 
 def blanked(text):
-    """The text with comments, attributes and what stands in quotes made blank."""
+    """The text with comments, attributes and texts in quotes made blank."""
     def blank(found):
         return re.sub(r"[^\n]", " ", found.group(0))
     text = re.sub(r'//[^\n]*|b?"(?:\\.|[^"\\])*"|b?\'(?:\\[^\'\n]+|[^\\\'\n])\'', blank, text, flags=re.S)
@@ -47,7 +47,7 @@ def use_tree(text, path=()):
 
 
 def split_outside(text):
-    """What stands between the commas that stand in no braces."""
+    """The parts between the commas that stand in no braces."""
     depth, part = 0, ""
     for sign in text:
         depth += (sign in "{([") - (sign in "})]")
@@ -61,7 +61,7 @@ def split_outside(text):
 
 @dataclass
 class Block:
-    """A type, a trait or an impl with what it says: its ghost items, its fields, its functions."""
+    """A type, a trait or an impl with its contents: its ghost items, its fields, its functions."""
     kind: str
     name: str
     of: str
@@ -133,7 +133,7 @@ def ghost_items(text):
 
 
 def without_ghosts(text):
-    """The fields of a type, without what it keeps."""
+    """The fields of a type, without the invariants that it keeps."""
     while found := re.search(r"\bghost \w+\s*:\s*(?=\{)", text):
         end = closing(text, text.index("{", found.end() - 1))
         by = re.compile(r"\s*by\s*(?=\{)").match(text, end + 1)
@@ -279,7 +279,7 @@ def types_in(text, crate, module):
 
 @cache
 def exported(crate):
-    """What a crate makes public, as pairs of a module and a name."""
+    """The names that a crate makes public, as pairs of a module and a name."""
     found, front = set(), [("lib", name) for name in modules()[crate, "lib"].exports] if (crate, "lib") in modules() else []
     lib = modules().get((crate, "lib"))
     if lib:
@@ -306,7 +306,7 @@ def is_public_type(it):
 
 @dataclass
 class Said:
-    """What the sources of src/ say: of each type what its value is and what it keeps, and each function."""
+    """The content of the sources of src/: of each type its value and the invariants that it keeps, and each function."""
     values: dict = field(default_factory=dict)
     kept: dict = field(default_factory=dict)
     functions: list = field(default_factory=list)

@@ -30,7 +30,7 @@ def of_source(path):
     plain = path.read_text(encoding="utf-8")
     shape = without_names(blanked(plain))
     contracts = contract_lines(shape)
-    # a line is code where something is left of it that is neither a comment nor a name of what is used
+    # a line is code where something is left of it that is neither a comment nor part of a `use` or a `mod`
     named = {at for it in NAMES.finditer(blanked(plain)) for at in range(plain.count("\n", 0, it.start()), plain.count("\n", 0, it.end()) + 1)}
     filled = {at for at, line in enumerate(plain.split("\n")) if line.strip() and not line.strip().startswith("//")} - named
     return len(filled - contracts), len(filled & contracts)

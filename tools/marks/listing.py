@@ -38,7 +38,7 @@ def counted(found):
 
 
 def headline():
-    """What docs/PROOF.md says of the headline's reach."""
+    """The sentences of docs/PROOF.md on the headline's reach."""
     found = reached_by_promise(tuple(PROMISES[-1][1]))
     records = reached_by_promise(("batch_safety::records_are_safe",))
     own = sorted({it.name for it in found if it.crate == "batch_engine"})

@@ -3,7 +3,7 @@ from counted import table
 from listing import headline, listing
 from sources import TOP
 
-# A page, the tool that its markers name, and what stands between them.
+# A page, the tool that its markers name, and the text between them.
 PARTS = [
     ("DEFINITIONS.md", "tools/definitions", listing),
     ("PROOF.md", "tools/lines", table),
@@ -16,7 +16,7 @@ def markers(tool):
 
 
 def stale():
-    """The pages that don't have what the tools print."""
+    """The pages that don't have the text that the tools print."""
     for page, tool, text in PARTS:
         begins, ends = markers(tool)
         if f"{begins}{text()}{ends}" not in (TOP / "docs" / page).read_text(encoding="utf-8"):

@@ -32,7 +32,7 @@ def functions_of(path):
 
 
 def reached_from(front):
-    """What these say, and what that says, and so on."""
+    """All that is reached from these names: the names that they say, the names that those say, and so on."""
     front, found = list(front), set()
     while front:
         it = front.pop()
@@ -107,7 +107,7 @@ def marks():
 
 
 def cites_rows():
-    """Who cites worked rows and is neither a row nor a law of rows, with what it cites."""
+    """Who cites worked rows and is neither a row nor a law of rows, with the rows that it cites."""
     for it, said in said_by_definitions().items():
         if not is_rows_name(it.file):
             yield from ((f"{it.crate}/specs/{it.file}: {it.name}", cited) for cited in definitions(said) if is_rows_name(cited.file))
@@ -120,7 +120,7 @@ def cites_rows():
 
 
 def used_first(files, found):
-    """These files in the order in which to read them: what is used before its user, and the lowest crate first."""
+    """These files in the order in which to read them: each before its users, and the lowest crate first."""
     order, uses = [], {it: set() for it in files}
     for it in found:
         for said in definitions(reached_from(said_by_definitions()[it])):

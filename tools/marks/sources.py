@@ -154,7 +154,7 @@ def specs():
 
 
 def target_of(path, name):
-    """What an imported name is: a definition, a type, or None where it is another library's or a constant."""
+    """The definition or the type of an imported name, or None where it is another library's or a constant."""
     if len(path) < 3 or path[1] != "specs" or path[0] not in own_crates():
         return None
     if path[2] == "declared":
@@ -179,7 +179,7 @@ def bound_names(text):
 
 
 def words_of(text, names, wholes, local, types=None):
-    """What the words of a text say, by the imports of its file and what the file itself has."""
+    """The definitions and types that the words of a text say, by the imports of its file and the names of the file itself."""
     text = re.sub(r'"(?:\\.|[^"\\])*"', '""', text)
     bound = bound_names(text)
     text = re.sub(r"([{;]\s*)[\w-]+ = ", r"\1", text)
@@ -204,7 +204,7 @@ def words_of(text, names, wholes, local, types=None):
 
 @cache
 def said_by_definitions():
-    """Of each definition what it says."""
+    """Of each definition the definitions and types that it says."""
     said = {}
     for spec in specs().values():
         local = {name: Definition(spec.crate, spec.name, owner) for name, owner in spec.owner.items()}
