@@ -5,8 +5,8 @@ use Rattle.std.proofs.lemmas.List.Sums.{get_or-le-sum_by}
 use Rattle.batch_arbiter.specs.declared.entry.Entry.{Entry}
 use Rattle.batch_arbiter.specs.declared.ends.Ends.{Ends}
 use Rattle.batch_arbiter.specs.Linked.{at, no_list, ends_at, claim_of, claims_from, claims_of, free, claim_in, marked, Leads, IsLinkedBy, IsLinked}
-use Rattle.batch_arbiter.proofs.Pooling.{joined_parts, joined_ends, joined, claims-joined, IsLinkedBy-step, claims-step}
-use Rattle.batch_arbiter.proofs.Leaving.{left_ends, taken, claims-taken, claims-first}
+use Rattle.batch_arbiter.proofs.PoolSteps.{joined_parts, joined_ends, joined, claims-joined, IsLinkedBy-step, claims-step}
+use Rattle.batch_arbiter.proofs.EntryRemoval.{left_ends, taken, claims-taken, claims-first}
 
 -- the list that is seen at k
 pub list-seen : (es : List Entry) (ls : List Ends) (k : ℕ) → k < length ls → get_or (map (claims_of es) ls) k [] ≡ claims_of es (ends_at ls k)

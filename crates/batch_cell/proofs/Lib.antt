@@ -2,5 +2,5 @@ pub mod Resources
 pub mod Positions
 pub mod OfferedPhases
 pub mod Candidates
-pub mod Distinct
+pub mod DistinctNames
 pub mod ResourceNames

@@ -27,7 +27,7 @@ use Rattle.batch_chart.specs.Outlined.{kind_at, kind_by, kind_of}
 use Rattle.batch_chart.specs.declared.node.Kind.{Kind}
 use Rattle.batch_chart.specs.declared.node.Kind.TheVariants.{Skip, Act as act_kind, Seq, Par, Sel, Loop}
 use Rattle.batch_chart.specs.declared.node.Kind.TheVariants as kind
-use Rattle.batch_chart.proofs.Units.{found_passes}
+use Rattle.batch_chart.proofs.FoundElement.{found_passes}
 
 -- a loop has few turns
 abbrev IsFew : Kind → Type 0

@@ -6,7 +6,7 @@ use Rattle.batch_model.specs.Plant.{Setup, Batch, Plant}
 use Rattle.batch_model.specs.Rest.{Rest, ready, asking, open_act, live, freeing, in_seq, in_par, in_loop, done, acts}
 use Rattle.batch_model.specs.Moves.{Move, act_move, state_move, batch_moves}
 use Rattle.batch_chart.specs.OwnMoves.{own_move, own_moves, own_next, grant_move, grants}
-use Rattle.batch_step_laws.proofs.Ordering.{none_least}
+use Rattle.batch_step_laws.proofs.MoveOrder.{none_least}
 
 module _ (c : Setup) (s : Plant) (b : Batch) where
   abbrev Alone : List Rest → Type 0

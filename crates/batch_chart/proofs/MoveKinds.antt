@@ -15,7 +15,7 @@ use Rattle.batch_model.specs.Moves.{Move, send, begin, start, end, ask, release,
 use Rattle.batch_chart.specs.NodesOf.{no_need}
 use Rattle.batch_chart.specs.Noting.{gives}
 use Rattle.batch_chart.specs.OwnMoves.{own_move, is_kind}
-use Rattle.batch_chart.proofs.NodesStand.{get-or}
+use Rattle.batch_chart.proofs.NodesAtNumbers.{get-or}
 
 abbrev pub kind_in : ℕ → Option Move → Bool
 kind_in n None = false

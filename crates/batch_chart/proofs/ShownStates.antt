@@ -8,7 +8,7 @@ use Rattle.batch_matrix.specs.declared.state.State.TheVariants.{Idle}
 use Rattle.batch_matrix.specs.Matrix.{same_state}
 use Rattle.batch_recipe.specs.Nodes.{node_count}
 use Rattle.batch_recipe.specs.Tree.{Place, Step, Task, runs, follows, Tree, act, skip, seq, par, sel, loop, Trees, no_trees, tree, Choices, otherwise, choice}
-use Rattle.batch_recipe.proofs.Order.{in_order}
+use Rattle.batch_recipe.proofs.NodeOrder.{in_order}
 use Rattle.batch_model.specs.ActStates.{root, steps, act_state, state_in}
 use Rattle.batch_model.specs.Lists.{Has}
 use Rattle.batch_model.specs.Moves.{is_empty}
@@ -16,7 +16,7 @@ use Rattle.batch_model.proofs.Members.{Has-split}
 use Rattle.batch_model.specs.Plant.{Batch, phase_states}
 use Rattle.batch_model.specs.Rest.{same_place, Rest, live, acts, is_done, place_of}
 use Rattle.batch_recipe.specs.declared.entry.Entry.{Entry}
-use Rattle.batch_recipe.proofs.Below.{some_count}
+use Rattle.batch_recipe.proofs.NodeSubtrees.{some_count}
 use Rattle.batch_chart.specs.declared.node.Kind.{Kind}
 use Rattle.batch_chart.specs.declared.node.Kind.TheVariants as kind
 use Rattle.batch_recipe.specs.declared.recipe.Recipe.{Recipe}
@@ -36,20 +36,20 @@ use Rattle.batch_chart.specs.NodesOf.{nodes_of, node_at, place_at}
 use Rattle.batch_chart.specs.Nexts.{SomeNoted}
 use Rattle.batch_chart.specs.Running.{IsActTree, IsLaid}
 use Rattle.batch_chart.specs.Showing.{is_among, shown_by, StandsBelow, IsFirstShown, IsShown, IsStateAt}
-use Rattle.batch_chart.proofs.Found.{nothing, numbered-acts}
-use Rattle.batch_chart.proofs.Giving.{below-told, below-first}
-use Rattle.batch_chart.proofs.Named.{entry-or-not}
-use Rattle.batch_chart.proofs.Picking.{noted-alike, other-number}
-use Rattle.batch_chart.proofs.Sought.{Says, any_live, live_as, said-live, said-in, live-shows, open-shows}
-use Rattle.batch_signs.proofs.Wanting.{tells-none, nothing-shown}
-use Rattle.batch_chart.proofs.Gravest.{gravest_states, gravest-is}
-use Rattle.batch_chart.proofs.Joining.{live-nothing, no-live, known}
-use Rattle.batch_chart.proofs.Live.{live-known}
-use Rattle.batch_chart.proofs.NodesStand.{node-got, node-stands}
-use Rattle.batch_chart.proofs.Numbering.{told, has-entry, if-begun, either, if-turning}
-use Rattle.batch_chart.proofs.StepsOf.{steps-of, own_step, step_in, unreached, step-found}
-use Rattle.batch_chart.proofs.Stepping.{Fits, entry-at, entry-undone, act-place}
-use Rattle.batch_chart.proofs.Waiting.{carries}
+use Rattle.batch_chart.proofs.NumberedActs.{nothing, numbered-acts}
+use Rattle.batch_chart.proofs.ReleaseOnStop.{below-told, below-first}
+use Rattle.batch_chart.proofs.LivePhaseSigns.{entry-or-not}
+use Rattle.batch_chart.proofs.SignSearch.{noted-alike, other-number}
+use Rattle.batch_chart.proofs.SignTests.{Says, any_live, live_as, said-live, said-in, live-shows, open-shows}
+use Rattle.batch_signs.proofs.WantedSigns.{tells-none, nothing-shown}
+use Rattle.batch_chart.proofs.GravestState.{gravest_states, gravest-is}
+use Rattle.batch_chart.proofs.NextMoves.{live-nothing, no-live, known}
+use Rattle.batch_chart.proofs.LivePhase.{live-known}
+use Rattle.batch_chart.proofs.NodesAtNumbers.{node-got, node-stands}
+use Rattle.batch_chart.proofs.NodeNumbers.{told, has-entry, if-begun, either, if-turning}
+use Rattle.batch_chart.proofs.ActsByPlace.{steps-of, own_step, step_in, unreached, step-found}
+use Rattle.batch_chart.proofs.ChartChange.{Fits, entry-at, entry-undone, act-place}
+use Rattle.batch_chart.proofs.FirstInLine.{carries}
 
 flip : (a b : Bool) → not a ≡ b → a ≡ not b
 flip a b e = grind arith

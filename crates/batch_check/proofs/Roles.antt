@@ -10,8 +10,8 @@ use Rattle.batch_check.specs.Edges.{Follows, Joins, has_pair}
 use Rattle.batch_check.specs.Joining.{AreBelow}
 use Rattle.batch_check.specs.Pairs.{ArePaired}
 use Rattle.batch_check.specs.Takings.{resource_for}
-use Rattle.batch_check.proofs.Joins.{Contains-at}
-use Rattle.batch_check.proofs.Rising.{edge_of}
+use Rattle.batch_check.proofs.EdgesFromNeeds.{Contains-at}
+use Rattle.batch_check.proofs.RanksAlongPaths.{edge_of}
 
 -- Resources that numbers stand for
 

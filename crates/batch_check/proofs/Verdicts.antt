@@ -16,7 +16,7 @@ use Rattle.batch_model.specs.Recipes.{recipe_of}
 use Rattle.std.proofs.lemmas.List.{length-map, take_more}
 use Rattle.std.proofs.lemmas.Option.{get_or_from_slice_get, slice_get_read, slice_get-map}
 use Rattle.batch_model.proofs.Members.{Each-append, Each-map}
-use Rattle.batch_model.proofs.Parts.{parts-nodes}
+use Rattle.batch_model.proofs.TreeParts.{parts-nodes}
 use Rattle.batch_verify.specs.Refusals.{rank_in, IsSound, Breaks, IsFirstBroken, IsTried, IsTriedFor}
 use Rattle.batch_verify.specs.Verifying.{IsRecipeSet}
 use Rattle.batch_verify.specs.declared.rule.Rule.{Rule}
@@ -26,10 +26,10 @@ use Rattle.batch_check.specs.declared.fault.CheckFault.TheVariants.{Recipes, Rec
 use Rattle.batch_check.specs.Checking.{IsSoundMaster}
 use Rattle.batch_check.specs.Finding.{IsRecipeFault, IsCircleFault, AreLeastRanks}
 use Rattle.batch_check.specs.Clearing.{NeedResources, RiseAlongPaths, IsLeastClearance}
-use Rattle.batch_check.proofs.Rising.{Each-get, nodes-Each, parts_hold, cleared_rises, circle_leaves_none}
+use Rattle.batch_check.proofs.RanksAlongPaths.{Each-get, nodes-Each, parts_hold, cleared_rises, circle_leaves_none}
 use Rattle.batch_verify.specs.Bindings.{nobody}
-use Rattle.batch_verify.proofs.Served.{served_is_tried, tried_serves}
-use Rattle.batch_verify.proofs.Serving.{has_candidates}
+use Rattle.batch_verify.proofs.ServedRoles.{served_is_tried, tried_serves}
+use Rattle.batch_verify.proofs.RecipeClearance.{has_candidates}
 
 -- A fault leaves no clearance
 

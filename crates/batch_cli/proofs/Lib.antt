@@ -2,4 +2,4 @@ pub mod Arguments
 pub mod Faults
 pub mod CommandRows
 pub mod Numbers
-pub mod Steps
+pub mod TableEntries

@@ -9,7 +9,7 @@ use Rattle.batch_desk.specs.HubState.{HasGrown, HubState, outlines}
 use Rattle.batch_desk.specs.HubDone.{AreComplete, IsComplete}
 use Rattle.batch_desk.specs.PortState.{outline}
 use Rattle.batch_desk.specs.Turns.{Grows}
-use Rattle.batch_desk.proofs.Lists.{map-same_length}
+use Rattle.batch_desk.proofs.ListImages.{map-same_length}
 
 pub prefix_same : {X : Type 0} (xs : List X) → IsPrefix xs xs
 prefix_same xs = ([], append-nil xs)

@@ -6,7 +6,7 @@ use mathlib.Core.List.{map-map}
 use Rattle.batch_model.specs.Plant.{Plant, opening}
 use Rattle.batch_model.specs.Moves.{next, after}
 use Rattle.batch_model.specs.Runs.{Leads}
-use Rattle.batch_step_laws.proofs.Leading.{Leads-move, Leads-reply}
+use Rattle.batch_step_laws.proofs.RecordGrowth.{Leads-move, Leads-reply}
 use Rattle.batch_verify.specs.ClearedSet.{ClearedSet}
 use Rattle.batch_engine.specs.View.{EngineView, setup, plant_of}
 use Rattle.batch_engine.specs.Answered.{IsAnswered}
@@ -22,8 +22,8 @@ use Rattle.batch_desk.specs.HubState.{HubState, IsHub, IsEngineSettled, events_i
 use Rattle.batch_desk.specs.Turns.{Grows}
 use Rattle.batch_desk.specs.TurnSteps.{AnswersOne}
 use Rattle.batch_desk.proofs.Replies.{replies, replies-led}
-use Rattle.batch_desk.proofs.EachPort.{ports_step, ports_mapped, ports_roomless, roomless}
-use Rattle.batch_desk.proofs.Steps.{reply_own, reply_other, line_told, line_outline}
+use Rattle.batch_desk.proofs.HubPorts.{ports_step, ports_mapped, ports_roomless, roomless}
+use Rattle.batch_desk.proofs.PortChanges.{reply_own, reply_other, line_told, line_outline}
 
 events_in-append : (h : List (ℕ × Event)) (e : ℕ × Event) → events_in (h ++ e ∷ []) ≡ events_in h ++ event_of e.1 ∷ []
 events_in-append h e = map_push (λ (entry : ℕ × Event). event_of entry.1) h e

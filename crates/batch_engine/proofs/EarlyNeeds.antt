@@ -11,11 +11,11 @@ use Rattle.batch_model.specs.Lists.{Has}
 use Rattle.batch_model.specs.Plant.{InAdvance}
 use Rattle.batch_model.specs.Rest.{Rest, ready, asking, open_act, live, freeing, in_seq, in_par, in_loop, done, Rests, no_rests, rest}
 use Rattle.batch_model.specs.Standing.{IsRestOf, IsRestBelow, IsBranch, AreBranches, IsChosen, after_branch, due, due_in_each, IsAwaited}
-use Rattle.batch_record_laws.proofs.Alike.{StandApart}
-use Rattle.batch_record_laws.proofs.Facts.{facts, facts_of_each, held_at, awaited_at, performing}
+use Rattle.batch_record_laws.proofs.SameFacts.{StandApart}
+use Rattle.batch_record_laws.proofs.PlantFacts.{facts, facts_of_each, held_at, awaited_at, performing}
 use Rattle.batch_chart.specs.NodesOf.{own_needs, own_units, most_by, most_below, most_of_one, most_of_all, most_of_chosen, needs_in}
-use Rattle.batch_engine.proofs.Bounded.{weights, join, held}
-use Rattle.batch_engine.proofs.Counting.{Once, pigeons}
+use Rattle.batch_engine.proofs.ShareCount.{weights, join, held}
+use Rattle.batch_engine.proofs.DistinctElements.{Once, pigeons}
 
 -- No more unit procedures are due than may hold their units in advance
 

@@ -28,7 +28,7 @@ use Rattle.batch_verify.specs.ClearedSet.{ClearedSet}
 use Rattle.batch_chart.specs.NodesOf.{most_by, most_below, most_of_all, most_of_chosen, most_of_one, needs_in, own_needs, own_units}
 use Rattle.batch_engine.specs.declared.batch.Batch.{Batch}
 use Rattle.batch_engine.specs.Kept.{needs_of_all}
-use Rattle.batch_engine.proofs.AlikeNodes.{count-alike}
+use Rattle.batch_engine.proofs.NodesAcrossBindings.{count-alike}
 use Rattle.batch_engine.specs.View.{EngineView, batch_of, bound_to, setup, no_recipe, plant_of, tree_at, tree_of}
 
 -- an act needs at most 16 resources beside its unit and the four that it reserves, so the acts of a tree need at most 21 a node

@@ -25,8 +25,8 @@ use Rattle.batch_recipe.specs.declared.recipe.Recipe.{Recipe}
 use Rattle.batch_recipe.proofs.NodeActs.{procedure_acts_are}
 use Rattle.batch_model.specs.Moves.{handed_values}
 use Rattle.batch_engine.specs.Names.{handed_in, handed_of, node_of}
-use Rattle.batch_engine.proofs.AlikeNodes.{no_handed}
-use Rattle.batch_chart.proofs.Units.{found_passes}
+use Rattle.batch_engine.proofs.NodesAcrossBindings.{no_handed}
+use Rattle.batch_chart.proofs.FoundElement.{found_passes}
 
 -- each name beside its value
 pub zip-values : (vs : ValueList) (ns : List Name) (xs : List ℕ) → length ns ≤ length xs → ((k : ℕ) → k < length ns → get_or xs k 0 ≡ value_or_0 vs (get_or ns k [])) → zip ns xs ≡ handed_values vs ns

@@ -23,12 +23,12 @@ use Rattle.batch_engine.specs.declared.line.Line.{Line}
 use Rattle.batch_engine.specs.declared.reply.Reply.{Reply}
 use Rattle.batch_engine.specs.declared.step.Step.{Step}
 use Rattle.batch_engine.proofs.BatchPlaces.{Has-batch_of}
-use Rattle.batch_engine.proofs.Finding.{Has-get, known-resource}
-use Rattle.batch_engine.proofs.Made.{same-next}
-use Rattle.batch_engine.proofs.Making.{same-number}
-use Rattle.batch_engine.proofs.Noted.{live-noted, move-noted, noted-length, reply-noted}
-use Rattle.batch_engine.proofs.Told.{down}
-use Rattle.batch_engine.proofs.Unmarked.{found-nowhere, found-there, number-named, same-count, step-move}
+use Rattle.batch_engine.proofs.BatchLookups.{Has-get, known-resource}
+use Rattle.batch_engine.proofs.EngineAfterMove.{same-next}
+use Rattle.batch_engine.proofs.BatchAfterMove.{same-number}
+use Rattle.batch_engine.proofs.HolderNotes.{live-noted, move-noted, noted-length, reply-noted}
+use Rattle.batch_engine.proofs.RecordOfPlant.{down}
+use Rattle.batch_engine.proofs.BatchMarks.{found-nowhere, found-there, number-named, same-count, step-move}
 
 -- a name of capacity 1 is a resource's
 known-capacity : (c : ClearedSet) (name : Name) → (setup c).capacity name ≡ 1 → (q : ℕ) × (number_of c name ≡ Some q)

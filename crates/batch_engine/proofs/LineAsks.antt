@@ -20,17 +20,17 @@ use Rattle.batch_record_laws.proofs.Members.{map-Has}
 use Rattle.batch_arbiter.specs.Allocation.{AsksAtMost, Claim, asks_of, is_claim, is_of_batch, line_of, resource_count}
 use Rattle.batch_chart.specs.NodesOf.{need_at, no_need, place_at}
 use Rattle.batch_chart.specs.Charts.{remains}
-use Rattle.batch_chart.proofs.ActsOf.{asking-at}
+use Rattle.batch_chart.proofs.ActsAtNodes.{asking-at}
 use Rattle.batch_chart.proofs.MoveKinds.{less}
 use Rattle.batch_engine.specs.declared.batch.Batch.{Batch}
 use Rattle.batch_engine.specs.Kept.{IsKept}
 use Rattle.batch_engine.specs.View.{EngineView, act_of, batch_of, line_at, names_of, number_of, plant_of, share_of, tree_of}
 use Rattle.batch_engine.proofs.BatchPlaces.{Has-batch_of}
-use Rattle.batch_engine.proofs.Finding.{asks_here, batch-runs, claim-act, has, known-resource, same-need, tree-placed}
+use Rattle.batch_engine.proofs.BatchLookups.{asks_here, batch-runs, claim-act, has, known-resource, same-need, tree-placed}
 use Rattle.batch_engine.proofs.Nodes.{same-node}
 use Rattle.batch_engine.proofs.RoomForAsk.{number-at}
-use Rattle.batch_engine.proofs.Told.{standing, told}
-use Rattle.batch_arbiter.proofs.Cells.{length-capacities}
+use Rattle.batch_engine.proofs.RecordOfPlant.{standing, told}
+use Rattle.batch_arbiter.proofs.CellCapacities.{length-capacities}
 use Rattle.batch_signs.proofs.Bits.{within-or_past}
 
 -- Claims that pass a test

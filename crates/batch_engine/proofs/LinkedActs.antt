@@ -25,7 +25,7 @@ use Rattle.batch_verify.specs.ClearedSet.{ClearedSet}
 use Rattle.batch_chart.specs.NodesOf.{node_at, phase_in, phase_named, task_of, need_at, no_need, no_phase, step_at}
 use Rattle.batch_chart.specs.Outlined.{entry_at, kind_at, kind_by, kind_of, phase_name, unit_choice, unit_name, unit_under, StandsOn}
 use Rattle.batch_chart.specs.Outlined as Outlined
-use Rattle.batch_chart.proofs.NodesStand.{stands-at}
+use Rattle.batch_chart.proofs.NodesAtNumbers.{stands-at}
 use Rattle.batch_set.specs.Linking.{IsLinked, IsLinkedSet, run_phase}
 use Rattle.batch_set.specs.Looked.{needs_by, number_for, phase_on, unit_by}
 use Rattle.batch_set.specs.Sources.{IsSource, SayNeeds}
@@ -46,11 +46,11 @@ use Rattle.batch_engine.specs.View.{EngineView, bound_to, number_of, recipe_made
 use Rattle.batch_engine.specs.declared.batch.Batch.{Batch}
 use Rattle.batch_engine.specs.declared.phase_number.PhaseNumber.{PhaseNumber}
 use Rattle.batch_engine.specs.declared.phase_number.TheConstants.{NO_PHASE}
-use Rattle.batch_engine.proofs.Finding.{batch-runs, chart-for, is-control}
-use Rattle.batch_engine.proofs.Numbered.{need-numbered, node-named, nothing-named, phase-among, phase-named, unit-named, unit-number}
-use Rattle.batch_engine.proofs.ActsHere.{act-here}
-use Rattle.batch_engine.proofs.Taken.{source-number, unit-numbers}
-use Rattle.batch_engine.proofs.Telling.{tree-is}
+use Rattle.batch_engine.proofs.BatchLookups.{batch-runs, chart-for, is-control}
+use Rattle.batch_engine.proofs.NumbersOfNames.{need-numbered, node-named, nothing-named, phase-among, phase-named, unit-named, unit-number}
+use Rattle.batch_engine.proofs.ActsAtNodes.{act-here}
+use Rattle.batch_engine.proofs.UnitNumbers.{source-number, unit-numbers}
+use Rattle.batch_engine.proofs.MoveLines.{tree-is}
 
 -- The contents of an entry
 

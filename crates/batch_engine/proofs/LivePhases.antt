@@ -5,7 +5,7 @@ use Rattle.batch_matrix.specs.declared.state.State.{State}
 use Rattle.batch_recipe.specs.Conditions.{Name, same_name}
 use Rattle.batch_recipe.specs.Nodes.{Node, node_count}
 use Rattle.batch_recipe.specs.Tree.{Tree, skip}
-use Rattle.batch_recipe.proofs.Order.{counted_nodes}
+use Rattle.batch_recipe.proofs.NodeOrder.{counted_nodes}
 use Rattle.batch_model.specs.Events.{LivePhase, live_in}
 use Rattle.batch_model.specs.Plant as Model
 use Rattle.batch_model.specs.Rest.{Rest}

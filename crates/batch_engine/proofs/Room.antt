@@ -12,7 +12,7 @@ use Rattle.batch_engine.specs.declared.batch.Batch.{Batch}
 use Rattle.batch_engine.specs.View.{EngineView, tree_at, tree_of}
 use Rattle.batch_engine.specs.Kept.{needs_of_all, HasRoom}
 use Rattle.batch_engine.proofs.BatchPlaces.{made_by}
-use Rattle.batch_engine.proofs.Stepping.{changed}
+use Rattle.batch_engine.proofs.InvariantAfterMove.{changed}
 
 -- a changed batch of the same recipe and units has the same needs
 pub needs-same : (c : ClearedSet) (bs : List Batch) (i : ℕ) (b b' : Batch) → slice_get bs i ≡ Some b → made_by b' ≡ made_by b → needs_of_all c (set bs i b') ≡ needs_of_all c bs

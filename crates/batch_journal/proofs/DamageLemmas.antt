@@ -13,7 +13,7 @@ use Rattle.batch_journal.specs.Recovery.{IsDamaged, CrashIsNoDamage, closings, r
 use Rattle.batch_journal.proofs.GroupLemmas.{bool_cases, go_on}
 use Rattle.batch_journal.proofs.LineLemmas.{reads_lines, text_both, are_whole_lines}
 use Rattle.batch_journal.proofs.JournalLemmas.{whole_behind, groups_behind}
-use Rattle.batch_journal.proofs.ClosingLemmas.{closings_both, one_closing}
+use Rattle.batch_journal.proofs.ClosingLines.{closings_both, one_closing}
 use Rattle.batch_journal.proofs.RecoveryLemmas.{not_both}
 
 -- Lines that close groups, in a text and in a part of it

@@ -15,5 +15,5 @@ pub mod ReaderLemmas
 mod GivenLemmas
 mod DamageLemmas
 mod DigestLemmas
-pub mod TakenLemmas
+pub mod FilesWithoutRefusal
 mod RecoveryRowsHold

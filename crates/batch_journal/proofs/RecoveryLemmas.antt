@@ -9,13 +9,13 @@ use Rattle.batch_journal.specs.Groups.{taken, is_left}
 use Rattle.batch_journal.specs.Journals.{journal_format, header, groups_in, recovered, IsClosed, IsJournal}
 use Rattle.batch_journal.specs.Recovery.{IsTakenTo, IsUnbegun, KeepsLines, StandsTo, IsDamaged, ClosesTwice, closing_count, raw_lines}
 use Rattle.batch_journal.proofs.CrashLemmas.{leaves_all}
-use Rattle.batch_journal.proofs.MomentLemmas.{started, goes_on}
+use Rattle.batch_journal.proofs.RunsOfCalls.{started, goes_on}
 use Rattle.std.proofs.lemmas.Bool.{cases_lt}
 use Rattle.std.proofs.lemmas.Bool.Decides.{Decides-eqb}
 use Rattle.std.proofs.lemmas.Slice.Eq.{starts_is}
 use Rattle.batch_journal.proofs.GroupLemmas.{bool_cases, none_taken_first, nothing_taken, left_wrong}
 use Rattle.batch_journal.proofs.JournalLemmas.{recovered_behind, closed_start, lines_behind}
-use Rattle.batch_journal.proofs.ClosingLemmas.{lines_front}
+use Rattle.batch_journal.proofs.ClosingLines.{lines_front}
 
 -- Fronts
 

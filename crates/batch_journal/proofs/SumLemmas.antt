@@ -13,7 +13,7 @@ use Rattle.batch_journal.specs.Lines.{IsLine}
 use Rattle.batch_journal.specs.Journals.{closing_mark, closing_start, is_time, journal_format}
 use Rattle.batch_journal.specs.Writing.{closing_line}
 use Rattle.batch_journal.proofs.LineLemmas.{line_more}
-use Rattle.batch_journal.proofs.WholeEnd.{is_not}
+use Rattle.batch_journal.proofs.LastWholeLine.{is_not}
 
 pub line_both : (a b : List ℕ) → IsLine a → IsLine b → IsLine (a ++ b)
 line_both [] b is others = others

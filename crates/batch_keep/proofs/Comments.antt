@@ -18,8 +18,8 @@ use Rattle.batch_wire.specs.declared.fault.WireFault.TheVariants.{TooLong}
 use Rattle.batch_journal.specs.Groups.{taken, last_sum, at_rest}
 use Rattle.batch_journal.specs.Journals.{journal_format, closing_start, is_time, next_sum, header, groups_in, recovered, IsJournal}
 use Rattle.batch_journal.specs.Lines.{IsLine, AreLines, text_of, whole_lines}
-use Rattle.batch_keep.proofs.Telling.{lines_of_text, no_last}
-use Rattle.batch_serve.proofs.CleanLemmas.{strip_within_if}
+use Rattle.batch_keep.proofs.AnswersToLines.{lines_of_text, no_last}
+use Rattle.batch_serve.proofs.JournalLines.{strip_within_if}
 
 -- Comments
 

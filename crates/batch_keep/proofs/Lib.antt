@@ -3,10 +3,10 @@ mod Again
 mod Comments
 mod CountedLines
 mod Blocks
-pub mod Beginning
+pub mod StartOverJournal
 mod StartWords
 mod DesksAgain
-pub mod ComparingLemmas
-pub mod Choices
-pub mod Freedom
-pub mod Audited
+pub mod RecordComparison
+pub mod LineOutcomes
+pub mod MemoryRefusals
+pub mod AuditSteps

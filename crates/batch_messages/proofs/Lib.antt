@@ -1,4 +1,4 @@
-pub mod Said
-pub mod ActNames
+pub mod WordsByNumber
+pub mod ActsAtNodes
 mod ToldCircles
-pub mod Found
+pub mod ExplanationCodes

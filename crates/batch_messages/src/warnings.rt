@@ -78,7 +78,7 @@ fn warning_said(
     }
 }
 
-#[tactic(auto, using(crate::proofs::Said::said_found, crate::proofs::Said::said_past))]
+#[tactic(auto, using(crate::proofs::WordsByNumber::said_found, crate::proofs::WordsByNumber::said_past))]
 fn module_said(alloc: Global, cell: &Cell, unit: usize) -> Result<String, AllocError>
     ensures { IfOk result (λ said. string_bytes said ≡ said_at module_said cell.now.units.items unit) }
 {
@@ -91,7 +91,7 @@ fn module_said(alloc: Global, cell: &Cell, unit: usize) -> Result<String, AllocE
     }
 }
 
-#[tactic(auto, using(crate::proofs::Said::said_found, crate::proofs::Said::said_past))]
+#[tactic(auto, using(crate::proofs::WordsByNumber::said_found, crate::proofs::WordsByNumber::said_past))]
 fn unnamed_said(
     alloc: Global,
     acts: &Acts,
@@ -117,7 +117,7 @@ fn kind_said(table: LabelTable) -> &'static str
     }
 }
 
-#[tactic(auto, using(crate::proofs::Said::said_found, crate::proofs::Said::said_past))]
+#[tactic(auto, using(crate::proofs::WordsByNumber::said_found, crate::proofs::WordsByNumber::said_past))]
 fn range_said(
     alloc: Global,
     table: QuantityTable,
@@ -163,7 +163,7 @@ fn value_said(table: QuantityTable) -> &'static str
     }
 }
 
-#[tactic(auto, using(crate::proofs::Said::said_found, crate::proofs::Said::said_past))]
+#[tactic(auto, using(crate::proofs::WordsByNumber::said_found, crate::proofs::WordsByNumber::said_past))]
 fn output_said(alloc: Global, recipe: &Recipe, output: usize) -> Result<String, AllocError>
     ensures { IfOk result (λ said. string_bytes said ≡ said_at output_said recipe.now.outputs.items output) }
 {
@@ -175,7 +175,7 @@ fn output_said(alloc: Global, recipe: &Recipe, output: usize) -> Result<String, 
     }
 }
 
-#[tactic(auto, using(crate::proofs::Said::said_found, crate::proofs::Said::said_past))]
+#[tactic(auto, using(crate::proofs::WordsByNumber::said_found, crate::proofs::WordsByNumber::said_past))]
 fn role_said(alloc: Global, recipe: &Recipe, role: usize) -> Result<String, AllocError>
     ensures { IfOk result (λ said. string_bytes said ≡ said_at role_said recipe.now.roles.items role) }
 {
@@ -185,7 +185,7 @@ fn role_said(alloc: Global, recipe: &Recipe, role: usize) -> Result<String, Allo
     }
 }
 
-#[tactic(auto, using(crate::proofs::Said::said_found, crate::proofs::Said::said_past))]
+#[tactic(auto, using(crate::proofs::WordsByNumber::said_found, crate::proofs::WordsByNumber::said_past))]
 fn scaled_said(alloc: Global, recipe: &Recipe, parameter: usize) -> Result<String, AllocError>
     ensures { IfOk result (λ said. string_bytes said ≡ said_at scaled_said recipe.now.parameters.items parameter) }
 {

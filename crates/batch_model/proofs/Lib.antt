@@ -1,4 +1,4 @@
 pub mod Members
-pub mod Parts
-pub mod Exclusive
+pub mod TreeParts
+pub mod ExclusiveUnits
 pub mod Bindings

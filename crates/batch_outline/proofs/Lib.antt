@@ -1,3 +1,3 @@
-pub mod Placed
-pub mod Walked
-pub mod Branching
+pub mod LineSeats
+pub mod LinesOfNodes
+pub mod BranchLines

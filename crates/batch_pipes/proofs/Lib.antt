@@ -1,8 +1,8 @@
 pub mod Lists
 pub mod Rings
-pub mod InputsKept
-pub mod OutputsKept
-pub mod Keeping
-pub mod Serviced
-pub mod RingsMade
-pub mod Streaming
+pub mod ReaderMessages
+pub mod WriterOutputs
+pub mod DeskChanges
+pub mod ServiceRounds
+pub mod DeskRings
+pub mod ThreadStreams

@@ -10,7 +10,7 @@ use std::alloc::Global;
 use std::io::Write;
 
 /// Cuts a desk whose input or output failed.
-#[tactic(auto, using(crate::proofs::Keeping::kept_twice))]
+#[tactic(auto, using(crate::proofs::DeskChanges::kept_twice))]
 pub(crate) fn cut_if_failed(
     desk: &mut Desk,
     own: &mut DeskThreads,
@@ -27,7 +27,7 @@ pub(crate) fn cut_if_failed(
 }
 
 /// Cuts a desk for a fault, if there is one.
-#[tactic(auto, using(crate::proofs::Keeping::kept_as_it_is))]
+#[tactic(auto, using(crate::proofs::DeskChanges::kept_as_it_is))]
 fn cut_for(desk: &mut Desk, own: &mut DeskThreads, fault: Option<PipeFault>)
     ensures { IsDeskKept desk.old desk.new }
 {
@@ -37,7 +37,7 @@ fn cut_for(desk: &mut Desk, own: &mut DeskThreads, fault: Option<PipeFault>)
 }
 
 /// Cuts a desk, unless it is cut already.
-#[tactic(auto, using(crate::proofs::Keeping::kept_as_it_is, crate::proofs::Keeping::kept_but_cut))]
+#[tactic(auto, using(crate::proofs::DeskChanges::kept_as_it_is, crate::proofs::DeskChanges::kept_but_cut))]
 fn cut(desk: &mut Desk, own: &mut DeskThreads, fault: PipeFault)
     ensures { IsDeskKept desk.old desk.new }
 {
@@ -50,7 +50,7 @@ fn cut(desk: &mut Desk, own: &mut DeskThreads, fault: PipeFault)
 }
 
 /// Cuts a desk whose output takes nothing for long, at the end of serving.
-#[tactic(auto, using(crate::proofs::Keeping::kept_as_it_is))]
+#[tactic(auto, using(crate::proofs::DeskChanges::kept_as_it_is))]
 pub(crate) fn cut_if_stalled(desk: &mut Desk, own: &mut DeskThreads, ends: bool)
     ensures { IsDeskKept desk.old desk.new }
 {

@@ -5,7 +5,7 @@ use batch_serve::{Desk, Line, Writer};
 use rtrb::Consumer;
 
 /// Drops the lines queued for a desk that has no output.
-#[tactic(auto, using(crate::proofs::Keeping::handed_nothing))]
+#[tactic(auto, using(crate::proofs::DeskChanges::handed_nothing))]
 pub(crate) fn drop_unseen(desk: &mut Desk, unseen: &mut Option<Consumer<Line>>, writer: &mut Writer)
     ensures { IsHandedOn desk.old desk.new writer.old writer.new }
 {
@@ -14,7 +14,7 @@ pub(crate) fn drop_unseen(desk: &mut Desk, unseen: &mut Option<Consumer<Line>>, 
     }
 }
 
-#[tactic(auto, using(crate::proofs::Keeping::handed_nothing))]
+#[tactic(auto, using(crate::proofs::DeskChanges::handed_nothing))]
 fn drop_all(desk: &mut Desk, writer: &mut Writer, ring: &mut Consumer<Line>)
     ensures { IsHandedOn desk.old desk.new writer.old writer.new }
 {

@@ -296,7 +296,7 @@ fn open_output<
 }
 
 /// The output of this path, with the thread that writes it.
-#[tactic(auto, using(crate::proofs::OutputsKept::output_started))]
+#[tactic(auto, using(crate::proofs::WriterOutputs::output_started))]
 fn write_output<
     T: Threads,
     W: Write + Send + Drop + 'static,
@@ -346,7 +346,7 @@ fn write_output<
 }
 
 /// The output of a desk that has none: the lines are dropped.
-#[tactic(auto, using(crate::proofs::OutputsKept::output_missing))]
+#[tactic(auto, using(crate::proofs::WriterOutputs::output_missing))]
 fn no_output<W: Write + Drop, P: Outputs<W> + Drop>(
     ring: Consumer<Line>,
     front: Vec<u8>,

@@ -39,7 +39,7 @@ impl Pace {
 }
 
 /// How many lines are on their way to a desk: those queued for it, and those in the ring of its writer.
-#[tactic(auto, using(crate::proofs::RingsMade::nothing_left))]
+#[tactic(auto, using(crate::proofs::DeskRings::nothing_left))]
 pub(crate) fn lines_left(desk: &Desk, writer: &mut Writer) -> usize
     ensures ring { SameProducer writer.old.ring writer.new.ring }
     ensures went { sent writer.new.ring ≡ sent writer.old.ring }

@@ -47,7 +47,7 @@ impl<P: InputBytes> InputTask<P> {
     ///
     /// The errors are that it was told to end, that the input failed, and that there is no memory.
     // claim: thread of an input
-    #[tactic(auto, using(crate::proofs::Streaming::nothing_handed))]
+    #[tactic(auto, using(crate::proofs::ThreadStreams::nothing_handed))]
     pub fn read<R: Read + Drop, S: Pause + Drop>(
         &mut self,
         alloc: Global,

@@ -12,7 +12,7 @@ use std::time::Clock;
 
 /// Writes the time as a comment, if the record is to have it.
 // claim: time of a turn
-#[tactic(auto, using(crate::proofs::Serviced::no_time, crate::proofs::Serviced::time_written))]
+#[tactic(auto, using(crate::proofs::ServiceRounds::no_time, crate::proofs::ServiceRounds::time_written))]
 pub(crate) fn write_time<K: Clock, W: Write>(
     timing: &Timing<K>,
     output: &mut W,

@@ -74,7 +74,7 @@ impl OutputTask {
 
 /// Writes the front, and then the lines out of the ring, until no more come and the buffer is empty. Returns false if that ended
 /// before its time.
-#[tactic(auto, using(crate::proofs::Streaming::written_kept))]
+#[tactic(auto, using(crate::proofs::ThreadStreams::written_kept))]
 fn write_out<W: Write + Drop, S: Pause>(
     front: &[u8],
     ring: &mut Consumer<Line>,
@@ -93,7 +93,7 @@ fn write_out<W: Write + Drop, S: Pause>(
 }
 
 /// Writes the front, and then the lines out of the ring, until no more come. Returns false if that ended before its time.
-#[tactic(auto, using(crate::proofs::Streaming::written_behind, crate::proofs::Streaming::front_cut))]
+#[tactic(auto, using(crate::proofs::ThreadStreams::written_behind, crate::proofs::ThreadStreams::front_cut))]
 fn write_behind<W: Write, S: Pause>(
     front: &[u8],
     ring: &mut Consumer<Line>,

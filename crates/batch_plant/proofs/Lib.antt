@@ -1,7 +1,7 @@
 pub mod Deeds
-pub mod Closings
+pub mod PlantPorts
 pub mod Joins
-pub mod UnitsKept
-pub mod DrivenRecords
-pub mod OrdersGiven
-pub mod DrivenTicks
+pub mod UnitsOfLink
+pub mod TickRecords
+pub mod OrdersOfMoves
+pub mod TickEffects

@@ -1,12 +1,12 @@
 pub mod DeskRequests
-pub mod DesksKept
-pub mod DesksRecalled
-pub mod DesksServed
-pub mod Kept
-pub mod Served
-pub mod RemarkedServed
+pub mod DesksOverJournal
+pub mod RepeatedDeskAnswers
+pub mod DeskService
+pub mod FileRuns
+pub mod ProgramRuns
+pub mod RunsWithComments
 pub mod Plants
-pub mod RecordsAudited
-pub mod RecordsTold
-pub mod KeptRuns
+pub mod AuditFindings
+pub mod RecordStatus
+pub mod RunsOverJournal
 mod RecordsDrawn

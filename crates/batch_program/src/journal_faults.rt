@@ -37,7 +37,7 @@ struct Stop {
 }
 
 /// Prints why a journal is refused, or reports why it can't be served over, and gives the exit status.
-#[tactic(auto, using(crate::proofs::KeptRuns::start_told, crate::proofs::KeptRuns::start_untold))]
+#[tactic(auto, using(crate::proofs::RunsOverJournal::start_told, crate::proofs::RunsOverJournal::start_untold))]
 pub(crate) fn refuse_start<W: Write, E: Write>(
     alloc: Global,
     quiet: bool,
@@ -63,7 +63,7 @@ pub(crate) fn refuse_start<W: Write, E: Write>(
 }
 
 /// Prints the refusal of a journal. Unless quiet is asked for, its meaning goes to the errors.
-#[tactic(auto, using(crate::proofs::KeptRuns::journal_refused, crate::proofs::KeptRuns::journal_starved))]
+#[tactic(auto, using(crate::proofs::RunsOverJournal::journal_refused, crate::proofs::RunsOverJournal::journal_starved))]
 fn refuse<W: Write, E: Write>(
     alloc: Global,
     quiet: bool,

@@ -6,7 +6,7 @@ use Rattle.batch_cell.specs.Equipment.{unit_names, IsDeclaredOnce}
 use Rattle.batch_cell.specs.declared.unit.Unit.{Unit}
 use Rattle.batch_cell.specs.declared.module.Module.{Module}
 use Rattle.batch_cell.specs.declared.shared.Shared.{Shared}
-use Rattle.batch_reader.proofs.Distinct.{IsDistinct-front}
+use Rattle.batch_reader.proofs.NamesSoFar.{IsDistinct-front}
 
 -- names that are not distinct among the first of all names
 pub declared_units_refused : (units : List Unit) (modules : List Module) (shared : List Shared) (keys : List (List ℕ)) → keys ≡ []

@@ -5,8 +5,8 @@ use Rattle.std.proofs.lemmas.Bool.{cases_lt}
 use Rattle.batch_recipe.specs.Diagram.{Diagram}
 use Rattle.batch_reader.specs.ChartGrammar.{Offsets, IsWideChart}
 use Rattle.batch_reader.specs.ChartAnswer.{first_of, HasFaultAt, IsOutsideAt}
-use Rattle.batch_reader.proofs.ChartComplete.{one_chart}
-use Rattle.batch_reader.proofs.ChartRead.{first_or-none}
+use Rattle.batch_reader.proofs.ChartCompleteness.{one_chart}
+use Rattle.batch_reader.proofs.ChartReader.{first_or-none}
 
 pub same_outside : (text : List ℕ) (a b : Diagram) (f g : Offsets) → IsWideChart text a f → IsWideChart text b g → first_of f.outside ≡ first_of g.outside
 same_outside text a b f g x y = grind (arith, first_or-none f.outside, one_chart x y, first_or-none g.outside)

@@ -4,7 +4,7 @@ use Rattle.std.proofs.lemmas.List.{map-append, take_more}
 use Rattle.std.proofs.lemmas.Map.Keys.{IsDistinct-push}
 use Rattle.std.specs.Cmp.Lexicographic.{pointwise, nat_list_eq_equiv}
 use Rattle.std.specs.List.{IsDistinct, list_any}
-use Rattle.batch_cell.proofs.Distinct.{IsDistinct-twice}
+use Rattle.batch_cell.proofs.DistinctNames.{IsDistinct-twice}
 use Rattle.batch_reader.specs.DeskNames.{HaveDistinctNames, desk_names}
 use Rattle.batch_reader.specs.declared.desk.Desk.{Desk}
 

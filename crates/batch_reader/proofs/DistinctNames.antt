@@ -5,8 +5,8 @@ use Rattle.std.specs.Cmp.Lexicographic.{pointwise}
 use Rattle.std.specs.List.{AllByRecursion, IsDistinct}
 use Rattle.batch_recipe.specs.Conditions.{Name, same_name}
 use Rattle.batch_recipe.specs.WellFormed.{is_among, are_distinct}
-use Rattle.batch_reader.proofs.Distinct.{IsDistinct-front}
-use Rattle.batch_reader.proofs.Truth.{both_true, both_false, and_true}
+use Rattle.batch_reader.proofs.NamesSoFar.{IsDistinct-front}
+use Rattle.batch_reader.proofs.Conjunctions.{both_true, both_false, and_true}
 
 not_among : (name : Name) (names : List Name) → AllByRecursion (λ y. same_name name y ≡ false) names → is_among names name ≡ false
 not_among name [] h = refl

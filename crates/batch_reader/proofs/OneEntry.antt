@@ -7,7 +7,7 @@ use Rattle.toml.specs.Data.{Data, Items, Members, get_member, as_str, as_table}
 use Rattle.toml.specs.View.{items_view}
 use Rattle.toml.specs.declared.value.Value.{Value}
 use Rattle.batch_recipe.specs.Diagram.{Diagram}
-use Rattle.batch_reader.proofs.ChartRead.{at_most_one}
+use Rattle.batch_reader.proofs.ChartReader.{at_most_one}
 use Rattle.batch_reader.specs.ChartGrammar.{IsChart}
 use Rattle.batch_reader.proofs.Items.{AllItems_same}
 use Rattle.batch_reader.specs.Entries.{AllItems, IsNameItem, HasLabel, HasName, HasNameOr, HasChart, HasFew, HasFewNames, HasFewNeeds, IsNeedItem, HasTable, items_at}

@@ -6,7 +6,7 @@ use Rattle.batch_recipe.specs.WellFormed.{act_names, follows_no_par, is_well_for
 use Rattle.batch_recipe.specs.declared.act.Act.{Act}
 use Rattle.batch_recipe.specs.declared.acts.Acts.{Acts}
 use Rattle.batch_reader.specs.Naming.{names_differ, acts_are_declared}
-use Rattle.batch_reader.proofs.Truth.{both_true}
+use Rattle.batch_reader.proofs.Conjunctions.{both_true}
 
 alone : (a b : Bool) → ((a && true) && b) ≡ (a && b)
 alone a b = grind arith

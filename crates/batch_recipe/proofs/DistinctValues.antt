@@ -11,7 +11,7 @@ use Rattle.batch_recipe.specs.Values.{have_output, with_value}
 use Rattle.batch_recipe.specs.WellFormed.{are_distinct, is_among, value_names}
 use Rattle.batch_recipe.specs.declared.quantity.Quantity.{Quantity}
 use Rattle.batch_recipe.specs.declared.recipe.Recipe.{Recipe}
-use Rattle.batch_recipe.proofs.Setting.{named, same-at}
+use Rattle.batch_recipe.proofs.ValueUpdates.{named, same-at}
 
 abbrev pub names : ValueList → List Name
 names vs = map (λ v. v.0) vs

@@ -20,13 +20,13 @@ use Rattle.batch_recipe.specs.declared.act.Work.{Work}
 use Rattle.batch_recipe.specs.declared.act.Work.TheVariants.{Follows, Runs}
 use Rattle.batch_recipe.specs.declared.entry.Entry.{Entry}
 use Rattle.batch_recipe.specs.declared.recipe.Recipe.{Recipe}
-use Rattle.batch_recipe.proofs.Below.{some_count, stands, has_below}
-use Rattle.batch_recipe.proofs.Asking.{acts_at}
-use Rattle.batch_recipe.proofs.Climbing.{entry_in, outlines}
-use Rattle.batch_recipe.proofs.Linking.{AreFrom, as_many_entries, from_left, from_right, from_tail}
+use Rattle.batch_recipe.proofs.NodeSubtrees.{some_count, stands, has_below}
+use Rattle.batch_recipe.proofs.NodeNeeds.{acts_at}
+use Rattle.batch_recipe.proofs.NodesAbove.{entry_in, outlines}
+use Rattle.batch_recipe.proofs.OutlineLinks.{AreFrom, as_many_entries, from_left, from_right, from_tail}
 use Rattle.batch_recipe.proofs.NodeActs.{procedure_acts_are}
-use Rattle.batch_recipe.proofs.Order.{in_order, counted_nodes}
-use Rattle.batch_recipe.proofs.Reaching.{in_front, not_before}
+use Rattle.batch_recipe.proofs.NodeOrder.{in_order, counted_nodes}
+use Rattle.batch_recipe.proofs.NodesBelow.{in_front, not_before}
 
 -- Trees by place
 

@@ -1,16 +1,16 @@
-pub mod Splitting
-pub mod Lacking
+pub mod LineWords
+pub mod AbsentBytes
 pub mod Numerals
 pub mod Places
-pub mod WordsBack
-pub mod Sound
-pub mod Back
-pub mod Outcome
-pub mod Passing
+pub mod WordRoundTrips
+pub mod WordsOfOut
+pub mod OutFromWords
+pub mod OutFromLine
+pub mod PassedOverLines
 mod Shares
 mod Lives
 mod Sorting
 mod Ordered
-pub mod ReadingLemmas
+pub mod InputProgress
 mod Promises
 mod Lines

@@ -8,7 +8,7 @@ use Rattle.batch_model.specs.Runs.{Out}
 use Rattle.batch_record.specs.Blocks.{Stage, mark_of, marked, opening, stage_after, stages, told}
 use Rattle.batch_record.specs.StatusReading.{HasNoFeed, IsRefusedAt, LeadsTo, lines_text}
 use Rattle.batch_record.specs.Taking.{EndsLine}
-use Rattle.batch_record.proofs.ReadingLemmas.{each-more, text-more, length-more, counted-more}
+use Rattle.batch_record.proofs.InputProgress.{each-more, text-more, length-more, counted-more}
 
 -- A line more
 

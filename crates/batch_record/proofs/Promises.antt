@@ -9,12 +9,12 @@ use Rattle.batch_matrix.specs.declared.report.Report.{Report}
 use Rattle.batch_matrix.specs.declared.state.State.{State}
 use Rattle.batch_matrix.specs.declared.state.State.TheVariants.{Idle}
 use Rattle.batch_recipe.specs.Conditions.{Name}
-use Rattle.batch_record.proofs.Back.{line-back}
-use Rattle.batch_record.proofs.Passing.{passed-nothing}
+use Rattle.batch_record.proofs.OutFromWords.{line-back}
+use Rattle.batch_record.proofs.PassedOverLines.{passed-nothing}
 use Rattle.batch_record.specs.Laws.{IsLineOf, is_passed_over}
 use Rattle.batch_record.specs.Naming.{IsNamed, as_told}
 use Rattle.batch_record.specs.RecordLine.{out_of_line}
-use Rattle.batch_record.proofs.Lives.{appended, filtered}
+use Rattle.batch_record.proofs.LivePhases.{appended, filtered}
 use Rattle.batch_record.specs.Blocks.{Stage, marked, mark_of, stage_after, stages, told}
 use Rattle.batch_record.specs.Promises.{AreLinesOf, IsAsModelled, LinesTellTheirOuts, SaysNothing, place_of_active, place_of_live}
 use Rattle.batch_record.specs.Telling.{Tale, Listed, Live, in_state, is_at, led_by, listed_after, live_after, moved_at, said_by, silence, tale_after}

@@ -7,14 +7,14 @@ use Rattle.batch_recipe.specs.Conditions.{Name}
 use Rattle.batch_recipe.specs.Tree.{Place, Phase}
 use Rattle.batch_model.specs.Rest.{Rest, ready, asking, open_act, live, freeing, in_seq, in_par, in_loop, done, Rests, no_rests, rest, acts, acts_of_each, changed_at, place_of}
 use Rattle.batch_model.specs.Plant.{InAdvance, Batch, BatchAct, Share, Plant, held_by, holders}
-use Rattle.batch_record_laws.proofs.Ranking.{holding-performing, holding-awaiting}
-use Rattle.batch_record_laws.proofs.Facts.{Fact, awaiting, performing, Standing, held_at, awaited_at, holding, facts, facts_of_each, early_facts, batch_facts, Entry, entry, entries_of, entries, holder_of, holders_among, share}
+use Rattle.batch_record_laws.proofs.RanksOfAsks.{holding-performing, holding-awaiting}
+use Rattle.batch_record_laws.proofs.PlantFacts.{Fact, awaiting, performing, Standing, held_at, awaited_at, holding, facts, facts_of_each, early_facts, batch_facts, Entry, entry, entries_of, entries, holder_of, holders_among, share}
 use Rattle.batch_model.proofs.Members.{Has-split, Has-right, Has-flat_map}
 use Rattle.batch_record_laws.proofs.Members.{Has-map, map-Has}
-use Rattle.batch_record_laws.proofs.Framing.{Frame, Frames, IsElsewhere, frame-after, regroup}
+use Rattle.batch_record_laws.proofs.FactsAfterChange.{Frame, Frames, IsElsewhere, frame-after, regroup}
 use Rattle.batch_record_laws.proofs.Entries.{nat_same, nat_self, holders-append}
 use Rattle.batch_recipe.specs.declared.need.Need.{Need}
-use Rattle.batch_step_laws.proofs.Leaving.{flat_map-Has}
+use Rattle.batch_step_laws.proofs.HoldersInAdvance.{flat_map-Has}
 
 -- The model's holders are those among the entries
 

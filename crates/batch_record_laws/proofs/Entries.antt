@@ -8,7 +8,7 @@ use Rattle.batch_model.specs.Lists.{Has}
 use Rattle.batch_recipe.specs.Conditions.{Name}
 use Rattle.batch_model.specs.Plant.{BatchAct, Share, units_in, is_same_act, without}
 pub use Rattle.batch_record_laws.specs.Once.{IsOnce}
-use Rattle.batch_record_laws.proofs.Facts.{holding, awaiting, performing, Entry, holder_of, holders_among, need, share}
+use Rattle.batch_record_laws.proofs.PlantFacts.{holding, awaiting, performing, Entry, holder_of, holders_among, need, share}
 use Rattle.batch_model.proofs.Members.{Has-split, Has-left, Has-right}
 use Rattle.batch_recipe.specs.declared.need.Need.{Need}
 

@@ -14,21 +14,21 @@ use Rattle.batch_recipe.specs.Values.{with_outputs_zero}
 use Rattle.batch_model.specs.Events.{Refusal, created, ordered, removed, refused, command_not_accepted, not_idle, Answer, new_batch, with_batch, reset, commanded, lines_under, ordering, without_batch, removing}
 use Rattle.batch_model.specs.Runs.{Out, reply}
 use Rattle.batch_model.specs.Records.{waiters_after, state_after}
-use Rattle.batch_record_laws.proofs.Facts.{holding, awaiting, performing, Standing, facts, early_facts, batch_facts, Entry, entry, entries_of, entries, holder_of, holders_among, need}
+use Rattle.batch_record_laws.proofs.PlantFacts.{holding, awaiting, performing, Standing, facts, early_facts, batch_facts, Entry, entry, entries_of, entries, holder_of, holders_among, need}
 use Rattle.batch_model.specs.Cleared.{Ranking}
-use Rattle.batch_record_laws.proofs.ClearedDown.{IsClearedDown}
+use Rattle.batch_record_laws.proofs.ClearanceDownTrees.{IsClearedDown}
 use Rattle.batch_model.proofs.Members.{Has-split}
 use Rattle.batch_record_laws.proofs.Members.{map-Has}
-use Rattle.batch_record_laws.proofs.Reaching.{reach-facts, is_kept, withdrawn-facts}
+use Rattle.batch_record_laws.proofs.FactsAfterAdvance.{reach-facts, is_kept, withdrawn-facts}
 use Rattle.batch_record_laws.proofs.Entries.{Agrees, once-filter, Has-filter, filter-Has, nat_same, nat_self, nat_differs, holders-append}
 use Rattle.batch_record_laws.proofs.Batches.{Has-only, below-next, only, only-hit, only-miss, same-batch}
 use Rattle.batch_record_laws.proofs.Invariant.{IsFitting, NothingAwaited, IsSound, IsKept}
 use Rattle.batch_record_laws.proofs.Batches.{awaiting-of, performing-of, of-entry, append-holders}
-use Rattle.batch_record_laws.proofs.Passing.{is_under_way, early-none}
-use Rattle.batch_step_laws.proofs.Telling.{holders_told-last, waiters_told-last, active_told-last, state_told-last}
-use Rattle.batch_record_laws.proofs.Changing.{changed_plant, kept-after}
-use Rattle.batch_record_laws.proofs.Keeping.{kept-quiet}
-use Rattle.batch_record_laws.proofs.Moving.{tells-other, tells-own}
+use Rattle.batch_record_laws.proofs.BatchProgress.{is_under_way, early-none}
+use Rattle.batch_step_laws.proofs.LastLineEffect.{holders_told-last, waiters_told-last, active_told-last, state_told-last}
+use Rattle.batch_record_laws.proofs.ActChanges.{changed_plant, kept-after}
+use Rattle.batch_record_laws.proofs.InvariantAfterChange.{kept-quiet}
+use Rattle.batch_record_laws.proofs.InvariantAfterMove.{tells-other, tells-own}
 use Rattle.std.proofs.lemmas.List.{append-nil}
 use Rattle.batch_model.specs.Standing.{IsStanding}
 use Rattle.batch_record_laws.proofs.Invariant.{standing-of, numbers-of}

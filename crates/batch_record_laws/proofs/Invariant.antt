@@ -9,12 +9,12 @@ use Rattle.batch_model.specs.Plant.{Setup, InAdvance, Batch, BatchAct, Share, un
 use Rattle.batch_model.specs.Moves.{is_running}
 use Rattle.batch_model.specs.Runs.{Out}
 use Rattle.batch_model.specs.Records.{holders_told, waiters_told, Active, active_told, state_told, IsAtRest}
-use Rattle.batch_record_laws.proofs.Facts.{awaiting, performing, Standing, facts, entries, holders_among, need}
+use Rattle.batch_record_laws.proofs.PlantFacts.{awaiting, performing, Standing, facts, entries, holders_among, need}
 use Rattle.batch_model.specs.Cleared.{Ranking}
-use Rattle.batch_record_laws.proofs.ClearedDown.{IsClearedDown}
+use Rattle.batch_record_laws.proofs.ClearanceDownTrees.{IsClearedDown}
 use Rattle.batch_record_laws.proofs.Entries.{Agrees, IsOnce}
 use Rattle.batch_record_laws.proofs.Batches.{NumbersDiffer}
-use Rattle.batch_record_laws.proofs.Alike.{StandApart}
+use Rattle.batch_record_laws.proofs.SameFacts.{StandApart}
 use Rattle.batch_model.specs.ActStates.{steps}
 use Rattle.batch_model.specs.Standing.{IsStandingBatch, AreNumbered, IsStanding}
 use Rattle.batch_model.proofs.Members.{Each-Has}

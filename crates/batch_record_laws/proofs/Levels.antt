@@ -18,8 +18,8 @@ use Rattle.batch_model.specs.Lists.{Has}
 use Rattle.batch_model.specs.Cleared.{Level, in_procedure, in_unit_procedure, in_operation}
 use Rattle.batch_model.proofs.Bindings.{list_all-Has}
 use Rattle.batch_model.proofs.Members.{find-Has}
-use Rattle.batch_step_laws.proofs.Placed.{bound_tree-IsPlaced}
-use Rattle.batch_record_laws.proofs.Reserved.{reserves-units}
+use Rattle.batch_step_laws.proofs.ActPlaces.{bound_tree-IsPlaced}
+use Rattle.batch_record_laws.proofs.NeedsOfReserves.{reserves-units}
 use Rattle.batch_record_laws.specs.Procedures.{AllowsPar, IsOfLevel, IsActOf, AreOfLevel, AreChoicesOf, HasLevels, TreesAreProcedures, RecipesAreProcedures}
 use Rattle.batch_recipe.specs.declared.need.Need.{Need}
 use Rattle.batch_recipe.specs.declared.act.UnitChoice.{UnitChoice}

@@ -18,21 +18,21 @@ use Rattle.batch_recipe.specs.Values.{with_values, are_outputs, left_out}
 use Rattle.batch_model.specs.Events.{Event, create, order, remove, report, Reply, reported, refused, unknown_recipe, bad_binding, binding, is_binding, bound_by, roles_told, creating_for, unknown_batch, no_live_phase, report_not_expected, bad_output, output_left_out, owed, accepting, bad_size, bad_value, full, moves_pending, no_memory, is_full, creating, ordering, removing, LivePhase, live_in, live_phase, phase_after, batch_state_after, outputs_of, batch_reported, reporting, judged, react}
 use Rattle.batch_model.specs.Runs.{Out, reply, Reacts}
 use Rattle.batch_model.specs.Records.{Active, active_after, ends_phase}
-use Rattle.batch_record_laws.proofs.Facts.{Standing, held_at, facts, early_facts}
-use Rattle.batch_step_laws.proofs.Keeping.{RemainsAs, phase_after-remains}
+use Rattle.batch_record_laws.proofs.PlantFacts.{Standing, held_at, facts, early_facts}
+use Rattle.batch_step_laws.proofs.RestsAfterChange.{RemainsAs, phase_after-remains}
 use Rattle.batch_model.proofs.Members.{Each-Has}
-use Rattle.batch_record_laws.proofs.Due.{awaited-nowhere}
-use Rattle.batch_record_laws.proofs.Steady.{stays-steady, stays-tidy, phase_after-stays}
-use Rattle.batch_record_laws.proofs.Passing.{kept-on, is_under_way, early-none}
+use Rattle.batch_record_laws.proofs.DuePlaces.{awaited-nowhere}
+use Rattle.batch_record_laws.proofs.EffectsOnActs.{stays-steady, stays-tidy, phase_after-stays}
+use Rattle.batch_record_laws.proofs.BatchProgress.{kept-on, is_under_way, early-none}
 use Rattle.batch_model.specs.Cleared.{Ranking}
-use Rattle.batch_record_laws.proofs.ClearedDown.{AreClearedDown}
+use Rattle.batch_record_laws.proofs.ClearanceDownTrees.{AreClearedDown}
 use Rattle.batch_record_laws.proofs.Invariant.{IsFitting, IsSound, IsKept, standing-of}
-use Rattle.batch_record_laws.proofs.Changing.{changed_plant, IsChange, change-sound}
-use Rattle.batch_record_laws.proofs.Keeping.{kept-quiet, kept-finished, act_frame, TellsState}
-use Rattle.batch_record_laws.proofs.MoveSteps.{freed-facts, take-length}
+use Rattle.batch_record_laws.proofs.ActChanges.{changed_plant, IsChange, change-sound}
+use Rattle.batch_record_laws.proofs.InvariantAfterChange.{kept-quiet, kept-finished, act_frame, TellsState}
+use Rattle.batch_record_laws.proofs.ActMoves.{freed-facts, take-length}
 use Rattle.batch_record_laws.proofs.Events.{Answered, kept-refused, kept-created, ordering-step, removing-step}
-use Rattle.batch_record_laws.proofs.Moving.{tells-other, tells-own}
-use Rattle.batch_record_laws.proofs.Tops.{find-passes}
+use Rattle.batch_record_laws.proofs.InvariantAfterMove.{tells-other, tells-own}
+use Rattle.batch_record_laws.proofs.UnitProcedures.{find-passes}
 use Rattle.std.proofs.lemmas.List.{append-nil}
 use Rattle.batch_model.specs.Standing.{IsAwaited, IsControl, IsStandingBatch, IsStanding}
 

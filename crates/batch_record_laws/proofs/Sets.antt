@@ -5,7 +5,7 @@ use Rattle.batch_recipe.specs.Expanding.{Binding}
 use Rattle.batch_recipe.specs.declared.recipe.Recipe as document
 use Rattle.batch_model.specs.Lists.{Each}
 use Rattle.batch_model.specs.Setups.{master_of}
-use Rattle.batch_model.proofs.Exclusive.{unit_is_exclusive}
+use Rattle.batch_model.proofs.ExclusiveUnits.{unit_is_exclusive}
 use Rattle.batch_record_laws.specs.Procedures.{IsProcedure}
 use Rattle.batch_record_laws.specs.Sets.{SetsAreDocuments}
 use Rattle.batch_record_laws.proofs.Levels.{recipes_are_procedures}

@@ -7,15 +7,15 @@ use Rattle.batch_recipe.specs.Tree.{Place, Phase, Tree, act, seq, par, sel, loop
 use Rattle.batch_model.specs.Rest.{Rest, ready, asking, open_act, live, freeing, in_seq, in_par, in_loop, Rests, rest}
 use Rattle.batch_recipe.specs.Nodes.{child}
 use Rattle.batch_model.specs.Records.{IsAtOrAbove}
-use Rattle.batch_record_laws.proofs.Facts.{Fact, holding, awaiting, performing, Standing, held_at, awaited_at, facts, facts_of_each}
+use Rattle.batch_record_laws.proofs.PlantFacts.{Fact, holding, awaiting, performing, Standing, held_at, awaited_at, facts, facts_of_each}
 use Rattle.batch_model.specs.Standing.{IsRestOf, IsRestBelow, IsBranch, AreBranches, IsChosen}
 use Rattle.batch_model.specs.Placed.{IsPlaced, IsPlacedBelow, ArePlaced, IsChoicePlaced}
 use Rattle.batch_model.specs.Cleared.{phases, phases_within, phases_of_each, phases_of_choices}
-use Rattle.batch_record_laws.proofs.ClearedDown.{IsSamePhase, RunsInUnits, RunsInUnitsBelow, RunInUnits, RunSideBySide, ChoicesRunInUnits}
+use Rattle.batch_record_laws.proofs.ClearanceDownTrees.{IsSamePhase, RunsInUnits, RunsInUnitsBelow, RunInUnits, RunSideBySide, ChoicesRunInUnits}
 use Rattle.batch_model.proofs.Members.{Has-split, Has-left, Has-right}
 use Rattle.batch_record_laws.proofs.Members.{map-Has}
-use Rattle.batch_record_laws.proofs.Placing.{IsUnderChild, under, facts-below, not_above_itself}
-use Rattle.batch_record_laws.proofs.Ranking.{held-performing, awaited-performing}
+use Rattle.batch_record_laws.proofs.FactPlaces.{IsUnderChild, under, facts-below, not_above_itself}
+use Rattle.batch_record_laws.proofs.RanksOfAsks.{held-performing, awaited-performing}
 use Rattle.batch_recipe.specs.declared.need.Need.{Need}
 use Rattle.batch_recipe.specs.Needs.{one_unit}
 

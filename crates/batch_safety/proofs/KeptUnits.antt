@@ -14,7 +14,7 @@ use Rattle.batch_model.specs.Records.{holders_after, holders_told}
 use Rattle.batch_model.specs.Runs.{Out, reply, move}
 use Rattle.batch_model.specs.Transfers.{Kept, without_begun, kept_until, passed_by, passed_told, reserved_from, reserved_told}
 use Rattle.batch_model.proofs.Members.{Has-left, Has-right}
-use Rattle.batch_step_laws.proofs.Telling.{holders_told-last}
+use Rattle.batch_step_laws.proofs.LastLineEffect.{holders_told-last}
 use Rattle.batch_record_laws.proofs.Entries.{nat_differs, without-Has}
 use Rattle.batch_record_laws.proofs.Members.{Has-map, map-Has}
 

@@ -6,16 +6,16 @@ use Rattle.batch_recipe.specs.Tree.{Place}
 use Rattle.batch_model.specs.Plant.{Setup, Batch, BatchAct, Share, acts_in, Plant}
 use Rattle.batch_model.specs.Runs.{Out}
 use Rattle.batch_model.specs.Records.{holders_told, waiters_told, state_told, IsAtRest, scene_told, Waiting, IsWaiting, IsAtOrAbove, StandsBefore, WaitsForHolder, WaitsForOlder, PointsTo, PointAlong, HasCapacity, HoldsUnits, StartsIdle, HasNoCircle, RestsEmpty, IsSafeNow}
-use Rattle.batch_record_laws.proofs.Facts.{Fact, holding, awaiting, facts, early_facts, batch_facts, entries, need, share}
+use Rattle.batch_record_laws.proofs.PlantFacts.{Fact, holding, awaiting, facts, early_facts, batch_facts, entries, need, share}
 use Rattle.batch_model.specs.Cleared.{Ranking}
 use Rattle.batch_record_laws.proofs.Members.{Has-map, map-Has, Has-Each}
-use Rattle.batch_record_laws.proofs.Ranking.{rank-rises}
+use Rattle.batch_record_laws.proofs.RanksOfAsks.{rank-rises}
 use Rattle.batch_record_laws.proofs.Units.{unit-held}
 use Rattle.batch_record_laws.proofs.Entries.{IsOnce, Has-holders, holders-Has}
 use Rattle.batch_record_laws.proofs.Batches.{entry-of, of-entry, awaiting-of, performing-of, early-fact, same-batch}
-use Rattle.batch_record_laws.proofs.Due.{awaited-none_under}
-use Rattle.batch_record_laws.proofs.Passing.{is_under_way, early-none}
-use Rattle.batch_record_laws.proofs.Placing.{fact-stands}
+use Rattle.batch_record_laws.proofs.DuePlaces.{awaited-none_under}
+use Rattle.batch_record_laws.proofs.BatchProgress.{is_under_way, early-none}
+use Rattle.batch_record_laws.proofs.FactPlaces.{fact-stands}
 use Rattle.batch_model.proofs.Members.{Has-split, Each-Has}
 use Rattle.batch_record_laws.proofs.Invariant.{IsSound, IsKept, at_rest-nothing}
 use Rattle.batch_model.specs.Standing.{IsAwaited, IsStandingBatch, IsStanding}

@@ -59,7 +59,7 @@ impl DeskServer {
     ///
     /// The error is that there is no memory for one run more. Then nothing is taken.
     // claim: lines of desks
-    #[tactic(auto, using(crate::proofs::Gathering::own_other, crate::proofs::Gathering::of_desks_more))]
+    #[tactic(auto, using(crate::proofs::DeskLines::own_other, crate::proofs::DeskLines::of_desks_more))]
     pub fn push_lines(&mut self, desk: usize, lines: Vec<u8>) -> Result<(), AllocError>
         requires { desk < length self.old.desks.items }
         ensures taken { OnOk result ((other : OneDesk) → (get_or self.old.desks.items desk other).waiting.is_cut ≡ false

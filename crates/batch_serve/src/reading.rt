@@ -28,7 +28,7 @@ enum Got {
 /// for a line, the ring's other end is gone, or the pause says to end. The ring's protocol allows the lines of the input, in order, and
 /// the end behind all of them.
 // claim: reader of a desk
-#[tactic(auto, using(crate::proofs::Threading::reads_begin, crate::proofs::Threading::reads_twice, crate::proofs::Threading::reads_stop))]
+#[tactic(auto, using(crate::proofs::ReadersAndWriters::reads_begin, crate::proofs::ReadersAndWriters::reads_twice, crate::proofs::ReadersAndWriters::reads_stop))]
 pub fn read_lines<R: Read, O: Protocol<Sent>, P: Pause>(
     alloc: Global,
     input: &mut R,
@@ -50,7 +50,7 @@ pub fn read_lines<R: Read, O: Protocol<Sent>, P: Pause>(
 }
 
 /// Reads once, and puts the lines or the end into the ring. Returns the result of `read_lines`, if that ends it.
-#[tactic(auto, using(crate::proofs::Threading::lines_read, crate::proofs::Threading::nothing_read, crate::proofs::Threading::lines_lost, crate::proofs::Threading::end_read, crate::proofs::Threading::may_after_nothing))]
+#[tactic(auto, using(crate::proofs::ReadersAndWriters::lines_read, crate::proofs::ReadersAndWriters::nothing_read, crate::proofs::ReadersAndWriters::lines_lost, crate::proofs::ReadersAndWriters::end_read, crate::proofs::ReadersAndWriters::may_after_nothing))]
 fn read_next<R: Read, O: Protocol<Sent>, P: Pause>(
     alloc: Global,
     input: &mut R,

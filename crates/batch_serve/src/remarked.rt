@@ -147,7 +147,7 @@ fn is_plain(bytes: &[u8]) -> bool
 }
 
 /// The spot at which a text ends after these bytes.
-#[tactic(auto, using(crate::proofs::CommentLemmas::spot_on))]
+#[tactic(auto, using(crate::proofs::TextsWithComments::spot_on))]
 fn spot_behind(spot: Spot, bytes: &[u8]) -> Spot
     ensures { result ≡ spot_behind spot bytes.now }
 {

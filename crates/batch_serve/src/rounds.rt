@@ -100,7 +100,7 @@ impl DeskServer {
     }
 
     /// Receives the next message, if there is one, from the reader of a desk, if it doesn't rest.
-    #[tactic(auto, using(crate::proofs::Gathering::lines_gathered, crate::proofs::Gathering::no_line_gathered, crate::proofs::Gathering::end_gathered, crate::proofs::Gathering::nothing_gathered))]
+    #[tactic(auto, using(crate::proofs::DeskLines::lines_gathered, crate::proofs::DeskLines::no_line_gathered, crate::proofs::DeskLines::end_gathered, crate::proofs::DeskLines::nothing_gathered))]
     fn gather_one<O: Protocol<Sent>>(
         &mut self,
         desk: usize,
@@ -148,7 +148,7 @@ fn hand_on_each(desks: &mut Vec<Desk>, writers: &mut Vec<Writer>)
     }
 }
 
-#[tactic(auto, using(crate::proofs::Gathering::cut_where_late))]
+#[tactic(auto, using(crate::proofs::DeskLines::cut_where_late))]
 fn hand_on(desk: &mut Desk, writer: &mut Writer)
     ensures handed { IsHandedOn desk.old desk.new writer.old writer.new }
     ensures late { IsCutIfLate desk.old desk.new writer.old writer.new }

@@ -50,7 +50,7 @@ fn unit_of_order(line: &[u8]) -> &[u8]
 }
 
 /// The text behind the first space; empty if there is none.
-#[tactic(auto, using(crate::proofs::Sorted::after_none, crate::proofs::Sorted::after_some))]
+#[tactic(auto, using(crate::proofs::DueAnswers::after_none, crate::proofs::DueAnswers::after_some))]
 fn after_word(text: &[u8]) -> &[u8]
     ensures { result.now ≡ after_word text.now }
 {

@@ -14,7 +14,7 @@ use std::io::Write;
 ///
 /// Returns true if no more lines come and all are flushed; false if the output failed, or the pause says to end.
 // claim: writer of a desk
-#[tactic(auto, using(crate::proofs::Threading::writes_begin, crate::proofs::Threading::writes_twice, crate::proofs::Threading::writes_then, crate::proofs::Threading::writes_stop))]
+#[tactic(auto, using(crate::proofs::ReadersAndWriters::writes_begin, crate::proofs::ReadersAndWriters::writes_twice, crate::proofs::ReadersAndWriters::writes_then, crate::proofs::ReadersAndWriters::writes_stop))]
 pub fn write_lines<W: Write, P: Pause>(
     ring: &mut Consumer<Line>,
     output: &mut W,
@@ -32,7 +32,7 @@ pub fn write_lines<W: Write, P: Pause>(
 }
 
 /// Writes the next line, or flushes the output and waits. Returns the result of `write_lines`, if that ends it.
-#[tactic(auto, using(crate::proofs::Threading::line_written, crate::proofs::Threading::line_cut, crate::proofs::Threading::nothing_written, crate::proofs::Threading::all_written))]
+#[tactic(auto, using(crate::proofs::ReadersAndWriters::line_written, crate::proofs::ReadersAndWriters::line_cut, crate::proofs::ReadersAndWriters::nothing_written, crate::proofs::ReadersAndWriters::all_written))]
 fn write_next<W: Write, P: Pause>(
     ring: &mut Consumer<Line>,
     output: &mut W,
@@ -66,7 +66,7 @@ fn write_next<W: Write, P: Pause>(
     }
 }
 
-#[tactic(auto, using(crate::proofs::Threading::line_begun, crate::proofs::Threading::line_ended))]
+#[tactic(auto, using(crate::proofs::ReadersAndWriters::line_begun, crate::proofs::ReadersAndWriters::line_ended))]
 fn write_line<W: Write>(output: &mut W, line: &Line) -> Result<(), WriteFault>
     ensures { Writes (W.contents output.old) (W.contents output.new) result (line.now ++ 10 ∷ []) }
 {

@@ -1,6 +1,6 @@
-pub mod Counting
-pub mod Declared
-pub mod Mapped
+pub mod NumbersOnUnits
+pub mod DeclaredRoles
+pub mod TableRows
 pub mod PhaseNumbers
 pub mod Positions
 pub mod SetRecipes

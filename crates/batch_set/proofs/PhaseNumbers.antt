@@ -21,7 +21,7 @@ use Rattle.batch_set.specs.Linking.{ArePhasesOf, numbers_on, numbers_on_each, ph
 use Rattle.batch_set.specs.Looked.{offered_on}
 use Rattle.batch_set.specs.Sources.{PhasesSayNames}
 use Rattle.batch_set.specs.declared.cell_phases.CellPhases.{CellPhases}
-use Rattle.batch_set.proofs.Mapped.{row-there}
+use Rattle.batch_set.proofs.TableRows.{row-there}
 use Rattle.batch_set.proofs.Positions.{any-position, found-any, name-at}
 
 module _ (name : Name) where

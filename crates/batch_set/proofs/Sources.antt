@@ -28,8 +28,8 @@ use Rattle.batch_set.specs.declared.cell_phases.CellPhases.{CellPhases}
 use Rattle.batch_set.specs.declared.linked.LinkedNeed.{LinkedNeed}
 use Rattle.batch_set.specs.declared.linked.LinkedRecipe.{LinkedRecipe}
 use Rattle.batch_set.specs.declared.linked.Source.{Source}
-use Rattle.batch_set.proofs.Declared.{declared, named-unit, reserves-units, unit-declared}
-use Rattle.batch_set.proofs.Mapped.{row-there}
+use Rattle.batch_set.proofs.DeclaredRoles.{declared, named-unit, reserves-units, unit-declared}
+use Rattle.batch_set.proofs.TableRows.{row-there}
 use Rattle.batch_set.proofs.Positions.{any-map, any-position, found-at, name-at}
 
 module _ (cell : Cell) (roles : List Role) (bound : Binding) where

@@ -1,4 +1,4 @@
-pub mod Wanting
+pub mod WantedSigns
 pub mod Bits
 pub mod SignSets
-pub mod BySign
+pub mod NodesBySign

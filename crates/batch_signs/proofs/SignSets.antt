@@ -10,7 +10,7 @@ use Rattle.std.proofs.lemmas.Nat.Bits.{bit_at-lt, bit_at-zero, bit_at_or, bit_at
 use Rattle.batch_signs.specs.Bits.{with_told, IsLowestFrom}
 use Rattle.batch_signs.specs.SignSets.{set_of, shown, bit_of, AreSummed, AreJoined, IsTurnedAt, IsChangedAt, ShowsNone, ShowsSome, IsFirstShown}
 use Rattle.batch_signs.proofs.Bits.{nat-same, differs, no-bits, zeros, with-one_same, with-one_other, with-zero_same, with-zero_other}
-use Rattle.batch_signs.proofs.Wanting.{no-bit}
+use Rattle.batch_signs.proofs.WantedSigns.{no-bit}
 
 not-one : (x : ℕ) → x ≡ 0 → x ≡ 1 → ⊥
 not-one x e f = absurd (omega (arith, e, f))

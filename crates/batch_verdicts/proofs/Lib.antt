@@ -1,14 +1,14 @@
-pub mod BytesRead
-pub mod RecipesRead
-pub mod TextsRead
-pub mod Halted
-pub mod CertificatesAreRead
+pub mod FirstBytes
+pub mod NextRecipe
+pub mod RecipeTexts
+pub mod HaltCauses
+pub mod CertificateRanks
 pub mod Outcomes
 pub mod Successes
 mod Fronts
-pub mod NodesTold
-pub mod Warned
+pub mod NodeTexts
+pub mod WarningEffects
 pub mod WarningLines
-pub mod OnCircles
-pub mod Looked
-pub mod RulesBroken
+pub mod EdgesOnCircles
+pub mod DocumentRefusals
+pub mod BrokenRules

@@ -13,7 +13,7 @@ use Rattle.batch_verdicts.specs.Requests.{Halts, HaltsDemo, IsDemoSet, IsSetOf}
 use Rattle.batch_verdicts.specs.Running.{AskFor, IsAnnounced, IsDone, IsExplained, IsPrinted, IsRun, IsUnwritten, Stream, ask_quiet, memory_status, success_status, commands, status_of_every, serves, reads, serves_desks, audits, plants, halts, judges, explains, helps, misuses, starves, keeps, writes, remarks, draws}
 use Rattle.batch_verdicts.specs.Saying.{IsWarned}
 use Rattle.batch_verdicts.specs.Statuses.{AreCodesTold, IsSuccess, NoCommandServes, ServesClearedSets, SuccessIsTold}
-use Rattle.batch_verdicts.proofs.Warned.{verdict_more, warned_kept}
+use Rattle.batch_verdicts.proofs.WarningEffects.{verdict_more, warned_kept}
 use Rattle.batch_verdicts.specs.declared.course.Course.{Course}
 use Rattle.batch_verdicts.specs.declared.course.Course.TheVariants.{Ends, Serves, Keeps}
 use Rattle.std.specs.Prelude.{String, if◌then◌else◌, string_bytes}

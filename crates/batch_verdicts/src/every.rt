@@ -145,7 +145,7 @@ fn read_all<D: Documents>(
 }
 
 /// The cell of the document at the path. If that is refused, its refusal is appended to the others.
-#[tactic(auto, using(crate::proofs::Looked::cell_unread))]
+#[tactic(auto, using(crate::proofs::DocumentRefusals::cell_unread))]
 fn cell_or_refusal<D: Documents>(
     alloc: Global,
     documents: &D,
@@ -198,7 +198,7 @@ fn recipes_or_refusals<D: Documents>(
 }
 
 /// Reads one more document.
-#[tactic(auto, using(crate::proofs::Looked::recipe_unread))]
+#[tactic(auto, using(crate::proofs::DocumentRefusals::recipe_unread))]
 fn add_recipe<D: Documents>(
     alloc: Global,
     documents: &D,

@@ -100,7 +100,7 @@ fn is_marked(reached: &[bool], resource: u16) -> bool
 }
 
 /// Marks the resource, to which the edges lead from the start.
-#[tactic(auto, using(crate::proofs::OnCircles::reached_marked))]
+#[tactic(auto, using(crate::proofs::EdgesOnCircles::reached_marked))]
 fn mark(reached: &mut [bool], _edges: &[Edge], _start: u16, resource: u16)
     requires before { AreReached _edges.now _start reached.old }
     requires leads { IsReached _edges.now _start resource }

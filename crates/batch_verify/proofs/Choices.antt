@@ -20,7 +20,7 @@ use Rattle.batch_recipe.specs.declared.entry.Kind.{Kind}
 use Rattle.batch_recipe.specs.declared.entry.Kind.TheVariants as kind
 use Rattle.batch_recipe.specs.declared.need.Need.{Need}
 use Rattle.batch_recipe.specs.declared.recipe.Recipe.{Recipe}
-use Rattle.batch_recipe.proofs.Climbing.{act_at}
+use Rattle.batch_recipe.proofs.NodesAbove.{act_at}
 use Rattle.batch_model.specs.Lists.{Each, Has}
 use Rattle.batch_model.specs.Cleared.{Level, is_procedure, in_procedure, in_unit_procedure, in_operation, below}
 use Rattle.batch_model.specs.Setups.{labels_of, name_role, reserve_role}
@@ -28,8 +28,8 @@ use Rattle.batch_model.proofs.Members.{Each-append, Each-map, Has-left, Has-righ
 use Rattle.std.proofs.lemmas.Bool.{and_parts, not-true, or_cases, or_left, or_right}
 use Rattle.batch_verify.specs.Walking.{is_of_level}
 use Rattle.batch_verify.specs.Ways.{Spot, Way, bound_ways}
-use Rattle.batch_verify.proofs.Owners.{declared, declared_role, names_it, names_role, owned, owner, reserves_role, role_named, role_reserved, table}
-use Rattle.batch_verify.proofs.Stands.{IsTop, IsBelow, Stands, node_of, stands}
+use Rattle.batch_verify.proofs.RolesInTree.{declared, declared_role, names_it, names_role, owned, owner, reserves_role, role_named, role_reserved, table}
+use Rattle.batch_verify.proofs.EntryNodes.{IsTop, IsBelow, Stands, node_of, stands}
 use Rattle.batch_verify.proofs.Verdicts.{bare_needs}
 use Rattle.batch_verify.proofs.WayActs.{IsHereOn}
 

@@ -14,8 +14,8 @@ use Rattle.batch_recipe.specs.declared.act.Act.{Act}
 use Rattle.batch_recipe.specs.declared.acts.Acts.{Acts}
 use Rattle.batch_recipe.specs.declared.entry.Entry.{Entry}
 use Rattle.batch_recipe.specs.declared.recipe.Recipe.{Recipe}
-use Rattle.batch_recipe.proofs.Climbing.{as_many}
-use Rattle.batch_recipe.proofs.Slices.{slice_get-left, slice_get-right}
+use Rattle.batch_recipe.proofs.NodesAbove.{as_many}
+use Rattle.batch_recipe.proofs.AppendedLists.{slice_get-left, slice_get-right}
 use Rattle.batch_model.specs.Cleared.{Level, Part, below, IsApart}
 use Rattle.batch_verify.specs.Charts.{depth_is, of_chart, reserve_count, AreFaults, IsChartFault, ReservesAs}
 use Rattle.batch_verify.specs.Ways.{Spot, Way, bound_parts, bound_ways}
@@ -23,8 +23,8 @@ use Rattle.batch_verify.specs.declared.depth.Depth.{Depth}
 use Rattle.batch_verify.specs.declared.depth.Depth.TheVariants.{Procedure}
 use Rattle.batch_verify.specs.declared.rule.Rule.{Rule}
 use Rattle.batch_verify.specs.declared.rule.Rule.TheVariants as rules
-use Rattle.batch_verify.proofs.Alike.{IsLike, apart_as, turns_as, part_alike}
-use Rattle.batch_verify.proofs.Stands.{IsTop, IsBelow, Stands, stands, node_of}
+use Rattle.batch_verify.proofs.PhasesInBindings.{IsLike, apart_as, turns_as, part_alike}
+use Rattle.batch_verify.proofs.EntryNodes.{IsTop, IsBelow, Stands, stands, node_of}
 use Rattle.batch_verify.proofs.Verdicts.{bare_reserves}
 use Rattle.batch_verify.proofs.WayActs.{IsHereOn}
 

@@ -9,7 +9,7 @@ use Rattle.batch_recipe.specs.Nodes.{Node, reserves_of}
 use Rattle.batch_recipe.specs.Tree.{Place, Reserve, Tree}
 use Rattle.batch_model.specs.Lists.{Each}
 use Rattle.batch_model.specs.Cleared.{ReservesFollow}
-use Rattle.batch_verify.proofs.NameLemmas.{Each-at, Each-next}
+use Rattle.batch_verify.proofs.NamesInList.{Each-at, Each-next}
 
 pub is_none : (o : Option ℕ) → is_some o ≡ false → IsNone o
 is_none o h = grind arith

@@ -10,14 +10,14 @@ use Rattle.batch_recipe.specs.Tree.{Place, Tree, act, skip, seq, par, sel, loop,
 use Rattle.batch_recipe.specs.declared.act.Act.{Act}
 use Rattle.batch_recipe.specs.declared.act.Work.{Work}
 use Rattle.batch_recipe.specs.declared.acts.Acts.{Acts}
-use Rattle.batch_recipe.proofs.Below.{stands}
-use Rattle.batch_recipe.proofs.Linking.{AreFrom}
+use Rattle.batch_recipe.proofs.NodeSubtrees.{stands}
+use Rattle.batch_recipe.proofs.OutlineLinks.{AreFrom}
 use Rattle.batch_recipe.proofs.NodeActs.{procedure_acts_are}
-use Rattle.batch_recipe.proofs.Order.{counted_nodes}
+use Rattle.batch_recipe.proofs.NodeOrder.{counted_nodes}
 use Rattle.batch_model.specs.Cleared.{phases, phases_within, phases_of_each, phases_of_choices}
 use Rattle.batch_verify.specs.NodePhases.{phase_run, phase_at, phases_along, phases_between}
 use Rattle.batch_verify.specs.Walking.{phase_names}
-use Rattle.batch_verify.proofs.Phases.{phase_names-append}
+use Rattle.batch_verify.proofs.PhaseNames.{phase_names-append}
 
 -- the phase that a tree runs at its root
 abbrev run_by : Task → List Name

@@ -17,11 +17,11 @@ use Rattle.batch_recipe.specs.Tree.{Tree}
 use Rattle.batch_recipe.specs.declared.act.Act.{Act}
 use Rattle.batch_recipe.specs.declared.entry.Entry.{Entry}
 use Rattle.batch_recipe.specs.declared.recipe.Recipe.{Recipe}
-use Rattle.batch_recipe.proofs.Linking.{as_many_entries}
+use Rattle.batch_recipe.proofs.OutlineLinks.{as_many_entries}
 use Rattle.batch_model.specs.Lists.{Each}
 use Rattle.batch_model.specs.Cleared.{Ranking, Level, is_procedure, below, Part, part}
 use Rattle.batch_model.specs.Setups.{setup_of}
-use Rattle.batch_model.proofs.Parts.{parts-nodes}
+use Rattle.batch_model.proofs.TreeParts.{parts-nodes}
 use Rattle.batch_verify.specs.Charts.{AreFaults, IsFaultOf}
 use Rattle.batch_verify.specs.Refusals.{Breaks, IsFirstBroken, MeetsRules}
 use Rattle.batch_verify.specs.Walking.{IsEntered, IsEnteredAs, IsOnUnit, RisesTo, kept, no_path}
@@ -31,7 +31,7 @@ use Rattle.batch_verify.specs.declared.site.Path.{Path}
 use Rattle.batch_verify.proofs.Faults.{one_more}
 use Rattle.batch_verify.proofs.Spots.{outlines}
 use Rattle.batch_verify.proofs.Ranks.{path_begins, path_is_rising}
-use Rattle.batch_verify.proofs.Stands.{IsTop, IsBelow, Stands, stands, node_of}
+use Rattle.batch_verify.proofs.EntryNodes.{IsTop, IsBelow, Stands, stands, node_of}
 use Rattle.batch_verify.proofs.Verdicts.{MeetBelow, all_meet, bare_breaks, bare_meets, bare_needs, first_breaks}
 use Rattle.batch_verify.proofs.WayActs.{IsActOn, IsHereOn}
 

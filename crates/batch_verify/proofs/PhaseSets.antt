@@ -13,13 +13,13 @@ use Rattle.batch_recipe.specs.declared.act.Act.{Act}
 use Rattle.batch_recipe.specs.declared.act.Work.{Work}
 use Rattle.batch_recipe.specs.declared.act.Work.TheVariants.{Follows, Runs}
 use Rattle.batch_recipe.specs.declared.acts.Acts.{Acts}
-use Rattle.batch_recipe.proofs.Finding.{position_front, position_later, position_nowhere}
+use Rattle.batch_recipe.proofs.FirstMatch.{position_front, position_later, position_nowhere}
 use Rattle.batch_verify.specs.NodePhases.{phase_run}
 use Rattle.batch_verify.specs.PhaseSets.{has, has_some, number_in, number_of, runs, AreKnownFrom, GivesNumber, IsOfTree, IsSetOf}
 use Rattle.batch_verify.specs.declared.phase_set.PhaseSet.{PhaseSet}
 use Rattle.batch_verify.specs.declared.tree_phases.TreePhases.{TreePhases}
-use Rattle.batch_verify.proofs.Phases.{is_among-append}
-use Rattle.batch_verify.proofs.RunningApart.{AreApart}
+use Rattle.batch_verify.proofs.PhaseNames.{is_among-append}
+use Rattle.batch_verify.proofs.BranchesApart.{AreApart}
 
 or_none : (b : Bool) → (b || false) ≡ true → b ≡ true
 or_none b e = grind arith

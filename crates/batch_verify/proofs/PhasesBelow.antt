@@ -17,9 +17,9 @@ use Rattle.batch_recipe.specs.declared.acts.Acts.{Acts}
 use Rattle.batch_recipe.specs.declared.entry.Entry.{Entry}
 use Rattle.batch_recipe.specs.declared.entry.Kind.{Kind}
 use Rattle.batch_recipe.specs.declared.recipe.Recipe.{Recipe}
-use Rattle.batch_recipe.proofs.Below.{place_within}
-use Rattle.batch_recipe.proofs.Climbing.{entry_at, ns}
-use Rattle.batch_recipe.proofs.Reaching.{below_place}
+use Rattle.batch_recipe.proofs.NodeSubtrees.{place_within}
+use Rattle.batch_recipe.proofs.NodesAbove.{entry_at, ns}
+use Rattle.batch_recipe.proofs.NodesBelow.{below_place}
 use Rattle.batch_verify.specs.NodePhases.{phase_at, phase_run, phases_along, phases_between}
 use Rattle.batch_verify.specs.PhaseSets.{own_phases}
 use Rattle.batch_verify.proofs.TreesApart.{phases_along-append}

@@ -5,11 +5,11 @@ use Rattle.batch_recipe.specs.Nodes.{node_count}
 use Rattle.batch_recipe.specs.Tree.{Trees, no_trees, tree}
 use Rattle.batch_recipe.specs.declared.entry.Entry.{Entry}
 use Rattle.batch_recipe.specs.declared.recipe.Recipe.{Recipe}
-use Rattle.batch_recipe.proofs.Below.{some_count}
-use Rattle.batch_recipe.proofs.Climbing.{ns}
+use Rattle.batch_recipe.proofs.NodeSubtrees.{some_count}
+use Rattle.batch_recipe.proofs.NodesAbove.{ns}
 use Rattle.batch_model.specs.Cleared.{some_surely_runs}
 use Rattle.batch_verify.specs.RunningNodes.{RunsFrom}
-use Rattle.batch_verify.proofs.RunningAt.{known_at, ends_at, ends_later}
+use Rattle.batch_verify.proofs.RunningTrees.{known_at, ends_at, ends_later}
 
 -- branches end no earlier than they begin
 later : (r : Recipe) (end k : ℕ) (ts : Trees) → AreHere (ns r) k end ts → k ≤ end

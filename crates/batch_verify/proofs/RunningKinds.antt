@@ -8,11 +8,11 @@ use Rattle.batch_recipe.specs.Outlines.{Form, an_act, a_skip, a_seq, a_par, a_se
 use Rattle.batch_recipe.specs.Tree.{Tree, Trees, Choices}
 use Rattle.batch_recipe.specs.declared.entry.Entry.{Entry}
 use Rattle.batch_recipe.specs.declared.recipe.Recipe.{Recipe}
-use Rattle.batch_recipe.proofs.Below.{some_count, has_below, ends_within}
-use Rattle.batch_recipe.proofs.Climbing.{ns, entry_at}
+use Rattle.batch_recipe.proofs.NodeSubtrees.{some_count, has_below, ends_within}
+use Rattle.batch_recipe.proofs.NodesAbove.{ns, entry_at}
 use Rattle.batch_model.specs.Cleared.{surely_runs, some_surely_runs, each_surely_runs}
 use Rattle.batch_verify.specs.RunningNodes.{RunsFrom}
-use Rattle.batch_verify.proofs.RunningAt.{known_at, same_at}
+use Rattle.batch_verify.proofs.RunningTrees.{known_at, same_at}
 
 module _ (r : Recipe) (known : List Bool) (node end : ℕ) where
   -- the answer for a node of this form, if all nodes below it come before `end`

@@ -19,7 +19,7 @@ use Rattle.batch_set.specs.declared.linked.Source.TheVariants.{Resource, Role as
 use Rattle.batch_verify.specs.Asking.{Ask, among_first, asks_by, is_fitting, is_found, number_by, rank_by, ranks_along}
 use Rattle.batch_verify.specs.Spans.{AreAsked, AreBetween, IsAtMost, IsTakenAt, IsUnitBelow, IsUnitFrom, PhaseOffered, SourceOffers, ok_unit, ranks_or_none}
 use Rattle.batch_verify.specs.Walking.{Rises, known_unit, last_rank, offers_on, offers_work}
-use Rattle.batch_verify.proofs.AskedByName.{among_first-all}
+use Rattle.batch_verify.proofs.AsksByName.{among_first-all}
 
 -- it is the number, and one of the first
 among_is : (count : ℕ) (o : Option ℕ) (n : ℕ) → among_first count o ≡ Some n → (o ≡ Some n) × (n < count)

@@ -11,8 +11,8 @@ use Rattle.batch_recipe.specs.Procedure.{sites, tables_from}
 use Rattle.batch_recipe.specs.declared.acts.LabelTable.TheVariants.{UnitProcedures}
 use Rattle.batch_recipe.specs.declared.entry.Entry.{Entry}
 use Rattle.batch_recipe.specs.declared.recipe.Recipe.{Recipe}
-use Rattle.batch_recipe.proofs.Slices.{slice_get-left, slice_get-right}
-use Rattle.batch_recipe.proofs.Shaping.{is_outline}
+use Rattle.batch_recipe.proofs.AppendedLists.{slice_get-left, slice_get-right}
+use Rattle.batch_recipe.proofs.EntryShapes.{is_outline}
 use Rattle.batch_verify.specs.Ways.{Spot, Way, way, ways, ways_within, ways_of_each, ways_of_choices, spot_within, top, bound_ways}
 
 -- as many ways as nodes

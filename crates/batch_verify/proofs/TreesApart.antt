@@ -9,13 +9,13 @@ use Rattle.batch_recipe.specs.Nodes.{Node, node_count}
 use Rattle.batch_recipe.specs.Tree.{Tree, par, Trees, no_trees, tree}
 use Rattle.batch_recipe.specs.declared.entry.Entry.{Entry}
 use Rattle.batch_recipe.specs.declared.recipe.Recipe.{Recipe}
-use Rattle.batch_recipe.proofs.Below.{has_below, some_count}
-use Rattle.batch_recipe.proofs.Climbing.{ns, entry_at}
-use Rattle.batch_recipe.proofs.Reaching.{read_at}
+use Rattle.batch_recipe.proofs.NodeSubtrees.{has_below, some_count}
+use Rattle.batch_recipe.proofs.NodesAbove.{ns, entry_at}
+use Rattle.batch_recipe.proofs.NodesBelow.{read_at}
 use Rattle.batch_model.specs.Cleared.{phases, BranchesRunApart}
 use Rattle.batch_verify.specs.NodePhases.{phase_at, phases_along}
 use Rattle.batch_verify.specs.Walking.{phase_names}
-use Rattle.batch_verify.proofs.RunningApart.{AreApart, KeepsApart, KeepsApart-next}
+use Rattle.batch_verify.proofs.BranchesApart.{AreApart, KeepsApart, KeepsApart-next}
 
 pub phases_along-append : (xs ys : ActList) → phases_along (xs ++ ys) ≡ phases_along xs ++ phases_along ys
 phases_along-append [] ys = refl

@@ -22,10 +22,10 @@ use Rattle.batch_verify.specs.Refusals.{rank_in, ranking_in, IsTried, IsTriedFor
 use Rattle.batch_verify.specs.declared.rule.Broken.{Broken}
 use Rattle.batch_verify.specs.Spans.{GivesUnits}
 use Rattle.batch_verify.specs.Trials.{extreme, raised, raised_for, raised_unit, rank_or_0, roles_raised}
-use Rattle.batch_verify.proofs.Bound.{least_verdict}
+use Rattle.batch_verify.proofs.RecipeVerdict.{least_verdict}
 use Rattle.batch_verify.proofs.Extremes.{extreme_best, extreme_is, index_of}
-use Rattle.batch_verify.proofs.Least.{IsLeast, WithOne, least_fewer, least_next}
-use Rattle.batch_verify.proofs.Tried.{differ, numbered-gives, numbered-tried, own_role}
+use Rattle.batch_verify.proofs.LeastVerdict.{IsLeast, WithOne, least_fewer, least_next}
+use Rattle.batch_verify.proofs.NumberedBindings.{differ, numbered-gives, numbered-tried, own_role}
 
 module _ (c : equipment.Cell) (recipes : List Recipe) (recipe : Recipe) where
   abbrev setup : Setup

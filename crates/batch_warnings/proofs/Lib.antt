@@ -1,3 +1,3 @@
 pub mod Branches
-pub mod Numbers
-pub mod Ranges
+pub mod NumbersOfMatches
+pub mod DeclaredValues

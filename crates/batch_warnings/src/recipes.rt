@@ -89,7 +89,7 @@ fn quantities_in(recipe: &Recipe, table: QuantityTable) -> &[Quantity]
 }
 
 /// Whether the value of a batch of the size of the basis, which is the value that is declared, is outside its range.
-#[tactic(auto, using(crate::proofs::Ranges::declared_value))]
+#[tactic(auto, using(crate::proofs::DeclaredValues::declared_value))]
 fn is_out_of_range(quantity: &Quantity, basis: u64) -> bool
     requires { 0 < basis }
     ensures { result ≡ not (is_in_range basis basis quantity.now) }

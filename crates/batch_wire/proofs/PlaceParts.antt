@@ -10,7 +10,7 @@ use Rattle.batch_recipe.specs.Texts.{place_text}
 use Rattle.batch_recipe.specs.Tree.{Place}
 use Rattle.batch_recipe.specs.declared.entry.Entry.{Entry}
 use Rattle.batch_recipe.specs.declared.recipe.Recipe.{Recipe}
-use Rattle.batch_recipe.proofs.Climbing.{as_many, entry_at, read}
+use Rattle.batch_recipe.proofs.NodesAbove.{as_many, entry_at, read}
 use Rattle.batch_engine.specs.Names.{place_of}
 use Rattle.batch_wire.specs.Pieces.{text_of_place}
 

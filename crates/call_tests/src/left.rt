@@ -69,7 +69,7 @@ impl Left {
     }
 
     /// Takes an out that is left.
-    #[tactic(auto, using(crate::proofs::Seating::left_stays))]
+    #[tactic(auto, using(crate::proofs::FirstPort::left_stays))]
     fn take(&mut self) -> Option<Out> {
         self.inbox.pop_out()
     }
@@ -101,7 +101,7 @@ impl Left {
 }
 
 impl Teller<Cleared> for Left {
-    #[tactic(auto, using(crate::proofs::Seating::left_stays))]
+    #[tactic(auto, using(crate::proofs::FirstPort::left_stays))]
     fn answer(&mut self, alloc: Global, cleared: &mut Cleared, line: &str) -> Result<String, Fail> {
         let (word, words) = line.split_once(' ').unwrap_or((line, ""));
         match (word, words) {

@@ -39,7 +39,7 @@ impl Seats {
     }
 
     /// The first of the desks is set apart.
-    #[tactic(auto, using(crate::proofs::Seating::first_seated))]
+    #[tactic(auto, using(crate::proofs::FirstPort::first_seated))]
     fn of(hub: Hub, desks: Vec<Desk>) -> Result<Seats, Fail>
         requires { rings hub ≡ map desk_rings desks.items }
     {
@@ -52,7 +52,7 @@ impl Seats {
     }
 
     /// The first desk finishes.
-    #[tactic(auto, using(crate::proofs::Seating::left_seated))]
+    #[tactic(auto, using(crate::proofs::FirstPort::left_seated))]
     pub(crate) fn finish(self) -> Left {
         let Seats { hub, first, others } = self;
         let (token, inbox) = first.finish();
@@ -66,7 +66,7 @@ impl Seats {
 }
 
 impl Teller<Cleared> for Seats {
-    #[tactic(auto, using(crate::proofs::Seating::seated_stays))]
+    #[tactic(auto, using(crate::proofs::FirstPort::seated_stays))]
     fn answer(&mut self, alloc: Global, cleared: &mut Cleared, line: &str) -> Result<String, Fail> {
         let (word, words) = line.split_once(' ').unwrap_or((line, ""));
         let (port, event) = words.split_once(' ').unwrap_or((words, ""));

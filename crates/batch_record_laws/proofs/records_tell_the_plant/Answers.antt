@@ -1,5 +1,5 @@
-use Rattle.batch_record_laws.proofs.Telling.{tells_the_plant}
-use Rattle.batch_record_laws.proofs.Clearing.{cleared-down}
+use Rattle.batch_record_laws.proofs.PlantByRecord.{tells_the_plant}
+use Rattle.batch_record_laws.proofs.ClearanceOverNodes.{cleared-down}
 use Rattle.batch_record_laws.proofs.records_tell_the_plant.Goals as goal
 
 pub returns : goal.returns

@@ -1,5 +1,5 @@
-use Rattle.batch_record_laws.proofs.Clearing.{cleared-down}
-use Rattle.batch_safety.proofs.KeptAlong.{units-kept}
+use Rattle.batch_record_laws.proofs.ClearanceOverNodes.{cleared-down}
+use Rattle.batch_safety.proofs.UnitsAlongRecord.{units-kept}
 use Rattle.batch_safety.proofs.units_are_kept.Goals as goal
 
 pub returns : goal.returns

@@ -4,7 +4,7 @@ use Rattle.std.proofs.lemmas.List.{length_push}
 use Rattle.batch_arbiter.specs.declared.entry.Entry.{Entry}
 use Rattle.batch_arbiter.specs.Linked.{IsGrown}
 use Rattle.batch_arbiter.proofs.Pushes.{pushed_ok}
-use Rattle.batch_arbiter.proofs.Growing.{IsGrown-more}
+use Rattle.batch_arbiter.proofs.PoolGrowth.{IsGrown-more}
 use Rattle.batch_arbiter.proofs.pool.add_free.Goals as goal
 
 pub loop-preserved : goal.loop-preserved

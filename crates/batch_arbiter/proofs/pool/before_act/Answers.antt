@@ -1,5 +1,5 @@
 use Rattle.std.proofs.Common.{arith, sym, ◌∙◌}
-use Rattle.batch_arbiter.proofs.Seeking.{before-within, next-within, Seeks-found, Seeks-more, none-behind}
+use Rattle.batch_arbiter.proofs.ClaimSearch.{before-within, next-within, Seeks-found, Seeks-more, none-behind}
 use Rattle.batch_arbiter.proofs.pool.before_act.Goals as goal
 
 pub bounds-entries-before : goal.bounds-entries-before

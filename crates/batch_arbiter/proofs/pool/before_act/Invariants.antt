@@ -1,4 +1,4 @@
-use Rattle.batch_arbiter.proofs.Seeking.{Seeks}
+use Rattle.batch_arbiter.proofs.ClaimSearch.{Seeks}
 use Rattle.batch_arbiter.proofs.pool.before_act.Given as goal
 
 abbrev pub invariant-loop : goal.invariant-loop

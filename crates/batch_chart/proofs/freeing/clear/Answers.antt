@@ -1,5 +1,5 @@
 use Rattle.std.proofs.Common.{arith}
-use Rattle.batch_chart.proofs.FreedNeatly.{cleared-none, cleared-next, cleared-end}
+use Rattle.batch_chart.proofs.EndedActSigns.{cleared-none, cleared-next, cleared-end}
 use Rattle.batch_chart.proofs.freeing.clear.Goals as goal
 
 pub loop-n-init : goal.loop-n-init

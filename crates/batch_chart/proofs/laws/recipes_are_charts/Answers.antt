@@ -1,4 +1,4 @@
-use Rattle.batch_chart.proofs.Laid.{is_chart}
+use Rattle.batch_chart.proofs.RecipeChart.{is_chart}
 use Rattle.batch_chart.proofs.laws.recipes_are_charts.Goals as goal
 
 pub returns : goal.returns

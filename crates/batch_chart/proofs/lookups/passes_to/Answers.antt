@@ -1,7 +1,7 @@
 use Rattle.std.proofs.Common.{◌≡◌, ◌<◌, length, true, false, subst, arith, inl, inr}
 use Rattle.std.proofs.lemmas.Bool.{cases_lt}
 use Rattle.batch_recipe.specs.Procedure.{procedure_nodes}
-use Rattle.batch_chart.proofs.Handed.{as-counted, passes-no_act, passes-before, passes-follower, follower-within}
+use Rattle.batch_chart.proofs.PassTarget.{as-counted, passes-no_act, passes-before, passes-follower, follower-within}
 use Rattle.batch_chart.proofs.lookups.passes_to.Goals as goal
 
 pub returns-in-None-clause-to : goal.returns-in-None-clause-to

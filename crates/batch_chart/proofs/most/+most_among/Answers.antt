@@ -1,6 +1,6 @@
 use Rattle.std.proofs.Common.{rules, arith, ◌≡◌, ◌+◌, ◌∙◌, ap, subst}
 use Rattle.batch_chart.specs.Most.{Needs, Units, count_of, is_par, joined, most_of, own_of}
-use Rattle.batch_chart.proofs.Together.{joined-few, none-counted, none-few, row-more, row-none, some-row}
+use Rattle.batch_chart.proofs.ActTotals.{joined-few, none-counted, none-few, row-more, row-none, some-row}
 use Rattle.batch_chart.proofs.most.+most_among.Goals as goal
 
 pub bounds-nodes-n : goal.bounds-nodes-n

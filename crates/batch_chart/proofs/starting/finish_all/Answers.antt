@@ -1,5 +1,5 @@
 use Rattle.std.proofs.Common.{arith}
-use Rattle.batch_chart.proofs.Started.{finished-more}
+use Rattle.batch_chart.proofs.StartAndWithdrawal.{finished-more}
 use Rattle.batch_chart.proofs.starting.finish_all.Goals as goal
 
 pub loop-n-preserved : goal.loop-n-preserved

@@ -2,7 +2,7 @@ use Rattle.batch_chart.specs.Needs.{needs_of}
 use Rattle.std.proofs.Common.{◌∙◌, ap}
 use Rattle.batch_chart.specs.Noting.{stage_signs}
 use Rattle.batch_chart.specs.declared.stage.Stage.TheVariants.{Ready}
-use Rattle.batch_chart.proofs.Started.{none-started, starts, starts-none, starts-neatly, empty-length, some-length}
+use Rattle.batch_chart.proofs.StartAndWithdrawal.{none-started, starts, starts-none, starts-neatly, empty-length, some-length}
 use Rattle.batch_chart.proofs.starting.start.Goals as goal
 
 pub returns-then-is_empty : goal.returns-then-is_empty

@@ -1,5 +1,5 @@
 use Rattle.std.proofs.Common.{◌∙◌, arith, sym}
-use Rattle.batch_chart.proofs.MovedOn.{held-new, held-again, held-other}
+use Rattle.batch_chart.proofs.ChartAfterMove.{held-new, held-again, held-other}
 use Rattle.batch_chart.proofs.taking.hold.Goals as goal
 
 pub push_front_reserved-requires : goal.push_front_reserved-requires

@@ -1,5 +1,5 @@
 use Rattle.std.proofs.Common.{◌<◌, length, arith, sym, ◌∙◌}
-use Rattle.batch_chart.proofs.TakenOver.{at-early, early-none, none-more, read-at}
+use Rattle.batch_chart.proofs.UnitTakeover.{at-early, early-none, none-more, read-at}
 use Rattle.batch_chart.proofs.taking.is_held.Goals as goal
 
 pub loop-j-init : goal.loop-j-init

@@ -1,7 +1,7 @@
 use Rattle.std.proofs.Common.{◌∙◌, ap}
 use Rattle.batch_chart.specs.Early.{first_held}
 use Rattle.batch_chart.specs.Needs.{needs_of}
-use Rattle.batch_chart.proofs.TakenOver.{taken-at, idle-at}
+use Rattle.batch_chart.proofs.UnitTakeover.{taken-at, idle-at}
 use Rattle.batch_chart.proofs.taking.take_at.Goals as goal
 
 pub returns-in-Ready : goal.returns-in-Ready

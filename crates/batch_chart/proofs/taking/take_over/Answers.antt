@@ -1,5 +1,5 @@
 use Rattle.std.proofs.Common.{◌<◌, ◌∙◌, length, arith, sym}
-use Rattle.batch_chart.proofs.TakenOver.{taken-first, taken-next, taken-end, as-many-stages, read-at}
+use Rattle.batch_chart.proofs.UnitTakeover.{taken-first, taken-next, taken-end, as-many-stages, read-at}
 use Rattle.batch_chart.proofs.taking.take_over.Goals as goal
 
 pub loop-j-init : goal.loop-j-init

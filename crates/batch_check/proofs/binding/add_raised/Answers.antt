@@ -5,7 +5,7 @@ use Rattle.std.proofs.lemmas.List.{take_all, take_more}
 use Rattle.std.proofs.lemmas.List.Elements.{Contains-get_or}
 use Rattle.batch_check.specs.Collecting.{HasRaised, HasTakenBy, raised}
 use Rattle.batch_check.specs.Joining.{AreBelow}
-use Rattle.batch_check.proofs.Taken.{HasRaised-more, HasRaised-none, HasRaised-start, HasRaised-then, raised_below}
+use Rattle.batch_check.proofs.EdgesInBindings.{HasRaised-more, HasRaised-none, HasRaised-start, HasRaised-then, raised_below}
 use Rattle.batch_check.proofs.binding.add_raised.Goals as goal
 
 abbrev Units : Type 0

@@ -5,7 +5,7 @@ use Rattle.batch_check.specs.Collecting.{HasTakenBy}
 use Rattle.batch_check.specs.Joining.{AreBelow}
 use Rattle.batch_check.proofs.Raises.{no_edge}
 use Rattle.batch_check.proofs.Roles.{resource_for-within}
-use Rattle.batch_check.proofs.Taken.{HasTakenBy-more, HasTakenBy-none}
+use Rattle.batch_check.proofs.EdgesInBindings.{HasTakenBy-more, HasTakenBy-none}
 use Rattle.batch_check.proofs.binding.add_taken.Goals as goal
 
 pub loop-edge-init : goal.loop-edge-init

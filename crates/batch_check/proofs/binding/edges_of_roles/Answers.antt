@@ -3,7 +3,7 @@ use Rattle.std.proofs.lemmas.List.{take_more}
 use Rattle.batch_check.specs.declared.edge.Edge.{Edge}
 use Rattle.batch_check.specs.Collecting.{AreThose, is_of_role}
 use Rattle.batch_check.proofs.Raises.{no_edge}
-use Rattle.batch_check.proofs.Taken.{AreThose-left, AreThose-more, AreThose-none}
+use Rattle.batch_check.proofs.EdgesInBindings.{AreThose-left, AreThose-more, AreThose-none}
 use Rattle.batch_check.proofs.binding.edges_of_roles.Goals as goal
 
 pub loop-edge-init : goal.loop-edge-init

@@ -1,6 +1,6 @@
 use Rattle.std.proofs.Common.{sym, ap, ◌∙◌}
 use Rattle.batch_cell.specs.LookUps.{resources_of}
-use Rattle.batch_verify.proofs.Taking.{nobody_unknown}
+use Rattle.batch_verify.proofs.RoleTakers.{nobody_unknown}
 use Rattle.batch_check.specs.Edges.{number_of_resource}
 use Rattle.batch_check.proofs.binding.unit_by.Goals as goal
 

@@ -1,8 +1,8 @@
 use Rattle.std.proofs.Common.{◌++◌, ◌∷◌, [], ap, ◌∙◌}
-use Rattle.batch_set.proofs.Mapped.{AreAdded-all, AreAdded-more}
+use Rattle.batch_set.proofs.TableRows.{AreAdded-all, AreAdded-more}
 use Rattle.batch_check.specs.Edges.{number_of_resource}
 use Rattle.batch_check.specs.Takings.{alike, bound_by}
-use Rattle.batch_check.proofs.Taken.{units_in_turn}
+use Rattle.batch_check.proofs.EdgesInBindings.{units_in_turn}
 use Rattle.batch_check.proofs.binding.units_by.Goals as goal
 
 pub loop-role-preserved : goal.loop-role-preserved

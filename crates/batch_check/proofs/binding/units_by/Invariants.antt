@@ -1,4 +1,4 @@
-use Rattle.batch_set.proofs.Mapped.{AreMapped}
+use Rattle.batch_set.proofs.TableRows.{AreMapped}
 use Rattle.batch_check.specs.Edges.{number_of_resource}
 use Rattle.batch_check.specs.Takings.{alike, bound_by}
 use Rattle.batch_check.proofs.binding.units_by.Given as goal

@@ -1,7 +1,7 @@
 use Rattle.std.proofs.Common.{◌≡◌, subst, arith}
 use Rattle.batch_verify.specs.Bindings.{binding_count}
 use Rattle.batch_check.specs.Takings.{AreUnitsOf}
-use Rattle.batch_check.proofs.Takings.{units_more, units_none}
+use Rattle.batch_check.proofs.RoleUnits.{units_more, units_none}
 use Rattle.batch_check.proofs.binding.units_of_each.Goals as goal
 
 pub loop-number-init : goal.loop-number-init

@@ -5,8 +5,8 @@ use Rattle.batch_model.specs.Setups.{setup_of}
 use Rattle.batch_check.specs.ByName.{IsCertificateOf}
 use Rattle.batch_check.specs.Clearing.{IsLeastClearance}
 use Rattle.batch_check.specs.TightRanks.{RanksTightly}
-use Rattle.batch_check.proofs.Told.{TellsRanks-certificate}
-use Rattle.batch_verify.proofs.RecipeLemmas.{set_length}
+use Rattle.batch_check.proofs.CertificateRanks.{TellsRanks-certificate}
+use Rattle.batch_verify.proofs.RecipesInSet.{set_length}
 use Rattle.batch_check.proofs.Verdicts.{recipe_fault_none, circle_fault_none, least_clearance, candidates_known, needs_known}
 use Rattle.batch_check.proofs.checking.check.Goals as goal
 

@@ -9,10 +9,10 @@ use Rattle.batch_check.specs.Collecting.{IsReady, is_joined, kept_at_top, with_j
 use Rattle.batch_check.specs.Sites.{numbers_at, numbers_of}
 use Rattle.batch_set.specs.declared.linked.LinkedNeed.{LinkedNeed}
 use Rattle.batch_check.specs.declared.path.Path.{Path}
-use Rattle.batch_check.proofs.Asking.{Follows-alone}
-use Rattle.batch_check.proofs.Collects.{AreJoined, AreJoined-at, AreJoined-none, AreJoined-with, IsTop, KeepsPaths, KeepsPaths-first, KeepsPaths-more, all_collected, is_above, top_of}
+use Rattle.batch_check.proofs.EdgesOfAct.{Follows-alone}
+use Rattle.batch_check.proofs.EdgesAlongPaths.{AreJoined, AreJoined-at, AreJoined-none, AreJoined-with, IsTop, KeepsPaths, KeepsPaths-first, KeepsPaths-more, all_collected, is_above, top_of}
 use Rattle.batch_check.proofs.Names.{resources_few}
-use Rattle.batch_check.proofs.Numbers.{numbers_stand}
+use Rattle.batch_check.proofs.NeedNumbers.{numbers_stand}
 use Rattle.batch_check.proofs.collecting.collect.Goals as goal
 use Rattle.batch_check.proofs.collecting.collect.Goals.{After-path_above-above, After-top-top}
 

@@ -10,8 +10,8 @@ use Rattle.batch_check.specs.Takings.{AreUnitsOf, alike, units_by}
 use Rattle.batch_check.specs.declared.edge.Edge.{Edge}
 use Rattle.batch_check.specs.declared.edge_set.EdgeSet.{EdgeSet}
 use Rattle.batch_check.specs.declared.site.Site.{Site}
-use Rattle.batch_check.proofs.Recipes.{KeepsBindings, KeepsBindings-alike, KeepsBindings-apart, KeepsBindings-fewer, KeepsBindings-first, added_all}
-use Rattle.batch_check.proofs.Takings.{item_at, units_below, units_within}
+use Rattle.batch_check.proofs.RecipeEdges.{KeepsBindings, KeepsBindings-alike, KeepsBindings-apart, KeepsBindings-fewer, KeepsBindings-first, added_all}
+use Rattle.batch_check.proofs.RoleUnits.{item_at, units_below, units_within}
 use Rattle.batch_check.proofs.edges.add_edges.Goals as goal
 
 abbrev Units : Type 0

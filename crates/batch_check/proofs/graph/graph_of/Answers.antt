@@ -1,8 +1,8 @@
 use Rattle.std.proofs.Common.{length}
 use Rattle.batch_cell.specs.LookUps.{resources_of}
 use Rattle.batch_check.specs.LeastRanking.{HasEndsBelow}
-use Rattle.batch_check.proofs.Recipes.{edges_with, standing_within}
-use Rattle.batch_verify.proofs.RecipeLemmas.{set_length}
+use Rattle.batch_check.proofs.RecipeEdges.{edges_with, standing_within}
+use Rattle.batch_verify.proofs.RecipesInSet.{set_length}
 use Rattle.batch_check.proofs.graph.graph_of.Goals as goal
 
 pub edges_of-requires-clause-few : goal.edges_of-requires-clause-few

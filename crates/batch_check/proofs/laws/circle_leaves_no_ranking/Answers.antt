@@ -1,4 +1,4 @@
-use Rattle.batch_check.proofs.Orders.{circle_rules_out}
+use Rattle.batch_check.proofs.RaiseRounds.{circle_rules_out}
 use Rattle.batch_check.proofs.laws.circle_leaves_no_ranking.Goals as goal
 
 pub returns : goal.returns

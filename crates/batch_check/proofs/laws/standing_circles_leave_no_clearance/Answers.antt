@@ -1,5 +1,5 @@
 use Rattle.batch_model.specs.Setups.{setup_of}
-use Rattle.batch_check.proofs.Rising.{circle_leaves_none, cleared_rises}
+use Rattle.batch_check.proofs.RanksAlongPaths.{circle_leaves_none, cleared_rises}
 use Rattle.batch_check.proofs.laws.standing_circles_leave_no_clearance.Goals as goal
 
 pub returns : goal.returns

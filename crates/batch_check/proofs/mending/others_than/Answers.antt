@@ -2,7 +2,7 @@ use Rattle.std.proofs.Common.{◌∙◌, List, get_or, subst, sym, take}
 use Rattle.std.proofs.lemmas.List.{take_more}
 use Rattle.batch_check.specs.declared.edge.Edge.{Edge}
 use Rattle.batch_check.specs.Mending.{AreOthers}
-use Rattle.batch_check.proofs.LeftOut.{others_new, others_same}
+use Rattle.batch_check.proofs.OrdersWithoutOne.{others_new, others_same}
 use Rattle.batch_check.proofs.Raises.{no_edge}
 use Rattle.batch_check.proofs.mending.others_than.Goals as goal
 

@@ -2,7 +2,7 @@ use Rattle.std.proofs.Common.{List, [], ◌∷◌, ◌++◌, get_or, subst, sym,
 use Rattle.std.proofs.lemmas.List.{take_all, take_more}
 use Rattle.batch_check.specs.declared.edge.Edge.{Edge}
 use Rattle.batch_check.specs.Mending.{TellRises, TellsRiseAlong}
-use Rattle.batch_check.proofs.LeftOut.{TellRises-more, told_standing}
+use Rattle.batch_check.proofs.OrdersWithoutOne.{TellRises-more, told_standing}
 use Rattle.batch_check.proofs.Raises.{no_edge}
 use Rattle.batch_check.proofs.mending.rise_along_others.Goals as goal
 

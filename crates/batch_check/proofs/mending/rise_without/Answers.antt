@@ -1,4 +1,4 @@
-use Rattle.batch_verify.proofs.RecipeLemmas.{set_length}
+use Rattle.batch_verify.proofs.RecipesInSet.{set_length}
 use Rattle.batch_check.proofs.mending.rise_without.Goals as goal
 
 pub rise_along_others-requires : goal.rise_along_others-requires

@@ -5,9 +5,9 @@ use Rattle.batch_set.specs.declared.linked.LinkedNeed.{LinkedNeed}
 use Rattle.batch_check.specs.Collecting.{HasAsked, ends_in}
 use Rattle.batch_check.specs.Joining.{HasJoined}
 use Rattle.batch_check.specs.Sites.{number_of, numbers_of}
-use Rattle.batch_check.proofs.Asking.{HasAsked-again}
-use Rattle.batch_check.proofs.Joins.{Contains-at}
-use Rattle.batch_check.proofs.Numbers.{number_there}
+use Rattle.batch_check.proofs.EdgesOfAct.{HasAsked-again}
+use Rattle.batch_check.proofs.EdgesFromNeeds.{Contains-at}
+use Rattle.batch_check.proofs.NeedNumbers.{number_there}
 use Rattle.batch_check.proofs.path.ask_again.Goals as goal
 
 pub join-requires-clause-later : goal.join-requires-clause-later

@@ -2,8 +2,8 @@ use Rattle.std.proofs.Common.{ℕ, List, [], ◌∷◌, Option, Some, None, ap, 
 use Rattle.std.proofs.lemmas.List.{take_more}
 use Rattle.std.proofs.lemmas.Option.{slice_get-get_or}
 use Rattle.batch_check.specs.Collecting.{HasAsked}
-use Rattle.batch_check.proofs.Asking.{HasAsked-append, HasAsked-copied}
-use Rattle.batch_check.proofs.Joins.{Contains-at}
+use Rattle.batch_check.proofs.EdgesOfAct.{HasAsked-append, HasAsked-copied}
+use Rattle.batch_check.proofs.EdgesFromNeeds.{Contains-at}
 use Rattle.batch_check.proofs.path.ask_each.Goals as goal
 
 pub loop-need-init : goal.loop-need-init

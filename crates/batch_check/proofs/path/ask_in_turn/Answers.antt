@@ -2,8 +2,8 @@ use Rattle.std.proofs.Common.{◌≡◌, ◌<◌, ℕ, List, [], ◌∷◌, Opti
 use Rattle.std.proofs.lemmas.List.{take_all, take_more}
 use Rattle.std.proofs.lemmas.Option.{slice_get-get_or}
 use Rattle.batch_check.specs.Collecting.{HasAsked, ends_in}
-use Rattle.batch_check.proofs.Asking.{HasAsked-append, HasAsked-copied, HasAsked-alone, is_ready}
-use Rattle.batch_check.proofs.Joins.{Contains-at}
+use Rattle.batch_check.proofs.EdgesOfAct.{HasAsked-append, HasAsked-copied, HasAsked-alone, is_ready}
+use Rattle.batch_check.proofs.EdgesFromNeeds.{Contains-at}
 use Rattle.batch_check.proofs.path.ask_in_turn.Goals as goal
 
 pub loop-need-init : goal.loop-need-init

@@ -1,5 +1,5 @@
 use Rattle.std.proofs.Common.{◌≡◌, ◌+◌, ◌≤◌, length, ap, ◌∙◌, arith, subst}
-use Rattle.batch_check.proofs.Orders.{Rounds, Rounds-more, written, IsLeastRanking-still, IsLeastRanking-all}
+use Rattle.batch_check.proofs.RaiseRounds.{Rounds, Rounds-more, written, IsLeastRanking-still, IsLeastRanking-all}
 use Rattle.batch_check.proofs.ranking.least_ranks.Goals as goal
 
 pub loop-round-preserved : goal.loop-round-preserved

@@ -1,5 +1,5 @@
 use Rattle.std.proofs.Common.{◌+◌}
-use Rattle.batch_check.proofs.Orders.{Rounds}
+use Rattle.batch_check.proofs.RaiseRounds.{Rounds}
 use Rattle.batch_check.proofs.ranking.least_ranks.Given as goal
 
 abbrev pub invariant-loop-round : goal.invariant-loop-round

@@ -1,4 +1,4 @@
-use Rattle.batch_check.proofs.Fewest.{WalksBack-more}
+use Rattle.batch_check.proofs.ShortestCircles.{WalksBack-more}
 use Rattle.batch_check.proofs.shortest.circle_behind.Goals as goal
 
 pub loop-at-preserved : goal.loop-at-preserved

@@ -1,5 +1,5 @@
 use Rattle.std.proofs.Common.{get_or}
-use Rattle.batch_check.proofs.Fewest.{WalksBack}
+use Rattle.batch_check.proofs.ShortestCircles.{WalksBack}
 use Rattle.batch_check.proofs.shortest.circle_behind.Given as goal
 
 abbrev pub invariant-loop-at : goal.invariant-loop-at

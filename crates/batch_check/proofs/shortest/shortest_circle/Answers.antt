@@ -1,4 +1,4 @@
-use Rattle.batch_check.proofs.Fewest.{HasFewest-all}
+use Rattle.batch_check.proofs.ShortestCircles.{HasFewest-all}
 use Rattle.batch_check.proofs.shortest.shortest_circle.Goals as goal
 
 pub returns-clause-fewest : goal.returns-clause-fewest

@@ -1,4 +1,4 @@
-use Rattle.batch_check.proofs.Fewest.{KeepsFewest}
+use Rattle.batch_check.proofs.ShortestCircles.{KeepsFewest}
 use Rattle.batch_check.proofs.shortest.shortest_circle.Given as goal
 
 abbrev pub invariant-loop-start : goal.invariant-loop-start

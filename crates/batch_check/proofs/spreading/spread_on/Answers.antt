@@ -1,4 +1,4 @@
-use Rattle.batch_check.proofs.Spreads.{IsSpread-next, KeepsSpreading-known, KeepsSpreading-other, KeepsSpreading-reach, level_positive}
+use Rattle.batch_check.proofs.SpreadRounds.{IsSpread-next, KeepsSpreading-known, KeepsSpreading-other, KeepsSpreading-reach, level_positive}
 use Rattle.batch_check.proofs.spreading.spread_on.Goals as goal
 use Rattle.batch_check.proofs.spreading.spread_on.Goals.{then-levels-from+else-edge-start+then-levels-later-eq0, then-levels-from+else-edge-start+else-levels-later-eq0, else-levels-from}
 

@@ -1,4 +1,4 @@
-use Rattle.batch_check.proofs.Spreads.{KeepsSpreading}
+use Rattle.batch_check.proofs.SpreadRounds.{KeepsSpreading}
 use Rattle.batch_check.proofs.spreading.spread_on.Given as goal
 
 abbrev pub invariant-loop-edge : goal.invariant-loop-edge

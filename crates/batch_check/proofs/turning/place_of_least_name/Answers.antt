@@ -3,7 +3,7 @@ use Rattle.std.proofs.lemmas.Bool.{false≢true}
 use Rattle.batch_check.specs.ByName.{name_in}
 use Rattle.batch_check.proofs.Raises.{no_edge}
 use Rattle.batch_check.proofs.Names.{name_in-found}
-use Rattle.batch_check.proofs.Turns.{IsLeastOf-one, IsLeastOf-takes, IsLeastOf-keeps, IsLeastOf-all, below_from_lt}
+use Rattle.batch_check.proofs.CircleStarts.{IsLeastOf-one, IsLeastOf-takes, IsLeastOf-keeps, IsLeastOf-all, below_from_lt}
 use Rattle.batch_check.proofs.turning.place_of_least_name.Goals as goal
 use Rattle.batch_check.proofs.turning.place_of_least_name.Goals.{then-lt, else-lt}
 

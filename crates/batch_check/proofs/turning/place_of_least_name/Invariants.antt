@@ -1,5 +1,5 @@
 use Rattle.std.proofs.Common.{◌<◌, length}
-use Rattle.batch_check.proofs.Turns.{IsLeastOf}
+use Rattle.batch_check.proofs.CircleStarts.{IsLeastOf}
 use Rattle.batch_check.proofs.turning.place_of_least_name.Given as goal
 
 abbrev pub invariant-loop-place : goal.invariant-loop-place

@@ -1,5 +1,5 @@
 use Rattle.batch_check.proofs.Raises.{no_edge}
-use Rattle.batch_check.proofs.Turns.{IsCircle-turned, BeginsWithLeastName-turned, length-turned}
+use Rattle.batch_check.proofs.CircleStarts.{IsCircle-turned, BeginsWithLeastName-turned, length-turned}
 use Rattle.batch_check.proofs.turning.turned.Goals as goal
 
 pub returns-clause-circle : goal.returns-clause-circle

@@ -1,4 +1,4 @@
-use Rattle.batch_cli.proofs.Steps.{next_command}
+use Rattle.batch_cli.proofs.TableEntries.{next_command}
 use Rattle.batch_cli.proofs.line.with_all.Goals as goal
 
 pub loop-text-preserved : goal.loop-text-preserved

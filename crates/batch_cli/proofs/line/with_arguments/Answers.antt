@@ -1,5 +1,5 @@
 use Rattle.std.proofs.Common.{◌∙◌}
-use Rattle.batch_cli.proofs.Steps.{next_argument, or_false}
+use Rattle.batch_cli.proofs.TableEntries.{next_argument, or_false}
 use Rattle.batch_cli.proofs.line.with_arguments.Goals as goal
 
 pub loop-argument-preserved : goal.loop-argument-preserved

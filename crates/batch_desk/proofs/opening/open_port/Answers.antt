@@ -1,4 +1,4 @@
-use Rattle.batch_desk.proofs.Closing.{sizes_new}
+use Rattle.batch_desk.proofs.PortEnds.{sizes_new}
 use Rattle.batch_desk.proofs.opening.open_port.Goals as goal
 
 pub returns-clause-sizes : goal.returns-clause-sizes

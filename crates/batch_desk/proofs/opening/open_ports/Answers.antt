@@ -3,7 +3,7 @@ use Rattle.std.proofs.lemmas.List.Elements.{All-push}
 use Rattle.batch_desk.specs.PortState.{IsNewPort}
 use Rattle.batch_desk.specs.DeskState.{IsNewDesk}
 use Rattle.batch_desk.specs.Plans.{places_free, port_made, places_planned, port_planned, sizes_made, sizes_planned}
-use Rattle.batch_desk.proofs.Closing.{planned_more, rings_pushed}
+use Rattle.batch_desk.proofs.PortEnds.{planned_more, rings_pushed}
 use Rattle.batch_desk.proofs.opening.open_ports.Goals as goal
 
 pub loop-plan-preserved : goal.loop-plan-preserved

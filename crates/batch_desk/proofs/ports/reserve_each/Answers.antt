@@ -1,7 +1,7 @@
 use Rattle.std.proofs.Common.{◌∙◌, arith}
 use Rattle.batch_desk.specs.PortSteps.{without_room}
-use Rattle.batch_desk.proofs.Lists.{map-changed, map-same_length}
-use Rattle.batch_desk.proofs.EachPort.{room_more}
+use Rattle.batch_desk.proofs.ListImages.{map-changed, map-same_length}
+use Rattle.batch_desk.proofs.HubPorts.{room_more}
 use Rattle.batch_desk.proofs.ports.reserve_each.Goals as goal
 
 pub returns-in_err-reserve-clause-same : goal.returns-in_err-reserve-clause-same

@@ -1,6 +1,6 @@
 use Rattle.std.proofs.Common.{ap, sym, ◌∙◌, length, nat_eq, option_copied}
 use Rattle.batch_recipe.specs.Conditions.{same_name}
-use Rattle.batch_engine.proofs.Binding.{first-given, given_name, no-bytes}
+use Rattle.batch_engine.proofs.RolePairs.{first-given, given_name, no-bytes}
 use Rattle.batch_engine.proofs.bindings.gives.Goals as goal
 
 pub returns-in-Some : goal.returns-in-Some

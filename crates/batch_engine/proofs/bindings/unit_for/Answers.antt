@@ -8,7 +8,7 @@ use Rattle.batch_cell.specs.declared.unit.Unit.{Unit}
 use Rattle.batch_recipe.specs.Conditions.{same_name}
 use Rattle.batch_model.specs.Events.{bound_by}
 use Rattle.batch_record_laws.proofs.Entries.{name_same}
-use Rattle.batch_engine.proofs.Binding.{a-candidate, no-candidate}
+use Rattle.batch_engine.proofs.RolePairs.{a-candidate, no-candidate}
 use Rattle.batch_engine.proofs.bindings.unit_for.Goals as goal
 use Rattle.batch_engine.proofs.bindings.unit_for.Goals.{else-is_of_class-via-then-is_of_class+else-gives, else-is_of_class-via-else-is_of_class}
 

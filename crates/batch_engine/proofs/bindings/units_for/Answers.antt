@@ -5,8 +5,8 @@ use Rattle.std.proofs.lemmas.Option.{slice_get_read, slice_get_within}
 use Rattle.batch_cell.specs.LookUps.{units_of}
 use Rattle.batch_recipe.specs.declared.role.Role.{Role}
 use Rattle.batch_model.specs.Events.{bound_by}
-use Rattle.batch_engine.proofs.Binding.{not-of-roles, all-may, may_take}
-use Rattle.batch_engine.proofs.Stepping.{Each-set}
+use Rattle.batch_engine.proofs.RolePairs.{not-of-roles, all-may, may_take}
+use Rattle.batch_engine.proofs.InvariantAfterMove.{Each-set}
 use Rattle.batch_engine.proofs.bindings.units_for.Goals as goal
 
 pub returns-then-not-are_of_roles : goal.returns-then-not-are_of_roles

@@ -1,7 +1,7 @@
 use Rattle.std.proofs.Common.{◌<◌, sym, ◌∙◌, subst, arith, length}
 use Rattle.batch_engine.specs.Marks.{IsUnmarked}
 use Rattle.batch_engine.specs.View.{EngineView}
-use Rattle.batch_engine.proofs.Unmarked.{few, found-within, found-there, found-nowhere}
+use Rattle.batch_engine.proofs.BatchMarks.{few, found-within, found-there, found-nowhere}
 use Rattle.batch_engine.proofs.marking.mark_number.Goals as goal
 
 pub mark-requires : goal.mark-requires

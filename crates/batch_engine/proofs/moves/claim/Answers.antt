@@ -7,10 +7,10 @@ use Rattle.batch_verify.specs.ClearedSet.{ClearedSet}
 use Rattle.batch_engine.specs.declared.batch.Batch.{Batch}
 use Rattle.batch_engine.specs.Steps.{IsClaimed, IsMaking}
 use Rattle.batch_engine.specs.View.{EngineView, tree_of}
-use Rattle.batch_engine.proofs.Finding.{known-resource}
-use Rattle.batch_engine.proofs.Made.{as-released, held-share}
+use Rattle.batch_engine.proofs.BatchLookups.{known-resource}
+use Rattle.batch_engine.proofs.EngineAfterMove.{as-released, held-share}
 use Rattle.batch_engine.proofs.RoomForAsk.{room-for-ask}
-use Rattle.batch_engine.proofs.Seats.{needs-there}
+use Rattle.batch_engine.proofs.BatchAtIndex.{needs-there}
 use Rattle.batch_engine.proofs.moves.claim.Goals as goal
 use Rattle.batch_engine.proofs.moves.claim.Goals.{In-Ask, In-Pass, In-Release}
 

@@ -5,7 +5,7 @@ use Rattle.batch_set.specs.declared.linked.LinkedNeed.{LinkedNeed}
 use Rattle.batch_engine.specs.Steps.{IsNeedAt, IsNumberAt}
 use Rattle.batch_engine.specs.View.{EngineView}
 use Rattle.batch_engine.proofs.LinkedActs.{need-here}
-use Rattle.batch_engine.proofs.Seats.{IsRead, entry-read, entry-within, linked-read, linked-within}
+use Rattle.batch_engine.proofs.BatchAtIndex.{IsRead, entry-read, entry-within, linked-read, linked-within}
 use Rattle.batch_engine.proofs.pending.resource_at.Goals as goal
 use Rattle.batch_engine.proofs.pending.resource_at.Goals.{After-index-own}
 

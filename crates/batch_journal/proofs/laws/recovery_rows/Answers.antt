@@ -1,4 +1,4 @@
-use Rattle.batch_journal.proofs.RecoveryRowsHold.{rows}
+use Rattle.batch_journal.proofs.RecoveryRows.{rows}
 use Rattle.batch_journal.proofs.laws.recovery_rows.Goals as goal
 
 pub returns : goal.returns

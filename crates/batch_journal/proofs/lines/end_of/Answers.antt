@@ -1,4 +1,4 @@
-use Rattle.batch_journal.proofs.WholeEnd.{at_start, at_zero, at_end, at_feed, at_other, text_found, rest_found, lines_found}
+use Rattle.batch_journal.proofs.LastWholeLine.{at_start, at_zero, at_end, at_feed, at_other, text_found, rest_found, lines_found}
 use Rattle.batch_journal.proofs.lines.end_of.Goals as goal
 
 pub loop-i-init : goal.loop-i-init

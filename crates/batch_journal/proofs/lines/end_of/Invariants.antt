@@ -1,5 +1,5 @@
 use Rattle.std.proofs.Common.{drop}
-use Rattle.batch_journal.proofs.WholeEnd.{Stands}
+use Rattle.batch_journal.proofs.LastWholeLine.{Stands}
 use Rattle.batch_journal.proofs.lines.end_of.Given as goal
 
 abbrev pub invariant-loop-i : goal.invariant-loop-i

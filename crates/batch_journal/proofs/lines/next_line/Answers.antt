@@ -1,5 +1,5 @@
 use Rattle.std.proofs.Common.{get_or, arith}
-use Rattle.batch_journal.proofs.TakeLemmas.{no_line, no_line_before_zero, ends_there, is_zero}
+use Rattle.batch_journal.proofs.GroupScan.{no_line, no_line_before_zero, ends_there, is_zero}
 use Rattle.batch_journal.proofs.lines.next_line.Goals as goal
 
 pub returns-in-Some : goal.returns-in-Some

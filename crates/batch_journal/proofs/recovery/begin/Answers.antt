@@ -2,7 +2,7 @@ use Rattle.std.proofs.Common.{rules, ◌≡◌, refl, sym, ◌∙◌, ap}
 use Rattle.batch_journal.specs.Disks.{Left}
 use Rattle.batch_journal.specs.Journals.{header, recovered}
 use Rattle.batch_journal.specs.Recovery.{KeepsLines}
-use Rattle.batch_journal.proofs.MomentLemmas.{started, goes_on}
+use Rattle.batch_journal.proofs.RunsOfCalls.{started, goes_on}
 use Rattle.batch_journal.proofs.RecoveryLemmas.{keeps_all, left_cut, left_header, header_lines, unbegun_lines}
 use Rattle.batch_journal.proofs.recovery.begin.Goals as goal
 

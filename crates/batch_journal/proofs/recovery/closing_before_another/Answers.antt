@@ -2,8 +2,8 @@ use Rattle.std.proofs.Common.{rules, ◌≡◌, ◌-◌, ◌++◌, ◌∷◌, []
 use Rattle.std.proofs.lemmas.List.{length-drop}
 use Rattle.batch_journal.specs.Journals.{journal_format}
 use Rattle.batch_journal.specs.Recovery.{closings}
-use Rattle.batch_journal.proofs.TakeLemmas.{line_at, to_end}
-use Rattle.batch_journal.proofs.ClosingLemmas.{NoFeedBefore, EndsThere, ends_there, line_more, found_twice, few_closings, closings_both, one_closing, no_closing, count_none, first_here, first_more}
+use Rattle.batch_journal.proofs.GroupScan.{line_at, to_end}
+use Rattle.batch_journal.proofs.ClosingLines.{NoFeedBefore, EndsThere, ends_there, line_more, found_twice, few_closings, closings_both, one_closing, no_closing, count_none, first_here, first_more}
 use Rattle.batch_journal.proofs.recovery.closing_before_another.Goals as goal
 
 pub returns : goal.returns

@@ -1,6 +1,6 @@
 use Rattle.std.proofs.Common.{sym, ◌∙◌, inr, ⊎_elim, arith}
 use Rattle.batch_journal.proofs.RecoveryLemmas.{not_both, part_length}
-use Rattle.batch_journal.proofs.TakenLemmas.{like_part, part_like, some_feed}
+use Rattle.batch_journal.proofs.FilesWithoutRefusal.{like_part, part_like, some_feed}
 use Rattle.batch_journal.proofs.recovery.is_unbegun.Goals as goal
 
 pub returns-then-bytes-le84-clause-yes : goal.returns-then-bytes-le84-clause-yes

@@ -2,7 +2,7 @@ use Rattle.std.proofs.Common.{subst}
 use Rattle.batch_journal.specs.Disks.{Left, MayLeave}
 use Rattle.batch_journal.specs.Recovery.{IsUnbegun, KeepsLines}
 use Rattle.batch_journal.proofs.RecoveryLemmas.{keeps_all, keeps_same}
-use Rattle.batch_journal.proofs.MomentLemmas.{started, goes_on, then_run}
+use Rattle.batch_journal.proofs.RunsOfCalls.{started, goes_on, then_run}
 use Rattle.batch_journal.proofs.recovery.recover.Goals as goal
 
 pub returns-in_err-text-clause-any_moment : goal.returns-in_err-text-clause-any_moment

@@ -1,7 +1,7 @@
 use Rattle.std.proofs.Common.{rules, ◌≡◌, ◌+◌, ◌≤◌, length, drop, subst, arith}
 use Rattle.batch_journal.specs.Journals.{header, sum_text}
 use Rattle.batch_journal.specs.Recovery.{IsTakenTo, ClosesTwice, closing_count, raw_lines}
-use Rattle.batch_journal.proofs.TakeLemmas.{to_end}
+use Rattle.batch_journal.proofs.GroupScan.{to_end}
 use Rattle.batch_journal.proofs.RecoveryLemmas.{header_size, begins_so, stands_to, damaged_to}
 use Rattle.batch_journal.proofs.recovery.standing_of.Goals as goal
 

@@ -4,7 +4,7 @@ use Rattle.batch_journal.specs.Journals.{journal_format, sum_text, IsClosed}
 use Rattle.batch_journal.specs.Ends.{EndsLine}
 use Rattle.batch_journal.specs.Lines.{IsLine, whole_lines}
 use Rattle.batch_journal.proofs.LineLemmas.{lines_both}
-use Rattle.batch_journal.proofs.TakeLemmas.{none_left, none_closed, closed_there, begun_there, others_more, line_at, none_between, to_end}
+use Rattle.batch_journal.proofs.GroupScan.{none_left, none_closed, closed_there, begun_there, others_more, line_at, none_between, to_end}
 use Rattle.batch_journal.proofs.recovery.take_groups.Goals as goal
 
 pub returns-then-not-closes : goal.returns-then-not-closes

@@ -1,5 +1,5 @@
 use Rattle.std.proofs.lemmas.Result.{IfOk-weaker}
-use Rattle.batch_keep.proofs.Audited.{finds_of_input}
+use Rattle.batch_keep.proofs.AuditSteps.{finds_of_input}
 use Rattle.batch_keep.proofs.auditing.audit.Goals as goal
 
 pub returns : goal.returns

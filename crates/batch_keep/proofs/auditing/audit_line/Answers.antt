@@ -1,5 +1,5 @@
 use Rattle.batch_engine.specs.View.{plant_of}
-use Rattle.batch_keep.proofs.Audited.{goes_by, goes_over}
+use Rattle.batch_keep.proofs.AuditSteps.{goes_by, goes_over}
 use Rattle.batch_keep.proofs.auditing.audit_line.Goals as goal
 
 pub returns-in-Some-clause-answered : goal.returns-in-Some-clause-answered

@@ -4,7 +4,7 @@ use Rattle.batch_journal.specs.Journals.{recovered}
 use Rattle.batch_record.specs.StatusReading.{LeadsTo}
 use Rattle.batch_keep.specs.Blocks.{block_text}
 use Rattle.batch_keep.specs.Counts.{own_lines}
-use Rattle.batch_keep.proofs.Blocks.{are_blocks}
+use Rattle.batch_keep.proofs.RecoveryBlock.{are_blocks}
 use Rattle.batch_keep.proofs.block.recovery_blocks.Goals as goal
 
 pub returns-clause-blocks : goal.returns-clause-blocks

@@ -1,4 +1,4 @@
-use Rattle.batch_keep.proofs.DesksAgain.{desks_again}
+use Rattle.batch_keep.proofs.RepeatedDeskAnswers.{desks_again}
 use Rattle.batch_keep.proofs.desks.desks_are_told_again.Goals as goal
 
 pub returns : goal.returns

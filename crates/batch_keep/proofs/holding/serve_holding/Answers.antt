@@ -1,5 +1,5 @@
 use Rattle.std.proofs.Common.{refl}
-use Rattle.batch_keep.proofs.Beginning.{recalled_here}
+use Rattle.batch_keep.proofs.StartOverJournal.{recalled_here}
 use Rattle.batch_keep.proofs.holding.serve_holding.Goals as goal
 
 pub serve_started-requires-clause-recalled : goal.serve_started-requires-clause-recalled

@@ -1,8 +1,8 @@
 use Rattle.std.proofs.Common.{List, ℕ, [], Option, sym, ◌∙◌, ap}
 use Rattle.std.specs.Io.KnownBytes.{append_known}
 use Rattle.batch_engine.specs.View.{setup, plant_of}
-use Rattle.batch_keep.proofs.Again.{never_lost}
-use Rattle.batch_keep.proofs.Telling.{ok_is, on_told, tells_known_transcript}
+use Rattle.batch_keep.proofs.RepeatedAnswers.{never_lost}
+use Rattle.batch_keep.proofs.AnswersToLines.{ok_is, on_told, tells_known_transcript}
 use Rattle.batch_keep.proofs.holding.serve_holding_at.Goals as goal
 
 pub returns-in-Ok-clause-never_lost : goal.returns-in-Ok-clause-never_lost

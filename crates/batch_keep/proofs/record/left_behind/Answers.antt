@@ -1,4 +1,4 @@
-use Rattle.batch_keep.proofs.ComparingLemmas.{behind_line}
+use Rattle.batch_keep.proofs.RecordComparison.{behind_line}
 use Rattle.batch_keep.proofs.record.left_behind.Goals as goal
 
 pub returns : goal.returns

@@ -1,5 +1,5 @@
 use Rattle.std.proofs.Common.{refl}
-use Rattle.batch_keep.proofs.Beginning.{recalled_here}
+use Rattle.batch_keep.proofs.StartOverJournal.{recalled_here}
 use Rattle.batch_keep.proofs.serving.serve_journalled.Goals as goal
 
 pub returns-clause-again : goal.returns-clause-again

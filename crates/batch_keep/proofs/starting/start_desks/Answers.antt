@@ -1,6 +1,6 @@
 use Rattle.std.proofs.lemmas.Result.{err_from_is_err_and}
 use Rattle.batch_journal.specs.Journals.{recovered}
-use Rattle.batch_keep.proofs.StartWords.{blocks_as, same_lines}
+use Rattle.batch_keep.proofs.StartBlock.{blocks_as, same_lines}
 use Rattle.batch_keep.proofs.starting.start_desks.Goals as goal
 
 pub returns-clause-blocks : goal.returns-clause-blocks

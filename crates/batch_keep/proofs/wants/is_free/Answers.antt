@@ -1,6 +1,6 @@
 use Rattle.batch_engine.specs.View.{plant_of, setup}
 use Rattle.batch_wire.specs.EventLine.{event_of_line}
-use Rattle.batch_keep.proofs.Freedom.{no_want}
+use Rattle.batch_keep.proofs.MemoryRefusals.{no_want}
 use Rattle.batch_keep.proofs.wants.is_free.Goals as goal
 
 pub returns-in_default : goal.returns-in_default

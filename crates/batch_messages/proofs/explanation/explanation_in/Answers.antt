@@ -3,7 +3,7 @@ use Rattle.std.specs.Char.{is_ascii_whitespace}
 use Rattle.std.proofs.lemmas.Iterator.Consumers.{YieldsList-at, YieldsList-end, YieldsList-so_far, YieldsList-turn}
 use Rattle.std.proofs.lemmas.Iterator.Splits.{YieldsList-from_slice_split}
 use Rattle.batch_messages.specs.Explaining.{code_of, first_of, words}
-use Rattle.batch_messages.proofs.Found.{first_at, first_of-map, none_more}
+use Rattle.batch_messages.proofs.ExplanationCodes.{first_at, first_of-map, none_more}
 use Rattle.batch_messages.proofs.explanation.explanation_in.Goals as goal
 
 pub returns-in-Some-explanation_of : goal.returns-in-Some-explanation_of

@@ -1,7 +1,7 @@
 use Rattle.std.proofs.Common.{length, refl, inl, inr}
 use Rattle.std.proofs.lemmas.Bool.{cases_lt}
 use Rattle.batch_recipe.specs.Procedure.{procedure_nodes}
-use Rattle.batch_messages.proofs.ActNames.{none_past}
+use Rattle.batch_messages.proofs.ActsAtNodes.{none_past}
 use Rattle.batch_messages.proofs.names.name_at.Goals as goal
 
 pub returns-in-Some : goal.returns-in-Some

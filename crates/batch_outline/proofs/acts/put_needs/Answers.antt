@@ -3,7 +3,7 @@ use Rattle.std.specs.List.{flat_map}
 use Rattle.std.proofs.lemmas.Result.{on_ok_weaker}
 use Rattle.batch_recipe.specs.declared.need.Need.{Need}
 use Rattle.batch_outline.specs.Showing.{need_text, spaced}
-use Rattle.batch_outline.proofs.Placed.{needs_written}
+use Rattle.batch_outline.proofs.LineSeats.{needs_written}
 use Rattle.batch_outline.proofs.acts.put_needs.Goals as goal
 
 pub returns : goal.returns

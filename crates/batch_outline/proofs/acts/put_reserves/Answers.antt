@@ -2,7 +2,7 @@ use Rattle.std.proofs.Common.{◌++◌, ◌∙◌, ap, sym, append_assoc, codes,
 use Rattle.std.specs.List.{flat_map}
 use Rattle.std.proofs.lemmas.Result.{on_ok_weaker}
 use Rattle.batch_outline.specs.Showing.{spaced}
-use Rattle.batch_outline.proofs.Placed.{names_written}
+use Rattle.batch_outline.proofs.LineSeats.{names_written}
 use Rattle.batch_outline.proofs.acts.put_reserves.Goals as goal
 
 pub returns : goal.returns

@@ -3,13 +3,13 @@ use Rattle.std.proofs.lemmas.Result.{on_ok_weaker}
 use Rattle.batch_recipe.specs.Diagram.{diagram_of}
 use Rattle.batch_recipe.specs.Expanding.{act_named}
 use Rattle.batch_recipe.specs.Procedure.{table_at, tables_from}
-use Rattle.batch_recipe.proofs.Counts.{counted, counted_act, counted_name}
+use Rattle.batch_recipe.proofs.NodeCounts.{counted, counted_act, counted_name}
 use Rattle.batch_recipe.proofs.Tables.{counted_some}
 use Rattle.batch_recipe.proofs.Branches.{counted_at, counted_choice, counted_last}
 use Rattle.batch_outline.specs.Along.{act_lines, along, asked_text, below_act, choice_lines, if_text, labels_from, line, loop_text, plain_line, seat_of}
 use Rattle.batch_outline.specs.Showing.{act_text}
-use Rattle.batch_outline.proofs.Branching.{cases_last, cases_more, parts_more}
-use Rattle.batch_outline.proofs.Walked.{label_stands}
+use Rattle.batch_outline.proofs.BranchLines.{cases_last, cases_more, parts_more}
+use Rattle.batch_outline.proofs.LinesOfNodes.{label_stands}
 use Rattle.batch_outline.proofs.walk.+walk.Goals as goal
 
 pub put_act-returns : goal.put_act-returns

@@ -1,7 +1,7 @@
 use Rattle.std.proofs.Common.{◌≡◌, ◌+◌, ◌*◌, ◌++◌, drop, map, string_bytes}
 use Rattle.batch_recipe.specs.Procedure.{tables_from}
 use Rattle.batch_recipe.specs.Diagram.{diagram_of, diagrams_of, cases_of}
-use Rattle.batch_recipe.proofs.Counts.{counted, counted_each, counted_cases, counted_act, counted_name}
+use Rattle.batch_recipe.proofs.NodeCounts.{counted, counted_each, counted_cases, counted_act, counted_name}
 use Rattle.batch_outline.specs.Along.{choice_lines, part_lines}
 use Rattle.batch_outline.proofs.walk.+walk.Given as goal
 

@@ -1,7 +1,7 @@
 use Rattle.std.proofs.Common.{refl}
 use Rattle.batch_serve.specs.declared.desk.Desk.{Desk}
 use Rattle.batch_serve.specs.declared.rounds.Writer.{Writer}
-use Rattle.batch_pipes.proofs.Keeping.{handed_more, handed_some}
+use Rattle.batch_pipes.proofs.DeskChanges.{handed_more, handed_some}
 use Rattle.batch_pipes.proofs.dropping.drop_all.Goals as goal
 
 pub loop-preserved : goal.loop-preserved

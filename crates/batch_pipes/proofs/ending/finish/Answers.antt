@@ -1,4 +1,4 @@
-use Rattle.batch_pipes.proofs.OutputsKept.{are_ending, settled_all}
+use Rattle.batch_pipes.proofs.WriterOutputs.{are_ending, settled_all}
 use Rattle.batch_pipes.proofs.ending.finish.Goals as goal
 
 pub settle_each-requires : goal.settle_each-requires

@@ -4,7 +4,7 @@ use Rattle.batch_serve.specs.declared.rounds.Writer.{Writer}
 use Rattle.batch_pipes.specs.OutputEnds.{IsHandedBack}
 use Rattle.batch_pipes.specs.Outputs.{AreOutputsKept, AreOutputsOf, IsFinished}
 use Rattle.batch_pipes.proofs.Lists.{first_left, first_set}
-use Rattle.batch_pipes.proofs.OutputsKept.{output_here, outputs_as_they_are, outputs_finished}
+use Rattle.batch_pipes.proofs.WriterOutputs.{output_here, outputs_as_they_are, outputs_finished}
 use Rattle.batch_pipes.proofs.ending.finish_each.Goals as goal
 
 pub loop-at-init : goal.loop-at-init

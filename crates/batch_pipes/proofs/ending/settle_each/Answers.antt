@@ -2,8 +2,8 @@ use Rattle.std.proofs.Common.{◌≡◌, ◌∷◌, ◌++◌, [], length, refl, 
 use Rattle.std.specs.Vec.Iter.{into_iter_items}
 use Rattle.batch_pipes.specs.OutputEnds.{IsHandedBack}
 use Rattle.batch_pipes.specs.Outputs.{AreSettledBy}
-use Rattle.batch_pipes.proofs.OutputsKept.{ending_here, settled_more}
-use Rattle.batch_pipes.proofs.RingsMade.{nothing_left}
+use Rattle.batch_pipes.proofs.WriterOutputs.{ending_here, settled_more}
+use Rattle.batch_pipes.proofs.DeskRings.{nothing_left}
 use Rattle.batch_pipes.proofs.ending.settle_each.Goals as goal
 
 pub loop-output-init : goal.loop-output-init

@@ -3,8 +3,8 @@ use Rattle.std.specs.Vec.Iter.{into_iter_items}
 use Rattle.batch_pipes.specs.Opened.{IsOpened}
 use Rattle.batch_pipes.specs.OutputEnds.{IsHandedBack}
 use Rattle.batch_pipes.specs.Outputs.{AreOutputsOpened}
-use Rattle.batch_pipes.proofs.OutputsKept.{outputs_more}
-use Rattle.batch_pipes.proofs.RingsMade.{nothing_left, opened_more, ports_more}
+use Rattle.batch_pipes.proofs.WriterOutputs.{outputs_more}
+use Rattle.batch_pipes.proofs.DeskRings.{nothing_left, opened_more, ports_more}
 use Rattle.batch_pipes.proofs.opening.open_each.Goals as goal
 
 pub loop-desk-preserved : goal.loop-desk-preserved

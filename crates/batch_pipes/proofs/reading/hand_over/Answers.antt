@@ -1,6 +1,6 @@
 use Rattle.std.proofs.Common.{true, false}
 use Rattle.std.proofs.lemmas.Bool.{false≢true}
-use Rattle.batch_pipes.proofs.Streaming.{hands_over}
+use Rattle.batch_pipes.proofs.ThreadStreams.{hands_over}
 use Rattle.batch_pipes.proofs.reading.hand_over.Goals as goal
 
 pub returns-then-read_lines-clause-handed : goal.returns-then-read_lines-clause-handed

@@ -1,7 +1,7 @@
 use Rattle.std.proofs.Common.{ap, arith, length, ◌∙◌}
-use Rattle.batch_pipes.proofs.InputsKept.{inputs_gathered, order_of}
-use Rattle.batch_pipes.proofs.Keeping.{desks_handed, desks_same, desks_twice, readers_as_they_are, writers_handed}
-use Rattle.batch_pipes.proofs.Serviced.{service_gathered, service_handed}
+use Rattle.batch_pipes.proofs.ReaderMessages.{inputs_gathered, order_of}
+use Rattle.batch_pipes.proofs.DeskChanges.{desks_handed, desks_same, desks_twice, readers_as_they_are, writers_handed}
+use Rattle.batch_pipes.proofs.ServiceRounds.{service_gathered, service_handed}
 use Rattle.batch_pipes.specs.Service.{rings_of, told_to}
 use Rattle.batch_pipes.specs.declared.ports.Ports.{Ports}
 use Rattle.batch_pipes.proofs.rounds.serve_round.Goals as goal

@@ -1,8 +1,8 @@
 use Rattle.std.proofs.Common.{refl, ◌∙◌}
-use Rattle.batch_pipes.proofs.InputsKept.{inputs_kept, inputs_twice}
-use Rattle.batch_pipes.proofs.Keeping.{desks_handed, desks_same, desks_twice}
-use Rattle.batch_pipes.proofs.OutputsKept.{outputs_as_they_are, outputs_on, outputs_twice}
-use Rattle.batch_pipes.proofs.Serviced.{service_handed}
+use Rattle.batch_pipes.proofs.ReaderMessages.{inputs_kept, inputs_twice}
+use Rattle.batch_pipes.proofs.DeskChanges.{desks_handed, desks_same, desks_twice}
+use Rattle.batch_pipes.proofs.WriterOutputs.{outputs_as_they_are, outputs_on, outputs_twice}
+use Rattle.batch_pipes.proofs.ServiceRounds.{service_handed}
 use Rattle.batch_pipes.proofs.serving.run_rounds.Goals as goal
 
 pub loop-init : goal.loop-init

@@ -1,5 +1,5 @@
 use Rattle.std.proofs.Common.{◌≡◌, arith, length, refl}
-use Rattle.batch_pipes.proofs.Serviced.{desks_end, service_begins}
+use Rattle.batch_pipes.proofs.ServiceRounds.{desks_end, service_begins}
 use Rattle.batch_pipes.proofs.serving.serve_desks.Goals as goal
 
 pub returns : goal.returns

@@ -1,6 +1,6 @@
 use Rattle.std.proofs.Common.{◌∙◌}
-use Rattle.batch_pipes.proofs.Keeping.{handed_then_kept, kept_twice}
-use Rattle.batch_pipes.proofs.OutputsKept.{output_on}
+use Rattle.batch_pipes.proofs.DeskChanges.{handed_then_kept, kept_twice}
+use Rattle.batch_pipes.proofs.WriterOutputs.{output_on}
 use Rattle.batch_pipes.proofs.Rings.{producer_on}
 use Rattle.batch_pipes.proofs.tending.tend.Goals as goal
 

@@ -2,15 +2,15 @@ use Rattle.std.proofs.Common.{◌<◌, arith, length, length-set}
 use Rattle.batch_serve.specs.declared.desk.Desk.{Desk}
 use Rattle.batch_serve.specs.declared.rounds.Reader.{Reader}
 use Rattle.batch_serve.specs.declared.rounds.Writer.{Writer}
-use Rattle.batch_serve.proofs.Gathering.{each_more, kept_behind}
+use Rattle.batch_serve.proofs.DeskLines.{each_more, kept_behind}
 use Rattle.batch_pipes.specs.declared.ports.DeskThreads.{DeskThreads}
 use Rattle.batch_serve.specs.Rounds.{IsHandedOn}
 use Rattle.batch_pipes.specs.Outputs.{asked_of}
 use Rattle.batch_pipes.specs.declared.input_order.InputOrder.{InputOrder}
 use Rattle.batch_pipes.specs.declared.output.Output.{Output}
-use Rattle.batch_pipes.proofs.Keeping.{done_more, readers_more}
+use Rattle.batch_pipes.proofs.DeskChanges.{done_more, readers_more}
 use Rattle.batch_pipes.proofs.Lists.{same_set}
-use Rattle.batch_pipes.proofs.OutputsKept.{output_here, outputs_set}
+use Rattle.batch_pipes.proofs.WriterOutputs.{output_here, outputs_set}
 use Rattle.batch_pipes.proofs.tending.tend_each.Goals as goal
 
 pub loop-at-preserved : goal.loop-at-preserved

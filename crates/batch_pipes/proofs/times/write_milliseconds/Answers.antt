@@ -1,5 +1,5 @@
 use Rattle.std.proofs.Common.{◌∙◌}
-use Rattle.batch_pipes.proofs.Serviced.{time_joined}
+use Rattle.batch_pipes.proofs.ServiceRounds.{time_joined}
 use Rattle.batch_pipes.proofs.times.write_milliseconds.Goals as goal
 
 pub returns : goal.returns

@@ -1,6 +1,6 @@
 use Rattle.std.proofs.Common.{ap, ◌∙◌}
 use Rattle.batch_desk.specs.Due.{events_of}
-use Rattle.batch_plant.proofs.Closings.{events_kept}
+use Rattle.batch_plant.proofs.PlantPorts.{events_kept}
 use Rattle.batch_plant.proofs.closing.close_by.Goals as goal
 
 pub seal_port-requires : goal.seal_port-requires

@@ -1,5 +1,5 @@
 use Rattle.std.proofs.Common.{◌∙◌}
-use Rattle.batch_plant.proofs.Closings.{token_fits, inbox_fits}
+use Rattle.batch_plant.proofs.PlantPorts.{token_fits, inbox_fits}
 use Rattle.batch_plant.proofs.closing.close_port.Goals as goal
 
 pub close_by-requires-clause-token : goal.close_by-requires-clause-token

@@ -1,4 +1,4 @@
-use Rattle.batch_plant.proofs.Closings.{events_sealed, next_sealed, rest_fits, rest_left}
+use Rattle.batch_plant.proofs.PlantPorts.{events_sealed, next_sealed, rest_fits, rest_left}
 use Rattle.batch_plant.proofs.closing.seal_port.Goals as goal
 
 pub rest-requires : goal.rest-requires

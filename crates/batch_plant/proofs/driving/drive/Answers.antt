@@ -5,10 +5,10 @@ use Rattle.batch_cell.specs.LookUps.{units_of}
 use Rattle.batch_safety.specs.Sets.{RunsSafely}
 use Rattle.batch_verify.specs.ClearedSet.{ClearedSet}
 use Rattle.batch_engine.specs.View.{plant_of}
-use Rattle.batch_serve.proofs.InSet.{settled_in}
+use Rattle.batch_serve.proofs.UnchangedSet.{settled_in}
 use Rattle.batch_plant.specs.Drive.{Standing, in_rounds}
 use Rattle.batch_plant.specs.Handling.{DrivesSome}
-use Rattle.batch_plant.proofs.DrivenTicks.{fewer_left, left_stopped, none_left, done_driven, driven, some_settle, round_next, no_round}
+use Rattle.batch_plant.proofs.TickEffects.{fewer_left, left_stopped, none_left, done_driven, driven, some_settle, round_next, no_round}
 use Rattle.batch_plant.proofs.driving.drive.Goals as goal
 
 pub loop-preserved : goal.loop-preserved

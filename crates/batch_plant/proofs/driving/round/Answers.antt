@@ -8,7 +8,7 @@ use Rattle.batch_engine.specs.View.{plant_of}
 use Rattle.batch_plant.specs.Drive.{Standing}
 use Rattle.batch_plant.specs.Handling.{DrivesSome}
 use Rattle.batch_plant.specs.declared.drive_fault.DriveFault.TheVariants.{Write}
-use Rattle.batch_plant.proofs.DrivenTicks.{fewer_left, left_stopped, none_left, none_driven, not_handed_on, unit_next, no_unit}
+use Rattle.batch_plant.proofs.TickEffects.{fewer_left, left_stopped, none_left, none_driven, not_handed_on, unit_next, no_unit}
 use Rattle.batch_plant.proofs.driving.round.Goals as goal
 
 pub loop-unit-preserved : goal.loop-unit-preserved

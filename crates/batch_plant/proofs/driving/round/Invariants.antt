@@ -1,7 +1,7 @@
 use Rattle.std.proofs.Common.{◌≡◌, ◌-◌}
 use Rattle.std.specs.List.{range_with_len}
 use Rattle.batch_engine.specs.View.{plant_of}
-use Rattle.batch_plant.proofs.DrivenTicks.{Leaves}
+use Rattle.batch_plant.proofs.TickEffects.{Leaves}
 use Rattle.batch_plant.proofs.driving.round.Given as goal
 
 abbrev pub invariant-loop-unit : goal.invariant-loop-unit

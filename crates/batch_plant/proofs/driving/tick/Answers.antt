@@ -6,7 +6,7 @@ use Rattle.batch_engine.specs.Surface.{event_of}
 use Rattle.batch_engine.specs.View.{plant_of}
 use Rattle.batch_plant.specs.Drive.{Standing}
 use Rattle.batch_plant.proofs.Deeds.{report_numbered}
-use Rattle.batch_plant.proofs.DrivenTicks.{quiet_tick, handled_tick, cut_tick, lost_tick}
+use Rattle.batch_plant.proofs.TickEffects.{quiet_tick, handled_tick, cut_tick, lost_tick}
 use Rattle.batch_plant.proofs.driving.tick.Goals as goal
 
 pub returns-in_default-clause-driven : goal.returns-in_default-clause-driven

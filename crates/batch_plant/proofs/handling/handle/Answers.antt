@@ -4,7 +4,7 @@ use Rattle.batch_verify.specs.ClearedSet.{ClearedSet}
 use Rattle.batch_engine.specs.View.{plant_of}
 use Rattle.batch_plant.specs.Drive.{Standing}
 use Rattle.batch_plant.specs.Handling.{WritesOrders}
-use Rattle.batch_plant.proofs.OrdersGiven.{reply_stopped, reported}
+use Rattle.batch_plant.proofs.OrdersOfMoves.{reply_stopped, reported}
 use Rattle.batch_plant.proofs.handling.handle.Goals as goal
 
 pub returns-in_err-write_out-clause-reported : goal.returns-in_err-write_out-clause-reported

@@ -3,10 +3,10 @@ use Rattle.std.proofs.KnownBytes.{Appends-nil}
 use Rattle.std.proofs.lemmas.Result.{err_from_is_err_and}
 use Rattle.batch_engine.specs.Surface.{move_of}
 use Rattle.batch_engine.specs.View.{plant_of}
-use Rattle.batch_serve.proofs.InSet.{next_in, none_in, after_in}
-use Rattle.batch_serve.proofs.Settling.{falls}
+use Rattle.batch_serve.proofs.UnchangedSet.{next_in, none_in, after_in}
+use Rattle.batch_serve.proofs.Settlement.{falls}
 use Rattle.batch_plant.specs.Drive.{Standing}
-use Rattle.batch_plant.proofs.OrdersGiven.{none_given, one_more, order_taken, all_given, stopped_at}
+use Rattle.batch_plant.proofs.OrdersOfMoves.{none_given, one_more, order_taken, all_given, stopped_at}
 use Rattle.batch_plant.proofs.handling.make_moves.Goals as goal
 
 pub loop-line-init : goal.loop-line-init

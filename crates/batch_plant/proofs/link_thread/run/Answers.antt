@@ -1,4 +1,4 @@
-use Rattle.batch_plant.proofs.Closings.{link_ran}
+use Rattle.batch_plant.proofs.PlantPorts.{link_ran}
 use Rattle.batch_plant.proofs.link_thread.run.Goals as goal
 
 pub returns : goal.returns

@@ -1,6 +1,6 @@
 use Rattle.std.proofs.Common.{ap}
 use Rattle.batch_engine.specs.View.{EngineView}
-use Rattle.batch_plant.proofs.Closings.{parts_made, two_made}
+use Rattle.batch_plant.proofs.PlantPorts.{parts_made, two_made}
 use Rattle.batch_plant.proofs.opening.open_hub.Goals as goal
 
 pub console_and_link-console-requires : goal.console_and_link-console-requires

@@ -1,5 +1,5 @@
 use Rattle.std.proofs.Common.{inr}
-use Rattle.batch_program.proofs.DesksServed.{desks_ends, desks_well, not_well}
+use Rattle.batch_program.proofs.DeskService.{desks_ends, desks_well, not_well}
 use Rattle.batch_program.proofs.desk_keeping.report_kept.Goals as goal
 
 pub returns-in_default-clause-well : goal.returns-in_default-clause-well

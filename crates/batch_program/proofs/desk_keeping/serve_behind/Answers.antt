@@ -1,6 +1,6 @@
 use Rattle.std.proofs.Common.{inl, inr}
 use Rattle.std.proofs.lemmas.Grind.{merely}
-use Rattle.batch_program.proofs.DesksKept.{well_served}
+use Rattle.batch_program.proofs.DesksOverJournal.{well_served}
 use Rattle.batch_program.proofs.desk_keeping.serve_behind.Goals as goal
 
 pub returns-in-Err-clause-stays : goal.returns-in-Err-clause-stays

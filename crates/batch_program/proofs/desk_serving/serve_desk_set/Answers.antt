@@ -1,6 +1,6 @@
 use Rattle.std.proofs.Common.{Err}
 use Rattle.batch_pipes.specs.declared.fault.DesksFault.TheVariants.{Memory}
-use Rattle.batch_program.proofs.DesksServed.{record_served}
+use Rattle.batch_program.proofs.DeskService.{record_served}
 use Rattle.batch_program.proofs.desk_serving.serve_desk_set.Goals as goal
 
 pub returns-in_default : goal.returns-in_default

@@ -1,7 +1,7 @@
 use Rattle.std.proofs.Common.{inl, inr, sym, ◌∙◌}
 use Rattle.std.proofs.lemmas.Grind.{merely}
 use Rattle.batch_engine.specs.View.{setup, plant_of}
-use Rattle.batch_program.proofs.KeptRuns.{answered, where_known}
+use Rattle.batch_program.proofs.RunsOverJournal.{answered, where_known}
 use Rattle.batch_program.proofs.keeping.serve_behind.Goals as goal
 
 pub returns-in-Err-clause-stays : goal.returns-in-Err-clause-stays

@@ -1,4 +1,4 @@
-use Rattle.batch_program.proofs.KeptRuns.{then_flushed}
+use Rattle.batch_program.proofs.RunsOverJournal.{then_flushed}
 use Rattle.batch_program.proofs.keeping.write_block.Goals as goal
 
 pub returns-in-Ok : goal.returns-in-Ok

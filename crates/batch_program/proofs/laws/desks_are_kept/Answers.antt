@@ -1,4 +1,4 @@
-use Rattle.batch_program.proofs.DesksRecalled.{desks_are_kept}
+use Rattle.batch_program.proofs.RepeatedDeskAnswers.{desks_are_kept}
 use Rattle.batch_program.proofs.laws.desks_are_kept.Goals as goal
 
 pub returns : goal.returns

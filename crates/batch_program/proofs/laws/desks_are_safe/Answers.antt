@@ -1,4 +1,4 @@
-use Rattle.batch_program.proofs.DesksServed.{desks_are_safe}
+use Rattle.batch_program.proofs.DeskService.{desks_are_safe}
 use Rattle.batch_program.proofs.laws.desks_are_safe.Goals as goal
 
 pub returns : goal.returns

@@ -1,4 +1,4 @@
-use Rattle.batch_program.proofs.Served.{plants_are_complete}
+use Rattle.batch_program.proofs.ProgramRuns.{plants_are_complete}
 use Rattle.batch_program.proofs.laws.plants_are_complete.Goals as goal
 
 pub returns : goal.returns

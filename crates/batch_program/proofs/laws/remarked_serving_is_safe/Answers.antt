@@ -1,4 +1,4 @@
-use Rattle.batch_program.proofs.RemarkedServed.{remarked_serving_is_safe}
+use Rattle.batch_program.proofs.RunsWithComments.{remarked_serving_is_safe}
 use Rattle.batch_program.proofs.laws.remarked_serving_is_safe.Goals as goal
 
 pub returns : goal.returns

@@ -1,4 +1,4 @@
-use Rattle.batch_program.proofs.Served.{serving_is_safe}
+use Rattle.batch_program.proofs.ProgramRuns.{serving_is_safe}
 use Rattle.batch_program.proofs.laws.serving_is_safe.Goals as goal
 
 pub returns : goal.returns

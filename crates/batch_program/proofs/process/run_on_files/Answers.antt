@@ -1,5 +1,5 @@
 use Rattle.std.proofs.Common.{arith}
-use Rattle.batch_program.proofs.Served.{run_in_range}
+use Rattle.batch_program.proofs.ProgramRuns.{run_in_range}
 use Rattle.batch_program.proofs.process.run_on_files.Goals as goal
 
 pub returns : goal.returns

@@ -3,11 +3,11 @@ use Rattle.std.proofs.KnownBytes.{Keeps-refl}
 use Rattle.batch_cli.specs.CommandLine.{source_of}
 use Rattle.batch_program.specs.Programs.{tells, serves, keeps, reads, audits, plants, writes, remarks, draws, serves_desks}
 use Rattle.batch_program.specs.declared.program.TheConstants.{MAX_READS}
-use Rattle.batch_program.proofs.DesksServed.{desks_kept, desks_to_serve}
-use Rattle.batch_program.proofs.Kept.{file_to_write}
+use Rattle.batch_program.proofs.DeskService.{desks_kept, desks_to_serve}
+use Rattle.batch_program.proofs.FileRuns.{file_to_write}
 use Rattle.batch_program.proofs.Plants.{has_run}
-use Rattle.batch_program.proofs.RemarkedServed.{remarked_kept, set_to_remark}
-use Rattle.batch_program.proofs.Served.{audit_kept, drawn_kept, left_kept, plant_to_run, record_kept, record_to_draw, record_to_read, served_kept, set_to_audit, set_to_serve, told_kept, journal_kept, set_to_keep}
+use Rattle.batch_program.proofs.RunsWithComments.{remarked_kept, set_to_remark}
+use Rattle.batch_program.proofs.ProgramRuns.{audit_kept, drawn_kept, left_kept, plant_to_run, record_kept, record_to_draw, record_to_read, served_kept, set_to_audit, set_to_serve, told_kept, journal_kept, set_to_keep}
 use Rattle.batch_program.proofs.program.run_program.Goals as goal
 
 pub returns-in-Ends : goal.returns-in-Ends

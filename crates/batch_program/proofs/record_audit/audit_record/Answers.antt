@@ -1,4 +1,4 @@
-use Rattle.batch_program.proofs.RecordsAudited.{told_at}
+use Rattle.batch_program.proofs.AuditFindings.{told_at}
 use Rattle.batch_program.proofs.record_audit.audit_record.Goals as goal
 
 pub returns-in-Ok : goal.returns-in-Ok

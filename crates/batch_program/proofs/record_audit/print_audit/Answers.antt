@@ -1,4 +1,4 @@
-use Rattle.batch_program.proofs.RecordsAudited.{finding_told}
+use Rattle.batch_program.proofs.AuditFindings.{finding_told}
 use Rattle.batch_program.proofs.record_audit.print_audit.Goals as goal
 
 pub returns-in-Ok : goal.returns-in-Ok

@@ -1,4 +1,4 @@
-use Rattle.batch_program.proofs.RecordsAudited.{read_all}
+use Rattle.batch_program.proofs.AuditFindings.{read_all}
 use Rattle.batch_program.proofs.record_drawing.record_of.Goals as goal
 
 pub returns : goal.returns

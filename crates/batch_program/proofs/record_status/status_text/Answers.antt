@@ -1,6 +1,6 @@
 use Rattle.std.proofs.Common.{sym, ◌∙◌}
 use Rattle.std.proofs.lemmas.Result.{err_from_is_err_and}
-use Rattle.batch_program.proofs.RecordsTold.{text_of_input}
+use Rattle.batch_program.proofs.RecordStatus.{text_of_input}
 use Rattle.batch_program.proofs.record_status.status_text.Goals as goal
 
 pub returns-in-Ok-clause-told : goal.returns-in-Ok-clause-told

@@ -6,7 +6,7 @@ use Rattle.batch_reader.specs.ChartMachine.{Frame, a_chart, nothing, no_firsts}
 use Rattle.batch_reader.specs.declared.firsts.Firsts.{Firsts}
 use Rattle.batch_reader.specs.declared.state.State.{State}
 use Rattle.batch_reader.proofs.ChartFrames.{frames_view_nil}
-use Rattle.batch_reader.proofs.ChartRead.{IsAfter, after_none, after_next, stops_in_text, stops_at_end, reads_to_end, is_outside}
+use Rattle.batch_reader.proofs.ChartReader.{IsAfter, after_none, after_next, stops_in_text, stops_at_end, reads_to_end, is_outside}
 use Rattle.batch_reader.proofs.chart_reading.read_chart_and_par.Goals as goal
 
 -- the loop ends at the end of the text

@@ -7,7 +7,7 @@ use Rattle.batch_reader.specs.Entries.{HasName}
 use Rattle.batch_reader.specs.Keys.{is_known}
 use Rattle.batch_reader.specs.declared.fault.EntryFault.TheVariants.{OutOfLimit}
 use Rattle.batch_reader.specs.declared.keys.TheConstants.{MAX_LAG}
-use Rattle.batch_reader.proofs.Refusing.{missing_refused, name_refused, none_first, number_refused, optional_name_refused, path_refused, truth_refused}
+use Rattle.batch_reader.proofs.DeskRefusals.{missing_refused, name_refused, none_first, number_refused, optional_name_refused, path_refused, truth_refused}
 use Rattle.batch_reader.specs.DesksDocument.{HasPath}
 use Rattle.batch_reader.specs.DesksFaults.{IsDeskFault}
 use Rattle.batch_reader.specs.RowsOfDesks.{console, lag_of, named}

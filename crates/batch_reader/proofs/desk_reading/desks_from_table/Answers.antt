@@ -1,7 +1,7 @@
 use Rattle.std.proofs.Common.{◌≡◌, length, rules}
 use Rattle.std.proofs.lemmas.Result.{err_from_is_err_and}
 use Rattle.toml.specs.View.{table_view}
-use Rattle.batch_reader.proofs.Refusing.{names_refuse, right_count}
+use Rattle.batch_reader.proofs.DeskRefusals.{names_refuse, right_count}
 use Rattle.batch_reader.proofs.desk_reading.desks_from_table.Goals as goal
 
 pub returns-in_err-desks-clause-refused : goal.returns-in_err-desks-clause-refused

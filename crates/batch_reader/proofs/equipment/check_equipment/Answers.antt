@@ -1,5 +1,5 @@
 use Rattle.std.proofs.lemmas.Result.{err_from_is_err_and}
-use Rattle.batch_reader.proofs.PartsTold.{kind_told, wrong_told}
+use Rattle.batch_reader.proofs.FaultsAmongTables.{kind_told, wrong_told}
 use Rattle.std.proofs.Common.{inl, inr}
 use Rattle.batch_reader.specs.PartFaults.{Equipment, HasNameTwice, IsEquipmentFault, OffersTwice}
 use Rattle.batch_reader.specs.declared.fault.EntryFault.TheVariants.{Duplicate}

@@ -1,7 +1,7 @@
 use Rattle.std.proofs.Common.{nat_eq}
 use Rattle.std.proofs.lemmas.Result.{err_from_is_err_and}
 use Rattle.std.specs.Cmp.Lexicographic.{pointwise}
-use Rattle.batch_reader.proofs.Distinct.{item_refused}
+use Rattle.batch_reader.proofs.NamesSoFar.{item_refused}
 use Rattle.batch_reader.proofs.names.add_list.Goals as goal
 
 pub returns-in_err-add_name-clause-refused : goal.returns-in_err-add_name-clause-refused

@@ -1,5 +1,5 @@
 use Rattle.std.proofs.lemmas.Result.{err_from_is_err_and}
-use Rattle.batch_reader.proofs.PartsTold.{offered_turn, offers_told}
+use Rattle.batch_reader.proofs.FaultsAmongTables.{offered_turn, offers_told}
 use Rattle.batch_reader.proofs.offered.check_offered_phases.Goals as goal
 
 pub returns-in_err-check_unit_phases-clause-stands : goal.returns-in_err-check_unit_phases-clause-stands

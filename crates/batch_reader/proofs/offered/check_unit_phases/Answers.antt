@@ -2,7 +2,7 @@ use Rattle.std.proofs.Common.{◌≡◌, true, nat_eq, [], ap, ◌∙◌, sym, i
 use Rattle.std.proofs.lemmas.Result.{err_from_is_err_and}
 use Rattle.std.specs.Cmp.Lexicographic.{pointwise}
 use Rattle.batch_cell.specs.Equipment.{belongs_to, phases_for}
-use Rattle.batch_reader.proofs.Distinct.{names_refused}
+use Rattle.batch_reader.proofs.NamesSoFar.{names_refused}
 use Rattle.batch_reader.proofs.offered.check_unit_phases.Goals as goal
 
 pub returns-in_err-add_list-clause-refused : goal.returns-in_err-add_list-clause-refused

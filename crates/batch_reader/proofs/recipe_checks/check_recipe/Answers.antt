@@ -2,9 +2,9 @@ use Rattle.std.proofs.Common.{◌&&◌}
 use Rattle.std.proofs.lemmas.Result.{err_from_is_err_and}
 use Rattle.std.specs.List.{list_all}
 use Rattle.batch_recipe.specs.WellFormed.{reports_among, reports_few, reports_once}
-use Rattle.batch_reader.proofs.Truth.{and_true, both_true}
+use Rattle.batch_reader.proofs.Conjunctions.{and_true, both_true}
 use Rattle.batch_reader.proofs.ArrayFaults.{tells_weaker}
-use Rattle.batch_reader.proofs.PartsTold.{naming_fault, report_fault, reserve_fault, role_fault}
+use Rattle.batch_reader.proofs.FaultsAmongTables.{naming_fault, report_fault, reserve_fault, role_fault}
 use Rattle.batch_reader.specs.PartFaults.{Parts}
 use Rattle.batch_reader.proofs.recipe_checks.check_recipe.Goals as goal
 

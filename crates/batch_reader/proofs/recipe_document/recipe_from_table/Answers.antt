@@ -3,7 +3,7 @@ use Rattle.std.proofs.Common.{inl, inr, refl}
 use Rattle.toml.specs.View.{table_view}
 use Rattle.batch_reader.proofs.ArrayFaults.{at_among, at_told, tells_weaker}
 use Rattle.batch_reader.proofs.OneRecipe.{unsound_recipe_refused}
-use Rattle.batch_reader.proofs.PartsTold.{large_refused, large_told}
+use Rattle.batch_reader.proofs.FaultsAmongTables.{large_refused, large_told}
 use Rattle.batch_reader.proofs.RecipeParts.{kinds_of_tables, free_names_of_tables}
 use Rattle.batch_reader.specs.FaultStands.{IsWrongAt}
 use Rattle.batch_reader.specs.Faults.{is_of_recipe}

@@ -4,7 +4,7 @@ use Rattle.batch_recipe.specs.Conditions.{Name}
 use Rattle.batch_recipe.specs.WellFormed.{are_distinct, value_names}
 use Rattle.batch_reader.proofs.DistinctNames.{are_distinct-from_IsDistinct, names_refused, after_none, after_first, after_second}
 use Rattle.batch_recipe.specs.declared.quantity.Quantity.{Quantity}
-use Rattle.batch_reader.proofs.PartsTold.{after_names, after_no_name, twice_told}
+use Rattle.batch_reader.proofs.FaultsAmongTables.{after_names, after_no_name, twice_told}
 use Rattle.batch_reader.specs.PartFaults.{HasValueTwice}
 use Rattle.batch_reader.specs.declared.fault.EntryFault.TheVariants.{Duplicate}
 use Rattle.batch_reader.specs.declared.fault.TableKind.TheVariants as table_kind

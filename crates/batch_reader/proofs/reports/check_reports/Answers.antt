@@ -3,8 +3,8 @@ use Rattle.std.proofs.lemmas.Result.{err_from_is_err_and, on_ok_weaker, IfErr-we
 use Rattle.std.specs.List.{list_all}
 use Rattle.batch_recipe.specs.WellFormed.{reports_among, reports_once}
 use Rattle.batch_reader.proofs.EntryFaults.{err_both}
-use Rattle.batch_reader.proofs.PartsTold.{kind_told}
-use Rattle.batch_reader.proofs.Truth.{both_true, and_true}
+use Rattle.batch_reader.proofs.FaultsAmongTables.{kind_told}
+use Rattle.batch_reader.proofs.Conjunctions.{both_true, and_true}
 use Rattle.batch_reader.specs.Faults.{IsReportFault}
 use Rattle.batch_reader.specs.PartFaults.{FailsFirst}
 use Rattle.batch_reader.specs.declared.fault.EntryFault.TheVariants.{Duplicate, Undeclared}

@@ -4,7 +4,7 @@ use Rattle.batch_cell.specs.Equipment.{unit_names, declared_names}
 use Rattle.batch_reader.proofs.CellNames.{declared_units_refused, declared_modules_refused}
 use Rattle.batch_cell.specs.declared.module.Module.{Module}
 use Rattle.batch_cell.specs.declared.unit.Unit.{Unit}
-use Rattle.batch_reader.proofs.PartsTold.{after_names, after_no_name, twice_told}
+use Rattle.batch_reader.proofs.FaultsAmongTables.{after_names, after_no_name, twice_told}
 use Rattle.batch_reader.specs.PartFaults.{Equipment, HasNameTwice}
 use Rattle.batch_reader.specs.declared.fault.EntryFault.TheVariants.{Duplicate}
 use Rattle.batch_reader.specs.declared.fault.TableKind.TheVariants as table_kind

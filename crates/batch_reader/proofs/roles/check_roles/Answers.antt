@@ -3,8 +3,8 @@ use Rattle.std.proofs.lemmas.Result.{err_from_is_err_and, on_ok_weaker, IfErr-we
 use Rattle.std.specs.List.{list_all}
 use Rattle.batch_recipe.specs.Conditions.{Name}
 use Rattle.batch_recipe.specs.WellFormed.{are_distinct, is_role_among}
-use Rattle.batch_reader.proofs.PartsTold.{kind_told}
-use Rattle.batch_reader.proofs.Truth.{both_true, and_true}
+use Rattle.batch_reader.proofs.FaultsAmongTables.{kind_told}
+use Rattle.batch_reader.proofs.Conjunctions.{both_true, and_true}
 use Rattle.batch_reader.specs.Faults.{IsRoleFault}
 use Rattle.batch_reader.specs.PartFaults.{AreDistinct, FailsFirst, role_names}
 use Rattle.batch_reader.specs.declared.fault.EntryFault.TheVariants.{Duplicate}

@@ -1,4 +1,4 @@
-use Rattle.batch_recipe.proofs.Copies.{HavePushed-more, HavePushed-all}
+use Rattle.batch_recipe.proofs.ConditionCopies.{HavePushed-more, HavePushed-all}
 use Rattle.batch_recipe.proofs.copying.push_conditions.Goals as goal
 
 pub loop-choice-preserved : goal.loop-choice-preserved

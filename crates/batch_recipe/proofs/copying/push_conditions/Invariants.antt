@@ -1,4 +1,4 @@
-use Rattle.batch_recipe.proofs.Copies.{HavePushed}
+use Rattle.batch_recipe.proofs.ConditionCopies.{HavePushed}
 use Rattle.batch_recipe.proofs.copying.push_conditions.Given as goal
 
 abbrev pub invariant-loop-choice : goal.invariant-loop-choice

@@ -3,7 +3,7 @@ use Rattle.batch_recipe.specs.Expanding.{unbound}
 use Rattle.batch_recipe.specs.Outlines.{a_par, form_of}
 use Rattle.batch_recipe.specs.Procedure.{procedure_nodes}
 use Rattle.batch_recipe.proofs.Followers.{as_many, read_at, formed, found_act, found_other_act, found_bare, is_bare}
-use Rattle.batch_recipe.proofs.Followed.{IsLookingFrom-first, IsLookingFrom-more, IsFound-branch, IsFound-none, IsFound-in_loop, IsFound-in_seq, IsFound-empty_seq, loop_within, end_within, form_alike, bare_form}
+use Rattle.batch_recipe.proofs.FollowerSearch.{IsLookingFrom-first, IsLookingFrom-more, IsFound-branch, IsFound-none, IsFound-in_loop, IsFound-in_seq, IsFound-empty_seq, loop_within, end_within, form_alike, bare_form}
 use Rattle.batch_recipe.proofs.following.+down.Goals as goal
 
 pub first_named-index-entry-requires : goal.first_named-index-entry-requires

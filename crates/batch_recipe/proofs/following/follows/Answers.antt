@@ -4,7 +4,7 @@ use Rattle.std.proofs.lemmas.Grind.{common_steps}
 use Rattle.std.proofs.lemmas.Option.{slice_get_past, slice_get_read}
 use Rattle.batch_recipe.specs.Expanding.{unbound}
 use Rattle.batch_recipe.specs.Procedure.{procedure_nodes}
-use Rattle.batch_recipe.proofs.Followed.{node_there, within_any, follower_is, no_follower, no_act_follower, nothing_next, told_some, told_none}
+use Rattle.batch_recipe.proofs.FollowerSearch.{node_there, within_any, follower_is, no_follower, no_act_follower, nothing_next, told_some, told_none}
 use Rattle.batch_recipe.proofs.following.follows.Goals as goal
 
 pub returns-in_err-act-clause-none : goal.returns-in_err-act-clause-none

@@ -1,4 +1,4 @@
-use Rattle.batch_recipe.proofs.Followed.{IsLevel}
+use Rattle.batch_recipe.proofs.FollowerSearch.{IsLevel}
 use Rattle.batch_recipe.proofs.following.is_in_procedure.Given as goal
 
 abbrev pub invariant-loop-at : goal.invariant-loop-at

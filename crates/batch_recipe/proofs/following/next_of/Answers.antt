@@ -2,7 +2,7 @@ use Rattle.std.proofs.Common.{◌≡◌, Some, slice_get, true, false, refl, ap,
 use Rattle.batch_recipe.specs.Expanding.{unbound}
 use Rattle.batch_recipe.specs.Outlines.{form_of}
 use Rattle.batch_recipe.proofs.Followers.{as_many, read_at}
-use Rattle.batch_recipe.proofs.Followed.{IsUp-next, IsUp-none, IsUp-last, IsNext-branch, IsNext-outside, IsNext-top, next_within, parent_within, parent_earlier, ends_form, up_form}
+use Rattle.batch_recipe.proofs.FollowerSearch.{IsUp-next, IsUp-none, IsUp-last, IsNext-branch, IsNext-outside, IsNext-top, next_within, parent_within, parent_earlier, ends_form, up_form}
 use Rattle.batch_recipe.proofs.following.next_of.Goals as goal
 use Rattle.batch_recipe.proofs.following.next_of.Goals.{After-index-entry, After-index-above}
 

@@ -1,4 +1,4 @@
-use Rattle.batch_recipe.proofs.Followed.{IsUp}
+use Rattle.batch_recipe.proofs.FollowerSearch.{IsUp}
 use Rattle.batch_recipe.proofs.following.next_of.Given as goal
 
 abbrev pub invariant-loop-at : goal.invariant-loop-at

@@ -13,12 +13,12 @@ use Rattle.batch_recipe.specs.declared.act.Act.{Act}
 use Rattle.batch_recipe.specs.declared.act.Work.{Work}
 use Rattle.batch_recipe.specs.declared.entry.Kind.TheVariants as kind
 use Rattle.batch_recipe.specs.declared.entry.Entry.{Entry}
-use Rattle.batch_recipe.proofs.Counts.{counted, counted_act, counted_name}
+use Rattle.batch_recipe.proofs.NodeCounts.{counted, counted_act, counted_name}
 use Rattle.batch_recipe.proofs.Diagrams.{diagram_of-label, diagram_of-seq, diagram_of-par, diagram_of-sel, diagram_of-loop}
 use Rattle.batch_recipe.proofs.Tables.{counted_some}
 use Rattle.batch_recipe.proofs.Branches.{counted_at, counted_choice, counted_last}
 use Rattle.batch_recipe.proofs.Growth.{found_at, node_grown, node_failed, no_number, no_number_told, some_act, some_act_told, nothing_added, grown_as, KeepsGrowing-more, KeepsGrowing-stop, KeepsGrowing-room, KeepsGrowing-all, KeepsGrowing-told, KeepsChoosing-more, KeepsChoosing-stop, KeepsChoosing-room, KeepsChoosing-last, KeepsChoosing-told}
-use Rattle.batch_recipe.proofs.Copies.{conditions-are}
+use Rattle.batch_recipe.proofs.ConditionCopies.{conditions-are}
 use Rattle.batch_recipe.proofs.growing.+grow.Goals as goal
 
 pub grow_label-grow_act-requires : goal.grow_label-grow_act-requires

@@ -1,7 +1,7 @@
 use Rattle.std.proofs.Common.{◌+◌, ◌*◌, map}
 use Rattle.batch_recipe.specs.Procedure.{tables_from}
 use Rattle.batch_recipe.specs.Diagram.{diagram_of, diagrams_of, cases_of}
-use Rattle.batch_recipe.proofs.Counts.{counted, counted_each, counted_cases, counted_act, counted_name}
+use Rattle.batch_recipe.proofs.NodeCounts.{counted, counted_each, counted_cases, counted_act, counted_name}
 use Rattle.batch_recipe.proofs.Growth.{KeepsGrowing, KeepsChoosing}
 use Rattle.batch_recipe.proofs.growing.+grow.Given as goal
 

@@ -1,4 +1,4 @@
-use Rattle.batch_recipe.proofs.Bindings.{places_stay}
+use Rattle.batch_recipe.proofs.PlacesInBindings.{places_stay}
 use Rattle.batch_recipe.proofs.laws.places_stay.Goals as goal
 
 pub returns : goal.returns

@@ -1,5 +1,5 @@
 use Rattle.std.proofs.Common.{◌-◌}
-use Rattle.batch_recipe.proofs.Reaching.{KeepsLooking}
+use Rattle.batch_recipe.proofs.NodesBelow.{KeepsLooking}
 use Rattle.batch_recipe.proofs.nodes.child_of.Given as goal
 
 abbrev pub invariant-loop-at : goal.invariant-loop-at

@@ -1,5 +1,5 @@
 use Rattle.std.proofs.Common.{◌≡◌, get_or, slice_get, Some, ap, ◌∙◌, arith}
-use Rattle.batch_recipe.proofs.Climbing.{IsAbove-first, IsAbove-next, in_nodes, read, as_many, parent_is_earlier, top_size}
+use Rattle.batch_recipe.proofs.NodesAbove.{IsAbove-first, IsAbove-next, in_nodes, read, as_many, parent_is_earlier, top_size}
 use Rattle.batch_recipe.proofs.nodes.depth_of.Goals as goal
 use Rattle.batch_recipe.proofs.nodes.depth_of.Goals.{After-index}
 

@@ -1,4 +1,4 @@
-use Rattle.batch_recipe.proofs.Climbing.{IsAbove}
+use Rattle.batch_recipe.proofs.NodesAbove.{IsAbove}
 use Rattle.batch_recipe.proofs.nodes.depth_of.Given as goal
 
 abbrev pub invariant-loop-at : goal.invariant-loop-at

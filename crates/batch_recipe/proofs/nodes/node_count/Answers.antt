@@ -1,5 +1,5 @@
 use Rattle.std.proofs.Common.{arith}
-use Rattle.batch_recipe.proofs.Climbing.{as_many}
+use Rattle.batch_recipe.proofs.NodesAbove.{as_many}
 use Rattle.batch_recipe.proofs.nodes.node_count.Goals as goal
 
 pub returns : goal.returns

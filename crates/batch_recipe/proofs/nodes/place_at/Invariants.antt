@@ -1,5 +1,5 @@
 use Rattle.std.proofs.Common.{◌-◌}
-use Rattle.batch_recipe.proofs.Climbing.{IsAbove}
+use Rattle.batch_recipe.proofs.NodesAbove.{IsAbove}
 use Rattle.batch_recipe.proofs.nodes.place_at.Given as goal
 
 abbrev pub invariant-loop-step : goal.invariant-loop-step

@@ -1,6 +1,6 @@
 use Rattle.std.proofs.Common.{◌≡◌, ◌<◌, ◌-◌, Some, length, refl, sym, ap, ◌∙◌, arith}
 use Rattle.std.proofs.lemmas.Option.{slice_get_read}
-use Rattle.batch_recipe.proofs.Setting.{same-names}
+use Rattle.batch_recipe.proofs.ValueUpdates.{same-names}
 use Rattle.batch_recipe.proofs.values.position_from_end.Goals as goal
 
 pub returns-then-eq-clause-some : goal.returns-then-eq-clause-some

@@ -1,5 +1,5 @@
 use Rattle.std.proofs.Common.{arith}
-use Rattle.batch_serve.proofs.CleanLemmas.{put_more, put_end}
+use Rattle.batch_serve.proofs.JournalLines.{put_more, put_end}
 use Rattle.batch_serve.proofs.clean_lines.put_bytes.Goals as goal
 
 pub loop-i-preserved : goal.loop-i-preserved

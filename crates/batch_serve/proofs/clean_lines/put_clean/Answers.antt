@@ -1,5 +1,5 @@
 use Rattle.std.proofs.Common.{◌∙◌, sym, arith}
-use Rattle.batch_serve.proofs.CleanLemmas.{long_text, no_text, line_text}
+use Rattle.batch_serve.proofs.JournalLines.{long_text, no_text, line_text}
 use Rattle.batch_serve.proofs.clean_lines.put_clean.Goals as goal
 
 pub put_long-requires : goal.put_long-requires

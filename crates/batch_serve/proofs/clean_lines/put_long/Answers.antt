@@ -1,5 +1,5 @@
 use Rattle.std.proofs.Common.{◌≡◌, length, take, arith, length-take}
-use Rattle.batch_serve.proofs.CleanLemmas.{put_long}
+use Rattle.batch_serve.proofs.JournalLines.{put_long}
 use Rattle.batch_serve.proofs.clean_lines.put_long.Goals as goal
 
 pub slice_bounds-fill-end-2 : goal.slice_bounds-fill-end-2

@@ -1,5 +1,5 @@
 use Rattle.std.proofs.Common.{◌≡◌, length, arith, length-take}
-use Rattle.batch_serve.proofs.CleanLemmas.{front_read}
+use Rattle.batch_serve.proofs.JournalLines.{front_read}
 use Rattle.batch_serve.proofs.clean_lines.read_front.Goals as goal
 
 pub returns : goal.returns

@@ -1,5 +1,5 @@
 use Rattle.std.proofs.Common.{take, arith}
-use Rattle.batch_serve.proofs.CleanLemmas.{stepped, finished, put_behind, room_here, room_left}
+use Rattle.batch_serve.proofs.JournalLines.{stepped, finished, put_behind, room_here, room_left}
 use Rattle.batch_serve.proofs.clean_lines.take_lines.Goals as goal
 
 pub end_line-written-requires : goal.end_line-written-requires

@@ -1,6 +1,6 @@
 use Rattle.std.proofs.Common.{arith, length-set}
 use Rattle.batch_serve.specs.declared.desk.Desk.{Desk}
-use Rattle.batch_serve.proofs.Telling.{told_more, kept_more}
+use Rattle.batch_serve.proofs.AnswersToDesks.{told_more, kept_more}
 use Rattle.batch_serve.proofs.desk.queue_for_each.Goals as goal
 
 pub loop-desk-preserved : goal.loop-desk-preserved

@@ -1,5 +1,5 @@
 use Rattle.std.proofs.Common.{arith}
-use Rattle.batch_serve.proofs.LivesKept.{no_want_so_far}
+use Rattle.batch_serve.proofs.ServerAccounts.{no_want_so_far}
 use Rattle.batch_serve.proofs.desk_server.any_shows_want.Goals as goal
 
 pub loop-answer-preserved : goal.loop-answer-preserved

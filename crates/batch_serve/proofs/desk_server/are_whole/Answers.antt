@@ -1,5 +1,5 @@
 use Rattle.std.proofs.Common.{arith}
-use Rattle.batch_serve.proofs.LivesKept.{whole_so_far}
+use Rattle.batch_serve.proofs.ServerAccounts.{whole_so_far}
 use Rattle.batch_serve.proofs.desk_server.are_whole.Goals as goal
 
 pub loop-run-preserved : goal.loop-run-preserved

@@ -1,4 +1,4 @@
-use Rattle.batch_serve.proofs.Gathering.{lines_go_on}
+use Rattle.batch_serve.proofs.DeskLines.{lines_go_on}
 use Rattle.batch_serve.proofs.desks_laws.lines_go_on.Goals as goal
 
 pub returns : goal.returns

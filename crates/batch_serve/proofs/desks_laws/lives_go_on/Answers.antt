@@ -1,4 +1,4 @@
-use Rattle.batch_serve.proofs.LivesKept.{lives_begin, lives_go_on, lives_hand_on, lives_take}
+use Rattle.batch_serve.proofs.ServerAccounts.{lives_begin, lives_go_on, lives_hand_on, lives_take}
 use Rattle.batch_serve.proofs.desks_laws.lives_go_on.Goals as goal
 
 pub returns-clause-begin : goal.returns-clause-begin

@@ -1,4 +1,4 @@
-use Rattle.batch_serve.proofs.Sorted.{runs_sorted}
+use Rattle.batch_serve.proofs.DueAnswers.{runs_sorted}
 use Rattle.batch_serve.proofs.desks_laws.runs_are_sorted.Goals as goal
 
 pub returns : goal.returns

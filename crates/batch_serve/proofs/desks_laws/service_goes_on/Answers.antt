@@ -1,5 +1,5 @@
-use Rattle.batch_serve.proofs.GoingOn.{texts_go_on}
-use Rattle.batch_serve.proofs.RunsServed.{goes_on}
+use Rattle.batch_serve.proofs.RunTexts.{texts_go_on}
+use Rattle.batch_serve.proofs.ServedRuns.{goes_on}
 use Rattle.batch_serve.proofs.desks_laws.service_goes_on.Goals as goal
 
 pub returns-clause-served : goal.returns-clause-served

@@ -1,4 +1,4 @@
-use Rattle.batch_serve.proofs.RunsServed.{is_safe}
+use Rattle.batch_serve.proofs.ServedRuns.{is_safe}
 use Rattle.batch_serve.proofs.desks_laws.service_is_safe.Goals as goal
 
 pub returns : goal.returns

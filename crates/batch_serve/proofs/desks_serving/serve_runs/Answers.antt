@@ -1,6 +1,6 @@
 use Rattle.std.proofs.Common.{◌∙◌, arith}
 use Rattle.batch_engine.specs.View.{plant_of}
-use Rattle.batch_serve.proofs.RunsServed.{served_so_far}
+use Rattle.batch_serve.proofs.ServedRuns.{served_so_far}
 use Rattle.batch_serve.proofs.desks_serving.serve_runs.Goals as goal
 
 pub loop-run-preserved : goal.loop-run-preserved

@@ -1,4 +1,4 @@
-use Rattle.batch_serve.proofs.HoldingLemmas.{finds_first}
+use Rattle.batch_serve.proofs.HeldText.{finds_first}
 use Rattle.batch_serve.proofs.held.first_of.Goals as goal
 
 pub returns : goal.returns

@@ -1,5 +1,5 @@
 use Rattle.std.proofs.Common.{sym, ◌∙◌}
-use Rattle.batch_serve.proofs.HoldingLemmas.{found_none, found_some}
+use Rattle.batch_serve.proofs.HeldText.{found_none, found_some}
 use Rattle.batch_serve.proofs.held.occurs.Goals as goal
 
 pub returns-clause-none : goal.returns-clause-none

@@ -1,5 +1,5 @@
 use Rattle.std.proofs.Common.{None, Some}
-use Rattle.batch_serve.proofs.HoldingLemmas.{none_whole, whole_to}
+use Rattle.batch_serve.proofs.HeldText.{none_whole, whole_to}
 use Rattle.batch_serve.proofs.held.whole_len.Goals as goal
 
 pub returns-in-Some : goal.returns-in-Some

@@ -1,4 +1,4 @@
-use Rattle.batch_serve.proofs.Resting.{transcripts_are_safe}
+use Rattle.batch_serve.proofs.SettledTranscripts.{transcripts_are_safe}
 use Rattle.batch_serve.proofs.laws.transcripts_are_safe.Goals as goal
 
 pub returns : goal.returns

@@ -1,4 +1,4 @@
-use Rattle.batch_serve.proofs.Wholes.{transcripts_are_whole}
+use Rattle.batch_serve.proofs.TranscriptLines.{transcripts_are_whole}
 use Rattle.batch_serve.proofs.laws.transcripts_are_whole.Goals as goal
 
 pub returns : goal.returns

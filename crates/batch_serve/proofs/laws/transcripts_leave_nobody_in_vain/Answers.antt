@@ -1,4 +1,4 @@
-use Rattle.batch_serve.proofs.Resting.{nobody_in_vain}
+use Rattle.batch_serve.proofs.SettledTranscripts.{nobody_in_vain}
 use Rattle.batch_serve.proofs.laws.transcripts_leave_nobody_in_vain.Goals as goal
 
 pub returns : goal.returns

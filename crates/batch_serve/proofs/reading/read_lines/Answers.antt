@@ -1,5 +1,5 @@
 use Rattle.rtrb.specs.Ring.{sent}
-use Rattle.batch_serve.proofs.Threading.{reads_then}
+use Rattle.batch_serve.proofs.ReadersAndWriters.{reads_then}
 use Rattle.batch_serve.proofs.reading.read_lines.Goals as goal
 
 pub returns-in-Some-clause-read : goal.returns-in-Some-clause-read

@@ -1,5 +1,5 @@
 use Rattle.rtrb.specs.Ring.{sent}
-use Rattle.batch_serve.proofs.Threading.{may_after_lines, may_end, may_lines}
+use Rattle.batch_serve.proofs.ReadersAndWriters.{may_after_lines, may_end, may_lines}
 use Rattle.batch_serve.proofs.reading.read_next.Goals as goal
 
 pub hand_over-requires : goal.hand_over-requires

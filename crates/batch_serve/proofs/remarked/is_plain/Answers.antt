@@ -1,4 +1,4 @@
-use Rattle.batch_serve.proofs.CommentLemmas.{plain_all}
+use Rattle.batch_serve.proofs.TextsWithComments.{plain_all}
 use Rattle.batch_serve.proofs.remarked.is_plain.Goals as goal
 
 pub returns-in-None : goal.returns-in-None

@@ -1,5 +1,5 @@
 use Rattle.std.proofs.Common.{◌∙◌, ap, take}
-use Rattle.batch_serve.proofs.CommentLemmas.{take_min}
+use Rattle.batch_serve.proofs.TextsWithComments.{take_min}
 use Rattle.batch_serve.proofs.remarking.echoed.Goals as goal
 
 pub returns : goal.returns

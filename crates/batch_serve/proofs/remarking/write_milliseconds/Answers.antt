@@ -1,5 +1,5 @@
 use Rattle.std.proofs.Common.{◌∙◌}
-use Rattle.batch_serve.proofs.CommentLemmas.{decimal_part}
+use Rattle.batch_serve.proofs.TextsWithComments.{decimal_part}
 use Rattle.batch_serve.proofs.remarking.write_milliseconds.Goals as goal
 
 pub write_part-requires-2 : goal.write_part-requires-2

@@ -1,5 +1,5 @@
 use Rattle.batch_engine.specs.View.{plant_of}
-use Rattle.batch_serve.proofs.SetServed.{IsNew, serves_all, serves_until}
+use Rattle.batch_serve.proofs.ServiceOfSet.{IsNew, serves_all, serves_until}
 use Rattle.batch_serve.proofs.set.serve_set.Goals as goal
 
 pub returns-in-Ok-serve : goal.returns-in-Ok-serve

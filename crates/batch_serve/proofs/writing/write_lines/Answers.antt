@@ -1,5 +1,5 @@
 use Rattle.rtrb.specs.Ring.{received}
-use Rattle.batch_serve.proofs.Threading.{writes_then}
+use Rattle.batch_serve.proofs.ReadersAndWriters.{writes_then}
 use Rattle.batch_serve.proofs.writing.write_lines.Goals as goal
 
 pub returns-in-Some-clause-written : goal.returns-in-Some-clause-written

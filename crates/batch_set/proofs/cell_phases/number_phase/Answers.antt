@@ -1,7 +1,7 @@
 use Rattle.std.proofs.Common.{◌++◌, ◌∷◌, [], ap, ◌∙◌, arith}
 use Rattle.std.proofs.lemmas.List.{length-map}
 use Rattle.batch_cell.specs.declared.unit.Unit.{Unit}
-use Rattle.batch_set.proofs.Counting.{numbers-next}
+use Rattle.batch_set.proofs.NumbersOnUnits.{numbers-next}
 use Rattle.batch_set.proofs.cell_phases.number_phase.Goals as goal
 
 pub loop-unit-preserved : goal.loop-unit-preserved

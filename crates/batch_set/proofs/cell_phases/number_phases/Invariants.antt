@@ -1,5 +1,5 @@
 use Rattle.batch_set.specs.Linking.{numbers_on, table_items}
-use Rattle.batch_set.proofs.Mapped.{AreMapped}
+use Rattle.batch_set.proofs.TableRows.{AreMapped}
 use Rattle.batch_set.proofs.cell_phases.number_phases.Given as goal
 
 abbrev pub invariant-loop-index : goal.invariant-loop-index

@@ -1,6 +1,6 @@
 use Rattle.std.proofs.Common.{[], ◌∷◌, ◌++◌, ap, map, ◌∙◌}
 use Rattle.batch_set.specs.Linking.{need_linked, one_of, reserved_need, unit_needs}
-use Rattle.batch_set.proofs.Mapped.{AreAdded-more, AreAdded-all}
+use Rattle.batch_set.proofs.TableRows.{AreAdded-more, AreAdded-all}
 use Rattle.batch_set.proofs.linking.link_act.Goals as goal
 
 pub loop-name-preserved : goal.loop-name-preserved

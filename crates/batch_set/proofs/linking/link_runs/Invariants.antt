@@ -1,5 +1,5 @@
 use Rattle.batch_set.specs.Linking.{run_by}
-use Rattle.batch_set.proofs.Mapped.{AreMapped}
+use Rattle.batch_set.proofs.TableRows.{AreMapped}
 use Rattle.batch_set.proofs.linking.link_runs.Given as goal
 
 -- the phase steps so far

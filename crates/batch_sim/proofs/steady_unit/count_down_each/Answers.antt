@@ -1,6 +1,6 @@
 use Rattle.std.proofs.Common.{arith}
 use Rattle.batch_sim.specs.SteadyUnit.{passed}
-use Rattle.batch_sim.proofs.Changed.{one_more, each_changed}
+use Rattle.batch_sim.proofs.ChangedPrefix.{one_more, each_changed}
 use Rattle.batch_sim.proofs.steady_unit.count_down_each.Goals as goal
 
 pub loop-phase-preserved : goal.loop-phase-preserved

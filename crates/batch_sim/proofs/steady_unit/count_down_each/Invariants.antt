@@ -1,6 +1,6 @@
 use Rattle.std.proofs.Common.{◌≡◌}
 use Rattle.batch_sim.specs.SteadyUnit.{passed}
-use Rattle.batch_sim.proofs.Changed.{changed}
+use Rattle.batch_sim.proofs.ChangedPrefix.{changed}
 use Rattle.batch_sim.proofs.steady_unit.count_down_each.Given as goal
 
 abbrev pub invariant-loop-phase : goal.invariant-loop-phase

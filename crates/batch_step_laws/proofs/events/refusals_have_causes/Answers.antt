@@ -1,4 +1,4 @@
-use Rattle.batch_step_laws.proofs.Refusing.{refusal-just}
+use Rattle.batch_step_laws.proofs.Refusals.{refusal-just}
 use Rattle.batch_step_laws.proofs.events.refusals_have_causes.Goals as goal
 
 pub returns : goal.returns

@@ -1,4 +1,4 @@
-use Rattle.batch_step_laws.proofs.Deciding.{possible-one}
+use Rattle.batch_step_laws.proofs.FirstMove.{possible-one}
 use Rattle.batch_step_laws.proofs.moves.acts_have_one_move.Goals as goal
 
 pub returns : goal.returns

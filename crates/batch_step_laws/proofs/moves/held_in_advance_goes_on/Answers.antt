@@ -1,7 +1,7 @@
 use Rattle.batch_model.specs.Standing.{IsStandingBatch}
 use Rattle.batch_model.proofs.Members.{Each-Has}
-use Rattle.batch_step_laws.proofs.Falling.{batch_moves-number}
-use Rattle.batch_step_laws.proofs.Leaving.{flat_map-Has, holding-busy, holding-goes_on, holding-moves, each-none, settled-none}
+use Rattle.batch_step_laws.proofs.WorkAfterMove.{batch_moves-number}
+use Rattle.batch_step_laws.proofs.HoldersInAdvance.{flat_map-Has, holding-busy, holding-goes_on, holding-moves, each-none, settled-none}
 use Rattle.batch_model.specs.Moves.{batch_moves}
 use Rattle.batch_step_laws.proofs.moves.held_in_advance_goes_on.Goals as goal
 

@@ -1,6 +1,6 @@
 use Rattle.batch_model.specs.Moves.{possible}
-use Rattle.batch_step_laws.proofs.Deciding.{next-IsFirst}
-use Rattle.batch_step_laws.proofs.Ordering.{least-IsFirst}
+use Rattle.batch_step_laws.proofs.FirstMove.{next-IsFirst}
+use Rattle.batch_step_laws.proofs.MoveOrder.{least-IsFirst}
 use Rattle.batch_step_laws.proofs.moves.next_is_first.Goals as goal
 
 pub returns : goal.returns

@@ -1,5 +1,5 @@
 use Rattle.batch_model.specs.Moves.{possible}
-use Rattle.batch_step_laws.proofs.Ordering.{least-IsLeast, none_least}
+use Rattle.batch_step_laws.proofs.MoveOrder.{least-IsLeast, none_least}
 use Rattle.batch_step_laws.proofs.moves.next_is_least.Goals as goal
 
 pub returns : goal.returns

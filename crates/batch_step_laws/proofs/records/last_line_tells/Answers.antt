@@ -1,4 +1,4 @@
-use Rattle.batch_step_laws.proofs.Telling.{active_told-last, holders_told-last, state_told-last, waiters_told-last}
+use Rattle.batch_step_laws.proofs.LastLineEffect.{active_told-last, holders_told-last, state_told-last, waiters_told-last}
 use Rattle.batch_step_laws.proofs.records.last_line_tells.Goals as goal
 
 pub returns : goal.returns

@@ -1,4 +1,4 @@
-use Rattle.batch_step_laws.proofs.Advancing.{advance-advanced, reach-advanced}
+use Rattle.batch_step_laws.proofs.AdvancedRests.{advance-advanced, reach-advanced}
 use Rattle.batch_step_laws.proofs.rests.advances_fully.Goals as goal
 
 pub returns : goal.returns

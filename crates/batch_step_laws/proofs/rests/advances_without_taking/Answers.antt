@@ -1,4 +1,4 @@
-use Rattle.batch_step_laws.proofs.Gathering.{held_in-advance, held_in-reach, phase_states-advance, phase_states-reach}
+use Rattle.batch_step_laws.proofs.ListsOverActs.{held_in-advance, held_in-reach, phase_states-advance, phase_states-reach}
 use Rattle.batch_step_laws.proofs.rests.advances_without_taking.Goals as goal
 
 pub returns : goal.returns

@@ -1,4 +1,4 @@
-use Rattle.batch_step_laws.proofs.Placed.{expanded-HasPlacedTrees, bound_tree-IsPlaced}
+use Rattle.batch_step_laws.proofs.ActPlaces.{expanded-HasPlacedTrees, bound_tree-IsPlaced}
 use Rattle.batch_step_laws.proofs.rests.trees_are_placed.Goals as goal
 
 pub returns : goal.returns

@@ -1,5 +1,5 @@
-use Rattle.batch_step_laws.proofs.Led.{led-stands}
-use Rattle.batch_step_laws.proofs.Settling.{settling-rests}
+use Rattle.batch_step_laws.proofs.PlantAlongRecord.{led-stands}
+use Rattle.batch_step_laws.proofs.Settlement.{settling-rests}
 use Rattle.batch_step_laws.proofs.runs.plants_come_to_rest.Goals as goal
 
 pub returns : goal.returns

@@ -1,4 +1,4 @@
-use Rattle.batch_step_laws.proofs.Led.{led-stands}
+use Rattle.batch_step_laws.proofs.PlantAlongRecord.{led-stands}
 use Rattle.batch_step_laws.proofs.runs.plants_stand.Goals as goal
 
 pub returns : goal.returns

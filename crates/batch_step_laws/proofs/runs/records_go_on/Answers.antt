@@ -1,4 +1,4 @@
-use Rattle.batch_step_laws.proofs.Leading.{Leads-move, Leads-reply}
+use Rattle.batch_step_laws.proofs.RecordGrowth.{Leads-move, Leads-reply}
 use Rattle.batch_step_laws.proofs.runs.records_go_on.Goals as goal
 
 pub returns : goal.returns

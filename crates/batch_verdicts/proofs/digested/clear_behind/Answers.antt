@@ -1,6 +1,6 @@
 use Rattle.std.proofs.Common.{◌∷◌, [], inl, inr}
 use Rattle.std.proofs.lemmas.Result.{err_from_is_err_and}
-use Rattle.batch_verdicts.proofs.TextsRead.{reads_recipes}
+use Rattle.batch_verdicts.proofs.RecipeTexts.{reads_recipes}
 use Rattle.batch_verdicts.proofs.digested.clear_behind.Goals as goal
 
 pub returns-clause-digested : goal.returns-clause-digested

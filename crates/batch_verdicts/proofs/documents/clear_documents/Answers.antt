@@ -1,6 +1,6 @@
 use Rattle.std.proofs.Common.{inl}
 use Rattle.std.proofs.lemmas.Result.{err_from_is_err_and}
-use Rattle.batch_verdicts.proofs.Halted.{clearing_halts}
+use Rattle.batch_verdicts.proofs.HaltCauses.{clearing_halts}
 use Rattle.batch_verdicts.proofs.documents.clear_documents.Goals as goal
 
 pub returns-in_err-read-clause-halted : goal.returns-in_err-read-clause-halted

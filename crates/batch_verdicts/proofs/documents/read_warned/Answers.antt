@@ -1,6 +1,6 @@
 use Rattle.std.proofs.Common.{inl, inr}
 use Rattle.std.proofs.lemmas.Result.{err_from_is_err_and}
-use Rattle.batch_verdicts.proofs.Warned.{silent}
+use Rattle.batch_verdicts.proofs.WarningEffects.{silent}
 use Rattle.batch_verdicts.proofs.documents.read_warned.Goals as goal
 
 pub returns-clause-read : goal.returns-clause-read

@@ -2,7 +2,7 @@ use Rattle.std.proofs.Common.{◌≡◌, List, inr, map, subst, string_bytes}
 use Rattle.std.proofs.lemmas.Result.{err_from_is_err_and}
 use Rattle.batch_recipe.specs.declared.recipe.Recipe.{Recipe}
 use Rattle.batch_outline.specs.Showing.{shown}
-use Rattle.batch_verdicts.proofs.Halted.{halts_without_memory}
+use Rattle.batch_verdicts.proofs.HaltCauses.{halts_without_memory}
 use Rattle.batch_verdicts.proofs.documents.show_documents.Goals as goal
 
 pub returns-clause-verdict : goal.returns-clause-verdict

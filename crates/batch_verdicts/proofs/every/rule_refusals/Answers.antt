@@ -1,6 +1,6 @@
 use Rattle.std.proofs.Common.{inl, inr, [], ◌∷◌, refl, sym, append-nil, arith}
 use Rattle.batch_set.proofs.SetRecipes.{recipe_linked}
-use Rattle.batch_verdicts.proofs.RulesBroken.{rules_next}
+use Rattle.batch_verdicts.proofs.BrokenRules.{rules_next}
 use Rattle.batch_verdicts.proofs.every.rule_refusals.Goals as goal
 use Rattle.batch_verdicts.proofs.every.rule_refusals.Goals.{in-Some+in_ok-refusal+in_ok-push+in-Circle-1, in-Some+in_ok-refusal+in_ok-push+in-Recipes-1, in_default}
 

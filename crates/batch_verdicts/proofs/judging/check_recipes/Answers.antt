@@ -1,6 +1,6 @@
 use Rattle.std.proofs.Common.{ℕ, List, sym, subst}
 use Rattle.batch_verify.specs.CertificateText.{IsCertificateText}
-use Rattle.batch_verdicts.proofs.CertificatesAreRead.{certificate_is_read, certificate_is_short}
+use Rattle.batch_verdicts.proofs.CertificateRanks.{certificate_is_read, certificate_is_short}
 use Rattle.batch_verdicts.proofs.judging.check_recipes.Goals as goal
 
 pub returns-in_ok-certificate_text-in-Ok-clause-checked : goal.returns-in_ok-certificate_text-in-Ok-clause-checked

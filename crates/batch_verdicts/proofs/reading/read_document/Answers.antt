@@ -1,6 +1,6 @@
 use Rattle.std.proofs.Common.{◌<◌, length, rules}
 use Rattle.std.proofs.KnownBytes.{Consumes-trans}
-use Rattle.batch_verdicts.proofs.BytesRead.{has_more}
+use Rattle.batch_verdicts.proofs.FirstBytes.{has_more}
 use Rattle.batch_verdicts.proofs.reading.read_document.Goals as goal
 
 pub returns-then-len-limit-clause-long : goal.returns-then-len-limit-clause-long

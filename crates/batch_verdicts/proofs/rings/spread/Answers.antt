@@ -1,7 +1,7 @@
 use Rattle.std.proofs.Common.{◌∙◌, get_or, sym}
 use Rattle.std.proofs.lemmas.List.Elements.{Contains-get_or}
 use Rattle.batch_check.specs.declared.edge.Edge.{Edge}
-use Rattle.batch_verdicts.proofs.OnCircles.{reached_more}
+use Rattle.batch_verdicts.proofs.EdgesOnCircles.{reached_more}
 use Rattle.batch_verdicts.proofs.rings.spread.Goals as goal
 
 abbrev no_edge : Edge

@@ -1,7 +1,7 @@
 use Rattle.std.proofs.Common.{◌<◌, ◌++◌, ◌∙◌, List, ℕ, [], length, ap, rules, string_bytes}
 use Rattle.batch_verdicts.specs.declared.refusal.DocumentRefusal.{DocumentRefusal}
 use Rattle.batch_verdicts.proofs.running.refusals_text.Goals as goal
-use Rattle.batch_outline.proofs.Placed.{texts_more}
+use Rattle.batch_outline.proofs.LineSeats.{texts_more}
 
 pub loop-refusal-preserved : goal.loop-refusal-preserved
 loop-refusal-preserved c =

@@ -1,5 +1,5 @@
 use Rattle.std.proofs.lemmas.Result.{IfErr-weaker, IfOk-weaker}
-use Rattle.batch_verdicts.proofs.Warned.{silent}
+use Rattle.batch_verdicts.proofs.WarningEffects.{silent}
 use Rattle.batch_verdicts.proofs.running.run_judgement.Goals as goal
 
 pub returns-in-Check-clause-verdict : goal.returns-in-Check-clause-verdict

@@ -1,6 +1,6 @@
 use Rattle.std.proofs.Common.{◌++◌, take}
 use Rattle.std.proofs.KnownBytes.{Appends-trans}
-use Rattle.batch_verdicts.proofs.Fronts.{moves_front}
+use Rattle.batch_verdicts.proofs.WrittenPrefix.{moves_front}
 use Rattle.batch_verdicts.proofs.saying.write_front.Goals as goal
 
 pub loop-rest-preserved : goal.loop-rest-preserved

@@ -3,7 +3,7 @@ use Rattle.batch_recipe.specs.declared.acts.LabelTable.TheVariants.{UnitProcedur
 use Rattle.batch_warnings.specs.declared.warning.RecipeWarning.TheVariants.{UnnamedAct}
 use Rattle.batch_verdicts.specs.WarningTexts.{recipe_line}
 use Rattle.batch_verdicts.proofs.warnings.recipe_text.Goals as goal
-use Rattle.batch_outline.proofs.Placed.{texts_more}
+use Rattle.batch_outline.proofs.LineSeats.{texts_more}
 
 pub loop-warning-preserved : goal.loop-warning-preserved
 loop-warning-preserved c =

@@ -1,7 +1,7 @@
 use Rattle.std.proofs.Common.{◌<◌, ◌++◌, ◌∙◌, [], length, get_or, ap, refl, rules, string_bytes}
 use Rattle.batch_verdicts.specs.WarningTexts.{unit_line}
 use Rattle.batch_verdicts.proofs.warnings.units_text.Goals as goal
-use Rattle.batch_outline.proofs.Placed.{texts_more}
+use Rattle.batch_outline.proofs.LineSeats.{texts_more}
 
 pub loop-unit-preserved : goal.loop-unit-preserved
 loop-unit-preserved c =

@@ -7,11 +7,11 @@ use Rattle.batch_recipe.specs.Procedure.{procedure_nodes}
 use Rattle.batch_recipe.specs.declared.entry.Entry.{Entry}
 use Rattle.batch_recipe.specs.declared.entry.Kind.TheVariants as kind
 use Rattle.batch_recipe.specs.declared.recipe.Recipe.{Recipe}
-use Rattle.batch_recipe.proofs.Climbing.{as_many}
+use Rattle.batch_recipe.proofs.NodesAbove.{as_many}
 use Rattle.batch_model.specs.Cleared.{surely_runs}
 use Rattle.batch_verify.specs.Charts.{ReservesAs}
 use Rattle.batch_verify.proofs.Faults.{KeepsFaults-none, KeepsFaults-more, all_faults}
-use Rattle.batch_verify.proofs.RunningAt.{same_at}
+use Rattle.batch_verify.proofs.RunningTrees.{same_at}
 use Rattle.batch_verify.proofs.charts.chart_faults.Goals as goal
 
 runs_long : (r : Recipe) (runs : List Bool) → runs ≡ map (λ x. surely_runs x.here) (procedure_nodes r.acts) → length runs ≡ length r.outline.entries.items

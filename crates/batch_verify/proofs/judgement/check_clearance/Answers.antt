@@ -5,8 +5,8 @@ use Rattle.batch_model.specs.Setups.{setup_of}
 use Rattle.batch_model.specs.Lists.{Each}
 use Rattle.batch_verify.specs.Ranked.{rank_of}
 use Rattle.batch_verify.specs.Refusals.{rank_in}
-use Rattle.batch_verify.proofs.Clearing.{same_ranking, recipe_refusal}
-use Rattle.batch_verify.proofs.RecipeLemmas.{set_length}
+use Rattle.batch_verify.proofs.VerdictMeaning.{same_ranking, recipe_refusal}
+use Rattle.batch_verify.proofs.RecipesInSet.{set_length}
 use Rattle.batch_verify.proofs.judgement.check_clearance.Goals as goal
 
 pub judge_each-requires-clause-few : goal.judge_each-requires-clause-few

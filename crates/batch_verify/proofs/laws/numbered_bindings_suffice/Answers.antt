@@ -1,4 +1,4 @@
-use Rattle.batch_verify.proofs.Bound as bound
+use Rattle.batch_verify.proofs.RecipeVerdict as bound
 use Rattle.batch_verify.proofs.laws.numbered_bindings_suffice.Goals as goal
 
 pub returns : goal.returns

@@ -4,10 +4,10 @@ use Rattle.batch_recipe.specs.Outlines.{Form, an_act, a_skip, a_seq, a_par, a_se
 use Rattle.batch_recipe.specs.declared.acts.LabelTable.{LabelTable}
 use Rattle.batch_recipe.specs.declared.entry.Kind.{Kind}
 use Rattle.batch_recipe.specs.declared.entry.Kind.TheVariants as kind
-use Rattle.batch_recipe.proofs.Climbing.{ns, as_many}
-use Rattle.batch_recipe.proofs.Reaching.{read_at}
+use Rattle.batch_recipe.proofs.NodesAbove.{ns, as_many}
+use Rattle.batch_recipe.proofs.NodesBelow.{read_at}
 use Rattle.batch_model.specs.Cleared.{surely_runs}
-use Rattle.batch_verify.proofs.RunningAt.{bool_at}
+use Rattle.batch_verify.proofs.RunningTrees.{bool_at}
 use Rattle.batch_verify.proofs.RunningKinds.{Says, end_within, chart_within, body_within, told}
 use Rattle.batch_verify.proofs.running_nodes.node_runs.Goals as goal
 use Rattle.batch_verify.proofs.running_nodes.node_runs.Goals.{After-index-entry}

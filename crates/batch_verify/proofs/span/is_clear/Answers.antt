@@ -6,7 +6,7 @@ use Rattle.batch_recipe.specs.declared.act.Act.{Act}
 use Rattle.batch_recipe.specs.declared.entry.Entry.{Entry}
 use Rattle.batch_recipe.specs.declared.entry.Kind.TheVariants as kind
 use Rattle.batch_recipe.specs.declared.role.Role.{Role}
-use Rattle.batch_recipe.proofs.Climbing.{as_many}
+use Rattle.batch_recipe.proofs.NodesAbove.{as_many}
 use Rattle.batch_set.specs.Looked.{needs_by}
 use Rattle.batch_verify.specs.Asking.{takers_of}
 use Rattle.batch_verify.specs.PassedSteps.{Allows, passed_at, with_passed}
@@ -17,11 +17,11 @@ use Rattle.batch_verify.specs.declared.rule.Rule.{Rule}
 use Rattle.batch_verify.specs.declared.passed.Passed.{Passed}
 use Rattle.batch_verify.specs.declared.span.Span.{Span}
 use Rattle.batch_verify.specs.declared.trial.Trial.TheVariants.{Leveled}
-use Rattle.batch_verify.proofs.Between.{between}
-use Rattle.batch_verify.proofs.Clears.{Clears-none, Clears-more}
+use Rattle.batch_verify.proofs.CandidateBounds.{between}
+use Rattle.batch_verify.proofs.NodeClearance.{Clears-none, Clears-more}
 use Rattle.batch_verify.proofs.PassedSteps.{AreNoted, AreNoted-none, AreNoted-with, HasPassed, IsPassed-allowed}
 use Rattle.batch_verify.proofs.Paths.{paths_end}
-use Rattle.batch_verify.proofs.Tried.{differ, own_role}
+use Rattle.batch_verify.proofs.NumberedBindings.{differ, own_role}
 use Rattle.batch_verify.proofs.span.is_clear.Goals as goal
 
 abbrev no_entry : Entry

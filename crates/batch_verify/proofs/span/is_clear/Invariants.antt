@@ -3,7 +3,7 @@ use Rattle.std.specs.Option.{option_copied}
 use Rattle.batch_verify.specs.Asking.{takers_of}
 use Rattle.batch_verify.specs.Trials.{bound_by}
 use Rattle.batch_verify.specs.declared.trial.Trial.TheVariants.{Leveled}
-use Rattle.batch_verify.proofs.Clears.{Clears}
+use Rattle.batch_verify.proofs.NodeClearance.{Clears}
 use Rattle.batch_verify.proofs.PassedSteps.{AreNoted, HasPassed}
 use Rattle.batch_verify.proofs.span.is_clear.Given as goal
 

@@ -3,7 +3,7 @@ use Rattle.std.proofs.lemmas.List.{length-append, length-take-le, take-append-dr
 use Rattle.std.proofs.lemmas.Option.{slice_get_read}
 use Rattle.batch_recipe.specs.Conditions.{Name}
 use Rattle.batch_recipe.specs.declared.act.Act.{Act}
-use Rattle.batch_recipe.proofs.Finding.{position_front}
+use Rattle.batch_recipe.proofs.FirstMatch.{position_front}
 use Rattle.batch_verify.specs.NodePhases.{phase_run}
 use Rattle.batch_verify.specs.PhaseSets.{IsSetOf, number_in, number_of, runs}
 use Rattle.batch_verify.proofs.Faults.{one_more}

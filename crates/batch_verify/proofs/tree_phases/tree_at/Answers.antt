@@ -3,9 +3,9 @@ use Rattle.std.proofs.lemmas.Option.{slice_get_within}
 use Rattle.batch_recipe.specs.ActsAtNodes.{procedure_acts}
 use Rattle.batch_recipe.specs.Nodes.{node_count}
 use Rattle.batch_recipe.specs.Outlines.{act_of}
-use Rattle.batch_recipe.proofs.Below.{some_count}
-use Rattle.batch_recipe.proofs.Climbing.{act_at, as_many, ns}
-use Rattle.batch_recipe.proofs.Reaching.{end_read, read_at}
+use Rattle.batch_recipe.proofs.NodeSubtrees.{some_count}
+use Rattle.batch_recipe.proofs.NodesAbove.{act_at, as_many, ns}
+use Rattle.batch_recipe.proofs.NodesBelow.{end_read, read_at}
 use Rattle.batch_model.specs.Cleared.{phases}
 use Rattle.batch_verify.specs.NodePhases.{phases_between}
 use Rattle.batch_verify.specs.PhaseSets.{IsOfTree, IsSetOf}

@@ -1,7 +1,7 @@
 use Rattle.std.proofs.Common.{position, sym, ap, ◌∙◌}
 use Rattle.batch_cell.specs.LookUps.{resources_of}
 use Rattle.batch_recipe.specs.Conditions.{Name, same_name}
-use Rattle.batch_verify.proofs.Taking.{nobody_unknown}
+use Rattle.batch_verify.proofs.RoleTakers.{nobody_unknown}
 use Rattle.batch_verify.proofs.trial.taker_of.Goals as goal
 
 pub returns-in_err-unit : goal.returns-in_err-unit

@@ -5,7 +5,7 @@ use Rattle.batch_recipe.specs.declared.act.Act.{Act}
 use Rattle.batch_recipe.specs.declared.entry.Entry.{Entry}
 use Rattle.batch_recipe.specs.declared.entry.Kind.TheVariants as kind
 use Rattle.batch_recipe.specs.declared.role.Role.{Role}
-use Rattle.batch_recipe.proofs.Climbing.{as_many}
+use Rattle.batch_recipe.proofs.NodesAbove.{as_many}
 use Rattle.batch_model.specs.Setups.{setup_of}
 use Rattle.batch_set.specs.Looked.{needs_by}
 use Rattle.batch_verify.specs.Asking.{asks_by, takers_of}
@@ -15,7 +15,7 @@ use Rattle.batch_verify.specs.Ways.{bound_parts}
 use Rattle.batch_verify.specs.declared.rule.Rule.{Rule}
 use Rattle.batch_verify.specs.declared.site.Path.{Path}
 use Rattle.batch_recipe.specs.Procedure.{bound_tree, sites}
-use Rattle.batch_verify.proofs.AskedByName.{says-asks}
+use Rattle.batch_verify.proofs.AsksByName.{says-asks}
 use Rattle.batch_verify.proofs.Paths.{KeepsPaths-more, number_above, looked, fault_known, path_stops, paths_end}
 use Rattle.batch_verify.proofs.walk.broken_on.Goals as goal
 

@@ -4,7 +4,7 @@ use Rattle.batch_recipe.specs.declared.recipe.Recipe as document
 use Rattle.batch_model.specs.Setups.{master_of, setup_of}
 use Rattle.batch_verify.specs.Refusals.{ranking_in}
 use Rattle.batch_verify.specs.Trials.{rank_or_0, roles_raised}
-use Rattle.batch_verify.proofs.Least.{IsLeast}
+use Rattle.batch_verify.proofs.LeastVerdict.{IsLeast}
 use Rattle.batch_verify.proofs.Trials.{Both, ByNumber}
 use Rattle.batch_verify.proofs.walk.first_broken.Given as goal
 

@@ -1,7 +1,7 @@
 use Rattle.std.proofs.Common.{arith, ◌≡◌, ◌++◌, ◌∷◌, [], not, if◌then◌else◌, ap, sym, ◌∙◌}
 use Rattle.std.specs.List.{list_any}
 use Rattle.batch_cell.specs.Equipment.{belongs_to}
-use Rattle.batch_warnings.proofs.Numbers.{numbers_at}
+use Rattle.batch_warnings.proofs.NumbersOfMatches.{numbers_at}
 use Rattle.batch_warnings.proofs.cells.units_without_modules.Goals as goal
 
 pub loop-number-preserved : goal.loop-number-preserved

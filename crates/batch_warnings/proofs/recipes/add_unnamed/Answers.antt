@@ -2,7 +2,7 @@ use Rattle.std.proofs.Common.{arith, arith, ◌≡◌, ◌++◌, ◌∷◌, [], 
 use Rattle.batch_recipe.specs.Procedure.{table_at}
 use Rattle.batch_warnings.specs.Warnings.{is_named}
 use Rattle.batch_warnings.specs.declared.warning.RecipeWarning.TheVariants.{UnnamedAct}
-use Rattle.batch_warnings.proofs.Numbers.{numbers_on, numbers_through}
+use Rattle.batch_warnings.proofs.NumbersOfMatches.{numbers_on, numbers_through}
 use Rattle.batch_warnings.proofs.recipes.add_unnamed.Goals as goal
 
 pub loop-number-preserved : goal.loop-number-preserved

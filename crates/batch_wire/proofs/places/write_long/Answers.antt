@@ -2,7 +2,7 @@ use Rattle.std.proofs.Common.{◌≡◌, ◌++◌, codes, decimal, sym, ◌∙�
 use Rattle.std.proofs.lemmas.Result.{err_from_is_err_and}
 use Rattle.batch_recipe.specs.Texts.{place_text}
 use Rattle.batch_engine.specs.Names.{place_at}
-use Rattle.batch_wire.proofs.WrittenLemmas.{longer_text, then_last}
+use Rattle.batch_wire.proofs.WrittenTexts.{longer_text, then_last}
 use Rattle.batch_wire.proofs.places.write_long.Goals as goal
 
 pub returns-in_err-write_pieces : goal.returns-in_err-write_pieces

@@ -8,8 +8,8 @@ use Rattle.std.proofs.lemmas.Result.{err_from_is_err_and}
 use Rattle.batch_engine.specs.Names.{resource_name}
 use Rattle.batch_wire.specs.Pieces.{roles_text}
 use Rattle.batch_wire.specs.RecordText.{role_text}
-use Rattle.batch_wire.proofs.PartsWritten.{next_pair, all_names, all_others}
-use Rattle.batch_wire.proofs.WrittenLemmas.{then_beginning}
+use Rattle.batch_wire.proofs.WrittenPairs.{next_pair, all_names, all_others}
+use Rattle.batch_wire.proofs.WrittenTexts.{then_beginning}
 use Rattle.batch_wire.proofs.record_line.write_bound.Goals as goal
 
 -- the item at a number in a list that is made of another

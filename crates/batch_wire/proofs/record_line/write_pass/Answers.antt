@@ -5,8 +5,8 @@ use Rattle.batch_recipe.specs.Texts.{place_text}
 use Rattle.batch_engine.specs.Names.{need_of, place_at, resource_name}
 use Rattle.batch_wire.specs.Pieces.{told_text}
 use Rattle.batch_wire.specs.RecordText.{need_text}
-use Rattle.batch_wire.proofs.PartsWritten.{line_of_pass}
-use Rattle.batch_wire.proofs.WrittenLemmas.{longer_text, then_beginning, then_last}
+use Rattle.batch_wire.proofs.WrittenPairs.{line_of_pass}
+use Rattle.batch_wire.proofs.WrittenTexts.{longer_text, then_beginning, then_last}
 use Rattle.batch_wire.proofs.record_line.write_pass.Goals as goal
 
 abbrev front_of : List ℕ → List ℕ

@@ -1,6 +1,6 @@
 use Rattle.std.proofs.Common.{◌++◌, ◌/◌, ◌%◌, encode_utf8, encode_utf8_all, string_bytes}
 use Rattle.batch_wording.specs.Shown.{escape, hex_digit}
-use Rattle.batch_wording.proofs.Growing.{four_more, grown_to}
+use Rattle.batch_wording.proofs.TextGrowth.{four_more, grown_to}
 use Rattle.batch_wording.proofs.showing.push_escape.Goals as goal
 
 pub returns : goal.returns

@@ -1,5 +1,5 @@
 use Rattle.std.proofs.Common.{◌++◌, ◌∷◌, [], encode_utf8, encode_utf8_all, string_bytes}
-use Rattle.batch_wording.proofs.Growing.{grown_to, two_more}
+use Rattle.batch_wording.proofs.TextGrowth.{grown_to, two_more}
 use Rattle.batch_wording.proofs.showing.push_twice.Goals as goal
 
 pub returns : goal.returns

@@ -1,5 +1,5 @@
 use Rattle.std.proofs.Common.{◌≡◌}
-use Rattle.batch_arbiter.proofs.Withdrawing.{withdrawn_to}
+use Rattle.batch_arbiter.proofs.AskWithdrawal.{withdrawn_to}
 use Rattle.batch_arbiter.proofs.arbiter.Arbiter.withdraw.Given as goal
 
 abbrev pub invariant-loop-resource : goal.invariant-loop-resource

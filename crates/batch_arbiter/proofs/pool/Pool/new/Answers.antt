@@ -1,6 +1,6 @@
 use Rattle.std.proofs.Common.{◌≡◌, ◌<◌, ◌+◌, ◌^◌, arith, length, ap, ◌∙◌, []}
 use Rattle.std.specs.Prelude.{replicate}
-use Rattle.batch_arbiter.proofs.Growing.{IsLinked-new, claims-new}
+use Rattle.batch_arbiter.proofs.PoolGrowth.{IsLinked-new, claims-new}
 use Rattle.batch_arbiter.proofs.pool.Pool.new.Goals as goal
 
 pub invariant_of-result : goal.invariant_of-result

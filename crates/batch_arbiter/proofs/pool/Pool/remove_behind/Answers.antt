@@ -6,7 +6,7 @@ use Rattle.batch_arbiter.specs.declared.entry.Entry.{Entry}
 use Rattle.batch_arbiter.specs.Allocation.{is_of_batch}
 use Rattle.batch_arbiter.specs.Linked.{Lists, at, claim_of, ends_at, list_at, no_list, nowhere}
 use Rattle.batch_arbiter.proofs.Calls.{length-seen}
-use Rattle.batch_arbiter.proofs.Thinning.{walked-first, walked-within, walked-gone, walked-kept, walked-through, walked-enough}
+use Rattle.batch_arbiter.proofs.ListWithdrawal.{walked-first, walked-within, walked-gone, walked-kept, walked-through, walked-enough}
 use Rattle.batch_arbiter.proofs.pool.Pool.remove_behind.Goals as goal
 use Rattle.batch_arbiter.proofs.pool.Pool.remove_behind.Goals.{After-index-ends, then-index-batch, else-index-batch}
 

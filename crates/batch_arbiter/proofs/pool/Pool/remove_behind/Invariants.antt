@@ -1,4 +1,4 @@
-use Rattle.batch_arbiter.proofs.Thinning.{IsWalked}
+use Rattle.batch_arbiter.proofs.ListWithdrawal.{IsWalked}
 use Rattle.batch_arbiter.proofs.pool.Pool.remove_behind.Given as goal
 
 abbrev pub invariant-loop : goal.invariant-loop

@@ -4,9 +4,9 @@ use Rattle.batch_chart.specs.Outlined.{kind_at}
 use Rattle.batch_chart.proofs.FewTurns.{few-turns}
 use Rattle.std.proofs.Common.{rules, arith, ◌∙◌, ◌≡◌, ◌&&◌, true, false, refl, sym, ap, subst, ℕ, ◌⊎◌}
 use Rattle.std.proofs.Math.ListN.{length-set}
-use Rattle.batch_chart.proofs.Standing.{within, below-end, seq-standing, par-standing, sel-standing, loop-standing, first-standing, rest-standing, choice-standing, choices-standing, choices-below, end-fits}
-use Rattle.batch_chart.proofs.Reached.{reached-step, reached-skip, reached-seq, reached-par, reached-sel, reached-loop, first-end_of_row, first-later, first-here, each-end_of_row, each-more, choice-last, choice-taken, choice-passed}
-use Rattle.batch_chart.proofs.ReachedNeatly.{neatly-ready, neatly-none, neatly-seq, neatly-par, neatly-sel, neatly-loop, neatly-end, neatly-later, neatly-here, neatly-chosen, neatly-passed}
+use Rattle.batch_chart.proofs.TreePositions.{within, below-end, seq-standing, par-standing, sel-standing, loop-standing, first-standing, rest-standing, choice-standing, choices-standing, choices-below, end-fits}
+use Rattle.batch_chart.proofs.ReachedTree.{reached-step, reached-skip, reached-seq, reached-par, reached-sel, reached-loop, first-end_of_row, first-later, first-here, each-end_of_row, each-more, choice-last, choice-taken, choice-passed}
+use Rattle.batch_chart.proofs.ReachedTreeSigns.{neatly-ready, neatly-none, neatly-seq, neatly-par, neatly-sel, neatly-loop, neatly-end, neatly-later, neatly-here, neatly-chosen, neatly-passed}
 use Rattle.batch_chart.specs.Noting.{stage_signs}
 use Rattle.batch_chart.specs.declared.stage.Stage.TheVariants.{Ready}
 use Rattle.batch_chart.proofs.control_recipe.ControlRecipe.+reach.Goals as goal

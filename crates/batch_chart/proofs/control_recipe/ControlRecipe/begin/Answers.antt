@@ -1,8 +1,8 @@
 use Rattle.batch_chart.specs.Needs.{needs_of}
 use Rattle.std.proofs.Common.{◌∙◌, arith, refl, ap, length-set}
 use Rattle.batch_chart.specs.Noting.{open_signs}
-use Rattle.batch_chart.proofs.Moved.{makes-begin, begin-stands, laid-lengths}
-use Rattle.batch_chart.proofs.Upkept.{keeps-begin}
+use Rattle.batch_chart.proofs.ActAfterMove.{makes-begin, begin-stands, laid-lengths}
+use Rattle.batch_chart.proofs.SignUpkeep.{keeps-begin}
 use Rattle.batch_chart.proofs.control_recipe.ControlRecipe.begin.Goals as goal
 
 pub reach-over-requires : goal.reach-over-requires

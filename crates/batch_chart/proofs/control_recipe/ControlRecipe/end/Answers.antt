@@ -2,8 +2,8 @@ use Rattle.std.proofs.Common.{◌∙◌, refl, ap, subst}
 use Rattle.batch_chart.specs.Outlined.{kind_at}
 use Rattle.batch_chart.specs.Freeing.{IsFreed}
 use Rattle.batch_chart.specs.Needs.{needs_of}
-use Rattle.batch_chart.proofs.Moved.{makes-end}
-use Rattle.batch_chart.proofs.Upkept.{end-acts}
+use Rattle.batch_chart.proofs.ActAfterMove.{makes-end}
+use Rattle.batch_chart.proofs.SignUpkeep.{end-acts}
 use Rattle.batch_chart.proofs.control_recipe.ControlRecipe.end.Goals as goal
 
 pub free-requires : goal.free-requires

@@ -1,5 +1,5 @@
 use Rattle.std.proofs.Common.{◌∙◌, ap, length, length-set}
-use Rattle.batch_chart.proofs.FreedNeatly.{act-ends, given-count, frees-held, frees-over, neat-held, neat-over, count-over}
+use Rattle.batch_chart.proofs.EndedActSigns.{act-ends, given-count, frees-held, frees-over, neat-held, neat-over, count-over}
 use Rattle.batch_chart.proofs.control_recipe.ControlRecipe.free.Goals as goal
 
 pub give_up-requires-clause-ends : goal.give_up-requires-clause-ends

@@ -2,8 +2,8 @@ use Rattle.std.proofs.Common.{◌∙◌, ap, subst}
 use Rattle.batch_chart.specs.Outlined.{kind_at}
 use Rattle.batch_chart.specs.Freeing.{IsFreed}
 use Rattle.batch_chart.specs.Needs.{needs_of}
-use Rattle.batch_chart.proofs.Moved.{reports-now, reports-same, reports-ended}
-use Rattle.batch_chart.proofs.Upkept.{same-kept, keeps-now, live-acts}
+use Rattle.batch_chart.proofs.ActAfterMove.{reports-now, reports-same, reports-ended}
+use Rattle.batch_chart.proofs.SignUpkeep.{same-kept, keeps-now, live-acts}
 use Rattle.batch_chart.proofs.control_recipe.ControlRecipe.go_on.Goals as goal
 
 pub returns-in-Same : goal.returns-in-Same

@@ -1,10 +1,10 @@
 use Rattle.batch_chart.specs.Stages.{is_over_at, stage_at}
 use Rattle.std.proofs.Common.{arith, refl, ◌∙◌, ap, inl, inr, length, length-set, sym, rules}
-use Rattle.batch_chart.proofs.Standing.{within, par-standing, end-fits}
-use Rattle.batch_chart.proofs.Advanced.{left-at}
-use Rattle.batch_chart.proofs.Climbed.{no-skip, no-phase, passed-act, passed-par, passed-sel, told-under}
-use Rattle.batch_chart.proofs.OverBySigns.{over-tells}
-use Rattle.batch_chart.proofs.RisenNeatly.{not-over, finished-row, sel-others, neat-under, neatly-act, neatly-par, neatly-sel}
+use Rattle.batch_chart.proofs.TreePositions.{within, par-standing, end-fits}
+use Rattle.batch_chart.proofs.TreeAdvance.{left-at}
+use Rattle.batch_chart.proofs.ClimbFromNode.{no-skip, no-phase, passed-act, passed-par, passed-sel, told-under}
+use Rattle.batch_chart.proofs.FinishedRows.{over-tells}
+use Rattle.batch_chart.proofs.ClimbSigns.{not-over, finished-row, sel-others, neat-under, neatly-act, neatly-par, neatly-sel}
 use Rattle.batch_chart.proofs.control_recipe.ControlRecipe.go_on_at.Goals as goal
 
 pub returns-then-is_over_at : goal.returns-then-is_over_at

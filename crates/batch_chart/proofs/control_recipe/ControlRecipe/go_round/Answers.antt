@@ -1,8 +1,8 @@
 use Rattle.std.proofs.Common.{◌≡◌, ◌⊎◌, inl, inr, arith, true, refl, sym, ◌∙◌}
 use Rattle.batch_chart.specs.Outlined.{judged, condition_at}
-use Rattle.batch_chart.proofs.Standing.{within}
-use Rattle.batch_chart.proofs.Climbed.{n-standing, passed-last, passed-round}
-use Rattle.batch_chart.proofs.RisenNeatly.{loop-runs, neatly-last, neatly-round}
+use Rattle.batch_chart.proofs.TreePositions.{within}
+use Rattle.batch_chart.proofs.ClimbFromNode.{n-standing, passed-last, passed-round}
+use Rattle.batch_chart.proofs.ClimbSigns.{loop-runs, neatly-last, neatly-round}
 use Rattle.batch_chart.proofs.control_recipe.ControlRecipe.go_round.Goals as goal
 
 pub reach-over-requires : goal.reach-over-requires

@@ -1,5 +1,5 @@
-use Rattle.batch_chart.proofs.Moved.{makes-state, makes-send, makes-start, makes-ask}
-use Rattle.batch_chart.proofs.Upkept.{same-kept, keeps-send, keeps-start, keeps-ask}
+use Rattle.batch_chart.proofs.ActAfterMove.{makes-state, makes-send, makes-start, makes-ask}
+use Rattle.batch_chart.proofs.SignUpkeep.{same-kept, keeps-send, keeps-start, keeps-ask}
 use Rattle.batch_chart.proofs.control_recipe.ControlRecipe.make_move.Goals as goal
 
 pub returns-in-State : goal.returns-in-State

@@ -1,4 +1,4 @@
-use Rattle.batch_chart.proofs.MovedOn.{in-order-after}
+use Rattle.batch_chart.proofs.ChartAfterMove.{in-order-after}
 use Rattle.batch_chart.proofs.control_recipe.ControlRecipe.move_on.Goals as goal
 
 pub take_over-requires : goal.take_over-requires

@@ -1,6 +1,6 @@
 use Rattle.std.proofs.Common.{refl}
-use Rattle.batch_chart.proofs.Moved.{makes-pass}
-use Rattle.batch_chart.proofs.Upkept.{pass-acts}
+use Rattle.batch_chart.proofs.ActAfterMove.{makes-pass}
+use Rattle.batch_chart.proofs.SignUpkeep.{pass-acts}
 use Rattle.batch_chart.proofs.control_recipe.ControlRecipe.pass_on.Goals as goal
 
 pub free-requires : goal.free-requires

@@ -1,6 +1,6 @@
 use Rattle.std.proofs.Common.{refl}
-use Rattle.batch_chart.proofs.Moved.{makes-release_ready, makes-release}
-use Rattle.batch_chart.proofs.Upkept.{release-acts, keeps-release}
+use Rattle.batch_chart.proofs.ActAfterMove.{makes-release_ready, makes-release}
+use Rattle.batch_chart.proofs.SignUpkeep.{release-acts, keeps-release}
 use Rattle.batch_chart.proofs.control_recipe.ControlRecipe.release.Goals as goal
 
 pub free-requires : goal.free-requires

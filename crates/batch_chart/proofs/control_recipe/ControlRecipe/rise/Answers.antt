@@ -1,6 +1,6 @@
 use Rattle.std.proofs.Common.{◌∙◌, arith}
-use Rattle.batch_chart.proofs.Risen.{above-each, some-at, risen-top, risen-stop}
-use Rattle.batch_chart.proofs.FreedNeatly.{left-neat, risen-neat}
+use Rattle.batch_chart.proofs.PathToRoot.{above-each, some-at, risen-top, risen-stop}
+use Rattle.batch_chart.proofs.EndedActSigns.{left-neat, risen-neat}
 use Rattle.batch_chart.proofs.control_recipe.ControlRecipe.rise.Goals as goal
 
 pub go_on_at-requires-clause-standing : goal.go_on_at-requires-clause-standing

@@ -1,4 +1,4 @@
-use Rattle.batch_chart.proofs.Runs.{runs-in-order}
+use Rattle.batch_chart.proofs.RunningCharts.{runs-in-order}
 use Rattle.batch_chart.proofs.running.Running.scene.Goals as goal
 
 pub returns-clause-scene : goal.returns-clause-scene

@@ -1,6 +1,6 @@
 use Rattle.std.proofs.Common.{◌∙◌, refl}
 use Rattle.std.proofs.lemmas.List.{with_items_is}
-use Rattle.batch_chart.proofs.Runs.{stopped-runs}
+use Rattle.batch_chart.proofs.RunningCharts.{stopped-runs}
 use Rattle.batch_chart.proofs.running.Running.stop_all.Goals as goal
 
 pub returns : goal.returns

@@ -1,4 +1,4 @@
-use Rattle.batch_chart.proofs.Chosen.{chosen-send, chosen-state, chosen-release, chosen-entry, chosen-ask}
+use Rattle.batch_chart.proofs.NextOwnMove.{chosen-send, chosen-state, chosen-release, chosen-entry, chosen-ask}
 use Rattle.batch_chart.proofs.scene.Scene.next.Goals as goal
 
 pub returns-then-is_some : goal.returns-then-is_some

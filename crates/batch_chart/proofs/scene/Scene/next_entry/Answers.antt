@@ -1,12 +1,12 @@
 use Rattle.std.proofs.Common.{sym, ◌∙◌, ap}
 use Rattle.std.specs.Prelude.{◌||◌}
 use Rattle.std.specs.Int.Bits.{bit_or}
-use Rattle.batch_chart.proofs.Joining.{next-entered, found-among, next-none}
-use Rattle.batch_chart.proofs.Firsts.{enters-nothing, tells-entering, tells-ending}
+use Rattle.batch_chart.proofs.NextMoves.{next-entered, found-among, next-none}
+use Rattle.batch_chart.proofs.FirstMoves.{enters-nothing, tells-entering, tells-ending}
 use Rattle.batch_model.specs.Moves.{is_running, is_stopping, is_stopped}
 use Rattle.batch_chart.specs.declared.sign.TheConstants.{FITS, IS_OVER}
-use Rattle.batch_chart.proofs.Picking.{found-showing}
-use Rattle.batch_chart.proofs.Sought.{showing}
+use Rattle.batch_chart.proofs.SignSearch.{found-showing}
+use Rattle.batch_chart.proofs.SignTests.{showing}
 use Rattle.batch_chart.proofs.scene.Scene.next_entry.Goals as goal
 
 pub returns-then-is_running : goal.returns-then-is_running

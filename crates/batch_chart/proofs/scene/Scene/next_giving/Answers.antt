@@ -1,6 +1,6 @@
 use Rattle.std.proofs.Common.{inl, inr}
 use Rattle.std.proofs.lemmas.Bool.{cases_lt}
-use Rattle.batch_chart.proofs.Giving.{gives-first, gives-next}
+use Rattle.batch_chart.proofs.ReleaseOnStop.{gives-first, gives-next}
 use Rattle.batch_chart.proofs.scene.Scene.next_giving.Goals as goal
 
 pub loop-node-init : goal.loop-node-init

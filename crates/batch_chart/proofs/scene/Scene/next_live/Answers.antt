@@ -1,7 +1,7 @@
 use Rattle.std.proofs.Common.{arith, Some, None, refl}
-use Rattle.batch_chart.proofs.Joining.{found-among}
-use Rattle.batch_chart.proofs.Live.{looks, live-some, live-none, live-never}
-use Rattle.batch_chart.proofs.Named.{found-named}
+use Rattle.batch_chart.proofs.NextMoves.{found-among}
+use Rattle.batch_chart.proofs.LivePhase.{looks, live-some, live-none, live-never}
+use Rattle.batch_chart.proofs.LivePhaseSigns.{found-named}
 use Rattle.batch_chart.proofs.scene.Scene.next_live.Goals as goal
 
 pub next_named-requires : goal.next_named-requires

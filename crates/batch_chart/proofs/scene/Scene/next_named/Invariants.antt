@@ -1,5 +1,5 @@
 use Rattle.std.proofs.Common.{◌≤◌, ◌-◌, length}
-use Rattle.batch_chart.proofs.Named.{NoneNamed}
+use Rattle.batch_chart.proofs.LivePhaseSigns.{NoneNamed}
 use Rattle.batch_chart.proofs.scene.Scene.next_named.Given as goal
 
 abbrev pub invariant-loop-node : goal.invariant-loop-node

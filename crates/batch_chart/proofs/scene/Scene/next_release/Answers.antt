@@ -1,12 +1,12 @@
 use Rattle.std.proofs.Common.{sym, ◌∙◌, ap, true, false}
 use Rattle.std.specs.Prelude.{◌&&◌, ◌||◌}
-use Rattle.batch_chart.proofs.Joining.{next-released, next-handed, found-among, quiet-told}
-use Rattle.batch_chart.proofs.Firsts.{tells-freeing, tells-releasing, stopping-others, stopped-halts}
+use Rattle.batch_chart.proofs.NextMoves.{next-released, next-handed, found-among, quiet-told}
+use Rattle.batch_chart.proofs.FirstMoves.{tells-freeing, tells-releasing, stopping-others, stopped-halts}
 use Rattle.batch_model.specs.Moves.{is_running, is_stopping, is_stopped, is_quiet}
 use Rattle.batch_chart.specs.declared.sign.TheConstants.{FREES}
-use Rattle.batch_chart.proofs.Giving.{found-giving}
-use Rattle.batch_chart.proofs.Picking.{found, found-showing}
-use Rattle.batch_chart.proofs.Sought.{showing, any_live, gives_back, said-live}
+use Rattle.batch_chart.proofs.ReleaseOnStop.{found-giving}
+use Rattle.batch_chart.proofs.SignSearch.{found, found-showing}
+use Rattle.batch_chart.proofs.SignTests.{showing, any_live, gives_back, said-live}
 use Rattle.batch_chart.proofs.scene.Scene.next_release.Goals as goal
 
 pub returns-then-is_stopped : goal.returns-then-is_stopped

@@ -1,4 +1,4 @@
-use Rattle.batch_chart.proofs.Joining.{state-none, state-waits, state-ends}
+use Rattle.batch_chart.proofs.NextMoves.{state-none, state-waits, state-ends}
 use Rattle.batch_chart.proofs.scene.Scene.next_state.Goals as goal
 
 pub returns-in-None : goal.returns-in-None

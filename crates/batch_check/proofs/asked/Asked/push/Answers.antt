@@ -3,7 +3,7 @@ use Rattle.std.specs.List.{Contains}
 use Rattle.std.proofs.lemmas.List.Elements.{Contains-append_cases}
 use Rattle.batch_check.specs.Pairs.{has_bit}
 use Rattle.batch_check.specs.declared.asked.Asked.{Asked}
-use Rattle.batch_check.proofs.Joins.{Contains-one}
+use Rattle.batch_check.proofs.EdgesFromNeeds.{Contains-one}
 use Rattle.batch_check.proofs.asked.Asked.push.Goals as goal
 use Rattle.batch_check.proofs.asked.Asked.push.Goals.{in-Some, in_default}
 

@@ -1,5 +1,5 @@
 use Rattle.std.proofs.Common.{◌∙◌, ◌/◌, arith, length-set}
-use Rattle.batch_check.proofs.Pairs.{has_bit-set, has_bit-stays}
+use Rattle.batch_check.proofs.EdgeBits.{has_bit-set, has_bit-stays}
 use Rattle.batch_check.proofs.asked.Asked.set_bit.Goals as goal
 
 pub invariant_of-self : goal.invariant_of-self

@@ -1,5 +1,5 @@
 use Rattle.std.proofs.Common.{◌*◌, arith}
-use Rattle.batch_check.proofs.Pairs.{row_has_each}
+use Rattle.batch_check.proofs.EdgeBits.{row_has_each}
 use Rattle.batch_check.proofs.edge_set.EdgeSet.has_each.Goals as goal
 
 pub returns : goal.returns

@@ -1,6 +1,6 @@
 use Rattle.std.proofs.Common.{◌≡◌, ◌*◌, ap, length, replicate, ◌∙◌}
 use Rattle.std.proofs.lemmas.List.{length-replicate}
-use Rattle.batch_check.proofs.Pairs.{none-exact}
+use Rattle.batch_check.proofs.EdgeBits.{none-exact}
 use Rattle.batch_check.proofs.edge_set.EdgeSet.new.Goals as goal
 
 pub invariant_of-result : goal.invariant_of-result

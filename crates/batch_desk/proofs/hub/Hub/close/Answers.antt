@@ -1,9 +1,9 @@
 use Rattle.std.proofs.Common.{ap, ◌∙◌, ◌<◌, length, arith, refl}
-use Rattle.batch_desk.proofs.EachPort.{ports_changed}
+use Rattle.batch_desk.proofs.HubPorts.{ports_changed}
 use Rattle.batch_desk.specs.PortState.{port_rings}
 use Rattle.batch_desk.specs.HubState.{rings}
-use Rattle.batch_desk.proofs.Lists.{map-changed}
-use Rattle.batch_desk.proofs.Closing.{rings_tried, port_tried, hub_closes, hub_refuses, token_back}
+use Rattle.batch_desk.proofs.ListImages.{map-changed}
+use Rattle.batch_desk.proofs.PortEnds.{rings_tried, port_tried, hub_closes, hub_refuses, token_back}
 use Rattle.batch_desk.proofs.hub.Hub.close.Goals as goal
 
 pub invariant_of-self : goal.invariant_of-self

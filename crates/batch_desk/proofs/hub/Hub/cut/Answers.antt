@@ -1,7 +1,7 @@
 use Rattle.std.proofs.Common.{ap, ◌∙◌}
 use Rattle.batch_desk.specs.PortState.{port_rings}
 use Rattle.batch_desk.specs.HubState.{rings}
-use Rattle.batch_desk.proofs.Lists.{map-changed}
+use Rattle.batch_desk.proofs.ListImages.{map-changed}
 use Rattle.batch_desk.proofs.hub.Hub.cut.Goals as goal
 
 pub returns-clause-rings : goal.returns-clause-rings

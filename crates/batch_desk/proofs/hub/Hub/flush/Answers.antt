@@ -1,8 +1,8 @@
 use Rattle.std.proofs.Common.{ap, ◌∙◌}
 use Rattle.batch_desk.specs.HubState.{outlines}
 use Rattle.batch_desk.specs.PortState.{outline}
-use Rattle.batch_desk.proofs.Lists.{map-changed}
-use Rattle.batch_desk.proofs.EachPort.{ports_changed, flushed, flushed_outline, within}
+use Rattle.batch_desk.proofs.ListImages.{map-changed}
+use Rattle.batch_desk.proofs.HubPorts.{ports_changed, flushed, flushed_outline, within}
 use Rattle.batch_desk.proofs.hub.Hub.flush.Goals as goal
 
 pub invariant_of-self : goal.invariant_of-self

@@ -1,5 +1,5 @@
 use Rattle.std.proofs.Common.{◌≡◌, ◌∙◌, sym, false}
-use Rattle.batch_desk.proofs.Settled.{not-done, settled-same, told-no}
+use Rattle.batch_desk.proofs.SettledEngine.{not-done, settled-same, told-no}
 use Rattle.batch_desk.proofs.hub.Hub.is_done.Goals as goal
 use Rattle.batch_desk.proofs.hub.Hub.is_done.Goals.{then-are_complete, else-are_complete}
 

@@ -1,4 +1,4 @@
-use Rattle.batch_desk.proofs.Settled.{settled-same}
+use Rattle.batch_desk.proofs.SettledEngine.{settled-same}
 use Rattle.batch_desk.proofs.hub.Hub.is_settled.Goals as goal
 
 pub returns : goal.returns

@@ -1,4 +1,4 @@
-use Rattle.batch_desk.proofs.Closing.{opened_hub}
+use Rattle.batch_desk.proofs.PortEnds.{opened_hub}
 use Rattle.batch_desk.proofs.hub.Hub.new.Goals as goal
 
 pub invariant_of-hub : goal.invariant_of-hub

@@ -1,4 +1,4 @@
-use Rattle.batch_desk.proofs.Safe.{safe_record}
+use Rattle.batch_desk.proofs.RecordSafety.{safe_record}
 use Rattle.batch_desk.proofs.hub.Hub.record.Goals as goal
 
 pub returns-clause-safe : goal.returns-clause-safe

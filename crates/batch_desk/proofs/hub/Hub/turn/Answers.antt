@@ -1,4 +1,4 @@
-use Rattle.batch_desk.proofs.Settled.{answers_between, grows_between}
+use Rattle.batch_desk.proofs.SettledEngine.{answers_between, grows_between}
 use Rattle.batch_desk.proofs.hub.Hub.turn.Goals as goal
 
 pub returns-clause-history : goal.returns-clause-history

@@ -5,7 +5,7 @@ use Rattle.batch_model.specs.Lists.{Each}
 use Rattle.batch_engine.specs.Batches.{IsFiled, BatchList, entry_number, list_of, batches_in, with_batch}
 use Rattle.batch_engine.specs.declared.batch.Batch.{Batch}
 use Rattle.batch_engine.specs.declared.batches.Entry.{Entry}
-use Rattle.batch_engine.proofs.Filing.{filed-push, filed-roomy, batches-push}
+use Rattle.batch_engine.proofs.SlabChanges.{filed-push, filed-roomy, batches-push}
 use Rattle.batch_engine.proofs.batches.Batches.add.Goals as goal
 
 pub invariant_of-self-2 : goal.invariant_of-self-2

@@ -1,6 +1,6 @@
 use Rattle.std.proofs.Common.{arith, ap, length}
 use Rattle.batch_engine.specs.Batches.{BatchList}
-use Rattle.batch_engine.proofs.Filing.{length-batches}
+use Rattle.batch_engine.proofs.SlabChanges.{length-batches}
 use Rattle.batch_engine.proofs.batches.Batches.len.Goals as goal
 
 pub returns : goal.returns

@@ -2,7 +2,7 @@ use Rattle.std.proofs.Common.{◌≡◌, ◌<◌, ◌∙◌, sym, ap, ap₂, sub
 use Rattle.slab.specs.Slab.{get}
 use Rattle.batch_engine.specs.Batches.{IsFiled, BatchList, entry_number, list_of, without_batch}
 use Rattle.batch_engine.specs.declared.batches.Entry.{Entry}
-use Rattle.batch_engine.proofs.Filing.{LeavesOthers, in-entries, filed-remove, batches-remove, batch-read, map-remove}
+use Rattle.batch_engine.proofs.SlabChanges.{LeavesOthers, in-entries, filed-remove, batches-remove, batch-read, map-remove}
 use Rattle.batch_engine.proofs.batches.Batches.remove.Goals as goal
 
 pub remove-entry-requires : goal.remove-entry-requires

@@ -2,7 +2,7 @@ use Rattle.std.proofs.Common.{◌≡◌, ◌<◌, ◌∙◌, refl, sym, ap, subs
 use Rattle.slab.specs.Slab.{ContainsKey, get, with_value}
 use Rattle.batch_engine.specs.Batches.{IsFiled, BatchList, list_of, with_batch_at}
 use Rattle.batch_engine.specs.declared.batches.Entry.{Entry}
-use Rattle.batch_engine.proofs.Filing.{in-entries, occupied-at, batch-read, filed-set, batches-set}
+use Rattle.batch_engine.proofs.SlabChanges.{in-entries, occupied-at, batch-read, filed-set, batches-set}
 use Rattle.batch_engine.proofs.batches.BatchesIndexMutUsize.index_mut.Goals as goal
 
 pub index-entry-requires : goal.index-entry-requires

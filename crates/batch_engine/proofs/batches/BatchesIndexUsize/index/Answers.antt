@@ -2,7 +2,7 @@ use Rattle.std.proofs.Common.{◌≡◌, ◌<◌, ◌∙◌, sym, ap, subst, Lis
 use Rattle.slab.specs.Slab.{ContainsKey, get}
 use Rattle.batch_engine.specs.Batches.{BatchList}
 use Rattle.batch_engine.specs.declared.batches.Entry.{Entry}
-use Rattle.batch_engine.proofs.Filing.{in-entries, occupied-at, batch-read}
+use Rattle.batch_engine.proofs.SlabChanges.{in-entries, occupied-at, batch-read}
 use Rattle.batch_engine.proofs.batches.BatchesIndexUsize.index.Goals as goal
 
 pub index-entry-requires : goal.index-entry-requires

@@ -16,15 +16,15 @@ use Rattle.batch_engine.specs.declared.batch.Batch.{Batch}
 use Rattle.batch_engine.specs.View.{EngineView, seen, setup, bound_to, recipe_at, tree_at, batch_of, plant_of}
 use Rattle.batch_engine.specs.Kept.{IsKept, needs_of_all}
 use Rattle.batch_engine.proofs.FewNeeds.{few-batches}
-use Rattle.batch_engine.proofs.Finding.{chart-of, got-chart}
-use Rattle.batch_engine.proofs.Reacting.{with}
-use Rattle.batch_engine.proofs.Creating.{react-create, create-reacts, create-kept, room-kept}
+use Rattle.batch_engine.proofs.BatchLookups.{chart-of, got-chart}
+use Rattle.batch_engine.proofs.InvariantAfterEvent.{with}
+use Rattle.batch_engine.proofs.NewBatch.{react-create, create-reacts, create-kept, room-kept}
 use Rattle.batch_engine.specs.Names.{recipe_name, roles_told}
-use Rattle.batch_engine.proofs.Telling.{recipe-named, some-at}
+use Rattle.batch_engine.proofs.MoveLines.{recipe-named, some-at}
 use Rattle.batch_engine.specs.Batches.{BatchList, HaveOwnNumbers}
-use Rattle.batch_engine.proofs.Filing.{own-numbers-push}
+use Rattle.batch_engine.proofs.SlabChanges.{own-numbers-push}
 use Rattle.batch_engine.proofs.Room.{needs-added}
-use Rattle.batch_engine.proofs.Seeking.{new-number}
+use Rattle.batch_engine.proofs.BatchByNumber.{new-number}
 use Rattle.batch_engine.proofs.control.Control.add.Goals as goal
 use Rattle.batch_engine.proofs.control.Control.add.Goals.{In-Ok-reserve}
 

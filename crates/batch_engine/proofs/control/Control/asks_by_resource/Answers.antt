@@ -5,7 +5,7 @@ use Rattle.batch_engine.specs.Steps.{IsNumberAt}
 use Rattle.batch_engine.specs.View.{EngineView, tree_of}
 use Rattle.batch_engine.specs.declared.batch.Batch.{Batch}
 use Rattle.batch_engine.proofs.LineAsks.{AreCounted, counted-all, counted-more, counted-none, few-resources, resource-within}
-use Rattle.batch_engine.proofs.Seats.{IsSeat, linked-here, needs-there, read-own, seat-of}
+use Rattle.batch_engine.proofs.BatchAtIndex.{IsSeat, linked-here, needs-there, read-own, seat-of}
 use Rattle.batch_engine.proofs.control.Control.asks_by_resource.Goals as goal
 use Rattle.batch_engine.proofs.control.Control.asks_by_resource.Goals.{After-recipe-chart, After-resource_at-resource}
 

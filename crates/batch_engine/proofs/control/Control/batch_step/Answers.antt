@@ -5,12 +5,12 @@ use Rattle.batch_chart.specs.Seen.{move_of}
 use Rattle.batch_engine.specs.declared.batch.Batch.{Batch}
 use Rattle.batch_engine.specs.Steps.{IsBatchStep, IsFirstGrant}
 use Rattle.batch_engine.specs.View.{EngineView, batch_of, plant_of, setup, tree_of}
-use Rattle.batch_engine.proofs.AtRest.{stopped-moves}
+use Rattle.batch_engine.proofs.StoppedBatches.{stopped-moves}
 use Rattle.batch_engine.proofs.BatchPlaces.{Has-batch_of}
-use Rattle.batch_engine.proofs.Finding.{has}
-use Rattle.batch_engine.proofs.Seats.{IsRead, IsSeat, read-at, recipe-batch, recipe-tree, seat-of}
-use Rattle.batch_engine.proofs.Told.{safe}
-use Rattle.batch_engine.proofs.Upcoming.{grant-least, no-move, own-least}
+use Rattle.batch_engine.proofs.BatchLookups.{has}
+use Rattle.batch_engine.proofs.BatchAtIndex.{IsRead, IsSeat, read-at, recipe-batch, recipe-tree, seat-of}
+use Rattle.batch_engine.proofs.RecordOfPlant.{safe}
+use Rattle.batch_engine.proofs.NextStep.{grant-least, no-move, own-least}
 use Rattle.batch_engine.proofs.control.Control.batch_step.Goals as goal
 use Rattle.batch_engine.proofs.control.Control.batch_step.Goals.{After-recipe-chart}
 

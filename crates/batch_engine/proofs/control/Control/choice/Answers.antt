@@ -10,8 +10,8 @@ use Rattle.batch_model.specs.Setups.{master_of}
 use Rattle.batch_model.specs.Events.{is_full}
 use Rattle.batch_engine.specs.Bindings.{IsBoundAs}
 use Rattle.batch_engine.specs.View.{EngineView, plant_of, setup}
-use Rattle.batch_engine.proofs.Created.{refused-unknown, refused-full, refused-binding, is-chosen}
-use Rattle.batch_engine.proofs.Named.{find-at}
+use Rattle.batch_engine.proofs.CreateAnswers.{refused-unknown, refused-full, refused-binding, is-chosen}
+use Rattle.batch_engine.proofs.RecipeByName.{find-at}
 use Rattle.batch_engine.proofs.control.Control.choice.Goals as goal
 use Rattle.batch_engine.proofs.control.Control.choice.Goals.{After-recipe_named, After-units_for}
 

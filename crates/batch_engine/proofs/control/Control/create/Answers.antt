@@ -5,8 +5,8 @@ use Rattle.batch_model.specs.Runs.{Reacts}
 use Rattle.batch_engine.specs.Surface.{refusal_of}
 use Rattle.batch_engine.specs.View.{EngineView, plant_of, setup}
 use Rattle.batch_engine.specs.declared.refusal.Refusal.{Refusal}
-use Rattle.batch_engine.proofs.Created.{can-create, refused-for}
-use Rattle.batch_engine.proofs.Finding.{got-chart}
+use Rattle.batch_engine.proofs.CreateAnswers.{can-create, refused-for}
+use Rattle.batch_engine.proofs.BatchLookups.{got-chart}
 use Rattle.batch_engine.proofs.control.Control.create.Goals as goal
 use Rattle.batch_engine.proofs.control.Control.create.Goals.{After-recipe}
 

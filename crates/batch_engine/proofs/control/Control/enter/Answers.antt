@@ -3,9 +3,9 @@ use Rattle.batch_matrix.specs.declared.state.State.{State}
 use Rattle.batch_engine.specs.declared.batch.Batch.{Batch}
 use Rattle.batch_engine.specs.View.{EngineView}
 use Rattle.batch_engine.proofs.OrderAnswers.{order-at}
-use Rattle.batch_engine.proofs.Ordering.{Ordered, enter-made}
-use Rattle.batch_engine.proofs.Seats.{IsRead, closed-ordered, counted-set, read-there}
-use Rattle.batch_engine.proofs.Stepping.{changed}
+use Rattle.batch_engine.proofs.AcceptedOrders.{Ordered, enter-made}
+use Rattle.batch_engine.proofs.BatchAtIndex.{IsRead, closed-ordered, counted-set, read-there}
+use Rattle.batch_engine.proofs.InvariantAfterMove.{changed}
 use Rattle.batch_engine.proofs.control.Control.enter.Goals as goal
 use Rattle.batch_engine.proofs.control.Control.enter.Goals.{After-index_mut-batch}
 

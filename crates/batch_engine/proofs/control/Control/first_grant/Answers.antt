@@ -5,9 +5,9 @@ use Rattle.batch_chart.specs.NodesOf.{need_at}
 use Rattle.batch_engine.specs.declared.batch.Batch.{Batch}
 use Rattle.batch_engine.specs.Steps.{IsNumberAt}
 use Rattle.batch_engine.specs.View.{EngineView, tree_of}
-use Rattle.batch_engine.proofs.Finding.{first-grant, first-serves, first_here, goes-on, known-resource, no-grants, passed}
-use Rattle.batch_engine.proofs.Seats.{IsSeat, linked-here, needs-there, read-own, seat-of}
-use Rattle.batch_engine.proofs.Skipping.{skipped}
+use Rattle.batch_engine.proofs.BatchLookups.{first-grant, first-serves, first_here, goes-on, known-resource, no-grants, passed}
+use Rattle.batch_engine.proofs.BatchAtIndex.{IsSeat, linked-here, needs-there, read-own, seat-of}
+use Rattle.batch_engine.proofs.UnservedNodes.{skipped}
 use Rattle.batch_engine.proofs.control.Control.first_grant.Goals as goal
 use Rattle.batch_engine.proofs.control.Control.first_grant.Goals.{After-recipe-chart, After-resource_at-resource}
 use Rattle.batch_signs.proofs.Bits.{within-or_past}

@@ -2,8 +2,8 @@ use Rattle.std.proofs.Common.{◌≡◌, ◌<◌, sym, ap, subst, ℕ, arith, le
 use Rattle.batch_engine.specs.View.{EngineView}
 use Rattle.batch_engine.specs.Marked.{HasNoMove}
 use Rattle.batch_engine.specs.Steps.{IsLeastAt, IsNext, IsBatchStep, index_of}
-use Rattle.batch_engine.proofs.Unmarked.{few}
-use Rattle.batch_engine.proofs.Upcoming.{step-map, next-at, none-next}
+use Rattle.batch_engine.proofs.BatchMarks.{few}
+use Rattle.batch_engine.proofs.NextStep.{step-map, next-at, none-next}
 use Rattle.batch_engine.proofs.control.Control.first_step.Goals as goal
 use Rattle.batch_signs.proofs.Bits.{within-or_past}
 

@@ -8,12 +8,12 @@ use Rattle.batch_recipe.specs.declared.recipe.Recipe as document
 use Rattle.batch_engine.specs.declared.batch.Batch.{Batch}
 use Rattle.batch_engine.specs.Steps.{IsGrantStep, IsNext}
 use Rattle.batch_engine.specs.View.{EngineView, number_of, tree_of}
-use Rattle.batch_engine.proofs.Made.{Becomes, grant-made}
-use Rattle.batch_engine.proofs.Seats.{IsRead, IsSeat, closed-makes, counted-set, read-there, seat-of}
-use Rattle.batch_engine.proofs.Stepping.{changed}
+use Rattle.batch_engine.proofs.EngineAfterMove.{Becomes, grant-made}
+use Rattle.batch_engine.proofs.BatchAtIndex.{IsRead, IsSeat, closed-makes, counted-set, read-there, seat-of}
+use Rattle.batch_engine.proofs.InvariantAfterMove.{changed}
 use Rattle.batch_engine.proofs.control.Control.grant.Goals as goal
 use Rattle.batch_engine.proofs.control.Control.grant.Goals.{After-index_mut-batch, After-recipe-chart, After-grant}
-use Rattle.batch_recipe.proofs.Setting.{same-at}
+use Rattle.batch_recipe.proofs.ValueUpdates.{same-at}
 
 read : (c : After-index_mut-batch) → IsRead c.args.self.now c.args.index c.index_mut-batch.result.now
 read c = read-there c.self.view_is c.self.invariant.kept c.requires.here.at c.index_mut-batch.ensures.value

@@ -3,7 +3,7 @@ use Rattle.std.specs.Prelude.{nat_eq, position}
 use Rattle.batch_engine.specs.declared.batch.Batch.{Batch}
 use Rattle.batch_engine.specs.Batches.{own_number}
 use Rattle.batch_engine.specs.View.{EngineView}
-use Rattle.batch_engine.proofs.Searching.{position-map}
+use Rattle.batch_engine.proofs.BinarySearch.{position-map}
 use Rattle.batch_engine.proofs.control.Control.index_of.Goals as goal
 
 pub returns : goal.returns

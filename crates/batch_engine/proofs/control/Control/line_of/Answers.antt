@@ -4,10 +4,10 @@ use Rattle.batch_chart.specs.NodesOf.{need_at, place_at}
 use Rattle.batch_engine.specs.declared.batch.Batch.{Batch}
 use Rattle.batch_engine.specs.View.{EngineView, number_of, tree_of}
 use Rattle.batch_engine.specs.Steps.{IsGrantStep, IsNext, IsNextStep, IsNumberAt, TellsNext}
-use Rattle.batch_engine.proofs.Seats.{IsRead, read-there}
-use Rattle.batch_engine.proofs.Telling.{grant-told}
+use Rattle.batch_engine.proofs.BatchAtIndex.{IsRead, read-there}
+use Rattle.batch_engine.proofs.MoveLines.{grant-told}
 use Rattle.batch_engine.proofs.control.Control.line_of.Goals as goal
-use Rattle.batch_recipe.proofs.Setting.{same-at}
+use Rattle.batch_recipe.proofs.ValueUpdates.{same-at}
 
 pub returns-in-Grant : goal.returns-in-Grant
 returns-in-Grant c =

@@ -13,9 +13,9 @@ use Rattle.batch_engine.specs.Marked.{AreNoted}
 use Rattle.batch_engine.specs.Reports.{IsLiveIn, IsLivePhase, told_of}
 use Rattle.batch_engine.specs.declared.live_phase.LivePhase.{LivePhase}
 use Rattle.batch_engine.specs.View.{EngineView, batch_of, number_of}
-use Rattle.batch_engine.proofs.Finding.{known-resource}
+use Rattle.batch_engine.proofs.BatchLookups.{known-resource}
 use Rattle.batch_engine.proofs.HeldUnits.{live-elsewhere, live-no_batch, live-no_unit}
-use Rattle.batch_engine.proofs.Reporting.{live-here, live-nowhere}
+use Rattle.batch_engine.proofs.ReportAnswers.{live-here, live-nowhere}
 use Rattle.batch_engine.proofs.control.Control.live.Goals as goal
 use Rattle.batch_engine.proofs.control.Control.live.Goals.{After-resource_of}
 

@@ -3,23 +3,23 @@ use Rattle.std.specs.Prelude.{position}
 use Rattle.batch_cell.specs.LookUps.{units_of}
 use Rattle.batch_chart.specs.Charts.{IsLive, remains_from}
 use Rattle.batch_chart.specs.NodesOf.{node_at, phase_at, phase_named}
-use Rattle.batch_chart.proofs.Live.{from-first}
+use Rattle.batch_chart.proofs.LivePhase.{from-first}
 use Rattle.batch_model.specs.Events.{live_in}
 use Rattle.batch_model.specs.Rest.{acts}
 use Rattle.batch_recipe.specs.Conditions.{Name, same_name}
 use Rattle.batch_recipe.specs.declared.recipe.Recipe.{Recipe}
-use Rattle.batch_verify.proofs.Finding.{found_below}
+use Rattle.batch_verify.proofs.ListLookups.{found_below}
 use Rattle.batch_engine.specs.declared.batch.Batch.{Batch}
 use Rattle.batch_engine.specs.Names.{resource_name}
 use Rattle.batch_engine.specs.View.{EngineView, batch_of, tree_of}
-use Rattle.batch_engine.proofs.Answering.{at-same}
+use Rattle.batch_engine.proofs.ElementAtIndex.{at-same}
 use Rattle.batch_engine.proofs.LivePhases.{found-on, named-phase, passed-over, phase-within}
-use Rattle.batch_engine.proofs.Seats.{IsSeat, read-at, seat-of}
-use Rattle.batch_engine.proofs.Taken.{unit-is_resource}
-use Rattle.batch_engine.proofs.Telling.{resource-told}
+use Rattle.batch_engine.proofs.BatchAtIndex.{IsSeat, read-at, seat-of}
+use Rattle.batch_engine.proofs.UnitNumbers.{unit-is_resource}
+use Rattle.batch_engine.proofs.MoveLines.{resource-told}
 use Rattle.batch_engine.proofs.control.Control.live_in.Goals as goal
 use Rattle.batch_engine.proofs.control.Control.live_in.Goals.{After-phase_at-number, After-recipe-chart}
-use Rattle.batch_recipe.proofs.Setting.{same-at}
+use Rattle.batch_recipe.proofs.ValueUpdates.{same-at}
 
 seat : (c : After-recipe-chart) → IsSeat c.args.self.now c.args.index c.index-batch.result.now c.recipe-chart.result.now
 seat c = seat-of c.self.view_is (read-at c.self.view_is c.self.invariant.kept c.requires c.index-batch.ensures) c.recipe-chart.ensures

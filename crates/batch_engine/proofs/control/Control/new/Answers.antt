@@ -4,7 +4,7 @@ use Rattle.batch_arbiter.specs.Allocation.{Allocation, idle}
 use Rattle.batch_verify.specs.ClearedSet.{ClearedSet}
 use Rattle.batch_engine.specs.View.{seen, plant_of}
 use Rattle.batch_engine.specs.Kept.{IsKept, needs_of_all}
-use Rattle.batch_engine.proofs.Opening.{opening-plant, opening-kept}
+use Rattle.batch_engine.proofs.OpeningEngine.{opening-plant, opening-kept}
 use Rattle.batch_engine.specs.Batches.{BatchList, HaveOwnNumbers}
 use Rattle.batch_engine.proofs.control.Control.new.Goals as goal
 

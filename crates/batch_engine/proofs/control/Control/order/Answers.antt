@@ -11,10 +11,10 @@ use Rattle.batch_engine.specs.Orders.{IsOrder, IsOrdered, IsPlain}
 use Rattle.batch_engine.specs.View.{EngineView, batch_of, plant_of, setup}
 use Rattle.batch_engine.specs.declared.batch.Batch.{Batch}
 use Rattle.batch_engine.specs.declared.reply.Reply.TheVariants as Reply
-use Rattle.batch_engine.proofs.Accepted.{accepted, not-accepted}
+use Rattle.batch_engine.proofs.AcceptedCommands.{accepted, not-accepted}
 use Rattle.batch_engine.proofs.OrderAnswers.{order-refused, order-unknown}
-use Rattle.batch_engine.proofs.Seats.{IsFound, found-here}
-use Rattle.batch_engine.proofs.Seeking.{none-found}
+use Rattle.batch_engine.proofs.BatchAtIndex.{IsFound, found-here}
+use Rattle.batch_engine.proofs.BatchByNumber.{none-found}
 use Rattle.batch_engine.proofs.control.Control.order.Goals as goal
 use Rattle.batch_engine.proofs.control.Control.order.Goals.{After-index}
 

@@ -6,9 +6,9 @@ use Rattle.batch_engine.specs.declared.batch.Batch.{Batch}
 use Rattle.batch_engine.specs.declared.line.Line.{Line}
 use Rattle.batch_engine.specs.Steps.{IsMover, IsNext, Tells, TellsNext}
 use Rattle.batch_engine.specs.View.{EngineView}
-use Rattle.batch_engine.proofs.Finding.{got-chart}
-use Rattle.batch_engine.proofs.Seats.{chart-within, linked-here, mover, needs-there}
-use Rattle.batch_engine.proofs.Telling.{ask-told, begin-told, end-told, pass-told, release-told, state-told}
+use Rattle.batch_engine.proofs.BatchLookups.{got-chart}
+use Rattle.batch_engine.proofs.BatchAtIndex.{chart-within, linked-here, mover, needs-there}
+use Rattle.batch_engine.proofs.MoveLines.{ask-told, begin-told, end-told, pass-told, release-told, state-told}
 use Rattle.batch_engine.proofs.control.Control.own_line.Goals as goal
 use Rattle.batch_engine.proofs.control.Control.own_line.Goals.{After-index-batch, After-recipe-chart}
 

@@ -5,9 +5,9 @@ use Rattle.batch_engine.specs.View.{EngineView}
 use Rattle.batch_engine.specs.declared.batch.Batch.{Batch}
 use Rattle.batch_engine.specs.declared.phase_number.PhaseNumber.{PhaseNumber}
 use Rattle.batch_engine.specs.declared.phase_number.TheConstants.{NO_PHASE}
-use Rattle.batch_engine.proofs.Finding.{got-chart}
+use Rattle.batch_engine.proofs.BatchLookups.{got-chart}
 use Rattle.batch_engine.proofs.LinkedActs.{phase-here}
-use Rattle.batch_engine.proofs.Seats.{IsRead, chart-within, entry-read, entry-within, linked-here, linked-read, linked-within}
+use Rattle.batch_engine.proofs.BatchAtIndex.{IsRead, chart-within, entry-read, entry-within, linked-here, linked-read, linked-within}
 use Rattle.batch_engine.proofs.control.Control.phase_at.Goals as goal
 use Rattle.batch_engine.proofs.control.Control.phase_at.Goals.{After-recipe-chart}
 

@@ -5,13 +5,13 @@ use Rattle.batch_model.specs.Runs.{Reacts}
 use Rattle.batch_engine.specs.Batches.{BatchList, HaveOwnNumbers}
 use Rattle.batch_engine.specs.Kept.{IsKept, needs_of_all}
 use Rattle.batch_engine.specs.View.{EngineView, batch_of, plant_of, seen, setup, tree_of}
-use Rattle.batch_engine.proofs.Filing.{own-numbers-remove}
-use Rattle.batch_engine.proofs.Reacting.{with}
-use Rattle.batch_engine.proofs.Removing.{remove-busy, remove-kept, remove-reacts, remove-unknown}
+use Rattle.batch_engine.proofs.SlabChanges.{own-numbers-remove}
+use Rattle.batch_engine.proofs.InvariantAfterEvent.{with}
+use Rattle.batch_engine.proofs.BatchRemoval.{remove-busy, remove-kept, remove-reacts, remove-unknown}
 use Rattle.batch_engine.proofs.Room.{needs-removed}
-use Rattle.batch_engine.proofs.Finding.{batch-runs}
-use Rattle.batch_engine.proofs.Seats.{IsFound, IsRead, found-here, read-there}
-use Rattle.batch_engine.proofs.Seeking.{none-found}
+use Rattle.batch_engine.proofs.BatchLookups.{batch-runs}
+use Rattle.batch_engine.proofs.BatchAtIndex.{IsFound, IsRead, found-here, read-there}
+use Rattle.batch_engine.proofs.BatchByNumber.{none-found}
 use Rattle.batch_engine.proofs.control.Control.remove.Goals as goal
 use Rattle.batch_engine.proofs.control.Control.remove.Goals.{After-index, After-needs}
 

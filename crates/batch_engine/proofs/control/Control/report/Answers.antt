@@ -7,13 +7,13 @@ use Rattle.batch_engine.specs.Kept.{IsKept}
 use Rattle.batch_engine.specs.View.{EngineView, tree_of}
 use Rattle.batch_engine.specs.declared.batch.Batch.{Batch}
 use Rattle.batch_engine.specs.declared.reply.Reply.{Reply}
-use Rattle.batch_engine.proofs.Finding.{in-charts}
-use Rattle.batch_engine.proofs.Reporting.{IsReporting, report-bad, report-left_out, report-made, reporting-of}
-use Rattle.batch_engine.proofs.Seats.{counted-set, read-there}
-use Rattle.batch_engine.proofs.Stepping.{changed}
+use Rattle.batch_engine.proofs.BatchLookups.{in-charts}
+use Rattle.batch_engine.proofs.ReportAnswers.{IsReporting, report-bad, report-left_out, report-made, reporting-of}
+use Rattle.batch_engine.proofs.BatchAtIndex.{counted-set, read-there}
+use Rattle.batch_engine.proofs.InvariantAfterMove.{changed}
 use Rattle.batch_engine.proofs.control.Control.report.Goals as goal
 use Rattle.batch_engine.proofs.control.Control.report.Goals.{After-are_outputs, After-index_mut-batch, After-recipe-chart, After-report}
-use Rattle.batch_recipe.proofs.Setting.{same-at}
+use Rattle.batch_recipe.proofs.ValueUpdates.{same-at}
 
 pub recipe-chart-requires : goal.recipe-chart-requires
 recipe-chart-requires c =

@@ -6,11 +6,11 @@ use Rattle.batch_recipe.specs.Conditions.{ValueList}
 use Rattle.batch_recipe.specs.Values.{with_outputs_zero}
 use Rattle.batch_engine.specs.declared.batch.Batch.{Batch}
 use Rattle.batch_engine.specs.View.{EngineView, bound_to, recipe_made, tree_of}
-use Rattle.batch_engine.proofs.Finding.{master-found}
+use Rattle.batch_engine.proofs.BatchLookups.{master-found}
 use Rattle.batch_engine.proofs.OrderAnswers.{order-at}
-use Rattle.batch_engine.proofs.Ordering.{Ordered, reset-made}
-use Rattle.batch_engine.proofs.Seats.{IsSeat, closed-ordered, counted-set, read-there, seat-of}
-use Rattle.batch_engine.proofs.Stepping.{changed}
+use Rattle.batch_engine.proofs.AcceptedOrders.{Ordered, reset-made}
+use Rattle.batch_engine.proofs.BatchAtIndex.{IsSeat, closed-ordered, counted-set, read-there, seat-of}
+use Rattle.batch_engine.proofs.InvariantAfterMove.{changed}
 use Rattle.batch_engine.proofs.control.Control.reset.Goals as goal
 use Rattle.batch_engine.proofs.control.Control.reset.Goals.{After-recipe-chart, After-reset}
 

@@ -7,11 +7,11 @@ use Rattle.batch_chart.specs.declared.running.Running.{Running}
 use Rattle.batch_engine.specs.declared.batch.Batch.{Batch}
 use Rattle.batch_engine.specs.Steps.{IsClaimed, IsMaking, IsMover, IsOfAct}
 use Rattle.batch_engine.specs.View.{EngineView, batch_of, tree_of}
-use Rattle.batch_engine.proofs.Made.{Becomes, MadeChart, ask-made, pass-made, release-made, run-quiet}
+use Rattle.batch_engine.proofs.EngineAfterMove.{Becomes, MadeChart, ask-made, pass-made, release-made, run-quiet}
 use Rattle.batch_engine.proofs.RoomForAsk.{room-for-ask}
-use Rattle.batch_engine.proofs.Seats.{IsSeat, chart-within, closed-makes, counted-set, linked-here, mover, seat-of}
-use Rattle.batch_engine.proofs.Space.{space-in-advance}
-use Rattle.batch_engine.proofs.Stepping.{changed}
+use Rattle.batch_engine.proofs.BatchAtIndex.{IsSeat, chart-within, closed-makes, counted-set, linked-here, mover, seat-of}
+use Rattle.batch_engine.proofs.SpaceInAdvance.{space-in-advance}
+use Rattle.batch_engine.proofs.InvariantAfterMove.{changed}
 use Rattle.batch_engine.proofs.control.Control.run.Goals as goal
 use Rattle.batch_engine.proofs.control.Control.run.Goals.{After-index_mut-batch, After-make_move, After-recipe-chart}
 

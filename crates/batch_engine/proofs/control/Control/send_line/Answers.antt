@@ -1,4 +1,4 @@
-use Rattle.batch_engine.proofs.Telling.{send-told}
+use Rattle.batch_engine.proofs.MoveLines.{send-told}
 use Rattle.batch_engine.proofs.control.Control.send_line.Goals as goal
 
 pub returns : goal.returns

@@ -1,6 +1,6 @@
-use Rattle.batch_engine.proofs.Finding.{got-chart}
-use Rattle.batch_engine.proofs.Seats.{chart-within}
-use Rattle.batch_engine.proofs.Telling.{start-told}
+use Rattle.batch_engine.proofs.BatchLookups.{got-chart}
+use Rattle.batch_engine.proofs.BatchAtIndex.{chart-within}
+use Rattle.batch_engine.proofs.MoveLines.{start-told}
 use Rattle.batch_engine.proofs.control.Control.start_line.Goals as goal
 
 pub recipe-recipe-requires : goal.recipe-recipe-requires

@@ -4,12 +4,12 @@ use Rattle.batch_arbiter.specs.Allocation.{withdrawn}
 use Rattle.batch_engine.specs.declared.batch.Batch.{Batch}
 use Rattle.batch_engine.specs.Orders.{IsOrder}
 use Rattle.batch_engine.specs.View.{EngineView, batch_of, tree_of}
-use Rattle.batch_engine.proofs.Finding.{batch-runs}
-use Rattle.batch_engine.proofs.Made.{runs-as}
+use Rattle.batch_engine.proofs.BatchLookups.{batch-runs}
+use Rattle.batch_engine.proofs.EngineAfterMove.{runs-as}
 use Rattle.batch_engine.proofs.OrderAnswers.{order-at}
-use Rattle.batch_engine.proofs.Ordering.{Ordered, stop-made}
-use Rattle.batch_engine.proofs.Seats.{IsRead, closed-ordered, counted-set, read-there}
-use Rattle.batch_engine.proofs.Stepping.{changed}
+use Rattle.batch_engine.proofs.AcceptedOrders.{Ordered, stop-made}
+use Rattle.batch_engine.proofs.BatchAtIndex.{IsRead, closed-ordered, counted-set, read-there}
+use Rattle.batch_engine.proofs.InvariantAfterMove.{changed}
 use Rattle.batch_engine.proofs.control.Control.stop.Goals as goal
 use Rattle.batch_engine.proofs.control.Control.stop.Goals.{After-stop_all}
 

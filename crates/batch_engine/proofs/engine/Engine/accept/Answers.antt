@@ -5,7 +5,7 @@ use Rattle.batch_engine.specs.Answered.{IsAnswered}
 use Rattle.batch_engine.specs.Marked.{AreNoted}
 use Rattle.batch_engine.proofs.HeldUnits.{reply-kept}
 use Rattle.batch_engine.specs.Surface.{event_of}
-use Rattle.batch_engine.proofs.Unmarked.{marked-answered}
+use Rattle.batch_engine.proofs.BatchMarks.{marked-answered}
 use Rattle.batch_engine.proofs.engine.Engine.accept.Goals as goal
 
 pub answer_event-reply-requires-clause-noted : goal.answer_event-reply-requires-clause-noted

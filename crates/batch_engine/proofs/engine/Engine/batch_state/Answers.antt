@@ -1,5 +1,5 @@
 use Rattle.std.proofs.Common.{◌∙◌, Some, None}
-use Rattle.batch_engine.proofs.Seeking.{looked}
+use Rattle.batch_engine.proofs.BatchByNumber.{looked}
 use Rattle.batch_engine.proofs.engine.Engine.batch_state.Goals as goal
 
 pub returns-in_err-find : goal.returns-in_err-find

@@ -5,7 +5,7 @@ use Rattle.batch_engine.specs.Steps.{touched_by}
 use Rattle.batch_engine.specs.View.{EngineView}
 use Rattle.batch_engine.specs.declared.step.Step.{Step}
 use Rattle.batch_engine.proofs.HeldUnits.{move-kept, next-noted}
-use Rattle.batch_engine.proofs.Unmarked.{marked-after, next-touches, same-count, settled-marked, step-within}
+use Rattle.batch_engine.proofs.BatchMarks.{marked-after, next-touches, same-count, settled-marked, step-within}
 use Rattle.batch_engine.proofs.engine.Engine.next_move.Goals as goal
 
 pub mark_moved-requires-clause-batch : goal.mark_moved-requires-clause-batch

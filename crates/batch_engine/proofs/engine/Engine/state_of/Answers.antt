@@ -8,16 +8,16 @@ use Rattle.batch_recipe.specs.Places.{IsNodeAt, NoNodeAt}
 use Rattle.batch_recipe.specs.Procedure.{bound_tree}
 use Rattle.batch_recipe.specs.Tree.{Tree}
 use Rattle.batch_recipe.specs.declared.recipe.Recipe.{Recipe}
-use Rattle.batch_recipe.proofs.Order.{counted_nodes}
+use Rattle.batch_recipe.proofs.NodeOrder.{counted_nodes}
 use Rattle.batch_verify.specs.ClearedSet.{ClearedSet}
 use Rattle.batch_engine.specs.View.{EngineView, batch_of, bound_to, tree_of}
 use Rattle.batch_engine.specs.declared.batch.Batch.{Batch}
-use Rattle.batch_engine.proofs.ActsNowhere.{state-nowhere}
-use Rattle.batch_engine.proofs.AlikeNodes.{node-alike, nowhere-alike}
-use Rattle.batch_engine.proofs.Finding.{batch-runs, in-charts, tree-placed}
-use Rattle.batch_engine.proofs.Seats.{IsSeat, seat-of}
-use Rattle.batch_engine.proofs.Seeking.{looked}
-use Rattle.batch_engine.proofs.Telling.{recipe-here, tree-is}
+use Rattle.batch_engine.proofs.PlacesWithoutNodes.{state-nowhere}
+use Rattle.batch_engine.proofs.NodesAcrossBindings.{node-alike, nowhere-alike}
+use Rattle.batch_engine.proofs.BatchLookups.{batch-runs, in-charts, tree-placed}
+use Rattle.batch_engine.proofs.BatchAtIndex.{IsSeat, seat-of}
+use Rattle.batch_engine.proofs.BatchByNumber.{looked}
+use Rattle.batch_engine.proofs.MoveLines.{recipe-here, tree-is}
 use Rattle.batch_engine.proofs.engine.Engine.state_of.Goals as goal
 use Rattle.batch_engine.proofs.engine.Engine.state_of.Goals.{After-cleared-cleared, After-recipe}
 

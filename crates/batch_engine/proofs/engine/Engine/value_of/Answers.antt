@@ -1,6 +1,6 @@
 use Rattle.std.proofs.Common.{◌∙◌, None, Some}
 use Rattle.batch_recipe.specs.Conditions.{value_of}
-use Rattle.batch_engine.proofs.Seeking.{looked}
+use Rattle.batch_engine.proofs.BatchByNumber.{looked}
 use Rattle.batch_engine.proofs.engine.Engine.value_of.Goals as goal
 
 pub returns-in_err-find : goal.returns-in_err-find

@@ -1,6 +1,6 @@
 use Rattle.std.proofs.Common.{refl, [], ap, length, List, ℕ}
 use Rattle.std.proofs.lemmas.Grind.{merely}
-use Rattle.batch_journal.proofs.GivenLemmas.{kept_rest, rest_kept}
+use Rattle.batch_journal.proofs.PendingLines.{kept_rest, rest_kept}
 use Rattle.batch_journal.proofs.groups.Groups.new.Goals as goal
 
 pub invariant_of-result : goal.invariant_of-result

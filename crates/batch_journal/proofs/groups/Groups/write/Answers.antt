@@ -1,5 +1,5 @@
 use Rattle.std.proofs.Common.{rules, ℕ, List, length, ap}
-use Rattle.batch_journal.proofs.GivenLemmas.{kept_group, kept_rest, none_in, rest_kept}
+use Rattle.batch_journal.proofs.PendingLines.{kept_group, kept_rest, none_in, rest_kept}
 use Rattle.batch_journal.proofs.ReaderLemmas.{recalled_on, recalls_kept, whole_as}
 use Rattle.batch_journal.proofs.groups.Groups.write.Goals as goal
 

@@ -1,5 +1,5 @@
 use Rattle.std.proofs.Common.{take, refl, ap, ◌∙◌}
-use Rattle.batch_journal.proofs.MemoryLemmas.{was_cut}
+use Rattle.batch_journal.proofs.DiskInMemory.{was_cut}
 use Rattle.batch_journal.proofs.memory.MemoryDisk.cut.Goals as goal
 
 pub returns-clause-time : goal.returns-clause-time

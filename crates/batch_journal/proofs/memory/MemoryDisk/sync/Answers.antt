@@ -1,5 +1,5 @@
 use Rattle.std.proofs.Common.{◌∙◌}
-use Rattle.batch_journal.proofs.MemoryLemmas.{wrote, after_sync, begins_from}
+use Rattle.batch_journal.proofs.DiskInMemory.{wrote, after_sync, begins_from}
 use Rattle.batch_journal.proofs.memory.MemoryDisk.sync.Goals as goal
 
 pub returns-clause-time : goal.returns-clause-time

@@ -1,7 +1,7 @@
 use Rattle.std.proofs.Common.{◌≡◌, ◌≤◌, ℕ, List, ◌++◌, length, take, refl, sym, ◌∙◌, ap, arith}
 use Rattle.std.proofs.lemmas.List.{length-take-le}
 use Rattle.batch_journal.specs.Windows.{items}
-use Rattle.batch_journal.proofs.GivenLemmas.{group_front, ready_either, within_either}
+use Rattle.batch_journal.proofs.PendingLines.{group_front, ready_either, within_either}
 use Rattle.batch_journal.proofs.ReaderLemmas.{none_of, keeps_more, accounted_keeps}
 use Rattle.batch_journal.proofs.reader.JournalReader.fill.Goals as goal
 

@@ -1,7 +1,7 @@
 use Rattle.std.proofs.Common.{◌≡◌, ◌≤◌, ℕ, List, ◌++◌, length, take, ◌∙◌, ap, arith}
 use Rattle.std.proofs.lemmas.List.{length-take-le}
 use Rattle.batch_journal.specs.Windows.{items}
-use Rattle.batch_journal.proofs.GivenLemmas.{ready_rest, whole_front, within_rest}
+use Rattle.batch_journal.proofs.PendingLines.{ready_rest, whole_front, within_rest}
 use Rattle.batch_journal.proofs.ReaderLemmas.{accounted_as, accounted_gives, gives_front, part_within, least_above, not_failed}
 use Rattle.batch_journal.proofs.reader.JournalReader.read_ready_lines.Goals as goal
 

@@ -1,6 +1,6 @@
 use Rattle.std.proofs.Common.{sym}
 use Rattle.batch_keep.specs.Comparing.{IsCompared, all_told, differs, ends}
-use Rattle.batch_keep.proofs.ComparingLemmas.{comments_compared, compared_both, line_compared, nothing_compared, nothing_left, something_left}
+use Rattle.batch_keep.proofs.RecordComparison.{comments_compared, compared_both, line_compared, nothing_compared, nothing_left, something_left}
 use Rattle.batch_keep.proofs.record.Record.compare.Goals as goal
 use Rattle.batch_keep.proofs.record.Record.compare.Goals.{After-next_line}
 

@@ -1,6 +1,6 @@
 use Rattle.std.proofs.Common.{sym, ◌∙◌}
 use Rattle.batch_keep.specs.Comparing.{empty, more, part}
-use Rattle.batch_keep.proofs.ComparingLemmas.{nothing_left, something_left}
+use Rattle.batch_keep.proofs.RecordComparison.{nothing_left, something_left}
 use Rattle.batch_keep.proofs.record.Record.finish.Goals as goal
 
 pub returns-in-Some : goal.returns-in-Some

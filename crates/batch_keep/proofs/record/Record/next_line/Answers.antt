@@ -1,5 +1,5 @@
 use Rattle.std.proofs.Common.{sym, ◌∙◌}
-use Rattle.batch_keep.proofs.ComparingLemmas.{comment_compared}
+use Rattle.batch_keep.proofs.RecordComparison.{comment_compared}
 use Rattle.batch_keep.proofs.record.Record.next_line.Goals as goal
 
 pub loop-at-preserved : goal.loop-at-preserved

@@ -1,4 +1,4 @@
-use Rattle.batch_keep.proofs.ComparingLemmas.{line_shorter, line_taken}
+use Rattle.batch_keep.proofs.RecordComparison.{line_shorter, line_taken}
 use Rattle.batch_keep.proofs.record.Record.take_line.Goals as goal
 
 pub returns-clause-takes : goal.returns-clause-takes

@@ -1,4 +1,4 @@
-use Rattle.batch_pipes.proofs.InputsKept.{may_hand_over}
+use Rattle.batch_pipes.proofs.ReaderMessages.{may_hand_over}
 use Rattle.batch_pipes.proofs.reading.InputTask.read.Goals as goal
 
 pub hand_over-requires-clause-allowed : goal.hand_over-requires-clause-allowed

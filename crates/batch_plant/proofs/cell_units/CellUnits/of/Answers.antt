@@ -1,5 +1,5 @@
 use Rattle.std.proofs.Common.{[], ◌∷◌, length-append, arith}
-use Rattle.batch_plant.proofs.UnitsKept.{one_kept}
+use Rattle.batch_plant.proofs.UnitsOfLink.{one_kept}
 use Rattle.batch_plant.proofs.cell_units.CellUnits.of.Goals as goal
 
 pub loop-unit-preserved : goal.loop-unit-preserved

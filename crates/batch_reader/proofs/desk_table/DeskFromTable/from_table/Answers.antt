@@ -4,7 +4,7 @@ use Rattle.toml.specs.View.{table_view}
 use Rattle.batch_reader.proofs.EntryFaults.{name_told, optional_name_told, truth_told}
 use Rattle.batch_reader.proofs.NeedFaults.{tells_at}
 use Rattle.batch_reader.proofs.DeskFaults.{path_told}
-use Rattle.batch_reader.proofs.Refusing.{lag_refuses}
+use Rattle.batch_reader.proofs.DeskRefusals.{lag_refuses}
 use Rattle.batch_reader.specs.DesksFaults.{IsDeskFault}
 use Rattle.batch_reader.proofs.desk_table.DeskFromTable.from_table.Goals as goal
 

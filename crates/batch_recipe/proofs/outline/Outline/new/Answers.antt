@@ -9,8 +9,8 @@ use Rattle.batch_recipe.specs.declared.entry.Kind.TheVariants as kind
 use Rattle.batch_recipe.specs.declared.outline.Outline.{Outline}
 use Rattle.batch_recipe.specs.declared.outline_fault.OutlineFault.{OutlineFault}
 use Rattle.batch_recipe.specs.declared.outline_fault.OutlineFault.TheVariants.{TooMany}
-use Rattle.batch_recipe.proofs.Linking.{as_many_entries}
-use Rattle.batch_recipe.proofs.Shaping.{is_outline}
+use Rattle.batch_recipe.proofs.OutlineLinks.{as_many_entries}
+use Rattle.batch_recipe.proofs.EntryShapes.{is_outline}
 use Rattle.batch_recipe.proofs.outline.Outline.new.Goals as goal
 
 the_fault : (f : OutlineFault) → IsErrOf {T = Outline} (Err f) TooMany → f ≡ TooMany

@@ -1,6 +1,6 @@
 use Rattle.std.proofs.Common.{◌≡◌, ◌+◌, ◌-◌, ◌++◌, length, length-append, get_or, slice_get, refl, ap, ◌∙◌, arith}
 use Rattle.std.proofs.lemmas.Option.{slice_get_read}
-use Rattle.batch_recipe.proofs.Slices.{slice_get-left, slice_get-right}
+use Rattle.batch_recipe.proofs.AppendedLists.{slice_get-left, slice_get-right}
 use Rattle.batch_recipe.proofs.recipe.Recipe.quantity.Goals as goal
 
 pub returns-then-number-inputs : goal.returns-then-number-inputs

@@ -3,7 +3,7 @@ use Rattle.std.proofs.lemmas.Grind.{common_steps}
 use Rattle.std.proofs.lemmas.Option.{slice_get_read}
 use Rattle.batch_recipe.specs.Conditions.{ValueList}
 use Rattle.batch_recipe.proofs.DistinctValues.{value-there}
-use Rattle.batch_recipe.proofs.Setting.{same-names}
+use Rattle.batch_recipe.proofs.ValueUpdates.{same-names}
 use Rattle.batch_recipe.proofs.values.Values.value_from.Goals as goal
 
 pub returns-in-Some : goal.returns-in-Some

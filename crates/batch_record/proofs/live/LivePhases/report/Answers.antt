@@ -1,6 +1,6 @@
 use Rattle.std.proofs.Common.{rules}
 use Rattle.batch_text.specs.PlaceText.{numbers_of}
-use Rattle.batch_record.proofs.Lives.{report-ends, report-goes_on}
+use Rattle.batch_record.proofs.LivePhases.{report-ends, report-goes_on}
 use Rattle.batch_record.proofs.live.LivePhases.report.Goals as goal
 
 pub returns-then-ends_phase : goal.returns-then-ends_phase

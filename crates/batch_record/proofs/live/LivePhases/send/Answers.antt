@@ -1,6 +1,6 @@
 use Rattle.std.proofs.Common.{rules}
 use Rattle.batch_text.specs.PlaceText.{numbers_of}
-use Rattle.batch_record.proofs.Lives.{sent-on}
+use Rattle.batch_record.proofs.LivePhases.{sent-on}
 use Rattle.batch_record.proofs.live.LivePhases.send.Goals as goal
 
 pub returns : goal.returns

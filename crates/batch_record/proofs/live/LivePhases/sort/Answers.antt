@@ -2,7 +2,7 @@ use Rattle.std.proofs.Common.{rules}
 use Rattle.std.proofs.lemmas.List.Sorted.{answers_always, ranks_by}
 use Rattle.batch_record.specs.Kept.{live_of}
 use Rattle.batch_record.specs.Listing.{live_cmp}
-use Rattle.batch_record.proofs.Sorting.{is_before, sorted-seen, live_total, live-back, on-unit}
+use Rattle.batch_record.proofs.StableSort.{is_before, sorted-seen, live_total, live-back, on-unit}
 use Rattle.batch_record.proofs.live.LivePhases.sort.Goals as goal
 
 pub returns-in-Ok-clause-sorted : goal.returns-in-Ok-clause-sorted

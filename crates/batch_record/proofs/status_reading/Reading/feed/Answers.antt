@@ -3,7 +3,7 @@ use Rattle.std.proofs.lemmas.Result.{err_from_is_err_and}
 use Rattle.batch_record.specs.StatusReading.{IsRefusedAt}
 use Rattle.batch_record.specs.declared.status_reading.Reading.{Reading}
 use Rattle.batch_record.specs.Standings.{EndsLine, HasRead}
-use Rattle.batch_record.proofs.ReadingLemmas.{beginning-read, line-apart, taken-on}
+use Rattle.batch_record.proofs.InputProgress.{beginning-read, line-apart, taken-on}
 use Rattle.batch_record.proofs.status_reading.Reading.feed.Goals as goal
 
 pub returns-in_err-end_line : goal.returns-in_err-end_line

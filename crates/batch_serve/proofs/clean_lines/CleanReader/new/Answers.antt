@@ -1,4 +1,4 @@
-use Rattle.batch_serve.proofs.CleanLemmas.{new_cleans}
+use Rattle.batch_serve.proofs.JournalLines.{new_cleans}
 use Rattle.batch_serve.proofs.clean_lines.CleanReader.new.Goals as goal
 
 pub returns : goal.returns

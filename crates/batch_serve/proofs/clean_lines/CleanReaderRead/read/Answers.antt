@@ -1,6 +1,6 @@
 use Rattle.std.proofs.Common.{length, ap, arith, length-take}
 use Rattle.std.proofs.lemmas.Result.{err_from_is_err_and}
-use Rattle.batch_serve.proofs.CleanLemmas.{consumes, keeps_same, gave_none, input_ended}
+use Rattle.batch_serve.proofs.JournalLines.{consumes, keeps_same, gave_none, input_ended}
 use Rattle.batch_serve.proofs.clean_lines.CleanReaderRead.read.Goals as goal
 
 pub end_line-requires : goal.end_line-requires

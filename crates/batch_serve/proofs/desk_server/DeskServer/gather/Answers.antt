@@ -3,7 +3,7 @@ use Rattle.batch_serve.specs.Rounds.{IsGathered}
 use Rattle.batch_serve.specs.Runs.{AreOfDesks}
 use Rattle.batch_serve.specs.declared.desk.Desk.{Desk}
 use Rattle.batch_serve.specs.declared.rounds.Reader.{Reader}
-use Rattle.batch_serve.proofs.Gathering.{gathered_more, kept_behind, own_behind, same_on}
+use Rattle.batch_serve.proofs.DeskLines.{gathered_more, kept_behind, own_behind, same_on}
 use Rattle.batch_serve.proofs.desk_server.DeskServer.gather.Goals as goal
 
 pub loop-desk-preserved : goal.loop-desk-preserved

@@ -1,4 +1,4 @@
-use Rattle.batch_serve.proofs.HoldingLemmas.{cleared_all, cleared_fits, cleared_passed, cleared_rest}
+use Rattle.batch_serve.proofs.HeldText.{cleared_all, cleared_fits, cleared_passed, cleared_rest}
 use Rattle.batch_serve.proofs.held.Held.clear.Goals as goal
 
 pub invariant_of-self : goal.invariant_of-self

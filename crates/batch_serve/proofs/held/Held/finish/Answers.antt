@@ -1,5 +1,5 @@
 use Rattle.std.proofs.Common.{Result, Ok, Err, OnOk}
-use Rattle.batch_serve.proofs.HoldingLemmas.{finishes_all, finishes_clear}
+use Rattle.batch_serve.proofs.HeldText.{finishes_all, finishes_clear}
 use Rattle.batch_serve.proofs.held.Held.finish.Goals as goal
 
 on_ok : {A E : Type 0} (r : Result A E) (P Q : Type 0) → (P → Q) → OnOk r P → OnOk r Q

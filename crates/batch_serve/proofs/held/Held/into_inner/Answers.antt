@@ -1,4 +1,4 @@
-use Rattle.batch_serve.proofs.HeldLemmas.{tells_clear}
+use Rattle.batch_serve.proofs.PassedText.{tells_clear}
 use Rattle.batch_serve.proofs.held.Held.into_inner.Goals as goal
 
 pub returns : goal.returns

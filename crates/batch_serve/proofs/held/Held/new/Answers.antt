@@ -1,5 +1,5 @@
 use Rattle.std.proofs.Common.{arith}
-use Rattle.batch_serve.proofs.HeldLemmas.{passed_first}
+use Rattle.batch_serve.proofs.PassedText.{passed_first}
 use Rattle.batch_serve.proofs.held.Held.new.Goals as goal
 
 pub invariant_of-result : goal.invariant_of-result

@@ -1,5 +1,5 @@
 use Rattle.std.proofs.Common.{◌≡◌, ◌≤◌, ◌∙◌, ℕ, List, Result, Ok, Err, OnOk, length, drop, ap, arith, length-take, length-drop}
-use Rattle.batch_serve.proofs.HeldLemmas.{passes_on, keeps_on}
+use Rattle.batch_serve.proofs.PassedText.{passes_on, keeps_on}
 use Rattle.batch_serve.proofs.held.Held.pass_on.Goals as goal
 
 pub remove_front-requires : goal.remove_front-requires

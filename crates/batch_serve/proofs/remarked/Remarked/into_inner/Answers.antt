@@ -1,4 +1,4 @@
-use Rattle.batch_serve.proofs.CommentLemmas.{remarked}
+use Rattle.batch_serve.proofs.TextsWithComments.{remarked}
 use Rattle.batch_serve.proofs.remarked.Remarked.into_inner.Goals as goal
 
 pub returns : goal.returns

@@ -1,5 +1,5 @@
 use Rattle.std.proofs.Common.{false, refl, sym}
-use Rattle.batch_serve.proofs.CommentLemmas.{same_spot, told_cut, told_part}
+use Rattle.batch_serve.proofs.TextsWithComments.{same_spot, told_cut, told_part}
 use Rattle.batch_serve.proofs.remarked.Remarked.write_part.Goals as goal
 
 pub invariant_of-self : goal.invariant_of-self

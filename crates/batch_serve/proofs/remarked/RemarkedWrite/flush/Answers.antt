@@ -1,4 +1,4 @@
-use Rattle.batch_serve.proofs.CommentLemmas.{told_nothing}
+use Rattle.batch_serve.proofs.TextsWithComments.{told_nothing}
 use Rattle.batch_serve.proofs.remarked.RemarkedWrite.flush.Goals as goal
 
 pub invariant_of-self : goal.invariant_of-self

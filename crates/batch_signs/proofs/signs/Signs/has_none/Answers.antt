@@ -1,4 +1,4 @@
-use Rattle.batch_signs.proofs.Wanting.{tells-none, tells-some}
+use Rattle.batch_signs.proofs.WantedSigns.{tells-none, tells-some}
 use Rattle.batch_signs.proofs.signs.Signs.has_none.Goals as goal
 
 pub returns-in-None : goal.returns-in-None

@@ -1,4 +1,4 @@
-use Rattle.batch_sim.proofs.Boxes.{leads_on}
+use Rattle.batch_sim.proofs.DriverBoxes.{leads_on}
 use Rattle.batch_sim.proofs.any_driver.AnyDriverUnitDriver.tick.Goals as goal
 
 pub returns : goal.returns

@@ -6,7 +6,7 @@ use Rattle.batch_text.specs.NameText.{IsName}
 use Rattle.batch_verify.specs.CertificateText.{Rank}
 use Rattle.batch_verdicts.specs.VerdictTexts.{rank_text}
 use Rattle.batch_verdicts.proofs.texts.certificates.certificate_text.Goals as goal
-use Rattle.batch_outline.proofs.Placed.{texts_more}
+use Rattle.batch_outline.proofs.LineSeats.{texts_more}
 
 pub loop-name-preserved : goal.loop-name-preserved
 loop-name-preserved c =

@@ -1,7 +1,7 @@
 use Rattle.std.proofs.Common.{◌<◌, ◌++◌, ◌∙◌, [], length, ap, rules, string_bytes}
 use Rattle.batch_verdicts.specs.GraphTexts.{shared_text}
 use Rattle.batch_verdicts.proofs.texts.graphs.all_shared_text.Goals as goal
-use Rattle.batch_outline.proofs.Placed.{texts_more}
+use Rattle.batch_outline.proofs.LineSeats.{texts_more}
 
 pub loop-one-preserved : goal.loop-one-preserved
 loop-one-preserved c =

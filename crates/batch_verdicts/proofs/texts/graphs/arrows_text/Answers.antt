@@ -3,7 +3,7 @@ use Rattle.batch_check.specs.declared.edge.Edge.{Edge}
 use Rattle.batch_messages.specs.CircleSentence.{act_name}
 use Rattle.batch_verdicts.specs.GraphTexts.{arrow_text}
 use Rattle.batch_verdicts.proofs.texts.graphs.arrows_text.Goals as goal
-use Rattle.batch_outline.proofs.Placed.{texts_more}
+use Rattle.batch_outline.proofs.LineSeats.{texts_more}
 
 abbrev no_edge : Edge
 no_edge = record { recipe = 0; node = 0; earlier = 0; later = 0 }

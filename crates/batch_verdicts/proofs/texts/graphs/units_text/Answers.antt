@@ -1,7 +1,7 @@
 use Rattle.std.proofs.Common.{◌<◌, ◌++◌, ◌∙◌, [], length, ap, rules, string_bytes}
 use Rattle.batch_verdicts.specs.GraphTexts.{unit_text}
 use Rattle.batch_verdicts.proofs.texts.graphs.units_text.Goals as goal
-use Rattle.batch_outline.proofs.Placed.{texts_more}
+use Rattle.batch_outline.proofs.LineSeats.{texts_more}
 
 pub loop-unit-preserved : goal.loop-unit-preserved
 loop-unit-preserved c =

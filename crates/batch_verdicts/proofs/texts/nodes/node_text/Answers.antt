@@ -1,6 +1,6 @@
 use Rattle.std.proofs.Common.{length, refl, string_bytes}
 use Rattle.std.proofs.lemmas.Option.{slice_get_read}
-use Rattle.batch_verdicts.proofs.NodesTold.{node_told}
+use Rattle.batch_verdicts.proofs.NodeTexts.{node_told}
 use Rattle.batch_verdicts.proofs.texts.nodes.node_text.Goals as goal
 
 pub returns-in-Some : goal.returns-in-Some

@@ -2,7 +2,7 @@ use Rattle.std.proofs.Common.{◌<◌, ◌++◌, ◌∷◌, ◌∙◌, [], codes
 use Rattle.batch_check.specs.declared.edge.Edge.{Edge}
 use Rattle.batch_verdicts.specs.VerdictTexts.{edge_text, refused}
 use Rattle.batch_verdicts.proofs.texts.refusals.circle_text.Goals as goal
-use Rattle.batch_outline.proofs.Placed.{texts_more}
+use Rattle.batch_outline.proofs.LineSeats.{texts_more}
 
 abbrev no_edge : Edge
 no_edge = record { recipe = 0; node = 0; earlier = 0; later = 0 }

@@ -1,4 +1,4 @@
-use Rattle.call_tests.proofs.Seating.{tokens_of_port, left_back}
+use Rattle.call_tests.proofs.FirstPort.{tokens_of_port, left_back}
 use Rattle.call_tests.proofs.left.Left.close.Goals as goal
 
 pub close_by-requires : goal.close_by-requires

@@ -1,4 +1,4 @@
-use Rattle.call_tests.proofs.Seating.{left_sealed}
+use Rattle.call_tests.proofs.FirstPort.{left_sealed}
 use Rattle.call_tests.proofs.left.Left.seal.Goals as goal
 
 pub invariant_of-self : goal.invariant_of-self

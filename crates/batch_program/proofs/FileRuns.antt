@@ -1,0 +1,118 @@
+-- Runs that write a file.
+use Rattle.std.proofs.Common.{◌≡◌, ℕ, Bool, List, Option, Some, inl, inr, refl, subst}
+use Rattle.std.specs.Prelude.{String, string_bytes}
+use Rattle.std.specs.Global.{Global}
+use Rattle.clap.specs.Walk.{Text}
+use Rattle.batch_cli.specs.CommandLine.{Judgement, Request, Source, audit, keep, picture, remark, serve, tell, write, serve_desks}
+use Rattle.batch_verdicts.specs.Reading.{Gives}
+use Rattle.batch_verdicts.specs.Requests.{IsVerdict}
+use Rattle.batch_verdicts.specs.Running.{AskFor, IsDone, IsRun, IsUnwritten, Stream, ask_quiet}
+use Rattle.batch_verdicts.specs.Running as running
+use Rattle.batch_verdicts.specs.Saying.{IsWarned}
+use Rattle.batch_verdicts.specs.declared.course.Course.{Course}
+use Rattle.batch_verdicts.specs.declared.course.Course.TheVariants as course_of
+use Rattle.batch_verdicts.proofs.Successes.{same_request}
+use Rattle.batch_verdicts.proofs.WarningEffects.{verdict_more, warned_kept}
+use Rattle.batch_serve.specs.Serves as serving
+use Rattle.batch_program.proofs.DeskRequests.{desks_no_file}
+use Rattle.batch_program.specs.Programs.{CertificatesAreKept, IsProgramRun, tells, writes, serves, serves_desks, remarks, keeps, reads, draws, audits, plants}
+use Rattle.batch_program.specs.JournalRuns.{JournalFiles}
+use Rattle.batch_program.specs.RecordRuns.{Holds, output_of}
+use Rattle.batch_program.proofs.ProgramRuns.{plants_no_file, serves_no_file, told_at_once}
+
+done_to_write : (gives : Gives) (request : Request) (quiet : Bool) (output errors : Stream) (course : Course) (path text : String Global)
+    → IsDone gives request quiet output errors course → course ≡ course_of.Writes path text
+    → (judgement : Judgement) × (request ≡ write (string_bytes path) judgement)
+    × IsVerdict gives (IsWarned quiet errors.before errors.after) judgement (string_bytes text) × IsUnwritten output
+done_to_write gives request quiet output errors _ path text (running.writes judgement own said asked told kept) is =
+    let same_path : own ≡ path = cc in
+    let same_text : said ≡ text = cc in (
+      judgement,
+      subst (λ (p : String Global). request ≡ write (string_bytes p) judgement) same_path asked,
+      subst (λ (t : String Global). IsVerdict gives (IsWarned quiet errors.before errors.after) judgement (string_bytes t)) same_text told,
+      kept,
+    )
+done_to_write gives request quiet output errors _ path text (running.serves _ _ _ _ _ _) is = absurd cc
+done_to_write gives request quiet output errors _ path text (running.reads _ _ _ _) is = absurd cc
+done_to_write gives request quiet output errors _ path text (running.plants _ _ _ _ _ _ _) is = absurd cc
+done_to_write gives request quiet output errors _ path text (running.halts _ _ _ _ _) is = absurd cc
+done_to_write gives request quiet output errors _ path text (running.judges _ _ _ _ _ _ _) is = absurd cc
+done_to_write gives request quiet output errors _ path text (running.explains _ _ _ _) is = absurd cc
+done_to_write gives request quiet output errors _ path text (running.keeps _ _ _ _ _ _ _ _ _ _) is = absurd cc
+done_to_write gives request quiet output errors _ path text (running.remarks _ _ _ _ _ _ _) is = absurd cc
+done_to_write gives request quiet output errors _ path text (running.audits _ _ _ _ _ _) is = absurd cc
+done_to_write gives request quiet output errors _ path text (running.serves_desks _ _ _ _ _ _ _ _ _ _ _) is = absurd cc
+done_to_write gives request quiet output errors _ path text (running.draws _ _ _ _) is = absurd cc
+
+-- the text that is to be written is that of a verdict that accepts, and nothing was written but warnings
+pub file_to_write : (gives : Gives) (words : List Text) (output errors : Stream) (course : Course) (path text : String Global)
+    → IsRun gives words output errors course → course ≡ course_of.Writes path text
+    → (judgement : Judgement) × AskFor words (write (string_bytes path) judgement)
+    × IsVerdict gives (IsWarned (ask_quiet words) errors.before errors.after) judgement (string_bytes text) × IsUnwritten output
+file_to_write gives words output errors _ path text (running.commands request course asked came) is =
+    let (judgement, named, told, kept) = done_to_write gives request (ask_quiet words) output errors course path text came is in
+    (judgement, rw (← named) asked, told, kept)
+file_to_write gives words output errors _ path text (running.helps _ _ _ _) is = absurd cc
+file_to_write gives words output errors _ path text (running.misuses _ _) is = absurd cc
+file_to_write gives words output errors _ path text (running.starves _) is = absurd cc
+
+same_path : (a b : Text) (c d : Judgement) → write a c ≡ write b d → a ≡ b
+same_path a b c d is = cc
+
+same_judgement : (a b : Text) (c d : Judgement) → write a c ≡ write b d → c ≡ d
+same_judgement a b c d is = cc
+
+reads_no_file : (record_path : Option Text) (path : Text) (judgement : Judgement) → tell record_path ≡ write path judgement → ⊥
+reads_no_file record_path path judgement is = cc
+
+draws_no_file : (record_path : Option Text) (path : Text) (judgement : Judgement) → picture record_path ≡ write path judgement → ⊥
+draws_no_file record_path path judgement is = cc
+
+no_comments : (source : Source) (echo times : Bool) (path : Text) (judgement : Judgement) → remark source echo times ≡ write path judgement → ⊥
+no_comments source echo times path judgement is = cc
+
+no_journal : (journal cell certificate : Text) (recipes : List Text) (echo times : Bool) (path : Text) (judgement : Judgement)
+    → keep journal cell certificate recipes echo times ≡ write path judgement → ⊥
+no_journal journal cell certificate recipes echo times path judgement is = cc
+
+no_audit : (source : Source) (beginning : Bool) (record_path path : Text) (judgement : Judgement) → audit beginning record_path source ≡ write path judgement → ⊥
+no_audit source beginning record_path path judgement is = cc
+
+kept_at : (gives : Gives) (holds : Holds) (files : JournalFiles) (words : List Text) (ends : serving.Ends) (errors : Stream) (path : Text) (judgement : Judgement) (status : ℕ)
+    → AskFor words (write path judgement) → IsProgramRun gives holds files words ends errors status → status ≡ 0
+    → (text : List ℕ) × IsVerdict gives (IsWarned (ask_quiet words) errors.before errors.after) judgement text × holds path (Some text)
+    × IsUnwritten (output_of ends)
+kept_at gives holds files words ends errors path judgement _ asked (tells status came _) is =
+    absurd (told_at_once gives words (output_of ends) errors (write path judgement) status asked came is)
+kept_at gives holds files words ends errors path judgement status asked (writes own other text warned _ asked2 told (inl (kept, silent, _)) unwritten _) is =
+    let same = same_request words (write own other) (write path judgement) asked2 asked in
+    let quiet = ask_quiet words in
+    let more = verdict_more gives (IsWarned quiet errors.before warned) (IsWarned quiet errors.before errors.after) other text
+    (λ lines. warned_kept quiet errors.before warned errors.after lines silent) told in (
+      text,
+      subst (λ j. IsVerdict gives (IsWarned quiet errors.before errors.after) j text) (same_judgement own path other judgement same) more,
+      subst (λ p. holds p (Some text)) (same_path own path other judgement same) kept,
+      unwritten,
+    )
+kept_at gives holds files words ends errors path judgement status asked (writes _ _ _ _ _ _ _ (inr (inl fault)) _ _) is = absurd cc
+kept_at gives holds files words ends errors path judgement status asked (writes _ _ _ _ _ _ _ (inr (inr memory)) _ _) is = absurd cc
+kept_at gives holds files words ends errors path judgement _ asked (serves source _ _ asked2 _ _ _) is =
+    absurd (serves_no_file source path judgement (same_request words (serve source) (write path judgement) asked2 asked))
+kept_at gives holds files words ends errors path judgement _ asked (remarks source echo times _ _ asked2 _ _ _) is =
+    absurd (no_comments source echo times path judgement (same_request words (remark source echo times) (write path judgement) asked2 asked))
+kept_at gives holds files words ends errors path judgement _ asked (keeps journal cell certificate recipes echo times _ _ _ asked2 _ _) is =
+    absurd (no_journal journal cell certificate recipes echo times path judgement (same_request words (keep journal cell certificate recipes echo times) (write path judgement) asked2 asked))
+kept_at gives holds files words ends errors path judgement _ asked (serves_desks named desks cell certificate recipes times _ _ _ _ asked2 _ _ _) is =
+    absurd (desks_no_file path judgement (same_request words (serve_desks named desks cell certificate recipes times) (write path judgement) asked2 asked))
+kept_at gives holds files words ends errors path judgement _ asked (audits beginning record_path source _ _ asked2 _ _) is =
+    absurd (no_audit source beginning record_path path judgement (same_request words (audit beginning record_path source) (write path judgement) asked2 asked))
+kept_at gives holds files words ends errors path judgement _ asked (draws record_path _ asked2 _) is =
+    absurd (draws_no_file record_path path judgement (same_request words (picture record_path) (write path judgement) asked2 asked))
+kept_at gives holds files words ends errors path judgement _ asked (reads record_path _ asked2 _) is =
+    absurd (reads_no_file record_path path judgement (same_request words (tell record_path) (write path judgement) asked2 asked))
+kept_at gives holds files words ends errors path judgement _ asked (plants planted _ options _ _ asked2 _ _ _ _) is =
+    absurd (plants_no_file planted options.batches options.ticks options.ring path judgement (same_request words _ (write path judgement) asked2 asked))
+
+pub certificates_are_kept : (gives : Gives) (holds : Holds) (files : JournalFiles) → CertificatesAreKept gives holds files
+certificates_are_kept gives holds files words ends errors path judgement asked came =
+    kept_at gives holds files words ends errors path judgement 0 asked came refl

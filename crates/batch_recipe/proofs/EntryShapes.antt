@@ -1,0 +1,193 @@
+-- The entries grown from acts have the shapes and the acts of the expanded tree.
+use Rattle.std.proofs.Common.{◌≡◌, ℕ, ◌+◌, List, [], ◌∷◌, ◌++◌, map, length, Option, Some, None, slice_get, sym, ap, ◌∙◌, refl, arith, length-append}
+use Rattle.std.proofs.lemmas.List.{length-map, map-append}
+use Rattle.batch_recipe.specs.ActsAtNodes.{ActList, acts_along, acts_along_each, acts_along_cases, acts_below, acts_from, acts_named, procedure_acts}
+use Rattle.batch_recipe.specs.Conditions.{Name, same_name}
+use Rattle.batch_recipe.specs.Diagram.{Diagram, label, skip, seq, par, sel, loop, Diagrams, none, more, Cases, otherwise, when, diagram_of}
+use Rattle.batch_recipe.specs.Expanding.{Binding, unbound, expanded, expanded_each, expanded_cases, task_of, act_named, act_tree_with, named_tree_with, unit_with, unit_below, step_of}
+use Rattle.batch_recipe.specs.Growing.{Head, Labels, LabelConditions, plain, act_head, topped, bare, grown, grown_each, grown_cases, grown_work, grown_act, grown_named, conditions_along, conditions_of_cases, told_from, levels_from, number_in, unit_number, entries_of}
+use Rattle.batch_recipe.specs.Nodes.{child, node_count, count_within, count_of_each, count_of_choices}
+use Rattle.batch_recipe.specs.Outlines.{an_act, Shape, form_of, act_of, shape_of, shapes, shapes_within, shapes_of_each, shapes_of_choices, IsOutline}
+use Rattle.batch_recipe.specs.Procedure.{sites, table_at, tables_from, level_below, bound_tree}
+use Rattle.batch_recipe.specs.Tree.{Place, Tree, Task, Trees, Choices}
+use Rattle.batch_recipe.specs.Tree as tree
+use Rattle.batch_recipe.specs.declared.act.Act.{Act}
+use Rattle.batch_recipe.specs.declared.act.Work.{Work}
+use Rattle.batch_recipe.specs.declared.act.Work.TheVariants.{Follows, Runs}
+use Rattle.batch_recipe.specs.declared.acts.Acts.{Acts}
+use Rattle.batch_recipe.specs.declared.acts.LabelTable.{LabelTable}
+use Rattle.batch_recipe.specs.declared.acts.LabelTable.TheVariants.{UnitProcedures, Operations, Phases}
+use Rattle.batch_recipe.specs.declared.entry.Entry.{Entry}
+use Rattle.batch_recipe.specs.declared.entry.Kind.{Kind}
+use Rattle.batch_recipe.specs.declared.entry.Kind.TheVariants as kind
+use Rattle.batch_recipe.proofs.Growth.{found_at, not_found}
+
+mutual
+  pub shapes_counted : (n u i : ℕ) (t : Tree) → length (shapes n u i t) ≡ node_count t
+  shapes_counted n u i (tree.act s w) = omega (arith, within_counted n w)
+  shapes_counted n u i tree.skip = refl
+  shapes_counted n u i (tree.seq ts) = omega (arith, each_counted (n + 1) n 0 ts)
+  shapes_counted n u i (tree.par ts) = omega (arith, each_counted (n + 1) n 0 ts)
+  shapes_counted n u i (tree.sel cs) = omega (arith, choices_counted (n + 1) n 0 cs)
+  shapes_counted n u i (tree.loop k c t) = omega (arith, shapes_counted (n + 1) n 0 t)
+
+  within_counted : (n : ℕ) (w : Task) → length (shapes_within n w) ≡ count_within w
+  within_counted n (tree.runs phase) = refl
+  within_counted n (tree.follows name t) = shapes_counted (n + 1) n 0 t
+
+  pub each_counted : (n u i : ℕ) (ts : Trees) → length (shapes_of_each n u i ts) ≡ count_of_each ts
+  each_counted n u i tree.no_trees = refl
+  each_counted n u i (tree.tree t ts) =
+      omega (arith, length-append (shapes n u i t) (shapes_of_each (n + node_count t) u (i + 1) ts), shapes_counted n u i t, each_counted (n + node_count t) u (i + 1) ts)
+
+  pub choices_counted : (n u i : ℕ) (cs : Choices) → length (shapes_of_choices n u i cs) ≡ count_of_choices cs
+  choices_counted n u i (tree.otherwise t) = shapes_counted n u i t
+  choices_counted n u i (tree.choice c t cs) =
+      omega (arith, length-append (shapes n u i t) (shapes_of_choices (n + node_count t) u (i + 1) cs), shapes_counted n u i t, choices_counted (n + node_count t) u (i + 1) cs)
+
+module _ (bound : Binding) (acts : Acts) where
+  abbrev act_at : Entry → Option Act
+  act_at e = act_of acts e.kind
+
+  abbrev Matches : List Entry → List Shape → ActList → Type 0
+  Matches es ss list = (map shape_of es ≡ ss) × (map act_at es ≡ list)
+
+  counted : (es : List Entry) (ss : List Shape) (m : ℕ) → map shape_of es ≡ ss → length ss ≡ m → length es ≡ m
+  counted es ss m e f = sym (length-map es shape_of) ∙ (ap length e ∙ f)
+
+  top : (k : Head) (n u i m : ℕ) (below : List Entry) (ss : List Shape) (list : ActList) → Matches below ss list → length ss ≡ m
+      → Matches (topped k n u i below) (record { form = form_of k.kind; end = n + (1 + m); parent = u; child = i } ∷ ss) (act_of acts k.kind ∷ list)
+  top k n u i m below ss list h size =
+      let same : n + 1 + length below ≡ n + (1 + m) = omega (arith, counted below ss m h.0 size) in (
+        ap (λ e. record { form = form_of k.kind; end = e; parent = u; child = i } ∷ map shape_of below) same ∙ ap (λ xs. record { form = form_of k.kind; end = n + (1 + m); parent = u; child = i } ∷ xs) h.0,
+        ap (λ xs. act_of acts k.kind ∷ xs) h.1,
+      )
+
+  joined : (es fs : List Entry) (ss rr : List Shape) (list rest : ActList) → Matches es ss list → Matches fs rr rest → Matches (es ++ fs) (ss ++ rr) (list ++ rest)
+  joined es fs ss rr list rest h g = (
+    map-append shape_of es fs ∙ (ap (λ xs. xs ++ map shape_of fs) h.0 ∙ ap (λ xs. ss ++ xs) g.0),
+    map-append act_at es fs ∙ (ap (λ xs. xs ++ map act_at fs) h.1 ∙ ap (λ xs. list ++ xs) g.1),
+  )
+
+  abbrev AreLabels : (Name → Place → Tree) → Labels → (Name → ActList) → Type 0
+  AreLabels trees named list = (name : Name) (n j u i : ℕ) (p : Place) → Matches (named name n j u i) (shapes n u i (trees name p)) (list name)
+
+  module _ (told : LabelConditions) (trees : Name → Place → Tree) (named : Labels) (list : Name → ActList) (labels : AreLabels trees named list) where
+    mutual
+      chart_matches : (n j u i : ℕ) (p : Place) (d : Diagram) → Matches (grown told named n j u i d) (shapes n u i (expanded trees p d)) (acts_along list d)
+      chart_matches n j u i p (label name) = labels name n j u i p
+      chart_matches n j u i p skip = (refl, refl)
+      chart_matches n j u i p (seq ds) =
+          top (plain kind.Seq 0) n u i (count_of_each (expanded_each trees p 0 ds)) (grown_each told named (n + 1) j n 0 ds) (shapes_of_each (n + 1) n 0 (expanded_each trees p 0 ds)) (acts_along_each list ds)
+          (each_matches (n + 1) j n 0 p ds) (each_counted (n + 1) n 0 (expanded_each trees p 0 ds))
+      chart_matches n j u i p (par ds) =
+          top (plain kind.Par 0) n u i (count_of_each (expanded_each trees p 0 ds)) (grown_each told named (n + 1) j n 0 ds) (shapes_of_each (n + 1) n 0 (expanded_each trees p 0 ds)) (acts_along_each list ds)
+          (each_matches (n + 1) j n 0 p ds) (each_counted (n + 1) n 0 (expanded_each trees p 0 ds))
+      chart_matches n j u i p (sel cs) =
+          let below = grown_cases told named (n + 1) (j + length (conditions_of_cases cs)) n 0 cs in
+          top (plain kind.Sel j) n u i (count_of_choices (expanded_cases trees p 0 cs)) below (shapes_of_choices (n + 1) n 0 (expanded_cases trees p 0 cs)) (acts_along_cases list cs)
+          (cases_match (n + 1) (j + length (conditions_of_cases cs)) n 0 p cs) (choices_counted (n + 1) n 0 (expanded_cases trees p 0 cs))
+      chart_matches n j u i p (loop turns until d) =
+          top (plain (kind.Loop turns) j) n u i (node_count (expanded trees (child p 0) d)) (grown told named (n + 1) (j + 1) n 0 d) (shapes (n + 1) n 0 (expanded trees (child p 0) d)) (acts_along list d)
+          (chart_matches (n + 1) (j + 1) n 0 (child p 0) d) (shapes_counted (n + 1) n 0 (expanded trees (child p 0) d))
+
+      each_matches : (n j u i : ℕ) (p : Place) (ds : Diagrams) → Matches (grown_each told named n j u i ds) (shapes_of_each n u i (expanded_each trees p i ds)) (acts_along_each list ds)
+      each_matches n j u i p none = (refl, refl)
+      each_matches n j u i p (more d ds) =
+          let t = expanded trees (child p i) d in
+          let es = grown told named n j u i d in
+          let h = chart_matches n j u i (child p i) d in
+          let size : length es ≡ node_count t = counted es (shapes n u i t) (node_count t) h.0 (shapes_counted n u i t) in
+          let after = j + length (conditions_along told d) in
+          let g = each_matches (n + length es) after u (i + 1) p ds in
+          joined es (grown_each told named (n + length es) after u (i + 1) ds)
+          (shapes n u i t) (shapes_of_each (n + node_count t) u (i + 1) (expanded_each trees p (i + 1) ds)) (acts_along list d) (acts_along_each list ds)
+          h (g.0 ∙ ap (λ m. shapes_of_each (n + m) u (i + 1) (expanded_each trees p (i + 1) ds)) size, g.1)
+
+      cases_match : (n j u i : ℕ) (p : Place) (cs : Cases) → Matches (grown_cases told named n j u i cs) (shapes_of_choices n u i (expanded_cases trees p i cs)) (acts_along_cases list cs)
+      cases_match n j u i p (otherwise d) = chart_matches n j u i (child p i) d
+      cases_match n j u i p (when c d cs) =
+          let t = expanded trees (child p i) d in
+          let es = grown told named n j u i d in
+          let h = chart_matches n j u i (child p i) d in
+          let size : length es ≡ node_count t = counted es (shapes n u i t) (node_count t) h.0 (shapes_counted n u i t) in
+          let after = j + length (conditions_along told d) in
+          let g = cases_match (n + length es) after u (i + 1) p cs in
+          joined es (grown_cases told named (n + length es) after u (i + 1) cs)
+          (shapes n u i t) (shapes_of_choices (n + node_count t) u (i + 1) (expanded_cases trees p (i + 1) cs)) (acts_along list d) (acts_along_cases list cs)
+          h (g.0 ∙ ap (λ m. shapes_of_choices (n + m) u (i + 1) (expanded_cases trees p (i + 1) cs)) size, g.1)
+
+    act_matches : (k : Kind) (o : ℕ) (a : Act) → form_of k ≡ an_act → act_of acts k ≡ Some a → (n j u i : ℕ) (unit : Name) (p : Place) (s : tree.Step)
+        → Matches (grown_act told named k o n j u i a) (shapes n u i (tree.act s (task_of trees unit a.name p a.work))) (acts_from list a)
+    act_matches k o a f is n j u i unit p s = go a.work
+      where
+        -- by the work of the act
+        go : (work : Work)
+            → Matches (topped (act_head k o a) n u i (grown_work told named n j work)) (shapes n u i (tree.act s (task_of trees unit a.name p work))) (Some a ∷ acts_below list work)
+        go (Runs phase values reports) =
+            let h = top (act_head k o a) n u i 0 [] [] [] (refl, refl) refl in
+            (h.0 ∙ ap (λ g. record { form = g; end = n + 1; parent = u; child = i } ∷ []) f, h.1 ∙ ap (λ x. x ∷ []) is)
+        go (Follows c) =
+            let t = expanded trees (child p 0) (diagram_of c) in
+            let h = top (act_head k o a) n u i (node_count t) (grown told named (n + 1) j n 0 (diagram_of c)) (shapes (n + 1) n 0 t) (acts_along list (diagram_of c))
+            (chart_matches (n + 1) j n 0 (child p 0) (diagram_of c)) (shapes_counted (n + 1) n 0 t) in
+            (h.0 ∙ ap (λ g. record { form = g; end = n + (1 + node_count t); parent = u; child = i } ∷ shapes (n + 1) n 0 t) f, h.1 ∙ ap (λ x. x ∷ acts_along list (diagram_of c)) is)
+
+  abbrev LabelsFrom : Option LabelTable → Type 0
+  LabelsFrom level = (unit : Name) (o : ℕ) → AreLabels (named_tree_with (sites bound acts) (tables_from acts level) unit) (grown_named acts (levels_from level) o) (acts_named (tables_from acts level))
+
+  module _ (table : LabelTable) (labels : LabelsFrom (level_below table)) (name : Name) (o : ℕ) where
+    abbrev trees_below : Name → Name → Place → Tree
+    trees_below = named_tree_with (sites bound acts) (tables_from acts (level_below table))
+
+    abbrev acts_then : Name → ActList
+    acts_then = acts_named (tables_from acts (level_below table))
+
+    abbrev grown_below : ℕ → Labels
+    grown_below = grown_named acts (levels_from (level_below table))
+
+    abbrev grown_one : ℕ → ℕ → ℕ → ℕ → ℕ → Act → List Entry
+    grown_one k n j u i a = grown_act (told_from acts (level_below table)) (grown_below (unit_number table k o)) (kind.Act table k) (unit_number table k o) n j u i a
+
+    found_matches : (k : ℕ) (found : Option Act) → slice_get (table_at acts table) k ≡ found → (n j u i : ℕ) (unit : Name) (p : Place)
+        → Matches (elim found [ None ↦ bare n u i | Some a ↦ grown_one k n j u i a ])
+        (shapes n u i (elim found [ None ↦ tree.skip | Some a ↦ act_tree_with (sites bound acts) trees_below unit a p ]))
+        (elim found [ None ↦ None ∷ [] | Some a ↦ acts_from acts_then a ])
+    found_matches k None is n j u i unit p = (refl, refl)
+    found_matches k (Some a) is n j u i unit p =
+        let own = unit_below unit (unit_with bound a.unit) in
+        act_matches (told_from acts (level_below table)) (trees_below own) (grown_below (unit_number table k o)) acts_then (labels own (unit_number table k o)) (kind.Act table k) (unit_number table k o) a refl is n j u i own p
+        (step_of (sites bound acts) a p)
+
+    label_matches : (number : Option ℕ) → number_in (table_at acts table) name ≡ number → (n j u i : ℕ) (unit : Name) (p : Place)
+        → Matches (elim number [
+          | None ↦ bare n u i
+          | Some k ↦ elim (slice_get (table_at acts table) k) [ None ↦ bare n u i | Some a ↦ grown_one k n j u i a ]
+        ])
+        (shapes n u i (elim (act_named (table_at acts table) name) [ None ↦ tree.skip | Some a ↦ act_tree_with (sites bound acts) trees_below unit a p ]))
+        (elim (act_named (table_at acts table) name) [ None ↦ None ∷ [] | Some a ↦ acts_from acts_then a ])
+    label_matches None is n j u i unit p = rw (not_found (λ (a : Act). same_name a.name name) (table_at acts table) is) (refl, refl)
+    label_matches (Some k) is n j u i unit p =
+        rw (found_at (λ (a : Act). same_name a.name name) (table_at acts table) k is) (found_matches k (slice_get (table_at acts table) k) refl n j u i unit p)
+
+  no_labels : LabelsFrom None
+  no_labels = λ unit o name n j u i p. (refl, refl)
+
+  of_phases : LabelsFrom (Some Phases)
+  of_phases = λ unit o name n j u i p. label_matches Phases no_labels name o (number_in acts.phases.items name) refl n j u i unit p
+
+  of_operations : LabelsFrom (Some Operations)
+  of_operations = λ unit o name n j u i p. label_matches Operations of_phases name o (number_in acts.operations.items name) refl n j u i unit p
+
+  of_unit_procedures : LabelsFrom (Some UnitProcedures)
+  of_unit_procedures = λ unit o name n j u i p. label_matches UnitProcedures of_operations name o (number_in acts.unit_procedures.items name) refl n j u i unit p
+
+  whole_matches : Matches (entries_of acts) (shapes 0 0 0 (bound_tree bound acts)) (procedure_acts acts)
+  whole_matches =
+      let own = unit_below [] (unit_with bound acts.procedure.unit) in
+      act_matches (told_from acts (Some UnitProcedures)) (named_tree_with (sites bound acts) (tables_from acts (Some UnitProcedures)) own) (grown_named acts (levels_from (Some UnitProcedures)) 0) (acts_named (tables_from acts (Some UnitProcedures)))
+      (of_unit_procedures own 0) kind.Procedure 0 acts.procedure refl refl 0 0 0 0 own (0 ∷ []) (step_of (sites bound acts) acts.procedure (0 ∷ []))
+
+-- the entries that grow from the procedure are the recipe's outline
+pub is_outline : (acts : Acts) → IsOutline acts (entries_of acts)
+is_outline acts = record { shaped = λ bound. (whole_matches bound acts).0; acted = (whole_matches unbound acts).1 }

@@ -1,0 +1,67 @@
+-- An answer to a line, and as much of it as was written.
+use Rattle.std.proofs.Common.{◌≡◌, ℕ, List, [], ◌∷◌, ◌++◌, Option, Some, None, Result, Ok, Err, map, refl, subst, inl, inr, append-nil}
+use Rattle.std.proofs.lemmas.Bool.{false≢true}
+use Rattle.std.specs.Io.KnownBytes.{Appends}
+use Rattle.std.proofs.KnownBytes.{Appends-nil, Appends-trans}
+use Rattle.batch_model.specs.Events as Model
+use Rattle.batch_model.specs.Moves.{Move}
+use Rattle.batch_model.specs.Plant.{Setup, Plant}
+use Rattle.batch_model.specs.Runs.{Out, reply, move, Reacts}
+use Rattle.batch_wire.specs.Reading.{Reads}
+use Rattle.batch_wire.specs.RecordText.{out_text}
+use Rattle.batch_wire.specs.Transcript.{Exchange, silence, refusal, handled, Settles, Handles, Answers}
+use Rattle.batch_wire.specs.Written.{AppendsBeginning, Writes}
+use Rattle.batch_wire.specs.declared.fault.WireFault.{WireFault}
+use Rattle.batch_wire.specs.declared.fault.WireFault.TheVariants.{UnknownWord, MissingArgument, ExtraArgument, BadArgument, TooLong, Memory}
+use Rattle.batch_wire.specs.declared.fault.WriteFault.{WriteFault}
+use Rattle.batch_serve.specs.Answering.{outs_text, moves_text, WritesAnswer, WritesHandled, WritesMoves}
+use Rattle.batch_serve.proofs.Settlement.{CanSettle}
+use Rattle.batch_wire.proofs.WrittenTexts.{longer_text, then_beginning}
+
+pub refused : (c : Setup) (old : Plant) (said : Result (Option Model.Event) WireFault) (fault : WireFault) → Reads (Err fault) said → Answers c old said (refusal fault) old
+refused c old said UnknownWord e = rw e (refl, refl)
+refused c old said MissingArgument e = rw e (refl, refl)
+refused c old said ExtraArgument e = rw e (refl, refl)
+refused c old said BadArgument e = rw e (refl, refl)
+refused c old said TooLong e = rw e (refl, refl)
+refused c old (Ok (Some event)) Memory e = inl (refl, refl)
+refused c old (Ok None) Memory e = absurd (false≢true e)
+refused c old (Err fault) Memory e = absurd e
+
+-- the refusal of the line was written
+pub refused_written : (c : Setup) (old : Plant) (said : Result (Option Model.Event) WireFault) (fault : WireFault) (r : Result (Unit {0}) WriteFault) (x y : Option (List ℕ))
+    → Reads (Err fault) said → Writes x y r (refusal fault).text → WritesAnswer c old said r old x y
+refused_written c old said fault (Ok u) x y e w = (refusal fault, refused c old said fault e, w)
+refused_written c old said fault (Err f) x y e w = (refusal fault, old, refused c old said fault e, w)
+
+-- a line that gives nothing is answered by nothing
+pub quiet : (c : Setup) (old : Plant) (said : Result (Option Model.Event) WireFault) (x : Option (List ℕ)) → said ≡ Ok None
+    → (exchange : Exchange) × Answers c old said exchange old × Appends x x exchange.text
+quiet c old said x e = (silence, rw e (refl, refl), Appends-nil x)
+
+pub event_written : (c : Setup) (old new : Plant) (said : Result (Option Model.Event) WireFault) (event : Model.Event) (r : Result (Unit {0}) WriteFault) (x y : Option (List ℕ))
+    → said ≡ Ok (Some event) → WritesHandled c old event r new x y → WritesAnswer c old said r new x y
+event_written c old new said event (Ok u) x y e (outs, h, p) = (handled event outs, rw e (inr (outs, h, refl)), p)
+event_written c old new said event (Err f) x y e (outs, last, h, p) = (handled event outs, last, rw e (inr (outs, h, refl)), p)
+
+handles : (c : Setup) (old mid new : Plant) (event : Model.Event) (answer : Model.Reply) (moves : List Move)
+    → Reacts c old event answer mid → Settles c mid moves new → Handles c old event (reply answer ∷ map move moves) new
+handles c old mid new event answer moves r s = record { answer = answer; mid = mid; moves = moves; reacts = r; settles = s; tells = refl }
+
+-- the reply was written in part
+pub reply_part : (c : Setup) (old mid : Plant) (event : Model.Event) (answer : Model.Reply) (x y : Option (List ℕ)) → CanSettle c mid
+    → Reacts c old event answer mid → AppendsBeginning x y (out_text (reply answer))
+    → (outs : List Out) × (last : Plant) × Handles c old event outs last × AppendsBeginning x y (outs_text outs)
+reply_part c old mid event answer x y later r p =
+    (reply answer ∷ map move later.moves, later.new, handles c old mid later.new event answer later.moves r later.settles, longer_text x y _ _ p)
+
+-- the reply was written, and then the moves
+pub moves_written : (c : Setup) (old mid new : Plant) (event : Model.Event) (answer : Model.Reply) (r : Result (Unit {0}) WriteFault) (x y z : Option (List ℕ))
+    → Reacts c old event answer mid → Appends x y (out_text (reply answer)) → WritesMoves c mid r new y z → WritesHandled c old event r new x z
+moves_written c old mid new event answer (Ok u) x y z h p (moves, s, w) = (reply answer ∷ map move moves, handles c old mid new event answer moves h s, Appends-trans x y z _ _ p w)
+moves_written c old mid new event answer (Err f) x y z h p (moves, last, s, w) = (
+  reply answer ∷ map move moves,
+  last,
+  handles c old mid last event answer moves h s,
+  subst (λ l. AppendsBeginning x z (out_text (reply answer) ++ l)) (append-nil (moves_text moves)) (then_beginning x y z _ _ [] p w),
+)

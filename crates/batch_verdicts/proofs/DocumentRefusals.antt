@@ -1,0 +1,146 @@
+-- The refusals of documents that are looked at one after the other.
+use Rattle.std.proofs.Common.{◌≡◌, ℕ, Bool, ◌+◌, ◌<◌, ◌++◌, List, [], ◌∷◌, Some, None, Result, Ok, Err, IfErr, inl, inr, length, map, take, get_or, suc, zero, refl, ap, sym, subst, arith, append_assoc, append-nil, ◌∙◌}
+use Rattle.std.proofs.lemmas.List.{map-append, take_more}
+use Rattle.std.specs.Prelude.{String}
+use Rattle.std.specs.Global.{Global}
+use Rattle.batch_cell.specs.declared.cell.Cell.{Cell}
+use Rattle.batch_recipe.specs.declared.recipe.Recipe.{Recipe}
+use Rattle.batch_verdicts.specs.Every.{AreLooked, AreRefusalsOf, HaltsAsked, HaltsAtLook, IsOneUnread, RefusesRules}
+use Rattle.batch_verdicts.specs.Halting.{HaltsAtCell, HaltsAtRecipe}
+use Rattle.batch_verdicts.specs.Looking.{AreAllRead, IsCellLooked, IsLooked, IsReadAsked, LooksOn}
+use Rattle.batch_verdicts.specs.Reading.{AreReadWarned, Gives, IsSoWarned, IsUnread, ReadsRecipe, ReadsRecipes, Warns}
+use Rattle.batch_verdicts.specs.declared.refusal.DocumentRefusal.{DocumentRefusal}
+use Rattle.batch_verdicts.specs.declared.refusal.Halt.{Halt}
+use Rattle.batch_verdicts.specs.declared.refusal.Halt.TheVariants.{Refused, Unread}
+
+-- if nothing is refused, all are read
+pub all_read : (gives : Gives) (paths : List (List ℕ)) (rs : List Recipe) (refusals : List DocumentRefusal)
+    → AreLooked gives paths rs refusals → refusals ≡ [] → ReadsRecipes gives paths rs
+all_read gives [] rs refusals (none, _) is = rw none tt
+all_read gives (path ∷ paths) rs refusals (inl (r, more, read, joined, looked)) is =
+    rw joined (read, all_read gives paths more refusals looked is)
+all_read gives (path ∷ paths) rs refusals (inr (refusal, others, halts, joined, looked)) is = absurd cc
+
+recipe_more : (gives : Gives) (paths : List (List ℕ)) (rs : List Recipe) (refusals : List DocumentRefusal) (path : List ℕ) (r : Recipe)
+    → AreLooked gives paths rs refusals → ReadsRecipe gives path r → AreLooked gives (paths ++ path ∷ []) (rs ++ r ∷ []) refusals
+recipe_more gives [] rs refusals path r (none, silent) read = inl (r, [], read, ap (λ xs. xs ++ r ∷ []) none, (refl, silent))
+recipe_more gives (p ∷ paths) rs refusals path r (inl (s, more, here, joined, looked)) read =
+    inl (s, more ++ r ∷ [], here, ap (λ xs. xs ++ r ∷ []) joined, recipe_more gives paths more refusals path r looked read)
+recipe_more gives (p ∷ paths) rs refusals path r (inr (refusal, others, halts, joined, looked)) read =
+    inr (refusal, others, halts, joined, recipe_more gives paths rs others path r looked read)
+
+refusal_more : (gives : Gives) (paths : List (List ℕ)) (rs : List Recipe) (refusals : List DocumentRefusal) (path : List ℕ) (last : DocumentRefusal)
+    → AreLooked gives paths rs refusals → HaltsAtRecipe gives path (Refused last) → AreLooked gives (paths ++ path ∷ []) rs (refusals ++ last ∷ [])
+refusal_more gives [] rs refusals path last (none, silent) halts = inr (last, [], halts, ap (λ xs. xs ++ last ∷ []) silent, (none, refl))
+refusal_more gives (p ∷ paths) rs refusals path last (inl (s, more, here, joined, looked)) halts =
+    inl (s, more, here, joined, refusal_more gives paths more refusals path last looked halts)
+refusal_more gives (p ∷ paths) rs refusals path last (inr (refusal, others, here, joined, looked)) halts =
+    inr (refusal, others ++ last ∷ [], here, ap (λ xs. xs ++ last ∷ []) joined, refusal_more gives paths rs others path last looked halts)
+
+-- one more document
+looks_more : (gives : Gives) (paths : List (List ℕ)) (path : List ℕ) (before : List DocumentRefusal) (rs : List Recipe) (refusals : List DocumentRefusal)
+    (recipes : List Recipe) (others : List DocumentRefusal)
+    → LooksOn gives paths before rs refusals → IsLooked gives path rs refusals recipes others → LooksOn gives (paths ++ path ∷ []) before recipes others
+looks_more gives paths path before rs refusals recipes others (here, looked, joined) (inl (r, read, grown, same)) =
+    (here, rw grown (recipe_more gives paths rs here path r looked read), same ∙ joined)
+looks_more gives paths path before rs refusals recipes others (here, looked, joined) (inr (last, halts, same, grown)) =
+    let whole : others ≡ before ++ (here ++ last ∷ []) = grown ∙ ap (λ xs. xs ++ last ∷ []) joined ∙ append_assoc before here (last ∷ []) in
+    (here ++ last ∷ [], rw same (refusal_more gives paths rs here path last looked halts), whole)
+
+pub looks_next : {X : Type 0} (gives : Gives) (text_of : X → List ℕ) (paths : List X) (i : ℕ) (path : X) (text : List ℕ) (before : List DocumentRefusal)
+    (rs : List Recipe) (refusals : List DocumentRefusal) (recipes : List Recipe) (others : List DocumentRefusal)
+    → i < length paths → path ≡ get_or paths i path → text ≡ text_of path
+    → LooksOn gives (map text_of (take i paths)) before rs refusals → IsLooked gives text rs refusals recipes others
+    → LooksOn gives (map text_of (take (i + 1) paths)) before recipes others
+looks_next gives text_of paths i path text before rs refusals recipes others within is value looked here =
+    let whole : map text_of (take (i + 1) paths) ≡ map text_of (take i paths) ++ text_of path ∷ [] =
+    ap (map text_of) (take_more paths i path within ∙ ap (λ p. take i paths ++ p ∷ []) (sym is)) ∙ map-append text_of (take i paths) (path ∷ []) in
+    let Whole : List (List ℕ) → Type 0 = λ ps. LooksOn gives ps before recipes others in
+    let Named : List ℕ → Type 0 = λ t. IsLooked gives t rs refusals recipes others in
+    subst Whole (sym whole) (looks_more gives (map text_of (take i paths)) (text_of path) before rs refusals recipes others looked (subst Named value here))
+
+-- a document that ends it, and isn't refused, can't be read
+
+pub cell_unread : (gives : Gives) (path : List ℕ) (message : String Global) → HaltsAtCell gives path (Unread message) → IsUnread gives path (Unread message)
+cell_unread gives path message (inl unread) = unread
+cell_unread gives path message (inr (bytes, given, refuses)) = absurd refuses.halts
+
+pub recipe_unread : (gives : Gives) (path : List ℕ) (message : String Global) → HaltsAtRecipe gives path (Unread message) → IsUnread gives path (Unread message)
+recipe_unread gives path message (inl unread) = unread
+recipe_unread gives path message (inr (bytes, given, refuses)) = absurd refuses.halts
+
+-- nothing is looked at
+pub looks_at_none : (gives : Gives) (before : List DocumentRefusal) → LooksOn gives [] before [] before
+looks_at_none gives before = ([], (refl, refl), sym (append-nil before))
+
+-- one that can't be read ends it
+pub unread_at : {X : Type 0} (gives : Gives) (text_of : X → List ℕ) (paths : List X) (i : ℕ) (path : X) (h : Halt)
+    → i < length paths → path ≡ get_or paths i path → IsUnread gives (text_of path) h → IsOneUnread gives (map text_of paths) h
+unread_at gives text_of [] i path h within is here = absurd (omega (arith, within))
+unread_at gives text_of (p ∷ paths) zero path h within is here =
+    let At : List ℕ → Type 0 = λ t. IsUnread gives t h in
+    inl (subst At (ap text_of is) here)
+unread_at gives text_of (p ∷ paths) (suc i) path h within is here = inr (unread_at gives text_of paths i path h (omega (arith, within)) is here)
+
+-- All documents
+
+no_refusal : (before here : List DocumentRefusal) → before ++ here ≡ [] → here ≡ []
+no_refusal [] here is = is
+no_refusal (refusal ∷ before) here is = absurd cc
+
+-- the cell and the recipes are read if nothing is refused
+pub read_whole : (gives : Gives) (cell : List ℕ) (paths : List (List ℕ)) (before : List DocumentRefusal) (c : Cell) (rs : List Recipe) (refusals : List DocumentRefusal)
+    → IsCellLooked gives cell [] (Some c) before → LooksOn gives paths before rs refusals → refusals ≡ [] → AreAllRead gives cell paths c rs
+read_whole gives cell paths before c rs refusals (read, _) (here, looked, joined) is =
+    (read, all_read gives paths rs here looked (no_refusal before here (sym joined ∙ is)))
+
+not_none : (before here refusals : List DocumentRefusal) (refusal : DocumentRefusal) → before ≡ refusal ∷ [] → refusals ≡ before ++ here → refusals ≡ [] → ⊥
+not_none before here refusals refusal first joined is =
+    let grown : refusals ≡ refusal ∷ here = joined ∙ ap (λ xs. xs ++ here) first in cc
+
+-- all refusals are reported
+pub all_refused : (gives : Gives) (cell : List ℕ) (paths : List (List ℕ)) (before : List DocumentRefusal) (c : Cell) (rs : List Recipe) (refusals : List DocumentRefusal)
+    → IsCellLooked gives cell [] (Some c) before → LooksOn gives paths before rs refusals → AreRefusalsOf gives cell paths refusals
+all_refused gives cell paths before c rs refusals (read, none) (here, looked, joined) = record {
+  of_cell = before;
+  of_recipes = here;
+  recipes = rs;
+  cell_refused = inl (c, read, none);
+  looked = looked;
+  joined = joined;
+}
+
+pub cell_refused : (gives : Gives) (cell : List ℕ) (paths : List (List ℕ)) (before : List DocumentRefusal) (rs : List Recipe) (refusals : List DocumentRefusal)
+    → IsCellLooked gives cell [] None before → LooksOn gives paths before rs refusals → AreRefusalsOf gives cell paths refusals × ¬ (refusals ≡ [])
+cell_refused gives cell paths before rs refusals (refusal, halts, first) (here, looked, joined) = (
+  record {
+    of_cell = before;
+    of_recipes = here;
+    recipes = rs;
+    cell_refused = inr (refusal, halts, first);
+    looked = looked;
+    joined = joined;
+  },
+  not_none before here refusals refusal first joined,
+)
+
+-- Sound recipes
+
+-- a fact of documents that were read
+pub so_of_asked : (all : Bool) (gives : Gives) (warns : Warns) (cell : List ℕ) (paths : List (List ℕ)) (c : Cell) (rs : List Recipe) (is_so : Cell → List Recipe → Type 0)
+    → IsReadAsked all gives warns cell paths c rs → is_so c rs → IsSoWarned gives warns cell paths is_so
+so_of_asked all gives warns cell paths c rs is_so (read, kept) so =
+    record { equipment = c; recipes = rs; cell_read = read.cell_read; recipes_read = read.recipes_read; judged = (read.warned, so) }
+
+pub judged_asked : {A : Type 0} (all : Bool) (gives : Gives) (warns : Warns) (cell : List ℕ) (paths : List (List ℕ)) (c : Cell) (rs : List Recipe)
+    (refuses : Halt → Cell → List Recipe → Type 0) (r : Result A Halt) → IsReadAsked all gives warns cell paths c rs → IfErr r (λ h. refuses h c rs)
+    → IfErr r (λ h. HaltsAsked all gives warns cell paths (refuses h) h)
+judged_asked all gives warns cell paths c rs refuses (Ok x) read k = tt
+judged_asked all gives warns cell paths c rs refuses (Err h) (read, kept) k =
+    inr (record { equipment = c; recipes = rs; cell_read = read.cell_read; recipes_read = read.recipes_read; judged = (read.warned, (kept, k)) })
+
+-- rules are broken
+pub broken_at : (gives : Gives) (warns : Warns) (cell : List ℕ) (paths : List (List ℕ)) (c : Cell) (rs : List Recipe) (h : Halt)
+    → AreReadWarned gives warns cell paths c rs → RefusesRules c rs h → HaltsAtLook gives warns cell paths h
+broken_at gives warns cell paths c rs h read broken =
+    inr (record { equipment = c; recipes = rs; cell_read = read.cell_read; recipes_read = read.recipes_read; judged = (read.warned, broken) })

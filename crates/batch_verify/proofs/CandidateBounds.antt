@@ -1,0 +1,152 @@
+-- Whoever takes a role stands between the candidates of the least and of the greatest rank, by number.
+use Rattle.std.proofs.Common.{◌≡◌, ℕ, zero, suc, ◌<◌, Bool, true, false, cond, List, [], ◌∷◌, ◌++◌, length, map, filter, position, get_or, slice_get, option_map, Option, Some, None, inl, inr, refl, sym, ap, ◌∙◌, subst, arith}
+use Rattle.std.specs.List.{slice_index_or}
+use Rattle.std.specs.Cmp.Lexicographic.{bytes_decides}
+use Rattle.std.proofs.lemmas.Bool.{or_cases}
+use Rattle.std.proofs.lemmas.List.{append_assoc, get_or_append_left, length-append}
+use Rattle.std.proofs.lemmas.Option.{get_or_from_slice_get, slice_get-map, slice_get_within}
+use Rattle.batch_cell.specs.Equipment.{is_free, unit_names}
+use Rattle.batch_cell.specs.LookUps.{capacities_of, is_of_class, resources_of, units_of, units_of_class}
+use Rattle.batch_cell.specs.declared.cell.Cell as equipment
+use Rattle.batch_cell.specs.declared.unit.Unit.{Unit}
+use Rattle.batch_recipe.specs.Conditions.{Name, same_name}
+use Rattle.batch_recipe.specs.Expanding.{Binding}
+use Rattle.batch_recipe.specs.WellFormed.{is_among}
+use Rattle.batch_recipe.specs.declared.role.Role.{Role}
+use Rattle.batch_model.specs.Cleared.{Ranking}
+use Rattle.batch_model.specs.Lists.{Has}
+use Rattle.batch_model.specs.Setups.{setup_of}
+use Rattle.batch_model.proofs.ExclusiveUnits.{unit_is_exclusive}
+use Rattle.batch_verify.specs.Asking.{rank_by, takers_of}
+use Rattle.batch_verify.specs.Bindings.{nobody, role_named}
+use Rattle.batch_verify.specs.Refusals.{IsTriedFor}
+use Rattle.batch_verify.specs.Spans.{AreBetween, GivesUnits, IsTakenAt, ranks_or_none}
+use Rattle.batch_verify.specs.Trials.{extreme, extreme_from, raised_for, raised_unit, rank_or_0}
+use Rattle.batch_verify.proofs.Extremes.{extreme_best, extreme_is}
+use Rattle.batch_verify.proofs.ListLookups.{found_below}
+use Rattle.batch_verify.proofs.NamesInList.{among_at}
+use Rattle.batch_verify.proofs.ResourceNumbers.{number-own}
+use Rattle.batch_verify.proofs.RoleTakers.{nobody_unknown}
+
+-- One of the units that pass a test
+
+record IsPicked (test : Unit → Bool) (units : List Unit) (name : Name) : Type 0 where
+  pub at : ℕ
+  pub unit : Unit
+  pub is : slice_get units at ≡ Some unit
+  pub passes : test unit ≡ true
+  pub named : unit.name ≡ name
+
+picked : (test : Unit → Bool) (units : List Unit) (name : Name) → is_among (unit_names (filter test units)) name ≡ true → IsPicked test units name
+picked test [] name h = let bad : false ≡ true = h in absurd cc
+picked test (x ∷ xs) name h = go (test x) refl h (picked test xs name)
+  where
+    later : IsPicked test xs name → IsPicked test (x ∷ xs) name
+    later p = record { at = suc p.at; unit = p.unit; is = p.is; passes = p.passes; named = p.named }
+
+    go : (b : Bool) → test x ≡ b → is_among (unit_names (cond b (x ∷ filter test xs) (filter test xs))) name ≡ true → (is_among (unit_names (filter test xs)) name ≡ true → IsPicked test xs name)
+        → IsPicked test (x ∷ xs) name
+    go false e h rest = later (rest h)
+    go true e h rest = elim (or_cases (same_name name x.name) (is_among (unit_names (filter test xs)) name) h) [
+      | inl same ↦ record { at = 0; unit = x; is = refl; passes = e; named = sym ((bytes_decides name x.name).0 same) }
+      | inr more ↦ later (rest more)
+    ]
+
+-- a candidate by number
+record IsCandidate (c : equipment.Cell) (class name : Name) : Type 0 where
+  pub at : ℕ
+  pub unit : Unit
+  pub is : slice_get c.units.items at ≡ Some unit
+  pub of_class : is_of_class class unit ≡ true
+  pub numbered : position (same_name name) (resources_of c) ≡ Some at
+  pub one : slice_index_or (capacities_of c) at 0 ≡ 1
+
+candidate : (c : equipment.Cell) (class name : Name) → is_among (units_of_class c class) name ≡ true → IsCandidate c class name
+candidate c class name h =
+    let p = picked (is_of_class class) c.units.items name h in
+    let rest : List Name = map (λ m. m.name) (filter is_free c.modules.items) ++ map (λ s. s.name) c.shared.items in
+    let all : resources_of c ≡ units_of c ++ rest = append_assoc (units_of c) (map (λ m. m.name) (filter is_free c.modules.items)) (map (λ s. s.name) c.shared.items) in
+    let here : slice_get (units_of c) p.at ≡ Some name = slice_get-map (λ (u : Unit). u.name) c.units.items p.at ∙ (ap (option_map (λ (u : Unit). u.name)) p.is ∙ ap Some p.named) in
+    let within : p.at < length (units_of c) = slice_get_within (units_of c) p.at name here in
+    let there : get_or (resources_of c) p.at [] ≡ name =
+    ap (λ names. get_or names p.at []) all ∙ (get_or_append_left (units_of c) rest [] p.at within ∙ get_or_from_slice_get (units_of c) p.at name [] here) in
+    let number : position (same_name name) (resources_of c) ≡ Some p.at =
+    ap (λ (n : Name). position (same_name n) (resources_of c)) (sym there) ∙ number-own c p.at (omega (arith, within, ap length all, length-append (units_of c) rest)) in
+    record {
+      at = p.at;
+      unit = p.unit;
+      is = p.is;
+      of_class = p.passes;
+      numbered = number;
+      one = ap (λ o. elim o [ None ↦ 0 | Some k ↦ slice_index_or (capacities_of c) k 0 ]) (sym number)
+          ∙ unit_is_exclusive c name (among_at (units_of c) p.at name name here ((bytes_decides name name).1 refl));
+    }
+
+module _ (c : equipment.Cell) (ranks : Option (List ℕ)) (roles : List Role) (own : (role : Role) → Has roles role → role_named roles role.name ≡ Some role) where
+  abbrev rank : Ranking
+  rank = rank_or_0 c ranks
+
+  -- each role is taken at its lowest rank, or at its highest
+  abbrev pub level : Bool → Binding
+  level b name = raised_for c rank b (role_named roles name)
+
+  abbrev number_of : Name → Option ℕ
+  number_of name = position (same_name name) (resources_of c)
+
+  rank_is : (name : Name) → rank name ≡ rank_by (ranks_or_none ranks) (number_of name)
+  rank_is name = go ranks
+    where
+      none : (o : Option ℕ) → 0 ≡ rank_by [] o
+      none None = refl
+      none (Some n) = refl
+
+      go : (rs : Option (List ℕ)) → rank_or_0 c rs name ≡ rank_by (ranks_or_none rs) (number_of name)
+      go None = none (number_of name)
+      go (Some rs) = refl
+
+  taken_so : (role : Role) (candidates : List Name) → units_of_class c role.class ≡ candidates → (name : Name) → IsTriedFor (setup_of c []) candidates name
+      → IsTakenAt c (ranks_or_none ranks) (Some role) (number_of (raised_unit c (extreme rank false candidates))) (number_of name) (number_of (raised_unit c (extreme rank true candidates)))
+  taken_so role [] is name t = subst (λ o. IsTakenAt c (ranks_or_none ranks) (Some role) o (number_of name) (number_of (nobody (resources_of c)))) (sym (nobody_unknown (resources_of c)))
+      (ap number_of t ∙ nobody_unknown (resources_of c))
+  taken_so role (first ∷ more) is name t =
+      let low : Name = extreme_from rank false first more in
+      let high : Name = extreme_from rank true first more in
+      let of = λ (n : Name) (among : is_among (first ∷ more) n ≡ true). candidate c role.class n (subst (λ names. is_among names n ≡ true) (sym is) among) in
+      let l = of low (extreme_is rank false first more) in
+      let b = of name t in
+      subst (λ o. IsTakenAt c (ranks_or_none ranks) (Some role) o (number_of name) (number_of high)) (sym l.numbered)
+      (record {
+        at = b.at;
+        is = b.numbered;
+        unit = b.unit;
+        unit_is = b.is;
+        of_class = b.of_class;
+        known = found_below (same_name name) (resources_of c) b.at b.numbered;
+        as_many = l.one ∙ sym b.one;
+        least = omega (arith, extreme_best rank false first more name t, rank_is low, rank_is name, ap (rank_by (ranks_or_none ranks)) l.numbered, ap (rank_by (ranks_or_none ranks)) b.numbered);
+        greatest = omega (arith, extreme_best rank true first more name t, rank_is high, rank_is name, ap (rank_by (ranks_or_none ranks)) b.numbered);
+      })
+
+  slot : (f : Role → Option ℕ) (rs : List Role) (k : ℕ) → slice_index_or (map f rs) k None ≡ elim (slice_get rs k) [ None ↦ None | Some role ↦ f role ]
+  slot f [] k = refl
+  slot f (x ∷ xs) zero = refl
+  slot f (x ∷ xs) (suc k) = slot f xs k
+
+  has_at : (rs : List Role) (k : ℕ) (role : Role) → slice_get rs k ≡ Some role → Has rs role
+  has_at [] k role is = absurd cc
+  has_at (x ∷ xs) zero role is = inl cc
+  has_at (x ∷ xs) (suc k) role is = inr (has_at xs k role is)
+
+  pub between : (bound : Binding) → GivesUnits c roles bound → AreBetween c ranks roles (takers_of c (level false) roles) (takers_of c bound roles) (takers_of c (level true) roles)
+  between bound gives number =
+      rw (slot (λ role. number_of (level false role.name)) roles number, slot (λ role. number_of (bound role.name)) roles number, slot (λ role. number_of (level true role.name)) roles number)
+      (go (slice_get roles number) refl)
+    where
+      at : Binding → Option Role → Option ℕ
+      at b found = elim found [ None ↦ None | Some role ↦ number_of (b role.name) ]
+
+      go : (found : Option Role) → slice_get roles number ≡ found → IsTakenAt c (ranks_or_none ranks) found (at (level false) found) (at bound found) (at (level true) found)
+      go None is = refl
+      go (Some role) is =
+          let has = has_at roles number role is in
+          rw (own role has) (taken_so role (units_of_class c role.class) refl (bound role.name) (gives role has))
