@@ -8,9 +8,9 @@ from sources import Definition, TOP, said_by_definitions, specs
 PROMISES = [
     ("Every record of a cleared set is safe", ["batch_safety::records_are_safe", "batch_safety::cleared_runs_safely"]),
     ("Nobody waits in vain", ["batch_safety::nobody_waits_in_vain"]),
-    ("`verify` clears a set, or names what is wrong", ["batch_verify::verify", "batch_verify::read_certificate"]),
+    ("`verify` clears a set, or names a fault", ["batch_verify::verify", "batch_verify::read_certificate"]),
     ("`check` finds the least ranks, or why there are none", ["batch_check::check"]),
-    ("A cell or a recipe is what its document says", ["batch_reader::read_cell", "batch_reader::read_recipe"]),
+    ("A cell or a recipe is that of its document", ["batch_reader::read_cell", "batch_reader::read_recipe"]),
     ("The engine's calls are the machine's steps", ["batch_engine::Engine::*"]),
     ("What is served is a safe transcript", ["batch_serve::" + it for it in (
         "serve", "serve_set", "serve_remarked", "answer_line", "CleanReader::*", "Held::*", "HeldRemarks::*", "Remarked::*", "Remarking::*",

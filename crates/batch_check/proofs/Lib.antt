@@ -24,4 +24,4 @@ pub mod ShortestCircles
 pub mod Detours
 pub mod TightLeastRanks
 pub mod Verdicts
-mod LeftOut
+mod OrdersWithoutOne

@@ -1,7 +1,7 @@
 //! How a loop ended.
 
 /// How a loop ended.
-#[derive(Clone, Copy, Debug)]
+#[derive(Clone, Copy)]
 pub enum LoopEnd {
     /// The work of the loop is done.
     Done,

@@ -1,7 +1,7 @@
 //! The outcome of a turn of the hub.
 
 /// The outcome of a turn of the hub.
-#[derive(Clone, Copy, Debug, PartialEq, Eq)]
+#[derive(Clone, Copy, PartialEq, Eq)]
 pub enum Turned {
     /// No move was possible, and no event was taken.
     Idle,

@@ -41,7 +41,7 @@ fn are_of_roles(roles: &[Role], pairs: &[(Name, Name)]) -> bool
 }
 
 /// The first pair that names this role.
-fn given<'a>(pairs: &'a [(Name, Name)], role: &Name) -> Option<&'a (Name, Name)>
+fn pair_of<'a>(pairs: &'a [(Name, Name)], role: &Name) -> Option<&'a (Name, Name)>
     ensures { option_copied result ≡ find (λ pair. same_name pair.0 role.now) pairs.now }
 {
     pairs.iter().find(|pair| pair.0 == *role)
@@ -51,7 +51,7 @@ fn given<'a>(pairs: &'a [(Name, Name)], role: &Name) -> Option<&'a (Name, Name)>
 fn gives(pairs: &[(Name, Name)], role: &Name, unit: &Name) -> bool
     ensures { result ≡ same_name unit.now (bound_by pairs.now role.now) }
 {
-    match given(pairs, role) {
+    match pair_of(pairs, role) {
         Some(pair) => *unit == pair.1,
         None => unit.text().is_empty(),
     }

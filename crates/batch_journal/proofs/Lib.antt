@@ -1,19 +1,19 @@
 mod LineLemmas
-mod MomentLemmas
+mod RunsOfCalls
 mod CrashLemmas
-mod WholeEnd
-mod MemoryLemmas
+mod LastWholeLine
+mod DiskInMemory
 mod WindowLemmas
 mod GroupLemmas
 mod JournalLemmas
-mod TakeLemmas
+mod GroupScan
 mod RecoveryLemmas
-mod ClosingLemmas
+mod ClosingLines
 mod SumLemmas
-mod WritingLemmas
+mod GroupWrites
 pub mod ReaderLemmas
-mod GivenLemmas
+mod PendingLines
 mod DamageLemmas
 mod DigestLemmas
 pub mod FilesWithoutRefusal
-mod RecoveryRowsHold
+mod RecoveryRows

@@ -1,11 +1,11 @@
-mod Telling
-mod Again
+mod AnswersToLines
+mod RepeatedAnswers
 mod Comments
 mod CountedLines
-mod Blocks
+mod RecoveryBlock
 pub mod StartOverJournal
-mod StartWords
-mod DesksAgain
+mod StartBlock
+mod RepeatedDeskAnswers
 pub mod RecordComparison
 pub mod LineOutcomes
 pub mod MemoryRefusals

@@ -5,7 +5,7 @@ ghost use Rattle.batch_matrix.specs.Matrix.{accepts, after, target};
 use crate::state::State;
 
 /// A command to a batch or a live phase.
-#[derive(Clone, Copy, Debug, PartialEq, Eq)]
+#[derive(Clone, Copy, PartialEq, Eq)]
 pub enum Command {
     Start,
     Pause,

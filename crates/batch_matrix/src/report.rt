@@ -5,7 +5,7 @@ ghost use Rattle.batch_matrix.specs.Matrix.{after_report};
 use crate::state::State;
 
 /// The word by which equipment reports on a live phase.
-#[derive(Clone, Copy, Debug, PartialEq, Eq)]
+#[derive(Clone, Copy, PartialEq, Eq)]
 pub enum Report {
     Done,
     Paused,

@@ -1,4 +1,4 @@
 pub mod WordsByNumber
 pub mod ActsAtNodes
-mod ToldCircles
+mod CircleWords
 pub mod ExplanationCodes

@@ -9,4 +9,4 @@ pub mod Plants
 pub mod AuditFindings
 pub mod RecordStatus
 pub mod RunsOverJournal
-mod RecordsDrawn
+mod RecordPictures

@@ -8,9 +8,9 @@ pub mod OutFromWords
 pub mod OutFromLine
 pub mod PassedOverLines
 mod Shares
-mod Lives
-mod Sorting
-mod Ordered
+mod LivePhases
+mod StableSort
+mod StateRows
 pub mod InputProgress
 mod Promises
 mod Lines

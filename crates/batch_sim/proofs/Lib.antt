@@ -1,3 +1,3 @@
-mod Changed
-mod Reporting
-mod Boxes
+mod ChangedPrefix
+mod UnitReport
+mod DriverBoxes

@@ -5,7 +5,7 @@ pub mod HaltCauses
 pub mod CertificateRanks
 pub mod Outcomes
 pub mod Successes
-mod Fronts
+mod WrittenPrefix
 pub mod NodeTexts
 pub mod WarningEffects
 pub mod WarningLines

@@ -1,2 +1,2 @@
 mod ShownLines
-mod Growing
+mod TextGrowth

@@ -49,14 +49,14 @@ tick 2
         "order: true
 order: true
 order: false
-tick: None
-tick: Some((0, Held))
-tick: Some((1, Done))
-tick: None
-tick: Some((7, Fault))
-tick: None
-tick: None
-tick: None
+tick: none
+tick: 0 held
+tick: 1 done
+tick: none
+tick: 7 fault
+tick: none
+tick: none
+tick: none
 ",
     )
 }

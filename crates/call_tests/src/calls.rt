@@ -39,9 +39,9 @@ refused E10
 refused E10
 refused E10
 settled: false
-state 1 0: Some(Running)
-state 1 0.0: Some(Idle)
-state 1 0.0.0.0: Some(Idle)
+state 1 0: running
+state 1 0.0: idle
+state 1 0.0.0.0: idle
 begin 1 0 A
 ask 1 0.0 R1
 grant 1 0.0 R1

@@ -2,7 +2,7 @@
 use crate::left::Left;
 use crate::seats::Seats;
 use crate::teller::{answers, answers_after, put};
-use crate::words::shown;
+use crate::words::{event_words, said, state_word};
 use batch_desk::{Hub, PortPlan};
 use batch_engine::{Engine, Event};
 use batch_text::Place;
@@ -12,7 +12,8 @@ use std::test::Fail;
 
 /// An event of a history, with its port.
 fn event_told(alloc: Global, port: usize, event: &Event) -> Result<String, Fail> {
-    Ok(format!(in alloc; "{port}: {event:?}\n")?)
+    let event = event_words(alloc, event)?;
+    Ok(format!(in alloc; "{port}: {event}\n")?)
 }
 
 /// The events of a history.
@@ -26,7 +27,7 @@ fn events(alloc: Global, history: &[(usize, Event)], told: &mut String) -> Resul
 /// The state of the first batch.
 fn state(alloc: Global, engine: &Engine) -> Result<String, Fail> {
     let root = Place::read(alloc, b"0")?;
-    shown(alloc, "batch 1", &engine.state_of(1, &root))
+    said(alloc, "batch 1", state_word(engine.state_of(1, &root)))
 }
 
 /// The text before, the events that were taken, and the state of the first batch.

@@ -70,7 +70,7 @@ impl Left {
 
     /// Takes an out that is left.
     #[tactic(auto, using(crate::proofs::FirstPort::left_stays))]
-    fn take(&mut self) -> Option<Out> {
+    fn pop_out(&mut self) -> Option<Out> {
         self.inbox.pop_out()
     }
 
@@ -88,8 +88,8 @@ impl Left {
     }
 
     /// The line of an out that is left.
-    fn taken(&mut self, alloc: Global, cleared: &Cleared) -> Result<String, Fail> {
-        let out = self.take();
+    fn next_out(&mut self, alloc: Global, cleared: &Cleared) -> Result<String, Fail> {
+        let out = self.pop_out();
         text_of(alloc, cleared, out, "nothing\n")
     }
 
@@ -107,7 +107,7 @@ impl Teller<Cleared> for Left {
         match (word, words) {
             ("close", "0") => self.closed(alloc),
             ("seal", "0") => self.sealed(alloc),
-            ("take", "0") => self.taken(alloc, cleared),
+            ("take", "0") => self.next_out(alloc, cleared),
             ("send" | "take", _) => at_desks(alloc, cleared, &mut self.others, 1, words),
             _ => at_hub(alloc, &mut self.hub, word, words),
         }

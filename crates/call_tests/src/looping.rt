@@ -1,5 +1,5 @@
 //! Loops of a hub and of a console: so many turns at a gate, and how they end.
-use crate::words::{number_of, shown};
+use crate::words::{loop_word, number_of, said};
 use batch_desk::{BatchPlan, Desk, Gate, Hub, LoopEnd, console_loop, hub_loop};
 use batch_text::Name;
 use std::alloc::Global;
@@ -38,7 +38,8 @@ fn console_end(alloc: Global, desk: &mut Desk, words: &str) -> Result<LoopEnd, F
 /// How a loop of the hub ended.
 pub(crate) fn hub_told(alloc: Global, hub: &mut Hub, words: &str) -> Result<String, Fail> {
     let (batches, limit, mut gate) = loop_words(words)?;
-    shown(alloc, "hub", &hub_loop(hub, batches, &mut gate, limit))
+    let end = hub_loop(hub, batches, &mut gate, limit);
+    said(alloc, "hub", loop_word(end))
 }
 
 /// How a loop of the first desk's console ended.
@@ -48,7 +49,10 @@ pub(crate) fn console_told(
     words: &str,
 ) -> Result<String, Fail> {
     match desks.get_mut(0) {
-        Some(desk) => shown(alloc, "console", &console_end(alloc, desk, words)?),
+        Some(desk) => {
+            let end = console_end(alloc, desk, words)?;
+            said(alloc, "console", loop_word(end))
+        }
         None => Err(Fail::from("no desk")),
     }
 }

@@ -35,19 +35,19 @@ waiting 0
 hub 1 0 shut
 hub 2 9 open
 ",
-        "hub: TurnsOut
+        "hub: turns out
 history: 0
-hub: TurnsOut
+hub: turns out
 history: 2
-hub: TurnsOut
+hub: turns out
 history: 2
-hub: TurnsOut
+hub: turns out
 history: 3
 waiting: Some(5)
-hub: TurnsOut
+hub: turns out
 waiting: Some(0)
-hub: Done
-hub: TurnsOut
+hub: done
+hub: turns out
 ",
     )
 }
@@ -67,15 +67,15 @@ take 0
 take 0
 console 0 0 shut
 ",
-        "console: TurnsOut
-hub: TurnsOut
+        "console: turns out
+hub: turns out
 history: 0
-console: TurnsOut
-hub: TurnsOut
+console: turns out
+hub: turns out
 history: 1
 created 1 A 1000
 nothing
-console: Done
+console: done
 ",
     )
 }
@@ -97,13 +97,13 @@ console 1 11 open
 console 1 1 open
 take 0
 ",
-        "hub: TurnsOut
-console: TurnsOut
-hub: TurnsOut
+        "hub: turns out
+console: turns out
+hub: turns out
 history: 2
-hub: Done
-console: TurnsOut
-console: Done
+hub: done
+console: turns out
+console: done
 nothing
 ",
     )
@@ -118,9 +118,9 @@ hub 1 1 open
 console 1 9 open
 history 0
 ";
-    let expected = "console: TurnsOut
-hub: TurnsOut
-console: Refused
+    let expected = "console: turns out
+hub: turns out
+console: refused
 history: 1
 ";
     assert_told(&rt, rt.alloc(), Z, &plans, script, expected)

@@ -31,8 +31,8 @@ take 0
 take 0
 seal 0
 ",
-        "turn: Ok(Handled)
-turn: Ok(Handled)
+        "turn: handled
+turn: handled
 seal: Err(NotSealable)
 close: Ok(())
 seal: Ok(Some(8))
@@ -46,9 +46,9 @@ begin 1 0.0.0 CHARGE
 start 1 0.0.0.0 R1 ADD
 nothing
 seal: Err(NotSealable)
-0: Create { recipe: \"A\", size: 1000, roles: [] }
-0: Order { command: Start, batch: 1 }
-batch 1: Some(Running)
+0: create A 1000, 0 roles
+0: start 1
+batch 1: running
 ",
     )
 }
@@ -75,19 +75,19 @@ cut 0
 turn 0
 cut 2
 ",
-        "turn: Ok(Handled)
+        "turn: handled
 close: Err(EventsRemain)
-turn: Ok(Handled)
+turn: handled
 close: Ok(())
-turn: Ok(Handled)
+turn: handled
 seal: Ok(Some(8))
 cut: Err(Closed)
-turn: Ok(Idle)
+turn: idle
 cut: Err(UnknownPort)
-0: Create { recipe: \"A\", size: 1000, roles: [] }
-0: Order { command: Start, batch: 1 }
-1: Report(PhaseReport { unit: \"R1\", phase: \"ADD\", word: Done, outputs: [] })
-batch 1: Some(Complete)
+0: create A 1000, 0 roles
+0: start 1
+1: report R1 ADD done, 0 outputs
+batch 1: complete
 ",
     )
 }
@@ -117,21 +117,21 @@ seal 0
 take 0
 take 0
 ",
-        "turn: Ok(Handled)
+        "turn: handled
 close: Err(EventsRemain)
 cut: Ok(())
-turn: Ok(Idle)
+turn: idle
 close: Err(Closed)
 cut: Err(Closed)
 history: 1
-turn: Ok(Handled)
+turn: handled
 refused E4
 seal: Ok(Some(1))
 created 1 A 1000
 nothing
-0: Create { recipe: \"A\", size: 1000, roles: [] }
-1: Report(PhaseReport { unit: \"R1\", phase: \"ADD\", word: Done, outputs: [] })
-batch 1: Some(Idle)
+0: create A 1000, 0 roles
+1: report R1 ADD done, 0 outputs
+batch 1: idle
 ",
     )
 }
@@ -157,10 +157,10 @@ seal 2
 ",
         "seal: Err(NotSealable)
 cut: Ok(())
-turn: Ok(Idle)
+turn: idle
 history: 0
 seal: Ok(false)
-turn: Ok(Idle)
+turn: idle
 seal: Err(NotSealable)
 seal: Err(UnknownPort)
 ",

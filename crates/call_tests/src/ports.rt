@@ -5,7 +5,7 @@ ghost use Rattle.batch_desk.specs.HubState.{rings};
 
 use crate::lines::text_of;
 use crate::records::event_of;
-use crate::words::{number_of, shown};
+use crate::words::{event_words, number_of, said, shown, turn_word};
 use batch_desk::{Desk, Full, Hub, HubFault, PortPlan, Scope, Turned};
 use batch_verify::Cleared;
 use std::alloc::Global;
@@ -33,7 +33,7 @@ pub(crate) fn link(unit: u16, places: usize) -> PortPlan {
 fn told_back(alloc: Global, sent: &Result<(), Full>) -> Result<String, Fail> {
     match sent {
         Ok(()) => Ok(String::new(alloc)),
-        Err(full) => shown(alloc, "full", &full.0),
+        Err(full) => said(alloc, "full", event_words(alloc, &full.0)?.as_str()),
     }
 }
 
@@ -46,7 +46,7 @@ fn send(alloc: Global, desk: &mut Desk, line: &str) -> Result<String, Fail>
 }
 
 /// Takes an out at a desk. Returns its line.
-fn take(alloc: Global, cleared: &Cleared, desk: &mut Desk) -> Result<String, Fail>
+fn next_out(alloc: Global, cleared: &Cleared, desk: &mut Desk) -> Result<String, Fail>
     ensures { desk_rings desk.new ≡ desk_rings desk.old }
 {
     let out = desk.pop_out();
@@ -63,7 +63,7 @@ pub(crate) fn at_desk(
     ensures { desk_rings desk.new ≡ desk_rings desk.old }
 {
     match line {
-        "" => take(alloc, cleared, desk),
+        "" => next_out(alloc, cleared, desk),
         _ => send(alloc, desk, line),
     }
 }
@@ -90,12 +90,20 @@ fn turn(hub: &mut Hub, port: usize) -> Result<Turned, HubFault>
     hub.turn(port)
 }
 
+/// How a turn ended.
+fn turn_told(alloc: Global, turned: Result<Turned, HubFault>) -> Result<String, Fail> {
+    match turned {
+        Ok(turned) => said(alloc, "turn", turn_word(turned)),
+        Err(fault) => shown(alloc, "turn", &fault),
+    }
+}
+
 /// Makes a call at a port of the hub, or answers a question about it.
 fn at_port(alloc: Global, hub: &mut Hub, word: &str, port: usize) -> Result<String, Fail>
     ensures { rings hub.new ≡ rings hub.old }
 {
     match word {
-        "turn" => shown(alloc, word, &turn(hub, port)),
+        "turn" => turn_told(alloc, turn(hub, port)),
         "cut" => shown(alloc, word, &hub.cut(port)),
         _ => asked(alloc, hub, word, port),
     }

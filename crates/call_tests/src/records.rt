@@ -75,7 +75,7 @@ pub(crate) fn next_move(alloc: Global, engine: &mut Engine) -> Result<String, Fa
 
 /// A receiver of the moves that are made.
 pub(crate) trait Told {
-    fn tell(&mut self, line: Line);
+    fn receive(&mut self, line: Line);
 }
 
 fn write_move(engine: &Engine, line: Line, record: &mut Vec<u8>) -> Result<(), Fail> {
@@ -89,7 +89,7 @@ fn settle<T: Told>(engine: &mut Engine, told: &mut T, record: &mut Vec<u8>) -> R
             return Ok(());
         };
         write_move(engine, line, record)?;
-        told.tell(line);
+        told.receive(line);
     }
     Err(Fail::from("moves without end"))
 }

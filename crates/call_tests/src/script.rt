@@ -2,7 +2,7 @@
 use crate::driven::told_by;
 use crate::expected::assert_text;
 use crate::records::event_of;
-use crate::words::{number_of, shown};
+use crate::words::{number_of, said, shown, state_word};
 use batch_engine::Engine;
 use batch_sim::{Simulator, SteadyUnit};
 use batch_text::{Name, Place};
@@ -14,7 +14,8 @@ use std::test::Fail;
 fn state(alloc: Global, engine: &Engine, line: &str, act: &str) -> Result<String, Fail> {
     let (batch, place) = number_of(act)?;
     let place = Place::read(alloc, place.as_bytes())?;
-    shown(alloc, line, &engine.state_of(u64::from(batch), &place))
+    let state = engine.state_of(u64::from(batch), &place);
+    said(alloc, line, state_word(state))
 }
 
 /// A value of a batch, asked for by `BATCH NAME`.

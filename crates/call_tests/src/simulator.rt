@@ -1,8 +1,8 @@
 //! Scripts of a simulator: an order or a tick a line, whose answers are one text.
 use crate::expected::assert_text;
 use crate::teller::{Teller, answers};
-use crate::words::{number_of, shown};
-use batch_matrix::Command;
+use crate::words::{number_of, report_word, said, shown};
+use batch_matrix::{Command, Report};
 use batch_sim::{Order, Simulator, SteadyUnit, UnitDriver};
 use std::alloc::{AllocError, Global};
 use std::process::Abort;
@@ -67,6 +67,14 @@ fn call_of(line: &str) -> Result<Call, Fail> {
     }
 }
 
+/// The report of a tick, with the number of its phase.
+fn tick_told(alloc: Global, answer: Option<(u16, Report)>) -> Result<String, Fail> {
+    match answer {
+        Some((phase, report)) => Ok(format!(in alloc; "tick: {phase} {}\n", report_word(report))?),
+        None => said(alloc, "tick", "none"),
+    }
+}
+
 /// Answers an order by whether the unit is known, and a tick by the unit's report.
 impl<D: UnitDriver> Teller<()> for Simulator<D> {
     fn answer(&mut self, alloc: Global, _beside: &mut (), line: &str) -> Result<String, Fail> {
@@ -74,7 +82,7 @@ impl<D: UnitDriver> Teller<()> for Simulator<D> {
             Call::Order(unit, phase, order) => {
                 shown(alloc, "order", &self.order(unit, phase, order))
             }
-            Call::Tick(unit) => shown(alloc, "tick", &self.tick(unit)),
+            Call::Tick(unit) => tick_told(alloc, self.tick(unit)),
         }
     }
 }

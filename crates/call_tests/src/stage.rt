@@ -10,7 +10,7 @@ use std::test::Fail;
 
 /// Units receive the orders of moves.
 impl<D: UnitDriver> Told for Simulator<D> {
-    fn tell(&mut self, line: Line) {
+    fn receive(&mut self, line: Line) {
         match line {
             Line::Start { unit, phase, .. } => {
                 let _ = self.order(unit, phase, Order::Start);

@@ -18,10 +18,10 @@ tick 0
 ",
         "order: true
 order: true
-tick: None
-tick: Some((1, Done))
-tick: Some((2, Done))
-tick: None
+tick: none
+tick: 1 done
+tick: 2 done
+tick: none
 ",
     )
 }
@@ -44,14 +44,14 @@ tick 0
 tick 0
 ",
         "order: true
-tick: None
+tick: none
 order: true
-tick: Some((0, Held))
-tick: None
+tick: 0 held
+tick: none
 order: true
-tick: Some((0, Running))
-tick: None
-tick: Some((0, Done))
+tick: 0 running
+tick: none
+tick: 0 done
 ",
     )
 }
@@ -74,13 +74,13 @@ tick 0
 tick 0
 ",
         "order: true
-tick: None
+tick: none
 order: true
-tick: Some((0, Paused))
-tick: None
+tick: 0 paused
+tick: none
 order: true
-tick: Some((0, Done))
-tick: None
+tick: 0 done
+tick: none
 ",
     )
 }
@@ -109,13 +109,13 @@ tick 0
 order: true
 order: true
 order: true
-tick: Some((0, Aborted))
-tick: Some((1, Stopped))
+tick: 0 aborted
+tick: 1 stopped
 order: true
 order: true
-tick: None
+tick: none
 order: true
-tick: Some((1, Done))
+tick: 1 done
 ",
     )
 }
@@ -138,11 +138,11 @@ tick 0
 ",
         "order: true
 order: true
-tick: None
+tick: none
 order: true
-tick: Some((0, Done))
+tick: 0 done
 order: true
-tick: None
+tick: none
 ",
     )
 }
@@ -162,9 +162,9 @@ tick 2
 ",
         "order: true
 order: false
-tick: None
-tick: Some((1, Done))
-tick: None
+tick: none
+tick: 1 done
+tick: none
 ",
     )
 }

@@ -17,10 +17,10 @@ turn 0
 take 0
 turn 0
 ",
-        "turn: Ok(Idle)
-turn: Ok(Handled)
+        "turn: idle
+turn: handled
 created 1 A 1000
-turn: Ok(Idle)
+turn: idle
 ",
     )
 }
@@ -44,14 +44,14 @@ turn 2
 waiting 2
 record 0
 ",
-        "full: Order { command: Start, batch: 7 }
-turn: Ok(Handled)
+        "full: start 7
+turn: handled
 history: 1
 refused E4
 nothing
-turn: Ok(Idle)
+turn: idle
 nothing
-turn: Err(UnknownPort)
+turn: UnknownPort
 waiting: None
 record: 1
 ",
@@ -90,25 +90,25 @@ waiting 0
 take 0
 take 0
 ",
-        "turn: Ok(Handled)
+        "turn: handled
 created 1 A 1000
-turn: Ok(Handled)
+turn: handled
 waiting: Some(6)
-turn: Ok(Idle)
+turn: idle
 waiting: Some(6)
 ok start 1 running
-turn: Ok(Idle)
+turn: idle
 begin 1 0 A
-turn: Ok(Idle)
+turn: idle
 ask 1 0.0 R1
-turn: Ok(Idle)
+turn: idle
 waiting: Some(3)
 grant 1 0.0 R1
-turn: Ok(Idle)
+turn: idle
 begin 1 0.0 MAKE
-turn: Ok(Idle)
+turn: idle
 begin 1 0.0.0 CHARGE
-turn: Ok(Idle)
+turn: idle
 waiting: Some(0)
 start 1 0.0.0.0 R1 ADD
 nothing
@@ -138,13 +138,13 @@ history 0
 waiting 0
 waiting 1
 ",
-        "turn: Ok(Handled)
-turn: Ok(MovesLeft)
-turn: Ok(MovesLeft)
-turn: Ok(Handled)
+        "turn: handled
+turn: moves left
+turn: moves left
+turn: handled
 record: 166
 history: 2
-turn: Ok(Handled)
+turn: handled
 history: 3
 waiting: Some(158)
 waiting: Some(157)
@@ -175,11 +175,11 @@ take 1
 take 1
 take 2
 ",
-        "turn: Ok(Handled)
-turn: Ok(Handled)
-turn: Ok(Handled)
-turn: Ok(Handled)
-turn: Ok(Idle)
+        "turn: handled
+turn: handled
+turn: handled
+turn: handled
+turn: idle
 start 1 0.0.0.0 R1 ADD
 send 1 0.0.0.0 R1 ADD hold
 ok report R1 ADD held 1 0.0.0.0 holding
