@@ -5,7 +5,7 @@ use Rattle.std.proofs.lemmas.List.{length-append, length-map, length-drop, lengt
 use Rattle.std.proofs.lemmas.List.Sums.{sum_by_more}
 use Rattle.batch_arbiter.specs.Allocation.{Claim, asks_of}
 use Rattle.batch_arbiter.specs.Linked.{Lists, list_at, with_list}
-use Rattle.batch_arbiter.specs.Standing.{seen}
+use Rattle.batch_arbiter.specs.Standing.{pool_seen}
 use Rattle.batch_arbiter.proofs.ListWithdrawal.{staying}
 
 -- the pool when so many of the lines behind the first n lists have been gone through
@@ -59,5 +59,5 @@ module _ (n batch i : ℕ) (p : Lists) (twice : length p.lists ≡ n + n) (withi
 
 -- shares and lines that stand one after the other
 sides : (capacities : List ℕ) (shares lines : List (List Claim)) (room : ℕ) → length shares ≡ length capacities
-    → seen capacities (record { lists = shares ++ lines; room = room }) ≡ record { capacities = capacities; shares = shares; lines = lines; room = room }
+    → pool_seen capacities (record { lists = shares ++ lines; room = room }) ≡ record { capacities = capacities; shares = shares; lines = lines; room = room }
 sides capacities shares lines room e = grind (arith, take_at shares lines (length capacities) e, drop_at shares lines (length capacities) e)

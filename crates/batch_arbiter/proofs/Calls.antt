@@ -4,62 +4,62 @@ use Rattle.std.proofs.lemmas.List.{get_or-map}
 use Rattle.std.proofs.lemmas.List.Sums.{get_or-le-sum_by}
 use Rattle.batch_arbiter.specs.declared.entry.Entry.{Entry}
 use Rattle.batch_arbiter.specs.declared.ends.Ends.{Ends}
-use Rattle.batch_arbiter.specs.Linked.{at, no_list, ends_at, claim_of, claims_from, claims_of, free, claim_in, marked, Leads, IsLinkedBy, IsLinked}
+use Rattle.batch_arbiter.specs.Linked.{at, no_list, ends_at, entry_claim, claims_from, entry_claims, free, claim_in, with_part, LeadsThrough, IsLinkedBy, AreLinkedLists}
 use Rattle.batch_arbiter.proofs.PoolSteps.{joined_parts, joined_ends, joined, claims-joined, IsLinkedBy-step, claims-step}
 use Rattle.batch_arbiter.proofs.EntryRemoval.{left_ends, taken, claims-taken, claims-first}
 
 -- the list that is seen at k
-pub list-seen : (es : List Entry) (ls : List Ends) (k : ℕ) → k < length ls → get_or (map (claims_of es) ls) k [] ≡ claims_of es (ends_at ls k)
-list-seen es ls k h = get_or-map (claims_of es) ls k no_list [] h
+pub list-seen : (es : List Entry) (ls : List Ends) (k : ℕ) → k < length ls → get_or (map (entry_claims es) ls) k [] ≡ entry_claims es (ends_at ls k)
+list-seen es ls k h = get_or-map (entry_claims es) ls k no_list [] h
 
 pub length-claims : (es : List Entry) (n first : ℕ) → length (claims_from es n first) ≡ n
 length-claims es zero first = refl
 length-claims es (suc n) first = ap (λ k. suc k) (length-claims es n (at es first).next)
 
 -- so many claims has the list at k
-pub length-seen : (es : List Entry) (ls : List Ends) (k : ℕ) → k < length ls → length (get_or (map (claims_of es) ls) k []) ≡ (ends_at ls k).len
+pub length-seen : (es : List Entry) (ls : List Ends) (k : ℕ) → k < length ls → length (get_or (map (entry_claims es) ls) k []) ≡ (ends_at ls k).len
 length-seen es ls k h = ap length (list-seen es ls k h) ∙ length-claims es (ends_at ls k).len (ends_at ls k).first
 
 -- one more still fits
-pub len-fits : (es : List Entry) (ls : List Ends) (k unused room : ℕ) → k < length ls → IsLinked es ls unused room → (ends_at ls k).len + room < length es
+pub len-fits : (es : List Entry) (ls : List Ends) (k unused room : ℕ) → k < length ls → AreLinkedLists es ls unused room → (ends_at ls k).len + room < length es
 len-fits es ls k unused room h linked = omega (arith, get_or-le-sum_by (λ (l : Ends). l.len) ls k no_list h, linked.by_parts.total)
 
-pub unused-within : (es : List Entry) (ls : List Ends) (unused room : ℕ) → 0 < room → IsLinked es ls unused room → unused < length es
+pub unused-within : (es : List Entry) (ls : List Ends) (unused room : ℕ) → 0 < room → AreLinkedLists es ls unused room → unused < length es
 unused-within es ls unused room some linked = grind arith
 
-pub joins : (es : List Entry) (ls : List Ends) (k unused room : ℕ) (e : Entry) → k < length ls → 0 < room → IsLinked es ls unused room → e.next ≡ unused
-    → IsLinked (set es (ends_at ls k).end e) (set ls k (joined_ends (ends_at ls k) unused)) (at es unused).next (room - 1)
-    × (map (claims_of (set es (ends_at ls k).end e)) (set ls k (joined_ends (ends_at ls k) unused)) ≡ set (map (claims_of es) ls) k (get_or (map (claims_of es) ls) k [] ++ claim_of e ∷ []))
+pub joins : (es : List Entry) (ls : List Ends) (k unused room : ℕ) (e : Entry) → k < length ls → 0 < room → AreLinkedLists es ls unused room → e.next ≡ unused
+    → AreLinkedLists (set es (ends_at ls k).end e) (set ls k (joined_ends (ends_at ls k) unused)) (at es unused).next (room - 1)
+    × (map (entry_claims (set es (ends_at ls k).end e)) (set ls k (joined_ends (ends_at ls k) unused)) ≡ set (map (entry_claims es) ls) k (get_or (map (entry_claims es) ls) k [] ++ entry_claim e ∷ []))
 joins es ls k unused room e known some linked next =
     let more : room ≡ suc (room - 1) = omega arith in
     let l : IsLinkedBy linked.parts es ls unused (suc (room - 1)) = subst (λ (x : ℕ). IsLinkedBy linked.parts es ls unused x) more linked.by_parts in (
       record { parts = joined_parts linked.parts k unused (ends_at ls k).end; by_parts = IsLinkedBy-step _ _ _ _ _ _ _ _ _ _ _ _ _ (joined linked.parts es ls k unused (room - 1) e known l next) },
       claims-step _ _ _ _ _ _ _ _ _ _ _ _ _ (joined linked.parts es ls k unused (room - 1) e known l next)
-          ∙ ap (set (map (claims_of es) ls) k) (claims-joined linked.parts es ls k unused (room - 1) e known l next ∙ ap (λ cs. cs ++ claim_of e ∷ []) (sym (list-seen es ls k known))),
+          ∙ ap (set (map (entry_claims es) ls) k) (claims-joined linked.parts es ls k unused (room - 1) e known l next ∙ ap (λ cs. cs ++ entry_claim e ∷ []) (sym (list-seen es ls k known))),
     )
 
-pub first-within : (es : List Entry) (ls : List Ends) (k unused room : ℕ) → k < length ls → 0 < (ends_at ls k).len → IsLinked es ls unused room → (ends_at ls k).first < length es
+pub first-within : (es : List Entry) (ls : List Ends) (k unused room : ℕ) → k < length ls → 0 < (ends_at ls k).len → AreLinkedLists es ls unused room → (ends_at ls k).first < length es
 first-within es ls k unused room known some linked =
     let more : (ends_at ls k).len ≡ suc ((ends_at ls k).len - 1) = omega arith in
-    let l : Leads (claim_in k) linked.parts es (suc ((ends_at ls k).len - 1)) (ends_at ls k).first (ends_at ls k).end = subst (λ (x : ℕ). Leads (claim_in k) linked.parts es x (ends_at ls k).first (ends_at ls k).end) more (linked.by_parts.each k known).linked in
+    let l : LeadsThrough (claim_in k) linked.parts es (suc ((ends_at ls k).len - 1)) (ends_at ls k).first (ends_at ls k).end = subst (λ (x : ℕ). LeadsThrough (claim_in k) linked.parts es x (ends_at ls k).first (ends_at ls k).end) more (linked.by_parts.each k known).linked in
     l.0
 
 -- a list that has claims, by its first
-pub first-seen : (es : List Entry) (ls : List Ends) (k unused room : ℕ) → k < length ls → 0 < (ends_at ls k).len → IsLinked es ls unused room
-    → get_or (map (claims_of es) ls) k [] ≡ claim_of (at es (ends_at ls k).first) ∷ drop 1 (get_or (map (claims_of es) ls) k [])
+pub first-seen : (es : List Entry) (ls : List Ends) (k unused room : ℕ) → k < length ls → 0 < (ends_at ls k).len → AreLinkedLists es ls unused room
+    → get_or (map (entry_claims es) ls) k [] ≡ entry_claim (at es (ends_at ls k).first) ∷ drop 1 (get_or (map (entry_claims es) ls) k [])
 first-seen es ls k unused room known some linked = grind (arith, list-seen es ls k known, claims-first)
 
-pub leaves : (es : List Entry) (ls : List Ends) (k unused room : ℕ) (e : Entry) → k < length ls → 0 < (ends_at ls k).len → IsLinked es ls unused room → e.next ≡ unused
-    → IsLinked (set es (ends_at ls k).first e) (set ls k (left_ends (ends_at ls k) (at es (ends_at ls k).first).next ((ends_at ls k).len - 1))) (ends_at ls k).first (room + 1)
-    × (map (claims_of (set es (ends_at ls k).first e)) (set ls k (left_ends (ends_at ls k) (at es (ends_at ls k).first).next ((ends_at ls k).len - 1))) ≡ set (map (claims_of es) ls) k (drop 1 (get_or (map (claims_of es) ls) k [])))
+pub leaves : (es : List Entry) (ls : List Ends) (k unused room : ℕ) (e : Entry) → k < length ls → 0 < (ends_at ls k).len → AreLinkedLists es ls unused room → e.next ≡ unused
+    → AreLinkedLists (set es (ends_at ls k).first e) (set ls k (left_ends (ends_at ls k) (at es (ends_at ls k).first).next ((ends_at ls k).len - 1))) (ends_at ls k).first (room + 1)
+    × (map (entry_claims (set es (ends_at ls k).first e)) (set ls k (left_ends (ends_at ls k) (at es (ends_at ls k).first).next ((ends_at ls k).len - 1))) ≡ set (map (entry_claims es) ls) k (drop 1 (get_or (map (entry_claims es) ls) k [])))
 leaves es ls k unused room e known some linked next =
     let more : (ends_at ls k).len ≡ suc ((ends_at ls k).len - 1) = omega arith in
     let plus : suc room ≡ room + 1 = omega arith in (
       record {
-        parts = marked linked.parts (ends_at ls k).first free;
-        by_parts = subst (λ (x : ℕ). IsLinkedBy (marked linked.parts (ends_at ls k).first free) (set es (ends_at ls k).first e) (set ls k (left_ends (ends_at ls k) (at es (ends_at ls k).first).next ((ends_at ls k).len - 1))) (ends_at ls k).first x) plus
+        parts = with_part linked.parts (ends_at ls k).first free;
+        by_parts = subst (λ (x : ℕ). IsLinkedBy (with_part linked.parts (ends_at ls k).first free) (set es (ends_at ls k).first e) (set ls k (left_ends (ends_at ls k) (at es (ends_at ls k).first).next ((ends_at ls k).len - 1))) (ends_at ls k).first x) plus
             (IsLinkedBy-step _ _ _ _ _ _ _ _ _ _ _ _ _ (taken linked.parts es ls k unused room ((ends_at ls k).len - 1) e known linked.by_parts more next));
       },
       claims-step _ _ _ _ _ _ _ _ _ _ _ _ _ (taken linked.parts es ls k unused room ((ends_at ls k).len - 1) e known linked.by_parts more next)
-          ∙ ap (set (map (claims_of es) ls) k) (claims-taken linked.parts es ls k unused room ((ends_at ls k).len - 1) e known linked.by_parts more next ∙ ap (drop 1) (sym (list-seen es ls k known))),
+          ∙ ap (set (map (entry_claims es) ls) k) (claims-taken linked.parts es ls k unused room ((ends_at ls k).len - 1) e known linked.by_parts more next ∙ ap (drop 1) (sym (list-seen es ls k known))),
     )

@@ -7,7 +7,7 @@ use Rattle.std.proofs.lemmas.List.Sums.{sum_by-remove}
 use Rattle.batch_arbiter.specs.declared.entry.Entry.{Entry}
 use Rattle.batch_arbiter.specs.declared.ends.Ends.{Ends}
 use Rattle.batch_arbiter.specs.Allocation.{Claim, is_claim, held_units, without_first}
-use Rattle.batch_arbiter.specs.Linked.{at, ends_at, claim_of, claims_of, free, claim_in, marked, Leads, IsLinkedBy, IsLinked, IsBefore, behind, unlinked_behind}
+use Rattle.batch_arbiter.specs.Linked.{at, ends_at, entry_claim, entry_claims, free, claim_in, with_part, LeadsThrough, IsLinkedBy, AreLinkedLists, IsBefore, behind, unlinked_behind}
 use Rattle.batch_arbiter.proofs.EntryWrites.{at-set_same, at-set_other, behind-within}
 use Rattle.batch_arbiter.proofs.PoolSteps.{IsLinkedBy-step, claims-step}
 use Rattle.batch_arbiter.proofs.EntryRemoval.{left_ends, behind-suc, b_off_t, unlinked, claims-unlinked, behind-unlinked}
@@ -16,8 +16,8 @@ use Rattle.batch_arbiter.proofs.Positions.{IsFirst, remove-IsFirst}
 use Rattle.batch_arbiter.proofs.ClaimSearch.{claims-behind, IsFirst-before}
 
 -- the first claim of the list isn't the act's
-pub later-seen : (es : List Entry) (ls : List Ends) (k batch node : ℕ) → k < length ls → MatchOption (slice_get (get_or (map (claims_of es) ls) k []) 0) ⊥ (λ c. is_claim batch node c ≡ false)
-    → is_claim batch node (claim_of (at es (ends_at ls k).first)) ≡ false
+pub later-seen : (es : List Entry) (ls : List Ends) (k batch node : ℕ) → k < length ls → MatchOption (slice_get (get_or (map (entry_claims es) ls) k []) 0) ⊥ (λ c. is_claim batch node c ≡ false)
+    → is_claim batch node (entry_claim (at es (ends_at ls k).first)) ≡ false
 later-seen es ls k batch node known later = grind (arith, list-seen es ls k known)
 
 -- the lists when list k has a claim less, and its first one still
@@ -35,8 +35,8 @@ pub length-unlinked : (es : List Entry) (b unused : ℕ) → length (unlinked_be
 length-unlinked es b unused = length-set (set es b (past es b)) (at es b).next (gone es b unused) ∙ length-set es b (past es b)
 
 -- The claim behind entry b, which is m places behind the first, leaves list k
-module _ (es : List Entry) (ls : List Ends) (k unused room m b : ℕ) (known : k < length ls) (linked : IsLinked es ls unused room) (is : b ≡ behind es m (ends_at ls k).first) (within : suc m < (ends_at ls k).len) where
-  own : Leads (claim_in k) linked.parts es (ends_at ls k).len (ends_at ls k).first (ends_at ls k).end
+module _ (es : List Entry) (ls : List Ends) (k unused room m b : ℕ) (known : k < length ls) (linked : AreLinkedLists es ls unused room) (is : b ≡ behind es m (ends_at ls k).first) (within : suc m < (ends_at ls k).len) where
+  own : LeadsThrough (claim_in k) linked.parts es (ends_at ls k).len (ends_at ls k).first (ends_at ls k).end
   own = (linked.by_parts.each k known).linked
 
   pub here-within : b < length es
@@ -50,8 +50,8 @@ module _ (es : List Entry) (ls : List Ends) (k unused room m b : ℕ) (known : k
   next-within =
       subst (λ (x : ℕ). x < length es) (sym next-is) (behind-within (claim_in k) linked.parts es (suc m) (ends_at ls k).len (ends_at ls k).first (ends_at ls k).end within own).0
 
-  pub unlinks : IsLinked (unlinked_behind es b unused) (with_one_less ls k) (at es b).next (room + 1)
-      × (map (claims_of (unlinked_behind es b unused)) (with_one_less ls k) ≡ set (map (claims_of es) ls) k (remove (claims_of es (ends_at ls k)) (suc m)))
+  pub unlinks : AreLinkedLists (unlinked_behind es b unused) (with_one_less ls k) (at es b).next (room + 1)
+      × (map (entry_claims (unlinked_behind es b unused)) (with_one_less ls k) ≡ set (map (entry_claims es) ls) k (remove (entry_claims es (ends_at ls k)) (suc m)))
       × (behind (unlinked_behind es b unused) m (ends_at ls k).first ≡ b)
       × ((at (unlinked_behind es b unused) (at es b).next).units ≡ (at es (at es b).next).units)
   unlinks =
@@ -61,36 +61,36 @@ module _ (es : List Entry) (ls : List Ends) (k unused room m b : ℕ) (known : k
       let apart : b ≢ (at es b).next = b_off_t linked.parts es ls k unused room ((ends_at ls k).len - 1) m b (at es b).next (past es b) (gone es b unused) known linked.by_parts more lt is next-is refl refl refl in
       let set_long : (at es b).next < length (set es b (past es b)) = omega (arith, next-within, length-set es b (past es b)) in (
         record {
-          parts = marked linked.parts (at es b).next free;
-          by_parts = subst (λ (x : ℕ). IsLinkedBy (marked linked.parts (at es b).next free) (unlinked_behind es b unused) (with_one_less ls k) (at es b).next x) plus
+          parts = with_part linked.parts (at es b).next free;
+          by_parts = subst (λ (x : ℕ). IsLinkedBy (with_part linked.parts (at es b).next free) (unlinked_behind es b unused) (with_one_less ls k) (at es b).next x) plus
               (IsLinkedBy-step _ _ _ _ _ _ _ _ _ _ _ _ _ (unlinked linked.parts es ls k unused room ((ends_at ls k).len - 1) m b (at es b).next (past es b) (gone es b unused) known linked.by_parts more lt is next-is refl refl refl));
         },
         claims-step _ _ _ _ _ _ _ _ _ _ _ _ _ (unlinked linked.parts es ls k unused room ((ends_at ls k).len - 1) m b (at es b).next (past es b) (gone es b unused) known linked.by_parts more lt is next-is refl refl refl)
-            ∙ ap (set (map (claims_of es) ls) k) (claims-unlinked linked.parts es ls k unused room ((ends_at ls k).len - 1) m b (at es b).next (past es b) (gone es b unused) known linked.by_parts more lt is next-is refl refl refl),
+            ∙ ap (set (map (entry_claims es) ls) k) (claims-unlinked linked.parts es ls k unused room ((ends_at ls k).len - 1) m b (at es b).next (past es b) (gone es b unused) known linked.by_parts more lt is next-is refl refl refl),
         behind-unlinked linked.parts es ls k unused room ((ends_at ls k).len - 1) m b (at es b).next (past es b) (gone es b unused) known linked.by_parts more lt is next-is refl refl refl,
         ap (λ (e : Entry). e.units) (at-set_same (set es b (past es b)) (at es b).next (gone es b unused) set_long) ∙ ap (λ (e : Entry). e.units) (at-set_other es b (at es b).next (past es b) (λ q. apart (sym q))),
       )
 
 -- the same if it is the act's
-module _ (es : List Entry) (ls : List Ends) (k unused room batch node b : ℕ) (known : k < length ls) (linked : IsLinked es ls unused room) (s : IsBefore es (ends_at ls k) batch node b) where
-  first-of_act : IsFirst (is_claim batch node) (claims_of es (ends_at ls k)) (suc s.place)
+module _ (es : List Entry) (ls : List Ends) (k unused room batch node b : ℕ) (known : k < length ls) (linked : AreLinkedLists es ls unused room) (s : IsBefore es (ends_at ls k) batch node b) where
+  first-of_act : IsFirst (is_claim batch node) (entry_claims es (ends_at ls k)) (suc s.place)
   first-of_act = IsFirst-before es (ends_at ls k) batch node b s
 
-  pub unlinks-act : map (claims_of (unlinked_behind es b unused)) (with_one_less ls k)
-      ≡ set (map (claims_of es) ls) k (without_first (is_claim batch node) (get_or (map (claims_of es) ls) k []))
+  pub unlinks-act : map (entry_claims (unlinked_behind es b unused)) (with_one_less ls k)
+      ≡ set (map (entry_claims es) ls) k (without_first (is_claim batch node) (get_or (map (entry_claims es) ls) k []))
   unlinks-act =
       (unlinks es ls k unused room s.place b known linked s.is s.within).1
-      ∙ ap (set (map (claims_of es) ls) k) (remove-IsFirst (is_claim batch node) (claims_of es (ends_at ls k)) (suc s.place) first-of_act ∙ ap (without_first (is_claim batch node)) (sym (list-seen es ls k known)))
+      ∙ ap (set (map (entry_claims es) ls) k) (remove-IsFirst (is_claim batch node) (entry_claims es (ends_at ls k)) (suc s.place) first-of_act ∙ ap (without_first (is_claim batch node)) (sym (list-seen es ls k known)))
 
-  pub removed-units : held_units (get_or (map (claims_of es) ls) k []) ≡ held_units (without_first (is_claim batch node) (get_or (map (claims_of es) ls) k [])) + (at es (at es b).next).units
+  pub removed-units : held_units (get_or (map (entry_claims es) ls) k []) ≡ held_units (without_first (is_claim batch node) (get_or (map (entry_claims es) ls) k [])) + (at es (at es b).next).units
   removed-units =
-      let d : Claim = claim_of (at es b) in
+      let d : Claim = entry_claim (at es b) in
       let is_t : (at es b).next ≡ behind es (suc s.place) (ends_at ls k).first = next-is es ls k unused room s.place b known linked s.is s.within in
-      let units : (get_or (claims_of es (ends_at ls k)) (suc s.place) d).units ≡ (at es (at es b).next).units =
+      let units : (get_or (entry_claims es (ends_at ls k)) (suc s.place) d).units ≡ (at es (at es b).next).units =
       ap (λ (c : Claim). c.units) (claims-behind es (ends_at ls k).len (ends_at ls k).first (suc s.place) d s.within) ∙ ap (λ x. (at es x).units) (sym is_t) in
-      let sum : held_units (remove (claims_of es (ends_at ls k)) (suc s.place)) + (get_or (claims_of es (ends_at ls k)) (suc s.place) d).units ≡ held_units (claims_of es (ends_at ls k)) =
-      sum_by-remove (λ (c : Claim). c.units) (claims_of es (ends_at ls k)) (suc s.place) d first-of_act.within in
+      let sum : held_units (remove (entry_claims es (ends_at ls k)) (suc s.place)) + (get_or (entry_claims es (ends_at ls k)) (suc s.place) d).units ≡ held_units (entry_claims es (ends_at ls k)) =
+      sum_by-remove (λ (c : Claim). c.units) (entry_claims es (ends_at ls k)) (suc s.place) d first-of_act.within in
       ap held_units (list-seen es ls k known)
       ∙ sym sum
-      ∙ ap (λ n. held_units (remove (claims_of es (ends_at ls k)) (suc s.place)) + n) units
-      ∙ ap (λ cs. held_units cs + (at es (at es b).next).units) (remove-IsFirst (is_claim batch node) (claims_of es (ends_at ls k)) (suc s.place) first-of_act ∙ ap (without_first (is_claim batch node)) (sym (list-seen es ls k known)))
+      ∙ ap (λ n. held_units (remove (entry_claims es (ends_at ls k)) (suc s.place)) + n) units
+      ∙ ap (λ cs. held_units cs + (at es (at es b).next).units) (remove-IsFirst (is_claim batch node) (entry_claims es (ends_at ls k)) (suc s.place) first-of_act ∙ ap (without_first (is_claim batch node)) (sym (list-seen es ls k known)))

@@ -3,17 +3,17 @@ use Rattle.std.proofs.Common.{ℕ, ◌≡◌, ◌+◌, ◌-◌, ◌<◌, List, l
 use Rattle.batch_arbiter.specs.declared.entry.Entry.{Entry}
 use Rattle.batch_arbiter.specs.declared.ends.Ends.{Ends}
 use Rattle.batch_arbiter.specs.Allocation.{Claim, is_claim}
-use Rattle.batch_arbiter.specs.Linked.{at, claim_of, claims_from, claims_of, IsSomeList, IsBefore, HasNone, is_claim_behind, behind}
+use Rattle.batch_arbiter.specs.Linked.{at, entry_claim, claims_from, entry_claims, IsSomeList, IsBefore, HasNone, is_claim_behind, behind}
 use Rattle.batch_arbiter.proofs.EntryWrites.{behind-within}
 use Rattle.batch_arbiter.proofs.EntryRemoval.{behind-suc}
 use Rattle.batch_arbiter.proofs.Calls.{length-claims}
 use Rattle.batch_arbiter.proofs.Positions.{IsFirst}
 
-pub claims-behind : (es : List Entry) (n first k : ℕ) (d : Claim) → k < n → get_or (claims_from es n first) k d ≡ claim_of (at es (behind es k first))
+pub claims-behind : (es : List Entry) (n first k : ℕ) (d : Claim) → k < n → get_or (claims_from es n first) k d ≡ entry_claim (at es (behind es k first))
 claims-behind es (suc n) first (suc k) d h = claims-behind es n (at es first).next k d (omega arith)
 claims-behind es n first k d h = grind arith
 
-pub none-behind : (es : List Entry) (l : Ends) (batch node : ℕ) → ((m : ℕ) → m < l.len → is_claim_behind es l batch node m ≡ false) → HasNone batch node (claims_of es l)
+pub none-behind : (es : List Entry) (l : Ends) (batch node : ℕ) → ((m : ℕ) → m < l.len → is_claim_behind es l batch node m ≡ false) → HasNone batch node (entry_claims es l)
 none-behind es l batch node none k d h =
     let lt : k < l.len = omega (arith, length-claims es l.len l.first) in
     ap (is_claim batch node) (claims-behind es l.len l.first k d lt) ∙ none k lt
@@ -34,7 +34,7 @@ next-behind es l batch node counter before s = grind (arith, behind-suc es (coun
 pub next-within : (es : List Entry) (l : Ends) (batch node counter before : ℕ) → Seeks es l batch node counter before → IsSomeList es l → counter < l.len → (at es before).next < length es
 next-within es l batch node counter before s it lt = grind (arith, next-behind es l batch node counter before s, behind-within it.part it.parts es counter l.len l.first l.end lt it.linked)
 
-pub Seeks-found : (es : List Entry) (l : Ends) (batch node counter before : ℕ) → Seeks es l batch node counter before → counter < l.len → is_claim batch node (claim_of (at es (at es before).next)) ≡ true → IsBefore es l batch node before
+pub Seeks-found : (es : List Entry) (l : Ends) (batch node counter before : ℕ) → Seeks es l batch node counter before → counter < l.len → is_claim batch node (entry_claim (at es (at es before).next)) ≡ true → IsBefore es l batch node before
 Seeks-found es l batch node counter before s lt here =
     let more : suc (counter - 1) ≡ counter = omega (arith, s.begun) in
     record {
@@ -42,13 +42,13 @@ Seeks-found es l batch node counter before s lt here =
       is = s.is;
       within = omega (arith, more, lt);
       others = λ m h. s.others m (omega (arith, more, h));
-      here = subst (λ (x : ℕ). is_claim_behind es l batch node x ≡ true) (sym more) (ap (λ x. is_claim batch node (claim_of (at es x))) (sym (next-behind es l batch node counter before s)) ∙ here);
+      here = subst (λ (x : ℕ). is_claim_behind es l batch node x ≡ true) (sym more) (ap (λ x. is_claim batch node (entry_claim (at es x))) (sym (next-behind es l batch node counter before s)) ∙ here);
     }
 
-pub Seeks-more : (es : List Entry) (l : Ends) (batch node counter before : ℕ) → Seeks es l batch node counter before → is_claim batch node (claim_of (at es (at es before).next)) ≡ false → Seeks es l batch node (counter + 1) (at es before).next
+pub Seeks-more : (es : List Entry) (l : Ends) (batch node counter before : ℕ) → Seeks es l batch node counter before → is_claim batch node (entry_claim (at es (at es before).next)) ≡ false → Seeks es l batch node (counter + 1) (at es before).next
 Seeks-more es l batch node counter before s other =
     let less : counter ≡ (counter + 1) - 1 = omega arith in
-    let here : is_claim_behind es l batch node counter ≡ false = ap (λ x. is_claim batch node (claim_of (at es x))) (sym (next-behind es l batch node counter before s)) ∙ other in
+    let here : is_claim_behind es l batch node counter ≡ false = ap (λ x. is_claim batch node (entry_claim (at es x))) (sym (next-behind es l batch node counter before s)) ∙ other in
     record {
       begun = omega arith;
       is = next-behind es l batch node counter before s ∙ ap (λ x. behind es x l.first) less;
@@ -56,7 +56,7 @@ Seeks-more es l batch node counter before s other =
     }
 
 -- the entry behind is the first one of the act
-pub IsFirst-before : (es : List Entry) (l : Ends) (batch node before : ℕ) → (b : IsBefore es l batch node before) → IsFirst (is_claim batch node) (claims_of es l) (suc b.place)
+pub IsFirst-before : (es : List Entry) (l : Ends) (batch node before : ℕ) → (b : IsBefore es l batch node before) → IsFirst (is_claim batch node) (entry_claims es l) (suc b.place)
 IsFirst-before es l batch node before b =
     record {
       within = omega (arith, b.within, length-claims es l.len l.first);

@@ -7,7 +7,7 @@ use Rattle.std.proofs.lemmas.List.Edits.{remove-append_right}
 use Rattle.batch_arbiter.specs.declared.entry.Entry.{Entry}
 use Rattle.batch_arbiter.specs.declared.ends.Ends.{Ends}
 use Rattle.batch_arbiter.specs.Allocation.{Claim, asks_of, is_of_batch}
-use Rattle.batch_arbiter.specs.Linked.{Lists, list_at, with_list, at, no_list, ends_at, claim_of, claims_of, behind, IsLinked, unlinked_behind}
+use Rattle.batch_arbiter.specs.Linked.{Lists, list_at, with_list, at, no_list, ends_at, entry_claim, entry_claims, behind, AreLinkedLists, unlinked_behind}
 use Rattle.batch_arbiter.proofs.EntryRemoval.{left_ends}
 use Rattle.batch_arbiter.proofs.Calls.{length-claims, list-seen}
 use Rattle.batch_arbiter.proofs.ClaimSearch.{claims-behind}
@@ -40,14 +40,14 @@ remove-behind kept c rest n e =
 
 -- The walk along list k, which was that of p, stands behind entry `before`, with i claims passed; so many of the batch's may still leave
 pub record IsWalked (p : Lists) (k batch most i before left : ℕ) (es : List Entry) (ls : List Ends) (unused room : ℕ) : Type 0 where
-  pub linked : IsLinked es ls unused room
+  pub linked : AreLinkedLists es ls unused room
   pub known : k < length ls
   pub listed : k < length p.lists
   pub kept : List Claim
   pub rest : List Claim
   pub place : ℕ
   pub gone : ℕ
-  pub now : map (claims_of es) ls ≡ set p.lists k (kept ++ rest)
+  pub now : map (entry_claims es) ls ≡ set p.lists k (kept ++ rest)
   pub count : length kept ≡ suc place
   pub here : before ≡ behind es place (ends_at ls k).first
   pub ahead : i + length rest ≡ length (list_at p k)
@@ -56,14 +56,14 @@ pub record IsWalked (p : Lists) (k batch most i before left : ℕ) (es : List En
   pub room_is : room ≡ p.room + gone
   pub left_is : left + gone ≡ most
 
-pub walked-first : (p : Lists) (k batch most : ℕ) (es : List Entry) (ls : List Ends) (unused room : ℕ) → IsLinked es ls unused room → k < length ls
-    → (let q : Lists = record { lists = map (claims_of es) ls; room = room } in q) ≡ p → 0 < length (list_at p k)
+pub walked-first : (p : Lists) (k batch most : ℕ) (es : List Entry) (ls : List Ends) (unused room : ℕ) → AreLinkedLists es ls unused room → k < length ls
+    → (let q : Lists = record { lists = map (entry_claims es) ls; room = room } in q) ≡ p → 0 < length (list_at p k)
     → IsWalked p k batch most 1 (ends_at ls k).first most es ls unused room
 walked-first p k batch most es ls unused room linked known is some =
     record {
       linked = linked;
       known = known;
-      listed = omega (arith, known, ap (λ (q : Lists). length q.lists) is, length-map ls (claims_of es));
+      listed = omega (arith, known, ap (λ (q : Lists). length q.lists) is, length-map ls (entry_claims es));
       kept = take 1 (list_at p k);
       rest = drop 1 (list_at p k);
       place = 0;
@@ -79,7 +79,7 @@ walked-first p k batch most es ls unused room linked known is some =
     }
 
 module _ (p : Lists) (k batch most i before left : ℕ) (es : List Entry) (ls : List Ends) (unused room : ℕ) (w : IsWalked p k batch most i before left es ls unused room) where
-  own-claims : claims_of es (ends_at ls k) ≡ w.kept ++ w.rest
+  own-claims : entry_claims es (ends_at ls k) ≡ w.kept ++ w.rest
   own-claims = sym (list-seen es ls k w.known) ∙ ap (λ xs. get_or xs k []) w.now ∙ get_or-set_same p.lists k (w.kept ++ w.rest) [] w.listed
 
   long : (ends_at ls k).len ≡ suc w.place + length w.rest
@@ -103,21 +103,21 @@ module _ (p : Lists) (k batch most i before left : ℕ) (es : List Entry) (ls : 
         go [] h = absurd (omega arith)
         go (c ∷ more) h = (c, more, refl)
 
-    next-claim : first-ahead.0 ≡ claim_of (at es (at es before).next)
+    next-claim : first-ahead.0 ≡ entry_claim (at es (at es before).next)
     next-claim =
         let a = first-ahead in
         sym (get_or_at w.kept a.0 a.1 a.0 (suc w.place) w.count)
         ∙ ap (λ cs. get_or cs (suc w.place) a.0) (ap (λ xs. w.kept ++ xs) (sym a.2) ∙ sym own-claims)
         ∙ claims-behind es (ends_at ls k).len (ends_at ls k).first (suc w.place) a.0 within
-        ∙ ap (λ x. claim_of (at es x)) (sym (next-is es ls k unused room w.place before w.known w.linked w.here within))
+        ∙ ap (λ x. entry_claim (at es x)) (sym (next-is es ls k unused room w.place before w.known w.linked w.here within))
 
-    pub walked-gone : is_of_batch batch (claim_of (at es (at es before).next)) ≡ true → 0 < left
+    pub walked-gone : is_of_batch batch (entry_claim (at es (at es before).next)) ≡ true → 0 < left
         → IsWalked p k batch most (i + 1) before (left - 1) (unlinked_behind es before unused) (with_one_less ls k) (at es before).next (room + 1)
     walked-gone own some =
         let a = first-ahead in
         let less = leaves batch a.0 a.1 (ap (is_of_batch batch) next-claim ∙ own) in
         let u = unlinks es ls k unused room w.place before w.known w.linked w.here within in
-        let claims : remove (claims_of es (ends_at ls k)) (suc w.place) ≡ w.kept ++ a.1 =
+        let claims : remove (entry_claims es (ends_at ls k)) (suc w.place) ≡ w.kept ++ a.1 =
         ap (λ cs. remove cs (suc w.place)) (own-claims ∙ ap (λ xs. w.kept ++ xs) a.2) ∙ remove-behind w.kept a.0 a.1 (suc w.place) w.count in
         record {
           linked = u.0;
@@ -127,7 +127,7 @@ module _ (p : Lists) (k batch most i before left : ℕ) (es : List Entry) (ls : 
           rest = a.1;
           place = w.place;
           gone = suc w.gone;
-          now = u.1 ∙ ap (set (map (claims_of es) ls) k) claims ∙ ap (λ xs. set xs k (w.kept ++ a.1)) w.now ∙ set-set p.lists k (w.kept ++ w.rest) (w.kept ++ a.1);
+          now = u.1 ∙ ap (set (map (entry_claims es) ls) k) claims ∙ ap (λ xs. set xs k (w.kept ++ a.1)) w.now ∙ set-set p.lists k (w.kept ++ w.rest) (w.kept ++ a.1);
           count = w.count;
           here = sym u.2
               ∙ ap (λ (l : Ends). behind (unlinked_behind es before unused) w.place l.first)
@@ -139,7 +139,7 @@ module _ (p : Lists) (k batch most i before left : ℕ) (es : List Entry) (ls : 
           left_is = omega (arith, w.left_is, some);
         }
 
-    pub walked-kept : is_of_batch batch (claim_of (at es (at es before).next)) ≡ false → IsWalked p k batch most (i + 1) (at es before).next left es ls unused room
+    pub walked-kept : is_of_batch batch (entry_claim (at es (at es before).next)) ≡ false → IsWalked p k batch most (i + 1) (at es before).next left es ls unused room
     walked-kept other =
         let a = first-ahead in
         let same = stays batch a.0 a.1 (ap (is_of_batch batch) next-claim ∙ other) in
@@ -163,17 +163,17 @@ module _ (p : Lists) (k batch most i before left : ℕ) (es : List Entry) (ls : 
 
   -- none of the batch's is left
   all-out : asks_of batch w.rest ≡ 0
-      → (let q : Lists = record { lists = map (claims_of es) ls; room = room } in q) ≡ with_list p k (take 1 (list_at p k) ++ staying batch (drop 1 (list_at p k))) (p.room + asks_of batch (drop 1 (list_at p k)))
+      → (let q : Lists = record { lists = map (entry_claims es) ls; room = room } in q) ≡ with_list p k (take 1 (list_at p k) ++ staying batch (drop 1 (list_at p k))) (p.room + asks_of batch (drop 1 (list_at p k)))
   all-out none =
       let room : room ≡ p.room + asks_of batch (drop 1 (list_at p k)) = omega (arith, w.room_is, w.leave, none) in
       ap₂ (λ xs n. let q : Lists = record { lists = xs; room = n } in q) (w.now ∙ ap (set p.lists k) (ap (λ xs. w.kept ++ xs) (sym (all-stay batch w.rest none)) ∙ w.stay)) room
 
   pub walked-through : length (list_at p k) ≤ i
-      → (let q : Lists = record { lists = map (claims_of es) ls; room = room } in q) ≡ with_list p k (take 1 (list_at p k) ++ staying batch (drop 1 (list_at p k))) (p.room + asks_of batch (drop 1 (list_at p k)))
+      → (let q : Lists = record { lists = map (entry_claims es) ls; room = room } in q) ≡ with_list p k (take 1 (list_at p k) ++ staying batch (drop 1 (list_at p k))) (p.room + asks_of batch (drop 1 (list_at p k)))
   walked-through past = all-out (ap (asks_of batch) (nil_from_length w.rest (omega (arith, w.ahead, past))))
 
   pub walked-enough : left ≡ 0 → asks_of batch (drop 1 (list_at p k)) ≤ most
-      → (let q : Lists = record { lists = map (claims_of es) ls; room = room } in q) ≡ with_list p k (take 1 (list_at p k) ++ staying batch (drop 1 (list_at p k))) (p.room + asks_of batch (drop 1 (list_at p k)))
+      → (let q : Lists = record { lists = map (entry_claims es) ls; room = room } in q) ≡ with_list p k (take 1 (list_at p k) ++ staying batch (drop 1 (list_at p k))) (p.room + asks_of batch (drop 1 (list_at p k)))
   walked-enough none few = all-out (omega (arith, w.leave, w.left_is, none, few))
 
 -- The first claim, when those behind it are gone

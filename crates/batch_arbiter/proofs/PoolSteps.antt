@@ -6,7 +6,7 @@ use Rattle.std.proofs.lemmas.List.Sums.{sum_by-set}
 use Rattle.std.proofs.lemmas.Bool.{cases_eq}
 use Rattle.batch_arbiter.specs.declared.entry.Entry.{Entry}
 use Rattle.batch_arbiter.specs.declared.ends.Ends.{Ends}
-use Rattle.batch_arbiter.specs.Linked.{at, no_list, ends_at, claim_of, claims_of, Part, bottom, free, end_of, claim_in, marked, Leads, Avoids, IsList, IsLinkedBy}
+use Rattle.batch_arbiter.specs.Linked.{at, no_list, ends_at, entry_claim, entry_claims, EntryPart, bottom, free, end_of, claim_in, with_part, LeadsThrough, Avoids, IsList, IsLinkedBy}
 use Rattle.batch_arbiter.proofs.EntryWrites.{marked-same, marked-other, at-set_same, at-set_other, Edits, Avoids-other, Avoids-first, Leads-kept, claims-kept, Leads-push, claims-push}
 
 map_here : {X Y : Type 0} (f g : X → Y) (xs : List X) (k i : ℕ) (x d : X) (y e : Y) → k < length xs → g x ≡ y → i ≡ k → get_or (map g (set xs k x)) i e ≡ get_or (set (map f xs) k y) i e
@@ -31,26 +31,26 @@ map-set_changed f g xs k x d y h here others =
     ])
 
 -- entries that play different parts are different entries
-pub apart : (parts : ℕ → Part) (i j : ℕ) (s t : Part) → parts i ≡ s → parts j ≡ t → (s ≡ t → ⊥) → i ≢ j
+pub apart : (parts : ℕ → EntryPart) (i j : ℕ) (s t : EntryPart) → parts i ≡ s → parts j ≡ t → (s ≡ t → ⊥) → i ≢ j
 apart parts i j s t a b ne e = ne (sym a ∙ ap parts e ∙ b)
 
-pub off : (p s t : Part) → p ≡ s → (s ≡ t → ⊥) → p ≢ t
+pub off : (p s t : EntryPart) → p ≡ s → (s ≡ t → ⊥) → p ≢ t
 off p s t a ne e = ne (sym a ∙ e)
 
 -- an entry that is neither in list k nor its end
-abbrev pub OffList : Part → ℕ → Type 0
+abbrev pub OffList : EntryPart → ℕ → Type 0
 OffList p k = (p ≢ claim_in k) × (p ≢ end_of k)
 
-pub off-free : (p : Part) (k : ℕ) → p ≡ free → OffList p k
+pub off-free : (p : EntryPart) (k : ℕ) → p ≡ free → OffList p k
 off-free p k e = (off p free (claim_in k) e (λ q. let c : ⊥ = cc in c), off p free (end_of k) e (λ q. let c : ⊥ = cc in c))
 
-off-end : (p : Part) (k q : ℕ) → p ≡ end_of k → q ≢ k → OffList p q
+off-end : (p : EntryPart) (k q : ℕ) → p ≡ end_of k → q ≢ k → OffList p q
 off-end p k q e ne = (off p (end_of k) (claim_in q) e (λ h. let c : ⊥ = cc in c), off p (end_of k) (end_of q) e (λ h. ne (let c : q ≡ k = cc in c)))
 
-pub off-claim : (p : Part) (k q : ℕ) → p ≡ claim_in k → q ≢ k → OffList p q
+pub off-claim : (p : EntryPart) (k q : ℕ) → p ≡ claim_in k → q ≢ k → OffList p q
 off-claim p k q e ne = (off p (claim_in k) (claim_in q) e (λ h. ne (let c : q ≡ k = cc in c)), off p (claim_in k) (end_of q) e (λ h. let c : ⊥ = cc in c))
 
-list-kept : (parts parts' : ℕ → Part) (es fs : List Entry) (i j k : ℕ) (l : Ends) → Edits parts parts' es fs i j → OffList (parts i) k → OffList (parts j) k → IsList parts es k l → IsList parts' fs k l × (claims_of fs l ≡ claims_of es l)
+list-kept : (parts parts' : ℕ → EntryPart) (es fs : List Entry) (i j k : ℕ) (l : Ends) → Edits parts parts' es fs i j → OffList (parts i) k → OffList (parts j) k → IsList parts es k l → IsList parts' fs k l × (entry_claims fs l ≡ entry_claims es l)
 list-kept parts parts' es fs i j k l d off_i off_j it =
     let end_i : l.end ≢ i = λ e. off_i.1 (ap parts (sym e) ∙ it.ends) in
     let end_j : l.end ≢ j = λ e. off_j.1 (ap parts (sym e) ∙ it.ends) in
@@ -65,20 +65,20 @@ list-kept parts parts' es fs i j k l d off_i off_j it =
     )
 
 -- list k changes at entries i and j, which no other list has, and with it the free entries
-pub record Steps (parts parts' : ℕ → Part) (es fs : List Entry) (ls : List Ends) (i j k : ℕ) (l : Ends) (unused room unused' room' : ℕ) : Type 0 where
+pub record Steps (parts parts' : ℕ → EntryPart) (es fs : List Entry) (ls : List Ends) (i j k : ℕ) (l : Ends) (unused room unused' room' : ℕ) : Type 0 where
   pub linked : IsLinkedBy parts es ls unused room
   pub known : k < length ls
   pub edits : Edits parts parts' es fs i j
   pub off_i : (q : ℕ) → q ≢ k → OffList (parts i) q
   pub off_j : (q : ℕ) → q ≢ k → OffList (parts j) q
   pub own : IsList parts' fs k l
-  pub spare : Leads free parts' fs room' unused' 0
+  pub spare : LeadsThrough free parts' fs room' unused' 0
   pub bottom_at_0 : parts' 0 ≡ bottom
   pub same : length fs ≡ length es
   pub total : l.len + room' ≡ (ends_at ls k).len + room
 
-module _ (parts parts' : ℕ → Part) (es fs : List Entry) (ls : List Ends) (i j k : ℕ) (l : Ends) (unused room unused' room' : ℕ) (s : Steps parts parts' es fs ls i j k l unused room unused' room') where
-  other : (q : ℕ) → q < length ls → q ≢ k → IsList parts' fs q (ends_at ls q) × (claims_of fs (ends_at ls q) ≡ claims_of es (ends_at ls q))
+module _ (parts parts' : ℕ → EntryPart) (es fs : List Entry) (ls : List Ends) (i j k : ℕ) (l : Ends) (unused room unused' room' : ℕ) (s : Steps parts parts' es fs ls i j k l unused room unused' room') where
+  other : (q : ℕ) → q < length ls → q ≢ k → IsList parts' fs q (ends_at ls q) × (entry_claims fs (ends_at ls q) ≡ entry_claims es (ends_at ls q))
   other q w ne = list-kept parts parts' es fs i j q (ends_at ls q) s.edits (s.off_i q ne) (s.off_j q ne) (s.linked.each q w)
 
   at_own : (q : ℕ) → q ≡ k → IsList parts' fs q (ends_at (set ls k l) q)
@@ -105,18 +105,18 @@ module _ (parts parts' : ℕ → Part) (es fs : List Entry) (ls : List Ends) (i 
       }
 
   -- the view of a caller: list k is another one
-  pub claims-step : map (claims_of fs) (set ls k l) ≡ set (map (claims_of es) ls) k (claims_of fs l)
-  claims-step = map-set_changed (claims_of es) (claims_of fs) ls k l no_list (claims_of fs l) s.known refl (λ q w ne. (other q w ne).1)
+  pub claims-step : map (entry_claims fs) (set ls k l) ≡ set (map (entry_claims es) ls) k (entry_claims fs l)
+  claims-step = map-set_changed (entry_claims es) (entry_claims fs) ls k l no_list (entry_claims fs l) s.known refl (λ q w ne. (other q w ne).1)
 
 -- A claim joins list k: its end takes the claim, and a free entry is its end.
 
-abbrev pub joined_parts : (ℕ → Part) → ℕ → ℕ → ℕ → ℕ → Part
-joined_parts parts k taken end = marked (marked parts taken (end_of k)) end (claim_in k)
+abbrev pub joined_parts : (ℕ → EntryPart) → ℕ → ℕ → ℕ → ℕ → EntryPart
+joined_parts parts k taken end = with_part (with_part parts taken (end_of k)) end (claim_in k)
 
 abbrev pub joined_ends : Ends → ℕ → Ends
 joined_ends l taken = record { first = l.first; len = suc l.len; end = taken }
 
-module _ (parts : ℕ → Part) (es : List Entry) (ls : List Ends) (k taken room : ℕ) (e : Entry) (known : k < length ls) (linked : IsLinkedBy parts es ls taken (suc room)) (next : e.next ≡ taken) where
+module _ (parts : ℕ → EntryPart) (es : List Entry) (ls : List Ends) (k taken room : ℕ) (e : Entry) (known : k < length ls) (linked : IsLinkedBy parts es ls taken (suc room)) (next : e.next ≡ taken) where
   own_list : IsList parts es k (ends_at ls k)
   own_list = linked.each k known
 
@@ -125,7 +125,7 @@ module _ (parts : ℕ → Part) (es : List Entry) (ls : List Ends) (k taken room
 
   joined_edits : Edits parts (joined_parts parts k taken (ends_at ls k).end) es (set es (ends_at ls k).end e) taken (ends_at ls k).end
   joined_edits = record {
-    plays = λ m off_taken off_end. marked-other (marked parts taken (end_of k)) (ends_at ls k).end (claim_in k) m off_end ∙ marked-other parts taken (end_of k) m off_taken;
+    plays = λ m off_taken off_end. marked-other (with_part parts taken (end_of k)) (ends_at ls k).end (claim_in k) m off_end ∙ marked-other parts taken (end_of k) m off_taken;
     entries = λ m off_taken off_end. at-set_other es (ends_at ls k).end m e off_end;
     longer = omega (arith, length-set es (ends_at ls k).end e);
   }
@@ -142,15 +142,15 @@ module _ (parts : ℕ → Part) (es : List Entry) (ls : List Ends) (k taken room
   joined_own : IsList (joined_parts parts k taken (ends_at ls k).end) (set es (ends_at ls k).end e) k (joined_ends (ends_at ls k) taken)
   joined_own =
       let within : (ends_at ls k).end < length (set es (ends_at ls k).end e) = omega (arith, own_list.within, length-set es (ends_at ls k).end e) in
-      let leads : Leads (claim_in k) (joined_parts parts k taken (ends_at ls k).end) (set es (ends_at ls k).end e) (suc (ends_at ls k).len) (ends_at ls k).first (at (set es (ends_at ls k).end e) (ends_at ls k).end).next =
-      Leads-push (claim_in k) parts (joined_parts parts k taken (ends_at ls k).end) es (set es (ends_at ls k).end e) taken (ends_at ls k).len (ends_at ls k).first (ends_at ls k).end joined_edits off_taken off_end within (marked-same (marked parts taken (end_of k)) (ends_at ls k).end (claim_in k)) own_list.linked in
+      let leads : LeadsThrough (claim_in k) (joined_parts parts k taken (ends_at ls k).end) (set es (ends_at ls k).end e) (suc (ends_at ls k).len) (ends_at ls k).first (at (set es (ends_at ls k).end e) (ends_at ls k).end).next =
+      Leads-push (claim_in k) parts (joined_parts parts k taken (ends_at ls k).end) es (set es (ends_at ls k).end e) taken (ends_at ls k).len (ends_at ls k).first (ends_at ls k).end joined_edits off_taken off_end within (marked-same (with_part parts taken (end_of k)) (ends_at ls k).end (claim_in k)) own_list.linked in
       record {
         within = omega (arith, linked.spare.0, length-set es (ends_at ls k).end e);
-        ends = marked-other (marked parts taken (end_of k)) (ends_at ls k).end (claim_in k) taken (λ q. end_off_taken (sym q)) ∙ marked-same parts taken (end_of k);
-        linked = subst (λ (x : ℕ). Leads (claim_in k) (joined_parts parts k taken (ends_at ls k).end) (set es (ends_at ls k).end e) (suc (ends_at ls k).len) (ends_at ls k).first x) (ap (λ (x : Entry). x.next) at_end ∙ next) leads;
+        ends = marked-other (with_part parts taken (end_of k)) (ends_at ls k).end (claim_in k) taken (λ q. end_off_taken (sym q)) ∙ marked-same parts taken (end_of k);
+        linked = subst (λ (x : ℕ). LeadsThrough (claim_in k) (joined_parts parts k taken (ends_at ls k).end) (set es (ends_at ls k).end e) (suc (ends_at ls k).len) (ends_at ls k).first x) (ap (λ (x : Entry). x.next) at_end ∙ next) leads;
       }
 
-  joined_spare : Leads free (joined_parts parts k taken (ends_at ls k).end) (set es (ends_at ls k).end e) room (at es taken).next 0
+  joined_spare : LeadsThrough free (joined_parts parts k taken (ends_at ls k).end) (set es (ends_at ls k).end e) room (at es taken).next 0
   joined_spare =
       let a : Avoids taken es room (at es taken).next = Avoids-first free parts es room taken 0 (off (parts 0) bottom free linked.bottom_at_0 (λ q. let c : ⊥ = cc in c)) linked.spare in
       let b : Avoids (ends_at ls k).end es room (at es taken).next = Avoids-other free parts (ends_at ls k).end es room (at es taken).next 0 (off (parts (ends_at ls k).end) (end_of k) free own_list.ends (λ q. let c : ⊥ = cc in c)) linked.spare.2 in
@@ -173,7 +173,7 @@ module _ (parts : ℕ → Part) (es : List Entry) (ls : List Ends) (k taken room
         total = omega arith;
       }
 
-  pub claims-joined : claims_of (set es (ends_at ls k).end e) (joined_ends (ends_at ls k) taken) ≡ claims_of es (ends_at ls k) ++ claim_of e ∷ []
+  pub claims-joined : entry_claims (set es (ends_at ls k).end e) (joined_ends (ends_at ls k) taken) ≡ entry_claims es (ends_at ls k) ++ entry_claim e ∷ []
   claims-joined =
       claims-push (claim_in k) parts (joined_parts parts k taken (ends_at ls k).end) es (set es (ends_at ls k).end e) taken (ends_at ls k).len (ends_at ls k).first (ends_at ls k).end joined_edits off_taken off_end own_list.linked
-      ∙ ap (λ x. claims_of es (ends_at ls k) ++ claim_of x ∷ []) at_end
+      ∙ ap (λ x. entry_claims es (ends_at ls k) ++ entry_claim x ∷ []) at_end

@@ -6,39 +6,39 @@ use Rattle.std.proofs.lemmas.Bool.{cases_eq, leb-true}
 use Rattle.std.proofs.lemmas.List.{length-set, get_or-set_same, get_or-set_other, set-set, get_or-take, get_or-drop, take-set-le, drop-set-lt, drop-set-add, take-replicate, drop-replicate, length-replicate, get_or-replicate}
 use Rattle.std.proofs.lemmas.List.Sums.{sum_by_push, sum_by-cons}
 use Rattle.std.proofs.Math.Seq.{take-set-lt}
-use Rattle.batch_arbiter.specs.Allocation.{Claim, Allocation, is_claim, held_units, without_first, shares_of, line_of, next_in, next_grant, units_of, handed_over, idle, asked, granted, passed, released}
+use Rattle.batch_arbiter.specs.Allocation.{Claim, Allocation, is_claim, held_units, without_first, shares_at, queue_at, next_in, next_grant, units_claimed, handed_over, idle, with_ask, with_grant, with_pass, with_release}
 use Rattle.batch_arbiter.specs.Linked.{Lists, list_at, with_list, IsRemoved}
-use Rattle.batch_arbiter.specs.Standing.{seen, StandsInPool}
+use Rattle.batch_arbiter.specs.Standing.{pool_seen, StandsInPool}
 
-pub shares-seen : (capacities : List ℕ) (p : Lists) (r : ℕ) → r < length capacities → shares_of (seen capacities p) r ≡ list_at p r
+pub shares-seen : (capacities : List ℕ) (p : Lists) (r : ℕ) → r < length capacities → shares_at (pool_seen capacities p) r ≡ list_at p r
 shares-seen capacities p r h = get_or-take (length capacities) p.lists r [] h
 
-pub line-seen : (capacities : List ℕ) (p : Lists) (r : ℕ) → line_of (seen capacities p) r ≡ list_at p (length capacities + r)
+pub line-seen : (capacities : List ℕ) (p : Lists) (r : ℕ) → queue_at (pool_seen capacities p) r ≡ list_at p (length capacities + r)
 line-seen capacities p r = get_or-drop (length capacities) p.lists r []
 
 -- another list of shares
 pub seen-share : (capacities : List ℕ) (p : Lists) (r room : ℕ) (claims : List Claim) → r < length capacities
-    → seen capacities (with_list p r claims room) ≡ record (seen capacities p) { shares = set (seen capacities p).shares r claims; room = room }
+    → pool_seen capacities (with_list p r claims room) ≡ record (pool_seen capacities p) { shares = set (pool_seen capacities p).shares r claims; room = room }
 seen-share capacities p r room claims h = grind (arith, take-set-lt (length capacities) p.lists r claims h, drop-set-lt (length capacities) p.lists r claims h)
 
 -- another line
 pub seen-line : (capacities : List ℕ) (p : Lists) (r room : ℕ) (claims : List Claim)
-    → seen capacities (with_list p (length capacities + r) claims room) ≡ record (seen capacities p) { lines = set (seen capacities p).lines r claims; room = room }
+    → pool_seen capacities (with_list p (length capacities + r) claims room) ≡ record (pool_seen capacities p) { lines = set (pool_seen capacities p).lines r claims; room = room }
 seen-line capacities p r room claims = grind (arith, drop-set-add (length capacities) p.lists r claims, take-set-le)
 
 pub seen-ask : (capacities : List ℕ) (p : Lists) (r : ℕ) (c : Claim)
-    → seen capacities (with_list p (length capacities + r) (list_at p (length capacities + r) ++ c ∷ []) (p.room - 1)) ≡ asked r c (seen capacities p)
+    → pool_seen capacities (with_list p (length capacities + r) (list_at p (length capacities + r) ++ c ∷ []) (p.room - 1)) ≡ with_ask r c (pool_seen capacities p)
 seen-ask capacities p r c = grind (arith, seen-line capacities p r (p.room - 1) (list_at p (length capacities + r) ++ c ∷ []), line-seen capacities p r)
 
 pub seen-release : (capacities : List ℕ) (p : Lists) (r batch node : ℕ) → r < length capacities
-    → seen capacities (with_list p r (without_first (is_claim batch node) (list_at p r)) (p.room + 1)) ≡ released r batch node (seen capacities p)
+    → pool_seen capacities (with_list p r (without_first (is_claim batch node) (list_at p r)) (p.room + 1)) ≡ with_release r batch node (pool_seen capacities p)
 seen-release capacities p r batch node h = grind (arith, seen-share capacities p r (p.room + 1) (without_first (is_claim batch node) (list_at p r)) h, shares-seen capacities p r h)
 
 -- no act holds or waits for anything
-pub seen-new : (capacities : List ℕ) (p : Lists) (m : ℕ) → m ≡ length capacities + length capacities → p ≡ record { lists = replicate m []; room = 0 } → seen capacities p ≡ idle capacities
+pub seen-new : (capacities : List ℕ) (p : Lists) (m : ℕ) → m ≡ length capacities + length capacities → p ≡ record { lists = replicate m []; room = 0 } → pool_seen capacities p ≡ idle capacities
 seen-new capacities p m twice new =
     let less : m - length capacities ≡ length capacities = omega arith in
-    ap (seen capacities) new
+    ap (pool_seen capacities) new
     ∙ ap (λ xs. record { capacities = capacities; shares = xs; lines = drop (length capacities) (replicate m []); room = 0 }) (take-replicate (length capacities) m [] (omega arith))
     ∙ ap (λ xs. record { capacities = capacities; shares = replicate (length capacities) []; lines = xs; room = 0 }) (drop-replicate (length capacities) m [] ∙ ap (λ n. replicate n []) less)
 
@@ -59,28 +59,28 @@ next-free : (capacity : ℕ) (shares line : List Claim) (c : Claim) → next_in 
 next-free capacity shares line c e = grind (arith, leb-true)
 
 -- the oldest ask leaves its line and joins the shares
-module _ (capacities held : List ℕ) (p q s : Lists) (r : ℕ) (c : Claim) (known : r < length capacities) (sound : StandsInPool capacities held p) (next : next_grant (seen capacities p) r ≡ Some c) (left : q ≡ with_list p (length capacities + r) (drop 1 (list_at p (length capacities + r))) (p.room + 1)) (joined : s ≡ with_list q r (list_at q r ++ c ∷ []) (q.room - 1)) where
+module _ (capacities held : List ℕ) (p q s : Lists) (r : ℕ) (c : Claim) (known : r < length capacities) (sound : StandsInPool capacities held p) (next : next_grant (pool_seen capacities p) r ≡ Some c) (left : q ≡ with_list p (length capacities + r) (drop 1 (list_at p (length capacities + r))) (p.room + 1)) (joined : s ≡ with_list q r (list_at q r ++ c ∷ []) (q.room - 1)) where
   same_shares : (k : ℕ) → k < length capacities → list_at q k ≡ list_at p k
   same_shares k h = ap (λ x. list_at x k) left ∙ get_or-set_other p.lists (length capacities + r) k (drop 1 (list_at p (length capacities + r))) [] (omega arith)
 
   free : held_units (list_at p r) + c.units ≤ slice_index capacities r
-  free = subst (λ (cs : List Claim). held_units cs + c.units ≤ slice_index capacities r) (shares-seen capacities p r known) (next-free (slice_index capacities r) (shares_of (seen capacities p) r) (line_of (seen capacities p) r) c next)
+  free = subst (λ (cs : List Claim). held_units cs + c.units ≤ slice_index capacities r) (shares-seen capacities p r known) (next-free (slice_index capacities r) (shares_at (pool_seen capacities p) r) (queue_at (pool_seen capacities p) r) c next)
 
   pub fits : slice_index held r + c.units ≤ slice_index capacities r
   fits = omega (arith, free, sound.sums r known)
 
-  pub seen-grant : seen capacities s ≡ granted r (next_grant (seen capacities p) r) (seen capacities p)
+  pub seen-grant : pool_seen capacities s ≡ with_grant r (next_grant (pool_seen capacities p) r) (pool_seen capacities p)
   seen-grant =
       let room : q.room - 1 ≡ p.room = omega (arith, ap (λ (x : Lists). x.room) left) in
-      let old : list_at q r ≡ shares_of (seen capacities p) r = same_shares r known ∙ sym (shares-seen capacities p r known) in
-      ap (seen capacities) joined
+      let old : list_at q r ≡ shares_at (pool_seen capacities p) r = same_shares r known ∙ sym (shares-seen capacities p r known) in
+      ap (pool_seen capacities) joined
       ∙ seen-share capacities q r (q.room - 1) (list_at q r ++ c ∷ []) known
-      ∙ ap (λ n. record (seen capacities q) { shares = set (seen capacities q).shares r (list_at q r ++ c ∷ []); room = n }) room
-      ∙ ap (λ cs. record (seen capacities q) { shares = set (seen capacities q).shares r (cs ++ c ∷ []); room = p.room }) old
-      ∙ ap (λ (a : Allocation). record a { shares = set a.shares r (shares_of (seen capacities p) r ++ c ∷ []); room = p.room })
-      (ap (seen capacities) left ∙ seen-line capacities p r (p.room + 1) (drop 1 (list_at p (length capacities + r))))
-      ∙ ap (λ cs. record (seen capacities p) { shares = set (seen capacities p).shares r (shares_of (seen capacities p) r ++ c ∷ []); lines = set (seen capacities p).lines r (drop 1 cs) }) (sym (line-seen capacities p r))
-      ∙ ap (λ o. granted r o (seen capacities p)) (sym next)
+      ∙ ap (λ n. record (pool_seen capacities q) { shares = set (pool_seen capacities q).shares r (list_at q r ++ c ∷ []); room = n }) room
+      ∙ ap (λ cs. record (pool_seen capacities q) { shares = set (pool_seen capacities q).shares r (cs ++ c ∷ []); room = p.room }) old
+      ∙ ap (λ (a : Allocation). record a { shares = set a.shares r (shares_at (pool_seen capacities p) r ++ c ∷ []); room = p.room })
+      (ap (pool_seen capacities) left ∙ seen-line capacities p r (p.room + 1) (drop 1 (list_at p (length capacities + r))))
+      ∙ ap (λ cs. record (pool_seen capacities p) { shares = set (pool_seen capacities p).shares r (shares_at (pool_seen capacities p) r ++ c ∷ []); lines = set (pool_seen capacities p).lines r (drop 1 cs) }) (sym (line-seen capacities p r))
+      ∙ ap (λ o. with_grant r o (pool_seen capacities p)) (sym next)
 
   list_r : list_at s r ≡ list_at p r ++ c ∷ []
   list_r =
@@ -124,11 +124,11 @@ module _ (capacities held : List ℕ) (p q s : Lists) (r : ℕ) (c : Claim) (kno
 
 -- A share goes to another act
 
-removed-sum : (batch node : ℕ) (cs : List Claim) → held_units cs ≡ held_units (without_first (is_claim batch node) cs) + units_of batch node cs
+removed-sum : (batch node : ℕ) (cs : List Claim) → held_units cs ≡ held_units (without_first (is_claim batch node) cs) + units_claimed batch node cs
 removed-sum batch node [] = refl
 removed-sum batch node (c ∷ cs) = go (is_claim batch node c) (removed-sum batch node cs)
   where
-    go : (t : Bool) → held_units cs ≡ held_units (without_first (is_claim batch node) cs) + units_of batch node cs
+    go : (t : Bool) → held_units cs ≡ held_units (without_first (is_claim batch node) cs) + units_claimed batch node cs
         → held_units (c ∷ cs)
         ≡ held_units (cond t cs (c ∷ without_first (is_claim batch node) cs)) + elim (cond t (Some c) (find (is_claim batch node) cs)) [ None ↦ 0 | Some d ↦ d.units ]
     go true h = omega (arith, sum_by-cons (λ (x : Claim). x.units) c cs)
@@ -139,7 +139,7 @@ pub handed_over-sum : (batch from to : ℕ) (cs : List Claim) → held_units (ha
 handed_over-sum batch from to cs =
     omega (
       arith,
-      sum_by_push (λ (x : Claim). x.units) (without_first (is_claim batch from) cs) (record { batch = batch; node = to; units = units_of batch from cs }),
+      sum_by_push (λ (x : Claim). x.units) (without_first (is_claim batch from) cs) (record { batch = batch; node = to; units = units_claimed batch from cs }),
       removed-sum batch from cs,
     )
 
@@ -147,7 +147,7 @@ module _ (capacities held : List ℕ) (p q s : Lists) (r batch from to units : �
   abbrev less : List Claim
   less = without_first (is_claim batch from) (list_at p r)
 
-  units-are : units ≡ units_of batch from (list_at p r)
+  units-are : units ≡ units_claimed batch from (list_at p r)
   units-are = omega (arith, removed.sum, removed-sum batch from (list_at p r))
 
   list_less : list_at q r ≡ less
@@ -162,8 +162,8 @@ module _ (capacities held : List ℕ) (p q s : Lists) (r batch from to units : �
       ∙ ap (λ ls. record { lists = ls; room = p.room + 1 - 1 }) (set-set p.lists r less (handed_over batch from to (list_at p r)))
       ∙ ap (λ n. with_list p r (handed_over batch from to (list_at p r)) n) (omega arith)
 
-  pub seen-pass : seen capacities s ≡ passed r batch from to (seen capacities p)
+  pub seen-pass : pool_seen capacities s ≡ with_pass r batch from to (pool_seen capacities p)
   seen-pass =
-      ap (seen capacities) after_both
+      ap (pool_seen capacities) after_both
       ∙ seen-share capacities p r p.room (handed_over batch from to (list_at p r)) known
-      ∙ ap (λ cs. record (seen capacities p) { shares = set (seen capacities p).shares r (handed_over batch from to cs) }) (sym (shares-seen capacities p r known))
+      ∙ ap (λ cs. record (pool_seen capacities p) { shares = set (pool_seen capacities p).shares r (handed_over batch from to cs) }) (sym (shares-seen capacities p r known))

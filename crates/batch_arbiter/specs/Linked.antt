@@ -17,8 +17,8 @@ list_at p k = slice_index_or p.lists k []
 abbrev pub with_list : Lists → ℕ → List Claim → ℕ → Lists
 with_list p k claims room = record { lists = slice_set p.lists k claims; room = room }
 
-abbrev pub claim_of : Entry → Claim
-claim_of e = record { batch = e.batch; node = e.node; units = e.units }
+abbrev pub entry_claim : Entry → Claim
+entry_claim e = record { batch = e.batch; node = e.node; units = e.units }
 
 abbrev pub nowhere : Entry
 nowhere = record { batch = 0; units = 0; next = 0; node = 0 }
@@ -35,27 +35,27 @@ ends_at lists k = slice_index_or lists k no_list
 -- the claims of n entries, one after the other
 abbrev pub claims_from : List Entry → ℕ → ℕ → List Claim
 claims_from entries zero first = []
-claims_from entries (suc n) first = claim_of (at entries first) ∷ claims_from entries n (at entries first).next
+claims_from entries (suc n) first = entry_claim (at entries first) ∷ claims_from entries n (at entries first).next
 
-abbrev pub claims_of : List Entry → Ends → List Claim
-claims_of entries l = claims_from entries l.len l.first
+abbrev pub entry_claims : List Entry → Ends → List Claim
+entry_claims entries l = claims_from entries l.len l.first
 
 -- the part of an entry: it ends the free ones, is free, ends a list, or has a claim of a list
-pub data Part : Type 0 where
-  bottom : Part
-  free : Part
-  end_of : ℕ → Part
-  claim_in : ℕ → Part
+pub data EntryPart : Type 0 where
+  bottom : EntryPart
+  free : EntryPart
+  end_of : ℕ → EntryPart
+  claim_in : ℕ → EntryPart
 
 -- an entry plays another part
-abbrev pub marked : (ℕ → Part) → ℕ → Part → ℕ → Part
-marked parts i part k = cond (nat_eq k i) part (parts k)
+abbrev pub with_part : (ℕ → EntryPart) → ℕ → EntryPart → ℕ → EntryPart
+with_part parts i part k = cond (nat_eq k i) part (parts k)
 
 -- from the entry first, n entries that play this part are linked one after the other, and the last leads to end
-abbrev pub Leads : Part → (ℕ → Part) → List Entry → ℕ → ℕ → ℕ → Type 0
-Leads part parts entries zero first end = first ≡ end
-Leads part parts entries (suc n) first end =
-    (first < length entries) × (parts first ≡ part) × Leads part parts entries n (at entries first).next end
+abbrev pub LeadsThrough : EntryPart → (ℕ → EntryPart) → List Entry → ℕ → ℕ → ℕ → Type 0
+LeadsThrough part parts entries zero first end = first ≡ end
+LeadsThrough part parts entries (suc n) first end =
+    (first < length entries) × (parts first ≡ part) × LeadsThrough part parts entries n (at entries first).next end
 
 -- none of these n entries is the entry i
 abbrev pub Avoids : ℕ → List Entry → ℕ → ℕ → Type 0
@@ -63,22 +63,22 @@ Avoids i entries zero first = ⊤
 Avoids i entries (suc n) first = (first ≢ i) × Avoids i entries n (at entries first).next
 
 -- list k is linked from its first entry to its end, an empty entry of its own
-pub record IsList (parts : ℕ → Part) (entries : List Entry) (k : ℕ) (l : Ends) : Type 0 where
+pub record IsList (parts : ℕ → EntryPart) (entries : List Entry) (k : ℕ) (l : Ends) : Type 0 where
   pub within : l.end < length entries
   pub ends : parts l.end ≡ end_of k
-  pub linked : Leads (claim_in k) parts entries l.len l.first l.end
+  pub linked : LeadsThrough (claim_in k) parts entries l.len l.first l.end
 
 -- every list is linked, and so are the free entries
-pub record IsLinkedBy (parts : ℕ → Part) (entries : List Entry) (lists : List Ends) (unused room : ℕ) : Type 0 where
+pub record IsLinkedBy (parts : ℕ → EntryPart) (entries : List Entry) (lists : List Ends) (unused room : ℕ) : Type 0 where
   pub each : (k : ℕ) → k < length lists → IsList parts entries k (ends_at lists k)
-  pub spare : Leads free parts entries room unused 0
+  pub spare : LeadsThrough free parts entries room unused 0
   pub bottom_at_0 : parts 0 ≡ bottom
   -- so that no length runs over: the first entry is in no list
   pub total : sum_by (λ l. l.len) lists + room < length entries
   pub numbered : length entries ≤ 2 ^ 32
 
-pub record IsLinked (entries : List Entry) (lists : List Ends) (unused room : ℕ) : Type 0 where
-  pub parts : ℕ → Part
+pub record AreLinkedLists (entries : List Entry) (lists : List Ends) (unused room : ℕ) : Type 0 where
+  pub parts : ℕ → EntryPart
   pub by_parts : IsLinkedBy parts entries lists unused room
 
 -- the number of the entry m places behind the first
@@ -95,13 +95,13 @@ unlinked_behind entries before unused =
 
 -- a list is linked, whatever part its entries play
 pub record IsSomeList (entries : List Entry) (l : Ends) : Type 0 where
-  pub parts : ℕ → Part
-  pub part : Part
-  pub linked : Leads part parts entries l.len l.first l.end
+  pub parts : ℕ → EntryPart
+  pub part : EntryPart
+  pub linked : LeadsThrough part parts entries l.len l.first l.end
 
 -- the entry m places behind the first is the act's
 abbrev pub is_claim_behind : List Entry → Ends → ℕ → ℕ → ℕ → Bool
-is_claim_behind entries l batch node m = is_claim batch node (claim_of (at entries (behind entries m l.first)))
+is_claim_behind entries l batch node m = is_claim batch node (entry_claim (at entries (behind entries m l.first)))
 
 -- this entry is the one before the first of the act
 pub record IsBefore (entries : List Entry) (l : Ends) (batch node before : ℕ) : Type 0 where
@@ -123,4 +123,4 @@ pub record IsRemoved (old : Lists) (k batch node units : ℕ) (new : Lists) : Ty
 -- so many entries more are free, and each list is as it was
 abbrev pub IsGrown : List Entry → ℕ → List Entry → ℕ → ℕ → Type 0
 IsGrown old unused new unused' more =
-    (lists : List Ends) (room : ℕ) → IsLinked old lists unused room → IsLinked new lists unused' (room + more) × (map (claims_of new) lists ≡ map (claims_of old) lists)
+    (lists : List Ends) (room : ℕ) → AreLinkedLists old lists unused room → AreLinkedLists new lists unused' (room + more) × (map (entry_claims new) lists ≡ map (entry_claims old) lists)

@@ -1,7 +1,7 @@
 //! The pool.
 ghost use Rattle.std.specs.Prelude.{◌≡◌, ◌+◌, ◌-◌, ◌<◌, ◌≤◌, ◌^◌, ◌++◌, ◌∷◌, [], ℕ, List, length, map, filter, not, take, drop, replicate, slice_get, option_map, Option, Some, None, MatchOption, IfSome, IfNone, IfOk, IsOk, OnOk, OnErr, Bool, true, false, vec_len, vec_capacity};
 ghost use Rattle.batch_arbiter.specs.Allocation.{asks_of, is_claim, is_of_batch, without_first};
-ghost use Rattle.batch_arbiter.specs.Linked.{claim_of, claims_of, at, list_at, with_list, unlinked_behind, IsSomeList, IsBefore, HasNone, IsRemoved, IsGrown};
+ghost use Rattle.batch_arbiter.specs.Linked.{entry_claim, entry_claims, at, list_at, with_list, unlinked_behind, IsSomeList, IsBefore, HasNone, IsRemoved, IsGrown};
 
 use crate::ends::Ends;
 use crate::entry::Entry;
@@ -25,13 +25,13 @@ pub struct Pool {
 
 impl Model for Pool {
     ghost use Rattle.std.specs.Prelude.{map};
-    ghost use Rattle.batch_arbiter.specs.Linked.{Lists, IsLinked, claims_of};
+    ghost use Rattle.batch_arbiter.specs.Linked.{Lists, AreLinkedLists, entry_claims};
 
     ghost Value = { Lists };
 
-    ghost view = { λ p. record { lists = map (claims_of p.entries.items) p.lists.items; room = p.room } };
+    ghost view = { λ p. record { lists = map (entry_claims p.entries.items) p.lists.items; room = p.room } };
 
-    ghost invariant = { λ p. IsLinked p.entries.items p.lists.items p.free p.room };
+    ghost invariant = { λ p. AreLinkedLists p.entries.items p.lists.items p.free p.room };
 }
 
 impl Pool {
@@ -70,7 +70,7 @@ impl Pool {
     /// The first claim of a list.
     pub fn first(&self, list: usize) -> Option<Entry>
         requires { list < length self.now.lists }
-        ensures { option_map claim_of result ≡ slice_get (list_at self.now list) 0 }
+        ensures { option_map entry_claim result ≡ slice_get (list_at self.now list) 0 }
     {
         let ends = self.lists[list];
         if ends.len == 0 {
@@ -83,7 +83,7 @@ impl Pool {
     pub fn push(&mut self, list: usize, claim: Entry)
         requires known { list < length self.old.lists }
         requires room { 0 < self.old.room }
-        ensures { self.new ≡ with_list self.old list (list_at self.old list ++ claim_of claim ∷ []) (self.old.room - 1) }
+        ensures { self.new ≡ with_list self.old list (list_at self.old list ++ entry_claim claim ∷ []) (self.old.room - 1) }
     {
         let taken = self.free;
         let ends = self.lists[list];
@@ -106,7 +106,7 @@ impl Pool {
     pub fn take_first(&mut self, list: usize) -> Entry
         requires known { list < length self.old.lists }
         requires some { 0 < length (list_at self.old list) }
-        ensures value { list_at self.old list ≡ claim_of result ∷ drop 1 (list_at self.old list) }
+        ensures value { list_at self.old list ≡ entry_claim result ∷ drop 1 (list_at self.old list) }
         ensures after { self.new ≡ with_list self.old list (drop 1 (list_at self.old list)) (self.old.room + 1) }
     {
         let ends = self.lists[list];
@@ -231,9 +231,9 @@ impl Pool {
 fn before_act(entries: &[Entry], ends: Ends, batch: u64, node: u16) -> Option<u32>
     requires linked { IsSomeList entries.now ends }
     requires some { 0 < ends.len }
-    requires later { is_claim batch node (claim_of (at entries.now ends.first)) ≡ false }
+    requires later { is_claim batch node (entry_claim (at entries.now ends.first)) ≡ false }
     ensures some { IfSome result (λ before. IsBefore entries.now ends batch node before) }
-    ensures none { IfNone result (HasNone batch node (claims_of entries.now ends)) }
+    ensures none { IfNone result (HasNone batch node (entry_claims entries.now ends)) }
 {
     let mut before = ends.first;
     for _ in 1..ends.len {

@@ -31,8 +31,8 @@ use Rattle.batch_chart.specs.Outlined.{end_at, kind_at, is_act_kind, Stands}
 use Rattle.batch_chart.specs.Reaching.{IsReached}
 use Rattle.batch_chart.specs.Freeing.{IsFreed, HasFinished}
 use Rattle.batch_chart.specs.NodesOf.{place_at}
-use Rattle.batch_chart.specs.Seen.{move_of}
-use Rattle.batch_chart.specs.Running.{IsLaid, IsAlive, SomeLives, CanRelease, HasMore, Allows, HasMade, rest_after, IsChanged, IsChangedOnly, IsLiveAt, IsAskingAt}
+use Rattle.batch_chart.specs.Seen.{machine_move}
+use Rattle.batch_chart.specs.Running.{IsLaid, IsAlive, SomeLives, CanRelease, HasMore, Allows, HasMade, rest_after, IsChanged, IsChangedOnly, IsNodeLive, IsNodeAsking}
 use Rattle.batch_chart.proofs.TreePositions.{stood, ActAt, act_at, act-at, some-stands}
 use Rattle.batch_chart.proofs.StageAgreement.{stage-set_same, stage-set_other}
 use Rattle.batch_chart.proofs.PathToRoot.{as-many, set-out}
@@ -209,7 +209,7 @@ begin-changed ns doc vs xs zs k j h b lt e was l reached =
 
 -- the change is that of the move
 pub made : (ns : List Entry) (doc : Recipe) (vs : ValueList) (xs ys : List Stage) (k : ℕ) (f : Rest → Rest) (m : Move)
-    → ((t : Tree) (b : Batch) → rest_after vs (move_of t b m) b.rest ≡ advance_by vs (changed_at (place_at t k) f b.rest))
+    → ((t : Tree) (b : Batch) → rest_after vs (machine_move t b m) b.rest ≡ advance_by vs (changed_at (place_at t k) f b.rest))
     → IsChanged ns doc vs k f xs ys → HasMade ns doc vs m xs ys
 made ns doc vs xs ys k f m is c =
     record {
@@ -306,7 +306,7 @@ good-same : (j i : ℕ) (y : State) (s : Step) (w : Task) (r : Rest) → Fits (k
 good-same j i y s (runs p) r h = (refl, refl, same-remains (live s p y))
 good-same j i y s (follows name c) r h = absurd h
 
-module _ (ns : List Entry) (doc : Recipe) (vs : ValueList) (xs : List Stage) (k n : ℕ) (same : n ≡ k) (at : IsLiveAt ns xs k) where
+module _ (ns : List Entry) (doc : Recipe) (vs : ValueList) (xs : List Stage) (k n : ℕ) (same : n ≡ k) (at : IsNodeLive ns xs k) where
   pub reports-now : (z : State) → IsChanged ns doc vs k (phase_after (phase.Now z)) xs (slice_set xs n (Live z))
   reports-now z = rw same (set-changed ns doc vs xs k (phase_after (phase.Now z)) (Live at.2) (Live z) (kind.Phase at.0 at.1) at.3 at.4 refl at.5 refl (good-now z at.0 at.1 at.2) (calm-live at.0 at.1 (Live at.2) z))
 
@@ -333,7 +333,7 @@ module _ (ns : List Entry) (doc : Recipe) (vs : ValueList) (xs : List Stage) (k 
       let e : kind_at ns k ≡ kind.Phase j d = subst (λ z. kind_at ns z ≡ kind.Phase j d) same g in
       free-changed ns doc vs xs ys k (phase_after phase.Ended) (Live at.2) j (kind.Phase j d) at.3 e refl at.5 (good-reported j d at.2) (subst (λ z. IsFreed ns doc vs z j xs ys) same r)
 
-pub grants-next : (ns : List Entry) (doc : Recipe) (xs : List Stage) (k n i : ℕ) → n ≡ k → IsAskingAt ns xs k → stage_at xs n ≡ Asking i → IsChangedOnly ns doc k granted xs (slice_set xs n (Ready (i + 1)))
+pub grants-next : (ns : List Entry) (doc : Recipe) (xs : List Stage) (k n i : ℕ) → n ≡ k → IsNodeAsking ns xs k → stage_at xs n ≡ Asking i → IsChangedOnly ns doc k granted xs (slice_set xs n (Ready (i + 1)))
 grants-next ns doc xs k n i same at was =
     rw same (record {
       means = λ t laid alive.

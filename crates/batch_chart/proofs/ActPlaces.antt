@@ -4,7 +4,7 @@ use Rattle.std.specs.List.{list_any}
 use Rattle.std.proofs.lemmas.List.{map-append}
 use Rattle.batch_recipe.specs.Tree.{Place}
 use Rattle.batch_model.specs.Lists.{Has}
-use Rattle.batch_model.specs.Plant.{is_reached}
+use Rattle.batch_model.specs.Plant.{is_act_reached}
 use Rattle.batch_model.specs.Rest.{same_place, Rest, ready, asking, open_act, live, freeing, in_seq, in_par, in_loop, done, Rests, no_rests, rest, acts, acts_of_each, place_of, changed_at, changed_in_each, withdrawn, withdrawn_each}
 use Rattle.batch_model.proofs.Members.{Has-split, Has-left, Has-right}
 use Rattle.batch_record_laws.proofs.HoldingsInAdvance.{StandsIn, any-place}
@@ -30,7 +30,7 @@ mutual
       map-append place_of (acts (withdrawn r)) (acts_of_each (withdrawn_each rs))
       ∙ (ap₂ (λ xs ys. xs ++ ys) (withdrawn-places r) (withdrawn_each-places rs) ∙ sym (map-append place_of (acts r) (acts_of_each rs)))
 
-pub withdrawn-reached : (r : Rest) (p : Place) → is_reached (withdrawn r) p ≡ is_reached r p
+pub withdrawn-reached : (r : Rest) (p : Place) → is_act_reached (withdrawn r) p ≡ is_act_reached r p
 withdrawn-reached r p =
     any-place (acts (withdrawn r)) p ∙ ap (list_any (λ q. same_place q p)) (withdrawn-places r) ∙ sym (any-place (acts r) p)
 

@@ -1,7 +1,7 @@
 -- Each act of a rest of a tree is the act of one of the tree's nodes.
 use Rattle.std.proofs.Common.{◌≡◌, ◌⊎◌, inl, inr, ◌<◌, ℕ, ◌+◌, List, [], ◌∷◌, ◌++◌, length, Some, true, false, arith, refl, sym, ◌∙◌, subst, ap}
 use Rattle.std.specs.Prelude.{slice_get}
-use Rattle.batch_recipe.specs.Needs.{resources_of}
+use Rattle.batch_recipe.specs.Needs.{resources_needed}
 use Rattle.batch_recipe.specs.Conditions.{Name}
 use Rattle.batch_recipe.specs.Nodes as nodes
 use Rattle.batch_recipe.specs.Nodes.{Node, node, nodes_of_each, nodes_of_choices, child, node_count}
@@ -13,7 +13,7 @@ use Rattle.batch_model.specs.Placed.{IsPlaced, ArePlaced, IsChoicePlaced}
 use Rattle.batch_model.specs.Rest.{Rest, ready, asking, open_act, live, freeing, in_seq, in_par, in_loop, done, Rests, no_rests, rest, acts, acts_of_each, place_of}
 use Rattle.batch_model.specs.Standing.{IsRestOf, IsBranch, AreBranches, IsChosen}
 use Rattle.batch_model.proofs.Members.{Has-split}
-use Rattle.batch_chart.specs.NodesOf.{nodes_of, node_at, place_at, step_at, task_at, step_of, task_of}
+use Rattle.batch_chart.specs.NodesOf.{nodes_of, node_at, place_at, step_at, task_at, tree_step, tree_task}
 use Rattle.batch_chart.proofs.NodeNumbers.{Sits, sits-append, sits-self}
 use Rattle.batch_chart.proofs.ChartChange.{all-has}
 use Rattle.batch_chart.proofs.NodesAtNumbers.{get-or}
@@ -50,7 +50,7 @@ module _ (ls : List Node) where
     act-of (act s w) (freeing u k) a n q above g p h (inr m) = absurd m
     act-of (act s (runs x)) (open_act u r) a n q above g p h m = absurd h.1
     act-of (act s (follows name c)) (open_act u r) a n q above g p h (inl e) = own s (follows name c) (open_act u r) a n q above g p h e
-    act-of (act s (follows name c)) (open_act u r) a n q above g p h (inr m) = act-of c r a (n + 1) (child q 0) (above ++ resources_of s.needs) g.1 p.1 h.1 m
+    act-of (act s (follows name c)) (open_act u r) a n q above g p h (inr m) = act-of c r a (n + 1) (child q 0) (above ++ resources_needed s.needs) g.1 p.1 h.1 m
     act-of (seq cs) (in_seq r doc) a n q above g p h m = branch-of cs r doc a (n + 1) q above 0 g.1 p h m
     act-of (par cs) (in_par rs) a n q above g p h m = each-of cs rs a (n + 1) q above 0 g.1 p h m
     act-of (sel ch) r a n q above g p h m = chosen-of ch r a (n + 1) q above 0 g.1 p h m
@@ -97,8 +97,8 @@ node-of t a g =
     let at : g.at ≡ node_at t g.number = cc in (
       omega (arith, lt, counted_nodes (0 ∷ []) [] t),
       g.placed ∙ ap (λ (n : Node). n.place) at,
-      ap step_of (sym g.here) ∙ ap (λ (n : Node). step_of n.here) at,
-      ap task_of (sym g.here) ∙ ap (λ (n : Node). task_of n.here) at,
+      ap tree_step (sym g.here) ∙ ap (λ (n : Node). tree_step n.here) at,
+      ap tree_task (sym g.here) ∙ ap (λ (n : Node). tree_task n.here) at,
     )
 
 -- an act in line stands at a node

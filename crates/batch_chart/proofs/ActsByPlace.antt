@@ -7,7 +7,7 @@ use Rattle.std.proofs.lemmas.List.Elements.{filter_map-append}
 use Rattle.batch_matrix.specs.declared.state.State.{State}
 use Rattle.batch_matrix.specs.declared.state.State.TheVariants.{Idle}
 use Rattle.batch_recipe.specs.Conditions.{Name}
-use Rattle.batch_recipe.specs.Needs.{resources_of}
+use Rattle.batch_recipe.specs.Needs.{resources_needed}
 use Rattle.batch_recipe.specs.Nodes as nodes
 use Rattle.batch_recipe.specs.Nodes.{nodes_within, nodes_of_each, nodes_of_choices, child}
 use Rattle.batch_recipe.specs.Places.{AreInOrder}
@@ -27,7 +27,7 @@ step_in m = own_step m.here
 
 mutual
   pub steps-of : (c : Tree) (q : Place) (above : List Name) → steps c ≡ filter_map step_in (nodes.nodes q above c)
-  steps-of (act s w) q above = ap (λ l. s ∷ l) (steps-of_below w q (above ++ resources_of s.needs))
+  steps-of (act s w) q above = ap (λ l. s ∷ l) (steps-of_below w q (above ++ resources_needed s.needs))
   steps-of skip q above = refl
   steps-of (seq ts) q above = steps-of_each ts q above 0
   steps-of (par ts) q above = steps-of_each ts q above 0

@@ -16,7 +16,7 @@ use Rattle.batch_model.specs.Events.{phase_after}
 use Rattle.batch_model.specs.Lists.{Has}
 use Rattle.batch_model.specs.Moves as machine
 use Rattle.batch_model.specs.Moves.{act_after, batch_after, granted, passing, place_of_move}
-use Rattle.batch_model.specs.Plant.{Batch, InAdvance, is_reached, in_act, moment_of, with_rest}
+use Rattle.batch_model.specs.Plant.{Batch, InAdvance, is_act_reached, in_act, moment_of, with_rest}
 use Rattle.batch_model.specs.Rest.{Rest, acts, advance, changed_at, place_of}
 use Rattle.batch_record_laws.proofs.HoldingsInAdvance.{at_moment, Nowhere, raised, IsFresh, moved-raised, not_reached, reached-at, fresh-where-none}
 use Rattle.batch_record_laws.proofs.EffectsOnActs.{stays-steady, stays-tidy, granted-stays, phase_after-stays}
@@ -30,7 +30,7 @@ use Rattle.batch_chart.specs.Neat.{AreNeat}
 use Rattle.batch_chart.specs.NodesOf.{most_by, need_at, own_units, place_at}
 use Rattle.batch_chart.specs.Stages.{stage_at}
 use Rattle.batch_chart.specs.Running.{Allows, IsAlive, IsLiveIn, rest_after, IsChangedOnly}
-use Rattle.batch_chart.specs.Seen.{move_of}
+use Rattle.batch_chart.specs.Seen.{machine_move}
 use Rattle.batch_chart.specs.Upkeep.{IsKeptUp}
 use Rattle.batch_chart.specs.declared.chart_move.Move.{Move}
 use Rattle.batch_chart.specs.declared.chart_move.Move.TheVariants as move
@@ -74,13 +74,13 @@ module _ (chart : Recipe) (t : Tree) (laid : IsChartOf t chart) where
       shown : AreNoted t mid signs
       shown = noted ns chart mid signs t laid alive (kept.count ∙ ran.count) neat
 
-      still : (p : Passed) → Has held p → not (is_reached (raised (in_advance t held) (meaning t 0 mid)) (place_at t p.to)) ≡ not (is_ready (stage_at ys p.to))
+      still : (p : Passed) → Has held p → not (is_act_reached (raised (in_advance t held) (meaning t 0 mid)) (place_at t p.to)) ≡ not (is_ready (stage_at ys p.to))
       still p i =
           still-early ns chart t laid mid ys alive signs new.signs shown neat (is_early held) over (in_advance t held) was told waiting fresh p.to (before.within p i)
           (any-has (λ (q : Passed). nat_eq q.to p.to) held p i (nat-self p.to))
 
       -- as a batch's charts do that go on to this rest
-      over-runs : RunsAs t new (raised (in_advance t held) (meaning t 0 mid)) (filter (λ x. not (is_reached (raised (in_advance t held) (meaning t 0 mid)) x.place)) (in_advance t held))
+      over-runs : RunsAs t new (raised (in_advance t held) (meaning t 0 mid)) (filter (λ x. not (is_act_reached (raised (in_advance t held) (meaning t 0 mid)) x.place)) (in_advance t held))
       over-runs = record {
         rest = sym (ap (meaning t 0) is ∙ now-raised ns chart t laid mid ys alive signs new.signs shown neat (is_early held) over (in_advance t held) was told waiting fresh);
         held = still-held ns chart t laid held (raised (in_advance t held) (meaning t 0 mid)) ys still ∙ ap (in_advance t) (sym left);
@@ -89,7 +89,7 @@ module _ (chart : Recipe) (t : Tree) (laid : IsChartOf t chart) where
 
   -- the needs held in advance after a move
   module _ (xs : List Stage) (held : List Passed) (b : Batch) (is : b.in_advance ≡ in_advance t held) (small : (p : Passed) → Has held p → p.to < length ns) where
-    passing-is : (m : Move) → Allows ns xs m → Awaits t b.rest b.in_advance m → (passing (move_of t b m) b).in_advance ≡ in_advance t (held_after held m)
+    passing-is : (m : Move) → Allows ns xs m → Awaits t b.rest b.in_advance m → (passing (machine_move t b m) b).in_advance ≡ in_advance t (held_after held m)
     passing-is (move.Pass k to i) can a =
         let none : is_early held to ≡ false =
         sym (ap (λ l. among l (place_at t to)) is ∙ early-told ns chart t laid held small to (let lt = can.1 in omega (arith, lt, laid.count))) ∙ a.1 in
@@ -102,8 +102,8 @@ module _ (chart : Recipe) (t : Tree) (laid : IsChartOf t chart) where
     passing-is (move.End k) can a = is
     passing-is (move.Ask k i) can a = is
 
-  waiting-after : (m : Move) (b : Batch) → AreWaiting b.in_advance b.rest → Awaits t b.rest b.in_advance m → AreWaiting (passing (move_of t b m) b).in_advance b.rest
-  waiting-after (move.Pass k to i) b w a = λ held h. elim h [ inl e ↦ subst (λ x. is_reached b.rest x.place ≡ false) e a.0 | inr i ↦ w held i ]
+  waiting-after : (m : Move) (b : Batch) → AreWaiting b.in_advance b.rest → Awaits t b.rest b.in_advance m → AreWaiting (passing (machine_move t b m) b).in_advance b.rest
+  waiting-after (move.Pass k to i) b w a = λ held h. elim h [ inl e ↦ subst (λ x. is_act_reached b.rest x.place ≡ false) e a.0 | inr i ↦ w held i ]
   waiting-after (move.Send k c) b w a = w
   waiting-after (move.State x) b w a = w
   waiting-after (move.Release k i) b w a = w
@@ -113,7 +113,7 @@ module _ (chart : Recipe) (t : Tree) (laid : IsChartOf t chart) where
   waiting-after (move.Ask k i) b w a = w
 
   -- a move is that of an act, or of the batch's state
-  acts-or-state : (m : Move) (b : Batch) → IsActMove (move_of t b m) ⊎ ((x : State) × (m ≡ move.State x))
+  acts-or-state : (m : Move) (b : Batch) → IsActMove (machine_move t b m) ⊎ ((x : State) × (m ≡ move.State x))
   acts-or-state (move.Send k c) b = inl tt
   acts-or-state (move.State x) b = inr (x, refl)
   acts-or-state (move.Release k i) b = inl tt
@@ -145,45 +145,45 @@ module _ (chart : Recipe) (t : Tree) (laid : IsChartOf t chart) where
     pub moved-running : IsRunningOf t new
     moved-running = runs-over old new h.mid ys h.signs (held_after old.held.items m) is h.kept h.over left capacity needs made-held ran made-alive
 
-    pub moved-runs : (b : Batch) → b.values ≡ vs → RunsAs t old b.rest b.in_advance → Awaits t b.rest b.in_advance m → RunsAs t new (batch_after (move_of t b m) b).rest (batch_after (move_of t b m) b).in_advance
+    pub moved-runs : (b : Batch) → b.values ≡ vs → RunsAs t old b.rest b.in_advance → Awaits t b.rest b.in_advance m → RunsAs t new (batch_after (machine_move t b m) b).rest (batch_after (machine_move t b m) b).in_advance
     moved-runs b v runs awaits = go (acts-or-state m b)
       where
-        now : meaning t 0 h.mid ≡ rest_after vs (move_of t b m) b.rest
+        now : meaning t 0 h.mid ≡ rest_after vs (machine_move t b m) b.rest
         now = (h.made.means t laid ran.alive).1 b runs.rest v
 
-        passed : (passing (move_of t b m) b).in_advance ≡ in_advance t (held_after old.held.items m)
+        passed : (passing (machine_move t b m) b).in_advance ≡ in_advance t (held_after old.held.items m)
         passed = passing-is old.stages.items old.held.items b runs.held (λ p i. (let lt = ran.held.within p i in omega (arith, lt, laid.count))) m can awaits
 
-        waits : AreWaiting (passing (move_of t b m) b).in_advance b.rest
+        waits : AreWaiting (passing (machine_move t b m) b).in_advance b.rest
         waits = waiting-after m b runs.waiting awaits
 
-        fresh-act : IsActMove (move_of t b m) → (a : Rest) → Has (acts (meaning t 0 h.mid)) a → Nowhere (place_of a) (acts b.rest) → IsFresh a
+        fresh-act : IsActMove (machine_move t b m) → (a : Rest) → Has (acts (meaning t 0 h.mid)) a → Nowhere (place_of a) (acts b.rest) → IsFresh a
         fresh-act is_act a i n =
-            fresh-where-none vs (place_of_move (move_of t b m)) (act_after (at_moment vs []) (move_of t b m)) (act-tidy vs (move_of t b m)) b.rest a
-            (subst (λ r. Has (acts r) a) (now ∙ act-rest (move_of t b m) vs b.rest is_act) i) n
+            fresh-where-none vs (place_of_move (machine_move t b m)) (act_after (at_moment vs []) (machine_move t b m)) (act-tidy vs (machine_move t b m)) b.rest a
+            (subst (λ r. Has (acts r) a) (now ∙ act-rest (machine_move t b m) vs b.rest is_act) i) n
 
         over-all : ((a : Rest) → Has (acts (meaning t 0 h.mid)) a → Nowhere (place_of a) (acts b.rest) → IsFresh a)
-            → RunsAs t new (raised (passing (move_of t b m) b).in_advance (meaning t 0 h.mid)) (filter (λ x. not (is_reached (raised (passing (move_of t b m) b).in_advance (meaning t 0 h.mid)) x.place)) (passing (move_of t b m) b).in_advance)
+            → RunsAs t new (raised (passing (machine_move t b m) b).in_advance (meaning t 0 h.mid)) (filter (λ x. not (is_act_reached (raised (passing (machine_move t b m) b).in_advance (meaning t 0 h.mid)) x.place)) (passing (machine_move t b m) b).in_advance)
         over-all f =
-            subst (λ l. RunsAs t new (raised l (meaning t 0 h.mid)) (filter (λ x. not (is_reached (raised l (meaning t 0 h.mid)) x.place)) l)) (sym passed)
+            subst (λ l. RunsAs t new (raised l (meaning t 0 h.mid)) (filter (λ x. not (is_act_reached (raised l (meaning t 0 h.mid)) x.place)) l)) (sym passed)
             (over-runs old new h.mid ys h.signs (held_after old.held.items m) is h.kept h.over left capacity needs made-held ran made-alive b.rest (subst (λ l. AreWaiting l b.rest) passed waits) f)
 
-        go : IsActMove (move_of t b m) ⊎ ((x : State) × (m ≡ move.State x)) → RunsAs t new (batch_after (move_of t b m) b).rest (batch_after (move_of t b m) b).in_advance
+        go : IsActMove (machine_move t b m) ⊎ ((x : State) × (m ≡ move.State x)) → RunsAs t new (batch_after (machine_move t b m) b).rest (batch_after (machine_move t b m) b).in_advance
         go (inl is_act) =
-            let same : batch_after (move_of t b m) b ≡ with_rest (raised (passing (move_of t b m) b).in_advance (meaning t 0 h.mid)) (passing (move_of t b m) b) =
-            after-raised (move_of t b m) b is_act waits
-            ∙ ap (λ z. with_rest (raised (passing (move_of t b m) b).in_advance z) (passing (move_of t b m) b)) (ap (λ z. rest_after z (move_of t b m) b.rest) v ∙ sym now) in
+            let same : batch_after (machine_move t b m) b ≡ with_rest (raised (passing (machine_move t b m) b).in_advance (meaning t 0 h.mid)) (passing (machine_move t b m) b) =
+            after-raised (machine_move t b m) b is_act waits
+            ∙ ap (λ z. with_rest (raised (passing (machine_move t b m) b).in_advance z) (passing (machine_move t b m) b)) (ap (λ z. rest_after z (machine_move t b m) b.rest) v ∙ sym now) in
             subst (λ z. RunsAs t new z.rest z.in_advance) (sym same) (over-all (fresh-act is_act))
-        go (inr s) = subst (λ z. RunsAs t new (batch_after (move_of t b z) b).rest (batch_after (move_of t b z) b).in_advance) (sym s.1) (state-runs s.0 s.1)
+        go (inr s) = subst (λ z. RunsAs t new (batch_after (machine_move t b z) b).rest (batch_after (machine_move t b z) b).in_advance) (sym s.1) (state-runs s.0 s.1)
           where
             state-runs : (x : State) → m ≡ move.State x → RunsAs t new b.rest b.in_advance
             state-runs x e =
-                let stays : (passing (move_of t b m) b).in_advance ≡ b.in_advance = ap (λ z. (passing (move_of t b z) b).in_advance) e in
-                let same : meaning t 0 h.mid ≡ b.rest = now ∙ ap (λ z. rest_after vs (move_of t b z) b.rest) e in
+                let stays : (passing (machine_move t b m) b).in_advance ≡ b.in_advance = ap (λ z. (passing (machine_move t b z) b).in_advance) e in
+                let same : meaning t 0 h.mid ≡ b.rest = now ∙ ap (λ z. rest_after vs (machine_move t b z) b.rest) e in
                 let none : raised b.in_advance (meaning t 0 h.mid) ≡ b.rest = ap (raised b.in_advance) same ∙ raised-none b.in_advance b.rest (waiting-nowhere b.in_advance b.rest runs.waiting) in
-                let r = subst (λ l. RunsAs t new (raised l (meaning t 0 h.mid)) (filter (λ x. not (is_reached (raised l (meaning t 0 h.mid)) x.place)) l)) stays (over-all (λ a i n. absurd (n a (subst (λ z. Has (acts z) a) same i) refl))) in
-                let all : filter (λ x. not (is_reached (raised b.in_advance (meaning t 0 h.mid)) x.place)) b.in_advance ≡ b.in_advance =
-                filter-all (λ x. not (is_reached (raised b.in_advance (meaning t 0 h.mid)) x.place)) b.in_advance (λ x i. ap (λ z. not (is_reached z x.place)) none ∙ ap not (runs.waiting x i)) in
+                let r = subst (λ l. RunsAs t new (raised l (meaning t 0 h.mid)) (filter (λ x. not (is_act_reached (raised l (meaning t 0 h.mid)) x.place)) l)) stays (over-all (λ a i n. absurd (n a (subst (λ z. Has (acts z) a) same i) refl))) in
+                let all : filter (λ x. not (is_act_reached (raised b.in_advance (meaning t 0 h.mid)) x.place)) b.in_advance ≡ b.in_advance =
+                filter-all (λ x. not (is_act_reached (raised b.in_advance (meaning t 0 h.mid)) x.place)) b.in_advance (λ x i. ap (λ z. not (is_act_reached z x.place)) none ∙ ap not (runs.waiting x i)) in
                 record {
                   rest = sym none ∙ r.rest;
                   held = sym all ∙ r.held;
@@ -201,7 +201,7 @@ module _ (chart : Recipe) (t : Tree) (laid : IsChartOf t chart) where
     pub reported-runs : (b : Batch) → b.values ≡ vs → RunsAs t old b.rest b.in_advance → RunsAs t new (in_act (place_at t k) (phase_after e) b).rest (in_act (place_at t k) (phase_after e) b).in_advance
     reported-runs b v runs =
         subst (λ z. RunsAs t new (with_rest z b).rest (with_rest z b).in_advance) (sym same)
-        (subst (λ l. RunsAs t new (raised l (meaning t 0 h.mid)) (filter (λ y. not (is_reached (raised l (meaning t 0 h.mid)) y.place)) l)) (sym runs.held)
+        (subst (λ l. RunsAs t new (raised l (meaning t 0 h.mid)) (filter (λ y. not (is_act_reached (raised l (meaning t 0 h.mid)) y.place)) l)) (sym runs.held)
         (over-runs old new h.mid ys h.signs old.held.items is h.kept h.over left capacity needs ran.held ran reported-alive b.rest (subst (λ l. AreWaiting l b.rest) runs.held runs.waiting)
         (λ a i n. fresh-where-none vs (place_at t k) (phase_after e) (stays-tidy (phase_after e) (phase_after-stays e)) b.rest a (subst (λ r. Has (acts r) a) now i) n)))
       where
@@ -225,18 +225,18 @@ module _ (chart : Recipe) (t : Tree) (laid : IsChartOf t chart) where
       now : advance (moment_of b) (changed_at (place_at t k) granted b.rest) ≡ meaning t 0 ys
       now = ap (λ r. advance (moment_of b) (changed_at (place_at t k) granted r)) runs.rest ∙ sym ((h.means t laid ran.alive).2 (moment_of b))
 
-      still : (held : InAdvance) → Has b.in_advance held → is_reached (advance (moment_of b) (changed_at (place_at t k) granted b.rest)) held.place ≡ false
-      still held i = go (is_reached (advance (moment_of b) (changed_at (place_at t k) granted b.rest)) held.place) refl
+      still : (held : InAdvance) → Has b.in_advance held → is_act_reached (advance (moment_of b) (changed_at (place_at t k) granted b.rest)) held.place ≡ false
+      still held i = go (is_act_reached (advance (moment_of b) (changed_at (place_at t k) granted b.rest)) held.place) refl
         where
           plain : advance (moment_of b) (changed_at (place_at t k) granted b.rest) ≡ changed_at (place_at t k) granted b.rest
           plain = now ∙ (h.means t laid ran.alive).1 ∙ ap (changed_at (place_at t k) granted) (sym runs.rest)
 
-          go : (u : Bool) → is_reached (advance (moment_of b) (changed_at (place_at t k) granted b.rest)) held.place ≡ u → u ≡ false
+          go : (u : Bool) → is_act_reached (advance (moment_of b) (changed_at (place_at t k) granted b.rest)) held.place ≡ u → u ≡ false
           go true e =
-              let m = reached-at held.place (changed_at (place_at t k) granted b.rest) (ap (λ z. is_reached z held.place) (sym plain) ∙ e) in
+              let m = reached-at held.place (changed_at (place_at t k) granted b.rest) (ap (λ z. is_act_reached z held.place) (sym plain) ∙ e) in
               let s = changed-stands (place_at t k) granted granted-stays b.rest m.0 m.1 in
               absurd (not_reached held.place b.rest (runs.waiting held i) s.0 s.1 (s.2 ∙ m.2))
           go false e = refl
 
-      all : filter (λ held. not (is_reached (advance (moment_of b) (changed_at (place_at t k) granted b.rest)) held.place)) b.in_advance ≡ b.in_advance
-      all = filter-all (λ held. not (is_reached (advance (moment_of b) (changed_at (place_at t k) granted b.rest)) held.place)) b.in_advance (λ held i. ap not (still held i))
+      all : filter (λ held. not (is_act_reached (advance (moment_of b) (changed_at (place_at t k) granted b.rest)) held.place)) b.in_advance ≡ b.in_advance
+      all = filter-all (λ held. not (is_act_reached (advance (moment_of b) (changed_at (place_at t k) granted b.rest)) held.place)) b.in_advance (λ held i. ap not (still held i))

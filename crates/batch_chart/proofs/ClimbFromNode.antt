@@ -19,7 +19,7 @@ use Rattle.batch_chart.specs.declared.stage.Stage.{Stage}
 use Rattle.batch_chart.specs.declared.stage.Stage.TheVariants.{Finished}
 use Rattle.batch_chart.specs.Stages.{stage_at, is_finished, is_begun, is_over, is_over_at, turns_of, closed_as, looped_as}
 use Rattle.batch_chart.specs.Meaning.{meaning, meaning_each, act_as, chosen, AgreeOutside, AgreeWithin}
-use Rattle.batch_chart.specs.Outlined.{end_at, kind_at, judged, Stands, AreStanding, AreChoices, HasTree, HaveTrees, HaveBranches, condition_at}
+use Rattle.batch_chart.specs.Outlined.{end_at, kind_at, condition_holds, Stands, AreStanding, AreChoices, HasTree, HaveTrees, HaveBranches, condition_at}
 use Rattle.batch_chart.specs.Parents.{IsAbove}
 use Rattle.batch_chart.specs.Told.{TellsWhetherOver, AreTold}
 use Rattle.batch_chart.specs.Reaching.{IsReached, IsFirstReached}
@@ -459,12 +459,12 @@ module _ (ns : List Entry) (doc : Recipe) (vs : ValueList) (p n : ℕ) (ys : Lis
     then-runs : Some left ≡ turns_of (stage_at ws p)
     then-runs = runs_on ∙ ap turns_of is-own
 
-    pub passed-last : p < length ys → (left ≡ 0) ⊎ (true ≡ judged (condition_at doc i) vs) → IsRisen ns doc vs xs ws p (slice_set ys p Finished)
+    pub passed-last : p < length ys → (left ≡ 0) ⊎ (true ≡ condition_holds (condition_at doc i) vs) → IsRisen ns doc vs xs ws p (slice_set ys p Finished)
     passed-last lt last =
         passed-as (Loop k i) e unover (slice_set ys p Finished) true (advanced-loop_over ns doc vs ws p then-standing ys k i left e then-runs lt last body-over)
         (set-under ys (slice_set ys p Finished) Finished refl told-under)
 
-    pub passed-round : left ≢ 0 → false ≡ judged (condition_at doc i) vs → (zs us : List Stage) (b t : Bool) → p < length zs → IsReached ns doc vs n ys zs b → (t ≡ b) × (us ≡ slice_set zs p (looped_as b (left - 1)))
+    pub passed-round : left ≢ 0 → false ≡ condition_holds (condition_at doc i) vs → (zs us : List Stage) (b t : Bool) → p < length zs → IsReached ns doc vs n ys zs b → (t ≡ b) × (us ≡ slice_set zs p (looped_as b (left - 1)))
         → HasPassed ns doc vs xs ws p us t
     passed-round more goes_on zs us b t lt reached closes =
         passed-as (Loop k i) e unover us t

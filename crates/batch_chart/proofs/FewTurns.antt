@@ -6,7 +6,7 @@ use Rattle.batch_recipe.specs.Conditions.{Name, same_name}
 use Rattle.batch_recipe.specs.Diagram as diagram
 use Rattle.batch_recipe.specs.Diagram.{Diagram, Diagrams, Cases, diagram_of}
 use Rattle.batch_recipe.specs.Expanding.{act_named}
-use Rattle.batch_recipe.specs.Growing.{Labels, LabelConditions, needs_count, bare, grown, grown_each, grown_cases, grown_work, grown_act, grown_named, conditions_of_cases, conditions_along, conditions_named, levels_from, number_in, unit_number, entries_of}
+use Rattle.batch_recipe.specs.Growing.{Labels, LabelConditions, needs_count, bare_entries, grown, grown_each, grown_cases, grown_work, grown_act, grown_named, conditions_of_cases, conditions_along, conditions_named, levels_from, number_in, unit_number, entries_of}
 use Rattle.batch_recipe.specs.Procedure.{table_at}
 use Rattle.batch_recipe.specs.WellFormed.{act_names, are_cases, are_charts, are_distinct, follows_no_par, is_among, is_chart, is_condition, is_work, value_names}
 use Rattle.batch_recipe.specs.declared.act.Act.{Act}
@@ -23,7 +23,7 @@ use Rattle.batch_recipe.specs.declared.recipe.Recipe.{Recipe}
 use Rattle.batch_recipe.proofs.Growth.{found_at}
 use Rattle.batch_model.specs.Lists.{Each}
 use Rattle.batch_model.proofs.Members.{Each-append}
-use Rattle.batch_chart.specs.Outlined.{kind_at, kind_by, kind_of}
+use Rattle.batch_chart.specs.Outlined.{kind_at, kind_by, kind_of_entry}
 use Rattle.batch_chart.specs.declared.node.Kind.{Kind}
 use Rattle.batch_chart.specs.declared.node.Kind.TheVariants.{Skip, Act as act_kind, Seq, Par, Sel, Loop}
 use Rattle.batch_chart.specs.declared.node.Kind.TheVariants as kind
@@ -34,7 +34,7 @@ abbrev IsFew : Kind → Type 0
 IsFew k = (turns until : ℕ) → k ≡ Loop turns until → turns ≤ MAX_TURNS
 
 abbrev HasFew : Entry → Type 0
-HasFew e = IsFew (kind_of e)
+HasFew e = IsFew (kind_of_entry e)
 
 abbrev HaveFew : List Entry → Type 0
 HaveFew es = Each HasFew es
@@ -68,7 +68,7 @@ few-table UnitProcedures k needs o = few-act_kind needs
 few-table Operations k needs o = few-act_kind needs
 few-table Phases k needs o = few-phase needs k
 
-few-bare : (n u i : ℕ) → HaveFew (bare n u i)
+few-bare : (n u i : ℕ) → HaveFew (bare_entries n u i)
 few-bare n u i = (few-skip, tt)
 
 -- Charts whose labels stand for entries with few turns
@@ -126,7 +126,7 @@ module _ (r : Recipe) where
   -- the acts of a table, whose labels stand for entries with few turns
   module _ (level : LabelTable) (levels : List LabelTable) (labels : List Name) (below : FewFrom levels) (works : (name : Name) (a : Act) → act_named (table_at r.acts level) name ≡ Some a → is_work labels names a ≡ true) (o : ℕ) (name : Name) (n j u i : ℕ) where
     few-found : (k : ℕ) (found : Option Act) → act_named (table_at r.acts level) name ≡ found
-        → HaveFew (elim found [ None ↦ bare n u i | Some a ↦ grown_act (conditions_named r.acts levels) (grown_named r.acts levels (unit_number level k o)) (entry_kind.Act level k) (unit_number level k o) n j u i a ])
+        → HaveFew (elim found [ None ↦ bare_entries n u i | Some a ↦ grown_act (conditions_named r.acts levels) (grown_named r.acts levels (unit_number level k o)) (entry_kind.Act level k) (unit_number level k o) n j u i a ])
     few-found k None is = few-bare n u i
     few-found k (Some a) is =
         few-act (conditions_named r.acts levels) (grown_named r.acts levels (unit_number level k o)) (below (unit_number level k o)) labels names (entry_kind.Act level k) (unit_number level k o) n j u i a
@@ -134,9 +134,9 @@ module _ (r : Recipe) where
 
     few-number : (number : Option ℕ) → number_in (table_at r.acts level) name ≡ number
         → HaveFew (elim number [
-          | None ↦ bare n u i
+          | None ↦ bare_entries n u i
           | Some k ↦ elim (slice_get (table_at r.acts level) k) [
-            | None ↦ bare n u i
+            | None ↦ bare_entries n u i
             | Some a ↦ grown_act (conditions_named r.acts levels) (grown_named r.acts levels (unit_number level k o)) (entry_kind.Act level k) (unit_number level k o) n j u i a
           ]
         ])

@@ -14,7 +14,7 @@ use Rattle.batch_recipe.proofs.NodeSubtrees.{some_count}
 use Rattle.batch_chart.specs.declared.stage.Stage.{Stage}
 use Rattle.batch_chart.specs.declared.stage.Stage.TheVariants.{Finished}
 use Rattle.batch_chart.specs.Stages.{stage_at, is_finished, is_begun, turns_of}
-use Rattle.batch_chart.specs.Meaning.{meaning, meaning_below, meaning_each, act_as, loop_as, branch, chosen, AgreeWithin}
+use Rattle.batch_chart.specs.Meaning.{meaning, meaning_below, meaning_each, act_as, loop_as, meaning_of_branch, chosen, AgreeWithin}
 use Rattle.batch_chart.specs.Outlined.{end_at, Stands, AreStanding, AreChoices}
 use Rattle.batch_chart.specs.Told.{TellsWhetherOver, AreTold}
 use Rattle.batch_chart.proofs.StageAgreement.{meaning-agree, agree-part}
@@ -25,7 +25,7 @@ use Rattle.batch_chart.specs.ByValues.{bare, reach_by}
 pub finished-means : (c : Tree) (n : ℕ) (xs : List Stage) → stage_at xs n ≡ Finished → meaning c n xs ≡ done
 finished-means (act s w) n xs e = ap (λ x. act_as s w (meaning_below w (n + 1) xs) x) e
 finished-means skip n xs e = refl
-finished-means (seq ts) n xs e = chosen-false (is_begun (stage_at xs n)) (branch ts (n + 1) xs) done (ap is_begun e)
+finished-means (seq ts) n xs e = chosen-false (is_begun (stage_at xs n)) (meaning_of_branch ts (n + 1) xs) done (ap is_begun e)
 finished-means (par ts) n xs e = chosen-false (is_begun (stage_at xs n)) (in_par (meaning_each ts (n + 1) xs)) done (ap is_begun e)
 finished-means (sel ch) n xs e = chosen-false (is_begun (stage_at xs n)) (chosen ch (n + 1) xs) done (ap is_begun e)
 finished-means (loop k p body) n xs e = ap (λ x. loop_as (turns_of x) p body (meaning body (n + 1) xs)) e

@@ -2,7 +2,7 @@
 use Rattle.std.proofs.Common.{◌≡◌, ◌⊎◌, inl, inr, ◌<◌, ◌≤◌, ℕ, zero, suc, ◌+◌, List, [], ◌∷◌, ◌++◌, length, Bool, true, false, Some, None, nat_le, nat_lt, arith, refl, sym, ◌∙◌, subst, ap, ap₂}
 use Rattle.std.specs.Prelude.{map, slice_get, ◌&&◌}
 use Rattle.std.proofs.lemmas.Bool.Decides.{nat_tests}
-use Rattle.batch_recipe.specs.Needs.{resources_of}
+use Rattle.batch_recipe.specs.Needs.{resources_needed}
 use Rattle.batch_recipe.specs.Conditions.{Name}
 use Rattle.batch_recipe.specs.Nodes as nodes
 use Rattle.batch_recipe.specs.Nodes.{node_count, nodes_within, nodes_of_each, nodes_of_choices, child}
@@ -26,9 +26,9 @@ use Rattle.batch_chart.specs.Nexts.{first_of}
 use Rattle.batch_chart.specs.Numbered.{numbered}
 use Rattle.batch_chart.specs.NodesOf.{nodes_of, node_at, place_at, step_at, task_at}
 use Rattle.batch_chart.specs.Nexts.{IsFoundFirst}
-use Rattle.batch_chart.specs.Running.{IsLaid, IsAlive, SomeLives, IsAskingAt}
+use Rattle.batch_chart.specs.Running.{IsLaid, IsAlive, SomeLives, IsNodeAsking}
 use Rattle.batch_chart.specs.Charts.{AsksAt, IsFirstWaiting}
-use Rattle.batch_chart.specs.NodesOf.{step_of}
+use Rattle.batch_chart.specs.NodesOf.{tree_step}
 use Rattle.batch_chart.proofs.KnownTests.{chosen-true, chosen-false}
 use Rattle.batch_chart.proofs.NumberedActs.{numbered-acts}
 use Rattle.batch_chart.proofs.ChartChange.{fits-act, fits-count, number-at-place, act-place, entry-undone}
@@ -47,7 +47,7 @@ each-append (x ∷ l) r g h = (g.0, each-append l r g.1 h)
 
 mutual
   pub carries : (c : Tree) (q : Place) (above : List Name) → IsPlaced q c → Each CarriesPlace (nodes.nodes q above c)
-  carries (act s w) q above p = (λ u v e. (let f : act s w ≡ act u v = e in let g : s ≡ u = cc in ap (λ (z : Step). z.place) (sym g) ∙ p.0), carries_within w q (above ++ resources_of s.needs) p.1)
+  carries (act s w) q above p = (λ u v e. (let f : act s w ≡ act u v = e in let g : s ≡ u = cc in ap (λ (z : Step). z.place) (sym g) ∙ p.0), carries_within w q (above ++ resources_needed s.needs) p.1)
   carries skip q above p = (λ u v e. absurd (cc), tt)
   carries (seq ts) q above p = (λ u v e. absurd (cc), carries_each ts q above 0 p)
   carries (par ts) q above p = (λ u v e. absurd (cc), carries_each ts q above 0 p)
@@ -111,8 +111,8 @@ module _ (ns : List Entry) (doc : Recipe) (xs : List Stage) (t : Tree) (laid : I
   own-place k i lt l = place (node_at t k).here refl l
     where
       place : (c : Tree) → (node_at t k).here ≡ c → i < length (step_at t k).needs → (step_at t k).place ≡ place_at t k
-      place (act s w) e l = ap (λ (z : Step). z.place) (ap step_of e) ∙ Each-Has CarriesPlace (nodes_of t) (node_at t k) (carries t (0 ∷ []) [] laid.placed) (get-has (nodes_of t) k (node_at t k) (node-got ns doc t laid k (omega (arith, laid.count, lt)))) s w e
-      place x e l = absurd (let q : i < 0 = subst (λ z. i < length (step_of z).needs) e l in omega (arith, q))
+      place (act s w) e l = ap (λ (z : Step). z.place) (ap tree_step e) ∙ Each-Has CarriesPlace (nodes_of t) (node_at t k) (carries t (0 ∷ []) [] laid.placed) (get-has (nodes_of t) k (node_at t k) (node-got ns doc t laid k (omega (arith, laid.count, lt)))) s w e
+      place x e l = absurd (let q : i < 0 = subst (λ z. i < length (tree_step z).needs) e l in omega (arith, q))
 
   -- an act of the tree in line is a numbered one
   asks-here : (k i : ℕ) → AsksAt t (meaning t 0 xs) k i → Has (numbered t 0 xs) (k, asking (step_at t k) (task_at t k) i)
@@ -159,7 +159,7 @@ module _ (ns : List Entry) (doc : Recipe) (xs : List Stage) (t : Tree) (laid : I
     pub is : stage_at xs k ≡ stage.Asking need
     pub onwards : from ≤ k
     pub asks : AsksAt t (meaning t 0 xs) k need
-    pub waits : IsAskingAt ns xs k
+    pub waits : IsNodeAsking ns xs k
 
   found-at : (from k : ℕ) → IsFoundFirst ns doc xs (waits_from from) (Some k) → Found from k
   found-at from k found =

@@ -28,7 +28,7 @@ use Rattle.batch_chart.specs.Meaning.{meaning, meaning_below, act_as}
 use Rattle.batch_chart.specs.Outlined.{kind_at}
 use Rattle.batch_chart.specs.NodesOf.{place_at}
 use Rattle.batch_chart.specs.OwnMoves.{own_move, own_moves, own_next}
-use Rattle.batch_chart.specs.Seen.{move_of}
+use Rattle.batch_chart.specs.Seen.{machine_move}
 use Rattle.batch_chart.specs.Running.{IsLaid, IsAlive, CanRelease, Allows}
 use Rattle.batch_chart.specs.Nexts.{IsNext}
 use Rattle.batch_chart.specs.Passing.{IsTreeOf}
@@ -71,7 +71,7 @@ module _ (ns : List Entry) (doc : Recipe) (xs : List Stage) (t : Tree) (laid : I
   below : (k : ℕ) → k < length ns → k < node_count t
   below k lt = omega (arith, laid.count)
 
-  of-act : (b : Batch) (m : Move) → Allows ns xs m → (a : Rest) → Has (acts (meaning t 0 xs)) a → place_of_move (move_of t b m) ≡ place_of a → StandsFor t (meaning t 0 xs) m
+  of-act : (b : Batch) (m : Move) → Allows ns xs m → (a : Rest) → Has (acts (meaning t 0 xs)) a → place_of_move (machine_move t b m) ≡ place_of a → StandsFor t (meaning t 0 xs) m
   of-act b (move.Ask k i) c a h e =
       let g = known-at k a c.0 h (sym e) in
       let is : a ≡ ready g.step g.task i = g.is ∙ ap (act_as g.step g.task (meaning_below g.task (k + 1) xs)) c.2 in (
@@ -103,13 +103,13 @@ module _ (ns : List Entry) (doc : Recipe) (xs : List Stage) (t : Tree) (laid : I
   of-act b (move.Start k) c a h e = below k c.3
   of-act b (move.End k) c a h e = below k c.1
 
-  of-state : (b : Batch) (m : Move) → kind_of (move_of t b m) ≡ 2 → StandsFor t (meaning t 0 xs) m
+  of-state : (b : Batch) (m : Move) → kind_of (machine_move t b m) ≡ 2 → StandsFor t (meaning t 0 xs) m
   of-state x1 x2 x3 = grind arith
 
-  pub about : (b : Batch) → b.rest ≡ meaning t 0 xs → (m : Move) → Allows ns xs m → own_next b ≡ Some (move_of t b m) → StandsFor t (meaning t 0 xs) m
-  about b r m c e = elim (has-own b (move_of t b m) (least-IsLeast (own_moves b) (move_of t b m) e).0) [
-    | inl s ↦ of-state b m (ap kind_of (state_move-is b (move_of t b m) s).1)
-    | inr d ↦ of-act b m c d.0 (subst (λ z. Has (acts z) d.0) r d.1) (own-is b d.0 (move_of t b m) d.2).place
+  pub about : (b : Batch) → b.rest ≡ meaning t 0 xs → (m : Move) → Allows ns xs m → own_next b ≡ Some (machine_move t b m) → StandsFor t (meaning t 0 xs) m
+  about b r m c e = elim (has-own b (machine_move t b m) (least-IsLeast (own_moves b) (machine_move t b m) e).0) [
+    | inl s ↦ of-state b m (ap kind_of (state_move-is b (machine_move t b m) s).1)
+    | inr d ↦ of-act b m c d.0 (subst (λ z. Has (acts z) d.0) r d.1) (own-is b d.0 (machine_move t b m) d.2).place
   ]
 
 pub next-about : (ns : List Entry) (doc : Recipe) (xs : List Stage) (x : State) (result : Option Move) → IsNext ns doc xs x result

@@ -26,9 +26,9 @@ use Rattle.batch_chart.specs.Meaning.{meaning, meaning_below, act_as}
 use Rattle.batch_chart.specs.Outlined.{kind_at}
 use Rattle.batch_chart.specs.Nexts.{first_of}
 use Rattle.batch_chart.specs.Numbered.{numbered}
-use Rattle.batch_chart.specs.NodesOf.{node_at, place_at, step_at, task_at, step_of, task_of}
+use Rattle.batch_chart.specs.NodesOf.{node_at, place_at, step_at, task_at, tree_step, tree_task}
 use Rattle.batch_chart.specs.OwnMoves.{own_move, is_kind}
-use Rattle.batch_chart.specs.Seen.{move_of}
+use Rattle.batch_chart.specs.Seen.{machine_move}
 use Rattle.batch_chart.specs.Running.{IsLaid, IsAlive, SomeLives, Allows}
 use Rattle.batch_chart.specs.Nexts.{IsAmong, IsFoundFirst, IsReachedState, IsNextOf, IsNextState, is_phase_kind, entered, releasing, handing, last_held, held_at, made_of, IsHanded}
 use Rattle.batch_chart.specs.Passing.{IsBatchOf, PassesTo}
@@ -77,14 +77,14 @@ some_batch t x r = record {
 }
 
 -- the move of an act that goes on, by its place, step and task
-about-entered : (t : Tree) (b : Batch) (k : ℕ) (κ : Kind) (y : Stage) → move_of t b (entered k κ y) ≡ seen_at t (place_at t k) (step_at t k) (task_at t k) b (entered k κ y)
+about-entered : (t : Tree) (b : Batch) (k : ℕ) (κ : Kind) (y : Stage) → machine_move t b (entered k κ y) ≡ seen_at t (place_at t k) (step_at t k) (task_at t k) b (entered k κ y)
 about-entered t b k κ y = go (is_phase_kind κ) (is_begun y)
   where
-    go : (u v : Bool) → move_of t b (elim u as (λ _. Move) [ true ↦ move.Start k | false ↦ elim v as (λ _. Move) [ true ↦ move.End k | false ↦ move.Begin k ] ])
+    go : (u v : Bool) → machine_move t b (elim u as (λ _. Move) [ true ↦ move.Start k | false ↦ elim v as (λ _. Move) [ true ↦ move.End k | false ↦ move.Begin k ] ])
         ≡ seen_at t (place_at t k) (step_at t k) (task_at t k) b (elim u as (λ _. Move) [ true ↦ move.Start k | false ↦ elim v as (λ _. Move) [ true ↦ move.End k | false ↦ move.Begin k ] ])
     go x1 x2 = grind arith
 
-about-handing : (t : Tree) (b : Batch) (to : Option ℕ) (k : ℕ) (κ : Kind) (y : Stage) → move_of t b (handing to k κ y) ≡ seen_at t (place_at t k) (step_at t k) (task_at t k) b (handing to k κ y)
+about-handing : (t : Tree) (b : Batch) (to : Option ℕ) (k : ℕ) (κ : Kind) (y : Stage) → machine_move t b (handing to k κ y) ≡ seen_at t (place_at t k) (step_at t k) (task_at t k) b (handing to k κ y)
 about-handing t b None k κ y = refl
 about-handing t b (Some to) k κ y = refl
 
@@ -114,8 +114,8 @@ module _ (ns : List Entry) (doc : Recipe) (xs : List Stage) where
         within = lt;
         place = ap (λ (n : nodes.Node). n.place) (sym at) ∙ sym g.placed;
         here = ap (λ (n : nodes.Node). n.here) (sym at) ∙ g.here;
-        own_step = ap (λ (n : nodes.Node). step_of n.here) (sym at) ∙ ap step_of g.here;
-        own_task = ap (λ (n : nodes.Node). task_of n.here) (sym at) ∙ ap task_of g.here;
+        own_step = ap (λ (n : nodes.Node). tree_step n.here) (sym at) ∙ ap tree_step g.here;
+        own_task = ap (λ (n : nodes.Node). tree_task n.here) (sym at) ∙ ap tree_task g.here;
         fits = act-fits ns doc e.0 g.step g.task g.stands;
         is = g.is;
         among = subst (λ l. Has l e.1) (numbered-acts xs t 0) (has-mapped (numbered t 0 xs) e h);
@@ -138,7 +138,7 @@ module _ (ns : List Entry) (doc : Recipe) (xs : List Stage) where
       → (IsBatchOf doc t b → own_move b (act_as s v r (stage_at xs k)) ≡ Some (seen_at t s.place s v b (f k (kind_at ns k) (stage_at xs k)))) × Allows ns xs (f k (kind_at ns k) (stage_at xs k))
 
   next-of : (x : State) (p : ℕ → Rest → Bool) (n : ℕ) (f : ℕ → Kind → Stage → Move) (o : Option ℕ) (result : Option Move) → SomeLives ns doc xs
-      → ((t : Tree) (b : Batch) (k : ℕ) (κ : Kind) (y : Stage) → move_of t b (f k κ y) ≡ seen_at t (place_at t k) (step_at t k) (task_at t k) b (f k κ y))
+      → ((t : Tree) (b : Batch) (k : ℕ) (κ : Kind) (y : Stage) → machine_move t b (f k κ y) ≡ seen_at t (place_at t k) (step_at t k) (task_at t k) b (f k κ y))
       → Tells x p n → AllSuit x n f o → IsFoundFirst ns doc xs p o → result ≡ option_map (λ k. f k (kind_at ns k) (stage_at xs k)) o → IsNextOf ns doc xs x n result
   next-of x p n f o result lives about tells suits found is =
       subst (IsNextOf ns doc xs x n) (sym is) record {
@@ -154,11 +154,11 @@ module _ (ns : List Entry) (doc : Recipe) (xs : List Stage) where
       fit t b q e g z here =
           suits t b q e.0 g.within g.step g.task (meaning_below g.task (e.0 + 1) xs) g.own_step here g.fits (ap (λ a. kind_in n (own_move b a)) (sym g.is) ∙ sym (tells t b q e.0 e.1 (known-advanced t q.1 e g)) ∙ z)
 
-      go : (t : Tree) (b : Batch) → IsOf x t b → IsBatchOf doc t b → option_map (move_of t b) (option_map made o) ≡ find (is_kind n) (filter_map (own_move b) (acts b.rest))
+      go : (t : Tree) (b : Batch) → IsOf x t b → IsBatchOf doc t b → option_map (machine_move t b) (option_map made o) ≡ find (is_kind n) (filter_map (own_move b) (acts b.rest))
       go t b q of =
-          mapped made (move_of t b) o
-          ∙ ap (option_map (λ k. move_of t b (made k))) (found.means t q.0)
-          ∙ picked b n p (λ k. move_of t b (made k)) (numbered t 0 xs)
+          mapped made (machine_move t b) o
+          ∙ ap (option_map (λ k. machine_move t b (made k))) (found.means t q.0)
+          ∙ picked b n p (λ k. machine_move t b (made k)) (numbered t 0 xs)
           (λ e h. tells t b q e.0 e.1 (known-advanced t q.1 e (known t q.0 e h)))
           (λ e h z first. (let g = known t q.0 e h in
           ap (own_move b) g.is ∙ (fit t b q e g z (found.means t q.0 ∙ first)).0 of

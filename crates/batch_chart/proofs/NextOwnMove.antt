@@ -16,7 +16,7 @@ use Rattle.batch_chart.specs.declared.stage.Stage.{Stage}
 use Rattle.batch_chart.specs.declared.chart_move.Move.{Move}
 use Rattle.batch_chart.specs.Meaning.{meaning}
 use Rattle.batch_chart.specs.OwnMoves.{own_move, is_kind}
-use Rattle.batch_chart.specs.Seen.{move_of}
+use Rattle.batch_chart.specs.Seen.{machine_move}
 use Rattle.batch_chart.specs.Running.{IsLaid, IsAlive}
 use Rattle.batch_chart.specs.Passing.{IsBatchOf}
 use Rattle.batch_chart.specs.Nexts.{IsNextOf, IsNextState, IsNext}
@@ -32,21 +32,21 @@ module _ (ns : List Entry) (doc : Recipe) (xs : List Stage) (x : State) where
 
   -- the move that is found of a kind
   got : (n : ℕ) (o : Option Move) → IsNextOf ns doc xs x n o → (t : Tree) (b : Batch) → IsLaid ns doc t → IsAlive t xs → b.state ≡ x → b.rest ≡ meaning t 0 xs → IsBatchOf doc t b
-      → find (is_kind n) (filter_map (own_move b) (acts b.rest)) ≡ option_map (move_of t b) o
+      → find (is_kind n) (filter_map (own_move b) (acts b.rest)) ≡ option_map (machine_move t b) o
   got n o h t b laid alive e r of = sym (h.means t b laid alive e r of)
 
   no_more : (n : ℕ) (o : Option Move) → false ≡ is_some o → IsNextOf ns doc xs x n o → (t : Tree) (b : Batch) → IsLaid ns doc t → IsAlive t xs → b.state ≡ x → b.rest ≡ meaning t 0 xs → IsBatchOf doc t b
       → find (is_kind n) (filter_map (own_move b) (acts b.rest)) ≡ None
-  no_more n o f h t b laid alive e r of = got n o h t b laid alive e r of ∙ ap (option_map (move_of t b)) (none-is o f)
+  no_more n o f h t b laid alive e r of = got n o h t b laid alive e r of ∙ ap (option_map (machine_move t b)) (none-is o f)
 
   no_state : (o : Option Move) → false ≡ is_some o → IsNextState ns doc xs x o → (t : Tree) (b : Batch) → IsLaid ns doc t → IsAlive t xs → b.state ≡ x → b.rest ≡ meaning t 0 xs → state_move b ≡ None
-  no_state o f h t b laid alive e r = sym (h.means t b laid alive e r) ∙ ap (option_map (move_of t b)) (none-is o f)
+  no_state o f h t b laid alive e r = sym (h.means t b laid alive e r) ∙ ap (option_map (machine_move t b)) (none-is o f)
 
   pub chosen-send : (o : Option Move) → true ≡ is_some o → IsNextOf ns doc xs x 1 o → IsNext ns doc xs x o
   chosen-send None f h = absurd (cc)
   chosen-send (Some m) f h =
       record {
-        means = λ t b laid alive e r of. sym (least-send b (rises t b laid alive r) (move_of t b m) (got 1 (Some m) h t b laid alive e r of));
+        means = λ t b laid alive e r of. sym (least-send b (rises t b laid alive r) (machine_move t b m) (got 1 (Some m) h t b laid alive e r of));
         allowed = h.allowed;
       }
 
@@ -56,7 +56,7 @@ module _ (ns : List Entry) (doc : Recipe) (xs : List Stage) (x : State) where
       record {
         means = λ t b laid alive e r of.
             (let up = rises t b laid alive r in
-            sym (least-state b up (move_of t b m) (none-of b up 1 (no_more 1 o1 f1 h1 t b laid alive e r of)) (sym (h.means t b laid alive e r))));
+            sym (least-state b up (machine_move t b m) (none-of b up 1 (no_more 1 o1 f1 h1 t b laid alive e r of)) (sym (h.means t b laid alive e r))));
         allowed = h.allowed;
       }
 
@@ -67,7 +67,7 @@ module _ (ns : List Entry) (doc : Recipe) (xs : List Stage) (x : State) where
         means = λ t b laid alive e r of.
             (let up = rises t b laid alive r in
             let k1 = none-of b up 1 (no_more 1 o1 f1 h1 t b laid alive e r of) in
-            sym (least-later b up 3 (move_of t b m) (no_state o2 f2 h2 t b laid alive e r) (got 3 (Some m) h t b laid alive e r of) (low-3 b up k1)));
+            sym (least-later b up 3 (machine_move t b m) (no_state o2 f2 h2 t b laid alive e r) (got 3 (Some m) h t b laid alive e r of) (low-3 b up k1)));
         allowed = h.allowed;
       }
 
@@ -80,7 +80,7 @@ module _ (ns : List Entry) (doc : Recipe) (xs : List Stage) (x : State) where
             (let up = rises t b laid alive r in
             let k1 = none-of b up 1 (no_more 1 o1 f1 h1 t b laid alive e r of) in
             let k3 = none-of b up 3 (no_more 3 o3 f3 h3 t b laid alive e r of) in
-            sym (least-later b up 4 (move_of t b m) (no_state o2 f2 h2 t b laid alive e r) (got 4 (Some m) h t b laid alive e r of) (low-4 b up k1 k3)));
+            sym (least-later b up 4 (machine_move t b m) (no_state o2 f2 h2 t b laid alive e r) (got 4 (Some m) h t b laid alive e r of) (low-4 b up k1 k3)));
         allowed = h.allowed;
       }
 
@@ -104,6 +104,6 @@ module _ (ns : List Entry) (doc : Recipe) (xs : List Stage) (x : State) where
             let k1 = none-of b up 1 (no_more 1 o1 f1 h1 t b laid alive e r of) in
             let k3 = none-of b up 3 (no_more 3 o3 f3 h3 t b laid alive e r of) in
             let k4 = none-of b up 4 (no_more 4 o4 f4 h4 t b laid alive e r of) in
-            sym (least-later b up 5 (move_of t b m) (no_state o2 f2 h2 t b laid alive e r) (got 5 (Some m) h t b laid alive e r of) (low-5 b up k1 k3 k4)));
+            sym (least-later b up 5 (machine_move t b m) (no_state o2 f2 h2 t b laid alive e r) (got 5 (Some m) h t b laid alive e r of) (low-5 b up k1 k3 k4)));
         allowed = h.allowed;
       }

@@ -5,7 +5,7 @@ use Rattle.std.specs.List.{AllByRecursion}
 use Rattle.std.proofs.lemmas.Bool.{cases_lt}
 use Rattle.std.proofs.lemmas.Bool.Decides.{eqb_tells}
 use Rattle.std.proofs.lemmas.Slice.Eq.{bytes_eq-Decides}
-use Rattle.batch_recipe.specs.Needs.{resources_of}
+use Rattle.batch_recipe.specs.Needs.{resources_needed}
 use Rattle.batch_recipe.specs.Conditions.{Name}
 use Rattle.batch_recipe.specs.Nodes.{Node, node, nodes, nodes_within, nodes_of_each, nodes_of_choices, child, node_count, count_within, count_of_each, count_of_choices}
 use Rattle.batch_recipe.specs.Places.{AreInOrder}
@@ -114,7 +114,7 @@ module _ (ls : List Node) (rises : AreInOrder ls) (k : ℕ) (at : Node) (is_at :
   mutual
     pub marked : (c : Tree) (n : ℕ) (q : Place) (above : List Name) → Sits ls n (nodes q above c) → IsPlaced q c → IsMarked n c
     marked (act s w) n q above h p =
-        (ap (λ z. same_place z at.place) p.0 ∙ told n (node q above (act s w)) h.0, marked_below w (n + 1) q (above ++ resources_of s.needs) h.1 p.1)
+        (ap (λ z. same_place z at.place) p.0 ∙ told n (node q above (act s w)) h.0, marked_below w (n + 1) q (above ++ resources_needed s.needs) h.1 p.1)
     marked skip n q above h p = tt
     marked (seq ts) n q above h p = marked_each ts (n + 1) q above 0 h.1 p
     marked (par ts) n q above h p = marked_each ts (n + 1) q above 0 h.1 p
@@ -196,7 +196,7 @@ module _ (ls : List Node) (ns : List Entry) (doc : Recipe) (xs : List Stage) whe
     entry-of (act s w) n q above e g h p m = elim (has-entry n s w (meaning_below w (n + 1) xs) (stage_at xs n) (numbered_below w (n + 1) xs) e m) [
       | inl f ↦ subst (λ z. IsEntryOf ls ns doc xs n (n + (1 + count_within w)) z) (sym f)
           record { at = node q above (act s w); step = s; task = w; from = omega arith; to = omega arith; is_at = h.0; here = refl; placed = p.0; is = refl; stands = g }
-      | inr f ↦ widened (n + 1) (n + 1 + count_within w) n (n + (1 + count_within w)) e (omega arith) (omega arith) (entry-of_below s w n q (above ++ resources_of s.needs) e g h.1 p.1 f)
+      | inr f ↦ widened (n + 1) (n + 1 + count_within w) n (n + (1 + count_within w)) e (omega arith) (omega arith) (entry-of_below s w n q (above ++ resources_needed s.needs) e g h.1 p.1 f)
     ]
     entry-of skip n q above e g h p m = absurd m
     entry-of (seq ts) n q above e g h p m =

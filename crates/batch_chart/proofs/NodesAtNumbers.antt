@@ -3,7 +3,7 @@ use Rattle.std.proofs.Common.{◌≡◌, ◌<◌, ℕ, zero, suc, ◌+◌, List,
 use Rattle.std.specs.Prelude.{⊤, slice_get, slice_index_or, Option}
 use Rattle.batch_recipe.specs.Conditions.{Name}
 use Rattle.batch_recipe.specs.Expanding.{Binding}
-use Rattle.batch_recipe.specs.Needs.{resources_of}
+use Rattle.batch_recipe.specs.Needs.{resources_needed}
 use Rattle.batch_recipe.specs.Nodes as nodes
 use Rattle.batch_recipe.specs.Nodes.{node_count, nodes_within, nodes_of_each, nodes_of_choices, child}
 use Rattle.batch_recipe.specs.Tree.{Place, Step, Task, runs, follows, Tree, act, skip, seq, par, sel, loop, Trees, no_trees, tree, Choices, otherwise, choice}
@@ -35,7 +35,7 @@ module _ (some : Option Binding) (ns : List Entry) (doc : Recipe) where
 
   mutual
     all-stand : (c : Tree) (n : ℕ) (q : Place) (above : List Name) → StandsOn some ns doc n c → AllStand n (nodes.nodes q above c)
-    all-stand (act s w) n q above h = (h, below-stand s w n q (above ++ resources_of s.needs) h)
+    all-stand (act s w) n q above h = (h, below-stand s w n q (above ++ resources_needed s.needs) h)
     all-stand skip n q above h = (h, tt)
     all-stand (seq ts) n q above h = (h, each-stand ts (n + 1) (n + node_count (seq ts)) q above 0 h.1)
     all-stand (par ts) n q above h = (h, each-stand ts (n + 1) (n + node_count (par ts)) q above 0 h.1)

@@ -10,7 +10,7 @@ use Rattle.batch_model.specs.Moves.{is_empty}
 use Rattle.batch_chart.specs.declared.stage.Stage.{Stage}
 use Rattle.batch_chart.specs.declared.stage.Stage.TheVariants.{Finished, Ready, Asking, Open, Live, Freeing, Turning}
 use Rattle.batch_chart.specs.Stages.{stage_at, is_finished, is_begun, turns_of}
-use Rattle.batch_chart.specs.Meaning.{meaning, meaning_below, meaning_each, act_as, loop_as, branch, chosen}
+use Rattle.batch_chart.specs.Meaning.{meaning, meaning_below, meaning_each, act_as, loop_as, meaning_of_branch, chosen}
 use Rattle.batch_chart.specs.Nexts.{first_of}
 use Rattle.batch_chart.specs.Numbered.{entries, entries_in, numbered, numbered_below, numbered_each, numbered_branch, numbered_chosen}
 use Rattle.batch_chart.specs.declared.sign.TheConstants.{HOLDS, IS_ACT}
@@ -45,7 +45,7 @@ module _ (xs : List Stage) where
     pub numbered-acts : (c : Tree) (n : ℕ) → map (λ a. a.1) (numbered c n xs) ≡ acts (meaning c n xs)
     numbered-acts (act s w) n = entries-acts n s w (meaning_below w (n + 1) xs) (stage_at xs n) (numbered_below w (n + 1) xs) (numbered_below-acts w (n + 1))
     numbered-acts skip n = refl
-    numbered-acts (seq ts) n = picked (is_begun (stage_at xs n)) (numbered_branch ts (n + 1) xs) [] (branch ts (n + 1) xs) done (numbered_branch-acts ts (n + 1)) refl
+    numbered-acts (seq ts) n = picked (is_begun (stage_at xs n)) (numbered_branch ts (n + 1) xs) [] (meaning_of_branch ts (n + 1) xs) done (numbered_branch-acts ts (n + 1)) refl
     numbered-acts (par ts) n = picked (is_begun (stage_at xs n)) (numbered_each ts (n + 1) xs) [] (in_par (meaning_each ts (n + 1) xs)) done (numbered_each-acts ts (n + 1)) refl
     numbered-acts (sel ch) n = picked (is_begun (stage_at xs n)) (numbered_chosen ch (n + 1) xs) [] (chosen ch (n + 1) xs) done (numbered_chosen-acts ch (n + 1)) refl
     numbered-acts (loop k p body) n = go (turns_of (stage_at xs n)) (numbered-acts body (n + 1))
@@ -66,10 +66,10 @@ module _ (xs : List Stage) where
         ∙ ap (λ z. z ++ map (λ a. a.1) (numbered_each ts (n + node_count c) xs)) (numbered-acts c n)
         ∙ ap (λ z. acts (meaning c n xs) ++ z) (numbered_each-acts ts (n + node_count c))
 
-    numbered_branch-acts : (ts : Trees) (n : ℕ) → map (λ a. a.1) (numbered_branch ts n xs) ≡ acts (branch ts n xs)
+    numbered_branch-acts : (ts : Trees) (n : ℕ) → map (λ a. a.1) (numbered_branch ts n xs) ≡ acts (meaning_of_branch ts n xs)
     numbered_branch-acts no_trees n = refl
     numbered_branch-acts (tree c ts) n =
-        picked (is_finished (stage_at xs n)) (numbered_branch ts (n + node_count c) xs) (numbered c n xs) (branch ts (n + node_count c) xs) (in_seq (meaning c n xs) ts)
+        picked (is_finished (stage_at xs n)) (numbered_branch ts (n + node_count c) xs) (numbered c n xs) (meaning_of_branch ts (n + node_count c) xs) (in_seq (meaning c n xs) ts)
         (numbered_branch-acts ts (n + node_count c)) (numbered-acts c n)
 
     numbered_chosen-acts : (ch : Choices) (n : ℕ) → map (λ a. a.1) (numbered_chosen ch n xs) ≡ acts (chosen ch n xs)

@@ -16,7 +16,7 @@ use Rattle.batch_recipe.specs.declared.recipe.Recipe.{Recipe}
 use Rattle.batch_recipe.proofs.Followers.{act_of_node}
 use Rattle.batch_recipe.proofs.NodeOrder.{counted_nodes}
 use Rattle.batch_model.specs.Moves.{reserved_place}
-use Rattle.batch_chart.specs.NodesOf.{node_at, place_at, step_at, step_of}
+use Rattle.batch_chart.specs.NodesOf.{node_at, place_at, step_at, tree_step}
 use Rattle.batch_chart.specs.Passing.{PassesTo}
 use Rattle.batch_chart.proofs.RecipeChart.{is_chart}
 use Rattle.batch_chart.proofs.NodesAtNumbers.{get-or}
@@ -59,7 +59,7 @@ module _ (doc : Recipe) (n : ℕ) where
       omega (arith, lt, counted_nodes (0 ∷ []) [] (bound_tree unbound doc.acts), (is_chart doc bound).0.count, (is_chart doc unbound).0.count)
 
   -- none where no act is at the node
-  no-reserves : (c : Tree) → IsNoAct c → (step_of c).reserves ≡ []
+  no-reserves : (c : Tree) → IsNoAct c → (tree_step c).reserves ≡ []
   no-reserves (act s w) h = absurd h
   no-reserves skip h = refl
   no-reserves (seq ts) h = refl
@@ -82,7 +82,7 @@ module _ (doc : Recipe) (n : ℕ) where
     step-is bound lt =
         let t = bound_tree bound doc.acts in
         let h = act_of_node doc bound n (node_at t n) (Some a) (here bound lt) known in
-        (ap (λ c. (step_of c).reserves) h.here_is, ap (λ c. (step_of c).place) h.here_is)
+        (ap (λ c. (tree_step c).reserves) h.here_is, ap (λ c. (tree_step c).place) h.here_is)
 
     -- a need before those that it reserves
     pub passes-before : (i : ℕ) → i < unit_count a.unit → PassesTo doc n i None

@@ -15,7 +15,7 @@ use Rattle.batch_chart.specs.Climbing.{IsRisen, HasStopped, HasRisen}
 use Rattle.batch_chart.specs.Outlined.{end_at, Stands, HasTree}
 use Rattle.batch_chart.specs.Freeing.{HasFinished}
 use Rattle.batch_chart.specs.Neat.{AllFinished}
-use Rattle.batch_chart.specs.Meaning.{meaning, meaning_below, meaning_each, act_as, loop_as, branch, chosen, AgreeOutside}
+use Rattle.batch_chart.specs.Meaning.{meaning, meaning_below, meaning_each, act_as, loop_as, meaning_of_branch, chosen, AgreeOutside}
 use Rattle.batch_chart.specs.Parents.{IsAbove, parent_at}
 use Rattle.batch_chart.specs.Running.{IsLaid, SomeLives}
 use Rattle.batch_chart.specs.Stages.{stage_at, is_finished, is_begun, turns_of}
@@ -81,7 +81,7 @@ module _ (ns : List Entry) (doc : Recipe) (t : Tree) (laid : IsLaid ns doc t) wh
 freed-means : (c : Tree) (n : ℕ) (xs : List Stage) → stage_at xs n ≡ Freeing 0 → meaning c n xs ≡ done
 freed-means (act s w) n xs e = ap (λ x. act_as s w (meaning_below w (n + 1) xs) x) e
 freed-means skip n xs e = refl
-freed-means (seq ts) n xs e = chosen-false (is_begun (stage_at xs n)) (branch ts (n + 1) xs) done (ap is_begun e)
+freed-means (seq ts) n xs e = chosen-false (is_begun (stage_at xs n)) (meaning_of_branch ts (n + 1) xs) done (ap is_begun e)
 freed-means (par ts) n xs e = chosen-false (is_begun (stage_at xs n)) (in_par (meaning_each ts (n + 1) xs)) done (ap is_begun e)
 freed-means (sel ch) n xs e = chosen-false (is_begun (stage_at xs n)) (chosen ch (n + 1) xs) done (ap is_begun e)
 freed-means (loop k p body) n xs e = ap (λ x. loop_as (turns_of x) p body (meaning body (n + 1) xs)) e

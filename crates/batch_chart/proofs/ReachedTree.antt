@@ -14,8 +14,8 @@ use Rattle.batch_recipe.specs.declared.recipe.Recipe.{Recipe}
 use Rattle.batch_chart.specs.declared.stage.Stage.{Stage}
 use Rattle.batch_chart.specs.declared.stage.Stage.TheVariants.{Finished, Ready, Turning}
 use Rattle.batch_chart.specs.Stages.{stage_at, is_finished, is_begun, turns_of, closed_as, looped_as}
-use Rattle.batch_chart.specs.Meaning.{meaning, meaning_below, meaning_each, act_as, loop_as, branch, chosen, AgreeWithin, AgreeOutside}
-use Rattle.batch_chart.specs.Outlined.{end_at, kind_at, Stands, HasTree, HaveTrees, HaveChoices, judged, condition_at}
+use Rattle.batch_chart.specs.Meaning.{meaning, meaning_below, meaning_each, act_as, loop_as, meaning_of_branch, chosen, AgreeWithin, AgreeOutside}
+use Rattle.batch_chart.specs.Outlined.{end_at, kind_at, Stands, HasTree, HaveTrees, HaveChoices, condition_holds, condition_at}
 use Rattle.batch_chart.specs.Reaching.{IsReached, IsFirstReached, IsEachReached, IsChoiceReached}
 use Rattle.batch_chart.proofs.TreePositions.{stood, SkipAt, skip_at, skip-at, PhaseAt, phase_at, phase-at, ActAt, act_at, act-at, SeqAt, seq_at, seq-at, ParAt, par_at, par-at, SelAt, sel_at, sel-at, LoopAt, loop_at, loop-at, RowAt, row_at, row-at, row-end, LastAt, last_at, last-at, ChoiceAt, choice_at, choice-at, below-end, first-end, first-standing, choice-standing, choice-end}
 use Rattle.batch_chart.proofs.KnownTests.{chosen-true, chosen-false}
@@ -182,7 +182,7 @@ module _ (ns : List Entry) (doc : Recipe) (vs : ValueList) (xs : List Stage) (n 
       where
         go : (c : Tree) → SeqAt ns doc n c → (meaning c n zs ≡ reach_by vs c) × (r ≡ is_done (reach_by vs c))
         go _ (seq_at ts a) =
-            closed-means (branch ts (n + 1) zs) (reach_first_by vs ts) (f.means ts a).1
+            closed-means (meaning_of_branch ts (n + 1) zs) (reach_first_by vs ts) (f.means ts a).1
             (λ u. branch-agree ys zs ts (n + 1) (closed-within (n + 1 + count_of_each ts)) ∙ (f.means ts a).0)
 
     pub reached-par : kind_at ns n ≡ Par → IsEachReached ns doc vs (n + 1) (end_at ns n) true xs ys b → IsReached ns doc vs n xs zs r
@@ -294,13 +294,13 @@ module _ (ns : List Entry) (doc : Recipe) (vs : ValueList) (xs : List Stage) (n 
         told = row-told ys zs r.outside rs.outside r.told rs.told;
       }
     where
-      go : (ts : Trees) → RowAt ns doc n m ts → (branch ts n zs ≡ reach_first_by vs ts) × (b ≡ is_done (reach_first_by vs ts))
+      go : (ts : Trees) → RowAt ns doc n m ts → (meaning_of_branch ts n zs ≡ reach_first_by vs ts) × (b ≡ is_done (reach_first_by vs ts))
       go _ (row_at c ts p q e le) =
           let finished : is_done (reach_by vs c) ≡ true = sym (r.means c p).1 in
           let own : is_finished (stage_at zs n) ≡ true = ap is_finished (rs.outside n (inl (below-end ns doc xs n standing))) ∙ r.own in
-          let later : branch ts (n + node_count c) zs ≡ reach_first_by vs ts = subst (λ i. branch ts i zs ≡ reach_first_by vs ts) e (rs.means ts q).0 in
+          let later : meaning_of_branch ts (n + node_count c) zs ≡ reach_first_by vs ts = subst (λ i. meaning_of_branch ts i zs ≡ reach_first_by vs ts) e (rs.means ts q).0 in
           let next : reach_first_by vs (tree c ts) ≡ reach_first_by vs ts = chosen-true (is_done (reach_by vs c)) (reach_first_by vs ts) (in_seq (reach_by vs c) ts) finished in (
-            chosen-true (is_finished (stage_at zs n)) (branch ts (n + node_count c) zs) (in_seq (meaning c n zs) ts) own ∙ later ∙ sym next,
+            chosen-true (is_finished (stage_at zs n)) (meaning_of_branch ts (n + node_count c) zs) (in_seq (meaning c n zs) ts) own ∙ later ∙ sym next,
             (rs.means ts q).1 ∙ sym (ap is_done next),
           )
 
@@ -312,11 +312,11 @@ module _ (ns : List Entry) (doc : Recipe) (vs : ValueList) (xs : List Stage) (n 
         told = row-told ys ys r.outside (outside-same ys (end_at ns n) m) r.told (λ q. q);
       }
     where
-      go : (ts : Trees) → RowAt ns doc n m ts → (branch ts n ys ≡ reach_first_by vs ts) × (false ≡ is_done (reach_first_by vs ts))
+      go : (ts : Trees) → RowAt ns doc n m ts → (meaning_of_branch ts n ys ≡ reach_first_by vs ts) × (false ≡ is_done (reach_first_by vs ts))
       go _ (row_at c ts p q e le) =
           let unfinished : is_done (reach_by vs c) ≡ false = sym (r.means c p).1 in
           let first : reach_first_by vs (tree c ts) ≡ in_seq (reach_by vs c) ts = chosen-false (is_done (reach_by vs c)) (reach_first_by vs ts) (in_seq (reach_by vs c) ts) unfinished in (
-            chosen-false (is_finished (stage_at ys n)) (branch ts (n + node_count c) ys) (in_seq (meaning c n ys) ts) r.own ∙ ap (λ x. in_seq x ts) (r.means c p).0 ∙ sym first,
+            chosen-false (is_finished (stage_at ys n)) (meaning_of_branch ts (n + node_count c) ys) (in_seq (meaning c n ys) ts) r.own ∙ ap (λ x. in_seq x ts) (r.means c p).0 ∙ sym first,
             sym (ap is_done first),
           )
 
@@ -359,7 +359,7 @@ module _ (ns : List Entry) (doc : Recipe) (vs : ValueList) (xs : List Stage) (i 
       go : (ch : Choices) → LastAt ns doc n m ch → (b ≡ false → chosen ch n ys ≡ reach_chosen_by vs ch) × (b ≡ is_done (reach_chosen_by vs ch))
       go _ (last_at c a) = (λ u. (r.means c a).0, (r.means c a).1)
 
-  pub choice-taken : (ys : List Stage) (b : Bool) → end_at ns n ≢ m → true ≡ judged (condition_at doc i) vs → IsReached ns doc vs n xs ys b → IsChoiceReached ns doc vs i n m xs ys b
+  pub choice-taken : (ys : List Stage) (b : Bool) → end_at ns n ≢ m → true ≡ condition_holds (condition_at doc i) vs → IsReached ns doc vs n xs ys b → IsChoiceReached ns doc vs i n m xs ys b
   choice-taken ys b ne t r =
       record {
         means = λ ch a. go ch (choice-at ns doc i n m ne ch a);
@@ -369,13 +369,13 @@ module _ (ns : List Entry) (doc : Recipe) (vs : ValueList) (xs : List Stage) (i 
     where
       go : (ch : Choices) → ChoiceAt ns doc i n m ch → (b ≡ false → chosen ch n ys ≡ reach_chosen_by vs ch) × (b ≡ is_done (reach_chosen_by vs ch))
       go _ (choice_at p c ch q a later e lt) =
-          let holding : holds vs p ≡ true = sym (t ∙ ap (λ d. judged d vs) q) in
+          let holding : holds vs p ≡ true = sym (t ∙ ap (λ d. condition_holds d vs) q) in
           let taken : reach_chosen_by vs (choice p c ch) ≡ reach_by vs c = chosen-true (holds vs p) (reach_by vs c) (reach_chosen_by vs ch) holding in (
             (λ u. chosen-false (is_finished (stage_at ys n)) (chosen ch (n + node_count c) ys) (meaning c n ys) (r.own ∙ u) ∙ (r.means c a).0 ∙ sym taken),
             (r.means c a).1 ∙ sym (ap is_done taken),
           )
 
-  pub choice-passed : (zs : List Stage) (b : Bool) → n < length xs → end_at ns n ≢ m → false ≡ judged (condition_at doc i) vs → IsChoiceReached ns doc vs (i + 1) (end_at ns n) m (slice_set xs n Finished) zs b → IsChoiceReached ns doc vs i n m xs zs b
+  pub choice-passed : (zs : List Stage) (b : Bool) → n < length xs → end_at ns n ≢ m → false ≡ condition_holds (condition_at doc i) vs → IsChoiceReached ns doc vs (i + 1) (end_at ns n) m (slice_set xs n Finished) zs b → IsChoiceReached ns doc vs i n m xs zs b
   choice-passed zs b lt ne t r =
       record {
         means = λ ch a. go ch (choice-at ns doc i n m ne ch a);
@@ -397,7 +397,7 @@ module _ (ns : List Entry) (doc : Recipe) (vs : ValueList) (xs : List Stage) (i 
 
       go : (ch : Choices) → ChoiceAt ns doc i n m ch → (b ≡ false → chosen ch n zs ≡ reach_chosen_by vs ch) × (b ≡ is_done (reach_chosen_by vs ch))
       go _ (choice_at p c ch q a later e k) =
-          let failing : holds vs p ≡ false = sym (t ∙ ap (λ d. judged d vs) q) in
+          let failing : holds vs p ≡ false = sym (t ∙ ap (λ d. condition_holds d vs) q) in
           let passed : reach_chosen_by vs (choice p c ch) ≡ reach_chosen_by vs ch = chosen-false (holds vs p) (reach_by vs c) (reach_chosen_by vs ch) failing in
           let rest = r.means ch later in (
             (λ u. chosen-true (is_finished (stage_at zs n)) (chosen ch (n + node_count c) zs) (meaning c n zs) own

@@ -8,9 +8,9 @@ use Rattle.std.proofs.lemmas.Option.{slice_get_within}
 use Rattle.batch_recipe.specs.Conditions.{Name, same_name}
 use Rattle.batch_recipe.specs.Diagram as diagram
 use Rattle.batch_recipe.specs.Diagram.{Diagram, Diagrams, Cases, diagram_of}
-use Rattle.batch_recipe.specs.Expanding.{Binding, expanded, expanded_each, expanded_cases, act_named, act_tree_with, named_tree_with, unit_with, unit_below, asked_by, task_of, Sites, unit_named, needs_with, step_of, unit_count}
+use Rattle.batch_recipe.specs.Expanding.{Binding, expanded, expanded_each, expanded_cases, act_named, act_tree_with, named_tree_with, unit_with, unit_below, asked_in_order, task_of, Sites, unit_named, needs_with, step_of, unit_count}
 use Rattle.batch_recipe.specs.Needs.{one_unit}
-use Rattle.batch_recipe.specs.Growing.{Head, Labels, LabelConditions, entry, plain, act_head, needs_count, topped, bare, grown, grown_each, grown_cases, grown_work, grown_act, grown_named, conditions_of_cases, conditions_along, conditions_along_each, conditions_along_cases, conditions_below, conditions_named, conditions_of, levels_from, number_in, unit_number, entries_of}
+use Rattle.batch_recipe.specs.Growing.{Head, Labels, LabelConditions, entry, plain_head, act_head, needs_count, topped, bare_entries, grown, grown_each, grown_cases, grown_work, grown_act, grown_named, conditions_of_cases, conditions_along, conditions_along_each, conditions_along_cases, conditions_below, conditions_named, conditions_of, levels_from, number_in, unit_number, entries_of}
 use Rattle.batch_recipe.specs.Nodes.{node_count, count_of_each, count_of_choices, child}
 use Rattle.batch_recipe.specs.Procedure.{table_at, tables_from, level_below, bound_tree, sites}
 use Rattle.batch_recipe.specs.Tree as tree
@@ -28,7 +28,7 @@ use Rattle.batch_recipe.specs.declared.entry.Kind as recipe
 use Rattle.batch_recipe.specs.declared.entry.Kind.TheVariants as entry_kind
 use Rattle.batch_recipe.specs.declared.recipe.Recipe.{Recipe}
 use Rattle.batch_recipe.proofs.Growth.{found_at, not_found}
-use Rattle.batch_chart.specs.Outlined.{entry_at, kind_of, kind_by, unit_under, unit_name, unit_by, unit_choice, phase_by, IsNode, IsCondition, StandsOn, AreStandingOn, AreChoicesOn}
+use Rattle.batch_chart.specs.Outlined.{entry_at, kind_of_entry, kind_by, unit_under, unit_name, unit_by, unit_choice, phase_by, IsNode, IsCondition, StandsOn, AreStandingOn, AreChoicesOn}
 use Rattle.batch_chart.specs.declared.node.Kind.{Kind}
 use Rattle.batch_chart.specs.declared.node.Kind.TheVariants.{Skip, Act as act_kind, Seq, Par, Sel, Loop}
 use Rattle.batch_chart.specs.declared.node.Kind.TheVariants as kind
@@ -49,7 +49,7 @@ needs_counted own a = go a.unit
         length-append (map one_unit (map (unit_named own) a.reserves.items)) a.needs.items
         ∙ ap (λ z. z + length a.needs.items) (length-map (map (unit_named own) a.reserves.items) one_unit ∙ length-map a.reserves.items (unit_named own))
 
-    go : (unit : Option UnitChoice) → length a.needs.items + length a.reserves.items + unit_count unit ≡ length (asked_by (unit_with own.bound unit) (map (unit_named own) a.reserves.items) a.needs.items)
+    go : (unit : Option UnitChoice) → length a.needs.items + length a.reserves.items + unit_count unit ≡ length (asked_in_order (unit_with own.bound unit) (map (unit_named own) a.reserves.items) a.needs.items)
     go None = omega (arith, both)
     go (Some choice) = omega (arith, both)
 
@@ -73,10 +73,10 @@ module _ (doc : Recipe) (bound : Binding) where
   abbrev StandsAs : ℕ → List Entry → Tree → Type 0
   StandsAs n xs t = (length xs ≡ node_count t) × StandsOn (Some bound) es doc n t
 
-  node_is : (n m : ℕ) (e : Entry) (κ : Kind) → slice_get es n ≡ Some e → kind_of e ≡ κ → e.end ≡ m → m ≤ length es → IsNode es n κ m
+  node_is : (n m : ℕ) (e : Entry) (κ : Kind) → slice_get es n ≡ Some e → kind_of_entry e ≡ κ → e.end ≡ m → m ≤ length es → IsNode es n κ m
   node_is n m e κ is kinds end fits = (
     slice_get_within es n e is,
-    ap kind_of (node_read es n e is) ∙ kinds,
+    ap kind_of_entry (node_read es n e is) ∙ kinds,
     ap (λ (x : Entry). x.end) (node_read es n e is) ∙ end,
     fits,
   )
@@ -87,10 +87,10 @@ module _ (doc : Recipe) (bound : Binding) where
       let fits = from_end es n (topped h n u i below) are in
       node_is n (n + (1 + m)) (entry h (n + 1 + length below) u i) κ (from_head es n _ below are) is (omega (arith, count)) (omega (arith, count, fits))
 
-  bare_stands : (n u i : ℕ) → AreFrom es n (bare n u i) → StandsAs n (bare n u i) tree.skip
+  bare_stands : (n u i : ℕ) → AreFrom es n (bare_entries n u i) → StandsAs n (bare_entries n u i) tree.skip
   bare_stands n u i are =
-      let fits = from_end es n (bare n u i) are in
-      (refl, node_is n (n + 1) (entry (plain entry_kind.Skip 0) (n + 1) u i) Skip (from_head es n _ [] are) refl refl (omega (arith, fits)))
+      let fits = from_end es n (bare_entries n u i) are in
+      (refl, node_is n (n + 1) (entry (plain_head entry_kind.Skip 0) (n + 1) u i) Skip (from_head es n _ [] are) refl refl (omega (arith, fits)))
 
   -- the entries of labels stand for the trees that the labels name
   abbrev AreLabels : LabelConditions → Labels → (Name → Place → Tree) → Type 0
@@ -105,23 +105,23 @@ module _ (doc : Recipe) (bound : Binding) where
           let xs = grown_each told named (n + 1) j n 0 ds in
           let g = each_stand (n + 1) j n 0 p ds (from_tail es n _ xs h) c in
           let end : n + 1 + length xs ≡ n + node_count (tree.seq (expanded_each trees p 0 ds)) = omega (arith, g.0) in
-          (omega (arith, g.0), (node_of n (count_of_each (expanded_each trees p 0 ds)) (plain entry_kind.Seq 0) u i xs Seq h refl g.0, subst (λ m. AreStandingOn (Some bound) es doc (n + 1) m (expanded_each trees p 0 ds)) end g.1))
+          (omega (arith, g.0), (node_of n (count_of_each (expanded_each trees p 0 ds)) (plain_head entry_kind.Seq 0) u i xs Seq h refl g.0, subst (λ m. AreStandingOn (Some bound) es doc (n + 1) m (expanded_each trees p 0 ds)) end g.1))
       chart_stands n j u i p (diagram.par ds) h c =
           let xs = grown_each told named (n + 1) j n 0 ds in
           let g = each_stand (n + 1) j n 0 p ds (from_tail es n _ xs h) c in
           let end : n + 1 + length xs ≡ n + node_count (tree.par (expanded_each trees p 0 ds)) = omega (arith, g.0) in
-          (omega (arith, g.0), (node_of n (count_of_each (expanded_each trees p 0 ds)) (plain entry_kind.Par 0) u i xs Par h refl g.0, subst (λ m. AreStandingOn (Some bound) es doc (n + 1) m (expanded_each trees p 0 ds)) end g.1))
+          (omega (arith, g.0), (node_of n (count_of_each (expanded_each trees p 0 ds)) (plain_head entry_kind.Par 0) u i xs Par h refl g.0, subst (λ m. AreStandingOn (Some bound) es doc (n + 1) m (expanded_each trees p 0 ds)) end g.1))
       chart_stands n j u i p (diagram.sel cs) h c =
           let own = conditions_of_cases cs in
           let xs = grown_cases told named (n + 1) (j + length own) n 0 cs in
           let g = cases_stand (n + 1) (j + length own) n 0 p cs j (conditions_from doc j own (from_left all j own (conditions_along_cases told cs) c)) (from_tail es n _ xs h) (from_right all j own (conditions_along_cases told cs) c) in
           let end : n + 1 + length xs ≡ n + node_count (tree.sel (expanded_cases trees p 0 cs)) = omega (arith, g.0) in
-          (omega (arith, g.0), (j, node_of n (count_of_choices (expanded_cases trees p 0 cs)) (plain entry_kind.Sel j) u i xs (Sel j) h refl g.0, subst (λ m. AreChoicesOn (Some bound) es doc j (n + 1) m (expanded_cases trees p 0 cs)) end g.1))
+          (omega (arith, g.0), (j, node_of n (count_of_choices (expanded_cases trees p 0 cs)) (plain_head entry_kind.Sel j) u i xs (Sel j) h refl g.0, subst (λ m. AreChoicesOn (Some bound) es doc j (n + 1) m (expanded_cases trees p 0 cs)) end g.1))
       chart_stands n j u i p (diagram.loop turns until d) h c =
           let xs = grown told named (n + 1) (j + 1) n 0 d in
           let g = chart_stands (n + 1) (j + 1) n 0 (child p 0) d (from_tail es n _ xs h) (from_tail all j until (conditions_along told d) c) in (
             omega (arith, g.0),
-            (j, node_of n (node_count (expanded trees (child p 0) d)) (plain (entry_kind.Loop turns) j) u i xs (Loop turns j) h refl g.0, from_head all j until (conditions_along told d) c, g.1),
+            (j, node_of n (node_count (expanded trees (child p 0) d)) (plain_head (entry_kind.Loop turns) j) u i xs (Loop turns j) h refl g.0, from_head all j until (conditions_along told d) c, g.1),
           )
 
       each_stand : (n j u i : ℕ) (p : Place) (ds : Diagrams) → AreFrom es n (grown_each told named n j u i ds) → AreFrom all j (conditions_along_each told ds)
@@ -231,13 +231,13 @@ module _ (doc : Recipe) (bound : Binding) where
         → StandsAs n (act_entries k a) (act_tree_with (sites bound doc.acts) trees_below unit a p)
 
     abbrev found_entries : ℕ → Option Act → List Entry
-    found_entries k found = elim found [ None ↦ bare n u i | Some a ↦ act_entries k a ]
+    found_entries k found = elim found [ None ↦ bare_entries n u i | Some a ↦ act_entries k a ]
 
     abbrev found_conditions : Option Act → List Cond
     found_conditions found = elim found [ None ↦ [] | Some a ↦ conditions_below told_below a.work ]
 
     abbrev named_entries : Option ℕ → List Entry
-    named_entries number = elim number [ None ↦ bare n u i | Some k ↦ found_entries k (slice_get (table_at doc.acts table) k) ]
+    named_entries number = elim number [ None ↦ bare_entries n u i | Some k ↦ found_entries k (slice_get (table_at doc.acts table) k) ]
 
     abbrev named_conditions : Option ℕ → List Cond
     named_conditions number = elim number [ None ↦ [] | Some k ↦ found_conditions (slice_get (table_at doc.acts table) k) ]
@@ -253,7 +253,7 @@ module _ (doc : Recipe) (bound : Binding) where
     label_stands : AreActs → (number : Option ℕ) → number_in (table_at doc.acts table) name ≡ number → AreFrom es n (named_entries number) → AreFrom all j (named_conditions number)
         → StandsAs n (named_entries number) (named_trees (act_named (table_at doc.acts table) name))
     label_stands acts None is h c =
-        subst (λ found. StandsAs n (bare n u i) (named_trees found)) (sym (not_found (λ (a : Act). same_name a.name name) (table_at doc.acts table) is)) (bare_stands n u i h)
+        subst (λ found. StandsAs n (bare_entries n u i) (named_trees found)) (sym (not_found (λ (a : Act). same_name a.name name) (table_at doc.acts table) is)) (bare_stands n u i h)
     label_stands acts (Some k) is h c =
         let found = found_at (λ (a : Act). same_name a.name name) (table_at doc.acts table) k is in
         subst (λ o. StandsAs n (named_entries (Some k)) (named_trees o)) (sym found) (found_stands acts k (slice_get (table_at doc.acts table) k) refl found h c)

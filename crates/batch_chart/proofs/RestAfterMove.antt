@@ -13,7 +13,7 @@ use Rattle.batch_recipe.specs.declared.recipe.Recipe.{Recipe}
 use Rattle.batch_model.specs.Lists.{Has}
 use Rattle.batch_model.specs.Moves as machine
 use Rattle.batch_model.specs.Moves.{act_after, sent, released, ended, asked, granted, batch_after, passing}
-use Rattle.batch_model.specs.Plant.{Batch, InAdvance, is_reached, with_rest}
+use Rattle.batch_model.specs.Plant.{Batch, InAdvance, is_act_reached, with_rest}
 use Rattle.batch_model.specs.Rest.{same_place, Rest, ready, asking, open_act, live, freeing, in_seq, in_par, in_loop, done, Rests, no_rests, rest, acts, place_of}
 use Rattle.batch_step_laws.proofs.WorkAfterChange.{to_same_place, same_test}
 use Rattle.batch_record_laws.proofs.Entries.{Has-filter}
@@ -119,7 +119,7 @@ IsActMove _ = ⊤
 
 -- the places of the units held in advance aren't reached yet
 abbrev pub AreWaiting : List InAdvance → Rest → Type 0
-AreWaiting xs r = (held : InAdvance) → Has xs held → is_reached r held.place ≡ false
+AreWaiting xs r = (held : InAdvance) → Has xs held → is_act_reached r held.place ≡ false
 
 pub waiting-nowhere : (xs : List InAdvance) (r : Rest) → AreWaiting xs r → (held : InAdvance) → Has xs held → Nowhere held.place (acts r)
 waiting-nowhere xs r w held i = not_reached held.place r (w held i)
@@ -229,7 +229,7 @@ module _ (ns : List Entry) (doc : Recipe) (t : Tree) (laid : IsLaid ns doc t) wh
         ready-stage f.step f.task (meaning_below f.task (k + 1) ys) (stage_at ys k) s w j (sym f.is ∙ q)
 
     -- a ready node is reached
-    ready-reached : (k : ℕ) → k < length ns → is_ready (stage_at ys k) ≡ true → is_reached now (place_at t k) ≡ true
+    ready-reached : (k : ℕ) → k < length ns → is_ready (stage_at ys k) ≡ true → is_act_reached now (place_at t k) ≡ true
     ready-reached k lt e = elim (entry-or-not (numbered t 0 ys) k) [
       | inl m ↦ found m.0 m.1
       | inr z ↦ absurd (let d : ◌≡◌ {A = Bool} true false = sym signed ∙ ap (shows IS_ACT) (noted.shown k ∙ z) ∙ nothing-shown IS_ACT in cc)
@@ -248,7 +248,7 @@ module _ (ns : List Entry) (doc : Recipe) (t : Tree) (laid : IsLaid ns doc t) wh
             ap (shows IS_ACT) (n.shown ∙ ap (λ z. step_shows (length h.step.needs) h.task z (is_finished (stage_at ys (k + 1)))) form.1)
             ∙ ready-signed (length h.step.needs) form.0 h.task (is_finished (stage_at ys (k + 1)))
 
-        found : (a : Rest) → Has (numbered t 0 ys) (k, a) → is_reached now (place_at t k) ≡ true
+        found : (a : Rest) → Has (numbered t 0 ys) (k, a) → is_act_reached now (place_at t k) ≡ true
         found a i =
             let g = known ns doc ys t laid (k, a) i in
             any-has (λ x. same_place (place_of x) (place_at t k)) (acts now) a g.among
@@ -289,13 +289,13 @@ module _ (ns : List Entry) (doc : Recipe) (t : Tree) (laid : IsLaid ns doc t) wh
       now-raised = (over.means t laid alive).1 ∙ taken-alike (is_of t over.taken) (among xs) now agrees ∙ sym (raised-taken xs now)
 
       -- a node that held its unit in advance is reached just where it is ready
-      same-ready : (k : ℕ) → k < node_count t → early k ≡ true → is_reached now (place_at t k) ≡ is_ready (stage_at ys k)
-      same-ready k lt holds = same-when (is_reached now (place_at t k)) (is_ready (stage_at ys k)) here (ready-reached k inside)
+      same-ready : (k : ℕ) → k < node_count t → early k ≡ true → is_act_reached now (place_at t k) ≡ is_ready (stage_at ys k)
+      same-ready k lt holds = same-when (is_act_reached now (place_at t k)) (is_ready (stage_at ys k)) here (ready-reached k inside)
         where
           inside : k < length ns
           inside = omega (arith, lt, laid.count)
 
-          here : is_reached now (place_at t k) ≡ true → is_ready (stage_at ys k) ≡ true
+          here : is_act_reached now (place_at t k) ≡ true → is_ready (stage_at ys k) ≡ true
           here e =
               let m = reached-at (place_at t k) now e in
               let held = among-has xs (place_at t k) (told k lt ∙ holds) in
@@ -304,13 +304,13 @@ module _ (ns : List Entry) (doc : Recipe) (t : Tree) (laid : IsLaid ns doc t) wh
               staged k m.0 f.0 f.1 0 inside m.1 m.2 f.2
 
       abbrev still : List InAdvance
-      still = filter (λ held. not (is_reached (raised xs now) held.place)) xs
+      still = filter (λ held. not (is_act_reached (raised xs now) held.place)) xs
 
       pub now-waiting : AreWaiting still (raised xs now)
-      now-waiting held i = not-true (is_reached (raised xs now) held.place) (Has-filter (λ h. not (is_reached (raised xs now) h.place)) xs held i).1
+      now-waiting held i = not-true (is_act_reached (raised xs now) held.place) (Has-filter (λ h. not (is_act_reached (raised xs now) h.place)) xs held i).1
 
       -- a node still holds its unit in advance just where it isn't reached
-      pub still-early : (k : ℕ) → k < node_count t → early k ≡ true → not (is_reached (raised xs now) (place_at t k)) ≡ not (is_ready (stage_at zs k))
+      pub still-early : (k : ℕ) → k < node_count t → early k ≡ true → not (is_act_reached (raised xs now) (place_at t k)) ≡ not (is_ready (stage_at zs k))
       still-early k lt e = ap not (reached-raised xs now (place_at t k) ∙ same-ready k lt e ∙ sym (over.ready k))
 
 -- Lists of the needs held in advance
@@ -340,8 +340,8 @@ module _ (ns : List Entry) (doc : Recipe) (t : Tree) (laid : IsLaid ns doc t) wh
   early-told (p ∷ held) within k lt =
       ap₂ (λ a b. a || b) (same-number k p.to (omega (arith, lt, laid.count)) (within p (inl refl))) (early-told held (λ q i. within q (inr i)) k lt)
 
-  pub still-held : (held : List Passed) (r : Rest) (zs : List Stage) → ((p : Passed) → Has held p → not (is_reached r (place_at t p.to)) ≡ not (is_ready (stage_at zs p.to)))
-      → filter (λ x. not (is_reached r x.place)) (in_advance t held) ≡ in_advance t (filter (λ p. not (is_ready (stage_at zs p.to))) held)
+  pub still-held : (held : List Passed) (r : Rest) (zs : List Stage) → ((p : Passed) → Has held p → not (is_act_reached r (place_at t p.to)) ≡ not (is_ready (stage_at zs p.to)))
+      → filter (λ x. not (is_act_reached r x.place)) (in_advance t held) ≡ in_advance t (filter (λ p. not (is_ready (stage_at zs p.to))) held)
   still-held held r zs h =
-      filter-map (λ (x : InAdvance). not (is_reached r x.place)) (λ (p : Passed). record { place = place_at t p.to; unit = need_at t p.node p.need }) held
-      ∙ ap (in_advance t) (filter-alike (λ p. not (is_reached r (place_at t p.to))) (λ p. not (is_ready (stage_at zs p.to))) held h)
+      filter-map (λ (x : InAdvance). not (is_act_reached r x.place)) (λ (p : Passed). record { place = place_at t p.to; unit = need_at t p.node p.need }) held
+      ∙ ap (in_advance t) (filter-alike (λ p. not (is_act_reached r (place_at t p.to))) (λ p. not (is_ready (stage_at zs p.to))) held h)

@@ -10,7 +10,7 @@ use Rattle.batch_model.specs.Rest.{Rest, ready, asking, open_act, live, freeing,
 use Rattle.batch_model.specs.Moves.{is_empty}
 use Rattle.batch_chart.specs.declared.sign.TheConstants.{HOLDS, LIVES, WAITS}
 use Rattle.batch_signs.specs.Signs.{shows}
-use Rattle.batch_chart.specs.Noting.{but, gives, flag, state_sign, ready_signs, asking_signs, freeing_signs, live_signs, open_signs, signs_of, accepting}
+use Rattle.batch_chart.specs.Noting.{but, gives, flag, state_sign, ready_signs, asking_signs, freeing_signs, live_signs, open_signs, signs_of, states_accepting}
 use Rattle.batch_signs.proofs.WantedSigns.{shows-or, nothing-shown}
 
 shows-flag : (m s : ℕ) (b : Bool) → shows m (flag b s) ≡ (b && shows m s)
@@ -87,7 +87,7 @@ record IsHigh (m : ℕ) : Type 0 where
   pub frees : shows m 16 ≡ false
   pub holds : shows m 32 ≡ false
 
-high-accepting : (c : Command) → IsHigh (accepting c)
+high-accepting : (c : Command) → IsHigh (states_accepting c)
 high-accepting c = record { act = grind arith; lacks = grind arith; fits = grind arith; waits = grind arith; over = grind arith; frees = grind arith; holds = grind arith }
 
 high-in : (x : State) → IsHigh (state_sign x)
@@ -99,7 +99,7 @@ high-but x = record { act = grind arith; lacks = grind arith; fits = grind arith
 high-lives : IsHigh LIVES
 high-lives = record { act = refl; lacks = refl; fits = refl; waits = refl; over = refl; frees = refl; holds = refl }
 
-accepts-shown : (x : State) (c : Command) → accepts x c ≡ shows (accepting c) (state_sign x)
+accepts-shown : (x : State) (c : Command) → accepts x c ≡ shows (states_accepting c) (state_sign x)
 accepts-shown x c = grind arith
 
 lives-shown : (x : State) → true ≡ shows LIVES (state_sign x)
@@ -126,8 +126,8 @@ said-states q m h e n r = sym (nothing-shown m)
 pub said-live : Says any_live LIVES
 said-live = said-states (λ x. true) LIVES high-lives lives-shown
 
-pub said-accepting : (c : Command) → Says (of_states (λ x. accepts x c)) (accepting c)
-said-accepting c = said-states (λ x. accepts x c) (accepting c) (high-accepting c) (λ x. accepts-shown x c)
+pub said-accepting : (c : Command) → Says (of_states (λ x. accepts x c)) (states_accepting c)
+said-accepting c = said-states (λ x. accepts x c) (states_accepting c) (high-accepting c) (λ x. accepts-shown x c)
 
 pub said-in : (y : State) → Says (live_as y) (state_sign y)
 said-in y = said-states (λ x. same_state x y) (state_sign y) (high-in y) (in-shown y)

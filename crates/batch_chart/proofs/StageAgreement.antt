@@ -7,7 +7,7 @@ use Rattle.batch_model.specs.Rest.{Rest, done, rest, in_seq, in_par}
 use Rattle.batch_recipe.proofs.NodeSubtrees.{some_count}
 use Rattle.batch_chart.specs.declared.stage.Stage.{Stage}
 use Rattle.batch_chart.specs.Stages.{stage_at, is_finished, is_begun, turns_of}
-use Rattle.batch_chart.specs.Meaning.{act_as, loop_as, meaning, meaning_below, meaning_each, branch, chosen, AgreeWithin}
+use Rattle.batch_chart.specs.Meaning.{act_as, loop_as, meaning, meaning_below, meaning_each, meaning_of_branch, chosen, AgreeWithin}
 
 pub stage-set_same : (xs : List Stage) (n : ℕ) (v : Stage) → n < length xs → stage_at (slice_set xs n v) n ≡ v
 stage-set_same xs n v h = rw get_or-set_same
@@ -27,7 +27,7 @@ module _ (xs ys : List Stage) where
     meaning-agree skip n h = refl
     meaning-agree (seq ts) n h =
         ap (λ r. elim (is_begun (stage_at ys n)) as (λ _. Rest) [ true ↦ r | false ↦ done ]) (branch-agree ts (n + 1) (agree-part n (n + (1 + count_of_each ts)) (n + 1) (n + 1 + count_of_each ts) xs ys (omega arith) (omega arith) h))
-        ∙ ap (λ x. elim (is_begun x) as (λ _. Rest) [ true ↦ branch ts (n + 1) xs | false ↦ done ]) (h n (omega arith) (omega arith))
+        ∙ ap (λ x. elim (is_begun x) as (λ _. Rest) [ true ↦ meaning_of_branch ts (n + 1) xs | false ↦ done ]) (h n (omega arith) (omega arith))
     meaning-agree (par ts) n h =
         ap (λ r. elim (is_begun (stage_at ys n)) as (λ _. Rest) [ true ↦ in_par r | false ↦ done ]) (meaning_each-agree ts (n + 1) (agree-part n (n + (1 + count_of_each ts)) (n + 1) (n + 1 + count_of_each ts) xs ys (omega arith) (omega arith) h))
         ∙ ap (λ x. elim (is_begun x) as (λ _. Rest) [ true ↦ in_par (meaning_each ts (n + 1) xs) | false ↦ done ]) (h n (omega arith) (omega arith))
@@ -48,12 +48,12 @@ module _ (xs ys : List Stage) where
         ap (λ r. rest r (meaning_each ts (n + node_count c) ys)) (meaning-agree c n (agree-part n (n + (node_count c + count_of_each ts)) n (n + node_count c) xs ys (omega arith) (omega arith) h))
         ∙ ap (λ r. rest (meaning c n xs) r) (meaning_each-agree ts (n + node_count c) (agree-part n (n + (node_count c + count_of_each ts)) (n + node_count c) (n + node_count c + count_of_each ts) xs ys (omega arith) (omega arith) h))
 
-    pub branch-agree : (ts : Trees) (n : ℕ) → AgreeWithin n (n + count_of_each ts) xs ys → branch ts n ys ≡ branch ts n xs
+    pub branch-agree : (ts : Trees) (n : ℕ) → AgreeWithin n (n + count_of_each ts) xs ys → meaning_of_branch ts n ys ≡ meaning_of_branch ts n xs
     branch-agree no_trees n h = refl
     branch-agree (tree c ts) n h =
-        ap (λ r. elim (is_finished (stage_at ys n)) as (λ _. Rest) [ true ↦ branch ts (n + node_count c) ys | false ↦ in_seq r ts ]) (meaning-agree c n (agree-part n (n + (node_count c + count_of_each ts)) n (n + node_count c) xs ys (omega arith) (omega arith) h))
+        ap (λ r. elim (is_finished (stage_at ys n)) as (λ _. Rest) [ true ↦ meaning_of_branch ts (n + node_count c) ys | false ↦ in_seq r ts ]) (meaning-agree c n (agree-part n (n + (node_count c + count_of_each ts)) n (n + node_count c) xs ys (omega arith) (omega arith) h))
         ∙ ap (λ r. elim (is_finished (stage_at ys n)) as (λ _. Rest) [ true ↦ r | false ↦ in_seq (meaning c n xs) ts ]) (branch-agree ts (n + node_count c) (agree-part n (n + (node_count c + count_of_each ts)) (n + node_count c) (n + node_count c + count_of_each ts) xs ys (omega arith) (omega arith) h))
-        ∙ ap (λ x. elim (is_finished x) as (λ _. Rest) [ true ↦ branch ts (n + node_count c) xs | false ↦ in_seq (meaning c n xs) ts ]) (h n (omega arith) (omega (arith, some_count c)))
+        ∙ ap (λ x. elim (is_finished x) as (λ _. Rest) [ true ↦ meaning_of_branch ts (n + node_count c) xs | false ↦ in_seq (meaning c n xs) ts ]) (h n (omega arith) (omega (arith, some_count c)))
 
     pub chosen-agree : (ch : Choices) (n : ℕ) → AgreeWithin n (n + count_of_choices ch) xs ys → chosen ch n ys ≡ chosen ch n xs
     chosen-agree (otherwise c) n h = meaning-agree c n h

@@ -17,7 +17,7 @@ use Rattle.batch_recipe.specs.declared.recipe.Recipe.{Recipe}
 use Rattle.batch_chart.specs.declared.stage.Stage.{Stage}
 use Rattle.batch_chart.specs.declared.stage.Stage.TheVariants.{Ready, Asking, Open, Live, Freeing}
 use Rattle.batch_chart.specs.Stages.{stage_at, is_finished, is_begun, turns_of}
-use Rattle.batch_chart.specs.Meaning.{meaning, meaning_below, meaning_each, act_as, loop_as, branch, chosen, AgreeOutside}
+use Rattle.batch_chart.specs.Meaning.{meaning, meaning_below, meaning_each, act_as, loop_as, meaning_of_branch, chosen, AgreeOutside}
 use Rattle.batch_chart.specs.Outlined.{end_at, kind_at, is_act_kind, Stands, StandsAct, AreStanding, AreChoices}
 use Rattle.batch_chart.proofs.TreePositions.{nested}
 use Rattle.batch_chart.proofs.KnownTests.{chosen-true, chosen-false, choice-map}
@@ -112,8 +112,8 @@ module _ (ls : List nodes.Node) (rises : AreInOrder ls) (k : ℕ) (at : nodes.No
     meaning-changed (seq ts) n h m a =
         let ne = other ns n k Seq is_act h.0.1 refl in
         ap (λ r. elim (is_begun (stage_at ys n)) as (λ _. Rest) [ true ↦ r | false ↦ done ]) (branch-changed ts (n + 1) (n + (1 + count_of_each ts)) h.1 m (apart-next n ne a))
-        ∙ ap (λ x. elim (is_begun x) as (λ _. Rest) [ true ↦ changed_at at.place f (branch ts (n + 1) xs) | false ↦ done ]) (same n ne a)
-        ∙ sym (choice-map (changed_at at.place f) (is_begun (stage_at xs n)) (branch ts (n + 1) xs) done)
+        ∙ ap (λ x. elim (is_begun x) as (λ _. Rest) [ true ↦ changed_at at.place f (meaning_of_branch ts (n + 1) xs) | false ↦ done ]) (same n ne a)
+        ∙ sym (choice-map (changed_at at.place f) (is_begun (stage_at xs n)) (meaning_of_branch ts (n + 1) xs) done)
     meaning-changed (par ts) n h m a =
         let ne = other ns n k Par is_act h.0.1 refl in
         ap (λ r. elim (is_begun (stage_at ys n)) as (λ _. Rest) [ true ↦ in_par r | false ↦ done ]) (meaning_each-changed ts (n + 1) (n + (1 + count_of_each ts)) h.1 m (apart-next n ne a))
@@ -140,13 +140,13 @@ module _ (ls : List nodes.Node) (rises : AreInOrder ls) (k : ℕ) (at : nodes.No
         ap (λ r. rest r (meaning_each ts (n + node_count c) ys)) (meaning-changed c n h.0 m.0 a)
         ∙ ap (λ r. rest (changed_at at.place f (meaning c n xs)) r) (meaning_each-changed ts (n + node_count c) j h.1 m.1 (apart-after n c h.0 a))
 
-    branch-changed : (ts : Trees) (n j : ℕ) → AreStanding ns doc n j ts → AreMarked ls rises k at is_at n ts → Apart n → branch ts n ys ≡ changed_at at.place f (branch ts n xs)
+    branch-changed : (ts : Trees) (n j : ℕ) → AreStanding ns doc n j ts → AreMarked ls rises k at is_at n ts → Apart n → meaning_of_branch ts n ys ≡ changed_at at.place f (meaning_of_branch ts n xs)
     branch-changed no_trees n j h m a = refl
     branch-changed (tree c ts) n j h m a =
-        ap (λ r. elim (is_finished (stage_at ys n)) as (λ _. Rest) [ true ↦ branch ts (n + node_count c) ys | false ↦ in_seq r ts ]) (meaning-changed c n h.0 m.0 a)
+        ap (λ r. elim (is_finished (stage_at ys n)) as (λ _. Rest) [ true ↦ meaning_of_branch ts (n + node_count c) ys | false ↦ in_seq r ts ]) (meaning-changed c n h.0 m.0 a)
         ∙ ap (λ r. elim (is_finished (stage_at ys n)) as (λ _. Rest) [ true ↦ r | false ↦ in_seq (changed_at at.place f (meaning c n xs)) ts ]) (branch-changed ts (n + node_count c) j h.1 m.1 (apart-after n c h.0 a))
-        ∙ ap (λ t. elim t as (λ _. Rest) [ true ↦ changed_at at.place f (branch ts (n + node_count c) xs) | false ↦ in_seq (changed_at at.place f (meaning c n xs)) ts ]) (status n c h.0 a)
-        ∙ sym (choice-map (changed_at at.place f) (is_finished (stage_at xs n)) (branch ts (n + node_count c) xs) (in_seq (meaning c n xs) ts))
+        ∙ ap (λ t. elim t as (λ _. Rest) [ true ↦ changed_at at.place f (meaning_of_branch ts (n + node_count c) xs) | false ↦ in_seq (changed_at at.place f (meaning c n xs)) ts ]) (status n c h.0 a)
+        ∙ sym (choice-map (changed_at at.place f) (is_finished (stage_at xs n)) (meaning_of_branch ts (n + node_count c) xs) (in_seq (meaning c n xs) ts))
 
     chosen-changed : (ch : Choices) (i n j : ℕ) → AreChoices ns doc i n j ch → AreMarkedChoices ls rises k at is_at n ch → Apart n → chosen ch n ys ≡ changed_at at.place f (chosen ch n xs)
     chosen-changed (otherwise c) i n j h m a = meaning-changed c n h.0 m a

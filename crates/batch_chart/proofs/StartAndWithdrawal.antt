@@ -20,13 +20,13 @@ use Rattle.batch_recipe.proofs.NodeSubtrees.{some_count}
 use Rattle.batch_chart.specs.declared.stage.Stage.{Stage}
 use Rattle.batch_chart.specs.declared.stage.Stage.TheVariants.{Finished, Ready, Asking, Open, Live, Freeing, Turning}
 use Rattle.batch_chart.specs.Stages.{stage_at, is_finished, is_begun, turns_of}
-use Rattle.batch_chart.specs.Meaning.{act_as, loop_as, meaning, meaning_below, meaning_each, branch, chosen}
+use Rattle.batch_chart.specs.Meaning.{act_as, loop_as, meaning, meaning_below, meaning_each, meaning_of_branch, chosen}
 use Rattle.batch_chart.specs.Running.{IsActTree, IsAlive}
 use Rattle.batch_chart.specs.Outlined.{end_at, kind_at, Stands}
 use Rattle.batch_chart.specs.declared.node.Kind.TheVariants.{Act}
 use Rattle.batch_chart.specs.declared.node.Kind.TheVariants as kind
 use Rattle.batch_chart.specs.Neat.{AllFinished, AreNeat}
-use Rattle.batch_chart.specs.Needs.{needs_of}
+use Rattle.batch_chart.specs.Needs.{need_count}
 use Rattle.batch_chart.specs.Noting.{stage_signs}
 use Rattle.batch_signs.specs.Signs.{sign_at}
 use Rattle.batch_chart.specs.Starting.{HasStarted, AreStarted, again, HasWithdrawn}
@@ -100,7 +100,7 @@ module _ (ns : List Entry) (xs : List Stage) (m v : ℕ) (some : 0 < length ns) 
       has-started (length ns) (slice_set xs 0 (Ready 0)) (λ lt. length-set xs 0 (Ready 0) ∙ l) (stage-set_same xs 0 (Ready 0) (omega (arith, some, l)))
       (λ j lt. stage-set_other xs 0 j (Ready 0) (λ e. absurd (omega (arith, lt, e))) ∙ all-stages xs gone j)
 
-  pub starts-neatly : v ≡ stage_signs (needs_of (kind_at ns 0)) (Ready 0) → AreStarted ns (slice_set xs 0 (Ready 0)) (slice_set (replicate m 0) 0 v)
+  pub starts-neatly : v ≡ stage_signs (need_count (kind_at ns 0)) (Ready 0) → AreStarted ns (slice_set xs 0 (Ready 0)) (slice_set (replicate m 0) 0 v)
   starts-neatly is = (
     length-set (replicate {A = ℕ} m 0) 0 v ∙ length-replicate {A = ℕ} m 0 ∙ k,
     λ doc t laid. (
@@ -164,8 +164,8 @@ module _ (xs ys : List Stage) (h : (k : ℕ) → stage_at ys k ≡ again (stage_
     meaning-withdrawn skip n = refl
     meaning-withdrawn (seq ts) n =
         ap (λ r. elim (is_begun (stage_at ys n)) as (λ _. Rest) [ true ↦ r | false ↦ done ]) (branch-withdrawn ts (n + 1))
-        ∙ ap (λ t. elim t as (λ _. Rest) [ true ↦ withdrawn (branch ts (n + 1) xs) | false ↦ done ]) (begun n)
-        ∙ sym (choice-map withdrawn (is_begun (stage_at xs n)) (branch ts (n + 1) xs) done)
+        ∙ ap (λ t. elim t as (λ _. Rest) [ true ↦ withdrawn (meaning_of_branch ts (n + 1) xs) | false ↦ done ]) (begun n)
+        ∙ sym (choice-map withdrawn (is_begun (stage_at xs n)) (meaning_of_branch ts (n + 1) xs) done)
     meaning-withdrawn (par ts) n =
         ap (λ r. elim (is_begun (stage_at ys n)) as (λ _. Rest) [ true ↦ in_par r | false ↦ done ]) (meaning_each-withdrawn ts (n + 1))
         ∙ ap (λ t. elim t as (λ _. Rest) [ true ↦ in_par (withdrawn_each (meaning_each ts (n + 1) xs)) | false ↦ done ]) (begun n)
@@ -189,13 +189,13 @@ module _ (xs ys : List Stage) (h : (k : ℕ) → stage_at ys k ≡ again (stage_
         ap (λ r. rest r (meaning_each ts (n + node_count c) ys)) (meaning-withdrawn c n)
         ∙ ap (λ r. rest (withdrawn (meaning c n xs)) r) (meaning_each-withdrawn ts (n + node_count c))
 
-    branch-withdrawn : (ts : Trees) (n : ℕ) → branch ts n ys ≡ withdrawn (branch ts n xs)
+    branch-withdrawn : (ts : Trees) (n : ℕ) → meaning_of_branch ts n ys ≡ withdrawn (meaning_of_branch ts n xs)
     branch-withdrawn no_trees n = refl
     branch-withdrawn (tree c ts) n =
-        ap (λ r. elim (is_finished (stage_at ys n)) as (λ _. Rest) [ true ↦ branch ts (n + node_count c) ys | false ↦ in_seq r ts ]) (meaning-withdrawn c n)
+        ap (λ r. elim (is_finished (stage_at ys n)) as (λ _. Rest) [ true ↦ meaning_of_branch ts (n + node_count c) ys | false ↦ in_seq r ts ]) (meaning-withdrawn c n)
         ∙ ap (λ r. elim (is_finished (stage_at ys n)) as (λ _. Rest) [ true ↦ r | false ↦ in_seq (withdrawn (meaning c n xs)) ts ]) (branch-withdrawn ts (n + node_count c))
-        ∙ ap (λ t. elim t as (λ _. Rest) [ true ↦ withdrawn (branch ts (n + node_count c) xs) | false ↦ in_seq (withdrawn (meaning c n xs)) ts ]) (status n)
-        ∙ sym (choice-map withdrawn (is_finished (stage_at xs n)) (branch ts (n + node_count c) xs) (in_seq (meaning c n xs) ts))
+        ∙ ap (λ t. elim t as (λ _. Rest) [ true ↦ withdrawn (meaning_of_branch ts (n + node_count c) xs) | false ↦ in_seq (withdrawn (meaning c n xs)) ts ]) (status n)
+        ∙ sym (choice-map withdrawn (is_finished (stage_at xs n)) (meaning_of_branch ts (n + node_count c) xs) (in_seq (meaning c n xs) ts))
 
     chosen-withdrawn : (ch : Choices) (n : ℕ) → chosen ch n ys ≡ withdrawn (chosen ch n xs)
     chosen-withdrawn (otherwise c) n = meaning-withdrawn c n

@@ -14,8 +14,8 @@ use Rattle.batch_recipe.specs.declared.recipe.Recipe.{Recipe}
 use Rattle.batch_chart.specs.declared.stage.Stage.{Stage}
 use Rattle.batch_chart.specs.declared.stage.Stage.TheVariants.{Finished, Open, Freeing, Turning}
 use Rattle.batch_chart.specs.Stages.{stage_at, is_finished, is_begun, is_over, is_over_at, turns_of, closed_as, looped_as}
-use Rattle.batch_chart.specs.Meaning.{meaning, meaning_each, act_as, loop_as, branch, chosen, AgreeWithin, AgreeOutside}
-use Rattle.batch_chart.specs.Outlined.{end_at, kind_at, IsCondition, Stands, HasTree, HaveTrees, HaveBranches, judged, condition_at}
+use Rattle.batch_chart.specs.Meaning.{meaning, meaning_each, act_as, loop_as, meaning_of_branch, chosen, AgreeWithin, AgreeOutside}
+use Rattle.batch_chart.specs.Outlined.{end_at, kind_at, IsCondition, Stands, HasTree, HaveTrees, HaveBranches, condition_holds, condition_at}
 use Rattle.batch_chart.specs.Reaching.{IsReached, IsFirstReached}
 use Rattle.batch_chart.specs.Advancing.{HasAdvanced, HasFirstAdvanced, HasEachAdvanced, HasChoiceAdvanced}
 use Rattle.batch_chart.proofs.TreePositions.{stood, ActAt, act_at, act-at, SeqAt, seq_at, seq-at, ParAt, par_at, par-at, SelAt, sel_at, sel-at, LoopAt, loop_at, loop-at, RowAt, row_at, row-at, LastAt, last_at, last-at, ChoiceAt, choice_at, choice-at, below-end, first-end, first-standing, choice-standing, choice-end}
@@ -173,7 +173,7 @@ module _ (ns : List Entry) (doc : Recipe) (vs : ValueList) (xs : List Stage) (n 
       where
         go : (c : Tree) → SeqAt ns doc n c → (meaning c n zs ≡ advance_by vs (meaning c n xs)) × (r ≡ is_done (advance_by vs (meaning c n xs)))
         go _ (seq_at ts a) =
-            closed-means (branch ts (n + 1) xs) (branch ts (n + 1) zs) (advance_by vs (branch ts (n + 1) xs)) refl (f.means ts a).1
+            closed-means (meaning_of_branch ts (n + 1) xs) (meaning_of_branch ts (n + 1) zs) (advance_by vs (meaning_of_branch ts (n + 1) xs)) refl (f.means ts a).1
             (λ u. branch-agree ys zs ts (n + 1) (closed-within (n + 1 + count_of_each ts)) ∙ (f.means ts a).0)
 
     pub advanced-par : kind_at ns n ≡ Par → HasEachAdvanced ns doc vs (n + 1) (end_at ns n) true xs ys b → HasAdvanced ns doc vs n xs zs r
@@ -210,18 +210,18 @@ module _ (ns : List Entry) (doc : Recipe) (vs : ValueList) (xs : List Stage) (n 
     is-loop p body = ap (λ o. advance_by vs (loop_as o p body (meaning body (n + 1) xs))) (sym runs_on)
 
     -- the last turn is over: no turn may follow, or the condition holds
-    pub advanced-loop_over : n < length ys → (left ≡ 0) ⊎ (true ≡ judged (condition_at doc i) vs) → HasAdvanced ns doc vs (n + 1) xs ys true → HasAdvanced ns doc vs n xs (slice_set ys n Finished) true
+    pub advanced-loop_over : n < length ys → (left ≡ 0) ⊎ (true ≡ condition_holds (condition_at doc i) vs) → HasAdvanced ns doc vs (n + 1) xs ys true → HasAdvanced ns doc vs n xs (slice_set ys n Finished) true
     advanced-loop_over lt last a =
         advanced-finish ys lt (loop-outside ns doc vs xs n standing ys k i e a.outside) (λ c h. go last c (loop-at ns doc n k i e c h))
       where
-        go : (left ≡ 0) ⊎ (true ≡ judged (condition_at doc i) vs) → (c : Tree) → LoopAt ns doc n k i c → advance_by vs (meaning c n xs) ≡ done
+        go : (left ≡ 0) ⊎ (true ≡ condition_holds (condition_at doc i) vs) → (c : Tree) → LoopAt ns doc n k i c → advance_by vs (meaning c n xs) ≡ done
         go (inl z) _ (loop_at p body w q b) = is-loop p body ∙ turned-last vs left p body (advance_by vs (meaning body (n + 1) xs)) (sym (a.means body q).1) z
         go (inr z) _ (loop_at p body w q b) =
-            is-loop p body ∙ turned-holds vs left p body (advance_by vs (meaning body (n + 1) xs)) (sym (a.means body q).1) (sym (z ∙ ap (λ d. judged d vs) w))
+            is-loop p body ∙ turned-holds vs left p body (advance_by vs (meaning body (n + 1) xs)) (sym (a.means body q).1) (sym (z ∙ ap (λ d. condition_holds d vs) w))
 
-    module _ (zs : List Stage) (more : left ≢ 0) (goes_on : false ≡ judged (condition_at doc i) vs) (a : HasAdvanced ns doc vs (n + 1) xs ys true) (kept : length ys ≡ length ns) (lt : n < length zs) where
+    module _ (zs : List Stage) (more : left ≢ 0) (goes_on : false ≡ condition_holds (condition_at doc i) vs) (a : HasAdvanced ns doc vs (n + 1) xs ys true) (kept : length ys ≡ length ns) (lt : n < length zs) where
       is-next : (p : Cond) (body : Tree) → IsCondition doc i p → Stands ns doc (n + 1) body → advance_by vs (meaning (loop k p body) n xs) ≡ turning (pred left) p body (reach_by vs body)
-      is-next p body w q = is-loop p body ∙ turned-more vs left p body (advance_by vs (meaning body (n + 1) xs)) (sym (a.means body q).1) (sym (goes_on ∙ ap (λ d. judged d vs) w)) more
+      is-next p body w q = is-loop p body ∙ turned-more vs left p body (advance_by vs (meaning body (n + 1) xs)) (sym (a.means body q).1) (sym (goes_on ∙ ap (λ d. condition_holds d vs) w)) more
 
       both-outside : (f : Bool) → IsReached ns doc vs (n + 1) ys zs f → AgreeOutside (n + 1) (end_at ns n) xs zs
       both-outside f r j h = loop-outside ns doc vs ys n (kept, standing.1) zs k i e r.outside j h ∙ loop-outside ns doc vs xs n standing ys k i e a.outside j h
@@ -275,13 +275,13 @@ module _ (ns : List Entry) (doc : Recipe) (vs : ValueList) (xs : List Stage) (n 
         outside = outside-join xs xs ys n (end_at ns n) m within-row (first-end ns doc xs n m ne h) (outside-same xs n (end_at ns n)) a.outside;
       }
     where
-      go : (ts : Trees) → RowAt ns doc n m ts → (branch ts n ys ≡ advance_by vs (branch ts n xs)) × (b ≡ is_done (advance_by vs (branch ts n xs)))
+      go : (ts : Trees) → RowAt ns doc n m ts → (meaning_of_branch ts n ys ≡ advance_by vs (meaning_of_branch ts n xs)) × (b ≡ is_done (advance_by vs (meaning_of_branch ts n xs)))
       go _ (row_at c ts p q e le) =
-          let rest : (branch ts (n + node_count c) ys ≡ advance_by vs (branch ts (n + node_count c) xs)) × (b ≡ is_done (advance_by vs (branch ts (n + node_count c) xs))) =
-          subst (λ i. (branch ts i ys ≡ advance_by vs (branch ts i xs)) × (b ≡ is_done (advance_by vs (branch ts i xs)))) e (a.means ts q) in
+          let rest : (meaning_of_branch ts (n + node_count c) ys ≡ advance_by vs (meaning_of_branch ts (n + node_count c) xs)) × (b ≡ is_done (advance_by vs (meaning_of_branch ts (n + node_count c) xs))) =
+          subst (λ i. (meaning_of_branch ts i ys ≡ advance_by vs (meaning_of_branch ts i xs)) × (b ≡ is_done (advance_by vs (meaning_of_branch ts i xs)))) e (a.means ts q) in
           let own : is_finished (stage_at ys n) ≡ true = ap is_finished (a.outside n (inl (below-end ns doc xs n standing))) ∙ sym u in
-          let was = ap (advance_by vs) (chosen-true (is_finished (stage_at xs n)) (branch ts (n + node_count c) xs) (in_seq (meaning c n xs) ts) (sym u)) in (
-            chosen-true (is_finished (stage_at ys n)) (branch ts (n + node_count c) ys) (in_seq (meaning c n ys) ts) own ∙ rest.0 ∙ sym was,
+          let was = ap (advance_by vs) (chosen-true (is_finished (stage_at xs n)) (meaning_of_branch ts (n + node_count c) xs) (in_seq (meaning c n xs) ts) (sym u)) in (
+            chosen-true (is_finished (stage_at ys n)) (meaning_of_branch ts (n + node_count c) ys) (in_seq (meaning c n ys) ts) own ∙ rest.0 ∙ sym was,
             rest.1 ∙ sym (ap is_done was),
           )
 
@@ -293,14 +293,14 @@ module _ (ns : List Entry) (doc : Recipe) (vs : ValueList) (xs : List Stage) (n 
         outside = outside-join xs ys zs n (end_at ns n) m within-row (first-end ns doc xs n m ne h) a.outside r.outside;
       }
     where
-      go : (ts : Trees) → RowAt ns doc n m ts → (branch ts n zs ≡ advance_by vs (branch ts n xs)) × (b ≡ is_done (advance_by vs (branch ts n xs)))
+      go : (ts : Trees) → RowAt ns doc n m ts → (meaning_of_branch ts n zs ≡ advance_by vs (meaning_of_branch ts n xs)) × (b ≡ is_done (advance_by vs (meaning_of_branch ts n xs)))
       go _ (row_at c ts p q e le) =
-          let rest : branch ts (n + node_count c) zs ≡ reach_first_by vs ts = subst (λ i. branch ts i zs ≡ reach_first_by vs ts) e (r.means ts q).0 in
+          let rest : meaning_of_branch ts (n + node_count c) zs ≡ reach_first_by vs ts = subst (λ i. meaning_of_branch ts i zs ≡ reach_first_by vs ts) e (r.means ts q).0 in
           let own : is_finished (stage_at zs n) ≡ true = ap is_finished (r.outside n (inl (below-end ns doc xs n standing))) ∙ a.own in
           let was =
-          ap (advance_by vs) (chosen-false (is_finished (stage_at xs n)) (branch ts (n + node_count c) xs) (in_seq (meaning c n xs) ts) (sym u))
+          ap (advance_by vs) (chosen-false (is_finished (stage_at xs n)) (meaning_of_branch ts (n + node_count c) xs) (in_seq (meaning c n xs) ts) (sym u))
           ∙ chosen-true (is_done (advance_by vs (meaning c n xs))) (reach_first_by vs ts) (in_seq (advance_by vs (meaning c n xs)) ts) (sym (a.means c p).1) in (
-            chosen-true (is_finished (stage_at zs n)) (branch ts (n + node_count c) zs) (in_seq (meaning c n zs) ts) own ∙ rest ∙ sym was,
+            chosen-true (is_finished (stage_at zs n)) (meaning_of_branch ts (n + node_count c) zs) (in_seq (meaning c n zs) ts) own ∙ rest ∙ sym was,
             (r.means ts q).1 ∙ sym (ap is_done was),
           )
 

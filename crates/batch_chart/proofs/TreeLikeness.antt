@@ -16,7 +16,7 @@ use Rattle.batch_recipe.proofs.NodeSubtrees.{some_count}
 use Rattle.batch_chart.specs.declared.stage.Stage.{Stage}
 use Rattle.batch_chart.specs.declared.stage.Stage.TheVariants.{Open, Freeing}
 use Rattle.batch_chart.specs.Stages.{stage_at, is_finished, is_begun, turns_of}
-use Rattle.batch_chart.specs.Meaning.{meaning, meaning_each, act_as, loop_as, branch, chosen, AgreeOutside}
+use Rattle.batch_chart.specs.Meaning.{meaning, meaning_each, act_as, loop_as, meaning_of_branch, chosen, AgreeOutside}
 use Rattle.batch_chart.specs.Outlined.{end_at, Stands, AreStanding, AreChoices}
 use Rattle.batch_chart.specs.Told.{TellsWhetherOver, AreTold}
 use Rattle.batch_chart.proofs.TreePositions.{choices-pos, stood, stood-each, stood-choices, nested, PhaseAt, phase_at, phase-at, ActAt, act_at, act-at, SkipAt, skip_at, skip-at, SeqAt, seq_at, seq-at, ParAt, par_at, par-at, SelAt, sel_at, sel-at, LoopAt, loop_at, loop-at}
@@ -148,7 +148,7 @@ module _ (ns : List Entry) (doc : Recipe) (p : ℕ) where
           | inr e ↦
               let i = seq-like ns doc n d (seq-at ns doc n h.0.1 d k) in
               subst (λ z. Alike (meaning (seq ts) n xs) (meaning z n ys)) (sym i.1)
-              (pick (is_begun (stage_at xs n)) (is_begun (stage_at ys n)) (branch ts (n + 1) xs) done (branch i.0 (n + 1) ys) done (sym (ap is_begun (same-stage n e.1 a)))
+              (pick (is_begun (stage_at xs n)) (is_begun (stage_at ys n)) (meaning_of_branch ts (n + 1) xs) done (meaning_of_branch i.0 (n + 1) ys) done (sym (ap is_begun (same-stage n e.1 a)))
               (alike-branch ts i.0 (n + 1) (end_at ns n) (subst (λ j. AreStanding ns doc (n + 1) j ts) (sym h.0.2) h.1) i.2 (next-apart n e.1 a)) (itself done))
         ]
         alike (par ts) d n h k a = elim (eqb_tells n p) [
@@ -187,15 +187,15 @@ module _ (ns : List Entry) (doc : Recipe) (p : ℕ) where
             like-each (meaning c n xs) (meaning d n ys) (meaning_each ts (n + node_count c) xs) (meaning_each us (n + node_count d) ys) (alike c d n h.0 k.0 a)
             (subst (λ z. AllAlike (meaning_each ts (n + node_count c) xs) (meaning_each us z ys)) (sym e) later)
 
-        alike-branch : (ts us : Trees) (n m : ℕ) → AreStanding ns doc n m ts → AreStanding ns doc n m us → Apart n → Alike (branch ts n xs) (branch us n ys)
+        alike-branch : (ts us : Trees) (n m : ℕ) → AreStanding ns doc n m ts → AreStanding ns doc n m us → Apart n → Alike (meaning_of_branch ts n xs) (meaning_of_branch us n ys)
         alike-branch no_trees no_trees n m h k a = (refl, λ q. q)
         alike-branch no_trees (tree d us) n m h k a = absurd (omega (arith, h, stood-each ns doc (n + node_count d) m us k.1, some_count d))
         alike-branch (tree c ts) no_trees n m h k a = absurd (omega (arith, k, stood-each ns doc (n + node_count c) m ts h.1, some_count c))
         alike-branch (tree c ts) (tree d us) n m h k a =
             let e = same-end n c d h.0 k.0 in
             let later = alike-branch ts us (n + node_count c) m h.1 (subst (λ z. AreStanding ns doc z m us) e k.1) (after-apart n c h.0 a) in
-            pick (is_finished (stage_at xs n)) (is_finished (stage_at ys n)) (branch ts (n + node_count c) xs) (in_seq (meaning c n xs) ts) (branch us (n + node_count d) ys) (in_seq (meaning d n ys) us)
-            (sym (same-status n a)) (subst (λ z. Alike (branch ts (n + node_count c) xs) (branch us z ys)) (sym e) later)
+            pick (is_finished (stage_at xs n)) (is_finished (stage_at ys n)) (meaning_of_branch ts (n + node_count c) xs) (in_seq (meaning c n xs) ts) (meaning_of_branch us (n + node_count d) ys) (in_seq (meaning d n ys) us)
+            (sym (same-status n a)) (subst (λ z. Alike (meaning_of_branch ts (n + node_count c) xs) (meaning_of_branch us z ys)) (sym e) later)
             (like-seq (meaning c n xs) (meaning d n ys) ts us (alike c d n h.0 k.0 a))
 
         alike-chosen : (ch other : Choices) (i j n m : ℕ) → AreChoices ns doc i n m ch → AreChoices ns doc j n m other → Apart n → Alike (chosen ch n xs) (chosen other n ys)

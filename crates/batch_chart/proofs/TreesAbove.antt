@@ -14,7 +14,7 @@ use Rattle.batch_recipe.specs.declared.recipe.Recipe.{Recipe}
 use Rattle.batch_chart.specs.declared.stage.Stage.{Stage}
 use Rattle.batch_chart.specs.declared.stage.Stage.TheVariants.{Open, Freeing}
 use Rattle.batch_chart.specs.Stages.{stage_at, is_finished, is_begun, turns_of}
-use Rattle.batch_chart.specs.Meaning.{meaning, meaning_each, act_as, loop_as, branch, chosen, AgreeOutside}
+use Rattle.batch_chart.specs.Meaning.{meaning, meaning_each, act_as, loop_as, meaning_of_branch, chosen, AgreeOutside}
 use Rattle.batch_chart.specs.Outlined.{end_at, Stands, AreStanding, AreChoices}
 use Rattle.batch_chart.proofs.TreeAdvance.{advance-phase}
 use Rattle.batch_chart.proofs.TreeLikeness.{Apart, next-apart, after-apart, same-stage, same-status}
@@ -78,7 +78,7 @@ module _ (ns : List Entry) (doc : Recipe) (vs : ValueList) (p : ℕ) (xs ys : Li
     lifted (seq ts) n h a = elim (eqb_tells n p) [
       | inl e ↦ λ w. at-node n (seq ts) e.1 h
       | inr e ↦
-          went-if vs (is_begun (stage_at xs n)) (is_begun (stage_at ys n)) (branch ts (n + 1) ys) done (branch ts (n + 1) xs) done (ap is_begun (same-stage ns doc p xs ys outside kept n e.1 a))
+          went-if vs (is_begun (stage_at xs n)) (is_begun (stage_at ys n)) (meaning_of_branch ts (n + 1) ys) done (meaning_of_branch ts (n + 1) xs) done (ap is_begun (same-stage ns doc p xs ys outside kept n e.1 a))
           (lifted-branch ts (n + 1) (n + (1 + count_of_each ts)) h.1 (next-apart ns doc p n e.1 a)) (λ w. refl)
     ]
     lifted (par ts) n h a = elim (eqb_tells n p) [
@@ -104,10 +104,10 @@ module _ (ns : List Entry) (doc : Recipe) (vs : ValueList) (p : ℕ) (xs ys : Li
     lifted-each no_trees n m h a w = refl
     lifted-each (tree c ts) n m h a w = ap₂ rest (lifted c n h.0 a w.0) (lifted-each ts (n + node_count c) m h.1 (after-apart ns doc p n c h.0 a) w.1)
 
-    lifted-branch : (ts : Trees) (n m : ℕ) → AreStanding ns doc n m ts → Apart ns doc p n → Went vs (branch ts n ys) (branch ts n xs)
+    lifted-branch : (ts : Trees) (n m : ℕ) → AreStanding ns doc n m ts → Apart ns doc p n → Went vs (meaning_of_branch ts n ys) (meaning_of_branch ts n xs)
     lifted-branch no_trees n m h a = λ w. refl
     lifted-branch (tree c ts) n m h a =
-        went-if vs (is_finished (stage_at xs n)) (is_finished (stage_at ys n)) (branch ts (n + node_count c) ys) (in_seq (meaning c n ys) ts) (branch ts (n + node_count c) xs) (in_seq (meaning c n xs) ts)
+        went-if vs (is_finished (stage_at xs n)) (is_finished (stage_at ys n)) (meaning_of_branch ts (n + node_count c) ys) (in_seq (meaning c n ys) ts) (meaning_of_branch ts (n + node_count c) xs) (in_seq (meaning c n xs) ts)
         (same-status ns doc p xs ys outside kept n a)
         (lifted-branch ts (n + node_count c) m h.1 (after-apart ns doc p n c h.0 a)) (went-seq vs (meaning c n ys) (meaning c n xs) ts (lifted c n h.0 a))
 

@@ -13,10 +13,10 @@ use Rattle.batch_step_laws.proofs.WorkAfterChange.{to_same_place}
 use Rattle.batch_chart.specs.declared.node.Kind.{Kind}
 use Rattle.batch_chart.specs.declared.stage.Stage.{Stage}
 use Rattle.batch_chart.specs.declared.stage.Stage.TheVariants.{Ready}
-use Rattle.batch_chart.specs.Early.{is_early, is_ready, taking, taken_by, taken_by_each, is_of, to_at, first_held, IsTakenTo, IsTakenAt, IsTakenBy}
+use Rattle.batch_chart.specs.Early.{is_early, is_ready, taking_first, taken_by, taken_by_each, is_of, to_at, first_held, IsTakenTo, IsTakenAt, IsTakenBy}
 use Rattle.batch_chart.specs.declared.passed.Passed.{Passed}
-use Rattle.batch_chart.specs.Meaning.{meaning, meaning_below, meaning_each, act_as, loop_as, branch, chosen}
-use Rattle.batch_chart.specs.Needs.{needs_of}
+use Rattle.batch_chart.specs.Meaning.{meaning, meaning_below, meaning_each, act_as, loop_as, meaning_of_branch, chosen}
+use Rattle.batch_chart.specs.Needs.{need_count}
 use Rattle.batch_chart.specs.NodesOf.{node_at, place_at}
 use Rattle.batch_chart.specs.Noting.{HasCome}
 use Rattle.batch_chart.specs.Outlined.{kind_at, is_act_kind, Stands}
@@ -60,7 +60,7 @@ same-arms false a = refl
 -- one more of them has been changed
 module _ (h : Place) (q : Place → Bool) where
   ready-again : (s : Step) (w : Task) (k : ℕ) (u : Bool)
-      → changed_at h taking (elim u as (λ _. Rest) [ true ↦ ready s w (length (take 1 s.needs)) | false ↦ ready s w k ])
+      → changed_at h taking_first (elim u as (λ _. Rest) [ true ↦ ready s w (length (take 1 s.needs)) | false ↦ ready s w k ])
       ≡ elim (same_place s.place h || u) as (λ _. Rest) [ true ↦ ready s w (length (take 1 s.needs)) | false ↦ ready s w k ]
   ready-again s w k true = arms (same_place s.place h)
     where
@@ -82,13 +82,13 @@ module _ (h : Place) (q : Place → Bool) where
   more = λ p. same_place p h || q p
 
   mutual
-    changed-taken : (r : Rest) → AllReady (acts (taken_by q r)) → changed_at h taking (taken_by q r) ≡ taken_by more r
+    changed-taken : (r : Rest) → AllReady (acts (taken_by q r)) → changed_at h taking_first (taken_by q r) ≡ taken_by more r
     changed-taken (ready s w k) f = ready-again s w k (q s.place)
     changed-taken (asking s w k) f = same-arms (same_place s.place h) (asking s w k)
     changed-taken (open_act s r) f = go (same_place s.place h) refl (changed-taken r (λ a i. f a (inr i)))
       where
-        go : (t : Bool) → same_place s.place h ≡ t → changed_at h taking (taken_by q r) ≡ taken_by more r
-            → elim t as (λ _. Rest) [ true ↦ open_act s (taken_by q r) | false ↦ open_act s (changed_at h taking (taken_by q r)) ] ≡ open_act s (taken_by more r)
+        go : (t : Bool) → same_place s.place h ≡ t → changed_at h taking_first (taken_by q r) ≡ taken_by more r
+            → elim t as (λ _. Rest) [ true ↦ open_act s (taken_by q r) | false ↦ open_act s (changed_at h taking_first (taken_by q r)) ] ≡ open_act s (taken_by more r)
         go true e below =
             let g = f (open_act s (taken_by q r)) (inl refl) (to_same_place s.place h e) in
             let bad : open_act s (taken_by q r) ≡ ready g.0 g.1 g.2 = g.3 in absurd (cc)
@@ -100,7 +100,7 @@ module _ (h : Place) (q : Place → Bool) where
     changed-taken (in_loop n c body r) f = ap (in_loop n c body) (changed-taken r f)
     changed-taken done f = refl
 
-    changed-taken_each : (rs : Rests) → AllReady (acts_of_each (taken_by_each q rs)) → changed_in_each h taking (taken_by_each q rs) ≡ taken_by_each more rs
+    changed-taken_each : (rs : Rests) → AllReady (acts_of_each (taken_by_each q rs)) → changed_in_each h taking_first (taken_by_each q rs) ≡ taken_by_each more rs
     changed-taken_each no_rests f = refl
     changed-taken_each (rest r rs) f =
         ap₂ rest (changed-taken r (λ a i. f a (Has-left (acts (taken_by q r)) (acts_of_each (taken_by_each q rs)) a i)))
@@ -139,7 +139,7 @@ take-short : {X : Type 0} (l : List X) → length (take 1 l) ≤ length l
 take-short [] = omega arith
 take-short (x ∷ l) = omega arith
 
-good-taking : (κ : Kind) (h m : ℕ) → m ≡ first_held (needs_of κ) → (s : Step) (w : Task) (r : Rest) → Fits κ s w → IsGood taking (Ready h) (Ready m) s w r
+good-taking : (κ : Kind) (h m : ℕ) → m ≡ first_held (need_count κ) → (s : Step) (w : Task) (r : Rest) → Fits κ s w → IsGood taking_first (Ready h) (Ready m) s w r
 good-taking κ h m e s w r f = (refl, ap (ready s w) (first-is s.needs ∙ ap first_held (fits-count κ s w f) ∙ sym e), λ t v q. (q.0, q.1, take-short s.needs))
 
 -- a ready node is an act
@@ -151,7 +151,7 @@ module _ (ns : List Entry) (doc : Recipe) (xs : List Stage) (n h : ℕ) (ready_h
   ready-acts (act s (runs p)) st told = ap is_act_kind st.1.1
   ready-acts (act s (follows name c)) st told = ap is_act_kind st.0.1
   ready-acts skip st told = absurd (undone done refl told.finished)
-  ready-acts (seq ts) st told = absurd (undone (meaning (seq ts) n xs) (chosen-false (is_begun (stage_at xs n)) (branch ts (n + 1) xs) done (ap is_begun ready_here)) told.finished)
+  ready-acts (seq ts) st told = absurd (undone (meaning (seq ts) n xs) (chosen-false (is_begun (stage_at xs n)) (meaning_of_branch ts (n + 1) xs) done (ap is_begun ready_here)) told.finished)
   ready-acts (par ts) st told = absurd (undone (meaning (par ts) n xs) (chosen-false (is_begun (stage_at xs n)) (in_par (meaning_each ts (n + 1) xs)) done (ap is_begun ready_here)) told.finished)
   ready-acts (sel ch) st told = absurd (undone (meaning (sel ch) n xs) (chosen-false (is_begun (stage_at xs n)) (chosen ch (n + 1) xs) done (ap is_begun ready_here)) told.finished)
   ready-acts (loop k p body) st told = absurd (undone (meaning (loop k p body) n xs) (ap (λ x. loop_as (turns_of x) p body (meaning body (n + 1) xs)) ready_here) told.finished)
@@ -161,15 +161,15 @@ module _ (ns : List Entry) (doc : Recipe) (xs : List Stage) (n h : ℕ) (ready_h
       let here = node-stands ns doc t laid n lt in
       ready-acts (node_at t n).here here (all-told ns doc t laid xs alive n (node_at t n).here (omega arith) lt here)
 
-taking-next : (ns : List Entry) (doc : Recipe) (xs : List Stage) (k h m : ℕ) → k < length ns → is_act_kind (kind_at ns k) ≡ true → stage_at xs k ≡ Ready h → m ≡ first_held (needs_of (kind_at ns k))
-    → IsChangedOnly ns doc k taking xs (slice_set xs k (Ready m))
+taking-next : (ns : List Entry) (doc : Recipe) (xs : List Stage) (k h m : ℕ) → k < length ns → is_act_kind (kind_at ns k) ≡ true → stage_at xs k ≡ Ready h → m ≡ first_held (need_count (kind_at ns k))
+    → IsChangedOnly ns doc k taking_first xs (slice_set xs k (Ready m))
 taking-next ns doc xs k h m lt acting was e =
     record {
       means = λ t laid alive.
-          (let step = set-step ns doc xs t laid alive k taking (Ready h) (Ready m) (kind_at ns k) lt refl acting was refl (good-taking (kind_at ns k) h m e) in
-          let c = calmed ns doc t laid xs alive k taking (slice_set xs k (Ready m)) step
+          (let step = set-step ns doc xs t laid alive k taking_first (Ready h) (Ready m) (kind_at ns k) lt refl acting was refl (good-taking (kind_at ns k) h m e) in
+          let c = calmed ns doc t laid xs alive k taking_first (slice_set xs k (Ready m)) step
           (set-calm ns doc xs k (Ready h) (Ready m) (kind_at ns k) (omega (arith, laid.count, alive.fits, lt)) refl acting was (λ s w r f. calm-ready (Ready h) m s w r)) (set-told ns doc t laid xs k (Ready m) lt) in
-          (c.0, stepped ns doc t laid xs alive k taking (slice_set xs k (Ready m)) step, c.1));
+          (c.0, stepped ns doc t laid xs alive k taking_first (slice_set xs k (Ready m)) step, c.1));
     }
 
 -- Node by node
@@ -204,7 +204,7 @@ module _ (ns : List Entry) (doc : Recipe) (held : List Passed) (xs : List Stage)
     }
 
     -- the act there takes its unit over
-    module _ (j m : ℕ) (zs : List Stage) (signs : List ℕ) (was : stage_at ys (to_at held i) ≡ Ready j) (inside : to_at held i < length ns) (first : m ≡ first_held (needs_of (kind_at ns (to_at held i))))
+    module _ (j m : ℕ) (zs : List Stage) (signs : List ℕ) (was : stage_at ys (to_at held i) ≡ Ready j) (inside : to_at held i < length ns) (first : m ≡ first_held (need_count (kind_at ns (to_at held i))))
         (come : HasCome ns (to_at held i) (Ready m) ys zs new signs) (lives : SomeLives ns doc xs) (count : length old ≡ length ns) where
       ys-alive : IsAlive lives.0 ys
       ys-alive = (h.means lives.0 lives.1 lives.2).0
@@ -228,7 +228,7 @@ module _ (ns : List Entry) (doc : Recipe) (held : List Passed) (xs : List Stage)
           let a = h.means t laid alive in
           let c = (taking-next ns doc ys (to_at held i) j m inside acting was first).means t laid a.0 in (
             subst (IsAlive t) (sym come.stages) c.0,
-            ap (meaning t 0) come.stages ∙ c.1 ∙ ap (changed_at (place_at t (to_at held i)) taking) a.1
+            ap (meaning t 0) come.stages ∙ c.1 ∙ ap (changed_at (place_at t (to_at held i)) taking_first) a.1
                 ∙ changed-taken (place_at t (to_at held i)) (is_of t h.taken) (meaning t 0 xs) (λ b l e. one-ready t laid b (subst (λ r. Has (acts r) b) (sym a.1) l) e),
           )
 
@@ -265,7 +265,7 @@ module _ (ns : List Entry) (doc : Recipe) (held : List Passed) (xs : List Stage)
     taken-next zs signs at inside lives count = go at
       where
         go : IsTakenAt ns (to_at held i) ys zs new signs → IsTakenTo ns doc held (i + 1) xs zs old signs
-        go (inl a) = taken-one a.0 (first_held (needs_of (kind_at ns (to_at held i)))) zs signs a.1 inside refl a.2 lives count
+        go (inl a) = taken-one a.0 (first_held (need_count (kind_at ns (to_at held i)))) zs signs a.1 inside refl a.2 lives count
         go (inr a) = subst (λ z. IsTakenTo ns doc held (i + 1) xs z old signs) (sym a.1) (subst (λ z. IsTakenTo ns doc held (i + 1) xs ys old z) (sym a.2) (taken-not a.0))
 
     pub as-many-stages : SomeLives ns doc xs → length ys ≡ length ns
@@ -331,7 +331,7 @@ not-ready x f = refl
 
 module _ (ns : List Entry) (n : ℕ) (xs : List Stage) (old : List ℕ) where
   -- a ready act gets its first need
-  pub taken-at : (j m : ℕ) (ys : List Stage) (new : List ℕ) → stage_at xs n ≡ Ready j → m ≡ first_held (needs_of (kind_at ns n)) → HasCome ns n (Ready m) xs ys old new → IsTakenAt ns n xs ys old new
+  pub taken-at : (j m : ℕ) (ys : List Stage) (new : List ℕ) → stage_at xs n ≡ Ready j → m ≡ first_held (need_count (kind_at ns n)) → HasCome ns n (Ready m) xs ys old new → IsTakenAt ns n xs ys old new
   taken-at j m ys new was e come = inl (j, was, subst (λ z. HasCome ns n (Ready z) xs ys old new) e come)
 
   pub idle-at : ((h : ℕ) → stage_at xs n ≡ Ready h → ⊥) → IsTakenAt ns n xs xs old old

@@ -21,13 +21,13 @@ abbrev pub no_phase : Phase
 no_phase = record { unit = []; name = []; handed = []; reports = [] }
 
 -- the step and the task of an act
-abbrev pub step_of : Tree → Step
-step_of (act s w) = s
-step_of _ = no_step
+abbrev pub tree_step : Tree → Step
+tree_step (act s w) = s
+tree_step _ = no_step
 
-abbrev pub task_of : Tree → Task
-task_of (act s w) = w
-task_of _ = runs no_phase
+abbrev pub tree_task : Tree → Task
+tree_task (act s w) = w
+tree_task _ = runs no_phase
 
 abbrev pub phase_in : Task → Phase
 phase_in (runs p) = p
@@ -38,10 +38,10 @@ name_in (runs p) = []
 name_in (follows name c) = name
 
 abbrev pub step_at : Tree → ℕ → Step
-step_at t k = step_of (node_at t k).here
+step_at t k = tree_step (node_at t k).here
 
 abbrev pub task_at : Tree → ℕ → Task
-task_at t k = task_of (node_at t k).here
+task_at t k = tree_task (node_at t k).here
 
 abbrev pub no_need : Need
 no_need = record { resource = []; units = 0 }

@@ -15,7 +15,7 @@ use Rattle.batch_chart.specs.declared.stage.Stage.TheVariants as stage
 use Rattle.batch_chart.specs.declared.sign.TheConstants.{LACKS, FITS, WAITS, IS_OVER, FREES, HOLDS, IS_ACT, IDLE, RUNNING, PAUSING, PAUSED, HOLDING, HELD, RESTARTING, STOPPING, STOPPED, ABORTING, ABORTED, COMPLETE, LIVES, CAN_HOLD, CAN_STOP, CAN_ABORT, CAN_RESET}
 use Rattle.batch_signs.specs.Signs.{sign_at}
 use Rattle.batch_chart.specs.Outlined.{kind_at}
-use Rattle.batch_chart.specs.Needs.{needs_of}
+use Rattle.batch_chart.specs.Needs.{need_count}
 use Rattle.batch_chart.specs.Numbered.{numbered}
 
 -- one of the first k needs can be given back
@@ -80,15 +80,15 @@ abbrev pub readied : ℕ → ℕ
 readied signs = elim (nat_eq (bit_and signs WAITS) 0) [ true ↦ bit_or signs FITS | false ↦ bit_or (bit_xor signs WAITS) LACKS ]
 
 -- those of the states that accept the command
-abbrev pub accepting : Command → ℕ
-accepting Start = IDLE
-accepting Pause = RUNNING
-accepting Resume = PAUSED
-accepting Hold = CAN_HOLD
-accepting Restart = HELD
-accepting Stop = CAN_STOP
-accepting Abort = CAN_ABORT
-accepting Reset = CAN_RESET
+abbrev pub states_accepting : Command → ℕ
+states_accepting Start = IDLE
+states_accepting Pause = RUNNING
+states_accepting Resume = PAUSED
+states_accepting Hold = CAN_HOLD
+states_accepting Restart = HELD
+states_accepting Stop = CAN_STOP
+states_accepting Abort = CAN_ABORT
+states_accepting Reset = CAN_RESET
 
 -- the signs of the last of these acts with number k, or else `none`
 abbrev pub sign_in : ℕ → List (ℕ × Rest) → ℕ → ℕ
@@ -103,4 +103,4 @@ pub record AreNoted (t : Tree) (xs : List Stage) (signs : List ℕ) : Type 0 whe
 -- the stage of the act at node k has been set, and its signs have been
 pub record HasCome (ns : List Entry) (k : ℕ) (x : Stage) (xs ys : List Stage) (old new : List ℕ) : Type 0 where
   pub stages : ys ≡ slice_set xs k x
-  pub signs : new ≡ slice_set old k (stage_signs (needs_of (kind_at ns k)) x)
+  pub signs : new ≡ slice_set old k (stage_signs (need_count (kind_at ns k)) x)

@@ -1,7 +1,7 @@
 //! Look-ups in a recipe: the node to which a need is passed on, and the phase of a phase step.
 ghost use Rattle.std.specs.Prelude.{◌≡◌, ◌<◌, IfSome, length, option_copied};
 ghost use Rattle.batch_recipe.specs.Expanding.{unit_count};
-ghost use Rattle.batch_chart.specs.Outlined.{phase_name};
+ghost use Rattle.batch_chart.specs.Outlined.{phase_step_name};
 ghost use Rattle.batch_chart.specs.Passing.{PassesTo};
 
 use batch_recipe::{Act, Recipe, Work, act_at, follows};
@@ -38,7 +38,7 @@ fn own_units(act: &Act) -> u16
 
 /// The name of the phase that the phase step with this number runs.
 pub(crate) fn phase_name(recipe: &Recipe, step: usize) -> Option<&Name>
-    ensures { option_copied result ≡ phase_name recipe.now step }
+    ensures { option_copied result ≡ phase_step_name recipe.now step }
 {
     match recipe.acts.phases.get(step) {
         Some(act) => match &act.work {

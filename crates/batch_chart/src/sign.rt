@@ -1,6 +1,6 @@
 //! The signs by which acts are found, each a bit of a word.
 ghost use Rattle.std.specs.Prelude.{◌≡◌};
-ghost use Rattle.batch_chart.specs.Noting.{accepting, asking_signs, but, flag, freeing_signs, gives, live_signs, open_signs, readied, ready_signs, stage_signs, state_sign};
+ghost use Rattle.batch_chart.specs.Noting.{states_accepting, asking_signs, but, flag, freeing_signs, gives, live_signs, open_signs, readied, ready_signs, stage_signs, state_sign};
 
 use crate::stage::Stage;
 use batch_matrix::{Command, State};
@@ -163,7 +163,7 @@ pub fn readied(signs: u32) -> u32
 
 /// The signs of the states that accept the command.
 pub fn accepting(command: Command) -> u32
-    ensures { result ≡ accepting command }
+    ensures { result ≡ states_accepting command }
 {
     match command {
         Command::Start => IDLE,

@@ -19,7 +19,7 @@ use Rattle.batch_cell.specs.declared.cell.Cell.{Cell}
 use Rattle.batch_recipe.specs.Conditions.{Name, same_name}
 use Rattle.batch_recipe.specs.WellFormed.{is_among, are_distinct}
 use Rattle.batch_model.specs.Lists.{Each}
-use Rattle.batch_check.specs.ByName.{name_in, IsBelow, IsCertificateOf}
+use Rattle.batch_check.specs.ByName.{resource_name_in, IsBelow, IsCertificateOf}
 use Rattle.batch_verify.specs.Refusals.{rank_in}
 use Rattle.batch_verify.specs.Ranked.{rank_of}
 use Rattle.batch_check.specs.RanksTold.{TellsRanks}
@@ -68,27 +68,27 @@ module _ (c : Cell) (ranks : List ℕ) (entries : List Entry) (same : length ran
   keys_distinct = IsDistinct-IsPermutation same_name nat_list_eq_equiv.symm (resources_of c) (keys_of entries) names_moved (resources_distinct c)
 
   -- each entry is one of a resource and its rank
-  entry_number : (name : Name) (rank : ℕ) → Contains entries (name, rank) → (k : ℕ) × (k < length (resources_of c)) × (name_in c k ≡ name) × (get_or ranks k 0 ≡ rank)
+  entry_number : (name : Name) (rank : ℕ) → Contains entries (name, rank) → (k : ℕ) × (k < length (resources_of c)) × (resource_name_in c k ≡ name) × (get_or ranks k 0 ≡ rank)
   entry_number name rank h =
       let place = Contains-permutation entries (zip (resources_of c) ranks) (name, rank) (IsPermutation-sym (zip (resources_of c) ranks) entries certified.whole) h in
       let inside : place.0 < length (resources_of c) = omega (arith, place.1, length-zip (resources_of c) ranks, same) in
       let d : Entry = ([], 0) in
       let whole : length (zip (resources_of c) ranks) ≡ length (resources_of c) = omega (arith, length-zip (resources_of c) ranks, same) in
-      let is : (name_in c place.0, get_or ranks place.0 0) ≡ (name, rank) =
+      let is : (resource_name_in c place.0, get_or ranks place.0 0) ≡ (name, rank) =
       sym (get_or-zip (resources_of c) ranks place.0 d inside (omega (arith, same)))
       ∙ (get_or_default (zip (resources_of c) ranks) place.0 d (name, rank) (omega (arith, whole)) ∙ place.2) in
-      let parts = same_parts (name_in c place.0) name (get_or ranks place.0 0) rank is in
+      let parts = same_parts (resource_name_in c place.0) name (get_or ranks place.0 0) rank is in
       (place.0, inside, parts.0, parts.1)
 
-  entry_found : (k : ℕ) → k < length (resources_of c) → lookup (same_name (name_in c k)) entries ≡ Some (get_or ranks k 0)
+  entry_found : (k : ℕ) → k < length (resources_of c) → lookup (same_name (resource_name_in c k)) entries ≡ Some (get_or ranks k 0)
   entry_found k inside =
       let d : Entry = ([], 0) in
       let whole : length (zip (resources_of c) ranks) ≡ length (resources_of c) = omega (arith, length-zip (resources_of c) ranks, same) in
-      let here : Contains (zip (resources_of c) ranks) (name_in c k, get_or ranks k 0) =
+      let here : Contains (zip (resources_of c) ranks) (resource_name_in c k, get_or ranks k 0) =
       subst (λ e. Contains (zip (resources_of c) ranks) e) (get_or-zip (resources_of c) ranks k d inside (omega (arith, same)))
       (Contains-get_or (zip (resources_of c) ranks) k d (omega (arith, whole))) in
-      lookup-from_Contains nat_list_eq_equiv (name_in c k) (get_or ranks k 0) entries keys_distinct
-      (Contains-permutation (zip (resources_of c) ranks) entries (name_in c k, get_or ranks k 0) certified.whole here)
+      lookup-from_Contains nat_list_eq_equiv (resource_name_in c k) (get_or ranks k 0) entries keys_distinct
+      (Contains-permutation (zip (resources_of c) ranks) entries (resource_name_in c k, get_or ranks k 0) certified.whole here)
 
   abbrev rank_found : Option ℕ → ℕ
   rank_found None = 0
@@ -101,7 +101,7 @@ module _ (c : Cell) (ranks : List ℕ) (entries : List Entry) (same : length ran
       without None is none = refl
       without (Some k) is none =
           let found = position-Some (same_name name) (resources_of c) k [] is in
-          let some : lookup (same_name name) entries ≡ Some (get_or ranks k 0) = rw (same_by_test name (name_in c k) found.1) (entry_found k found.0) in
+          let some : lookup (same_name name) entries ≡ Some (get_or ranks k 0) = rw (same_by_test name (resource_name_in c k) found.1) (entry_found k found.0) in
           let bad : Some (get_or ranks k 0) ≡ None = sym some ∙ none in
           absurd cc
 

@@ -13,7 +13,7 @@ use Rattle.std.proofs.lemmas.Map.Made.{AllPairs-from_IsDistinct}
 use Rattle.batch_cell.specs.declared.cell.Cell.{Cell}
 use Rattle.batch_recipe.specs.Conditions.{Name}
 use Rattle.batch_check.specs.declared.edge.Edge.{Edge}
-use Rattle.batch_check.specs.ByName.{name_in, IsBelow, BeginsWithLeastName}
+use Rattle.batch_check.specs.ByName.{resource_name_in, IsBelow, BeginsWithLeastName}
 use Rattle.batch_check.specs.LeastRanking.{IsEdgeCircle, LeadsAlong}
 use Rattle.batch_check.proofs.Raises.{no_edge}
 use Rattle.batch_check.proofs.Walks.{laters_distinct}
@@ -28,7 +28,7 @@ below_from_lt o h = grind (arith, false≢true)
 
 module _ (c : Cell) (edges : List Edge) where
   abbrev name_at : ℕ → Name
-  name_at k = name_in c (get_or edges k no_edge).earlier
+  name_at k = resource_name_in c (get_or edges k no_edge).earlier
 
   -- none of the first edges has an earlier whose name is below that at a place
   abbrev pub IsLeastOf : ℕ → ℕ → Type 0
@@ -46,7 +46,7 @@ module _ (c : Cell) (edges : List Edge) where
   IsLeastOf-keeps count least before keeps = below_more (λ k. ¬ (IsBelow (name_at k) (name_at least))) count before keeps
 
   pub IsLeastOf-all : (count least : ℕ) (d : Edge) → IsLeastOf count least → length edges ≤ count → least < length edges
-      → All (λ e. ¬ (IsBelow (name_in c e.earlier) (name_in c (get_or edges least d).earlier))) edges
+      → All (λ e. ¬ (IsBelow (resource_name_in c e.earlier) (resource_name_in c (get_or edges least d).earlier))) edges
   IsLeastOf-all count least d h all inside k e in' below =
       h k (omega arith)
       (let here = get_or_default edges k no_edge e in' in
@@ -94,9 +94,9 @@ pub length-turned : (circle : List Edge) (place : ℕ) → length (drop place ci
 length-turned circle place = grind (arith, length-append (drop place circle) (take place circle), length-append (take place circle) (drop place circle), take-append-drop place circle)
 
 pub BeginsWithLeastName-turned : (c : Cell) (circle : List Edge) (place : ℕ) (d : Edge) → place < length circle
-    → All (λ e. ¬ (IsBelow (name_in c e.earlier) (name_in c (get_or circle place d).earlier))) circle → BeginsWithLeastName c (drop place circle ++ take place circle)
+    → All (λ e. ¬ (IsBelow (resource_name_in c e.earlier) (resource_name_in c (get_or circle place d).earlier))) circle → BeginsWithLeastName c (drop place circle ++ take place circle)
 BeginsWithLeastName-turned c circle place d below least =
-    let P : Edge → Type 0 = λ e. ¬ (IsBelow (name_in c e.earlier) (name_in c (get_or circle place d).earlier)) in
+    let P : Edge → Type 0 = λ e. ¬ (IsBelow (resource_name_in c e.earlier) (resource_name_in c (get_or circle place d).earlier)) in
     let swapped : All P (drop place circle ++ take place circle) =
     All-permutation P (take place circle ++ drop place circle) (drop place circle ++ take place circle) (IsPermutation-append_comm (take place circle) (drop place circle))
     (subst (All P) (sym (take-append-drop place circle)) least) in

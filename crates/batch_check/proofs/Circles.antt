@@ -7,7 +7,7 @@ use Rattle.batch_check.specs.declared.edge.Edge.{Edge}
 use Rattle.batch_check.specs.declared.edge_set.EdgeSet.{EdgeSet}
 use Rattle.batch_check.specs.Clearing.{StandsAsCircle}
 use Rattle.batch_check.specs.Collecting.{HasAllPairs}
-use Rattle.batch_check.specs.Edges.{Stands, has_pair}
+use Rattle.batch_check.specs.Edges.{EdgeStands, has_pair}
 use Rattle.batch_check.specs.LeastRanking.{IsEdgeCircle, HasEndsBelow}
 use Rattle.batch_check.specs.Shortest.{IsShortest}
 use Rattle.batch_check.specs.Spreading.{HasFewest}
@@ -35,12 +35,12 @@ module _ (cell : Cell) (recipes : List Recipe) (old set : EdgeSet) (pairs : HasA
   pub stands_as_circle : (circle : List Edge) → IsEdgeCircle set.edges.items circle → StandsAsCircle cell recipes circle
   stands_as_circle circle h = record {
     circle = circle_itself set.edges.items circle h;
-    standing = All-weaker (Contains set.edges.items) (Stands cell recipes) pairs.standing circle h.standing;
+    standing = All-weaker (Contains set.edges.items) (EdgeStands cell recipes) pairs.standing circle h.standing;
   }
 
   -- the fewest edges of the set are the fewest that stand
   pub is_shortest : (shortest turned : List Edge) → HasFewest set.edges.items shortest → length turned ≡ length shortest → IsShortest cell recipes turned
   is_shortest shortest turned fewest same other stands =
       let P : Edge → Type 0 = λ e. IsTrue (has_pair set.edges.items e.earlier e.later) in
-      let least : length shortest ≤ length other = fewest other stands.circle (recursion_from_All P other (All-weaker (Stands cell recipes) P pairs.whole other stands.standing)) in
+      let least : length shortest ≤ length other = fewest other stands.circle (recursion_from_All P other (All-weaker (EdgeStands cell recipes) P pairs.whole other stands.standing)) in
       omega (arith, same, least)

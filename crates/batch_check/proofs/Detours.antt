@@ -7,7 +7,7 @@ use Rattle.batch_recipe.specs.declared.recipe.Recipe.{Recipe}
 use Rattle.batch_model.specs.Lists.{Each}
 use Rattle.batch_check.specs.declared.edge.Edge.{Edge}
 use Rattle.batch_check.specs.Clearing.{StandsAsCircle}
-use Rattle.batch_check.specs.Edges.{Stands}
+use Rattle.batch_check.specs.Edges.{EdgeStands}
 use Rattle.batch_check.specs.LeastRanking.{LeadsAlong}
 use Rattle.batch_check.specs.Shortest.{CanBeReplaced, IsShortest, TakesNoDetour}
 
@@ -67,14 +67,14 @@ module _ (e f g : Edge) (from : g.earlier ≡ e.earlier) (into : g.later ≡ f.l
 -- Circles
 
 module _ (c : Cell) (recipes : List Recipe) (circle : List Edge) (h : StandsAsCircle c recipes circle) (shortest : IsShortest c recipes circle) where
-  stands_as : (other : List Edge) (start : ℕ) → 0 < length other → LeadsAlong start other start → LeadApart other → Each (Stands c recipes) other → StandsAsCircle c recipes other
+  stands_as : (other : List Edge) (start : ℕ) → 0 < length other → LeadsAlong start other start → LeadApart other → Each (EdgeStands c recipes) other → StandsAsCircle c recipes other
   stands_as other start some closed apart standing = record {
     circle = record { start = start; nonempty = some; closed = closed; apart = apart_to other apart; standing = All-contains_itself other };
-    standing = All-from_recursion (Stands c recipes) other standing;
+    standing = All-from_recursion (EdgeStands c recipes) other standing;
   }
 
-  abbrev each_stands : Each (Stands c recipes) circle
-  each_stands = recursion_from_All (Stands c recipes) circle h.standing
+  abbrev each_stands : Each (EdgeStands c recipes) circle
+  each_stands = recursion_from_All (EdgeStands c recipes) circle h.standing
 
   no_detour_along : (before after : List Edge) (e f : Edge) → circle ≡ before ++ (e ∷ f ∷ after) → CanBeReplaced c recipes e f → ⊥
   no_detour_along before after e f is by =
@@ -88,7 +88,7 @@ module _ (c : Cell) (recipes : List Recipe) (circle : List Edge) (h : StandsAsCi
       (stands_as other h.circle.start (omega (arith, less))
       (leads_by e f g by.from by.into before after h.circle.start h.circle.start (subst (λ (w : List Edge). LeadsAlong h.circle.start w h.circle.start) is h.circle.closed))
       (apart_by e f g by.from by.into before after (subst LeadApart is (apart_from circle h.circle.apart)))
-      (each_by e f g by.from by.into (Stands c recipes) before after (λ stands. by.standing) (subst (λ (w : List Edge). Each (Stands c recipes) w) is each_stands))) in
+      (each_by e f g by.from by.into (EdgeStands c recipes) before after (λ stands. by.standing) (subst (λ (w : List Edge). Each (EdgeStands c recipes) w) is each_stands))) in
       absurd (omega (arith, few, whole, long, less))
 
   no_detour_around : (between : List Edge) (e f : Edge) → circle ≡ f ∷ (between ++ e ∷ []) → CanBeReplaced c recipes e f → ⊥
@@ -100,13 +100,13 @@ module _ (c : Cell) (recipes : List Recipe) (circle : List Edge) (h : StandsAsCi
       let whole : length circle ≡ length (f ∷ (between ++ e ∷ [])) = ap length is in
       let closed : LeadsAlong h.circle.start (f ∷ (between ++ e ∷ [])) h.circle.start = subst (λ (w : List Edge). LeadsAlong h.circle.start w h.circle.start) is h.circle.closed in
       let apart : LeadApart (f ∷ (between ++ e ∷ [])) = subst LeadApart is (apart_from circle h.circle.apart) in
-      let standing : Each (Stands c recipes) (f ∷ (between ++ e ∷ [])) = subst (λ (w : List Edge). Each (Stands c recipes) w) is each_stands in
+      let standing : Each (EdgeStands c recipes) (f ∷ (between ++ e ∷ [])) = subst (λ (w : List Edge). Each (EdgeStands c recipes) w) is each_stands in
       let few : length circle ≤ length other =
       shortest other
       (stands_as other f.later (omega (arith, less))
       (leads_round e f g by.from by.into between f.later h.circle.start closed.1)
       (apart_round e f g by.from by.into between apart.0 apart.1)
-      (each_round e f g by.from by.into (Stands c recipes) between by.standing standing.1)) in
+      (each_round e f g by.from by.into (EdgeStands c recipes) between by.standing standing.1)) in
       absurd (omega (arith, few, whole, long, less))
 
   pub takes_no_detour : TakesNoDetour c recipes circle

@@ -8,9 +8,9 @@ use Rattle.batch_cell.specs.declared.cell.Cell.{Cell}
 use Rattle.batch_recipe.specs.Conditions.{Name}
 use Rattle.batch_recipe.specs.Growing.{entries_of}
 use Rattle.batch_recipe.specs.Links.{IsEntryOf, asked_at}
-use Rattle.batch_recipe.specs.Needs.{resources_of}
+use Rattle.batch_recipe.specs.Needs.{resources_needed}
 use Rattle.batch_recipe.specs.Nodes.{Node, needs_of}
-use Rattle.batch_recipe.specs.Outlines.{act_of}
+use Rattle.batch_recipe.specs.Outlines.{act_of_kind}
 use Rattle.batch_recipe.specs.declared.acts.LabelTable.TheVariants.{Phases}
 use Rattle.batch_recipe.specs.declared.entry.Entry.{Entry}
 use Rattle.batch_recipe.specs.declared.entry.Kind.{Kind}
@@ -106,10 +106,10 @@ module _ (site : Site) (number : ℕ) (kept : Option (List (Option ℕ))) (top :
 
       -- the resources that the node asks for itself
       abbrev own : Taking → List Name
-      own t = resources_of (asked_at (sites_on site t) (act_of recipe.acts e.kind))
+      own t = resources_needed (asked_at (sites_on site t) (act_of_kind recipe.acts e.kind))
 
-      own_is : (t : Taking) → resources_of (needs_of (it t).at.here) ≡ own t
-      own_is t = ap resources_of (own_needs recipe (bound_on site t) count e (it t).at is (it t).numbered)
+      own_is : (t : Taking) → resources_needed (needs_of (it t).at.here) ≡ own t
+      own_is t = ap resources_needed (own_needs recipe (bound_on site t) count e (it t).at is (it t).numbered)
 
       -- the path above it
       abbrev above : Path

@@ -9,8 +9,8 @@ use Rattle.batch_cell.specs.LookUps.{resources_of as cell_resources}
 use Rattle.batch_recipe.specs.Conditions.{Name}
 use Rattle.batch_recipe.specs.Expanding.{needs_with}
 use Rattle.batch_recipe.specs.Links.{asked_at}
-use Rattle.batch_recipe.specs.Needs.{resources_of}
-use Rattle.batch_recipe.specs.Outlines.{act_of}
+use Rattle.batch_recipe.specs.Needs.{resources_needed}
+use Rattle.batch_recipe.specs.Outlines.{act_of_kind}
 use Rattle.batch_recipe.specs.declared.act.Act.{Act}
 use Rattle.batch_recipe.specs.declared.acts.LabelTable.TheVariants.{UnitProcedures, Operations, Phases}
 use Rattle.batch_recipe.specs.declared.entry.Kind.{Kind}
@@ -62,7 +62,7 @@ module _ (site : Site) (t : Taking) where
   abbrev SayNeedsOf : List LinkedNeed → List Need → Type 0
   SayNeedsOf links needs = SayNeeds site.cell.now site.recipe.now.roles.items (bound_on site t) links needs
 
-  needs_stand : (links : List LinkedNeed) (needs : List Need) → SayNeedsOf links needs → resources_on site t (numbers_of site links) ≡ numbers_of_resources site.cell.now (resources_of needs)
+  needs_stand : (links : List LinkedNeed) (needs : List Need) → SayNeedsOf links needs → resources_on site t (numbers_of site links) ≡ numbers_of_resources site.cell.now (resources_needed needs)
   needs_stand [] [] h = refl
   needs_stand [] (need ∷ needs) h = absurd h
   needs_stand (link ∷ links) [] h = absurd h
@@ -92,7 +92,7 @@ no_row f table acts h n none =
     (sym (slice_get-map (λ (r : Vec LinkedNeed Global). r.items) table n) ∙ (ap (λ (rows : List (List LinkedNeed)). slice_get rows n) h ∙ (slice_get-map f acts n ∙ ap (option_map f) none)))
 
 module _ (site : Site) (linked : LinkedRecipe) (h : IsLinkedIn site.cell.now site.recipe.now linked) where
-  no_needs : (k : Kind) → act_of site.recipe.now.acts k ≡ None → needs_by linked k ≡ []
+  no_needs : (k : Kind) → act_of_kind site.recipe.now.acts k ≡ None → needs_by linked k ≡ []
   no_needs kind.Procedure is = absurd cc
   no_needs (kind.Act UnitProcedures n) is = no_row (needs_linked site.cell.now site.recipe.now) linked.unit_procedures.items site.recipe.now.acts.unit_procedures.items h.1.unit_procedures n is
   no_needs (kind.Act Operations n) is = no_row (needs_linked site.cell.now site.recipe.now) linked.operations.items site.recipe.now.acts.operations.items h.1.operations n is
@@ -100,15 +100,15 @@ module _ (site : Site) (linked : LinkedRecipe) (h : IsLinkedIn site.cell.now sit
   no_needs _ is = refl
 
   pub numbers_stand : (k : Kind) → StandFor site (needs_at site k) (numbers_at site linked k)
-  numbers_stand k = go (act_of site.recipe.now.acts k) refl
+  numbers_stand k = go (act_of_kind site.recipe.now.acts k) refl
     where
       asked_of : Option Act → Taking → List (Option ℕ)
-      asked_of o t = numbers_of_resources site.cell.now (resources_of (asked_at (sites_on site t) o))
+      asked_of o t = numbers_of_resources site.cell.now (resources_needed (asked_at (sites_on site t) o))
 
-      said : (t : Taking) (a : Act) → act_of site.recipe.now.acts k ≡ Some a → SayNeedsOf site t (needs_by linked k) (needs_with (sites_on site t) a)
+      said : (t : Taking) (a : Act) → act_of_kind site.recipe.now.acts k ≡ Some a → SayNeedsOf site t (needs_by linked k) (needs_with (sites_on site t) a)
       said t a is = needs-said site.cell.now h.0 site.recipe.now linked h.1 (bound_on site t) k a is
 
-      go : (o : Option Act) → act_of site.recipe.now.acts k ≡ o → StandFor site (needs_at site k) (numbers_at site linked k)
+      go : (o : Option Act) → act_of_kind site.recipe.now.acts k ≡ o → StandFor site (needs_at site k) (numbers_at site linked k)
       go (Some a) is = record {
         below = needs_below site (alike 0) (needs_by linked k) (needs_with (sites_on site (alike 0)) a) (said (alike 0) a is);
         taken = λ t. needs_stand site t (needs_by linked k) (needs_with (sites_on site t) a) (said t a is) ∙ ap (λ (o : Option Act). asked_of o t) (sym is);

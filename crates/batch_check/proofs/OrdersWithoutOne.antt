@@ -8,7 +8,7 @@ use Rattle.batch_check.specs.declared.edge.Edge.{Edge}
 use Rattle.batch_check.specs.declared.edge_set.EdgeSet.{EdgeSet}
 use Rattle.batch_check.specs.Collecting.{HasAllPairs}
 use Rattle.batch_check.specs.LeastRanking.{HasEndsBelow, IsEdgeCircle, IsLeastRanking}
-use Rattle.batch_check.specs.Mending.{AreOthers, RiseAlongOthers, RiseWithout, TellRises, TellsRise, TellsRiseAlong, is_same_order}
+use Rattle.batch_check.specs.Mending.{AreOtherEdges, RiseAlongOthers, RiseWithout, TellRises, TellsRise, TellsRiseAlong, is_same_order}
 use Rattle.batch_check.proofs.RaiseRounds.{circle_rules_out}
 use Rattle.batch_check.proofs.RanksAlongPaths.{edge_of}
 
@@ -18,8 +18,8 @@ All-single : {X : Type 0} (P : X → Type 0) (x : X) → P x → All P (x ∷ []
 All-single P x h zero d within = h
 All-single P x h (suc k) d within = absurd (omega (arith, within))
 
-module _ (edges : List Edge) (edge e : Edge) (others : List Edge) (h : AreOthers edges edge others) where
-  pub others_same : is_same_order edge e ≡ true → AreOthers (edges ++ e ∷ []) edge others
+module _ (edges : List Edge) (edge e : Edge) (others : List Edge) (h : AreOtherEdges edges edge others) where
+  pub others_same : is_same_order edge e ≡ true → AreOtherEdges (edges ++ e ∷ []) edge others
   others_same same = record {
     among = All-weaker (Contains edges) (Contains (edges ++ e ∷ [])) (λ x stands. Contains-append_left edges (e ∷ []) x stands) others h.among;
     differ = h.differ;
@@ -29,7 +29,7 @@ module _ (edges : List Edge) (edge e : Edge) (others : List Edge) (h : AreOthers
     ];
   }
 
-  pub others_new : is_same_order edge e ≡ false → AreOthers (edges ++ e ∷ []) edge (others ++ e ∷ [])
+  pub others_new : is_same_order edge e ≡ false → AreOtherEdges (edges ++ e ∷ []) edge (others ++ e ∷ [])
   others_new new = record {
     among =
         All-append (Contains (edges ++ e ∷ [])) others (e ∷ [])
@@ -44,7 +44,7 @@ module _ (edges : List Edge) (edge e : Edge) (others : List Edge) (h : AreOthers
 
 -- Ranks along these others
 
-module _ (edges : List Edge) (edge : Edge) (others : List Edge) (are : AreOthers edges edge others) where
+module _ (edges : List Edge) (edge : Edge) (others : List Edge) (are : AreOtherEdges edges edge others) where
   pub others_within : (count : ℕ) → HasEndsBelow count edges → HasEndsBelow count others
   others_within count within =
       let P : Edge → Type 0 = λ e. (e.earlier < count) × (e.later < count) in

@@ -21,9 +21,9 @@ use Rattle.batch_model.specs.Setups.{master_of, setup_of}
 use Rattle.batch_model.proofs.Members.{Each-map}
 use Rattle.batch_model.proofs.TreeParts.{parts-nodes}
 use Rattle.batch_check.specs.declared.edge.Edge.{Edge}
-use Rattle.batch_check.specs.ByName.{name_in}
+use Rattle.batch_check.specs.ByName.{resource_name_in}
 use Rattle.batch_verify.specs.Refusals.{rank_in}
-use Rattle.batch_check.specs.Edges.{has_pair, OfNodes, Stands, Covers, CoversRecipes, AreEdgesOf, numbers_of_resources, number_of_resource, Follows}
+use Rattle.batch_check.specs.Edges.{has_pair, OfNodes, EdgeStands, Covers, CoversRecipes, AreEdgesOf, numbers_of_resources, number_of_resource, Follows}
 use Rattle.batch_check.specs.LeastRanking.{IsLeastRanking}
 use Rattle.batch_check.specs.Clearing.{NeedResources, RiseAlongPaths, RiseLeast, StandsAsCircle}
 use Rattle.batch_check.proofs.Names.{name_in-found, rank_in-name}
@@ -54,7 +54,7 @@ module _ (rank : Ranking) where
   rises_at asked i j a b h ij at_i at_j = grind arith
 
   -- ranks that rise along all paths rise along each edge that stands
-  pub standing_rises : (c : Cell) (recipes : List Recipe) → RiseAlongPaths c rank recipes → (e : Edge) → Stands c recipes e → rank (name_in c e.earlier) < rank (name_in c e.later)
+  pub standing_rises : (c : Cell) (recipes : List Recipe) → RiseAlongPaths c rank recipes → (e : Edge) → EdgeStands c recipes e → rank (resource_name_in c e.earlier) < rank (resource_name_in c e.later)
   standing_rises c recipes rising e s =
       let nodes = Each-get (OfNodes c (λ (n : Node). RiseStrictly rank n.asked)) recipes e.recipe s.recipe rising s.found s.bound s.tried in
       let here = Each-get (λ (n : Node). RiseStrictly rank n.asked) (bound_nodes s.bound s.recipe.acts) e.node s.node nodes s.numbered in
@@ -63,10 +63,10 @@ module _ (rank : Ranking) where
 
   pub circle_leaves_none : (c : Cell) (recipes : List Recipe) (circle : List Edge) → StandsAsCircle c recipes circle → RiseAlongPaths c rank recipes → ⊥
   circle_leaves_none c recipes circle h rising =
-      circle_rules_out 0 circle circle (λ k. rank (name_in c k)) h.circle
+      circle_rules_out 0 circle circle (λ k. rank (resource_name_in c k)) h.circle
       (record {
         positive = λ r in'. absurd (omega arith);
-        rising = All-weaker (Stands c recipes) (λ (e : Edge). rank (name_in c e.earlier) < rank (name_in c e.later)) (standing_rises c recipes rising) circle h.standing;
+        rising = All-weaker (EdgeStands c recipes) (λ (e : Edge). rank (resource_name_in c e.earlier) < rank (resource_name_in c e.later)) (standing_rises c recipes rising) circle h.standing;
       })
 
 -- Paths from edges
@@ -136,11 +136,11 @@ least_ranks_rise c recipes edges ranks known of_recipes least = record {
   bounded = λ name. rank_bounded c ranks (length (resources_of c)) (λ k in'. least.bounded k in') name (position (same_name name) (resources_of c)) refl;
   least = λ other positive rising name among.
       let f = found c name among in
-      let below : get_or ranks f.number 0 ≤ other (name_in c f.number) =
-      least.least (λ k. other (name_in c k))
+      let below : get_or ranks f.number 0 ≤ other (resource_name_in c f.number) =
+      least.least (λ k. other (resource_name_in c k))
       (record {
-        positive = λ k in'. positive (name_in c k) (name_among c k in');
-        rising = All-weaker (Stands c recipes) (λ (e : Edge). other (name_in c e.earlier) < other (name_in c e.later)) (standing_rises other c recipes rising) edges of_recipes.standing;
+        positive = λ k in'. positive (resource_name_in c k) (name_among c k in');
+        rising = All-weaker (EdgeStands c recipes) (λ (e : Edge). other (resource_name_in c e.earlier) < other (resource_name_in c e.later)) (standing_rises other c recipes rising) edges of_recipes.standing;
       }) f.number f.below in
       omega (arith, below, rank_of_found c edges ranks least.ranking.rising name f, ap other f.named);
 }

@@ -20,7 +20,7 @@ use Rattle.batch_verify.specs.Bindings.{binding_count}
 use Rattle.batch_verify.proofs.NumberedBindings.{differ, some-binding, taken-tried}
 use Rattle.batch_check.specs.Takings.{AreUnitsOf, Taking, alike, apart, units_by}
 use Rattle.batch_check.specs.declared.site.Site.{Site}
-use Rattle.batch_check.specs.Edges.{OfNodes, Stands, Covers, CoversRecipes, AreEdgesOf, has_pair, number_of_resource, numbers_of_resources}
+use Rattle.batch_check.specs.Edges.{OfNodes, EdgeStands, Covers, CoversRecipes, AreEdgesOf, has_pair, number_of_resource, numbers_of_resources}
 use Rattle.batch_check.specs.LeastRanking.{HasEndsBelow}
 use Rattle.batch_check.specs.Pairs.{Keeps}
 use Rattle.batch_check.specs.Joining.{Grows, HasTaken}
@@ -42,7 +42,7 @@ covers_more cell old new keeps (r ∷ rs) h = (
 )
 
 -- where the needs of all paths are paired, there is an edge wherever one stands
-pair_stands : (cell : Cell) (recipes : List Recipe) (edges : List Edge) → Each (PairsRecipe cell edges) recipes → (e : Edge) → Stands cell recipes e → IsTrue (has_pair edges e.earlier e.later)
+pair_stands : (cell : Cell) (recipes : List Recipe) (edges : List Edge) → Each (PairsRecipe cell edges) recipes → (e : Edge) → EdgeStands cell recipes e → IsTrue (has_pair edges e.earlier e.later)
 pair_stands cell recipes edges paired e s =
     let here = Each-get (PairsAll cell edges) (bound_nodes s.bound s.recipe.acts) e.node s.node
     (Each-get (PairsRecipe cell edges) recipes e.recipe s.recipe paired s.found s.bound s.tried) s.numbered in
@@ -55,9 +55,9 @@ pair_stands cell recipes edges paired e s =
     (number s.asked.later_name e.later s.asked.asked.own s.asked.later_named s.asked.asked.later_is)
 
 module _ (cell : Cell) (recipes : List Recipe) where
-  pub standing_within : (edges : List Edge) → All (Stands cell recipes) edges → HasEndsBelow (length (resources_of cell)) edges
+  pub standing_within : (edges : List Edge) → All (EdgeStands cell recipes) edges → HasEndsBelow (length (resources_of cell)) edges
   standing_within edges standing =
-      All-weaker (Stands cell recipes) (λ (e : Edge). (e.earlier < length (resources_of cell)) × (e.later < length (resources_of cell)))
+      All-weaker (EdgeStands cell recipes) (λ (e : Edge). (e.earlier < length (resources_of cell)) × (e.later < length (resources_of cell)))
       (λ e s. (
         slice_get_within (resources_of cell) e.earlier s.asked.earlier_name s.asked.earlier_named,
         slice_get_within (resources_of cell) e.later s.asked.later_name s.asked.later_named,
@@ -97,12 +97,12 @@ module _ (cell : Cell) (recipes : List Recipe) where
   }
 
   -- edges that stand may be added
-  pub edges_with : (old new : EdgeSet) (circle : List Edge) → AreEdgesOf cell recipes old.edges.items → All (Stands cell recipes) circle → HasTaken circle old new
+  pub edges_with : (old new : EdgeSet) (circle : List Edge) → AreEdgesOf cell recipes old.edges.items → All (EdgeStands cell recipes) circle → HasTaken circle old new
       → AreEdgesOf cell recipes new.edges.items
   edges_with old new circle h standing taken = record {
     standing = λ k e in'. elim (taken.only (get_or new.edges.items k e) (Contains-get_or new.edges.items k e in')) [
-      | inl known ↦ All-contains (Stands cell recipes) old.edges.items (get_or new.edges.items k e) h.standing known
-      | inr added ↦ All-contains (Stands cell recipes) circle (get_or new.edges.items k e) standing added
+      | inl known ↦ All-contains (EdgeStands cell recipes) old.edges.items (get_or new.edges.items k e) h.standing known
+      | inr added ↦ All-contains (EdgeStands cell recipes) circle (get_or new.edges.items k e) standing added
     ];
     covering = covers_more cell old.edges.items new.edges.items taken.grown.kept recipes h.covering;
   }
@@ -112,7 +112,7 @@ module _ (cell : Cell) (recipes : List Recipe) where
   pairs_of_all old set edges h = record {
     grown = h.grown;
     standing = λ edge stands. elim (h.standing edge stands) [
-      | inl known ↦ All-contains (Stands cell recipes) old.edges.items edge edges.standing known
+      | inl known ↦ All-contains (EdgeStands cell recipes) old.edges.items edge edges.standing known
       | inr here ↦ here
     ];
     whole = λ edge stands. pair_stands cell recipes set.edges.items (h.pairing refl set.edges.items (λ i j known. known)) edge stands;
@@ -131,7 +131,7 @@ IsTakenAt site t edge others = (i j : ℕ) → resource_on site t edge.earlier �
 -- below `done`, those that join it and one behind it, for each two candidates
 pub record KeepsBindings (site : Site) (number : ℕ) (collected of_roles : List Edge) (alikes done : ℕ) (old set : EdgeSet) : Type 0 where
   pub grown : Grows old set
-  pub standing : (all : List Recipe) → slice_get all number ≡ Some site.recipe.now → (edge : Edge) → Contains set.edges.items edge → Contains old.edges.items edge ⊎ Stands site.cell.now all edge
+  pub standing : (all : List Recipe) → slice_get all number ≡ Some site.recipe.now → (edge : Edge) → Contains set.edges.items edge → Contains old.edges.items edge ⊎ EdgeStands site.cell.now all edge
   pub first : (edge : Edge) → Contains collected edge → IsTakenAt site (alike 0) edge set.edges.items
   pub taken_alike : (k : ℕ) → k < alikes → (edge : Edge) → Contains of_roles edge → IsTakenAt site (alike k) edge set.edges.items
   pub taken_apart : (k : ℕ) → resource_count site ≤ k → k < done → (role : Role) → slice_get site.recipe.now.roles.items (k - resource_count site) ≡ Some role
@@ -154,7 +154,7 @@ module _ (site : Site) (kept : Option (List (Option ℕ))) (number : ℕ) (colle
 
   -- an edge that was added as it is stands
   stands_then : (t : Taking) (from : Edge) → Contains collected from → (edge : Edge) → IsTakenAs resources (units_on site t) from edge → (all : List Recipe) → slice_get all number ≡ Some recipe
-      → Stands cell all edge
+      → EdgeStands cell all edge
   stands_then t from among edge is all found =
       let on = is_collected.standing from among in
       let here = on.asked t edge.earlier edge.later is.earlier_is is.later_is in
@@ -170,7 +170,7 @@ module _ (site : Site) (kept : Option (List (Option ℕ))) (number : ℕ) (colle
 
   -- the same of some that were added
   all_stand : (t : Taking) (some : List Edge) → ((edge : Edge) → Contains some edge → Contains collected edge) → (set new : EdgeSet) → set.count ≡ resources → HasTakenBy (units_on site t) some set new
-      → (all : List Recipe) → slice_get all number ≡ Some recipe → (edge : Edge) → Contains new.edges.items edge → Contains set.edges.items edge ⊎ Stands cell all edge
+      → (all : List Recipe) → slice_get all number ≡ Some recipe → (edge : Edge) → Contains new.edges.items edge → Contains set.edges.items edge ⊎ EdgeStands cell all edge
   all_stand t some among set new count_is has all found edge stands = elim (has.only edge stands) [
     | inl known ↦ inl known
     | inr taken ↦ inr (stands_then t taken.0 (among taken.0 taken.1) edge (subst (λ count. IsTakenAs count (units_on site t) taken.0 edge) count_is taken.2) all found)
@@ -230,7 +230,7 @@ module _ (site : Site) (kept : Option (List (Option ℕ))) (number : ℕ) (colle
           ∙ (ap (λ (xs : List (Option ℕ)). raised place (units_by cell roles (alike own)) xs) (are_units.each other p other_at)
           ∙ raised_is cell roles (differ cell (recipe ∷ []) recipe recipe.own_roles) place role at own other)
 
-      stands_raised : (all : List Recipe) → slice_get all number ≡ Some recipe → (edge : Edge) → IsRaised place set.count units units behind edge → Stands cell all edge
+      stands_raised : (all : List Recipe) → slice_get all number ≡ Some recipe → (edge : Edge) → IsRaised place set.count units units behind edge → EdgeStands cell all edge
       stands_raised all found edge r =
           let o = at-Contains units r.own r.among_owns in
           let p = at-Contains units r.other r.among_others in

@@ -16,7 +16,7 @@ use Rattle.batch_verify.proofs.RulesInBindings.{Each_left, Each_right}
 use Rattle.batch_check.specs.Edges.{number_of_resource}
 use Rattle.batch_check.proofs.Names.{name_in-found}
 use Rattle.batch_verify.proofs.ResourceNumbers.{number-own}
-use Rattle.batch_check.specs.ByName.{name_in}
+use Rattle.batch_check.specs.ByName.{resource_name_in}
 use Rattle.batch_recipe.specs.Needs as own
 use Rattle.batch_recipe.specs.declared.need.Need.{Need}
 
@@ -24,14 +24,14 @@ use Rattle.batch_recipe.specs.declared.need.Need.{Need}
 pub record IsFound (c : Cell) (name : Name) : Type 0 where
   pub number : ℕ
   pub below : number < length (resources_of c)
-  pub named : name_in c number ≡ name
+  pub named : resource_name_in c number ≡ name
   pub numbered : number_of_resource c name ≡ Some number
 
 pub found : (c : Cell) (name : Name) → IsTrue (is_among (resources_of c) name) → IsFound c name
 found c name among =
     let any : Any (λ y. same_name name y ≡ true) (resources_of c) = Any-from_list_any (same_name name) (resources_of c) among in
     let same : name ≡ any.1 = (bytes_eq-Decides name any.1).0 any.4 in
-    let named : name_in c any.0 ≡ name = name_in-found c any.0 name (slice_get-get_or (resources_of c) any.0 any.1 any.2 ∙ ap (λ (n : Name). Some n) (any.3 ∙ sym same)) in
+    let named : resource_name_in c any.0 ≡ name = name_in-found c any.0 name (slice_get-get_or (resources_of c) any.0 any.1 any.2 ∙ ap (λ (n : Name). Some n) (any.3 ∙ sym same)) in
     record {
       number = any.0;
       below = any.2;
@@ -39,8 +39,8 @@ found c name among =
       numbered = ap (λ (n : Name). position (same_name n) (resources_of c)) (sym named) ∙ number-own c any.0 any.2;
     }
 
-pub name_among : (c : Cell) (number : ℕ) → number < length (resources_of c) → IsTrue (is_among (resources_of c) (name_in c number))
-name_among c number below = list_any_at (same_name (name_in c number)) (resources_of c) number [] below ((bytes_eq-Decides (name_in c number) (name_in c number)).1 refl)
+pub name_among : (c : Cell) (number : ℕ) → number < length (resources_of c) → IsTrue (is_among (resources_of c) (resource_name_in c number))
+name_among c number below = list_any_at (same_name (resource_name_in c number)) (resources_of c) number [] below ((bytes_eq-Decides (resource_name_in c number) (resource_name_in c number)).1 refl)
 
 -- where the needs of each node are known, all that is asked for on its path is
 module _ (K : Name → Type 0) where
@@ -50,15 +50,15 @@ module _ (K : Name → Type 0) where
   abbrev Path : Node → Type 0
   Path n = Each K n.asked
 
-  known_resources : (needs : List Need) → Each (λ need. K need.resource) needs → Each K (own.resources_of needs)
+  known_resources : (needs : List Need) → Each (λ need. K need.resource) needs → Each K (own.resources_needed needs)
   known_resources [] h = tt
   known_resources (need ∷ needs) h = (h.0, known_resources needs h.1)
 
   mutual
     pub known_path : (p : Place) (above : List Name) (t : Tree) → Each K above → Each Own (nodes p above t) → Each Path (nodes p above t)
     known_path p above (act s w) k h =
-        let whole : Each K (above ++ own.resources_of s.needs) = Each-append K above (own.resources_of s.needs) k (known_resources s.needs h.0) in
-        (whole, known_within p (above ++ own.resources_of s.needs) w whole h.1)
+        let whole : Each K (above ++ own.resources_needed s.needs) = Each-append K above (own.resources_needed s.needs) k (known_resources s.needs h.0) in
+        (whole, known_within p (above ++ own.resources_needed s.needs) w whole h.1)
     known_path p above skip k h = (Each-append K above [] k tt, tt)
     known_path p above (seq ts) k h = (Each-append K above [] k tt, known_each p above 0 ts k h.1)
     known_path p above (par ts) k h = (Each-append K above [] k tt, known_each p above 0 ts k h.1)

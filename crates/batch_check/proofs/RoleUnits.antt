@@ -12,7 +12,7 @@ use Rattle.batch_recipe.specs.Conditions.{Name, same_name}
 use Rattle.batch_recipe.specs.WellFormed.{are_distinct, is_among}
 use Rattle.batch_recipe.specs.declared.role.Role.{Role}
 use Rattle.batch_recipe.proofs.AppendedLists.{slice_get-split}
-use Rattle.batch_verify.specs.Bindings.{numbered}
+use Rattle.batch_verify.specs.Bindings.{numbered_binding}
 use Rattle.batch_verify.proofs.Choices.{has_at}
 use Rattle.batch_verify.proofs.NamesInList.{same_name_sym}
 use Rattle.batch_verify.proofs.NumberedBindings.{has_name}
@@ -78,7 +78,7 @@ module _ (cell : Cell) (roles : List Role) where
   same_in : (t u : Taking) (some : List Role) (k : ℕ) → ((role : Role) → slice_get some k ≡ Some role → t role.name ≡ u role.name)
       → get_or (map (number_of_resource cell) (map (λ (role : Role). bound_by cell roles t role.name) some)) k None ≡ get_or (map (number_of_resource cell) (map (λ (role : Role). bound_by cell roles u role.name) some)) k None
   same_in t u [] k same = refl
-  same_in t u (r ∷ rs) zero same = ap (λ n. number_of_resource cell (numbered cell roles n r.name)) (same r refl)
+  same_in t u (r ∷ rs) zero same = ap (λ n. number_of_resource cell (numbered_binding cell roles n r.name)) (same r refl)
   same_in t u (r ∷ rs) (suc k) same = same_in t u rs k same
 
   -- where two takings give a role to candidates of one number, one unit takes it

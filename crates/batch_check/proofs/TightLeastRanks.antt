@@ -20,9 +20,9 @@ use Rattle.batch_model.proofs.Members.{Each-Has}
 use Rattle.batch_model.proofs.TreeParts.{parts-nodes}
 use Rattle.batch_verify.specs.Refusals.{rank_in}
 use Rattle.batch_check.specs.declared.edge.Edge.{Edge}
-use Rattle.batch_check.specs.ByName.{name_in}
+use Rattle.batch_check.specs.ByName.{resource_name_in}
 use Rattle.batch_check.specs.Clearing.{NeedResources}
-use Rattle.batch_check.specs.Edges.{OfNodes, Stands, AreEdgesOf}
+use Rattle.batch_check.specs.Edges.{OfNodes, EdgeStands, AreEdgesOf}
 use Rattle.batch_check.specs.LeastRanking.{IsLeastRanking}
 use Rattle.batch_check.specs.TightRanks.{IsAskedBefore, FollowsGreatest, IsLowest, RanksTightly}
 use Rattle.batch_check.proofs.ResourceNeeds.{found, known_path}
@@ -78,8 +78,8 @@ known_paths c (r ∷ rs) known = (
 )
 
 -- the earlier of an edge that stands is asked for before its later
-asked_from_edge : (c : equipment.Cell) (recipes : List document.Recipe) (e : Edge) → Each HasCandidates (map (master_of c) recipes) → Stands c recipes e
-    → IsAskedBefore (map (master_of c) recipes) (name_in c e.earlier) (name_in c e.later)
+asked_from_edge : (c : equipment.Cell) (recipes : List document.Recipe) (e : Edge) → Each HasCandidates (map (master_of c) recipes) → EdgeStands c recipes e
+    → IsAskedBefore (map (master_of c) recipes) (resource_name_in c e.earlier) (resource_name_in c e.later)
 asked_from_edge c recipes e candidates s =
     let node_of : Part → Node = λ x. x.node in
     let ps : List Part = procedure_parts (recipe_of s.recipe s.bound) in
@@ -88,9 +88,9 @@ asked_from_edge c recipes e candidates s =
     (Has-get (bound_nodes s.bound s.recipe.acts) e.node s.node s.numbered) in
     let part = Has-mapped node_of ps s.node among in
     let listed : Has (map (master_of c) recipes) (master_of c s.recipe) = Has-map (master_of c) recipes s.recipe (Has-get recipes e.recipe s.recipe s.found) in
-    let earlier : slice_get s.node.asked s.asked.asked.before ≡ Some (name_in c e.earlier) =
+    let earlier : slice_get s.node.asked s.asked.asked.before ≡ Some (resource_name_in c e.earlier) =
     s.asked.asked.earlier_is ∙ ap (λ (n : Name). Some n) (sym (name_in-found c e.earlier s.asked.earlier_name s.asked.earlier_named)) in
-    let later : slice_get s.node.asked s.asked.asked.own ≡ Some (name_in c e.later) =
+    let later : slice_get s.node.asked s.asked.asked.own ≡ Some (resource_name_in c e.later) =
     s.asked.asked.later_is ∙ ap (λ (n : Name). Some n) (sym (name_in-found c e.later s.asked.later_name s.asked.later_named)) in
     record {
       recipe = master_of c s.recipe;
@@ -102,8 +102,8 @@ asked_from_edge c recipes e candidates s =
       before = s.asked.asked.before;
       place = s.asked.asked.own;
       ordered = s.asked.asked.ordered;
-      earlier_is = subst (λ (n : Node). slice_get n.asked s.asked.asked.before ≡ Some (name_in c e.earlier)) (sym part.2) earlier;
-      later_is = subst (λ (n : Node). slice_get n.asked s.asked.asked.own ≡ Some (name_in c e.later)) (sym part.2) later;
+      earlier_is = subst (λ (n : Node). slice_get n.asked s.asked.asked.before ≡ Some (resource_name_in c e.earlier)) (sym part.2) earlier;
+      later_is = subst (λ (n : Node). slice_get n.asked s.asked.asked.own ≡ Some (resource_name_in c e.later)) (sym part.2) later;
     }
 
 -- Ranks
@@ -141,12 +141,12 @@ module _ (c : equipment.Cell) (recipes : List document.Recipe) (edges : List Edg
       elim (cases_lt 1 (get_or ranks f.number 0)) [
         | inl high ↦
             let under = least.tight f.number f.below high in
-            let stands : Stands c recipes under.edge = All-contains (Stands c recipes) edges under.edge of_recipes.standing under.standing in
-            let below : rank (name_in c under.edge.earlier) ≡ get_or ranks under.edge.earlier 0 =
+            let stands : EdgeStands c recipes under.edge = All-contains (EdgeStands c recipes) edges under.edge of_recipes.standing under.standing in
+            let below : rank (resource_name_in c under.edge.earlier) ≡ get_or ranks under.edge.earlier 0 =
             rank_in-name c ranks under.edge.earlier (slice_get_within (resources_of c) under.edge.earlier stands.asked.earlier_name stands.asked.earlier_named) in
             inl (record {
-              earlier = name_in c under.edge.earlier;
-              asked = subst (λ (n : Name). IsAskedBefore (map (master_of c) recipes) (name_in c under.edge.earlier) n) (ap (name_in c) under.into ∙ f.named) (asked_from_edge c recipes under.edge candidates stands);
+              earlier = resource_name_in c under.edge.earlier;
+              asked = subst (λ (n : Name). IsAskedBefore (map (master_of c) recipes) (resource_name_in c under.edge.earlier) n) (ap (resource_name_in c) under.into ∙ f.named) (asked_from_edge c recipes under.edge candidates stands);
               one_more = omega (arith, same, below, under.just_above);
               greatest = λ other a. omega (arith, same, below, under.just_above, lower other a);
             })

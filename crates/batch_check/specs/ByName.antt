@@ -13,8 +13,8 @@ use Rattle.batch_check.specs.declared.edge.Edge.{Edge}
 use Rattle.batch_check.specs.LeastRanking.{HasEndsBelow}
 
 -- the name of the resource with this number
-abbrev pub name_in : Cell → ℕ → Name
-name_in c resource = slice_index_or (resources_of c) resource []
+abbrev pub resource_name_in : Cell → ℕ → Name
+resource_name_in c resource = slice_index_or (resources_of c) resource []
 
 -- the first name comes before the second in the order of their bytes
 abbrev pub IsBelow : Name → Name → Type 0
@@ -23,7 +23,7 @@ IsBelow x y = slice_cmp nat_cmp x y ≡ Less
 -- no resource that the edges come from has a name below that of the resource that the first edge comes from
 abbrev pub BeginsWithLeastName : Cell → List Edge → Type 0
 BeginsWithLeastName c [] = ⊤
-BeginsWithLeastName c (first ∷ rest) = All (λ e. ¬ (IsBelow (name_in c e.earlier) (name_in c first.earlier))) rest
+BeginsWithLeastName c (first ∷ rest) = All (λ e. ¬ (IsBelow (resource_name_in c e.earlier) (resource_name_in c first.earlier))) rest
 
 -- each resource's name with its rank, in order of name
 pub record IsCertificateOf (c : Cell) (ranks : List ℕ) (entries : List (Name × ℕ)) : Type 0 where
@@ -33,10 +33,10 @@ pub record IsCertificateOf (c : Cell) (ranks : List ℕ) (entries : List (Name �
 -- the rank of a resource's name is the rank of its number
 abbrev pub RanksByName : Type 0
 RanksByName = (c : Cell) (ranks : List ℕ) (resource : ℕ) → resource < length (resources_of c)
-    → rank_in c ranks (name_in c resource) ≡ slice_index ranks resource
+    → rank_in c ranks (resource_name_in c resource) ≡ slice_index ranks resource
 
 -- along edges between resources, ranks rise by name just where they rise by number
 abbrev pub RanksRiseByName : Type 0
 RanksRiseByName = (c : Cell) (ranks : List ℕ) (edges : List Edge) → HasEndsBelow (length (resources_of c)) edges
     → (All (λ e. slice_index ranks e.earlier < slice_index ranks e.later) edges
-    ↔ All (λ e. rank_in c ranks (name_in c e.earlier) < rank_in c ranks (name_in c e.later)) edges)
+    ↔ All (λ e. rank_in c ranks (resource_name_in c e.earlier) < rank_in c ranks (resource_name_in c e.later)) edges)

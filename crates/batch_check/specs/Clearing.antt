@@ -11,7 +11,7 @@ use Rattle.batch_model.specs.Cleared.{Ranking, NeedsResources, RiseStrictly, IsC
 use Rattle.batch_model.specs.Setups.{setup_of}
 use Rattle.batch_check.specs.declared.edge.Edge.{Edge}
 use Rattle.batch_verify.specs.Refusals.{rank_in}
-use Rattle.batch_check.specs.Edges.{OfNodes, Stands, AreEdgesOf}
+use Rattle.batch_check.specs.Edges.{OfNodes, EdgeStands, AreEdgesOf}
 use Rattle.batch_check.specs.LeastRanking.{IsEdgeCircle, IsLeastRanking}
 
 -- each need is a resource of the cell
@@ -47,7 +47,7 @@ pub record IsLeastClearance (c : equipment.Cell) (recipes : List document.Recipe
 -- a circle of edges that stand in the recipes
 pub record StandsAsCircle (c : equipment.Cell) (recipes : List document.Recipe) (edges : List Edge) : Type 0 where
   pub circle : IsEdgeCircle edges edges
-  pub standing : All (Stands c recipes) edges
+  pub standing : All (EdgeStands c recipes) edges
 
 -- Laws
 

@@ -14,7 +14,7 @@ use Rattle.batch_check.specs.declared.edge_set.EdgeSet.{EdgeSet}
 use Rattle.batch_check.specs.declared.path.Path.{Path}
 use Rattle.batch_check.specs.declared.path.Reach.{Reach}
 use Rattle.batch_check.specs.declared.path.Reach.TheVariants.{Next, Whole}
-use Rattle.batch_check.specs.Edges.{AsksByNumber, CoversRecipes, OfNodes, Stands, has_pair, numbers_of_resources, Follows, Covers}
+use Rattle.batch_check.specs.Edges.{AsksByNumber, CoversRecipes, OfNodes, EdgeStands, has_pair, numbers_of_resources, Follows, Covers}
 use Rattle.batch_check.specs.Joining.{AreBelow, Grows, items_in, needs_in}
 use Rattle.batch_check.specs.Pairs.{ArePaired, Keeps}
 use Rattle.batch_check.specs.Sites.{nodes_on, resource_count, resource_on, units_on}
@@ -195,19 +195,19 @@ PairsRecipe cell edges recipe = OfNodes cell (PairsAll cell edges) recipe
 -- covered, and their needs paired where needs are kept
 pub record IsAdded (cell : Cell) (kept : Option (List (Option ℕ))) (recipes : List Recipe) (recipe : Recipe) (old new : EdgeSet) : Type 0 where
   pub grown : Grows old new
-  pub standing : (edge : Edge) → Contains new.edges.items edge → Contains old.edges.items edge ⊎ Stands cell recipes edge
+  pub standing : (edge : Edge) → Contains new.edges.items edge → Contains old.edges.items edge ⊎ EdgeStands cell recipes edge
   pub covering : (final : List Edge) → Keeps new.edges.items final → OfNodes cell (Covers cell final) recipe
   pub pairing : kept ≡ Some [] → (final : List Edge) → Keeps new.edges.items final → PairsRecipe cell final recipe
 
 -- so those of some recipes
 pub record AreAdded (cell : Cell) (kept : Option (List (Option ℕ))) (recipes some : List Recipe) (old new : EdgeSet) : Type 0 where
   pub grown : Grows old new
-  pub standing : (edge : Edge) → Contains new.edges.items edge → Contains old.edges.items edge ⊎ Stands cell recipes edge
+  pub standing : (edge : Edge) → Contains new.edges.items edge → Contains old.edges.items edge ⊎ EdgeStands cell recipes edge
   pub covering : (final : List Edge) → Keeps new.edges.items final → CoversRecipes cell some final
   pub pairing : kept ≡ Some [] → (final : List Edge) → Keeps new.edges.items final → Each (PairsRecipe cell final) some
 
 -- no edge is removed, each edge stands, and the set has an edge for each two resources between which one stands
 pub record HasAllPairs (cell : Cell) (recipes : List Recipe) (old new : EdgeSet) : Type 0 where
   pub grown : Grows old new
-  pub standing : (edge : Edge) → Contains new.edges.items edge → Stands cell recipes edge
-  pub whole : (edge : Edge) → Stands cell recipes edge → IsTrue (has_pair new.edges.items edge.earlier edge.later)
+  pub standing : (edge : Edge) → Contains new.edges.items edge → EdgeStands cell recipes edge
+  pub whole : (edge : Edge) → EdgeStands cell recipes edge → IsTrue (has_pair new.edges.items edge.earlier edge.later)

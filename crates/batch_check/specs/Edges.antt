@@ -38,7 +38,7 @@ pub record AsksByNumber (cell : Cell) (node : Node) (earlier later : ℕ) : Type
   pub asked : AsksInOrder node earlier_name later_name
 
 -- the edge says in which order a node of a recipe asks for resources, where some units take its roles
-pub record Stands (cell : Cell) (recipes : List Recipe) (edge : Edge) : Type 0 where
+pub record EdgeStands (cell : Cell) (recipes : List Recipe) (edge : Edge) : Type 0 where
   pub recipe : Recipe
   pub found : slice_get recipes edge.recipe ≡ Some recipe
   pub bound : Binding
@@ -89,5 +89,5 @@ CoversRecipes cell recipes edges = Each (OfNodes cell (Covers cell edges)) recip
 
 -- edges that stand for the orders in which the recipes ask
 pub record AreEdgesOf (cell : Cell) (recipes : List Recipe) (edges : List Edge) : Type 0 where
-  pub standing : All (Stands cell recipes) edges
+  pub standing : All (EdgeStands cell recipes) edges
   pub covering : CoversRecipes cell recipes edges

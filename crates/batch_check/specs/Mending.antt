@@ -3,7 +3,7 @@ use Rattle.std.specs.Prelude.{◌≡◌, ℕ, ◌<◌, List, [], ◌∷◌, Bool
 use Rattle.std.specs.List.{All, Contains}
 use Rattle.batch_cell.specs.declared.cell.Cell.{Cell}
 use Rattle.batch_recipe.specs.declared.recipe.Recipe.{Recipe}
-use Rattle.batch_check.specs.Edges.{Stands}
+use Rattle.batch_check.specs.Edges.{EdgeStands}
 use Rattle.batch_check.specs.declared.edge.Edge.{Edge}
 
 -- the edges lead from the same resource to the same
@@ -12,7 +12,7 @@ is_same_order edge other = nat_eq other.earlier edge.earlier && nat_eq other.lat
 
 -- ranks that rise along each edge that stands in the recipes, but for those of this edge's order
 abbrev pub RiseWithout : Cell → List Recipe → Edge → (ℕ → ℕ) → Type 0
-RiseWithout cell recipes edge rank = (other : Edge) → Stands cell recipes other → is_same_order edge other ≡ false → rank other.earlier < rank other.later
+RiseWithout cell recipes edge rank = (other : Edge) → EdgeStands cell recipes other → is_same_order edge other ≡ false → rank other.earlier < rank other.later
 
 -- whether there are ranks that do
 abbrev pub TellsRise : Cell → List Recipe → Edge → Bool → Type 0
@@ -35,7 +35,7 @@ TellsRiseAlong edges edge true = (rank : ℕ → ℕ) × RiseAlongOthers edges e
 TellsRiseAlong edges edge false = (rank : ℕ → ℕ) → ¬ (RiseAlongOthers edges edge rank)
 
 -- the others are the edges without those of this edge's order
-pub record AreOthers (edges : List Edge) (edge : Edge) (others : List Edge) : Type 0 where
+pub record AreOtherEdges (edges : List Edge) (edge : Edge) (others : List Edge) : Type 0 where
   pub among : All (Contains edges) others
   pub differ : All (λ other. is_same_order edge other ≡ false) others
   pub whole : (other : Edge) → Contains edges other → is_same_order edge other ≡ false → Contains others other

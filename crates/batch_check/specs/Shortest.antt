@@ -4,7 +4,7 @@ use Rattle.batch_cell.specs.declared.cell.Cell.{Cell}
 use Rattle.batch_recipe.specs.declared.recipe.Recipe.{Recipe}
 use Rattle.batch_check.specs.declared.edge.Edge.{Edge}
 use Rattle.batch_check.specs.Clearing.{StandsAsCircle}
-use Rattle.batch_check.specs.Edges.{Stands}
+use Rattle.batch_check.specs.Edges.{EdgeStands}
 
 -- no circle of edges that stand in the recipes has fewer edges
 abbrev pub IsShortest : Cell → List Recipe → List Edge → Type 0
@@ -13,7 +13,7 @@ IsShortest c recipes circle = (other : List Edge) → StandsAsCircle c recipes o
 -- one edge that stands leads from where the first of these edges comes from to where the second one leads
 pub record CanBeReplaced (c : Cell) (recipes : List Recipe) (first second : Edge) : Type 0 where
   pub edge : Edge
-  pub standing : Stands c recipes edge
+  pub standing : EdgeStands c recipes edge
   pub from : edge.earlier ≡ first.earlier
   pub into : edge.later ≡ second.later
 

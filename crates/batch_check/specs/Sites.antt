@@ -3,9 +3,9 @@ use Rattle.std.specs.Prelude.{◌≡◌, ℕ, ◌+◌, List, length, map, Option
 use Rattle.batch_cell.specs.LookUps.{resources_of as cell_resources}
 use Rattle.batch_recipe.specs.Expanding.{Binding, Sites}
 use Rattle.batch_recipe.specs.Links.{asked_at}
-use Rattle.batch_recipe.specs.Needs.{resources_of}
+use Rattle.batch_recipe.specs.Needs.{resources_needed}
 use Rattle.batch_recipe.specs.Nodes.{Node}
-use Rattle.batch_recipe.specs.Outlines.{act_of}
+use Rattle.batch_recipe.specs.Outlines.{act_of_kind}
 use Rattle.batch_recipe.specs.Procedure.{bound_nodes, sites}
 use Rattle.batch_recipe.specs.declared.entry.Kind.{Kind}
 use Rattle.batch_set.specs.Looked.{needs_by}
@@ -34,7 +34,7 @@ nodes_on site taking = bound_nodes (bound_on site taking) site.recipe.now.acts
 
 -- the needs of the act at a node then; a node without an act has none
 abbrev pub needs_at : Site → Kind → Taking → List (Option ℕ)
-needs_at site k taking = numbers_of_resources site.cell.now (resources_of (asked_at (sites_on site taking) (act_of site.recipe.now.acts k)))
+needs_at site k taking = numbers_of_resources site.cell.now (resources_needed (asked_at (sites_on site taking) (act_of_kind site.recipe.now.acts k)))
 
 -- Whoever takes the roles
 

@@ -6,7 +6,7 @@ use Rattle.batch_cell.specs.declared.cell.Cell.{Cell}
 use Rattle.batch_recipe.specs.Conditions.{Name, same_name}
 use Rattle.batch_recipe.specs.Expanding.{Binding}
 use Rattle.batch_recipe.specs.declared.role.Role.{Role}
-use Rattle.batch_verify.specs.Bindings.{numbered}
+use Rattle.batch_verify.specs.Bindings.{numbered_binding}
 use Rattle.batch_check.specs.Edges.{numbers_of_resources}
 
 -- which candidate takes each role: its number, by the role's name
@@ -22,7 +22,7 @@ abbrev pub apart : Name → ℕ → ℕ → Taking
 apart role own other name = elim (same_name name role) [ true ↦ own | false ↦ other ]
 
 abbrev pub bound_by : Cell → List Role → Taking → Binding
-bound_by cell roles taking name = numbered cell roles (taking name) name
+bound_by cell roles taking name = numbered_binding cell roles (taking name) name
 
 -- of each role the number of the unit that takes it
 abbrev pub units_by : Cell → List Role → Taking → List (Option ℕ)

@@ -4,7 +4,7 @@ ghost use Rattle.batch_check.specs.Collecting.{AreThose, AreUnitsWithin, HasRais
 ghost use Rattle.batch_check.specs.Edges.{number_of_resource};
 ghost use Rattle.batch_check.specs.Joining.{AreBelow};
 ghost use Rattle.batch_check.specs.Takings.{AreUnitsOf, alike, resource_for, units_by};
-ghost use Rattle.batch_verify.specs.Bindings.{binding_count, numbered};
+ghost use Rattle.batch_verify.specs.Bindings.{binding_count, numbered_binding};
 
 use crate::edge::Edge;
 use crate::edge_set::EdgeSet;
@@ -17,7 +17,7 @@ use std::alloc::{AllocError, Global};
 
 /// The number of the unit that takes the role: its candidate with this number.
 fn unit_by(cell: &Cell, roles: &[Role], number: u16, role: &Name) -> Option<u16>
-    ensures { result ≡ number_of_resource cell.now (numbered cell.now roles.now number role.now) }
+    ensures { result ≡ number_of_resource cell.now (numbered_binding cell.now roles.now number role.now) }
 {
     match unit_taking(cell, roles, number, role) {
         None => None,

@@ -2,7 +2,7 @@
 ghost use Rattle.std.specs.Prelude.{IfOk, IfErr, OnOk};
 ghost use Rattle.std.specs.List.{All};
 ghost use Rattle.batch_check.specs.Checking.{IsSetFault};
-ghost use Rattle.batch_check.specs.Edges.{AreEdgesOf, HasPairsOf, Stands};
+ghost use Rattle.batch_check.specs.Edges.{AreEdgesOf, HasPairsOf, EdgeStands};
 ghost use Rattle.batch_check.specs.Joining.{HasTaken};
 ghost use Rattle.batch_check.specs.LeastRanking.{HasEndsBelow};
 
@@ -28,7 +28,7 @@ pub fn graph_of(
     recipes: &[Recipe],
     circle: &[Edge],
 ) -> Result<Vec<Edge>, CheckFault>
-    requires { All (Stands cell.now recipes.now) circle.now }
+    requires { All (EdgeStands cell.now recipes.now) circle.now }
     ensures edges { IfOk result (λ edges. AreEdgesOf cell.now recipes.now edges.items) }
     ensures circle { IfOk result (λ edges. HasPairsOf circle.now edges.items) }
     ensures fault { IfErr result (IsSetFault cell.now recipes.now) }

@@ -3,7 +3,7 @@ ghost use Rattle.std.specs.Prelude.{◌≡◌, ◌≤◌, ◌&&◌, IfOk, IfErr,
 ghost use Rattle.batch_check.specs.Checking.{IsSetFault};
 ghost use Rattle.batch_check.specs.LeastRanking.{HasEndsBelow};
 ghost use Rattle.batch_model.specs.declared.limits.TheConstants.{MAX_RECIPES};
-ghost use Rattle.batch_check.specs.Mending.{AreOthers, TellRises, TellsRiseAlong, is_same_order};
+ghost use Rattle.batch_check.specs.Mending.{AreOtherEdges, TellRises, TellsRiseAlong, is_same_order};
 
 use crate::edge::Edge;
 use crate::edges::{add_pairs, edges_of};
@@ -73,7 +73,7 @@ fn rises_along_others(
 
 /// The edges that have another order than this one.
 fn others_than(alloc: Global, edges: &[Edge], edge: Edge) -> Result<Vec<Edge>, AllocError>
-    ensures { IfOk result (λ others. AreOthers edges.now edge others.items) }
+    ensures { IfOk result (λ others. AreOtherEdges edges.now edge others.items) }
 {
     let mut others = Vec::new(alloc);
     for other in edges {

@@ -2,7 +2,7 @@
 ghost use Rattle.std.specs.Prelude.{◌≡◌, ◌<◌, List, length, slice_index};
 ghost use Rattle.std.specs.List.{All, HoldsAt};
 ghost use Rattle.batch_cell.specs.LookUps.{resources_of};
-ghost use Rattle.batch_check.specs.ByName.{name_in, IsBelow, BeginsWithLeastName};
+ghost use Rattle.batch_check.specs.ByName.{resource_name_in, IsBelow, BeginsWithLeastName};
 ghost use Rattle.batch_check.specs.LeastRanking.{HasEndsBelow, IsEdgeCircle};
 ghost use Rattle.batch_check.specs.declared.edge.Edge.{Edge};
 
@@ -27,7 +27,7 @@ fn place_of_least_name(cell: &Cell, edges: &[Edge]) -> usize
     requires some { 0 < length edges.now }
     requires within { HasEndsBelow (length (resources_of cell.now)) edges.now }
     ensures place { result < length edges.now }
-    ensures least { HoldsAt (λ least. All (λ e. ¬ (IsBelow (name_in cell.now e.earlier) (name_in cell.now least.earlier))) edges.now) edges.now result }
+    ensures least { HoldsAt (λ least. All (λ e. ¬ (IsBelow (resource_name_in cell.now e.earlier) (resource_name_in cell.now least.earlier))) edges.now) edges.now result }
 {
     let mut least = 0;
     for place in 1..edges.len() {

@@ -252,9 +252,9 @@ named_by name rows =
     else (if bytes_eq name (codes "show") then shown_by rows else certified_by name rows)))))))
 
 -- the request of the words, whether or not a command was entered
-abbrev pub asked_by : Option (Text × List Row) → Request
-asked_by None = serve demo
-asked_by (Some entered) = named_by entered.0 entered.1
+abbrev pub request_entered : Option (Text × List Row) → Request
+request_entered None = serve demo
+request_entered (Some entered) = named_by entered.0 entered.1
 
 -- the program is to write no sentence on a refusal
 abbrev pub asks_quiet : Option (Text × List Row) → Bool
@@ -289,7 +289,7 @@ request_of (Explain texts) = explain (map string_bytes texts.items)
 
 -- the result of the parse is the request of the words
 abbrev pub AreWordsOf : Option (Text × List Row) → CommandWords → Type 0
-AreWordsOf entered words = (request_of words.command ≡ asked_by entered) × (words.quiet ≡ asks_quiet entered)
+AreWordsOf entered words = (request_of words.command ≡ request_entered entered) × (words.quiet ≡ asks_quiet entered)
 
 -- the words ask for a plant of a cell without a recipe; if there is a recipe, the certificate precedes it
 abbrev pub lacks_recipe : Option (Text × List Row) → Bool

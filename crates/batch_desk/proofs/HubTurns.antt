@@ -5,7 +5,7 @@ use Rattle.std.proofs.lemmas.Bool.Decides.{nat_tests}
 use Rattle.std.proofs.lemmas.List.Elements.{All-nil, All-push}
 use mathlib.Core.List.{IsPrefix}
 use Rattle.batch_engine.specs.declared.event.Event.{Event}
-use Rattle.batch_desk.specs.HubState.{HasGrown, HubState, outlines}
+use Rattle.batch_desk.specs.HubState.{HasHistoryGrown, HubState, outlines}
 use Rattle.batch_desk.specs.HubDone.{AreComplete, IsComplete}
 use Rattle.batch_desk.specs.PortState.{outline}
 use Rattle.batch_desk.specs.Turns.{Grows}
@@ -14,14 +14,14 @@ use Rattle.batch_desk.proofs.ListImages.{map-same_length}
 pub prefix_same : {X : Type 0} (xs : List X) → IsPrefix xs xs
 prefix_same xs = ([], append-nil xs)
 
-pub history_same : (ports : ℕ) (history : List (ℕ × Event)) → HasGrown ports history history
+pub history_same : (ports : ℕ) (history : List (ℕ × Event)) → HasHistoryGrown ports history history
 history_same ports history = record { more = []; is = sym (append-nil history); each = All-nil (λ (entry : ℕ × Event). entry.0 < ports) }
 
 pub as_many : (h g : HubState) → outlines g ≡ outlines h → length g.ports ≡ length h.ports
 as_many h g same = map-same_length outline g.ports h.ports same
 
-grown_within : (ports port : ℕ) (old : List (ℕ × Event)) (h g : HubState) → port < ports → HasGrown ports old h.history → Grows port h g → HasGrown ports old g.history
-grown_within ports port old h g below was (inl same) = subst (λ es. HasGrown ports old es) (sym same) was
+grown_within : (ports port : ℕ) (old : List (ℕ × Event)) (h g : HubState) → port < ports → HasHistoryGrown ports old h.history → Grows port h g → HasHistoryGrown ports old g.history
+grown_within ports port old h g below was (inl same) = subst (λ es. HasHistoryGrown ports old es) (sym same) was
 grown_within ports port old h g below was (inr pops) = record {
   more = was.more ++ (port, pops.event) ∷ [];
   is = pops.history ∙ (ap (λ es. es ++ (port, pops.event) ∷ []) was.is ∙ append_assoc old was.more ((port, pops.event) ∷ []));
@@ -29,11 +29,11 @@ grown_within ports port old h g below was (inr pops) = record {
 }
 
 -- a turn of a port that isn't there changes nothing
-pub history_grows : (ports port : ℕ) (old : List (ℕ × Event)) (h g : HubState) → length h.ports ≡ ports → (length h.ports ≤ port → g ≡ h) → HasGrown ports old h.history
-    → Grows port h g → HasGrown ports old g.history
+pub history_grows : (ports port : ℕ) (old : List (ℕ × Event)) (h g : HubState) → length h.ports ≡ ports → (length h.ports ≤ port → g ≡ h) → HasHistoryGrown ports old h.history
+    → Grows port h g → HasHistoryGrown ports old g.history
 history_grows ports port old h g many unknown was grown = elim (cases_lt port (length h.ports)) [
   | inl below ↦ grown_within ports port old h g (subst (λ n. port < n) many below) was grown
-  | inr out ↦ subst (λ (k : HubState). HasGrown ports old k.history) (sym (unknown out)) was
+  | inr out ↦ subst (λ (k : HubState). HasHistoryGrown ports old k.history) (sym (unknown out)) was
 ]
 
 pub one_incomplete : (h : HubState) (batches later : ℕ) → later < batches → ¬ IsComplete (batches - later) h → ¬ AreComplete batches h

@@ -4,7 +4,7 @@ use Rattle.std.proofs.lemmas.List.{length-map, map_push}
 use Rattle.std.proofs.lemmas.Option.{slice_get-map, slice_get_read}
 use mathlib.Core.List.{map-map}
 use Rattle.batch_model.specs.Plant.{Plant, opening}
-use Rattle.batch_model.specs.Moves.{next, after}
+use Rattle.batch_model.specs.Moves.{next, after_move}
 use Rattle.batch_model.specs.Runs.{Leads}
 use Rattle.batch_step_laws.proofs.RecordGrowth.{Leads-move, Leads-reply}
 use Rattle.batch_verify.specs.ClearedSet.{ClearedSet}
@@ -49,7 +49,7 @@ led_event v w h outs i event answer leads step =
 -- the engine made its next move, which the line reports
 pub record IsMade (v : EngineView) (line : Line) (w : EngineView) : Type 0 where
   pub next : next (setup v.cleared) (plant_of v) ≡ Some (move_of v.cleared line)
-  pub plant : plant_of w ≡ after (plant_of v) (move_of v.cleared line)
+  pub plant : plant_of w ≡ after_move (plant_of v) (move_of v.cleared line)
   pub cleared : w.cleared ≡ v.cleared
 
 pub made : (v w : EngineView) (r : Option Line) (line : Line) → r ≡ Some line → option_map (move_of v.cleared) r ≡ next (setup v.cleared) (plant_of v)

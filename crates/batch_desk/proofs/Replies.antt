@@ -1,7 +1,7 @@
 -- How many replies a record has.
 use Rattle.std.proofs.Common.{◌≡◌, ℕ, ◌+◌, List, [], ◌∷◌, length, refl, sym, ◌∙◌, ap, arith}
 use Rattle.batch_model.specs.Plant.{Setup, Plant}
-use Rattle.batch_model.specs.Moves.{after}
+use Rattle.batch_model.specs.Moves.{after_move}
 use Rattle.batch_model.specs.Events as Events
 use Rattle.batch_model.specs.Runs as Runs
 use Rattle.batch_model.specs.Runs.{reply, move, Leads}
@@ -30,7 +30,7 @@ answers-in c (Move line ∷ outs) = answers-in c outs
 Leads-answers : (c : Setup) (s t : Plant) (es : List Events.Event) (outs : List Runs.Out) → Leads c s es outs t → answers outs ≡ length es
 Leads-answers c s t [] [] h = refl
 Leads-answers c s t (e ∷ es) [] h = absurd h
-Leads-answers c s t es (move m ∷ outs) h = Leads-answers c (after s m) t es outs h.1
+Leads-answers c s t es (move m ∷ outs) h = Leads-answers c (after_move s m) t es outs h.1
 Leads-answers c s t [] (reply r ∷ outs) h = absurd h
 Leads-answers c s t (e ∷ es) (reply r ∷ outs) h = omega (arith, Leads-answers c h.0 t es outs h.2)
 

@@ -22,8 +22,8 @@ pub record InboxState : Type 0 where
   pub there : List Out
 
 -- an out was taken, or none was there
-abbrev pub Takes : DeskState → Option Out → DeskState → Type 0
-Takes d out e = MatchOption out (e ≡ d) (λ x. e ≡ record d { taken = d.taken ++ x ∷ [] })
+abbrev pub TakesOut : DeskState → Option Out → DeskState → Type 0
+TakesOut d out e = MatchOption out (e ≡ d) (λ x. e ≡ record d { taken = d.taken ++ x ∷ [] })
 
 -- the event was appended to those sent
 pub record Sends (d : DeskState) (event : Event) (e : DeskState) : Type 0 where

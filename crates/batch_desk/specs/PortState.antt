@@ -11,9 +11,9 @@ use Rattle.batch_desk.specs.declared.scope.Scope.{Scope}
 
 -- of the ring of outs, until it is sealed: its identity, the outs put there, and how many places are known to be free
 
-abbrev pub ring_of : Option (Producer Out Global AnyItems) → Option Ring
-ring_of None = None
-ring_of (Some p) = Some (ring_of_producer p)
+abbrev pub ring_of_port : Option (Producer Out Global AnyItems) → Option Ring
+ring_of_port None = None
+ring_of_port (Some p) = Some (ring_of_producer p)
 
 abbrev pub put_of : Option (Producer Out Global AnyItems) → List Out
 put_of None = []

@@ -2,7 +2,7 @@
 ghost use Rattle.std.specs.Prelude.{◌≡◌, ◌<◌, ◌≤◌, ◌+◌, OnOk, IfErr, IfSome, IsOk};
 ghost use Rattle.rtrb.specs.Ring.{sent, received, known_free, all_sent};
 ghost use Rattle.batch_desk.specs.Rings.{IsOfRing, ring_of_producer, ring_of_consumer};
-ghost use Rattle.batch_desk.specs.DeskState.{IsLeftOf, Sends, Takes};
+ghost use Rattle.batch_desk.specs.DeskState.{IsLeftOf, Sends, TakesOut};
 
 use crate::inbox::Inbox;
 use batch_engine::{Event, Out};
@@ -55,7 +55,7 @@ impl Desk {
     /// Takes the oldest out that is there.
     // claim: each out taken once
     pub fn pop_out(&mut self) -> Option<Out>
-        ensures { Takes self.old result self.new }
+        ensures { TakesOut self.old result self.new }
     {
         self.outs.pop().ok()
     }

@@ -2,7 +2,7 @@
 ghost use Rattle.std.specs.Prelude.{◌≡◌, ◌↔◌, IsTrue, length};
 ghost use Rattle.std.specs.List.{All};
 ghost use mathlib.Core.List.{IsPrefix};
-ghost use Rattle.batch_desk.specs.HubState.{HasGrown, outlines, rings};
+ghost use Rattle.batch_desk.specs.HubState.{HasHistoryGrown, outlines, rings};
 ghost use Rattle.batch_desk.specs.Gates.{AreAsked};
 ghost use Rattle.batch_desk.specs.HubDone.{AreComplete, HasNoneWaiting, IsComplete, IsHubDone};
 ghost use Rattle.batch_desk.specs.declared.loop_end.LoopEnd.TheVariants.{Done, TurnsOut};
@@ -64,7 +64,7 @@ pub fn hub_loop<G: Gate>(hub: &mut Hub, batches: u64, gate: &mut G, limit: u64) 
     ensures rings { rings hub.new ≡ rings hub.old }
     ensures outlines { outlines hub.new ≡ outlines hub.old }
     ensures cleared { hub.new.engine.cleared ≡ hub.old.engine.cleared }
-    ensures history { HasGrown (length hub.old.ports) hub.old.history hub.new.history }
+    ensures history { HasHistoryGrown (length hub.old.ports) hub.old.history hub.new.history }
     ensures record { IsPrefix hub.old.outs hub.new.outs }
     // claim: end of a hub's loop
     ensures end { (result ≡ Done) ↔ IsHubDone batches hub.new }

@@ -35,11 +35,11 @@ impl Model for Port {
     ghost use Rattle.std.specs.VecDeque.{deque_len, deque_capacity};
     ghost use Rattle.rtrb.specs.Ring.{received};
     ghost use Rattle.batch_desk.specs.Rings.{ring_of_consumer};
-    ghost use Rattle.batch_desk.specs.PortState.{PortState, free_of, put_of, ring_of};
+    ghost use Rattle.batch_desk.specs.PortState.{PortState, free_of, put_of, ring_of_port};
 
     ghost Value = { PortState };
 
-    ghost view = { λ p. record { scope = p.scope; events = ring_of_consumer p.events; taken = received p.events; outs = ring_of p.outs; put = put_of p.outs; free = free_of p.outs; waiting = p.waiting.items; room = deque_capacity p.waiting - deque_len p.waiting; closed = p.closed; cut = p.cut } };
+    ghost view = { λ p. record { scope = p.scope; events = ring_of_consumer p.events; taken = received p.events; outs = ring_of_port p.outs; put = put_of p.outs; free = free_of p.outs; waiting = p.waiting.items; room = deque_capacity p.waiting - deque_len p.waiting; closed = p.closed; cut = p.cut } };
 }
 
 impl Port {

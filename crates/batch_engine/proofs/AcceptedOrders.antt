@@ -19,14 +19,14 @@ use Rattle.batch_model.specs.Events.{order, ordered, refused, moves_pending, unk
 use Rattle.batch_model.specs.Runs.{Reacts}
 use Rattle.batch_record_laws.proofs.Entries.{IsOnce, once-filter}
 use Rattle.batch_arbiter.specs.Allocation as Arbiter
-use Rattle.batch_arbiter.specs.Allocation.{Claim, Allocation, shares_of, line_of, is_of_batch}
+use Rattle.batch_arbiter.specs.Allocation.{Claim, Allocation, shares_at, queue_at, is_of_batch}
 use Rattle.batch_recipe.specs.Tree.{Tree}
 use Rattle.batch_chart.specs.ByValues.{reach_by}
 use Rattle.batch_chart.specs.Charts.{IsRunningOf, RunsAs}
 use Rattle.batch_chart.specs.Early.{in_advance}
 use Rattle.batch_chart.specs.declared.running.Running.{Running}
 use Rattle.batch_engine.specs.declared.batch.Batch.{Batch}
-use Rattle.batch_engine.specs.View.{EngineView, setup, tree_at, batch_of, share_of, acts_of, number_of, line_in, line_at, plant_of}
+use Rattle.batch_engine.specs.View.{EngineView, setup, tree_at, model_batch, share_of, claimed_shares, resource_number, line_in, line_at, plant_of}
 use Rattle.batch_engine.specs.Kept.{AreUnits, IsOfCell, IsRunningBatch, HasRoom, IsKept}
 use Rattle.batch_engine.specs.Orders.{IsOrder, IsPlain, EndsAsks}
 use Rattle.batch_engine.proofs.BatchPlaces.{made_by}
@@ -56,14 +56,14 @@ pub record Ordered (v : EngineView) (w : EngineView) (command : Command) (n : �
 
 module _ (v : EngineView) (k : IsKept v) (i : ℕ) (command : Command) (n : ℕ) (o : IsOrder v i command n) (b' : Batch)
     (number : b'.number ≡ o.batch.number) (made : made_by b' ≡ made_by o.batch) (runs : IsRunningOf (tree_of v.cleared o.batch) b'.running)
-    (becomes : batch_of v.cleared b' ≡ commanded command (batch_of v.cleared o.batch)) (a' : Allocation)
+    (becomes : model_batch v.cleared b' ≡ commanded command (model_batch v.cleared o.batch)) (a' : Allocation)
     (lines : (name : Name) → line_in (record v { allocation = a' }) name ≡ lines_under command o.batch.number (line_in v) name) where
   line-same : (name : Name) → line_in (changed v i b' a') name ≡ line_in (record v { allocation = a' }) name
-  line-same name = go (number_of v.cleared name)
+  line-same name = go (resource_number v.cleared name)
     where
       go : (m : Option ℕ) → line_at (changed v i b' a') m ≡ line_at (record v { allocation = a' }) m
       go None = refl
-      go (Some q) = acts-same v.cleared v.next_number b' v.batches i o.batch o.at number made (line_of a' q)
+      go (Some q) = acts-same v.cleared v.next_number b' v.batches i o.batch o.at number made (queue_at a' q)
 
   order-reacts : Reacts (setup v.cleared) (plant_of v) (order command n) (ordered command n (target command)) (plant_of (changed v i b' a'))
   order-reacts =
@@ -73,12 +73,12 @@ module _ (v : EngineView) (k : IsKept v) (i : ℕ) (command : Command) (n : ℕ)
       (batches-same v.cleared v.next_number b' v.batches i o.batch (commanded command) (standing v k).numbers o.at becomes)
       (fun_ext (λ name. line-same name ∙ lines name)))))
 
-  pub order-made : ((q : ℕ) → shares_of a' q ≡ shares_of v.allocation q) → IsOfCell v.cleared a' → ((name : Name) (q : ℕ) → number_of v.cleared name ≡ Some q → IsOnce (acts_of v.cleared v.batches (line_of a' q))) → HasRoom (changed v i b' a')
+  pub order-made : ((q : ℕ) → shares_at a' q ≡ shares_at v.allocation q) → IsOfCell v.cleared a' → ((name : Name) (q : ℕ) → resource_number v.cleared name ≡ Some q → IsOnce (claimed_shares v.cleared v.batches (queue_at a' q))) → HasRoom (changed v i b' a')
       → Ordered v (changed v i b' a') command n
   order-made shares cell once room =
       record {
         kept = event-kept v k (set v.batches i b') v.next_number a' (order command n) (ordered command n (target command)) order-reacts
-            (λ name q e. acts-same v.cleared v.next_number b' v.batches i o.batch o.at number made (shares_of a' q) ∙ ap (acts_of v.cleared v.batches) (shares q))
+            (λ name q e. acts-same v.cleared v.next_number b' v.batches i o.batch o.at number made (shares_at a' q) ∙ ap (claimed_shares v.cleared v.batches) (shares q))
             (Each-set (IsRunningBatch v.cleared) v.batches i b' k.batches
             (record {
               known = subst (λ (r : ℕ × List ℕ). r.0 < length v.cleared.recipes) (sym made) (batch-runs v k i o.batch o.at).known;
@@ -86,7 +86,7 @@ module _ (v : EngineView) (k : IsKept v) (i : ℕ) (command : Command) (n : ℕ)
               runs = subst (λ (r : ℕ × List ℕ). IsRunningOf (tree_at v.cleared r.0 r.1) b'.running) (sym made) runs;
             }))
             cell
-            (λ name q e. subst IsOnce (sym (acts-same v.cleared v.next_number b' v.batches i o.batch o.at number made (line_of a' q))) (once name q e))
+            (λ name q e. subst IsOnce (sym (acts-same v.cleared v.next_number b' v.batches i o.batch o.at number made (queue_at a' q))) (once name q e))
             room;
         reacts = order-reacts;
       }
@@ -102,7 +102,7 @@ pub enter-made : (v : EngineView) → IsKept v → (i : ℕ) (command : Command)
     → Ordered v (changed v i (record (o.batch) { state = target command }) v.allocation) command n
 enter-made v k i command n o plain =
     let b' : Batch = record (o.batch) { state = target command } in
-    order-made v k i command n o b' refl refl (batch-runs v k i o.batch o.at).runs (plain-becomes command plain (batch_of v.cleared o.batch)) v.allocation
+    order-made v k i command n o b' refl refl (batch-runs v k i o.batch o.at).runs (plain-becomes command plain (model_batch v.cleared o.batch)) v.allocation
     (λ name. plain-lines command plain o.batch.number (line_in v) name) (λ q. refl) k.cell k.once (room-quiet v i o.batch b' o.at refl k.room)
 
 -- Stop and abort
@@ -151,36 +151,36 @@ all-parted p (x ∷ xss) =
     )
 
 module _ (v : EngineView) (k : IsKept v) (i : ℕ) (command : Command) (n : ℕ) (o : IsOrder v i command n) (ends : EndsAsks command) (r : Running)
-    (runs : IsRunningOf (tree_of v.cleared o.batch) r) (left : RunsAs (tree_of v.cleared o.batch) r (withdrawn (batch_of v.cleared o.batch).rest) (batch_of v.cleared o.batch).in_advance) where
+    (runs : IsRunningOf (tree_of v.cleared o.batch) r) (left : RunsAs (tree_of v.cleared o.batch) r (withdrawn (model_batch v.cleared o.batch).rest) (model_batch v.cleared o.batch).in_advance) where
   abbrev less : Allocation
-  less = Arbiter.withdrawn o.batch.number v.allocation
+  less = Arbiter.with_withdrawal o.batch.number v.allocation
 
-  stopped-lines : (q : ℕ) → line_of less q ≡ filter (λ c. not (is_of_batch o.batch.number c)) (line_of v.allocation q)
+  stopped-lines : (q : ℕ) → queue_at less q ≡ filter (λ c. not (is_of_batch o.batch.number c)) (queue_at v.allocation q)
   stopped-lines q = at-mapped (filter (λ c. not (is_of_batch o.batch.number c))) refl v.allocation.lines q
 
-  stopped-acts : (q : ℕ) → acts_of v.cleared v.batches (line_of less q) ≡ filter (λ a. not (nat_eq a.act.0 o.batch.number)) (acts_of v.cleared v.batches (line_of v.allocation q))
-  stopped-acts q = ap (acts_of v.cleared v.batches) (stopped-lines q) ∙ acts-filtered (share_of v.cleared v.batches) o.batch.number (line_of v.allocation q) (λ x. refl)
+  stopped-acts : (q : ℕ) → claimed_shares v.cleared v.batches (queue_at less q) ≡ filter (λ a. not (nat_eq a.act.0 o.batch.number)) (claimed_shares v.cleared v.batches (queue_at v.allocation q))
+  stopped-acts q = ap (claimed_shares v.cleared v.batches) (stopped-lines q) ∙ acts-filtered (share_of v.cleared v.batches) o.batch.number (queue_at v.allocation q) (λ x. refl)
 
   stopped-line : (name : Name) → line_in (record v { allocation = less }) name ≡ filter (λ a. not (nat_eq a.act.0 o.batch.number)) (line_in v name)
-  stopped-line name = go (number_of v.cleared name)
+  stopped-line name = go (resource_number v.cleared name)
     where
       go : (m : Option ℕ) → line_at (record v { allocation = less }) m ≡ filter (λ a. not (nat_eq a.act.0 o.batch.number)) (line_at v m)
       go None = refl
       go (Some q) = stopped-acts q
 
   -- all asks of the batch leave their lines
-  pub stop-made : Ordered v (changed v i (record (o.batch) { state = target command; running = r }) (Arbiter.withdrawn o.batch.number v.allocation)) command n
+  pub stop-made : Ordered v (changed v i (record (o.batch) { state = target command; running = r }) (Arbiter.with_withdrawal o.batch.number v.allocation)) command n
   stop-made =
       let b' : Batch = record (o.batch) { state = target command; running = r } in
       order-made v k i command n o b' refl refl runs
-      (ap₂ (λ z early. let d : Model.Batch = record (batch_of v.cleared o.batch) { state = target command; rest = z; in_advance = early } in d) (sym left.rest) (sym left.held) ∙ asks-becomes command ends (batch_of v.cleared o.batch))
+      (ap₂ (λ z early. let d : Model.Batch = record (model_batch v.cleared o.batch) { state = target command; rest = z; in_advance = early } in d) (sym left.rest) (sym left.held) ∙ asks-becomes command ends (model_batch v.cleared o.batch))
       less (λ name. stopped-line name ∙ asks-lines command ends o.batch.number (line_in v) name) (λ q. refl)
       (record {
         capacities = k.cell.capacities;
         shares = k.cell.shares;
         lines = length-map v.allocation.lines (filter (λ c. not (is_of_batch o.batch.number c))) ∙ k.cell.lines;
       })
-      (λ name q e. subst IsOnce (sym (stopped-acts q)) (once-filter (λ a. not (nat_eq a.act.0 o.batch.number)) (acts_of v.cleared v.batches (line_of v.allocation q)) (k.once name q e)))
+      (λ name q e. subst IsOnce (sym (stopped-acts q)) (once-filter (λ a. not (nat_eq a.act.0 o.batch.number)) (claimed_shares v.cleared v.batches (queue_at v.allocation q)) (k.once name q e)))
       (omega (arith, k.room, needs-same v.cleared v.batches i o.batch b' o.at refl, all-parted (is_of_batch o.batch.number) v.allocation.lines))
 
 -- the procedure is reached anew
@@ -192,6 +192,6 @@ reset-made v k i n o r vs e runs left =
     let tree : Tree = tree_of v.cleared o.batch in
     let zero : ValueList = with_outputs_zero (recipe_made v.cleared o.batch).outputs o.batch.values in
     order-made v k i Reset n o b' refl refl runs
-    (ap₂ (λ ws z. let d : Model.Batch = record (batch_of v.cleared o.batch) { values = ws; state = Idle; rest = z; in_advance = in_advance tree r.held.items } in d) e (sym (left zero).rest)
-    ∙ ap (λ early. let d : Model.Batch = record (batch_of v.cleared o.batch) { values = zero; state = Idle; rest = reach_by zero tree; in_advance = early } in d) (sym (left zero).held))
+    (ap₂ (λ ws z. let d : Model.Batch = record (model_batch v.cleared o.batch) { values = ws; state = Idle; rest = z; in_advance = in_advance tree r.held.items } in d) e (sym (left zero).rest)
+    ∙ ap (λ early. let d : Model.Batch = record (model_batch v.cleared o.batch) { values = zero; state = Idle; rest = reach_by zero tree; in_advance = early } in d) (sym (left zero).held))
     v.allocation (λ name. refl) (λ q. refl) k.cell k.once (room-quiet v i o.batch b' o.at refl k.room)

@@ -4,7 +4,7 @@ use Rattle.batch_recipe.specs.ActsAtNodes.{ActList, AreActsAt, IsActAt, IsNoAct,
 use Rattle.batch_recipe.specs.Conditions.{Name}
 use Rattle.batch_recipe.specs.Expanding.{Binding, act_tree_with, named_tree_with, needs_with}
 use Rattle.batch_recipe.specs.Nodes.{Node}
-use Rattle.batch_recipe.specs.Outlines.{act_of}
+use Rattle.batch_recipe.specs.Outlines.{act_of_kind}
 use Rattle.batch_recipe.specs.Procedure.{bound_nodes, bound_tree, sites, tables_from}
 use Rattle.batch_recipe.specs.Tree.{Place, Tree, skip}
 use Rattle.batch_recipe.specs.declared.act.Act.{Act}
@@ -14,7 +14,7 @@ use Rattle.batch_recipe.specs.declared.need.Need.{Need}
 use Rattle.batch_recipe.specs.declared.recipe.Recipe.{Recipe}
 use Rattle.batch_recipe.proofs.NodesAbove.{act_at}
 use Rattle.batch_recipe.proofs.NodeActs.{procedure_acts_are}
-use Rattle.batch_chart.specs.NodesOf.{node_at, step_at, step_of}
+use Rattle.batch_chart.specs.NodesOf.{node_at, step_at, tree_step}
 
 -- the node is that of this act, on some unit, where the roles are bound
 abbrev IsOfAct : Binding → Acts → Act → Tree → Type 0
@@ -39,16 +39,16 @@ module _ (bound : Binding) (acts : Acts) where
   no-act-at-node : (k : ℕ) → slice_get (procedure_acts acts) k ≡ Some None → IsNoAct (node_at (bound_tree bound acts) k).here
   no-act-at-node k e = none-agree (procedure_acts acts) (bound_nodes bound acts) k (record { place = []; asked = []; here = skip }) (procedure_acts_are bound acts) e
 
-none-needed : (t : Tree) → IsNoAct t → (step_of t).needs ≡ []
+none-needed : (t : Tree) → IsNoAct t → (tree_step t).needs ≡ []
 none-needed t h = grind arith
 
 -- a node that needs something is that of the act which its entry names
 pub act-here : (r : Recipe) (bound : Binding) (k : ℕ) (e : Entry) → slice_get r.outline.entries.items k ≡ Some e → (i : ℕ) → i < length (step_at (bound_tree bound r.acts) k).needs
-    → (a : Act) × (act_of r.acts e.kind ≡ Some a) × ((step_at (bound_tree bound r.acts) k).needs ≡ needs_with (sites bound r.acts) a)
-act-here r bound k e is i less = go (act_of r.acts e.kind) refl
+    → (a : Act) × (act_of_kind r.acts e.kind ≡ Some a) × ((step_at (bound_tree bound r.acts) k).needs ≡ needs_with (sites bound r.acts) a)
+act-here r bound k e is i less = go (act_of_kind r.acts e.kind) refl
   where
-    go : (o : Option Act) → act_of r.acts e.kind ≡ o → (a : Act) × (act_of r.acts e.kind ≡ Some a) × ((step_at (bound_tree bound r.acts) k).needs ≡ needs_with (sites bound r.acts) a)
+    go : (o : Option Act) → act_of_kind r.acts e.kind ≡ o → (a : Act) × (act_of_kind r.acts e.kind ≡ Some a) × ((step_at (bound_tree bound r.acts) k).needs ≡ needs_with (sites bound r.acts) a)
     go None q =
         let none = no-act-at-node bound r.acts k (act_at r k e is ∙ ap Some q) in
         absurd (omega (arith, less, ap (λ (ns : List Need). length ns) (none-needed (node_at (bound_tree bound r.acts) k).here none)))
-    go (Some a) q = (a, q, ap (λ (t : Tree). (step_of t).needs) (act-at-node bound r.acts k a (act_at r k e is ∙ ap Some q)).3)
+    go (Some a) q = (a, q, ap (λ (t : Tree). (tree_step t).needs) (act-at-node bound r.acts k a (act_at r k e is ∙ ap Some q)).3)

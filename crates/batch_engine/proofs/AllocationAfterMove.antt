@@ -13,8 +13,8 @@ use Rattle.batch_model.specs.Records.{holders_after}
 use Rattle.batch_record_laws.proofs.Entries.{IsOnce, act_self, once-snoc, same_act}
 use Rattle.batch_record_laws.proofs.Members.{map-Has}
 use Rattle.batch_verify.specs.ClearedSet.{ClearedSet}
-use Rattle.batch_arbiter.specs.Allocation.{Claim, shares_of, line_of, units_of, asked, granted, handed_over, passed, released, without_first, is_claim, next_in, batch_node, held_units}
-use Rattle.batch_engine.specs.View.{EngineView, act_of, share_of, acts_of, names_of, number_of, line_in, line_at}
+use Rattle.batch_arbiter.specs.Allocation.{Claim, shares_at, queue_at, units_claimed, with_ask, with_grant, handed_over, with_pass, with_release, without_first, is_claim, next_in, batch_node, held_units}
+use Rattle.batch_engine.specs.View.{EngineView, claim_act, share_of, claimed_shares, names_of, resource_number, line_in, line_at}
 use Rattle.batch_engine.specs.Kept.{IsOfCell}
 use Rattle.batch_engine.proofs.BatchPlaces.{chosen-true, chosen-false}
 use Rattle.batch_engine.proofs.BatchAfterMove.{same-number, same-named, name-yes, name-no, without-head, without-claim}
@@ -42,11 +42,11 @@ map-drop f [] = refl
 map-drop f (x ∷ xs) = refl
 
 -- of the list of one resource
-module _ (c : ClearedSet) (xss : List (List Claim)) (q : ℕ) (need : Name) (e : number_of c need ≡ Some q) (few : q < length xss) (new : List Claim) where
-  pub at-other : (name : Name) (r : ℕ) → number_of c name ≡ Some r → (name ≡ need → ⊥) → get_or (set xss q new) r [] ≡ get_or xss r []
+module _ (c : ClearedSet) (xss : List (List Claim)) (q : ℕ) (need : Name) (e : resource_number c need ≡ Some q) (few : q < length xss) (new : List Claim) where
+  pub at-other : (name : Name) (r : ℕ) → resource_number c name ≡ Some r → (name ≡ need → ⊥) → get_or (set xss q new) r [] ≡ get_or xss r []
   at-other name r f d = get_or-set_other xss q r new [] (λ s. d (same-number c name need r q f e s))
 
-  pub at-same : (name : Name) (r : ℕ) → number_of c name ≡ Some r → name ≡ need → get_or (set xss q new) r [] ≡ new
+  pub at-same : (name : Name) (r : ℕ) → resource_number c name ≡ Some r → name ≡ need → get_or (set xss q new) r [] ≡ new
   at-same name r f s = ap (λ j. get_or (set xss q new) j []) (same-named c name need r q f e s) ∙ get_or-set_same xss q new [] few
 
 is-same : (x y : Name) (P : Type 0) → (x ≡ y → P) → ((x ≡ y → ⊥) → P) → P
@@ -56,156 +56,156 @@ is-same x y P same apart = go (same_name x y) refl
     go true e = same (Rattle.batch_record_laws.proofs.Entries.name_same x y e)
     go false e = apart (λ s. absurd (let f : same_name x y ≡ true = name-yes x y s in let g : ◌≡◌ {A = Bool} true false = sym f ∙ e in cc))
 
-module _ (v : EngineView) (cell : IsOfCell v.cleared v.allocation) (q : ℕ) (need : Need) (e : number_of v.cleared need.resource ≡ Some q) where
+module _ (v : EngineView) (cell : IsOfCell v.cleared v.allocation) (q : ℕ) (need : Need) (e : resource_number v.cleared need.resource ≡ Some q) where
   within : q < length (names_of v.cleared)
   within = Rattle.std.proofs.lemmas.Option.slice_get_within (names_of v.cleared) q need.resource (named v.cleared need.resource q e)
 
   -- An act joins a line
   module _ (x : Claim) (a : BatchAct) (is : share_of v.cleared v.batches x ≡ record { act = a; units = need.units }) where
-    pub lines-asked : (name : Name) → line_in (record v { allocation = asked q x v.allocation }) name ≡ line_after (ask a.0 a.1 need) (line_in v) name
-    lines-asked name = go (number_of v.cleared name) refl
+    pub lines-asked : (name : Name) → line_in (record v { allocation = with_ask q x v.allocation }) name ≡ line_after (ask a.0 a.1 need) (line_in v) name
+    lines-asked name = go (resource_number v.cleared name) refl
       where
         lines : List (List Claim)
         lines = v.allocation.lines
 
-        go : (o : Option ℕ) → number_of v.cleared name ≡ o
-            → line_at (record v { allocation = asked q x v.allocation }) o ≡ elim (same_name name need.resource) [ true ↦ line_at v o ++ record { act = (a.0, a.1); units = need.units } ∷ [] | false ↦ line_at v o ]
-        go None f = sym (chosen-false (same_name name need.resource) _ _ (name-no name need.resource (λ s. absurd (let g : ◌≡◌ {A = Option ℕ} None (Some q) = sym f ∙ ap (number_of v.cleared) s ∙ e in cc))))
+        go : (o : Option ℕ) → resource_number v.cleared name ≡ o
+            → line_at (record v { allocation = with_ask q x v.allocation }) o ≡ elim (same_name name need.resource) [ true ↦ line_at v o ++ record { act = (a.0, a.1); units = need.units } ∷ [] | false ↦ line_at v o ]
+        go None f = sym (chosen-false (same_name name need.resource) _ _ (name-no name need.resource (λ s. absurd (let g : ◌≡◌ {A = Option ℕ} None (Some q) = sym f ∙ ap (resource_number v.cleared) s ∙ e in cc))))
         go (Some r) f =
-            is-same name need.resource (line_at (record v { allocation = asked q x v.allocation }) (Some r) ≡ elim (same_name name need.resource) [ true ↦ line_at v (Some r) ++ record { act = (a.0, a.1); units = need.units } ∷ [] | false ↦ line_at v (Some r) ])
-            (λ s. ap (acts_of v.cleared v.batches) (at-same v.cleared v.allocation.lines q need.resource e (omega (arith, cell.lines, within)) (line_of v.allocation q ++ x ∷ []) name r f s)
-            ∙ map-append (share_of v.cleared v.batches) (line_of v.allocation q) (x ∷ [])
-            ∙ ap₂ (λ (j : ℕ) (y : Share). acts_of v.cleared v.batches (line_of v.allocation j) ++ y ∷ []) (sym (same-named v.cleared name need.resource r q f e s)) is
+            is-same name need.resource (line_at (record v { allocation = with_ask q x v.allocation }) (Some r) ≡ elim (same_name name need.resource) [ true ↦ line_at v (Some r) ++ record { act = (a.0, a.1); units = need.units } ∷ [] | false ↦ line_at v (Some r) ])
+            (λ s. ap (claimed_shares v.cleared v.batches) (at-same v.cleared v.allocation.lines q need.resource e (omega (arith, cell.lines, within)) (queue_at v.allocation q ++ x ∷ []) name r f s)
+            ∙ map-append (share_of v.cleared v.batches) (queue_at v.allocation q) (x ∷ [])
+            ∙ ap₂ (λ (j : ℕ) (y : Share). claimed_shares v.cleared v.batches (queue_at v.allocation j) ++ y ∷ []) (sym (same-named v.cleared name need.resource r q f e s)) is
             ∙ sym (chosen-true (same_name name need.resource) _ _ (name-yes name need.resource s)))
-            (λ d. ap (acts_of v.cleared v.batches) (at-other v.cleared v.allocation.lines q need.resource e (omega (arith, cell.lines, within)) (line_of v.allocation q ++ x ∷ []) name r f d)
+            (λ d. ap (claimed_shares v.cleared v.batches) (at-other v.cleared v.allocation.lines q need.resource e (omega (arith, cell.lines, within)) (queue_at v.allocation q ++ x ∷ []) name r f d)
             ∙ sym (chosen-false (same_name name need.resource) _ _ (name-no name need.resource d)))
 
-    pub once-asked : ((n : Name) (j : ℕ) → number_of v.cleared n ≡ Some j → IsOnce (acts_of v.cleared v.batches (line_of v.allocation j))) → ((y : Share) → Has (acts_of v.cleared v.batches (line_of v.allocation q)) y → y.act ≡ a → ⊥)
-        → (n : Name) (j : ℕ) → number_of v.cleared n ≡ Some j → IsOnce (acts_of v.cleared v.batches (line_of (asked q x v.allocation) j))
+    pub once-asked : ((n : Name) (j : ℕ) → resource_number v.cleared n ≡ Some j → IsOnce (claimed_shares v.cleared v.batches (queue_at v.allocation j))) → ((y : Share) → Has (claimed_shares v.cleared v.batches (queue_at v.allocation q)) y → y.act ≡ a → ⊥)
+        → (n : Name) (j : ℕ) → resource_number v.cleared n ≡ Some j → IsOnce (claimed_shares v.cleared v.batches (queue_at (with_ask q x v.allocation) j))
     once-asked once d n j f =
-        is-same n need.resource (IsOnce (acts_of v.cleared v.batches (line_of (asked q x v.allocation) j)))
-        (λ s. subst (λ xs. IsOnce (acts_of v.cleared v.batches xs)) (sym (at-same v.cleared v.allocation.lines q need.resource e (omega (arith, cell.lines, within)) (line_of v.allocation q ++ x ∷ []) n j f s))
-        (subst IsOnce (sym (map-append (share_of v.cleared v.batches) (line_of v.allocation q) (x ∷ [])))
-        (once-snoc (share_of v.cleared v.batches x) (acts_of v.cleared v.batches (line_of v.allocation q)) (once need.resource q e) (λ y h g. d y h (g ∙ ap (λ (z : Share). z.act) is)))))
-        (λ t. subst (λ xs. IsOnce (acts_of v.cleared v.batches xs)) (sym (at-other v.cleared v.allocation.lines q need.resource e (omega (arith, cell.lines, within)) (line_of v.allocation q ++ x ∷ []) n j f t)) (once n j f))
+        is-same n need.resource (IsOnce (claimed_shares v.cleared v.batches (queue_at (with_ask q x v.allocation) j)))
+        (λ s. subst (λ xs. IsOnce (claimed_shares v.cleared v.batches xs)) (sym (at-same v.cleared v.allocation.lines q need.resource e (omega (arith, cell.lines, within)) (queue_at v.allocation q ++ x ∷ []) n j f s))
+        (subst IsOnce (sym (map-append (share_of v.cleared v.batches) (queue_at v.allocation q) (x ∷ [])))
+        (once-snoc (share_of v.cleared v.batches x) (claimed_shares v.cleared v.batches (queue_at v.allocation q)) (once need.resource q e) (λ y h g. d y h (g ∙ ap (λ (z : Share). z.act) is)))))
+        (λ t. subst (λ xs. IsOnce (claimed_shares v.cleared v.batches xs)) (sym (at-other v.cleared v.allocation.lines q need.resource e (omega (arith, cell.lines, within)) (queue_at v.allocation q ++ x ∷ []) n j f t)) (once n j f))
 
-  pub cell-asked : (x : Claim) → IsOfCell v.cleared (asked q x v.allocation)
+  pub cell-asked : (x : Claim) → IsOfCell v.cleared (with_ask q x v.allocation)
   cell-asked x =
       record {
         capacities = cell.capacities;
         shares = cell.shares;
-        lines = length-set v.allocation.lines q (line_of v.allocation q ++ x ∷ []) ∙ cell.lines;
+        lines = length-set v.allocation.lines q (queue_at v.allocation q ++ x ∷ []) ∙ cell.lines;
       }
 
   -- A share is given back
-  pub shares-released : (n node : ℕ) (p : Place) → IsOnce (acts_of v.cleared v.batches (shares_of v.allocation q))
-      → ((x : Claim) → is_claim n node x ≡ is_same_act (act_of v.cleared v.batches x) (n, p))
-      → (name : Name) (r : ℕ) → number_of v.cleared name ≡ Some r
-      → acts_of v.cleared v.batches (shares_of (released q n node v.allocation) r) ≡ holders_after name (acts_of v.cleared v.batches (shares_of v.allocation r)) (move (release n p need))
+  pub shares-released : (n node : ℕ) (p : Place) → IsOnce (claimed_shares v.cleared v.batches (shares_at v.allocation q))
+      → ((x : Claim) → is_claim n node x ≡ is_same_act (claim_act v.cleared v.batches x) (n, p))
+      → (name : Name) (r : ℕ) → resource_number v.cleared name ≡ Some r
+      → claimed_shares v.cleared v.batches (shares_at (with_release q n node v.allocation) r) ≡ holders_after name (claimed_shares v.cleared v.batches (shares_at v.allocation r)) (move (release n p need))
   shares-released n node p once same name r f =
-      is-same name need.resource (acts_of v.cleared v.batches (shares_of (released q n node v.allocation) r) ≡ holders_after name (acts_of v.cleared v.batches (shares_of v.allocation r)) (move (release n p need)))
-      (λ s. ap (acts_of v.cleared v.batches) (at-same v.cleared v.allocation.shares q need.resource e (omega (arith, cell.shares, within)) (without_first (is_claim n node) (shares_of v.allocation q)) name r f s)
-      ∙ without-claim (share_of v.cleared v.batches) (is_claim n node) (n, p) (shares_of v.allocation q) once same
-      ∙ ap (λ j. without (n, p) (acts_of v.cleared v.batches (shares_of v.allocation j))) (sym (same-named v.cleared name need.resource r q f e s))
+      is-same name need.resource (claimed_shares v.cleared v.batches (shares_at (with_release q n node v.allocation) r) ≡ holders_after name (claimed_shares v.cleared v.batches (shares_at v.allocation r)) (move (release n p need)))
+      (λ s. ap (claimed_shares v.cleared v.batches) (at-same v.cleared v.allocation.shares q need.resource e (omega (arith, cell.shares, within)) (without_first (is_claim n node) (shares_at v.allocation q)) name r f s)
+      ∙ without-claim (share_of v.cleared v.batches) (is_claim n node) (n, p) (shares_at v.allocation q) once same
+      ∙ ap (λ j. without (n, p) (claimed_shares v.cleared v.batches (shares_at v.allocation j))) (sym (same-named v.cleared name need.resource r q f e s))
       ∙ sym (chosen-true (same_name name need.resource) _ _ (name-yes name need.resource s)))
-      (λ d. ap (acts_of v.cleared v.batches) (at-other v.cleared v.allocation.shares q need.resource e (omega (arith, cell.shares, within)) (without_first (is_claim n node) (shares_of v.allocation q)) name r f d)
+      (λ d. ap (claimed_shares v.cleared v.batches) (at-other v.cleared v.allocation.shares q need.resource e (omega (arith, cell.shares, within)) (without_first (is_claim n node) (shares_at v.allocation q)) name r f d)
       ∙ sym (chosen-false (same_name name need.resource) _ _ (name-no name need.resource d)))
 
-  pub cell-released : (n node : ℕ) → IsOfCell v.cleared (released q n node v.allocation)
+  pub cell-released : (n node : ℕ) → IsOfCell v.cleared (with_release q n node v.allocation)
   cell-released n node =
       record {
         capacities = cell.capacities;
-        shares = length-set v.allocation.shares q (without_first (is_claim n node) (shares_of v.allocation q)) ∙ cell.shares;
+        shares = length-set v.allocation.shares q (without_first (is_claim n node) (shares_at v.allocation q)) ∙ cell.shares;
         lines = cell.lines;
       }
 
   -- A share is passed on
-  pub shares-passed : (n node to : ℕ) (p there : Place) → IsOnce (acts_of v.cleared v.batches (shares_of v.allocation q))
-      → ((x : Claim) → is_claim n node x ≡ is_same_act (act_of v.cleared v.batches x) (n, p))
-      → units_of n node (shares_of v.allocation q) ≡ need.units
-      → act_of v.cleared v.batches (record { batch = n; node = to; units = need.units }) ≡ (n, there)
-      → (name : Name) (r : ℕ) → number_of v.cleared name ≡ Some r
-      → acts_of v.cleared v.batches (shares_of (passed q n node to v.allocation) r) ≡ holders_after name (acts_of v.cleared v.batches (shares_of v.allocation r)) (move (pass n p there need))
+  pub shares-passed : (n node to : ℕ) (p there : Place) → IsOnce (claimed_shares v.cleared v.batches (shares_at v.allocation q))
+      → ((x : Claim) → is_claim n node x ≡ is_same_act (claim_act v.cleared v.batches x) (n, p))
+      → units_claimed n node (shares_at v.allocation q) ≡ need.units
+      → claim_act v.cleared v.batches (record { batch = n; node = to; units = need.units }) ≡ (n, there)
+      → (name : Name) (r : ℕ) → resource_number v.cleared name ≡ Some r
+      → claimed_shares v.cleared v.batches (shares_at (with_pass q n node to v.allocation) r) ≡ holders_after name (claimed_shares v.cleared v.batches (shares_at v.allocation r)) (move (pass n p there need))
   shares-passed n node to p there once same units at name r f =
-      is-same name need.resource (acts_of v.cleared v.batches (shares_of (passed q n node to v.allocation) r) ≡ holders_after name (acts_of v.cleared v.batches (shares_of v.allocation r)) (move (pass n p there need)))
-      (λ s. ap (acts_of v.cleared v.batches) (at-same v.cleared v.allocation.shares q need.resource e (omega (arith, cell.shares, within)) (handed_over n node to (shares_of v.allocation q)) name r f s)
-      ∙ map-append (share_of v.cleared v.batches) (without_first (is_claim n node) (shares_of v.allocation q)) (record { batch = n; node = to; units = units_of n node (shares_of v.allocation q) } ∷ [])
-      ∙ ap₂ (λ (xs : List Share) (y : Share). xs ++ y ∷ []) (without-claim (share_of v.cleared v.batches) (is_claim n node) (n, p) (shares_of v.allocation q) once same)
+      is-same name need.resource (claimed_shares v.cleared v.batches (shares_at (with_pass q n node to v.allocation) r) ≡ holders_after name (claimed_shares v.cleared v.batches (shares_at v.allocation r)) (move (pass n p there need)))
+      (λ s. ap (claimed_shares v.cleared v.batches) (at-same v.cleared v.allocation.shares q need.resource e (omega (arith, cell.shares, within)) (handed_over n node to (shares_at v.allocation q)) name r f s)
+      ∙ map-append (share_of v.cleared v.batches) (without_first (is_claim n node) (shares_at v.allocation q)) (record { batch = n; node = to; units = units_claimed n node (shares_at v.allocation q) } ∷ [])
+      ∙ ap₂ (λ (xs : List Share) (y : Share). xs ++ y ∷ []) (without-claim (share_of v.cleared v.batches) (is_claim n node) (n, p) (shares_at v.allocation q) once same)
       (ap₂ (λ (a : BatchAct) u. let y : Share = record { act = a; units = u } in y) at units)
-      ∙ ap (λ j. without (n, p) (acts_of v.cleared v.batches (shares_of v.allocation j)) ++ record { act = (n, there); units = need.units } ∷ []) (sym (same-named v.cleared name need.resource r q f e s))
-      ∙ sym (both-chosen (n, p) (record { act = (n, there); units = need.units }) (same_name name need.resource) (name-yes name need.resource s) (acts_of v.cleared v.batches (shares_of v.allocation r))))
-      (λ d. ap (acts_of v.cleared v.batches) (at-other v.cleared v.allocation.shares q need.resource e (omega (arith, cell.shares, within)) (handed_over n node to (shares_of v.allocation q)) name r f d)
-      ∙ sym (neither-chosen (n, p) (record { act = (n, there); units = need.units }) (same_name name need.resource) (name-no name need.resource d) (acts_of v.cleared v.batches (shares_of v.allocation r))))
+      ∙ ap (λ j. without (n, p) (claimed_shares v.cleared v.batches (shares_at v.allocation j)) ++ record { act = (n, there); units = need.units } ∷ []) (sym (same-named v.cleared name need.resource r q f e s))
+      ∙ sym (both-chosen (n, p) (record { act = (n, there); units = need.units }) (same_name name need.resource) (name-yes name need.resource s) (claimed_shares v.cleared v.batches (shares_at v.allocation r))))
+      (λ d. ap (claimed_shares v.cleared v.batches) (at-other v.cleared v.allocation.shares q need.resource e (omega (arith, cell.shares, within)) (handed_over n node to (shares_at v.allocation q)) name r f d)
+      ∙ sym (neither-chosen (n, p) (record { act = (n, there); units = need.units }) (same_name name need.resource) (name-no name need.resource d) (claimed_shares v.cleared v.batches (shares_at v.allocation r))))
 
-  pub cell-passed : (n node to : ℕ) → IsOfCell v.cleared (passed q n node to v.allocation)
+  pub cell-passed : (n node to : ℕ) → IsOfCell v.cleared (with_pass q n node to v.allocation)
   cell-passed n node to =
       record {
         capacities = cell.capacities;
-        shares = length-set v.allocation.shares q (handed_over n node to (shares_of v.allocation q)) ∙ cell.shares;
+        shares = length-set v.allocation.shares q (handed_over n node to (shares_at v.allocation q)) ∙ cell.shares;
         lines = cell.lines;
       }
 
   -- The oldest ask is granted
-  module _ (x : Claim) (later : List Claim) (a : BatchAct) (first : line_of v.allocation q ≡ x ∷ later) (is : share_of v.cleared v.batches x ≡ record { act = a; units = need.units })
-      (once : (n : Name) (j : ℕ) → number_of v.cleared n ≡ Some j → IsOnce (acts_of v.cleared v.batches (line_of v.allocation j))) where
-    alone : (y : Share) → Has (acts_of v.cleared v.batches later) y → y.act ≡ a → ⊥
-    alone y h g = (subst (λ xs. IsOnce (acts_of v.cleared v.batches xs)) first (once need.resource q e)).0 y h (g ∙ sym (ap (λ (z : Share). z.act) is))
+  module _ (x : Claim) (later : List Claim) (a : BatchAct) (first : queue_at v.allocation q ≡ x ∷ later) (is : share_of v.cleared v.batches x ≡ record { act = a; units = need.units })
+      (once : (n : Name) (j : ℕ) → resource_number v.cleared n ≡ Some j → IsOnce (claimed_shares v.cleared v.batches (queue_at v.allocation j))) where
+    alone : (y : Share) → Has (claimed_shares v.cleared v.batches later) y → y.act ≡ a → ⊥
+    alone y h g = (subst (λ xs. IsOnce (claimed_shares v.cleared v.batches xs)) first (once need.resource q e)).0 y h (g ∙ sym (ap (λ (z : Share). z.act) is))
 
-    pub lines-granted : (name : Name) → line_in (record v { allocation = granted q (Some x) v.allocation }) name ≡ line_after (grant a.0 a.1 need) (line_in v) name
-    lines-granted name = go (number_of v.cleared name) refl
+    pub lines-granted : (name : Name) → line_in (record v { allocation = with_grant q (Some x) v.allocation }) name ≡ line_after (grant a.0 a.1 need) (line_in v) name
+    lines-granted name = go (resource_number v.cleared name) refl
       where
-        taken : (r : ℕ) → r ≡ q → acts_of v.cleared v.batches (drop 1 (line_of v.allocation q)) ≡ without a (acts_of v.cleared v.batches (line_of v.allocation r))
+        taken : (r : ℕ) → r ≡ q → claimed_shares v.cleared v.batches (drop 1 (queue_at v.allocation q)) ≡ without a (claimed_shares v.cleared v.batches (queue_at v.allocation r))
         taken r s =
-            ap (λ xs. acts_of v.cleared v.batches (drop 1 xs)) first
-            ∙ sym (without-head (record { act = a; units = need.units }) (acts_of v.cleared v.batches later) alone)
-            ∙ ap (λ (y : Share). without a (y ∷ acts_of v.cleared v.batches later)) (sym is)
-            ∙ ap (λ xs. without a (acts_of v.cleared v.batches xs)) (sym first)
-            ∙ ap (λ j. without a (acts_of v.cleared v.batches (line_of v.allocation j))) (sym s)
+            ap (λ xs. claimed_shares v.cleared v.batches (drop 1 xs)) first
+            ∙ sym (without-head (record { act = a; units = need.units }) (claimed_shares v.cleared v.batches later) alone)
+            ∙ ap (λ (y : Share). without a (y ∷ claimed_shares v.cleared v.batches later)) (sym is)
+            ∙ ap (λ xs. without a (claimed_shares v.cleared v.batches xs)) (sym first)
+            ∙ ap (λ j. without a (claimed_shares v.cleared v.batches (queue_at v.allocation j))) (sym s)
 
-        go : (o : Option ℕ) → number_of v.cleared name ≡ o
-            → line_at (record v { allocation = granted q (Some x) v.allocation }) o ≡ elim (same_name name need.resource) [ true ↦ filter (λ b. not (is_same_act b.act (a.0, a.1))) (line_at v o) | false ↦ line_at v o ]
-        go None f = sym (chosen-false (same_name name need.resource) _ _ (name-no name need.resource (λ s. absurd (let g : ◌≡◌ {A = Option ℕ} None (Some q) = sym f ∙ ap (number_of v.cleared) s ∙ e in cc))))
+        go : (o : Option ℕ) → resource_number v.cleared name ≡ o
+            → line_at (record v { allocation = with_grant q (Some x) v.allocation }) o ≡ elim (same_name name need.resource) [ true ↦ filter (λ b. not (is_same_act b.act (a.0, a.1))) (line_at v o) | false ↦ line_at v o ]
+        go None f = sym (chosen-false (same_name name need.resource) _ _ (name-no name need.resource (λ s. absurd (let g : ◌≡◌ {A = Option ℕ} None (Some q) = sym f ∙ ap (resource_number v.cleared) s ∙ e in cc))))
         go (Some r) f =
-            is-same name need.resource (line_at (record v { allocation = granted q (Some x) v.allocation }) (Some r) ≡ elim (same_name name need.resource) [ true ↦ filter (λ b. not (is_same_act b.act (a.0, a.1))) (line_at v (Some r)) | false ↦ line_at v (Some r) ])
-            (λ s. ap (acts_of v.cleared v.batches) (at-same v.cleared v.allocation.lines q need.resource e (omega (arith, cell.lines, within)) (drop 1 (line_of v.allocation q)) name r f s)
+            is-same name need.resource (line_at (record v { allocation = with_grant q (Some x) v.allocation }) (Some r) ≡ elim (same_name name need.resource) [ true ↦ filter (λ b. not (is_same_act b.act (a.0, a.1))) (line_at v (Some r)) | false ↦ line_at v (Some r) ])
+            (λ s. ap (claimed_shares v.cleared v.batches) (at-same v.cleared v.allocation.lines q need.resource e (omega (arith, cell.lines, within)) (drop 1 (queue_at v.allocation q)) name r f s)
             ∙ taken r (same-named v.cleared name need.resource r q f e s)
             ∙ sym (chosen-true (same_name name need.resource) _ _ (name-yes name need.resource s)))
-            (λ d. ap (acts_of v.cleared v.batches) (at-other v.cleared v.allocation.lines q need.resource e (omega (arith, cell.lines, within)) (drop 1 (line_of v.allocation q)) name r f d)
+            (λ d. ap (claimed_shares v.cleared v.batches) (at-other v.cleared v.allocation.lines q need.resource e (omega (arith, cell.lines, within)) (drop 1 (queue_at v.allocation q)) name r f d)
             ∙ sym (chosen-false (same_name name need.resource) _ _ (name-no name need.resource d)))
 
-    pub shares-granted : (name : Name) (r : ℕ) → number_of v.cleared name ≡ Some r
-        → acts_of v.cleared v.batches (shares_of (granted q (Some x) v.allocation) r) ≡ holders_after name (acts_of v.cleared v.batches (shares_of v.allocation r)) (move (grant a.0 a.1 need))
+    pub shares-granted : (name : Name) (r : ℕ) → resource_number v.cleared name ≡ Some r
+        → claimed_shares v.cleared v.batches (shares_at (with_grant q (Some x) v.allocation) r) ≡ holders_after name (claimed_shares v.cleared v.batches (shares_at v.allocation r)) (move (grant a.0 a.1 need))
     shares-granted name r f =
-        is-same name need.resource (acts_of v.cleared v.batches (shares_of (granted q (Some x) v.allocation) r) ≡ holders_after name (acts_of v.cleared v.batches (shares_of v.allocation r)) (move (grant a.0 a.1 need)))
-        (λ s. ap (acts_of v.cleared v.batches) (at-same v.cleared v.allocation.shares q need.resource e (omega (arith, cell.shares, within)) (shares_of v.allocation q ++ x ∷ []) name r f s)
-        ∙ map-append (share_of v.cleared v.batches) (shares_of v.allocation q) (x ∷ [])
-        ∙ ap₂ (λ (j : ℕ) (y : Share). acts_of v.cleared v.batches (shares_of v.allocation j) ++ y ∷ []) (sym (same-named v.cleared name need.resource r q f e s)) is
+        is-same name need.resource (claimed_shares v.cleared v.batches (shares_at (with_grant q (Some x) v.allocation) r) ≡ holders_after name (claimed_shares v.cleared v.batches (shares_at v.allocation r)) (move (grant a.0 a.1 need)))
+        (λ s. ap (claimed_shares v.cleared v.batches) (at-same v.cleared v.allocation.shares q need.resource e (omega (arith, cell.shares, within)) (shares_at v.allocation q ++ x ∷ []) name r f s)
+        ∙ map-append (share_of v.cleared v.batches) (shares_at v.allocation q) (x ∷ [])
+        ∙ ap₂ (λ (j : ℕ) (y : Share). claimed_shares v.cleared v.batches (shares_at v.allocation j) ++ y ∷ []) (sym (same-named v.cleared name need.resource r q f e s)) is
         ∙ sym (chosen-true (same_name name need.resource) _ _ (name-yes name need.resource s)))
-        (λ d. ap (acts_of v.cleared v.batches) (at-other v.cleared v.allocation.shares q need.resource e (omega (arith, cell.shares, within)) (shares_of v.allocation q ++ x ∷ []) name r f d)
+        (λ d. ap (claimed_shares v.cleared v.batches) (at-other v.cleared v.allocation.shares q need.resource e (omega (arith, cell.shares, within)) (shares_at v.allocation q ++ x ∷ []) name r f d)
         ∙ sym (chosen-false (same_name name need.resource) _ _ (name-no name need.resource d)))
 
-    pub once-granted : (n : Name) (j : ℕ) → number_of v.cleared n ≡ Some j → IsOnce (acts_of v.cleared v.batches (line_of (granted q (Some x) v.allocation) j))
+    pub once-granted : (n : Name) (j : ℕ) → resource_number v.cleared n ≡ Some j → IsOnce (claimed_shares v.cleared v.batches (queue_at (with_grant q (Some x) v.allocation) j))
     once-granted n j f =
-        is-same n need.resource (IsOnce (acts_of v.cleared v.batches (line_of (granted q (Some x) v.allocation) j)))
-        (λ s. subst (λ xs. IsOnce (acts_of v.cleared v.batches xs)) (sym (at-same v.cleared v.allocation.lines q need.resource e (omega (arith, cell.lines, within)) (drop 1 (line_of v.allocation q)) n j f s))
-        (subst IsOnce (sym (map-drop (share_of v.cleared v.batches) (line_of v.allocation q))) (once-drop (acts_of v.cleared v.batches (line_of v.allocation q)) (once need.resource q e))))
-        (λ t. subst (λ xs. IsOnce (acts_of v.cleared v.batches xs)) (sym (at-other v.cleared v.allocation.lines q need.resource e (omega (arith, cell.lines, within)) (drop 1 (line_of v.allocation q)) n j f t)) (once n j f))
+        is-same n need.resource (IsOnce (claimed_shares v.cleared v.batches (queue_at (with_grant q (Some x) v.allocation) j)))
+        (λ s. subst (λ xs. IsOnce (claimed_shares v.cleared v.batches xs)) (sym (at-same v.cleared v.allocation.lines q need.resource e (omega (arith, cell.lines, within)) (drop 1 (queue_at v.allocation q)) n j f s))
+        (subst IsOnce (sym (map-drop (share_of v.cleared v.batches) (queue_at v.allocation q))) (once-drop (claimed_shares v.cleared v.batches (queue_at v.allocation q)) (once need.resource q e))))
+        (λ t. subst (λ xs. IsOnce (claimed_shares v.cleared v.batches xs)) (sym (at-other v.cleared v.allocation.lines q need.resource e (omega (arith, cell.lines, within)) (drop 1 (queue_at v.allocation q)) n j f t)) (once n j f))
 
-    pub cell-granted : IsOfCell v.cleared (granted q (Some x) v.allocation)
+    pub cell-granted : IsOfCell v.cleared (with_grant q (Some x) v.allocation)
     cell-granted =
         record {
           capacities = cell.capacities;
-          shares = length-set v.allocation.shares q (shares_of v.allocation q ++ x ∷ []) ∙ cell.shares;
-          lines = length-set v.allocation.lines q (drop 1 (line_of v.allocation q)) ∙ cell.lines;
+          shares = length-set v.allocation.shares q (shares_at v.allocation q ++ x ∷ []) ∙ cell.shares;
+          lines = length-set v.allocation.lines q (drop 1 (queue_at v.allocation q)) ∙ cell.lines;
         }
 
 -- of shares of acts that differ, the one that a claim is for has as many units
 pub units-found : (share : Claim → Share) (n node : ℕ) (a : BatchAct) (xs : List Claim) (x : Claim) → IsOnce (map share xs) → ((y : Claim) → is_claim n node y ≡ is_same_act (share y).act a) → Has xs x → (share x).act ≡ a
-    → units_of n node xs ≡ x.units
+    → units_claimed n node xs ≡ x.units
 units-found share n node a [] x once same h e = absurd h
 units-found share n node a (y ∷ xs) x once same h e = go (units-found share n node a xs x once.1 same) (is_claim n node y) refl h
   where
-    go : (Has xs x → (share x).act ≡ a → units_of n node xs ≡ x.units) → (t : Bool) → is_claim n node y ≡ t → Has (y ∷ xs) x → (let units : ℕ = elim (cond t (Some y) (find (is_claim n node) xs)) [ None ↦ 0 | Some c ↦ c.units ] in units) ≡ x.units
+    go : (Has xs x → (share x).act ≡ a → units_claimed n node xs ≡ x.units) → (t : Bool) → is_claim n node y ≡ t → Has (y ∷ xs) x → (let units : ℕ = elim (cond t (Some y) (find (is_claim n node) xs)) [ None ↦ 0 | Some c ↦ c.units ] in units) ≡ x.units
     go later true f (inl g) = ap (λ (z : Claim). z.units) g
     go later true f (inr m) = absurd (once.0 (share x) (map-Has share xs x m) (e ∙ sym (same_act (share y).act a (sym (same y) ∙ f))))
     go later false f (inl g) =

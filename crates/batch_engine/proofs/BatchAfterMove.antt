@@ -13,7 +13,7 @@ use Rattle.batch_verify.specs.ClearedSet.{ClearedSet}
 use Rattle.batch_arbiter.specs.Allocation.{Claim, without_first}
 use Rattle.batch_chart.specs.NodesOf.{place_at}
 use Rattle.batch_engine.specs.declared.batch.Batch.{Batch}
-use Rattle.batch_engine.specs.View.{tree_at, batch_of, share_of, acts_of, place_in, names_of, number_of, tree_of}
+use Rattle.batch_engine.specs.View.{tree_at, model_batch, share_of, claimed_shares, place_in, names_of, resource_number, tree_of}
 use Rattle.batch_engine.proofs.BatchPlaces.{made_by, chosen-true, chosen-false, later-number}
 use Rattle.batch_engine.proofs.BatchLookups.{Has-get, named}
 
@@ -43,38 +43,38 @@ module _ (c : ClearedSet) (next : ℕ) (b' : Batch) where
       ap (λ r. let z : Place = elim (nat_eq x.number n) [ true ↦ place_at (tree_of c x) j | false ↦ r ] in z) (place-same bs i b e p q n j)
 
   pub acts-same : (bs : List Batch) (i : ℕ) (b : Batch) → slice_get bs i ≡ Some b → b'.number ≡ b.number → made_by b' ≡ made_by b → (xs : List Claim)
-      → acts_of c (set bs i b') xs ≡ acts_of c bs xs
+      → claimed_shares c (set bs i b') xs ≡ claimed_shares c bs xs
   acts-same bs i b e p q xs = map-same (share_of c (set bs i b')) (share_of c bs) xs (λ x. ap (λ (z : Place). let y : Share = record { act = (x.batch, z); units = x.units } in y) (place-same bs i b e p q x.batch x.node))
 
-  others-same : (n : ℕ) (f : Model.Batch → Model.Batch) (bs : List Batch) → ((d : Batch) → Has bs d → n < d.number) → map (batch_of c) bs ≡ map (only n f) (map (batch_of c) bs)
+  others-same : (n : ℕ) (f : Model.Batch → Model.Batch) (bs : List Batch) → ((d : Batch) → Has bs d → n < d.number) → map (model_batch c) bs ≡ map (only n f) (map (model_batch c) bs)
   others-same n f [] h = refl
   others-same n f (x ∷ bs) h =
-      ap₂ (λ y ys. y ∷ ys) (sym (chosen-false (nat_eq x.number n) (f (batch_of c x)) (batch_of c x) (test-other' x.number n (h x (inl refl)))))
+      ap₂ (λ y ys. y ∷ ys) (sym (chosen-false (nat_eq x.number n) (f (model_batch c x)) (model_batch c x) (test-other' x.number n (h x (inl refl)))))
       (others-same n f bs (λ d k. h d (inr k)))
 
   -- the batches of the plant after it
-  pub batches-same : (bs : List Batch) (i : ℕ) (b : Batch) (f : Model.Batch → Model.Batch) → AreNumbered next (map (batch_of c) bs) → slice_get bs i ≡ Some b
-      → batch_of c b' ≡ f (batch_of c b) → map (batch_of c) (set bs i b') ≡ map (only b.number f) (map (batch_of c) bs)
+  pub batches-same : (bs : List Batch) (i : ℕ) (b : Batch) (f : Model.Batch → Model.Batch) → AreNumbered next (map (model_batch c) bs) → slice_get bs i ≡ Some b
+      → model_batch c b' ≡ f (model_batch c b) → map (model_batch c) (set bs i b') ≡ map (only b.number f) (map (model_batch c) bs)
   batches-same [] i b f k e h = absurd cc
   batches-same (x ∷ bs) zero b f k e h =
       let g : x ≡ b = cc in
       ap₂ (λ y ys. y ∷ ys)
-      (h ∙ ap (λ (z : Batch). f (batch_of c z)) (sym g)
-      ∙ sym (chosen-true (nat_eq x.number b.number) (f (batch_of c x)) (batch_of c x) (subst (λ (z : Batch). nat_eq x.number z.number ≡ true) g (nat_self x.number))))
+      (h ∙ ap (λ (z : Batch). f (model_batch c z)) (sym g)
+      ∙ sym (chosen-true (nat_eq x.number b.number) (f (model_batch c x)) (model_batch c x) (subst (λ (z : Batch). nat_eq x.number z.number ≡ true) g (nat_self x.number))))
       (others-same b.number f bs (λ d m. subst (λ (z : Batch). z.number < d.number) g (later-number c next x bs d k m)))
   batches-same (x ∷ bs) (suc i) b f k e h =
       let above : x.number < b.number = later-number c next x bs b k (Has-get bs i b e) in
-      ap₂ (λ y ys. y ∷ ys) (sym (chosen-false (nat_eq x.number b.number) (f (batch_of c x)) (batch_of c x) (test-other x.number b.number above)))
+      ap₂ (λ y ys. y ∷ ys) (sym (chosen-false (nat_eq x.number b.number) (f (model_batch c x)) (model_batch c x) (test-other x.number b.number above)))
       (batches-same bs i b f k.2 e h)
 
 -- Names and numbers of resources
 
-pub same-number : (c : ClearedSet) (x y : Name) (q r : ℕ) → number_of c x ≡ Some q → number_of c y ≡ Some r → q ≡ r → x ≡ y
+pub same-number : (c : ClearedSet) (x y : Name) (q r : ℕ) → resource_number c x ≡ Some q → resource_number c y ≡ Some r → q ≡ r → x ≡ y
 same-number c x y q r e f g =
     let h : ◌≡◌ {A = Option Name} (Some x) (Some y) = sym (named c x q e) ∙ ap (slice_get (names_of c)) g ∙ named c y r f in cc
 
-pub same-named : (c : ClearedSet) (x y : Name) (q r : ℕ) → number_of c x ≡ Some q → number_of c y ≡ Some r → x ≡ y → q ≡ r
-same-named c x y q r e f g = let h : ◌≡◌ {A = Option ℕ} (Some q) (Some r) = sym e ∙ ap (number_of c) g ∙ f in cc
+pub same-named : (c : ClearedSet) (x y : Name) (q r : ℕ) → resource_number c x ≡ Some q → resource_number c y ≡ Some r → x ≡ y → q ≡ r
+same-named c x y q r e f g = let h : ◌≡◌ {A = Option ℕ} (Some q) (Some r) = sym e ∙ ap (resource_number c) g ∙ f in cc
 
 pub name-yes : (x y : Name) → x ≡ y → same_name x y ≡ true
 name-yes x y e = subst (λ z. same_name x z ≡ true) e (name_self x)

@@ -3,7 +3,7 @@ use Rattle.std.proofs.Common.{◌≡◌, ◌<◌, refl, sym, ◌∙◌, ap, subs
 use Rattle.std.specs.Prelude.{position, slice_get}
 use Rattle.std.proofs.lemmas.Option.{slice_get_read, slice_get_within}
 use Rattle.batch_model.specs.Moves as Moves
-use Rattle.batch_model.specs.Moves.{after}
+use Rattle.batch_model.specs.Moves.{after_move}
 use Rattle.batch_model.specs.Events.{order, ordered}
 use Rattle.batch_model.specs.Plant.{batch_at}
 use Rattle.batch_model.specs.Runs.{Reacts}
@@ -23,7 +23,7 @@ use Rattle.batch_chart.specs.Passing.{IsBatchOf, IsTreeOf}
 use Rattle.batch_chart.specs.declared.chart_move.Move.{Move}
 use Rattle.batch_engine.specs.Batches.{BatchList, with_batch_at}
 use Rattle.batch_engine.specs.declared.batch.Batch.{Batch}
-use Rattle.batch_engine.specs.View.{EngineView, batch_of, bound_to, plant_of, seen, setup, tree_of}
+use Rattle.batch_engine.specs.View.{EngineView, model_batch, bound_to, plant_of, seen, setup, tree_of}
 use Rattle.batch_engine.specs.Kept.{IsCounted, IsKept}
 use Rattle.batch_engine.specs.Orders.{IsOrdered}
 use Rattle.batch_engine.specs.Steps.{IsMover, IsNeedAt, IsNext, IsOwnStep, Makes}
@@ -82,7 +82,7 @@ seat-of {v} {w} {i} {b} {x} e r h =
 pub recipe-tree : {v : EngineView} {i : ℕ} {b : Batch} {x : document.Recipe} → IsSeat v i b x → IsTreeOf x (tree_of v.cleared b)
 recipe-tree {v} {i} {b} {x} s = (bound_to v.cleared b.recipe b.units, tree-is v.cleared b.recipe x s.listed b.units)
 
-pub recipe-batch : {v : EngineView} {i : ℕ} {b : Batch} {x : document.Recipe} → IsSeat v i b x → IsBatchOf x (tree_of v.cleared b) (batch_of v.cleared b)
+pub recipe-batch : {v : EngineView} {i : ℕ} {b : Batch} {x : document.Recipe} → IsSeat v i b x → IsBatchOf x (tree_of v.cleared b) (model_batch v.cleared b)
 recipe-batch {v} {i} {b} {x} s = record { bound = bound_to v.cleared b.recipe b.units; tree = tree-is v.cleared b.recipe x s.listed b.units; follows = refl }
 
 -- The batch that makes the next move
@@ -104,7 +104,7 @@ pub record IsFound (v : EngineView) (n i : ℕ) (b : Batch) : Type 0 where
   pub kept : IsKept v
   pub at : slice_get v.batches i ≡ Some b
   pub number : b.number ≡ n
-  pub is : batch_at (plant_of v) n ≡ Some (batch_of v.cleared b)
+  pub is : batch_at (plant_of v) n ≡ Some (model_batch v.cleared b)
 
 pub found-here : {v w : EngineView} {n i : ℕ} {b : Batch} → w ≡ v → IsKept w → position (λ (d : Batch). nat_eq d.number n) v.batches ≡ Some i → b ≡ get_or w.batches i b → IsFound v n i b
 found-here {v} {w} {n} {i} {b} e k p h =
@@ -115,7 +115,7 @@ found-here {v} {w} {n} {i} {b} e k p h =
       kept = r.kept;
       at = r.at;
       number = subst (λ (z : Batch). z.number ≡ n) same f.number;
-      is = subst (λ (z : Batch). batch_at (plant_of v) n ≡ Some (batch_of v.cleared z)) same f.is;
+      is = subst (λ (z : Batch). batch_at (plant_of v) n ≡ Some (model_batch v.cleared z)) same f.is;
     }
 
 -- The act at a node of the batch
@@ -171,7 +171,7 @@ pub closed-makes : {v w : EngineView} {a' : Allocation} {m : Moves.Move} (i : �
 closed-makes {v} {w} {a'} {m} i b' f e is r next l also =
     record {
       cleared = ap (λ (z : EngineView). z.cleared) e;
-      plant = plant-set v w i b' a' f e is ∙ r.plant ∙ ap (after (plant_of v)) (same-next v m l next also);
+      plant = plant-set v w i b' a' f e is ∙ r.plant ∙ ap (after_move (plant_of v)) (same-next v m l next also);
     }
 
 -- by an order

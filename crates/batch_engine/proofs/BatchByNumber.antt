@@ -13,7 +13,7 @@ use Rattle.batch_model.specs.Standing.{AreNumbered}
 use Rattle.batch_engine.specs.Batches.{HaveOwnNumbers, IsNewNumber, BatchList, own_number}
 use Rattle.batch_engine.specs.Kept.{IsKept}
 use Rattle.batch_engine.specs.Steps.{IsFoundBy}
-use Rattle.batch_engine.specs.View.{EngineView, batch_of, plant_of}
+use Rattle.batch_engine.specs.View.{EngineView, model_batch, plant_of}
 use Rattle.batch_engine.proofs.RecordOfPlant.{standing}
 use Rattle.batch_record_laws.proofs.Entries.{nat_same}
 
@@ -26,27 +26,27 @@ found-false true x y e = absurd cc
 found-false false x y e = refl
 
 find-first : (c : ClearedSet) (n : ℕ) (xs : List Batch) (i : ℕ) (x d : Batch) → slice_get xs i ≡ Some x → nat_eq x.number n ≡ true → ((j : ℕ) → j < i → nat_eq (get_or xs j d).number n ≡ false)
-    → find (λ (m : Model.Batch). nat_eq m.number n) (map (batch_of c) xs) ≡ Some (batch_of c x)
+    → find (λ (m : Model.Batch). nat_eq m.number n) (map (model_batch c) xs) ≡ Some (model_batch c x)
 find-first c n [] i x d e t h = absurd cc
 find-first c n (y ∷ xs) zero x d e t h =
     let f : y ≡ x = cc in
-    found-true (nat_eq y.number n) (Some (batch_of c y)) (find (λ (m : Model.Batch). nat_eq m.number n) (map (batch_of c) xs)) (ap (λ (z : Batch). nat_eq z.number n) f ∙ t) ∙ ap (λ (z : Batch). Some (batch_of c z)) f
+    found-true (nat_eq y.number n) (Some (model_batch c y)) (find (λ (m : Model.Batch). nat_eq m.number n) (map (model_batch c) xs)) (ap (λ (z : Batch). nat_eq z.number n) f ∙ t) ∙ ap (λ (z : Batch). Some (model_batch c z)) f
 find-first c n (y ∷ xs) (suc i) x d e t h =
-    found-false (nat_eq y.number n) (Some (batch_of c y)) (find (λ (m : Model.Batch). nat_eq m.number n) (map (batch_of c) xs)) (h 0 (omega arith)) ∙ find-first c n xs i x d e t (λ j l. h (suc j) (omega arith))
+    found-false (nat_eq y.number n) (Some (model_batch c y)) (find (λ (m : Model.Batch). nat_eq m.number n) (map (model_batch c) xs)) (h 0 (omega arith)) ∙ find-first c n xs i x d e t (λ j l. h (suc j) (omega arith))
 
-find-none : (c : ClearedSet) (n : ℕ) (xs : List Batch) → NonePasses (λ (b : Batch). nat_eq b.number n) xs → find (λ (m : Model.Batch). nat_eq m.number n) (map (batch_of c) xs) ≡ None
+find-none : (c : ClearedSet) (n : ℕ) (xs : List Batch) → NonePasses (λ (b : Batch). nat_eq b.number n) xs → find (λ (m : Model.Batch). nat_eq m.number n) (map (model_batch c) xs) ≡ None
 find-none c n [] h = refl
 find-none c n (y ∷ xs) h =
-    found-false (nat_eq y.number n) (Some (batch_of c y)) (find (λ (m : Model.Batch). nat_eq m.number n) (map (batch_of c) xs)) (h 0 y (omega arith)) ∙ find-none c n xs (λ k d l. h (suc k) d (omega arith))
+    found-false (nat_eq y.number n) (Some (model_batch c y)) (find (λ (m : Model.Batch). nat_eq m.number n) (map (model_batch c) xs)) (h 0 y (omega arith)) ∙ find-none c n xs (λ k d l. h (suc k) d (omega arith))
 
 pub record Found (v : EngineView) (n i : ℕ) : Type 0 where
   pub batch : Batch
   pub at : slice_get v.batches i ≡ Some batch
   pub number : batch.number ≡ n
-  pub is : batch_at (plant_of v) n ≡ Some (batch_of v.cleared batch)
+  pub is : batch_at (plant_of v) n ≡ Some (model_batch v.cleared batch)
 
 found-in : (c : ClearedSet) (n i : ℕ) (xs : List Batch) → position (λ (b : Batch). nat_eq b.number n) xs ≡ Some i
-    → (b : Batch) × (slice_get xs i ≡ Some b) × (b.number ≡ n) × (find (λ (m : Model.Batch). nat_eq m.number n) (map (batch_of c) xs) ≡ Some (batch_of c b))
+    → (b : Batch) × (slice_get xs i ≡ Some b) × (b.number ≡ n) × (find (λ (m : Model.Batch). nat_eq m.number n) (map (model_batch c) xs) ≡ Some (model_batch c b))
 found-in c n i [] e = absurd (let f : ◌≡◌ {A = Option ℕ} None (Some i) = e in cc)
 found-in c n i (y ∷ xs) e =
     let p = position-Some (λ (b : Batch). nat_eq b.number n) (y ∷ xs) i y e in
@@ -61,13 +61,13 @@ none-found v n e = find-none v.cleared n v.batches (NonePasses-position (λ (b :
 
 -- a look-up in the batch with a number
 pub looked : {X : Type 0} {v w : EngineView} (n : ℕ) (o : Option Batch) (f : Model.Batch → Option X) → w ≡ v → IsFoundBy w n o
-    → option_and_then (λ b. f (batch_of w.cleared b)) o ≡ (let r : Option X = elim (batch_at (plant_of v) n) [ None ↦ None | Some d ↦ f d ] in r)
+    → option_and_then (λ b. f (model_batch w.cleared b)) o ≡ (let r : Option X = elim (batch_at (plant_of v) n) [ None ↦ None | Some d ↦ f d ] in r)
 looked {X} {v} {w} n None f e h =
     sym (ap (λ (z : EngineView). let r : Option X = elim (batch_at (plant_of z) n) [ None ↦ None | Some d ↦ f d ] in r) (sym e) ∙ ap (λ (q : Option Model.Batch). let r : Option X = elim q [ None ↦ None | Some d ↦ f d ] in r) h)
 looked {X} {v} {w} n (Some b) f e h =
     sym (ap (λ (z : EngineView). let r : Option X = elim (batch_at (plant_of z) n) [ None ↦ None | Some d ↦ f d ] in r) (sym e) ∙ ap (λ (q : Option Model.Batch). let r : Option X = elim q [ None ↦ None | Some d ↦ f d ] in r) h.1)
 
-numbers-below : (c : ClearedSet) (next : ℕ) (bs : List Batch) → AreNumbered next (map (batch_of c) bs) → Each (λ m. m < next) (map own_number bs)
+numbers-below : (c : ClearedSet) (next : ℕ) (bs : List Batch) → AreNumbered next (map (model_batch c) bs) → Each (λ m. m < next) (map own_number bs)
 numbers-below c next [] h = tt
 numbers-below c next (b ∷ bs) h = (h.0, numbers-below c next bs h.2)
 

@@ -23,14 +23,14 @@ use Rattle.batch_model.proofs.Members.{Each-Has}
 use Rattle.batch_record_laws.proofs.Entries.{name_same}
 use Rattle.batch_record_laws.proofs.Members.{map-Has}
 use Rattle.batch_verify.specs.ClearedSet.{ClearedSet}
-use Rattle.batch_arbiter.specs.Allocation.{Claim, shares_of, line_of, next_grant, batch_node, resource_count}
+use Rattle.batch_arbiter.specs.Allocation.{Claim, shares_at, queue_at, next_grant, batch_node, resource_count}
 use Rattle.batch_chart.specs.NodesOf.{no_need, place_at, need_at, step_at, task_at}
 use Rattle.batch_recipe.specs.Nodes.{node_count}
 use Rattle.batch_chart.specs.OwnMoves.{grants}
 use Rattle.batch_chart.proofs.RecipeChart.{is_chart}
 use Rattle.batch_chart.specs.Charts.{AsksAt, IsChartFor, IsChartOf, IsRunningOf, IsRunning, remains}
 use Rattle.batch_engine.specs.declared.batch.Batch.{Batch}
-use Rattle.batch_engine.specs.View.{EngineView, setup, no_recipe, master_at, bound_to, recipe_made, batch_of, act_of, share_of, place_in, names_of, number_of, line_at, plant_of, tree_of}
+use Rattle.batch_engine.specs.View.{EngineView, setup, no_recipe, master_at, bound_to, recipe_made, model_batch, claim_act, share_of, place_in, names_of, resource_number, line_at, plant_of, tree_of}
 use Rattle.batch_engine.specs.Kept.{IsKept, IsRunningBatch}
 use Rattle.batch_engine.proofs.Nodes.{same-node}
 use Rattle.batch_engine.proofs.RecordOfPlant.{placed, told, standing}
@@ -63,13 +63,13 @@ pub chart-of : (c : ClearedSet) (q : ℕ) (r : document.Recipe) → slice_get c.
 chart-of c q r at bound = subst (λ (m : Master). IsChartFor bound (m.control bound).procedure r) (sym (master-found c q r at)) (is_chart r bound)
 
 -- the resource with this number has the name
-pub named : (c : ClearedSet) (name : Name) (q : ℕ) → number_of c name ≡ Some q → slice_get (names_of c) q ≡ Some name
+pub named : (c : ClearedSet) (name : Name) (q : ℕ) → resource_number c name ≡ Some q → slice_get (names_of c) q ≡ Some name
 named c name q e =
     let p = position-Some (same_name name) (names_of c) q [] e in
     slice_get-get_or (names_of c) q [] p.0 ∙ ap Some (sym (name_same name (get_or (names_of c) q []) p.1))
 
 -- the arbiter has each resource that has a number
-pub known-resource : (v : EngineView) → IsKept v → (name : Name) (q : ℕ) → number_of v.cleared name ≡ Some q → q < resource_count v.allocation
+pub known-resource : (v : EngineView) → IsKept v → (name : Name) (q : ℕ) → resource_number v.cleared name ≡ Some q → q < resource_count v.allocation
 known-resource v k name q e =
     omega (arith, slice_get_within (names_of v.cleared) q name (named v.cleared name q e), ap (λ (xs : List ℕ). length xs) k.cell.capacities, length-capacities v.cleared.cell)
 
@@ -83,7 +83,7 @@ module _ (v : EngineView) (k : IsKept v) (i : ℕ) (b : Batch) (at : slice_get v
   -- its recipe is made from one of the setup's, for units that may take the roles
   pub is-control : IsControl (setup v.cleared) (recipe_made v.cleared b)
   is-control =
-      (Each-Has (IsStandingBatch (setup v.cleared)) (plant_of v).batches (batch_of v.cleared b) (standing v k).batches (Has-batch_of v.cleared v.batches b has)).known
+      (Each-Has (IsStandingBatch (setup v.cleared)) (plant_of v).batches (model_batch v.cleared b) (standing v k).batches (Has-batch_of v.cleared v.batches b has)).known
 
   pub tree-placed : IsPlaced (0 ∷ []) (tree_of v.cleared b)
   tree-placed = placed v.cleared k.cleared (recipe_made v.cleared b) is-control
@@ -114,10 +114,10 @@ module _ (v : EngineView) (k : IsKept v) (i : ℕ) (b : Batch) (at : slice_get v
   here-place : (j : ℕ) → place_in v.cleared v.batches b.number j ≡ place_at (tree_of v.cleared b) j
   here-place j = place-in v.cleared v.next_number v.batches b j (standing v k).numbers has
 
-  pub claim-act : (x : Claim) (j : ℕ) → batch_node x ≡ (b.number, j) → act_of v.cleared v.batches x ≡ (b.number, place_at (tree_of v.cleared b) j)
+  pub claim-act : (x : Claim) (j : ℕ) → batch_node x ≡ (b.number, j) → claim_act v.cleared v.batches x ≡ (b.number, place_at (tree_of v.cleared b) j)
   claim-act x j e = ap (λ (z : ℕ × ℕ). let y : BatchAct = (z.0, place_in v.cleared v.batches z.0 z.1) in y) e ∙ ap (λ (p : Place). let y : BatchAct = (b.number, p) in y) (here-place j)
 
-  pub act-claim : (x : Claim) (j : ℕ) → j < node_count (tree_of v.cleared b) → act_of v.cleared v.batches x ≡ (b.number, place_at (tree_of v.cleared b) j) → batch_node x ≡ (b.number, j)
+  pub act-claim : (x : Claim) (j : ℕ) → j < node_count (tree_of v.cleared b) → claim_act v.cleared v.batches x ≡ (b.number, place_at (tree_of v.cleared b) j) → batch_node x ≡ (b.number, j)
   act-claim x j l e =
       let n : x.batch ≡ b.number = ap (λ (z : BatchAct). z.0) e in
       let p : place_at (tree_of v.cleared b) x.node ≡ place_at (tree_of v.cleared b) j =
@@ -125,15 +125,15 @@ module _ (v : EngineView) (k : IsKept v) (i : ℕ) (b : Batch) (at : slice_get v
       ap₂ (λ m q. let z : ℕ × ℕ = (m, q) in z) n (same-node (tree_of v.cleared b) x.node j l p)
 
   -- a claim in line is for as many units as its act asks for
-  pub line-units : (j l q : ℕ) → asks_here j l → number_of v.cleared (need_at (tree_of v.cleared b) j l).resource ≡ Some q
-      → (x : Claim) → Has (line_of v.allocation q) x → batch_node x ≡ (b.number, j) → x.units ≡ (need_at (tree_of v.cleared b) j l).units
+  pub line-units : (j l q : ℕ) → asks_here j l → resource_number v.cleared (need_at (tree_of v.cleared b) j l).resource ≡ Some q
+      → (x : Claim) → Has (queue_at v.allocation q) x → batch_node x ≡ (b.number, j) → x.units ≡ (need_at (tree_of v.cleared b) j l).units
   line-units j l q asks e x h at_node =
       let t : Tree = tree_of v.cleared b in
       let need : Need = need_at (tree_of v.cleared b) j l in
       let share : Share = share_of v.cleared v.batches x in
-      let told_so = ((told v k).asks need.resource share).0 (subst (λ (xs : List Share). Has xs share) (sym (ap (line_at v) e)) (map-Has (share_of v.cleared v.batches) (line_of v.allocation q) x h)) in
-      let same : told_so.0 ≡ batch_of v.cleared b =
-      one_batch v.next_number (plant_of v).batches told_so.0 (batch_of v.cleared b) (standing v k).numbers told_so.1 (Has-batch_of v.cleared v.batches b has) (told_so.2 ∙ ap (λ (z : ℕ × ℕ). z.0) at_node) in
+      let told_so = ((told v k).asks need.resource share).0 (subst (λ (xs : List Share). Has xs share) (sym (ap (line_at v) e)) (map-Has (share_of v.cleared v.batches) (queue_at v.allocation q) x h)) in
+      let same : told_so.0 ≡ model_batch v.cleared b =
+      one_batch v.next_number (plant_of v).batches told_so.0 (model_batch v.cleared b) (standing v k).numbers told_so.1 (Has-batch_of v.cleared v.batches b has) (told_so.2 ∙ ap (λ (z : ℕ × ℕ). z.0) at_node) in
       let there : Has (acts (remains t b.running)) (asking told_so.3 told_so.4 told_so.5) = subst (λ (d : Model.Batch). Has (acts d.rest) (asking told_so.3 told_so.4 told_so.5)) same told_so.6 in
       let one : asking told_so.3 told_so.4 told_so.5 ≡ asking (step_at t j) (task_at t j) l =
       one_act (acts (remains t b.running)) (asking told_so.3 told_so.4 told_so.5) (asking (step_at t j) (task_at t j) l)
@@ -146,27 +146,27 @@ module _ (v : EngineView) (k : IsKept v) (i : ℕ) (b : Batch) (at : slice_get v
       let is : need ≡ record { resource = need.resource; units = x.units } = cc in
       sym (ap (λ (z : Need). z.units) is)
 
-  pub first-serves : (j l q : ℕ) → asks_here j l → number_of v.cleared (need_at (tree_of v.cleared b) j l).resource ≡ Some q → first_here q j → served_here j l
+  pub first-serves : (j l q : ℕ) → asks_here j l → resource_number v.cleared (need_at (tree_of v.cleared b) j l).resource ≡ Some q → first_here q j → served_here j l
   first-serves j l q asks e f =
       let need : Need = need_at (tree_of v.cleared b) j l in
       is-served v k q need (b.number, place_at (tree_of v.cleared b) j) e
-      ∙ serves-next (act_of v.cleared v.batches) (Rattle.batch_arbiter.specs.Allocation.capacity_of v.allocation q) need.units (shares_of v.allocation q) (line_of v.allocation q) b.number j
+      ∙ serves-next (claim_act v.cleared v.batches) (Rattle.batch_arbiter.specs.Allocation.capacity_of v.allocation q) need.units (shares_at v.allocation q) (queue_at v.allocation q) b.number j
       (b.number, place_at (tree_of v.cleared b) j) (λ x. claim-act x j) (λ x h. line-units j l q asks e x h) f
 
-  pub serves-first : (j l q : ℕ) → asks_here j l → number_of v.cleared (need_at (tree_of v.cleared b) j l).resource ≡ Some q → served_here j l → first_here q j
+  pub serves-first : (j l q : ℕ) → asks_here j l → resource_number v.cleared (need_at (tree_of v.cleared b) j l).resource ≡ Some q → served_here j l → first_here q j
   serves-first j l q asks e s =
       let need : Need = need_at (tree_of v.cleared b) j l in
-      next-serves (act_of v.cleared v.batches) (Rattle.batch_arbiter.specs.Allocation.capacity_of v.allocation q) need.units (shares_of v.allocation q) (line_of v.allocation q) b.number j
+      next-serves (claim_act v.cleared v.batches) (Rattle.batch_arbiter.specs.Allocation.capacity_of v.allocation q) need.units (shares_at v.allocation q) (queue_at v.allocation q) b.number j
       (b.number, place_at (tree_of v.cleared b) j) (λ x. act-claim x j asks.0) (λ x h. line-units j l q asks e x h)
       (sym (is-served v k q need (b.number, place_at (tree_of v.cleared b) j) e) ∙ s)
 
-  pub no-grants : ((j l : ℕ) → asks_here j l → served_here j l → ⊥) → grants (setup v.cleared) (plant_of v) (batch_of v.cleared b) ≡ []
-  no-grants none = Granting.grants-none (setup v.cleared) (plant_of v) (batch_of v.cleared b) (tree_of v.cleared b) tree-placed batch-runs.runs.alive.stands none
+  pub no-grants : ((j l : ℕ) → asks_here j l → served_here j l → ⊥) → grants (setup v.cleared) (plant_of v) (model_batch v.cleared b) ≡ []
+  no-grants none = Granting.grants-none (setup v.cleared) (plant_of v) (model_batch v.cleared b) (tree_of v.cleared b) tree-placed batch-runs.runs.alive.stands none
 
   pub first-grant : (j l : ℕ) → asks_here j l → served_here j l → ((x y : ℕ) → x < j → asks_here x y → served_here x y → ⊥)
-      → least (grants (setup v.cleared) (plant_of v) (batch_of v.cleared b)) ≡ Some (grant b.number (place_at (tree_of v.cleared b) j) (need_at (tree_of v.cleared b) j l))
+      → least (grants (setup v.cleared) (plant_of v) (model_batch v.cleared b)) ≡ Some (grant b.number (place_at (tree_of v.cleared b) j) (need_at (tree_of v.cleared b) j l))
   first-grant j l asks served before =
-      Granting.grants-first (setup v.cleared) (plant_of v) (batch_of v.cleared b) (tree_of v.cleared b) tree-placed batch-runs.runs.alive.stands j l
+      Granting.grants-first (setup v.cleared) (plant_of v) (model_batch v.cleared b) (tree_of v.cleared b) tree-placed batch-runs.runs.alive.stands j l
       (step-place (tree_of v.cleared b) j tree-placed asks.0 (omega (arith, asks.1))) asks served before
 
   -- no act before `from` is served, and none from there on to `node` is in line
@@ -190,7 +190,7 @@ module _ (v : EngineView) (k : IsKept v) (i : ℕ) (b : Batch) (at : slice_get v
   -- the act at `node` isn't first in line, so none up to it is served
   pub passed : (x : document.Recipe) → slice_get v.cleared.recipes b.recipe ≡ Some x → (from node need q : ℕ) → ((j l : ℕ) → j < from → asks_here j l → served_here j l → ⊥)
       → ((t : Tree) → IsChartOf t x → IsRunningOf t b.running → (j l : ℕ) → from ≤ j → j < node → AsksAt t (remains t b.running) j l → ⊥)
-      → asks_here node need → number_of v.cleared (need_at (tree_of v.cleared b) node need).resource ≡ Some q → (first_here q node → ⊥)
+      → asks_here node need → resource_number v.cleared (need_at (tree_of v.cleared b) node need).resource ≡ Some q → (first_here q node → ⊥)
       → (j l : ℕ) → j < node + 1 → asks_here j l → served_here j l → ⊥
   passed x e from node need q before between here number not_first j l lt asks served = elim (within-or_past j node) [
     | inl p ↦ goes-on x e from node before between j l p asks served

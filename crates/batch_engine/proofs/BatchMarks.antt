@@ -15,7 +15,7 @@ use Rattle.batch_model.specs.Plant as Model
 use Rattle.batch_model.specs.Plant.{BatchAct, Plant, holders, units_in}
 use Rattle.batch_model.specs.Events as Events
 use Rattle.batch_model.specs.Moves as Moves
-use Rattle.batch_model.specs.Moves.{is_served, batch_moves, batch_after, after, next, grant}
+use Rattle.batch_model.specs.Moves.{is_served, batch_moves, batch_after, after_move, next, grant}
 use Rattle.batch_model.specs.Runs.{move, reply}
 use Rattle.batch_model.specs.Standing.{AreNumbered}
 use Rattle.batch_step_laws.proofs.RecordGrowth.{Leads-move, Leads-reply}
@@ -24,7 +24,7 @@ use Rattle.batch_record_laws.proofs.PlantByRecord.{tells_the_plant}
 use Rattle.batch_record_laws.proofs.Entries.{nat_differs}
 use Rattle.batch_verify.specs.ClearedSet.{ClearedSet}
 use Rattle.batch_arbiter.specs.Allocation.{next_grant, batch_node, resource_count}
-use Rattle.batch_chart.specs.Seen.{move_of}
+use Rattle.batch_chart.specs.Seen.{machine_move}
 use Rattle.batch_engine.specs.declared.batch.Batch.{Batch}
 use Rattle.batch_engine.specs.declared.line.ClaimKind.{ClaimKind}
 use Rattle.batch_engine.specs.declared.line.Line.{Line}
@@ -40,7 +40,7 @@ use Rattle.batch_engine.specs.Names.{resource_name}
 use Rattle.batch_engine.specs.Steps.{IsNext, IsStep, Makes, MakesNext, TellsNext, index_of, touched_by}
 use Rattle.batch_engine.specs.Surface as Surface
 use Rattle.batch_engine.specs.Surface.{reply_of}
-use Rattle.batch_engine.specs.View.{EngineView, setup, batch_of, line_at, names_of, number_of, plant_of, tree_of}
+use Rattle.batch_engine.specs.View.{EngineView, setup, model_batch, line_at, names_of, resource_number, plant_of, tree_of}
 use Rattle.batch_engine.proofs.EngineAfterMove.{of-batch, same-next}
 use Rattle.batch_engine.proofs.BatchPlaces.{chosen-false, later-number, Has-batch_of}
 use Rattle.batch_engine.proofs.BatchLookups.{Has-get, batch-runs, known-resource, serves-first, tree-placed}
@@ -61,13 +61,13 @@ pub few : (v : EngineView) → IsKept v → length v.batches ≤ 4096
 few v k =
     let limit : length (plant_of v).batches ≤ (setup v.cleared).batch_limit = batches-are-few (setup v.cleared) k.tracked.events k.tracked.outs (plant_of v) k.tracked.leads in
     let small : (setup v.cleared).batch_limit ≤ 4096 = omega arith in
-    omega (arith, limit, small, length-map v.batches (batch_of v.cleared))
+    omega (arith, limit, small, length-map v.batches (model_batch v.cleared))
 
 tested : (m n : ℕ) → m ≡ n → nat_eq m n ≡ true
 tested m n e = grind arith
 
 -- two batches with one number stand at one index
-pub same-index : (c : ClearedSet) (next : ℕ) (bs : List Batch) (i j : ℕ) (b d : Batch) → AreNumbered next (map (batch_of c) bs) → slice_get bs i ≡ Some b → slice_get bs j ≡ Some d → b.number ≡ d.number → i ≡ j
+pub same-index : (c : ClearedSet) (next : ℕ) (bs : List Batch) (i j : ℕ) (b d : Batch) → AreNumbered next (map (model_batch c) bs) → slice_get bs i ≡ Some b → slice_get bs j ≡ Some d → b.number ≡ d.number → i ≡ j
 same-index c next [] i j b d k e f q = absurd cc
 same-index c next (x ∷ bs) zero zero b d k e f q = refl
 same-index c next (x ∷ bs) zero (suc j) b d k e f q =
@@ -110,10 +110,10 @@ first-served v k resource number node e (Some j) p = (
 )
 
 -- an act is served of a resource that has a number alone
-pub served-named : (w : EngineView) (need : Need) (a : BatchAct) → is_served (setup w.cleared) (plant_of w) need a ≡ true → (q : ℕ) × (number_of w.cleared need.resource ≡ Some q)
-served-named w need a served = go (number_of w.cleared need.resource) refl
+pub served-named : (w : EngineView) (need : Need) (a : BatchAct) → is_served (setup w.cleared) (plant_of w) need a ≡ true → (q : ℕ) × (resource_number w.cleared need.resource ≡ Some q)
+served-named w need a served = go (resource_number w.cleared need.resource) refl
   where
-    go : (o : Option ℕ) → number_of w.cleared need.resource ≡ o → (q : ℕ) × (number_of w.cleared need.resource ≡ Some q)
+    go : (o : Option ℕ) → resource_number w.cleared need.resource ≡ o → (q : ℕ) × (resource_number w.cleared need.resource ≡ Some q)
     go (Some q) e = (q, e)
     go None e =
         absurd (let h : ◌≡◌ {A = Bool} false true =
@@ -122,15 +122,15 @@ served-named w need a served = go (number_of w.cleared need.resource) refl
 
 -- whom the plant serves the arbiter serves
 served-at : (w : EngineView) (k : IsKept w) (i : ℕ) (b : Batch) (at : slice_get w.batches i ≡ Some b) (step : Step) (task : Task) (held : ℕ) (need : Need) (q : ℕ)
-    → Has (acts (batch_of w.cleared b).rest) (asking step task held) → slice_get step.needs held ≡ Some need → number_of w.cleared need.resource ≡ Some q
+    → Has (acts (model_batch w.cleared b).rest) (asking step task held) → slice_get step.needs held ≡ Some need → resource_number w.cleared need.resource ≡ Some q
     → is_served (setup w.cleared) (plant_of w) need (b.number, step.place) ≡ true → IsServedAt w q i
 served-at w k i b at step task held need q here got number served =
     let t : Tree = tree_of w.cleared b in
-    let g : Granted (setup w.cleared) (plant_of w) (batch_of w.cleared b) (grant b.number step.place need) =
+    let g : Granted (setup w.cleared) (plant_of w) (model_batch w.cleared b) (grant b.number step.place need) =
     record { step = step; task = task; held = held; need = need; has = here; at = got; served = served; is = refl } in
-    let n = asks-node (setup w.cleared) (plant_of w) (batch_of w.cleared b) t (tree-placed w k i b at) (batch-runs w k i b at).runs.alive.stands (grant b.number step.place need) g in
-    let s = served-node (setup w.cleared) (plant_of w) (batch_of w.cleared b) t (tree-placed w k i b at) (batch-runs w k i b at).runs.alive.stands (grant b.number step.place need) g in
-    (b, at, (n.0, serves-first w k i b at n.0 held q n.1 (subst (λ (z : Need). number_of w.cleared z.resource ≡ Some q) n.5 number) s))
+    let n = asks-node (setup w.cleared) (plant_of w) (model_batch w.cleared b) t (tree-placed w k i b at) (batch-runs w k i b at).runs.alive.stands (grant b.number step.place need) g in
+    let s = served-node (setup w.cleared) (plant_of w) (model_batch w.cleared b) t (tree-placed w k i b at) (batch-runs w k i b at).runs.alive.stands (grant b.number step.place need) g in
+    (b, at, (n.0, serves-first w k i b at n.0 held q n.1 (subst (λ (z : Need). resource_number w.cleared z.resource ≡ Some q) n.5 number) s))
 
 -- The move of a step
 
@@ -138,61 +138,61 @@ abbrev pub StepMove : EngineView → ℕ → Type 0
 StepMove v i = (m : Moves.Move) × IsNext v m × ((b : Batch) × (slice_get v.batches i ≡ Some b) × (Moves.batch_of m ≡ b.number))
 
 pub step-move : (v : EngineView) (s : steps.Step) → IsStep v (IsNext v) s → StepMove v (index_of s)
-step-move v (Own i m) g = (move_of (tree_of v.cleared g.batch) (batch_of v.cleared g.batch) m, g.is, (g.batch, g.here.at, of-batch (tree_of v.cleared g.batch) (batch_of v.cleared g.batch) m))
+step-move v (Own i m) g = (machine_move (tree_of v.cleared g.batch) (model_batch v.cleared g.batch) m, g.is, (g.batch, g.here.at, of-batch (tree_of v.cleared g.batch) (model_batch v.cleared g.batch) m))
 step-move v (Grant i node resource units) g = (_, g.is, (g.batch, g.here.at, refl))
 
 -- Batches that stay unmarked after a move
 
 module _ (v w : EngineView) (k : IsKept v) (l : IsKept w) (m : Moves.Move) (next_is : IsNext v m) (makes : Makes v w m) where
-  told-after : IsTold (k.tracked.outs ++ move m ∷ []) (after (plant_of v) m)
+  told-after : IsTold (k.tracked.outs ++ move m ∷ []) (after_move (plant_of v) m)
   told-after =
-      tells_the_plant (setup v.cleared) k.cleared.0 (down v.cleared k.cleared) k.tracked.events (k.tracked.outs ++ move m ∷ []) (after (plant_of v) m)
+      tells_the_plant (setup v.cleared) k.cleared.0 (down v.cleared k.cleared) k.tracked.events (k.tracked.outs ++ move m ∷ []) (after_move (plant_of v) m)
       (Leads-move (setup v.cleared) Model.opening (plant_of v) m k.tracked.events k.tracked.outs k.tracked.leads next_is)
 
   pub same-length : length w.batches ≡ length v.batches
   same-length =
-      sym (length-map w.batches (batch_of w.cleared)) ∙ ap (λ (s : Plant). length s.batches) makes.plant
+      sym (length-map w.batches (model_batch w.cleared)) ∙ ap (λ (s : Plant). length s.batches) makes.plant
       ∙ length-map (plant_of v).batches (λ (b : Model.Batch). let c : Model.Batch = elim (nat_eq b.number (Moves.batch_of m)) [ true ↦ batch_after m b | false ↦ b ] in c)
-      ∙ length-map v.batches (batch_of v.cleared)
+      ∙ length-map v.batches (model_batch v.cleared)
 
   -- another batch is as it was
   other-same : (i : ℕ) (b : Batch) → slice_get v.batches i ≡ Some b → (b.number ≡ Moves.batch_of m → ⊥)
-      → (d : Batch) × (slice_get w.batches i ≡ Some d) × (batch_of w.cleared d ≡ batch_of v.cleared b)
+      → (d : Batch) × (slice_get w.batches i ≡ Some d) × (model_batch w.cleared d ≡ model_batch v.cleared b)
   other-same i b at other = go (slice_get w.batches i) refl
     where
       f : Model.Batch → Model.Batch
       f = λ (b : Model.Batch). elim (nat_eq b.number (Moves.batch_of m)) [ true ↦ batch_after m b | false ↦ b ]
 
-      there : option_map (batch_of w.cleared) (slice_get w.batches i) ≡ Some (batch_of v.cleared b)
+      there : option_map (model_batch w.cleared) (slice_get w.batches i) ≡ Some (model_batch v.cleared b)
       there =
-          sym (slice_get-map (batch_of w.cleared) w.batches i) ∙ ap (λ (s : Plant). slice_get s.batches i) makes.plant
-          ∙ slice_get-map f (plant_of v).batches i ∙ ap (option_map f) (slice_get-map (batch_of v.cleared) v.batches i ∙ ap (option_map (batch_of v.cleared)) at)
-          ∙ ap Some (chosen-false (nat_eq b.number (Moves.batch_of m)) (batch_after m (batch_of v.cleared b)) (batch_of v.cleared b) (nat_differs b.number (Moves.batch_of m) other))
+          sym (slice_get-map (model_batch w.cleared) w.batches i) ∙ ap (λ (s : Plant). slice_get s.batches i) makes.plant
+          ∙ slice_get-map f (plant_of v).batches i ∙ ap (option_map f) (slice_get-map (model_batch v.cleared) v.batches i ∙ ap (option_map (model_batch v.cleared)) at)
+          ∙ ap Some (chosen-false (nat_eq b.number (Moves.batch_of m)) (batch_after m (model_batch v.cleared b)) (model_batch v.cleared b) (nat_differs b.number (Moves.batch_of m) other))
 
-      go : (o : Option Batch) → slice_get w.batches i ≡ o → (d : Batch) × (slice_get w.batches i ≡ Some d) × (batch_of w.cleared d ≡ batch_of v.cleared b)
-      go None e = absurd (let g : ◌≡◌ {A = Option Model.Batch} None (Some (batch_of v.cleared b)) = ap (option_map (batch_of w.cleared)) (sym e) ∙ there in cc)
-      go (Some d) e = (d, e, let g : ◌≡◌ {A = Option Model.Batch} (Some (batch_of w.cleared d)) (Some (batch_of v.cleared b)) = ap (option_map (batch_of w.cleared)) (sym e) ∙ there in cc)
+      go : (o : Option Batch) → slice_get w.batches i ≡ o → (d : Batch) × (slice_get w.batches i ≡ Some d) × (model_batch w.cleared d ≡ model_batch v.cleared b)
+      go None e = absurd (let g : ◌≡◌ {A = Option Model.Batch} None (Some (model_batch v.cleared b)) = ap (option_map (model_batch w.cleared)) (sym e) ∙ there in cc)
+      go (Some d) e = (d, e, let g : ◌≡◌ {A = Option Model.Batch} (Some (model_batch w.cleared d)) (Some (model_batch v.cleared b)) = ap (option_map (model_batch w.cleared)) (sym e) ∙ there in cc)
 
   still-none : (i : ℕ) → HasNoMove v i → ((b : Batch) → slice_get v.batches i ≡ Some b → b.number ≡ Moves.batch_of m → ⊥)
-      → ((r : Name) → touched m ≡ Some r → (q : ℕ) × (number_of v.cleared r ≡ Some q) × (IsServedAt w q i → ⊥)) → HasNoMove w i
+      → ((r : Name) → touched m ≡ Some r → (q : ℕ) × (resource_number v.cleared r ≡ Some q) × (IsServedAt w q i → ⊥)) → HasNoMove w i
   still-none i h other unserved =
       let d = other-same i h.batch h.at (other h.batch h.at) in
-      let after_is : plant_of w ≡ after (plant_of v) m = makes.plant in
-      let none : batch_moves (setup v.cleared) (plant_of v) (batch_of w.cleared d.0) ≡ [] =
+      let after_is : plant_of w ≡ after_move (plant_of v) m = makes.plant in
+      let none : batch_moves (setup v.cleared) (plant_of v) (model_batch w.cleared d.0) ≡ [] =
       subst (λ (b : Model.Batch). batch_moves (setup v.cleared) (plant_of v) b ≡ []) (sym d.2) h.none in
       let apart : d.0.number ≡ Moves.batch_of m → ⊥ = λ e. other h.batch h.at (ap (λ (z : Model.Batch). z.number) (sym d.2) ∙ e) in
-      let before : ServesBefore (setup v.cleared) (plant_of v) (plant_of w) (batch_of w.cleared d.0) =
+      let before : ServesBefore (setup v.cleared) (plant_of v) (plant_of w) (model_batch w.cleared d.0) =
       λ step task held need here got served.
       served-before (setup v.cleared) k.tracked.outs (plant_of v) (told v k) m (next-even (setup v.cleared) k.cleared.0 k.tracked.outs (plant_of v) (standing v k) (safe v k) m next_is) told-after d.0.number apart need step.place
       (λ e. (let u = unserved need.resource e in
-      u.2 (served-at w l i d.0 d.1 step task held need u.0 here got (ap (λ (c : ClearedSet). number_of c need.resource) makes.cleared ∙ u.1)
+      u.2 (served-at w l i d.0 d.1 step task held need u.0 here got (ap (λ (c : ClearedSet). resource_number c need.resource) makes.cleared ∙ u.1)
       (subst (λ (c : ClearedSet). is_served (setup c) (plant_of w) need (d.0.number, step.place) ≡ true) (sym makes.cleared) served))))
       (subst (λ (s : Plant). is_served (setup v.cleared) s need (d.0.number, step.place) ≡ true) after_is served) in
       record {
         batch = d.0;
         at = d.1;
-        none = subst (λ (c : ClearedSet). batch_moves (setup c) (plant_of w) (batch_of w.cleared d.0) ≡ []) (sym makes.cleared)
-            (lines-alone (setup v.cleared) (plant_of v) (plant_of w) (batch_of w.cleared d.0) before none);
+        none = subst (λ (c : ClearedSet). batch_moves (setup c) (plant_of w) (model_batch w.cleared d.0) ≡ []) (sym makes.cleared)
+            (lines-alone (setup v.cleared) (plant_of v) (plant_of w) (model_batch w.cleared d.0) before none);
       }
 
 pub marked-after : (v w : EngineView) → IsKept v → IsKept w → (ws zs : List ℕ) → AreMarked v ws → (s : steps.Step) → IsFirstStep v (Some s) → MakesNext v w
@@ -222,15 +222,15 @@ same-count v w k l s first makes =
 -- The resource of a line's move
 
 -- the name with this number has it
-pub number-named : (v : EngineView) → IsKept v → (q : ℕ) → q < resource_count v.allocation → number_of v.cleared (resource_name v.cleared q) ≡ Some q
+pub number-named : (v : EngineView) → IsKept v → (q : ℕ) → q < resource_count v.allocation → resource_number v.cleared (resource_name v.cleared q) ≡ Some q
 number-named v k q known =
     number-at v.cleared q (resource_name v.cleared q)
     (name-there (names_of v.cleared) q (omega (arith, known, ap (λ (xs : List ℕ). length xs) k.cell.capacities, length-capacities v.cleared.cell)))
 
 line-touches : (v : EngineView) (k : IsKept v) (line : Line) → IfSome (touched_by line) (λ q. q < resource_count v.allocation) → (resource : Name) → touched (Surface.move_of v.cleared line) ≡ Some resource
-    → (q : ℕ) × (touched_by line ≡ Some q) × (number_of v.cleared resource ≡ Some q)
-line-touches v k (Line.Claim ClaimKind.Released batch recipe node q units) known resource e = (q, refl, subst (λ name. number_of v.cleared name ≡ Some q) (let same : resource_name v.cleared q ≡ resource = cc in same) (number-named v k q known))
-line-touches v k (Line.Claim ClaimKind.Granted batch recipe node q units) known resource e = (q, refl, subst (λ name. number_of v.cleared name ≡ Some q) (let same : resource_name v.cleared q ≡ resource = cc in same) (number-named v k q known))
+    → (q : ℕ) × (touched_by line ≡ Some q) × (resource_number v.cleared resource ≡ Some q)
+line-touches v k (Line.Claim ClaimKind.Released batch recipe node q units) known resource e = (q, refl, subst (λ name. resource_number v.cleared name ≡ Some q) (let same : resource_name v.cleared q ≡ resource = cc in same) (number-named v k q known))
+line-touches v k (Line.Claim ClaimKind.Granted batch recipe node q units) known resource e = (q, refl, subst (λ name. resource_number v.cleared name ≡ Some q) (let same : resource_name v.cleared q ≡ resource = cc in same) (number-named v k q known))
 line-touches v k line known resource e = absurd (grind arith)
 
 pub next-touches : (v : EngineView) → IsKept v → (line : Line) → TellsNext v line → IsTouched v (touched_by line)
@@ -250,7 +250,7 @@ settled-marked v settled marks i less unmarked =
     record {
       batch = b.0;
       at = b.1;
-      none = settled-none (setup v.cleared) (plant_of v) settled (batch_of v.cleared b.0) (Has-batch_of v.cleared v.batches b.0 (Has-get v.batches i b.0 b.1));
+      none = settled-none (setup v.cleared) (plant_of v) settled (model_batch v.cleared b.0) (Has-batch_of v.cleared v.batches b.0 (Has-get v.batches i b.0 b.1));
     }
 
 -- Events
@@ -266,7 +266,7 @@ pub marked-answered : (v w : EngineView) → IsKept v → IsKept w → next (set
     → (marks : List ℕ) → AreAnswerMarked w r marks → AreMarked w marks
 marked-answered v w k l settled e r answered marks set i less unmarked =
     let b = some-at w.batches i less in
-    let d : Model.Batch = batch_of w.cleared b.0 in
+    let d : Model.Batch = model_batch w.cleared b.0 in
     let told-after : IsTold (k.tracked.outs ++ reply (reply_of v.cleared r) ∷ []) (plant_of w) =
     tells_the_plant (setup v.cleared) k.cleared.0 (down v.cleared k.cleared) (k.tracked.events ++ e ∷ []) (k.tracked.outs ++ reply (reply_of v.cleared r) ∷ []) (plant_of w)
     (Leads-reply (setup v.cleared) Model.opening (plant_of v) (plant_of w) e (reply_of v.cleared r) k.tracked.events k.tracked.outs k.tracked.leads answered.reacts) in

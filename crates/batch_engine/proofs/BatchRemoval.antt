@@ -26,10 +26,10 @@ use Rattle.batch_record_laws.proofs.Invariant.{IsFitting, standing-of}
 use Rattle.batch_record_laws.proofs.BatchProgress.{early-none, is_under_way}
 use Rattle.batch_record_laws.proofs.Members.{map-Has}
 use Rattle.batch_verify.specs.ClearedSet.{ClearedSet}
-use Rattle.batch_arbiter.specs.Allocation.{Claim, shares_of, line_of}
+use Rattle.batch_arbiter.specs.Allocation.{Claim, shares_at, queue_at}
 use Rattle.batch_chart.specs.NodesOf.{needs_in, place_at}
 use Rattle.batch_engine.specs.declared.batch.Batch.{Batch}
-use Rattle.batch_engine.specs.View.{EngineView, setup, batch_of, act_of, share_of, acts_of, place_in, number_of, line_in, line_at, plant_of, tree_of}
+use Rattle.batch_engine.specs.View.{EngineView, setup, model_batch, claim_act, share_of, claimed_shares, place_in, resource_number, line_in, line_at, plant_of, tree_of}
 use Rattle.batch_engine.specs.Kept.{IsRunningBatch, IsKept, needs_of_all}
 use Rattle.batch_engine.proofs.RecordOfPlant.{safe, standing}
 use Rattle.batch_engine.proofs.BatchPlaces.{chosen-false, later-number, Has-batch_of}
@@ -55,24 +55,24 @@ module _ (c : ClearedSet) where
   gone-cond true x xs e = absurd cc
   gone-cond false x xs e = refl
 
-  later-stay : (n : ℕ) (bs : List Batch) → ((d : Batch) → Has bs d → n < d.number) → map (batch_of c) bs ≡ filter (λ (b : Model.Batch). not (nat_eq b.number n)) (map (batch_of c) bs)
+  later-stay : (n : ℕ) (bs : List Batch) → ((d : Batch) → Has bs d → n < d.number) → map (model_batch c) bs ≡ filter (λ (b : Model.Batch). not (nat_eq b.number n)) (map (model_batch c) bs)
   later-stay n [] h = refl
   later-stay n (x ∷ bs) h =
-      ap (λ zs. batch_of c x ∷ zs) (later-stay n bs (λ d k. h d (inr k)))
-      ∙ sym (kept-cond (not (nat_eq x.number n)) (batch_of c x) (filter (λ (b : Model.Batch). not (nat_eq b.number n)) (map (batch_of c) bs)) (ap not (test-other' x.number n (h x (inl refl)))))
+      ap (λ zs. model_batch c x ∷ zs) (later-stay n bs (λ d k. h d (inr k)))
+      ∙ sym (kept-cond (not (nat_eq x.number n)) (model_batch c x) (filter (λ (b : Model.Batch). not (nat_eq b.number n)) (map (model_batch c) bs)) (ap not (test-other' x.number n (h x (inl refl)))))
 
-  pub batches-less : (next : ℕ) (bs : List Batch) (i : ℕ) (b : Batch) → AreNumbered next (map (batch_of c) bs) → slice_get bs i ≡ Some b
-      → map (batch_of c) (remove bs i) ≡ filter (λ (d : Model.Batch). not (nat_eq d.number b.number)) (map (batch_of c) bs)
+  pub batches-less : (next : ℕ) (bs : List Batch) (i : ℕ) (b : Batch) → AreNumbered next (map (model_batch c) bs) → slice_get bs i ≡ Some b
+      → map (model_batch c) (remove bs i) ≡ filter (λ (d : Model.Batch). not (nat_eq d.number b.number)) (map (model_batch c) bs)
   batches-less next [] i b k e = absurd cc
   batches-less next (x ∷ bs) zero b k e =
       let g : x ≡ b = cc in
       later-stay b.number bs (λ d m. subst (λ (z : Batch). z.number < d.number) g (later-number c next x bs d k m))
-      ∙ sym (gone-cond (not (nat_eq x.number b.number)) (batch_of c x) (filter (λ (d : Model.Batch). not (nat_eq d.number b.number)) (map (batch_of c) bs))
+      ∙ sym (gone-cond (not (nat_eq x.number b.number)) (model_batch c x) (filter (λ (d : Model.Batch). not (nat_eq d.number b.number)) (map (model_batch c) bs))
       (ap not (subst (λ (z : Batch). nat_eq x.number z.number ≡ true) g (nat_self x.number))))
   batches-less next (x ∷ bs) (suc i) b k e =
       let above : x.number < b.number = later-number c next x bs b k (Has-get bs i b e) in
-      ap (λ zs. batch_of c x ∷ zs) (batches-less next bs i b k.2 e)
-      ∙ sym (kept-cond (not (nat_eq x.number b.number)) (batch_of c x) (filter (λ (d : Model.Batch). not (nat_eq d.number b.number)) (map (batch_of c) bs)) (ap not (test-other x.number b.number above)))
+      ap (λ zs. model_batch c x ∷ zs) (batches-less next bs i b k.2 e)
+      ∙ sym (kept-cond (not (nat_eq x.number b.number)) (model_batch c x) (filter (λ (d : Model.Batch). not (nat_eq d.number b.number)) (map (model_batch c) bs)) (ap not (test-other x.number b.number above)))
 
   place-less : (bs : List Batch) (i : ℕ) (b : Batch) → slice_get bs i ≡ Some b → (n j : ℕ) → (n ≡ b.number → ⊥) → place_in c (remove bs i) n j ≡ place_in c bs n j
   place-less [] i b e n j d = absurd cc
@@ -82,7 +82,7 @@ module _ (c : ClearedSet) where
   place-less (x ∷ bs) (suc i) b e n j d = ap (λ r. let z : Place = elim (nat_eq x.number n) [ true ↦ place_at (tree_of c x) j | false ↦ r ] in z) (place-less bs i b e n j d)
 
   pub acts-less : (bs : List Batch) (i : ℕ) (b : Batch) → slice_get bs i ≡ Some b → (xs : List Claim) → ((x : Claim) → Has xs x → x.batch ≡ b.number → ⊥)
-      → acts_of c (remove bs i) xs ≡ acts_of c bs xs
+      → claimed_shares c (remove bs i) xs ≡ claimed_shares c bs xs
   acts-less bs i b e [] h = refl
   acts-less bs i b e (x ∷ xs) h =
       ap₂ (λ y ys. y ∷ ys) (ap (λ (z : Place). let y : Share = record { act = (x.batch, z); units = x.units } in y) (place-less bs i b e x.batch x.node (h x (inl refl))))
@@ -97,9 +97,9 @@ needs-less c (x ∷ bs) (suc i) =
 
 module _ (v : EngineView) (k : IsKept v) (i : ℕ) (b : Batch) (at : slice_get v.batches i ≡ Some b) (idle : b.state ≡ Idle) where
   -- an idle batch has no facts
-  no-facts : batch_facts (batch_of v.cleared b) ≡ []
+  no-facts : batch_facts (model_batch v.cleared b) ≡ []
   no-facts =
-      let d : Model.Batch = batch_of v.cleared b in
+      let d : Model.Batch = model_batch v.cleared b in
       let i' : Has (plant_of v).batches d = Has-batch_of v.cleared v.batches b (Has-get v.batches i b at) in
       let fits : IsFitting b.state (facts d.rest) = ((safe v k).sound d i').fits in
       let none : facts d.rest ≡ [] = subst (λ x. IsFitting x (facts d.rest)) idle fits in
@@ -109,37 +109,37 @@ module _ (v : EngineView) (k : IsKept v) (i : ℕ) (b : Batch) (at : slice_get v
   no-entry : (a : BatchAct) (f : Fact) → a.0 ≡ b.number → Has (entries (plant_of v).batches) (a, f) → ⊥
   no-entry a f e h =
       let d = entry-of (plant_of v).batches a f h in
-      let same : d.0 ≡ batch_of v.cleared b =
-      one_batch v.next_number (plant_of v).batches d.0 (batch_of v.cleared b) (standing v k).numbers d.1 (Has-batch_of v.cleared v.batches b (Has-get v.batches i b at)) (d.2 ∙ e) in
+      let same : d.0 ≡ model_batch v.cleared b =
+      one_batch v.next_number (plant_of v).batches d.0 (model_batch v.cleared b) (standing v k).numbers d.1 (Has-batch_of v.cleared v.batches b (Has-get v.batches i b at)) (d.2 ∙ e) in
       subst (λ es. Has es (a.1, f)) (ap (λ (z : Model.Batch). batch_facts z) same ∙ no-facts) d.3
 
-  no-waiter : (name : Name) (q : ℕ) → number_of v.cleared name ≡ Some q → (x : Claim) → Has (line_of v.allocation q) x → x.batch ≡ b.number → ⊥
+  no-waiter : (name : Name) (q : ℕ) → resource_number v.cleared name ≡ Some q → (x : Claim) → Has (queue_at v.allocation q) x → x.batch ≡ b.number → ⊥
   no-waiter name q e x h s =
-      no-entry (act_of v.cleared v.batches x) (awaiting (record { resource = name; units = x.units })) s
+      no-entry (claim_act v.cleared v.batches x) (awaiting (record { resource = name; units = x.units })) s
       ((safe v k).asked name (share_of v.cleared v.batches x)
-      (subst (λ (xs : List Share). Has xs (share_of v.cleared v.batches x)) (sym (ap (line_at v) e)) (map-Has (share_of v.cleared v.batches) (line_of v.allocation q) x h)))
+      (subst (λ (xs : List Share). Has xs (share_of v.cleared v.batches x)) (sym (ap (line_at v) e)) (map-Has (share_of v.cleared v.batches) (queue_at v.allocation q) x h)))
 
-  no-holder : (name : Name) (q : ℕ) → number_of v.cleared name ≡ Some q → (x : Claim) → Has (shares_of v.allocation q) x → x.batch ≡ b.number → ⊥
+  no-holder : (name : Name) (q : ℕ) → resource_number v.cleared name ≡ Some q → (x : Claim) → Has (shares_at v.allocation q) x → x.batch ≡ b.number → ⊥
   no-holder name q e x h s =
-      no-entry (act_of v.cleared v.batches x) (holding (record { resource = name; units = x.units })) s
+      no-entry (claim_act v.cleared v.batches x) (holding (record { resource = name; units = x.units })) s
       (Has-holders name (entries (plant_of v).batches) (share_of v.cleared v.batches x)
       (((safe v k).held name).1 (share_of v.cleared v.batches x)
-      (subst (λ (xs : List Share). Has xs (share_of v.cleared v.batches x)) (k.tracked.shares q name e) (map-Has (share_of v.cleared v.batches) (shares_of v.allocation q) x h))))
+      (subst (λ (xs : List Share). Has xs (share_of v.cleared v.batches x)) (k.tracked.shares q name e) (map-Has (share_of v.cleared v.batches) (shares_at v.allocation q) x h))))
 
-  lines-less : (name : Name) (q : ℕ) → number_of v.cleared name ≡ Some q → acts_of v.cleared (remove v.batches i) (line_of v.allocation q) ≡ acts_of v.cleared v.batches (line_of v.allocation q)
-  lines-less name q e = acts-less v.cleared v.batches i b at (line_of v.allocation q) (no-waiter name q e)
+  lines-less : (name : Name) (q : ℕ) → resource_number v.cleared name ≡ Some q → claimed_shares v.cleared (remove v.batches i) (queue_at v.allocation q) ≡ claimed_shares v.cleared v.batches (queue_at v.allocation q)
+  lines-less name q e = acts-less v.cleared v.batches i b at (queue_at v.allocation q) (no-waiter name q e)
 
   line-less : (name : Name) → line_in (with v (remove v.batches i) v.next_number v.allocation) name ≡ line_in v name
-  line-less name = go (number_of v.cleared name) refl
+  line-less name = go (resource_number v.cleared name) refl
     where
-      go : (m : Option ℕ) → number_of v.cleared name ≡ m → line_at (with v (remove v.batches i) v.next_number v.allocation) m ≡ line_at v m
+      go : (m : Option ℕ) → resource_number v.cleared name ≡ m → line_at (with v (remove v.batches i) v.next_number v.allocation) m ≡ line_at v m
       go None e = refl
       go (Some q) e = lines-less name q e
 
-  module _ (n : ℕ) (settled : next (setup v.cleared) (plant_of v) ≡ None) (found : batch_at (plant_of v) n ≡ Some (batch_of v.cleared b)) where
+  module _ (n : ℕ) (settled : next (setup v.cleared) (plant_of v) ≡ None) (found : batch_at (plant_of v) n ≡ Some (model_batch v.cleared b)) where
     pub remove-reacts : Reacts (setup v.cleared) (plant_of v) (Events.remove n) (removed b.number) (plant_of (with v (remove v.batches i) v.next_number v.allocation))
     remove-reacts =
-        inl (react-remove v n (batch_of v.cleared b) settled found idle
+        inl (react-remove v n (model_batch v.cleared b) settled found idle
         ∙ ap (λ (s : Plant). let a : Answer = (removed b.number, s) in a)
         (sym (ap₂ (λ (bs : List Model.Batch) (l : Name → List Share). let p : Plant = record { batches = bs; next_number = v.next_number; line = l } in p)
         (batches-less v.cleared v.next_number v.batches i b (standing v k).numbers at) (fun_ext line-less))))
@@ -147,7 +147,7 @@ module _ (v : EngineView) (k : IsKept v) (i : ℕ) (b : Batch) (at : slice_get v
     pub remove-kept : IsKept (with v (remove v.batches i) v.next_number v.allocation)
     remove-kept =
         event-kept v k (remove v.batches i) v.next_number v.allocation (Events.remove n) (removed b.number) remove-reacts
-        (λ name q e. acts-less v.cleared v.batches i b at (shares_of v.allocation q) (no-holder name q e))
+        (λ name q e. acts-less v.cleared v.batches i b at (shares_at v.allocation q) (no-holder name q e))
         (each-remove (IsRunningBatch v.cleared) v.batches i k.batches) k.cell
         (λ name q e. subst IsOnce (sym (lines-less name q e)) (k.once name q e))
         (omega (arith, k.room, needs-less v.cleared v.batches i))

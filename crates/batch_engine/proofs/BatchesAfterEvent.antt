@@ -11,7 +11,7 @@ use Rattle.batch_recipe.specs.Conditions.{Name, ValueList, same_name}
 use Rattle.batch_recipe.specs.Values.{are_outputs, left_out}
 use Rattle.batch_model.specs.Lists.{Has}
 use Rattle.batch_model.specs.Plant.{Formula, size_out_of_range, value_out_of_range, scaled, Recipe, Master, Setup, Batch, Share, Plant, opening, batch_at, in_batch}
-use Rattle.batch_model.specs.Moves.{Move, next, after, batch_of, batch_after, batch_moves}
+use Rattle.batch_model.specs.Moves.{Move, next, after_move, batch_of, batch_after, batch_moves}
 use Rattle.batch_model.specs.Events.{Event, create, order, remove, report, Reply, ordered, removed, refused, unknown_recipe, unknown_batch, command_not_accepted, no_live_phase, report_not_expected, bad_output, output_left_out, owed, accepting, bad_binding, full, not_idle, moves_pending, Answer, is_full, new_batch, creating, creating_for, binding, is_binding, bound_by, roles_told, commanded, lines_under, ordering, without_batch, removing, LivePhase, live_phase, outputs_of, batch_reported, reporting, judged, react}
 use Rattle.batch_model.specs.Runs.{Out, reply, move, Reacts, Leads}
 use Rattle.batch_model.specs.Records.{waiters_after}
@@ -170,7 +170,7 @@ module _ (c : Setup) (s : Plant) where
 
 leads-few : (c : Setup) (s t : Plant) (es : List Event) (outs : List Out) → length s.batches ≤ c.batch_limit → Leads c s es outs t → length t.batches ≤ c.batch_limit
 leads-few c s t [] [] k h = subst (λ (z : Plant). length z.batches ≤ c.batch_limit) h k
-leads-few c s t es (move m ∷ outs) k h = leads-few c (after s m) t es outs (changed-few c s (batch_of m) (batch_after m) k) h.1
+leads-few c s t es (move m ∷ outs) k h = leads-few c (after_move s m) t es outs (changed-few c s (batch_of m) (batch_after m) k) h.1
 leads-few c s t (e ∷ es) (reply r ∷ outs) k h = leads-few c h.0 t es outs ((reacts-leaves c s e r h.0 h.1).few k) h.2
 leads-few c s t es outs h e = absurd (grind arith)
 

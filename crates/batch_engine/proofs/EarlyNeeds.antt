@@ -10,7 +10,7 @@ use Rattle.batch_recipe.specs.Tree.{Place, Step, Task, runs, follows, Tree, act,
 use Rattle.batch_model.specs.Lists.{Has}
 use Rattle.batch_model.specs.Plant.{InAdvance}
 use Rattle.batch_model.specs.Rest.{Rest, ready, asking, open_act, live, freeing, in_seq, in_par, in_loop, done, Rests, no_rests, rest}
-use Rattle.batch_model.specs.Standing.{IsRestOf, IsRestBelow, IsBranch, AreBranches, IsChosen, after_branch, due, due_in_each, IsAwaited}
+use Rattle.batch_model.specs.Standing.{IsRestOf, IsRestBelow, IsBranch, AreBranches, IsChosen, after_branch, due_followers, due_in_each, IsAwaited}
 use Rattle.batch_record_laws.proofs.SameFacts.{StandApart}
 use Rattle.batch_record_laws.proofs.PlantFacts.{facts, facts_of_each, held_at, awaited_at, performing}
 use Rattle.batch_chart.specs.NodesOf.{own_needs, own_units, most_by, most_below, most_of_one, most_of_all, most_of_chosen, needs_in}
@@ -42,7 +42,7 @@ enter-few in_operation c = omega arith
 
 -- no more than m, if no more than m follow the whole
 mutual
-  due-few : (level : Level) (next : List Follower) (c : Tree) (r : Rest) → IsRestOf c r → (m : ℕ) → length next ≤ m → most_by own_units c ≤ m → length (due level next r) ≤ m
+  due-few : (level : Level) (next : List Follower) (c : Tree) (r : Rest) → IsRestOf c r → (m : ℕ) → length next ≤ m → most_by own_units c ≤ m → length (due_followers level next r) ≤ m
   due-few level next (act s w) (ready u v k) re m n h = omega arith
   due-few level next (act s w) (asking u v k) re m n h = omega arith
   due-few level next (act s w) (open_act u r) re m n h = due_below-few (below level) next w r re.1 m n (omega (arith, h))
@@ -55,12 +55,12 @@ mutual
   due-few level next c done re m n h = n
   due-few level next _ _ re m n h = absurd re
 
-  due_below-few : (level : Level) (next : List Follower) (w : Task) (r : Rest) → IsRestBelow w r → (m : ℕ) → length next ≤ m → most_below own_units w ≤ m → length (due level next r) ≤ m
+  due_below-few : (level : Level) (next : List Follower) (w : Task) (r : Rest) → IsRestBelow w r → (m : ℕ) → length next ≤ m → most_below own_units w ≤ m → length (due_followers level next r) ≤ m
   due_below-few level next (runs x) r re m n h = absurd re
   due_below-few level next (follows name c) r re m n h = due-few level next c r re m n h
 
   due_branch-few : (level : Level) (next : List Follower) (cs : Trees) (r : Rest) (ds : Trees) → IsBranch cs r ds → (m : ℕ) → length next ≤ m → most_of_one own_units cs ≤ m
-      → length (due level (after_branch level next ds) r) ≤ m
+      → length (due_followers level (after_branch level next ds) r) ≤ m
   due_branch-few level next no_trees r ds re m n h = absurd re
   due_branch-few level next (tree c cs) r ds (inl re) m n h =
       due-few level (after_branch level next ds) c r re.0 m (subst (λ es. length (after_branch level next es) ≤ m) (sym re.1) (after-few cs (omega (arith, h)))) (omega (arith, h))
@@ -73,10 +73,10 @@ mutual
   due_in_each-few : (level : Level) (cs : Trees) (rs : Rests) → AreBranches cs rs → length (due_in_each level rs) ≤ most_of_all own_units cs
   due_in_each-few level no_trees no_rests re = omega arith
   due_in_each-few level (tree c cs) (rest r rs) re =
-      omega (arith, length-append (due level [] r) (due_in_each level rs), due-few level [] c r re.0 (most_by own_units c) (omega arith) (omega arith), due_in_each-few level cs rs re.1)
+      omega (arith, length-append (due_followers level [] r) (due_in_each level rs), due-few level [] c r re.0 (most_by own_units c) (omega arith) (omega arith), due_in_each-few level cs rs re.1)
   due_in_each-few level cs rs re = absurd (grind arith)
 
-  due_chosen-few : (level : Level) (next : List Follower) (ch : Choices) (r : Rest) → IsChosen ch r → (m : ℕ) → length next ≤ m → most_of_chosen own_units ch ≤ m → length (due level next r) ≤ m
+  due_chosen-few : (level : Level) (next : List Follower) (ch : Choices) (r : Rest) → IsChosen ch r → (m : ℕ) → length next ≤ m → most_of_chosen own_units ch ≤ m → length (due_followers level next r) ≤ m
   due_chosen-few level next (otherwise c) r re m n h = due-few level next c r re m n h
   due_chosen-few level next (choice p c ch) r (inl re) m n h = due-few level next c r re m n (omega (arith, h))
   due_chosen-few level next (choice p c ch) r (inr re) m n h = due_chosen-few level next ch r re m n (omega (arith, h))
@@ -171,7 +171,7 @@ early-few fs xs apart all =
 -- the units that a batch holds in advance
 pub early-bounded : (c : Tree) (r : Rest) (xs : List InAdvance) → IsRestOf c r → StandApart xs → ((x : InAdvance) → Has xs x → IsAwaited r x.place) → length xs ≤ most_by own_units c
 early-bounded c r xs stands apart awaited =
-    let all : List Follower = due is_procedure [] r in
+    let all : List Follower = due_followers is_procedure [] r in
     omega (arith, due-few is_procedure [] c r stands (most_by own_units c) (omega arith) (omega arith), early-few all xs apart (λ x h. (let a = awaited x h in mapped-due all (a.0, x.place) a.1)))
 
 -- and all that it holds and asks for

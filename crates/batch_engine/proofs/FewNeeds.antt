@@ -8,7 +8,7 @@ use Rattle.std.proofs.lemmas.Bool.Decides.{nat_tests}
 use Rattle.batch_recipe.specs.Conditions.{Name}
 use Rattle.batch_recipe.specs.Diagram as chart
 use Rattle.batch_recipe.specs.Diagram.{Diagram, Diagrams, Cases, diagram_of}
-use Rattle.batch_recipe.specs.Expanding.{Binding, Sites, act_named, act_tree_with, asked_by, expanded, expanded_cases, expanded_each, named_tree_with, task_of, unit_below, unit_named, unit_with}
+use Rattle.batch_recipe.specs.Expanding.{Binding, Sites, act_named, act_tree_with, asked_in_order, expanded, expanded_cases, expanded_each, named_tree_with, task_of, unit_below, unit_named, unit_with}
 use Rattle.batch_recipe.specs.Nodes.{child, count_of_choices, count_of_each, count_within, node_count}
 use Rattle.batch_recipe.specs.Needs.{one_unit}
 use Rattle.batch_recipe.specs.Procedure.{bound_tree, sites, tables_from}
@@ -29,7 +29,7 @@ use Rattle.batch_chart.specs.NodesOf.{most_by, most_below, most_of_all, most_of_
 use Rattle.batch_engine.specs.declared.batch.Batch.{Batch}
 use Rattle.batch_engine.specs.Kept.{needs_of_all}
 use Rattle.batch_engine.proofs.NodesAcrossBindings.{count-alike}
-use Rattle.batch_engine.specs.View.{EngineView, batch_of, bound_to, setup, no_recipe, plant_of, tree_at, tree_of}
+use Rattle.batch_engine.specs.View.{EngineView, model_batch, bound_to, setup, no_recipe, plant_of, tree_at, tree_of}
 
 -- an act needs at most 16 resources beside its unit and the four that it reserves, so the acts of a tree need at most 21 a node
 abbrev pub HasFewNeeds : Tree → Type 0
@@ -77,7 +77,7 @@ module _ (acts : Name → Place → Tree) (few : (name : Name) (p : Place) → H
     few-cases p i (chart.otherwise d) = few-expanded (child p i) d
     few-cases p i (chart.when c d cs) = omega (arith, few-expanded (child p i) d, few-cases p (i + 1) cs)
 
-few-asked : (unit : Option Name) (reserved : List Name) (needs : List Need) → length reserved ≤ 4 → length needs ≤ 16 → length (asked_by unit reserved needs) ≤ 21
+few-asked : (unit : Option Name) (reserved : List Name) (needs : List Need) → length reserved ≤ 4 → length needs ≤ 16 → length (asked_in_order unit reserved needs) ≤ 21
 few-asked None reserved needs r h = omega (arith, r, h, length-append (map one_unit reserved) needs, length-map reserved one_unit)
 few-asked (Some unit) reserved needs r h = omega (arith, r, h, length-append (map one_unit reserved) needs, length-map reserved one_unit)
 
@@ -140,6 +140,6 @@ not-within m n h = grind (arith, nat_tests)
 -- if the plant isn't full there are fewer batches than may exist
 pub few-batches : (v : EngineView) → is_full (setup v.cleared) (plant_of v) ≡ false → length v.batches < MAX_LIVE_BATCHES
 few-batches v h =
-    let count = length (map (batch_of v.cleared) v.batches) in
+    let count = length (map (model_batch v.cleared) v.batches) in
     let within = or-first (nat_le MAX_LIVE_BATCHES count) (nat_lt LAST_NUMBER v.next_number) h in
-    omega (arith, not-within MAX_LIVE_BATCHES count within, length-map v.batches (batch_of v.cleared))
+    omega (arith, not-within MAX_LIVE_BATCHES count within, length-map v.batches (model_batch v.cleared))

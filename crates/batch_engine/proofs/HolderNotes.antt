@@ -11,7 +11,7 @@ use Rattle.batch_recipe.specs.declared.need.Need.{Need}
 use Rattle.batch_model.specs.Cleared.{Ranking, phases}
 use Rattle.batch_model.specs.Events.{Event, Reply, LivePhase, live_in}
 use Rattle.batch_model.specs.Lists.{Has}
-use Rattle.batch_model.specs.Moves.{Move, send, state, release, pass, begin, start, end, ask, grant, after, batch_moves, next}
+use Rattle.batch_model.specs.Moves.{Move, send, state, release, pass, begin, start, end, ask, grant, after_move, batch_moves, next}
 use Rattle.batch_model.specs.Plant.{Setup, Batch, BatchAct, Share, units_in, Plant, opening, holders, without}
 use Rattle.batch_model.specs.Records.{holders_told, holders_after}
 use Rattle.batch_model.specs.Rest.{Rest, ready, asking, open_act, live, freeing, in_seq, in_par, in_loop, done, acts}
@@ -151,7 +151,7 @@ module _ (c : Setup) (rank : Ranking) (outs : List Out) (s : Plant) (sd : IsStan
 module _ (c : Setup) (rank : Ranking) (down : AreClearedDown c rank) (events : List Event) (outs : List Out) (s : Plant) (leads : Leads c opening events outs s)
     (number : Name → Option ℕ) (apart : (x y : Name) (q : ℕ) → number x ≡ Some q → number y ≡ Some q → x ≡ y) (hs : List ℕ) (are : AreNotedBy number c s hs) where
   module _ (m : Move) (is : next c s ≡ Some m) where
-    later : Leads c opening events (outs ++ move m ∷ []) (after s m)
+    later : Leads c opening events (outs ++ move m ∷ []) (after_move s m)
     later = Leads-move c opening s m events outs leads is
 
     old : (name : Name) (q : ℕ) → number name ≡ Some q → c.capacity name ≡ 1 → (a : Share) → Has (holders_told outs name) a → a.units ≡ 1 → slice_get hs q ≡ Some a.act.0
@@ -180,13 +180,13 @@ module _ (c : Setup) (rank : Ranking) (down : AreClearedDown c rank) (events : L
           ∙ ap (λ (o : Option ℕ). slice_get (noted_for o n hs) q) e
           ∙ set-same hs q n (within r.resource q e)
 
-      granted : (n : ℕ) (p : Place) (r : Need) → m ≡ grant n p r → AreNotedBy number c (after s m) (noted number m hs)
+      granted : (n : ℕ) (p : Place) (r : Need) → m ≡ grant n p r → AreNotedBy number c (after_move s m) (noted number m hs)
       granted n p r m_is name q e one a h units =
           subst (λ (g : Move). slice_get (noted number g hs) q ≡ Some a.act.0) (sym m_is)
           (go (same_name name r.resource) refl (subst (λ (g : Move). Has (holders_after name (holders_told outs name) (move g)) a) m_is now))
         where
-          seen : IsTold (outs ++ move m ∷ []) (after s m)
-          seen = told c rank down events (outs ++ move m ∷ []) (after s m) later
+          seen : IsTold (outs ++ move m ∷ []) (after_move s m)
+          seen = told c rank down events (outs ++ move m ∷ []) (after_move s m) later
 
           now : Has (holders_after name (holders_told outs name) (move m)) a
           now = subst (λ xs. Has xs a) (holders_told-last outs (move m) name) ((seen.held name).1 a h)
@@ -195,7 +195,7 @@ module _ (c : Setup) (rank : Ranking) (down : AreClearedDown c rank) (events : L
           new = record { act = (n, p); units = r.units }
 
           -- the new share is there
-          there : same_name name r.resource ≡ true → Has (holders (after s m) name) new
+          there : same_name name r.resource ≡ true → Has (holders (after_move s m) name) new
           there f =
               (seen.held name).0 new
               (subst (λ xs. Has xs new) (sym (holders_told-last outs (move m) name))
@@ -211,7 +211,7 @@ module _ (c : Setup) (rank : Ranking) (down : AreClearedDown c rank) (events : L
           earlier f i false g = old name q e one a i units
           earlier f i true g =
               let both : a.act ≡ (n, p) =
-              alone (holders (after s m) name) a new (one-held c rank down events (outs ++ move m ∷ []) (after s m) later name one) h (there f) units (nat_same r.units 1 g) in
+              alone (holders (after_move s m) name) a new (one-held c rank down events (outs ++ move m ∷ []) (after_move s m) later name one) h (there f) units (nat_same r.units 1 g) in
               ap (λ (o : Option ℕ). slice_get (noted_for o n hs) q) (number_is f) ∙ set-same hs q n (within name q e) ∙ ap (λ (z : BatchAct). Some z.0) (sym both)
 
           go : (t : Bool) → same_name name r.resource ≡ t
@@ -226,20 +226,20 @@ module _ (c : Setup) (rank : Ranking) (down : AreClearedDown c rank) (events : L
               (Has-split (holders_told outs name) (new ∷ []) a i)
 
       -- no act holds more after a move that is no grant
-      fewer : ((name : Name) (a : Share) → Has (holders_after name (holders_told outs name) (move m)) a → Has (holders_told outs name) a) → AreNotedBy number c (after s m) hs
+      fewer : ((name : Name) (a : Share) → Has (holders_after name (holders_told outs name) (move m)) a → Has (holders_told outs name) a) → AreNotedBy number c (after_move s m) hs
       fewer held name q e one a h units =
-          let seen : IsTold (outs ++ move m ∷ []) (after s m) = told c rank down events (outs ++ move m ∷ []) (after s m) later in
+          let seen : IsTold (outs ++ move m ∷ []) (after_move s m) = told c rank down events (outs ++ move m ∷ []) (after_move s m) later in
           old name q e one a (held name a (subst (λ xs. Has xs a) (holders_told-last outs (move m) name) ((seen.held name).1 a h))) units
 
   -- after a pass
-  passed-noted : (n : ℕ) (p to : Place) (r : Need) → next c s ≡ Some (pass n p to r) → AreNotedBy number c (after s (pass n p to r)) hs
+  passed-noted : (n : ℕ) (p to : Place) (r : Need) → next c s ≡ Some (pass n p to r) → AreNotedBy number c (after_move s (pass n p to r)) hs
   passed-noted n p to r is name q e one a h units = go (same_name name r.resource) refl (subst (λ xs. Has xs a) (holders_told-last outs (move (pass n p to r)) name) ((seen.held name).1 a h))
     where
       new : Share
       new = record { act = (n, to); units = r.units }
 
-      seen : IsTold (outs ++ move (pass n p to r) ∷ []) (after s (pass n p to r))
-      seen = told c rank down events (outs ++ move (pass n p to r) ∷ []) (after s (pass n p to r)) (later (pass n p to r) is)
+      seen : IsTold (outs ++ move (pass n p to r) ∷ []) (after_move s (pass n p to r))
+      seen = told c rank down events (outs ++ move (pass n p to r) ∷ []) (after_move s (pass n p to r)) (later (pass n p to r) is)
 
       before : (b : Share) → Has (holders_told outs name) b → b.units ≡ 1 → slice_get hs q ≡ Some b.act.0
       before b i u = old (pass n p to r) is name q e one b i u
@@ -261,7 +261,7 @@ module _ (c : Setup) (rank : Ranking) (down : AreClearedDown c rank) (events : L
           (Has-split (without (n, p) (holders_told outs name)) (new ∷ []) a i)
 
   -- after each move
-  pub move-noted : (m : Move) → next c s ≡ Some m → ((name : Name) (q : ℕ) → number name ≡ Some q → q < length hs) → AreNotedBy number c (after s m) (noted number m hs)
+  pub move-noted : (m : Move) → next c s ≡ Some m → ((name : Name) (q : ℕ) → number name ≡ Some q → q < length hs) → AreNotedBy number c (after_move s m) (noted number m hs)
   move-noted (grant n p r) is within = granted (grant n p r) is within n p r refl
   move-noted (release n p r) is within = fewer (release n p r) is within (λ name a h. gone name a (same_name name r.resource) h)
     where

@@ -5,18 +5,18 @@ use Rattle.batch_recipe.specs.Conditions.{Name}
 use Rattle.batch_model.specs.Lists.{Each}
 use Rattle.batch_model.specs.Plant as Model
 use Rattle.batch_model.specs.Plant.{Share, Plant, opening}
-use Rattle.batch_model.specs.Moves.{Move, batch_of, batch_after, line_after, after}
+use Rattle.batch_model.specs.Moves.{Move, batch_of, batch_after, line_after, after_move}
 use Rattle.batch_model.specs.Runs.{move, Leads}
 use Rattle.batch_model.specs.Records.{holders_after}
 use Rattle.batch_step_laws.proofs.Batches.{only}
 use Rattle.batch_step_laws.proofs.RecordGrowth.{Leads-move}
 use Rattle.batch_step_laws.proofs.LastLineEffect.{holders_told-last}
 use Rattle.batch_record_laws.proofs.Entries.{IsOnce}
-use Rattle.batch_arbiter.specs.Allocation.{Allocation, shares_of, line_of}
+use Rattle.batch_arbiter.specs.Allocation.{Allocation, shares_at, queue_at}
 use Rattle.batch_chart.specs.Charts.{IsRunningOf}
 use Rattle.batch_engine.specs.declared.batch.Batch.{Batch}
 use Rattle.batch_engine.specs.View as View
-use Rattle.batch_engine.specs.View.{EngineView, setup, tree_at, acts_of, number_of, line_in, line_at, plant_of, tree_of}
+use Rattle.batch_engine.specs.View.{EngineView, setup, tree_at, claimed_shares, resource_number, line_in, line_at, plant_of, tree_of}
 use Rattle.batch_engine.specs.Kept.{AreUnits, IsTracked, IsOfCell, IsRunningBatch, HasRoom, IsKept}
 use Rattle.batch_engine.specs.Steps.{IsNext}
 use Rattle.batch_engine.proofs.BatchPlaces.{made_by}
@@ -40,26 +40,26 @@ pub record IsMove (v : EngineView) (i : ℕ) (b b' : Batch) (m : Move) : Type 0 
   pub runs : IsRunningOf (tree_of v.cleared b) b'.running
   pub is : IsNext v m
   pub of_batch : batch_of m ≡ b.number
-  pub becomes : View.batch_of v.cleared b' ≡ batch_after m (View.batch_of v.cleared b)
+  pub becomes : View.model_batch v.cleared b' ≡ batch_after m (View.model_batch v.cleared b)
 
 module _ (v : EngineView) (k : IsKept v) (i : ℕ) (b b' : Batch) (m : Move) (t : IsMove v i b b' m) (a' : Allocation)
     (lines : (name : Name) → line_in (record v { allocation = a' }) name ≡ line_after m (line_in v) name) where
   line-same : (name : Name) → line_in (changed v i b' a') name ≡ line_in (record v { allocation = a' }) name
-  line-same name = go (number_of v.cleared name)
+  line-same name = go (resource_number v.cleared name)
     where
       go : (o : Option ℕ) → line_at (changed v i b' a') o ≡ line_at (record v { allocation = a' }) o
       go None = refl
-      go (Some q) = acts-same v.cleared v.next_number b' v.batches i b t.at t.number t.made (line_of a' q)
+      go (Some q) = acts-same v.cleared v.next_number b' v.batches i b t.at t.number t.made (queue_at a' q)
 
-  pub plant-after : plant_of (changed v i b' a') ≡ after (plant_of v) m
+  pub plant-after : plant_of (changed v i b' a') ≡ after_move (plant_of v) m
   plant-after =
       ap₂ (λ (bs : List Model.Batch) (l : Name → List Share). let p : Plant = record { batches = bs; next_number = v.next_number; line = l } in p)
       (batches-same v.cleared v.next_number b' v.batches i b (batch_after m) (standing v k).numbers t.at t.becomes
-      ∙ ap (λ n. map (only n (batch_after m)) (map (View.batch_of v.cleared) v.batches)) (sym t.of_batch))
+      ∙ ap (λ n. map (only n (batch_after m)) (map (View.model_batch v.cleared) v.batches)) (sym t.of_batch))
       (fun_ext (λ name. line-same name ∙ lines name))
 
-  pub tracked-after : ((name : Name) (q : ℕ) → number_of v.cleared name ≡ Some q
-      → acts_of v.cleared v.batches (shares_of a' q) ≡ holders_after name (acts_of v.cleared v.batches (shares_of v.allocation q)) (move m))
+  pub tracked-after : ((name : Name) (q : ℕ) → resource_number v.cleared name ≡ Some q
+      → claimed_shares v.cleared v.batches (shares_at a' q) ≡ holders_after name (claimed_shares v.cleared v.batches (shares_at v.allocation q)) (move m))
       → IsTracked (changed v i b' a')
   tracked-after shares =
       record {
@@ -68,13 +68,13 @@ module _ (v : EngineView) (k : IsKept v) (i : ℕ) (b b' : Batch) (m : Move) (t 
         leads = subst (Leads (setup v.cleared) opening k.tracked.events (k.tracked.outs ++ move m ∷ [])) (sym plant-after)
             (Leads-move (setup v.cleared) opening (plant_of v) m k.tracked.events k.tracked.outs k.tracked.leads t.is);
         shares = λ q name e.
-            acts-same v.cleared v.next_number b' v.batches i b t.at t.number t.made (shares_of a' q) ∙ shares name q e
+            acts-same v.cleared v.next_number b' v.batches i b t.at t.number t.made (shares_at a' q) ∙ shares name q e
             ∙ ap (λ hs. holders_after name hs (move m)) (k.tracked.shares q name e) ∙ sym (holders_told-last k.tracked.outs (move m) name);
       }
 
-  pub kept-after : ((name : Name) (q : ℕ) → number_of v.cleared name ≡ Some q
-      → acts_of v.cleared v.batches (shares_of a' q) ≡ holders_after name (acts_of v.cleared v.batches (shares_of v.allocation q)) (move m))
-      → IsOfCell v.cleared a' → ((name : Name) (q : ℕ) → number_of v.cleared name ≡ Some q → IsOnce (acts_of v.cleared v.batches (line_of a' q))) → HasRoom (changed v i b' a') → IsKept (changed v i b' a')
+  pub kept-after : ((name : Name) (q : ℕ) → resource_number v.cleared name ≡ Some q
+      → claimed_shares v.cleared v.batches (shares_at a' q) ≡ holders_after name (claimed_shares v.cleared v.batches (shares_at v.allocation q)) (move m))
+      → IsOfCell v.cleared a' → ((name : Name) (q : ℕ) → resource_number v.cleared name ≡ Some q → IsOnce (claimed_shares v.cleared v.batches (queue_at a' q))) → HasRoom (changed v i b' a') → IsKept (changed v i b' a')
   kept-after shares cell once room =
       record {
         cleared = k.cleared;
@@ -86,6 +86,6 @@ module _ (v : EngineView) (k : IsKept v) (i : ℕ) (b b' : Batch) (m : Move) (t 
             });
         cell = cell;
         tracked = tracked-after shares;
-        once = λ name q e. subst IsOnce (sym (acts-same v.cleared v.next_number b' v.batches i b t.at t.number t.made (line_of a' q))) (once name q e);
+        once = λ name q e. subst IsOnce (sym (acts-same v.cleared v.next_number b' v.batches i b t.at t.number t.made (queue_at a' q))) (once name q e);
         room = room;
       }

@@ -22,12 +22,12 @@ use Rattle.batch_recipe.specs.declared.need.Need.{Need}
 use Rattle.batch_recipe.specs.declared.recipe.Recipe.{Recipe}
 use Rattle.batch_model.specs.Cleared.{IsOffered}
 use Rattle.batch_verify.specs.ClearedSet.{ClearedSet}
-use Rattle.batch_chart.specs.NodesOf.{node_at, phase_in, phase_named, task_of, need_at, no_need, no_phase, step_at}
-use Rattle.batch_chart.specs.Outlined.{entry_at, kind_at, kind_by, kind_of, phase_name, unit_choice, unit_name, unit_under, StandsOn}
+use Rattle.batch_chart.specs.NodesOf.{node_at, phase_in, phase_named, tree_task, need_at, no_need, no_phase, step_at}
+use Rattle.batch_chart.specs.Outlined.{entry_at, kind_at, kind_by, kind_of_entry, phase_step_name, unit_choice, unit_name, unit_under, StandsOn}
 use Rattle.batch_chart.specs.Outlined as Outlined
 use Rattle.batch_chart.proofs.NodesAtNumbers.{stands-at}
 use Rattle.batch_set.specs.Linking.{IsLinked, IsLinkedSet, run_phase}
-use Rattle.batch_set.specs.Looked.{needs_by, number_for, phase_on, unit_by}
+use Rattle.batch_set.specs.Looked.{needs_by, number_for, phase_on, source_of_unit}
 use Rattle.batch_set.specs.Sources.{IsSource, SayNeeds}
 use Rattle.batch_set.specs.declared.cell_phases.CellPhases.{CellPhases}
 use Rattle.batch_set.specs.declared.linked.LinkedNeed.{LinkedNeed}
@@ -42,7 +42,7 @@ use Rattle.batch_engine.specs.Names.{resource_name}
 use Rattle.batch_engine.specs.Names as Names
 use Rattle.batch_engine.specs.Numbered.{phase_by}
 use Rattle.batch_engine.specs.Steps.{IsNumberAt, IsPhaseAt}
-use Rattle.batch_engine.specs.View.{EngineView, bound_to, number_of, recipe_made, setup, tree_of}
+use Rattle.batch_engine.specs.View.{EngineView, bound_to, resource_number, recipe_made, setup, tree_of}
 use Rattle.batch_engine.specs.declared.batch.Batch.{Batch}
 use Rattle.batch_engine.specs.declared.phase_number.PhaseNumber.{PhaseNumber}
 use Rattle.batch_engine.specs.declared.phase_number.TheConstants.{NO_PHASE}
@@ -80,10 +80,10 @@ chosen-by r bound o unit e = go (slice_get r.acts.unit_procedures.items o) refl 
     go (Some a) at f = with-unit a at a.unit refl f
 
 -- the phase step that runs a phase
-run-by : (r : Recipe) (step : ℕ) (phase : Name) → phase_name r step ≡ Some phase → (a : Act) × (slice_get r.acts.phases.items step ≡ Some a) × (run_phase a.work ≡ Some phase)
+run-by : (r : Recipe) (step : ℕ) (phase : Name) → phase_step_name r step ≡ Some phase → (a : Act) × (slice_get r.acts.phases.items step ≡ Some a) × (run_phase a.work ≡ Some phase)
 run-by r step phase e = go (slice_get r.acts.phases.items step) refl e
   where
-    same : (work : Work) → run_phase work ≡ Outlined.phase_in work
+    same : (work : Work) → run_phase work ≡ Outlined.phase_run_in work
     same (Follows chart) = refl
     same (Runs own values reports) = refl
 
@@ -93,12 +93,12 @@ run-by r step phase e = go (slice_get r.acts.phases.items step) refl e
 
 -- these are the numbers of the phase that the tree runs, if it runs one
 record IsRun (c : ClearedSet) (here : Tree) (p : PhaseNumber) : Type 0 where
-  unit_is : resource_name c p.unit ≡ (phase_in (task_of here)).unit
-  name_is : Names.phase_name c p.unit p.phase ≡ (phase_in (task_of here)).name
+  unit_is : resource_name c p.unit ≡ (phase_in (tree_task here)).unit
+  name_is : Names.phase_name c p.unit p.phase ≡ (phase_in (tree_task here)).name
   among : (names : Name × Name) → phase_named here ≡ Some names → position (same_name names.0) (units_of c.cell) ≡ Some p.unit
 
 -- a tree that runs none
-nothing-run : (c : ClearedSet) (here : Tree) (o : Option PhaseNumber) → o ≡ None → phase_named here ≡ None → phase_in (task_of here) ≡ no_phase → IsRun c here (unwrap_or o NO_PHASE)
+nothing-run : (c : ClearedSet) (here : Tree) (o : Option PhaseNumber) → o ≡ None → phase_named here ≡ None → phase_in (tree_task here) ≡ no_phase → IsRun c here (unwrap_or o NO_PHASE)
 nothing-run c here o e none empty =
     subst (λ (o : Option PhaseNumber). IsRun c here (unwrap_or o NO_PHASE)) (sym e)
     (record {
@@ -118,7 +118,7 @@ module _ (v : EngineView) (k : IsKept v) (i : ℕ) (b : Batch) (at : slice_get v
   is-linked : IsLinked v.cleared.cell set.phases r x
   is-linked = linked.linked.each b.recipe x read r listed
 
-  number-here : (source : Source) (name : Name) → IsSource v.cleared.cell r.roles.items bound source name → number_for b.units source ≡ number_of v.cleared name
+  number-here : (source : Source) (name : Name) → IsSource v.cleared.cell r.roles.items bound source name → number_for b.units source ≡ resource_number v.cleared name
   number-here = source-number v.cleared b.recipe r listed b.units (batch-runs v k i b at).units
 
   module _ (node : ℕ) (few : node < node_count tree) (e : Entry) (is : slice_get r.outline.entries.items node ≡ Some e) where
@@ -147,7 +147,7 @@ module _ (v : EngineView) (k : IsKept v) (i : ℕ) (b : Batch) (at : slice_get v
     here-is = get_or_from_slice_get r.outline.entries.items node e _ is
 
     kind-is : kind_at r.outline.entries.items node ≡ kind_by e.kind e.needs e.detail
-    kind-is = ap kind_of here-is
+    kind-is = ap kind_of_entry here-is
 
     phase-there : (step : ℕ) → e.kind ≡ at_level Phases step → kind_at r.outline.entries.items node ≡ kind_by (at_level Phases step) e.needs e.detail
     phase-there step f = kind-is ∙ ap (λ (z : entry.Kind). kind_by z e.needs e.detail) f
@@ -159,7 +159,7 @@ module _ (v : EngineView) (k : IsKept v) (i : ℕ) (b : Batch) (at : slice_get v
     no-run other = none-run x set.phases b.units e.detail e.kind other
 
     phase-run : (p : Phase) (needs step : ℕ) (offers : list_any (same_name p.name) (unit_phases v.cleared.cell.modules.items p.unit) ≡ true) → kind_at r.outline.entries.items node ≡ kind_by (at_level Phases step) needs 0
-        → phase_name r step ≡ Some p.name → unit_name bound (unit_choice r (unit_under r.outline.entries.items node)) ≡ Some p.unit
+        → phase_step_name r step ≡ Some p.name → unit_name bound (unit_choice r (unit_under r.outline.entries.items node)) ≡ Some p.unit
         → run ≡ Some (record { unit = (unit-number v.cleared.cell p.unit p.name offers).0; phase = (phase-among v.cleared.cell p.unit p.name offers).0 })
     phase-run p needs step offers f named chosen =
         let u = unit-number v.cleared.cell p.unit p.name offers in
@@ -168,10 +168,10 @@ module _ (v : EngineView) (k : IsKept v) (i : ℕ) (b : Batch) (at : slice_get v
         let s = run-by r step p.name named in
         let there : slice_get (units_of v.cleared.cell) u.0 ≡ Some p.unit = name-at (units_of v.cleared.cell) p.unit u.0 u.1 in
         let within : u.0 < length (units_of v.cleared.cell) = slice_get_within (units_of v.cleared.cell) u.0 p.unit there in
-        let source : IsSource v.cleared.cell r.roles.items bound (unit_by x e.detail) p.unit =
-        subst (IsSource v.cleared.cell r.roles.items bound (unit_by x e.detail)) a.4 (units-said v.cleared.cell set.phases r x is-linked bound e.detail a.0 a.1 a.2 a.3) in
-        let resource : number_of v.cleared p.unit ≡ Some u.0 = subst (λ (name : Name). number_of v.cleared name ≡ Some u.0) (unit-named v.cleared u.0 p.unit there) (unit-numbers v.cleared u.0 within).0 in
-        let unit : number_for b.units (unit_by x e.detail) ≡ Some u.0 = number-here (unit_by x e.detail) p.unit source ∙ resource in
+        let source : IsSource v.cleared.cell r.roles.items bound (source_of_unit x e.detail) p.unit =
+        subst (IsSource v.cleared.cell r.roles.items bound (source_of_unit x e.detail)) a.4 (units-said v.cleared.cell set.phases r x is-linked bound e.detail a.0 a.1 a.2 a.3) in
+        let resource : resource_number v.cleared p.unit ≡ Some u.0 = subst (λ (name : Name). resource_number v.cleared name ≡ Some u.0) (unit-named v.cleared u.0 p.unit there) (unit-numbers v.cleared u.0 within).0 in
+        let unit : number_for b.units (source_of_unit x e.detail) ≡ Some u.0 = number-here (source_of_unit x e.detail) p.unit source ∙ resource in
         let phase : phase_on x set.phases step u.0 ≡ Some q.0 =
         phases-said v.cleared.cell set.phases linked.phases r x is-linked step s.0 p.name s.1 s.2 u.0 q.0 within q.1 in
         ap (phase_by x set.phases b.units e.detail) (phase-kind e.kind e.needs e.detail needs step (sym kind-is ∙ f))

@@ -11,7 +11,7 @@ use Rattle.batch_model.specs.Plant as Model
 use Rattle.batch_model.specs.Rest.{Rest}
 use Rattle.batch_record_laws.proofs.Entries.{name_same, name_self}
 use Rattle.batch_chart.specs.Looked.{live_by, live_phase_at}
-use Rattle.batch_chart.specs.NodesOf.{node_at, nodes_of, phase_at, phase_in, phase_named, task_of}
+use Rattle.batch_chart.specs.NodesOf.{node_at, nodes_of, phase_at, phase_in, phase_named, tree_task}
 use Rattle.batch_set.proofs.Positions.{name-at}
 use Rattle.batch_signs.proofs.Bits.{within-or_past}
 
@@ -28,7 +28,7 @@ phase-within t k names e = elim (within-or_past k (node_count t)) [
     past (n ∷ ns) (suc j) h = past ns j (omega arith)
 
 -- it runs the phase with that name
-pub named-phase : (here : Tree) (names : Name × Name) → phase_named here ≡ Some names → (phase_in (task_of here)).name ≡ names.1
+pub named-phase : (here : Tree) (names : Name × Name) → phase_named here ≡ Some names → (phase_in (tree_task here)).name ≡ names.1
 named-phase here names e = grind arith
 
 module _ (t : Tree) (b : Model.Batch) (later : ℕ → List Rest) (unit phase : Name) (node : ℕ) (x : State) (units : List Name) (number : ℕ)

@@ -17,45 +17,45 @@ use Rattle.batch_model.specs.Moves.{handed_values}
 use Rattle.batch_model.specs.Plant.{Master}
 use Rattle.batch_verify.specs.ClearedSet.{ClearedSet}
 use Rattle.batch_chart.specs.NodesOf as Tree
-use Rattle.batch_chart.specs.NodesOf.{nodes_of, need_at, task_of}
+use Rattle.batch_chart.specs.NodesOf.{nodes_of, need_at, tree_task}
 use Rattle.batch_chart.specs.declared.chart_move.Move.TheVariants as Chart
 use Rattle.batch_engine.specs.declared.batch.Batch.{Batch}
 use Rattle.batch_engine.specs.declared.line.ClaimKind.TheVariants.{Asked, Granted, Released}
 use Rattle.batch_engine.specs.declared.line.Line.TheVariants as Lines
 use Rattle.batch_engine.specs.Names as Names
 use Rattle.batch_engine.specs.Steps.{IsNext, IsNumberAt, IsPhaseAt, Tells, TellsNext}
-use Rattle.batch_engine.specs.View.{EngineView, bound_to, number_of, master_at, tree_at, tree_of}
+use Rattle.batch_engine.specs.View.{EngineView, bound_to, resource_number, master_at, tree_at, tree_of}
 use Rattle.batch_engine.specs.Kept.{IsKept}
 use Rattle.batch_engine.proofs.BatchLookups.{known-resource, named, batch-runs, master-found}
 use Rattle.batch_engine.proofs.NodesAcrossBindings.{place-alike, name-alike, handed-alike}
 
 -- The place, the name and the values of a node, by its number and by its tree
 
-place-seen : (ns : List Node) (k : ℕ) → Names.place_of (slice_get ns k) ≡ (get_or ns k (record { place = []; asked = []; here = skip })).place
+place-seen : (ns : List Node) (k : ℕ) → Names.node_place (slice_get ns k) ≡ (get_or ns k (record { place = []; asked = []; here = skip })).place
 place-seen [] k = refl
 place-seen (n ∷ ns) zero = refl
 place-seen (n ∷ ns) (suc k) = place-seen ns k
 
-name-here : (t : Tree) → Names.name_in t ≡ Tree.name_in (task_of t)
+name-here : (t : Tree) → Names.name_of_act t ≡ Tree.name_in (tree_task t)
 name-here t = grind arith
 
-name-seen : (ns : List Node) (k : ℕ) → Names.name_of (slice_get ns k) ≡ Tree.name_in (task_of (get_or ns k (record { place = []; asked = []; here = skip })).here)
+name-seen : (ns : List Node) (k : ℕ) → Names.name_of (slice_get ns k) ≡ Tree.name_in (tree_task (get_or ns k (record { place = []; asked = []; here = skip })).here)
 name-seen [] k = refl
 name-seen (n ∷ ns) zero = name-here n.here
 name-seen (n ∷ ns) (suc k) = name-seen ns k
 
-handed-here : (t : Tree) → Names.handed_in t ≡ (Tree.phase_in (task_of t)).handed
+handed-here : (t : Tree) → Names.handed_in t ≡ (Tree.phase_in (tree_task t)).handed
 handed-here t = grind arith
 
-handed-seen : (ns : List Node) (k : ℕ) → Names.handed_of (slice_get ns k) ≡ (Tree.phase_in (task_of (get_or ns k (record { place = []; asked = []; here = skip })).here)).handed
+handed-seen : (ns : List Node) (k : ℕ) → Names.handed_of (slice_get ns k) ≡ (Tree.phase_in (tree_task (get_or ns k (record { place = []; asked = []; here = skip })).here)).handed
 handed-seen [] k = refl
 handed-seen (n ∷ ns) zero = handed-here n.here
 handed-seen (n ∷ ns) (suc k) = handed-seen ns k
 
-reports-here : (t : Tree) → reports_in t ≡ (Tree.phase_in (task_of t)).reports
+reports-here : (t : Tree) → reports_in t ≡ (Tree.phase_in (tree_task t)).reports
 reports-here t = grind arith
 
-reports-seen : (ns : List Node) (k : ℕ) → reports_of (slice_get ns k) ≡ (Tree.phase_in (task_of (get_or ns k (record { place = []; asked = []; here = skip })).here)).reports
+reports-seen : (ns : List Node) (k : ℕ) → reports_of (slice_get ns k) ≡ (Tree.phase_in (tree_task (get_or ns k (record { place = []; asked = []; here = skip })).here)).reports
 reports-seen [] k = refl
 reports-seen (n ∷ ns) zero = reports-here n.here
 reports-seen (n ∷ ns) (suc k) = reports-seen ns k
@@ -71,7 +71,7 @@ module _ (c : ClearedSet) (recipe : ℕ) (r : Recipe) (at : slice_get c.recipes 
   pub roles-read : Names.roles_at c recipe ≡ Names.roles_of r
   roles-read = ap (λ (o : Option Recipe). let ns : List Name = elim o [ None ↦ [] | Some z ↦ Names.roles_of z ] in ns) at
 
-  pub node-is : (k : ℕ) → Names.node_at c recipe k ≡ Names.node_of k r
+  pub node-is : (k : ℕ) → Names.recipe_node c recipe k ≡ Names.node_of k r
   node-is k = ap (λ (o : Option Recipe). let n : Option Node = elim o [ None ↦ None | Some z ↦ Names.node_of k z ] in n) at
 
   -- whatever units take the roles
@@ -82,11 +82,11 @@ module _ (c : ClearedSet) (recipe : ℕ) (r : Recipe) (at : slice_get c.recipes 
     node-bound : (k : ℕ) → slice_get (bound_nodes (bound_to c recipe units) r.acts) k ≡ slice_get (nodes_of (tree_at c recipe units)) k
     node-bound k = sym (ap (λ t. slice_get (nodes_of t) k) tree-is)
 
-    pub place-told : (k : ℕ) → Names.place_at c recipe k ≡ Tree.place_at (tree_at c recipe units) k
+    pub place-told : (k : ℕ) → Names.recipe_place c recipe k ≡ Tree.place_at (tree_at c recipe units) k
     place-told k =
-        ap Names.place_of (node-is k) ∙ place-alike (bound_to c recipe units) r.acts k ∙ ap Names.place_of (node-bound k) ∙ place-seen (nodes_of (tree_at c recipe units)) k
+        ap Names.node_place (node-is k) ∙ place-alike (bound_to c recipe units) r.acts k ∙ ap Names.node_place (node-bound k) ∙ place-seen (nodes_of (tree_at c recipe units)) k
 
-    pub name-told : (k : ℕ) → Names.name_at c recipe k ≡ Tree.name_at (tree_at c recipe units) k
+    pub name-told : (k : ℕ) → Names.act_name_at c recipe k ≡ Tree.name_at (tree_at c recipe units) k
     name-told k = ap Names.name_of (node-is k) ∙ name-alike (bound_to c recipe units) r.acts k ∙ ap Names.name_of (node-bound k) ∙ name-seen (nodes_of (tree_at c recipe units)) k
 
     pub handed-told : (k : ℕ) → Names.handed_at c recipe k ≡ (Tree.phase_at (tree_at c recipe units) k).handed
@@ -101,7 +101,7 @@ some-at [] k l = absurd (omega arith)
 some-at (r ∷ rs) zero l = (r, refl)
 some-at (r ∷ rs) (suc k) l = some-at rs k (omega arith)
 
-pub resource-told : (c : ClearedSet) (name : Name) (q : ℕ) → number_of c name ≡ Some q → Names.resource_name c q ≡ name
+pub resource-told : (c : ClearedSet) (name : Name) (q : ℕ) → resource_number c name ≡ Some q → Names.resource_name c q ≡ name
 resource-told c name q e = ap (λ (o : Option Name). unwrap_or o []) (named c name q e)
 
 -- Lines of the batch at an index
@@ -110,20 +110,20 @@ module _ (v : EngineView) (k : IsKept v) (i : ℕ) (b : Batch) (at : slice_get v
   pub recipe-here : (r : Recipe) × (slice_get v.cleared.recipes b.recipe ≡ Some r)
   recipe-here = some-at v.cleared.recipes b.recipe (batch-runs v k i b at).known
 
-  pub place-here : (n : ℕ) → Names.place_at v.cleared b.recipe n ≡ Tree.place_at (tree_of v.cleared b) n
+  pub place-here : (n : ℕ) → Names.recipe_place v.cleared b.recipe n ≡ Tree.place_at (tree_of v.cleared b) n
   place-here n = place-told v.cleared b.recipe recipe-here.0 recipe-here.1 b.units n
 
   reports-told : (n : ℕ) → Names.reports_at v.cleared b.recipe n ≡ (Tree.phase_at (tree_of v.cleared b) n).reports
   reports-told n = ap reports_of (node-is v.cleared b.recipe recipe-here.0 recipe-here.1 n) ∙ reports-read v.cleared b.recipe recipe-here.0 recipe-here.1 b.units n
 
   phase-here : (n u f : ℕ) → Names.resource_name v.cleared u ≡ (Tree.phase_at (tree_of v.cleared b) n).unit → Names.phase_name v.cleared u f ≡ (Tree.phase_at (tree_of v.cleared b) n).name
-      → Names.phase_at v.cleared b.recipe n u f ≡ Tree.phase_at (tree_of v.cleared b) n
+      → Names.phase_run_at v.cleared b.recipe n u f ≡ Tree.phase_at (tree_of v.cleared b) n
   phase-here n u f unit name =
       ap₂ (λ x y. let p : Phase = record { unit = x; name = y; handed = Names.handed_at v.cleared b.recipe n; reports = Names.reports_at v.cleared b.recipe n } in p) unit name
       ∙ ap₂ (λ (y z : List Name). let p : Phase = record { unit = (Tree.phase_at (tree_of v.cleared b) n).unit; name = (Tree.phase_at (tree_of v.cleared b) n).name; handed = y; reports = z } in p)
       (handed-told v.cleared b.recipe recipe-here.0 recipe-here.1 b.units n) (reports-told n)
 
-  need-here : (n need q u : ℕ) → number_of v.cleared (need_at (tree_of v.cleared b) n need).resource ≡ Some q → (need_at (tree_of v.cleared b) n need).units ≡ u
+  need-here : (n need q u : ℕ) → resource_number v.cleared (need_at (tree_of v.cleared b) n need).resource ≡ Some q → (need_at (tree_of v.cleared b) n need).units ≡ u
       → Names.need_of v.cleared q u ≡ need_at (tree_of v.cleared b) n need
   need-here n need q u e f =
       ap₂ (λ x y. let r : Need = record { resource = x; units = y } in r) (resource-told v.cleared (need_at (tree_of v.cleared b) n need).resource q e) (sym f)

@@ -9,7 +9,7 @@ use Rattle.batch_recipe.specs.declared.need.Need.{Need}
 use Rattle.batch_model.specs.Lists.{Has}
 use Rattle.batch_model.specs.Rest.{Rest, ready, asking, open_act, live, freeing, in_seq, in_par, in_loop, done, acts}
 use Rattle.batch_model.specs.Plant.{Setup, Batch, BatchAct, Share, units_in, Plant, is_same_act, holders, without}
-use Rattle.batch_model.specs.Moves.{Move, send, state, release, pass, begin, start, end, ask, grant, batch_of, act_move, state_move, batch_moves, is_served, when, after, next, possible}
+use Rattle.batch_model.specs.Moves.{Move, send, state, release, pass, begin, start, end, ask, grant, batch_of, act_move, state_move, batch_moves, is_served, when, after_move, next, possible}
 use Rattle.batch_model.specs.Runs.{Out, move}
 use Rattle.batch_model.specs.Records.{holders_told, holders_after}
 use Rattle.batch_step_laws.proofs.WorkAfterMove.{Has-batch_moves}
@@ -119,15 +119,15 @@ module _ (c : Setup) (outs : List Out) (s : Plant) (told : IsTold outs s) where
   as-before t need a e f h = subst₂ (λ n line. serves n need.units (c.capacity need.resource) line a ≡ true) e f h
 
   -- a move serves no act of another batch newly, but of the resource that it gives or takes
-  pub served-before : (m : Move) → IsEven outs m → IsTold (outs ++ move m ∷ []) (after s m) → (n : ℕ) → (n ≡ batch_of m → ⊥)
-      → (need : Need) (p : Place) → (touched m ≡ Some need.resource → ⊥) → is_served c (after s m) need (n, p) ≡ true → is_served c s need (n, p) ≡ true
-  served-before (send k p x command) even t n other need place apart e = as-before (after s (send k p x command)) need (n, place) (held-same (move (send k p x command)) (after s (send k p x command)) t need.resource refl) refl e
-  served-before (state k x) even t n other need place apart e = as-before (after s (state k x)) need (n, place) (held-same (move (state k x)) (after s (state k x)) t need.resource refl) refl e
-  served-before (begin k p name) even t n other need place apart e = as-before (after s (begin k p name)) need (n, place) (held-same (move (begin k p name)) (after s (begin k p name)) t need.resource refl) refl e
-  served-before (start k p x vs) even t n other need place apart e = as-before (after s (start k p x vs)) need (n, place) (held-same (move (start k p x vs)) (after s (start k p x vs)) t need.resource refl) refl e
-  served-before (end k p) even t n other need place apart e = as-before (after s (end k p)) need (n, place) (held-same (move (end k p)) (after s (end k p)) t need.resource refl) refl e
+  pub served-before : (m : Move) → IsEven outs m → IsTold (outs ++ move m ∷ []) (after_move s m) → (n : ℕ) → (n ≡ batch_of m → ⊥)
+      → (need : Need) (p : Place) → (touched m ≡ Some need.resource → ⊥) → is_served c (after_move s m) need (n, p) ≡ true → is_served c s need (n, p) ≡ true
+  served-before (send k p x command) even t n other need place apart e = as-before (after_move s (send k p x command)) need (n, place) (held-same (move (send k p x command)) (after_move s (send k p x command)) t need.resource refl) refl e
+  served-before (state k x) even t n other need place apart e = as-before (after_move s (state k x)) need (n, place) (held-same (move (state k x)) (after_move s (state k x)) t need.resource refl) refl e
+  served-before (begin k p name) even t n other need place apart e = as-before (after_move s (begin k p name)) need (n, place) (held-same (move (begin k p name)) (after_move s (begin k p name)) t need.resource refl) refl e
+  served-before (start k p x vs) even t n other need place apart e = as-before (after_move s (start k p x vs)) need (n, place) (held-same (move (start k p x vs)) (after_move s (start k p x vs)) t need.resource refl) refl e
+  served-before (end k p) even t n other need place apart e = as-before (after_move s (end k p)) need (n, place) (held-same (move (end k p)) (after_move s (end k p)) t need.resource refl) refl e
   served-before (pass k p to r) even t n other need place apart e =
-      as-before (after s (pass k p to r)) need (n, place) (held-even (move (pass k p to r)) (after s (pass k p to r)) t need.resource (even need.resource)) refl e
+      as-before (after_move s (pass k p to r)) need (n, place) (held-even (move (pass k p to r)) (after_move s (pass k p to r)) t need.resource (even need.resource)) refl e
   served-before (release k p r) even t n other need place apart e = go (same_name need.resource r.resource) refl
     where
       m : Move
@@ -136,8 +136,8 @@ module _ (c : Setup) (outs : List Out) (s : Plant) (told : IsTold outs s) where
       go : (b : Bool) → same_name need.resource r.resource ≡ b → is_served c s need (n, place) ≡ true
       go true f = absurd (apart (ap Some (sym (name_same need.resource r.resource f))))
       go false f =
-          as-before (after s m) need (n, place)
-          (held-same (move m) (after s m) t need.resource
+          as-before (after_move s m) need (n, place)
+          (held-same (move m) (after_move s m) t need.resource
           (ap (λ (b : Bool). let hs : List Share = elim b [ true ↦ without (k, p) (holders_told outs need.resource) | false ↦ holders_told outs need.resource ] in hs) f)) refl e
   served-before (grant k p r) even t n other need place apart e = go (same_name need.resource r.resource) refl
     where
@@ -147,8 +147,8 @@ module _ (c : Setup) (outs : List Out) (s : Plant) (told : IsTold outs s) where
       go : (b : Bool) → same_name need.resource r.resource ≡ b → is_served c s need (n, place) ≡ true
       go true f = absurd (apart (ap Some (sym (name_same need.resource r.resource f))))
       go false f =
-          as-before (after s m) need (n, place)
-          (held-same (move m) (after s m) t need.resource
+          as-before (after_move s m) need (n, place)
+          (held-same (move m) (after_move s m) t need.resource
           (ap (λ (b : Bool). let hs : List Share = elim b [ true ↦ holders_told outs need.resource ++ record { act = (k, p); units = r.units } ∷ [] | false ↦ holders_told outs need.resource ] in hs) f))
           (ap (λ (b : Bool). let line : List Share = elim b [ true ↦ without (k, p) (s.line need.resource) | false ↦ s.line need.resource ] in line) f) e
   served-before (ask k p r) even t n other need place apart e = go (same_name need.resource r.resource) refl
@@ -159,12 +159,12 @@ module _ (c : Setup) (outs : List Out) (s : Plant) (told : IsTold outs s) where
       share : Share
       share = record { act = (k, p); units = r.units }
 
-      same : units_in (holders (after s m) need.resource) ≡ units_in (holders s need.resource)
-      same = held-same (move m) (after s m) t need.resource refl
+      same : units_in (holders (after_move s m) need.resource) ≡ units_in (holders s need.resource)
+      same = held-same (move m) (after_move s m) t need.resource refl
 
       go : (b : Bool) → same_name need.resource r.resource ≡ b → is_served c s need (n, place) ≡ true
       go true f =
-          let line : (after s m).line need.resource ≡ s.line need.resource ++ share ∷ [] =
+          let line : (after_move s m).line need.resource ≡ s.line need.resource ++ share ∷ [] =
           ap (λ (b : Bool). let l : List Share = elim b [ true ↦ s.line need.resource ++ record { act = (k, p); units = r.units } ∷ [] | false ↦ s.line need.resource ] in l) f in
           let now : serves (units_in (holders s need.resource)) need.units (c.capacity need.resource) (s.line need.resource ++ share ∷ []) (n, place) ≡ true =
           subst₂ (λ h l. serves h need.units (c.capacity need.resource) l (n, place) ≡ true) same line e in
@@ -172,5 +172,5 @@ module _ (c : Setup) (outs : List Out) (s : Plant) (told : IsTold outs s) where
           both_true parts.0
           (joined (s.line need.resource) share (n, place) other parts.1)
       go false f =
-          as-before (after s m) need (n, place) same
+          as-before (after_move s m) need (n, place) same
           (ap (λ (b : Bool). let l : List Share = elim b [ true ↦ s.line need.resource ++ record { act = (k, p); units = r.units } ∷ [] | false ↦ s.line need.resource ] in l) f) e

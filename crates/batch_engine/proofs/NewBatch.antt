@@ -17,11 +17,11 @@ use Rattle.batch_model.proofs.Members.{Each-append, Has-flat_map, Has-split}
 use Rattle.batch_record_laws.proofs.Entries.{IsOnce, nat_differs}
 use Rattle.batch_record_laws.proofs.Members.{Has-map, map-Has}
 use Rattle.batch_verify.specs.ClearedSet.{ClearedSet}
-use Rattle.batch_arbiter.specs.Allocation.{Claim, shares_of, line_of}
+use Rattle.batch_arbiter.specs.Allocation.{Claim, shares_at, queue_at}
 use Rattle.batch_chart.specs.NodesOf.{needs_in, place_at}
 use Rattle.batch_chart.specs.Charts.{IsRunningOf}
 use Rattle.batch_engine.specs.declared.batch.Batch.{Batch}
-use Rattle.batch_engine.specs.View.{EngineView, setup, master_at, recipe_at, tree_at, batch_of, share_of, acts_of, place_in, number_of, line_in, line_at, plant_of, tree_of}
+use Rattle.batch_engine.specs.View.{EngineView, setup, master_at, recipe_at, tree_at, model_batch, share_of, claimed_shares, place_in, resource_number, line_in, line_at, plant_of, tree_of}
 use Rattle.batch_engine.specs.Names as Names
 use Rattle.batch_engine.specs.Kept.{AreUnits, IsRunningBatch, IsKept, needs_of_all}
 use Rattle.batch_engine.specs.Creates.{IsCreate}
@@ -69,7 +69,7 @@ module _ (v : EngineView) (name : Name) (size : ℕ) (pairs : List (Name × Name
 -- one that makes a batch
 pub react-create : (v : EngineView) (recipe : ℕ) (name : Name) (size : ℕ) (pairs : List (Name × Name)) (units : List ℕ) (vs : ValueList) (o : IsCreate v recipe name size pairs units vs)
     → react (setup v.cleared) (plant_of v) (create name size pairs)
-    ≡ (created v.next_number (recipe_at v.cleared recipe units).name size (Names.roles_told v.cleared recipe units), with_batch (plant_of v) (recipe_at v.cleared recipe units) size vs)
+    ≡ (created v.next_number (recipe_at v.cleared recipe units).name size (Names.roles_taken v.cleared recipe units), with_batch (plant_of v) (recipe_at v.cleared recipe units) size vs)
 react-create v recipe name size pairs units vs o =
     let m : Master = master_at v.cleared recipe in
     judge-values v name size pairs o.settled m o.chosen.found (scaled vs) o.chosen.free o.chosen.taken.binds (ap (λ (bound : Binding). (m.control bound).formula size) o.chosen.taken.bound ∙ o.formula)
@@ -80,7 +80,7 @@ module _ (c : ClearedSet) (b : Batch) where
   place-more [] n j d = chosen-false (nat_eq b.number n) _ _ (nat_differs b.number n (λ e. d (sym e)))
   place-more (x ∷ bs) n j d = ap (λ r. let z : Place = elim (nat_eq x.number n) [ true ↦ place_at (tree_of c x) j | false ↦ r ] in z) (place-more bs n j d)
 
-  acts-more : (bs : List Batch) (xs : List Claim) → ((x : Claim) → Has xs x → x.batch ≡ b.number → ⊥) → acts_of c (bs ++ b ∷ []) xs ≡ acts_of c bs xs
+  acts-more : (bs : List Batch) (xs : List Claim) → ((x : Claim) → Has xs x → x.batch ≡ b.number → ⊥) → claimed_shares c (bs ++ b ∷ []) xs ≡ claimed_shares c bs xs
   acts-more bs [] h = refl
   acts-more bs (x ∷ xs) h =
       ap₂ (λ y ys. y ∷ ys) (ap (λ (z : Place). let y : Share = record { act = (x.batch, z); units = x.units } in y) (place-more bs x.batch x.node (h x (inl refl))))
@@ -103,10 +103,10 @@ share-number name b a h =
 
 module _ (v : EngineView) (k : IsKept v) where
   -- each act that holds or waits is of a batch that there is
-  pub waiter-below : (name : Name) (q : ℕ) → number_of v.cleared name ≡ Some q → (x : Claim) → Has (line_of v.allocation q) x → x.batch < v.next_number
+  pub waiter-below : (name : Name) (q : ℕ) → resource_number v.cleared name ≡ Some q → (x : Claim) → Has (queue_at v.allocation q) x → x.batch < v.next_number
   waiter-below name q e x h =
       let a : Share = share_of v.cleared v.batches x in
-      let asks = ((told v k).asks name a).0 (subst (λ (xs : List Share). Has xs a) (sym (ap (line_at v) e)) (map-Has (share_of v.cleared v.batches) (line_of v.allocation q) x h)) in
+      let asks = ((told v k).asks name a).0 (subst (λ (xs : List Share). Has xs a) (sym (ap (line_at v) e)) (map-Has (share_of v.cleared v.batches) (queue_at v.allocation q) x h)) in
       below-next v.next_number (plant_of v).batches asks.0 x.batch (standing v k).numbers asks.1 asks.2
     where
       below-next : (next : ℕ) (bs : List Model.Batch) (b : Model.Batch) (n : ℕ) → AreNumbered next bs → Has bs b → b.number ≡ n → n < next
@@ -114,10 +114,10 @@ module _ (v : EngineView) (k : IsKept v) where
       below-next next (d ∷ bs) b n h (inl p) e = omega (arith, h.0, ap (λ (z : Model.Batch). z.number) p, e)
       below-next next (d ∷ bs) b n h (inr i) e = below-next next bs b n h.2 i e
 
-  pub holder-below : (name : Name) (q : ℕ) → number_of v.cleared name ≡ Some q → (x : Claim) → Has (shares_of v.allocation q) x → x.batch < v.next_number
+  pub holder-below : (name : Name) (q : ℕ) → resource_number v.cleared name ≡ Some q → (x : Claim) → Has (shares_at v.allocation q) x → x.batch < v.next_number
   holder-below name q e x h =
       let a : Share = share_of v.cleared v.batches x in
-      let t : Has (holders (plant_of v) name) a = ((told v k).held name).0 a (subst (λ (xs : List Share). Has xs a) (k.tracked.shares q name e) (map-Has (share_of v.cleared v.batches) (shares_of v.allocation q) x h)) in
+      let t : Has (holders (plant_of v) name) a = ((told v k).held name).0 a (subst (λ (xs : List Share). Has xs a) (k.tracked.shares q name e) (map-Has (share_of v.cleared v.batches) (shares_at v.allocation q) x h)) in
       let d = Has-flat_map (Model.shares_of name) (plant_of v).batches a t in
       below-next v.next_number (plant_of v).batches d.0 x.batch (standing v k).numbers d.1 (sym (share-number name d.0 a d.2))
     where
@@ -129,18 +129,18 @@ module _ (v : EngineView) (k : IsKept v) where
   -- the batch that is made
   module _ (recipe : ℕ) (name : Name) (size : ℕ) (pairs : List (Name × Name)) (units : List ℕ) (vs : ValueList) (o : IsCreate v recipe name size pairs units vs) (b : Batch) (room : ℕ)
       (number : b.number ≡ v.next_number) (made : made_by b ≡ (recipe, units)) (runs : IsRunningOf (tree_at v.cleared recipe units) b.running)
-      (new : batch_of v.cleared b ≡ new_batch v.next_number (recipe_at v.cleared recipe units) size vs)
+      (new : model_batch v.cleared b ≡ new_batch v.next_number (recipe_at v.cleared recipe units) size vs)
       (enough : needs_of_all v.cleared v.batches + needs_in (tree_at v.cleared recipe units) ≤ room) where
-    lines-more : (n : Name) (q : ℕ) → number_of v.cleared n ≡ Some q → acts_of v.cleared (v.batches ++ b ∷ []) (line_of v.allocation q) ≡ acts_of v.cleared v.batches (line_of v.allocation q)
-    lines-more n q e = acts-more v.cleared b v.batches (line_of v.allocation q) (λ x h i. absurd (omega (arith, waiter-below n q e x h, i, number)))
+    lines-more : (n : Name) (q : ℕ) → resource_number v.cleared n ≡ Some q → claimed_shares v.cleared (v.batches ++ b ∷ []) (queue_at v.allocation q) ≡ claimed_shares v.cleared v.batches (queue_at v.allocation q)
+    lines-more n q e = acts-more v.cleared b v.batches (queue_at v.allocation q) (λ x h i. absurd (omega (arith, waiter-below n q e x h, i, number)))
 
-    shares-more : (n : Name) (q : ℕ) → number_of v.cleared n ≡ Some q → acts_of v.cleared (v.batches ++ b ∷ []) (shares_of v.allocation q) ≡ acts_of v.cleared v.batches (shares_of v.allocation q)
-    shares-more n q e = acts-more v.cleared b v.batches (shares_of v.allocation q) (λ x h i. absurd (omega (arith, holder-below n q e x h, i, number)))
+    shares-more : (n : Name) (q : ℕ) → resource_number v.cleared n ≡ Some q → claimed_shares v.cleared (v.batches ++ b ∷ []) (shares_at v.allocation q) ≡ claimed_shares v.cleared v.batches (shares_at v.allocation q)
+    shares-more n q e = acts-more v.cleared b v.batches (shares_at v.allocation q) (λ x h i. absurd (omega (arith, holder-below n q e x h, i, number)))
 
     line-more : (n : Name) → line_in (with v (v.batches ++ b ∷ []) (v.next_number + 1) (record (v.allocation) { room = room })) n ≡ line_in v n
-    line-more n = go (number_of v.cleared n) refl
+    line-more n = go (resource_number v.cleared n) refl
       where
-        go : (m : Option ℕ) → number_of v.cleared n ≡ m → line_at (with v (v.batches ++ b ∷ []) (v.next_number + 1) (record (v.allocation) { room = room })) m ≡ line_at v m
+        go : (m : Option ℕ) → resource_number v.cleared n ≡ m → line_at (with v (v.batches ++ b ∷ []) (v.next_number + 1) (record (v.allocation) { room = room })) m ≡ line_at v m
         go None e = refl
         go (Some q) e = lines-more n q e
 
@@ -148,20 +148,20 @@ module _ (v : EngineView) (k : IsKept v) where
     plant-more =
         let one : v.next_number + 1 ≡ suc v.next_number = omega arith in
         ap₂ (λ (bs : List Model.Batch) (l : Name → List Share). let p : Plant = record { batches = bs; next_number = v.next_number + 1; line = l } in p)
-        (map-append (batch_of v.cleared) v.batches (b ∷ []) ∙ ap (λ (d : Model.Batch). map (batch_of v.cleared) v.batches ++ d ∷ []) new)
+        (map-append (model_batch v.cleared) v.batches (b ∷ []) ∙ ap (λ (d : Model.Batch). map (model_batch v.cleared) v.batches ++ d ∷ []) new)
         (fun_ext line-more)
-        ∙ ap (λ n. let p : Plant = record { batches = map (batch_of v.cleared) v.batches ++ new_batch v.next_number (recipe_at v.cleared recipe units) size vs ∷ []; next_number = n; line = line_in v } in p) one
+        ∙ ap (λ n. let p : Plant = record { batches = map (model_batch v.cleared) v.batches ++ new_batch v.next_number (recipe_at v.cleared recipe units) size vs ∷ []; next_number = n; line = line_in v } in p) one
 
-    pub create-reacts : Reacts (setup v.cleared) (plant_of v) (create name size pairs) (created v.next_number (recipe_at v.cleared recipe units).name size (Names.roles_told v.cleared recipe units))
+    pub create-reacts : Reacts (setup v.cleared) (plant_of v) (create name size pairs) (created v.next_number (recipe_at v.cleared recipe units).name size (Names.roles_taken v.cleared recipe units))
         (plant_of (with v (v.batches ++ b ∷ []) (v.next_number + 1) (record (v.allocation) { room = room })))
     create-reacts =
         inl (react-create v recipe name size pairs units vs o
-        ∙ ap (λ (s : Plant). let a : Answer = (created v.next_number (recipe_at v.cleared recipe units).name size (Names.roles_told v.cleared recipe units), s) in a) (sym plant-more))
+        ∙ ap (λ (s : Plant). let a : Answer = (created v.next_number (recipe_at v.cleared recipe units).name size (Names.roles_taken v.cleared recipe units), s) in a) (sym plant-more))
 
     pub create-kept : IsKept (with v (v.batches ++ b ∷ []) (v.next_number + 1) (record (v.allocation) { room = room }))
     create-kept =
         event-kept v k (v.batches ++ b ∷ []) (v.next_number + 1) (record (v.allocation) { room = room }) (create name size pairs)
-        (created v.next_number (recipe_at v.cleared recipe units).name size (Names.roles_told v.cleared recipe units)) create-reacts
+        (created v.next_number (recipe_at v.cleared recipe units).name size (Names.roles_taken v.cleared recipe units)) create-reacts
         shares-more
         (Each-append (IsRunningBatch v.cleared) v.batches (b ∷ []) k.batches (
           record {
@@ -193,11 +193,11 @@ module _ (v : EngineView) (k : IsKept v) where
       }
     where
       line : (n : Name) → line_in (with v v.batches v.next_number (record (v.allocation) { room = room })) n ≡ line_in v n
-      line n = go (number_of v.cleared n)
+      line n = go (resource_number v.cleared n)
         where
           go : (m : Option ℕ) → line_at (with v v.batches v.next_number (record (v.allocation) { room = room })) m ≡ line_at v m
           go None = refl
           go (Some q) = refl
 
       same : plant_of (with v v.batches v.next_number (record (v.allocation) { room = room })) ≡ plant_of v
-      same = ap (λ (l : Name → List Share). let p : Plant = record { batches = map (batch_of v.cleared) v.batches; next_number = v.next_number; line = l } in p) (fun_ext line)
+      same = ap (λ (l : Name → List Share). let p : Plant = record { batches = map (model_batch v.cleared) v.batches; next_number = v.next_number; line = l } in p) (fun_ext line)

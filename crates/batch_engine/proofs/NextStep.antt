@@ -8,11 +8,11 @@ use Rattle.batch_model.specs.Moves as Moves
 use Rattle.batch_model.specs.Moves.{least, batch_moves, next}
 use Rattle.batch_record_laws.proofs.Members.{Each-image}
 use Rattle.batch_chart.specs.OwnMoves.{grants, own_next}
-use Rattle.batch_chart.specs.Seen.{move_of}
+use Rattle.batch_chart.specs.Seen.{machine_move}
 use Rattle.batch_engine.specs.declared.batch.Batch.{Batch}
 use Rattle.batch_engine.specs.declared.step.Step.{Step}
 use Rattle.batch_engine.specs.declared.step.Step.TheVariants.{Own, Grant}
-use Rattle.batch_engine.specs.View.{EngineView, setup, batch_of, plant_of, tree_of}
+use Rattle.batch_engine.specs.View.{EngineView, setup, model_batch, plant_of, tree_of}
 use Rattle.batch_engine.specs.Kept.{IsKept}
 use Rattle.batch_engine.specs.Marked.{HasNoMove}
 use Rattle.batch_engine.specs.Steps.{IsStep, IsLeastAt, IsNext}
@@ -22,7 +22,7 @@ use Rattle.batch_engine.proofs.RecordOfPlant.{standing}
 use Rattle.batch_step_laws.proofs.MoveOrder.{none_least}
 
 pub step-map : (v : EngineView) (P Q : Moves.Move → Type 0) → ((m : Moves.Move) → P m → Q m) → (s : Step) → IsStep v P s → IsStep v Q s
-step-map v P Q f (Own i m) g = record { batch = g.batch; chart = g.chart; here = g.here; can = g.can; about = g.about; is = f (move_of (tree_of v.cleared g.batch) (batch_of v.cleared g.batch) m) g.is }
+step-map v P Q f (Own i m) g = record { batch = g.batch; chart = g.chart; here = g.here; can = g.can; about = g.about; is = f (machine_move (tree_of v.cleared g.batch) (model_batch v.cleared g.batch) m) g.is }
 step-map v P Q f (Grant i node resource units) g =
     record {
       batch = g.batch;
@@ -51,54 +51,54 @@ all-at P (x ∷ xs) h = (h 0 x refl, all-at P xs (λ j y e. h (suc j) y e))
 
 module _ (v : EngineView) (k : IsKept v) where
   abbrev NoMoves : Batch → Type 0
-  NoMoves b = batch_moves (setup v.cleared) (plant_of v) (batch_of v.cleared b) ≡ []
+  NoMoves b = batch_moves (setup v.cleared) (plant_of v) (model_batch v.cleared b) ≡ []
 
   none-at : (j : ℕ) (b : Batch) → slice_get v.batches j ≡ Some b → HasNoMove v j → NoMoves b
-  none-at j b e h = subst (λ (z : Batch). batch_moves (setup v.cleared) (plant_of v) (batch_of v.cleared z) ≡ []) (let f : ◌≡◌ {A = Option Batch} (Some h.batch) (Some b) = sym h.at ∙ e in let g : h.batch ≡ b = cc in g) h.none
+  none-at j b e h = subst (λ (z : Batch). batch_moves (setup v.cleared) (plant_of v) (model_batch v.cleared z) ≡ []) (let f : ◌≡◌ {A = Option Batch} (Some h.batch) (Some b) = sym h.at ∙ e in let g : h.batch ≡ b = cc in g) h.none
 
   -- the least move of the first batch that has one is the next
   pub next-at : (i : ℕ) (m : Moves.Move) → ((j : ℕ) → j < i → HasNoMove v j) → IsLeastAt v i m → IsNext v m
   next-at i m before l =
-      let r = split-at (λ b. batch_moves (setup v.cleared) (plant_of v) (batch_of v.cleared b) ≡ []) v.batches i l.batch l.at (λ j b lt e. none-at j b e (before j lt)) in
-      next-first (setup v.cleared) (plant_of v) (map (batch_of v.cleared) r.0) (batch_of v.cleared l.batch) (map (batch_of v.cleared) r.1) m (standing v k).numbers
-      (ap (map (batch_of v.cleared)) r.2 ∙ map-append (batch_of v.cleared) r.0 (l.batch ∷ r.1))
-      (Each-image (λ (b : Model.Batch). batch_moves (setup v.cleared) (plant_of v) b ≡ []) (batch_of v.cleared) r.0 r.3) l.least_is
+      let r = split-at (λ b. batch_moves (setup v.cleared) (plant_of v) (model_batch v.cleared b) ≡ []) v.batches i l.batch l.at (λ j b lt e. none-at j b e (before j lt)) in
+      next-first (setup v.cleared) (plant_of v) (map (model_batch v.cleared) r.0) (model_batch v.cleared l.batch) (map (model_batch v.cleared) r.1) m (standing v k).numbers
+      (ap (map (model_batch v.cleared)) r.2 ∙ map-append (model_batch v.cleared) r.0 (l.batch ∷ r.1))
+      (Each-image (λ (b : Model.Batch). batch_moves (setup v.cleared) (plant_of v) b ≡ []) (model_batch v.cleared) r.0 r.3) l.least_is
 
   -- if no batch has a move there is none
   pub none-next : ((j : ℕ) → j < length v.batches → HasNoMove v j) → next (setup v.cleared) (plant_of v) ≡ None
   none-next h =
       next-none (setup v.cleared) (plant_of v)
-      (Each-image (λ (b : Model.Batch). batch_moves (setup v.cleared) (plant_of v) b ≡ []) (batch_of v.cleared) v.batches
-      (all-at (λ b. batch_moves (setup v.cleared) (plant_of v) (batch_of v.cleared b) ≡ []) v.batches
+      (Each-image (λ (b : Model.Batch). batch_moves (setup v.cleared) (plant_of v) b ≡ []) (model_batch v.cleared) v.batches
+      (all-at (λ b. batch_moves (setup v.cleared) (plant_of v) (model_batch v.cleared b) ≡ []) v.batches
       (λ j b e. none-at j b e (h j (Rattle.std.proofs.lemmas.Option.slice_get_within v.batches j b e)))))
 
-pub own-least : (v : EngineView) (i : ℕ) (b : Batch) (m : Moves.Move) → slice_get v.batches i ≡ Some b → own_next (batch_of v.cleared b) ≡ Some m → IsLeastAt v i m
+pub own-least : (v : EngineView) (i : ℕ) (b : Batch) (m : Moves.Move) → slice_get v.batches i ≡ Some b → own_next (model_batch v.cleared b) ≡ Some m → IsLeastAt v i m
 own-least v i b m at e =
     record {
       batch = b;
       at = at;
-      least_is = own-first-elim (setup v.cleared) (plant_of v) (batch_of v.cleared b)
-          ∙ ap (λ (o : Option Moves.Move). let r : Option Moves.Move = elim o [ Some l ↦ Some l | None ↦ least (grants (setup v.cleared) (plant_of v) (batch_of v.cleared b)) ] in r) e;
+      least_is = own-first-elim (setup v.cleared) (plant_of v) (model_batch v.cleared b)
+          ∙ ap (λ (o : Option Moves.Move). let r : Option Moves.Move = elim o [ Some l ↦ Some l | None ↦ least (grants (setup v.cleared) (plant_of v) (model_batch v.cleared b)) ] in r) e;
     }
 
-pub grant-least : (v : EngineView) (i : ℕ) (b : Batch) (m : Moves.Move) → slice_get v.batches i ≡ Some b → own_next (batch_of v.cleared b) ≡ None
-    → least (grants (setup v.cleared) (plant_of v) (batch_of v.cleared b)) ≡ Some m → IsLeastAt v i m
+pub grant-least : (v : EngineView) (i : ℕ) (b : Batch) (m : Moves.Move) → slice_get v.batches i ≡ Some b → own_next (model_batch v.cleared b) ≡ None
+    → least (grants (setup v.cleared) (plant_of v) (model_batch v.cleared b)) ≡ Some m → IsLeastAt v i m
 grant-least v i b m at e f =
     record {
       batch = b;
       at = at;
-      least_is = own-first-elim (setup v.cleared) (plant_of v) (batch_of v.cleared b)
-          ∙ ap (λ (o : Option Moves.Move). let r : Option Moves.Move = elim o [ Some l ↦ Some l | None ↦ least (grants (setup v.cleared) (plant_of v) (batch_of v.cleared b)) ] in r) e ∙ f;
+      least_is = own-first-elim (setup v.cleared) (plant_of v) (model_batch v.cleared b)
+          ∙ ap (λ (o : Option Moves.Move). let r : Option Moves.Move = elim o [ Some l ↦ Some l | None ↦ least (grants (setup v.cleared) (plant_of v) (model_batch v.cleared b)) ] in r) e ∙ f;
     }
 
-pub no-move : (v : EngineView) (i : ℕ) (b : Batch) → slice_get v.batches i ≡ Some b → own_next (batch_of v.cleared b) ≡ None
-    → grants (setup v.cleared) (plant_of v) (batch_of v.cleared b) ≡ [] → HasNoMove v i
+pub no-move : (v : EngineView) (i : ℕ) (b : Batch) → slice_get v.batches i ≡ Some b → own_next (model_batch v.cleared b) ≡ None
+    → grants (setup v.cleared) (plant_of v) (model_batch v.cleared b) ≡ [] → HasNoMove v i
 no-move v i b at e f =
     record {
       batch = b;
       at = at;
-      none = none_least (batch_moves (setup v.cleared) (plant_of v) (batch_of v.cleared b))
-          (own-first-elim (setup v.cleared) (plant_of v) (batch_of v.cleared b)
-          ∙ ap (λ (o : Option Moves.Move). let r : Option Moves.Move = elim o [ Some l ↦ Some l | None ↦ least (grants (setup v.cleared) (plant_of v) (batch_of v.cleared b)) ] in r) e
+      none = none_least (batch_moves (setup v.cleared) (plant_of v) (model_batch v.cleared b))
+          (own-first-elim (setup v.cleared) (plant_of v) (model_batch v.cleared b)
+          ∙ ap (λ (o : Option Moves.Move). let r : Option Moves.Move = elim o [ Some l ↦ Some l | None ↦ least (grants (setup v.cleared) (plant_of v) (model_batch v.cleared b)) ] in r) e
           ∙ ap least f);
     }

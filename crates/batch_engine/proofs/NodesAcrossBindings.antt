@@ -17,7 +17,7 @@ use Rattle.batch_recipe.specs.declared.acts.Acts.{Acts}
 use Rattle.batch_recipe.proofs.PlacesInBindings.{places_stay}
 use Rattle.batch_recipe.proofs.NodeActs.{procedure_acts_are}
 use Rattle.batch_recipe.proofs.NodeOrder.{counted_nodes}
-use Rattle.batch_engine.specs.Names.{place_of, name_in, name_of, handed_in, handed_of}
+use Rattle.batch_engine.specs.Names.{node_place, name_of_act, name_of, handed_in, handed_of}
 
 -- Places
 
@@ -25,12 +25,12 @@ abbrev place_or_none : Option Place → Place
 place_or_none None = []
 place_or_none (Some p) = p
 
-place-mapped : (ns : List Node) (k : ℕ) → place_of (slice_get ns k) ≡ place_or_none (slice_get (map (λ (n : Node). n.place) ns) k)
+place-mapped : (ns : List Node) (k : ℕ) → node_place (slice_get ns k) ≡ place_or_none (slice_get (map (λ (n : Node). n.place) ns) k)
 place-mapped [] k = refl
 place-mapped (n ∷ ns) zero = refl
 place-mapped (n ∷ ns) (suc k) = place-mapped ns k
 
-pub place-alike : (bound : Binding) (acts : Acts) (k : ℕ) → place_of (slice_get (procedure_nodes acts) k) ≡ place_of (slice_get (bound_nodes bound acts) k)
+pub place-alike : (bound : Binding) (acts : Acts) (k : ℕ) → node_place (slice_get (procedure_nodes acts) k) ≡ node_place (slice_get (bound_nodes bound acts) k)
 place-alike bound acts k =
     place-mapped (procedure_nodes acts) k ∙ sym (ap (λ (ps : List Place). place_or_none (slice_get ps k)) (places_stay bound acts)) ∙ sym (place-mapped (bound_nodes bound acts) k)
 
@@ -93,7 +93,7 @@ act_handed None = []
 act_handed (Some None) = []
 act_handed (Some (Some a)) = handed_with a.work
 
-name_of_tree : (s : Sites) (trees : Name → Name → Place → Tree) (unit : Name) (p : Place) (a : Act) (w : Work) → a.work ≡ w → name_in (act_tree_with s trees unit a p) ≡ name_with a.name w
+name_of_tree : (s : Sites) (trees : Name → Name → Place → Tree) (unit : Name) (p : Place) (a : Act) (w : Work) → a.work ≡ w → name_of_act (act_tree_with s trees unit a p) ≡ name_with a.name w
 name_of_tree s trees unit p a (Follows chart) e = rw e refl
 name_of_tree s trees unit p a (Runs phase values reports) e = rw e refl
 
@@ -101,16 +101,16 @@ handed_of_tree : (s : Sites) (trees : Name → Name → Place → Tree) (unit : 
 handed_of_tree s trees unit p a (Follows chart) e = rw e refl
 handed_of_tree s trees unit p a (Runs phase values reports) e = rw e refl
 
-pub no_name : (t : Tree) → IsNoAct t → name_in t ≡ []
+pub no_name : (t : Tree) → IsNoAct t → name_of_act t ≡ []
 no_name t h = grind arith
 
 pub no_handed : (t : Tree) → IsNoAct t → handed_in t ≡ []
 no_handed t h = grind arith
 
 module _ (bound : Binding) (acts : Acts) where
-  name_at_node : (a : Option Act) (at : Node) → IsActAt bound acts a at → name_in at.here ≡ act_name (Some a)
+  name_at_node : (a : Option Act) (at : Node) → IsActAt bound acts a at → name_of_act at.here ≡ act_name (Some a)
   name_at_node None at h = no_name at.here h
-  name_at_node (Some a) at h = ap name_in h.here_is ∙ name_of_tree (sites bound acts) (named_tree_with (sites bound acts) (tables_from acts h.below)) h.unit at.place a a.work refl
+  name_at_node (Some a) at h = ap name_of_act h.here_is ∙ name_of_tree (sites bound acts) (named_tree_with (sites bound acts) (tables_from acts h.below)) h.unit at.place a a.work refl
 
   handed_at_node : (a : Option Act) (at : Node) → IsActAt bound acts a at → handed_in at.here ≡ act_handed (Some a)
   handed_at_node None at h = no_handed at.here h

@@ -31,9 +31,9 @@ use Rattle.batch_record_laws.proofs.Entries.{name_same}
 use Rattle.batch_record_laws.proofs.Members.{Each-image}
 use Rattle.batch_verify.specs.ClearedSet.{ClearedSet}
 use Rattle.batch_set.proofs.Positions.{any-position, name-at}
-use Rattle.batch_chart.specs.NodesOf.{nodes_of, node_at, step_of, step_at, need_at, no_need}
+use Rattle.batch_chart.specs.NodesOf.{nodes_of, node_at, tree_step, step_at, need_at, no_need}
 use Rattle.batch_engine.specs.Names as Names
-use Rattle.batch_engine.specs.View.{setup, number_of}
+use Rattle.batch_engine.specs.View.{setup, resource_number}
 use Rattle.batch_engine.proofs.SlabChanges.{each-at}
 
 -- A unit that offers something is declared
@@ -113,7 +113,7 @@ phase-named c p offers =
 abbrev pub IsNamed : ClearedSet → Tree → Type 0
 IsNamed c t = NeedsResources (resources_of c.cell) t × IsOffered (setup c) t
 
-needs-same : (t : Tree) → nodes_spec.needs_of t ≡ (step_of t).needs
+needs-same : (t : Tree) → nodes_spec.needs_of t ≡ (tree_step t).needs
 needs-same t = grind arith
 
 module _ (c : ClearedSet) (cleared : CanBeCleared (setup c)) (r : Model.Recipe) (control : IsControl (setup c) r) where
@@ -129,7 +129,7 @@ module _ (c : ClearedSet) (cleared : CanBeCleared (setup c)) (r : Model.Recipe) 
       (omega (arith, l, counted_nodes (0 ∷ []) [] r.procedure))
 
   -- the resource of a need has a number
-  pub need-numbered : (k i : ℕ) → k < node_count r.procedure → i < length (step_at r.procedure k).needs → (q : ℕ) × (number_of c (need_at r.procedure k i).resource ≡ Some q)
+  pub need-numbered : (k i : ℕ) → k < node_count r.procedure → i < length (step_at r.procedure k).needs → (q : ℕ) × (resource_number c (need_at r.procedure k i).resource ≡ Some q)
   need-numbered k i l m =
       let n : Need = need_at r.procedure k i in
       let here : Each (λ (need : Need). IsTrue (is_among (resources_of c.cell) need.resource)) (step_at r.procedure k).needs =

@@ -9,7 +9,7 @@ use Rattle.batch_model.specs.Plant.{Share, Plant, opening}
 use Rattle.batch_record_laws.proofs.Entries.{IsOnce}
 use Rattle.batch_verify.specs.ClearedSet.{ClearedSet}
 use Rattle.batch_arbiter.specs.Allocation.{Claim, idle}
-use Rattle.batch_engine.specs.View.{seen, setup, acts_of, number_of, line_in, line_at, plant_of}
+use Rattle.batch_engine.specs.View.{seen, setup, claimed_shares, resource_number, line_in, line_at, plant_of}
 use Rattle.batch_engine.specs.Kept.{IsKept}
 use Rattle.batch_engine.proofs.BatchAfterMove.{fun_ext}
 use Rattle.batch_arbiter.proofs.CellCapacities.{length-capacities}
@@ -21,11 +21,11 @@ nothing (suc n) (suc q) = nothing n q
 
 module _ (c : ClearedSet) where
   line : (name : Name) → line_in (seen c [] 1 (idle (capacities_of c.cell))) name ≡ []
-  line name = go (number_of c name)
+  line name = go (resource_number c name)
     where
       go : (m : Option ℕ) → line_at (seen c [] 1 (idle (capacities_of c.cell))) m ≡ []
       go None = refl
-      go (Some q) = ap (acts_of c []) (nothing (length (capacities_of c.cell)) q)
+      go (Some q) = ap (claimed_shares c []) (nothing (length (capacities_of c.cell)) q)
 
   pub opening-plant : plant_of (seen c [] 1 (idle (capacities_of c.cell))) ≡ opening
   opening-plant = ap (λ (l : Name → List Share). let p : Plant = record { batches = []; next_number = 1; line = l } in p) (fun_ext line)
@@ -40,7 +40,7 @@ module _ (c : ClearedSet) where
           shares = length-replicate (length (capacities_of c.cell)) (let xs : List Claim = [] in xs) ∙ length-capacities c.cell;
           lines = length-replicate (length (capacities_of c.cell)) (let xs : List Claim = [] in xs) ∙ length-capacities c.cell;
         };
-        tracked = record { events = []; outs = []; leads = sym opening-plant; shares = λ q name e. ap (acts_of c []) (nothing (length (capacities_of c.cell)) q) };
-        once = λ name q e. subst (λ xs. IsOnce (acts_of c [] xs)) (sym (nothing (length (capacities_of c.cell)) q)) tt;
+        tracked = record { events = []; outs = []; leads = sym opening-plant; shares = λ q name e. ap (claimed_shares c []) (nothing (length (capacities_of c.cell)) q) };
+        once = λ name q e. subst (λ xs. IsOnce (claimed_shares c [] xs)) (sym (nothing (length (capacities_of c.cell)) q)) tt;
         room = omega arith;
       }

@@ -13,7 +13,7 @@ use Rattle.batch_model.specs.ActStates.{steps}
 use Rattle.batch_model.specs.Cleared.{Ranking}
 use Rattle.batch_model.specs.Lists.{Has, Each}
 use Rattle.batch_model.specs.Moves.{Move, send, state, release, pass, end, ask, grant, is_running, is_stopping, is_stopped, is_quiet, is_empty, is_served, passed_on, beginning, entering, giving_back, reserved_place, handing_over, when, act_move, batch_moves, released}
-use Rattle.batch_model.specs.Plant.{Setup, BatchAct, InAdvance, Batch, Share, Plant, held_in, is_reached, units_in, without}
+use Rattle.batch_model.specs.Plant.{Setup, BatchAct, InAdvance, Batch, Share, Plant, held_in, is_act_reached, units_in, without}
 use Rattle.batch_model.specs.Records.{holders_after, holders_told}
 use Rattle.batch_model.specs.Rest.{Rest, Rests, ready, asking, open_act, live, freeing, in_seq, in_par, in_loop, done, no_rests, rest, is_done, acts, acts_of_each, changed_at, place_of, same_place}
 use Rattle.batch_model.specs.Runs.{Out, move}
@@ -188,10 +188,10 @@ mapped-held (x ∷ xs) q (inl e) = (x, inl refl, e)
 mapped-held (x ∷ xs) q (inr h) = let m = mapped-held xs q h in (m.0, inr m.1, m.2)
 
 -- at a place without an act none is reached
-pub nowhere-reached : (r : Rest) (p : Place) → Nowhere p (acts r) → is_reached r p ≡ false
-nowhere-reached r p none = go (is_reached r p) refl
+pub nowhere-reached : (r : Rest) (p : Place) → Nowhere p (acts r) → is_act_reached r p ≡ false
+nowhere-reached r p none = go (is_act_reached r p) refl
   where
-    go : (t : Bool) → is_reached r p ≡ t → t ≡ false
+    go : (t : Bool) → is_act_reached r p ≡ t → t ≡ false
     go true e = absurd (let m = reached-at p r e in none m.0 m.1 m.2)
     go false e = refl
 
@@ -203,7 +203,7 @@ module _ (d : Setup) (rank : Ranking) (outs : List Out) (s : Plant) (sd : IsStan
   here = standing-of d s sd b i
 
   -- a place of a batch that holds in advance isn't reached
-  pub held-waits : (held : InAdvance) → Has b.in_advance held → is_reached b.rest held.place ≡ false
+  pub held-waits : (held : InAdvance) → Has b.in_advance held → is_act_reached b.rest held.place ≡ false
   held-waits held j =
       nowhere-reached b.rest held.place
       (awaited-nowhere b.recipe.procedure b.rest sound.cleared.placed here.stands held.place (Each-Has (λ held. IsAwaited b.rest held.place) b.in_advance held here.awaited j))
@@ -278,7 +278,7 @@ module _ (d : Setup) (rank : Ranking) (outs : List Out) (s : Plant) (sd : IsStan
 
   -- the act that a move of the batch passes a unit to isn't reached, and holds nothing in advance
   pub pass-awaits : (n : ℕ) (p to : Place) (r : Need) → Has (batch_moves d s b) (pass n p to r)
-      → (is_reached b.rest to ≡ false) × (list_any (same_place to) (map (λ (x : InAdvance). x.place) b.in_advance) ≡ false)
+      → (is_act_reached b.rest to ≡ false) × (list_any (same_place to) (map (λ (x : InAdvance). x.place) b.in_advance) ≡ false)
   pass-awaits n p to r h =
       let m = pass-act b d s n p to r h in
       let x : Step = m.2.0 in

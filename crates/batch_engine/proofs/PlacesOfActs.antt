@@ -2,12 +2,12 @@
 use Rattle.std.proofs.Common.{◌≡◌, ◌<◌, ℕ, zero, suc, ◌+◌, List, [], ◌∷◌, ◌++◌, arith, length, get_or}
 use Rattle.std.specs.List.{AllByRecursion}
 use Rattle.batch_recipe.specs.Conditions.{Name}
-use Rattle.batch_recipe.specs.Needs.{resources_of}
+use Rattle.batch_recipe.specs.Needs.{resources_needed}
 use Rattle.batch_recipe.specs.Nodes.{Node, nodes, nodes_within, nodes_of_each, nodes_of_choices, child}
 use Rattle.batch_recipe.specs.Places.{StandsAt}
 use Rattle.batch_recipe.specs.Tree.{Place, Tree, act, skip, seq, par, sel, loop, Task, runs, follows, Trees, no_trees, tree, Choices, otherwise, choice}
 use Rattle.batch_model.specs.Placed.{IsPlaced, IsPlacedBelow, ArePlaced, IsChoicePlaced}
-use Rattle.batch_chart.specs.NodesOf.{nodes_of, place_at, step_at, step_of}
+use Rattle.batch_chart.specs.NodesOf.{nodes_of, place_at, step_at, tree_step}
 use Rattle.batch_recipe.specs.Nodes.{node_count}
 use Rattle.batch_recipe.proofs.NodeOrder.{counted_nodes}
 
@@ -17,7 +17,7 @@ all-append (x ∷ xs) ys h k = (h.0, all-append xs ys h.1 k)
 
 mutual
   stand : (p : Place) (above : List Name) (t : Tree) → IsPlaced p t → AllByRecursion (λ (n : Node). StandsAt n.place n.here) (nodes p above t)
-  stand p above (act s w) h = (h.0, stand_within p (above ++ resources_of s.needs) w h.1)
+  stand p above (act s w) h = (h.0, stand_within p (above ++ resources_needed s.needs) w h.1)
   stand p above skip h = (tt, tt)
   stand p above (seq cs) h = (tt, stand_of_each p above 0 cs h)
   stand p above (par cs) h = (tt, stand_of_each p above 0 cs h)
@@ -36,7 +36,7 @@ mutual
   stand_of_choices p above i (otherwise t) h = stand (child p i) above t h
   stand_of_choices p above i (choice c t ch) h = all-append (nodes (child p i) above t) (nodes_of_choices p above (i + 1) ch) (stand (child p i) above t h.0) (stand_of_choices p above (i + 1) ch h.1)
 
-here-place : (x : Tree) (p : Place) → StandsAt p x → 0 < length (step_of x).needs → (step_of x).place ≡ p
+here-place : (x : Tree) (p : Place) → StandsAt p x → 0 < length (tree_step x).needs → (tree_step x).place ≡ p
 here-place (act s w) p h l = h
 here-place skip p h l = absurd (omega (arith, l))
 here-place (seq cs) p h l = absurd (omega (arith, l))

@@ -5,7 +5,7 @@ use Rattle.std.proofs.lemmas.Option.{slice_get-get_or}
 use Rattle.batch_matrix.specs.declared.state.State.{State}
 use Rattle.batch_matrix.specs.declared.state.State.TheVariants.{Idle}
 use Rattle.batch_recipe.specs.Conditions.{Name}
-use Rattle.batch_recipe.specs.Needs.{resources_of}
+use Rattle.batch_recipe.specs.Needs.{resources_needed}
 use Rattle.batch_recipe.specs.Nodes.{Node, node, nodes, nodes_within, nodes_of_each, nodes_of_choices, child}
 use Rattle.batch_recipe.specs.Places.{NoNodeAt}
 use Rattle.batch_recipe.specs.Tree.{Place, Step, Tree, act, skip, seq, par, sel, loop, Task, runs, follows, Trees, no_trees, tree, Choices, otherwise, choice}
@@ -51,7 +51,7 @@ later-in x ns s h = (h.0, inr h.1, h.2)
 mutual
   step-node : (q : Place) (above : List Name) (t : Tree) (s : Step) → IsPlaced q t → Has (steps t) s → StandsIn (nodes q above t) s
   step-node q above (act u w) s p (inl e) = (node q above (act u w), inl refl, sym p.0 ∙ ap (λ (z : Step). z.place) e)
-  step-node q above (act u w) s p (inr m) = later-in (node q above (act u w)) _ s (step-node_below q (above ++ resources_of u.needs) w s p.1 m)
+  step-node q above (act u w) s p (inr m) = later-in (node q above (act u w)) _ s (step-node_below q (above ++ resources_needed u.needs) w s p.1 m)
   step-node q above skip s p m = absurd m
   step-node q above (seq ts) s p m = later-in (node q above (seq ts)) _ s (step-node_each q above 0 ts s p m)
   step-node q above (par ts) s p m = later-in (node q above (par ts)) _ s (step-node_each q above 0 ts s p m)

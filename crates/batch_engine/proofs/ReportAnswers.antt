@@ -20,7 +20,7 @@ use Rattle.batch_recipe.specs.Values.{are_outputs, have_output, left_out, with_v
 use Rattle.batch_recipe.proofs.FirstMatch.{find-nowhere, find-position}
 use Rattle.batch_verify.proofs.ListLookups.{found_below}
 use Rattle.batch_model.specs.Runs.{Reacts}
-use Rattle.batch_arbiter.specs.Allocation.{shares_of, line_of}
+use Rattle.batch_arbiter.specs.Allocation.{shares_at, queue_at}
 use Rattle.batch_chart.specs.NodesOf.{phase_at, place_at}
 use Rattle.batch_chart.specs.Charts.{IsRunningOf, RunsAs}
 use Rattle.batch_chart.specs.declared.running.Running.{Running}
@@ -33,7 +33,7 @@ use Rattle.batch_engine.specs.Names as Names
 use Rattle.batch_engine.specs.Names.{node_of, output_name, phase_name, resource_name}
 use Rattle.batch_engine.specs.Reports.{IsLiveOf, IsLivePhase, told_of}
 use Rattle.batch_engine.specs.Surface.{reply_of}
-use Rattle.batch_engine.specs.View.{EngineView, setup, batch_of, bound_to, number_of, line_in, line_at, plant_of, tree_of, recipe_made}
+use Rattle.batch_engine.specs.View.{EngineView, setup, model_batch, bound_to, resource_number, line_in, line_at, plant_of, tree_of, recipe_made}
 use Rattle.batch_engine.specs.Kept.{IsRunningBatch, IsKept}
 use Rattle.batch_record_laws.proofs.Entries.{IsOnce}
 use Rattle.batch_engine.proofs.RecordOfPlant.{standing}
@@ -139,25 +139,25 @@ module _ {v : EngineView} {unit name : Name} {l : LivePhase} {b : Batch} {x : do
       abbrev taken : State → EngineView
       taken y = changed v l.index (record b { values = vs; state = y; running = r }) v.allocation
 
-      becomes : batch_of v.cleared (record b { values = vs; state = batch_state_after word b.state; running = r })
-          ≡ batch_reported word outputs (place_at (tree_of v.cleared b) l.node) end (batch_of v.cleared b)
+      becomes : model_batch v.cleared (record b { values = vs; state = batch_state_after word b.state; running = r })
+          ≡ batch_reported word outputs (place_at (tree_of v.cleared b) l.node) end (model_batch v.cleared b)
       becomes =
-          let d : Model.Batch = record (batch_of v.cleared b) { values = vs; state = batch_state_after word b.state } in
+          let d : Model.Batch = record (model_batch v.cleared b) { values = vs; state = batch_state_after word b.state } in
           let now = left d refl (runs-as v j.seat.kept l.index b j.seat.at) in
           ap₂ (as_left d) (sym now.rest) (sym now.held)
-          ∙ ap (λ ws. in_act (place_at (tree_of v.cleared b) l.node) (phase_after end) (let e : Model.Batch = record (batch_of v.cleared b) { values = ws; state = batch_state_after word b.state } in e)) values
+          ∙ ap (λ ws. in_act (place_at (tree_of v.cleared b) l.node) (phase_after end) (let e : Model.Batch = record (model_batch v.cleared b) { values = ws; state = batch_state_after word b.state } in e)) values
 
       line : (n : Name) (m : Option ℕ) → line_at (taken (batch_state_after word b.state)) m ≡ line_at v m
       line n None = refl
       line n (Some q) =
-          acts-same v.cleared v.next_number (record b { values = vs; state = batch_state_after word b.state; running = r }) v.batches l.index b j.seat.at refl refl (line_of v.allocation q)
+          acts-same v.cleared v.next_number (record b { values = vs; state = batch_state_after word b.state; running = r }) v.batches l.index b j.seat.at refl refl (queue_at v.allocation q)
 
       plant : plant_of (taken (batch_state_after word b.state)) ≡ in_batch b.number (batch_reported word outputs (place_at (tree_of v.cleared b) l.node) end) (plant_of v)
       plant =
           ap₂ (λ (bs : List Model.Batch) (l : Name → List Share). let p : Plant = record { batches = bs; next_number = v.next_number; line = l } in p)
           (batches-same v.cleared v.next_number (record b { values = vs; state = batch_state_after word b.state; running = r }) v.batches l.index b
           (batch_reported word outputs (place_at (tree_of v.cleared b) l.node) end) (standing v j.seat.kept).numbers j.seat.at becomes)
-          (let lines : (n : Name) → line_in (taken (batch_state_after word b.state)) n ≡ line_in v n = λ n. line n (number_of v.cleared n) in fun_ext lines)
+          (let lines : (n : Name) → line_in (taken (batch_state_after word b.state)) n ≡ line_in v n = λ n. line n (resource_number v.cleared n) in fun_ext lines)
 
       abbrev reply : State → Reply
       reply y = Reply.Reported l.phase.unit l.phase.phase word b.number l.recipe l.node y
@@ -166,7 +166,7 @@ module _ {v : EngineView} {unit name : Name} {l : LivePhase} {b : Batch} {x : do
       words =
           ap₂ (λ u n. reported u n word b.number (place_at (tree_of v.cleared b) l.node) (batch_state_after word b.state)) (sym j.phase.unit_is) (sym j.phase.name_is)
           ∙ ap (λ p. reported (resource_name v.cleared l.phase.unit) (phase_name v.cleared l.phase.unit l.phase.phase) word b.number p (batch_state_after word b.state))
-          (sym (ap (λ q. Names.place_at v.cleared q l.node) j.phase.recipe_is ∙ place-here v j.seat.kept l.index b j.seat.at l.node))
+          (sym (ap (λ q. Names.recipe_place v.cleared q l.node) j.phase.recipe_is ∙ place-here v j.seat.kept l.index b j.seat.at l.node))
 
       reacts : Reacts (setup v.cleared) (plant_of v) (Events.report unit name word outputs) (reply_of v.cleared (reply (batch_state_after word b.state))) (plant_of (taken (batch_state_after word b.state)))
       reacts =
@@ -177,11 +177,11 @@ module _ {v : EngineView} {unit name : Name} {l : LivePhase} {b : Batch} {x : do
       kept =
           event-kept v j.seat.kept (set v.batches l.index (record b { values = vs; state = batch_state_after word b.state; running = r })) v.next_number v.allocation (Events.report unit name word outputs)
           (reply_of v.cleared (reply (batch_state_after word b.state))) reacts
-          (λ n q f. acts-same v.cleared v.next_number (record b { values = vs; state = batch_state_after word b.state; running = r }) v.batches l.index b j.seat.at refl refl (shares_of v.allocation q))
+          (λ n q f. acts-same v.cleared v.next_number (record b { values = vs; state = batch_state_after word b.state; running = r }) v.batches l.index b j.seat.at refl refl (shares_at v.allocation q))
           (Each-set (IsRunningBatch v.cleared) v.batches l.index (record b { values = vs; state = batch_state_after word b.state; running = r }) j.seat.kept.batches
           (record { known = (batch-runs v j.seat.kept l.index b j.seat.at).known; units = (batch-runs v j.seat.kept l.index b j.seat.at).units; runs = runs }))
           j.seat.kept.cell
-          (λ n q f. subst IsOnce (sym (acts-same v.cleared v.next_number (record b { values = vs; state = batch_state_after word b.state; running = r }) v.batches l.index b j.seat.at refl refl (line_of v.allocation q)))
+          (λ n q f. subst IsOnce (sym (acts-same v.cleared v.next_number (record b { values = vs; state = batch_state_after word b.state; running = r }) v.batches l.index b j.seat.at refl refl (queue_at v.allocation q)))
           (j.seat.kept.once n q f))
           (room-quiet v l.index b (record b { values = vs; state = batch_state_after word b.state; running = r }) j.seat.at refl j.seat.kept.room)
 
@@ -192,20 +192,20 @@ module _ {v : EngineView} {unit name : Name} {l : LivePhase} {b : Batch} {x : do
 -- The search for the live phase
 
 pub live-here : (v : EngineView) (unit name : Name) (i : ℕ) (b : Batch) (bs : List Batch) (l : Events.LivePhase) → slice_get bs i ≡ Some b
-    → ((j : ℕ) (d : Batch) → j < i → slice_get bs j ≡ Some d → live_in (batch_of v.cleared d) unit name (acts (batch_of v.cleared d).rest) ≡ None)
-    → live_in (batch_of v.cleared b) unit name (acts (batch_of v.cleared b).rest) ≡ Some l → live_phase (map (batch_of v.cleared) bs) unit name ≡ Some l
+    → ((j : ℕ) (d : Batch) → j < i → slice_get bs j ≡ Some d → live_in (model_batch v.cleared d) unit name (acts (model_batch v.cleared d).rest) ≡ None)
+    → live_in (model_batch v.cleared b) unit name (acts (model_batch v.cleared b).rest) ≡ Some l → live_phase (map (model_batch v.cleared) bs) unit name ≡ Some l
 live-here v unit name i b [] l e none here = absurd cc
 live-here v unit name zero b (x ∷ bs) l e none here =
     let g : x ≡ b = cc in
-    ap (λ (o : Option Events.LivePhase). option_or o (live_phase (map (batch_of v.cleared) bs) unit name))
-    (ap (λ (z : Batch). live_in (batch_of v.cleared z) unit name (acts (batch_of v.cleared z).rest)) g ∙ here)
+    ap (λ (o : Option Events.LivePhase). option_or o (live_phase (map (model_batch v.cleared) bs) unit name))
+    (ap (λ (z : Batch). live_in (model_batch v.cleared z) unit name (acts (model_batch v.cleared z).rest)) g ∙ here)
 live-here v unit name (suc i) b (x ∷ bs) l e none here =
-    ap (λ (o : Option Events.LivePhase). option_or o (live_phase (map (batch_of v.cleared) bs) unit name)) (none 0 x (omega arith) refl)
+    ap (λ (o : Option Events.LivePhase). option_or o (live_phase (map (model_batch v.cleared) bs) unit name)) (none 0 x (omega arith) refl)
     ∙ live-here v unit name i b bs l e (λ j d lt f. none (suc j) d (omega arith) f) here
 
 pub live-nowhere : (v : EngineView) (unit name : Name) (bs : List Batch)
-    → ((j : ℕ) (d : Batch) → slice_get bs j ≡ Some d → live_in (batch_of v.cleared d) unit name (acts (batch_of v.cleared d).rest) ≡ None) → live_phase (map (batch_of v.cleared) bs) unit name ≡ None
+    → ((j : ℕ) (d : Batch) → slice_get bs j ≡ Some d → live_in (model_batch v.cleared d) unit name (acts (model_batch v.cleared d).rest) ≡ None) → live_phase (map (model_batch v.cleared) bs) unit name ≡ None
 live-nowhere v unit name [] none = refl
 live-nowhere v unit name (x ∷ bs) none =
-    ap (λ (o : Option Events.LivePhase). option_or o (live_phase (map (batch_of v.cleared) bs) unit name)) (none 0 x refl)
+    ap (λ (o : Option Events.LivePhase). option_or o (live_phase (map (model_batch v.cleared) bs) unit name)) (none 0 x refl)
     ∙ live-nowhere v unit name bs (λ j d e. none (suc j) d e)

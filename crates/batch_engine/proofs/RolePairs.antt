@@ -19,7 +19,7 @@ use Rattle.batch_record_laws.proofs.Entries.{name_same, name_self}
 use Rattle.batch_verify.specs.ClearedSet.{ClearedSet}
 use Rattle.batch_engine.specs.Bindings.{AreTaken, are_of_roles, roles_in}
 use Rattle.batch_engine.specs.Creates.{AreUnitsFor}
-use Rattle.batch_engine.specs.Names.{resource_name, roles_told}
+use Rattle.batch_engine.specs.Names.{resource_name, roles_taken}
 use Rattle.batch_engine.specs.View.{master_at}
 use Rattle.batch_engine.proofs.BatchLookups.{master-found}
 use Rattle.batch_engine.proofs.BatchAfterMove.{fun_ext}
@@ -222,7 +222,7 @@ module _ (c : ClearedSet) (pairs : List (Name × Name)) where
       let few : length roles ≤ length units = omega (arith, r.few_roles, taken.count) in
       let named : AreNamed roles units = λ k role e. unit-named c (get_or units k 0) (bound_by pairs role.name) (taken.each k role e) in
       let master : master_at c recipe ≡ Rattle.batch_model.specs.Setups.master_of c.cell r = master-found c recipe r at in
-      let kept : kept_pairs roles units ≡ roles_told c recipe units = ap (λ (ns : List Name). zip ns (map (resource_name c) units)) (sym (roles-read c recipe r at)) in
+      let kept : kept_pairs roles units ≡ roles_taken c recipe units = ap (λ (ns : List Name). zip ns (map (resource_name c) units)) (sym (roles-read c recipe r at)) in
       record {
         binds = subst (λ (m : Master). is_binding m.roles pairs ≡ true) (sym master) taken.binds;
         own = record { count = taken.count; within = taken.within };

@@ -24,7 +24,7 @@ use Rattle.batch_engine.proofs.RecordOfPlant.{safe, standing}
 pub space-in-advance : (v : EngineView) (k : IsKept v) (i : ℕ) (b : Batch) → slice_get v.batches i ≡ Some b → IsRunningOf (tree_of v.cleared b) b.running → HasSpace b.running
 space-in-advance v k i b at runs =
     let c : Tree = tree_of v.cleared b in
-    let d : Model.Batch = View.batch_of v.cleared b in
+    let d : Model.Batch = View.model_batch v.cleared b in
     let here : Has (plant_of v).batches d = Has-batch_of v.cleared v.batches b (has v k i b at) in
     let sound : Safety.IsSound (setup v.cleared) k.cleared.0 d = (safe v k).sound d here in
     let stands : IsStandingBatch (setup v.cleared) d = standing-of (setup v.cleared) (plant_of v) (standing v k) d here in

@@ -18,7 +18,7 @@ use Rattle.batch_set.specs.declared.linked.Source.{Source}
 use Rattle.batch_set.specs.declared.linked.Source.TheVariants.{Resource, Role, Unknown}
 use Rattle.batch_engine.specs.Kept.{AreUnits}
 use Rattle.batch_engine.specs.Names.{resource_name, roles_at}
-use Rattle.batch_engine.specs.View.{bound_to, number_of}
+use Rattle.batch_engine.specs.View.{bound_to, resource_number}
 use Rattle.batch_engine.proofs.Roles.{bound-at, names-differ}
 use Rattle.batch_engine.proofs.RoomForAsk.{number-at}
 use Rattle.batch_engine.proofs.MoveLines.{roles-read}
@@ -34,16 +34,16 @@ enough c = omega (arith, length-resource_names c.cell.units.items c.cell.modules
 
 -- a unit's number is that of its name, among the units and among the resources
 pub unit-numbers : (c : ClearedSet) (u : ℕ) → u < length (units_of c.cell)
-    → (number_of c (resource_name c u) ≡ Some u) × (position (same_name (resource_name c u)) (units_of c.cell) ≡ Some u)
+    → (resource_number c (resource_name c u) ≡ Some u) × (position (same_name (resource_name c u)) (units_of c.cell) ≡ Some u)
 unit-numbers c u l =
     let units = c.cell.units.items in
     let few : u < length units = omega (arith, l, length-map units (λ (x : Unit). x.name)) in
     let more : length units ≤ length (resources_of c.cell) = enough c in
-    let number : number_of c (resource_name c u) ≡ Some u = number-at c u (resource_name c u) (name-there (resources_of c.cell) u (omega (arith, few, more))) in
+    let number : resource_number c (resource_name c u) ≡ Some u = number-at c u (resource_name c u) (name-there (resources_of c.cell) u (omega (arith, few, more))) in
     (number, resource_is_unit (same_name (resource_name c u)) units c.cell.modules.items c.cell.shared.items u number few)
 
 -- a unit of the cell has this number among the units if it has it among the resources
-pub unit-is_resource : (c : ClearedSet) (name : Name) (q u : ℕ) → number_of c name ≡ Some q → u < length (units_of c.cell)
+pub unit-is_resource : (c : ClearedSet) (name : Name) (q u : ℕ) → resource_number c name ≡ Some q → u < length (units_of c.cell)
     → (q ≡ u → position (same_name name) (units_of c.cell) ≡ Some u) × (position (same_name name) (units_of c.cell) ≡ Some u → q ≡ u)
 unit-is_resource c name q u number below =
     let units = c.cell.units.items in
@@ -79,14 +79,14 @@ module _ (c : ClearedSet) (recipe : ℕ) (r : Recipe) (at : slice_get c.recipes 
 
   -- its number, among the resources and among the units
   pub role-numbers : (role : ℕ) → role < length (roles_at c recipe)
-      → (number_of c (bound_to c recipe units (get_or (roles_at c recipe) role [])) ≡ Some (get_or units role 0))
+      → (resource_number c (bound_to c recipe units (get_or (roles_at c recipe) role [])) ≡ Some (get_or units role 0))
       × (position (same_name (bound_to c recipe units (get_or (roles_at c recipe) role []))) (units_of c.cell) ≡ Some (get_or units role 0))
   role-numbers role l =
-      subst (λ name. (number_of c name ≡ Some (get_or units role 0)) × (position (same_name name) (units_of c.cell) ≡ Some (get_or units role 0)))
+      subst (λ name. (resource_number c name ≡ Some (get_or units role 0)) × (position (same_name name) (units_of c.cell) ≡ Some (get_or units role 0)))
       (sym (role-taken role l)) (unit-numbers c (get_or units role 0) (unit-within role l))
 
   -- the number of the resource that a source is of
-  pub source-number : (source : Source) (name : Name) → IsSource c.cell r.roles.items (bound_to c recipe units) source name → number_for units source ≡ number_of c name
+  pub source-number : (source : Source) (name : Name) → IsSource c.cell r.roles.items (bound_to c recipe units) source name → number_for units source ≡ resource_number c name
   source-number (Resource number) name h = sym (number-at c number name h)
   source-number Unknown name h = sym h
   source-number (Role number) name h =
@@ -96,4 +96,4 @@ module _ (c : ClearedSet) (recipe : ℕ) (r : Recipe) (at : slice_get c.recipes 
       let known : number < length (roles_at c recipe) = slice_get_within (roles_at c recipe) number own there in
       slice_get-get_or units number 0 (omega (arith, known, few-roles, length-map units (resource_name c)))
       ∙ sym (role-numbers number known).0
-      ∙ ap (number_of c) (ap (bound_to c recipe units) (get_or_from_slice_get (roles_at c recipe) number own [] there) ∙ h.2)
+      ∙ ap (resource_number c) (ap (bound_to c recipe units) (get_or_from_slice_get (roles_at c recipe) number own [] there) ∙ h.2)

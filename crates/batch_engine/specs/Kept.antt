@@ -11,19 +11,19 @@ use Rattle.batch_model.specs.Runs.{Out, Leads}
 use Rattle.batch_model.specs.Records.{holders_told}
 use Rattle.batch_record_laws.specs.Once.{IsOnce}
 use Rattle.batch_verify.specs.ClearedSet.{ClearedSet}
-use Rattle.batch_arbiter.specs.Allocation.{Allocation, line_of, shares_of}
+use Rattle.batch_arbiter.specs.Allocation.{Allocation, queue_at, shares_at}
 use Rattle.batch_chart.specs.NodesOf.{needs_in}
 use Rattle.batch_chart.specs.Charts.{IsRunningOf}
 use Rattle.batch_engine.specs.declared.batch.Batch.{Batch}
 use Rattle.batch_engine.specs.Batches.{BatchList, HaveOwnNumbers}
-use Rattle.batch_engine.specs.View.{EngineView, setup, acts_of, names_of, number_of, plant_of, tree_of}
+use Rattle.batch_engine.specs.View.{EngineView, setup, claimed_shares, names_of, resource_number, plant_of, tree_of}
 
 -- a record leads to the plant, and the shares of each resource are those that it tells, in the same order
 pub record IsTracked (v : EngineView) : Type 0 where
   pub events : List Event
   pub outs : List Out
   pub leads : Leads (setup v.cleared) opening events outs (plant_of v)
-  pub shares : (k : ℕ) (name : Name) → number_of v.cleared name ≡ Some k → acts_of v.cleared v.batches (shares_of v.allocation k) ≡ holders_told outs name
+  pub shares : (k : ℕ) (name : Name) → resource_number v.cleared name ≡ Some k → claimed_shares v.cleared v.batches (shares_at v.allocation k) ≡ holders_told outs name
 
 -- the arbiter has the cell's resources
 pub record IsOfCell (c : ClearedSet) (a : Allocation) : Type 0 where
@@ -60,7 +60,7 @@ pub record IsKept (v : EngineView) : Type 0 where
   pub cell : IsOfCell v.cleared v.allocation
   pub tracked : IsTracked v
   -- no act is in a line twice
-  pub once : (name : Name) (k : ℕ) → number_of v.cleared name ≡ Some k → IsOnce (acts_of v.cleared v.batches (line_of v.allocation k))
+  pub once : (name : Name) (k : ℕ) → resource_number v.cleared name ≡ Some k → IsOnce (claimed_shares v.cleared v.batches (queue_at v.allocation k))
   pub room : HasRoom v
 
 -- the invariant of a control's fields: that of the engine, each batch can be found by its number, and the needs are counted

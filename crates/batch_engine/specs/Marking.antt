@@ -13,7 +13,7 @@ use Rattle.batch_engine.specs.declared.step.Step.{Step}
 use Rattle.batch_engine.specs.Marked.{HasNoMove}
 use Rattle.batch_engine.specs.Marks.{IsUnmarked}
 use Rattle.batch_engine.specs.Steps.{IsNext, IsNextStep, IsServedNode, index_of}
-use Rattle.batch_engine.specs.View.{EngineView, number_of}
+use Rattle.batch_engine.specs.View.{EngineView, resource_number}
 
 -- Of the machine
 
@@ -43,9 +43,9 @@ noted_for (Some resource) number holders = slice_set holders resource number
 
 -- the batch is noted that is granted one unit of a resource
 abbrev pub noted : (Name → Option ℕ) → Move → List ℕ → List ℕ
-noted number_of (grant number place need) holders =
-    elim (nat_eq need.units 1) [ true ↦ noted_for (number_of need.resource) number holders | false ↦ holders ]
-noted number_of _ holders = holders
+noted resource_number (grant number place need) holders =
+    elim (nat_eq need.units 1) [ true ↦ noted_for (resource_number need.resource) number holders | false ↦ holders ]
+noted resource_number _ holders = holders
 
 -- the same of a line
 abbrev pub noted_by : Line → List ℕ → List ℕ
@@ -72,7 +72,7 @@ IsFirstStep v (Some s) = IsNextStep v (Some s) × (index_of s < length v.batches
 -- this is the number of the resource of which the next move gives or takes a share
 abbrev pub IsTouched : EngineView → Option ℕ → Type 0
 IsTouched v number =
-    (m : Move) (resource : Name) → IsNext v m → touched m ≡ Some resource → (q : ℕ) × (number ≡ Some q) × (number_of v.cleared resource ≡ Some q)
+    (m : Move) (resource : Name) → IsNext v m → touched m ≡ Some resource → (q : ℕ) × (number ≡ Some q) × (resource_number v.cleared resource ≡ Some q)
 
 -- the batch that the reply names
 abbrev pub named_by : Reply → Option ℕ

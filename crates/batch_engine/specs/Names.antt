@@ -49,35 +49,35 @@ abbrev pub roles_at : ClearedSet → ℕ → List Name
 roles_at c recipe = elim (slice_get c.recipes recipe) [ None ↦ [] | Some r ↦ roles_of r ]
 
 -- each role of a recipe with the unit that takes it, the units by their numbers; numbers beyond the roles are left out
-abbrev pub roles_told : ClearedSet → ℕ → List ℕ → List (Name × Name)
-roles_told c recipe units = zip (roles_at c recipe) (map (resource_name c) units)
+abbrev pub roles_taken : ClearedSet → ℕ → List ℕ → List (Name × Name)
+roles_taken c recipe units = zip (roles_at c recipe) (map (resource_name c) units)
 
 -- Nodes
 
 abbrev pub node_of : ℕ → Recipe → Option Node
 node_of node r = slice_get (procedure_nodes r.acts) node
 
-abbrev pub node_at : ClearedSet → ℕ → ℕ → Option Node
-node_at c recipe node = elim (slice_get c.recipes recipe) [ None ↦ None | Some r ↦ node_of node r ]
+abbrev pub recipe_node : ClearedSet → ℕ → ℕ → Option Node
+recipe_node c recipe node = elim (slice_get c.recipes recipe) [ None ↦ None | Some r ↦ node_of node r ]
 
-abbrev pub place_of : Option Node → Place
-place_of None = []
-place_of (Some at) = at.place
+abbrev pub node_place : Option Node → Place
+node_place None = []
+node_place (Some at) = at.place
 
-abbrev pub place_at : ClearedSet → ℕ → ℕ → Place
-place_at c recipe node = place_of (node_at c recipe node)
+abbrev pub recipe_place : ClearedSet → ℕ → ℕ → Place
+recipe_place c recipe node = node_place (recipe_node c recipe node)
 
 -- the name of an act that is no phase step
-abbrev pub name_in : Tree → Name
-name_in (act s (follows name t)) = name
-name_in _ = []
+abbrev pub name_of_act : Tree → Name
+name_of_act (act s (follows name t)) = name
+name_of_act _ = []
 
 abbrev pub name_of : Option Node → Name
 name_of None = []
-name_of (Some at) = name_in at.here
+name_of (Some at) = name_of_act at.here
 
-abbrev pub name_at : ClearedSet → ℕ → ℕ → Name
-name_at c recipe node = name_of (node_at c recipe node)
+abbrev pub act_name_at : ClearedSet → ℕ → ℕ → Name
+act_name_at c recipe node = name_of (recipe_node c recipe node)
 
 -- the names of the values that the phase of a phase step is handed
 abbrev pub handed_in : Tree → List Name
@@ -89,17 +89,17 @@ handed_of None = []
 handed_of (Some at) = handed_in at.here
 
 abbrev pub handed_at : ClearedSet → ℕ → ℕ → List Name
-handed_at c recipe node = handed_of (node_at c recipe node)
+handed_at c recipe node = handed_of (recipe_node c recipe node)
 
 -- the names of the outputs that it reports once it is done
 abbrev pub reports_at : ClearedSet → ℕ → ℕ → List Name
-reports_at c recipe node = reports_of (node_at c recipe node)
+reports_at c recipe node = reports_of (recipe_node c recipe node)
 
 -- one of these, by its number among them
 abbrev pub output_name : ClearedSet → ℕ → ℕ → ℕ → Name
 output_name c recipe node output = unwrap_or (slice_get (reports_at c recipe node) output) []
 
 -- a phase of a unit, as the phase step at a node runs it
-abbrev pub phase_at : ClearedSet → ℕ → ℕ → ℕ → ℕ → Phase
-phase_at c recipe node unit phase =
+abbrev pub phase_run_at : ClearedSet → ℕ → ℕ → ℕ → ℕ → Phase
+phase_run_at c recipe node unit phase =
     record { unit = resource_name c unit; name = phase_name c unit phase; handed = handed_at c recipe node; reports = reports_at c recipe node }

@@ -1,16 +1,16 @@
 -- private: the step that the engine makes next.
 use Rattle.std.specs.Prelude.{◌≡◌, ◌<◌, ◌≤◌, ℕ, [], Option, Some, None, IfSome, option_map, slice_get, length, position, ⊤}
 use Rattle.batch_model.specs.Moves as Model
-use Rattle.batch_model.specs.Moves.{next, after, least, batch_moves, grant}
+use Rattle.batch_model.specs.Moves.{next, after_move, least, batch_moves, grant}
 use Rattle.batch_model.specs.Plant.{batch_at}
-use Rattle.batch_arbiter.specs.Allocation.{Allocation, asked, batch_node, next_grant, passed, released, resource_count}
+use Rattle.batch_arbiter.specs.Allocation.{Allocation, with_ask, batch_node, next_grant, with_pass, with_release, resource_count}
 use Rattle.batch_chart.specs.NodesOf.{node_at, place_at, step_at, need_at, phase_at, phase_named}
 use Rattle.batch_cell.specs.LookUps.{units_of}
 use Rattle.batch_recipe.specs.Conditions.{Name, same_name}
 use Rattle.batch_recipe.specs.Nodes.{node_count}
 use Rattle.batch_chart.specs.Charts.{CanMake, IsWaitingAt, AsksAt, remains, StandsFor}
 use Rattle.batch_chart.specs.OwnMoves.{grants}
-use Rattle.batch_chart.specs.Seen.{move_of}
+use Rattle.batch_chart.specs.Seen.{machine_move}
 use Rattle.batch_recipe.specs.declared.recipe.Recipe as document
 use Rattle.batch_chart.specs.declared.chart_move.Move.{Move}
 use Rattle.batch_chart.specs.declared.chart_move.Move.TheVariants.{Ask, Pass, Release, State}
@@ -26,7 +26,7 @@ use Rattle.batch_engine.specs.Surface as Surface
 use Rattle.batch_set.specs.Linking.{IsLinkedSet}
 use Rattle.batch_set.specs.declared.linked_set.LinkedSet.{LinkedSet}
 use Rattle.batch_verify.specs.ClearedSet.{ClearedSet}
-use Rattle.batch_engine.specs.View.{EngineView, setup, batch_of, number_of, plant_of, tree_of}
+use Rattle.batch_engine.specs.View.{EngineView, setup, model_batch, resource_number, plant_of, tree_of}
 
 -- the batch at an index, and its recipe
 pub record BatchAt (v : EngineView) (i : ℕ) (b : Batch) (chart : document.Recipe) : Type 0 where
@@ -40,7 +40,7 @@ pub record IsOwnStep (v : EngineView) (told : Model.Move → Type 0) (i : ℕ) (
   pub here : BatchAt v i batch chart
   pub can : CanMake chart batch.running m
   pub about : StandsFor (tree_of v.cleared batch) (remains (tree_of v.cleared batch) batch.running) m
-  pub is : told (move_of (tree_of v.cleared batch) (batch_of v.cleared batch) m)
+  pub is : told (machine_move (tree_of v.cleared batch) (model_batch v.cleared batch) m)
 
 -- the act at this node of the batch with this number would be served of the resource
 abbrev pub IsServedNode : Allocation → ℕ → ℕ → ℕ → Type 0
@@ -54,7 +54,7 @@ pub record IsGrantStep (v : EngineView) (told : Model.Move → Type 0) (i node r
   pub waits : IsWaitingAt chart batch.running node
   pub need : ℕ
   pub asks : AsksAt (tree_of v.cleared batch) (remains (tree_of v.cleared batch) batch.running) node need
-  pub number : number_of v.cleared (need_at (tree_of v.cleared batch) node need).resource ≡ Some resource
+  pub number : resource_number v.cleared (need_at (tree_of v.cleared batch) node need).resource ≡ Some resource
   pub units_are : (need_at (tree_of v.cleared batch) node need).units ≡ units
   pub first : IsServedNode v.allocation resource batch.number node
   pub is : told (grant batch.number (place_at (tree_of v.cleared batch) node) (need_at (tree_of v.cleared batch) node need))
@@ -71,7 +71,7 @@ index_of (Grant i node resource units) = i
 pub record IsLeastAt (v : EngineView) (i : ℕ) (m : Model.Move) : Type 0 where
   pub batch : Batch
   pub at : slice_get v.batches i ≡ Some batch
-  pub least_is : least (batch_moves (setup v.cleared) (plant_of v) (batch_of v.cleared batch)) ≡ Some m
+  pub least_is : least (batch_moves (setup v.cleared) (plant_of v) (model_batch v.cleared batch)) ≡ Some m
 
 abbrev pub IsBatchStep : EngineView → ℕ → Option Step → Type 0
 IsBatchStep v i None = HasNoMove v i
@@ -91,13 +91,13 @@ IsBatch v b = (i : ℕ) × (slice_get v.batches i ≡ Some b)
 -- the batch of the engine with this number, if one has it
 abbrev pub IsFoundBy : EngineView → ℕ → Option Batch → Type 0
 IsFoundBy v n None = batch_at (plant_of v) n ≡ None
-IsFoundBy v n (Some b) = IsBatch v b × (batch_at (plant_of v) n ≡ Some (batch_of v.cleared b))
+IsFoundBy v n (Some b) = IsBatch v b × (batch_at (plant_of v) n ≡ Some (model_batch v.cleared b))
 
 -- the first act in line of a batch that the arbiter would serve
 abbrev pub IsFirstGrant : EngineView → Batch → Option (ℕ × ℕ × ℕ) → Type 0
-IsFirstGrant v b None = grants (setup v.cleared) (plant_of v) (batch_of v.cleared b) ≡ []
+IsFirstGrant v b None = grants (setup v.cleared) (plant_of v) (model_batch v.cleared b) ≡ []
 IsFirstGrant v b (Some (node, resource, units)) =
-    (i : ℕ) → slice_get v.batches i ≡ Some b → IsGrantStep v (λ m. least (grants (setup v.cleared) (plant_of v) (batch_of v.cleared b)) ≡ Some m) i node resource units
+    (i : ℕ) → slice_get v.batches i ≡ Some b → IsGrantStep v (λ m. least (grants (setup v.cleared) (plant_of v) (model_batch v.cleared b)) ≡ Some m) i node resource units
 
 -- from one node on up to another no act of the batch with this number would be served
 pub record AreUnserved (v : EngineView) (number from to : ℕ) : Type 0 where
@@ -118,7 +118,7 @@ IsOfAct m = ⊤
 -- the engine makes its plant's next move, m
 pub record Makes (old new : EngineView) (m : Model.Move) : Type 0 where
   pub cleared : new.cleared ≡ old.cleared
-  pub plant : plant_of new ≡ after (plant_of old) m
+  pub plant : plant_of new ≡ after_move (plant_of old) m
 
 -- the engine makes its plant's next move
 abbrev pub MakesNext : EngineView → EngineView → Type 0
@@ -137,7 +137,7 @@ pub record IsNeedAt (v : EngineView) (set : LinkedSet) (recipe : document.Recipe
 -- this is the number of the resource that the act at the node of a batch needs, and how many units of it
 abbrev pub IsNumberAt : ClearedSet → Batch → ℕ → ℕ → ℕ → ℕ → Type 0
 IsNumberAt c b node need resource units =
-    (number_of c (need_at (tree_of c b) node need).resource ≡ Some resource) × ((need_at (tree_of c b) node need).units ≡ units)
+    (resource_number c (need_at (tree_of c b) node need).resource ≡ Some resource) × ((need_at (tree_of c b) node need).units ≡ units)
 
 -- this batch, at an index, makes its plant's next move
 pub record IsMover (v : EngineView) (i : ℕ) (b : Batch) (m : Move) : Type 0 where
@@ -145,7 +145,7 @@ pub record IsMover (v : EngineView) (i : ℕ) (b : Batch) (m : Move) : Type 0 wh
   pub at : slice_get v.batches i ≡ Some b
   pub can : (chart : document.Recipe) → slice_get v.cleared.recipes b.recipe ≡ Some chart → CanMake chart b.running m
   pub about : StandsFor (tree_of v.cleared b) (remains (tree_of v.cleared b) b.running) m
-  pub is : IsNext v (move_of (tree_of v.cleared b) (batch_of v.cleared b) m)
+  pub is : IsNext v (machine_move (tree_of v.cleared b) (model_batch v.cleared b) m)
 
 -- these are the linked recipes of the engine, the batch's recipe, and the arbiter
 abbrev pub IsMaking : EngineView → LinkedSet → document.Recipe → Allocation → ℕ → Batch → Move → Type 0
@@ -154,9 +154,9 @@ IsMaking v set recipe allocation i b m = IsMover v i b m × IsLinkedSet v.cleare
 -- the arbiter carries out the ask, the release or the pass that is the batch's move; by another move it stays as it is
 abbrev pub IsClaimed : ClearedSet → Batch → Move → Allocation → Allocation → Type 0
 IsClaimed c b (Ask node need) old new =
-    (resource : ℕ) × (units : ℕ) × IsNumberAt c b node need resource units × (new ≡ asked resource (record { batch = b.number; node = node; units = units }) old)
-IsClaimed c b (Release node need) old new = (resource : ℕ) × (units : ℕ) × IsNumberAt c b node need resource units × (new ≡ released resource b.number node old)
-IsClaimed c b (Pass node to need) old new = (resource : ℕ) × (units : ℕ) × IsNumberAt c b node need resource units × (new ≡ passed resource b.number node to old)
+    (resource : ℕ) × (units : ℕ) × IsNumberAt c b node need resource units × (new ≡ with_ask resource (record { batch = b.number; node = node; units = units }) old)
+IsClaimed c b (Release node need) old new = (resource : ℕ) × (units : ℕ) × IsNumberAt c b node need resource units × (new ≡ with_release resource b.number node old)
+IsClaimed c b (Pass node to need) old new = (resource : ℕ) × (units : ℕ) × IsNumberAt c b node need resource units × (new ≡ with_pass resource b.number node to old)
 IsClaimed c b m old new = new ≡ old
 
 -- a batch of the engine has an act at this node
@@ -174,7 +174,7 @@ pub record IsPhaseAt (c : ClearedSet) (b : Batch) (node unit phase : ℕ) : Type
 
 -- the line is that of this move of a batch, and the resource of which it gives or takes a share, if any, exists
 pub record Tells (v : EngineView) (b : Batch) (m : Move) (line : Line) : Type 0 where
-  pub is : Surface.move_of v.cleared line ≡ move_of (tree_of v.cleared b) (batch_of v.cleared b) m
+  pub is : Surface.move_of v.cleared line ≡ machine_move (tree_of v.cleared b) (model_batch v.cleared b) m
   pub known : IfSome (touched_by line) (λ resource. resource < resource_count v.allocation)
 
 -- the same of the next move

@@ -10,11 +10,11 @@ use Rattle.batch_model.specs.Events.{bound_by}
 use Rattle.batch_model.specs.Plant.{Master, plain, Setup, BatchAct, Share, Plant, size_out_of_range}
 use Rattle.batch_model.specs.Setups.{setup_of}
 use Rattle.batch_verify.specs.ClearedSet.{ClearedSet}
-use Rattle.batch_arbiter.specs.Allocation.{Claim, Allocation, line_of}
+use Rattle.batch_arbiter.specs.Allocation.{Claim, Allocation, queue_at}
 use Rattle.batch_chart.specs.NodesOf.{place_at}
 use Rattle.batch_chart.specs.Charts.{remains}
 use Rattle.batch_chart.specs.Early.{in_advance}
-use Rattle.batch_engine.specs.Names.{roles_told}
+use Rattle.batch_engine.specs.Names.{roles_taken}
 use Rattle.batch_engine.specs.declared.batch.Batch.{Batch}
 
 pub record EngineView : Type 0 where
@@ -41,7 +41,7 @@ master_at c k = slice_index_or (setup c).recipes k (plain no_recipe)
 
 -- which unit takes which role of a recipe, by the numbers of the units
 abbrev pub bound_to : ClearedSet → ℕ → List ℕ → Binding
-bound_to c k units = bound_by (roles_told c k units)
+bound_to c k units = bound_by (roles_taken c k units)
 
 -- the control recipe that is made from a master recipe for these units
 abbrev pub recipe_at : ClearedSet → ℕ → List ℕ → Model.Recipe
@@ -59,8 +59,8 @@ recipe_made c b = recipe_at c b.recipe b.units
 abbrev pub tree_of : ClearedSet → Batch → Tree
 tree_of c b = (recipe_made c b).procedure
 
-abbrev pub batch_of : ClearedSet → Batch → Model.Batch
-batch_of c b =
+abbrev pub model_batch : ClearedSet → Batch → Model.Batch
+model_batch c b =
     record {
       number = b.number;
       recipe = recipe_made c b;
@@ -77,32 +77,32 @@ place_in c [] n k = []
 place_in c (b ∷ bs) n k = elim (nat_eq b.number n) [ true ↦ place_at (tree_of c b) k | false ↦ place_in c bs n k ]
 
 -- the act that a claim is for
-abbrev pub act_of : ClearedSet → List Batch → Claim → BatchAct
-act_of c bs x = (x.batch, place_in c bs x.batch x.node)
+abbrev pub claim_act : ClearedSet → List Batch → Claim → BatchAct
+claim_act c bs x = (x.batch, place_in c bs x.batch x.node)
 
 -- the share that a claim is for
 abbrev pub share_of : ClearedSet → List Batch → Claim → Share
-share_of c bs x = record { act = act_of c bs x; units = x.units }
+share_of c bs x = record { act = claim_act c bs x; units = x.units }
 
 -- the shares of claims
-abbrev pub acts_of : ClearedSet → List Batch → List Claim → List Share
-acts_of c bs xs = map (share_of c bs) xs
+abbrev pub claimed_shares : ClearedSet → List Batch → List Claim → List Share
+claimed_shares c bs xs = map (share_of c bs) xs
 
 -- the names of the resources, by their numbers
 abbrev pub names_of : ClearedSet → List Name
 names_of c = resources_of c.cell
 
 -- the number of a resource
-abbrev pub number_of : ClearedSet → Name → Option ℕ
-number_of c name = position (same_name name) (names_of c)
+abbrev pub resource_number : ClearedSet → Name → Option ℕ
+resource_number c name = position (same_name name) (names_of c)
 
 -- the acts that wait for a resource, by its number, if it has one
 abbrev pub line_at : EngineView → Option ℕ → List Share
 line_at v None = []
-line_at v (Some k) = acts_of v.cleared v.batches (line_of v.allocation k)
+line_at v (Some k) = claimed_shares v.cleared v.batches (queue_at v.allocation k)
 
 abbrev pub line_in : EngineView → Name → List Share
-line_in v name = line_at v (number_of v.cleared name)
+line_in v name = line_at v (resource_number v.cleared name)
 
 abbrev pub plant_of : EngineView → Plant
-plant_of v = record { batches = map (batch_of v.cleared) v.batches; next_number = v.next_number; line = line_in v }
+plant_of v = record { batches = map (model_batch v.cleared) v.batches; next_number = v.next_number; line = line_in v }

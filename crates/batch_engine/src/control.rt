@@ -5,7 +5,7 @@ ghost use Rattle.batch_model.specs.Moves.{next};
 ghost use Rattle.batch_model.specs.Plant.{opening};
 ghost use Rattle.batch_engine.specs.Answered.{IsAnswered};
 ghost use Rattle.batch_engine.specs.Kept.{IsKept};
-ghost use Rattle.batch_engine.specs.Marked.{AreNoted};
+ghost use Rattle.batch_engine.specs.Marked.{AreHoldingsNoted};
 ghost use Rattle.batch_engine.specs.Steps.{IsFoundBy};
 ghost use Rattle.batch_engine.specs.Surface.{event_of};
 ghost use Rattle.batch_engine.specs.View.{setup, plant_of};
@@ -102,7 +102,7 @@ impl Control {
     /// Answers an event, while no move is pending, by the batches that hold the units.
     pub(crate) fn answer_event(&mut self, event: &Event, holders: &[u64]) -> Reply
         requires settled { next (setup self.old.cleared) (plant_of self.old) ≡ None }
-        requires noted { AreNoted self.old holders.now }
+        requires noted { AreHoldingsNoted self.old holders.now }
         ensures { IsAnswered self.old (event_of event.now) result self.new }
     {
         match event {

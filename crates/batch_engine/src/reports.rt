@@ -5,12 +5,12 @@ ghost use Rattle.batch_model.specs.Events as Events;
 ghost use Rattle.batch_model.specs.Events.{batch_state_after, owed};
 ghost use Rattle.batch_model.specs.Moves.{is_stopping, next};
 ghost use Rattle.batch_engine.specs.Answered.{IsAnswered};
-ghost use Rattle.batch_engine.specs.Marked.{AreNoted};
+ghost use Rattle.batch_engine.specs.Marked.{AreHoldingsNoted};
 ghost use Rattle.batch_engine.specs.Names.{node_of};
 ghost use Rattle.batch_engine.specs.Reports.{IsLiveIn, IsLivePhase};
 ghost use Rattle.batch_recipe.specs.Nodes.{reports_of};
 ghost use Rattle.batch_recipe.specs.Values.{have_output};
-ghost use Rattle.batch_engine.specs.View.{number_of, plant_of, setup};
+ghost use Rattle.batch_engine.specs.View.{resource_number, plant_of, setup};
 
 use crate::control::Control;
 use crate::event::PhaseReport;
@@ -56,7 +56,7 @@ impl Control {
     /// The live phase with this name that the batch at an index runs on the unit with this number among the resources.
     fn live_in(&self, index: usize, unit: u16, phase: &Name) -> Option<LivePhase>
         requires { index < length self.now.batches }
-        ensures { (name : List ℕ) → number_of self.now.cleared name ≡ Some unit → IsLiveIn self.now index name phase.now result }
+        ensures { (name : List ℕ) → resource_number self.now.cleared name ≡ Some unit → IsLiveIn self.now index name phase.now result }
     {
         let batch = &self.batches[index];
         let chart = self.cleared.recipe(batch.recipe);
@@ -79,7 +79,7 @@ impl Control {
 
     /// The live phase of the unit with this name, in the batch that holds the unit.
     fn live(&self, holders: &[u64], unit: &Name, phase: &Name) -> Option<LivePhase>
-        requires { AreNoted self.now holders.now }
+        requires { AreHoldingsNoted self.now holders.now }
         ensures { IsLivePhase self.now unit.now phase.now result }
     {
         self.is_kept();
@@ -91,7 +91,7 @@ impl Control {
     /// Answers a report of a live phase of a unit.
     pub(crate) fn report(&mut self, report: &PhaseReport, holders: &[u64]) -> Reply
         requires settled { next (setup self.old.cleared) (plant_of self.old) ≡ None }
-        requires noted { AreNoted self.old holders.now }
+        requires noted { AreHoldingsNoted self.old holders.now }
         ensures { IsAnswered self.old (Events.report report.now.unit report.now.phase report.now.word report.now.outputs.items) result self.new }
     {
         let Some(live) = self.live(holders, &report.unit, &report.phase) else {

@@ -6,7 +6,7 @@ use Rattle.batch_matrix.specs.declared.command.Command.TheVariants.{Start, Pause
 use Rattle.batch_matrix.specs.declared.report.Report.{Report}
 use Rattle.batch_matrix.specs.declared.report.PhaseEnd.TheVariants.{Now}
 use Rattle.batch_model.specs.Plant.{Plant, Batch, in_batch, in_act}
-use Rattle.batch_model.specs.Moves.{send, after}
+use Rattle.batch_model.specs.Moves.{send, after_move}
 use Rattle.batch_model.specs.Events.{Event, create, order, phase_after, react}
 use Rattle.batch_model.specs.ActStates.{state_of}
 use Rattle.batch_examples.specs.RowDocuments.{r1, add, heat, cell}
@@ -64,12 +64,12 @@ HoldingIsShown =
 abbrev pub PausedIsShown : Type 0
 PausedIsShown =
     let paused = plant_of_w (order Pause 1 ∷ says r1 add Report.Paused ∷ says r1 heat Report.Paused ∷ []) in
-    BothShow (after (react cell paused (order Resume 1)).1 (send 1 p00000 (on r1 add) Resume)) Paused
+    BothShow (after_move (react cell paused (order Resume 1)).1 (send 1 p00000 (on r1 add) Resume)) Paused
 
 -- ADD was sent the abort, and HEAT stops still
 abbrev pub AbortingIsShown : Type 0
 AbortingIsShown =
-    BothShow (after (react cell (plant_of_w (order Stop 1 ∷ [])) (order Abort 1)).1 (send 1 p00000 (on r1 add) Abort)) Aborting
+    BothShow (after_move (react cell (plant_of_w (order Stop 1 ∷ [])) (order Abort 1)).1 (send 1 p00000 (on r1 add) Abort)) Aborting
 
 -- the states of all acts of a batch of A, from the procedure down to the phase
 abbrev pub AllShow : List Event → State → State → State → State → Type 0

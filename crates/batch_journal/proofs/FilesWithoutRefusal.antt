@@ -8,7 +8,7 @@ use Rattle.std.proofs.lemmas.Bool.{cases_lt}
 use Rattle.std.proofs.lemmas.Bool.Decides.{Decides-eqb}
 use Rattle.std.proofs.lemmas.Slice.Eq.{starts_is}
 use Rattle.batch_journal.specs.Journals.{header, groups_in, IsJournal}
-use Rattle.batch_journal.specs.Recovery.{StandsTo, IsDamaged, IsUnbegun, HasNoFeed, TakenIsNotRefused, is_like, raw_lines}
+use Rattle.batch_journal.specs.Recovery.{StandsTo, IsDamaged, IsJournalUnbegun, HasNoFeed, TakenIsNotRefused, is_like, raw_lines}
 use Rattle.batch_journal.specs.Lines.{whole_from}
 use Rattle.batch_journal.specs.declared.recovery.RecoveryFault.TheVariants.{Disk, NoJournal, OtherDocuments, Damaged}
 use Rattle.batch_journal.proofs.DamageLemmas.{within, behind_them}
@@ -46,7 +46,7 @@ empty_raw [] le = refl
 empty_raw (b ∷ text) le = absurd (omega (arith, le))
 
 -- lines follow damage, so a journal was begun
-unbegun_whole : (documents file : List ℕ) (line : ℕ) → IsDamaged documents file line → IsUnbegun documents file → ⊥
+unbegun_whole : (documents file : List ℕ) (line : ℕ) → IsDamaged documents file line → IsJournalUnbegun documents file → ⊥
 unbegun_whole documents file line damaged unbegun =
     let tail = drop damaged.end file in
     let behind = damaged.behind in

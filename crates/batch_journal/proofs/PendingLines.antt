@@ -2,9 +2,9 @@
 use Rattle.std.proofs.Common.{◌≡◌, ◌^◌, ℕ, ◌+◌, ◌-◌, ◌≤◌, ◌<◌, Bool, true, false, Result, Ok, Err, OnOk, OnErr, List, [], ◌∷◌, ◌++◌, length, take, drop, take-append-drop, refl, sym, ◌∙◌, ap, subst, arith, append_assoc}
 use Rattle.std.proofs.Math.Seq.{drop-append_seam}
 use Rattle.std.proofs.lemmas.List.{drop-take, length-drop, length-take-le}
-use Rattle.batch_journal.specs.Lines.{IsLine, text_of, whole_lines}
+use Rattle.batch_journal.specs.Lines.{IsLine, text_of, lines_before_zero}
 use Rattle.batch_journal.specs.Disks.{Left, MayLeave}
-use Rattle.batch_journal.specs.Readers.{IsGroup, IsKept, Recalls, not_given}
+use Rattle.batch_journal.specs.Readers.{IsGroup, IsJournalKept, Recalls, not_given}
 use Rattle.batch_journal.specs.Journals.{next_sum, recovered, IsJournal}
 use Rattle.batch_journal.specs.Writing.{group_text}
 use Rattle.batch_journal.proofs.LineLemmas.{are_whole_lines, whole_text}
@@ -15,12 +15,12 @@ rest_of : (documents base seen given ready : List ℕ) → text_of (recovered do
 rest_of documents base seen given ready is =
     ap (λ (l : List ℕ). drop (length (base ++ given)) l) (is ∙ sym (append_assoc base given ready)) ∙ drop-append_seam (base ++ given) ready
 
-pub kept_rest : (documents base durable seen given ready sum : List ℕ) → IsKept documents base durable seen given ready sum
-    → IsKept documents base durable seen given (not_given documents base seen given) sum
+pub kept_rest : (documents base durable seen given ready sum : List ℕ) → IsJournalKept documents base durable seen given ready sum
+    → IsJournalKept documents base durable seen given (not_given documents base seen given) sum
 kept_rest documents base durable seen given ready sum kept =
     kept_ready documents base durable seen given ready (not_given documents base seen given) sum (sym (rest_of documents base seen given ready kept.holds)) kept
 
-pub rest_kept : (documents base durable seen given ready sum : List ℕ) → IsKept documents base durable seen given ready sum → not_given documents base seen given ≡ ready
+pub rest_kept : (documents base durable seen given ready sum : List ℕ) → IsJournalKept documents base durable seen given ready sum → not_given documents base seen given ≡ ready
 rest_kept documents base durable seen given ready sum kept = rest_of documents base seen given ready kept.holds
 
 pub none_in : (l : List ℕ) (n : ℕ) → length l ≡ n → n ≡ 0 → l ≡ []
@@ -29,9 +29,9 @@ none_in (x ∷ l) n size none = absurd (omega (arith, size, none))
 
 -- a group is written
 pub kept_group : (documents base durable seen given rest sum lines next new_durable new_seen new_given : List ℕ) (milliseconds : ℕ)
-    → IsKept documents base durable seen given rest sum → rest ≡ [] → IsGroup lines → next ≡ next_sum sum lines → IsLine next → milliseconds < 2 ^ 64
+    → IsJournalKept documents base durable seen given rest sum → rest ≡ [] → IsGroup lines → next ≡ next_sum sum lines → IsLine next → milliseconds < 2 ^ 64
     → new_seen ≡ seen ++ group_text lines next milliseconds → new_durable ≡ new_seen → new_given ≡ given
-    → IsKept documents base new_durable new_seen new_given lines next
+    → IsJournalKept documents base new_durable new_seen new_given lines next
 kept_group documents base durable seen given rest sum lines next new_durable new_seen new_given milliseconds kept none group next_is is_line fits is_seen is_durable is_given =
     kept_more documents base durable seen given sum lines next new_durable new_seen new_given milliseconds
     (kept_ready documents base durable seen given rest [] sum none kept) group.whole group.others next_is is_seen is_durable is_given
@@ -45,9 +45,9 @@ given_on : (base given rest lines : List ℕ) → take (length lines) rest ≡ l
 given_on base given rest lines is =
     ap (λ x. base ++ (given ++ x)) (parted rest lines is) ∙ ap (λ x. base ++ x) (sym (append_assoc given lines (drop (length lines) rest)))
 
-pub kept_on : (documents base durable seen given rest sum lines new_durable new_seen new_given : List ℕ) → IsKept documents base durable seen given rest sum
+pub kept_on : (documents base durable seen given rest sum lines new_durable new_seen new_given : List ℕ) → IsJournalKept documents base durable seen given rest sum
     → take (length lines) rest ≡ lines → new_given ≡ given ++ lines → new_durable ≡ durable → new_seen ≡ seen
-    → IsKept documents base new_durable new_seen new_given (drop (length lines) rest) sum
+    → IsJournalKept documents base new_durable new_seen new_given (drop (length lines) rest) sum
 kept_on documents base durable seen given rest sum lines new_durable new_seen new_given kept is is_given is_durable is_seen = record {
   journal = subst (λ f. IsJournal documents f sum) (sym is_seen) kept.journal;
   synced = is_durable ∙ kept.synced ∙ sym is_seen;
@@ -55,7 +55,7 @@ kept_on documents base durable seen given rest sum lines new_durable new_seen ne
       ∙ ap (λ x. base ++ (x ++ drop (length lines) rest)) (sym is_given);
 }
 
-pub recalls_on : (documents base durable seen given rest sum lines : List ℕ) (left : Left) → IsKept documents base durable seen given rest sum
+pub recalls_on : (documents base durable seen given rest sum lines : List ℕ) (left : Left) → IsJournalKept documents base durable seen given rest sum
     → take (length lines) rest ≡ lines → MayLeave durable seen (given ++ lines) left → Recalls documents base left
 recalls_on documents base durable seen given rest sum lines left kept is may =
     recalls documents base durable seen (given ++ lines) (drop (length lines) rest) sum left
@@ -65,13 +65,13 @@ recalls_on documents base durable seen given rest sum lines left kept is may =
 
 -- Of a window
 
-pub whole_front : (bytes : List ℕ) (end fits : ℕ) → end ≤ fits → take end (take fits bytes) ≡ text_of (whole_lines (take fits bytes))
-    → take end bytes ≡ text_of (whole_lines (take end bytes))
+pub whole_front : (bytes : List ℕ) (end fits : ℕ) → end ≤ fits → take end (take fits bytes) ≡ text_of (lines_before_zero (take fits bytes))
+    → take end bytes ≡ text_of (lines_before_zero (take end bytes))
 whole_front bytes end fits le is =
-    whole_text (take end bytes) (whole_lines (take fits bytes)) (are_whole_lines (take fits bytes)) (take_less end fits bytes le ∙ is)
+    whole_text (take end bytes) (lines_before_zero (take fits bytes)) (are_whole_lines (take fits bytes)) (take_less end fits bytes le ∙ is)
 
-pub group_front : (bytes : List ℕ) (end : ℕ) → take end bytes ≡ text_of (whole_lines bytes) → take end bytes ≡ text_of (whole_lines (take end bytes))
-group_front bytes end is = whole_text (take end bytes) (whole_lines bytes) (are_whole_lines bytes) is
+pub group_front : (bytes : List ℕ) (end : ℕ) → take end bytes ≡ text_of (lines_before_zero bytes) → take end bytes ≡ text_of (lines_before_zero (take end bytes))
+group_front bytes end is = whole_text (take end bytes) (lines_before_zero bytes) (are_whole_lines bytes) is
 
 pub ready_front : (bytes items rest : List ℕ) (end ready : ℕ) → bytes ≡ items → end ≤ length bytes → ready ≡ length (take end bytes) → rest ≡ take end bytes
     → rest ≡ take ready items

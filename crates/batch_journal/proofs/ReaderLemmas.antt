@@ -2,9 +2,9 @@
 use Rattle.std.proofs.Common.{◌≡◌, ℕ, zero, suc, ◌+◌, ◌≤◌, List, [], ◌∷◌, ◌++◌, length, take, drop, take-append-drop, Option, Some, None, refl, sym, ◌∙◌, ap, subst, arith, append_assoc, ⊎_elim, Bool, ◌≢◌, min, true, false}
 use Rattle.std.proofs.lemmas.List.{append-nil, take_at, length-take, length-take-le}
 use Rattle.std.specs.Io.KnownBytes.{prepend_known, Keeps, Consumes}
-use Rattle.batch_journal.specs.Lines.{IsLine, text_of, whole_lines}
+use Rattle.batch_journal.specs.Lines.{IsLine, text_of, lines_before_zero}
 use Rattle.batch_journal.specs.Disks.{Left, Begins, MayLeave, Elapses, LeavesOnly}
-use Rattle.batch_journal.specs.Readers.{IsKept, StartsText, Recalls, HasRecalled, IsAccounted, LinesBegin}
+use Rattle.batch_journal.specs.Readers.{IsJournalKept, StartsText, Recalls, HasRecalled, IsAccounted, LinesBegin}
 use Rattle.batch_journal.specs.Groups.{AreOthers, taken}
 use Rattle.batch_journal.specs.Recovery.{KeepsLines}
 use Rattle.batch_journal.specs.Journals.{journal_format, next_sum, recovered, IsJournal}
@@ -21,7 +21,7 @@ starts front text rest is = ap (take (length front)) is ∙ take_at front rest (
 pub recalls : (documents base durable seen given rest sum : List ℕ) (left : Left) → IsJournal documents durable sum → text_of (recovered documents durable) ≡ base ++ (given ++ rest)
     → MayLeave durable seen given left → Recalls documents base left
 recalls documents base durable seen given rest sum left journal is may =
-    let behind = taken journal_format sum [] (whole_lines may.disk.tail) in
+    let behind = taken journal_format sum [] (lines_before_zero may.disk.tail) in
     let more = text_of behind in
     let r = may.output.rest in
     starts (base ++ left.given) (text_of (recovered documents left.file)) (r ++ (rest ++ more))
@@ -48,19 +48,19 @@ pub none_of : (n : ℕ) (l : List ℕ) → n ≡ 0 → take n l ≡ []
 none_of n l is = ap (λ k. take k l) is
 
 pub kept_ready : (documents base durable seen given ready other sum : List ℕ) → ready ≡ other
-    → IsKept documents base durable seen given ready sum → IsKept documents base durable seen given other sum
-kept_ready documents base durable seen given ready other sum same kept = subst (λ l. IsKept documents base durable seen given l sum) same kept
+    → IsJournalKept documents base durable seen given ready sum → IsJournalKept documents base durable seen given other sum
+kept_ready documents base durable seen given ready other sum same kept = subst (λ l. IsJournalKept documents base durable seen given l sum) same kept
 
 -- after a group is written
-pub kept_more : (documents base durable seen given sum lines next new_durable new_seen new_given : List ℕ) (milliseconds : ℕ) → IsKept documents base durable seen given [] sum
-    → lines ≡ text_of (whole_lines lines) → AreOthers journal_format (whole_lines lines) → next ≡ next_sum sum lines
+pub kept_more : (documents base durable seen given sum lines next new_durable new_seen new_given : List ℕ) (milliseconds : ℕ) → IsJournalKept documents base durable seen given [] sum
+    → lines ≡ text_of (lines_before_zero lines) → AreOthers journal_format (lines_before_zero lines) → next ≡ next_sum sum lines
     → new_seen ≡ seen ++ group_text lines next milliseconds → new_durable ≡ new_seen → new_given ≡ given
     → IsLine (closing_line next milliseconds) → journal_format.own (closing_line next milliseconds) ≡ true
     → journal_format.closes next (closing_line next milliseconds) ≡ true
-    → IsKept documents base new_durable new_seen new_given lines next
+    → IsJournalKept documents base new_durable new_seen new_given lines next
 kept_more documents base durable seen given sum lines next new_durable new_seen new_given milliseconds kept is others next_is is_seen is_durable is_given is_line own closes =
     let closing = closing_line next milliseconds in
-    let found = whole_lines lines in
+    let found = lines_before_zero lines in
     let are = are_whole_lines lines in
     let closes_so : journal_format.closes (next_sum sum lines) closing ≡ true = subst (λ s. journal_format.closes s closing ≡ true) next_is closes in
     let journal = journal_with documents seen sum lines closing found kept.journal is are others is_line own closes_so in
@@ -109,7 +109,7 @@ pub gives : (items front : List ℕ) (count : ℕ) (known : Option (List ℕ)) �
 gives items front count None same = tt
 gives items front count (Some xs) same = ap (λ l. l ++ xs) (sym (take-append-drop count items)) ∙ append_assoc (take count items) (drop count items) xs ∙ ap (λ l. l ++ (drop count items ++ xs)) (sym same)
 
-pub recalls_kept : (documents base durable seen given ready sum any : List ℕ) (left : Left) → IsKept documents base durable seen given ready sum
+pub recalls_kept : (documents base durable seen given ready sum any : List ℕ) (left : Left) → IsJournalKept documents base durable seen given ready sum
     → MayLeave durable any given left → Recalls documents base left
 recalls_kept documents base durable seen given ready sum any left kept may =
     recalls documents base durable any given ready sum left (subst (λ f. IsJournal documents f sum) (sym kept.synced) kept.journal)
@@ -136,7 +136,7 @@ gives_front items rest put buf count known le is_put is_rest =
 -- Beginnings
 
 -- at this moment
-pub begun_now : (documents base durable seen given sum : List ℕ) (moment : ℕ) (left_since : ℕ → Left → Type 0) → IsKept documents base durable seen given [] sum
+pub begun_now : (documents base durable seen given sum : List ℕ) (moment : ℕ) (left_since : ℕ → Left → Type 0) → IsJournalKept documents base durable seen given [] sum
     → ((left : Left) → left_since moment left → MayLeave durable seen given left) → HasRecalled documents base moment moment left_since
 begun_now documents base durable seen given sum moment left_since kept now =
     record { later = omega arith; each = λ left had. recalls_kept documents base durable seen given [] sum seen left kept (now left had) }
@@ -163,8 +163,8 @@ prepend_none : (known : Option (List ℕ)) → prepend_known [] known ≡ known
 prepend_none None = refl
 prepend_none (Some xs) = refl
 
-pub whole_as : (given now : List ℕ) → now ≡ given → given ≡ text_of (whole_lines given) → now ≡ text_of (whole_lines now)
-whole_as given now same whole = subst (λ l. l ≡ text_of (whole_lines l)) (sym same) whole
+pub whole_as : (given now : List ℕ) → now ≡ given → given ≡ text_of (lines_before_zero given) → now ≡ text_of (lines_before_zero now)
+whole_as given now same whole = subst (λ l. l ≡ text_of (lines_before_zero l)) (sym same) whole
 
 pub part_within : (count fits : ℕ) (l : List ℕ) → count ≤ length (take fits l) → count ≤ fits
 part_within count fits l le = omega (arith, le, length-take fits l)
@@ -184,4 +184,4 @@ lines_first documents front file are starts_so =
     let text = text_of found in
     let rest = drop (length (text_of front)) text in
     let split : text ≡ text_of front ++ rest = sym (take-append-drop (length (text_of front)) text) ∙ ap (λ l. l ++ rest) starts_so in
-    (whole_lines rest, sym (lines_of_text found (are_recovered documents file)) ∙ ap whole_lines split ∙ lines_behind front rest are)
+    (lines_before_zero rest, sym (lines_of_text found (are_recovered documents file)) ∙ ap lines_before_zero split ∙ lines_behind front rest are)

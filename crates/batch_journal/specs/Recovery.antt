@@ -2,17 +2,17 @@
 use Rattle.std.specs.Prelude.{◌≡◌, ◌⊎◌, ℕ, ◌+◌, ◌≤◌, ◌<◌, Bool, ◌||◌, List, [], ◌∷◌, ◌++◌, length, take, drop, filter, ⊤, false, true, codes, nat_eq, slice_index, ◌==◌}
 use Rattle.std.specs.List.{starts_with}
 use Rattle.batch_journal.specs.Disks.{IsPart, Left, Begins}
-use Rattle.batch_journal.specs.Lines.{IsLine, AreLines, text_of, whole_from, whole_lines}
+use Rattle.batch_journal.specs.Lines.{IsLine, AreLines, text_of, whole_from, lines_before_zero}
 use Rattle.batch_journal.specs.Groups.{taken, is_left, AreOthers}
 use Rattle.batch_journal.specs.Journals.{header, journal_format, recovered, IsClosed, IsJournal}
 use Rattle.batch_journal.specs.declared.recovery.RecoveryFault.{RecoveryFault}
 use Rattle.batch_journal.specs.declared.recovery.RecoveryFault.TheVariants.{Disk, NoJournal, OtherDocuments, Damaged}
 
 -- the groups up to there are whole, with this last sum, and none of the text behind is taken
-pub record IsTakenTo (documents groups : List ℕ) (end : ℕ) (sum : List ℕ) : Type 0 where
+pub record AreGroupsTaken (documents groups : List ℕ) (end : ℕ) (sum : List ℕ) : Type 0 where
   pub within : end ≤ length groups
   pub closed : IsClosed documents (take end groups) sum
-  pub left : is_left journal_format sum [] (whole_lines (drop end groups)) ≡ true
+  pub left : is_left journal_format sum [] (lines_before_zero (drop end groups)) ≡ true
 
 -- the lines that a line feed ends, whatever their bytes
 abbrev pub raw_lines : List ℕ → List (List ℕ)
@@ -30,7 +30,7 @@ closing_count text = closings (raw_lines text)
 pub record StandsTo (documents file : List ℕ) (end : ℕ) (sum : List ℕ) : Type 0 where
   pub within : end ≤ length file
   pub journal : IsJournal documents (take end file) sum
-  pub no_more : taken journal_format sum [] (whole_lines (drop end file)) ≡ []
+  pub no_more : taken journal_format sum [] (lines_before_zero (drop end file)) ≡ []
   pub few : closing_count (drop end file) ≤ 1
 
 -- another closing line follows the first line that closes a group
@@ -60,7 +60,7 @@ CrashIsNoDamage =
 
 -- whole lines are lines
 abbrev pub WholeLinesAreLines : Type 0
-WholeLinesAreLines = (text : List ℕ) → AreLines (whole_lines text)
+WholeLinesAreLines = (text : List ℕ) → AreLines (lines_before_zero text)
 
 -- recovered lines are lines
 abbrev pub RecoveredAreLines : Type 0
@@ -75,19 +75,19 @@ abbrev pub is_like : ℕ × ℕ → Bool
 is_like pair = (pair.0 == 0) || (pair.0 == pair.1)
 
 -- no journal was begun in the file, or a crash left a part of its header
-abbrev pub IsUnbegun : List ℕ → List ℕ → Type 0
-IsUnbegun documents file = HasNoFeed file ⊎ IsPart file (header documents)
+abbrev pub IsJournalUnbegun : List ℕ → List ℕ → Type 0
+IsJournalUnbegun documents file = HasNoFeed file ⊎ IsPart file (header documents)
 
 -- a start takes the file: it is a journal of these documents up to some end, or none was begun in it
 abbrev pub IsRecoverable : List ℕ → List ℕ → Type 0
-IsRecoverable documents file = ((end : ℕ) × (sum : List ℕ) × StandsTo documents file end sum) ⊎ IsUnbegun documents file
+IsRecoverable documents file = ((end : ℕ) × (sum : List ℕ) × StandsTo documents file end sum) ⊎ IsJournalUnbegun documents file
 
 -- why a file is refused
 abbrev pub IsRefusedFor : List ℕ → List ℕ → RecoveryFault → Type 0
 IsRefusedFor documents file (Disk fault) = ⊤
-IsRefusedFor documents file NoJournal = (starts_with nat_eq file (codes "# batchd journal 1 ") ≡ false) × (IsUnbegun documents file → ⊥)
+IsRefusedFor documents file NoJournal = (starts_with nat_eq file (codes "# batchd journal 1 ") ≡ false) × (IsJournalUnbegun documents file → ⊥)
 IsRefusedFor documents file OtherDocuments =
-    (starts_with nat_eq file (codes "# batchd journal 1 ") ≡ true) × (starts_with nat_eq file (header documents) ≡ false) × (IsUnbegun documents file → ⊥)
+    (starts_with nat_eq file (codes "# batchd journal 1 ") ≡ true) × (starts_with nat_eq file (header documents) ≡ false) × (IsJournalUnbegun documents file → ⊥)
 IsRefusedFor documents file (Damaged line) = IsDamaged documents file line
 
 abbrev pub IsOfDisk : RecoveryFault → Type 0

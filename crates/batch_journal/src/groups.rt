@@ -1,8 +1,8 @@
 //! The groups of a run, each of which is in the journal, and synced, before any of its lines is given on.
 ghost use Rattle.std.specs.Prelude.{◌≡◌, ◌≤◌, ◌-◌, ℕ, List, [], ◌++◌, length, take, drop, true, false, OnOk, OnErr, IsTrue};
 ghost use Rattle.batch_journal.specs.Journals.{sum_text};
-ghost use Rattle.batch_journal.specs.Lines.{AreLines, whole_lines};
-ghost use Rattle.batch_journal.specs.Readers.{HasRecalled, IsGroup, IsKept, IsWhole, not_given};
+ghost use Rattle.batch_journal.specs.Lines.{AreLines, lines_before_zero};
+ghost use Rattle.batch_journal.specs.Readers.{HasRecalled, IsGroup, IsJournalKept, IsWhole, not_given};
 
 use crate::disk::{Disk, DiskError};
 use crate::group::write_group;
@@ -25,7 +25,7 @@ pub struct Groups<D: Disk, K: Clock, C: Run> {
     pub(crate) failed: bool,
     of: PhantomData<C>,
     ghost none_ready: { failed ≡ true → ready ≡ 0 },
-    ghost kept: { D.is_disk disk → failed ≡ false → IsKept C.documents C.base (D.durable disk) (D.seen disk) (D.given disk) (not_given C.documents C.base (D.seen disk) (D.given disk)) (sum_text sum) },
+    ghost kept: { D.is_disk disk → failed ≡ false → IsJournalKept C.documents C.base (D.durable disk) (D.seen disk) (D.given disk) (not_given C.documents C.base (D.seen disk) (D.given disk)) (sum_text sum) },
     ghost rest: { D.is_disk disk → failed ≡ false → length (not_given C.documents C.base (D.seen disk) (D.given disk)) ≡ ready },
     // claim: whole lines are given
     ghost whole: { D.is_disk disk → IsWhole (D.given disk) },
@@ -37,7 +37,7 @@ pub struct Groups<D: Disk, K: Clock, C: Run> {
 impl<D: Disk, K: Clock, C: Run> Groups<D, K, C> {
     /// Over a disk that recovery left, with the sum that it found. The clock's time stands in the groups; nothing is claimed of it.
     pub fn new(disk: D, clock: K, sum: Sum) -> Groups<D, K, C>
-        requires at_rest { D.is_disk disk → IsKept C.documents C.base (D.durable disk) (D.seen disk) (D.given disk) [] (sum_text sum) }
+        requires at_rest { D.is_disk disk → IsJournalKept C.documents C.base (D.durable disk) (D.seen disk) (D.given disk) [] (sum_text sum) }
         requires whole { D.is_disk disk → IsWhole (D.given disk) }
         requires recalled { D.is_disk disk → HasRecalled C.documents C.base C.since (D.moment disk) (D.left_since disk) }
         requires was { D.is_disk disk → C.was }
@@ -78,7 +78,7 @@ impl<D: Disk, K: Clock, C: Run> Groups<D, K, C> {
         K: Drop,
         ensures disk { result ≡ self.disk }
         ensures whole { D.is_disk result → IsWhole (D.given result) }
-        ensures lines { D.is_disk result → AreLines (whole_lines (D.given result)) }
+        ensures lines { D.is_disk result → AreLines (lines_before_zero (D.given result)) }
         // claim: lines are kept
         ensures recalled { D.is_disk result → HasRecalled C.documents C.base C.since (D.moment result) (D.left_since result) }
         ensures stays { D.is_disk result → ∥ C.was ∥₁ }

@@ -3,8 +3,8 @@ ghost use Rattle.std.specs.Prelude.{◌≡◌, ◌≤◌, ℕ, List, Option, [],
 ghost use Rattle.std.specs.Io.{ReadsAtMost};
 ghost use Rattle.std.specs.Io.KnownBytes.{ReadConsumes, Keeps, IsAtEnd, prepend_known};
 ghost use Rattle.batch_journal.specs.Journals.{sum_text};
-ghost use Rattle.batch_journal.specs.Lines.{AreLines, whole_lines};
-ghost use Rattle.batch_journal.specs.Readers.{IsKept, IsWhole, HasRecalled, IsAccounted, not_given};
+ghost use Rattle.batch_journal.specs.Lines.{AreLines, lines_before_zero};
+ghost use Rattle.batch_journal.specs.Readers.{IsJournalKept, IsWhole, HasRecalled, IsAccounted, not_given};
 ghost use Rattle.batch_journal.specs.Windows.{items};
 
 use crate::disk::Disk;
@@ -36,7 +36,7 @@ pub struct JournalReader<R: Read, D: Disk, K: Clock, C: Run> {
 impl<R: Read, D: Disk, K: Clock, C: Run> JournalReader<R, D, K, C> {
     /// Over a disk that recovery left, with the sum that it found. The clock's time stands in the groups; nothing is claimed of it.
     pub fn new(inner: R, disk: D, clock: K, sum: Sum) -> JournalReader<R, D, K, C>
-        requires at_rest { D.is_disk disk → IsKept C.documents C.base (D.durable disk) (D.seen disk) (D.given disk) [] (sum_text sum) }
+        requires at_rest { D.is_disk disk → IsJournalKept C.documents C.base (D.durable disk) (D.seen disk) (D.given disk) [] (sum_text sum) }
         requires whole { D.is_disk disk → IsWhole (D.given disk) }
         requires recalled { D.is_disk disk → HasRecalled C.documents C.base C.since (D.moment disk) (D.left_since disk) }
         requires input { D.is_disk disk → IsAccounted C.input (D.given disk) (R.remaining inner) }
@@ -59,7 +59,7 @@ impl<R: Read, D: Disk, K: Clock, C: Run> JournalReader<R, D, K, C> {
         K: Drop,
         ensures disk { result ≡ self.groups.disk }
         ensures whole { D.is_disk result → IsWhole (D.given result) }
-        ensures lines { D.is_disk result → AreLines (whole_lines (D.given result)) }
+        ensures lines { D.is_disk result → AreLines (lines_before_zero (D.given result)) }
         // claim: lines are kept
         ensures recalled { D.is_disk result → HasRecalled C.documents C.base C.since (D.moment result) (D.left_since result) }
         // claim: nothing is lost on the way

@@ -3,7 +3,7 @@ ghost use Rattle.std.specs.Prelude.{◌≡◌, ◌⊎◌, ◌≤◌, [], None, f
 ghost use Rattle.std.specs.List.{list_all, starts_with, zip};
 ghost use Rattle.batch_journal.specs.Disks.{IsPart, LeavesOnly};
 ghost use Rattle.batch_journal.specs.Journals.{IsJournal, header, recovered, sum_text};
-ghost use Rattle.batch_journal.specs.Recovery.{HasNoFeed, IsRecoverable, IsRefusedFor, IsUnbegun, is_like, KeepsLines, IsTakenTo, StandsTo, AreRests, ClosesTwice, closing_count, raw_lines};
+ghost use Rattle.batch_journal.specs.Recovery.{HasNoFeed, IsRecoverable, IsRefusedFor, IsJournalUnbegun, is_like, KeepsLines, AreGroupsTaken, StandsTo, AreRests, ClosesTwice, closing_count, raw_lines};
 
 use crate::disk::{Disk, DiskError};
 use crate::group::{closes, is_closing};
@@ -127,7 +127,7 @@ fn begin<D: Disk>(
     documents: &[u8; 64],
 ) -> Result<Recovered, RecoveryFault>
     requires synced { D.is_disk disk.old → (D.durable disk.old ≡ D.seen disk.old) × (D.seen disk.old ≡ text.items) }
-    requires unbegun { IsUnbegun documents.now text.items }
+    requires unbegun { IsJournalUnbegun documents.now text.items }
     ensures lines { D.is_disk disk.new → IfOk result (λ r. recovered documents.now r.text.items ≡ recovered documents.now (D.seen disk.old)) }
     ensures journal { IfOk result (λ r. IsJournal documents.now r.text.items (sum_text r.sum)) }
     ensures at_rest { D.is_disk disk.new → IfOk result (λ r. AreRests documents.now r.text.items (sum_text r.sum) (D.durable disk.new) (D.seen disk.new)) }
@@ -154,7 +154,7 @@ fn begin<D: Disk>(
 
 /// How far a file is a journal of these documents. None where no group of it was ever synced.
 fn standing_of(bytes: &[u8], documents: &[u8; 64]) -> Result<Option<Taken>, RecoveryFault>
-    ensures ok { IfOk result (λ found. MatchOption found (IsUnbegun documents.now bytes.now) (λ taken. StandsTo documents.now bytes.now taken.end (sum_text taken.sum))) }
+    ensures ok { IfOk result (λ found. MatchOption found (IsJournalUnbegun documents.now bytes.now) (λ taken. StandsTo documents.now bytes.now taken.end (sum_text taken.sum))) }
     ensures refused { IfErr result (IsRefusedFor documents.now bytes.now) }
 {
     let header = header_text(documents);
@@ -175,7 +175,7 @@ fn standing_of(bytes: &[u8], documents: &[u8; 64]) -> Result<Option<Taken>, Reco
 /// A file without the header: None where it is to be begun anew, or why it is refused.
 fn unlike(bytes: &[u8], documents: &[u8; 64]) -> Result<Option<Taken>, RecoveryFault>
     requires { starts_with nat_eq bytes.now (header documents.now) ≡ false }
-    ensures ok { IfOk result (λ found. (found ≡ None) × IsUnbegun documents.now bytes.now) }
+    ensures ok { IfOk result (λ found. (found ≡ None) × IsJournalUnbegun documents.now bytes.now) }
     ensures refused { IfErr result (IsRefusedFor documents.now bytes.now) }
 {
     if is_unbegun(bytes, &header_text(documents)) {
@@ -207,7 +207,7 @@ fn is_like(bytes: &[u8], header: &[u8; 84]) -> bool
 
 /// Takes the groups behind a header, as long as their sums are right.
 fn take_groups(bytes: &[u8], documents: &[u8; 64]) -> Taken
-    ensures { IsTakenTo documents.now bytes.now result.end (sum_text result.sum) }
+    ensures { AreGroupsTaken documents.now bytes.now result.end (sum_text result.sum) }
 {
     let mut sum = Sum::Documents(*documents);
     let mut end = 0;

@@ -5,12 +5,12 @@ use Rattle.batch_model.specs.Plant.{Setup, Plant}
 use Rattle.batch_record.specs.Blocks.{Stage}
 use Rattle.batch_record.specs.Listing.{IsTextOf}
 use Rattle.batch_record.specs.StatusReading.{LeadsTo}
-use Rattle.batch_keep.specs.Blocks.{AreBlocksOf, IsReplayed, block_text}
+use Rattle.batch_keep.specs.Blocks.{AreBlocksOf, IsReplayed, recovery_block_text}
 use Rattle.batch_keep.specs.Counts.{own_lines, sent_lines}
 
 pub are_blocks : (c : Setup) (old new : Plant) (lines names : List (List ℕ)) (told block : List ℕ) (each : List (List ℕ)) (count : ℕ) (stage : Stage) (rows : List ℕ) → IsReplayed c old lines new told → LeadsTo told stage
-    → IsTextOf stage.tale (codes "# ") rows → count ≡ length (sent_lines lines) → block ≡ block_text count rows
-    → each ≡ map (λ name. block_text (length (own_lines name lines)) rows) names → AreBlocksOf c old lines names new block each
+    → IsTextOf stage.tale (codes "# ") rows → count ≡ length (sent_lines lines) → block ≡ recovery_block_text count rows
+    → each ≡ map (λ name. recovery_block_text (length (own_lines name lines)) rows) names → AreBlocksOf c old lines names new block each
 are_blocks c old new lines names told block each count stage rows replayed leads_to are_rows counts is desks = record {
   output = record {
     told = told;
@@ -19,7 +19,7 @@ are_blocks c old new lines names told block each count stage rows replayed leads
     leads_to = leads_to;
     rows = rows;
     are_rows = are_rows;
-    is = is ∙ ap (λ n. block_text n rows) counts;
+    is = is ∙ ap (λ n. recovery_block_text n rows) counts;
   };
   desks = desks;
 }

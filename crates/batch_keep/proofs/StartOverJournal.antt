@@ -4,11 +4,11 @@ use Rattle.std.proofs.lemmas.List.{append-nil}
 use Rattle.batch_journal.specs.Disks.{Left, MayLeave}
 use Rattle.batch_journal.specs.Journals.{recovered}
 use Rattle.batch_journal.specs.Lines.{text_of}
-use Rattle.batch_journal.specs.Readers.{IsKept, HasRecalled}
+use Rattle.batch_journal.specs.Readers.{IsJournalKept, HasRecalled}
 use Rattle.batch_journal.proofs.ReaderLemmas.{begun_now}
-use Rattle.batch_keep.specs.Told.{IsAtRest}
+use Rattle.batch_keep.specs.Told.{IsJournalAtRest}
 
-pub kept_here : (documents durable seen given sum : List ℕ) → IsAtRest documents durable seen given sum → IsKept documents (text_of (recovered documents seen)) durable seen given [] sum
+pub kept_here : (documents durable seen given sum : List ℕ) → IsJournalAtRest documents durable seen given sum → IsJournalKept documents (text_of (recovered documents seen)) durable seen given [] sum
 kept_here documents durable seen given sum rest = record {
   journal = rest.journal;
   synced = rest.synced;
@@ -16,7 +16,7 @@ kept_here documents durable seen given sum rest = record {
 }
 
 -- from this moment on
-pub recalled_here : (documents durable seen given sum : List ℕ) (moment : ℕ) (left_since : ℕ → Left → Type 0) → IsAtRest documents durable seen given sum
+pub recalled_here : (documents durable seen given sum : List ℕ) (moment : ℕ) (left_since : ℕ → Left → Type 0) → IsJournalAtRest documents durable seen given sum
     → ((left : Left) → left_since moment left → MayLeave durable seen given left) → HasRecalled documents (text_of (recovered documents seen)) moment moment left_since
 recalled_here documents durable seen given sum moment left_since rest now =
     begun_now documents (text_of (recovered documents seen)) durable seen given sum moment left_since (kept_here documents durable seen given sum rest) now

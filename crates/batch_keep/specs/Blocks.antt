@@ -18,8 +18,8 @@ pub record IsReplayed (c : Setup) (old : Plant) (lines : List (List ℕ)) (new :
   pub is : record_text ≡ said.text
 
 -- the number of the lines, the rows of the state to which they lead, and the end
-abbrev pub block_text : ℕ → List ℕ → List ℕ
-block_text count rows = codes "# recovered " ++ (decimal count ++ (codes " lines\n" ++ (rows ++ codes "# end\n")))
+abbrev pub recovery_block_text : ℕ → List ℕ → List ℕ
+recovery_block_text count rows = codes "# recovered " ++ (decimal count ++ (codes " lines\n" ++ (rows ++ codes "# end\n")))
 
 -- the record of these lines, served again, leads to the state in the rows of the block
 pub record IsBlockOf (c : Setup) (old : Plant) (lines : List (List ℕ)) (new : Plant) (block : List ℕ) : Type 0 where
@@ -29,9 +29,9 @@ pub record IsBlockOf (c : Setup) (old : Plant) (lines : List (List ℕ)) (new : 
   pub leads_to : LeadsTo told stage
   pub rows : List ℕ
   pub are_rows : IsTextOf stage.tale (codes "# ") rows
-  pub is : block ≡ block_text (length (sent_lines lines)) rows
+  pub is : block ≡ recovery_block_text (length (sent_lines lines)) rows
 
 -- that block, and those of desks of these names: each has the number of the desk's own lines, and the same rows
 pub record AreBlocksOf (c : Setup) (old : Plant) (lines : List (List ℕ)) (names : List (List ℕ)) (new : Plant) (block : List ℕ) (each : List (List ℕ)) : Type 0 where
   pub output : IsBlockOf c old lines new block
-  pub desks : each ≡ map (λ name. block_text (length (own_lines name lines)) output.rows) names
+  pub desks : each ≡ map (λ name. recovery_block_text (length (own_lines name lines)) output.rows) names

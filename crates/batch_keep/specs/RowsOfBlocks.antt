@@ -1,6 +1,6 @@
 -- worked rows: recovery blocks, and which lines they count.
 use Rattle.std.specs.Prelude.{◌≡◌, List, ℕ, true, false, [], ◌∷◌, codes}
-use Rattle.batch_keep.specs.Blocks.{block_text}
+use Rattle.batch_keep.specs.Blocks.{recovery_block_text}
 use Rattle.batch_keep.specs.Counts.{count_of, own_lines, sent_lines}
 
 -- a line that `run` kept, and lines of two desks
@@ -8,8 +8,8 @@ abbrev pub two_desks : List (List ℕ)
 two_desks = codes "create A 1000" ∷ codes "# from A" ∷ codes "start 1" ∷ codes "# from B" ∷ codes "fly" ∷ codes "# from A" ∷ codes "start 2" ∷ []
 
 pub record BlockRows : Type 0 where
-  pub none : block_text 0 [] ≡ codes "# recovered 0 lines\n# end\n"
-  pub some : block_text 3 (codes "# batch 1 A 1000 complete\n") ≡ codes "# recovered 3 lines\n# batch 1 A 1000 complete\n# end\n"
+  pub none : recovery_block_text 0 [] ≡ codes "# recovered 0 lines\n# end\n"
+  pub some : recovery_block_text 3 (codes "# batch 1 A 1000 complete\n") ≡ codes "# recovered 3 lines\n# batch 1 A 1000 complete\n# end\n"
   -- a line that is counted, and lines that aren't
   pub event : count_of true (codes "start 1") ≡ 1
   pub another : count_of false (codes "start 1") ≡ 0

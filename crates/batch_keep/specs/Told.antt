@@ -9,7 +9,7 @@ use Rattle.batch_journal.specs.Journals.{IsJournal, recovered}
 use Rattle.batch_journal.specs.Lines.{AreLines, text_of}
 
 -- all of the file is a synced journal, and nothing was given yet: as recovery leaves it
-pub record IsAtRest (documents durable seen given sum : List ℕ) : Type 0 where
+pub record IsJournalAtRest (documents durable seen given sum : List ℕ) : Type 0 where
   pub journal : IsJournal documents seen sum
   pub synced : durable ≡ seen
   pub none : given ≡ []
@@ -24,8 +24,8 @@ pub record TellsLines (c : Setup) (old : Plant) (given : List ℕ) (before after
   pub begins : BeginsTranscript c old (take count lines) before after
 
 -- the same, if the bytes of the input are known
-abbrev pub IsTold : Setup → Plant → Option (List ℕ) → List ℕ → Option (List ℕ) → Option (List ℕ) → Type 0
-IsTold c old input given before after = (all : List ℕ) → input ≡ Some all → TellsLines c old given before after
+abbrev pub TellsKnownLines : Setup → Plant → Option (List ℕ) → List ℕ → Option (List ℕ) → Option (List ℕ) → Type 0
+TellsKnownLines c old input given before after = (all : List ℕ) → input ≡ Some all → TellsLines c old given before after
 
 -- The lines that the journal had were replayed from a first plant, and the run wrote whole lines that show no want of memory. Whatever
 -- file a crash leaves now, a replay of it in which memory is never wanted writes all of that again, and more behind it.

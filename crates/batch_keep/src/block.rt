@@ -3,7 +3,7 @@ ghost use Rattle.std.specs.Prelude.{◌≡◌, ℕ, List, length, map, codes, If
 ghost use Rattle.batch_engine.specs.View.{setup, plant_of};
 ghost use Rattle.batch_journal.specs.Journals.{IsJournal, recovered};
 ghost use Rattle.batch_journal.specs.Lines.{IsLine};
-ghost use Rattle.batch_keep.specs.Blocks.{AreBlocksOf, IsReplayed, block_text};
+ghost use Rattle.batch_keep.specs.Blocks.{AreBlocksOf, IsReplayed, recovery_block_text};
 ghost use Rattle.batch_keep.specs.Counts.{own_lines};
 ghost use Rattle.batch_keep.specs.RowsOfBlocks.{BlockRows};
 ghost use Rattle.batch_record.specs.Blocks.{Stage};
@@ -121,7 +121,7 @@ fn desk_blocks(
     rows: &[u8],
 ) -> Result<Vec<Lines>, AllocError>
     requires { (sum : List ℕ) × IsJournal documents.now text.now sum }
-    ensures { IfOk result (λ blocks. blocks.items ≡ map (λ name. block_text (length (own_lines name (recovered documents.now text.now))) rows.now) names.now) }
+    ensures { IfOk result (λ blocks. blocks.items ≡ map (λ name. recovery_block_text (length (own_lines name (recovered documents.now text.now))) rows.now) names.now) }
 {
     let mut blocks = Vec::new(alloc);
     for name in names {
@@ -134,7 +134,7 @@ fn desk_blocks(
 
 /// The block of so many lines and these rows.
 fn block_of(alloc: Global, count: usize, rows: &[u8]) -> Result<Vec<u8>, AllocError>
-    ensures { IfOk result (λ block. block.items ≡ block_text count rows.now) }
+    ensures { IfOk result (λ block. block.items ≡ recovery_block_text count rows.now) }
 {
     let mut digits = Buffer::new();
     let mut block = Vec::new(alloc);

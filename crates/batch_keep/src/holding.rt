@@ -3,10 +3,10 @@ ghost use Rattle.std.specs.Prelude.{◌≡◌, List, ℕ, [], Some, IfSome, IsFa
 ghost use Rattle.batch_engine.specs.View.{setup, plant_of};
 ghost use Rattle.batch_journal.specs.Journals.{recovered, sum_text};
 ghost use Rattle.batch_journal.specs.Lines.{text_of};
-ghost use Rattle.batch_journal.specs.Readers.{IsKept, IsWhole, HasRecalled, IsAccounted};
+ghost use Rattle.batch_journal.specs.Readers.{IsJournalKept, IsWhole, HasRecalled, IsAccounted};
 ghost use Rattle.batch_wire.specs.Transcript.{lines_of};
 ghost use Rattle.batch_wire.specs.WrittenTranscript.{WritesTranscript};
-ghost use Rattle.batch_keep.specs.Told.{IsAtRest, IsNeverLost};
+ghost use Rattle.batch_keep.specs.Told.{IsJournalAtRest, IsNeverLost};
 
 use crate::serving::{Journal, serve_at};
 use batch_engine::Engine;
@@ -49,7 +49,7 @@ pub fn serve_holding<R: Read + Drop, D: Disk, K: Clock + Drop, W: Write>(
     writer: W,
     max_reads: u64,
 ) -> (Result<(), KeepFault>, D, W)
-    requires { D.is_disk journal.disk → IsAtRest journal.documents (D.durable journal.disk) (D.seen journal.disk) (D.given journal.disk) (sum_text journal.sum) }
+    requires { D.is_disk journal.disk → IsJournalAtRest journal.documents (D.durable journal.disk) (D.seen journal.disk) (D.given journal.disk) (sum_text journal.sum) }
     // A crash at any moment leaves the lines from before, and all that the machine had been given by then.
     // claim: given lines are kept
     ensures any_moment { D.is_disk result.1 → HasRecalled journal.documents (text_of (recovered journal.documents (D.seen journal.disk))) (D.moment journal.disk) (D.moment result.1) (D.left_since result.1) }
@@ -87,7 +87,7 @@ pub fn serve_started<
     remarks: M,
     max_reads: u64,
 ) -> (Result<(), KeepFault>, D, W)
-    requires at_rest { D.is_disk journal.disk → IsKept C.documents C.base (D.durable journal.disk) (D.seen journal.disk) (D.given journal.disk) [] (sum_text journal.sum) }
+    requires at_rest { D.is_disk journal.disk → IsJournalKept C.documents C.base (D.durable journal.disk) (D.seen journal.disk) (D.given journal.disk) [] (sum_text journal.sum) }
     requires whole { D.is_disk journal.disk → IsWhole (D.given journal.disk) }
     requires recalled { D.is_disk journal.disk → HasRecalled C.documents C.base C.since (D.moment journal.disk) (D.left_since journal.disk) }
     requires accounted { D.is_disk journal.disk → IsAccounted C.input (D.given journal.disk) (R.remaining input) }
@@ -123,7 +123,7 @@ fn serve_holding_at<
     remarks: M,
     max_reads: u64,
 ) -> (Result<(), KeepFault>, D, W)
-    requires at_rest { D.is_disk journal.disk → IsKept C.documents C.base (D.durable journal.disk) (D.seen journal.disk) (D.given journal.disk) [] (sum_text journal.sum) }
+    requires at_rest { D.is_disk journal.disk → IsJournalKept C.documents C.base (D.durable journal.disk) (D.seen journal.disk) (D.given journal.disk) [] (sum_text journal.sum) }
     requires whole { D.is_disk journal.disk → IsWhole (D.given journal.disk) }
     requires recalled { D.is_disk journal.disk → HasRecalled C.documents C.base C.since (D.moment journal.disk) (D.left_since journal.disk) }
     requires accounted { D.is_disk journal.disk → IsAccounted C.input (D.given journal.disk) (R.remaining input) }

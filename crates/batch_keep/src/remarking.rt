@@ -3,7 +3,7 @@ ghost use Rattle.std.specs.Prelude.{◌≡◌, List, ℕ, Option, [], Some, IfSo
 ghost use Rattle.batch_engine.specs.View.{setup, plant_of};
 ghost use Rattle.batch_journal.specs.Journals.{recovered, sum_text};
 ghost use Rattle.batch_journal.specs.Lines.{text_of};
-ghost use Rattle.batch_journal.specs.Readers.{IsKept, IsWhole, HasRecalled, IsAccounted};
+ghost use Rattle.batch_journal.specs.Readers.{IsJournalKept, IsWhole, HasRecalled, IsAccounted};
 ghost use Rattle.batch_keep.specs.Told.{IsNeverLost};
 ghost use Rattle.batch_serve.specs.Comments.{IsRemarked};
 ghost use Rattle.batch_wire.specs.Transcript.{lines_of};
@@ -34,7 +34,7 @@ pub fn serve_started_remarked<R: Read + Drop, D: Disk, K: Clock + Drop, W: Write
     remarking: Remarking<K>,
     max_reads: u64,
 ) -> (Result<(), KeepFault>, D, W)
-    requires at_rest { D.is_disk journal.disk → IsKept C.documents C.base (D.durable journal.disk) (D.seen journal.disk) (D.given journal.disk) [] (sum_text journal.sum) }
+    requires at_rest { D.is_disk journal.disk → IsJournalKept C.documents C.base (D.durable journal.disk) (D.seen journal.disk) (D.given journal.disk) [] (sum_text journal.sum) }
     requires whole { D.is_disk journal.disk → IsWhole (D.given journal.disk) }
     requires recalled { D.is_disk journal.disk → HasRecalled C.documents C.base C.since (D.moment journal.disk) (D.left_since journal.disk) }
     requires accounted { D.is_disk journal.disk → IsAccounted C.input (D.given journal.disk) (R.remaining input) }
@@ -63,7 +63,7 @@ fn serve_remarked_at<R: Read + Drop, D: Disk, K: Clock + Drop, W: Write, C: Run,
     remarking: Remarking<K>,
     max_reads: u64,
 ) -> (Result<(), KeepFault>, D, W)
-    requires at_rest { D.is_disk journal.disk → IsKept C.documents C.base (D.durable journal.disk) (D.seen journal.disk) (D.given journal.disk) [] (sum_text journal.sum) }
+    requires at_rest { D.is_disk journal.disk → IsJournalKept C.documents C.base (D.durable journal.disk) (D.seen journal.disk) (D.given journal.disk) [] (sum_text journal.sum) }
     requires whole { D.is_disk journal.disk → IsWhole (D.given journal.disk) }
     requires recalled { D.is_disk journal.disk → HasRecalled C.documents C.base C.since (D.moment journal.disk) (D.left_since journal.disk) }
     requires accounted { D.is_disk journal.disk → IsAccounted C.input (D.given journal.disk) (R.remaining input) }

@@ -3,10 +3,10 @@ ghost use Rattle.std.specs.Prelude.{◌≡◌, List, ℕ, [], Some, IfSome, OnOk
 ghost use Rattle.batch_engine.specs.View.{setup, plant_of};
 ghost use Rattle.batch_journal.specs.Journals.{recovered, sum_text};
 ghost use Rattle.batch_journal.specs.Lines.{text_of};
-ghost use Rattle.batch_journal.specs.Readers.{IsKept, IsWhole, HasRecalled, IsAccounted};
+ghost use Rattle.batch_journal.specs.Readers.{IsJournalKept, IsWhole, HasRecalled, IsAccounted};
 ghost use Rattle.batch_wire.specs.Transcript.{lines_of};
 ghost use Rattle.batch_wire.specs.WrittenTranscript.{WritesTranscript};
-ghost use Rattle.batch_keep.specs.Told.{IsAtRest, IsTold, IsToldAgain, TellsLines};
+ghost use Rattle.batch_keep.specs.Told.{IsJournalAtRest, TellsKnownLines, IsToldAgain, TellsLines};
 
 use batch_engine::Engine;
 use batch_journal::{Disk, JournalReader, Memory, Run, Sum, lines_begin, recovered_are_lines};
@@ -44,7 +44,7 @@ pub fn serve_journalled<R: Read + Drop, D: Disk, K: Clock + Drop, W: Write>(
     writer: &mut W,
     max_reads: u64,
 ) -> (Result<(), ServeFault>, D)
-    requires { D.is_disk journal.disk → IsAtRest journal.documents (D.durable journal.disk) (D.seen journal.disk) (D.given journal.disk) (sum_text journal.sum) }
+    requires { D.is_disk journal.disk → IsJournalAtRest journal.documents (D.durable journal.disk) (D.seen journal.disk) (D.given journal.disk) (sum_text journal.sum) }
     // A crash at any moment leaves the lines from before, and all that the machine had been given by then.
     // claim: given lines are kept
     ensures any_moment { D.is_disk result.1 → HasRecalled journal.documents (text_of (recovered journal.documents (D.seen journal.disk))) (D.moment journal.disk) (D.moment result.1) (D.left_since result.1) }
@@ -55,7 +55,7 @@ pub fn serve_journalled<R: Read + Drop, D: Disk, K: Clock + Drop, W: Write>(
         WritesTranscript (setup engine.old.cleared) (plant_of engine.old) (lines_of all) (plant_of engine.new) (W.contents writer.old) (W.contents writer.new))) }
     // The written answers are to lines that the machine was given.
     // claim: told of given lines
-    ensures told { D.is_disk result.1 → IsTold (setup engine.old.cleared) (plant_of engine.old) (R.remaining input) (D.given result.1) (W.contents writer.old) (W.contents writer.new) }
+    ensures told { D.is_disk result.1 → TellsKnownLines (setup engine.old.cleared) (plant_of engine.old) (R.remaining input) (D.given result.1) (W.contents writer.old) (W.contents writer.new) }
     // A replay writes them again, behind the answers from before.
     // claim: output is written again
     ensures again { D.is_disk result.1 → (all : List ℕ) → R.remaining input ≡ Some all → IsToldAgain (setup engine.old.cleared) (plant_of engine.old) journal.documents (D.seen journal.disk)
@@ -81,7 +81,7 @@ pub fn serve_in_memory<K: Clock + Drop>(
     writer: &mut Vec<u8>,
     max_reads: u64,
 ) -> (Result<(), ServeFault>, Memory)
-    requires { IsAtRest journal.documents (⟦<Memory as Disk>⟧.durable journal.disk) (⟦<Memory as Disk>⟧.seen journal.disk) (⟦<Memory as Disk>⟧.given journal.disk) (sum_text journal.sum) }
+    requires { IsJournalAtRest journal.documents (⟦<Memory as Disk>⟧.durable journal.disk) (⟦<Memory as Disk>⟧.seen journal.disk) (⟦<Memory as Disk>⟧.given journal.disk) (sum_text journal.sum) }
     // claim: served over a journal
     ensures served { OnOk result.0 (WritesTranscript (setup engine.old.cleared) (plant_of engine.old) (lines_of input.now) (plant_of engine.new) (Some writer.old.items) (Some writer.new.items)) }
     // claim: told of given lines
@@ -99,7 +99,7 @@ pub(crate) fn serve_at<R: Read + Drop, D: Disk, K: Clock + Drop, W: Write, C: Ru
     remarks: &mut M,
     max_reads: u64,
 ) -> (Result<(), ServeFault>, D)
-    requires at_rest { D.is_disk journal.disk → IsKept C.documents C.base (D.durable journal.disk) (D.seen journal.disk) (D.given journal.disk) [] (sum_text journal.sum) }
+    requires at_rest { D.is_disk journal.disk → IsJournalKept C.documents C.base (D.durable journal.disk) (D.seen journal.disk) (D.given journal.disk) [] (sum_text journal.sum) }
     requires whole { D.is_disk journal.disk → IsWhole (D.given journal.disk) }
     requires recalled { D.is_disk journal.disk → HasRecalled C.documents C.base C.since (D.moment journal.disk) (D.left_since journal.disk) }
     requires input { D.is_disk journal.disk → IsAccounted C.input (D.given journal.disk) (R.remaining input) }
@@ -109,7 +109,7 @@ pub(crate) fn serve_at<R: Read + Drop, D: Disk, K: Clock + Drop, W: Write, C: Ru
     ensures cleared { engine.new.cleared ≡ engine.old.cleared }
     ensures served { OnOk result.0 (IfSome (R.remaining input) (λ all.
         WritesTranscript (setup engine.old.cleared) (plant_of engine.old) (lines_of all) (plant_of engine.new) (W.contents writer.old) (W.contents writer.new))) }
-    ensures told { D.is_disk result.1 → C.input ≡ R.remaining input → IsTold (setup engine.old.cleared) (plant_of engine.old) C.input (D.given result.1) (W.contents writer.old) (W.contents writer.new) }
+    ensures told { D.is_disk result.1 → C.input ≡ R.remaining input → TellsKnownLines (setup engine.old.cleared) (plant_of engine.old) C.input (D.given result.1) (W.contents writer.old) (W.contents writer.new) }
     ensures again { D.is_disk result.1 → C.input ≡ R.remaining input → (all start : List ℕ) → C.input ≡ Some all → C.base ≡ text_of (recovered C.documents start)
         → IsToldAgain (setup engine.old.cleared) (plant_of engine.old) C.documents start (D.durable result.1) (D.seen result.1) (D.given result.1) (W.contents writer.old) (W.contents writer.new) }
 {

@@ -4,7 +4,7 @@ use Rattle.std.specs.Prelude.{find, option_map}
 use Rattle.std.specs.Option.{option_or}
 use Rattle.std.specs.Str.{str_eq_ignore_ascii_case}
 use Rattle.std.proofs.lemmas.List.{take_more}
-use Rattle.batch_messages.specs.Explaining.{first_of}
+use Rattle.batch_messages.specs.Explaining.{first_code}
 use Rattle.batch_messages.specs.declared.explanation.Explanation.{Explanation}
 
 -- an explanation that is found in a table has the code that is found among the table's codes
@@ -27,27 +27,27 @@ both_none : (a b : Option (List ℕ)) → option_or a b ≡ None → (a ≡ None
 both_none None b is = (refl, is)
 both_none (Some code) b is = absurd cc
 
-pub first_of-map : {X Y : Type 0} (code : Y → Option (List ℕ)) (f : X → Y) (xs : List X) → first_of code (map f xs) ≡ first_of (λ x. code (f x)) xs
+pub first_of-map : {X Y : Type 0} (code : Y → Option (List ℕ)) (f : X → Y) (xs : List X) → first_code code (map f xs) ≡ first_code (λ x. code (f x)) xs
 first_of-map code f [] = refl
 first_of-map code f (x ∷ xs) = ap (option_or (code (f x))) (first_of-map code f xs)
 
 module _ {X : Type 0} (code : X → Option (List ℕ)) where
-  pub none_more : (xs : List X) (x : X) → first_of code xs ≡ None → code x ≡ None → first_of code (xs ++ x ∷ []) ≡ None
+  pub none_more : (xs : List X) (x : X) → first_code code xs ≡ None → code x ≡ None → first_code code (xs ++ x ∷ []) ≡ None
   none_more [] x before none = ap (λ c. option_or c None) none
   none_more (y ∷ xs) x before none =
-      let (first, rest) = both_none (code y) (first_of code xs) before in
-      ap (λ c. option_or c (first_of code (xs ++ x ∷ []))) first ∙ none_more xs x rest none
+      let (first, rest) = both_none (code y) (first_code code xs) before in
+      ap (λ c. option_or c (first_code code (xs ++ x ∷ []))) first ∙ none_more xs x rest none
 
-  pub none_at : (xs : List X) (i : ℕ) (x : X) → i < length xs → x ≡ get_or xs i x → first_of code (take i xs) ≡ None → code x ≡ None
-      → first_of code (take (i + 1) xs) ≡ None
+  pub none_at : (xs : List X) (i : ℕ) (x : X) → i < length xs → x ≡ get_or xs i x → first_code code (take i xs) ≡ None → code x ≡ None
+      → first_code code (take (i + 1) xs) ≡ None
   none_at xs i x within is before none =
-      ap (first_of code) (take_more xs i x within) ∙ none_more (take i xs) (get_or xs i x) before (ap code (sym is) ∙ none)
+      ap (first_code code) (take_more xs i x within) ∙ none_more (take i xs) (get_or xs i x) before (ap code (sym is) ∙ none)
 
   -- the first code is that of an element before which none has a code
-  pub first_at : (xs : List X) (i : ℕ) (x : X) (c : List ℕ) → i < length xs → x ≡ get_or xs i x → first_of code (take i xs) ≡ None → code x ≡ Some c
-      → first_of code xs ≡ Some c
+  pub first_at : (xs : List X) (i : ℕ) (x : X) (c : List ℕ) → i < length xs → x ≡ get_or xs i x → first_code code (take i xs) ≡ None → code x ≡ Some c
+      → first_code code xs ≡ Some c
   first_at [] i x c within is before found = absurd (omega (arith, within))
-  first_at (y ∷ xs) zero x c within is before found = ap (λ o. option_or o (first_of code xs)) (ap code (sym is) ∙ found)
+  first_at (y ∷ xs) zero x c within is before found = ap (λ o. option_or o (first_code code xs)) (ap code (sym is) ∙ found)
   first_at (y ∷ xs) (suc i) x c within is before found =
-      let (first, rest) = both_none (code y) (first_of code (take i xs)) before in
-      ap (λ o. option_or o (first_of code xs)) first ∙ first_at xs i x c (omega (arith, within)) is rest found
+      let (first, rest) = both_none (code y) (first_code code (take i xs)) before in
+      ap (λ o. option_or o (first_code code xs)) first ∙ first_at xs i x c (omega (arith, within)) is rest found

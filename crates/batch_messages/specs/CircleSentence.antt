@@ -17,11 +17,11 @@ abbrev pub recipe_name : List Recipe → ℕ → List ℕ
 recipe_name recipes recipe = unwrap_or (option_map (λ (r : Recipe). r.acts.procedure.name) (slice_get recipes recipe)) []
 
 -- the name of the act at a node of a recipe
-abbrev pub name_at : Recipe → ℕ → List ℕ
-name_at r node = elim (slice_get (procedure_acts r.acts) node) [ None ↦ [] | Some found ↦ elim found [ None ↦ [] | Some a ↦ a.name ] ]
+abbrev pub name_of_act_at : Recipe → ℕ → List ℕ
+name_of_act_at r node = elim (slice_get (procedure_acts r.acts) node) [ None ↦ [] | Some found ↦ elim found [ None ↦ [] | Some a ↦ a.name ] ]
 
 abbrev pub act_name : List Recipe → ℕ → ℕ → List ℕ
-act_name recipes recipe node = unwrap_or (option_map (λ r. name_at r node) (slice_get recipes recipe)) []
+act_name recipes recipe node = unwrap_or (option_map (λ r. name_of_act_at r node) (slice_get recipes recipe)) []
 
 -- an edge, with the remarks on it: the act that holds the one resource, and the places of both acts
 pub record ToldEdge : Type 0 where

@@ -18,23 +18,23 @@ refusal_codes =
 -- The code that texts ask about
 
 -- the pieces between white space, empty ones among them
-abbrev pub words : List ℕ → List (List ℕ)
-words text = slice_split is_ascii_whitespace text
+abbrev pub pieces_of : List ℕ → List (List ℕ)
+pieces_of text = slice_split is_ascii_whitespace text
 
 -- the code that a word is, in capitals or not
-abbrev pub code_of : List ℕ → Option (List ℕ)
-code_of word = find (λ code. str_eq_ignore_ascii_case code word) refusal_codes
+abbrev pub code_of_word : List ℕ → Option (List ℕ)
+code_of_word word = find (λ code. str_eq_ignore_ascii_case code word) refusal_codes
 
 -- the code of the first that has one
-abbrev pub first_of : {X : Type 0} → (X → Option (List ℕ)) → List X → Option (List ℕ)
-first_of code [] = None
-first_of code (x ∷ xs) = option_or (code x) (first_of code xs)
+abbrev pub first_code : {X : Type 0} → (X → Option (List ℕ)) → List X → Option (List ℕ)
+first_code code [] = None
+first_code code (x ∷ xs) = option_or (code x) (first_code code xs)
 
 abbrev pub code_in : List ℕ → Option (List ℕ)
-code_in text = first_of code_of (words text)
+code_in text = first_code code_of_word (pieces_of text)
 
 abbrev pub code_among : List (List ℕ) → Option (List ℕ)
-code_among texts = first_of code_in texts
+code_among texts = first_code code_in texts
 
 -- The printed text
 
@@ -43,14 +43,14 @@ abbrev pub meant : Explanation → List ℕ
 meant e = e.code.now ++ (codes ": " ++ (e.meaning.now ++ codes ".\n"))
 
 -- the same, and the remedy in a second line
-abbrev pub told : Explanation → List ℕ
-told e = e.code.now ++ (codes ": " ++ (e.meaning.now ++ (codes ".\nTo do: " ++ (e.remedy.now ++ codes ".\n"))))
+abbrev pub explanation_text : Explanation → List ℕ
+explanation_text e = e.code.now ++ (codes ": " ++ (e.meaning.now ++ (codes ".\nTo do: " ++ (e.remedy.now ++ codes ".\n"))))
 
 -- without texts the meaning of each code, else the explanation of the first code in them
-abbrev pub Tells : List (List ℕ) → List ℕ → Type 0
-Tells [] text =
+abbrev pub TellsCodes : List (List ℕ) → List ℕ → Type 0
+TellsCodes [] text =
     (explanations : List Explanation) × (map (λ e. e.code.now) explanations ≡ refusal_codes) × (text ≡ flat_map meant explanations)
-Tells (first ∷ more) text = (explanation : Explanation) × (code_among (first ∷ more) ≡ Some explanation.code.now) × (text ≡ told explanation)
+TellsCodes (first ∷ more) text = (explanation : Explanation) × (code_among (first ∷ more) ≡ Some explanation.code.now) × (text ≡ explanation_text explanation)
 
 -- there are texts, and no code in them
 abbrev pub HaveNoCode : List (List ℕ) → Type 0

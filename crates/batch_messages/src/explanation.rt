@@ -1,7 +1,7 @@
 //! Explanations of codes.
 ghost use Rattle.std.specs.Prelude.{◌≡◌, IfOk, MatchOption, find, flat_map, map, option_map, string_bytes};
 ghost use Rattle.std.specs.Str.{str_eq_ignore_ascii_case};
-ghost use Rattle.batch_messages.specs.Explaining.{HaveNoCode, Tells, code_among, code_in, code_of, meant, refusal_codes, told};
+ghost use Rattle.batch_messages.specs.Explaining.{HaveNoCode, TellsCodes, code_among, code_in, code_of_word, meant, refusal_codes, explanation_text};
 
 use crate::table::explanations;
 use std::alloc::{AllocError, Global};
@@ -21,8 +21,8 @@ pub struct Explanation {
 /// its own, in capitals or not. None where no word of the texts is a code.
 // claim: explained code
 pub fn explain(alloc: Global, texts: &[String]) -> Result<Option<String>, AllocError>
-    ensures { IfOk result (λ told. MatchOption told (HaveNoCode (map string_bytes texts.now))
-        (λ text. Tells (map string_bytes texts.now) (string_bytes text))) }
+    ensures { IfOk result (λ explanation_text. MatchOption explanation_text (HaveNoCode (map string_bytes texts.now))
+        (λ text. TellsCodes (map string_bytes texts.now) (string_bytes text))) }
 {
     if texts.is_empty() {
         return Ok(Some(meanings(alloc, &explanations())?));
@@ -54,7 +54,7 @@ fn meaning_text(alloc: Global, explanation: Explanation) -> Result<String, Alloc
 
 /// The explanation in two lines: the meaning of the code, and the remedy.
 fn explanation_text(alloc: Global, explanation: Explanation) -> Result<String, AllocError>
-    ensures { IfOk result (λ text. string_bytes text ≡ told explanation) }
+    ensures { IfOk result (λ text. string_bytes text ≡ explanation_text explanation) }
 {
     let Explanation {
         code,
@@ -90,7 +90,7 @@ fn explanation_in(text: &[u8]) -> Option<Explanation>
 
 /// The explanation of the code that the word is.
 fn explanation_of(word: &[u8]) -> Option<Explanation>
-    ensures { option_map (λ explanation. explanation.code.now) result ≡ code_of word.now }
+    ensures { option_map (λ explanation. explanation.code.now) result ≡ code_of_word word.now }
 {
     found_in(&explanations(), word)
 }

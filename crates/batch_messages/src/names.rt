@@ -1,6 +1,6 @@
 //! The names of resources, recipes and acts, by number.
 ghost use Rattle.std.specs.Prelude.{◌≡◌};
-ghost use Rattle.batch_messages.specs.CircleSentence.{act_name, name_at, recipe_name, resource_name};
+ghost use Rattle.batch_messages.specs.CircleSentence.{act_name, name_of_act_at, recipe_name, resource_name};
 
 use batch_cell::Cell;
 use batch_recipe::{Recipe, act_at};
@@ -38,7 +38,7 @@ pub fn act_name(recipes: &[Recipe], recipe: u16, node: u16) -> &str
 }
 
 fn name_at(recipe: &Recipe, node: u16) -> &str
-    ensures { result.now ≡ name_at recipe.now node }
+    ensures { result.now ≡ name_of_act_at recipe.now node }
 {
     match act_at(recipe, node) {
         Some(act) => act.name.text(),

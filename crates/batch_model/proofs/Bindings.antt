@@ -6,7 +6,7 @@ use Rattle.std.specs.List.{list_all}
 use Rattle.batch_recipe.specs.Conditions.{Name, same_name}
 use Rattle.batch_recipe.specs.Diagram as chart
 use Rattle.batch_recipe.specs.Diagram.{Diagram, Diagrams, Cases, diagram_of}
-use Rattle.batch_recipe.specs.Expanding.{Sites, unit_chosen, unit_with, unit_below, unit_named, unit_count, asked_by, reserves_from, expanded, expanded_each, expanded_cases, task_of, act_named, act_tree_with, named_tree_with}
+use Rattle.batch_recipe.specs.Expanding.{Sites, unit_chosen, unit_with, unit_below, unit_named, unit_count, asked_in_order, reserves_from, expanded, expanded_each, expanded_cases, task_of, act_named, act_tree_with, named_tree_with}
 use Rattle.batch_recipe.specs.Needs.{one_unit}
 use Rattle.batch_recipe.specs.Nodes.{child}
 use Rattle.batch_recipe.specs.Tree.{Place, Tree, act, skip}
@@ -61,7 +61,7 @@ HaveSameUnits sites other = unit_named sites ≡ unit_named other
 
 abbrev tree_of_choice : Sites → (Name → Name) → (Name → Name → Place → Tree) → Name → Act → Place → Option UnitChoice → Tree
 tree_of_choice sites named acts unit a p o =
-    act (record { place = p; needs = asked_by (unit_with sites.bound o) (map named a.reserves.items) a.needs.items; reserves = reserves_from (unit_count o) a.reserves.items })
+    act (record { place = p; needs = asked_in_order (unit_with sites.bound o) (map named a.reserves.items) a.needs.items; reserves = reserves_from (unit_count o) a.reserves.items })
     (task_of (acts (unit_below unit (unit_with sites.bound o))) (unit_below unit (unit_with sites.bound o)) a.name p a.work)
 
 module _ (sites other : Sites) (alike : HaveSameUnits sites other) where

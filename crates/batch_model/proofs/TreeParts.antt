@@ -4,7 +4,7 @@ use Rattle.batch_recipe.specs.Conditions.{Name}
 use Rattle.batch_recipe.specs.Tree.{Place, Tree, act, skip, seq, par, sel, loop, Task, runs, follows, Trees, no_trees, tree, Choices, otherwise, choice}
 use Rattle.batch_recipe.specs.Nodes.{Node, node, nodes, nodes_within, nodes_of_each, nodes_of_choices, child}
 use Rattle.batch_model.specs.Cleared.{Level, below, Part, parts, parts_within, parts_of_each, parts_of_choices}
-use Rattle.batch_recipe.specs.Needs.{resources_of}
+use Rattle.batch_recipe.specs.Needs.{resources_needed}
 
 both : (xs ys : List Part) (ns ms : List Node) → map (λ x. x.node) xs ≡ ns → map (λ x. x.node) ys ≡ ms → map (λ x. x.node) (xs ++ ys) ≡ ns ++ ms
 both [] ys ns ms e f = ap₂ (λ a b. a ++ b) e f
@@ -12,7 +12,7 @@ both (x ∷ xs) ys ns ms e f = ap (λ zs. x.node ∷ zs) (both xs ys (map (λ x.
 
 mutual
   pub parts-nodes : (l : Level) (p : Place) (above : List Name) (t : Tree) → map (λ x. x.node) (parts l p above t) ≡ nodes p above t
-  parts-nodes l p above (act s w) = ap (λ ns. node p above (act s w) ∷ ns) (parts_within-nodes (below l) p (above ++ resources_of s.needs) w)
+  parts-nodes l p above (act s w) = ap (λ ns. node p above (act s w) ∷ ns) (parts_within-nodes (below l) p (above ++ resources_needed s.needs) w)
   parts-nodes l p above skip = refl
   parts-nodes l p above (seq ts) = ap (λ ns. node p above (seq ts) ∷ ns) (parts_of_each-nodes l p above 0 ts)
   parts-nodes l p above (par ts) = ap (λ ns. node p above (par ts) ∷ ns) (parts_of_each-nodes l p above 0 ts)

@@ -6,7 +6,7 @@ use Rattle.batch_recipe.specs.Nodes.{Node, node, child, needs_of, reserves_of}
 use Rattle.batch_recipe.specs.Following.{follower}
 pub use Rattle.batch_recipe.specs.Levels.{Level, is_procedure, in_procedure, in_unit_procedure, in_operation, below}
 use Rattle.batch_recipe.specs.WellFormed.{is_among, are_distinct}
-use Rattle.batch_recipe.specs.Needs.{resources_of}
+use Rattle.batch_recipe.specs.Needs.{resources_needed}
 use Rattle.batch_recipe.specs.declared.need.Need.{Need}
 use Rattle.batch_model.specs.Lists.{Each}
 use Rattle.batch_recipe.specs.Expanding.{Binding}
@@ -30,7 +30,7 @@ part level place above chart = record { level = level; node = node place above c
 abbrev mutual
   pub parts : Level → Place → List Name → Tree → List Part
   parts level place above (act step task) =
-      part level place above (act step task) ∷ parts_within (below level) place (above ++ resources_of step.needs) task
+      part level place above (act step task) ∷ parts_within (below level) place (above ++ resources_needed step.needs) task
   parts level place above skip = part level place above skip ∷ []
   parts level place above (seq charts) = part level place above (seq charts) ∷ parts_of_each level place above 0 charts
   parts level place above (par charts) = part level place above (par charts) ∷ parts_of_each level place above 0 charts

@@ -253,5 +253,5 @@ batch_after (state number becomes) batch = record batch { state = becomes }
 batch_after move batch = in_act (place_of_move move) (act_after (moment_of batch) move) (passing move batch)
 
 -- the plant after a move
-abbrev pub after : Plant → Move → Plant
-after plant move = record (in_batch (batch_of move) (batch_after move) plant) { line = line_after move plant.line }
+abbrev pub after_move : Plant → Move → Plant
+after_move plant move = record (in_batch (batch_of move) (batch_after move) plant) { line = line_after move plant.line }

@@ -120,12 +120,12 @@ abbrev pub moment_of : Batch → Moment
 moment_of batch = record { values = batch.values; early = map (λ held. held.place) batch.in_advance }
 
 -- a chart has reached the act at this place, and it isn't finished
-abbrev pub is_reached : Rest → Place → Bool
-is_reached rest place = list_any (λ act. same_place (place_of act) place) (acts rest)
+abbrev pub is_act_reached : Rest → Place → Bool
+is_act_reached rest place = list_any (λ act. same_place (place_of act) place) (acts rest)
 
 -- the batch with this rest; the acts that are reached in it hold nothing in advance
 abbrev pub with_rest : Rest → Batch → Batch
-with_rest rest batch = record batch { rest = rest; in_advance = filter (λ held. not (is_reached rest held.place)) batch.in_advance }
+with_rest rest batch = record batch { rest = rest; in_advance = filter (λ held. not (is_act_reached rest held.place)) batch.in_advance }
 
 -- the batch in which the act at this place has been changed, and its charts have gone on from there
 abbrev pub in_act : Place → (Rest → Rest) → Batch → Batch

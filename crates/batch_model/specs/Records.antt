@@ -13,8 +13,8 @@ use Rattle.batch_model.specs.Runs.{Out, reply, move}
 use Rattle.batch_recipe.specs.Conditions.{Name}
 use Rattle.batch_recipe.specs.Tree.{Place, Phase}
 
-abbrev pub without_batch : ℕ → List Share → List Share
-without_batch number shares = filter (λ share. not (nat_eq share.act.0 number)) shares
+abbrev pub shares_without_batch : ℕ → List Share → List Share
+shares_without_batch number shares = filter (λ share. not (nat_eq share.act.0 number)) shares
 
 -- a place of a batch holds its share of a resource from its grant to its release, or to its pass, from which the other place holds it
 abbrev pub holders_after : Name → List Share → Out → List Share
@@ -31,8 +31,8 @@ holders_told outs resource = fold (holders_after resource) [] outs
 abbrev pub waiters_after : Name → List Share → Out → List Share
 waiters_after resource shares (move (ask number place need)) = with_share resource (number, place) need shares
 waiters_after resource shares (move (grant number place need)) = without_share resource (number, place) need shares
-waiters_after resource shares (reply (ordered Stop number becomes)) = without_batch number shares
-waiters_after resource shares (reply (ordered Abort number becomes)) = without_batch number shares
+waiters_after resource shares (reply (ordered Stop number becomes)) = shares_without_batch number shares
+waiters_after resource shares (reply (ordered Abort number becomes)) = shares_without_batch number shares
 waiters_after resource shares _ = shares
 
 abbrev pub waiters_told : List Out → Name → List Share

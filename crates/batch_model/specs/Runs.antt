@@ -6,7 +6,7 @@ use Rattle.batch_matrix.specs.Matrix.{accepts}
 use Rattle.batch_recipe.specs.Tree.{Task, runs, follows, Tree, act, skip, seq, par, sel, loop, Trees, no_trees, tree, Choices, otherwise, choice}
 use Rattle.batch_model.specs.Rest.{Rest, ready, asking, open_act, live, freeing, in_seq, in_par, in_loop, done, Rests, no_rests, rest}
 use Rattle.batch_model.specs.Plant.{Setup, Batch, Plant, opening}
-use Rattle.batch_model.specs.Moves.{Move, next, after, passed_on, is_stopping, is_stopped}
+use Rattle.batch_model.specs.Moves.{Move, next, after_move, passed_on, is_stopping, is_stopped}
 use Rattle.batch_model.specs.Events.{Event, Reply, created, refused, no_memory, react}
 
 pub data Out : Type 0 where
@@ -27,7 +27,7 @@ Reacts setup plant event told later =
 abbrev pub Leads : Setup → Plant → List Event → List Out → Plant → Type 0
 Leads setup plant [] [] later = plant ≡ later
 Leads setup plant (event ∷ events) [] later = ⊥
-Leads setup plant events (move made ∷ outs) later = (next setup plant ≡ Some made) × Leads setup (after plant made) events outs later
+Leads setup plant events (move made ∷ outs) later = (next setup plant ≡ Some made) × Leads setup (after_move plant made) events outs later
 Leads setup plant [] (reply told ∷ outs) later = ⊥
 Leads setup plant (event ∷ events) (reply told ∷ outs) later =
     (between : Plant) × Reacts setup plant event told between × Leads setup between events outs later
@@ -111,7 +111,7 @@ settling zero setup plant = ([], plant)
 settling (suc limit) setup plant =
     elim (next setup plant) [
       | None ↦ ([], plant)
-      | Some made ↦ let settled = settling limit setup (after plant made) in (made ∷ settled.0, settled.1)
+      | Some made ↦ let settled = settling limit setup (after_move plant made) in (made ∷ settled.0, settled.1)
     ]
 
 -- the record of the events, each followed by all moves that become possible

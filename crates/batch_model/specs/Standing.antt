@@ -59,22 +59,22 @@ after_branch level next (tree chart charts) = enter level chart
 abbrev mutual
   -- the unit procedures that are reached before any act begins: those that follow acts that are freeing, or open with nothing left in
   -- their charts; `next` follows the rest
-  pub due : Level → List Follower → Rest → List Follower
-  due level next (open_act step remaining) = due (below level) next remaining
-  due level next (freeing step left) = next
-  due level next (in_seq remaining charts) = due level (after_branch level next charts) remaining
-  due level next (in_par rests) = due_in_each level rests
-  due level next (in_loop turns until body remaining) = due level [] remaining
-  due level next done = next
-  due level next _ = []
+  pub due_followers : Level → List Follower → Rest → List Follower
+  due_followers level next (open_act step remaining) = due_followers (below level) next remaining
+  due_followers level next (freeing step left) = next
+  due_followers level next (in_seq remaining charts) = due_followers level (after_branch level next charts) remaining
+  due_followers level next (in_par rests) = due_in_each level rests
+  due_followers level next (in_loop turns until body remaining) = due_followers level [] remaining
+  due_followers level next done = next
+  due_followers level next _ = []
 
   pub due_in_each : Level → Rests → List Follower
   due_in_each level no_rests = []
-  due_in_each level (rest remaining rests) = due level [] remaining ++ due_in_each level rests
+  due_in_each level (rest remaining rests) = due_followers level [] remaining ++ due_in_each level rests
 
 -- the unit procedure at the place is due in the rest
 abbrev pub IsAwaited : Rest → Place → Type 0
-IsAwaited remaining place = (name : Name) × Has (due is_procedure [] remaining) (name, place)
+IsAwaited remaining place = (name : Name) × Has (due_followers is_procedure [] remaining) (name, place)
 
 -- Batches that aren't started, or are complete
 

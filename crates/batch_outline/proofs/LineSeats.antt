@@ -5,8 +5,8 @@ use Rattle.std.proofs.lemmas.List.{flat_map_more, length-map, take_more}
 use Rattle.std.proofs.lemmas.List.Folds.{flat_map-map}
 use Rattle.std.proofs.Math.Seq.{take-append_seam}
 use Rattle.batch_recipe.specs.Conditions.{Name}
-use Rattle.batch_recipe.specs.Expanding.{asked_by, needs_with, unit_chosen, unit_named, unit_with}
-use Rattle.batch_recipe.specs.Needs.{one_unit, resources_of}
+use Rattle.batch_recipe.specs.Expanding.{asked_in_order, needs_with, unit_chosen, unit_named, unit_with}
+use Rattle.batch_recipe.specs.Needs.{one_unit, resources_needed}
 use Rattle.batch_recipe.specs.Nodes.{node, needs_of, child}
 use Rattle.batch_recipe.specs.Procedure.{sites}
 use Rattle.batch_recipe.specs.Texts.{place_text}
@@ -16,7 +16,7 @@ use Rattle.batch_recipe.specs.declared.act.UnitChoice.{UnitChoice}
 use Rattle.batch_recipe.specs.declared.acts.Acts.{Acts}
 use Rattle.batch_recipe.specs.declared.need.Need.{Need}
 use Rattle.batch_outline.specs.Along.{Seat, asked_needs, asked_reserves, asked_text, asked_unit, held_text, seat_below, unit_of_name}
-use Rattle.batch_outline.specs.Showing.{Branch, asked_above, branch_text, itself, kind_at, kind_below, listed, need_text, spaced}
+use Rattle.batch_outline.specs.Showing.{Branch, asked_above, branch_text, itself, kind_text, kind_below, listed, need_text, spaced}
 
 pub child_text : (p : Place) (i : ℕ) → 0 < length p → place_text (child p i) ≡ place_text p ++ (codes "." ++ decimal i)
 child_text [] i long = absurd (omega (arith, long))
@@ -39,32 +39,32 @@ seat_of_child p i above b long = ap {A = List ℕ} (λ t. record { place = t; he
 pub above_node : (p : Place) (above : List Name) (t : Tree) → asked_above (node p above t) ≡ above
 above_node p above t =
     let own = needs_of t in
-    let size : length (above ++ resources_of own) - length own ≡ length above =
-    omega (arith, length-append above (resources_of own), length-map own (λ (n : Need). n.resource)) in
-    ap (λ k. take k (above ++ resources_of own)) size ∙ take-append_seam above (resources_of own)
+    let size : length (above ++ resources_needed own) - length own ≡ length above =
+    omega (arith, length-append above (resources_needed own), length-map own (λ (n : Need). n.resource)) in
+    ap (λ k. take k (above ++ resources_needed own)) size ∙ take-append_seam above (resources_needed own)
 
 pub held_listed : (names : List Name) → listed (codes "holds") names ≡ held_text (flat_map spaced names)
 held_listed [] = refl
 held_listed (name ∷ names) = refl
 
-pub kind_far : (p : Place) (a : Act) → 1 < length p → kind_at p a ≡ kind_below a.unit a.work
+pub kind_far : (p : Place) (a : Act) → 1 < length p → kind_text p a ≡ kind_below a.unit a.work
 kind_far [] a long = absurd (omega (arith, long))
 kind_far (n ∷ []) a long = absurd (omega (arith, long))
 kind_far (n ∷ m ∷ p) a long = refl
 
 -- the units of these unit procedures, and then these needs, each behind a space
 reserved_are : (acts : Acts) (names : List Name) (needs : List Need)
-    → flat_map spaced (resources_of (map one_unit (map (unit_named (sites itself acts)) names) ++ needs)) ≡ asked_reserves acts names ++ asked_needs needs
+    → flat_map spaced (resources_needed (map one_unit (map (unit_named (sites itself acts)) names) ++ needs)) ≡ asked_reserves acts names ++ asked_needs needs
 reserved_are acts [] needs = flat_map-map spaced (λ (need : Need). need.resource) needs
 reserved_are acts (name ∷ names) needs =
     ap (λ t. spaced (unit_of_name acts name) ++ t) (reserved_are acts names needs)
     ∙ sym (append_assoc (spaced (unit_of_name acts name)) (asked_reserves acts names) (asked_needs needs))
 
 -- all that an act asks for, each behind a space
-pub asked_is : (acts : Acts) (a : Act) → flat_map spaced (resources_of (needs_with (sites itself acts) a)) ≡ asked_text acts a
+pub asked_is : (acts : Acts) (a : Act) → flat_map spaced (resources_needed (needs_with (sites itself acts) a)) ≡ asked_text acts a
 asked_is acts a = go a.unit
   where
-    go : (unit : Option UnitChoice) → flat_map spaced (resources_of (asked_by (unit_with itself unit) (map (unit_named (sites itself acts)) a.reserves.items) a.needs.items))
+    go : (unit : Option UnitChoice) → flat_map spaced (resources_needed (asked_in_order (unit_with itself unit) (map (unit_named (sites itself acts)) a.reserves.items) a.needs.items))
         ≡ asked_unit unit ++ (asked_reserves acts a.reserves.items ++ asked_needs a.needs.items)
     go None = reserved_are acts a.reserves.items a.needs.items
     go (Some own) = ap (λ t. spaced (unit_chosen itself own) ++ t) (reserved_are acts a.reserves.items a.needs.items)

@@ -7,7 +7,7 @@ use Rattle.batch_recipe.specs.ActsAtNodes.{ActList, acts_along, acts_along_each,
 use Rattle.batch_recipe.specs.Conditions.{Name}
 use Rattle.batch_recipe.specs.Diagram.{Diagram, label, skip, seq, par, sel, loop, Diagrams, none, more, Cases, otherwise, when, diagram_of}
 use Rattle.batch_recipe.specs.Expanding.{act_named, act_tree_with, expanded, expanded_each, expanded_cases, named_tree_with, needs_with, task_of, unit_below, unit_with}
-use Rattle.batch_recipe.specs.Needs.{resources_of}
+use Rattle.batch_recipe.specs.Needs.{resources_needed}
 use Rattle.batch_recipe.specs.Nodes.{Node, node, nodes, nodes_within, nodes_of_each, nodes_of_choices, child}
 use Rattle.batch_recipe.specs.Procedure.{level_below, sites, table_at, tables_from}
 use Rattle.batch_recipe.specs.Texts.{place_text}
@@ -22,7 +22,7 @@ use Rattle.batch_recipe.specs.declared.acts.LabelTable.TheVariants.{UnitProcedur
 use Rattle.batch_recipe.specs.declared.recipe.Recipe.{Recipe}
 use Rattle.batch_recipe.specs.declared.role.Role.{Role as RecipeRole}
 use Rattle.batch_outline.specs.Along.{Labels, Seat, act_lines, along, along_each, along_cases, asked_text, below_act, labels_from, line, named_lines, plain_line, seat_below}
-use Rattle.batch_outline.specs.Showing.{Branch, no_branch, chosen_if, chosen_else, Row, act_text, branch_text, branches, branches_within, branches_of_each, branches_of_choices, head_text, itself, kind_at, kind_below, listed, recipe_text, row_text, rows, rows_of, spaced, turns_text}
+use Rattle.batch_outline.specs.Showing.{Branch, no_branch, chosen_if, chosen_else, Row, act_text, branch_text, branches, branches_within, branches_of_each, branches_of_choices, head_text, itself, kind_text, kind_below, listed, recipe_text, row_text, rows, rows_of, spaced, turns_text}
 use Rattle.batch_outline.proofs.LineSeats.{above_node, asked_is, child_long, held_listed, kind_far, seat_at, seat_of_child}
 
 rows_joined : (ns ms : List Node) (xs ys : ActList) (bs cs : List Branch) → length xs ≡ length ns → length bs ≡ length ns
@@ -124,7 +124,7 @@ module _ (roles : List RecipeRole) (acts : Acts) where
     whole = act_tree_with (sites itself acts) trees unit a p
 
     abbrev asked : List Name
-    asked = above ++ resources_of (needs_with (sites itself acts) a)
+    asked = above ++ resources_needed (needs_with (sites itself acts) a)
 
     -- the nodes below it, by its work
     below_reads : (work : Work) → Reads (nodes_within p asked (task_of (trees own) own a.name p work)) (acts_below list work) (branches_within (task_of (trees own) own a.name p work))
@@ -132,12 +132,12 @@ module _ (roles : List RecipeRole) (acts : Acts) where
     below_reads (Runs phase values reports) = (refl, refl, refl)
     below_reads (Follows c) =
         let held : flat_map spaced asked ≡ flat_map spaced above ++ asked_text acts a =
-        flat_map-append spaced above (resources_of (needs_with (sites itself acts) a)) ∙ ap (λ t. flat_map spaced above ++ t) (asked_is acts a) in
+        flat_map-append spaced above (resources_needed (needs_with (sites itself acts) a)) ∙ ap (λ t. flat_map spaced above ++ t) (asked_is acts a) in
         subst (λ (s : Seat). Reads (nodes (child p 0) asked (expanded (trees own) (child p 0) (diagram_of c))) (acts_along list (diagram_of c)) (branches no_branch (expanded (trees own) (child p 0) (diagram_of c))) (along named s (diagram_of c)))
         (seat_of_child p 0 asked no_branch some ∙ ap {A = List ℕ} (λ h. record { place = place_text p ++ (codes "." ++ decimal 0); held = h; branch = [] }) held)
         (chart_reads (trees own) named list (labels own) (child p 0) asked no_branch (diagram_of c) (child_long p 0 some))
 
-    act_reads : (b : Branch) (kind : List ℕ) → kind_at p a ≡ kind
+    act_reads : (b : Branch) (kind : List ℕ) → kind_text p a ≡ kind
         → Reads (nodes p above whole) (acts_from list a) (branches b whole) (act_lines roles acts named (seat_at p above b) kind a)
     act_reads b kind is =
         subst (λ (k : List ℕ). Reads (nodes p above whole) (acts_from list a) (branches b whole) (plain_line (seat_at p above b) (act_text roles k a) ++ below_act named (place_text p) (flat_map spaced above ++ asked_text acts a) a.work)) is

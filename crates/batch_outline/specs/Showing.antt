@@ -128,10 +128,10 @@ kind_below None (Follows chart) = codes "operation"
 kind_below None (Runs phase values reports) = codes "phase"
 
 -- the procedure alone has a place of one number
-abbrev pub kind_at : Place → Act → List ℕ
-kind_at [] a = codes "procedure"
-kind_at (root ∷ []) a = codes "procedure"
-kind_at (root ∷ i ∷ below) a = kind_below a.unit a.work
+abbrev pub kind_text : Place → Act → List ℕ
+kind_text [] a = codes "procedure"
+kind_text (root ∷ []) a = codes "procedure"
+kind_text (root ∷ i ∷ below) a = kind_below a.unit a.work
 
 -- the act, of this kind, with its name, its unit, its phase, the unit procedures that it reserves, and its needs
 abbrev pub act_text : List RecipeRole → List ℕ → Act → List ℕ
@@ -151,7 +151,7 @@ form_text (loop turns until t) = codes "loop"
 
 abbrev pub head_text : List RecipeRole → Node → Option Act → List ℕ
 head_text roles at None = form_text at.here
-head_text roles at (Some a) = act_text roles (kind_at at.place a) a
+head_text roles at (Some a) = act_text roles (kind_text at.place a) a
 
 -- the resources that are asked for on the path above the node: those of its own needs are the last of all on its path
 abbrev pub asked_above : Node → List Name
@@ -176,5 +176,5 @@ row_text roles row =
 abbrev pub recipe_text : Recipe → List ℕ
 recipe_text r = codes "recipe " ++ (r.acts.procedure.name ++ (codes "\n" ++ flat_map (row_text r.roles.items) (rows_of r)))
 
-abbrev pub shown : List Recipe → List ℕ
-shown recipes = flat_map recipe_text recipes
+abbrev pub shown_recipes : List Recipe → List ℕ
+shown_recipes recipes = flat_map recipe_text recipes

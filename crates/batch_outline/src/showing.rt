@@ -1,6 +1,6 @@
 //! Recipes, one after another.
 ghost use Rattle.std.specs.Prelude.{◌≡◌, ◌++◌, IfOk, OnOk, codes, string_bytes};
-ghost use Rattle.batch_outline.specs.Showing.{recipe_text, shown};
+ghost use Rattle.batch_outline.specs.Showing.{recipe_text, shown_recipes};
 
 use crate::lines::Seat;
 use crate::walk::put_act;
@@ -12,7 +12,7 @@ use std::alloc::{AllocError, Global};
 /// An error is want of memory.
 // claim: nodes shown
 pub fn show_recipes(alloc: Global, recipes: &[Recipe]) -> Result<String, AllocError>
-    ensures { IfOk result (λ text. string_bytes text ≡ shown recipes.now) }
+    ensures { IfOk result (λ text. string_bytes text ≡ shown_recipes recipes.now) }
 {
     let mut text = String::new(alloc);
     for recipe in recipes {

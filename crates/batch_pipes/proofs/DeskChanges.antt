@@ -4,7 +4,7 @@ use Rattle.std.proofs.lemmas.Bool.{cases_lt, false≢true}
 use Rattle.rtrb.specs.Ring.{SameProducer, sent}
 use Rattle.batch_serve.specs.Rounds.{AreHandedOn, AreSameWriters, IsHandedOn}
 use Rattle.batch_serve.specs.Runs.{Run}
-use Rattle.batch_serve.specs.Told.{AreTold}
+use Rattle.batch_serve.specs.Told.{AreDesksTold}
 use Rattle.batch_serve.specs.Waits.{IsAccount}
 use Rattle.batch_serve.specs.declared.desk.Desk.{Desk}
 use Rattle.batch_serve.specs.declared.rounds.Reader.{Reader}
@@ -120,7 +120,7 @@ desks_twice a b d one other = record {
   units = λ k desk within. other.units k desk (omega (arith, within, one.count)) ∙ one.units k desk within;
 }
 
-pub desks_told : (answers : List Run) (old new : List Desk) → AreTold answers old new → AreSameDesks old new
+pub desks_told : (answers : List Run) (old new : List Desk) → AreDesksTold answers old new → AreSameDesks old new
 desks_told answers old new told = record { count = told.count; units = λ k desk within. (told.each k desk within).unit }
 
 pub desks_handed : (old new : List Desk) (before after : List Writer) → length before ≡ length old → AreHandedOn old new before after → AreSameDesks old new

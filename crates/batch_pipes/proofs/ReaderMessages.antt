@@ -8,7 +8,7 @@ use Rattle.rtrb.specs.Ring.{received, sent}
 use Rattle.batch_wire.specs.Transcript.{lines_of}
 use Rattle.batch_serve.specs.CleanLines.{clean_lines}
 use Rattle.batch_serve.specs.Replays.{IsWholeLines}
-use Rattle.batch_serve.specs.Rounds.{AreGathered, AreMessagesOf, HaveWholeLines, IsGathered, IsTextOf, is_end, text_of_one, text_sent}
+use Rattle.batch_serve.specs.Rounds.{AreGathered, AreMessagesOf, HaveWholeLines, IsGathered, IsTextOfMessages, is_end, text_of_one, text_sent}
 use Rattle.batch_serve.specs.Runs.{Run}
 use Rattle.batch_serve.specs.Threads.{MayHandOver}
 use Rattle.batch_serve.specs.declared.desk.Desk.{Desk}
@@ -132,13 +132,13 @@ whole_front (message ∷ front) rest whole = both (text_of_one message) (text_se
 
 -- they are whole, and a prefix of those of the input
 pub own_whole : {O : Type 0} (given : List ℕ → Option (List ℕ)) (path : Option (List ℕ)) (reader : Reader O) (is_cut : Bool) (text : List ℕ) → IsInputOf given path reader
-    → IsTextOf (received reader.ring) is_cut text → IsWholeLines text
+    → IsTextOfMessages (received reader.ring) is_cut text → IsWholeLines text
 own_whole given path reader is_cut text of t =
     subst IsWholeLines (sym t.text_is)
     (whole_front t.taken t.dropped (subst HaveWholeLines t.came_is (whole_behind path (received reader.ring) of.messages of.came of.of.whole)))
 
 pub own_begun : {O : Type 0} (given : List ℕ → Option (List ℕ)) (path : Option (List ℕ)) (reader : Reader O) (is_cut : Bool) (text bytes : List ℕ) → IsInputOf given path reader
-    → IsTextOf (received reader.ring) is_cut text → (is_cut ≡ false → reader.has_ended ≡ true) → given_by given path ≡ Some bytes
+    → IsTextOfMessages (received reader.ring) is_cut text → (is_cut ≡ false → reader.has_ended ≡ true) → given_by given path ≡ Some bytes
     → (rest : List ℕ) × (clean_lines (lines_of bytes) ≡ text ++ rest) × (is_cut ≡ false → rest ≡ [])
 own_begun given path reader is_cut text bytes of t ended known =
     let (rest, is, all) = of.of.begun (clean_lines (lines_of bytes)) (ap cleaned known) in

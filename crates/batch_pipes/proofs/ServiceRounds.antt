@@ -6,7 +6,7 @@ use Rattle.std.proofs.KnownBytes.{Appends-nil, Appends-trans}
 use Rattle.std.specs.Io.KnownBytes.{Appends}
 use Rattle.batch_engine.specs.View.{EngineView, plant_of, setup}
 use Rattle.rtrb.specs.Ring.{received, sent}
-use Rattle.batch_serve.specs.Rounds.{AreGathered, IsHandedOver, IsTextOf, text_sent}
+use Rattle.batch_serve.specs.Rounds.{AreGathered, IsHandedOver, IsTextOfMessages, text_sent}
 use Rattle.batch_serve.specs.Runs.{AreOfDesks, Run, due_of, last_of, own_text, runs_text}
 use Rattle.batch_serve.specs.Served.{AreServed}
 use Rattle.batch_serve.specs.Turns.{IsSameBut, IsTurned}
@@ -32,7 +32,7 @@ use Rattle.batch_pipes.specs.OutputEnds.{IsHandedBack}
 use Rattle.batch_pipes.specs.Outputs.{AreOutputsKept, AreOutputsOpened, AreSettled, Asked, asked_by, asked_of}
 use Rattle.batch_serve.specs.Comments.{time_text}
 use Rattle.batch_wire.specs.Written.{Writes}
-use Rattle.batch_pipes.specs.Service.{AppendsTime, AppendsTimed, AreDesksServed, AreTimes, IsService, IsTime, Opening, Part, Rings, beginning, came_from, rings_of, told_to}
+use Rattle.batch_pipes.specs.Service.{AppendsTime, AppendsTimed, AreDesksServed, AreTimes, IsService, IsTime, Opening, RecordPart, Rings, without_record, came_from, rings_of, told_to}
 use Rattle.batch_pipes.specs.declared.input_order.InputOrder.{InputOrder}
 use Rattle.batch_pipes.specs.declared.outcome.OutputOutcome.{OutputOutcome}
 use Rattle.batch_pipes.specs.declared.output.Output.{Output}
@@ -41,25 +41,25 @@ use Rattle.batch_pipes.specs.declared.written.Written.{Written}
 
 -- Texts with times
 
-times_both : (times : Bool) (xs ys : List Part) → AreTimes times xs → AreTimes times ys → AreTimes times (xs ++ ys)
+times_both : (times : Bool) (xs ys : List RecordPart) → AreTimes times xs → AreTimes times ys → AreTimes times (xs ++ ys)
 times_both times [] ys one other = other
 times_both times (x ∷ xs) ys one other = (one.0, times_both times xs ys one.1 other)
 
 pub timed_more : (times : Bool) (before mid after : Option (List ℕ)) (text comment more : List ℕ) → AppendsTimed times before mid text → IsTime times comment
     → Appends mid after (comment ++ more) → AppendsTimed times before after (text ++ more)
 timed_more times before mid after text comment more so_far is_time appends =
-    let part : Part = record { comment = comment; text = more } in
+    let part : RecordPart = record { comment = comment; text = more } in
     record {
       all = so_far.all ++ (comment ++ more);
       appends = Appends-trans before mid after so_far.all (comment ++ more) so_far.appends appends;
       timed = record {
         parts = so_far.timed.parts ++ part ∷ [];
         comments = times_both times so_far.timed.parts (part ∷ []) so_far.timed.comments (is_time, tt);
-        is_text = ap (λ l. l ++ more) so_far.timed.is_text ∙ ap (λ l. flat_map (λ (p : Part). p.text) so_far.timed.parts ++ l) (sym (append-nil more))
-            ∙ sym (flat_map-append (λ (p : Part). p.text) so_far.timed.parts (part ∷ []));
+        is_text = ap (λ l. l ++ more) so_far.timed.is_text ∙ ap (λ l. flat_map (λ (p : RecordPart). p.text) so_far.timed.parts ++ l) (sym (append-nil more))
+            ∙ sym (flat_map-append (λ (p : RecordPart). p.text) so_far.timed.parts (part ∷ []));
         is_all = ap (λ l. l ++ (comment ++ more)) so_far.timed.is_all
-            ∙ ap (λ l. flat_map (λ (p : Part). p.comment ++ p.text) so_far.timed.parts ++ l) (sym (append-nil (comment ++ more)))
-            ∙ sym (flat_map-append (λ (p : Part). p.comment ++ p.text) so_far.timed.parts (part ∷ []));
+            ∙ ap (λ l. flat_map (λ (p : RecordPart). p.comment ++ p.text) so_far.timed.parts ++ l) (sym (append-nil (comment ++ more)))
+            ∙ sym (flat_map-append (λ (p : RecordPart). p.comment ++ p.text) so_far.timed.parts (part ∷ []));
       };
     }
 
@@ -108,7 +108,7 @@ service_gathered {K} {O} is_safe allows keeper times begun kept recorded old new
   runs = s.runs;
   answers = s.answers;
   names = same.names ∙ s.names;
-  life = lives_take is_safe keeper (beginning begun) s.runs s.answers (record { kept = kept; recorded = None; told = told }) old new s.life same;
+  life = lives_take is_safe keeper (without_record begun) s.runs s.answers (record { kept = kept; recorded = None; told = told }) old new s.life same;
   is_recorded = subst (λ (n : List (List ℕ)). AppendsTimed times begun.recorded recorded (runs_text n None s.answers)) (sym same.names) s.is_recorded;
   of_desks = (
     subst (λ (l : List Desk). AreOfDesks (length l) s.runs) (sym same.desks) s.of_desks.0,
@@ -119,14 +119,14 @@ service_gathered {K} {O} is_safe allows keeper times begun kept recorded old new
       let in_before : k < length before = omega (arith, in_old, count) in
       let reader : Reader O = one_of before k in_before in
       let is_cut : Bool = (get_or old.desks.items k desk).waiting.is_cut in
-      subst (λ (l : List Desk). IsTextOf (came_from after k) (get_or l k desk).waiting.is_cut (own_text k (s.runs ++ new.group.items))) (sym same.desks)
-      (subst (λ l. IsTextOf l is_cut (own_text k (s.runs ++ new.group.items))) (sym (came_at after k reader (omega (arith, in_before, gathered.count))))
+      subst (λ (l : List Desk). IsTextOfMessages (came_from after k) (get_or l k desk).waiting.is_cut (own_text k (s.runs ++ new.group.items))) (sym same.desks)
+      (subst (λ l. IsTextOfMessages l is_cut (own_text k (s.runs ++ new.group.items))) (sym (came_at after k reader (omega (arith, in_before, gathered.count))))
       (lines_go_on {O = O} allows k is_cut s.runs old.group.items new.group.items (get_or before k reader) (get_or after k reader)
-      (subst (λ l. IsTextOf l is_cut (own_text k (s.runs ++ old.group.items))) (came_at before k reader in_before) (s.lines k desk in_old)) (gathered.each k reader desk in_before)));
+      (subst (λ l. IsTextOfMessages l is_cut (own_text k (s.runs ++ old.group.items))) (came_at before k reader in_before) (s.lines k desk in_old)) (gathered.each k reader desk in_before)));
 }
 
 -- the desk may be cut now
-text_cut : (came : List Sent) (was_cut is_cut : Bool) (text : List ℕ) → (is_cut ≡ false → was_cut ≡ false) → IsTextOf came was_cut text → IsTextOf came is_cut text
+text_cut : (came : List Sent) (was_cut is_cut : Bool) (text : List ℕ) → (is_cut ≡ false → was_cut ≡ false) → IsTextOfMessages came was_cut text → IsTextOfMessages came is_cut text
 text_cut came was_cut is_cut text cut t =
     record { taken = t.taken; dropped = t.dropped; came_is = t.came_is; text_is = t.text_is; all = λ uncut. t.all (cut uncut) }
 
@@ -160,7 +160,7 @@ service_turned is_safe keeper after_keeper times begun kept kept_after recorded 
       runs = s.runs ++ old.group.items;
       answers = s.answers ++ turn.answers;
       names = turn.names ∙ s.names;
-      life = life_turned is_safe keeper after_keeper (beginning begun) kept_after None s.runs s.answers
+      life = life_turned is_safe keeper after_keeper (without_record begun) kept_after None s.runs s.answers
           (record { kept = kept; recorded = None; told = rings.told }) old new s.life stays untold;
       is_recorded = subst (AppendsTimed times begun.recorded recorded_after) text
           (timed_more times begun.recorded recorded recorded_after (runs_text names None s.answers) comment more s.is_recorded is_time appends);
@@ -171,7 +171,7 @@ service_turned is_safe keeper after_keeper times begun kept kept_after recorded 
       );
       lines = λ k desk within.
           let in_old : k < length old.desks.items = omega (arith, within, turn.told.count) in
-          subst (λ l. IsTextOf (rings.came k) (get_or new.desks.items k desk).waiting.is_cut (own_text k l))
+          subst (λ l. IsTextOfMessages (rings.came k) (get_or new.desks.items k desk).waiting.is_cut (own_text k l))
           (sym (ap (λ (g : List Run). (s.runs ++ old.group.items) ++ g) turn.group ∙ append-nil (s.runs ++ old.group.items)))
           (text_cut (rings.came k) _ _ _ (turn.told.each k desk in_old).cut (s.lines k desk in_old));
     }
@@ -209,8 +209,8 @@ service_handed {K} {P} is_safe keeper times begun kept recorded old new before a
       let reader : Reader (InputOrder P) = one_of before.readers.items k in_readers in
       let came : came_from before.readers.items k ≡ came_from after.readers.items k =
       came_at before.readers.items k reader in_readers ∙ sym (readers.each k reader in_readers).ring ∙ sym (came_at after.readers.items k reader (omega (arith, in_readers, readers.count))) in
-      subst (λ l. IsTextOf (came_from after.readers.items k) (get_or new.desks.items k desk).waiting.is_cut (own_text k (s.runs ++ l))) (sym handed.group)
-      (subst (λ l. IsTextOf l (get_or new.desks.items k desk).waiting.is_cut (own_text k (s.runs ++ old.group.items))) came
+      subst (λ l. IsTextOfMessages (came_from after.readers.items k) (get_or new.desks.items k desk).waiting.is_cut (own_text k (s.runs ++ l))) (sym handed.group)
+      (subst (λ l. IsTextOfMessages l (get_or new.desks.items k desk).waiting.is_cut (own_text k (s.runs ++ old.group.items))) came
       (text_cut (came_from before.readers.items k) _ _ _ (handed.handed.each k desk writer in_writers).cut (s.lines k desk in_old)));
 }
   where
@@ -308,9 +308,9 @@ desks_end {K} {P} {W} is_safe keeper times begun given stands contents hands_bac
           let reader : Reader (InputOrder P) = one_of p.readers.items k in_readers in
           let is_cut : Bool = (get_or s.desks.items k desk).waiting.is_cut in
           let input = inputs.each k plan reader within in
-          let text : IsTextOf (received (get_or p.readers.items k reader).ring) is_cut (own_text k service.runs) =
-          subst (λ l. IsTextOf l is_cut (own_text k service.runs)) (came_at p.readers.items k reader in_readers)
-          (subst (λ l. IsTextOf (came_from p.readers.items k) is_cut (own_text k l)) (ap (λ g. service.runs ++ g) group ∙ append-nil service.runs) (service.lines k desk in_desks)) in
+          let text : IsTextOfMessages (received (get_or p.readers.items k reader).ring) is_cut (own_text k service.runs) =
+          subst (λ l. IsTextOfMessages l is_cut (own_text k service.runs)) (came_at p.readers.items k reader in_readers)
+          (subst (λ l. IsTextOfMessages (came_from p.readers.items k) is_cut (own_text k l)) (ap (λ g. service.runs ++ g) group ∙ append-nil service.runs) (service.lines k desk in_desks)) in
           record {
             whole = own_whole given _ (get_or p.readers.items k reader) is_cut _ input text;
             begun = λ bytes known. own_begun given _ (get_or p.readers.items k reader) is_cut _ bytes input text (λ uncut. (done k desk reader in_desks uncut).0) known;

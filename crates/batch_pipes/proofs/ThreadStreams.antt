@@ -7,7 +7,7 @@ use Rattle.batch_wire.specs.Transcript.{lines_of}
 use Rattle.batch_wire.specs.Written.{AppendsBeginning}
 use Rattle.batch_serve.specs.CleanLines.{clean_lines}
 use Rattle.batch_serve.specs.Rounds.{text_sent}
-use Rattle.batch_serve.specs.Threads.{IsRead, IsWritten, lines_text}
+use Rattle.batch_serve.specs.Threads.{IsInputRead, AreLinesWritten, lines_text}
 use Rattle.batch_serve.specs.declared.rounds.Sent.{Sent}
 use Rattle.batch_pipes.specs.Streams.{HandsOver, HasNoOutput, HoldsBeginning, IsWrittenBehind, IsWrittenOf, IsWrittenOut}
 use Rattle.batch_pipes.specs.declared.fault.PipeFault.{PipeFault}
@@ -25,7 +25,7 @@ rest_of ended text front more (Some xs) (Some ys) is read all end =
     (more ++ ys, same ∙ read ∙ append_assoc front more ys, λ t. ap (λ l. l ++ ys) (all t) ∙ end t)
 
 pub hands_over : (ended told : Bool) (input old new : Option (List ℕ)) (before after : List Sent) → (ended ≡ true → told ≡ true)
-    → old ≡ option_map (λ (bytes : List ℕ). clean_lines (lines_of bytes)) input → IsRead told old new before after → HandsOver ended input before after
+    → old ≡ option_map (λ (bytes : List ℕ). clean_lines (lines_of bytes)) input → IsInputRead told old new before after → HandsOver ended input before after
 hands_over ended told input old new before after well is read = record {
   items = read.items;
   went = read.went;
@@ -46,7 +46,7 @@ nothing_handed input items = record {
 -- Outputs
 
 pub written_behind : (front : List ℕ) (ended : Bool) (before after : List (List ℕ)) (old mid new : Option (List ℕ)) → Appends old mid front
-    → IsWritten ended before after mid new → IsWrittenBehind front ended before after old new
+    → AreLinesWritten ended before after mid new → IsWrittenBehind front ended before after old new
 written_behind front ended before after old mid new first written = record {
   lines = written.lines;
   came = written.came;

@@ -13,7 +13,7 @@ use Rattle.batch_serve.proofs.ReadersAndWriters.{text_both}
 use Rattle.batch_pipes.proofs.Lists.{at_place, both_more, both_set, first_set, length_more, one_of, same_set}
 use Rattle.batch_pipes.proofs.Rings.{pair_on, same_ring}
 use Rattle.batch_pipes.proofs.ThreadStreams.{text_grown}
-use Rattle.batch_pipes.specs.Ended.{IsGivenBack, IsTold}
+use Rattle.batch_pipes.specs.Ended.{IsGivenBack, IsOutputTold}
 use Rattle.batch_pipes.specs.OutputEnds.{IsHandedBack, Results}
 use Rattle.batch_pipes.specs.Outputs.{AreEnding, AreOutputsKept, AreOutputsOf, AreOutputsOpened, AreSettled, AreSettledBy, Asked, IsEndOf, IsEnding, IsFinished, IsOutputAdded, IsOutputKept, IsOutputOf, IsSettled, IsSettledBy, IsTaskOf, asked_by, asked_of}
 use Rattle.batch_pipes.specs.Streams.{HoldsBeginning, IsWrittenOf}
@@ -201,7 +201,7 @@ settled_all {W} {P} is_result old new writers outcomes kept finished settled = r
 -- a desk that isn't cut, with an empty queue, was sent all lines that it is due but those left in the ring
 is_told : {W : Type 0} (contents : W → Option (List ℕ)) (stood : Option (List ℕ)) (front : List ℕ) (due told lines rest : List (List ℕ)) (desk : Desk) (w : Written W) (left : ℕ)
     → IsAccount due told desk.waiting → (desk.waiting.is_cut ≡ false → desk.waiting.lines ≡ []) → told ≡ lines ++ rest → length rest ≡ left
-    → IsWrittenOf contents stood (front ++ lines_text lines) w → IsTold contents stood front due desk w left
+    → IsWrittenOf contents stood (front ++ lines_text lines) w → IsOutputTold contents stood front due desk w left
 is_told contents stood front due told lines rest desk w left account none went count written = record {
   begun = IfSome_then w.output written.begun (λ output held. subst (λ (text : List ℕ). HoldsBeginning stood (contents output) text) (sym is)
       (text_grown stood (contents output) (front ++ lines_text lines) (lines_text (rest ++ account.rest)) held));

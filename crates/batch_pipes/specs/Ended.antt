@@ -24,7 +24,7 @@ pub record AreOwnServed (given : List ℕ → Option (List ℕ)) (k : ℕ) (plan
 
 -- a desk's output holds a prefix of its contents at the opening, the front and the lines due. If the desk isn't cut and its output
 -- ended well, it holds all but the last lines, as many as are left. There is an output, unless it couldn't be opened or had no memory
-pub record IsTold {W : Type 0} (contents : W → Option (List ℕ)) (stood : Option (List ℕ)) (front : List ℕ) (due : List (List ℕ)) (desk : Desk) (w : Written W) (left : ℕ)
+pub record IsOutputTold {W : Type 0} (contents : W → Option (List ℕ)) (stood : Option (List ℕ)) (front : List ℕ) (due : List (List ℕ)) (desk : Desk) (w : Written W) (left : ℕ)
     : Type 0 where
   pub begun : IfSome w.output (λ output. HoldsBeginning stood (contents output) (front ++ lines_text due))
   pub whole : desk.waiting.is_cut ≡ false → w.fault ≡ None
@@ -38,7 +38,7 @@ abbrev pub IsGivenBack
     → OutputOutcome W P → Type 0
 IsGivenBack contents stands hands_back path front due desk Absent = path ≡ None
 IsGivenBack contents stands hands_back path front due desk (Joined w left) =
-    (at : List ℕ) × (path ≡ Some at) × hands_back at w × IsTold contents (stands at) front due desk w left
+    (at : List ℕ) × (path ≡ Some at) × hands_back at w × IsOutputTold contents (stands at) front due desk w left
 IsGivenBack contents stands hands_back path front due desk (Unjoined thread) = path ≡ Some (string_bytes thread.handle.promise.task.value.path)
 
 -- runs of lines of these desks were served, those of each as above; the output of each, or its thread, is given back, as above

@@ -7,7 +7,7 @@ use Rattle.batch_serve.specs.Comments.{time_text}
 use Rattle.batch_verify.specs.ClearedSet.{ClearedSet}
 use Rattle.rtrb.specs.Ring.{received, sent}
 use Rattle.batch_serve.specs.Lives.{Beginning, IsLife}
-use Rattle.batch_serve.specs.Rounds.{IsTextOf}
+use Rattle.batch_serve.specs.Rounds.{IsTextOfMessages}
 use Rattle.batch_serve.specs.Runs.{AreOfDesks, Run, own_text, runs_text}
 use Rattle.batch_serve.specs.Served.{AreServed, AreWhole, ShowNoWant}
 use Rattle.batch_serve.specs.declared.desk.Desk.{Desk}
@@ -20,7 +20,7 @@ use Rattle.batch_pipes.specs.declared.ports.Ports.{Ports}
 -- The time of turns
 
 -- a part of the record, with the comment before it
-pub record Part : Type 0 where
+pub record RecordPart : Type 0 where
   pub comment : List ℕ
   pub text : List ℕ
 
@@ -29,7 +29,7 @@ abbrev pub IsTime : Bool → List ℕ → Type 0
 IsTime times comment = (comment ≡ []) ⊎ ((times ≡ true) × ((milliseconds : ℕ) × (comment ≡ time_text milliseconds)))
 
 -- so it is before each part
-abbrev pub AreTimes : Bool → List Part → Type 0
+abbrev pub AreTimes : Bool → List RecordPart → Type 0
 AreTimes times [] = ⊤
 AreTimes times (p ∷ parts) = IsTime times p.comment × AreTimes times parts
 
@@ -39,10 +39,10 @@ AppendsTime times before after = (comment : List ℕ) × IsTime times comment ×
 
 -- `text` is the text of the parts without their comments, and `all` is their text with them
 pub record IsTimed (times : Bool) (text all : List ℕ) : Type 0 where
-  pub parts : List Part
+  pub parts : List RecordPart
   pub comments : AreTimes times parts
-  pub is_text : text ≡ flat_map (λ (p : Part). p.text) parts
-  pub is_all : all ≡ flat_map (λ (p : Part). p.comment ++ p.text) parts
+  pub is_text : text ≡ flat_map (λ (p : RecordPart). p.text) parts
+  pub is_all : all ≡ flat_map (λ (p : RecordPart). p.comment ++ p.text) parts
 
 -- known bytes grew by the text, with the times of turns in it
 pub record AppendsTimed (times : Bool) (before after : Option (List ℕ)) (text : List ℕ) : Type 0 where
@@ -63,8 +63,8 @@ pub record Opening : Type 0 where
   pub again : Bool
 
 -- the same without the record, which has the times of turns in it
-abbrev pub beginning : Opening → Beginning
-beginning begun = record { set = begun.set; plant = begun.plant; kept = begun.kept; recorded = None; again = begun.again }
+abbrev pub without_record : Opening → Beginning
+without_record begun = record { set = begun.set; plant = begun.plant; kept = begun.kept; recorded = None; again = begun.again }
 
 -- the lines that went into the ring of the writer of the desk at a place, and the messages that came out of that of its reader
 pub record Rings : Type 0 where
@@ -88,10 +88,10 @@ pub record IsService (times : Bool) (begun : Opening) (safe : Type 0) (kept : Li
   pub runs : List Run
   pub answers : List Run
   pub names : s.names.items ≡ begun.names
-  pub life : IsLife (beginning begun) safe runs answers (record { kept = kept; recorded = None; told = rings.told }) s
+  pub life : IsLife (without_record begun) safe runs answers (record { kept = kept; recorded = None; told = rings.told }) s
   pub is_recorded : AppendsTimed times begun.recorded recorded (runs_text s.names.items None answers)
   pub of_desks : AreOfDesks (length s.desks.items) runs × AreOfDesks (length s.desks.items) s.group.items
-  pub lines : (k : ℕ) (desk : Desk) → k < length s.desks.items → IsTextOf (rings.came k) (get_or s.desks.items k desk).waiting.is_cut (own_text k (runs ++ s.group.items))
+  pub lines : (k : ℕ) (desk : Desk) → k < length s.desks.items → IsTextOfMessages (rings.came k) (get_or s.desks.items k desk).waiting.is_cut (own_text k (runs ++ s.group.items))
 
 -- each account of the service that holds before holds after
 abbrev pub GoesOn : (times again : Bool) (safe_before safe_after : Type 0) (kept_before kept_after : List ℕ) (recorded_before recorded_after : Option (List ℕ))

@@ -14,7 +14,7 @@ use Rattle.batch_sim.specs.Units.{Ticks}
 use Rattle.batch_sim.specs.declared.order.Order.{Order}
 use Rattle.batch_desk.specs.Consoles.{completes, telling_complete}
 use Rattle.batch_desk.specs.DeskState.{DeskState}
-use Rattle.batch_plant.specs.Links.{report_in, report_named, Deed, took, ticked, outs_taken, reports_made, listed, unit_after, Linked, TakeOut, AreDone, Links}
+use Rattle.batch_plant.specs.Links.{report_in, report_named, Deed, took, ticked, outs_taken, reports_made, event_list, unit_after, Linked, TakeOut, AreDone, Links}
 use Rattle.batch_plant.specs.LinkSteps.{Counts, KnowsUnits, SendsKept, kept_in, linked}
 use Rattle.batch_plant.specs.declared.answer.Answer.{Answer}
 use Rattle.batch_plant.specs.declared.link.Link.{Link}
@@ -28,8 +28,8 @@ reports-append : (cell : Cell) (a b : List Deed) → reports_made cell (a ++ b) 
 reports-append cell [] b = refl
 reports-append cell (took out ∷ a) b = reports-append cell a b
 reports-append cell (ticked unit answer ∷ a) b =
-    ap (λ l. listed (report_in cell unit answer) ++ l) (reports-append cell a b)
-    ∙ sym (append_assoc (listed (report_in cell unit answer)) (reports_made cell a) (reports_made cell b))
+    ap (λ l. event_list (report_in cell unit answer) ++ l) (reports-append cell a b)
+    ∙ sym (append_assoc (event_list (report_in cell unit answer)) (reports_made cell a) (reports_made cell b))
 
 -- Batches that are counted
 
@@ -90,7 +90,7 @@ report_sent cell old new d e answer event is told left next events outs taken (i
   taken = taken;
   more = event ∷ [];
   sent = grown;
-  reports = ap (λ k. event_of event ∷ kept_in cell k) none ∙ ap listed told ∙ ap (kept_in cell) (sym is);
+  reports = ap (λ k. event_of event ∷ kept_in cell k) none ∙ ap event_list told ∙ ap (kept_in cell) (sym is);
 }
 report_sent cell old new d e answer event is told left next events outs taken (inr (same, none)) = record {
   left = left;
@@ -113,7 +113,7 @@ report_dropped cell old new d answer is told left next none = record {
   taken = refl;
   more = [];
   sent = sym (append-nil d.sent);
-  reports = ap (kept_in cell) none ∙ ap listed told ∙ ap (kept_in cell) (sym is);
+  reports = ap (kept_in cell) none ∙ ap event_list told ∙ ap (kept_in cell) (sym is);
 }
 
 module _ {D : Type 0} (command_gives : D → ℕ → Order → D → Type 0) (tick_gives : D → Option (ℕ × Report) → D → Type 0) where
@@ -172,7 +172,7 @@ module _ {D : Type 0} (command_gives : D → ℕ → Order → D → Type 0) (ti
 
   -- a moment passed at the next unit, while no report was kept
   pub ticked_next : (cell : Cell) (s t : Linked D) (answer : Option (ℕ × Report)) → t.desk ≡ s.desk → Ticks tick_gives s.next s.units answer t.units
-      → t.next ≡ unit_after (length (units_of cell)) s.next → s.kept ≡ [] → t.kept ≡ listed (report_in cell s.next answer) → Links command_gives tick_gives cell s t
+      → t.next ≡ unit_after (length (units_of cell)) s.next → s.kept ≡ [] → t.kept ≡ event_list (report_in cell s.next answer) → Links command_gives tick_gives cell s t
   ticked_next cell s t answer is ticks next none kept = record {
     events = ap (λ (d : DeskState). d.events) is;
     outs = ap (λ (d : DeskState). d.outs) is;
@@ -181,7 +181,7 @@ module _ {D : Type 0} (command_gives : D → ℕ → Order → D → Type 0) (ti
     taken = ap (λ (d : DeskState). d.taken) is ∙ sym (append-nil s.desk.taken);
     more = [];
     sent = ap (λ (d : DeskState). d.sent) is ∙ sym (append-nil s.desk.sent);
-    reports = kept ∙ sym (append-nil (listed (report_in cell s.next answer))) ∙ ap (λ l. l ++ (listed (report_in cell s.next answer) ++ [])) (sym none);
+    reports = kept ∙ sym (append-nil (event_list (report_in cell s.next answer))) ∙ ap (λ l. l ++ (event_list (report_in cell s.next answer) ++ [])) (sym none);
   }
 
   -- the report that was kept was sent, or is kept

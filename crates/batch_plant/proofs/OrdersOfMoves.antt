@@ -4,7 +4,7 @@ use Rattle.std.specs.Io.KnownBytes.{Appends}
 use Rattle.std.proofs.KnownBytes.{Appends-trans, Appends-nil}
 use Rattle.batch_matrix.specs.declared.report.Report.{Report}
 use Rattle.batch_model.specs.Events.{Event, Reply}
-use Rattle.batch_model.specs.Moves.{Move, next, after}
+use Rattle.batch_model.specs.Moves.{Move, next, after_move}
 use Rattle.batch_model.specs.Plant.{Plant}
 use Rattle.batch_model.specs.Runs.{Out, reply, move, Reacts, Leads}
 use Rattle.batch_verify.specs.ClearedSet.{ClearedSet}
@@ -64,16 +64,16 @@ module _ {D : Type 0} (command_gives : D → ℕ → Order → D → Type 0) (ti
   orders_more [] m old mid new h k = (new, subst (λ (u : List D). TakeOrder command_gives tick_gives set m u new) h k, refl)
   orders_more (x ∷ made) m old mid new h k = (h.0, h.1, orders_more made m h.0 mid new h.2 k)
 
-  lead_more : (made : List Move) (m : Move) (s t u : Plant) → Leads (setup set) s [] (map move made) t → next (setup set) t ≡ Some m → u ≡ after t m
+  lead_more : (made : List Move) (m : Move) (s t u : Plant) → Leads (setup set) s [] (map move made) t → next (setup set) t ≡ Some m → u ≡ after_move t m
       → Leads (setup set) s [] (map move (made ++ m ∷ [])) u
-  lead_more [] m s t u h first_is is = (subst (λ (p : Plant). next (setup set) p ≡ Some m) (sym h) first_is, ap (λ (p : Plant). after p m) h ∙ sym is)
-  lead_more (x ∷ made) m s t u h first_is is = (h.0, lead_more made m (after s x) t u h.1 first_is is)
+  lead_more [] m s t u h first_is is = (subst (λ (p : Plant). next (setup set) p ≡ Some m) (sym h) first_is, ap (λ (p : Plant). after_move p m) h ∙ sym is)
+  lead_more (x ∷ made) m s t u h first_is is = (h.0, lead_more made m (after_move s x) t u h.1 first_is is)
 
   pub none_given : (first : Standing D) (before : Option (List ℕ)) → Appends before before [] → AreGiven first first before before
   none_given first before p = record { made = []; goes_on = λ more new s. s; leads = refl; orders = refl; appends = p }
 
   pub one_more : (first now new : Standing D) (m : Move) (x y z : Option (List ℕ)) → AreGiven first now x y → next (setup set) now.plant ≡ Some m
-      → new.plant ≡ after now.plant m → TakeOrder command_gives tick_gives set m now.units new.units → Appends y z (out_text (move m)) → AreGiven first new x z
+      → new.plant ≡ after_move now.plant m → TakeOrder command_gives tick_gives set m now.units new.units → Appends y z (out_text (move m)) → AreGiven first new x z
   one_more first now new m x y z h first_is is o p = record {
     made = h.made ++ m ∷ [];
     goes_on = λ more last s. rw (append_assoc h.made (m ∷ []) more) (h.goes_on (m ∷ more) last (first_is, rw (← is) s));
@@ -96,7 +96,7 @@ module _ {D : Type 0} (command_gives : D → ℕ → Order → D → Type 0) (ti
 
   -- a fault came while a move was written
   pub stopped_at : (first now new : Standing D) (m : Move) (x y z : Option (List ℕ)) → AreGiven first now x y → next (setup set) now.plant ≡ Some m
-      → new.plant ≡ after now.plant m → new.units ≡ now.units → AppendsBeginning y z (out_text (move m)) → StopsMoves command_gives tick_gives set first new x z
+      → new.plant ≡ after_move now.plant m → new.units ≡ now.units → AppendsBeginning y z (out_text (move m)) → StopsMoves command_gives tick_gives set first new x z
   stopped_at first now new m x y z h first_is is same p = record {
     made = h.made;
     last = m;

@@ -28,11 +28,11 @@ use Rattle.batch_desk.specs.Due.{events_of}
 use Rattle.batch_desk.specs.Ends.{Seals}
 use Rattle.batch_desk.specs.Rings.{IsOfRing, Ring, places_of}
 use Rattle.batch_desk.specs.DeskState.{DeskState, IsNewDesk, desk_rings}
-use Rattle.batch_desk.specs.HubState.{AreFromPorts, HasGrown, HubState, rings}
+use Rattle.batch_desk.specs.HubState.{AreFromPorts, HasHistoryGrown, HubState, rings}
 use Rattle.batch_desk.specs.Plans.{AreOfPlans, places_free, sizes_made}
 use Rattle.batch_desk.specs.PortState.{PortState, port_rings, sealed}
 use Rattle.batch_desk.specs.declared.plan.PortPlan.{PortPlan}
-use Rattle.batch_plant.specs.Links.{Deed, took, ticked, listed, report_in, report_named, reports_made, IsLink}
+use Rattle.batch_plant.specs.Links.{Deed, took, ticked, event_list, report_in, report_named, reports_made, IsLinkRun}
 use Rattle.batch_plant.specs.Parts.{AreParts, HaveRings, IsRest, LinkRan}
 use Rattle.batch_plant.specs.Plants.{AreOfConsole, ComesFromDesks, HasEventRings, HasLink, IsReport, event_rings}
 
@@ -55,11 +55,11 @@ abbrev pub IsReportEvent : Events.Event → Type 0
 IsReportEvent (Events.report unit phase word outputs) = Unit {0}
 IsReportEvent _ = ⊥
 
-report_alone : (o : Option Name) (unit : Name) (word : Word) → All IsReportEvent (listed (report_named unit o word))
+report_alone : (o : Option Name) (unit : Name) (word : Word) → All IsReportEvent (event_list (report_named unit o word))
 report_alone None unit word = All-nil IsReportEvent
 report_alone (Some name) unit word = All-cons IsReportEvent (Events.report unit name word []) [] tt (All-nil IsReportEvent)
 
-answer_alone : (cell : Cell) (unit : ℕ) (answer : Option (ℕ × Word)) → All IsReportEvent (listed (report_in cell unit answer))
+answer_alone : (cell : Cell) (unit : ℕ) (answer : Option (ℕ × Word)) → All IsReportEvent (event_list (report_in cell unit answer))
 answer_alone cell unit None = All-nil IsReportEvent
 answer_alone cell unit (Some (phase, word)) = report_alone (slice_get (phases_of cell unit) phase) (unwrap_or (slice_get (resources_of cell) unit) []) word
 
@@ -67,7 +67,7 @@ reports_alone : (cell : Cell) (deeds : List Deed) → All IsReportEvent (reports
 reports_alone cell [] = All-nil IsReportEvent
 reports_alone cell (took out ∷ deeds) = reports_alone cell deeds
 reports_alone cell (ticked unit answer ∷ deeds) =
-    All-append IsReportEvent (listed (report_in cell unit answer)) (reports_made cell deeds) (answer_alone cell unit answer) (reports_alone cell deeds)
+    All-append IsReportEvent (event_list (report_in cell unit answer)) (reports_made cell deeds) (answer_alone cell unit answer) (reports_alone cell deeds)
 
 of_event : (e : Event) → IsReportEvent (event_of e) → IsReport e
 of_event (Create recipe size roles) is = is
@@ -84,7 +84,7 @@ sent_alone (e ∷ more) kept all is each =
 
 -- a link sends reports alone
 pub link_ran : {D : Type 0} (command_gives : D → ℕ → Told → D → Type 0) (tick_gives : D → Option (ℕ × Word) → D → Type 0) (cell : Cell) (d e : DeskState) (old new : List D)
-    → IsLink command_gives tick_gives cell d e old new → LinkRan command_gives tick_gives cell old d e
+    → IsLinkRun command_gives tick_gives cell d e old new → LinkRan command_gives tick_gives cell old d e
 link_ran command_gives tick_gives cell d e old new h = record {
   events = h.links.events;
   outs = h.links.outs;
@@ -181,7 +181,7 @@ rest_left port h g token taken there rest seals all count =
 -- The events of the desks
 
 -- from a new hub on, all came from its two ports
-pub from_two : (ring : ℕ) (h g k : HubState) → HaveRings ring h → h.history ≡ [] → HasGrown (length h.ports) h.history g.history → k.history ≡ g.history → AreFromPorts 2 k.history
+pub from_two : (ring : ℕ) (h g k : HubState) → HaveRings ring h → h.history ≡ [] → HasHistoryGrown (length h.ports) h.history g.history → k.history ≡ g.history → AreFromPorts 2 k.history
 from_two ring h g k made new grown same =
     let two : length h.ports ≡ 2 = sym (length-map h.ports sizes_made) ∙ ap length made in
     subst (AreFromPorts 2) (sym (same ∙ (grown.is ∙ ap (λ es. es ++ grown.more) new))) (subst (λ n. AreFromPorts n grown.more) two grown.each)

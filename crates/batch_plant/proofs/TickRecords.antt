@@ -2,7 +2,7 @@
 use Rattle.std.proofs.Common.{◌≡◌, ℕ, sym, ap, subst, List, [], ◌∷◌, ◌++◌, map, Option, Some, None, inl, inr}
 use Rattle.batch_matrix.specs.declared.report.Report.{Report}
 use Rattle.batch_model.specs.Events.{Event}
-use Rattle.batch_model.specs.Moves.{Move, after}
+use Rattle.batch_model.specs.Moves.{Move, after_move}
 use Rattle.batch_model.specs.Plant.{Setup, Plant, opening}
 use Rattle.batch_model.specs.Runs.{Out, reply, move, Leads}
 use Rattle.batch_safety.specs.Sets.{RunsSafely}
@@ -21,17 +21,17 @@ pub leads_join : (c : Setup) (s t u : Plant) (es : List Event) (outs : List Out)
     → Leads c s es outs t → Leads c t fs more u → Leads c s (es ++ fs) (outs ++ more) u
 leads_join c s t u [] [] fs more h k = subst (λ (p : Plant). Leads c p fs more u) (sym h) k
 leads_join c s t u (e ∷ es) [] fs more h k = absurd h
-leads_join c s t u es (move m ∷ outs) fs more h k = (h.0, leads_join c (after s m) t u es outs fs more h.1 k)
+leads_join c s t u es (move m ∷ outs) fs more h k = (h.0, leads_join c (after_move s m) t u es outs fs more h.1 k)
 leads_join c s t u [] (reply r ∷ outs) fs more h k = absurd h
 leads_join c s t u (e ∷ es) (reply r ∷ outs) fs more h k = (h.0, h.1, leads_join c h.0 t u es outs fs more h.2 k)
 
 moves_lead : (c : Setup) (old new : Plant) (moves : List Move) → Settles c old moves new → Leads c old [] (map move moves) new
 moves_lead c old new [] s = sym s.1
-moves_lead c old new (m ∷ moves) s = (s.0, moves_lead c (after old m) new moves s.1)
+moves_lead c old new (m ∷ moves) s = (s.0, moves_lead c (after_move old m) new moves s.1)
 
 moves_settle : (c : Setup) (old new : Plant) (moves : List Move) → Settles c old moves new → IsSettled c new
 moves_settle c old new [] s = subst (IsSettled c) (sym s.1) s.0
-moves_settle c old new (m ∷ moves) s = moves_settle c (after old m) new moves s.1
+moves_settle c old new (m ∷ moves) s = moves_settle c (after_move old m) new moves s.1
 
 pub handled_leads : (c : Setup) (old new : Plant) (event : Event) (outs : List Out) → Handles c old event outs new → Leads c old (event ∷ []) outs new
 handled_leads c old new event outs h =

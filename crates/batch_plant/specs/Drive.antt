@@ -11,7 +11,7 @@ use Rattle.batch_verify.specs.ClearedSet.{ClearedSet}
 use Rattle.batch_engine.specs.Names.{resource_name, phase_name}
 use Rattle.batch_engine.specs.View.{setup}
 use Rattle.batch_wire.specs.Transcript.{Exchange, silence, handled, followed_by, Handles}
-use Rattle.batch_sim.specs.Units.{Takes, Ticks}
+use Rattle.batch_sim.specs.Units.{TakesOrder, Ticks}
 use Rattle.batch_sim.specs.declared.order.Order.{Order}
 use Rattle.batch_sim.specs.declared.order.Order.TheVariants.{Start, Send}
 use Rattle.batch_plant.specs.Links.{report_in}
@@ -22,10 +22,10 @@ in_rounds units zero = []
 in_rounds units (suc n) = range_with_len 0 units ++ in_rounds units n
 
 -- the order that a move gives, and the phase that gets it
-abbrev pub order_of : Move → Option (Phase × Order)
-order_of (start n place phase values) = Some (phase, Start)
-order_of (send n place phase command) = Some (phase, Send command)
-order_of _ = None
+abbrev pub order_given_by : Move → Option (Phase × Order)
+order_given_by (start n place phase values) = Some (phase, Start)
+order_given_by (send n place phase command) = Some (phase, Send command)
+order_given_by _ = None
 
 -- the numbers of a unit and of one of its phases are those of this phase
 pub record AreNumbersOf (set : ClearedSet) (unit phase : ℕ) (named : Phase) : Type 0 where
@@ -41,10 +41,10 @@ module _ {D : Type 0} (command_gives : D → ℕ → Order → D → Type 0) (ti
   -- the units are given the order of a move, if it gives one
   abbrev pub TakeOrder : Move → List D → List D → Type 0
   TakeOrder m old new =
-      elim (order_of m) [
+      elim (order_given_by m) [
         | None ↦ new ≡ old
         | Some (named, order) ↦
-            (unit phase : ℕ) × (known : Bool) × AreNumbersOf set unit phase named × Takes command_gives unit phase order old known new
+            (unit phase : ℕ) × (known : Bool) × AreNumbersOf set unit phase named × TakesOrder command_gives unit phase order old known new
       ]
 
   -- and so for one move after the other

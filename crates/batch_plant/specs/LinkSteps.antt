@@ -9,14 +9,14 @@ use Rattle.batch_engine.specs.declared.event.Event.{Event}
 use Rattle.batch_sim.specs.Units.{Ticks}
 use Rattle.batch_desk.specs.Consoles.{completes}
 use Rattle.batch_desk.specs.DeskState.{DeskState}
-use Rattle.batch_plant.specs.Links.{Linked, listed, report_in}
+use Rattle.batch_plant.specs.Links.{Linked, event_list, report_in}
 use Rattle.batch_plant.specs.declared.answer.Answer.{Answer}
 use Rattle.batch_plant.specs.declared.link.Link.{Link}
 
 -- the report that is kept
 abbrev pub kept_in : Cell → Option Answer → List Events.Event
 kept_in cell None = []
-kept_in cell (Some answer) = listed (report_in cell answer.unit (Some (answer.phase, answer.word)))
+kept_in cell (Some answer) = event_list (report_in cell answer.unit (Some (answer.phase, answer.word)))
 
 abbrev pub linked : {D : Type 0} → Cell → Link → DeskState → List D → Linked D
 linked cell link desk units = record { desk = desk; units = units; next = link.next; kept = kept_in cell link.kept }
@@ -46,4 +46,4 @@ pub record SendsKept (cell : Cell) (old : Link) (d : DeskState) (new : Link) (e 
 pub record TicksUnit {D : Type 0} (tick_gives : D → Option (ℕ × Report) → D → Type 0) (cell : Cell) (unit : ℕ) (old : List D) (kept : Option Answer) (new : List D) : Type 0 where
   pub answer : Option (ℕ × Report)
   pub ticks : Ticks tick_gives unit old answer new
-  pub same : kept_in cell kept ≡ listed (report_in cell unit answer)
+  pub same : kept_in cell kept ≡ event_list (report_in cell unit answer)

@@ -10,7 +10,7 @@ use Rattle.batch_engine.specs.declared.event.Event.{Event}
 use Rattle.batch_engine.specs.declared.line.Line.TheVariants.{Send, Start}
 use Rattle.batch_engine.specs.declared.out.Out.{Out}
 use Rattle.batch_engine.specs.declared.out.Out.TheVariants.{Move}
-use Rattle.batch_sim.specs.Units.{Takes, Ticks}
+use Rattle.batch_sim.specs.Units.{TakesOrder, Ticks}
 use Rattle.batch_sim.specs.declared.order.Order.{Order}
 use Rattle.batch_sim.specs.declared.order.Order.TheVariants as orders
 use Rattle.batch_desk.specs.DeskState.{DeskState}
@@ -43,15 +43,15 @@ outs_taken [] = []
 outs_taken (took out ∷ deeds) = out ∷ outs_taken deeds
 outs_taken (ticked unit answer ∷ deeds) = outs_taken deeds
 
-abbrev pub listed : Option Events.Event → List Events.Event
-listed None = []
-listed (Some event) = event ∷ []
+abbrev pub event_list : Option Events.Event → List Events.Event
+event_list None = []
+event_list (Some event) = event ∷ []
 
 -- the reports that the units answered with
 abbrev pub reports_made : Cell → List Deed → List Events.Event
 reports_made cell [] = []
 reports_made cell (took out ∷ deeds) = reports_made cell deeds
-reports_made cell (ticked unit answer ∷ deeds) = listed (report_in cell unit answer) ++ reports_made cell deeds
+reports_made cell (ticked unit answer ∷ deeds) = event_list (report_in cell unit answer) ++ reports_made cell deeds
 
 -- the unit that comes after this one in turn, where there are so many
 abbrev pub unit_after : ℕ → ℕ → ℕ
@@ -70,7 +70,7 @@ module _ {D : Type 0} (command_gives : D → ℕ → Order → D → Type 0) (ti
   TakeOut out old new =
       elim (order_in out) [
         | None ↦ new ≡ old
-        | Some (unit, phase, order) ↦ (known : Bool) × Takes command_gives unit phase order old known new
+        | Some (unit, phase, order) ↦ (known : Bool) × TakesOrder command_gives unit phase order old known new
       ]
 
   -- the effect of the deeds on the units, which tick in turn
@@ -93,7 +93,7 @@ module _ {D : Type 0} (command_gives : D → ℕ → Order → D → Type 0) (ti
     pub reports : map event_of more ++ t.kept ≡ s.kept ++ reports_made cell deeds
 
   -- a link that keeps nothing begins with the first unit; at its end it keeps at most one report
-  pub record IsLink (cell : Cell) (d e : DeskState) (old new : List D) : Type 0 where
+  pub record IsLinkRun (cell : Cell) (d e : DeskState) (old new : List D) : Type 0 where
     pub next : ℕ
     pub kept : List Events.Event
     pub few : length kept ≤ 1

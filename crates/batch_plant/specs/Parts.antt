@@ -9,9 +9,9 @@ use Rattle.batch_engine.specs.declared.out.Out.{Out}
 use Rattle.batch_desk.specs.Due.{due, up_to}
 use Rattle.batch_desk.specs.DeskState.{DeskState, desk_rings}
 use Rattle.batch_desk.specs.HubDone.{AreComplete}
-use Rattle.batch_desk.specs.HubState.{HasGrown, HubState, rings}
+use Rattle.batch_desk.specs.HubState.{HasHistoryGrown, HubState, rings}
 use Rattle.batch_desk.specs.Plans.{sizes_made}
-use Rattle.batch_plant.specs.Links.{IsLink}
+use Rattle.batch_plant.specs.Links.{IsLinkRun}
 use Rattle.batch_plant.specs.Plants.{IsReport}
 
 -- the console's desk is that of port 0, and the link's that of port 1
@@ -28,7 +28,7 @@ pub record HubRan (batches : ℕ) (h g : HubState) : Type 0 where
   pub rings : rings g ≡ rings h
   pub cleared : g.engine.cleared ≡ h.engine.cleared
   pub complete : AreComplete batches g
-  pub history : HasGrown (length h.ports) h.history g.history
+  pub history : HasHistoryGrown (length h.ports) h.history g.history
 
 -- a desk at which a link worked over these units, and that has sent reports
 pub record LinkRan {D : Type 0} (command_gives : D → ℕ → Order → D → Type 0) (tick_gives : D → Option (ℕ × Report) → D → Type 0) (cell : Cell) (units : List D) (d e : DeskState) : Type 0 where
@@ -38,7 +38,7 @@ pub record LinkRan {D : Type 0} (command_gives : D → ℕ → Order → D → T
   pub sent : e.sent ≡ d.sent ++ more
   pub each : All IsReport more
   pub later : List D
-  pub works : IsLink command_gives tick_gives cell d e units later
+  pub works : IsLinkRun command_gives tick_gives cell d e units later
 
 -- so many outs are left of those that a port is due, after these were taken
 abbrev pub IsRest : ℕ → HubState → List Out → ℕ → Type 0

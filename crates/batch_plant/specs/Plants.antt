@@ -12,7 +12,7 @@ use Rattle.batch_desk.specs.DeskState.{DeskState}
 use Rattle.batch_desk.specs.Due.{events_of}
 use Rattle.batch_desk.specs.HubState.{AreFromPorts, HubState}
 use Rattle.batch_desk.specs.Rings.{Ring, places_of}
-use Rattle.batch_plant.specs.Links.{IsLink}
+use Rattle.batch_plant.specs.Links.{IsLinkRun}
 
 -- a report of a phase
 abbrev pub IsReport : Event → Type 0
@@ -42,7 +42,7 @@ pub record HasLink {D : Type 0} (command_gives : D → ℕ → Order → D → T
   pub later : List D
   pub ring : slice_get (event_rings h) 1 ≡ Some after.events
   pub new : before.sent ≡ []
-  pub works : IsLink command_gives tick_gives cell before after units later
+  pub works : IsLinkRun command_gives tick_gives cell before after units later
   pub all : events_of 1 h.history ≡ after.sent
 
 -- the rings in which events come to the two ports have so many places

@@ -9,5 +9,5 @@ abbrev pub IsUnitAt : Cell → ℕ → UnitPhases → Type 0
 IsUnitAt cell number unit = (slice_get (resources_of cell) number ≡ Some unit.name) × (unit.phases.items ≡ phases_of cell number)
 
 -- each unit is at the place of its number
-abbrev pub AreUnits : Cell → List UnitPhases → Type 0
-AreUnits cell units = (number : ℕ) (unit : UnitPhases) → slice_get units number ≡ Some unit → IsUnitAt cell number unit
+abbrev pub AreCellUnits : Cell → List UnitPhases → Type 0
+AreCellUnits cell units = (number : ℕ) (unit : UnitPhases) → slice_get units number ≡ Some unit → IsUnitAt cell number unit

@@ -24,7 +24,7 @@ impl Model for CellUnits {
     ghost use Rattle.batch_cell.specs.LookUps.{units_of};
     ghost use Rattle.batch_cell.specs.contracts.cell.Cell as cell_contracts;
     ghost use Rattle.batch_cell.specs.declared.cell.Cell.{Cell};
-    ghost use Rattle.batch_plant.specs.UnitsOfCell.{AreUnits};
+    ghost use Rattle.batch_plant.specs.UnitsOfCell.{AreCellUnits};
 
     ghost Value = { Cell };
 
@@ -32,7 +32,7 @@ impl Model for CellUnits {
 
     ghost view = { λ it. it.cell.value };
 
-    ghost invariant = { λ it. (length it.units.items ≡ length (units_of it.cell.value)) × AreUnits it.cell.value it.units.items };
+    ghost invariant = { λ it. (length it.units.items ≡ length (units_of it.cell.value)) × AreCellUnits it.cell.value it.units.items };
 }
 
 impl CellUnits {

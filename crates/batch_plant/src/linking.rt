@@ -5,7 +5,7 @@ ghost use Rattle.batch_cell.specs.declared.cell.Cell.{Cell};
 ghost use Rattle.batch_desk.specs.Consoles.{completes, telling_complete};
 ghost use Rattle.batch_desk.specs.DeskState.{DeskState};
 ghost use Rattle.batch_desk.specs.declared.loop_end.LoopEnd.TheVariants.{Done};
-ghost use Rattle.batch_plant.specs.Links.{IsLink, Links, TakeOut, listed, report_in, unit_after};
+ghost use Rattle.batch_plant.specs.Links.{IsLinkRun, Links, TakeOut, event_list, report_in, unit_after};
 ghost use Rattle.batch_plant.specs.LinkSteps.{Counts, KnowsUnits, SendsKept, TicksUnit, kept_in, linked};
 
 use crate::answer::Answer;
@@ -34,7 +34,7 @@ pub fn link_loop<D: UnitDriver, G: Gate>(
     limit: u64,
 ) -> LoopEnd
     // claim: linked units; reports sent
-    ensures link { IsLink D.command_gives D.tick_gives cell.now desk.old desk.new units.old units.new }
+    ensures link { IsLinkRun D.command_gives D.tick_gives cell.now desk.old desk.new units.old units.new }
     // claim: end of a link
     ensures end { (result ≡ Done) ↔ (completes desk.old.taken + batches ≤ completes desk.new.taken) }
 {
@@ -174,7 +174,7 @@ fn tick_unit<D: UnitDriver>(units: &mut Simulator<D>, cell: &CellUnits, unit: u1
 /// The answer, if the unit has a phase with that number.
 fn report_kept(cell: &CellUnits, answer: Answer) -> Option<Answer>
     requires { answer.unit < length (units_of cell.now) }
-    ensures kept { kept_in cell.now result ≡ listed (report_in cell.now answer.unit (Some (answer.phase, answer.word))) }
+    ensures kept { kept_in cell.now result ≡ event_list (report_in cell.now answer.unit (Some (answer.phase, answer.word))) }
     ensures unit { IfSome result (λ kept. kept.unit ≡ answer.unit) }
 {
     match cell.phase_name(answer.unit, answer.phase) {

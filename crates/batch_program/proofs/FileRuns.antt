@@ -5,7 +5,7 @@ use Rattle.std.specs.Global.{Global}
 use Rattle.clap.specs.Walk.{Text}
 use Rattle.batch_cli.specs.CommandLine.{Judgement, Request, Source, audit, keep, picture, remark, serve, tell, write, serve_desks}
 use Rattle.batch_verdicts.specs.Reading.{Gives}
-use Rattle.batch_verdicts.specs.Requests.{IsVerdict}
+use Rattle.batch_verdicts.specs.Requests.{IsVerdictText}
 use Rattle.batch_verdicts.specs.Running.{AskFor, IsDone, IsRun, IsUnwritten, Stream, ask_quiet}
 use Rattle.batch_verdicts.specs.Running as running
 use Rattle.batch_verdicts.specs.Saying.{IsWarned}
@@ -23,13 +23,13 @@ use Rattle.batch_program.proofs.ProgramRuns.{plants_no_file, serves_no_file, tol
 done_to_write : (gives : Gives) (request : Request) (quiet : Bool) (output errors : Stream) (course : Course) (path text : String Global)
     → IsDone gives request quiet output errors course → course ≡ course_of.Writes path text
     → (judgement : Judgement) × (request ≡ write (string_bytes path) judgement)
-    × IsVerdict gives (IsWarned quiet errors.before errors.after) judgement (string_bytes text) × IsUnwritten output
+    × IsVerdictText gives (IsWarned quiet errors.before errors.after) judgement (string_bytes text) × IsUnwritten output
 done_to_write gives request quiet output errors _ path text (running.writes judgement own said asked told kept) is =
     let same_path : own ≡ path = cc in
     let same_text : said ≡ text = cc in (
       judgement,
       subst (λ (p : String Global). request ≡ write (string_bytes p) judgement) same_path asked,
-      subst (λ (t : String Global). IsVerdict gives (IsWarned quiet errors.before errors.after) judgement (string_bytes t)) same_text told,
+      subst (λ (t : String Global). IsVerdictText gives (IsWarned quiet errors.before errors.after) judgement (string_bytes t)) same_text told,
       kept,
     )
 done_to_write gives request quiet output errors _ path text (running.serves _ _ _ _ _ _) is = absurd cc
@@ -48,7 +48,7 @@ done_to_write gives request quiet output errors _ path text (running.draws _ _ _
 pub file_to_write : (gives : Gives) (words : List Text) (output errors : Stream) (course : Course) (path text : String Global)
     → IsRun gives words output errors course → course ≡ course_of.Writes path text
     → (judgement : Judgement) × AskFor words (write (string_bytes path) judgement)
-    × IsVerdict gives (IsWarned (ask_quiet words) errors.before errors.after) judgement (string_bytes text) × IsUnwritten output
+    × IsVerdictText gives (IsWarned (ask_quiet words) errors.before errors.after) judgement (string_bytes text) × IsUnwritten output
 file_to_write gives words output errors _ path text (running.commands request course asked came) is =
     let (judgement, named, told, kept) = done_to_write gives request (ask_quiet words) output errors course path text came is in
     (judgement, rw (← named) asked, told, kept)
@@ -80,7 +80,7 @@ no_audit source beginning record_path path judgement is = cc
 
 kept_at : (gives : Gives) (holds : Holds) (files : JournalFiles) (words : List Text) (ends : serving.Ends) (errors : Stream) (path : Text) (judgement : Judgement) (status : ℕ)
     → AskFor words (write path judgement) → IsProgramRun gives holds files words ends errors status → status ≡ 0
-    → (text : List ℕ) × IsVerdict gives (IsWarned (ask_quiet words) errors.before errors.after) judgement text × holds path (Some text)
+    → (text : List ℕ) × IsVerdictText gives (IsWarned (ask_quiet words) errors.before errors.after) judgement text × holds path (Some text)
     × IsUnwritten (output_of ends)
 kept_at gives holds files words ends errors path judgement _ asked (tells status came _) is =
     absurd (told_at_once gives words (output_of ends) errors (write path judgement) status asked came is)
@@ -90,7 +90,7 @@ kept_at gives holds files words ends errors path judgement status asked (writes 
     let more = verdict_more gives (IsWarned quiet errors.before warned) (IsWarned quiet errors.before errors.after) other text
     (λ lines. warned_kept quiet errors.before warned errors.after lines silent) told in (
       text,
-      subst (λ j. IsVerdict gives (IsWarned quiet errors.before errors.after) j text) (same_judgement own path other judgement same) more,
+      subst (λ j. IsVerdictText gives (IsWarned quiet errors.before errors.after) j text) (same_judgement own path other judgement same) more,
       subst (λ p. holds p (Some text)) (same_path own path other judgement same) kept,
       unwritten,
     )

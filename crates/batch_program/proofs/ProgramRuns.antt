@@ -54,7 +54,7 @@ use Rattle.batch_program.proofs.DeskRequests.{desks_no_plant, desks_no_serving}
 use Rattle.batch_program.specs.FileWriting.{IsWritten}
 use Rattle.batch_program.specs.PlantRuns.{HasRun, IsPlantTold, plant_text, refused_status}
 use Rattle.batch_program.specs.DrawingRuns as drawing
-use Rattle.batch_program.specs.DrawingRuns.{IsDrawn, IsRecordDrawn}
+use Rattle.batch_program.specs.DrawingRuns.{IsPictureDrawn, IsRecordDrawn}
 use Rattle.batch_record.specs.Pictures.{picture_text}
 use Rattle.batch_program.specs.RecordRuns.{Holds, IsRecordTold, IsStatusTold, IsUntold, prints, refuses, stops, no_record_text, output_of}
 
@@ -320,8 +320,8 @@ record_to_draw gives words output errors _ path (running.misuses _ _) is = absur
 record_to_draw gives words output errors _ path (running.starves _) is = absurd cc
 
 picture_kept : (unread before mid after quiet still loud : Option (List ℕ)) (status : ℕ) → Keeps before mid → Keeps quiet still
-    → IsDrawn unread (record { before = mid; after = after }) (record { before = still; after = loud }) status
-    → IsDrawn unread (record { before = before; after = after }) (record { before = quiet; after = loud }) status
+    → IsPictureDrawn unread (record { before = mid; after = after }) (record { before = still; after = loud }) status
+    → IsPictureDrawn unread (record { before = before; after = after }) (record { before = quiet; after = loud }) status
 picture_kept unread before mid after quiet still loud status kept silent (drawing.pictures own told printed) =
     drawing.pictures own told (printed_kept before mid after quiet still loud (picture_text own) success_status status kept silent printed)
 picture_kept unread before mid after quiet still loud status kept silent (drawing.declines number refused printed) =
@@ -634,7 +634,7 @@ audit_in_range holds set beginning path ends errors status (auditing.finds given
     printed_in_range (output_of ends) errors _ (finding_status beginning finding) status (finding_in_range beginning finding) printed
 audit_in_range holds set beginning path ends errors status (auditing.stops untold) = untold_in_range (output_of ends) status untold
 
-picture_in_range : (unread : Option (List ℕ)) (output errors : Stream) (status : ℕ) → IsDrawn unread output errors status → status ≤ 4
+picture_in_range : (unread : Option (List ℕ)) (output errors : Stream) (status : ℕ) → IsPictureDrawn unread output errors status → status ≤ 4
 picture_in_range unread output errors status (drawing.pictures own _ printed) = printed_in_range output errors (picture_text own) success_status status (omega arith) printed
 picture_in_range unread output errors status (drawing.declines number _ printed) = printed_in_range output errors _ refused_status status (omega arith) printed
 picture_in_range unread output errors status (drawing.fails untold) = untold_in_range output status untold

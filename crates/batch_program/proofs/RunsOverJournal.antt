@@ -11,7 +11,7 @@ use Rattle.batch_wire.specs.WrittenTranscript.{WritesTranscript}
 use Rattle.batch_serve.specs.CleanLines.{CleanLinesServeAlike, clean_lines}
 use Rattle.batch_journal.specs.Journals.{IsJournal, recovered}
 use Rattle.batch_journal.specs.Lines.{text_of}
-use Rattle.batch_journal.specs.Readers.{IsAccounted, IsKept, IsWhole}
+use Rattle.batch_journal.specs.Readers.{IsAccounted, IsJournalKept, IsWhole}
 use Rattle.batch_journal.specs.Recovery.{AreRests, HasNoFault, IsOfDisk, IsRecoverable, IsRefusedFor}
 use Rattle.batch_journal.proofs.FilesWithoutRefusal.{not_refused}
 use Rattle.batch_journal.specs.declared.recovery.RecoveryFault.{RecoveryFault}
@@ -56,7 +56,7 @@ where_known (Some input) given P is so = so (clean_lines (lines_of input)) is
 
 pub kept_started : (documents base text sum durable seen given old_seen old_given : List ℕ) → AreRests documents text sum durable seen
     → recovered documents text ≡ recovered documents old_seen → base ≡ text_of (recovered documents old_seen) → given ≡ old_given → old_given ≡ []
-    → IsKept documents base durable seen given [] sum
+    → IsJournalKept documents base durable seen given [] sum
 kept_started documents base text sum durable seen given old_seen old_given rests same base_is given_is none = record {
   journal = subst (λ l. IsJournal documents l sum) (sym rests.seen_is) rests.journal;
   synced = rests.synced;

@@ -14,16 +14,16 @@ use Rattle.batch_record.specs.declared.picture.Picture.{Picture}
 -- the outcome for a reader's bytes: if they are a record, the text of a picture is printed, and else which line is the first that is
 -- none of a record; a record that can't be opened or read, and want of memory leave the output as it was, and are reported on the
 -- errors in a free text
-pub data IsDrawn (unread : Option (List ℕ)) (output errors : Stream) (status : ℕ) : Type 0 where
+pub data IsPictureDrawn (unread : Option (List ℕ)) (output errors : Stream) (status : ℕ) : Type 0 where
   pictures : (picture : Picture) → IfSome unread IsRecord
-      → IsPrinted output errors (picture_text picture) success_status status → IsDrawn unread output errors status
+      → IsPrinted output errors (picture_text picture) success_status status → IsPictureDrawn unread output errors status
   declines : (number : ℕ) → IfSome unread (λ input. IsRefusedAt input number)
-      → IsPrinted output errors (no_record_text number) refused_status status → IsDrawn unread output errors status
-  fails : IsUntold output status → IsDrawn unread output errors status
+      → IsPrinted output errors (no_record_text number) refused_status status → IsPictureDrawn unread output errors status
+  fails : IsUntold output status → IsPictureDrawn unread output errors status
 
 -- the input is the record, or else the one at the path is, and then the input isn't read
 abbrev pub IsRecordDrawn : Holds → Option Text → serving.Ends → Stream → ℕ → Type 0
-IsRecordDrawn holds None ends errors status = IsDrawn ends.unread (output_of ends) errors status
+IsRecordDrawn holds None ends errors status = IsPictureDrawn ends.unread (output_of ends) errors status
 IsRecordDrawn holds (Some path) ends errors status =
     Keeps ends.unread ends.left
-    × (((unread : Option (List ℕ)) × holds path unread × IsDrawn unread (output_of ends) errors status) ⊎ IsUntold (output_of ends) status)
+    × (((unread : Option (List ℕ)) × holds path unread × IsPictureDrawn unread (output_of ends) errors status) ⊎ IsUntold (output_of ends) status)

@@ -25,8 +25,8 @@ plant_text batches handled =
     codes "batches " ++ (decimal batches ++ (codes "\ncomplete " ++ (decimal batches ++ (codes "\nhandled " ++ (decimal handled ++ codes "\n")))))
 
 -- the line of a plant in which the turns of a worker ran out
-abbrev pub turns_text : List ℕ
-turns_text = codes "refused turns\n"
+abbrev pub turns_out_text : List ℕ
+turns_out_text = codes "refused turns\n"
 
 -- the exit status with that line
 abbrev pub refused_status : ℕ
@@ -67,7 +67,7 @@ pub record HasRun (set : ClearedSet) (batches handled : ℕ) : Type 0 where
 abbrev pub IsPlantTold : Stream → Stream → ℕ → Result ℕ PlantFault → ℕ → Type 0
 IsPlantTold output errors batches (Ok handled) status =
     IsPrinted output errors (plant_text batches handled) 0 status ⊎ (IsUnwritten output × (status ≡ memory_status))
-IsPlantTold output errors batches (Err TurnsOut) status = IsPrinted output errors turns_text refused_status status
+IsPlantTold output errors batches (Err TurnsOut) status = IsPrinted output errors turns_out_text refused_status status
 IsPlantTold output errors batches (Err Memory) status = IsUnwritten output × (status ≡ memory_status)
 IsPlantTold output errors batches (Err Thread) status = IsUnwritten output × (status ≡ memory_status)
 IsPlantTold output errors batches (Err Refused) status = IsUnwritten output × (status ≡ memory_status)

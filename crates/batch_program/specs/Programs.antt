@@ -13,7 +13,7 @@ use Rattle.batch_reader.specs.declared.desk_set.Desks.{Desks}
 use Rattle.batch_verdicts.specs.DeskSets.{AreDesksCleared}
 use Rattle.batch_verdicts.specs.Digested.{AreDigested}
 use Rattle.batch_verdicts.specs.Reading.{Gives}
-use Rattle.batch_verdicts.specs.Requests.{IsSetOf, IsVerdict}
+use Rattle.batch_verdicts.specs.Requests.{IsSetOf, IsVerdictText}
 use Rattle.batch_verdicts.specs.Running.{AskFor, IsRun, IsUnwritten, Stream, ask_quiet, fault_status, memory_status}
 use Rattle.batch_verdicts.specs.Saying.{WritesFront, IsWarned}
 use Rattle.batch_verdicts.specs.VerdictTexts.{accepted_text}
@@ -57,8 +57,8 @@ IsLeftTold false errors zero = IsUnwritten errors
 IsLeftTold false errors (suc more) = WritesFront errors.before errors.after (left_text (suc more))
 
 -- the set is served, with this exit status, and the errors say how many batches the input left unfinished
-abbrev pub IsServed : Bool → ClearedSet → serving.Ends → Stream → ℕ → Type 0
-IsServed quiet set ends errors status =
+abbrev pub IsSetServed : Bool → ClearedSet → serving.Ends → Stream → ℕ → Type 0
+IsSetServed quiet set ends errors status =
     (served : Result ℕ SetFault) × Serves set MAX_READS served ends × IfOk served (IsLeftTold quiet errors) × (status ≡ status_of_serving served)
 
 -- the same with comments in the record
@@ -74,7 +74,7 @@ pub data IsProgramRun (gives : Gives) (holds : Holds) (files : JournalFiles) (wo
   -- the documents are accepted, it is warned of them, the text that says so is written into the file that the words name, and
   -- neither is the input read nor the output written
   writes : (path : Text) (judgement : Judgement) (text : List ℕ) (warned : Option (List ℕ)) (status : ℕ)
-      → AskFor words (write path judgement) → IsVerdict gives (IsWarned (ask_quiet words) errors.before warned) judgement text
+      → AskFor words (write path judgement) → IsVerdictText gives (IsWarned (ask_quiet words) errors.before warned) judgement text
       → IsWritten holds path text (record { before = warned; after = errors.after }) status
       → IsUnwritten (output_of ends) → Keeps ends.unread ends.left → IsProgramRun gives holds files words ends errors status
   -- the set that the words name is served, by the engine that is made from it
@@ -145,7 +145,7 @@ abbrev pub CertificatesAreKept : Gives → Holds → JournalFiles → Type 0
 CertificatesAreKept gives holds files =
     (words : List Text) (ends : serving.Ends) (errors : Stream) (path : Text) (judgement : Judgement)
     → AskFor words (write path judgement) → IsProgramRun gives holds files words ends errors 0
-    → (text : List ℕ) × IsVerdict gives (IsWarned (ask_quiet words) errors.before errors.after) judgement text × holds path (Some text)
+    → (text : List ℕ) × IsVerdictText gives (IsWarned (ask_quiet words) errors.before errors.after) judgement text × holds path (Some text)
     × IsUnwritten (output_of ends)
 
 -- a run of `plant` that ends with status 0 has written its three lines, and a record over the set that the words name, of so many

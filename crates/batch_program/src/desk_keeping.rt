@@ -4,7 +4,7 @@ ghost use Rattle.batch_reader.specs.DeskNames.{desk_names};
 ghost use Rattle.batch_engine.specs.View.{plant_of};
 ghost use Rattle.batch_journal.specs.Journals.{recovered, sum_text};
 ghost use Rattle.batch_journal.specs.Lines.{text_of};
-ghost use Rattle.batch_journal.specs.Readers.{HasRecalled, IsKept, IsWhole};
+ghost use Rattle.batch_journal.specs.Readers.{HasRecalled, IsJournalKept, IsWhole};
 ghost use Rattle.batch_verdicts.specs.Running.{fault_status, memory_status, success_status};
 ghost use Rattle.batch_program.specs.DeskRuns.{AreDesksOver, AreDesksRun};
 ghost use Rattle.batch_program.specs.JournalRuns.{disks_of};
@@ -160,7 +160,7 @@ fn serve_behind<D: Disk, K: Clock + Drop, P: DeskRunner, W: Write, E: Write, C: 
     output: &mut Noted<W>,
     errors: &mut E,
 ) -> (u8, D)
-    requires at_rest { D.is_disk journal.disk → IsKept C.documents C.base (D.durable journal.disk) (D.seen journal.disk) (D.given journal.disk) [] (sum_text journal.sum) }
+    requires at_rest { D.is_disk journal.disk → IsJournalKept C.documents C.base (D.durable journal.disk) (D.seen journal.disk) (D.given journal.disk) [] (sum_text journal.sum) }
     requires whole { D.is_disk journal.disk → IsWhole (D.given journal.disk) }
     requires recalled { D.is_disk journal.disk → HasRecalled C.documents C.base C.since (D.moment journal.disk) (D.left_since journal.disk) }
     requires was { D.is_disk journal.disk → C.was }

@@ -8,7 +8,7 @@ ghost use Rattle.batch_wire.specs.Written.{Writes};
 ghost use Rattle.batch_wire.specs.WrittenTranscript.{WritesTranscript};
 ghost use Rattle.batch_journal.specs.Journals.{recovered, sum_text};
 ghost use Rattle.batch_journal.specs.Lines.{text_of};
-ghost use Rattle.batch_journal.specs.Readers.{HasRecalled, IsAccounted, IsKept, IsWhole};
+ghost use Rattle.batch_journal.specs.Readers.{HasRecalled, IsAccounted, IsJournalKept, IsWhole};
 ghost use Rattle.batch_verdicts.specs.Running.{fault_status, memory_status, success_status};
 ghost use Rattle.batch_program.specs.JournalRuns.{IsJournalRun, IsOverFile, IsShownAs, disks_of};
 ghost use Rattle.batch_program.specs.Keeping.{IsToldBehind, cleaned};
@@ -190,7 +190,7 @@ fn serve_behind<D: Disk, K: Clock + Drop, R: Read, W: Write, E: Write, C: Run>(
     mut output: Noted<W>,
     errors: &mut E,
 ) -> (u8, D, Noted<W>)
-    requires at_rest { D.is_disk journal.disk → IsKept C.documents C.base (D.durable journal.disk) (D.seen journal.disk) (D.given journal.disk) [] (sum_text journal.sum) }
+    requires at_rest { D.is_disk journal.disk → IsJournalKept C.documents C.base (D.durable journal.disk) (D.seen journal.disk) (D.given journal.disk) [] (sum_text journal.sum) }
     requires whole { D.is_disk journal.disk → IsWhole (D.given journal.disk) }
     requires recalled { D.is_disk journal.disk → HasRecalled C.documents C.base C.since (D.moment journal.disk) (D.left_since journal.disk) }
     requires accounted { D.is_disk journal.disk → IsAccounted C.input (D.given journal.disk) (cleaned (R.remaining input.old.stream)) }
@@ -231,7 +231,7 @@ fn serve_shown<R: Read + Drop, D: Disk, K: Clock + Drop, W: Write, C: Run>(
     output: W,
     remarking: Option<Remarking<K>>,
 ) -> (Result<(), KeepFault>, D, W)
-    requires at_rest { D.is_disk journal.disk → IsKept C.documents C.base (D.durable journal.disk) (D.seen journal.disk) (D.given journal.disk) [] (sum_text journal.sum) }
+    requires at_rest { D.is_disk journal.disk → IsJournalKept C.documents C.base (D.durable journal.disk) (D.seen journal.disk) (D.given journal.disk) [] (sum_text journal.sum) }
     requires whole { D.is_disk journal.disk → IsWhole (D.given journal.disk) }
     requires recalled { D.is_disk journal.disk → HasRecalled C.documents C.base C.since (D.moment journal.disk) (D.left_since journal.disk) }
     requires accounted { D.is_disk journal.disk → IsAccounted C.input (D.given journal.disk) (R.remaining input) }

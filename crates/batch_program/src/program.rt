@@ -1,7 +1,7 @@
 //! The program over any documents and streams.
 ghost use Rattle.std.specs.Prelude.{◌≡◌, IfOk, map, string_bytes};
 ghost use Rattle.batch_program.specs.JournalRuns.{disks_of};
-ghost use Rattle.batch_program.specs.Programs.{IsLeftTold, IsProgramRun, IsServed, IsServedRemarked, left_text, status_of_serving};
+ghost use Rattle.batch_program.specs.Programs.{IsLeftTold, IsProgramRun, IsSetServed, IsServedRemarked, left_text, status_of_serving};
 
 use crate::desk_runner::DeskRunner;
 use crate::desk_serving::run_desks;
@@ -146,7 +146,7 @@ fn serve_plainly<R: Read, W: Write, E: Write>(
     mut output: Noted<W>,
     errors: &mut E,
 ) -> (u8, Noted<W>)
-    ensures { IsServed quiet set
+    ensures { IsSetServed quiet set
         (record {
           unread = R.remaining input.old.stream;
           left = R.remaining input.new.stream;

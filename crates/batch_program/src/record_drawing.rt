@@ -1,7 +1,7 @@
 //! Drawing the picture of a record.
 ghost use Rattle.std.specs.Prelude.{◌≡◌, ◌⊎◌, ℕ, IfErr, IfOk, IfSome, Some, option_map, string_bytes};
 ghost use Rattle.batch_verdicts.specs.Running.{fault_status, memory_status};
-ghost use Rattle.batch_program.specs.DrawingRuns.{IsDrawn, IsRecordDrawn};
+ghost use Rattle.batch_program.specs.DrawingRuns.{IsPictureDrawn, IsRecordDrawn};
 ghost use Rattle.batch_record.specs.StatusReading.{IsRefusedAt};
 ghost use Rattle.batch_record.specs.Pictures.{picture_text};
 ghost use Rattle.batch_record.specs.Recorded.{IsRecord};
@@ -61,7 +61,7 @@ pub fn draw_record_of<R: Read, W: Write, E: Write>(
     output: &mut W,
     errors: &mut E,
 ) -> u8
-    ensures { IsDrawn (R.remaining input.old) (record { before = W.contents output.old; after = W.contents output.new })
+    ensures { IsPictureDrawn (R.remaining input.old) (record { before = W.contents output.old; after = W.contents output.new })
         (record { before = E.contents errors.old; after = E.contents errors.new }) result }
 {
     match record_of(alloc, input) {
@@ -80,7 +80,7 @@ fn record_of<R: Read>(alloc: Global, reader: &mut R) -> io::Result<Vec<u8>>
 }
 
 fn draw_bytes<W: Write, E: Write>(alloc: Global, bytes: &[u8], output: &mut W, errors: &mut E) -> u8
-    ensures { IsDrawn (Some bytes.now) (record { before = W.contents output.old; after = W.contents output.new })
+    ensures { IsPictureDrawn (Some bytes.now) (record { before = W.contents output.old; after = W.contents output.new })
         (record { before = E.contents errors.old; after = E.contents errors.new }) result }
 {
     match picture_text(alloc, bytes) {

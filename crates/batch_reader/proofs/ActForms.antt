@@ -5,7 +5,7 @@ use Rattle.std.proofs.lemmas.List.{length-map}
 use Rattle.std.specs.List.{list_all}
 use Rattle.batch_recipe.specs.Conditions.{Name, same_name}
 use Rattle.batch_recipe.specs.Diagram.{Diagram, diagram_of}
-use Rattle.batch_recipe.specs.Expanding.{Sites, act_named, act_tree_with, asked_by, expanded, named_tree_with, reserves_from, task_of, unbound, unit_below, unit_count, unit_named, unit_with}
+use Rattle.batch_recipe.specs.Expanding.{Sites, act_named, act_tree_with, asked_in_order, expanded, named_tree_with, reserves_from, task_of, unbound, unit_below, unit_count, unit_named, unit_with}
 use Rattle.batch_recipe.specs.Nodes.{Node, child, nodes}
 use Rattle.batch_recipe.specs.Procedure.{procedure_nodes, procedure_tree, sites}
 use Rattle.batch_recipe.specs.Tree as tree
@@ -153,7 +153,7 @@ form_task acts unit name p (runs phase handed reported) = tree.runs (record { un
 abbrev form_step : (Name → Name) → ActForm → Place → Step
 form_step named f p = record {
   place = p;
-  needs = asked_by (unit_with unbound f.unit) (map named f.reserves) f.needs;
+  needs = asked_in_order (unit_with unbound f.unit) (map named f.reserves) f.needs;
   reserves = reserves_from (unit_count f.unit) f.reserves;
 }
 

@@ -12,7 +12,7 @@ use Rattle.batch_recipe.specs.declared.condition.Cond.{Cond}
 use Rattle.batch_recipe.specs.Diagram.{Diagram, Diagrams, Cases, diagrams_of, cases_of}
 use Rattle.batch_recipe.specs.Diagram as chart
 use Rattle.batch_reader.specs.declared.firsts.Firsts.{Firsts}
-use Rattle.batch_reader.specs.ChartGrammar.{Offsets, joined, ranged, opens_par, Skips, ReadsOp, ReadsTerm, ReadsCond, Reads, ReadsBranches, ReadsCases, IsWideChart}
+use Rattle.batch_reader.specs.ChartGrammar.{Offsets, offsets_joined, ranged, opens_par, Skips, ReadsOp, ReadsTerm, ReadsCond, Reads, ReadsBranches, ReadsCases, IsWideChart}
 use Rattle.batch_reader.specs.ChartGrammar as spec
 use Rattle.batch_reader.specs.ChartMachine.{Frame, in_seq, in_par, in_case, in_else, in_loop, Test, of_sel, of_loop, Want, a_chart, open_seq, open_par, open_sel, open_loop, a_turns, after_turns, a_name, an_operator, an_operand, after_condition, after_else, after_chart, State, between, start, finish, step, steps, begin, no_firsts, first_or, noted, condition_of, take_word, take_chart_word, take_name_word, take_operand_word, deeper}
 use Rattle.batch_reader.proofs.ChartBytes.{letter-not_equals, digit-not_equals}
@@ -52,11 +52,11 @@ first_or-append o f g = grind arith
 two : (a b c d : Option ℕ) → a ≡ b → c ≡ d → ◌≡◌ {A = Firsts} (record { outside = a; par = c }) (record { outside = b; par = d })
 two a b c d e f = cc
 
-pub noted-joined : (o : Firsts) (f g : Offsets) → noted o (joined f g) ≡ noted (noted o f) g
+pub noted-joined : (o : Firsts) (f g : Offsets) → noted o (offsets_joined f g) ≡ noted (noted o f) g
 noted-joined o f g = two _ _ _ _ (first_or-append o.outside f.outside g.outside) (first_or-append o.par f.pars g.pars)
 
-noted-joined2 : (o : Firsts) (f g h : Offsets) → noted (noted (noted o f) g) h ≡ noted o (joined f (joined g h))
-noted-joined2 o f g h = sym (noted-joined (noted o f) g h) ∙ sym (noted-joined o f (joined g h))
+noted-joined2 : (o : Firsts) (f g h : Offsets) → noted (noted (noted o f) g) h ≡ noted o (offsets_joined f (offsets_joined g h))
+noted-joined2 o f g h = sym (noted-joined (noted o f) g h) ∙ sym (noted-joined o f (offsets_joined g h))
 
 -- ---- the text after a token
 

@@ -15,7 +15,7 @@ use Rattle.batch_recipe.specs.Diagram.{Diagram, seq, sel, Diagrams, none, more, 
 use Rattle.batch_recipe.specs.WellFormed.{is_among, is_condition, is_chart, are_charts, are_cases, has_no_par}
 use Rattle.batch_reader.specs.ChartGrammar.{Offsets, IsLabel, ReadsTerm, ReadsCond, Reads, ReadsBranches, ReadsCases, IsChartWithPars, IsChart}
 use Rattle.batch_reader.specs.ChartGrammar as spec
-use Rattle.batch_reader.specs.ChartForm.{labels_of, labels_of_all, labels_of_cases, names_compared, values_of, values_of_all, values_of_cases, IsFormed}
+use Rattle.batch_reader.specs.ChartForm.{labels_of_chart, labels_of_all, labels_of_chart_cases, names_compared, values_of_chart, values_of_all, values_of_cases, IsFormed}
 
 -- ---- lists
 
@@ -94,7 +94,7 @@ condition_names (spec.condition skips is_label op (spec.named skips2 is_label2))
 condition_names (spec.condition skips is_label op (spec.number digits skips2 number)) = (is_label, tt)
 
 mutual
-  chart_labels : {total depth : ℕ} {s t : List ℕ} {d : Diagram} {o : Offsets} → Reads total depth s t d o → AreLabels (labels_of d)
+  chart_labels : {total depth : ℕ} {s t : List ℕ} {d : Diagram} {o : Offsets} → Reads total depth s t d o → AreLabels (labels_of_chart d)
   chart_labels (spec.label skips is_label) = (is_label, tt)
   chart_labels (spec.skip skips) = tt
   chart_labels (spec.seq skips opens branches) = branches_labels branches
@@ -103,32 +103,32 @@ mutual
   chart_labels (spec.loop digits skips opens number_skips number comma tests comma2 reads closes) = chart_labels reads
 
   branches_labels : {total depth : ℕ} {s t : List ℕ} {ds : Diagrams} {o : Offsets} → ReadsBranches total depth s t ds o → AreLabels (labels_of_all ds)
-  branches_labels (spec.last {d = d} reads closes) = both_labels (labels_of d) [] (chart_labels reads) tt
-  branches_labels (spec.next {d = d} {others = others} reads comma branches) = both_labels (labels_of d) (labels_of_all others) (chart_labels reads) (branches_labels branches)
+  branches_labels (spec.last {d = d} reads closes) = both_labels (labels_of_chart d) [] (chart_labels reads) tt
+  branches_labels (spec.next {d = d} {others = others} reads comma branches) = both_labels (labels_of_chart d) (labels_of_all others) (chart_labels reads) (branches_labels branches)
 
-  cases_labels : {total depth : ℕ} {s t : List ℕ} {cs : Cases} {o : Offsets} → ReadsCases total depth s t cs o → AreLabels (labels_of_cases cs)
+  cases_labels : {total depth : ℕ} {s t : List ℕ} {cs : Cases} {o : Offsets} → ReadsCases total depth s t cs o → AreLabels (labels_of_chart_cases cs)
   cases_labels (spec.last_case skips colon reads closes) = chart_labels reads
-  cases_labels (spec.next_case {d = d} {others = others} tests colon reads comma cases) = both_labels (labels_of d) (labels_of_cases others) (chart_labels reads) (cases_labels cases)
+  cases_labels (spec.next_case {d = d} {others = others} tests colon reads comma cases) = both_labels (labels_of_chart d) (labels_of_chart_cases others) (chart_labels reads) (cases_labels cases)
 
 mutual
-  chart_values : {total depth : ℕ} {s t : List ℕ} {d : Diagram} {o : Offsets} → Reads total depth s t d o → AreLabels (values_of d)
+  chart_values : {total depth : ℕ} {s t : List ℕ} {d : Diagram} {o : Offsets} → Reads total depth s t d o → AreLabels (values_of_chart d)
   chart_values (spec.label skips is_label) = tt
   chart_values (spec.skip skips) = tt
   chart_values (spec.seq skips opens branches) = branches_values branches
   chart_values (spec.par skips opens branches) = branches_values branches
   chart_values (spec.sel skips opens cases) = cases_values cases
   chart_values (spec.loop {c = c} {body = body} digits skips opens number_skips number comma tests comma2 reads closes) =
-      both_labels (names_compared c) (values_of body) (condition_names tests) (chart_values reads)
+      both_labels (names_compared c) (values_of_chart body) (condition_names tests) (chart_values reads)
 
   branches_values : {total depth : ℕ} {s t : List ℕ} {ds : Diagrams} {o : Offsets} → ReadsBranches total depth s t ds o → AreLabels (values_of_all ds)
-  branches_values (spec.last {d = d} reads closes) = both_labels (values_of d) [] (chart_values reads) tt
-  branches_values (spec.next {d = d} {others = others} reads comma branches) = both_labels (values_of d) (values_of_all others) (chart_values reads) (branches_values branches)
+  branches_values (spec.last {d = d} reads closes) = both_labels (values_of_chart d) [] (chart_values reads) tt
+  branches_values (spec.next {d = d} {others = others} reads comma branches) = both_labels (values_of_chart d) (values_of_all others) (chart_values reads) (branches_values branches)
 
   cases_values : {total depth : ℕ} {s t : List ℕ} {cs : Cases} {o : Offsets} → ReadsCases total depth s t cs o → AreLabels (values_of_cases cs)
   cases_values (spec.last_case skips colon reads closes) = chart_values reads
   cases_values (spec.next_case {c = c} {d = d} {others = others} tests colon reads comma cases) =
-      both_labels (names_compared c ++ values_of d) (values_of_cases others)
-      (both_labels (names_compared c) (values_of d) (condition_names tests) (chart_values reads)) (cases_values cases)
+      both_labels (names_compared c ++ values_of_chart d) (values_of_cases others)
+      (both_labels (names_compared c) (values_of_chart d) (condition_names tests) (chart_values reads)) (cases_values cases)
 
 -- ---- limits
 
@@ -171,7 +171,7 @@ module _ (labels values : List Name) where
       and_true _ _ first.0 (and_parts _ _ ranged_at).1
 
   mutual
-    chart_limits : {total depth : ℕ} {s t : List ℕ} {d : Diagram} {o : Offsets} → Reads total depth s t d o → o.outside ≡ [] → AreDeclared (labels_of d) (values_of d) → is_chart labels values depth d ≡ true
+    chart_limits : {total depth : ℕ} {s t : List ℕ} {d : Diagram} {o : Offsets} → Reads total depth s t d o → o.outside ≡ [] → AreDeclared (labels_of_chart d) (values_of_chart d) → is_chart labels values depth d ≡ true
     chart_limits (spec.label {name = name} skips is_label) within h = (and_parts (is_among labels name) true h.0).0
     chart_limits (spec.skip skips) within h = refl
     chart_limits (spec.seq {depth = depth} {branches = ds} skips opens branches) within h =
@@ -183,7 +183,7 @@ module _ (labels values : List Name) where
     chart_limits (spec.loop {total = total} {depth = depth} {s3 = s3} {c = c} {body = body} {offsets = f} {offsets2 = g} digits skips opens number_skips number comma tests comma2 reads closes) within h =
         let turns = in_range (nat_le 1 (number_of digits) && nat_le (number_of digits) MAX_TURNS) (total - length (digits ++ s3)) (front_nil _ (f.outside ++ g.outside) within) in
         let inner = rest_nil _ (f.outside ++ g.outside) within in
-        let names = each (is_among values) (names_compared c) (values_of body) h.1 in
+        let names = each (is_among values) (names_compared c) (values_of_chart body) h.1 in
         let room : nat_lt 0 (suc depth) ≡ true = grind (arith, nat_tests) in
         let down : suc depth - 1 ≡ depth = omega arith in
         let tested = condition_limits tests (front_nil f.outside g.outside inner) names.0 in
@@ -193,28 +193,28 @@ module _ (labels values : List Name) where
     branches_limits : {total depth : ℕ} {s t : List ℕ} {ds : Diagrams} {o : Offsets} → ReadsBranches total depth s t ds o → o.outside ≡ [] → AreDeclared (labels_of_all ds) (values_of_all ds)
         → (least : ℕ) → least ≤ count ds → are_charts labels values depth least ds ≡ true
     branches_limits (spec.last {d = d} reads closes) within h least few =
-        let parts = declared_both (labels_of d) [] (values_of d) [] h in
+        let parts = declared_both (labels_of_chart d) [] (values_of_chart d) [] h in
         let enough : nat_le (least - 1) 0 ≡ true = grind (arith, nat_tests) in
         and_true _ _ (chart_limits reads within parts.0) enough
     branches_limits (spec.next {d = d} {others = others} {offsets = f} {offsets2 = g} reads comma branches) within h least few =
-        let parts = declared_both (labels_of d) (labels_of_all others) (values_of d) (values_of_all others) h in
+        let parts = declared_both (labels_of_chart d) (labels_of_all others) (values_of_chart d) (values_of_all others) h in
         and_true _ _ (chart_limits reads (front_nil f.outside g.outside within) parts.0)
         (branches_limits branches (rest_nil f.outside g.outside within) parts.1 (least - 1) (omega arith))
 
-    cases_limits : {total depth : ℕ} {s t : List ℕ} {cs : Cases} {o : Offsets} → ReadsCases total depth s t cs o → o.outside ≡ [] → AreDeclared (labels_of_cases cs) (values_of_cases cs)
+    cases_limits : {total depth : ℕ} {s t : List ℕ} {cs : Cases} {o : Offsets} → ReadsCases total depth s t cs o → o.outside ≡ [] → AreDeclared (labels_of_chart_cases cs) (values_of_cases cs)
         → are_cases labels values depth 0 cs ≡ true
     cases_limits (spec.last_case skips colon reads closes) within h = chart_limits reads within h
     cases_limits (spec.next_case {c = c} {d = d} {others = others} {offsets = f} {offsets2 = g} {offsets3 = k} tests colon reads comma cases) within h =
         let inner = rest_nil f.outside (g.outside ++ k.outside) within in
-        let parts = declared_both (labels_of d) (labels_of_cases others) (names_compared c ++ values_of d) (values_of_cases others) h in
-        let names = each (is_among values) (names_compared c) (values_of d) parts.0.1 in
+        let parts = declared_both (labels_of_chart d) (labels_of_chart_cases others) (names_compared c ++ values_of_chart d) (values_of_cases others) h in
+        let names = each (is_among values) (names_compared c) (values_of_chart d) parts.0.1 in
         let tested = condition_limits tests (front_nil f.outside (g.outside ++ k.outside) within) names.0 in
         let branch = chart_limits reads (front_nil g.outside k.outside inner) (parts.0.0, names.1) in
         and_true _ _ (and_true _ _ tested branch) (cases_limits cases (rest_nil g.outside k.outside inner) parts.1)
 
 pub is_formed : (text : List ℕ) (chart : Diagram) → IsChart text chart → IsFormed chart
 is_formed text chart (pars, spec.whole reads skips) = record {
-  labels = all_from IsLabel (labels_of chart) (chart_labels reads);
-  values = all_from IsLabel (values_of chart) (chart_values reads);
+  labels = all_from IsLabel (labels_of_chart chart) (chart_labels reads);
+  values = all_from IsLabel (values_of_chart chart) (chart_values reads);
   limits = λ labels values ls vs. chart_limits labels values reads refl (ls, vs);
 }

@@ -2,7 +2,7 @@
 use Rattle.std.proofs.Common.{arith, ◌≡◌, ℕ, ◌-◌, nat_le, nat_lt, Bool, true, ◌&&◌, List, [], ◌∷◌, ◌++◌, map, refl, sym, ap, ◌∙◌}
 use Rattle.std.proofs.lemmas.List.Folds.{list_all-append}
 use Rattle.std.specs.List.{list_all}
-use Rattle.batch_reader.specs.ChartForm.{labels_of, labels_of_all, labels_of_cases, names_compared, values_of, values_of_all, values_of_cases, IsFormed}
+use Rattle.batch_reader.specs.ChartForm.{labels_of_chart, labels_of_all, labels_of_chart_cases, names_compared, values_of_chart, values_of_all, values_of_cases, IsFormed}
 use Rattle.batch_recipe.specs.Conditions.{Name}
 use Rattle.batch_recipe.specs.Diagram.{Diagram, label, skip, seq, par, sel, loop, Diagrams, none, more, Cases, otherwise, when, diagram_of, diagrams_of, cases_of}
 use Rattle.batch_recipe.specs.WellFormed.{is_among, is_condition, is_chart, are_charts, are_cases}
@@ -41,13 +41,13 @@ module _ (labels values : List Name) where
       let rest : Cases = cases_of (map (λ choice. (choice.0, diagram_of choice.1)) cs) last in
       let d : Diagram = diagram_of c.1 in
       let parts : is_declared labels values (sel (when c.0 d rest))
-      ≡ ((V (names_compared c.0) && (L (labels_of d) && V (values_of d))) && is_declared labels values (sel rest)) =
+      ≡ ((V (names_compared c.0) && (L (labels_of_chart d) && V (values_of_chart d))) && is_declared labels values (sel rest)) =
       rw (
-        list_all-append (is_among labels) (labels_of d) (labels_of_cases rest),
-        list_all-append (is_among values) (names_compared c.0 ++ values_of d) (values_of_cases rest),
-        list_all-append (is_among values) (names_compared c.0) (values_of d),
+        list_all-append (is_among labels) (labels_of_chart d) (labels_of_chart_cases rest),
+        list_all-append (is_among values) (names_compared c.0 ++ values_of_chart d) (values_of_cases rest),
+        list_all-append (is_among values) (names_compared c.0) (values_of_chart d),
       )
-      (cross_five (L (labels_of d)) (L (labels_of_cases rest)) (V (names_compared c.0)) (V (values_of d)) (V (values_of_cases rest))) in
+      (cross_five (L (labels_of_chart d)) (L (labels_of_chart_cases rest)) (V (names_compared c.0)) (V (values_of_chart d)) (V (values_of_cases rest))) in
       first_of_three (is_case_declared c) (list_all is_case_declared cs) (is_declared labels values last)
       ∙ ap (λ b. is_case_declared c && b) (cases_declared cs last) ∙ sym parts
 
@@ -66,7 +66,7 @@ module _ (labels values : List Name) where
   condition_named c h = grind (arith, both_true, and_true, term_named)
 
   mutual
-    chart_named : (depth : ℕ) (d : Diagram) → is_chart labels values depth d ≡ true → AreDeclared (labels_of d) (values_of d)
+    chart_named : (depth : ℕ) (d : Diagram) → is_chart labels values depth d ≡ true → AreDeclared (labels_of_chart d) (values_of_chart d)
     chart_named depth (label name) h = (and_true (is_among labels name) true h refl, refl)
     chart_named depth skip h = (refl, refl)
     chart_named depth (seq ds) h = charts_named (depth - 1) 1 ds (both_true (nat_lt 0 depth) _ h).1
@@ -76,7 +76,7 @@ module _ (labels values : List Name) where
         let p = both_true _ (is_chart labels values (depth - 1) d) h in
         let tested = condition_named c (both_true _ (is_condition values c) p.0).1 in
         let body = chart_named (depth - 1) d p.1 in
-        (body.0, all_of_both (is_among values) (names_compared c) (values_of d) tested body.1)
+        (body.0, all_of_both (is_among values) (names_compared c) (values_of_chart d) tested body.1)
 
     charts_named : (depth least : ℕ) (ds : Diagrams) → are_charts labels values depth least ds ≡ true → AreDeclared (labels_of_all ds) (values_of_all ds)
     charts_named depth least none h = (refl, refl)
@@ -84,9 +84,9 @@ module _ (labels values : List Name) where
         let p = both_true (is_chart labels values depth d) _ h in
         let first = chart_named depth d p.0 in
         let rest = charts_named depth (least - 1) ds p.1 in
-        (all_of_both (is_among labels) (labels_of d) (labels_of_all ds) first.0 rest.0, all_of_both (is_among values) (values_of d) (values_of_all ds) first.1 rest.1)
+        (all_of_both (is_among labels) (labels_of_chart d) (labels_of_all ds) first.0 rest.0, all_of_both (is_among values) (values_of_chart d) (values_of_all ds) first.1 rest.1)
 
-    cases_named : (depth least : ℕ) (cs : Cases) → are_cases labels values depth least cs ≡ true → AreDeclared (labels_of_cases cs) (values_of_cases cs)
+    cases_named : (depth least : ℕ) (cs : Cases) → are_cases labels values depth least cs ≡ true → AreDeclared (labels_of_chart_cases cs) (values_of_cases cs)
     cases_named depth least (otherwise d) h = chart_named depth d (both_true (nat_le least 0) _ h).1
     cases_named depth least (when c d cs) h =
         let p = both_true _ (are_cases labels values depth (least - 1) cs) h in
@@ -94,13 +94,13 @@ module _ (labels values : List Name) where
         let tested = condition_named c q.0 in
         let first = chart_named depth d q.1 in
         let rest = cases_named depth (least - 1) cs p.1 in (
-          all_of_both (is_among labels) (labels_of d) (labels_of_cases cs) first.0 rest.0,
-          all_of_both (is_among values) (names_compared c ++ values_of d) (values_of_cases cs) (all_of_both (is_among values) (names_compared c) (values_of d) tested first.1) rest.1,
+          all_of_both (is_among labels) (labels_of_chart d) (labels_of_chart_cases cs) first.0 rest.0,
+          all_of_both (is_among values) (names_compared c ++ values_of_chart d) (values_of_cases cs) (all_of_both (is_among values) (names_compared c) (values_of_chart d) tested first.1) rest.1,
         )
 
   -- a chart of the grammar is one of a recipe just where the names that it uses are declared
   pub formed_chart : (d : Diagram) → IsFormed d → is_declared labels values d ≡ is_chart labels values 32 d
   formed_chart d formed =
       same_test (is_declared labels values d) (is_chart labels values 32 d)
-      (λ h. let p = both_true (list_all (is_among labels) (labels_of d)) _ h in formed.limits labels values p.0 p.1)
-      (λ h. let p = chart_named 32 d h in and_true (list_all (is_among labels) (labels_of d)) _ p.0 p.1)
+      (λ h. let p = both_true (list_all (is_among labels) (labels_of_chart d)) _ h in formed.limits labels values p.0 p.1)
+      (λ h. let p = chart_named 32 d h in and_true (list_all (is_among labels) (labels_of_chart d)) _ p.0 p.1)

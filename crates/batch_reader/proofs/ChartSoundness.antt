@@ -20,7 +20,7 @@ use Rattle.batch_recipe.specs.Diagram as chart
 use Rattle.batch_reader.specs.declared.word.Word.{Word}
 use Rattle.batch_reader.specs.declared.word.Word.TheVariants as word
 use Rattle.batch_reader.specs.declared.firsts.Firsts.{Firsts}
-use Rattle.batch_reader.specs.ChartGrammar.{is_chart_space, Offsets, no_offsets, joined, opens_par, ranged, IsLabel, Skips, here, space, ReadsOp, ReadsTerm, Reads, ReadsBranches, ReadsCases, IsWideChart}
+use Rattle.batch_reader.specs.ChartGrammar.{is_chart_space, Offsets, no_offsets, offsets_joined, opens_par, ranged, IsLabel, Skips, here, space, ReadsOp, ReadsTerm, Reads, ReadsBranches, ReadsCases, IsWideChart}
 use Rattle.batch_reader.specs.ChartGrammar as spec
 use Rattle.batch_reader.specs.ChartMachine.{Frame, in_seq, in_par, in_case, in_else, in_loop, Test, of_sel, of_loop, Lexeme, IsGood, nothing, letters, digits, less, more, slash, begin, end_token, end_number, continues, go_on, step, finish, result_of, starts, takes_word, takes_number, takes_operator, in_token, start, Want, a_chart, open_seq, open_par, open_sel, open_loop, a_turns, after_turns, a_name, an_operator, an_operand, after_condition, after_else, after_chart, State, no_firsts, noted, number_offsets, sign_offsets, word_of, take_word, take_chart_word, take_name_word, take_operand_word, take_number, take_operator, take_sign, take_comma, take_close, take_else, condition_of, deeper, After, when_is}
 use Rattle.batch_reader.proofs.ChartTexts.{name_more, name_of_letter, number_more, number_of_digit}
@@ -33,10 +33,10 @@ use Rattle.batch_reader.proofs.ChartCompleteness.{with_diagrams, with_diagrams-l
 offsets_of : (a b : List ℕ) (c d : List ℕ) → a ≡ b → c ≡ d → ◌≡◌ {A = Offsets} (record { outside = a; pars = c }) (record { outside = b; pars = d })
 offsets_of a b c d e f = cc
 
-joined_assoc : (f g h : Offsets) → joined (joined f g) h ≡ joined f (joined g h)
+joined_assoc : (f g h : Offsets) → offsets_joined (offsets_joined f g) h ≡ offsets_joined f (offsets_joined g h)
 joined_assoc f g h = offsets_of _ _ _ _ (append_assoc f.outside g.outside h.outside) (append_assoc f.pars g.pars h.pars)
 
-joined-none : (f : Offsets) → joined f no_offsets ≡ f
+joined-none : (f : Offsets) → offsets_joined f no_offsets ≡ f
 joined-none f = offsets_of _ _ _ _ (append-nil f.outside) (append-nil f.pars)
 
 -- ---- a property of the result, if there is one
@@ -105,15 +105,15 @@ module _ (total : ℕ) (whole : Diagram) where
         → Skips s (41 ∷ s1) → Completes frames (chart.seq (with_diagrams us (chart.more t chart.none))) s1 out → Completes (in_seq us ∷ frames) t s out
     goes_on_seq : {us : List Diagram} {frames : List Frame} {t : Diagram} {ts : Diagrams} {s s1 s2 : List ℕ} {f g : Offsets}
         → Skips s (44 ∷ s1) → ReadsBranches total (within (in_seq us ∷ frames)) s1 s2 ts f
-        → Completes frames (chart.seq (with_diagrams us (chart.more t ts))) s2 g → Completes (in_seq us ∷ frames) t s (joined f g)
+        → Completes frames (chart.seq (with_diagrams us (chart.more t ts))) s2 g → Completes (in_seq us ∷ frames) t s (offsets_joined f g)
     closes_par : {u : Diagram} {us : List Diagram} {frames : List Frame} {t : Diagram} {s s1 : List ℕ} {out : Offsets}
         → Skips s (41 ∷ s1) → Completes frames (chart.par (with_diagrams (u ∷ us) (chart.more t chart.none))) s1 out → Completes (in_par (u ∷ us) ∷ frames) t s out
     goes_on_par : {us : List Diagram} {frames : List Frame} {t v : Diagram} {ts : Diagrams} {s s1 s2 : List ℕ} {f g : Offsets}
         → Skips s (44 ∷ s1) → ReadsBranches total (within (in_par us ∷ frames)) s1 s2 (chart.more v ts) f
-        → Completes frames (chart.par (with_diagrams us (chart.more t (chart.more v ts)))) s2 g → Completes (in_par us ∷ frames) t s (joined f g)
+        → Completes frames (chart.par (with_diagrams us (chart.more t (chart.more v ts)))) s2 g → Completes (in_par us ∷ frames) t s (offsets_joined f g)
     goes_on_case : {us : List (Cond × Diagram)} {c : Cond} {frames : List Frame} {t : Diagram} {ts : Cases} {s s1 s2 : List ℕ} {f g : Offsets}
         → Skips s (44 ∷ s1) → ReadsCases total (within (in_case us c ∷ frames)) s1 s2 ts f
-        → Completes frames (chart.sel (with_cases us (chart.when c t ts))) s2 g → Completes (in_case us c ∷ frames) t s (joined f g)
+        → Completes frames (chart.sel (with_cases us (chart.when c t ts))) s2 g → Completes (in_case us c ∷ frames) t s (offsets_joined f g)
     closes_else : {us : List (Cond × Diagram)} {frames : List Frame} {t : Diagram} {s s1 : List ℕ} {out : Offsets}
         → Skips s (41 ∷ s1) → Completes frames (chart.sel (with_cases us (chart.otherwise t))) s1 out → Completes (in_else us ∷ frames) t s out
     closes_loop : {n : ℕ} {c : Cond} {frames : List Frame} {t : Diagram} {s s1 : List ℕ} {out : Offsets}
@@ -121,20 +121,20 @@ module _ (total : ℕ) (whole : Diagram) where
 
   -- the rest of a text from the wanted token on
   data From : Want → List Frame → List ℕ → Offsets → Type 0 where
-    from_chart : {frames : List Frame} {s s1 : List ℕ} {f g : Offsets} {t : Diagram} → Reads total (within frames) s s1 t f → Completes frames t s1 g → From a_chart frames s (joined f g)
+    from_chart : {frames : List Frame} {s s1 : List ℕ} {f g : Offsets} {t : Diagram} → Reads total (within frames) s s1 t f → Completes frames t s1 g → From a_chart frames s (offsets_joined f g)
     from_after_chart : {frames : List Frame} {s : List ℕ} {out : Offsets} {t : Diagram} → Completes frames t s out → From (after_chart t) frames s out
     from_open_seq : {frames : List Frame} {s s1 : List ℕ} {out : Offsets} → Skips s (40 ∷ s1) → From a_chart (in_seq [] ∷ frames) s1 out → From open_seq frames s out
-    from_open_par : {frames : List Frame} {s s1 : List ℕ} {out : Offsets} → Skips s (40 ∷ s1) → From a_chart (in_par [] ∷ frames) s1 out → From open_par frames s (joined (opens_par (total - length (40 ∷ s1))) out)
+    from_open_par : {frames : List Frame} {s s1 : List ℕ} {out : Offsets} → Skips s (40 ∷ s1) → From a_chart (in_par [] ∷ frames) s1 out → From open_par frames s (offsets_joined (opens_par (total - length (40 ∷ s1))) out)
     from_open_sel : {frames : List Frame} {s s1 : List ℕ} {out : Offsets} → Skips s (40 ∷ s1) → From (a_name (of_sel [])) frames s1 out → From open_sel frames s out
     from_open_loop : {frames : List Frame} {s s1 : List ℕ} {out : Offsets} → Skips s (40 ∷ s1) → From a_turns frames s1 out → From open_loop frames s out
     from_turns : {frames : List Frame} {s s1 : List ℕ} {g : Offsets} (bytes : List ℕ) → Skips s (bytes ++ s1) → IsNumber bytes → From (after_turns (number_of bytes)) frames s1 g
-        → From a_turns frames s (joined (ranged 1 MAX_TURNS (number_of bytes) (total - length (bytes ++ s1))) g)
+        → From a_turns frames s (offsets_joined (ranged 1 MAX_TURNS (number_of bytes) (total - length (bytes ++ s1))) g)
     from_after_turns : {n : ℕ} {frames : List Frame} {s s1 : List ℕ} {out : Offsets} → Skips s (44 ∷ s1) → From (a_name (of_loop n)) frames s1 out → From (after_turns n) frames s out
     from_name : {test : Test} {bytes : List ℕ} {frames : List Frame} {s s1 : List ℕ} {out : Offsets} → Skips s (bytes ++ s1) → IsLabel bytes → From (an_operator test bytes) frames s1 out → From (a_name test) frames s out
     from_else : {u : Cond × Diagram} {us : List (Cond × Diagram)} {frames : List Frame} {s s1 : List ℕ} {out : Offsets} → Skips s (codes "else" ++ s1) → From (after_else (u ∷ us)) frames s1 out → From (a_name (of_sel (u ∷ us))) frames s out
     from_operator : {test : Test} {bytes : List ℕ} {op : Op} {frames : List Frame} {s s1 : List ℕ} {out : Offsets} → ReadsOp s s1 op → From (an_operand test bytes op) frames s1 out → From (an_operator test bytes) frames s out
     from_operand : {test : Test} {bytes : List ℕ} {op : Op} {x : Term} {frames : List Frame} {s s1 : List ℕ} {f g : Offsets}
-        → ReadsTerm total s s1 x f → From (after_condition test (condition_of bytes op x)) frames s1 g → From (an_operand test bytes op) frames s (joined f g)
+        → ReadsTerm total s s1 x f → From (after_condition test (condition_of bytes op x)) frames s1 g → From (an_operand test bytes op) frames s (offsets_joined f g)
     from_case : {us : List (Cond × Diagram)} {c : Cond} {frames : List Frame} {s s1 : List ℕ} {out : Offsets} → Skips s (58 ∷ s1) → From a_chart (in_case us c ∷ frames) s1 out → From (after_condition (of_sel us) c) frames s out
     from_body : {n : ℕ} {c : Cond} {frames : List Frame} {s s1 : List ℕ} {out : Offsets} → Skips s (44 ∷ s1) → From a_chart (in_loop n c ∷ frames) s1 out → From (after_condition (of_loop n) c) frames s out
     from_after_else : {us : List (Cond × Diagram)} {frames : List Frame} {s s1 : List ℕ} {out : Offsets} → Skips s (58 ∷ s1) → From a_chart (in_else us ∷ frames) s1 out → From (after_else us) frames s out
@@ -147,11 +147,11 @@ module _ (total : ℕ) (whole : Diagram) where
   at_depth : (frames : List Frame) {s t : List ℕ} {f : Offsets} {c : Diagram} → ltb (length frames) MAX_DEPTH ≡ true → Reads total (suc (MAX_DEPTH - suc (length frames))) s t c f → Reads total (within frames) s t c f
   at_depth frames {s = s} {t = t} {f = f} {c = c} room reads = subst (λ d. Reads total d s t c f) (deep frames room) reads
 
-  then_completes : {frames : List Frame} {s s1 : List ℕ} {t : Diagram} (f a b : Offsets) → Reads total (within frames) s s1 t (joined f a) → Completes frames t s1 b → From a_chart frames s (joined f (joined a b))
+  then_completes : {frames : List Frame} {s s1 : List ℕ} {t : Diagram} (f a b : Offsets) → Reads total (within frames) s s1 t (offsets_joined f a) → Completes frames t s1 b → From a_chart frames s (offsets_joined f (offsets_joined a b))
   then_completes {frames = frames} {s = s} f a b reads rest = subst (λ o. From a_chart frames s o) (joined_assoc f a b) (from_chart reads rest)
 
-  then_completes2 : {frames : List Frame} {s s1 : List ℕ} {t : Diagram} (f a b g : Offsets) → Reads total (within frames) s s1 t (joined f (joined a b)) → Completes frames t s1 g → From a_chart frames s (joined f (joined a (joined b g)))
-  then_completes2 {frames = frames} {s = s} f a b g reads rest = subst (λ o. From a_chart frames s o) (joined_assoc f (joined a b) g ∙ ap (joined f) (joined_assoc a b g)) (from_chart reads rest)
+  then_completes2 : {frames : List Frame} {s s1 : List ℕ} {t : Diagram} (f a b g : Offsets) → Reads total (within frames) s s1 t (offsets_joined f (offsets_joined a b)) → Completes frames t s1 g → From a_chart frames s (offsets_joined f (offsets_joined a (offsets_joined b g)))
+  then_completes2 {frames = frames} {s = s} f a b g reads rest = subst (λ o. From a_chart frames s o) (joined_assoc f (offsets_joined a b) g ∙ ap (offsets_joined f) (joined_assoc a b g)) (from_chart reads rest)
 
   seq_from : {frames : List Frame} {t : List ℕ} {out : Offsets} → ltb (length frames) MAX_DEPTH ≡ true → From open_seq frames t out → From a_chart frames (codes "seq" ++ t) out
   seq_from {frames = frames} room (from_open_seq opens (from_chart reads (closes_seq closes rest))) =
@@ -174,24 +174,24 @@ module _ (total : ℕ) (whole : Diagram) where
 
   -- the branches of a seq, whichever have been read
   branches_from : (us : List Diagram) {frames : List Frame} {s : List ℕ} {out : Offsets} → From a_chart (in_seq us ∷ frames) s out
-      → (P : Type 0) → ((ts : Diagrams) (s1 : List ℕ) (f g : Offsets) → ReadsBranches total (within (in_seq us ∷ frames)) s s1 ts f → Completes frames (chart.seq (with_diagrams us ts)) s1 g → joined f g ≡ out → P) → P
+      → (P : Type 0) → ((ts : Diagrams) (s1 : List ℕ) (f g : Offsets) → ReadsBranches total (within (in_seq us ∷ frames)) s s1 ts f → Completes frames (chart.seq (with_diagrams us ts)) s1 g → offsets_joined f g ≡ out → P) → P
   branches_from us (from_chart {f = f} {t = t} reads (closes_seq {s1 = s1} {out = out} closes rest)) P use_it = use_it (chart.more t chart.none) s1 f out (spec.last reads closes) rest refl
   branches_from us (from_chart {f = f} {t = t} reads (goes_on_seq {ts = ts} {s2 = s2} {f = a} {g = b} comma branches rest)) P use_it =
-      use_it (chart.more t ts) s2 (joined f a) b (spec.next reads comma branches) rest (joined_assoc f a b)
+      use_it (chart.more t ts) s2 (offsets_joined f a) b (spec.next reads comma branches) rest (joined_assoc f a b)
 
   par_branches_from : (us : List Diagram) {frames : List Frame} {s : List ℕ} {out : Offsets} → From a_chart (in_par us ∷ frames) s out
-      → (P : Type 0) → ((t : Diagram) (ts : Diagrams) (s1 : List ℕ) (f g : Offsets) → ReadsBranches total (within (in_par us ∷ frames)) s s1 (chart.more t ts) f → Completes frames (chart.par (with_diagrams us (chart.more t ts))) s1 g → joined f g ≡ out → P) → P
+      → (P : Type 0) → ((t : Diagram) (ts : Diagrams) (s1 : List ℕ) (f g : Offsets) → ReadsBranches total (within (in_par us ∷ frames)) s s1 (chart.more t ts) f → Completes frames (chart.par (with_diagrams us (chart.more t ts))) s1 g → offsets_joined f g ≡ out → P) → P
   par_branches_from us (from_chart {f = f} {t = t} reads (closes_par {s1 = s1} {out = out} closes rest)) P use_it = use_it t chart.none s1 f out (spec.last reads closes) rest refl
   par_branches_from us (from_chart {f = f} {t = t} reads (goes_on_par {v = v} {ts = ts} {s2 = s2} {f = a} {g = b} comma branches rest)) P use_it =
-      use_it t (chart.more v ts) s2 (joined f a) b (spec.next reads comma branches) rest (joined_assoc f a b)
+      use_it t (chart.more v ts) s2 (offsets_joined f a) b (spec.next reads comma branches) rest (joined_assoc f a b)
 
   cases_from : (us : List (Cond × Diagram)) (c : Cond) {frames : List Frame} {s : List ℕ} {out : Offsets} → From (a_name (of_sel us)) frames s out
-      → (P : Type 0) → ((ts : Cases) (s1 : List ℕ) (f g : Offsets) → ReadsCases total (within (in_case us c ∷ frames)) s s1 ts f → Completes frames (chart.sel (with_cases us ts)) s1 g → joined f g ≡ out → P) → P
+      → (P : Type 0) → ((ts : Cases) (s1 : List ℕ) (f g : Offsets) → ReadsCases total (within (in_case us c ∷ frames)) s s1 ts f → Completes frames (chart.sel (with_cases us ts)) s1 g → offsets_joined f g ≡ out → P) → P
   cases_from us c (from_else skips (from_after_else colon (from_chart {f = f} {t = t} reads (closes_else {s1 = s1} {out = out} closes rest)))) P use_it =
       use_it (chart.otherwise t) s1 f out (spec.last_case skips colon reads closes) rest refl
   cases_from us c (from_name skips label (from_operator op (from_operand {f = f} x (from_case {c = c2} colon (from_chart {f = a} {t = t} reads (goes_on_case {ts = ts} {s2 = s2} {f = b} {g = g} comma cases rest)))))) P use_it =
-      use_it (chart.when c2 t ts) s2 (joined f (joined a b)) g (spec.next_case (spec.condition skips label op x) colon reads comma cases) rest
-      (joined_assoc f (joined a b) g ∙ ap (joined f) (joined_assoc a b g))
+      use_it (chart.when c2 t ts) s2 (offsets_joined f (offsets_joined a b)) g (spec.next_case (spec.condition skips label op x) colon reads comma cases) rest
+      (joined_assoc f (offsets_joined a b) g ∙ ap (offsets_joined f) (joined_assoc a b g))
 
   -- ---- signs
 
@@ -220,7 +220,7 @@ module _ (total : ℕ) (whole : Diagram) where
 
   -- a sign leads from the wanted token to the one wanted after it
   abbrev Takes : Want → List Frame → ℕ → Want × List Frame → Type 0
-  Takes w frames b p = (s : List ℕ) (out : Offsets) → From p.0 p.1 s out → From w frames (b ∷ s) (joined (sign_offsets w (total - length (b ∷ s))) out)
+  Takes w frames b p = (s : List ℕ) (out : Offsets) → From p.0 p.1 s out → From w frames (b ∷ s) (offsets_joined (sign_offsets w (total - length (b ∷ s))) out)
 
   sign_takes : (w : Want) (b : ℕ) (frames : List Frame) → Leads (take_sign w b frames) (Takes w frames b)
   sign_takes open_seq b frames = sign_leads b 40 _ (Takes open_seq frames b) (λ e s out h. rw e (from_open_seq here h))
@@ -297,7 +297,7 @@ module _ (total : ℕ) (whole : Diagram) where
   word_takes (after_chart t) bytes frames name = tt
 
   number_takes : (w : Want) (bytes : List ℕ) (frames : List Frame) → IsNumber bytes
-      → Leads (take_number w (number_of bytes)) (λ w'. (s : List ℕ) (out : Offsets) → From w' frames s out → From w frames (bytes ++ s) (joined (number_offsets w (number_of bytes) (total - length (bytes ++ s))) out))
+      → Leads (take_number w (number_of bytes)) (λ w'. (s : List ℕ) (out : Offsets) → From w' frames s out → From w frames (bytes ++ s) (offsets_joined (number_offsets w (number_of bytes) (total - length (bytes ++ s))) out))
   number_takes a_turns bytes frames number = λ s out h. from_turns bytes here number h
   number_takes (an_operand test n op) bytes frames number = λ s out h. from_operand (spec.number bytes here number) h
   number_takes a_chart bytes frames number = tt
@@ -409,7 +409,7 @@ module _ (total : ℕ) (whole : Diagram) where
   end_back (digits bytes) w frames o s good =
       let place : total - length s - length bytes ≡ total - length (bytes ++ s) = omega (arith, length-append bytes s) in
       let out = number_offsets w (number_of bytes) (total - length (bytes ++ s)) in
-      map_leads (take_number w (number_of bytes)) _ _ _ (number_takes w bytes frames good) (λ w' takes. (refl, (tt, λ k r. (joined out r.0, takes s r.0 r.1, noted-joined o out r.0 ∙ ap (λ p. noted (noted o (number_offsets w (number_of bytes) p)) r.0) (sym place) ∙ r.2))))
+      map_leads (take_number w (number_of bytes)) _ _ _ (number_takes w bytes frames good) (λ w' takes. (refl, (tt, λ k r. (offsets_joined out r.0, takes s r.0 r.1, noted-joined o out r.0 ∙ ap (λ p. noted (noted o (number_offsets w (number_of bytes) p)) r.0) (sym place) ∙ r.2))))
   end_back less w frames o s good =
       map_leads (take_operator w Less) _ _ _ (operator_takes w Less frames (60 ∷ s) s (spec.less here)) (λ w' takes. (refl, (tt, λ k r. (r.0, takes r.0 r.1, r.2))))
   end_back more w frames o s good =
@@ -454,7 +454,7 @@ module _ (total : ℕ) (whole : Diagram) where
       map_leads (take_operator st.want Equal) _ _ Q (operator_takes st.want Equal st.stack (61 ∷ s) s (spec.equal here)) (λ w' takes. (tt, λ k r. (r.0, rw is (takes r.0 r.1), r.2))))
       (λ _. tt)))))
       (λ _. map_leads (take_sign st.want b st.stack) _ _ Q (sign_takes st.want b st.stack)
-      (λ p takes. (tt, λ k r. (joined (sign_offsets st.want (total - length (b ∷ s))) r.0, takes s r.0 r.1, noted-joined st.firsts (sign_offsets st.want (total - length (b ∷ s))) r.0 ∙ r.2))))
+      (λ p takes. (tt, λ k r. (offsets_joined (sign_offsets st.want (total - length (b ∷ s))) r.0, takes s r.0 r.1, noted-joined st.firsts (sign_offsets st.want (total - length (b ∷ s))) r.0 ∙ r.2))))
       )))
 
   step_back : (b : ℕ) (s : List ℕ) (st : State) → IsGood st.lexeme → Leads (step (total - length (b ∷ s)) b st) (Back (text_of st.lexeme) st.want st.stack st.firsts (b ∷ s) s)

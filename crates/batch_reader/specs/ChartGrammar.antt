@@ -52,8 +52,8 @@ abbrev pub no_offsets : Offsets
 no_offsets = record { outside = []; pars = [] }
 
 -- those of a part of the text, and of the part after it
-abbrev pub joined : Offsets → Offsets → Offsets
-joined a b = record { outside = a.outside ++ b.outside; pars = a.pars ++ b.pars }
+abbrev pub offsets_joined : Offsets → Offsets → Offsets
+offsets_joined a b = record { outside = a.outside ++ b.outside; pars = a.pars ++ b.pars }
 
 -- a `par` opens at the offset
 abbrev pub opens_par : ℕ → Offsets
@@ -87,7 +87,7 @@ mutual
         → Reads total (suc depth) s t (chart.seq branches) offsets
     par : {total depth : ℕ} {s s1 s2 t : List ℕ} {first second : Diagram} {others : Diagrams} {offsets : Offsets}
         → Skips s (codes "par" ++ s1) → Skips s1 (codes "(" ++ s2) → ReadsBranches total depth s2 t (chart.more first (chart.more second others)) offsets
-        → Reads total (suc depth) s t (chart.par (chart.more first (chart.more second others))) (joined (opens_par (total - length (codes "(" ++ s2))) offsets)
+        → Reads total (suc depth) s t (chart.par (chart.more first (chart.more second others))) (offsets_joined (opens_par (total - length (codes "(" ++ s2))) offsets)
     sel : {total depth : ℕ} {s s1 s2 t : List ℕ} {c : Cond} {first : Diagram} {others : Cases} {offsets : Offsets}
         → Skips s (codes "sel" ++ s1) → Skips s1 (codes "(" ++ s2) → ReadsCases total depth s2 t (chart.when c first others) offsets
         → Reads total (suc depth) s t (chart.sel (chart.when c first others)) offsets
@@ -96,7 +96,7 @@ mutual
         → Skips s3 (codes "," ++ s4) → ReadsCond total s4 s5 c offsets
         → Skips s5 (codes "," ++ s6) → Reads total depth s6 s7 body offsets2 → Skips s7 (codes ")" ++ t)
         → Reads total (suc depth) s t (chart.loop (number_of digits) c body)
-        (joined (ranged 1 MAX_TURNS (number_of digits) (total - length (digits ++ s3))) (joined offsets offsets2))
+        (offsets_joined (ranged 1 MAX_TURNS (number_of digits) (total - length (digits ++ s3))) (offsets_joined offsets offsets2))
 
   -- chart { "," chart } ")"
   pub data ReadsBranches : ℕ → ℕ → List ℕ → List ℕ → Diagrams → Offsets → Type 0 where
@@ -105,7 +105,7 @@ mutual
         → ReadsBranches total depth s t (chart.more d chart.none) offsets
     next : {total depth : ℕ} {s s1 s2 t : List ℕ} {d : Diagram} {others : Diagrams} {offsets offsets2 : Offsets}
         → Reads total depth s s1 d offsets → Skips s1 (codes "," ++ s2) → ReadsBranches total depth s2 t others offsets2
-        → ReadsBranches total depth s t (chart.more d others) (joined offsets offsets2)
+        → ReadsBranches total depth s t (chart.more d others) (offsets_joined offsets offsets2)
 
   -- { cond ":" chart "," } "else" ":" chart ")"
   pub data ReadsCases : ℕ → ℕ → List ℕ → List ℕ → Cases → Offsets → Type 0 where
@@ -115,7 +115,7 @@ mutual
     next_case : {total depth : ℕ} {s s1 s2 s3 s4 t : List ℕ} {c : Cond} {d : Diagram} {others : Cases} {offsets offsets2 offsets3 : Offsets}
         → ReadsCond total s s1 c offsets → Skips s1 (codes ":" ++ s2) → Reads total depth s2 s3 d offsets2
         → Skips s3 (codes "," ++ s4) → ReadsCases total depth s4 t others offsets3
-        → ReadsCases total depth s t (chart.when c d others) (joined offsets (joined offsets2 offsets3))
+        → ReadsCases total depth s t (chart.when c d others) (offsets_joined offsets (offsets_joined offsets2 offsets3))
 
 -- the text is one of the chart but for numbers out of range
 pub data IsWideChart : List ℕ → Diagram → Offsets → Type 0 where

@@ -10,11 +10,11 @@ use Rattle.batch_reader.specs.declared.fault.TableKind.TheVariants as table
 use Rattle.batch_reader.specs.declared.desk.Desk.{Desk}
 
 -- the desk's unit, if it has one, is one of these
-abbrev pub has_unit : List (List ℕ) → Desk → Bool
-has_unit units desk = elim desk.unit [ None ↦ true | Some unit ↦ is_some (position (pointwise nat_eq unit) units) ]
+abbrev pub has_known_unit : List (List ℕ) → Desk → Bool
+has_known_unit units desk = elim desk.unit [ None ↦ true | Some unit ↦ is_some (position (pointwise nat_eq unit) units) ]
 
 abbrev pub HaveUnits : List (List ℕ) → List Desk → Type 0
-HaveUnits units desks = list_all (has_unit units) desks ≡ true
+HaveUnits units desks = list_all (has_known_unit units) desks ≡ true
 
 -- the fault is that of the first desk whose unit is none of these
 pub record TellsNoUnit (units : List (List ℕ)) (desks : List Desk) (fault : DocFault) : Type 0 where

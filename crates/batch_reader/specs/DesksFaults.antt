@@ -41,21 +41,21 @@ abbrev pub IsRightDesk : Data → Type 0
 IsRightDesk d = (desk : Desk) × IsTableOf IsDeskTable d desk
 
 -- there are too few desks or too many
-abbrev pub HasWrongCount : List Desk → ℕ → EntryFault → Type 0
-HasWrongCount desks entry wrong = (wrong ≡ OutOfLimit) × IsCountFault 1 MAX_DESKS (length desks) entry
+abbrev pub HasWrongDeskCount : List Desk → ℕ → EntryFault → Type 0
+HasWrongDeskCount desks entry wrong = (wrong ≡ OutOfLimit) × IsCountFault 1 MAX_DESKS (length desks) entry
 
 abbrev pub HasRightCount : List Desk → Type 0
 HasRightCount desks = (1 ≤ length desks) × (length desks ≤ MAX_DESKS)
 
 -- the desk is the first that has the name of one before it
-abbrev pub HasNameTwice : List Desk → ℕ → EntryFault → Type 0
-HasNameTwice desks entry wrong = (wrong ≡ Duplicate) × FailsFirst HaveDistinctNames desks entry
+abbrev pub HasDeskTwice : List Desk → ℕ → EntryFault → Type 0
+HasDeskTwice desks entry wrong = (wrong ≡ Duplicate) × FailsFirst HaveDistinctNames desks entry
 
 -- the tables of the document stand for desks, with which this is wrong
 pub record HasSetFault (ms : Members) (entry : ℕ) (wrong : EntryFault) : Type 0 where
   pub desks : List Desk
   pub tables : HasTables IsDeskTable (codes "desk") ms desks
-  pub fault : First (HasWrongCount desks entry wrong) (HasRightCount desks) (HasNameTwice desks entry wrong)
+  pub fault : First (HasWrongDeskCount desks entry wrong) (HasRightCount desks) (HasDeskTwice desks entry wrong)
 
 -- the document has another key than `desk`, which is reported at number 0
 pub record HasUnknownTable (ms : Members) (entry : ℕ) (wrong : EntryFault) : Type 0 where
@@ -70,17 +70,17 @@ IsDesksFault ms entry wrong =
     (IsArrayFault IsRightDesk IsDeskFault (items_at (codes "desk") ms) entry wrong ⊎ HasSetFault ms entry wrong)
 
 -- the bytes are too many, which is reported at number 0
-pub record IsTooLong (bytes : List ℕ) (entry : ℕ) (wrong : EntryFault) : Type 0 where
+pub record AreDesksTooLong (bytes : List ℕ) (entry : ℕ) (wrong : EntryFault) : Type 0 where
   pub long : MAX_DOCUMENT_LEN < length bytes
   pub first : entry ≡ 0
   pub told : wrong ≡ OutOfLimit
 
 -- the bytes are a TOML document, in which this is wrong
-pub record IsWrongIn (bytes : List ℕ) (entry : ℕ) (wrong : EntryFault) : Type 0 where
+pub record IsWrongInDesks (bytes : List ℕ) (entry : ℕ) (wrong : EntryFault) : Type 0 where
   pub document : Members
   pub parsed : parse_document bytes ≡ Some document
   pub wrong_at : IsDesksFault document entry wrong
 
 -- this is wrong with the bytes, at the desk of this number
-abbrev pub FaultStands : List ℕ → ℕ → EntryFault → Type 0
-FaultStands bytes entry wrong = IsTooLong bytes entry wrong ⊎ IsWrongIn bytes entry wrong
+abbrev pub DesksFaultStands : List ℕ → ℕ → EntryFault → Type 0
+DesksFaultStands bytes entry wrong = AreDesksTooLong bytes entry wrong ⊎ IsWrongInDesks bytes entry wrong

@@ -1,7 +1,7 @@
 -- private: the names that the acts of a recipe use, and their declarations.
 use Rattle.std.specs.Prelude.{Bool, ◌&&◌, List, []}
 use Rattle.std.specs.List.{list_all}
-use Rattle.batch_reader.specs.ChartForm.{labels_of, values_of}
+use Rattle.batch_reader.specs.ChartForm.{labels_of_chart, values_of_chart}
 use Rattle.batch_recipe.specs.Conditions.{Name}
 use Rattle.batch_recipe.specs.Diagram.{Diagram}
 use Rattle.batch_recipe.specs.WellFormed.{is_among, are_distinct, act_names, is_work}
@@ -9,7 +9,7 @@ use Rattle.batch_recipe.specs.declared.acts.Acts.{Acts}
 
 -- the labels of a chart are among `labels`, and the names that its conditions compare among `values`
 abbrev pub is_declared : List Name → List Name → Diagram → Bool
-is_declared labels values chart = list_all (is_among labels) (labels_of chart) && list_all (is_among values) (values_of chart)
+is_declared labels values chart = list_all (is_among labels) (labels_of_chart chart) && list_all (is_among values) (values_of_chart chart)
 
 -- the names of the acts of each table differ
 abbrev pub act_names_differ : Acts → Bool

@@ -7,7 +7,7 @@ use Rattle.batch_reader.specs.declared.fault.EntryFault.TheVariants.{Duplicate, 
 use Rattle.batch_reader.specs.DeskNames.{HaveDistinctNames}
 use Rattle.batch_reader.specs.DeskUnits.{HaveUnits}
 use Rattle.batch_reader.specs.DesksDocument.{IsDeskTable}
-use Rattle.batch_reader.specs.DesksFaults.{HasNameTwice, HasUnknownTable, HasWrongCount, IsDeskFault, path_key}
+use Rattle.batch_reader.specs.DesksFaults.{HasDeskTwice, HasUnknownTable, HasWrongDeskCount, IsDeskFault, path_key}
 use Rattle.batch_reader.specs.declared.desk.Desk.{Desk}
 
 -- ---- one table
@@ -77,12 +77,12 @@ UnitIsNoDesk = HasUnknownTable (member (codes "unit") (string (codes "R1")) no_m
 
 -- without desks there are too few, which is reported at number 0
 abbrev pub NoDeskIsTooFew : Type 0
-NoDeskIsTooFew = HasWrongCount [] 0 OutOfLimit × (¬ HasWrongCount [] 1 OutOfLimit)
+NoDeskIsTooFew = HasWrongDeskCount [] 0 OutOfLimit × (¬ HasWrongDeskCount [] 1 OutOfLimit)
 
 -- of two desks of one name the second is reported, and not the first
 abbrev pub SecondNameIsTold : Type 0
 SecondNameIsTold = (one two : Desk) → one.name ≡ codes "A" → two.name ≡ codes "A"
-    → HasNameTwice (one ∷ two ∷ []) 1 Duplicate × (¬ HasNameTwice (one ∷ two ∷ []) 0 Duplicate)
+    → HasDeskTwice (one ∷ two ∷ []) 1 Duplicate × (¬ HasDeskTwice (one ∷ two ∷ []) 0 Duplicate)
 
 -- names that differ in a letter differ
 abbrev pub OtherNamesDiffer : Type 0

@@ -88,7 +88,7 @@ pub record IsIntegerOutside (low high : ℕ) (d : Data) : Type 0 where
   pub outside : (n : ℕ) → integer ≡ pos n → low ≤ n → n ≤ high → ⊥
 
 -- the number is above that of the table at the key
-pub record IsAbove (key : List ℕ) (table : Members) (d : Data) : Type 0 where
+pub record IsNumberAbove (key : List ℕ) (table : Members) (d : Data) : Type 0 where
   pub number : ℕ
   pub found : as_integer d ≡ Some (pos number)
   pub other : ℕ
@@ -112,7 +112,7 @@ IsOutOfLimits form.FreeName table d = ⊥
 IsOutOfLimits (form.Text most) table d = IsTextThat (λ text. most < length text) d
 IsOutOfLimits (form.Path most) table d = IsTextThat (λ text. 1 ≤ length text → length text ≤ most → ⊥) d
 IsOutOfLimits (form.Number low high) table d = IsIntegerOutside low high d
-IsOutOfLimits (form.Least high) table d = IsIntegerOutside 0 high d ⊎ IsAbove (codes "max") table d
+IsOutOfLimits (form.Least high) table d = IsIntegerOutside 0 high d ⊎ IsNumberAbove (codes "max") table d
 IsOutOfLimits form.Truth table d = ⊥
 IsOutOfLimits (form.Names least most) table d = IsListThat (λ items. least ≤ count_items items → count_items items ≤ most → ⊥) d
 IsOutOfLimits (form.Needs most) table d = IsListThat (λ items. (most < count_items items) ⊎ HasItem IsNeedOutOfLimits items) d

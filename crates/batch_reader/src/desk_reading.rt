@@ -8,7 +8,7 @@ ghost use Rattle.batch_reader.specs.declared.fault.EntryFault.{EntryFault};
 ghost use Rattle.batch_reader.specs.declared.fault.Spot.{Spot};
 ghost use Rattle.batch_reader.specs.declared.fault.TableKind.{TableKind};
 ghost use Rattle.batch_reader.specs.DesksDocument.{IsDesksDocument, IsDesksTable};
-ghost use Rattle.batch_reader.specs.DesksFaults.{FaultStands, IsDesksFault};
+ghost use Rattle.batch_reader.specs.DesksFaults.{DesksFaultStands, IsDesksFault};
 ghost use Rattle.batch_reader.specs.declared.desk_set.Desks.{Desks};
 
 use crate::desk::Desk;
@@ -47,7 +47,7 @@ pub fn read_desks(alloc: Global, bytes: &[u8]) -> Result<Desks, DocFault>
     // claim: faults of desks
     ensures told { (spot : Spot) (wrong : EntryFault) → IsErrOf result (DocFault.Entry spot wrong) → spot.kind ≡ TableKind.Desk }
     // claim: first fault of desks
-    ensures stands { (spot : Spot) (wrong : EntryFault) → IsErrOf result (DocFault.Entry spot wrong) → FaultStands bytes.now spot.entry wrong }
+    ensures stands { (spot : Spot) (wrong : EntryFault) → IsErrOf result (DocFault.Entry spot wrong) → DesksFaultStands bytes.now spot.entry wrong }
 {
     let table = table_of(alloc, bytes, TOP)?;
     match desks_from_table(alloc, &table) {

@@ -1,7 +1,7 @@
 //! The units that desks name.
 ghost use Rattle.std.specs.Prelude.{◌≡◌, OnOk, IfErr};
 ghost use Rattle.batch_cell.specs.LookUps.{units_of};
-ghost use Rattle.batch_reader.specs.DeskUnits.{HaveUnits, TellsNoUnit, has_unit};
+ghost use Rattle.batch_reader.specs.DeskUnits.{HaveUnits, TellsNoUnit, has_known_unit};
 
 use crate::desk::Desk;
 use crate::desk_set::Desks;
@@ -33,7 +33,7 @@ fn check_each(desks: &[Desk], cell: &Cell) -> Result<(), DocFault>
 
 /// Whether the desk's unit, if it has one, is one of the cell's.
 fn has_unit(desk: &Desk, cell: &Cell) -> bool
-    ensures { result ≡ has_unit (units_of cell.now) desk.now }
+    ensures { result ≡ has_known_unit (units_of cell.now) desk.now }
 {
     match &desk.unit {
         None => true,

@@ -5,9 +5,9 @@ use Rattle.batch_recipe.specs.ActsAtNodes.{ActList, acts_along, acts_along_each,
 use Rattle.batch_recipe.specs.Conditions.{Name, same_name}
 use Rattle.batch_recipe.specs.Diagram.{Diagram, label, skip, seq, par, sel, loop, Diagrams, none, more, Cases, otherwise, when, diagram_of}
 use Rattle.batch_recipe.specs.Expanding.{Binding, unbound, expanded, expanded_each, expanded_cases, task_of, act_named, act_tree_with, named_tree_with, unit_with, unit_below, step_of}
-use Rattle.batch_recipe.specs.Growing.{Head, Labels, LabelConditions, plain, act_head, topped, bare, grown, grown_each, grown_cases, grown_work, grown_act, grown_named, conditions_along, conditions_of_cases, told_from, levels_from, number_in, unit_number, entries_of}
+use Rattle.batch_recipe.specs.Growing.{Head, Labels, LabelConditions, plain_head, act_head, topped, bare_entries, grown, grown_each, grown_cases, grown_work, grown_act, grown_named, conditions_along, conditions_of_cases, told_from, levels_from, number_in, unit_number, entries_of}
 use Rattle.batch_recipe.specs.Nodes.{child, node_count, count_within, count_of_each, count_of_choices}
-use Rattle.batch_recipe.specs.Outlines.{an_act, Shape, form_of, act_of, shape_of, shapes, shapes_within, shapes_of_each, shapes_of_choices, IsOutline}
+use Rattle.batch_recipe.specs.Outlines.{an_act, Shape, form_of, act_of_kind, shape_of, shapes, shapes_within, shapes_of_each, shapes_of_choices, IsOutline}
 use Rattle.batch_recipe.specs.Procedure.{sites, table_at, tables_from, level_below, bound_tree}
 use Rattle.batch_recipe.specs.Tree.{Place, Tree, Task, Trees, Choices}
 use Rattle.batch_recipe.specs.Tree as tree
@@ -47,7 +47,7 @@ mutual
 
 module _ (bound : Binding) (acts : Acts) where
   abbrev act_at : Entry → Option Act
-  act_at e = act_of acts e.kind
+  act_at e = act_of_kind acts e.kind
 
   abbrev Matches : List Entry → List Shape → ActList → Type 0
   Matches es ss list = (map shape_of es ≡ ss) × (map act_at es ≡ list)
@@ -56,11 +56,11 @@ module _ (bound : Binding) (acts : Acts) where
   counted es ss m e f = sym (length-map es shape_of) ∙ (ap length e ∙ f)
 
   top : (k : Head) (n u i m : ℕ) (below : List Entry) (ss : List Shape) (list : ActList) → Matches below ss list → length ss ≡ m
-      → Matches (topped k n u i below) (record { form = form_of k.kind; end = n + (1 + m); parent = u; child = i } ∷ ss) (act_of acts k.kind ∷ list)
+      → Matches (topped k n u i below) (record { form = form_of k.kind; end = n + (1 + m); parent = u; child = i } ∷ ss) (act_of_kind acts k.kind ∷ list)
   top k n u i m below ss list h size =
       let same : n + 1 + length below ≡ n + (1 + m) = omega (arith, counted below ss m h.0 size) in (
         ap (λ e. record { form = form_of k.kind; end = e; parent = u; child = i } ∷ map shape_of below) same ∙ ap (λ xs. record { form = form_of k.kind; end = n + (1 + m); parent = u; child = i } ∷ xs) h.0,
-        ap (λ xs. act_of acts k.kind ∷ xs) h.1,
+        ap (λ xs. act_of_kind acts k.kind ∷ xs) h.1,
       )
 
   joined : (es fs : List Entry) (ss rr : List Shape) (list rest : ActList) → Matches es ss list → Matches fs rr rest → Matches (es ++ fs) (ss ++ rr) (list ++ rest)
@@ -78,17 +78,17 @@ module _ (bound : Binding) (acts : Acts) where
       chart_matches n j u i p (label name) = labels name n j u i p
       chart_matches n j u i p skip = (refl, refl)
       chart_matches n j u i p (seq ds) =
-          top (plain kind.Seq 0) n u i (count_of_each (expanded_each trees p 0 ds)) (grown_each told named (n + 1) j n 0 ds) (shapes_of_each (n + 1) n 0 (expanded_each trees p 0 ds)) (acts_along_each list ds)
+          top (plain_head kind.Seq 0) n u i (count_of_each (expanded_each trees p 0 ds)) (grown_each told named (n + 1) j n 0 ds) (shapes_of_each (n + 1) n 0 (expanded_each trees p 0 ds)) (acts_along_each list ds)
           (each_matches (n + 1) j n 0 p ds) (each_counted (n + 1) n 0 (expanded_each trees p 0 ds))
       chart_matches n j u i p (par ds) =
-          top (plain kind.Par 0) n u i (count_of_each (expanded_each trees p 0 ds)) (grown_each told named (n + 1) j n 0 ds) (shapes_of_each (n + 1) n 0 (expanded_each trees p 0 ds)) (acts_along_each list ds)
+          top (plain_head kind.Par 0) n u i (count_of_each (expanded_each trees p 0 ds)) (grown_each told named (n + 1) j n 0 ds) (shapes_of_each (n + 1) n 0 (expanded_each trees p 0 ds)) (acts_along_each list ds)
           (each_matches (n + 1) j n 0 p ds) (each_counted (n + 1) n 0 (expanded_each trees p 0 ds))
       chart_matches n j u i p (sel cs) =
           let below = grown_cases told named (n + 1) (j + length (conditions_of_cases cs)) n 0 cs in
-          top (plain kind.Sel j) n u i (count_of_choices (expanded_cases trees p 0 cs)) below (shapes_of_choices (n + 1) n 0 (expanded_cases trees p 0 cs)) (acts_along_cases list cs)
+          top (plain_head kind.Sel j) n u i (count_of_choices (expanded_cases trees p 0 cs)) below (shapes_of_choices (n + 1) n 0 (expanded_cases trees p 0 cs)) (acts_along_cases list cs)
           (cases_match (n + 1) (j + length (conditions_of_cases cs)) n 0 p cs) (choices_counted (n + 1) n 0 (expanded_cases trees p 0 cs))
       chart_matches n j u i p (loop turns until d) =
-          top (plain (kind.Loop turns) j) n u i (node_count (expanded trees (child p 0) d)) (grown told named (n + 1) (j + 1) n 0 d) (shapes (n + 1) n 0 (expanded trees (child p 0) d)) (acts_along list d)
+          top (plain_head (kind.Loop turns) j) n u i (node_count (expanded trees (child p 0) d)) (grown told named (n + 1) (j + 1) n 0 d) (shapes (n + 1) n 0 (expanded trees (child p 0) d)) (acts_along list d)
           (chart_matches (n + 1) (j + 1) n 0 (child p 0) d) (shapes_counted (n + 1) n 0 (expanded trees (child p 0) d))
 
       each_matches : (n j u i : ℕ) (p : Place) (ds : Diagrams) → Matches (grown_each told named n j u i ds) (shapes_of_each n u i (expanded_each trees p i ds)) (acts_along_each list ds)
@@ -117,7 +117,7 @@ module _ (bound : Binding) (acts : Acts) where
           (shapes n u i t) (shapes_of_choices (n + node_count t) u (i + 1) (expanded_cases trees p (i + 1) cs)) (acts_along list d) (acts_along_cases list cs)
           h (g.0 ∙ ap (λ m. shapes_of_choices (n + m) u (i + 1) (expanded_cases trees p (i + 1) cs)) size, g.1)
 
-    act_matches : (k : Kind) (o : ℕ) (a : Act) → form_of k ≡ an_act → act_of acts k ≡ Some a → (n j u i : ℕ) (unit : Name) (p : Place) (s : tree.Step)
+    act_matches : (k : Kind) (o : ℕ) (a : Act) → form_of k ≡ an_act → act_of_kind acts k ≡ Some a → (n j u i : ℕ) (unit : Name) (p : Place) (s : tree.Step)
         → Matches (grown_act told named k o n j u i a) (shapes n u i (tree.act s (task_of trees unit a.name p a.work))) (acts_from list a)
     act_matches k o a f is n j u i unit p s = go a.work
       where
@@ -150,7 +150,7 @@ module _ (bound : Binding) (acts : Acts) where
     grown_one k n j u i a = grown_act (told_from acts (level_below table)) (grown_below (unit_number table k o)) (kind.Act table k) (unit_number table k o) n j u i a
 
     found_matches : (k : ℕ) (found : Option Act) → slice_get (table_at acts table) k ≡ found → (n j u i : ℕ) (unit : Name) (p : Place)
-        → Matches (elim found [ None ↦ bare n u i | Some a ↦ grown_one k n j u i a ])
+        → Matches (elim found [ None ↦ bare_entries n u i | Some a ↦ grown_one k n j u i a ])
         (shapes n u i (elim found [ None ↦ tree.skip | Some a ↦ act_tree_with (sites bound acts) trees_below unit a p ]))
         (elim found [ None ↦ None ∷ [] | Some a ↦ acts_from acts_then a ])
     found_matches k None is n j u i unit p = (refl, refl)
@@ -161,8 +161,8 @@ module _ (bound : Binding) (acts : Acts) where
 
     label_matches : (number : Option ℕ) → number_in (table_at acts table) name ≡ number → (n j u i : ℕ) (unit : Name) (p : Place)
         → Matches (elim number [
-          | None ↦ bare n u i
-          | Some k ↦ elim (slice_get (table_at acts table) k) [ None ↦ bare n u i | Some a ↦ grown_one k n j u i a ]
+          | None ↦ bare_entries n u i
+          | Some k ↦ elim (slice_get (table_at acts table) k) [ None ↦ bare_entries n u i | Some a ↦ grown_one k n j u i a ]
         ])
         (shapes n u i (elim (act_named (table_at acts table) name) [ None ↦ tree.skip | Some a ↦ act_tree_with (sites bound acts) trees_below unit a p ]))
         (elim (act_named (table_at acts table) name) [ None ↦ None ∷ [] | Some a ↦ acts_from acts_then a ])

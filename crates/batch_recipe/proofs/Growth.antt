@@ -8,7 +8,7 @@ use Rattle.batch_recipe.specs.Conditions.{Name}
 use Rattle.batch_recipe.specs.Diagram as chart
 use Rattle.batch_recipe.specs.Diagram.{Diagram, diagram_of, cases_of}
 use Rattle.batch_recipe.specs.Procedure.{table_at, level_below}
-use Rattle.batch_recipe.specs.Growing.{Head, Labels, LabelConditions, entry, topped, bare, grown, grown_cases, grown_act, grown_named, levels_from, number_in, unit_number, conditions_along_cases, conditions_named, told_from, named_from, branch_entries, branch_conditions, chart_entries, chart_conditions, act_entries, act_conditions, HasBegun, HasEnded, HasGrown, HasAdded}
+use Rattle.batch_recipe.specs.Growing.{Head, Labels, LabelConditions, entry, topped, bare_entries, grown, grown_cases, grown_act, grown_named, levels_from, number_in, unit_number, conditions_along_cases, conditions_named, told_from, named_from, branch_entries, branch_conditions, chart_entries, chart_conditions, act_entries, act_conditions, HasBegun, HasEnded, HasGrown, HasAdded}
 use Rattle.batch_recipe.specs.declared.act.Act.{Act}
 use Rattle.batch_recipe.specs.declared.acts.Acts.{Acts}
 use Rattle.batch_recipe.specs.declared.acts.LabelTable.{LabelTable}
@@ -57,7 +57,7 @@ levels_cons level = grind arith
 -- a label
 module _ (acts : Acts) (level : Option LabelTable) (name : Name) where
   module _ (table : LabelTable) (at : level ≡ Some table) where
-    pub no_number : (o n j u i : ℕ) → number_in (table_at acts table) name ≡ None → chart_entries acts level o n j u i (chart.label name) ≡ bare n u i
+    pub no_number : (o n j u i : ℕ) → number_in (table_at acts table) name ≡ None → chart_entries acts level o n j u i (chart.label name) ≡ bare_entries n u i
     no_number o n j u i e = rw (at, levels_cons table, grown_named, e) refl
 
     pub no_number_told : number_in (table_at acts table) name ≡ None → chart_conditions acts level (chart.label name) ≡ []
@@ -81,14 +81,14 @@ some_grown told named some n j u i (chart.label name) = some name n j u i
 some_grown told named some n j u i d = grind arith
 
 named_found : (acts : Acts) (levels : List LabelTable) (level : LabelTable) (k : ℕ) (found : Option Act) (o n j u i : ℕ)
-    → 0 < length {A = Entry} (elim found [ None ↦ bare n u i | Some a ↦ grown_act (conditions_named acts levels) (grown_named acts levels (unit_number level k o)) (kind.Act level k) (unit_number level k o) n j u i a ])
+    → 0 < length {A = Entry} (elim found [ None ↦ bare_entries n u i | Some a ↦ grown_act (conditions_named acts levels) (grown_named acts levels (unit_number level k o)) (kind.Act level k) (unit_number level k o) n j u i a ])
 named_found acts levels level k found o n j u i = grind arith
 
 named_number : (acts : Acts) (levels : List LabelTable) (level : LabelTable) (number : Option ℕ) (o n j u i : ℕ)
     → 0 < length {A = Entry} (elim number [
-      | None ↦ bare n u i
+      | None ↦ bare_entries n u i
       | Some k ↦ elim (slice_get (table_at acts level) k) [
-        | None ↦ bare n u i
+        | None ↦ bare_entries n u i
         | Some a ↦ grown_act (conditions_named acts levels) (grown_named acts levels (unit_number level k o)) (kind.Act level k) (unit_number level k o) n j u i a
       ]
     ])

@@ -6,7 +6,7 @@ use Rattle.batch_recipe.specs.Conditions.{Name, same_name}
 use Rattle.batch_recipe.specs.Diagram.{Diagram, label, skip, seq, par, sel, loop, Diagrams, none, more, Cases, otherwise, when, diagram_of}
 use Rattle.batch_recipe.specs.Expanding.{Binding, Sites, expanded, expanded_each, expanded_cases, task_of, act_named, act_tree_with, named_tree_with, unit_with, unit_below, needs_with}
 use Rattle.batch_recipe.specs.Labels.{label_along, label_along_each, label_along_cases, label_below, label_named, label_at}
-use Rattle.batch_recipe.specs.Needs.{resources_of}
+use Rattle.batch_recipe.specs.Needs.{resources_needed}
 use Rattle.batch_recipe.specs.Nodes.{Node, node, nodes, nodes_within, nodes_of_each, nodes_of_choices, child}
 use Rattle.batch_recipe.specs.Procedure.{sites, tables_from, bound_nodes}
 use Rattle.batch_recipe.specs.Tree.{Place, Tree}
@@ -128,7 +128,7 @@ module _ (sites : Sites) where
           let own = unit_below unit (unit_with sites.bound a.unit) in (
             ([], sym (append-nil p), λ b e. let both : Some a ≡ Some b = e in let same : a ≡ b = cc in ap Some (sym (found_named name table a is) ∙ ap (λ (x : Act). x.name) same)),
             work_labelled (named_tree_with sites tables own) (acts_named tables) (label_named tables) (below own) (label_named (table ∷ tables) name) own a.name p
-                (above ++ resources_of (needs_with sites a)) a.work
+                (above ++ resources_needed (needs_with sites a)) a.work
                 (λ i q. ap (λ o. elim o [ None ↦ None | Some found ↦ label_below (label_named tables) found.work i q ]) is),
           )
 
@@ -153,7 +153,7 @@ module _ (bound : Binding) where
       let all : AreLabelled f (0 ∷ []) (procedure_acts acts) (bound_nodes bound acts) = (
         ([], refl, λ b e. let both : Some acts.procedure ≡ Some b = e in let same : acts.procedure ≡ b = cc in ap (λ (y : Act). Some y.name) same),
         work_labelled (named_tree_with all_sites tables own) (acts_named tables) (label_named tables) (λ n r more. labels_labelled all_sites tables own n r more) f own acts.procedure.name (0 ∷ [])
-            (resources_of (needs_with all_sites acts.procedure)) acts.procedure.work (λ i q. refl),
+            (resources_needed (needs_with all_sites acts.procedure)) acts.procedure.work (λ i q. refl),
       ) in
       let h = labelled_at f (0 ∷ []) (procedure_acts acts) (bound_nodes bound acts) all k (Some a) x is at in
       let same : 0 ∷ h.0 ≡ x.place = sym {b = 0 ∷ h.0} h.1 in

@@ -4,7 +4,7 @@ use Rattle.batch_recipe.specs.ActsAtNodes.{ActList, procedure_acts, AreActsAt, I
 use Rattle.batch_recipe.specs.Expanding.{Binding}
 use Rattle.batch_recipe.specs.Links.{asked_at}
 use Rattle.batch_recipe.specs.Nodes.{Node, needs_of}
-use Rattle.batch_recipe.specs.Outlines.{act_of}
+use Rattle.batch_recipe.specs.Outlines.{act_of_kind}
 use Rattle.batch_recipe.specs.Procedure.{sites, bound_nodes}
 use Rattle.batch_recipe.specs.Tree.{Tree}
 use Rattle.batch_recipe.specs.declared.act.Act.{Act}
@@ -36,7 +36,7 @@ module _ (bound : Binding) (acts : Acts) where
 
 -- the node's own needs are those of its act, whatever units take the roles
 pub own_needs : (r : Recipe) (bound : Binding) (k : ℕ) (e : Entry) (x : Node) → slice_get r.outline.entries.items k ≡ Some e → slice_get (bound_nodes bound r.acts) k ≡ Some x
-    → needs_of x.here ≡ asked_at (sites bound r.acts) (act_of r.acts e.kind)
+    → needs_of x.here ≡ asked_at (sites bound r.acts) (act_of_kind r.acts e.kind)
 own_needs r bound k e x is at =
-    needs_are bound r.acts (act_of r.acts e.kind) x
-    (acts_at bound r.acts (procedure_acts r.acts) (bound_nodes bound r.acts) (procedure_acts_are bound r.acts) k (act_of r.acts e.kind) x (act_at r k e is) at)
+    needs_are bound r.acts (act_of_kind r.acts e.kind) x
+    (acts_at bound r.acts (procedure_acts r.acts) (bound_nodes bound r.acts) (procedure_acts_are bound r.acts) k (act_of_kind r.acts e.kind) x (act_at r k e is) at)

@@ -5,7 +5,7 @@ use Rattle.std.proofs.lemmas.Option.{slice_get_within, slice_get-get_or}
 use Rattle.batch_recipe.specs.Children.{IsHere, AreHere, AreCasesHere, IsBelow, HasBelow}
 use Rattle.batch_recipe.specs.Conditions.{Name}
 use Rattle.batch_recipe.specs.Expanding.{Binding}
-use Rattle.batch_recipe.specs.Needs.{resources_of}
+use Rattle.batch_recipe.specs.Needs.{resources_needed}
 use Rattle.batch_recipe.specs.Nodes.{Node, node, nodes, nodes_within, nodes_of_each, nodes_of_choices, child, node_count, count_of_each, count_of_choices}
 use Rattle.batch_recipe.specs.Tree.{Place, Tree, act, skip, seq, par, sel, loop, Task, runs, follows, Trees, no_trees, tree, Choices, otherwise, choice}
 use Rattle.batch_recipe.specs.Procedure.{bound_tree, bound_nodes}
@@ -29,7 +29,7 @@ some_count (loop n c t) = omega arith
 
 module _ (ns : List Node) where
   is_here : (n : ℕ) (p : Place) (above : List Name) (t : Tree) → AreFrom ns n (nodes p above t) → IsHere ns n t
-  is_here n p above (act s w) h = (node p above (act s w), from_head ns n (node p above (act s w)) (nodes_within p (above ++ resources_of s.needs) w) h, refl)
+  is_here n p above (act s w) h = (node p above (act s w), from_head ns n (node p above (act s w)) (nodes_within p (above ++ resources_needed s.needs) w) h, refl)
   is_here n p above skip h = (node p above skip, from_head ns n (node p above skip) [] h, refl)
   is_here n p above (seq ts) h = (node p above (seq ts), from_head ns n (node p above (seq ts)) (nodes_of_each p above 0 ts) h, refl)
   is_here n p above (par ts) h = (node p above (par ts), from_head ns n (node p above (par ts)) (nodes_of_each p above 0 ts) h, refl)
@@ -60,7 +60,7 @@ module _ (ns : List Node) where
 
   tree_has_below : (n : ℕ) (p : Place) (above : List Name) (t : Tree) → AreFrom ns n (nodes p above t) → HasBelow ns n t
   tree_has_below n p above (act s w) h =
-      task_here (n + 1) p (above ++ resources_of s.needs) w (from_tail ns n (node p above (act s w)) (nodes_within p (above ++ resources_of s.needs) w) h)
+      task_here (n + 1) p (above ++ resources_needed s.needs) w (from_tail ns n (node p above (act s w)) (nodes_within p (above ++ resources_needed s.needs) w) h)
   tree_has_below n p above skip h = tt
   tree_has_below n p above (seq ts) h = are_here (n + 1) (n + node_count (seq ts)) p above 0 ts (omega arith) (from_tail ns n (node p above (seq ts)) (nodes_of_each p above 0 ts) h)
   tree_has_below n p above (par ts) h = are_here (n + 1) (n + node_count (par ts)) p above 0 ts (omega arith) (from_tail ns n (node p above (par ts)) (nodes_of_each p above 0 ts) h)
@@ -85,7 +85,7 @@ module _ (ns : List Node) where
   mutual
     tree_stands : (n : ℕ) (p : Place) (above : List Name) (t : Tree) → AreFrom ns n (nodes p above t) → AllStand n (nodes p above t)
     tree_stands n p above (act s w) h =
-        ((above, h), task_stands (n + 1) p (above ++ resources_of s.needs) w (from_tail ns n (node p above (act s w)) (nodes_within p (above ++ resources_of s.needs) w) h))
+        ((above, h), task_stands (n + 1) p (above ++ resources_needed s.needs) w (from_tail ns n (node p above (act s w)) (nodes_within p (above ++ resources_needed s.needs) w) h))
     tree_stands n p above skip h = ((above, h), tt)
     tree_stands n p above (seq ts) h = ((above, h), each_stand (n + 1) p above 0 ts (from_tail ns n (node p above (seq ts)) (nodes_of_each p above 0 ts) h))
     tree_stands n p above (par ts) h = ((above, h), each_stand (n + 1) p above 0 ts (from_tail ns n (node p above (par ts)) (nodes_of_each p above 0 ts) h))

@@ -4,7 +4,7 @@ use Rattle.std.proofs.lemmas.Option.{slice_get_read, slice_get_within, slice_get
 use Rattle.batch_recipe.specs.Expanding.{Binding, unbound}
 use Rattle.batch_recipe.specs.Links.{IsEntryOf, IsFirst, Hangs}
 use Rattle.batch_recipe.specs.Nodes.{Node}
-use Rattle.batch_recipe.specs.Outlines.{IsOutline, act_of, shape_of}
+use Rattle.batch_recipe.specs.Outlines.{IsOutline, act_of_kind, shape_of}
 use Rattle.batch_recipe.specs.ActsAtNodes.{procedure_acts}
 use Rattle.batch_recipe.specs.Procedure.{bound_nodes, procedure_nodes}
 use Rattle.batch_recipe.specs.Tree.{Place}
@@ -31,7 +31,7 @@ module _ (r : Recipe) where
   pub as_many : length r.outline.entries.items ≡ length ns
   as_many = as_many_entries r.acts r.outline.entries.items outlines unbound
 
-  pub act_at : (k : ℕ) (e : Entry) → slice_get r.outline.entries.items k ≡ Some e → slice_get (procedure_acts r.acts) k ≡ Some (act_of r.acts e.kind)
+  pub act_at : (k : ℕ) (e : Entry) → slice_get r.outline.entries.items k ≡ Some e → slice_get (procedure_acts r.acts) k ≡ Some (act_of_kind r.acts e.kind)
   act_at = act_of_entry r.acts r.outline.entries.items outlines
 
   -- an entry that was read

@@ -6,9 +6,9 @@ use Rattle.std.proofs.lemmas.Option.{slice_get-map}
 use Rattle.batch_recipe.specs.ActsAtNodes.{procedure_acts}
 use Rattle.batch_recipe.specs.Conditions.{Name}
 use Rattle.batch_recipe.specs.Expanding.{Binding}
-use Rattle.batch_recipe.specs.Needs.{resources_of}
+use Rattle.batch_recipe.specs.Needs.{resources_needed}
 use Rattle.batch_recipe.specs.Nodes.{Node, node, nodes, nodes_within, nodes_of_each, nodes_of_choices, child, needs_of, node_count, count_within, count_of_each, count_of_choices}
-use Rattle.batch_recipe.specs.Outlines.{Shape, act_of, shape_of, shape, shapes, shapes_within, shapes_of_each, shapes_of_choices, IsOutline}
+use Rattle.batch_recipe.specs.Outlines.{Shape, act_of_kind, shape_of, shape, shapes, shapes_within, shapes_of_each, shapes_of_choices, IsOutline}
 use Rattle.batch_recipe.specs.Links.{form_at, IsShaped, Hangs, IsEntryOf, IsBranch, IsChoice, IsOnlyChild, IsChildTree}
 use Rattle.batch_recipe.specs.Procedure.{bound_tree, bound_nodes}
 use Rattle.batch_recipe.specs.Tree.{Place, Tree, act, skip, seq, par, sel, loop, Task, runs, follows, Trees, no_trees, tree, Choices, otherwise, choice}
@@ -92,11 +92,11 @@ module _ (ns : List Node) where
       within = omega (arith, b.room, fits);
       branch = subst (λ (w : Tree). IsChildTree w i t) (sym b.here) is;
       placed = ap (λ q. child q i) (sym b.placed);
-      asks = ap (λ xs. xs ++ resources_of (needs_of t)) (sym b.asked);
+      asks = ap (λ xs. xs ++ resources_needed (needs_of t)) (sym b.asked);
     },
   )
 
-  under : (n m : ℕ) (p : Place) (above : List Name) (t : Tree) (xs : List Node) → m ≡ n + node_count t → AreFrom n (node p above t ∷ xs) → Below n (n + 1) m p (above ++ resources_of (needs_of t)) t
+  under : (n m : ℕ) (p : Place) (above : List Name) (t : Tree) (xs : List Node) → m ≡ n + node_count t → AreFrom n (node p above t ∷ xs) → Below n (n + 1) m p (above ++ resources_needed (needs_of t)) t
   under n m p above t xs size h =
       record { y = node p above t; known = from_head n (node p above t) xs h; earlier = omega arith; room = omega (arith, size); placed = refl; asked = refl; here = refl }
 
@@ -109,7 +109,7 @@ module _ (ns : List Node) where
         earlier = omega arith;
         room = omega (arith, size);
         placed = refl;
-        asked = ap (λ ys. above ++ resources_of ys) none ∙ append-nil above;
+        asked = ap (λ ys. above ++ resources_needed ys) none ∙ append-nil above;
         here = refl;
       }
 
@@ -147,7 +147,7 @@ module _ (ns : List Node) where
     tree_linked n u i m p above of (act s w) fits is b h =
         let size : n + node_count (act s w) ≡ n + 1 + count_within w = omega arith in (
           first_linked n u i m p above of (act s w) fits is b,
-          within_linked n (n + node_count (act s w)) (child p i) (above ++ resources_of s.needs) (act s w) w (omega (arith, size)) (λ j t c. c) (under n (n + node_count (act s w)) (child p i) above (act s w) _ refl h) (from_tail n _ _ h),
+          within_linked n (n + node_count (act s w)) (child p i) (above ++ resources_needed s.needs) (act s w) w (omega (arith, size)) (λ j t c. c) (under n (n + node_count (act s w)) (child p i) above (act s w) _ refl h) (from_tail n _ _ h),
         )
     tree_linked n u i m p above of skip fits is b h = (first_linked n u i m p above of skip fits is b, tt)
     tree_linked n u i m p above of (seq ts) fits is b h = (
@@ -210,7 +210,7 @@ root_entry s w zero e is =
 root_entry s w (suc k) e is =
     let ns = nodes (0 ∷ []) [] (act s w) in
     let root = node (0 ∷ []) [] (act s w) in
-    let asked = resources_of s.needs in
+    let asked = resources_needed s.needs in
     let xs = nodes_within (0 ∷ []) asked w in
     let all : (j : ℕ) (x : Node) → slice_get ns j ≡ Some x → slice_get ns (0 + j) ≡ Some x = λ j x h. ap (slice_get ns) (omega arith) ∙ h in
     let linked = within_linked ns 0 (node_count (act s w)) (0 ∷ []) asked (act s w) w (omega arith) (λ j t c. c) (under ns 0 (node_count (act s w)) (0 ∷ []) [] (act s w) xs (omega arith) all) (from_tail ns 0 root xs all) in
@@ -233,5 +233,5 @@ module _ (acts : Acts) (es : List Entry) (h : IsOutline acts es) where
   pub as_many_entries : (bound : Binding) → length es ≡ length (bound_nodes bound acts)
   as_many_entries bound = sym (length-map es shape_of) ∙ (ap length (h.shaped bound) ∙ (shapes_counted 0 0 0 (bound_tree bound acts) ∙ sym (counted_nodes (0 ∷ []) [] (bound_tree bound acts))))
 
-  pub act_of_entry : (k : ℕ) (e : Entry) → slice_get es k ≡ Some e → slice_get (procedure_acts acts) k ≡ Some (act_of acts e.kind)
-  act_of_entry k e is = ap (λ xs. slice_get xs k) (sym h.acted) ∙ (slice_get-map (λ (x : Entry). act_of acts x.kind) es k ∙ ap (option_map (λ (x : Entry). act_of acts x.kind)) is)
+  pub act_of_entry : (k : ℕ) (e : Entry) → slice_get es k ≡ Some e → slice_get (procedure_acts acts) k ≡ Some (act_of_kind acts e.kind)
+  act_of_entry k e is = ap (λ xs. slice_get xs k) (sym h.acted) ∙ (slice_get-map (λ (x : Entry). act_of_kind acts x.kind) es k ∙ ap (option_map (λ (x : Entry). act_of_kind acts x.kind)) is)

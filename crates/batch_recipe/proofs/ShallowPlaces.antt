@@ -5,7 +5,7 @@ use Rattle.batch_recipe.specs.Conditions.{Name}
 use Rattle.batch_recipe.specs.Tree.{Place, Tree, act, skip, seq, par, sel, loop, Task, runs, follows, Trees, no_trees, tree, Choices, otherwise, choice}
 use Rattle.batch_recipe.specs.Nodes.{Node, nodes, nodes_within, nodes_of_each, nodes_of_choices, child, node_count, count_within, count_of_each, count_of_choices}
 use Rattle.batch_recipe.proofs.NodeOrder.{counted_nodes}
-use Rattle.batch_recipe.specs.Needs.{resources_of}
+use Rattle.batch_recipe.specs.Needs.{resources_needed}
 
 abbrev IsShallow : ℕ → Node → Type 0
 IsShallow b n = length n.place < b
@@ -22,7 +22,7 @@ below_child p i count b h = let e = length-append p (i ∷ []) in omega arith
 
 mutual
   shallow : (p : Place) (above : List Name) (t : Tree) (b : ℕ) → length p + node_count t ≤ b → AreShallow b (nodes p above t)
-  shallow p above (act s w) b h = (omega arith, shallow_within p (above ++ resources_of s.needs) w b (omega arith))
+  shallow p above (act s w) b h = (omega arith, shallow_within p (above ++ resources_needed s.needs) w b (omega arith))
   shallow p above skip b h = (omega arith, tt)
   shallow p above (seq ts) b h = (omega arith, shallow_each p above 0 ts b (omega arith))
   shallow p above (par ts) b h = (omega arith, shallow_each p above 0 ts b (omega arith))

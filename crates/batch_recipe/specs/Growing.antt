@@ -26,8 +26,8 @@ pub record Head : Type 0 where
   pub detail : ℕ
 
 -- the head of a node that is no act
-abbrev pub plain : Kind → ℕ → Head
-plain k o = record { kind = k; needs = 0; detail = o }
+abbrev pub plain_head : Kind → ℕ → Head
+plain_head k o = record { kind = k; needs = 0; detail = o }
 
 abbrev pub entry : Head → ℕ → ℕ → ℕ → Entry
 entry h m u i = record { kind = h.kind; end = m; parent = u; child = i; needs = h.needs; detail = h.detail }
@@ -36,8 +36,8 @@ entry h m u i = record { kind = h.kind; end = m; parent = u; child = i; needs = 
 abbrev pub topped : Head → ℕ → ℕ → ℕ → List Entry → List Entry
 topped h n u i below = entry h (n + 1 + length below) u i ∷ below
 
-abbrev pub bare : ℕ → ℕ → ℕ → List Entry
-bare n u i = entry (plain kind.Skip 0) (n + 1) u i ∷ []
+abbrev pub bare_entries : ℕ → ℕ → ℕ → List Entry
+bare_entries n u i = entry (plain_head kind.Skip 0) (n + 1) u i ∷ []
 
 -- how many needs an act has, its unit and those that it reserves among them
 abbrev pub needs_count : Act → ℕ
@@ -99,11 +99,11 @@ conditions_named acts (level ∷ levels) name = elim (number_in (table_at acts l
 abbrev mutual
   pub grown : LabelConditions → Labels → ℕ → ℕ → ℕ → ℕ → Diagram → List Entry
   grown told named n j u i (label name) = named name n j u i
-  grown told named n j u i skip = bare n u i
-  grown told named n j u i (seq ds) = topped (plain kind.Seq 0) n u i (grown_each told named (n + 1) j n 0 ds)
-  grown told named n j u i (par ds) = topped (plain kind.Par 0) n u i (grown_each told named (n + 1) j n 0 ds)
-  grown told named n j u i (sel cs) = topped (plain kind.Sel j) n u i (grown_cases told named (n + 1) (j + length (conditions_of_cases cs)) n 0 cs)
-  grown told named n j u i (loop turns until d) = topped (plain (kind.Loop turns) j) n u i (grown told named (n + 1) (j + 1) n 0 d)
+  grown told named n j u i skip = bare_entries n u i
+  grown told named n j u i (seq ds) = topped (plain_head kind.Seq 0) n u i (grown_each told named (n + 1) j n 0 ds)
+  grown told named n j u i (par ds) = topped (plain_head kind.Par 0) n u i (grown_each told named (n + 1) j n 0 ds)
+  grown told named n j u i (sel cs) = topped (plain_head kind.Sel j) n u i (grown_cases told named (n + 1) (j + length (conditions_of_cases cs)) n 0 cs)
+  grown told named n j u i (loop turns until d) = topped (plain_head (kind.Loop turns) j) n u i (grown told named (n + 1) (j + 1) n 0 d)
 
   pub grown_each : LabelConditions → Labels → ℕ → ℕ → ℕ → ℕ → Diagrams → List Entry
   grown_each told named n j u i none = []
@@ -134,11 +134,11 @@ levels_from (Some Phases) = Phases ∷ []
 
 -- below the unit procedure o
 abbrev pub grown_named : Acts → List LabelTable → ℕ → Labels
-grown_named acts [] o name n j u i = bare n u i
+grown_named acts [] o name n j u i = bare_entries n u i
 grown_named acts (level ∷ levels) o name n j u i = elim (number_in (table_at acts level) name) [
-  | None ↦ bare n u i
+  | None ↦ bare_entries n u i
   | Some k ↦ elim (slice_get (table_at acts level) k) [
-    | None ↦ bare n u i
+    | None ↦ bare_entries n u i
     | Some a ↦ grown_act (conditions_named acts levels) (grown_named acts levels (unit_number level k o)) (kind.Act level k) (unit_number level k o) n j u i a
   ]
 ]
@@ -171,7 +171,7 @@ branch_conditions acts level ds = conditions_along_each (told_from acts level) (
 
 -- a node and its branches
 abbrev pub parts_entries : Acts → Option LabelTable → Kind → ℕ → ℕ → ℕ → ℕ → ℕ → List Diagram → List Entry
-parts_entries acts level k o n j u i ds = topped (plain k 0) n u i (branch_entries acts level o (n + 1) j n 0 ds)
+parts_entries acts level k o n j u i ds = topped (plain_head k 0) n u i (branch_entries acts level o (n + 1) j n 0 ds)
 
 -- the cases of a selection
 abbrev pub choice_cases : List (Cond × Chart) → Chart → Cases

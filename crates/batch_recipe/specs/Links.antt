@@ -1,7 +1,7 @@
 -- private: how the nodes of an expanded tree hang together, by number.
 use Rattle.std.specs.Prelude.{◌≡◌, ◌<◌, ◌≤◌, ◌⊎◌, ℕ, zero, suc, ◌+◌, List, [], ◌∷◌, ◌++◌, slice_get, Option, Some, None}
 use Rattle.batch_recipe.specs.Expanding.{Sites, needs_with}
-use Rattle.batch_recipe.specs.Needs.{resources_of}
+use Rattle.batch_recipe.specs.Needs.{resources_needed}
 use Rattle.batch_recipe.specs.declared.need.Need.{Need}
 use Rattle.batch_recipe.specs.declared.act.Act.{Act}
 use Rattle.batch_recipe.specs.Nodes.{Node, needs_of, child, node_count}
@@ -60,14 +60,14 @@ pub record Hangs (ns : List Node) (k : ℕ) (at : Node) (s : Shape) : Type 0 whe
   pub within : s.end ≤ s.parent + node_count above.here
   pub branch : IsChildTree above.here s.child at.here
   pub placed : at.place ≡ child above.place s.child
-  pub asks : at.asked ≡ above.asked ++ resources_of (needs_of at.here)
+  pub asks : at.asked ≡ above.asked ++ resources_needed (needs_of at.here)
 
 -- the node is the first
 pub record IsFirst (k : ℕ) (at : Node) (s : Shape) : Type 0 where
   pub number : k ≡ 0
   pub alone : s.child ≡ 0
   pub placed : at.place ≡ 0 ∷ []
-  pub asks : at.asked ≡ resources_of (needs_of at.here)
+  pub asks : at.asked ≡ resources_needed (needs_of at.here)
 
 -- the entry stands for node number k
 pub record IsEntryOf (ns : List Node) (k : ℕ) (e : Entry) : Type 0 where

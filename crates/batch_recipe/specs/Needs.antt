@@ -10,8 +10,8 @@ abbrev pub one_unit : Name → Need
 one_unit resource = record { resource = resource; units = 1 }
 
 -- the resources of the needs, in order
-abbrev pub resources_of : List Need → List Name
-resources_of needs = map (λ n. n.resource) needs
+abbrev pub resources_needed : List Need → List Name
+resources_needed needs = map (λ n. n.resource) needs
 
 -- each need is for at least one unit, and for no more than one need may be
 abbrev pub have_units : List Need → Bool

@@ -30,10 +30,10 @@ form_of kind.Sel = a_sel
 form_of (kind.Loop turns) = a_loop
 
 -- the act that a kind names
-abbrev pub act_of : Acts → Kind → Option Act
-act_of acts kind.Procedure = Some acts.procedure
-act_of acts (kind.Act level number) = slice_get (table_at acts level) number
-act_of acts _ = None
+abbrev pub act_of_kind : Acts → Kind → Option Act
+act_of_kind acts kind.Procedure = Some acts.procedure
+act_of_kind acts (kind.Act level number) = slice_get (table_at acts level) number
+act_of_kind acts _ = None
 
 -- a node, the number past all below it, and which child it is of which node
 pub record Shape : Type 0 where
@@ -74,4 +74,4 @@ abbrev mutual
 -- the entries are the nodes of the recipe's expanded tree, by number, whatever units take the roles; each act with its number in its table
 pub record IsOutline (acts : Acts) (entries : List Entry) : Type 0 where
   pub shaped : (bound : Binding) → map shape_of entries ≡ shapes 0 0 0 (bound_tree bound acts)
-  pub acted : map (λ e. act_of acts e.kind) entries ≡ procedure_acts acts
+  pub acted : map (λ e. act_of_kind acts e.kind) entries ≡ procedure_acts acts

@@ -1,6 +1,6 @@
 //! A node of a recipe's expanded tree.
 ghost use Rattle.std.specs.Prelude.{◌≡◌, option_copied};
-ghost use Rattle.batch_recipe.specs.Outlines.{act_of};
+ghost use Rattle.batch_recipe.specs.Outlines.{act_of_kind};
 
 use crate::act::Act;
 use crate::acts::{Acts, LabelTable};
@@ -38,7 +38,7 @@ pub struct Entry {
 impl Kind {
     /// The act at the node, if it is one.
     pub fn act(self, acts: &Acts) -> Option<&Act>
-        ensures { option_copied result ≡ act_of acts.now self }
+        ensures { option_copied result ≡ act_of_kind acts.now self }
     {
         match self {
             Kind::Procedure => Some(&acts.procedure),

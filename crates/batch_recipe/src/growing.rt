@@ -1,7 +1,7 @@
 //! Growing an outline.
 ghost use Rattle.std.specs.Prelude.{◌≡◌, ◌≤◌, ◌<◌, [], ◌++◌, ◌∷◌, map, length, slice_get, slice_set, slice_index_or, IfOk, ◌+◌};
 ghost use Rattle.batch_recipe.specs.Diagram.{diagram_of, diagrams_of, label, loop, sel};
-ghost use Rattle.batch_recipe.specs.Growing.{HasAdded, HasBegun, HasEnded, HasGrown, act_conditions, act_entries, bare, branch_conditions, branch_entries, chart_conditions, chart_entries, choice_cases, choice_conditions, choice_entries, needs_count, parts_entries, unit_number};
+ghost use Rattle.batch_recipe.specs.Growing.{HasAdded, HasBegun, HasEnded, HasGrown, act_conditions, act_entries, bare_entries, branch_conditions, branch_entries, chart_conditions, chart_entries, choice_cases, choice_conditions, choice_entries, needs_count, parts_entries, unit_number};
 ghost use Rattle.batch_recipe.specs.declared.recipe.TheConstants.{MAX_NODES};
 
 use crate::act::{Act, Work};
@@ -128,7 +128,7 @@ pub fn grow_act(
 /// Adds a node without nodes below it.
 fn grow_bare(nodes: &mut Vec<Entry>, parent: u16, child: u16) -> Result<(), OutlineFault>
     requires { length nodes.old.items ≤ MAX_NODES }
-    ensures { HasGrown nodes.old.items (bare (length nodes.old.items) parent child) nodes.new.items result }
+    ensures { HasGrown nodes.old.items (bare_entries (length nodes.old.items) parent child) nodes.new.items result }
 {
     begin(nodes, Kind::Skip, 0, 0, parent, child)?;
     Ok(())

@@ -5,7 +5,7 @@ use Rattle.std.proofs.lemmas.List.Elements.{All-append}
 use Rattle.std.proofs.KnownBytes.{Consumes-trans, Consumes-whole}
 use Rattle.std.specs.Io.KnownBytes.{Consumes, IsAtEnd, ReadConsumes}
 use Rattle.batch_model.specs.Lists.{Each}
-use Rattle.batch_record.specs.Blocks.{Stage, opening, stage_after, stages}
+use Rattle.batch_record.specs.Blocks.{Stage, opening_stage, stage_after, stages}
 use Rattle.batch_record.specs.Kept.{Keeps}
 use Rattle.batch_record.specs.StatusReading.{HasNoFeed, IsRefusedAt, LeadsTo, lines_text}
 use Rattle.batch_record.specs.Standings.{EndsLine, HasRead, IsAt}
@@ -64,7 +64,7 @@ line-taken old new read end h none empty next after at count = record {
     is = split-line (lines_text h.lines) old.line.items read end [] h.is_text.is ∙ sym (text-more h.lines (old.line.items ++ end))
         ∙ sym (append-nil (lines_text (h.lines ++ (old.line.items ++ end) ∷ []))) ∙ ap (λ l. lines_text (h.lines ++ (old.line.items ++ end) ∷ []) ++ l) (sym empty);
   };
-  stages = stages-more opening h.lines (old.line.items ++ end) h.stage next h.stages after;
+  stages = stages-more opening_stage h.lines (old.line.items ++ end) h.stage next h.stages after;
   is_at = at;
   counted = count ∙ counted-more old.count (length h.lines) h.counted ∙ ap (λ n. min n (2 ^ 64 - 1)) (sym (length-more h.lines (old.line.items ++ end)));
 }

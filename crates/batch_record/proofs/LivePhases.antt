@@ -9,7 +9,7 @@ use Rattle.batch_model.specs.Events.{reported}
 use Rattle.batch_model.specs.Records.{ends_phase}
 use Rattle.batch_model.specs.Runs.{reply}
 use Rattle.batch_record.specs.Telling.{is_at, led_by, moved_at, said_by}
-use Rattle.batch_record.specs.Kept.{live_of, lives_of, is_elsewhere, LiveAfter, phase_changed, changed_by}
+use Rattle.batch_record.specs.Kept.{kept_live, lives_of, is_elsewhere, LiveAfter, phase_changed, changed_by}
 use Rattle.batch_record.specs.declared.live.Change.{Change}
 use Rattle.batch_record.specs.declared.live.LivePhase.{LivePhase}
 
@@ -28,7 +28,7 @@ appended f [] x = refl
 appended f (y ∷ xs) x = ap (λ ys. f y ∷ ys) (appended f xs x)
 
 pub ended-live : (act : BatchAct) (live : List LivePhase) → lives_of (filter (is_elsewhere act) live) ≡ filter (λ x. not (is_at act x)) (lives_of live)
-ended-live act live = filtered live_of (is_elsewhere act) (λ x. not (is_at act x)) (λ x. refl) live
+ended-live act live = filtered kept_live (is_elsewhere act) (λ x. not (is_at act x)) (λ x. refl) live
 
 -- a report that ends its phase
 pub report-ends : (old new : List LivePhase) (u p : Name) (word : Report) (n : ℕ) (place at : List ℕ) (s : State) → ends_phase word ≡ true → at ≡ place → new ≡ filter (is_elsewhere (n, at)) old
@@ -39,8 +39,8 @@ report-ends old new u p word n place at s is same e =
 
 -- the phases at an act that go on in another state
 module _ (act : BatchAct) (change : Change) where
-  changed-one : (x : LivePhase) (b : Bool) → live_of (elim b [ true ↦ record x { state = changed_by change x.state } | false ↦ x ])
-      ≡ elim b [ true ↦ record { act = (x.batch, x.place); unit = x.unit; name = x.phase; state = changed_by change x.state } | false ↦ live_of x ]
+  changed-one : (x : LivePhase) (b : Bool) → kept_live (elim b [ true ↦ record x { state = changed_by change x.state } | false ↦ x ])
+      ≡ elim b [ true ↦ record { act = (x.batch, x.place); unit = x.unit; name = x.phase; state = changed_by change x.state } | false ↦ kept_live x ]
   changed-one x true = refl
   changed-one x false = refl
 
@@ -48,7 +48,7 @@ module _ (act : BatchAct) (change : Change) where
   changed-live [] = refl
   changed-live (x ∷ xs) =
       ap (λ y. y ∷ lives_of (map (phase_changed act change) xs)) (changed-one x (is_same_act (x.batch, x.place) act))
-      ∙ ap (λ ys. elim (is_at act (live_of x)) [ true ↦ record { act = (x.batch, x.place); unit = x.unit; name = x.phase; state = changed_by change x.state } | false ↦ live_of x ] ∷ ys) (changed-live xs)
+      ∙ ap (λ ys. elim (is_at act (kept_live x)) [ true ↦ record { act = (x.batch, x.place); unit = x.unit; name = x.phase; state = changed_by change x.state } | false ↦ kept_live x ] ∷ ys) (changed-live xs)
 
 -- a command was sent
 pub sent-on : (old new : List LivePhase) (n : ℕ) (place at : List ℕ) (command : Command) → at ≡ place → new ≡ map (phase_changed (n, at) (Change.Led command)) old

@@ -18,8 +18,8 @@ use Rattle.batch_model.specs.Events.{Reply, created, ordered, reported, refused,
 use Rattle.batch_wire.specs.EventLine.{command_of, role_pair_of}
 use Rattle.batch_wire.specs.RecordText.{state_text, command_text, need_text, value_texts, role_texts, refusal_words, reply_words, move_words, out_words}
 use Rattle.batch_record.specs.Naming.{IsShort, IsAct, IsClaim, IsPhaseStep, IsNamed, IsNamedReply, IsNamedMove, IsNamedRefusal, as_told}
-use Rattle.batch_record.specs.RecordLine.{state_of, ClaimTold, claim_with, claim_of, batch_with, batch_of, report_with, PhaseTold, phase_with, sent_with, started_with, because, refusal_of, passed_with, asked, granted, released, passed, stated, obeyed, report_out, sent, started, begun, ended, created_out, refused_out, out_of_words, out_of_line, line_words}
-use Rattle.batch_record.specs.Laws.{IsLineOf, Tells, TellsNothing, TextIsOne}
+use Rattle.batch_record.specs.RecordLine.{state_of_word, ClaimTold, claim_with, claim_told_of, batch_state_with, batch_state_of, report_with, PhaseTold, phase_with, sent_with, started_with, because, refusal_of_words, passed_with, ask_out, grant_out, release_out, pass_out, state_out, order_out, report_out, send_out, start_out, begin_out, end_out, created_out, refused_out, out_of_words, out_of_line, line_words}
+use Rattle.batch_record.specs.Laws.{IsLineOf, TellsOut, TellsNothing, TextIsOne}
 use Rattle.batch_record.proofs.AbsentBytes.{lacks, split-joined, name-no_space}
 use Rattle.batch_record.proofs.Numerals.{read-again, decimal-no_space}
 use Rattle.batch_record.proofs.Places.{place-read, place-no_space}
@@ -32,7 +32,7 @@ taken false a c e is = absurd cc
 
 -- Parts
 
-claim-back : (n : ℕ) (p : Place) (need : Need) → IsClaim n p need → claim_of (decimal n ∷ place_text p ∷ need_text need ∷ []) ≡ Some (record { batch = n; place = p; need = need })
+claim-back : (n : ℕ) (p : Place) (need : Need) → IsClaim n p need → claim_told_of (decimal n ∷ place_text p ∷ need_text need ∷ []) ≡ Some (record { batch = n; place = p; need = need })
 claim-back n p need h =
     let (plain, number) = read-again n h.act.batch_short in
     let (placed, place) = place-read p h.act.placed in
@@ -40,10 +40,10 @@ claim-back n p need h =
     ∙ taken _ _ _ (and_from _ _ plain placed)
     (ap (λ m. record { batch = m; place = numbers_of (place_text p); need = need }) number ∙ ap (λ q. record { batch = n; place = q; need = need }) place)
 
-batch-back : (n : ℕ) (s : State) → IsShort n → batch_of (decimal n ∷ state_text s ∷ []) ≡ Some (n, s)
+batch-back : (n : ℕ) (s : State) → IsShort n → batch_state_of (decimal n ∷ state_text s ∷ []) ≡ Some (n, s)
 batch-back n s h =
     let (plain, number) = read-again n h in
-    ap (batch_with (decimal n)) (state-read s) ∙ taken _ _ _ plain (ap (λ m. (m, s)) number)
+    ap (batch_state_with (decimal n)) (state-read s) ∙ taken _ _ _ plain (ap (λ m. (m, s)) number)
 
 phase-back : (n : ℕ) (p : Place) (unit name : List ℕ) → IsPhaseStep n p unit name
     → phase_with (decimal n) (place_text p) unit name ≡ Some (record { batch = n; place = p; unit = unit; name = name })
@@ -53,7 +53,7 @@ phase-back n p unit name h =
     taken _ _ _ (and_from _ _ (and_from _ _ plain placed) (and_from _ _ (name-test unit h.phase.unit_named) (name-test name h.phase.phase_named)))
     (ap (λ m. record { batch = m; place = numbers_of (place_text p); unit = unit; name = name }) number ∙ ap (λ q. record { batch = n; place = q; unit = unit; name = name }) place)
 
-refusal-back : (why : Refusal) → IsNamedRefusal why → refusal_of (refusal_words why) ≡ Some why
+refusal-back : (why : Refusal) → IsNamedRefusal why → refusal_of_words (refusal_words why) ≡ Some why
 refusal-back unknown_recipe h = refl
 refusal-back unknown_batch h = refl
 refusal-back (command_not_accepted s) h = ap (because command_not_accepted) (state-read s)
@@ -71,14 +71,14 @@ refusal-back bad_binding h = refl
 
 -- no command is `report` or `remove`
 order-back : (c : Command) (n : ℕ) (s : State) → IsShort n → out_of_words (codes "ok" ∷ command_text c ∷ decimal n ∷ state_text s ∷ []) ≡ Some (reply (ordered c n s))
-order-back Command.Start n s h = ap (option_map (obeyed Command.Start)) (batch-back n s h)
-order-back Command.Pause n s h = ap (option_map (obeyed Command.Pause)) (batch-back n s h)
-order-back Command.Resume n s h = ap (option_map (obeyed Command.Resume)) (batch-back n s h)
-order-back Command.Hold n s h = ap (option_map (obeyed Command.Hold)) (batch-back n s h)
-order-back Command.Restart n s h = ap (option_map (obeyed Command.Restart)) (batch-back n s h)
-order-back Command.Stop n s h = ap (option_map (obeyed Command.Stop)) (batch-back n s h)
-order-back Command.Abort n s h = ap (option_map (obeyed Command.Abort)) (batch-back n s h)
-order-back Command.Reset n s h = ap (option_map (obeyed Command.Reset)) (batch-back n s h)
+order-back Command.Start n s h = ap (option_map (order_out Command.Start)) (batch-back n s h)
+order-back Command.Pause n s h = ap (option_map (order_out Command.Pause)) (batch-back n s h)
+order-back Command.Resume n s h = ap (option_map (order_out Command.Resume)) (batch-back n s h)
+order-back Command.Hold n s h = ap (option_map (order_out Command.Hold)) (batch-back n s h)
+order-back Command.Restart n s h = ap (option_map (order_out Command.Restart)) (batch-back n s h)
+order-back Command.Stop n s h = ap (option_map (order_out Command.Stop)) (batch-back n s h)
+order-back Command.Abort n s h = ap (option_map (order_out Command.Abort)) (batch-back n s h)
+order-back Command.Reset n s h = ap (option_map (order_out Command.Reset)) (batch-back n s h)
 
 reply-back : (r : Reply) → IsNamedReply r → out_of_words (reply_words r) ≡ Some (reply r)
 reply-back (created n recipe size roles) (short, named, size_short, are_roles) =
@@ -98,7 +98,7 @@ reply-back (reported unit phase word n p s) h =
     let (plain, number) = read-again n h.act.batch_short in
     let (placed, place) = place-read p h.act.placed in
     ap (option_map report_out)
-    (ap (λ r. report_with unit phase (decimal n) (place_text p) r (state_of (state_text s))) (report-read word)
+    (ap (λ r. report_with unit phase (decimal n) (place_text p) r (state_of_word (state_text s))) (report-read word)
     ∙ ap (λ r. report_with unit phase (decimal n) (place_text p) (Some word) r) (state-read s)
     ∙ taken _ _ _ (and_from _ _ (and_from _ _ (name-test unit h.phase.unit_named) (name-test phase h.phase.phase_named)) (and_from _ _ plain placed))
     (ap (λ m. record { unit = unit; phase = phase; word = word; batch = m; place = numbers_of (place_text p); becomes = s }) number
@@ -107,31 +107,31 @@ reply-back (refused why) h = ap (option_map refused_out) (refusal-back why h)
 
 move-back : (m : Move) → IsNamedMove m → out_of_words (move_words m) ≡ Some (as_told (move m))
 move-back (send n p phase c) h =
-    ap (option_map sent)
+    ap (option_map send_out)
     (ap (λ r. sent_with r (command_of (command_text c))) (phase-back n p phase.unit phase.name h) ∙ ap (sent_with (Some (record { batch = n; place = p; unit = phase.unit; name = phase.name }))) (command-read c))
-move-back (state n s) h = ap (option_map stated) (batch-back n s h)
-move-back (release n p need) h = ap (option_map released) (claim-back n p need h)
+move-back (state n s) h = ap (option_map state_out) (batch-back n s h)
+move-back (release n p need) h = ap (option_map release_out) (claim-back n p need h)
 move-back (begin n p name) (act, named) =
     let (plain, number) = read-again n act.batch_short in
     let (placed, place) = place-read p act.placed in
-    ap (option_map begun) (taken _ _ _ (and_from _ _ (and_from _ _ plain placed) (name-test name named)) (ap (λ m. (m, numbers_of (place_text p), name)) number ∙ ap (λ q. (n, q, name)) place))
+    ap (option_map begin_out) (taken _ _ _ (and_from _ _ (and_from _ _ plain placed) (name-test name named)) (ap (λ m. (m, numbers_of (place_text p), name)) number ∙ ap (λ q. (n, q, name)) place))
 move-back (start n p phase values) (h, are) =
     let (all, back) = values-read values are in
     let told : PhaseTold = record { batch = n; place = p; unit = phase.unit; name = phase.name } in
-    ap (option_map started)
+    ap (option_map start_out)
     (ap (started_with (value_texts values)) (phase-back n p phase.unit phase.name h)
     ∙ taken _ _ _ all (ap (λ vs. (told, vs)) back))
 move-back (end n p) act =
     let (plain, number) = read-again n act.batch_short in
     let (placed, place) = place-read p act.placed in
-    ap (option_map ended) (taken _ _ _ (and_from _ _ plain placed) (ap (λ m. (m, numbers_of (place_text p))) number ∙ ap (λ q. (n, q)) place))
+    ap (option_map end_out) (taken _ _ _ (and_from _ _ plain placed) (ap (λ m. (m, numbers_of (place_text p))) number ∙ ap (λ q. (n, q)) place))
 move-back (pass n p to need) (h, placed) =
     let (plain, place) = place-read to placed in
     let told : ClaimTold = record { batch = n; place = p; need = need } in
-    ap (option_map passed)
+    ap (option_map pass_out)
     (ap (passed_with (place_text to)) (claim-back n p need h) ∙ taken _ _ _ plain (ap (λ q. (told, q)) place))
-move-back (ask n p need) h = ap (option_map asked) (claim-back n p need h)
-move-back (grant n p need) h = ap (option_map granted) (claim-back n p need h)
+move-back (ask n p need) h = ap (option_map ask_out) (claim-back n p need h)
+move-back (grant n p need) h = ap (option_map grant_out) (claim-back n p need h)
 
 pub words-back : (out : Out) → IsNamed out → out_of_words (out_words out) ≡ Some (as_told out)
 words-back (reply r) h = reply-back r h
@@ -234,7 +234,7 @@ line-back line out named text =
     ap out_of_words (ap line_words is ∙ apart (out_words out) (some-words out) (no_space out named)) ∙ words-back out named
 
 -- and a line from which an out is read tells that out
-pub line-tells : (line : List ℕ) (out : Out) → out_of_line line ≡ Some out → Tells line out
+pub line-tells : (line : List ℕ) (out : Out) → out_of_line line ≡ Some out → TellsOut line out
 line-tells line out e =
     let h = words-tell (line_words line) out e in
     record {

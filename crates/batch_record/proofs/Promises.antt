@@ -15,9 +15,9 @@ use Rattle.batch_record.specs.Laws.{IsLineOf, is_passed_over}
 use Rattle.batch_record.specs.Naming.{IsNamed, as_told}
 use Rattle.batch_record.specs.RecordLine.{out_of_line}
 use Rattle.batch_record.proofs.LivePhases.{appended, filtered}
-use Rattle.batch_record.specs.Blocks.{Stage, marked, mark_of, stage_after, stages, told}
+use Rattle.batch_record.specs.Blocks.{Stage, stage_marked, mark_of, stage_after, stages, stage_told}
 use Rattle.batch_record.specs.Promises.{AreLinesOf, IsAsModelled, LinesTellTheirOuts, SaysNothing, place_of_active, place_of_live}
-use Rattle.batch_record.specs.Telling.{Tale, Listed, Live, in_state, is_at, led_by, listed_after, live_after, moved_at, said_by, silence, tale_after}
+use Rattle.batch_record.specs.Telling.{Tale, Listed, Live, in_state, is_at, led_by, listed_after, live_after, moved_at, said_by, empty_tale, tale_after}
 
 abbrev whole_tale : Tale → Stage
 whole_tale tale = record { tale = tale; block = None }
@@ -42,14 +42,14 @@ module _ (line : List ℕ) (out : Out) (named : IsNamed out) (text : IsLineOf ou
 
   out-taken : (tale : Tale) → stage_after (whole_tale tale) line ≡ Some (whole_tale (tale_after tale out))
   out-taken tale =
-      ap (λ b. elim b [ true ↦ Some (marked (whole_tale tale) (mark_of line)) | false ↦ option_map (told (whole_tale tale)) (out_of_line line) ]) (passed-by (is_passed_over line) refl)
-      ∙ ap (option_map (told (whole_tale tale))) (line-back line out named text)
+      ap (λ b. elim b [ true ↦ Some (stage_marked (whole_tale tale) (mark_of line)) | false ↦ option_map (stage_told (whole_tale tale)) (out_of_line line) ]) (passed-by (is_passed_over line) refl)
+      ∙ ap (option_map (stage_told (whole_tale tale))) (line-back line out named text)
       ∙ ap (λ t. Some (whole_tale t)) (seen tale out)
 
 nothing-said : (line : List ℕ) (tale : Tale) → SaysNothing line → stage_after (whole_tale tale) line ≡ Some (whole_tale tale)
 nothing-said line tale h =
-    ap (λ b. elim b [ true ↦ Some (marked (whole_tale tale) (mark_of line)) | false ↦ option_map (told (whole_tale tale)) (out_of_line line) ]) h.0
-    ∙ ap (λ mark. Some (marked (whole_tale tale) mark)) h.1
+    ap (λ b. elim b [ true ↦ Some (stage_marked (whole_tale tale) (mark_of line)) | false ↦ option_map (stage_told (whole_tale tale)) (out_of_line line) ]) h.0
+    ∙ ap (λ mark. Some (stage_marked (whole_tale tale) mark)) h.1
 
 goes-on : (stage next : Stage) (line : List ℕ) (lines : List (List ℕ)) → stage_after stage line ≡ Some next → stages stage (line ∷ lines) ≡ stages next lines
 goes-on stage next line lines e = ap (λ o. elim o [ None ↦ None | Some mid ↦ stages mid lines ]) e
@@ -63,7 +63,7 @@ lines-tell tale outs (line ∷ lines) (inr (out, others, is, named, text, rest))
     ∙ ap (λ xs. Some (whole_tale (fold tale_after tale xs))) (sym is)
 
 pub lines-tell-their-outs : LinesTellTheirOuts
-lines-tell-their-outs outs lines h = lines-tell silence outs lines h
+lines-tell-their-outs outs lines h = lines-tell empty_tale outs lines h
 
 -- The state is that in the definitions of a safe record
 
@@ -182,8 +182,8 @@ agreed o now l e h = subst (λ x. Agrees x now) e h
 
 pub as-modelled : (outs : List Out) → IsAsModelled outs
 as-modelled outs = record {
-  holders = λ r. holders-of r silence outs;
-  waiters = λ r. waiters-of r silence outs;
-  live = ap (map place_of_live) (live-of silence outs) ∙ alike live_after active_after (map place_of_live) (map place_of_active) live-step [] [] outs refl;
-  states = λ n l e. agreed (fold (listed_after n) None outs) _ l (sym (batches-of n silence outs) ∙ e) (states-agree n None None outs tt);
+  holders = λ r. holders-of r empty_tale outs;
+  waiters = λ r. waiters-of r empty_tale outs;
+  live = ap (map place_of_live) (live-of empty_tale outs) ∙ alike live_after active_after (map place_of_live) (map place_of_active) live-step [] [] outs refl;
+  states = λ n l e. agreed (fold (listed_after n) None outs) _ l (sym (batches-of n empty_tale outs) ∙ e) (states-agree n None None outs tt);
 }

@@ -13,8 +13,8 @@ use Rattle.batch_recipe.specs.Conditions.{Name, same_name}
 use Rattle.batch_model.specs.Plant.{BatchAct, is_same_act}
 use Rattle.batch_model.specs.Rest.{same_place}
 use Rattle.batch_record.proofs.LivePhases.{filtered}
-use Rattle.batch_record.specs.Kept.{claim_of, share_of, shares_of, live_of, lives_of}
-use Rattle.batch_record.specs.Listing.{Claim, act_cmp, holder_cmp, waiter_cmp, live_cmp, name_cmp, of_act, on_unit}
+use Rattle.batch_record.specs.Kept.{kept_claim, kept_share, shares_kept, kept_live, lives_of}
+use Rattle.batch_record.specs.Listing.{ResourceShare, act_cmp, holder_cmp, waiter_cmp, live_cmp, name_cmp, of_act, on_unit}
 use Rattle.batch_record.specs.Telling.{Live}
 use Rattle.batch_record.specs.declared.live.LivePhase.{LivePhase}
 use Rattle.batch_record.specs.declared.standing.Kept.{Kept}
@@ -73,10 +73,10 @@ act_total : IsTotalOrder act_cmp
 act_total = then_total (on_total (λ (act : BatchAct). act.0) nat_cmp_total) (on_total (λ (act : BatchAct). act.1) nat_list_cmp_total)
 
 pub holder_total : IsTotalOrder holder_cmp
-holder_total = then_total (on_total (λ (claim : Claim). claim.0) nat_list_cmp_total) (on_total (λ (claim : Claim). claim.1.act) act_total)
+holder_total = then_total (on_total (λ (claim : ResourceShare). claim.0) nat_list_cmp_total) (on_total (λ (claim : ResourceShare). claim.1.act) act_total)
 
 pub waiter_total : IsTotalOrder waiter_cmp
-waiter_total = on_total (λ (claim : Claim). claim.0) nat_list_cmp_total
+waiter_total = on_total (λ (claim : ResourceShare). claim.0) nat_list_cmp_total
 
 pub live_total : IsTotalOrder live_cmp
 live_total = then_total (on_total (λ (live : Live). live.unit) nat_list_cmp_total) (on_total (λ (live : Live). live.name) nat_list_cmp_total)
@@ -89,40 +89,40 @@ same-act act other =
 
 -- The shares at a resource, and of an act, before and after
 
-pub at-resource : (xs ys : List Kept) → IsStableBy (is_before claim_of waiter_cmp) xs ys → (resource : Name) → shares_of resource ys ≡ shares_of resource xs
+pub at-resource : (xs ys : List Kept) → IsStableBy (is_before kept_claim waiter_cmp) xs ys → (resource : Name) → shares_kept resource ys ≡ shares_kept resource xs
 at-resource xs ys h resource =
-    ap (map share_of) (found-again claim_of waiter_cmp waiter_total xs ys h (record { resource = resource; batch = 0; place = []; units = 0 }) (λ k. same_name resource k.resource) (λ k. texts_ties resource k.resource))
+    ap (map kept_share) (found-again kept_claim waiter_cmp waiter_total xs ys h (record { resource = resource; batch = 0; place = []; units = 0 }) (λ k. same_name resource k.resource) (λ k. texts_ties resource k.resource))
 
 of-act : (resource : Name) (act : BatchAct) (xs : List Kept)
-    → of_act act (shares_of resource xs) ≡ map share_of (filter (λ k. same_name resource k.resource && is_same_act act (k.batch, k.place)) xs)
+    → of_act act (shares_kept resource xs) ≡ map kept_share (filter (λ k. same_name resource k.resource && is_same_act act (k.batch, k.place)) xs)
 of-act resource act xs =
-    sym (filtered share_of (λ k. is_same_act act (k.batch, k.place)) (λ share. is_same_act act share.act) (λ k. refl) (filter (λ k. same_name resource k.resource) xs))
-    ∙ ap (map share_of) (both-filter (λ k. same_name resource k.resource) (λ k. is_same_act act (k.batch, k.place)) xs)
+    sym (filtered kept_share (λ k. is_same_act act (k.batch, k.place)) (λ share. is_same_act act share.act) (λ k. refl) (filter (λ k. same_name resource k.resource) xs))
+    ∙ ap (map kept_share) (both-filter (λ k. same_name resource k.resource) (λ k. is_same_act act (k.batch, k.place)) xs)
 
-pub at-act : (xs ys : List Kept) → IsStableBy (is_before claim_of holder_cmp) xs ys → (resource : Name) (act : BatchAct)
-    → of_act act (shares_of resource ys) ≡ of_act act (shares_of resource xs)
+pub at-act : (xs ys : List Kept) → IsStableBy (is_before kept_claim holder_cmp) xs ys → (resource : Name) (act : BatchAct)
+    → of_act act (shares_kept resource ys) ≡ of_act act (shares_kept resource xs)
 at-act xs ys h resource act =
     of-act resource act ys
-    ∙ ap (map share_of) (found-again claim_of holder_cmp holder_total xs ys h (record { resource = resource; batch = act.0; place = act.1; units = 0 })
+    ∙ ap (map kept_share) (found-again kept_claim holder_cmp holder_total xs ys h (record { resource = resource; batch = act.0; place = act.1; units = 0 })
     (λ k. same_name resource k.resource && is_same_act act (k.batch, k.place))
     (λ k. ap (λ b. b && is_same_act act (k.batch, k.place)) (texts_ties resource k.resource)
     ∙ ap (λ b. is_eq (name_cmp resource k.resource) && b) (same-act act (k.batch, k.place))
     ∙ tied_then (name_cmp resource k.resource) (act_cmp act (k.batch, k.place))))
     ∙ sym (of-act resource act xs)
 
-pub on-unit : (xs ys : List LivePhase) → IsStableBy (is_before live_of live_cmp) xs ys → (unit name : Name) → on_unit unit name (lives_of ys) ≡ on_unit unit name (lives_of xs)
+pub on-unit : (xs ys : List LivePhase) → IsStableBy (is_before kept_live live_cmp) xs ys → (unit name : Name) → on_unit unit name (lives_of ys) ≡ on_unit unit name (lives_of xs)
 on-unit xs ys h unit name =
-    sym (filtered live_of (λ live. same_name unit live.unit && same_name name live.phase) (λ live. same_name unit live.unit && same_name name live.name) (λ live. refl) ys)
-    ∙ ap lives_of (found-again live_of live_cmp live_total xs ys h (record { batch = 0; place = []; unit = unit; phase = name; state = Idle })
+    sym (filtered kept_live (λ live. same_name unit live.unit && same_name name live.phase) (λ live. same_name unit live.unit && same_name name live.name) (λ live. refl) ys)
+    ∙ ap lives_of (found-again kept_live live_cmp live_total xs ys h (record { batch = 0; place = []; unit = unit; phase = name; state = Idle })
     (λ live. same_name unit live.unit && same_name name live.phase)
     (λ live. ap (λ b. b && same_name name live.phase) (texts_ties unit live.unit)
     ∙ ap (λ b. is_eq (name_cmp unit live.unit) && b) (texts_ties name live.phase)
     ∙ tied_then (name_cmp unit live.unit) (name_cmp name live.phase)))
-    ∙ filtered live_of (λ live. same_name unit live.unit && same_name name live.phase) (λ live. same_name unit live.unit && same_name name live.name) (λ live. refl) xs
+    ∙ filtered kept_live (λ live. same_name unit live.unit && same_name name live.phase) (λ live. same_name unit live.unit && same_name name live.name) (λ live. refl) xs
 
 -- A sort that compares so
 
-pub kept-back : Claim → Kept
+pub kept-back : ResourceShare → Kept
 kept-back claim = record { resource = claim.0; batch = claim.1.act.0; place = claim.1.act.1; units = claim.1.units }
 
 pub live-back : Live → LivePhase

@@ -18,7 +18,7 @@ use Rattle.batch_recipe.specs.declared.need.Need.{Need}
 use Rattle.batch_wire.specs.EventLine.{command_of, word_of_report, is_equals, pair_of, is_role_pair, role_pair_of}
 use Rattle.batch_wire.specs.RecordText.{state_text, command_text, report_text, need_text, value_text, value_texts, role_text, role_texts}
 use Rattle.batch_record.specs.Naming.{IsShort, IsNeed, IsValue, IsRole}
-use Rattle.batch_record.specs.RecordLine.{is_star, is_plain_number, is_plain_units, is_plain_value, is_starred, need_of, one_of, starred_of, state_of}
+use Rattle.batch_record.specs.RecordLine.{is_star, is_plain_number, is_plain_units, is_plain_value, is_starred, need_of_word, one_of, starred_of, state_of_word}
 use Rattle.batch_record.proofs.AbsentBytes.{lacks, lacks-append, before-joined, after-joined, joined-again, name-no_space, name-no_star, name-no_equals, starred-no_name}
 use Rattle.batch_record.proofs.Numerals.{written-again, read-again, decimal-no_space, plain-some}
 
@@ -56,7 +56,7 @@ module _ {S : Type 0} (text_of : S → List ℕ) (word : List ℕ) where
   none : Reads None
   none s e = nothing (λ t. text_of t ≡ word) s e
 
-pub state-written : (word : List ℕ) (s : State) → state_of word ≡ Some s → state_text s ≡ word
+pub state-written : (word : List ℕ) (s : State) → state_of_word word ≡ Some s → state_text s ≡ word
 state-written word =
     let R = one state_text word in
     R State.Idle _ (R State.Running _ (R State.Pausing _ (R State.Paused _ (R State.Holding _ (R State.Held _ (R State.Restarting _ (R State.Stopping _ (R State.Stopped _ (R State.Aborting _ (R State.Aborted _ (R State.Complete _ (none state_text word))))))))))))
@@ -71,7 +71,7 @@ report-written word =
     let R = one report_text word in
     R Report.Done _ (R Report.Paused _ (R Report.Held _ (R Report.Running _ (R Report.Stopped _ (R Report.Aborted _ (R Report.Fault _ (none report_text word)))))))
 
-pub state-read : (s : State) → state_of (state_text s) ≡ Some s
+pub state-read : (s : State) → state_of_word (state_text s) ≡ Some s
 state-read State.Idle = refl
 state-read State.Running = refl
 state-read State.Pausing = refl
@@ -176,7 +176,7 @@ starred-is word e =
           ∙ joined-again 42 word some;
     }
 
-pub need-written : (word : List ℕ) (need : Need) → need_of word ≡ Some need → NeedIs word need
+pub need-written : (word : List ℕ) (need : Need) → need_of_word word ≡ Some need → NeedIs word need
 need-written word =
     chosen (λ r. (need : Need) → r ≡ Some need → NeedIs word need) (is_name word) (Some (one_of word)) _
     (λ e need at. subst (NeedIs word) (same (one_of word) need at) (record { need_named = record { named = name-is word e; some = omega arith; few = omega arith }; text = refl }))
@@ -187,10 +187,10 @@ need-written word =
 need-one : (need : Need) → need.units ≡ 1 → one_of need.resource ≡ need
 need-one need e = ap (λ n. record { resource = need.resource; units = n }) (sym e)
 
-need-read-by : (need : Need) → IsNeed need → (b : Bool) → nat_lt 1 need.units ≡ b → need_of (need_text need) ≡ Some need
+need-read-by : (need : Need) → IsNeed need → (b : Bool) → nat_lt 1 need.units ≡ b → need_of_word (need_text need) ≡ Some need
 need-read-by need h false e =
     let one_unit : need.units ≡ 1 = let s = h.some in grind (arith, nat_tests) in
-    ap need_of (text-of_one need e)
+    ap need_of_word (text-of_one need e)
     ∙ ap (λ b. if b then Some (one_of need.resource) else (if is_starred need.resource then Some (starred_of need.resource) else None)) (name-test need.resource h.named)
     ∙ ap Some (need-one need one_unit)
 need-read-by need h true e =
@@ -202,13 +202,13 @@ need-read-by need h true e =
     let in_range : is_plain_units (decimal need.units) ≡ true = and_from _ _ plain (rw back (and_from _ _ e (le-leb need.units 4294967295 h.few))) in
     let starred : is_starred word ≡ true =
     and_from _ _ (ap is_name front ∙ name-test need.resource h.named) (ap is_plain_units behind ∙ in_range) in
-    ap need_of (text-of_more need e)
+    ap need_of_word (text-of_more need e)
     ∙ ap (λ b. if b then Some (one_of word) else (if is_starred word then Some (starred_of word) else None)) (starred-no_name need.resource (decimal need.units))
     ∙ ap (λ b. if b then Some (starred_of word) else None) starred
     ∙ ap (λ name. Some (record { resource = name; units = number_of (after_first is_star word) })) front
     ∙ ap (λ units. Some (record { resource = need.resource; units = units })) (ap number_of behind ∙ back)
 
-pub need-read : (need : Need) → IsNeed need → need_of (need_text need) ≡ Some need
+pub need-read : (need : Need) → IsNeed need → need_of_word (need_text need) ≡ Some need
 need-read need h = need-read-by need h (nat_lt 1 need.units) refl
 
 no_space-by : (need : Need) → IsNeed need → (b : Bool) → nat_lt 1 need.units ≡ b → lacks 32 (need_text need) ≡ true

@@ -19,7 +19,7 @@ use Rattle.batch_model.specs.Events.{Refusal, unknown_recipe, unknown_batch, com
 use Rattle.batch_wire.specs.EventLine.{command_of, word_of_report, is_role_pair}
 use Rattle.batch_wire.specs.RecordText.{state_text, command_text, report_text, need_text, value_texts, role_texts, refusal_words, out_words}
 use Rattle.batch_record.specs.Naming.{IsShort, IsAct, IsClaim, IsPhaseStep, IsNamed, IsNamedRefusal, as_told}
-use Rattle.batch_record.specs.RecordLine.{is_plain_number, is_plain_place, is_plain_value, need_of, state_of, claim_with, claim_of, ClaimTold, passed_with, passed_of, batch_with, batch_of, removed_of, ReportTold, report_with, report_told_of, PhaseTold, phase_with, sent_with, sent_of, started_with, started_of, begun_of, ended_of, CreatedTold, created_of, because, formula_of, left_out_of, state_alone, code_alone, refusal_of, asked, granted, released, passed, stated, obeyed, report_out, sent, started, begun, ended, created_out, refused_out, order_of, ok_of, other_of, out_of_words}
+use Rattle.batch_record.specs.RecordLine.{is_plain_number, is_plain_place, is_plain_value, need_of_word, state_of_word, claim_with, claim_told_of, ClaimTold, passed_with, passed_of, batch_state_with, batch_state_of, removed_of, ReportTold, report_with, report_told_of, PhaseTold, phase_with, sent_with, sent_of, started_with, started_of, begun_of, ended_of, CreatedTold, created_of, because, formula_refusal_of, left_out_of, state_alone, code_alone, refusal_of_words, ask_out, grant_out, release_out, pass_out, state_out, order_out, report_out, send_out, start_out, begin_out, end_out, created_out, refused_out, order_of_words, ok_of, other_of, out_of_words}
 use Rattle.batch_record.proofs.Numerals.{written-again}
 use Rattle.batch_record.proofs.Places.{place-written, place-is}
 use Rattle.batch_record.proofs.WordRoundTrips.{chosen, nothing, same, tested, is_word, state-written, command-written, report-written, name-is, need-written, NeedIs, values-written, roles-written}
@@ -45,16 +45,16 @@ claim_with-is batch place word (Some need) h c e =
     let text : need_text need ≡ word = three.text in
     subst (ClaimIs (batch ∷ place ∷ word ∷ [])) is (record { is = record { act = act-is batch place n p; need_named = three.need_named }; text = cc })
 
-claim-is : (words : List (List ℕ)) (c : ClaimTold) → claim_of words ≡ Some c → ClaimIs words c
+claim-is : (words : List (List ℕ)) (c : ClaimTold) → claim_told_of words ≡ Some c → ClaimIs words c
 claim-is [] c e = nothing (ClaimIs []) c e
 claim-is (a ∷ []) c e = nothing (ClaimIs (a ∷ [])) c e
 claim-is (a ∷ b ∷ []) c e = nothing (ClaimIs (a ∷ b ∷ [])) c e
-claim-is (batch ∷ place ∷ need ∷ []) c e = claim_with-is batch place need (need_of need) (need-written need) c e
+claim-is (batch ∷ place ∷ need ∷ []) c e = claim_with-is batch place need (need_of_word need) (need-written need) c e
 claim-is (a ∷ b ∷ d ∷ f ∷ more) c e = nothing (ClaimIs (a ∷ b ∷ d ∷ f ∷ more)) c e
 
 -- the same, and the place that follows the first
 record PassedIs (words : List (List ℕ)) (t : ClaimTold × Place) : Type 0 where
-  is : IsNamed (passed t)
+  is : IsNamed (pass_out t)
   text : decimal t.0.batch ∷ place_text t.0.place ∷ place_text t.1 ∷ need_text t.0.need ∷ [] ≡ words
 
 passed_with-is : (batch place to word : List ℕ) (r : Option ClaimTold) → ((c : ClaimTold) → r ≡ Some c → ClaimIs (batch ∷ place ∷ word ∷ []) c) → (t : ClaimTold × Place)
@@ -73,7 +73,7 @@ passed-is (a ∷ []) t e = nothing (PassedIs (a ∷ [])) t e
 passed-is (a ∷ b ∷ []) t e = nothing (PassedIs (a ∷ b ∷ [])) t e
 passed-is (a ∷ b ∷ d ∷ []) t e = nothing (PassedIs (a ∷ b ∷ d ∷ [])) t e
 passed-is (batch ∷ place ∷ to ∷ need ∷ []) t e =
-    passed_with-is batch place to need (claim_with batch place (need_of need)) (claim_with-is batch place need (need_of need) (need-written need)) t e
+    passed_with-is batch place to need (claim_with batch place (need_of_word need)) (claim_with-is batch place need (need_of_word need) (need-written need)) t e
 passed-is (a ∷ b ∷ d ∷ f ∷ g ∷ more) t e = nothing (PassedIs (a ∷ b ∷ d ∷ f ∷ g ∷ more)) t e
 
 -- A batch and its state
@@ -81,7 +81,7 @@ passed-is (a ∷ b ∷ d ∷ f ∷ g ∷ more) t e = nothing (PassedIs (a ∷ b 
 abbrev BatchIs : List (List ℕ) → ℕ × State → Type 0
 BatchIs words b = IsShort b.0 × (decimal b.0 ∷ state_text b.1 ∷ [] ≡ words)
 
-batch_with-is : (batch word : List ℕ) (r : Option State) → ((s : State) → r ≡ Some s → state_text s ≡ word) → (b : ℕ × State) → batch_with batch r ≡ Some b → BatchIs (batch ∷ word ∷ []) b
+batch_with-is : (batch word : List ℕ) (r : Option State) → ((s : State) → r ≡ Some s → state_text s ≡ word) → (b : ℕ × State) → batch_state_with batch r ≡ Some b → BatchIs (batch ∷ word ∷ []) b
 batch_with-is batch word None h b e = nothing (BatchIs (batch ∷ word ∷ [])) b e
 batch_with-is batch word (Some s) h b e =
     let (n, is) = tested (is_plain_number batch) _ b e in
@@ -89,10 +89,10 @@ batch_with-is batch word (Some s) h b e =
     let two = h s refl in
     subst (BatchIs (batch ∷ word ∷ [])) is (short, cc)
 
-batch-is : (words : List (List ℕ)) (b : ℕ × State) → batch_of words ≡ Some b → BatchIs words b
+batch-is : (words : List (List ℕ)) (b : ℕ × State) → batch_state_of words ≡ Some b → BatchIs words b
 batch-is [] b e = nothing (BatchIs []) b e
 batch-is (a ∷ []) b e = nothing (BatchIs (a ∷ [])) b e
-batch-is (batch ∷ becomes ∷ []) b e = batch_with-is batch becomes (state_of becomes) (state-written becomes) b e
+batch-is (batch ∷ becomes ∷ []) b e = batch_with-is batch becomes (state_of_word becomes) (state-written becomes) b e
 batch-is (a ∷ c ∷ d ∷ more) b e = nothing (BatchIs (a ∷ c ∷ d ∷ more)) b e
 
 abbrev RemovedIs : List (List ℕ) → ℕ → Type 0
@@ -140,7 +140,7 @@ report-is (a ∷ b ∷ c ∷ []) t e = nothing (ReportIs (a ∷ b ∷ c ∷ []))
 report-is (a ∷ b ∷ c ∷ d ∷ []) t e = nothing (ReportIs (a ∷ b ∷ c ∷ d ∷ [])) t e
 report-is (a ∷ b ∷ c ∷ d ∷ f ∷ []) t e = nothing (ReportIs (a ∷ b ∷ c ∷ d ∷ f ∷ [])) t e
 report-is (unit ∷ phase ∷ word ∷ batch ∷ place ∷ becomes ∷ []) t e =
-    report_with-is unit phase word batch place becomes (word_of_report word) (state_of becomes) (report-written word) (state-written becomes) t e
+    report_with-is unit phase word batch place becomes (word_of_report word) (state_of_word becomes) (report-written word) (state-written becomes) t e
 report-is (a ∷ b ∷ c ∷ d ∷ f ∷ g ∷ h ∷ more) t e = nothing (ReportIs (a ∷ b ∷ c ∷ d ∷ f ∷ g ∷ h ∷ more)) t e
 
 -- Phases
@@ -196,7 +196,7 @@ sent-is (batch ∷ place ∷ unit ∷ name ∷ word ∷ []) t e =
 sent-is (a ∷ b ∷ c ∷ d ∷ f ∷ g ∷ more) t e = nothing (SentIs (a ∷ b ∷ c ∷ d ∷ f ∷ g ∷ more)) t e
 
 record StartedIs (words : List (List ℕ)) (t : PhaseTold × ValueList) : Type 0 where
-  is : IsNamed (started t)
+  is : IsNamed (start_out t)
   text : decimal t.0.batch ∷ place_text t.0.place ∷ t.0.unit ∷ t.0.name ∷ value_texts t.1 ≡ words
 
 started_with-is : (batch place unit name : List ℕ) (values : List (List ℕ)) (r : Option PhaseTold) → ((x : PhaseTold) → r ≡ Some x → PhaseIs batch place unit name x)
@@ -223,7 +223,7 @@ started-is (batch ∷ place ∷ unit ∷ name ∷ values) t e =
 -- Acts
 
 record BegunIs (words : List (List ℕ)) (t : ℕ × Place × List ℕ) : Type 0 where
-  is : IsNamed (begun t)
+  is : IsNamed (begin_out t)
   text : decimal t.0 ∷ place_text t.1 ∷ t.2 ∷ [] ≡ words
 
 begun-is : (words : List (List ℕ)) (t : ℕ × Place × List ℕ) → begun_of words ≡ Some t → BegunIs words t
@@ -240,7 +240,7 @@ begun-is (batch ∷ place ∷ name ∷ []) t e =
 begun-is (a ∷ b ∷ c ∷ d ∷ more) t e = nothing (BegunIs (a ∷ b ∷ c ∷ d ∷ more)) t e
 
 record EndedIs (words : List (List ℕ)) (t : ℕ × Place) : Type 0 where
-  is : IsNamed (ended t)
+  is : IsNamed (end_out t)
   text : decimal t.0 ∷ place_text t.1 ∷ [] ≡ words
 
 ended-is : (words : List (List ℕ)) (t : ℕ × Place) → ended_of words ≡ Some t → EndedIs words t
@@ -307,7 +307,7 @@ because-is word words why h None k other e = nothing (RefusalIs (word ∷ words)
 because-is word words why h (Some s) k other e =
     subst (RefusalIs (word ∷ words)) (same (why s) other e) (record { is = (h s).0; text = (h s).1 ∙ ap (λ ws. word ∷ ws) (k s refl) })
 
-formula-is : (words : List (List ℕ)) → ReadsRefusal (codes "E7" ∷ words) (formula_of words)
+formula-is : (words : List (List ℕ)) → ReadsRefusal (codes "E7" ∷ words) (formula_refusal_of words)
 formula-is [] why e = nothing (RefusalIs (codes "E7" ∷ [])) why e
 formula-is (cause ∷ []) why e =
     let (first, is) = tested (bytes_eq cause (codes "F1")) _ why e in
@@ -332,7 +332,7 @@ coded code word words r rest h others =
     (λ e. subst (λ w. ReadsRefusal (w ∷ words) r) (sym (is_word code word e)) h)
     (λ _. others)
 
-refusal-is : (words : List (List ℕ)) → ReadsRefusal words (refusal_of words)
+refusal-is : (words : List (List ℕ)) → ReadsRefusal words (refusal_of_words words)
 refusal-is [] = λ why e. nothing (RefusalIs []) why e
 refusal-is (code ∷ []) = alone-is code
 refusal-is (code ∷ word ∷ others) =
@@ -367,15 +367,15 @@ kind into first word words r rest h others =
 
 claim-kind : (word : List ℕ) (words : List (List ℕ)) (f : ClaimTold → Out) → ((c : ClaimTold) → IsClaim c.batch c.place c.need → IsNamed (f c))
     → ((c : ClaimTold) → out_words (f c) ≡ word ∷ decimal c.batch ∷ place_text c.place ∷ need_text c.need ∷ []) → ((c : ClaimTold) → as_told (f c) ≡ f c)
-    → Sound (word ∷ words) (option_map f (claim_of words))
+    → Sound (word ∷ words) (option_map f (claim_told_of words))
 claim-kind word words f named text whole =
-    mapped (word ∷ words) f (claim_of words)
+    mapped (word ∷ words) f (claim_told_of words)
     (λ c e. let is = claim-is words c e in record { named = named c is.is; text = text c ∙ ap (λ ws. word ∷ ws) is.text; whole = whole c })
 
-order-is : (first : List ℕ) (words : List (List ℕ)) (r : Option Command) → ((c : Command) → r ≡ Some c → command_text c ≡ first) → Sound (codes "ok" ∷ first ∷ words) (order_of r words)
+order-is : (first : List ℕ) (words : List (List ℕ)) (r : Option Command) → ((c : Command) → r ≡ Some c → command_text c ≡ first) → Sound (codes "ok" ∷ first ∷ words) (order_of_words r words)
 order-is first words None h = λ out e. nothing (TellsWords (codes "ok" ∷ first ∷ words)) out e
 order-is first words (Some c) h =
-    mapped (codes "ok" ∷ first ∷ words) (obeyed c) (batch_of words)
+    mapped (codes "ok" ∷ first ∷ words) (order_out c) (batch_state_of words)
     (λ b e. let is = batch-is words b e in record { named = is.0; text = ap (λ ws. codes "ok" ∷ command_text c ∷ ws) (is.1) ∙ ap (λ w. codes "ok" ∷ w ∷ words) (h c refl); whole = refl })
 
 ok-is : (words : List (List ℕ)) → Sound (codes "ok" ∷ words) (ok_of words)
@@ -394,29 +394,29 @@ other-is : (first : List ℕ) (words : List (List ℕ)) → Sound (first ∷ wor
 other-is first words =
     let into = λ (ws : List (List ℕ)). ws in
     kind into first (codes "begin") words _ _
-    (mapped (codes "begin" ∷ words) begun (begun_of words) (λ t e. let is = begun-is words t e in record { named = is.is; text = ap (λ ws. codes "begin" ∷ ws) is.text; whole = refl }))
+    (mapped (codes "begin" ∷ words) begin_out (begun_of words) (λ t e. let is = begun-is words t e in record { named = is.is; text = ap (λ ws. codes "begin" ∷ ws) is.text; whole = refl }))
     (kind into first (codes "end") words _ _
-    (mapped (codes "end" ∷ words) ended (ended_of words) (λ t e. let is = ended-is words t e in record { named = is.is; text = ap (λ ws. codes "end" ∷ ws) is.text; whole = refl }))
+    (mapped (codes "end" ∷ words) end_out (ended_of words) (λ t e. let is = ended-is words t e in record { named = is.is; text = ap (λ ws. codes "end" ∷ ws) is.text; whole = refl }))
     (kind into first (codes "send") words _ _
-    (mapped (codes "send" ∷ words) sent (sent_of words) (λ t e. let is = sent-is words t e in record { named = is.is; text = ap (λ ws. codes "send" ∷ ws) is.text; whole = refl }))
+    (mapped (codes "send" ∷ words) send_out (sent_of words) (λ t e. let is = sent-is words t e in record { named = is.is; text = ap (λ ws. codes "send" ∷ ws) is.text; whole = refl }))
     (kind into first (codes "start") words _ _
-    (mapped (codes "start" ∷ words) started (started_of words) (λ t e. let is = started-is words t e in record { named = is.is; text = ap (λ ws. codes "start" ∷ ws) is.text; whole = refl }))
+    (mapped (codes "start" ∷ words) start_out (started_of words) (λ t e. let is = started-is words t e in record { named = is.is; text = ap (λ ws. codes "start" ∷ ws) is.text; whole = refl }))
     (kind into first (codes "created") words _ _
     (mapped (codes "created" ∷ words) created_out (created_of words) (λ t e. let is = created-is words t e in record { named = is.is; text = ap (λ ws. codes "created" ∷ ws) is.text; whole = refl }))
     (kind into first (codes "refused") words _ _
-    (mapped (codes "refused" ∷ words) refused_out (refusal_of words) (λ t e. let is = refusal-is words t e in record { named = is.is; text = ap (λ ws. codes "refused" ∷ ws) is.text; whole = refl }))
+    (mapped (codes "refused" ∷ words) refused_out (refusal_of_words words) (λ t e. let is = refusal-is words t e in record { named = is.is; text = ap (λ ws. codes "refused" ∷ ws) is.text; whole = refl }))
     (λ out e. nothing (TellsWords (first ∷ words)) out e))))))
 
 pub words-tell : (words : List (List ℕ)) → Sound words (out_of_words words)
 words-tell [] = λ out e. nothing (TellsWords []) out e
 words-tell (first ∷ words) =
     let into = λ (ws : List (List ℕ)). ws in
-    kind into first (codes "grant") words _ _ (claim-kind (codes "grant") words granted (λ c h. h) (λ c. refl) (λ c. refl))
-    (kind into first (codes "ask") words _ _ (claim-kind (codes "ask") words asked (λ c h. h) (λ c. refl) (λ c. refl))
-    (kind into first (codes "release") words _ _ (claim-kind (codes "release") words released (λ c h. h) (λ c. refl) (λ c. refl))
+    kind into first (codes "grant") words _ _ (claim-kind (codes "grant") words grant_out (λ c h. h) (λ c. refl) (λ c. refl))
+    (kind into first (codes "ask") words _ _ (claim-kind (codes "ask") words ask_out (λ c h. h) (λ c. refl) (λ c. refl))
+    (kind into first (codes "release") words _ _ (claim-kind (codes "release") words release_out (λ c h. h) (λ c. refl) (λ c. refl))
     (kind into first (codes "pass") words _ _
-    (mapped (codes "pass" ∷ words) passed (passed_of words) (λ t e. let is = passed-is words t e in record { named = is.is; text = ap (λ ws. codes "pass" ∷ ws) is.text; whole = refl }))
+    (mapped (codes "pass" ∷ words) pass_out (passed_of words) (λ t e. let is = passed-is words t e in record { named = is.is; text = ap (λ ws. codes "pass" ∷ ws) is.text; whole = refl }))
     (kind into first (codes "ok") words _ _ (ok-is words)
     (kind into first (codes "state") words _ _
-    (mapped (codes "state" ∷ words) stated (batch_of words) (λ b e. let is = batch-is words b e in record { named = is.0; text = ap (λ ws. codes "state" ∷ ws) (is.1); whole = refl }))
+    (mapped (codes "state" ∷ words) state_out (batch_state_of words) (λ b e. let is = batch-is words b e in record { named = is.0; text = ap (λ ws. codes "state" ∷ ws) (is.1); whole = refl }))
     (other-is first words))))))

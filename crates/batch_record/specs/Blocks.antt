@@ -8,19 +8,19 @@ use Rattle.batch_text.specs.PlaceText.{numbers_of}
 use Rattle.batch_model.specs.Plant.{with_share}
 use Rattle.batch_model.specs.Runs.{Out}
 use Rattle.batch_record.specs.Laws.{is_passed_over}
-use Rattle.batch_record.specs.RecordLine.{ClaimTold, PhaseTold, is_plain_number, is_plain_place, line_words, out_of_line, phase_with, state_of}
-use Rattle.batch_record.specs.Telling.{Listed, Live, Tale, silence, tale_after}
+use Rattle.batch_record.specs.RecordLine.{ClaimTold, PhaseTold, is_plain_number, is_plain_place, line_words, out_of_line, phase_with, state_of_word}
+use Rattle.batch_record.specs.Telling.{Listed, Live, Tale, empty_tale, tale_after}
 
 -- Rows of a recovery block
 
-pub data Row : Type 0 where
-  batch_row : ℕ → Listed → Row
-  holder_row : ClaimTold → Row
-  waiter_row : ClaimTold → Row
-  live_row : Live → Row
+pub data BlockRow : Type 0 where
+  batch_row : ℕ → Listed → BlockRow
+  holder_row : ClaimTold → BlockRow
+  waiter_row : ClaimTold → BlockRow
+  live_row : Live → BlockRow
 
 -- the state with a row more
-abbrev pub tale_with : Tale → Row → Tale
+abbrev pub tale_with : Tale → BlockRow → Tale
 tale_with tale (batch_row batch listed) =
     record tale { batches = λ number. elim (nat_eq batch number) [ true ↦ Some listed | false ↦ tale.batches number ] }
 tale_with tale (holder_row claim) = record tale { holders = λ resource. with_share resource (claim.batch, claim.place) claim.need (tale.holders resource) }
@@ -33,7 +33,7 @@ tale_with tale (live_row live) = record tale { live = tale.live ++ live ∷ [] }
 pub data Mark : Type 0 where
   begins : Mark
   ends : Mark
-  row : Row → Mark
+  row : BlockRow → Mark
 
 -- at least one unit, and no more than 32 bits count
 abbrev pub is_unit_count : List ℕ → Bool
@@ -47,44 +47,44 @@ abbrev pub ends_of : List (List ℕ) → Option Mark
 ends_of [] = Some ends
 ends_of _ = None
 
-abbrev pub batch_with : List ℕ → List ℕ → List ℕ → Option State → Option Row
-batch_with number recipe size None = None
-batch_with number recipe size (Some now) =
+abbrev pub batch_row_with : List ℕ → List ℕ → List ℕ → Option State → Option BlockRow
+batch_row_with number recipe size None = None
+batch_row_with number recipe size (Some now) =
     if (is_plain_number number && is_name recipe) && is_plain_number size
     then Some (batch_row (number_of number) (record { recipe = recipe; size = number_of size; state = now }))
     else None
 
-abbrev pub batch_of : List (List ℕ) → Option Row
-batch_of (number ∷ recipe ∷ size ∷ now ∷ []) = batch_with number recipe size (state_of now)
-batch_of _ = None
+abbrev pub batch_row_of : List (List ℕ) → Option BlockRow
+batch_row_of (number ∷ recipe ∷ size ∷ now ∷ []) = batch_row_with number recipe size (state_of_word now)
+batch_row_of _ = None
 
 abbrev pub claimed : List ℕ → List ℕ → List ℕ → List ℕ → ClaimTold
 claimed resource number place units =
     record { batch = number_of number; place = numbers_of place; need = record { resource = resource; units = number_of units } }
 
-abbrev pub claim_of : List (List ℕ) → Option ClaimTold
-claim_of (resource ∷ number ∷ place ∷ units ∷ []) =
+abbrev pub claim_of_row : List (List ℕ) → Option ClaimTold
+claim_of_row (resource ∷ number ∷ place ∷ units ∷ []) =
     if (is_plain_number number && is_plain_place place) && (is_name resource && is_unit_count units)
     then Some (claimed resource number place units)
     else None
-claim_of _ = None
+claim_of_row _ = None
 
-abbrev pub live_with : Option PhaseTold → Option State → Option Row
-live_with None now = None
-live_with (Some step) None = None
-live_with (Some step) (Some now) =
+abbrev pub live_row_with : Option PhaseTold → Option State → Option BlockRow
+live_row_with None now = None
+live_row_with (Some step) None = None
+live_row_with (Some step) (Some now) =
     Some (live_row (record { act = (step.batch, step.place); unit = step.unit; name = step.name; state = now }))
 
-abbrev pub live_of : List (List ℕ) → Option Row
-live_of (unit ∷ name ∷ number ∷ place ∷ now ∷ []) = live_with (phase_with number place unit name) (state_of now)
-live_of _ = None
+abbrev pub live_row_of : List (List ℕ) → Option BlockRow
+live_row_of (unit ∷ name ∷ number ∷ place ∷ now ∷ []) = live_row_with (phase_with number place unit name) (state_of_word now)
+live_row_of _ = None
 
-abbrev pub row_with : List ℕ → List (List ℕ) → Option Row
+abbrev pub row_with : List ℕ → List (List ℕ) → Option BlockRow
 row_with word arguments =
-    if bytes_eq word (codes "batch") then batch_of arguments
-    else (if bytes_eq word (codes "holds") then option_map holder_row (claim_of arguments)
-    else (if bytes_eq word (codes "waits") then option_map waiter_row (claim_of arguments)
-    else (if bytes_eq word (codes "runs") then live_of arguments
+    if bytes_eq word (codes "batch") then batch_row_of arguments
+    else (if bytes_eq word (codes "holds") then option_map holder_row (claim_of_row arguments)
+    else (if bytes_eq word (codes "waits") then option_map waiter_row (claim_of_row arguments)
+    else (if bytes_eq word (codes "runs") then live_row_of arguments
     else None)))
 
 abbrev pub mark_with : List ℕ → List (List ℕ) → Option Mark
@@ -108,24 +108,24 @@ pub record Stage : Type 0 where
   pub tale : Tale
   pub block : Option Tale
 
-abbrev pub opening : Stage
-opening = record { tale = silence; block = None }
+abbrev pub opening_stage : Stage
+opening_stage = record { tale = empty_tale; block = None }
 
 -- a block begins with the empty state, and at its end the state by it replaces the one before
-abbrev pub marked : Stage → Option Mark → Stage
-marked stage (Some begins) = record { tale = stage.tale; block = Some silence }
-marked stage (Some (row r)) = record { tale = stage.tale; block = option_map (λ tale. tale_with tale r) stage.block }
-marked stage (Some ends) = record { tale = elim stage.block [ None ↦ stage.tale | Some tale ↦ tale ]; block = None }
-marked stage None = stage
+abbrev pub stage_marked : Stage → Option Mark → Stage
+stage_marked stage (Some begins) = record { tale = stage.tale; block = Some empty_tale }
+stage_marked stage (Some (row r)) = record { tale = stage.tale; block = option_map (λ tale. tale_with tale r) stage.block }
+stage_marked stage (Some ends) = record { tale = elim stage.block [ None ↦ stage.tale | Some tale ↦ tale ]; block = None }
+stage_marked stage None = stage
 
 -- an out ends a block, which then has no effect
-abbrev pub told : Stage → Out → Stage
-told stage out = record { tale = tale_after stage.tale out; block = None }
+abbrev pub stage_told : Stage → Out → Stage
+stage_told stage out = record { tale = tale_after stage.tale out; block = None }
 
 -- the stage after a line more, or None if it is no line of a record
 abbrev pub stage_after : Stage → List ℕ → Option Stage
 stage_after stage line =
-    elim (is_passed_over line) [ true ↦ Some (marked stage (mark_of line)) | false ↦ option_map (told stage) (out_of_line line) ]
+    elim (is_passed_over line) [ true ↦ Some (stage_marked stage (mark_of line)) | false ↦ option_map (stage_told stage) (out_of_line line) ]
 
 abbrev pub stages : Stage → List (List ℕ) → Option Stage
 stages stage [] = Some stage

@@ -9,11 +9,11 @@ use Rattle.batch_recipe.specs.Conditions.{Name, same_name}
 use Rattle.batch_recipe.specs.Tree.{Place}
 use Rattle.batch_model.specs.Plant.{BatchAct, is_same_act, with_share, without_share}
 use Rattle.batch_model.specs.Plant as Model
-use Rattle.batch_model.specs.Records.{without_batch, holders_after, waiters_after}
+use Rattle.batch_model.specs.Records.{shares_without_batch, holders_after, waiters_after}
 use Rattle.batch_model.specs.Runs.{Out}
 use Rattle.batch_record.specs.RecordLine.{ClaimTold, PhaseTold}
 use Rattle.batch_record.specs.Telling.{Listed, Live, Tale, led_by, listed_after, live_after, said_by, state_told_to}
-use Rattle.batch_record.specs.Listing.{Claim}
+use Rattle.batch_record.specs.Listing.{ResourceShare}
 use Rattle.batch_record.specs.declared.standing.Kept.{Kept}
 use Rattle.batch_record.specs.declared.live.Change.{Change}
 use Rattle.batch_record.specs.declared.live.LivePhase.{LivePhase}
@@ -23,22 +23,22 @@ use Rattle.batch_record.specs.declared.status.Status.{Status}
 
 -- Shares
 
-abbrev pub act_of : Kept → BatchAct
-act_of kept = (kept.batch, kept.place)
+abbrev pub kept_act : Kept → BatchAct
+kept_act kept = (kept.batch, kept.place)
 
-abbrev pub share_of : Kept → Model.Share
-share_of kept = record { act = act_of kept; units = kept.units }
+abbrev pub kept_share : Kept → Model.Share
+kept_share kept = record { act = kept_act kept; units = kept.units }
 
 -- the shares of a resource, in the order in which they came
-abbrev pub shares_of : Name → List Kept → List Model.Share
-shares_of resource kept = map share_of (filter (λ k. same_name resource k.resource) kept)
+abbrev pub shares_kept : Name → List Kept → List Model.Share
+shares_kept resource kept = map kept_share (filter (λ k. same_name resource k.resource) kept)
 
 -- the share with its resource
-abbrev pub claim_of : Kept → Claim
-claim_of kept = (kept.resource, share_of kept)
+abbrev pub kept_claim : Kept → ResourceShare
+kept_claim kept = (kept.resource, kept_share kept)
 
-abbrev pub claims_of : List Kept → List Claim
-claims_of kept = map claim_of kept
+abbrev pub kept_claims : List Kept → List ResourceShare
+kept_claims kept = map kept_claim kept
 
 -- it isn't the act's share of the resource
 abbrev pub is_other : Name → BatchAct → Kept → Bool
@@ -46,26 +46,26 @@ is_other resource act kept = not (same_name resource kept.resource && is_same_ac
 
 -- at each resource the shares became those of its holders after the out
 abbrev pub HoldersAfter : List Kept → Out → List Kept → Type 0
-HoldersAfter old out new = (resource : Name) → shares_of resource new ≡ holders_after resource (shares_of resource old) out
+HoldersAfter old out new = (resource : Name) → shares_kept resource new ≡ holders_after resource (shares_kept resource old) out
 
 -- at each resource the shares became those of its waiting acts after the out
 abbrev pub WaitersAfter : List Kept → Out → List Kept → Type 0
-WaitersAfter old out new = (resource : Name) → shares_of resource new ≡ waiters_after resource (shares_of resource old) out
+WaitersAfter old out new = (resource : Name) → shares_kept resource new ≡ waiters_after resource (shares_kept resource old) out
 
 -- a share joined at its resource, after the others, or left there
-abbrev pub Joins : List Kept → ClaimTold → List Kept → Type 0
-Joins old claim new = (resource : Name) → shares_of resource new ≡ with_share resource (claim.batch, claim.place) claim.need (shares_of resource old)
+abbrev pub AddsShare : List Kept → ClaimTold → List Kept → Type 0
+AddsShare old claim new = (resource : Name) → shares_kept resource new ≡ with_share resource (claim.batch, claim.place) claim.need (shares_kept resource old)
 
 abbrev pub Leaves : List Kept → ClaimTold → List Kept → Type 0
-Leaves old claim new = (resource : Name) → shares_of resource new ≡ without_share resource (claim.batch, claim.place) claim.need (shares_of resource old)
+Leaves old claim new = (resource : Name) → shares_kept resource new ≡ without_share resource (claim.batch, claim.place) claim.need (shares_kept resource old)
 
 -- it left at its place and joined at the other
 abbrev pub Passes : List Kept → ClaimTold × Place → List Kept → Type 0
-Passes old told new = (resource : Name) → shares_of resource new
-    ≡ with_share resource (told.0.batch, told.1) told.0.need (without_share resource (told.0.batch, told.0.place) told.0.need (shares_of resource old))
+Passes old told new = (resource : Name) → shares_kept resource new
+    ≡ with_share resource (told.0.batch, told.1) told.0.need (without_share resource (told.0.batch, told.0.place) told.0.need (shares_kept resource old))
 
 abbrev pub BatchLeaves : ℕ → List Kept → List Kept → Type 0
-BatchLeaves batch old new = (resource : Name) → shares_of resource new ≡ without_batch batch (shares_of resource old)
+BatchLeaves batch old new = (resource : Name) → shares_kept resource new ≡ shares_without_batch batch (shares_kept resource old)
 
 -- if the command is stop or abort, the batch's shares leave
 abbrev pub LeavesAt : Command → ℕ → List Kept → List Kept → Type 0
@@ -75,15 +75,15 @@ LeavesAt _ batch old new = new ≡ old
 
 -- Live phases
 
-abbrev pub live_of : LivePhase → Live
-live_of phase = record { act = (phase.batch, phase.place); unit = phase.unit; name = phase.phase; state = phase.state }
+abbrev pub kept_live : LivePhase → Live
+kept_live phase = record { act = (phase.batch, phase.place); unit = phase.unit; name = phase.phase; state = phase.state }
 
 abbrev pub lives_of : List LivePhase → List Live
-lives_of phases = map live_of phases
+lives_of phases = map kept_live phases
 
 -- a phase step that runs its phase, in this state
-abbrev pub live_with : PhaseTold → State → Live
-live_with step now = record { act = (step.batch, step.place); unit = step.unit; name = step.name; state = now }
+abbrev pub live_at_step : PhaseTold → State → Live
+live_at_step step now = record { act = (step.batch, step.place); unit = step.unit; name = step.name; state = now }
 
 abbrev pub LiveAfter : List LivePhase → Out → List LivePhase → Type 0
 LiveAfter old out new = lives_of new ≡ live_after (lives_of old) out
@@ -108,15 +108,15 @@ listed_of batch = record { recipe = batch.recipe; size = batch.size; state = bat
 abbrev pub entry_row : ℕ × Batch → ℕ × Listed
 entry_row entry = (entry.0, listed_of entry.1)
 
-abbrev pub rows_of : Batches → List (ℕ × Listed)
-rows_of batches = map entry_row batches.listed.entries
+abbrev pub listed_rows : Batches → List (ℕ × Listed)
+listed_rows batches = map entry_row batches.listed.entries
 
 abbrev pub listed_in : Batches → ℕ → Option Listed
 listed_in batches number = option_map listed_of (get nat_cmp batches.listed number)
 
 -- the batch with this number is listed so from now on, and the others as before
-abbrev pub Lists : Batches → ℕ → Listed → Batches → Type 0
-Lists old batch listed new = (number : ℕ) → listed_in new number ≡ elim (nat_eq batch number) [ true ↦ Some listed | false ↦ listed_in old number ]
+abbrev pub ListsBatch : Batches → ℕ → Listed → Batches → Type 0
+ListsBatch old batch listed new = (number : ℕ) → listed_in new number ≡ elim (nat_eq batch number) [ true ↦ Some listed | false ↦ listed_in old number ]
 
 -- it isn't listed any more
 abbrev pub Unlists : Batches → ℕ → Batches → Type 0
@@ -133,7 +133,7 @@ BatchesAfter old out new = (number : ℕ) → listed_in new number ≡ listed_af
 
 -- the kept state is that of the record
 pub record Keeps (status : Status) (tale : Tale) : Type 0 where
-  pub holders : (resource : Name) → shares_of resource status.holders.shares.items ≡ tale.holders resource
-  pub waiters : (resource : Name) → shares_of resource status.waiters.shares.items ≡ tale.waiters resource
+  pub holders : (resource : Name) → shares_kept resource status.holders.shares.items ≡ tale.holders resource
+  pub waiters : (resource : Name) → shares_kept resource status.waiters.shares.items ≡ tale.waiters resource
   pub batches : (number : ℕ) → listed_in status.batches number ≡ tale.batches number
   pub live : lives_of status.live.phases.items ≡ tale.live

@@ -12,7 +12,7 @@ abbrev pub IsLineOf : Out → List ℕ → Type 0
 IsLineOf out line = out_text out ≡ line ++ codes "\n"
 
 -- a line tells an out: it is the text of the out, whose names are names, and leaves out no part of it
-pub record Tells (line : List ℕ) (out : Out) : Type 0 where
+pub record TellsOut (line : List ℕ) (out : Out) : Type 0 where
   pub named : IsNamed out
   pub text : IsLineOf out line
   pub whole : as_told out ≡ out
@@ -23,7 +23,7 @@ TellsNothing line = (out : Out) → IsNamed out → IsLineOf out line → ⊥
 
 -- the out that is read from a line is the one that it tells, and a line from which none is read tells none
 abbrev pub LinesTellOuts : Type 0
-LinesTellOuts = (line : List ℕ) → MatchOption (out_of_line line) (TellsNothing line) (Tells line)
+LinesTellOuts = (line : List ℕ) → MatchOption (out_of_line line) (TellsNothing line) (TellsOut line)
 
 -- outs whose names are names and whose texts are the same are one but for the parts that a text leaves out
 abbrev pub TextIsOne : Type 0

@@ -39,9 +39,9 @@ colour_text hue =
 
 -- the title of a bar of a batch
 
-abbrev pub does : Bool → List ℕ
-does true = codes "waits for"
-does false = codes "holds"
+abbrev pub holding_verb : Bool → List ℕ
+holding_verb true = codes "waits for"
+holding_verb false = codes "holds"
 
 abbrev pub hatching : Bool → List ℕ
 hatching true = codes "url(#waits)"
@@ -49,7 +49,7 @@ hatching false = codes "none"
 
 abbrev pub title_text : Block → List ℕ
 title_text block =
-    codes "<g><title>" ++ (decimal block.batch ++ (codes " " ++ (does block.waits ++ (codes " " ++ (decimal block.units ++ (codes " of " ++ (block.resource ++ (codes " at " ++ (string_bytes block.place ++ codes "</title>")))))))))
+    codes "<g><title>" ++ (decimal block.batch ++ (codes " " ++ (holding_verb block.waits ++ (codes " " ++ (decimal block.units ++ (codes " of " ++ (block.resource ++ (codes " at " ++ (string_bytes block.place ++ codes "</title>")))))))))
 
 -- its colour
 abbrev pub area_text : Block → List ℕ
@@ -61,17 +61,17 @@ abbrev pub frame_text : Block → List ℕ
 frame_text block =
     codes "<rect x=\"" ++ (decimal block.left ++ (codes "\" y=\"" ++ (decimal block.top ++ (codes "\" width=\"" ++ (decimal block.width ++ (codes "\" height=\"17\" fill=\"" ++ (hatching block.waits ++ codes "\" stroke=\"#555555\"/></g>\n")))))))
 
-abbrev pub block_text : Block → List ℕ
-block_text block = title_text block ++ (area_text block ++ frame_text block)
+abbrev pub bar_text : Block → List ℕ
+bar_text block = title_text block ++ (area_text block ++ frame_text block)
 
 abbrev pub shape_text : Shape → List ℕ
 shape_text (shape.Grid grid) = grid_text grid
 shape_text (shape.Label label) = label_text label
-shape_text (shape.Block block) = block_text block
+shape_text (shape.Block block) = bar_text block
 
 -- a white ground, and the pattern of waiting batches
-abbrev pub head_text : ℕ → ℕ → List ℕ
-head_text width height =
+abbrev pub svg_head : ℕ → ℕ → List ℕ
+svg_head width height =
     codes "<svg xmlns=\"http://www.w3.org/2000/svg\" viewBox=\"0 0 " ++ (decimal width ++ (codes " " ++ (decimal height ++ (codes "\" width=\"" ++ (decimal width ++ (codes "\" height=\"" ++ (decimal height ++ codes "\" font-family=\"sans-serif\" font-size=\"12\">\n")))))))
 
 abbrev pub ground_text : ℕ → ℕ → List ℕ
@@ -84,4 +84,4 @@ pattern_text = codes "<pattern id=\"waits\" width=\"6\" height=\"6\" patternUnit
 -- a picture, a later shape over an earlier one
 abbrev pub picture_text : Picture → List ℕ
 picture_text picture =
-    head_text picture.width picture.height ++ (ground_text picture.width picture.height ++ (pattern_text ++ (flat_map shape_text picture.shapes.items ++ codes "</svg>\n")))
+    svg_head picture.width picture.height ++ (ground_text picture.width picture.height ++ (pattern_text ++ (flat_map shape_text picture.shapes.items ++ codes "</svg>\n")))

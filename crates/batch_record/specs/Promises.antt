@@ -6,7 +6,7 @@ use Rattle.batch_model.specs.Runs.{Out}
 use Rattle.batch_recipe.specs.Conditions.{Name}
 use Rattle.batch_record.specs.Laws.{IsLineOf, is_passed_over}
 use Rattle.batch_record.specs.Naming.{IsNamed}
-use Rattle.batch_record.specs.Blocks.{mark_of, opening, stages}
+use Rattle.batch_record.specs.Blocks.{mark_of, opening_stage, stages}
 use Rattle.batch_record.specs.Telling.{Listed, Live, tale_told}
 
 -- the line is passed over, and says nothing of a recovery block
@@ -23,18 +23,18 @@ AreLinesOf outs (line ∷ lines) =
 -- these lines are a record's, and it gives the same state as the outs
 abbrev pub LinesTellTheirOuts : Type 0
 LinesTellTheirOuts =
-    (outs : List Out) (lines : List (List ℕ)) → AreLinesOf outs lines → stages opening lines ≡ Some (record { tale = tale_told outs; block = None })
+    (outs : List Out) (lines : List (List ℕ)) → AreLinesOf outs lines → stages opening_stage lines ≡ Some (record { tale = tale_told outs; block = None })
 
 -- a live phase, without its state
-pub record Place : Type 0 where
+pub record LivePlace : Type 0 where
   pub act : BatchAct
   pub unit : Name
   pub name : Name
 
-abbrev pub place_of_live : Live → Place
+abbrev pub place_of_live : Live → LivePlace
 place_of_live live = record { act = live.act; unit = live.unit; name = live.name }
 
-abbrev pub place_of_active : Active → Place
+abbrev pub place_of_active : Active → LivePlace
 place_of_active active = record { act = active.act; unit = active.phase.unit; name = active.phase.name }
 
 -- the holders, the waiting acts, the live phases and the states of batches are those in the definitions of a safe record

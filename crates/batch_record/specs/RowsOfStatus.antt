@@ -3,12 +3,12 @@ use Rattle.std.specs.Prelude.{◌≡◌, ℕ, List, [], ◌∷◌, ◌++◌, cod
 use Rattle.batch_matrix.specs.declared.state.State.{State}
 use Rattle.batch_matrix.specs.declared.state.State.TheVariants.{Running, Holding, Held, Restarting, Stopping, Complete}
 use Rattle.batch_model.specs.Plant.{Share}
-use Rattle.batch_record.specs.Blocks.{opening, stages}
+use Rattle.batch_record.specs.Blocks.{opening_stage, stages}
 use Rattle.batch_record.specs.Telling.{Listed, Live, Tale}
 
 -- the lines are a record's, and the state by it has this property
 abbrev pub Tell : List (List ℕ) → (Tale → Type 0) → Type 0
-Tell lines P = elim (stages opening lines) [ None ↦ ⊥ | Some stage ↦ P stage.tale ]
+Tell lines P = elim (stages opening_stage lines) [ None ↦ ⊥ | Some stage ↦ P stage.tale ]
 
 abbrev pub share : ℕ → List ℕ → ℕ → Share
 share batch place units = record { act = (batch, place); units = units }
@@ -98,4 +98,4 @@ ArePassedOver = after_start (codes "# at 17" ∷ codes "refused W4" ∷ codes "r
 
 -- no line of a record
 abbrev pub NoRecord : Type 0
-NoRecord = (stages opening (codes "fly" ∷ []) ≡ None) × (stages opening (codes "created 1 A 1000" ∷ codes "holds R1 1 0.0 1" ∷ []) ≡ None)
+NoRecord = (stages opening_stage (codes "fly" ∷ []) ≡ None) × (stages opening_stage (codes "created 1 A 1000" ∷ codes "holds R1 1 0.0 1" ∷ []) ≡ None)

@@ -1,6 +1,6 @@
 -- private: the progress of reading.
 use Rattle.std.specs.Prelude.{◌≡◌, ℕ, ◌-◌, ◌^◌, ◌<◌, List, [], ◌∷◌, ◌++◌, length, take, get_or, min, Option, Some, None, ⊤, Result, MatchResult}
-use Rattle.batch_record.specs.Blocks.{Stage, opening, stage_after, stages}
+use Rattle.batch_record.specs.Blocks.{Stage, opening_stage, stage_after, stages}
 use Rattle.batch_record.specs.Kept.{Keeps}
 use Rattle.batch_record.specs.StatusReading.{HasNoFeed, IsRefusedAt, IsText}
 use Rattle.batch_record.specs.Telling.{Tale}
@@ -33,7 +33,7 @@ pub record HasRead (reading : Reading) (read : List ℕ) : Type 0 where
   pub lines : List (List ℕ)
   pub stage : Stage
   pub is_text : IsText lines reading.line.items read
-  pub stages : stages opening lines ≡ Some stage
+  pub stages : stages opening_stage lines ≡ Some stage
   pub is_at : IsAt reading.course stage
   pub counted : reading.count ≡ min (length lines) (2 ^ 64 - 1)
 

@@ -2,7 +2,7 @@
 use Rattle.std.specs.Prelude.{◌≡◌, ℕ, ◌+◌, ◌-◌, ◌^◌, List, [], ◌∷◌, ◌++◌, length, flat_map, min, Some, None, ◌==◌, false}
 use Rattle.std.specs.List.{All}
 use Rattle.batch_model.specs.Lists.{Each}
-use Rattle.batch_record.specs.Blocks.{Stage, opening, stage_after, stages}
+use Rattle.batch_record.specs.Blocks.{Stage, opening_stage, stage_after, stages}
 
 -- each line with a line feed after it
 abbrev pub lines_text : List (List ℕ) → List ℕ
@@ -22,7 +22,7 @@ pub record LeadsTo (text : List ℕ) (stage : Stage) : Type 0 where
   pub lines : List (List ℕ)
   pub last : List ℕ
   pub is_text : IsText lines last text
-  pub stages : stages opening lines ≡ Some stage
+  pub stages : stages opening_stage lines ≡ Some stage
 
 -- the line with this number, from 1 on, is the first that is no line of a record. Numbers end with 64 bits
 pub record IsRefusedAt (text : List ℕ) (number : ℕ) : Type 0 where
@@ -33,6 +33,6 @@ pub record IsRefusedAt (text : List ℕ) (number : ℕ) : Type 0 where
   pub whole : Each HasNoFeed before
   pub unended : HasNoFeed line
   pub is : text ≡ lines_text before ++ (line ++ 10 ∷ rest)
-  pub stages : stages opening before ≡ Some stage
+  pub stages : stages opening_stage before ≡ Some stage
   pub refused : stage_after stage line ≡ None
   pub numbered : number ≡ min (length before + 1) (2 ^ 64 - 1)

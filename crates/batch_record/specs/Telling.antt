@@ -85,8 +85,8 @@ pub record Tale : Type 0 where
   pub live : List Live
 
 -- the state by a record without a line
-abbrev pub silence : Tale
-silence = record { holders = λ resource. []; waiters = λ resource. []; batches = λ number. None; live = [] }
+abbrev pub empty_tale : Tale
+empty_tale = record { holders = λ resource. []; waiters = λ resource. []; batches = λ number. None; live = [] }
 
 -- the state by a record, an out later
 abbrev pub tale_after : Tale → Out → Tale
@@ -100,4 +100,4 @@ tale_after tale out =
 
 -- the state by the outs of a record
 abbrev pub tale_told : List Out → Tale
-tale_told outs = fold tale_after silence outs
+tale_told outs = fold tale_after empty_tale outs

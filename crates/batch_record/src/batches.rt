@@ -1,7 +1,7 @@
 //! The listed batches, by the lines of a record.
 ghost use Rattle.std.specs.Prelude.{◌≡◌, ℕ, None, OnOk};
-ghost use Rattle.batch_record.specs.Reading.{out_of};
-ghost use Rattle.batch_record.specs.Kept.{BatchesAfter, Lists, TellsState, Unlists, listed_in, listed_of};
+ghost use Rattle.batch_record.specs.Reading.{out_told};
+ghost use Rattle.batch_record.specs.Kept.{BatchesAfter, ListsBatch, TellsState, Unlists, listed_in, listed_of};
 
 use crate::memory::{NoMemory, read_name};
 use crate::told::Told;
@@ -36,7 +36,7 @@ impl Batches {
 
     /// Applies an out to the listed batches.
     pub fn apply_out(&mut self, alloc: Global, told: Told<'_>) -> Result<(), NoMemory>
-        ensures { OnOk result (BatchesAfter self.old (out_of told.entry) self.new) }
+        ensures { OnOk result (BatchesAfter self.old (out_told told.entry) self.new) }
     {
         match told {
             Told::Created(created) => self.add(
@@ -75,7 +75,7 @@ impl Batches {
         size: u64,
         state: State,
     ) -> Result<(), NoMemory>
-        ensures { OnOk result (Lists self.old number (record { recipe = recipe.now; size = size; state = state }) self.new) }
+        ensures { OnOk result (ListsBatch self.old number (record { recipe = recipe.now; size = size; state = state }) self.new) }
     {
         let recipe = read_name(alloc, recipe)?;
         self.put(
@@ -89,7 +89,7 @@ impl Batches {
     }
 
     fn put(&mut self, number: u64, batch: Batch) -> Result<(), NoMemory>
-        ensures { OnOk result (Lists self.old number (listed_of batch) self.new) }
+        ensures { OnOk result (ListsBatch self.old number (listed_of batch) self.new) }
     {
         match self.listed.insert(number, batch) {
             Ok(_) => Ok(()),

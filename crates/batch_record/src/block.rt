@@ -1,9 +1,9 @@
 //! The lines of recovery blocks.
 ghost use Rattle.std.specs.Prelude.{◌≡◌, ◌∷◌, [], Some, true, false, MatchOption, OnOk};
 ghost use Rattle.batch_text.specs.NumberText.{number_of};
-ghost use Rattle.batch_record.specs.Reading.{Gives, claim_told};
+ghost use Rattle.batch_record.specs.Reading.{GivesAsDefined, claim_told};
 ghost use Rattle.batch_record.specs.RecordLine.{words_left};
-ghost use Rattle.batch_record.specs.Blocks.{batch_of, batch_with, begins_of, claim_of, ends_of, is_unit_count, live_of, mark_of, mark_of_words, mark_with, row_with, tale_with};
+ghost use Rattle.batch_record.specs.Blocks.{batch_row_of, batch_row_with, begins_of, claim_of_row, ends_of, is_unit_count, live_row_of, mark_of, mark_of_words, mark_with, row_with, tale_with};
 ghost use Rattle.batch_record.specs.Kept.{Keeps};
 ghost use Rattle.batch_record.specs.Marks.{mark_told, row_told};
 ghost use Rattle.batch_record.specs.Telling.{Tale};
@@ -64,13 +64,13 @@ impl Status {
 
 /// The meaning of the line for recovery blocks, or None.
 pub fn read_mark(line: &[u8]) -> Option<Mark<'_>>
-    ensures { Gives mark_told result (mark_of line.now) }
+    ensures { GivesAsDefined mark_told result (mark_of line.now) }
 {
     read_words(Words::of(line))
 }
 
 fn read_words(mut line: Words<'_>) -> Option<Mark<'_>>
-    ensures { Gives mark_told result (mark_of_words (words_left line.entry.rest)) }
+    ensures { GivesAsDefined mark_told result (mark_of_words (words_left line.entry.rest)) }
 {
     let sharp = line.next()?;
     let word = line.next()?;
@@ -82,7 +82,7 @@ fn read_words(mut line: Words<'_>) -> Option<Mark<'_>>
 }
 
 fn mark_with<'a>(word: &'a [u8], arguments: Words<'a>) -> Option<Mark<'a>>
-    ensures { Gives mark_told result (mark_with word.now (words_left arguments.entry.rest)) }
+    ensures { GivesAsDefined mark_told result (mark_with word.now (words_left arguments.entry.rest)) }
 {
     if word == b"recovered".as_slice() {
         read_begin(arguments)
@@ -94,7 +94,7 @@ fn mark_with<'a>(word: &'a [u8], arguments: Words<'a>) -> Option<Mark<'a>>
 }
 
 fn row_with<'a>(word: &'a [u8], arguments: Words<'a>) -> Option<Row<'a>>
-    ensures { Gives row_told result (row_with word.now (words_left arguments.entry.rest)) }
+    ensures { GivesAsDefined row_told result (row_with word.now (words_left arguments.entry.rest)) }
 {
     if word == b"batch".as_slice() {
         read_batch(arguments)
@@ -110,7 +110,7 @@ fn row_with<'a>(word: &'a [u8], arguments: Words<'a>) -> Option<Row<'a>>
 }
 
 fn read_begin(mut arguments: Words<'_>) -> Option<Mark<'_>>
-    ensures { Gives mark_told result (begins_of (words_left arguments.entry.rest)) }
+    ensures { GivesAsDefined mark_told result (begins_of (words_left arguments.entry.rest)) }
 {
     let count = arguments.next()?;
     let word = arguments.next()?;
@@ -126,7 +126,7 @@ fn read_begin(mut arguments: Words<'_>) -> Option<Mark<'_>>
 }
 
 fn read_end(mut arguments: Words<'_>) -> Option<Mark<'_>>
-    ensures { Gives mark_told result (ends_of (words_left arguments.entry.rest)) }
+    ensures { GivesAsDefined mark_told result (ends_of (words_left arguments.entry.rest)) }
 {
     match arguments.next() {
         Some(_) => None,
@@ -135,7 +135,7 @@ fn read_end(mut arguments: Words<'_>) -> Option<Mark<'_>>
 }
 
 fn read_batch(mut arguments: Words<'_>) -> Option<Row<'_>>
-    ensures { Gives row_told result (batch_of (words_left arguments.entry.rest)) }
+    ensures { GivesAsDefined row_told result (batch_row_of (words_left arguments.entry.rest)) }
 {
     let number = arguments.next()?;
     let recipe = arguments.next()?;
@@ -154,7 +154,7 @@ fn batch_with<'a>(
     size: &'a [u8],
     state: State,
 ) -> Option<Row<'a>>
-    ensures { Gives row_told result (batch_with number.now recipe.now size.now (Some state)) }
+    ensures { GivesAsDefined row_told result (batch_row_with number.now recipe.now size.now (Some state)) }
 {
     let number = plain_number(number)?;
     let size = plain_number(size)?;
@@ -171,7 +171,7 @@ fn batch_with<'a>(
 }
 
 fn read_claim(mut arguments: Words<'_>) -> Option<Claim<'_>>
-    ensures { Gives claim_told result (claim_of (words_left arguments.entry.rest)) }
+    ensures { GivesAsDefined claim_told result (claim_of_row (words_left arguments.entry.rest)) }
 {
     let resource = arguments.next()?;
     let number = arguments.next()?;
@@ -189,7 +189,7 @@ fn claim_with<'a>(
     place: &'a [u8],
     units: &'a [u8],
 ) -> Option<Claim<'a>>
-    ensures { Gives claim_told result (claim_of (resource.now ∷ number.now ∷ place.now ∷ units.now ∷ [])) }
+    ensures { GivesAsDefined claim_told result (claim_of_row (resource.now ∷ number.now ∷ place.now ∷ units.now ∷ [])) }
 {
     let batch = plain_number(number)?;
     let units = unit_count(units)?;
@@ -219,7 +219,7 @@ fn unit_count(word: &[u8]) -> Option<u32>
 }
 
 fn read_live(mut arguments: Words<'_>) -> Option<Row<'_>>
-    ensures { Gives row_told result (live_of (words_left arguments.entry.rest)) }
+    ensures { GivesAsDefined row_told result (live_row_of (words_left arguments.entry.rest)) }
 {
     let unit = arguments.next()?;
     let phase = arguments.next()?;

@@ -1,9 +1,9 @@
 //! Live phases and their states, by the lines of a record.
 ghost use Rattle.std.specs.Prelude.{◌≡◌, ◌++◌, ◌∷◌, [], filter, map, OnOk};
 ghost use Rattle.batch_model.specs.Records.{ends_phase};
-ghost use Rattle.batch_record.specs.Reading.{out_of, phase_told, report_told, sent_told};
-ghost use Rattle.batch_record.specs.RecordLine.{report_out, sent};
-ghost use Rattle.batch_record.specs.Kept.{changed_by, is_elsewhere, phase_changed, live_of, live_with, lives_of, LiveAfter};
+ghost use Rattle.batch_record.specs.Reading.{out_told, phase_told, report_told, sent_told};
+ghost use Rattle.batch_record.specs.RecordLine.{report_out, send_out};
+ghost use Rattle.batch_record.specs.Kept.{changed_by, is_elsewhere, phase_changed, kept_live, live_at_step, lives_of, LiveAfter};
 ghost use Rattle.batch_recipe.specs.Conditions.{Name};
 ghost use Rattle.batch_record.specs.Listing.{live_cmp, on_unit};
 ghost use Rattle.std.specs.List.Sorted.{IsSorted};
@@ -71,7 +71,7 @@ impl LivePhases {
 
     /// Applies an out to the live phases.
     pub fn apply_out(&mut self, alloc: Global, told: Told<'_>) -> Result<(), NoMemory>
-        ensures { OnOk result (LiveAfter self.old.phases.items (out_of told.entry) self.new.phases.items) }
+        ensures { OnOk result (LiveAfter self.old.phases.items (out_told told.entry) self.new.phases.items) }
     {
         match told {
             Told::Started(started) => self.add(alloc, started.step, State::Running),
@@ -83,7 +83,7 @@ impl LivePhases {
 
     /// Appends a phase that runs, in this state.
     pub fn add(&mut self, alloc: Global, step: PhaseStep<'_>, state: State) -> Result<(), NoMemory>
-        ensures { OnOk result (lives_of self.new.phases.items ≡ lives_of self.old.phases.items ++ live_with (phase_told step.entry) state ∷ []) }
+        ensures { OnOk result (lives_of self.new.phases.items ≡ lives_of self.old.phases.items ++ live_at_step (phase_told step.entry) state ∷ []) }
     {
         let place = read_place(alloc, step.place)?;
         let unit = read_name(alloc, step.unit)?;
@@ -107,7 +107,7 @@ impl LivePhases {
     }
 
     fn send(&mut self, alloc: Global, told: Sent<'_>) -> Result<(), NoMemory>
-        ensures { OnOk result (LiveAfter self.old.phases.items (sent (sent_told told.entry)) self.new.phases.items) }
+        ensures { OnOk result (LiveAfter self.old.phases.items (send_out (sent_told told.entry)) self.new.phases.items) }
     {
         let place = read_place(alloc, told.step.place)?;
         self.go_on(told.step.batch, &place, Change::Led(told.command));
@@ -162,7 +162,7 @@ fn change_each(phases: &mut [LivePhase], batch: u64, place: &Place, change: Chan
 
 /// The order of the phases by unit and phase.
 fn compare(live: &LivePhase, other: &LivePhase) -> Ordering
-    ensures { result ≡ live_cmp (live_of live.now) (live_of other.now) }
+    ensures { result ≡ live_cmp (kept_live live.now) (kept_live other.now) }
 {
     live.unit
         .cmp(&other.unit)

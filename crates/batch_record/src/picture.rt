@@ -1,7 +1,7 @@
 //! Pictures, and their text.
 ghost use Rattle.std.specs.Prelude.{Some};
 ghost use Rattle.std.specs.List.{flat_map};
-ghost use Rattle.batch_record.specs.Pictures.{ground_text, head_text, pattern_text, picture_text, shape_text};
+ghost use Rattle.batch_record.specs.Pictures.{ground_text, svg_head, pattern_text, picture_text, shape_text};
 
 use crate::shape::Shape;
 use std::fmt;
@@ -34,7 +34,7 @@ struct Head {
 }
 
 impl fmt::Display for Head {
-    ghost output = { λ head. Some (head_text head.width head.height) };
+    ghost output = { λ head. Some (svg_head head.width head.height) };
 
     fn fmt<W: fmt::Write>(&self, f: &mut fmt::Formatter<W>) -> fmt::Result {
         let Head { width, height } = *self;

@@ -1,9 +1,9 @@
 //! Reading a line of a record.
 ghost use Rattle.std.specs.Prelude.{◌≡◌, ◌∷◌, [], Some, MatchOption};
 ghost use Rattle.batch_wire.specs.EventLine.{word_of_report};
-ghost use Rattle.batch_record.specs.RecordLine.{words_left, need_of, state_of, claim_of, claim_with, batch_of, batch_with, removed_of, report_told_of, report_with, order_of, ok_of, other_of, begun_of, passed_of, passed_with, ended_of, phase_with, sent_of, started_of, created_of, refusal_of, code_alone, state_alone, formula_of, left_out_of, out_of_words, out_of_line};
-ghost use Rattle.batch_record.specs.Laws.{Tells, TellsNothing};
-ghost use Rattle.batch_record.specs.Reading.{Gives, claim_told, report_told, begun_told, passed_told, ended_told, phase_told, sent_told, started_told, created_told, refusal_told, out_of};
+ghost use Rattle.batch_record.specs.RecordLine.{words_left, need_of_word, state_of_word, claim_told_of, claim_with, batch_state_of, batch_state_with, removed_of, report_told_of, report_with, order_of_words, ok_of, other_of, begun_of, passed_of, passed_with, ended_of, phase_with, sent_of, started_of, created_of, refusal_of_words, code_alone, state_alone, formula_refusal_of, left_out_of, out_of_words, out_of_line};
+ghost use Rattle.batch_record.specs.Laws.{TellsOut, TellsNothing};
+ghost use Rattle.batch_record.specs.Reading.{GivesAsDefined, claim_told, report_told, begun_told, pass_told, ended_told, phase_told, sent_told, started_told, created_told, refusal_told, out_told};
 
 use crate::pairs::{are_plain_values, are_role_pairs};
 use crate::told::{
@@ -18,14 +18,14 @@ use batch_wire::{command_of, word_of_report};
 /// The out that the line tells, or None if it is the text of no out. The line comes without its line feed.
 // claim: lines told
 pub fn read_out(line: &[u8]) -> Option<Told<'_>>
-    ensures said { Gives out_of result (out_of_line line.now) }
-    ensures told { MatchOption result (TellsNothing line.now) (λ told. Tells line.now (out_of told)) }
+    ensures said { GivesAsDefined out_told result (out_of_line line.now) }
+    ensures told { MatchOption result (TellsNothing line.now) (λ told. TellsOut line.now (out_told told)) }
 {
     read_words(Words::of(line))
 }
 
 fn read_words(mut line: Words<'_>) -> Option<Told<'_>>
-    ensures { Gives out_of result (out_of_words (words_left line.entry.rest)) }
+    ensures { GivesAsDefined out_told result (out_of_words (words_left line.entry.rest)) }
 {
     let first = line.next()?;
     if first == b"grant".as_slice() {
@@ -48,7 +48,7 @@ fn read_words(mut line: Words<'_>) -> Option<Told<'_>>
 
 /// The kinds of lines that the state of the plant's resources isn't read from.
 fn read_others<'a>(first: &[u8], line: Words<'a>) -> Option<Told<'a>>
-    ensures { Gives out_of result (other_of first.now (words_left line.entry.rest)) }
+    ensures { GivesAsDefined out_told result (other_of first.now (words_left line.entry.rest)) }
 {
     if first == b"begin".as_slice() {
         Some(Told::Begun(read_begun(line)?))
@@ -69,7 +69,7 @@ fn read_others<'a>(first: &[u8], line: Words<'a>) -> Option<Told<'a>>
 
 /// An act, and its name.
 fn read_begun(mut arguments: Words<'_>) -> Option<Begun<'_>>
-    ensures { Gives begun_told result (begun_of (words_left arguments.entry.rest)) }
+    ensures { GivesAsDefined begun_told result (begun_of (words_left arguments.entry.rest)) }
 {
     let batch = arguments.next()?;
     let place = arguments.next()?;
@@ -81,7 +81,7 @@ fn read_begun(mut arguments: Words<'_>) -> Option<Begun<'_>>
 }
 
 fn begun_with<'a>(batch: &'a [u8], place: &'a [u8], name: &'a [u8]) -> Option<Begun<'a>>
-    ensures { Gives begun_told result (begun_of (batch.now ∷ place.now ∷ name.now ∷ [])) }
+    ensures { GivesAsDefined begun_told result (begun_of (batch.now ∷ place.now ∷ name.now ∷ [])) }
 {
     let batch = plain_number(batch)?;
     if is_plain_place(place) && is_name(name) {
@@ -93,7 +93,7 @@ fn begun_with<'a>(batch: &'a [u8], place: &'a [u8], name: &'a [u8]) -> Option<Be
 
 /// An act.
 fn read_ended(mut arguments: Words<'_>) -> Option<Ended<'_>>
-    ensures { Gives ended_told result (ended_of (words_left arguments.entry.rest)) }
+    ensures { GivesAsDefined ended_told result (ended_of (words_left arguments.entry.rest)) }
 {
     let batch = arguments.next()?;
     let place = arguments.next()?;
@@ -104,7 +104,7 @@ fn read_ended(mut arguments: Words<'_>) -> Option<Ended<'_>>
 }
 
 fn ended_with<'a>(batch: &'a [u8], place: &'a [u8]) -> Option<Ended<'a>>
-    ensures { Gives ended_told result (ended_of (batch.now ∷ place.now ∷ [])) }
+    ensures { GivesAsDefined ended_told result (ended_of (batch.now ∷ place.now ∷ [])) }
 {
     let batch = plain_number(batch)?;
     if is_plain_place(place) {
@@ -121,7 +121,7 @@ pub fn phase_with<'a>(
     unit: &'a [u8],
     phase: &'a [u8],
 ) -> Option<PhaseStep<'a>>
-    ensures { Gives phase_told result (phase_with batch.now place.now unit.now phase.now) }
+    ensures { GivesAsDefined phase_told result (phase_with batch.now place.now unit.now phase.now) }
 {
     let batch = plain_number(batch)?;
     if is_plain_place(place) && is_name(unit) && is_name(phase) {
@@ -138,7 +138,7 @@ pub fn phase_with<'a>(
 
 /// A phase, and the command that is sent to it.
 fn read_sent(mut arguments: Words<'_>) -> Option<Sent<'_>>
-    ensures { Gives sent_told result (sent_of (words_left arguments.entry.rest)) }
+    ensures { GivesAsDefined sent_told result (sent_of (words_left arguments.entry.rest)) }
 {
     let batch = arguments.next()?;
     let place = arguments.next()?;
@@ -155,7 +155,7 @@ fn read_sent(mut arguments: Words<'_>) -> Option<Sent<'_>>
 
 /// A phase, and the values that it is handed.
 fn read_started(mut arguments: Words<'_>) -> Option<Started<'_>>
-    ensures { Gives started_told result (started_of (words_left arguments.entry.rest)) }
+    ensures { GivesAsDefined started_told result (started_of (words_left arguments.entry.rest)) }
 {
     let batch = arguments.next()?;
     let place = arguments.next()?;
@@ -174,7 +174,7 @@ fn read_started(mut arguments: Words<'_>) -> Option<Started<'_>>
 
 /// A batch, its recipe, its size and its roles.
 fn read_created(mut arguments: Words<'_>) -> Option<Created<'_>>
-    ensures { Gives created_told result (created_of (words_left arguments.entry.rest)) }
+    ensures { GivesAsDefined created_told result (created_of (words_left arguments.entry.rest)) }
 {
     let batch = arguments.next()?;
     let recipe = arguments.next()?;
@@ -188,7 +188,7 @@ fn created_with<'a>(
     size: &'a [u8],
     roles: Words<'a>,
 ) -> Option<Created<'a>>
-    ensures { Gives created_told result (created_of (batch.now ∷ recipe.now ∷ size.now ∷ words_left roles.entry.rest)) }
+    ensures { GivesAsDefined created_told result (created_of (batch.now ∷ recipe.now ∷ size.now ∷ words_left roles.entry.rest)) }
 {
     let batch = plain_number(batch)?;
     let size = plain_number(size)?;
@@ -206,7 +206,7 @@ fn created_with<'a>(
 
 /// Why an event was refused.
 fn read_refused(mut arguments: Words<'_>) -> Option<Refused<'_>>
-    ensures { Gives refusal_told result (refusal_of (words_left arguments.entry.rest)) }
+    ensures { GivesAsDefined refusal_told result (refusal_of_words (words_left arguments.entry.rest)) }
 {
     let code = arguments.next()?;
     match arguments.next() {
@@ -216,7 +216,7 @@ fn read_refused(mut arguments: Words<'_>) -> Option<Refused<'_>>
 }
 
 fn refused_alone(code: &[u8]) -> Option<Refused<'_>>
-    ensures { Gives refusal_told result (code_alone code.now) }
+    ensures { GivesAsDefined refusal_told result (code_alone code.now) }
 {
     if code == b"E1".as_slice() {
         Some(Refused::UnknownRecipe)
@@ -240,7 +240,7 @@ fn refused_alone(code: &[u8]) -> Option<Refused<'_>>
 }
 
 fn refused_for<'a>(code: &[u8], word: &'a [u8], others: Words<'a>) -> Option<Refused<'a>>
-    ensures { Gives refusal_told result (refusal_of (code.now ∷ word.now ∷ words_left others.entry.rest)) }
+    ensures { GivesAsDefined refusal_told result (refusal_of_words (code.now ∷ word.now ∷ words_left others.entry.rest)) }
 {
     if code == b"E3".as_slice() {
         Some(Refused::CommandNotAccepted(state_alone(word, others)?))
@@ -267,7 +267,7 @@ fn state_alone(word: &[u8], mut others: Words<'_>) -> Option<State>
 }
 
 fn refused_formula<'a>(cause: &'a [u8], mut others: Words<'a>) -> Option<Refused<'a>>
-    ensures { Gives refusal_told result (formula_of (cause.now ∷ words_left others.entry.rest)) }
+    ensures { GivesAsDefined refusal_told result (formula_refusal_of (cause.now ∷ words_left others.entry.rest)) }
 {
     let Some(name) = others.next() else {
         return if cause == b"F1".as_slice() {
@@ -287,7 +287,7 @@ fn refused_formula<'a>(cause: &'a [u8], mut others: Words<'a>) -> Option<Refused
 }
 
 fn refused_left_out<'a>(name: &'a [u8], mut others: Words<'a>) -> Option<Refused<'a>>
-    ensures { Gives refusal_told result (left_out_of (name.now ∷ words_left others.entry.rest)) }
+    ensures { GivesAsDefined refusal_told result (left_out_of (name.now ∷ words_left others.entry.rest)) }
 {
     if others.next().is_some() {
         return None;
@@ -301,7 +301,7 @@ fn refused_left_out<'a>(name: &'a [u8], mut others: Words<'a>) -> Option<Refused
 
 /// A batch, a place and a need.
 fn read_claim(mut arguments: Words<'_>) -> Option<Claim<'_>>
-    ensures { Gives claim_told result (claim_of (words_left arguments.entry.rest)) }
+    ensures { GivesAsDefined claim_told result (claim_told_of (words_left arguments.entry.rest)) }
 {
     let batch = arguments.next()?;
     let place = arguments.next()?;
@@ -313,7 +313,7 @@ fn read_claim(mut arguments: Words<'_>) -> Option<Claim<'_>>
 }
 
 fn claim_with<'a>(batch: &'a [u8], place: &'a [u8], need: &'a [u8]) -> Option<Claim<'a>>
-    ensures { Gives claim_told result (claim_with batch.now place.now (need_of need.now)) }
+    ensures { GivesAsDefined claim_told result (claim_with batch.now place.now (need_of_word need.now)) }
 {
     let (resource, units) = read_need(need)?;
     let batch = plain_number(batch)?;
@@ -331,7 +331,7 @@ fn claim_with<'a>(batch: &'a [u8], place: &'a [u8], need: &'a [u8]) -> Option<Cl
 
 /// A batch, a place, the place of a unit procedure and a need.
 fn read_passed(mut arguments: Words<'_>) -> Option<Passed<'_>>
-    ensures { Gives passed_told result (passed_of (words_left arguments.entry.rest)) }
+    ensures { GivesAsDefined pass_told result (passed_of (words_left arguments.entry.rest)) }
 {
     let batch = arguments.next()?;
     let place = arguments.next()?;
@@ -349,7 +349,7 @@ fn passed_with<'a>(
     to: &'a [u8],
     need: &'a [u8],
 ) -> Option<Passed<'a>>
-    ensures { Gives passed_told result (passed_with to.now (claim_with batch.now place.now (need_of need.now))) }
+    ensures { GivesAsDefined pass_told result (passed_with to.now (claim_with batch.now place.now (need_of_word need.now))) }
 {
     let claim = claim_with(batch, place, need)?;
     if is_plain_place(to) {
@@ -361,7 +361,7 @@ fn passed_with<'a>(
 
 /// A batch and its state.
 fn read_batch(mut arguments: Words<'_>) -> Option<(u64, State)>
-    ensures { result ≡ batch_of (words_left arguments.entry.rest) }
+    ensures { result ≡ batch_state_of (words_left arguments.entry.rest) }
 {
     let batch = arguments.next()?;
     let state = arguments.next()?;
@@ -372,7 +372,7 @@ fn read_batch(mut arguments: Words<'_>) -> Option<(u64, State)>
 }
 
 fn batch_with(batch: &[u8], state: &[u8]) -> Option<(u64, State)>
-    ensures { result ≡ batch_with batch.now (state_of state.now) }
+    ensures { result ≡ batch_state_with batch.now (state_of_word state.now) }
 {
     let state = state_of(state)?;
     let batch = plain_number(batch)?;
@@ -392,7 +392,7 @@ fn read_removed(mut arguments: Words<'_>) -> Option<u64>
 
 /// A reply to an event that was accepted.
 fn read_ok(mut line: Words<'_>) -> Option<Told<'_>>
-    ensures { Gives out_of result (ok_of (words_left line.entry.rest)) }
+    ensures { GivesAsDefined out_told result (ok_of (words_left line.entry.rest)) }
 {
     let first = line.next()?;
     if first == b"report".as_slice() {
@@ -406,7 +406,7 @@ fn read_ok(mut line: Words<'_>) -> Option<Told<'_>>
 }
 
 fn read_order(command: Command, arguments: Words<'_>) -> Option<Told<'_>>
-    ensures { Gives out_of result (order_of (Some command) (words_left arguments.entry.rest)) }
+    ensures { GivesAsDefined out_told result (order_of_words (Some command) (words_left arguments.entry.rest)) }
 {
     let (batch, state) = read_batch(arguments)?;
     Some(Told::Ordered {
@@ -418,7 +418,7 @@ fn read_order(command: Command, arguments: Words<'_>) -> Option<Told<'_>>
 
 /// A report that was accepted.
 fn read_report(mut arguments: Words<'_>) -> Option<Reported<'_>>
-    ensures { Gives report_told result (report_told_of (words_left arguments.entry.rest)) }
+    ensures { GivesAsDefined report_told result (report_told_of (words_left arguments.entry.rest)) }
 {
     let unit = arguments.next()?;
     let phase = arguments.next()?;
@@ -440,7 +440,7 @@ fn report_with<'a>(
     place: &'a [u8],
     state: &'a [u8],
 ) -> Option<Reported<'a>>
-    ensures { Gives report_told result (report_with unit.now phase.now batch.now place.now (word_of_report word.now) (state_of state.now)) }
+    ensures { GivesAsDefined report_told result (report_with unit.now phase.now batch.now place.now (word_of_report word.now) (state_of_word state.now)) }
 {
     let word = word_of_report(word)?;
     let state = state_of(state)?;

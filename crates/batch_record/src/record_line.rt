@@ -1,7 +1,7 @@
 //! Reading a line that may be one of a record.
 ghost use Rattle.std.specs.Prelude.{◌≡◌, true, false, IfOk, IfSome, IsErr, IsTrue, MatchOption, MatchResult, None, Some};
-ghost use Rattle.batch_record.specs.Laws.{Tells, TellsNothing, is_fault_line, is_passed_over};
-ghost use Rattle.batch_record.specs.Reading.{out_of};
+ghost use Rattle.batch_record.specs.Laws.{TellsOut, TellsNothing, is_fault_line, is_passed_over};
+ghost use Rattle.batch_record.specs.Reading.{out_told};
 ghost use Rattle.batch_record.specs.RecordLine.{out_of_line};
 
 use crate::read::read_out;
@@ -17,9 +17,9 @@ pub struct NoRecordLine;
 pub fn read_record_line(line: &[u8]) -> Result<Option<Told<'_>>, NoRecordLine>
     ensures ok { IfOk result (λ told. MatchOption told
         ((is_passed_over line.now ≡ true) × TellsNothing line.now)
-        (λ told. (is_passed_over line.now ≡ false) × Tells line.now (out_of told))) }
+        (λ told. (is_passed_over line.now ≡ false) × TellsOut line.now (out_told told))) }
     ensures refused { IsErr result → (is_passed_over line.now ≡ false) × TellsNothing line.now }
-    ensures read { MatchResult result (λ told. IfSome told (λ told. out_of_line line.now ≡ Some (out_of told))) (λ _. out_of_line line.now ≡ None) }
+    ensures read { MatchResult result (λ told. IfSome told (λ told. out_of_line line.now ≡ Some (out_told told))) (λ _. out_of_line line.now ≡ None) }
 {
     if is_passed_over(line) {
         return Ok(None);

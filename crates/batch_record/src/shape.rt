@@ -1,6 +1,6 @@
 //! The shapes of a picture.
 ghost use Rattle.std.specs.Prelude.{◌≡◌, Some};
-ghost use Rattle.batch_record.specs.Pictures.{anchor_word, area_text, block_text, colour_text, does, frame_text, grid_text, hatching, label_text, shape_text, title_text};
+ghost use Rattle.batch_record.specs.Pictures.{anchor_word, area_text, bar_text, colour_text, holding_verb, frame_text, grid_text, hatching, label_text, shape_text, title_text};
 
 use batch_text::Name;
 use std::fmt;
@@ -93,7 +93,7 @@ pub struct Block {
 
 impl fmt::Display for Block {
     // claim: text of a picture
-    ghost output = { λ block. Some (block_text block) };
+    ghost output = { λ block. Some (bar_text block) };
 
     fn fmt<W: fmt::Write>(&self, f: &mut fmt::Formatter<W>) -> fmt::Result {
         let (title, area, frame) = (Title { of: self }, Area { of: self }, Frame { of: self });
@@ -163,7 +163,7 @@ impl<'a> fmt::Display for Frame<'a> {
 
 /// The verb of a batch that waits or holds.
 fn does(waits: bool) -> &'static str
-    ensures { result.now ≡ does waits }
+    ensures { result.now ≡ holding_verb waits }
 {
     if waits { "waits for" } else { "holds" }
 }

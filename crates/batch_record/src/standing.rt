@@ -4,8 +4,8 @@ ghost use Rattle.std.specs.List.Sorted.{IsSorted};
 ghost use Rattle.batch_recipe.specs.Conditions.{Name};
 ghost use Rattle.batch_model.specs.Plant.{BatchAct};
 ghost use Rattle.batch_record.specs.Listing.{act_cmp, holder_cmp, waiter_cmp, of_act};
-ghost use Rattle.batch_record.specs.Kept.{act_of, claim_of, claims_of, shares_of, is_other, HoldersAfter, WaitersAfter, Joins, Leaves, Passes, BatchLeaves, LeavesAt};
-ghost use Rattle.batch_record.specs.Reading.{out_of, claim_told, passed_told};
+ghost use Rattle.batch_record.specs.Kept.{kept_act, kept_claim, kept_claims, shares_kept, is_other, HoldersAfter, WaitersAfter, AddsShare, Leaves, Passes, BatchLeaves, LeavesAt};
+ghost use Rattle.batch_record.specs.Reading.{out_told, claim_told, pass_told};
 
 use crate::memory::{NoMemory, read_name, read_place};
 use crate::told::{Claim, Passed, Told};
@@ -48,9 +48,9 @@ impl Standing {
 
     /// Sorts them by resource, then by the batch's number, then by place.
     pub(crate) fn sort_as_holders(&mut self) -> Result<(), NoMemory>
-        ensures sorted { OnOk result (IsSorted holder_cmp (claims_of self.new.shares.items)) }
-        ensures stable { (resource : Name) (act : BatchAct) → of_act act (shares_of resource self.new.shares.items)
-            ≡ of_act act (shares_of resource self.old.shares.items) }
+        ensures sorted { OnOk result (IsSorted holder_cmp (kept_claims self.new.shares.items)) }
+        ensures stable { (resource : Name) (act : BatchAct) → of_act act (shares_kept resource self.new.shares.items)
+            ≡ of_act act (shares_kept resource self.old.shares.items) }
     {
         match self
             .shares
@@ -63,8 +63,8 @@ impl Standing {
 
     /// Sorts them by resource, then as they came.
     pub(crate) fn sort_as_waiters(&mut self) -> Result<(), NoMemory>
-        ensures sorted { OnOk result (IsSorted waiter_cmp (claims_of self.new.shares.items)) }
-        ensures stable { (resource : Name) → shares_of resource self.new.shares.items ≡ shares_of resource self.old.shares.items }
+        ensures sorted { OnOk result (IsSorted waiter_cmp (kept_claims self.new.shares.items)) }
+        ensures stable { (resource : Name) → shares_kept resource self.new.shares.items ≡ shares_kept resource self.old.shares.items }
     {
         match self
             .shares
@@ -118,7 +118,7 @@ impl Standing {
 impl Standing {
     /// Applies an out to the shares of holders.
     pub fn apply_to_holders(&mut self, alloc: Global, told: Told<'_>) -> Result<(), NoMemory>
-        ensures ok { OnOk result (HoldersAfter self.old.shares.items (out_of told.entry) self.new.shares.items) }
+        ensures ok { OnOk result (HoldersAfter self.old.shares.items (out_told told.entry) self.new.shares.items) }
         ensures err { OnErr result (self.new.shares.items ≡ self.old.shares.items) }
     {
         match told {
@@ -131,7 +131,7 @@ impl Standing {
 
     /// Applies an out to the shares of waiting acts.
     pub fn apply_to_waiters(&mut self, alloc: Global, told: Told<'_>) -> Result<(), NoMemory>
-        ensures ok { OnOk result (WaitersAfter self.old.shares.items (out_of told.entry) self.new.shares.items) }
+        ensures ok { OnOk result (WaitersAfter self.old.shares.items (out_told told.entry) self.new.shares.items) }
         ensures err { OnErr result (self.new.shares.items ≡ self.old.shares.items) }
     {
         match told {
@@ -161,7 +161,7 @@ impl Standing {
     }
 
     pub(crate) fn claim_joins(&mut self, alloc: Global, claim: Claim<'_>) -> Result<(), NoMemory>
-        ensures ok { OnOk result (Joins self.old.shares.items (claim_told claim.entry) self.new.shares.items) }
+        ensures ok { OnOk result (AddsShare self.old.shares.items (claim_told claim.entry) self.new.shares.items) }
         ensures err { OnErr result (self.new.shares.items ≡ self.old.shares.items) }
     {
         let resource = read_name(alloc, claim.resource)?;
@@ -185,7 +185,7 @@ impl Standing {
     }
 
     fn claim_passes(&mut self, alloc: Global, told: Passed<'_>) -> Result<(), NoMemory>
-        ensures ok { OnOk result (Passes self.old.shares.items (passed_told told.entry) self.new.shares.items) }
+        ensures ok { OnOk result (Passes self.old.shares.items (pass_told told.entry) self.new.shares.items) }
         ensures err { OnErr result (self.new.shares.items ≡ self.old.shares.items) }
     {
         let claim = told.claim;
@@ -205,7 +205,7 @@ impl Standing {
 }
 
 fn compare_holders(kept: &Kept, other: &Kept) -> Ordering
-    ensures { result ≡ holder_cmp (claim_of kept.now) (claim_of other.now) }
+    ensures { result ≡ holder_cmp (kept_claim kept.now) (kept_claim other.now) }
 {
     kept.resource
         .cmp(&other.resource)
@@ -213,7 +213,7 @@ fn compare_holders(kept: &Kept, other: &Kept) -> Ordering
 }
 
 fn compare_acts(kept: &Kept, other: &Kept) -> Ordering
-    ensures { result ≡ act_cmp (act_of kept.now) (act_of other.now) }
+    ensures { result ≡ act_cmp (kept_act kept.now) (kept_act other.now) }
 {
     kept.batch
         .cmp(&other.batch)
@@ -221,7 +221,7 @@ fn compare_acts(kept: &Kept, other: &Kept) -> Ordering
 }
 
 fn compare_waiters(kept: &Kept, other: &Kept) -> Ordering
-    ensures { result ≡ waiter_cmp (claim_of kept.now) (claim_of other.now) }
+    ensures { result ≡ waiter_cmp (kept_claim kept.now) (kept_claim other.now) }
 {
     kept.resource.cmp(&other.resource)
 }

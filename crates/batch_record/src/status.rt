@@ -1,8 +1,8 @@
 //! The whole state that a record gives.
 ghost use Rattle.std.specs.Prelude.{OnOk};
-ghost use Rattle.batch_record.specs.Reading.{out_of};
+ghost use Rattle.batch_record.specs.Reading.{out_told};
 ghost use Rattle.batch_record.specs.Kept.{Keeps};
-ghost use Rattle.batch_record.specs.Telling.{Tale, silence, tale_after};
+ghost use Rattle.batch_record.specs.Telling.{Tale, empty_tale, tale_after};
 
 use crate::batches::Batches;
 use crate::live::LivePhases;
@@ -34,7 +34,7 @@ impl Drop for Status {
 impl Status {
     /// The state by a record without a line.
     pub fn new(alloc: Global) -> Status
-        ensures { Keeps result silence }
+        ensures { Keeps result empty_tale }
     {
         Status {
             batches: Batches::new(alloc),
@@ -47,7 +47,7 @@ impl Status {
     /// Applies one out more. At Err the out may be applied in part, and the record must be read anew.
     // claim: told out by out
     pub fn apply_out(&mut self, alloc: Global, told: Told<'_>) -> Result<(), NoMemory>
-        ensures { OnOk result ((tale : Tale) → Keeps self.old tale → Keeps self.new (tale_after tale (out_of told.entry))) }
+        ensures { OnOk result ((tale : Tale) → Keeps self.old tale → Keeps self.new (tale_after tale (out_told told.entry))) }
     {
         self.batches.apply_out(alloc, told)?;
         self.holders.apply_to_holders(alloc, told)?;

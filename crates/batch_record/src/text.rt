@@ -4,7 +4,7 @@ ghost use Rattle.std.specs.List.Sorted.{IsStrictlySortedBy};
 ghost use Rattle.std.specs.Map.{keys_of};
 ghost use Rattle.std.specs.Ordering.{nat_cmp};
 ghost use Rattle.batch_recipe.specs.Texts.{line_text, place_text};
-ghost use Rattle.batch_record.specs.Kept.{Keeps, claim_of, claims_of, live_of, lives_of, listed_of, rows_of};
+ghost use Rattle.batch_record.specs.Kept.{Keeps, kept_claim, kept_claims, kept_live, lives_of, listed_of, listed_rows};
 ghost use Rattle.batch_record.specs.Listing.{IsTextOf, batch_words, claim_words, live_words, lines_behind};
 ghost use Rattle.batch_record.specs.Telling.{Tale};
 ghost use Rattle.batch_wire.specs.RecordText.{state_text};
@@ -39,8 +39,8 @@ impl Status {
 }
 
 fn put_batches(text: &mut Vec<u8>, mark: &[u8], batches: &Batches) -> Result<(), NoMemory>
-    ensures rise { OnOk result (IsStrictlySortedBy nat_cmp (keys_of (rows_of batches.now))) }
-    ensures put { OnOk result (text.new.items ≡ text.old.items ++ lines_behind mark.now (map batch_words (rows_of batches.now))) }
+    ensures rise { OnOk result (IsStrictlySortedBy nat_cmp (keys_of (listed_rows batches.now))) }
+    ensures put { OnOk result (text.new.items ≡ text.old.items ++ lines_behind mark.now (map batch_words (listed_rows batches.now))) }
 {
     for (number, batch) in batches.listed.iter() {
         put_batch(text, mark, *number, batch)?;
@@ -55,7 +55,7 @@ fn put_claims(
     word: &[u8],
     claims: &[Kept],
 ) -> Result<(), NoMemory>
-    ensures { OnOk result (text.new.items ≡ text.old.items ++ lines_behind mark.now (map (claim_words word.now) (claims_of claims.now))) }
+    ensures { OnOk result (text.new.items ≡ text.old.items ++ lines_behind mark.now (map (claim_words word.now) (kept_claims claims.now))) }
 {
     for kept in claims {
         put_claim(alloc, text, mark, word, kept)?;
@@ -102,7 +102,7 @@ fn put_claim(
     word: &[u8],
     kept: &Kept,
 ) -> Result<(), NoMemory>
-    ensures { OnOk result (text.new.items ≡ text.old.items ++ (mark.now ++ line_text (claim_words word.now (claim_of kept.now)))) }
+    ensures { OnOk result (text.new.items ≡ text.old.items ++ (mark.now ++ line_text (claim_words word.now (kept_claim kept.now)))) }
 {
     let mut batch_digits = Buffer::new();
     let mut unit_digits = Buffer::new();
@@ -126,7 +126,7 @@ fn put_phase(
     mark: &[u8],
     phase: &LivePhase,
 ) -> Result<(), NoMemory>
-    ensures { OnOk result (text.new.items ≡ text.old.items ++ (mark.now ++ line_text (live_words (live_of phase.now)))) }
+    ensures { OnOk result (text.new.items ≡ text.old.items ++ (mark.now ++ line_text (live_words (kept_live phase.now)))) }
 {
     let mut digits = Buffer::new();
     let place = place_text(alloc, &phase.place)?;

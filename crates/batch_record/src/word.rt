@@ -1,9 +1,9 @@
 //! Single words of a record.
 ghost use Rattle.std.specs.Prelude.{◌≡◌, ◌==◌, true, false, length, nat_le, Some, None, MatchOption};
 ghost use Rattle.std.specs.List.{before_first, after_first, list_all};
-ghost use Rattle.batch_text.specs.PlaceText.{parts};
+ghost use Rattle.batch_text.specs.PlaceText.{dotted_parts};
 ghost use Rattle.batch_text.specs.NumberText.{number_of};
-ghost use Rattle.batch_record.specs.RecordLine.{is_plain_number, is_plain_child, is_plain_place, is_plain_units, has_plain_front, need_of, state_of};
+ghost use Rattle.batch_record.specs.RecordLine.{is_plain_number, is_plain_child, is_plain_place, is_plain_units, has_plain_front, need_of_word, state_of_word};
 ghost use Rattle.batch_wire.specs.EventLine.{is_number};
 ghost use Rattle.batch_record.specs.Reading.{need_told};
 
@@ -49,14 +49,14 @@ pub fn is_plain_place(word: &[u8]) -> bool
 }
 
 fn are_plain_children(word: &[u8]) -> bool
-    ensures { result ≡ list_all is_plain_child (parts word.now) }
+    ensures { result ≡ list_all is_plain_child (dotted_parts word.now) }
 {
     word.split(|byte| *byte == b'.')
         .all(|part| is_plain_child(part))
 }
 
 fn has_few_parts(word: &[u8]) -> bool
-    ensures { result ≡ nat_le (length (parts word.now)) 100 }
+    ensures { result ≡ nat_le (length (dotted_parts word.now)) 100 }
 {
     word.split(|byte| *byte == b'.').count() <= MAX_PLACE_LEN
 }
@@ -72,8 +72,8 @@ fn is_plain_child(part: &[u8]) -> bool
 
 /// The need that the word names: a resource, and how many units of its capacity.
 pub fn read_need(word: &[u8]) -> Option<(&[u8], u32)>
-    ensures { MatchOption result (need_of word.now ≡ None)
-        (λ need. need_of word.now ≡ Some (need_told need.0.now need.1)) }
+    ensures { MatchOption result (need_of_word word.now ≡ None)
+        (λ need. need_of_word word.now ≡ Some (need_told need.0.now need.1)) }
 {
     if is_name(word) {
         return Some((word, 1));
@@ -115,7 +115,7 @@ pub fn parted(word: &[u8], at: u8) -> (&[u8], &[u8])
 
 /// The state that the word names.
 pub fn state_of(word: &[u8]) -> Option<State>
-    ensures { result ≡ state_of word.now }
+    ensures { result ≡ state_of_word word.now }
 {
     if word == b"idle".as_slice() {
         Some(State::Idle)

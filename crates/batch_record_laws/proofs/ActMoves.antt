@@ -14,7 +14,7 @@ use Rattle.batch_model.specs.Rest.{Rest, Moment, ready, asking, open_act, live, 
 use Rattle.batch_model.specs.Plant.{Setup, InAdvance, Batch, Share, units_in, Plant, moment_of, in_act, held_in, holders}
 use Rattle.batch_model.specs.ActStates.{steps}
 use Rattle.batch_model.specs.Standing.{IsAwaited, is_resting}
-use Rattle.batch_model.specs.Moves.{Move, send, release, pass, begin, start, end, ask, grant, is_running, is_stopping, is_stopped, is_quiet, is_empty, passed_on, beginning, entering, last_held, giving_back, reserved_place, handing_over, line_after, when, is_served, act_move, freed, sent, released, begun, ended, asked, granted, batch_after, after, handed_values}
+use Rattle.batch_model.specs.Moves.{Move, send, release, pass, begin, start, end, ask, grant, is_running, is_stopping, is_stopped, is_quiet, is_empty, passed_on, beginning, entering, last_held, giving_back, reserved_place, handing_over, line_after, when, is_served, act_move, freed, sent, released, begun, ended, asked, granted, batch_after, after_move, handed_values}
 use Rattle.batch_model.specs.Runs.{Out, move}
 use Rattle.batch_model.specs.Records.{StartsIdle}
 use Rattle.batch_record_laws.proofs.PlantFacts.{holding, awaiting, performing, Standing, held_at, awaited_at, facts, early_facts, batch_facts, Entry, entries, holders_among}
@@ -72,7 +72,7 @@ freed-facts s k = grind arith
 
 -- the required effect of a move
 abbrev pub Stepped : Setup → Ranking → List Out → Plant → Move → Type 0
-Stepped d rank outs s m = IsKept d rank (outs ++ move m ∷ []) (after s m) × StartsIdle d (outs ++ move m ∷ [])
+Stepped d rank outs s m = IsKept d rank (outs ++ move m ∷ []) (after_move s m) × StartsIdle d (outs ++ move m ∷ [])
 
 pub some_move : (m l : Move) → ◌≡◌ {A = Option Move} (Some m) (Some l) → m ≡ l
 some_move m l e = cc
@@ -208,7 +208,7 @@ module _ (d : Setup) (rank : Ranking) (outs : List Out) (s : Plant) (sd : IsStan
       )
 
   step-start : (p : Step) (x : Phase) (n : ℕ) (vs : ValueList) → Has (acts b.rest) (ready p (runs x) n) → slice_get p.needs n ≡ None → is_running b.state ≡ true
-      → IsStanding d (after s (start b.number p.place x vs)) → Stepped d rank outs s (start b.number p.place x vs)
+      → IsStanding d (after_move s (start b.number p.place x vs)) → Stepped d rank outs s (start b.number p.place x vs)
   step-start p x n vs j e running td =
       let m : Move = start b.number p.place x vs in
       let a : Rest = ready p (runs x) n in
@@ -217,14 +217,14 @@ module _ (d : Setup) (rank : Ranking) (outs : List Out) (s : Plant) (sd : IsStan
       = record { was = ap (held_at p.place) (take-whole n p.needs e) ∙ sym (append-nil (held_at p.place p.needs)); is = refl } in
       let on = gone_on (outs ++ move m ∷ []) a j m begun begun-steady (begun-tidy b.values) (begun-remains (at_moment b.values []) p (runs x) n) refl in
       let all = gone_alike (outs ++ move m ∷ []) a j m begun begun-steady (begun-tidy b.values) (begun-remains (at_moment b.values []) p (runs x) n) refl in
-      let kept : IsKept d rank (outs ++ move m ∷ []) (after s m)
+      let kept : IsKept d rank (outs ++ move m ∷ []) (after_move s m)
       = on s.line (kept-started d rank outs s sd k b i a j (moved a f) f (change a f) p.needs x vs becomes running refl) in
       let E : List Entry = entries s.batches in
       let E' : List Entry = entries (map (only b.number (moved a f)) s.batches) in
       let ap' : IsApart b.number p.place p.needs nothing (also (performing x)) E E'
       = apart-here d rank outs s sd k b i a j (moved a f) f (change a f) p.needs nothing (also (performing x)) becomes in (
         kept,
-        starts-idle d rank outs s (after s m) b.number p.place x vs sd k td kept
+        starts-idle d rank outs s (after_move s m) b.number p.place x vs sd k td kept
             (all.there ((b.number, p.place), performing x) (comes b.number p.place p.needs nothing (also (performing x)) E E' ap' ((b.number, p.place), performing x) (inl refl)))
             (λ c y h. (
               all.there (c, performing y) (⊎_elim (λ z. z) (λ z. absurd z) (stays b.number p.place p.needs nothing (also (performing x)) E E' ap' (c, performing y) h)),
@@ -359,7 +359,7 @@ module _ (d : Setup) (rank : Ranking) (outs : List Out) (s : Plant) (sd : IsStan
         starts-nothing d outs (move m) (λ n q y vs e. cc),
       )
 
-  step-ready : (p : Step) (w : Task) (n : ℕ) (m : Move) → Has (acts b.rest) (ready p w n) → act_move d s b (ready p w n) ≡ Some m → IsStanding d (after s m) → Stepped d rank outs s m
+  step-ready : (p : Step) (w : Task) (n : ℕ) (m : Move) → Has (acts b.rest) (ready p w n) → act_move d s b (ready p w n) ≡ Some m → IsStanding d (after_move s m) → Stepped d rank outs s m
   step-ready p w n m j e td = go (is_running b.state) refl e
     where
       enter : (o : Option Need) → slice_get p.needs n ≡ o → is_running b.state ≡ true → (v : Task) → w ≡ v
@@ -374,7 +374,7 @@ module _ (d : Setup) (rank : Ranking) (outs : List Out) (s : Plant) (sd : IsStan
       enter None q run (runs x) u f =
           let made : start b.number p.place x (handed_values b.values x.handed) ≡ m = some_move (start b.number p.place x (handed_values b.values x.handed)) m f in
           subst (Stepped d rank outs s) made
-          (step-start p x n (handed_values b.values x.handed) (subst (λ z. Has (acts b.rest) (ready p z n)) u j) q run (subst (λ z. IsStanding d (after s z)) (sym made) td))
+          (step-start p x n (handed_values b.values x.handed) (subst (λ z. Has (acts b.rest) (ready p z n)) u j) q run (subst (λ z. IsStanding d (after_move s z)) (sym made) td))
       enter None q run (follows name c) u f =
           subst (Stepped d rank outs s) (some_move (begin b.number p.place name) m f) (step-begin p name c n (subst (λ z. Has (acts b.rest) (ready p z n)) u j) q)
 
@@ -476,7 +476,7 @@ module _ (d : Setup) (rank : Ranking) (outs : List Out) (s : Plant) (sd : IsStan
       go true q f = back f
       go false q f = hand (reserved_place b.recipe.procedure p (pred n)) refl q f
 
-  pub act-step : (a : Rest) (m : Move) → Has (acts b.rest) a → act_move d s b a ≡ Some m → IsStanding d (after s m) → Stepped d rank outs s m
+  pub act-step : (a : Rest) (m : Move) → Has (acts b.rest) a → act_move d s b a ≡ Some m → IsStanding d (after_move s m) → Stepped d rank outs s m
   act-step (ready p w n) m j e td = step-ready p w n m j e td
   act-step (asking p w n) m j e td = step-asking p w n m j e
   act-step (open_act p r) m j e td = step-open p r m j e

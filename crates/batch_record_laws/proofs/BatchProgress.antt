@@ -9,7 +9,7 @@ use Rattle.batch_recipe.specs.Tree.{Place, Step, Task, runs, follows, Tree, act,
 use Rattle.batch_model.specs.ActStates.{steps, steps_below, steps_of_each, steps_of_choices}
 use Rattle.batch_model.specs.Cleared.{Ranking}
 use Rattle.batch_model.specs.Lists.{Has}
-use Rattle.batch_model.specs.Plant.{Setup, InAdvance, Batch, Share, Plant, is_reached}
+use Rattle.batch_model.specs.Plant.{Setup, InAdvance, Batch, Share, Plant, is_act_reached}
 use Rattle.batch_model.specs.Rest.{Rest, Moment, ready, asking, open_act, live, freeing, in_seq, in_par, in_loop, done, Rests, no_rests, rest, acts, acts_of_each, advance, place_of, changed_at}
 use Rattle.batch_model.specs.Runs.{Out, goes_on}
 use Rattle.batch_model.specs.Records.{state_told}
@@ -163,7 +163,7 @@ module _ (d : Setup) (rank : Ranking) (outs : List Out) (s : Plant) (sd : IsStan
         advance-IsRestOf (at_moment vs []) b.recipe.procedure (changed_at p (f (at_moment vs [])) b.rest)
         (changed_at-IsRestOf p (f (at_moment vs [])) b.recipe.procedure b.rest remains stands.stands)
 
-    takes : (held : InAdvance) → Has xs held → is_reached reached held.place ≡ true → AtOnce held.place held.unit reached
+    takes : (held : InAdvance) → Has xs held → is_act_reached reached held.place ≡ true → AtOnce held.place held.unit reached
     takes held j e =
         let a = reached-at held.place reached e in
         let fresh = fresh-where-none vs p (f (at_moment vs [])) tidy b.rest a.0 a.1 (λ c k q. ahead.nowhere held j c k (q ∙ a.2)) in
@@ -173,7 +173,7 @@ module _ (d : Setup) (rank : Ranking) (outs : List Out) (s : Plant) (sd : IsStan
         (subst (Has (acts reached)) fresh.2 a.1)
 
     left-same : left_over (h b).rest xs ≡ left_over reached xs
-    left-same = ap (λ test. filter (λ (held : InAdvance). not (test held.place)) xs) (ap is_reached is_raised ∙ fun_ext (λ q. reached-raised xs reached q))
+    left-same = ap (λ test. filter (λ (held : InAdvance). not (test held.place)) xs) (ap is_act_reached is_raised ∙ fun_ext (λ q. reached-raised xs reached q))
 
     facts-alike : AreAlike (batch_facts (g b)) (batch_facts (h b))
     facts-alike =
@@ -202,10 +202,10 @@ module _ (d : Setup) (rank : Ranking) (outs : List Out) (s : Plant) (sd : IsStan
     still-sound k = record {
       cleared = subst (λ r. IsClearedDown d rank r) (sym on.same_recipe) sound.cleared;
       fits = still-fits k;
-      apart = subst StandApart (sym on.left) (apart-filter (λ held. not (is_reached (h b).rest held.place)) xs ahead.apart);
+      apart = subst StandApart (sym on.left) (apart-filter (λ held. not (is_act_reached (h b).rest held.place)) xs ahead.apart);
       units = λ held j.
           subst (λ r. IsFirstNeed r.procedure held) (sym on.same_recipe)
-          (ahead.units held (Has-filter (λ held. not (is_reached (h b).rest held.place)) xs held (subst (λ ys. Has ys held) on.left j)).0);
+          (ahead.units held (Has-filter (λ held. not (is_act_reached (h b).rest held.place)) xs held (subst (λ ys. Has ys held) on.left j)).0);
     }
 
     each-alike : (c : Batch) → Has s.batches c → AreAlike (entries_of (only b.number g c)) (entries_of (only b.number h c))

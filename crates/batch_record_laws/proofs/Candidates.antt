@@ -7,8 +7,8 @@ use Rattle.batch_cell.specs.declared.cell.Cell as equipment
 use Rattle.batch_recipe.specs.Conditions.{Name, same_name}
 use Rattle.batch_recipe.specs.Diagram as chart
 use Rattle.batch_recipe.specs.Diagram.{Diagram, Diagrams, Cases, diagram_of}
-use Rattle.batch_recipe.specs.Expanding.{Binding, unbound, Sites, unit_chosen, unit_with, unit_below, unit_count, unit_named, asked_by, reserves_from, expanded, expanded_each, expanded_cases, task_of, act_named, act_tree_with, named_tree_with}
-use Rattle.batch_recipe.specs.Needs.{resources_of}
+use Rattle.batch_recipe.specs.Expanding.{Binding, unbound, Sites, unit_chosen, unit_with, unit_below, unit_count, unit_named, asked_in_order, reserves_from, expanded, expanded_each, expanded_cases, task_of, act_named, act_tree_with, named_tree_with}
+use Rattle.batch_recipe.specs.Needs.{resources_needed}
 use Rattle.batch_recipe.specs.Nodes.{child}
 use Rattle.batch_recipe.specs.Tree.{Place, Tree, act, skip, seq, par, sel, loop, Trees, Choices, Step, follows}
 use Rattle.batch_recipe.specs.ActsAtNodes.{procedure_acts}
@@ -178,7 +178,7 @@ module _ (setup : Setup) (rank : Ranking) (roles : List Declared) (units : List 
 
   abbrev root_of : Binding → Act → Option UnitChoice → List Name → Work → Tree
   root_of bound a o rs w =
-      act (record { place = 0 ∷ []; needs = asked_by (unit_with bound o) (map (unit_named (own_sites bound)) rs) a.needs.items; reserves = reserves_from (unit_count o) rs })
+      act (record { place = 0 ∷ []; needs = asked_in_order (unit_with bound o) (map (unit_named (own_sites bound)) rs) a.needs.items; reserves = reserves_from (unit_count o) rs })
       (task_of (named_tree_with (own_sites bound) (units ∷ tables) (unit_below [] (unit_with bound o))) (unit_below [] (unit_with bound o)) a.name (0 ∷ []) w)
 
   abbrev labels_in : Work → List Name
@@ -186,14 +186,14 @@ module _ (setup : Setup) (rank : Ranking) (roles : List Declared) (units : List 
 
   abbrev OnEach : Act → Option UnitChoice → List Name → Work → Type 0
   OnEach a o rs w =
-      IsClear setup rank (part is_procedure (0 ∷ []) [] (root_of unbound a o rs w)) × WorkIsClear setup rank roles Serves units tables (0 ∷ []) (resources_of a.needs.items) w
+      IsClear setup rank (part is_procedure (0 ∷ []) [] (root_of unbound a o rs w)) × WorkIsClear setup rank roles Serves units tables (0 ∷ []) (resources_needed a.needs.items) w
 
   pub whole-for_all : (a : Act) (o : Option UnitChoice) (rs : List Name) (w : Work) → o ≡ None → rs ≡ [] → elim w [ Follows c ↦ true | Runs phase values reports ↦ false ] ≡ true → AreNamed (labels_in w)
       → OnEach a o rs w → Always (λ bound. parts is_procedure (0 ∷ []) [] (root_of bound a o rs w))
   whole-for_all a None [] (Follows c) e q f n h bound s = (
     root-clear setup rank (0 ∷ []) [] (record { place = 0 ∷ []; needs = a.needs.items; reserves = [] }) a.name
         (expanded (label_of unbound) (child (0 ∷ []) 0) (diagram_of c)) (expanded (label_of bound) (child (0 ∷ []) 0) (diagram_of c)) h.0,
-    for_all bound s (child (0 ∷ []) 0) (resources_of a.needs.items) (diagram_of c) n h.1,
+    for_all bound s (child (0 ∷ []) 0) (resources_needed a.needs.items) (diagram_of c) n h.1,
   )
   whole-for_all a o rs w e q f n h bound s = grind arith
 
@@ -202,7 +202,7 @@ module _ (setup : Setup) (rank : Ranking) (roles : List Declared) (units : List 
   whole-by_itself a None [] (Follows c) e q f n h = (
     root-clear setup rank (0 ∷ []) [] (record { place = 0 ∷ []; needs = a.needs.items; reserves = [] }) a.name
         (expanded (label_of some.0) (child (0 ∷ []) 0) (diagram_of c)) (expanded (label_of unbound) (child (0 ∷ []) 0) (diagram_of c)) (h some.0 some.1).0,
-    by_itself (child (0 ∷ []) 0) (resources_of a.needs.items) (diagram_of c) n (λ bound s. (h bound s).1),
+    by_itself (child (0 ∷ []) 0) (resources_needed a.needs.items) (diagram_of c) n (λ bound s. (h bound s).1),
   )
   whole-by_itself a o rs w e q f n h = grind arith
 

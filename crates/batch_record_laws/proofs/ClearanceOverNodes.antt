@@ -23,7 +23,7 @@ use Rattle.batch_record_laws.proofs.Members.{Each-left, Each-right, Each-image, 
 use Rattle.batch_record_laws.proofs.UnitProcedures.{Top, tops, tops_of_each, tops_of_choices, top-steps, follower-one}
 use Rattle.batch_record_laws.proofs.Ways.{paths-down}
 use Rattle.batch_recipe.specs.declared.need.Need.{Need}
-use Rattle.batch_recipe.specs.Needs.{one_unit, resources_of}
+use Rattle.batch_recipe.specs.Needs.{one_unit, resources_needed}
 
 -- Phases run on the unit of their unit procedure
 
@@ -140,7 +140,7 @@ module _ (setup : Setup) (rank : Ranking) where
     in-unit_procedure : (unit : Name) (p : Place) (asked : List Name) (above : List Need) (t : Tree) → Has above (one_unit unit) → IsOfLevel in_unit_procedure unit t
         → Each Clear (parts in_unit_procedure p asked t) → RunsInUnits above t
     in-unit_procedure unit p asked above (act s (follows name t)) k h c =
-        in-operation unit (child p 0) (asked ++ resources_of s.needs) (s.needs ++ above) t (Has-right s.needs above (one_unit unit) k) h c.1
+        in-operation unit (child p 0) (asked ++ resources_needed s.needs) (s.needs ++ above) t (Has-right s.needs above (one_unit unit) k) h c.1
     in-unit_procedure unit p asked above skip k h c = tt
     in-unit_procedure unit p asked above (seq ts) k h c = in-unit_procedure_each unit p asked above 0 ts k h c.1
     in-unit_procedure unit p asked above (sel cs) k h c = in-unit_procedure_choices unit p asked above 0 cs k h c.1
@@ -184,13 +184,13 @@ module _ (setup : Setup) (rank : Ranking) where
     elsewhere unit p asked (sel cs) h c = elsewhere_choices unit p asked 0 cs h c.1
     elsewhere unit p asked (loop n q t) h c = elsewhere unit (child p 0) asked t h c.1
 
-    elsewhere_act : (unit : Name) (asked : List Name) (needs : List Need) (w : Task) → IsActOf in_procedure unit needs w → RiseStrictly rank (asked ++ resources_of needs) → Each (IsElsewhere asked) (phases_within w)
+    elsewhere_act : (unit : Name) (asked : List Name) (needs : List Need) (w : Task) → IsActOf in_procedure unit needs w → RiseStrictly rank (asked ++ resources_needed needs) → Each (IsElsewhere asked) (phases_within w)
     elsewhere_act unit asked needs (runs x) h rise = tt_of needs h
       where
         tt_of : (needs : List Need) → IsActOf in_procedure unit needs (runs x) → Each (IsElsewhere asked) (x ∷ [])
         tt_of needs h = absurd (grind arith)
     elsewhere_act unit asked [] (follows name t) h rise = absurd h
-    elsewhere_act unit asked (own ∷ needs) (follows name t) h rise = elsewhere-below asked (resources_of needs) own.resource (phases t) rise (below-unit own.resource t h.1)
+    elsewhere_act unit asked (own ∷ needs) (follows name t) h rise = elsewhere-below asked (resources_needed needs) own.resource (phases t) rise (below-unit own.resource t h.1)
 
     elsewhere_each : (unit : Name) (p : Place) (asked : List Name) (i : ℕ) (ts : Trees) → AreOfLevel in_procedure unit ts → Each Clear (parts_of_each in_procedure p asked i ts)
         → Each (IsElsewhere asked) (phases_of_each ts)
@@ -226,9 +226,9 @@ module _ (setup : Setup) (rank : Ranking) where
     in-procedure unit p asked above (loop n q t) k h c = in-procedure unit (child p 0) asked above t k h c.1
 
     in-procedure_act : (unit : Name) (p : Place) (asked : List Name) (above needs : List Need) (w : Task) → IsActOf in_procedure unit needs w
-        → Each Clear (parts_within in_unit_procedure p (asked ++ resources_of needs) w) → RunsInUnitsBelow needs above w
+        → Each Clear (parts_within in_unit_procedure p (asked ++ resources_needed needs) w) → RunsInUnitsBelow needs above w
     in-procedure_act unit p asked above (own ∷ needs) (follows name t) h c =
-        in-unit_procedure own.resource (child p 0) (asked ++ (own.resource ∷ resources_of needs)) ((own ∷ needs) ++ above) t
+        in-unit_procedure own.resource (child p 0) (asked ++ (own.resource ∷ resources_needed needs)) ((own ∷ needs) ++ above) t
         (inl (ap (λ z. let n : Need = record { resource = own.resource; units = z } in n) h.0)) h.1 c
     in-procedure_act unit p asked above needs w h c = absurd (grind arith)
 
@@ -263,7 +263,7 @@ module _ (setup : Setup) (rank : Ranking) where
   mutual
     phases-offered : (l : Level) (p : Place) (asked : List Name) (t : Tree) → Each Clear (parts l p asked t) → Each (IsOfferedPhase setup) (phases t)
     phases-offered l p asked (act s (runs x)) c = (c.0.offered, tt)
-    phases-offered l p asked (act s (follows name t)) c = phases-offered (below l) (child p 0) (asked ++ resources_of s.needs) t c.1
+    phases-offered l p asked (act s (follows name t)) c = phases-offered (below l) (child p 0) (asked ++ resources_needed s.needs) t c.1
     phases-offered l p asked skip c = tt
     phases-offered l p asked (seq ts) c = phases-offered_each l p asked 0 ts c.1
     phases-offered l p asked (par ts) c = phases-offered_each l p asked 0 ts c.1
@@ -362,13 +362,13 @@ module _ (setup : Setup) (rank : Ranking) where
 
     whole-in_units : (t : Tree) → HasLevels t → Each Clear (parts is_procedure (0 ∷ []) [] t) → RunsInUnits [] t
     whole-in_units (act s (follows name t)) h c =
-        in-procedure [] (0 ∷ 0 ∷ []) (resources_of s.needs) (s.needs ++ []) t
+        in-procedure [] (0 ∷ 0 ∷ []) (resources_needed s.needs) (s.needs ++ []) t
         (λ z k. elim (Has-split s.needs [] (one_unit z) k) [ inl m ↦ map-Has (λ n. n.resource) s.needs (one_unit z) m | inr m ↦ absurd m ]) h c.1
     whole-in_units skip h c = tt
     whole-in_units t h c = absurd (grind arith)
 
     whole-one-user : (t : Tree) → HasLevels t → Each Clear (parts is_procedure (0 ∷ []) [] t) → Each HasOneUser (phases t)
-    whole-one-user (act s (follows name t)) h c = one-user [] (0 ∷ 0 ∷ []) (resources_of s.needs) t h c.1
+    whole-one-user (act s (follows name t)) h c = one-user [] (0 ∷ 0 ∷ []) (resources_needed s.needs) t h c.1
     whole-one-user skip h c = tt
     whole-one-user t h c = absurd (grind arith)
 
@@ -376,7 +376,7 @@ module _ (setup : Setup) (rank : Ranking) where
     whole-alone (act s (follows name t)) h c =
         λ place wanted to e.
         let m = follower-one s name t place wanted to e in
-        (m.0.0, inr (top-steps t m.0 m.1), m.3, Each-Has IsAlone (tops t) m.0 (alone [] (0 ∷ 0 ∷ []) (resources_of s.needs) t h c.1) m.1)
+        (m.0.0, inr (top-steps t m.0 m.1), m.3, Each-Has IsAlone (tops t) m.0 (alone [] (0 ∷ 0 ∷ []) (resources_needed s.needs) t h c.1) m.1)
     whole-alone t h c = absurd (grind arith)
 
     abbrev AsksInOrder : Node → Type 0

@@ -8,7 +8,7 @@ use Rattle.batch_model.specs.Lists.{Has}
 use Rattle.batch_model.specs.Placed.{IsPlaced, IsPlacedBelow, ArePlaced, IsChoicePlaced}
 use Rattle.batch_model.specs.Records.{IsAtOrAbove}
 use Rattle.batch_model.specs.Rest.{Rest, ready, asking, open_act, live, freeing, in_seq, in_par, in_loop, done, Rests, no_rests, rest, acts, acts_of_each, place_of}
-use Rattle.batch_model.specs.Standing.{IsRestOf, IsRestBelow, IsBranch, AreBranches, IsChosen, after_branch, due, due_in_each, IsAwaited}
+use Rattle.batch_model.specs.Standing.{IsRestOf, IsRestBelow, IsBranch, AreBranches, IsChosen, after_branch, due_followers, due_in_each, IsAwaited}
 use Rattle.batch_model.proofs.Members.{Has-split}
 use Rattle.batch_record_laws.proofs.FactsAfterChange.{at_or_above}
 use Rattle.batch_record_laws.proofs.FactPlaces.{IsUnderChild, IsUnderLater, under_child, under, is_at, acts-under, acts-side_by_side, children_apart, not_above_itself}
@@ -67,7 +67,7 @@ more-ahead next p i reached f (inl h) = inl h
 more-ahead next p i reached f (inr h) = inr ((h.0.0, omega (arith, h.0.1), h.0.2), h.1)
 
 mutual
-  due-ahead : (level : Level) (next : List Follower) (p : Place) (c : Tree) (r : Rest) → IsPlaced p c → IsRestOf c r → (f : Follower) → Has (due level next r) f → IsAhead next p (acts r) f
+  due-ahead : (level : Level) (next : List Follower) (p : Place) (c : Tree) (r : Rest) → IsPlaced p c → IsRestOf c r → (f : Follower) → Has (due_followers level next r) f → IsAhead next p (acts r) f
   due-ahead level next p (act s w) (ready u v k) pl re f h = absurd h
   due-ahead level next p (act s w) (asking u v k) pl re f h = absurd h
   due-ahead level next p (act s w) (open_act u r) pl re f h =
@@ -94,19 +94,19 @@ mutual
   due-ahead level next p c done pl re f h = inl h
   due-ahead level next p _ _ pl re f h = absurd re
 
-  below-ahead : (level : Level) (next : List Follower) (p : Place) (w : Task) (r : Rest) → IsPlacedBelow p w → IsRestBelow w r → (f : Follower) → Has (due level next r) f → IsAheadLater next p 0 (acts r) f
+  below-ahead : (level : Level) (next : List Follower) (p : Place) (w : Task) (r : Rest) → IsPlacedBelow p w → IsRestBelow w r → (f : Follower) → Has (due_followers level next r) f → IsAheadLater next p 0 (acts r) f
   below-ahead level next p (runs x) r pl re f h = absurd re
   below-ahead level next p (follows name c) r pl re f h = child-ahead next p 0 (acts r) f (due-ahead level next (child p 0) c r pl re f h)
 
   branch-ahead : (level : Level) (next : List Follower) (p : Place) (i : ℕ) (cs : Trees) (r : Rest) (ds : Trees) → ArePlaced p i cs → IsBranch cs r ds → (f : Follower)
-      → Has (due level (after_branch level next ds) r) f → IsAheadLater next p i (acts r) f
+      → Has (due_followers level (after_branch level next ds) r) f → IsAheadLater next p i (acts r) f
   branch-ahead level next p i no_trees r ds pl re f h = absurd re
   branch-ahead level next p i (tree c cs) r ds pl (inl re) f h =
-      ⊎_elim (after cs pl.1 (subst (λ z. Has (due level (after_branch level next z) r) f) re.1 h))
+      ⊎_elim (after cs pl.1 (subst (λ z. Has (due_followers level (after_branch level next z) r) f) re.1 h))
       (λ m. child-ahead next p i (acts r) f (inr m))
-      (due-ahead level (after_branch level next cs) (child p i) c r pl.0 re.0 f (subst (λ z. Has (due level (after_branch level next z) r) f) re.1 h))
+      (due-ahead level (after_branch level next cs) (child p i) c r pl.0 re.0 f (subst (λ z. Has (due_followers level (after_branch level next z) r) f) re.1 h))
     where
-      after : (es : Trees) → ArePlaced p (i + 1) es → Has (due level (after_branch level next es) r) f → Has (after_branch level next es) f → IsAheadLater next p i (acts r) f
+      after : (es : Trees) → ArePlaced p (i + 1) es → Has (due_followers level (after_branch level next es) r) f → Has (after_branch level next es) f → IsAheadLater next p i (acts r) f
       after no_trees el g k = inl k
       after (tree d es) el g k =
           let there : IsUnderChild p (i + 1) f.1 = under_child p (i + 1) f.1 (enter-under level (child p (i + 1)) d el.0 f k) in
@@ -149,10 +149,10 @@ mutual
             (λ k. n.1 a k e)
             (Has-split (acts r) (acts_of_each rs) a j),
       ))
-      (Has-split (due level [] r) (due_in_each level rs) f h)
+      (Has-split (due_followers level [] r) (due_in_each level rs) f h)
   each-ahead level p i cs rs pl re f h = absurd (grind arith)
 
-  chosen-ahead : (level : Level) (next : List Follower) (p : Place) (i : ℕ) (ch : Choices) (r : Rest) → IsChoicePlaced p i ch → IsChosen ch r → (f : Follower) → Has (due level next r) f
+  chosen-ahead : (level : Level) (next : List Follower) (p : Place) (i : ℕ) (ch : Choices) (r : Rest) → IsChoicePlaced p i ch → IsChosen ch r → (f : Follower) → Has (due_followers level next r) f
       → IsAheadLater next p i (acts r) f
   chosen-ahead level next p i (otherwise c) r pl re f h = child-ahead next p i (acts r) f (due-ahead level next (child p i) c r pl re f h)
   chosen-ahead level next p i (choice q c ch) r pl (inl re) f h = child-ahead next p i (acts r) f (due-ahead level next (child p i) c r pl.0 re f h)

@@ -10,11 +10,11 @@ use Rattle.batch_record_laws.proofs.PlantFacts.{Standing, held_at, facts, facts_
 use Rattle.batch_model.specs.Standing.{IsRestOf, IsRestBelow, IsBranch, AreBranches, IsChosen}
 use Rattle.batch_model.specs.Placed.{IsPlaced, IsPlacedBelow, ArePlaced, IsChoicePlaced}
 use Rattle.batch_model.specs.Cleared.{Ranking}
-use Rattle.batch_record_laws.specs.Ways.{Rises, last_rank, RisesDown, RisesBelow, RiseDown, ChoicesRiseDown}
+use Rattle.batch_record_laws.specs.Ways.{RanksRiseAbove, last_rank, RisesDown, RisesBelow, RiseDown, ChoicesRiseDown}
 use Rattle.batch_model.proofs.Members.{Has-split, Has-left, Has-right}
 use Rattle.batch_record_laws.proofs.FactPlaces.{IsUnderChild, IsUnderLater, under_child, facts-under, facts-side_by_side, acts-under, acts-below, acts-side_by_side, children_apart, not_above_itself, held-place}
 use Rattle.batch_recipe.specs.declared.need.Need.{Need}
-use Rattle.batch_recipe.specs.Needs.{resources_of}
+use Rattle.batch_recipe.specs.Needs.{resources_needed}
 
 pub hit : (x : Place) (q r : Rest) → elim (bytes_eq x x) [ true ↦ q | false ↦ r ] ≡ q
 hit x q r = grind (arith, bytes_eq-Decides x x)
@@ -166,10 +166,10 @@ needs_of (freeing s k) = s.needs
 needs_of _ = []
 
 abbrev pub NeedsRise : Ranking → Rest → Type 0
-NeedsRise rank a = (low : ℕ) × Rises rank low (resources_of (needs_of a))
+NeedsRise rank a = (low : ℕ) × RanksRiseAbove rank low (resources_needed (needs_of a))
 
-needs-here : (rank : Ranking) (low : ℕ) (s : Step) (r a : Rest) → Rises rank low (resources_of s.needs) → needs_of r ≡ s.needs → r ≡ a → NeedsRise rank a
-needs-here rank low s r a h e q = subst (NeedsRise rank) q (low, subst (λ z. Rises rank low (resources_of z)) (sym e) h)
+needs-here : (rank : Ranking) (low : ℕ) (s : Step) (r a : Rest) → RanksRiseAbove rank low (resources_needed s.needs) → needs_of r ≡ s.needs → r ≡ a → NeedsRise rank a
+needs-here rank low s r a h e q = subst (NeedsRise rank) q (low, subst (λ z. RanksRiseAbove rank low (resources_needed z)) (sym e) h)
 
 mutual
   -- the needs of each act have strictly rising ranks
@@ -179,7 +179,7 @@ mutual
   needs-rise rank low (act s w) (asking u v n) rs h a (inl e) = needs-here rank low s (asking u v n) a rs.0 (ap (λ z. z.needs) h.0) e
   needs-rise rank low (act s w) (asking u v n) rs h a (inr e) = absurd e
   needs-rise rank low (act s w) (open_act u r) rs h a (inl e) = needs-here rank low s (open_act u r) a rs.0 (ap (λ z. z.needs) h.0) e
-  needs-rise rank low (act s w) (open_act u r) rs h a (inr e) = needs-rise_below rank (last_rank rank low (resources_of s.needs)) w r rs.1 h.1 a e
+  needs-rise rank low (act s w) (open_act u r) rs h a (inr e) = needs-rise_below rank (last_rank rank low (resources_needed s.needs)) w r rs.1 h.1 a e
   needs-rise rank low (act s w) (live u x t) rs h a (inl e) = needs-here rank low s (live u x t) a rs.0 (ap (λ z. z.needs) h.0) e
   needs-rise rank low (act s w) (live u x t) rs h a (inr e) = absurd e
   needs-rise rank low (act s w) (freeing u n) rs h a (inl e) = needs-here rank low s (freeing u n) a rs.0 (ap (λ z. z.needs) h.0) e

@@ -9,7 +9,7 @@ use Rattle.batch_recipe.specs.Nodes.{child}
 use Rattle.batch_recipe.specs.Tree.{Place, Step, Task, runs, follows, Tree, act, skip, seq, par, sel, loop, Trees, no_trees, tree, Choices, otherwise, choice}
 use Rattle.batch_model.specs.Lists.{Has}
 use Rattle.batch_model.specs.Placed.{IsPlaced, IsPlacedBelow, ArePlaced, IsChoicePlaced}
-use Rattle.batch_model.specs.Plant.{InAdvance, is_reached}
+use Rattle.batch_model.specs.Plant.{InAdvance, is_act_reached}
 use Rattle.batch_model.specs.Rest.{Rest, Moment, ready, asking, open_act, live, freeing, in_seq, in_par, in_loop, done, Rests, no_rests, rest, same_place, is_done, all_done, joined, turning, reach, reach_first, reach_each, reach_chosen, continued, turned, advance, advance_each, acts, acts_of_each, place_of, changed_at, changed_in_each}
 use Rattle.batch_model.specs.Standing.{IsRestOf, IsRestBelow, IsBranch, AreBranches, IsChosen}
 use Rattle.batch_model.proofs.Members.{Has-split, Has-left, Has-right}
@@ -266,7 +266,7 @@ pub any-place : (xs : List Rest) (p : Place) → list_any (λ act. same_place (p
 any-place [] p = refl
 any-place (x ∷ xs) p = ap (λ b. same_place (place_of x) p || b) (any-place xs p)
 
-pub reached-raised : (xs : List InAdvance) (r : Rest) (p : Place) → is_reached (raised xs r) p ≡ is_reached r p
+pub reached-raised : (xs : List InAdvance) (r : Rest) (p : Place) → is_act_reached (raised xs r) p ≡ is_act_reached r p
 reached-raised xs r p =
     any-place (acts (raised xs r)) p ∙ (ap (list_any (λ q. same_place q p)) (raised-places xs r) ∙ sym (any-place (acts r) p))
 
@@ -290,7 +290,7 @@ any-none (x ∷ xs) h e a (inl q) at = let told : same_place (place_of x) h ≡ 
 any-none (x ∷ xs) h e a (inr i) at = any-none xs h (grind arith) a i at
 
 -- where the rest isn't reached at a place no act stands there
-pub not_reached : (h : Place) (r : Rest) → is_reached r h ≡ false → Nowhere h (acts r)
+pub not_reached : (h : Place) (r : Rest) → is_act_reached r h ≡ false → Nowhere h (acts r)
 not_reached h r e = any-none (acts r) h e
 
 any-some : (xs : List Rest) (h : Place) → list_any (λ act. same_place (place_of act) h) xs ≡ true → (a : Rest) × Has xs a × (place_of a ≡ h)
@@ -303,7 +303,7 @@ any-some (x ∷ xs) h e = go (same_place (place_of x) h) refl e (any-some xs h)
     go false f g later = let m = later g in (m.0, inr m.1, m.2)
 
 -- where it is, one does
-pub reached-at : (h : Place) (r : Rest) → is_reached r h ≡ true → (a : Rest) × Has (acts r) a × (place_of a ≡ h)
+pub reached-at : (h : Place) (r : Rest) → is_act_reached r h ≡ true → (a : Rest) × Has (acts r) a × (place_of a ≡ h)
 reached-at h r e = any-some (acts r) h e
 
 -- One ready act at a place, which holds nothing, and asks for this first

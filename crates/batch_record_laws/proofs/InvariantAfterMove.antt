@@ -8,7 +8,7 @@ use Rattle.batch_model.specs.Lists.{Has}
 use Rattle.batch_recipe.specs.Tree.{Place}
 use Rattle.batch_model.specs.Rest.{Rest, acts}
 use Rattle.batch_model.specs.Plant.{Setup, Batch, Plant, held_in}
-use Rattle.batch_model.specs.Moves.{after, Move, state, when, is_quiet, is_empty, is_reached, act_move, state_move, batch_moves, next, batch_after}
+use Rattle.batch_model.specs.Moves.{after_move, Move, state, when, is_quiet, is_empty, is_reached, act_move, state_move, batch_moves, next, batch_after}
 use Rattle.batch_model.specs.Runs.{Out, move}
 use Rattle.batch_record_laws.proofs.PlantFacts.{facts}
 use Rattle.batch_model.specs.Cleared.{Ranking}
@@ -72,7 +72,7 @@ module _ (d : Setup) (rank : Ranking) (outs : List Out) (s : Plant) (sd : IsStan
       ends None q f = absurd (no_move m f)
       ends (Some x) q f = reached x q (is_reached x b.rest) refl f
 
-  batch-step : (b : Batch) → Has s.batches b → (m : Move) → Has (batch_moves d s b) m → IsStanding d (after s m) → Stepped d rank outs s m
+  batch-step : (b : Batch) → Has s.batches b → (m : Move) → Has (batch_moves d s b) m → IsStanding d (after_move s m) → Stepped d rank outs s m
   batch-step b i m h td = go (state_move b) refl h
     where
       of_act : Has (filter_map (act_move d s b) (acts b.rest)) m → Stepped d rank outs s m
@@ -84,7 +84,7 @@ module _ (d : Setup) (rank : Ranking) (outs : List Out) (s : Plant) (sd : IsStan
       go (Some l) e (inl q) = subst (Stepped d rank outs s) q (state-step b i l e)
       go (Some l) e (inr j) = of_act j
 
-  pub move-step : (m : Move) → next d s ≡ Some m → IsStanding d (after s m) → Stepped d rank outs s m
+  pub move-step : (m : Move) → next d s ≡ Some m → IsStanding d (after_move s m) → Stepped d rank outs s m
   move-step m e td =
       let b = Has-flat_map (batch_moves d s) s.batches m (next-possible d s m e) in
       batch-step b.0 b.1 m b.2 td

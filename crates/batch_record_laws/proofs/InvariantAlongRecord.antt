@@ -1,7 +1,7 @@
 -- The invariant holds along a whole record.
 use Rattle.std.proofs.Common.{arith, Some, ◌≡◌, refl, sym, subst, subst₂, zero-le, List, [], ◌∷◌, ◌++◌, append-nil, append_assoc}
 use Rattle.batch_model.specs.Plant.{Setup, Plant, opening}
-use Rattle.batch_model.specs.Moves.{Move, next, after}
+use Rattle.batch_model.specs.Moves.{Move, next, after_move}
 use Rattle.batch_model.specs.Events.{Event}
 use Rattle.batch_model.specs.Standing.{HasPlacedTrees, IsStanding}
 use Rattle.batch_model.specs.Runs.{Out, move, reply, Leads}
@@ -32,7 +32,7 @@ kept-at_first d rank =
 pub placed-trees : (d : Setup) (rank : Ranking) → AreClearedDown d rank → HasPlacedTrees d
 placed-trees d rank cleared r k = (cleared.recipes r k).placed
 
-pub moved-stands : (d : Setup) (rank : Ranking) → AreClearedDown d rank → (s : Plant) (m : Move) → IsStanding d s → next d s ≡ Some m → IsStanding d (after s m)
+pub moved-stands : (d : Setup) (rank : Ranking) → AreClearedDown d rank → (s : Plant) (m : Move) → IsStanding d s → next d s ≡ Some m → IsStanding d (after_move s m)
 moved-stands d rank cleared s m sd e = possible-stands d s m (placed-trees d rank cleared) sd (next-possible d s m e)
 
 -- the invariant is kept along the whole record
@@ -41,7 +41,7 @@ pub kept-along : (d : Setup) (rank : Ranking) → AreClearedDown d rank → (tol
 kept-along d rank cleared told s sd k [] [] t l = subst₂ (λ y z. IsKept d rank y z) (sym (append-nil told)) l k
 kept-along d rank cleared told s sd k es (move m ∷ outs) t l =
     subst (λ z. IsKept d rank z t) (append_assoc told (move m ∷ []) outs)
-    (let td = moved-stands d rank cleared s m sd l.0 in kept-along d rank cleared (told ++ move m ∷ []) (after s m) td (move-step d rank told s sd k m l.0 td).0 es outs t l.1)
+    (let td = moved-stands d rank cleared s m sd l.0 in kept-along d rank cleared (told ++ move m ∷ []) (after_move s m) td (move-step d rank told s sd k m l.0 td).0 es outs t l.1)
 kept-along d rank cleared told s sd k (v ∷ es) (reply r ∷ outs) t l =
     subst (λ z. IsKept d rank z t) (append_assoc told (reply r ∷ []) outs)
     (kept-along d rank cleared (told ++ reply r ∷ []) l.0 (reacts-stands d (placed-trees d rank cleared) s l.0 v r sd l.1) (reply-step d rank cleared told s sd k v r l.0 l.1) es outs t l.2)

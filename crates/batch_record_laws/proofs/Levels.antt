@@ -7,7 +7,7 @@ use Rattle.batch_recipe.specs.Diagram as chart
 use Rattle.batch_recipe.specs.Diagram.{Diagram, Diagrams, Cases, diagram_of}
 use Rattle.batch_recipe.specs.Tree.{Place, Step, Tree, act, skip}
 use Rattle.batch_recipe.specs.Nodes.{child}
-use Rattle.batch_recipe.specs.Expanding.{expanded, expanded_each, expanded_cases, unit_below, asked_by, task_of, act_named, Sites, unit_chosen, unit_with, unit_named, step_of, act_tree_with, named_tree_with}
+use Rattle.batch_recipe.specs.Expanding.{expanded, expanded_each, expanded_cases, unit_below, asked_in_order, task_of, act_named, Sites, unit_chosen, unit_with, unit_named, step_of, act_tree_with, named_tree_with}
 use Rattle.batch_recipe.specs.Procedure.{sites, tables_from}
 use Rattle.batch_recipe.specs.WellFormed.{has_unit, has_chart, has_no_par, follows_no_par, is_work, act_names, value_names}
 use Rattle.batch_recipe.specs.declared.act.Act.{Act}
@@ -75,18 +75,18 @@ no_par w = elim w [ Follows c ↦ has_no_par (diagram_of c) | Runs phase values 
 
 module _ (own : Sites) where
   phase_step-level : (acts : Name → Place → Tree) (unit name : Name) (p : Place) (o : Option UnitChoice) (reserved : List Name) (needs : List Need) (w : Work)
-      → (not (some_unit o) && not (some_chart w)) ≡ true → IsActOf in_operation unit (asked_by (unit_with own.bound o) reserved needs) (task_of acts (unit_below unit (unit_with own.bound o)) name p w)
+      → (not (some_unit o) && not (some_chart w)) ≡ true → IsActOf in_operation unit (asked_in_order (unit_with own.bound o) reserved needs) (task_of acts (unit_below unit (unit_with own.bound o)) name p w)
   phase_step-level acts unit name p o reserved needs w e = grind arith
 
   operation-level : (acts : Name → Name → Place → Tree) → ((unit name : Name) (p : Place) → IsOfLevel in_operation unit (acts unit name p))
       → (unit name : Name) (p : Place) (o : Option UnitChoice) (reserved : List Name) (needs : List Need) (w : Work)
-      → (not (some_unit o) && some_chart w) ≡ true → IsActOf in_unit_procedure unit (asked_by (unit_with own.bound o) reserved needs) (task_of (acts (unit_below unit (unit_with own.bound o))) (unit_below unit (unit_with own.bound o)) name p w)
+      → (not (some_unit o) && some_chart w) ≡ true → IsActOf in_unit_procedure unit (asked_in_order (unit_with own.bound o) reserved needs) (task_of (acts (unit_below unit (unit_with own.bound o))) (unit_below unit (unit_with own.bound o)) name p w)
   operation-level acts named unit name p None reserved needs (Follows c) e = expanded-level in_operation unit (acts unit) (named unit) (child p 0) (diagram_of c) (λ q. tt)
   operation-level acts h unit name p o reserved needs w e = absurd (grind arith)
 
   unit_procedure-level : (acts : Name → Name → Place → Tree) → ((unit name : Name) (p : Place) → IsOfLevel in_unit_procedure unit (acts unit name p))
       → (above unit name : Name) (p : Place) (o : Option UnitChoice) (reserved : List Name) (needs : List Need) (w : Work)
-      → (some_unit o && some_chart w) ≡ true → no_par w ≡ true → IsActOf in_procedure above (asked_by (unit_with own.bound o) reserved needs) (task_of (acts (unit_below unit (unit_with own.bound o))) (unit_below unit (unit_with own.bound o)) name p w)
+      → (some_unit o && some_chart w) ≡ true → no_par w ≡ true → IsActOf in_procedure above (asked_in_order (unit_with own.bound o) reserved needs) (task_of (acts (unit_below unit (unit_with own.bound o))) (unit_below unit (unit_with own.bound o)) name p w)
   unit_procedure-level acts named above unit name p (Some choice) reserved needs (Follows c) e n =
       let unit : Name = unit_chosen own.bound choice in
       (refl, expanded-level in_unit_procedure unit (acts unit) (named unit) (child p 0) (diagram_of c) (λ q. absurd cc))

@@ -6,7 +6,7 @@ use Rattle.std.specs.Prelude.{option_and_then}
 use Rattle.batch_recipe.specs.Conditions.{Name, same_name}
 use Rattle.batch_recipe.specs.Diagram as chart
 use Rattle.batch_recipe.specs.Diagram.{Diagram, Diagrams, Cases, diagram_of}
-use Rattle.batch_recipe.specs.Expanding.{Binding, Sites, expanded, expanded_each, expanded_cases, unit_chosen, unit_with, unit_below, unit_count, unit_named, asked_by, needs_with, reserves_from, step_of, task_of, act_named, act_tree_with, named_tree_with}
+use Rattle.batch_recipe.specs.Expanding.{Binding, Sites, expanded, expanded_each, expanded_cases, unit_chosen, unit_with, unit_below, unit_count, unit_named, asked_in_order, needs_with, reserves_from, step_of, task_of, act_named, act_tree_with, named_tree_with}
 use Rattle.batch_recipe.specs.Following.{branch, choice_at, follower}
 use Rattle.batch_recipe.specs.Needs.{one_unit}
 use Rattle.batch_recipe.specs.Nodes.{child}
@@ -226,13 +226,13 @@ module _ (own : Sites) where
       ∙ reserve-need (front ++ first) names needs (n + 1) x (length-append front first ∙ omega (arith, size)) h
 
   asked-need : (a : Act) (o : Option UnitChoice) (x : Reserve) → Has (reserves_from (unit_count o) a.reserves.items) x
-      → slice_get (asked_by (unit_with own.bound o) (map (unit_named own) a.reserves.items) a.needs.items) x.need ≡ Some (one_unit (unit_named own x.name))
+      → slice_get (asked_in_order (unit_with own.bound o) (map (unit_named own) a.reserves.items) a.needs.items) x.need ≡ Some (one_unit (unit_named own x.name))
   asked-need a None x h = reserve-need [] a.reserves.items a.needs.items 0 x refl h
   asked-need a (Some taken) x h = reserve-need (one_unit (unit_chosen own.bound taken) ∷ []) a.reserves.items a.needs.items 1 x refl h
 
   first-need : (a : Act) (taken : UnitChoice) → a.unit ≡ Some taken → act_named own.unit_procedures a.name ≡ Some a → slice_get (needs_with own a) 0 ≡ Some (one_unit (unit_named own a.name))
   first-need a taken e named =
-      ap (λ o. slice_get (asked_by (unit_with own.bound o) (map (unit_named own) a.reserves.items) a.needs.items) 0) e
+      ap (λ o. slice_get (asked_in_order (unit_with own.bound o) (map (unit_named own) a.reserves.items) a.needs.items) 0) e
       ∙ ap (λ n. Some (one_unit n)) (sym (ap (λ o. elim (option_and_then (λ (u : Act). unit_with own.bound u.unit) o) [ None ↦ [] | Some unit ↦ unit ]) named
       ∙ ap (λ o. elim (unit_with own.bound o) [ None ↦ [] | Some unit ↦ unit ]) e))
 

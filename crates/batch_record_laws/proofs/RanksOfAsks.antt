@@ -10,27 +10,27 @@ use Rattle.batch_record_laws.proofs.PlantFacts.{Fact, holding, awaiting, perform
 use Rattle.batch_model.specs.Standing.{IsRestOf, IsRestBelow, IsBranch, AreBranches, IsChosen}
 use Rattle.batch_model.specs.Placed.{IsPlaced, IsPlacedBelow, ArePlaced, IsChoicePlaced}
 use Rattle.batch_model.specs.Cleared.{Ranking}
-use Rattle.batch_record_laws.specs.Ways.{Rises, last_rank, RisesDown, RisesBelow, RiseDown, ChoicesRiseDown}
+use Rattle.batch_record_laws.specs.Ways.{RanksRiseAbove, last_rank, RisesDown, RisesBelow, RiseDown, ChoicesRiseDown}
 use Rattle.batch_model.proofs.Members.{Has-split}
 use Rattle.batch_record_laws.proofs.Members.{Has-map}
 use Rattle.batch_record_laws.proofs.FactPlaces.{IsUnderChild, IsUnderLater, under_child, facts-under, facts-side_by_side, children_apart}
 use Rattle.batch_recipe.specs.declared.need.Need.{Need}
-use Rattle.batch_recipe.specs.Needs.{resources_of}
+use Rattle.batch_recipe.specs.Needs.{resources_needed}
 
-pub rises-above : (rank : Ranking) (low : ℕ) (needs : List Need) (r : Need) → Rises rank low (resources_of needs) → Has needs r → low < rank r.resource
+pub rises-above : (rank : Ranking) (low : ℕ) (needs : List Need) (r : Need) → RanksRiseAbove rank low (resources_needed needs) → Has needs r → low < rank r.resource
 rises-above rank low [] r h k = absurd k
 rises-above rank low (q ∷ needs) r h (inl e) = subst (λ x. low < rank x.resource) e h.0
 rises-above rank low (q ∷ needs) r h (inr k) = let m : rank q.resource < rank r.resource = rises-above rank (rank q.resource) needs r h.1 k in omega (arith, h.0)
 
-last_rank-above : (rank : Ranking) (low : ℕ) (names : List Name) → Rises rank low names → low ≤ last_rank rank low names
+last_rank-above : (rank : Ranking) (low : ℕ) (names : List Name) → RanksRiseAbove rank low names → low ≤ last_rank rank low names
 last_rank-above rank low [] h = omega arith
 last_rank-above rank low (q ∷ names) h = let m : rank q ≤ last_rank rank (rank q) names = last_rank-above rank (rank q) names h.1 in omega (arith, h.0)
 
-rises-below_last : (rank : Ranking) (low : ℕ) (needs : List Need) (r : Need) → Rises rank low (resources_of needs) → Has needs r
-    → rank r.resource ≤ last_rank rank low (resources_of needs)
+rises-below_last : (rank : Ranking) (low : ℕ) (needs : List Need) (r : Need) → RanksRiseAbove rank low (resources_needed needs) → Has needs r
+    → rank r.resource ≤ last_rank rank low (resources_needed needs)
 rises-below_last rank low [] r h k = absurd k
 rises-below_last rank low (q ∷ needs) r h (inl e) =
-    subst (λ x. rank x.resource ≤ last_rank rank (rank q.resource) (resources_of needs)) e (last_rank-above rank (rank q.resource) (resources_of needs) h.1)
+    subst (λ x. rank x.resource ≤ last_rank rank (rank q.resource) (resources_needed needs)) e (last_rank-above rank (rank q.resource) (resources_needed needs) h.1)
 rises-below_last rank low (q ∷ needs) r h (inr k) = rises-below_last rank (rank q.resource) needs r h.1 k
 
 pub Has-get : (k : ℕ) (names : List Need) (r : Need) → slice_get names k ≡ Some r → Has names r
@@ -39,7 +39,7 @@ Has-get zero (q ∷ names) r e = inl cc
 Has-get (suc k) (q ∷ names) r e = inr (Has-get k names r e)
 
 -- the first k needs have lower ranks than the next
-pub rises-next : (rank : Ranking) (low k : ℕ) (names : List Need) (x y : Need) → Rises rank low (resources_of names) → Has (take k names) x → slice_get names k ≡ Some y
+pub rises-next : (rank : Ranking) (low k : ℕ) (names : List Need) (x y : Need) → RanksRiseAbove rank low (resources_needed names) → Has (take k names) x → slice_get names k ≡ Some y
     → rank x.resource < rank y.resource
 rises-next rank low (suc n) (q ∷ names) x y h (inl p) e = subst (λ z. rank z.resource < rank y.resource) p (rises-above rank (rank q.resource) names y h.1 (Has-get n names y e))
 rises-next rank low (suc n) (q ∷ names) x y h (inr k) e = rises-next rank (rank q.resource) n names x y h.1 k e
@@ -100,8 +100,8 @@ mutual
       (Has-split (held_at u.place (take n u.needs)) (awaited_at u.place (slice_get u.needs n)) (q, awaiting x) k))))
   awaited-above rank low (act s w) (open_act u r) rs h q x k =
       ⊎_elim (λ m. absurd (held-awaiting u.place u.needs q x m))
-      (λ m. let e : last_rank rank low (resources_of s.needs) < rank x.resource = awaited-above_below rank (last_rank rank low (resources_of s.needs)) w r rs.1 h.1 q x m in
-      let f : low ≤ last_rank rank low (resources_of s.needs) = last_rank-above rank low (resources_of s.needs) rs.0 in
+      (λ m. let e : last_rank rank low (resources_needed s.needs) < rank x.resource = awaited-above_below rank (last_rank rank low (resources_needed s.needs)) w r rs.1 h.1 q x m in
+      let f : low ≤ last_rank rank low (resources_needed s.needs) = last_rank-above rank low (resources_needed s.needs) rs.0 in
       omega arith)
       (Has-split (held_at u.place u.needs) (facts r) (q, awaiting x) k)
   awaited-above rank low (act s w) (live u y t) rs h q x k =
@@ -139,7 +139,7 @@ mutual
       → (qh qw : Place) (x y : Need) → Has (facts r) (qh, holding x) → Has (facts r) (qw, awaiting y) → IsAtOrAbove qh qw → rank x.resource < rank y.resource
   rank-rises rank low p (act s w) (ready u v n) pl rs h qh qw x y hk wk ab = absurd (held-awaiting u.place (take n u.needs) qw y wk)
   rank-rises rank low p (act s w) (asking u v n) pl rs h qh qw x y hk wk ab =
-      rises-next rank low n u.needs x y (subst (λ z. Rises rank low (resources_of z.needs)) (sym h.0) rs.0)
+      rises-next rank low n u.needs x y (subst (λ z. RanksRiseAbove rank low (resources_needed z.needs)) (sym h.0) rs.0)
       (⊎_elim (held-holding u.place (take n u.needs) qh x) (λ m. absurd (awaited-holding u.place (slice_get u.needs n) qh x m))
       (Has-split (held_at u.place (take n u.needs)) (awaited_at u.place (slice_get u.needs n)) (qh, holding x) hk))
       (⊎_elim (λ m. absurd (held-awaiting u.place (take n u.needs) qw y m)) (awaited-awaiting u.place (slice_get u.needs n) qw y)
@@ -147,12 +147,12 @@ mutual
   rank-rises rank low p (act s w) (open_act u r) pl rs h qh qw x y hk wk ab =
       let below : Has (facts r) (qw, awaiting y) =
       ⊎_elim (λ m. absurd (held-awaiting u.place u.needs qw y m)) (λ m. m) (Has-split (held_at u.place u.needs) (facts r) (qw, awaiting y) wk) in
-      let high : last_rank rank low (resources_of s.needs) < rank y.resource = awaited-above_below rank (last_rank rank low (resources_of s.needs)) w r rs.1 h.1 qw y below in
+      let high : last_rank rank low (resources_needed s.needs) < rank y.resource = awaited-above_below rank (last_rank rank low (resources_needed s.needs)) w r rs.1 h.1 qw y below in
       ⊎_elim
       (λ m.
-      let e : rank x.resource ≤ last_rank rank low (resources_of s.needs) = rises-below_last rank low s.needs x rs.0 (subst (λ z. Has z.needs x) h.0 (held-holding u.place u.needs qh x m)) in
+      let e : rank x.resource ≤ last_rank rank low (resources_needed s.needs) = rises-below_last rank low s.needs x rs.0 (subst (λ z. Has z.needs x) h.0 (held-holding u.place u.needs qh x m)) in
       omega arith)
-      (λ m. rank-rises_below rank (last_rank rank low (resources_of s.needs)) p w r pl.1 rs.1 h.1 qh qw x y m below ab)
+      (λ m. rank-rises_below rank (last_rank rank low (resources_needed s.needs)) p w r pl.1 rs.1 h.1 qh qw x y m below ab)
       (Has-split (held_at u.place u.needs) (facts r) (qh, holding x) hk)
   rank-rises rank low p (act s w) (live u z t) pl rs h qh qw x y hk wk ab =
       ⊎_elim (λ m. absurd (held-awaiting u.place u.needs qw y m)) (λ m. absurd (lone-awaiting u.place z qw y m))

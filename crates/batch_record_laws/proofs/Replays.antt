@@ -1,7 +1,7 @@
 -- Runs of the same events agree.
 use Rattle.std.proofs.Common.{◌≡◌, List, [], ◌∷◌, ◌++◌, None, map, refl, sym, ◌∙◌, ap, subst, inl, inr}
 use Rattle.batch_model.specs.Events.{Event, Reply, refused, no_memory, react}
-use Rattle.batch_model.specs.Moves.{Move, after, next}
+use Rattle.batch_model.specs.Moves.{Move, after_move, next}
 use Rattle.batch_model.specs.Plant.{Setup, Plant}
 use Rattle.batch_model.specs.Runs.{Out, reply, move, Reacts, Leads}
 use Rattle.batch_record_laws.specs.Replays.{Takes, Replays, ReplaysAgree}
@@ -17,7 +17,7 @@ settles_once c s (m ∷ moves) [] one other a settled b rests =
     absurd (cc (none, a.0))
 settles_once c s (m ∷ moves) (n ∷ others) one other a settled b rests =
     let same : m ≡ n = cc (a.0, b.0) in
-    let on = settles_once c (after s m) moves others one other a.1 settled (subst (λ x. Leads c (after s x) [] (map move others) other) (sym same) b.1) rests in
+    let on = settles_once c (after_move s m) moves others one other a.1 settled (subst (λ x. Leads c (after_move s x) [] (map move others) other) (sym same) b.1) rests in
     (cc (same, on.0), on.1)
 
 reacts_so : (c : Setup) (s : Plant) (event : Event) (told : Reply) (later : Plant)

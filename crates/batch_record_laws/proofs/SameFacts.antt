@@ -3,7 +3,7 @@ use Rattle.std.proofs.Common.{arith, ◌≡◌, refl, sym, ◌∙◌, ap, ap₂,
 use Rattle.std.proofs.lemmas.List.Sums.{sum_by-append, sum_by-cons}
 use Rattle.batch_recipe.specs.Conditions.{Name}
 use Rattle.batch_model.specs.Lists.{Has}
-use Rattle.batch_model.specs.Plant.{InAdvance, Batch, Share, is_reached}
+use Rattle.batch_model.specs.Plant.{InAdvance, Batch, Share, is_act_reached}
 use Rattle.batch_model.specs.Rest.{Rest}
 use Rattle.batch_model.proofs.Members.{Has-split, Has-left, Has-right}
 use Rattle.batch_record_laws.proofs.PlantFacts.{holding, Standing, facts, early_facts, batch_facts, Entry, entry, entries_of, entries, holder_of, holders_among, need}
@@ -59,18 +59,18 @@ StandApart [] = Unit {0}
 StandApart (held ∷ more) = ((other : InAdvance) → Has more other → other.place ≡ held.place → ⊥) × StandApart more
 
 abbrev pub left_over : Rest → List InAdvance → List InAdvance
-left_over r xs = filter (λ held. not (is_reached r held.place)) xs
+left_over r xs = filter (λ held. not (is_act_reached r held.place)) xs
 
 -- holdings in advance pass to the acts that are reached
-pub raised-alike : (r : Rest) (xs : List InAdvance) → StandApart xs → ((held : InAdvance) → Has xs held → is_reached r held.place ≡ true → AtOnce held.place held.unit r)
+pub raised-alike : (r : Rest) (xs : List InAdvance) → StandApart xs → ((held : InAdvance) → Has xs held → is_act_reached r held.place ≡ true → AtOnce held.place held.unit r)
     → AreAlike (early_facts (left_over r xs) ++ facts (raised xs r)) (early_facts xs ++ facts r)
 raised-alike r [] apart at = alike-same (facts r) (facts r) refl
-raised-alike r (held ∷ xs) apart at = go (is_reached r held.place) refl (raised-alike r xs apart.1 (λ other i. at other (inr i)))
+raised-alike r (held ∷ xs) apart at = go (is_act_reached r held.place) refl (raised-alike r xs apart.1 (λ other i. at other (inr i)))
   where
     e : Standing
     e = (held.place, holding held.unit)
 
-    go : (t : Bool) → is_reached r held.place ≡ t
+    go : (t : Bool) → is_act_reached r held.place ≡ t
         → AreAlike (early_facts (left_over r xs) ++ facts (raised xs r)) (early_facts xs ++ facts r)
         → AreAlike (early_facts (cond (not t) (held ∷ left_over r xs) (left_over r xs)) ++ facts (lifted held.place (raised xs r))) (e ∷ (early_facts xs ++ facts r))
     go true q a =

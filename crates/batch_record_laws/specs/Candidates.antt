@@ -4,8 +4,8 @@ use Rattle.batch_cell.specs.declared.cell.Cell as equipment
 use Rattle.batch_recipe.specs.Conditions.{Name}
 use Rattle.batch_recipe.specs.Diagram as chart
 use Rattle.batch_recipe.specs.Diagram.{Diagram, Diagrams, Cases, diagram_of}
-use Rattle.batch_recipe.specs.Expanding.{Binding, unbound, Sites, expanded, expanded_each, expanded_cases, task_of, act_named, asked_by, reserves_from, unit_named, unit_with, named_tree_with}
-use Rattle.batch_recipe.specs.Needs.{resources_of}
+use Rattle.batch_recipe.specs.Expanding.{Binding, unbound, Sites, expanded, expanded_each, expanded_cases, task_of, act_named, asked_in_order, reserves_from, unit_named, unit_with, named_tree_with}
+use Rattle.batch_recipe.specs.Needs.{resources_needed}
 use Rattle.batch_recipe.specs.Nodes.{child}
 use Rattle.batch_recipe.specs.Procedure.{procedure_tree}
 use Rattle.batch_recipe.specs.Tree.{Place, Tree, act, skip, seq, par, sel, loop}
@@ -42,7 +42,7 @@ abbrev pub tree_on : Sites → List (List Act) → Name → Act → Place → Tr
 tree_on sites tables unit a place =
     act (record {
       place = place;
-      needs = asked_by (Some unit) (map (unit_named sites) a.reserves.items) a.needs.items;
+      needs = asked_in_order (Some unit) (map (unit_named sites) a.reserves.items) a.needs.items;
       reserves = reserves_from 1 a.reserves.items;
     })
     (task_of (named_tree_with sites tables unit) unit a.name place a.work)
@@ -100,7 +100,7 @@ pub record IsClearOnEach (setup : Setup) (rank : Ranking) (cell : equipment.Cell
   pub candidates : HasCandidates (master_of cell recipe)
   pub root : IsClear setup rank (part is_procedure (0 ∷ []) [] (procedure_tree recipe.acts))
   pub chart : WorkIsClear setup rank (master_of cell recipe).roles (IsServed (master_of cell recipe)) recipe.acts.unit_procedures.items
-      (recipe.acts.operations.items ∷ recipe.acts.phases.items ∷ []) (0 ∷ []) (resources_of recipe.acts.procedure.needs.items) recipe.acts.procedure.work
+      (recipe.acts.operations.items ∷ recipe.acts.phases.items ∷ []) (0 ∷ []) (resources_needed recipe.acts.procedure.needs.items) recipe.acts.procedure.work
   pub follow : (bound : Binding) → IsServed (master_of cell recipe) bound
       → Each (λ this_part. ReservesFollow (recipe_of recipe bound).procedure this_part.node) (procedure_parts (recipe_of recipe bound))
 

@@ -3,14 +3,14 @@ use Rattle.std.specs.Prelude.{◌↔◌, ℕ, suc, ◌<◌, List, [], ◌∷◌,
 use Rattle.batch_recipe.specs.Conditions.{Name}
 use Rattle.batch_recipe.specs.Nodes.{nodes}
 use Rattle.batch_recipe.specs.Tree.{Place, Tree, act, skip, seq, par, sel, loop, Task, runs, follows, Trees, no_trees, tree, Choices, otherwise, choice}
-use Rattle.batch_recipe.specs.Needs.{resources_of}
+use Rattle.batch_recipe.specs.Needs.{resources_needed}
 use Rattle.batch_model.specs.Lists.{Each}
 use Rattle.batch_model.specs.Cleared.{Ranking, RiseStrictly}
 
 -- the ranks of the names rise strictly, from above low
-abbrev pub Rises : Ranking → ℕ → List Name → Type 0
-Rises rank low [] = ⊤
-Rises rank low (resource ∷ more) = (low < rank resource) × Rises rank (rank resource) more
+abbrev pub RanksRiseAbove : Ranking → ℕ → List Name → Type 0
+RanksRiseAbove rank low [] = ⊤
+RanksRiseAbove rank low (resource ∷ more) = (low < rank resource) × RanksRiseAbove rank (rank resource) more
 
 -- the rank of the last of the names, or low where there are none
 abbrev pub last_rank : Ranking → ℕ → List Name → ℕ
@@ -21,7 +21,7 @@ abbrev mutual
   -- along every path down, the needs have strictly rising ranks, from above low
   pub RisesDown : Ranking → ℕ → Tree → Type 0
   RisesDown rank low (act step task) =
-      Rises rank low (resources_of step.needs) × RisesBelow rank (last_rank rank low (resources_of step.needs)) task
+      RanksRiseAbove rank low (resources_needed step.needs) × RisesBelow rank (last_rank rank low (resources_needed step.needs)) task
   RisesDown rank low skip = ⊤
   RisesDown rank low (seq charts) = RiseDown rank low charts
   RisesDown rank low (par charts) = RiseDown rank low charts

@@ -15,7 +15,7 @@ use Rattle.batch_record_laws.proofs.PlantFacts.{awaiting, performing, held_at, a
 use Rattle.batch_record_laws.proofs.Members.{Each-left, Each-right}
 use Rattle.batch_record_laws.proofs.RanksOfAsks.{Has-get, held-awaiting, awaited-awaiting, lone-awaiting}
 use Rattle.batch_recipe.specs.declared.need.Need.{Need}
-use Rattle.batch_recipe.specs.Needs.{resources_of}
+use Rattle.batch_recipe.specs.Needs.{resources_needed}
 
 pub among-Has : (names : List Name) (x : Name) → IsTrue (is_among names x) → Has names x
 among-Has [] x h = absurd cc
@@ -43,7 +43,7 @@ module _ (setup : Setup) (rank : Ranking) where
           Each-Has (λ z. z.units ≤ setup.capacity z.resource) s.needs x cl.0.within own,
         )
     awaited-known l p asked (act s w) (open_act u r) cl h q x k =
-        ⊎_elim (λ m. absurd (held-awaiting u.place u.needs q x m)) (awaited-known_below (below l) p (asked ++ resources_of s.needs) w r cl.1 h.1 q x)
+        ⊎_elim (λ m. absurd (held-awaiting u.place u.needs q x m)) (awaited-known_below (below l) p (asked ++ resources_needed s.needs) w r cl.1 h.1 q x)
         (Has-split (held_at u.place u.needs) (facts r) (q, awaiting x) k)
     awaited-known l p asked (act s w) (live u y t) cl h q x k =
         ⊎_elim (λ m. absurd (held-awaiting u.place u.needs q x m)) (λ m. absurd (lone-awaiting u.place y q x m))

@@ -3,7 +3,7 @@ use Rattle.std.proofs.Common.{arith, ◌≡◌, sym, ◌∙◌, ap, subst, ℕ, 
 use Rattle.batch_recipe.specs.Conditions.{ValueList}
 use Rattle.batch_recipe.specs.Tree.{Phase, Place}
 use Rattle.batch_model.specs.Plant.{Setup, Plant, opening}
-use Rattle.batch_model.specs.Moves.{start, after}
+use Rattle.batch_model.specs.Moves.{start, after_move}
 use Rattle.batch_model.specs.Events.{Event, Reply}
 use Rattle.batch_model.specs.Standing.{IsStanding}
 use Rattle.batch_step_laws.proofs.PlantAlongRecord.{opening-stands, reacts-stands}
@@ -45,7 +45,7 @@ module _ (d : Setup) (rank : Ranking) (cleared : AreClearedDown d rank) where
       let td = moved-stands d rank cleared s m sd l.0 in
       let step = move-step d rank told s sd k m l.0 td in
       subst (IsSafeNow d) (append_assoc told (move m ∷ []) front ∙ ap (λ z. told ++ z ∷ front) (sym q.0))
-      (safe-along (told ++ move m ∷ []) (after s m) td step.0 step.1 es outs t l.1 front more q.1)
+      (safe-along (told ++ move m ∷ []) (after_move s m) td step.0 step.1 es outs t l.1 front more q.1)
   safe-along told s sd k st (v ∷ es) (reply r ∷ outs) t l (o ∷ front) more e =
       let q = same_first o (reply r) (front ++ more) outs e in
       subst (IsSafeNow d) (append_assoc told (reply r ∷ []) front ∙ ap (λ z. told ++ z ∷ front) (sym q.0))

@@ -6,12 +6,12 @@ use Rattle.std.proofs.lemmas.Slice.Eq.{bytes_eq-Decides}
 use Rattle.batch_matrix.specs.declared.state.State.{State}
 use Rattle.batch_recipe.specs.Conditions.{Name, same_name}
 use Rattle.batch_recipe.specs.declared.need.Need.{Need}
-use Rattle.batch_recipe.specs.Needs.{resources_of}
+use Rattle.batch_recipe.specs.Needs.{resources_needed}
 use Rattle.batch_recipe.specs.Tree.{Place, Reserve, Step, Task, Tree, runs, follows}
 use Rattle.batch_model.specs.ActStates.{steps}
 use Rattle.batch_model.specs.Cleared.{Ranking}
 use Rattle.batch_model.specs.Lists.{Has, Each}
-use Rattle.batch_model.specs.Moves.{Move, state, release, pass, begin, start, place_of_move, batch_of, reserved_place, passing, act_after, act_move, batch_moves, batch_after, next, after}
+use Rattle.batch_model.specs.Moves.{Move, state, release, pass, begin, start, place_of_move, batch_of, reserved_place, passing, act_after, act_move, batch_moves, batch_after, next, after_move}
 use Rattle.batch_model.specs.Plant.{Setup, Batch, Share, Plant, moment_of, in_act}
 use Rattle.batch_model.specs.Rest.{Rest, ready, freeing, same_place, acts, changed_at}
 use Rattle.batch_model.specs.Records.{holders_told}
@@ -24,7 +24,7 @@ use Rattle.batch_step_laws.proofs.WorkAfterChange.{to_same_place}
 use Rattle.batch_step_laws.proofs.WorkAfterMove.{Has-batch_moves, batch_moves-number, next-possible, same-rest, same-state}
 use Rattle.batch_step_laws.proofs.DueUnitProcedures.{follower-due}
 use Rattle.batch_step_laws.proofs.ActMoves.{IsComing, IsMoveOf, act_move-is, running-goes_on}
-use Rattle.batch_record_laws.specs.Ways.{Rises}
+use Rattle.batch_record_laws.specs.Ways.{RanksRiseAbove}
 use Rattle.batch_record_laws.proofs.PhaseStepPlaces.{Avoids, phase-elsewhere}
 use Rattle.batch_record_laws.proofs.Batches.{only, Has-only, below-next, of-entry}
 use Rattle.batch_record_laws.proofs.DuePlaces.{awaited-nowhere}
@@ -125,7 +125,7 @@ take-has zero (suc k) (y ∷ xs) x lt e = inl cc
 take-has (suc j) (suc k) (y ∷ xs) x lt e = inr (take-has j k xs x (omega (arith, lt)) e)
 
 -- a resource is asked for once
-same-index : (rank : Ranking) (low : ℕ) (xs : List Need) (j k : ℕ) (x y : Need) → Rises rank low (resources_of xs) → slice_get xs j ≡ Some x → slice_get xs k ≡ Some y → x.resource ≡ y.resource → j ≡ k
+same-index : (rank : Ranking) (low : ℕ) (xs : List Need) (j k : ℕ) (x y : Need) → RanksRiseAbove rank low (resources_needed xs) → slice_get xs j ≡ Some x → slice_get xs k ≡ Some y → x.resource ≡ y.resource → j ≡ k
 same-index rank low xs j k x y h e f same = go (cases_lt j k) (cases_lt k j)
   where
     equal : rank x.resource ≡ rank y.resource
@@ -327,9 +327,9 @@ module _ (d : Setup) (rank : Ranking) (outs : List Out) (s : Plant) (sd : IsStan
 
     -- Steps that begin
 
-    step-kept : (after : List Out) (t : Step) → Has (steps c) t → ((r : Need) → Has t.needs r → Holds after r.resource b.number t.place) → (kept : Kept) → Has (reserved_by c t) kept
-        → IsHeldByStep after b.number c kept
-    step-kept after t known holds kept h =
+    step-kept : (after_move : List Out) (t : Step) → Has (steps c) t → ((r : Need) → Has t.needs r → Holds after_move r.resource b.number t.place) → (kept : Kept) → Has (reserved_by c t) kept
+        → IsHeldByStep after_move b.number c kept
+    step-kept after_move t known holds kept h =
         let x = Has-filter_map
         (λ (reserve : Reserve). option_and_then (λ place. option_map (λ need. let z : Kept = record { place = place; unit = need.resource } in z) (slice_get t.needs reserve.need)) (reserved_place c t reserve.need))
         t.reserves kept h in
@@ -337,7 +337,7 @@ module _ (d : Setup) (rank : Ranking) (outs : List Out) (s : Plant) (sd : IsStan
       where
         go : (x : Reserve) (o : Option Place) → reserved_place c t x.need ≡ o → (p : Option Need) → slice_get t.needs x.need ≡ p
             → ◌≡◌ {A = Option Kept} (option_and_then (λ place. option_map (λ need. let z : Kept = record { place = place; unit = need.resource } in z) p) o) (Some kept)
-            → IsHeldByStep after b.number c kept
+            → IsHeldByStep after_move b.number c kept
         go x None e p f g = let bad : ◌≡◌ {A = Option Kept} None (Some kept) = g in absurd cc
         go x (Some to) e None f g = let bad : ◌≡◌ {A = Option Kept} None (Some kept) = g in absurd cc
         go x (Some to) e (Some r) f g =
@@ -350,19 +350,19 @@ module _ (d : Setup) (rank : Ranking) (outs : List Out) (s : Plant) (sd : IsStan
               here = f;
               unit = ap (λ (z : Kept). z.unit) is;
               follows = e ∙ ap (λ (z : Kept). Some z.place) is;
-              held = subst (λ u. Holds after u b.number t.place) (ap (λ (z : Kept). z.unit) is) (holds r (Has-get x.need t.needs r f));
+              held = subst (λ u. Holds after_move u b.number t.place) (ap (λ (z : Kept). z.unit) is) (holds r (Has-get x.need t.needs r f));
             }
 
-    at-kept : (after : List Out) (t : Step) (p : Place) → p ≡ t.place → Has (steps c) t → ((r : Need) → Has t.needs r → Holds after r.resource b.number t.place) → (kept : Kept) → Has (reserved_at c p) kept
-        → IsHeldByStep after b.number c kept
-    at-kept after t p at known holds kept h = go (find (λ step. same_place step.place p) (steps c)) refl h
+    at-kept : (after_move : List Out) (t : Step) (p : Place) → p ≡ t.place → Has (steps c) t → ((r : Need) → Has t.needs r → Holds after_move r.resource b.number t.place) → (kept : Kept) → Has (reserved_at c p) kept
+        → IsHeldByStep after_move b.number c kept
+    at-kept after_move t p at known holds kept h = go (find (λ step. same_place step.place p) (steps c)) refl h
       where
-        go : (o : Option Step) → find (λ step. same_place step.place p) (steps c) ≡ o → Has (elim o [ None ↦ [] | Some step ↦ reserved_by c step ]) kept → IsHeldByStep after b.number c kept
+        go : (o : Option Step) → find (λ step. same_place step.place p) (steps c) ≡ o → Has (elim o [ None ↦ [] | Some step ↦ reserved_by c step ]) kept → IsHeldByStep after_move b.number c kept
         go None f l = absurd l
         go (Some u) f l =
             let found = find-passes (λ (step : Step). same_place step.place p) (steps c) u f in
             let same : t ≡ u = one-step (0 ∷ []) c fine.cleared.placed t u known found.0 (sym at ∙ sym (to_same_place u.place p found.1)) in
-            step-kept after t known holds kept (subst (λ (z : Step). Has (reserved_by c z) kept) (sym same) l)
+            step-kept after_move t known holds kept (subst (λ (z : Step). Has (reserved_by c z) kept) (sym same) l)
 
     -- a step that begins holds all its needs
     begins-held : (t : Step) (w : Task) (l : ℕ) → a ≡ ready t w l → slice_get t.needs l ≡ None → ((unit : Name) (p : Place) → Takes unit b.number p line → ⊥) → (r : Need) → Has t.needs r → Holds so_far r.resource b.number t.place
@@ -501,7 +501,7 @@ pub still-fresh : (outs : List Out) (o : Out) (n : ℕ) → IsOfOther n o → (p
 still-fresh outs o n other h = (passed_told-others n outs o other ∙ h.0, λ c. reserved_told-others n c outs o other ∙ h.1 c)
 
 module _ (d : Setup) (rank : Ranking) (outs : List Out) (s : Plant) (sd : IsStanding d s) (k : IsKept d rank outs s) (all : KeepsAll outs s) where
-  pub move-keeps_all : (m : Move) → next d s ≡ Some m → KeepsAll (outs ++ move m ∷ []) (after s m)
+  pub move-keeps_all : (m : Move) → next d s ≡ Some m → KeepsAll (outs ++ move m ∷ []) (after_move s m)
   move-keeps_all m e =
       let w = Has-flat_map (batch_moves d s) s.batches m (next-possible d s m e) in
       let b : Batch = w.0 in

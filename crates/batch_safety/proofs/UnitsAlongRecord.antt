@@ -10,7 +10,7 @@ use Rattle.batch_model.specs.Runs.{Out, move, reply, Leads}
 use Rattle.batch_model.specs.Standing.{IsStanding}
 use Rattle.batch_model.specs.Transfers.{Kept, passed_told, reserved_told, KeepsUnits}
 use Rattle.batch_model.proofs.Members.{Each-map}
-use Rattle.batch_model.specs.Moves.{after}
+use Rattle.batch_model.specs.Moves.{after_move}
 use Rattle.batch_step_laws.proofs.PlantAlongRecord.{opening-stands, reacts-stands}
 use Rattle.batch_record_laws.proofs.InvariantAlongRecord.{kept-at_first, moved-stands, placed-trees}
 use Rattle.batch_record_laws.proofs.ClearanceDownTrees.{AreClearedDown}
@@ -30,7 +30,7 @@ module _ (d : Setup) (rank : Ranking) (cleared : AreClearedDown d rank) where
   keeps-along told s sd k all es (move m ∷ outs) t l =
       let td = moved-stands d rank cleared s m sd l.0 in
       subst (λ z. KeepsAll z t) (append_assoc told (move m ∷ []) outs)
-      (keeps-along (told ++ move m ∷ []) (after s m) td (move-step d rank told s sd k m l.0 td).0 (move-keeps_all d rank told s sd k all m l.0) es outs t l.1)
+      (keeps-along (told ++ move m ∷ []) (after_move s m) td (move-step d rank told s sd k m l.0 td).0 (move-keeps_all d rank told s sd k all m l.0) es outs t l.1)
   keeps-along told s sd k all (v ∷ es) (reply r ∷ outs) t l =
       subst (λ z. KeepsAll z t) (append_assoc told (reply r ∷ []) outs)
       (keeps-along (told ++ reply r ∷ []) l.0 (reacts-stands d (placed-trees d rank cleared) s l.0 v r sd l.1) (reply-step d rank cleared told s sd k v r l.0 l.1)

@@ -3,28 +3,28 @@ use Rattle.std.proofs.Common.{◌≡◌, ◌≢◌, ◌<◌, ◌≤◌, ◌+◌,
 use Rattle.std.proofs.lemmas.Bool.{cases_lt}
 use Rattle.std.proofs.lemmas.List.{get_or_default}
 use Rattle.batch_serve.specs.Runs.{Run}
-use Rattle.batch_serve.specs.Told.{IsTold}
+use Rattle.batch_serve.specs.Told.{IsDeskTold}
 use Rattle.batch_serve.specs.declared.desk.Desk.{Desk}
 
 here : (answers : List Run) (first now : List Desk) (i k : ℕ) (other old new : Desk) → k ≡ i → i < length now → old ≡ get_or now i old → get_or now i other ≡ get_or first i other
-    → IsTold i answers old new → IsTold k answers (get_or first k other) (get_or (set now i new) k other)
+    → IsDeskTold i answers old new → IsDeskTold k answers (get_or first k other) (get_or (set now i new) k other)
 here answers first now i k other old new at within is same was =
     let before : old ≡ get_or first i other = is ∙ get_or_default now i old other within ∙ same in
     let after : new ≡ get_or (set now i new) i other = sym (get_or-set_same now i new other within) in
-    subst (λ n. IsTold n answers (get_or first n other) (get_or (set now i new) n other)) (sym at)
-    (subst (λ (d : Desk). IsTold i answers (get_or first i other) d) after (subst (λ (d : Desk). IsTold i answers d new) before was))
+    subst (λ n. IsDeskTold n answers (get_or first n other) (get_or (set now i new) n other)) (sym at)
+    (subst (λ (d : Desk). IsDeskTold i answers (get_or first i other) d) after (subst (λ (d : Desk). IsDeskTold i answers d new) before was))
 
 -- one more desk was told
-pub told_more : (answers : List Run) (first now : List Desk) (i : ℕ) (old new : Desk) → i < length now → old ≡ get_or now i old → IsTold i answers old new
-    → ((k : ℕ) (other : Desk) → k < i → IsTold k answers (get_or first k other) (get_or now k other))
+pub told_more : (answers : List Run) (first now : List Desk) (i : ℕ) (old new : Desk) → i < length now → old ≡ get_or now i old → IsDeskTold i answers old new
+    → ((k : ℕ) (other : Desk) → k < i → IsDeskTold k answers (get_or first k other) (get_or now k other))
     → ((k : ℕ) (other : Desk) → i ≤ k → get_or now k other ≡ get_or first k other)
-    → (k : ℕ) (other : Desk) → k < i + 1 → IsTold k answers (get_or first k other) (get_or (set now i new) k other)
+    → (k : ℕ) (other : Desk) → k < i + 1 → IsDeskTold k answers (get_or first k other) (get_or (set now i new) k other)
 told_more answers first now i old new within is was so_far rest k other below = go (cases_lt k i)
   where
-    go : (k < i) ⊎ (i ≤ k) → IsTold k answers (get_or first k other) (get_or (set now i new) k other)
+    go : (k < i) ⊎ (i ≤ k) → IsDeskTold k answers (get_or first k other) (get_or (set now i new) k other)
     go (inl lt) =
         let apart : k ≢ i = omega arith in
-        subst (λ (d : Desk). IsTold k answers (get_or first k other) d) (sym (get_or-set_other now i k new other apart)) (so_far k other lt)
+        subst (λ (d : Desk). IsDeskTold k answers (get_or first k other) d) (sym (get_or-set_other now i k new other apart)) (so_far k other lt)
     go (inr le) = here answers first now i k other old new (omega arith) within is (rest i other (omega arith)) was
 
 -- and the others are as they were

@@ -14,7 +14,7 @@ use Rattle.batch_text.specs.PlaceText.{is_number_spelling}
 use Rattle.batch_recipe.specs.Conditions.{Name}
 use Rattle.batch_matrix.specs.declared.command.Command.{Command}
 use Rattle.batch_matrix.specs.declared.report.Report.{Report}
-use Rattle.batch_wire.specs.EventLine.{is_space, is_word, words, is_number, is_equals, is_pair, pair_of, is_role_pair, role_pair_of, command_of, word_of_report, asked_of, create_of, batch_of, told_of, report_of, event_of_order, event_of_words, is_comment, event_of_text, event_of_line}
+use Rattle.batch_wire.specs.EventLine.{is_space, is_word, event_words, is_number, is_equals, is_pair, pair_of, is_role_pair, role_pair_of, command_of, word_of_report, asked_of, create_of, only_batch, told_of, report_of, event_of_order, event_of_words, is_comment, event_of_text, event_of_line}
 use Rattle.batch_serve.specs.CleanLines.{clean_byte}
 
 abbrev clean_bytes : List ℕ → List ℕ
@@ -200,11 +200,11 @@ creates [] = refl
 creates (w ∷ []) = refl
 creates (recipe ∷ size ∷ pairs) = rw (many pairs, asked recipe size pairs) refl
 
-batch_if : (word : List ℕ) → (is_number word ≡ true) ⊎ (is_number word ≡ false) → batch_of (clean_bytes word ∷ []) ≡ batch_of (word ∷ [])
+batch_if : (word : List ℕ) → (is_number word ≡ true) ⊎ (is_number word ≡ false) → only_batch (clean_bytes word ∷ []) ≡ only_batch (word ∷ [])
 batch_if word (inl is) = rw (number_kept word is) refl
 batch_if word (inr other) = rw (number word, other) refl
 
-batch : (ws : List (List ℕ)) → batch_of (map clean_bytes ws) ≡ batch_of ws
+batch : (ws : List (List ℕ)) → only_batch (map clean_bytes ws) ≡ only_batch ws
 batch [] = refl
 batch (w ∷ []) = batch_if w (cases_Bool (is_number w))
 batch (w ∷ more ∷ others) = refl
@@ -241,7 +241,7 @@ word_if [] = refl
 word_if ([] ∷ parts) = word_if parts
 word_if ((b ∷ part) ∷ parts) = ap (λ l. clean_bytes (b ∷ part) ∷ l) (word_if parts)
 
-text_words : (text : List ℕ) → words (clean_bytes text) ≡ map clean_bytes (words text)
+text_words : (text : List ℕ) → event_words (clean_bytes text) ≡ map clean_bytes (event_words text)
 text_words text = ap (filter is_word) (split is_space refl text) ∙ word_if (slice_split is_space text)
 
 comment : (text : List ℕ) → is_comment (clean_bytes text) ≡ is_comment text
@@ -249,7 +249,7 @@ comment [] = refl
 comment (b ∷ text) = test_byte (λ x. x == 35) refl b
 
 text_same : (text : List ℕ) → event_of_text (clean_bytes text) ≡ event_of_text text
-text_same text = rw (size text, comment text, text_words text, lines (words text)) refl
+text_same text = rw (size text, comment text, text_words text, lines (event_words text)) refl
 
 strip_if : (t : Bool) (line : List ℕ) → cond t (take (length line - 1) (clean_bytes line)) (clean_bytes line) ≡ clean_bytes (cond t (take (length line - 1) line) line)
 strip_if true line = take-map clean_byte (length line - 1) line

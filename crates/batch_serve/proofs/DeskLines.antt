@@ -5,7 +5,7 @@ use Rattle.std.proofs.lemmas.Grind.{flat_map-append}
 use Rattle.std.proofs.lemmas.List.{get_or_default}
 use Rattle.std.proofs.lemmas.List.Elements.{All-push}
 use Rattle.rtrb.specs.Ring.{SameConsumer, received, sent}
-use Rattle.batch_serve.specs.Rounds.{IsCutIfLate, IsGathered, IsTextOf, LinesGoOn, is_end, text_of_one, text_sent}
+use Rattle.batch_serve.specs.Rounds.{IsCutIfLate, IsGathered, IsTextOfMessages, LinesGoOn, is_end, text_of_one, text_sent}
 use Rattle.batch_serve.specs.Runs.{AreOfDesks, Run, own_text}
 use Rattle.batch_serve.specs.Turns.{IsSameBut, with_run}
 use Rattle.batch_serve.specs.Waits.{IsLate, Waits, cut_off}
@@ -233,7 +233,7 @@ lines_go_on {O} allows desk is_cut runs group after old new so_far g = go is_cut
     came : received new.ring ≡ so_far.taken ++ (so_far.dropped ++ more)
     came = g.came ∙ ap (λ l. l ++ more) so_far.came_is ∙ append_assoc so_far.taken so_far.dropped more
 
-    go : (c : Bool) → (c ≡ false → so_far.dropped ≡ []) → own after ≡ own group ++ (if c then [] else text_sent more) → IsTextOf (received new.ring) c (own (runs ++ after))
+    go : (c : Bool) → (c ≡ false → so_far.dropped ≡ []) → own after ≡ own group ++ (if c then [] else text_sent more) → IsTextOfMessages (received new.ring) c (own (runs ++ after))
     go true all is = record {
       taken = so_far.taken;
       dropped = so_far.dropped ++ more;

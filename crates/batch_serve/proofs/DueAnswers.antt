@@ -4,7 +4,7 @@ use Rattle.std.proofs.lemmas.Bool.{and_parts}
 use Rattle.std.proofs.lemmas.Bool.Decides.{nat_tests}
 use Rattle.std.proofs.lemmas.List.{drop_all}
 use Rattle.std.specs.List.{list_all, position_or_len}
-use Rattle.batch_serve.specs.Dues.{after_word, due, from_behind, is_comment, is_due, is_from, is_space}
+use Rattle.batch_serve.specs.Dues.{after_word, due_lines, from_behind, is_comment, is_due, is_from, is_space}
 use Rattle.batch_serve.proofs.HeldText.{is_false}
 
 -- the text has no space
@@ -24,12 +24,12 @@ one_sorted true line kept rest = refl
 one_sorted false line kept rest = refl
 
 pub runs_sorted : (name : List ℕ) (unit from : Option (List ℕ)) (run rest : List (List ℕ)) → list_all (λ line. not (is_comment line)) run ≡ true
-    → due name unit from (run ++ rest) ≡ filter (is_due (is_from name from) unit) run ++ due name unit from rest
+    → due_lines name unit from (run ++ rest) ≡ filter (is_due (is_from name from) unit) run ++ due_lines name unit from rest
 runs_sorted name unit from [] rest h = refl
 runs_sorted name unit from (line ∷ run) rest h =
     let parts = and_parts (not (is_comment line)) (list_all (λ other. not (is_comment other)) run) h in
     let same : from_behind from line ≡ from = stays from line (is_false (is_comment line) parts.0) in
     let front : List (List ℕ) = cond (is_due (is_from name from) unit line) (line ∷ []) [] in
-    ap (λ f. front ++ due name unit f (run ++ rest)) same
+    ap (λ f. front ++ due_lines name unit f (run ++ rest)) same
     ∙ ap (λ lines. front ++ lines) (runs_sorted name unit from run rest parts.1)
-    ∙ one_sorted (is_due (is_from name from) unit line) line (filter (is_due (is_from name from) unit) run) (due name unit from rest)
+    ∙ one_sorted (is_due (is_from name from) unit line) line (filter (is_due (is_from name from) unit) run) (due_lines name unit from rest)

@@ -10,7 +10,7 @@ use Rattle.std.specs.Cmp.Lexicographic.{bytes_decides, pointwise}
 use Rattle.std.specs.List.{All, onto_first}
 use Rattle.batch_wire.specs.Transcript.{lines_of, whole_lines}
 use Rattle.batch_serve.specs.Replays.{IsWholeLines}
-use Rattle.batch_serve.specs.Dues.{due, is_due, is_from}
+use Rattle.batch_serve.specs.Dues.{due_lines, is_due, is_from}
 use Rattle.batch_serve.specs.Lines.{is_feed}
 use Rattle.batch_serve.specs.Runs.{Run, due_of, is_same, runs_text}
 use Rattle.batch_serve.specs.Recorded.{AreNames, IsPlainRun, RecordsAreSorted}
@@ -72,7 +72,7 @@ from_line name plain =
 
 -- the comment is due to nobody, and says who sends
 due_behind : (name : List ℕ) (unit from : Option (List ℕ)) (other : List ℕ) (rest : List (List ℕ))
-    → due name unit from ((codes "# from " ++ other) ∷ rest) ≡ due name unit (Some other) rest
+    → due_lines name unit from ((codes "# from " ++ other) ∷ rest) ≡ due_lines name unit (Some other) rest
 due_behind name unit from other rest = refl
 
 -- a desk's name is its own
@@ -94,19 +94,19 @@ same_is (Some other) desk is = ap Some (eqb-true other desk is)
 
 behind_if : (names : List (List ℕ)) (desk : ℕ) (unit : Option (List ℕ)) (at : Option ℕ) (sender : ℕ) (same : Bool) (text : List ℕ) → is_same at sender ≡ same
     → AreNames names
-    → due (get_or names desk []) unit (from_of names at) (whole_lines (cond same [] (codes "# from " ++ (get_or names sender [] ++ 10 ∷ [])) ++ text))
-    ≡ due (get_or names desk []) unit (from_of names (Some sender)) (whole_lines text)
-behind_if names desk unit at sender true text is are = ap (λ (o : Option ℕ). due (get_or names desk []) unit (from_of names o) (whole_lines text)) (same_is at sender is)
+    → due_lines (get_or names desk []) unit (from_of names at) (whole_lines (cond same [] (codes "# from " ++ (get_or names sender [] ++ 10 ∷ [])) ++ text))
+    ≡ due_lines (get_or names desk []) unit (from_of names (Some sender)) (whole_lines text)
+behind_if names desk unit at sender true text is are = ap (λ (o : Option ℕ). due_lines (get_or names desk []) unit (from_of names o) (whole_lines text)) (same_is at sender is)
 behind_if names desk unit at sender false text is are =
     let name = get_or names sender [] in
     let comment : List ℕ = codes "# from " ++ (name ++ 10 ∷ []) in
-    ap (due (get_or names desk []) unit (from_of names at)) (whole_both comment text (inr (codes "# from " ++ name, sym (append_assoc (codes "# from ") name (10 ∷ [])))))
-    ∙ ap (λ (l : List (List ℕ)). due (get_or names desk []) unit (from_of names at) (l ++ whole_lines text)) (from_line name (are.plain sender))
+    ap (due_lines (get_or names desk []) unit (from_of names at)) (whole_both comment text (inr (codes "# from " ++ name, sym (append_assoc (codes "# from ") name (10 ∷ [])))))
+    ∙ ap (λ (l : List (List ℕ)). due_lines (get_or names desk []) unit (from_of names at) (l ++ whole_lines text)) (from_line name (are.plain sender))
     ∙ due_behind (get_or names desk []) unit (from_of names at) name (whole_lines text)
 
 sorted_from : (names : List (List ℕ)) (desk : ℕ) (unit : Option (List ℕ)) (at : Option ℕ) (answers : List Run) → AreNames names → desk < length names
     → All (IsPlainRun (length names)) answers
-    → due (get_or names desk []) unit (from_of names at) (whole_lines (runs_text names at answers)) ≡ due_of desk unit answers
+    → due_lines (get_or names desk []) unit (from_of names at) (whole_lines (runs_text names at answers)) ≡ due_of desk unit answers
 sorted_from names desk unit at [] are within plain = refl
 sorted_from names desk unit at (run ∷ answers) are within plain =
     let one = All-head (IsPlainRun (length names)) run answers plain in
@@ -114,9 +114,9 @@ sorted_from names desk unit at (run ∷ answers) are within plain =
     let rest : List ℕ = runs_text names (Some run.desk) answers in
     let own : is_from name (from_of names (Some run.desk)) ≡ (run.desk == desk) = is_own names desk run.desk are within one.desk in
     behind_if names desk unit at run.desk (is_same at run.desk) (run.text ++ rest) refl are
-    ∙ ap (due name unit (from_of names (Some run.desk))) (whole_both run.text rest one.whole)
+    ∙ ap (due_lines name unit (from_of names (Some run.desk))) (whole_both run.text rest one.whole)
     ∙ runs_sorted name unit (from_of names (Some run.desk)) (whole_lines run.text) (whole_lines rest) one.plain
-    ∙ ap (λ b. filter (is_due b unit) (whole_lines run.text) ++ due name unit (from_of names (Some run.desk)) (whole_lines rest)) own
+    ∙ ap (λ b. filter (is_due b unit) (whole_lines run.text) ++ due_lines name unit (from_of names (Some run.desk)) (whole_lines rest)) own
     ∙ ap (λ l. filter (is_due (run.desk == desk) unit) (whole_lines run.text) ++ l)
     (sorted_from names desk unit (Some run.desk) answers are within (All-tail (IsPlainRun (length names)) run answers plain))
 

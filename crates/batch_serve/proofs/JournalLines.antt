@@ -10,7 +10,7 @@ use Rattle.std.specs.Io.KnownBytes.{Consumes, IsAtEnd, Keeps, ReadConsumes}
 use Rattle.std.specs.Prelude.{⊤}
 use Rattle.std.specs.Str.Lines.{strip_carriage_return}
 use Rattle.batch_model.specs.Plant.{Setup, Plant}
-use Rattle.batch_wire.specs.EventLine.{is_space, is_word, words, is_comment, event_of_words, event_of_line}
+use Rattle.batch_wire.specs.EventLine.{is_space, is_word, event_words, is_comment, event_of_words, event_of_line}
 use Rattle.batch_wire.specs.Transcript.{lines_of, Exchange, silence, followed_by, Answers, Transcript}
 use Rattle.batch_wire.specs.declared.event_line.TheConstants.{MAX_LINE_LEN}
 use Rattle.batch_wire.specs.declared.fault.WireFault.TheVariants.{TooLong}
@@ -24,19 +24,19 @@ use Rattle.batch_serve.proofs.Replays.{is_other}
 -- Each line has the same meaning
 
 long_said : (line : List ℕ) → is_too_long line ≡ true → event_of_line line ≡ Err TooLong
-long_said line long = ap (λ t. cond t (Err TooLong) (cond (is_comment (strip_carriage_return line)) (Ok None) (event_of_words (words (strip_carriage_return line))))) long
+long_said line long = ap (λ t. cond t (Err TooLong) (cond (is_comment (strip_carriage_return line)) (Ok None) (event_of_words (event_words (strip_carriage_return line))))) long
 
 full_line : event_of_line (replicate 1025 63) ≡ Err TooLong
 full_line = long_said (replicate 1025 63) refl
 
-no_words : (text : List ℕ) → list_all is_space text ≡ true → words text ≡ []
+no_words : (text : List ℕ) → list_all is_space text ≡ true → event_words text ≡ []
 no_words [] all = refl
 no_words (b ∷ text) all =
     let parts = and_parts (is_space b) (list_all is_space text) all in
     ap (λ t. filter is_word (cond t ([] ∷ slice_split is_space text) (onto_first b (slice_split is_space text)))) parts.0 ∙ no_words text parts.1
 
 nothing_if : (text : List ℕ) (long comment : Bool) → long ≡ false → is_comment text ≡ comment → gives_nothing text ≡ true
-    → cond long (Err TooLong) (cond comment (Ok None) (event_of_words (words text))) ≡ Ok None
+    → cond long (Err TooLong) (cond comment (Ok None) (event_of_words (event_words text))) ≡ Ok None
 nothing_if text true comment short is nothing = absurd (cc short)
 nothing_if text false true short is nothing = refl
 nothing_if text false false short is nothing =

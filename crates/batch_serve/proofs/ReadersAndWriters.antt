@@ -9,7 +9,7 @@ use Rattle.std.specs.List.{list_any}
 use Rattle.batch_wire.specs.Written.{AppendsBeginning, Writes}
 use Rattle.batch_serve.specs.Replays.{IsWholeLines}
 use Rattle.batch_serve.specs.Rounds.{AreMessagesOf, HaveWholeLines, is_end, text_of_one, text_sent}
-use Rattle.batch_serve.specs.Threads.{IsRead, IsWritten, MayHandOver, ReadsOn, WritesOn, lines_text}
+use Rattle.batch_serve.specs.Threads.{IsInputRead, AreLinesWritten, MayHandOver, ReadsOn, WritesOn, lines_text}
 use Rattle.batch_serve.specs.declared.rounds.Sent.{Sent}
 use Rattle.batch_serve.specs.declared.rounds.Sent.TheVariants.{Path, Lines, End}
 
@@ -26,7 +26,7 @@ lines_read old new before after text read whole went = record { items = Lines te
 pub nothing_read : (old new : Option (List ℕ)) (before after : List Sent) → Keeps old new → after ≡ before → ReadsOn old new before after
 nothing_read old new before after kept same = record { items = []; whole = tt; went = same ∙ sym (append-nil before); read = Consumes-kept old old new [] (Consumes-nil old) kept }
 
-pub lines_lost : (old new : Option (List ℕ)) (before after : List Sent) (text : List ℕ) → Consumes old new text → after ≡ before → IsRead false old new before after
+pub lines_lost : (old new : Option (List ℕ)) (before after : List Sent) (text : List ℕ) → Consumes old new text → after ≡ before → IsInputRead false old new before after
 lines_lost old new before after text read same = record {
   items = [];
   whole = tt;
@@ -39,7 +39,7 @@ lines_lost old new before after text read same = record {
 }
 
 pub end_read : (told : Bool) (old new : Option (List ℕ)) (before after : List Sent) → Consumes old new [] → IsAtEnd new
-    → (told ≡ true → after ≡ before ++ End ∷ []) → (told ≡ false → after ≡ before) → IsRead told old new before after
+    → (told ≡ true → after ≡ before ++ End ∷ []) → (told ≡ false → after ≡ before) → IsInputRead told old new before after
 end_read true old new before after read end went stays =
     record { items = End ∷ []; whole = (inl refl, tt); rest = []; went = went refl; read = read; all = λ t. refl; end = λ t. end; told = λ t. refl }
 end_read false old new before after read end went stays = lines_lost old new before after [] read (stays refl)
@@ -59,7 +59,7 @@ any_behind (Path path ∷ front) items is = any_behind front items is
 any_behind (Lines text ∷ front) items is = any_behind front items is
 any_behind (End ∷ front) items is = refl
 
-pub reads_then : (ended : Bool) (a b d : Option (List ℕ)) (x y z : List Sent) → ReadsOn a b x y → IsRead ended b d y z → IsRead ended a d x z
+pub reads_then : (ended : Bool) (a b d : Option (List ℕ)) (x y z : List Sent) → ReadsOn a b x y → IsInputRead ended b d y z → IsInputRead ended a d x z
 reads_then ended a b d x y z one other = record {
   items = one.items ++ other.items;
   whole = whole_both one.items other.items one.whole other.whole;
@@ -73,7 +73,7 @@ reads_then ended a b d x y z one other = record {
   told = λ t. any_behind one.items other.items (other.told t);
 }
 
-pub reads_stop : (old new : Option (List ℕ)) (before after : List Sent) → ReadsOn old new before after → IsRead false old new before after
+pub reads_stop : (old new : Option (List ℕ)) (before after : List Sent) → ReadsOn old new before after → IsInputRead false old new before after
 reads_stop old new before after one = record {
   items = one.items;
   whole = one.whole;
@@ -150,7 +150,7 @@ all_begun old new text written = record { written = text; rest = []; splits = sy
 pub line_written : (before after : List (List ℕ)) (line : List ℕ) (old new : Option (List ℕ)) → after ≡ before ++ line ∷ [] → Appends old new (line ++ 10 ∷ []) → WritesOn before after old new
 line_written before after line old new came written = record { lines = line ∷ []; came = came; written = subst (Appends old new) (sym (append-nil (line ++ 10 ∷ []))) written }
 
-pub line_cut : (before after : List (List ℕ)) (line : List ℕ) (old new : Option (List ℕ)) → after ≡ before ++ line ∷ [] → AppendsBeginning old new (line ++ 10 ∷ []) → IsWritten false before after old new
+pub line_cut : (before after : List (List ℕ)) (line : List ℕ) (old new : Option (List ℕ)) → after ≡ before ++ line ∷ [] → AppendsBeginning old new (line ++ 10 ∷ []) → AreLinesWritten false before after old new
 line_cut before after line old new came begun = record {
   lines = line ∷ [];
   came = came;
@@ -161,7 +161,7 @@ line_cut before after line old new came begun = record {
 pub nothing_written : (before after : List (List ℕ)) (old new : Option (List ℕ)) → after ≡ before → Keeps old new → WritesOn before after old new
 nothing_written before after old new same kept = record { lines = []; came = same ∙ sym (append-nil before); written = Appends-kept old old new [] (Appends-nil old) kept }
 
-pub all_written : (ended : Bool) (before after : List (List ℕ)) (old new : Option (List ℕ)) → after ≡ before → Keeps old new → IsWritten ended before after old new
+pub all_written : (ended : Bool) (before after : List (List ℕ)) (old new : Option (List ℕ)) → after ≡ before → Keeps old new → AreLinesWritten ended before after old new
 all_written ended before after old new same kept = record {
   lines = [];
   came = same ∙ sym (append-nil before);
@@ -187,7 +187,7 @@ begun_behind a b d front text one other = record {
   appends = Appends-trans a b d front other.written one other.appends;
 }
 
-pub writes_then : (ended : Bool) (x y z : List (List ℕ)) (a b d : Option (List ℕ)) → WritesOn x y a b → IsWritten ended y z b d → IsWritten ended x z a d
+pub writes_then : (ended : Bool) (x y z : List (List ℕ)) (a b d : Option (List ℕ)) → WritesOn x y a b → AreLinesWritten ended y z b d → AreLinesWritten ended x z a d
 writes_then ended x y z a b d one other = record {
   lines = one.lines ++ other.lines;
   came = other.came ∙ ap (λ l. l ++ other.lines) one.came ∙ append_assoc x one.lines other.lines;
@@ -195,7 +195,7 @@ writes_then ended x y z a b d one other = record {
   written = λ t. subst (Appends a d) (sym (text_both one.lines other.lines)) (Appends-trans a b d (lines_text one.lines) (lines_text other.lines) one.written (other.written t));
 }
 
-pub writes_stop : (before after : List (List ℕ)) (old new : Option (List ℕ)) → WritesOn before after old new → IsWritten false before after old new
+pub writes_stop : (before after : List (List ℕ)) (old new : Option (List ℕ)) → WritesOn before after old new → AreLinesWritten false before after old new
 writes_stop before after old new one = record { lines = one.lines; came = one.came; begun = all_begun old new (lines_text one.lines) one.written; written = λ t. one.written }
 
 -- Nothing yet

@@ -4,7 +4,7 @@ use Rattle.std.proofs.KnownBytes.{Appends-trans}
 use Rattle.std.specs.Io.KnownBytes.{Keeps}
 use Rattle.batch_model.specs.Events as Model
 use Rattle.batch_model.specs.Plant.{Setup, Plant}
-use Rattle.batch_wire.specs.Reading.{Reads}
+use Rattle.batch_wire.specs.Reading.{ReadsAs}
 use Rattle.batch_wire.specs.Transcript.{Exchange, refusal, Answers}
 use Rattle.batch_wire.specs.Written.{AppendsBeginning}
 use Rattle.batch_wire.specs.declared.fault.WireFault.{WireFault}
@@ -33,6 +33,6 @@ pub event_unanswered : (c : Setup) (old : Plant) (said : Result (Option Model.Ev
     → (exchange : Exchange) × (last : Plant) × Answers c old said exchange last × AppendsBeginning x y exchange.text
 event_unanswered c old said event x y is keeps = (refusal Memory, old, rw is (inl (refl, refl)), nothing_begun x y (refusal Memory).text keeps)
 
-pub line_unanswered : (c : Setup) (old : Plant) (said : Result (Option Model.Event) WireFault) (fault : WireFault) (x y : Option (List ℕ)) → Reads (Err fault) said → Keeps x y
+pub line_unanswered : (c : Setup) (old : Plant) (said : Result (Option Model.Event) WireFault) (fault : WireFault) (x y : Option (List ℕ)) → ReadsAs (Err fault) said → Keeps x y
     → (exchange : Exchange) × (last : Plant) × Answers c old said exchange last × AppendsBeginning x y exchange.text
 line_unanswered c old said fault x y reads keeps = (refusal fault, old, refused c old said fault reads, nothing_begun x y (refusal fault).text keeps)

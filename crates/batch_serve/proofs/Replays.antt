@@ -5,7 +5,7 @@ use Rattle.std.proofs.lemmas.Bool.Decides.{Decides-eqb}
 use Rattle.std.proofs.lemmas.Slice.Eq.{starts_is}
 use Rattle.std.specs.List.{list_all, starts_with}
 use Rattle.batch_model.specs.Events.{Event, Reply, refused, no_memory}
-use Rattle.batch_model.specs.Moves.{Move, after, next}
+use Rattle.batch_model.specs.Moves.{Move, after_move, next}
 use Rattle.batch_model.specs.Plant.{Setup, Plant}
 use Rattle.batch_model.specs.Runs.{Out, reply, move, Leads}
 use Rattle.batch_record_laws.specs.Replays.{Takes}
@@ -14,7 +14,7 @@ use Rattle.batch_wire.specs.EventLine.{event_of_line}
 use Rattle.batch_wire.specs.RecordText.{out_text}
 use Rattle.batch_wire.specs.Transcript.{Exchange, handled, followed_by, Answers, Transcript, Handles, Settles}
 use Rattle.batch_wire.specs.declared.fault.WireFault.{WireFault}
-use Rattle.batch_serve.specs.Replays.{AnswersWell, WellServed, ServingAgrees, Has, ShowsNoWant, IsWholeLines, NoWantIsWell, BeginsText, ToldIsRecovered, WantIsNotTold}
+use Rattle.batch_serve.specs.Replays.{AnswersWell, WellServed, ServingAgrees, HasBytes, ShowsNoWant, IsWholeLines, NoWantIsWell, BeginsText, ToldIsRecovered, WantIsNotTold}
 
 pub answers_once : (c : Setup) (s : Plant) (says : Result (Option Event) WireFault) (said told : Exchange) (one other : Plant)
     → AnswersWell c s says said one → AnswersWell c s says told other → (said ≡ told) × (one ≡ other)
@@ -33,14 +33,14 @@ serving_agrees c old one other (line ∷ lines) said told (first, others, mid, a
 
 -- Want of memory shows in the text
 
-pub in_front : (needle a b : List ℕ) → Has needle a → Has needle (a ++ b)
+pub in_front : (needle a b : List ℕ) → HasBytes needle a → HasBytes needle (a ++ b)
 in_front needle a b has = record {
   front = has.front;
   rest = has.rest ++ b;
   splits = ap (λ l. l ++ b) has.splits ∙ append_assoc has.front (needle ++ has.rest) b ∙ ap (λ l. has.front ++ l) (append_assoc needle has.rest b);
 }
 
-behind : (needle a b : List ℕ) → Has needle b → Has needle (a ++ b)
+behind : (needle a b : List ℕ) → HasBytes needle b → HasBytes needle (a ++ b)
 behind needle a b has = record { front = a ++ has.front; rest = has.rest; splits = ap (λ l. a ++ l) has.splits ∙ sym (append_assoc a has.front (needle ++ has.rest)) }
 
 pub first_shows : (a b : List ℕ) → ShowsNoWant (a ++ b) → ShowsNoWant a
@@ -51,9 +51,9 @@ then_shows a b shown = record { no_event = λ has. shown.no_event (behind _ a b 
 
 made : (c : Setup) (old : Plant) (moves : List Move) (new : Plant) → Settles c old moves new → Leads c old [] (map move moves) new × (next c new ≡ None)
 made c old [] new s = (sym s.1, subst (λ (x : Plant). next c x ≡ None) (sym s.1) s.0)
-made c old (m ∷ moves) new s = let on = made c (after old m) moves new s.1 in ((s.0, on.0), on.1)
+made c old (m ∷ moves) new s = let on = made c (after_move old m) moves new s.1 in ((s.0, on.0), on.1)
 
-starts_so : (text front rest : List ℕ) → text ≡ front ++ rest → Has front text
+starts_so : (text front rest : List ℕ) → text ≡ front ++ rest → HasBytes front text
 starts_so text front rest is = record { front = []; rest = rest; splits = is }
 
 has_memory : (event : Event) (answer : Reply) (moves : List Move) (outs : List Out) → outs ≡ reply answer ∷ map move moves

@@ -9,7 +9,7 @@ use Rattle.batch_serve.specs.Joined.{TranscriptsJoin}
 use Rattle.batch_serve.specs.Safe.{TranscriptsAreSafe}
 use Rattle.batch_serve.specs.GoingOn.{ServiceGoesOn}
 use Rattle.batch_serve.specs.Runs.{Run}
-use Rattle.batch_serve.specs.Served.{AreServed, IsAnswered, ServiceIsSafe, plain_text, run_lines}
+use Rattle.batch_serve.specs.Served.{AreServed, IsRunAnswered, ServiceIsSafe, plain_text, run_lines}
 
 pub goes_on : ServiceGoesOn
 goes_on c old mid new [] more answers told one other =
@@ -19,14 +19,14 @@ goes_on c old mid new (run ∷ runs) more answers told (first, others, on, is, s
 
 -- one more run was served, by the machine of the same set
 one_more : (set now : ClearedSet) (old mid new : Plant) (runs answers : List Run) (run answer : Run) → now ≡ set → AreServed (setup set) old runs answers mid
-    → IsAnswered (setup now) mid run answer new → AreServed (setup set) old (runs ++ run ∷ []) (answers ++ answer ∷ []) new
+    → IsRunAnswered (setup now) mid run answer new → AreServed (setup set) old (runs ++ run ∷ []) (answers ++ answer ∷ []) new
 one_more set now old mid new runs answers run answer same served is =
-    let one : IsAnswered (setup set) mid run answer new = subst (λ (s : ClearedSet). IsAnswered (setup s) mid run answer new) same is in
+    let one : IsRunAnswered (setup set) mid run answer new = subst (λ (s : ClearedSet). IsRunAnswered (setup s) mid run answer new) same is in
     goes_on (setup set) old mid new runs (run ∷ []) answers (answer ∷ []) served (answer, [], new, one, (refl, refl), refl)
 
 -- so were all up to that one
 pub served_so_far : (set now : ClearedSet) (old mid new : Plant) (runs answers items : List Run) (i : ℕ) (run answer : Run) → i < length runs → run ≡ get_or runs i run → now ≡ set
-    → items ≡ answers ++ answer ∷ [] → AreServed (setup set) old (take i runs) answers mid → IsAnswered (setup now) mid run answer new → AreServed (setup set) old (take (i + 1) runs) items new
+    → items ≡ answers ++ answer ∷ [] → AreServed (setup set) old (take i runs) answers mid → IsRunAnswered (setup now) mid run answer new → AreServed (setup set) old (take (i + 1) runs) items new
 served_so_far set now old mid new runs answers items i run answer within item same all served is =
     let front : take (i + 1) runs ≡ take i runs ++ run ∷ [] = take_more runs i run within ∙ ap (λ (r : Run). take i runs ++ r ∷ []) (sym item) in
     subst (λ (l : List Run). AreServed (setup set) old l items new) (sym front)

@@ -12,7 +12,7 @@ use Rattle.batch_serve.specs.Lives.{Beginning, IsLife, LivesBegin, LivesGoOn, Li
 use Rattle.rtrb.specs.Ring.{sent}
 use Rattle.batch_serve.specs.Runs.{Run, due_of, last_of, runs_text}
 use Rattle.batch_serve.specs.Served.{AreServed, AreWhole, ShowNoWant}
-use Rattle.batch_serve.specs.Told.{IsTold}
+use Rattle.batch_serve.specs.Told.{IsDeskTold}
 use Rattle.batch_serve.specs.Turns.{IsTurned}
 use Rattle.batch_serve.specs.Waits.{IsAccount}
 use Rattle.batch_serve.specs.declared.desk.Desk.{Desk}
@@ -84,7 +84,7 @@ life_turned is_safe before after begun kept_after recorded_after runs answers no
           (life.each desk other (omega (arith, within, turn.told.count))) (turn.told.each desk other (omega (arith, within, turn.told.count)));
     }
   where
-    told_on : (desk : ℕ) (one other : Desk) → IsAccount (due_of desk one.unit answers) (now.told desk) one.waiting → IsTold desk turn.answers one other
+    told_on : (desk : ℕ) (one other : Desk) → IsAccount (due_of desk one.unit answers) (now.told desk) one.waiting → IsDeskTold desk turn.answers one other
         → IsAccount (due_of desk other.unit (answers ++ turn.answers)) (now.told desk) other.waiting
     told_on desk one other account told =
         subst (λ (u : Option (List ℕ)). IsAccount (due_of desk u (answers ++ turn.answers)) (now.told desk) other.waiting) (sym told.unit)

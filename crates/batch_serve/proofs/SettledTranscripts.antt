@@ -1,7 +1,7 @@
 -- After each line of a transcript the machine is settled, and from the opening of a cleared set its outs are a safe record.
 use Rattle.std.proofs.Common.{ℕ, List, [], ◌∷◌, Option, Some, None, Result, Ok, Err, refl, sym, ap, ◌∙◌, subst, inl, inr}
 use Rattle.batch_model.specs.Events.{Event}
-use Rattle.batch_model.specs.Moves.{Move, after}
+use Rattle.batch_model.specs.Moves.{Move, after_move}
 use Rattle.batch_model.specs.Plant.{Setup, Plant, opening}
 use Rattle.batch_safety.specs.Sets.{RunsSafely}
 use Rattle.batch_verify.specs.ClearedSet.{ClearedSet}
@@ -16,7 +16,7 @@ use Rattle.batch_serve.proofs.Exchanges.{followed-assoc, transcript_leads}
 
 moves_settle : (c : Setup) (old new : Plant) (moves : List Move) → Settles c old moves new → IsSettled c new
 moves_settle c old new [] s = subst (IsSettled c) (sym s.1) s.0
-moves_settle c old new (m ∷ moves) s = moves_settle c (after old m) new moves s.1
+moves_settle c old new (m ∷ moves) s = moves_settle c (after_move old m) new moves s.1
 
 answer_settles : (c : Setup) (old new : Plant) (said : Result (Option Event) WireFault) (exchange : Exchange) → IsSettled c old
     → Answers c old said exchange new → IsSettled c new

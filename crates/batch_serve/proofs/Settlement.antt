@@ -3,7 +3,7 @@ use Rattle.std.proofs.Common.{◌≡◌, ◌<◌, List, [], ◌∷◌, Some, Non
 use Rattle.batch_cell.specs.declared.cell.Cell.{Cell}
 use Rattle.batch_recipe.specs.declared.recipe.Recipe.{Recipe}
 use Rattle.batch_model.specs.Lists.{Each}
-use Rattle.batch_model.specs.Moves.{Move, after, next}
+use Rattle.batch_model.specs.Moves.{Move, after_move, next}
 use Rattle.batch_model.specs.Plant.{Setup, Plant}
 use Rattle.batch_model.specs.Runs.{Leads, move, work_left}
 use Rattle.batch_model.specs.Setups.{master_of}
@@ -26,7 +26,7 @@ pub record CanSettle (c : Setup) (old : Plant) : Type 0 where
 
 settles_from : (c : Setup) (s t : Plant) (ms : List Move) → Leads c s [] (map move ms) t → next c t ≡ None → Settles c s ms t
 settles_from c s t [] h e = (subst (λ (z : Plant). next c z ≡ None) (sym h) e, sym h)
-settles_from c s t (m ∷ ms) h e = (h.0, settles_from c (after s m) t ms h.1 e)
+settles_from c s t (m ∷ ms) h e = (h.0, settles_from c (after_move s m) t ms h.1 e)
 
 have_trees : (cell : Cell) (rs : List Recipe) → Each IsExpanded (map (master_of cell) rs)
 have_trees cell [] = tt
@@ -46,7 +46,7 @@ settle v led =
     record { moves = rest.0; new = rest.1.0; settles = settles_from c (plant_of v) rest.1.0 rest.0 rest.1.1 rest.1.2 }
 
 -- each move lowers the work left
-pub falls : (v : EngineView) (new : Plant) (m : Move) → IsLed v → next (setup v.cleared) (plant_of v) ≡ Some m → new ≡ after (plant_of v) m
+pub falls : (v : EngineView) (new : Plant) (m : Move) → IsLed v → next (setup v.cleared) (plant_of v) ≡ Some m → new ≡ after_move (plant_of v) m
     → work_left new < work_left (plant_of v)
 falls v new m led e is =
     let c = setup v.cleared in

@@ -14,15 +14,15 @@ use Rattle.memchr.specs.Find.{IsFirstByte, is_byte}
 use Rattle.std.specs.Char.{is_ascii_digit}
 use Rattle.std.specs.Str.{all_ascii_digits}
 use Rattle.batch_serve.specs.Comments.{is_hidden, kept_from, next_spot, spot_behind, without_comments, IsRemarked}
-use Rattle.batch_serve.specs.Remarking.{IsPart, StandsAt, is_plain, uncommented}
+use Rattle.batch_serve.specs.Remarking.{IsCommentPart, EndsAtSpot, is_plain, uncommented}
 use Rattle.batch_serve.specs.declared.remarked.Spot.{Spot}
 use Rattle.batch_serve.specs.declared.remarked.Spot.TheVariants.{Start, Line, Comment}
 use Rattle.batch_serve.proofs.Replays.{is_other, none_first}
 use Rattle.batch_serve.proofs.HeldText.{is_false}
 use Rattle.batch_wire.specs.Written.{AppendsBeginning}
 
-pub same_spot : (first x : Option (List ℕ)) (spot other : Spot) (cut whole : Bool) → (cut ≡ whole) → (spot ≡ other) → StandsAt first x spot cut → StandsAt first x other whole
-same_spot first x spot other cut whole is same at = subst (λ t. StandsAt first x other t) is (subst (λ s. StandsAt first x s cut) same at)
+pub same_spot : (first x : Option (List ℕ)) (spot other : Spot) (cut whole : Bool) → (cut ≡ whole) → (spot ≡ other) → EndsAtSpot first x spot cut → EndsAtSpot first x other whole
+same_spot first x spot other cut whole is same at = subst (λ t. EndsAtSpot first x other t) is (subst (λ s. EndsAtSpot first x s cut) same at)
 
 pub take_min : (n m : ℕ) (xs : List ℕ) → n ≡ min (length xs) m → take n xs ≡ take m xs
 take_min n m xs is = elim (cases_lt m (length xs)) [
@@ -95,7 +95,7 @@ comment_on b other = go (eqb b 10) (is_false (eqb b 10) other)
     go true is = absurd (cc is)
     go false is = refl
 
-pub comment_part : (bytes : List ℕ) → list_all is_other bytes ≡ true → IsPart Comment bytes Comment
+pub comment_part : (bytes : List ℕ) → list_all is_other bytes ≡ true → IsCommentPart Comment bytes Comment
 comment_part [] other = record { hidden = refl; stands = refl }
 comment_part (b ∷ bytes) other =
     let parts = and_parts (is_other b) (list_all is_other bytes) other in
@@ -133,7 +133,7 @@ digits_other (d ∷ ds) is =
     let parts = and_parts (is_ascii_digit d) (all_ascii_digits ds) is in
     both (is_other d) (list_all is_other ds) (passes is_ascii_digit d refl parts.0) (digits_other ds parts.1)
 
-pub decimal_part : (ds : List ℕ) (n : ℕ) → ds ≡ decimal n → n < 2 ^ 64 → IsPart Comment ds Comment
+pub decimal_part : (ds : List ℕ) (n : ℕ) → ds ≡ decimal n → n < 2 ^ 64 → IsCommentPart Comment ds Comment
 decimal_part ds n is fits =
     let digits : all_ascii_digits (decimal n) ≡ true = digits_decimal (numerals_by_value _ tells_all_ascii_digits) n fits in
     comment_part ds (digits_other ds (ap all_ascii_digits is ∙ digits))
@@ -146,7 +146,7 @@ record HasTold (held : List ℕ) (contents : Option (List ℕ)) (spot : Spot) (c
   pub has : contents ≡ Some (held ++ text)
   pub stands : cut ≡ false → spot_behind Start text ≡ spot
 
-has_told : (held : List ℕ) (contents : Option (List ℕ)) (spot : Spot) (cut : Bool) → StandsAt (Some held) contents spot cut → HasTold held contents spot cut
+has_told : (held : List ℕ) (contents : Option (List ℕ)) (spot : Spot) (cut : Bool) → EndsAtSpot (Some held) contents spot cut → HasTold held contents spot cut
 has_told held None spot cut at = absurd (cc (at.kept held refl))
 has_told held (Some all) spot cut at =
     let front : take (length held) all ≡ held = cc (at.kept held refl) in
@@ -162,7 +162,7 @@ behind_held held text other all is same =
     let two : held ++ text ≡ all = cc same in
     ap (drop (length other)) (sym two ∙ ap (λ l. l ++ text) one) ∙ drop_at other text (length other) refl
 
-stands_at : (held : List ℕ) (contents : Option (List ℕ)) (spot : Spot) (cut : Bool) → HasTold held contents spot cut → StandsAt (Some held) contents spot cut
+stands_at : (held : List ℕ) (contents : Option (List ℕ)) (spot : Spot) (cut : Bool) → HasTold held contents spot cut → EndsAtSpot (Some held) contents spot cut
 stands_at held contents spot cut told = record {
   kept = λ other is.
       let one : held ≡ other = cc is in
@@ -170,13 +170,13 @@ stands_at held contents spot cut told = record {
   stands = λ other all is same whole. ap (spot_behind Start) (behind_held held told.text other all is (sym told.has ∙ same)) ∙ told.stands whole;
 }
 
-unknown : (contents : Option (List ℕ)) (spot : Spot) (cut : Bool) → StandsAt None contents spot cut
+unknown : (contents : Option (List ℕ)) (spot : Spot) (cut : Bool) → EndsAtSpot None contents spot cut
 unknown contents spot cut = record { kept = λ held is. absurd (cc is); stands = λ held all is. absurd (cc is) }
 
 uncommented_is : (held text : List ℕ) → uncommented (Some held) (Some (held ++ text)) ≡ Some (held ++ without_comments text)
 uncommented_is held text = ap (λ l. Some (held ++ without_comments l)) (drop_at held text (length held) refl)
 
-pub remarked : (first contents : Option (List ℕ)) (spot : Spot) (cut : Bool) → StandsAt first contents spot cut → IsRemarked first contents (uncommented first contents)
+pub remarked : (first contents : Option (List ℕ)) (spot : Spot) (cut : Bool) → EndsAtSpot first contents spot cut → IsRemarked first contents (uncommented first contents)
 remarked None contents spot cut at = record { known = λ held is. absurd (cc is) }
 remarked (Some held) contents spot cut at =
     let told = has_told held contents spot cut at in
@@ -206,8 +206,8 @@ module _ (held text : List ℕ) (spot : Spot) (stands : spot_behind Start text �
         record { text = text ++ t; has = ap Some all; stands = λ _. spot-append Start text t ∙ ap (λ s. spot_behind s t) stands },
       )
 
-told : (first x y : Option (List ℕ)) (spot : Spot) (t : List ℕ) → StandsAt first x spot false → Appends x y t
-    → Appends (uncommented first x) (uncommented first y) (kept_from spot t) × StandsAt first y (spot_behind spot t) false
+told : (first x y : Option (List ℕ)) (spot : Spot) (t : List ℕ) → EndsAtSpot first x spot false → Appends x y t
+    → Appends (uncommented first x) (uncommented first y) (kept_from spot t) × EndsAtSpot first y (spot_behind spot t) false
 told None x y spot t at appends = (tt, unknown y (spot_behind spot t) false)
 told (Some held) x y spot t at appends =
     let before = has_told held x spot false at in
@@ -225,17 +225,17 @@ kept_nil (Some x) None keeps = absurd keeps
 kept_nil (Some x) (Some y) keeps = keeps ∙ sym (append-nil x)
 
 -- a part of a comment was written
-pub told_part : (first x y : Option (List ℕ)) (spot to : Spot) (t : List ℕ) → IsPart spot t to → StandsAt first x spot false → Appends x y t
-    → Keeps (uncommented first x) (uncommented first y) × StandsAt first y to false
+pub told_part : (first x y : Option (List ℕ)) (spot to : Spot) (t : List ℕ) → IsCommentPart spot t to → EndsAtSpot first x spot false → Appends x y t
+    → Keeps (uncommented first x) (uncommented first y) × EndsAtSpot first y to false
 told_part first x y spot to t part at appends =
     let now = told first x y spot t at appends in (
       keeps_nil (uncommented first x) (uncommented first y) (subst (Appends (uncommented first x) (uncommented first y)) part.hidden now.0),
-      subst (λ s. StandsAt first y s false) part.stands now.1,
+      subst (λ s. EndsAtSpot first y s false) part.stands now.1,
     )
 
 -- or a beginning of it
-pub told_cut : (first x y : Option (List ℕ)) (spot to other : Spot) (t : List ℕ) → IsPart spot t to → StandsAt first x spot false → AppendsBeginning x y t
-    → Keeps (uncommented first x) (uncommented first y) × StandsAt first y other true
+pub told_cut : (first x y : Option (List ℕ)) (spot to other : Spot) (t : List ℕ) → IsCommentPart spot t to → EndsAtSpot first x spot false → AppendsBeginning x y t
+    → Keeps (uncommented first x) (uncommented first y) × EndsAtSpot first y other true
 told_cut first x y spot to other t part at begins =
     let now = told first x y spot begins.written at begins.appends in
     let none : kept_from spot begins.written ≡ [] =
@@ -246,22 +246,22 @@ told_cut first x y spot to other t part at begins =
     )
 
 -- nothing was written
-pub told_nothing : (first x y : Option (List ℕ)) (spot : Spot) (cut : Bool) → Keeps x y → StandsAt first x spot cut
-    → Keeps (uncommented first x) (uncommented first y) × StandsAt first y spot cut
+pub told_nothing : (first x y : Option (List ℕ)) (spot : Spot) (cut : Bool) → Keeps x y → EndsAtSpot first x spot cut
+    → Keeps (uncommented first x) (uncommented first y) × EndsAtSpot first y spot cut
 told_nothing first None y spot cut keeps at = go first at
   where
-    go : (start : Option (List ℕ)) → StandsAt start None spot cut → Keeps (uncommented start None) (uncommented start y) × StandsAt start y spot cut
+    go : (start : Option (List ℕ)) → EndsAtSpot start None spot cut → Keeps (uncommented start None) (uncommented start y) × EndsAtSpot start y spot cut
     go None stands = (tt, unknown y spot cut)
     go (Some held) stands = absurd (cc (stands.kept held refl))
 told_nothing first (Some xs) None spot cut keeps at = absurd keeps
 told_nothing first (Some xs) (Some ys) spot cut keeps at = (
   subst (λ l. Keeps (uncommented first (Some xs)) (uncommented first (Some l))) (sym keeps) (Keeps-refl (uncommented first (Some xs))),
-  subst (λ l. StandsAt first (Some l) spot cut) (sym keeps) at,
+  subst (λ l. EndsAtSpot first (Some l) spot cut) (sym keeps) at,
 )
 
 -- text that is no comment was written
-pub told_plain : (first x y : Option (List ℕ)) (spot : Spot) (t : List ℕ) → (spot ≡ Comment → ⊥) → list_all is_plain t ≡ true → StandsAt first x spot false → Appends x y t
-    → Appends (uncommented first x) (uncommented first y) t × StandsAt first y (spot_behind spot t) false
+pub told_plain : (first x y : Option (List ℕ)) (spot : Spot) (t : List ℕ) → (spot ≡ Comment → ⊥) → list_all is_plain t ≡ true → EndsAtSpot first x spot false → Appends x y t
+    → Appends (uncommented first x) (uncommented first y) t × EndsAtSpot first y (spot_behind spot t) false
 told_plain first x y spot t outside plain at appends =
     let now = told first x y spot t at appends in
     (subst (Appends (uncommented first x) (uncommented first y)) (plain_kept spot t outside plain) now.0, now.1)

@@ -7,7 +7,7 @@ use Rattle.batch_model.specs.Events as Model
 use Rattle.batch_model.specs.Moves.{Move}
 use Rattle.batch_model.specs.Plant.{Setup, Plant}
 use Rattle.batch_model.specs.Runs.{Out, reply, move, Reacts}
-use Rattle.batch_wire.specs.Reading.{Reads}
+use Rattle.batch_wire.specs.Reading.{ReadsAs}
 use Rattle.batch_wire.specs.RecordText.{out_text}
 use Rattle.batch_wire.specs.Transcript.{Exchange, silence, refusal, handled, Settles, Handles, Answers}
 use Rattle.batch_wire.specs.Written.{AppendsBeginning, Writes}
@@ -18,7 +18,7 @@ use Rattle.batch_serve.specs.Answering.{outs_text, moves_text, WritesAnswer, Wri
 use Rattle.batch_serve.proofs.Settlement.{CanSettle}
 use Rattle.batch_wire.proofs.WrittenTexts.{longer_text, then_beginning}
 
-pub refused : (c : Setup) (old : Plant) (said : Result (Option Model.Event) WireFault) (fault : WireFault) → Reads (Err fault) said → Answers c old said (refusal fault) old
+pub refused : (c : Setup) (old : Plant) (said : Result (Option Model.Event) WireFault) (fault : WireFault) → ReadsAs (Err fault) said → Answers c old said (refusal fault) old
 refused c old said UnknownWord e = rw e (refl, refl)
 refused c old said MissingArgument e = rw e (refl, refl)
 refused c old said ExtraArgument e = rw e (refl, refl)
@@ -30,7 +30,7 @@ refused c old (Err fault) Memory e = absurd e
 
 -- the refusal of the line was written
 pub refused_written : (c : Setup) (old : Plant) (said : Result (Option Model.Event) WireFault) (fault : WireFault) (r : Result (Unit {0}) WriteFault) (x y : Option (List ℕ))
-    → Reads (Err fault) said → Writes x y r (refusal fault).text → WritesAnswer c old said r old x y
+    → ReadsAs (Err fault) said → Writes x y r (refusal fault).text → WritesAnswer c old said r old x y
 refused_written c old said fault (Ok u) x y e w = (refusal fault, refused c old said fault e, w)
 refused_written c old said fault (Err f) x y e w = (refusal fault, old, refused c old said fault e, w)
 

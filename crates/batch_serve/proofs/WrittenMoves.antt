@@ -2,7 +2,7 @@
 use Rattle.std.proofs.Common.{◌≡◌, List, [], ◌∷◌, ◌++◌, ℕ, Option, Some, None, refl, sym, ap, ◌∙◌, append_assoc, append-nil}
 use Rattle.std.specs.Io.KnownBytes.{Appends}
 use Rattle.std.proofs.KnownBytes.{Appends-trans}
-use Rattle.batch_model.specs.Moves.{Move, next, after}
+use Rattle.batch_model.specs.Moves.{Move, next, after_move}
 use Rattle.batch_model.specs.Plant.{Setup, Plant}
 use Rattle.batch_model.specs.Runs.{move}
 use Rattle.batch_wire.specs.RecordText.{out_text}
@@ -13,10 +13,10 @@ use Rattle.batch_serve.proofs.Settlement.{CanSettle}
 use Rattle.batch_wire.proofs.WrittenTexts.{then_beginning}
 
 -- the moves made so far were written
-pub record AreWritten (c : Setup) (first now : Plant) (before after : Option (List ℕ)) : Type 0 where
+pub record AreWritten (c : Setup) (first now : Plant) (before after_move : Option (List ℕ)) : Type 0 where
   pub made : List Move
   pub goes_on : (more : List Move) (new : Plant) → Settles c now more new → Settles c first (made ++ more) new
-  pub appends : Appends before after (moves_text made)
+  pub appends : Appends before after_move (moves_text made)
 
 text-append : (made more : List Move) → moves_text (made ++ more) ≡ moves_text made ++ moves_text more
 text-append [] more = refl
@@ -26,7 +26,7 @@ pub none_written : (c : Setup) (first : Plant) (before : Option (List ℕ)) → 
 none_written c first before p = record { made = []; goes_on = λ more new s. s; appends = p }
 
 pub one_more : (c : Setup) (first now new : Plant) (m : Move) (x y z : Option (List ℕ)) → AreWritten c first now x y
-    → next c now ≡ Some m → new ≡ after now m → Appends y z (out_text (move m)) → AreWritten c first new x z
+    → next c now ≡ Some m → new ≡ after_move now m → Appends y z (out_text (move m)) → AreWritten c first new x z
 one_more c first now new m x y z h first_is is p = record {
   made = h.made ++ m ∷ [];
   goes_on = λ more last s. rw append_assoc (h.goes_on (m ∷ more) last (first_is, rw (← is) s));
@@ -40,7 +40,7 @@ all_written c first now new x y h none same = (h.made, (rw append-nil at (h.goes
 
 -- a fault came while a move was written
 pub part_written : (c : Setup) (first now new : Plant) (m : Move) (x y z : Option (List ℕ)) → CanSettle c new → AreWritten c first now x y
-    → next c now ≡ Some m → new ≡ after now m → AppendsBeginning y z (out_text (move m))
+    → next c now ≡ Some m → new ≡ after_move now m → AppendsBeginning y z (out_text (move m))
     → (moves : List Move) × (last : Plant) × Settles c first moves last × AppendsBeginning x z (moves_text moves)
 part_written c first now new m x y z later h first_is is p = (
   h.made ++ m ∷ later.moves,

@@ -49,13 +49,13 @@ is_from name None = false
 is_from name (Some other) = pointwise nat_eq name other
 
 -- the lines of a record that the desk of this name is due; the first of the record answer the desk `from`, if any
-abbrev pub due : List ℕ → Option (List ℕ) → Option (List ℕ) → List (List ℕ) → List (List ℕ)
-due name unit from [] = []
-due name unit from (line ∷ lines) =
-    cond (is_due (is_from name from) unit line) (line ∷ []) [] ++ due name unit (from_behind from line) lines
+abbrev pub due_lines : List ℕ → Option (List ℕ) → Option (List ℕ) → List (List ℕ) → List (List ℕ)
+due_lines name unit from [] = []
+due_lines name unit from (line ∷ lines) =
+    cond (is_due (is_from name from) unit line) (line ∷ []) [] ++ due_lines name unit (from_behind from line) lines
 
 -- the answers to a run of lines of one desk are sorted by themselves
 abbrev pub RunsAreSorted : Type 0
 RunsAreSorted =
     (name : List ℕ) (unit from : Option (List ℕ)) (run rest : List (List ℕ)) → list_all (λ line. not (is_comment line)) run ≡ true
-    → due name unit from (run ++ rest) ≡ filter (is_due (is_from name from) unit) run ++ due name unit from rest
+    → due_lines name unit from (run ++ rest) ≡ filter (is_due (is_from name from) unit) run ++ due_lines name unit from rest

@@ -3,7 +3,7 @@ use Rattle.std.specs.Prelude.{◌≡◌, ℕ, ◌<◌, true, false, not, List, [
 use Rattle.std.specs.List.{All, list_all}
 use Rattle.batch_wire.specs.Transcript.{whole_lines}
 use Rattle.batch_serve.specs.Replays.{IsWholeLines}
-use Rattle.batch_serve.specs.Dues.{due, is_comment}
+use Rattle.batch_serve.specs.Dues.{due_lines, is_comment}
 use Rattle.batch_serve.specs.Lines.{is_feed}
 use Rattle.batch_serve.specs.Runs.{Run, due_of, runs_text}
 
@@ -23,4 +23,4 @@ abbrev pub RecordsAreSorted : Type 0
 RecordsAreSorted =
     (names : List (List ℕ)) (desk : ℕ) (unit : Option (List ℕ)) (answers : List Run) → AreNames names → desk < length names
     → All (IsPlainRun (length names)) answers
-    → due (get_or names desk []) unit None (whole_lines (runs_text names None answers)) ≡ due_of desk unit answers
+    → due_lines (get_or names desk []) unit None (whole_lines (runs_text names None answers)) ≡ due_of desk unit answers

@@ -56,7 +56,7 @@ pub record AreGathered {O : Type 0} (allows : List Sent → Sent → Type 0) (de
       → IsGathered allows desk (get_or desks desk other).waiting.is_cut (get_or old desk reader) (get_or new desk reader) before after
 
 -- the text is that of a prefix of the messages that came, and of all of them, unless the desk is cut
-pub record IsTextOf (came : List Sent) (is_cut : Bool) (text : List ℕ) : Type 0 where
+pub record IsTextOfMessages (came : List Sent) (is_cut : Bool) (text : List ℕ) : Type 0 where
   pub taken : List Sent
   pub dropped : List Sent
   pub came_is : came ≡ taken ++ dropped
@@ -66,8 +66,8 @@ pub record IsTextOf (came : List Sent) (is_cut : Bool) (text : List ℕ) : Type 
 -- if that is so of the lines of a desk that were served, with those of the group, it stays so when more come
 abbrev pub LinesGoOn : (O : Type 0) → (List Sent → Sent → Type 0) → Type 0
 LinesGoOn O allows =
-    (desk : ℕ) (is_cut : Bool) (runs group after : List Run) (old new : Reader O) → IsTextOf (received old.ring) is_cut (own_text desk (runs ++ group))
-    → IsGathered allows desk is_cut old new group after → IsTextOf (received new.ring) is_cut (own_text desk (runs ++ after))
+    (desk : ℕ) (is_cut : Bool) (runs group after : List Run) (old new : Reader O) → IsTextOfMessages (received old.ring) is_cut (own_text desk (runs ++ group))
+    → IsGathered allows desk is_cut old new group after → IsTextOfMessages (received new.ring) is_cut (own_text desk (runs ++ after))
 
 -- Writers
 

@@ -1,6 +1,6 @@
 -- worked rows: lines of a record that a desk is due, and lines that it isn't.
 use Rattle.std.specs.Prelude.{◌≡◌, List, ℕ, true, false, [], ◌∷◌, Some, None, codes}
-use Rattle.batch_serve.specs.Dues.{due, is_due}
+use Rattle.batch_serve.specs.Dues.{due_lines, is_due}
 
 -- a reply is due to whoever sent the line, be it a console or a link, and to nobody else
 abbrev pub ReplyIsOwn : Type 0
@@ -39,7 +39,7 @@ two_consoles =
 -- each is due its own answers, and both the move; a link of another unit is due nothing
 abbrev pub RecordIsSorted : Type 0
 RecordIsSorted =
-    (due (codes "A") None None two_consoles ≡ codes "ok start 1 running" ∷ codes "start 1 0.0.0.0 R1 ADD" ∷ [])
-    × (due (codes "B") None None two_consoles ≡ codes "start 1 0.0.0.0 R1 ADD" ∷ codes "refused E2" ∷ codes "refused W1" ∷ [])
-    × (due (codes "C") (Some (codes "R2")) None two_consoles ≡ [])
-    × (due (codes "D") (Some (codes "R1")) None two_consoles ≡ codes "start 1 0.0.0.0 R1 ADD" ∷ [])
+    (due_lines (codes "A") None None two_consoles ≡ codes "ok start 1 running" ∷ codes "start 1 0.0.0.0 R1 ADD" ∷ [])
+    × (due_lines (codes "B") None None two_consoles ≡ codes "start 1 0.0.0.0 R1 ADD" ∷ codes "refused E2" ∷ codes "refused W1" ∷ [])
+    × (due_lines (codes "C") (Some (codes "R2")) None two_consoles ≡ [])
+    × (due_lines (codes "D") (Some (codes "R1")) None two_consoles ≡ codes "start 1 0.0.0.0 R1 ADD" ∷ [])

@@ -10,7 +10,7 @@ use Rattle.batch_serve.specs.Safe.{IsSafeTranscript}
 use Rattle.batch_serve.specs.Runs.{Run}
 
 -- from the state old, the run's lines got this answer, and the machine came to the state new
-pub record IsAnswered (c : Setup) (old : Plant) (run answer : Run) (new : Plant) : Type 0 where
+pub record IsRunAnswered (c : Setup) (old : Plant) (run answer : Run) (new : Plant) : Type 0 where
   pub said : Exchange
   pub transcript : Transcript c old (lines_of run.text) said new
   pub desk : answer.desk ≡ run.desk
@@ -20,7 +20,7 @@ pub record IsAnswered (c : Setup) (old : Plant) (run answer : Run) (new : Plant)
 abbrev pub AreServed : Setup → Plant → List Run → List Run → Plant → Type 0
 AreServed c old [] answers new = (answers ≡ []) × (new ≡ old)
 AreServed c old (run ∷ runs) answers new =
-    (first : Run) × (others : List Run) × (mid : Plant) × IsAnswered c old run first mid × AreServed c mid runs others new × (answers ≡ first ∷ others)
+    (first : Run) × (others : List Run) × (mid : Plant) × IsRunAnswered c old run first mid × AreServed c mid runs others new × (answers ≡ first ∷ others)
 
 -- the text of each run is whole lines
 abbrev pub AreWhole : List Run → Type 0

@@ -20,7 +20,7 @@ pub record ReadsOn (old new : Option (List ℕ)) (before after : List Sent) : Ty
   pub read : Consumes old new (text_sent items)
 
 -- whole lines, a prefix of the text read, were handed over; if it ended well, all of it, to the end of the input, and then the end
-pub record IsRead (ended : Bool) (old new : Option (List ℕ)) (before after : List Sent) : Type 0 where
+pub record IsInputRead (ended : Bool) (old new : Option (List ℕ)) (before after : List Sent) : Type 0 where
   pub items : List Sent
   pub whole : HaveWholeLines items
   pub rest : List ℕ
@@ -33,7 +33,7 @@ pub record IsRead (ended : Bool) (old new : Option (List ℕ)) (before after : L
 -- one step of it
 abbrev pub ReadsNext : Option Bool → Option (List ℕ) → Option (List ℕ) → List Sent → List Sent → Type 0
 ReadsNext None old new before after = ReadsOn old new before after
-ReadsNext (Some ended) old new before after = IsRead ended old new before after
+ReadsNext (Some ended) old new before after = IsInputRead ended old new before after
 
 -- Writers
 
@@ -48,7 +48,7 @@ pub record WritesOn (before after : List (List ℕ)) (old new : Option (List ℕ
   pub written : Appends old new (lines_text lines)
 
 -- the written text is a prefix of the received one, and all of it if it ended well
-pub record IsWritten (ended : Bool) (before after : List (List ℕ)) (old new : Option (List ℕ)) : Type 0 where
+pub record AreLinesWritten (ended : Bool) (before after : List (List ℕ)) (old new : Option (List ℕ)) : Type 0 where
   pub lines : List (List ℕ)
   pub came : after ≡ before ++ lines
   pub begun : AppendsBeginning old new (lines_text lines)
@@ -56,4 +56,4 @@ pub record IsWritten (ended : Bool) (before after : List (List ℕ)) (old new : 
 
 abbrev pub WritesNext : Option Bool → List (List ℕ) → List (List ℕ) → Option (List ℕ) → Option (List ℕ) → Type 0
 WritesNext None before after old new = WritesOn before after old new
-WritesNext (Some ended) before after old new = IsWritten ended before after old new
+WritesNext (Some ended) before after old new = AreLinesWritten ended before after old new

@@ -5,12 +5,12 @@ use Rattle.batch_serve.specs.Waits.{IsAccount}
 use Rattle.batch_serve.specs.declared.desk.Desk.{Desk}
 
 -- any account of the desk at this place grows by the lines of the answers that it is due
-pub record IsTold (desk : ℕ) (answers : List Run) (old new : Desk) : Type 0 where
+pub record IsDeskTold (desk : ℕ) (answers : List Run) (old new : Desk) : Type 0 where
   pub unit : new.unit ≡ old.unit
   pub cut : new.waiting.is_cut ≡ false → old.waiting.is_cut ≡ false
   pub account : (all told : List (List ℕ)) → IsAccount all told old.waiting → IsAccount (all ++ due_of desk old.unit answers) told new.waiting
 
 -- each is told
-pub record AreTold (answers : List Run) (old new : List Desk) : Type 0 where
+pub record AreDesksTold (answers : List Run) (old new : List Desk) : Type 0 where
   pub count : length new ≡ length old
-  pub each : (desk : ℕ) (other : Desk) → desk < length old → IsTold desk answers (get_or old desk other) (get_or new desk other)
+  pub each : (desk : ℕ) (other : Desk) → desk < length old → IsDeskTold desk answers (get_or old desk other) (get_or new desk other)

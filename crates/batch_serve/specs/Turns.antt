@@ -4,7 +4,7 @@ use Rattle.std.specs.Io.KnownBytes.{Appends}
 use Rattle.batch_engine.specs.View.{setup, plant_of}
 use Rattle.batch_serve.specs.Runs.{Run, last_of, runs_text}
 use Rattle.batch_serve.specs.Served.{AreServed, AreWhole, ShowNoWant}
-use Rattle.batch_serve.specs.Told.{AreTold}
+use Rattle.batch_serve.specs.Told.{AreDesksTold}
 use Rattle.batch_serve.specs.declared.desk_server.DeskServer.{DeskServer}
 
 -- a run without text is left out
@@ -28,7 +28,7 @@ pub record IsTurned (old new : DeskServer) (safe : Type 0) (kept_before kept_aft
   pub whole : again ≡ true → AreWhole old.group.items
   pub well : again ≡ true → ShowNoWant answers
   pub recorded : Appends record_before record_after (runs_text old.names.items old.last answers)
-  pub told : AreTold answers old.desks.items new.desks.items
+  pub told : AreDesksTold answers old.desks.items new.desks.items
   pub last : new.last ≡ last_of old.last old.group.items
   pub group : new.group.items ≡ []
   pub cleared : new.engine.cleared ≡ old.engine.cleared

@@ -4,7 +4,7 @@ ghost use Rattle.batch_wire.specs.Transcript.{whole_lines};
 ghost use Rattle.batch_serve.specs.Dues.{is_due};
 ghost use Rattle.batch_serve.specs.Lines.{is_feed};
 ghost use Rattle.batch_serve.specs.Waits.{IsAccount, nothing_waits};
-ghost use Rattle.batch_serve.specs.Told.{AreTold, IsTold};
+ghost use Rattle.batch_serve.specs.Told.{AreDesksTold, IsDeskTold};
 
 use crate::desks_fault::CutReason;
 use crate::line::Line;
@@ -86,7 +86,7 @@ impl Desk {
 
     /// Queues the lines of the answers that it is due, as the desk at this place.
     pub fn queue_answers(&mut self, alloc: Global, answers: &[Run], desk: usize)
-        ensures { IsTold desk answers.now self.old self.new }
+        ensures { IsDeskTold desk answers.now self.old self.new }
     {
         for answer in answers {
             let is_own = answer.desk() == desk;
@@ -97,7 +97,7 @@ impl Desk {
 
 /// Queues for each desk the lines of the answers that it is due.
 pub fn queue_for_each(alloc: Global, desks: &mut Vec<Desk>, answers: &[Run])
-    ensures { AreTold answers.now desks.old.items desks.new.items }
+    ensures { AreDesksTold answers.now desks.old.items desks.new.items }
 {
     for desk in 0..desks.len() {
         desks[desk].queue_answers(alloc, answers, desk);

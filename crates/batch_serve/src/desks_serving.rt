@@ -1,7 +1,7 @@
 //! Serving the runs of a turn.
 ghost use Rattle.std.specs.Prelude.{◌≡◌, IfOk};
 ghost use Rattle.batch_engine.specs.View.{setup, plant_of};
-ghost use Rattle.batch_serve.specs.Served.{AreServed, IsAnswered};
+ghost use Rattle.batch_serve.specs.Served.{AreServed, IsRunAnswered};
 
 use crate::remarks::NoRemarks;
 use crate::run::Run;
@@ -14,7 +14,7 @@ use std::alloc::{AllocError, Global};
 /// The error is that there is no memory for them. Then the machine may be ahead of its answers.
 fn serve_run(alloc: Global, engine: &mut Engine, run: &Run) -> Result<Run, AllocError>
     ensures cleared { engine.new.cleared ≡ engine.old.cleared }
-    ensures served { IfOk result (λ answer. IsAnswered (setup engine.old.cleared) (plant_of engine.old) run.now answer (plant_of engine.new)) }
+    ensures served { IfOk result (λ answer. IsRunAnswered (setup engine.old.cleared) (plant_of engine.old) run.now answer (plant_of engine.new)) }
 {
     let mut text = Vec::new(alloc);
     let mut lines = run.text();

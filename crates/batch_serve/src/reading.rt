@@ -2,7 +2,7 @@
 ghost use Rattle.std.specs.Prelude.{◌≡◌, ◌<◌, ◌++◌, ◌∷◌, [], length, true, false, IfSome, IsNone};
 ghost use Rattle.rtrb.specs.Ring.{SameProducer, known_free, sent};
 ghost use Rattle.batch_serve.specs.Replays.{IsWholeLines};
-ghost use Rattle.batch_serve.specs.Threads.{IsRead, MayHandOver, ReadsNext};
+ghost use Rattle.batch_serve.specs.Threads.{IsInputRead, MayHandOver, ReadsNext};
 ghost use Rattle.batch_serve.specs.Pieces.{HasGot};
 
 use crate::pause::Pause;
@@ -38,7 +38,7 @@ pub fn read_lines<R: Read, O: Protocol<Sent>, P: Pause>(
 ) -> bool
     requires room { 0 < length room.old }
     requires allowed { MayHandOver O.allows (sent ring.old) (R.remaining input.old) }
-    ensures read { IsRead result (R.remaining input.old) (R.remaining input.new) (sent ring.old) (sent ring.new) }
+    ensures read { IsInputRead result (R.remaining input.old) (R.remaining input.new) (sent ring.old) (sent ring.new) }
     ensures ring { SameProducer ring.old ring.new }
 {
     for _ in 0..u64::MAX {

@@ -3,7 +3,7 @@ ghost use Rattle.std.specs.Prelude.{◌≡◌, ◌≢◌, true, false, OnOk, IsT
 ghost use Rattle.std.specs.List.{list_all};
 ghost use Rattle.std.specs.Io.KnownBytes.{Appends, Keeps};
 ghost use Rattle.batch_serve.specs.Comments.{IsRemarked, next_spot, spot_behind};
-ghost use Rattle.batch_serve.specs.Remarking.{IsPart, is_plain, StandsAt, uncommented};
+ghost use Rattle.batch_serve.specs.Remarking.{IsCommentPart, is_plain, EndsAtSpot, uncommented};
 
 use crate::held::Start;
 use batch_wire::{WriteFault, write_all};
@@ -34,7 +34,7 @@ pub struct Remarked<W: Write, C: Start> {
     // a part of a comment failed
     is_cut: bool,
     of: PhantomData<C>,
-    ghost stands: { StandsAt C.contents (W.contents inner) spot is_cut },
+    ghost stands: { EndsAtSpot C.contents (W.contents inner) spot is_cut },
 }
 
 impl<W: Write, C: Start> Remarked<W, C> {
@@ -62,7 +62,7 @@ impl<W: Write, C: Start> Remarked<W, C> {
 
     /// Writes a part of a comment, which begins at the one spot and ends at the other. It fails if the text doesn't end at the first.
     pub(crate) fn write_part(&mut self, from: Spot, part: &[u8], to: Spot) -> Result<(), WriteFault>
-        requires { IsPart from part.now to }
+        requires { IsCommentPart from part.now to }
         ensures kept { Keeps (uncommented C.contents (W.contents self.old.inner)) (uncommented C.contents (W.contents self.new.inner)) }
         ensures written { OnOk result (Appends (W.contents self.old.inner) (W.contents self.new.inner) part.now) }
     {

@@ -2,7 +2,7 @@
 ghost use Rattle.std.specs.Prelude.{◌≡◌, ◌++◌, ◌∷◌, [], true};
 ghost use Rattle.batch_wire.specs.Written.{Writes};
 ghost use Rattle.rtrb.specs.Ring.{SameConsumer, received};
-ghost use Rattle.batch_serve.specs.Threads.{IsWritten, WritesNext};
+ghost use Rattle.batch_serve.specs.Threads.{AreLinesWritten, WritesNext};
 
 use crate::line::Line;
 use crate::pause::Pause;
@@ -20,7 +20,7 @@ pub fn write_lines<W: Write, P: Pause>(
     output: &mut W,
     pause: &mut P,
 ) -> bool
-    ensures written { IsWritten result (received ring.old) (received ring.new) (W.contents output.old) (W.contents output.new) }
+    ensures written { AreLinesWritten result (received ring.old) (received ring.new) (W.contents output.old) (W.contents output.new) }
     ensures ring { SameConsumer ring.old ring.new }
 {
     for _ in 0..u64::MAX {

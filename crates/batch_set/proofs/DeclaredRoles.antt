@@ -6,7 +6,7 @@ use Rattle.std.proofs.lemmas.Bool.{and_parts, not-true}
 use Rattle.std.proofs.lemmas.Bool.Decides.{nat_tests}
 use Rattle.batch_recipe.specs.Conditions.{Name, same_name}
 use Rattle.batch_recipe.specs.Expanding.{act_named}
-use Rattle.batch_recipe.specs.Outlines.{act_of}
+use Rattle.batch_recipe.specs.Outlines.{act_of_kind}
 use Rattle.batch_recipe.specs.WellFormed.{act_names, are_distinct, has_chart, has_unit, is_among, is_role_among, reserve_well, reserves_among, reserves_none, reserves_once}
 use Rattle.batch_recipe.specs.declared.act.Act.{Act}
 use Rattle.batch_recipe.specs.declared.act.UnitChoice.{UnitChoice}
@@ -85,7 +85,7 @@ module _ (r : Recipe) where
       go (Some choice) f = absurd cc
 
   -- the role of an act, where it has one
-  pub declared : (k : Kind) (a : Act) → act_of r.acts k ≡ Some a → is_role_among roles a ≡ true
+  pub declared : (k : Kind) (a : Act) → act_of_kind r.acts k ≡ Some a → is_role_among roles a ≡ true
   declared kind.Procedure a is =
       let same : r.acts.procedure ≡ a = cc in
       let none = and_parts (not (has_unit r.acts.procedure)) _ (and_parts (not (has_unit r.acts.procedure) && has_chart r.acts.procedure) _ r.kinds).0 in
@@ -109,7 +109,7 @@ module _ (r : Recipe) where
   lower-tables = (and_parts (reserve_well (act_names units) units) _ own-tables).1
 
   -- the names that an act reserves are those of unit procedures
-  pub reserves-units : (k : Kind) (a : Act) → act_of r.acts k ≡ Some a → list_all (is_among (act_names units)) a.reserves.items ≡ true
+  pub reserves-units : (k : Kind) (a : Act) → act_of_kind r.acts k ≡ Some a → list_all (is_among (act_names units)) a.reserves.items ≡ true
   reserves-units kind.Procedure a is =
       let same : r.acts.procedure ≡ a = cc in
       subst (λ (x : Act). list_all (is_among (act_names units)) x.reserves.items ≡ true) same

@@ -7,9 +7,9 @@ use Rattle.std.proofs.lemmas.Bool.{and_parts}
 use Rattle.batch_cell.specs.LookUps.{resources_of}
 use Rattle.batch_cell.specs.declared.cell.Cell.{Cell}
 use Rattle.batch_recipe.specs.Conditions.{Name, same_name}
-use Rattle.batch_recipe.specs.Expanding.{Binding, asked_by, needs_with, unit_chosen, unit_named, unit_with}
+use Rattle.batch_recipe.specs.Expanding.{Binding, asked_in_order, needs_with, unit_chosen, unit_named, unit_with}
 use Rattle.batch_recipe.specs.Needs.{one_unit}
-use Rattle.batch_recipe.specs.Outlines.{act_of}
+use Rattle.batch_recipe.specs.Outlines.{act_of_kind}
 use Rattle.batch_recipe.specs.Procedure.{sites}
 use Rattle.batch_recipe.specs.WellFormed.{act_names, is_among}
 use Rattle.batch_recipe.specs.declared.act.Act.{Act}
@@ -21,8 +21,8 @@ use Rattle.batch_recipe.specs.declared.entry.Kind.TheVariants as kind
 use Rattle.batch_recipe.specs.declared.need.Need.{Need}
 use Rattle.batch_recipe.specs.declared.recipe.Recipe.{Recipe}
 use Rattle.batch_recipe.specs.declared.role.Role.{Role}
-use Rattle.batch_set.specs.Linking.{IsLinked, by_role, chosen, need_linked, needs_linked, named, reserved, reserved_need, resource_found, role_found, unit_found, unit_needs, unit_source}
-use Rattle.batch_set.specs.Looked.{first_source, needs_by, unit_by}
+use Rattle.batch_set.specs.Linking.{IsLinked, by_role, chosen_source, need_linked, needs_linked, named, reserved, reserved_need, resource_found, role_found, unit_found, unit_needs, unit_source}
+use Rattle.batch_set.specs.Looked.{first_source, needs_by, source_of_unit}
 use Rattle.batch_set.specs.Sources.{IsSource, SayNeeds, NeedsSayNames, UnitsSayNames}
 use Rattle.batch_set.specs.declared.cell_phases.CellPhases.{CellPhases}
 use Rattle.batch_set.specs.declared.linked.LinkedNeed.{LinkedNeed}
@@ -58,7 +58,7 @@ module _ (cell : Cell) (r : Recipe) (bound : Binding) where
   abbrev IsDeclared : UnitChoice → Type 0
   IsDeclared choice = elim choice [ Choice.Unit unit ↦ true | Choice.Role role ↦ is_among (map (λ (role : Role). role.name) r.roles.items) role ] ≡ true
 
-  chosen-source : (choice : UnitChoice) → IsDeclared choice → IsSource cell r.roles.items bound (chosen cell r choice) (unit_chosen bound choice)
+  chosen-source : (choice : UnitChoice) → IsDeclared choice → IsSource cell r.roles.items bound (chosen_source cell r choice) (unit_chosen bound choice)
   chosen-source (Choice.Unit name) h = named-source cell r.roles.items bound name
   chosen-source (Choice.Role name) h = role-source cell r.roles.items bound name h
 
@@ -82,7 +82,7 @@ module _ (cell : Cell) (r : Recipe) (bound : Binding) where
       let own = and_parts (is_among (act_names units) name) (list_all (is_among (act_names units)) names) among in
       (reserved-source name own.0, refl, reserved-say names own.1 more needs h)
 
-  act-says : (k : Kind) (a : Act) → act_of r.acts k ≡ Some a → SayNeeds cell r.roles.items bound (needs_linked cell r a) (needs_with (sites bound r.acts) a)
+  act-says : (k : Kind) (a : Act) → act_of_kind r.acts k ≡ Some a → SayNeeds cell r.roles.items bound (needs_linked cell r a) (needs_with (sites bound r.acts) a)
   act-says k a is = go a.unit (declared r k a is)
     where
       rest : SayNeeds cell r.roles.items bound (map (reserved_need cell r) a.reserves.items ++ map (need_linked cell) a.needs.items) (map one_unit (map (unit_named (sites bound r.acts)) a.reserves.items) ++ a.needs.items)
@@ -91,13 +91,13 @@ module _ (cell : Cell) (r : Recipe) (bound : Binding) where
       go : (o : Option UnitChoice)
           → elim o [ None ↦ true | Some choice ↦ elim choice [ Choice.Unit unit ↦ true | Choice.Role role ↦ is_among (map (λ (role : Role). role.name) r.roles.items) role ] ] ≡ true
           → SayNeeds cell r.roles.items bound ((unit_needs cell r o ++ map (reserved_need cell r) a.reserves.items) ++ map (need_linked cell) a.needs.items)
-          (asked_by (unit_with bound o) (map (unit_named (sites bound r.acts)) a.reserves.items) a.needs.items)
+          (asked_in_order (unit_with bound o) (map (unit_named (sites bound r.acts)) a.reserves.items) a.needs.items)
       go None d = rest
       go (Some choice) d = (chosen-source choice d, refl, rest)
 
 -- the rows of a linked recipe
 module _ (cell : Cell) (phases : CellPhases) (r : Recipe) (linked : LinkedRecipe) (h : IsLinked cell phases r linked) where
-  needs-linked : (k : Kind) (a : Act) → act_of r.acts k ≡ Some a → needs_by linked k ≡ needs_linked cell r a
+  needs-linked : (k : Kind) (a : Act) → act_of_kind r.acts k ≡ Some a → needs_by linked k ≡ needs_linked cell r a
   needs-linked kind.Procedure a is = (let same : r.acts.procedure ≡ a = cc in h.procedure ∙ ap (needs_linked cell r) same)
   needs-linked (kind.Act UnitProcedures n) a is = row-there (needs_linked cell r) linked.unit_procedures.items r.acts.unit_procedures.items h.unit_procedures n a is
   needs-linked (kind.Act Operations n) a is = row-there (needs_linked cell r) linked.operations.items r.acts.operations.items h.operations n a is
@@ -110,7 +110,7 @@ needs-said cell phases r linked h bound k a is =
 
 pub units-said : UnitsSayNames
 units-said cell phases r linked h bound k a choice at e =
-    let own : unit_by linked k ≡ chosen cell r choice =
+    let own : source_of_unit linked k ≡ chosen_source cell r choice =
     ap first_source (row-there (needs_linked cell r) linked.unit_procedures.items r.acts.unit_procedures.items h.unit_procedures k a at)
     ∙ ap (λ (o : Option UnitChoice). first_source ((unit_needs cell r o ++ map (reserved_need cell r) a.reserves.items) ++ map (need_linked cell) a.needs.items)) e in
     subst (λ (source : Source). IsSource cell r.roles.items bound source (unit_chosen bound choice)) (sym own)

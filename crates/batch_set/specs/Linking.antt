@@ -43,13 +43,13 @@ abbrev pub by_role : List declared.Role → Name → Source
 by_role roles name = role_found (position (λ role. same_name name role.name) roles)
 
 -- the unit that is chosen
-abbrev pub chosen : Cell → document.Recipe → UnitChoice → Source
-chosen cell recipe (Choice.Unit name) = named cell name
-chosen cell recipe (Choice.Role name) = by_role recipe.roles.items name
+abbrev pub chosen_source : Cell → document.Recipe → UnitChoice → Source
+chosen_source cell recipe (Choice.Unit name) = named cell name
+chosen_source cell recipe (Choice.Role name) = by_role recipe.roles.items name
 
 abbrev pub unit_source : Cell → document.Recipe → Option UnitChoice → Source
 unit_source cell recipe None = Unknown
-unit_source cell recipe (Some choice) = chosen cell recipe choice
+unit_source cell recipe (Some choice) = chosen_source cell recipe choice
 
 abbrev pub unit_found : Cell → document.Recipe → Option Act → Source
 unit_found cell recipe None = Unknown
@@ -61,16 +61,16 @@ reserved cell recipe name = unit_found cell recipe (act_named recipe.acts.unit_p
 
 -- Needs
 
-abbrev pub one_of : Source → LinkedNeed
-one_of source = record { source = source; units = 1 }
+abbrev pub one_unit_linked : Source → LinkedNeed
+one_unit_linked source = record { source = source; units = 1 }
 
 -- one unit of the unit that is chosen, if one is
 abbrev pub unit_needs : Cell → document.Recipe → Option UnitChoice → List LinkedNeed
 unit_needs cell recipe None = []
-unit_needs cell recipe (Some choice) = one_of (chosen cell recipe choice) ∷ []
+unit_needs cell recipe (Some choice) = one_unit_linked (chosen_source cell recipe choice) ∷ []
 
 abbrev pub reserved_need : Cell → document.Recipe → Name → LinkedNeed
-reserved_need cell recipe name = one_of (reserved cell recipe name)
+reserved_need cell recipe name = one_unit_linked (reserved cell recipe name)
 
 abbrev pub need_linked : Cell → Need → LinkedNeed
 need_linked cell need = record { source = named cell need.resource; units = need.units }
@@ -97,8 +97,8 @@ abbrev pub phases_in : Module → List Name
 phases_in m = m.phases.items
 
 -- the names of a cell's phases, each once
-abbrev pub phase_names : Cell → List Name
-phase_names cell = insert_all (pointwise nat_eq) [] (flat_map phases_in cell.modules.items)
+abbrev pub cell_phase_names : Cell → List Name
+cell_phase_names cell = insert_all (pointwise nat_eq) [] (flat_map phases_in cell.modules.items)
 
 -- the number of a phase among those that each unit offers, where the first of them has this number
 abbrev pub numbers_on_each : Cell → Name → ℕ → List device.Unit → List (Option ℕ)
@@ -118,8 +118,8 @@ abbrev pub run_of : List Name → Work → Option ℕ
 run_of names (Follows chart) = None
 run_of names (Runs phase values reports) = position (same_name phase) names
 
-abbrev pub run_by : List Name → Act → Option ℕ
-run_by names a = run_of names a.work
+abbrev pub number_run_by : List Name → Act → Option ℕ
+number_run_by names a = run_of names a.work
 
 -- Recipes
 
@@ -128,7 +128,7 @@ table_items table = map (λ row. row.items) table
 
 -- the phases of the cell, with their numbers on its units
 pub record ArePhasesOf (cell : Cell) (phases : CellPhases) : Type 0 where
-  pub names : phases.names.keys ≡ phase_names cell
+  pub names : phases.names.keys ≡ cell_phase_names cell
   pub numbers : table_items phases.numbers.items ≡ map (numbers_on cell) phases.names.keys
 
 -- a recipe by number: the needs of its acts, the units that may take its roles, and the phases of the cell that its phase steps run
@@ -138,7 +138,7 @@ pub record IsLinked (cell : Cell) (known : CellPhases) (recipe : document.Recipe
   pub operations : table_items linked.operations.items ≡ map (needs_linked cell recipe) recipe.acts.operations.items
   pub phases : table_items linked.phases.items ≡ map (needs_linked cell recipe) recipe.acts.phases.items
   pub candidates : table_items linked.candidates.items ≡ map (candidate_numbers cell) recipe.roles.items
-  pub runs : linked.runs.items ≡ map (run_by known.names.keys) recipe.acts.phases.items
+  pub runs : linked.runs.items ≡ map (number_run_by known.names.keys) recipe.acts.phases.items
 
 -- the recipe is linked in the cell, by some numbers of phases
 abbrev pub IsLinkedIn : Cell → document.Recipe → LinkedRecipe → Type 0

@@ -4,7 +4,7 @@ use Rattle.batch_cell.specs.LookUps.{resources_of, units_of, phases_of}
 use Rattle.batch_cell.specs.declared.cell.Cell.{Cell}
 use Rattle.batch_recipe.specs.Conditions.{Name, same_name}
 use Rattle.batch_recipe.specs.Expanding.{Binding, needs_with, unit_chosen}
-use Rattle.batch_recipe.specs.Outlines.{act_of}
+use Rattle.batch_recipe.specs.Outlines.{act_of_kind}
 use Rattle.batch_recipe.specs.Procedure.{sites}
 use Rattle.batch_recipe.specs.declared.act.Act.{Act}
 use Rattle.batch_recipe.specs.declared.act.UnitChoice.{UnitChoice}
@@ -13,7 +13,7 @@ use Rattle.batch_recipe.specs.declared.need.Need.{Need}
 use Rattle.batch_recipe.specs.declared.recipe.Recipe as document
 use Rattle.batch_recipe.specs.declared.role.Role as declared
 use Rattle.batch_set.specs.Linking.{ArePhasesOf, IsLinked, run_phase}
-use Rattle.batch_set.specs.Looked.{needs_by, phase_on, unit_by}
+use Rattle.batch_set.specs.Looked.{needs_by, phase_on, source_of_unit}
 use Rattle.batch_set.specs.declared.cell_phases.CellPhases.{CellPhases}
 use Rattle.batch_set.specs.declared.linked.LinkedNeed.{LinkedNeed}
 use Rattle.batch_set.specs.declared.linked.LinkedRecipe.{LinkedRecipe}
@@ -36,7 +36,7 @@ SayNeeds cell roles bound _ _ = ⊥
 abbrev pub NeedsSayNames : Type 0
 NeedsSayNames =
     (cell : Cell) (phases : CellPhases) (recipe : document.Recipe) (linked : LinkedRecipe) → IsLinked cell phases recipe linked
-    → (bound : Binding) (kind : Kind) (a : Act) → act_of recipe.acts kind ≡ Some a
+    → (bound : Binding) (kind : Kind) (a : Act) → act_of_kind recipe.acts kind ≡ Some a
     → SayNeeds cell recipe.roles.items bound (needs_by linked kind) (needs_with (sites bound recipe.acts) a)
 
 -- of each unit procedure
@@ -44,7 +44,7 @@ abbrev pub UnitsSayNames : Type 0
 UnitsSayNames =
     (cell : Cell) (phases : CellPhases) (recipe : document.Recipe) (linked : LinkedRecipe) → IsLinked cell phases recipe linked
     → (bound : Binding) (k : ℕ) (a : Act) (choice : UnitChoice) → slice_get recipe.acts.unit_procedures.items k ≡ Some a → a.unit ≡ Some choice
-    → IsSource cell recipe.roles.items bound (unit_by linked k) (unit_chosen bound choice)
+    → IsSource cell recipe.roles.items bound (source_of_unit linked k) (unit_chosen bound choice)
 
 -- of each phase step, on each unit that offers its phase
 abbrev pub PhasesSayNames : Type 0

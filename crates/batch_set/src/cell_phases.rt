@@ -2,7 +2,7 @@
 ghost use Rattle.std.specs.Prelude.{◌≡◌, [], flat_map, map, nat_eq, IfOk, OnOk};
 ghost use Rattle.std.specs.Cmp.Lexicographic.{pointwise};
 ghost use Rattle.indexmap.specs.IndexSet.{insert_all, insert_key, keys};
-ghost use Rattle.batch_set.specs.Linking.{ArePhasesOf, numbers_on, phases_in, run_by, table_items};
+ghost use Rattle.batch_set.specs.Linking.{ArePhasesOf, numbers_on, phases_in, number_run_by, table_items};
 ghost use Rattle.batch_set.specs.Looked.{offered_on};
 
 use batch_cell::{Cell, Module};
@@ -91,7 +91,7 @@ impl CellPhases {
 
     /// The number of the phase that the act runs, if a unit offers it.
     pub(crate) fn run_by(&self, act: &Act) -> Option<usize>
-        ensures { result ≡ run_by self.now.names.keys act.now }
+        ensures { result ≡ number_run_by self.now.names.keys act.now }
     {
         match &act.work {
             Work::Follows(_) => None,

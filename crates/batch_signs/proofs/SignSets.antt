@@ -8,7 +8,7 @@ use Rattle.std.proofs.lemmas.List.{get_or-set_same, get_or-set_other, get_or_pas
 use Rattle.std.proofs.lemmas.Nat.{div-add-mod', mod_below, div-mul-add, mod-mul-add}
 use Rattle.std.proofs.lemmas.Nat.Bits.{bit_at-lt, bit_at-zero, bit_at_or, bit_at_xor, bit_at_above}
 use Rattle.batch_signs.specs.Bits.{with_told, IsLowestFrom}
-use Rattle.batch_signs.specs.SignSets.{set_of, shown, bit_of, AreSummed, AreJoined, IsTurnedAt, IsChangedAt, ShowsNone, ShowsSome, IsFirstShown}
+use Rattle.batch_signs.specs.SignSets.{set_of, sign_shown, bit_of, AreSummed, AreJoined, IsTurnedAt, IsChangedAt, ShowsNone, ShowsSome, IsFirstShown}
 use Rattle.batch_signs.proofs.Bits.{nat-same, differs, no-bits, zeros, with-one_same, with-one_other, with-zero_same, with-zero_other}
 use Rattle.batch_signs.proofs.WantedSigns.{no-bit}
 
@@ -202,13 +202,13 @@ turned words node sign shows set room small bits = record { count = length-set w
     same : slice_index (slice_set words place set) place ≡ set
     same = get_or-set_same words place set 0 (omega (arith, room, small))
 
-    here : shown (slice_set words place set) node sign ≡ bit_of shows
+    here : sign_shown (slice_set words place set) node sign ≡ bit_of shows
     here = ap (λ z. bit_at z (node % 64)) same ∙ bits (node % 64) ∙ told-same shows (node % 64) (bit_at (slice_index words place))
 
-    others : (k s : ℕ) → s < 32 → (k ≡ node → s ≡ sign → ⊥) → shown (slice_set words place set) k s ≡ shown words k s
+    others : (k s : ℕ) → s < 32 → (k ≡ node → s ≡ sign → ⊥) → sign_shown (slice_set words place set) k s ≡ sign_shown words k s
     others k s l h = go (nat_eq (k / 64 * 32 + s) place) refl
       where
-        go : (t : Bool) → nat_eq (k / 64 * 32 + s) place ≡ t → shown (slice_set words place set) k s ≡ shown words k s
+        go : (t : Bool) → nat_eq (k / 64 * 32 + s) place ≡ t → sign_shown (slice_set words place set) k s ≡ sign_shown words k s
         go false f = ap (λ z. bit_at z (k % 64)) (get_or-set_other words place (k / 64 * 32 + s) set 0 (differs (k / 64 * 32 + s) place f))
         go true f = at (nat_eq (k % 64) (node % 64)) refl
           where
@@ -218,7 +218,7 @@ turned words node sign shows set room small bits = record { count = length-set w
             both : (k / 64 ≡ node / 64) × (s ≡ sign)
             both = same-place (k / 64) s (node / 64) sign l small one
 
-            at : (t : Bool) → nat_eq (k % 64) (node % 64) ≡ t → shown (slice_set words place set) k s ≡ shown words k s
+            at : (t : Bool) → nat_eq (k % 64) (node % 64) ≡ t → sign_shown (slice_set words place set) k s ≡ sign_shown words k s
             at true g = absurd (h (let rest = nat-same (k % 64) (node % 64) g in omega (arith, rest, both.0, div-add-mod' k 64, div-add-mod' node 64)) both.1)
             at false g =
                 ap (λ z. bit_at z (k % 64)) (ap (slice_index (slice_set words place set)) one ∙ same) ∙ bits (k % 64) ∙ told-other shows (node % 64) (k % 64) (bit_at (slice_index words place)) g
@@ -227,9 +227,9 @@ turned words node sign shows set room small bits = record { count = length-set w
 -- the first so many signs of a node are changed
 pub record AreChangedTo (old new : List ℕ) (node was signs count : ℕ) : Type 0 where
   pub long : length new ≡ length old
-  pub done : (s : ℕ) → s < 32 → s < count → shown new node s ≡ bit_at signs s
-  pub left : (s : ℕ) → s < 32 → count ≤ s → shown new node s ≡ bit_at was s
-  pub others : (k s : ℕ) → s < 32 → (k ≡ node → ⊥) → shown new k s ≡ shown old k s
+  pub done : (s : ℕ) → s < 32 → s < count → sign_shown new node s ≡ bit_at signs s
+  pub left : (s : ℕ) → s < 32 → count ≤ s → sign_shown new node s ≡ bit_at was s
+  pub others : (k s : ℕ) → s < 32 → (k ≡ node → ⊥) → sign_shown new k s ≡ sign_shown old k s
 
 even : (a b : ℕ) → a < 2 → b < 2 → (a + b) % 2 ≡ 0 → a ≡ b
 even a b l m e = omega arith
@@ -256,19 +256,19 @@ changed-more old mid new node was signs from sign shows c above below small is t
   others = λ k s l q. t.others k s l (λ e f. q e) ∙ c.others k s l q;
 }
   where
-    done : (s : ℕ) → s < 32 → s < sign + 1 → (s < from) ⊎ (from ≤ s) → (s < sign) ⊎ (sign ≤ s) → shown new node s ≡ bit_at signs s
-    done s l q _ (inr r) = let here : sign ≡ s = omega (arith, q, r) in subst (λ z. shown new node z ≡ bit_at signs z) here (t.here ∙ is)
+    done : (s : ℕ) → s < 32 → s < sign + 1 → (s < from) ⊎ (from ≤ s) → (s < sign) ⊎ (sign ≤ s) → sign_shown new node s ≡ bit_at signs s
+    done s l q _ (inr r) = let here : sign ≡ s = omega (arith, q, r) in subst (λ z. sign_shown new node z ≡ bit_at signs z) here (t.here ∙ is)
     done s l q (inl p) (inl r) = t.others node s l (λ e f. absurd (omega (arith, r, f))) ∙ c.done s l p
     done s l q (inr p) (inl r) = t.others node s l (λ e f. absurd (omega (arith, r, f))) ∙ c.left s l p ∙ same-bit was signs s (below s p r)
 
-    later : (s : ℕ) → s < 32 → sign + 1 ≤ s → (s < from) ⊎ (from ≤ s) → shown mid node s ≡ bit_at was s
+    later : (s : ℕ) → s < 32 → sign + 1 ≤ s → (s < from) ⊎ (from ≤ s) → sign_shown mid node s ≡ bit_at was s
     later s l q (inr p) = c.left s l p
     later s l q (inl p) = absurd (omega (arith, p, q, above))
 
 pub changed-all : (old new : List ℕ) (node was signs from : ℕ) → AreChangedTo old new node was signs from → ((k : ℕ) → from ≤ k → bit_at (bit_xor was signs) k ≡ 0) → IsChangedAt old new node signs
 changed-all old new node was signs from c rest = record { count = c.long; here = λ s l. go s l (cases_lt s from); others = c.others }
   where
-    go : (s : ℕ) → s < 32 → (s < from) ⊎ (from ≤ s) → shown new node s ≡ bit_at signs s
+    go : (s : ℕ) → s < 32 → (s < from) ⊎ (from ≤ s) → sign_shown new node s ≡ bit_at signs s
     go s l (inl q) = c.done s l q
     go s l (inr q) = c.left s l q ∙ same-bit was signs s (rest s q)
 

@@ -7,8 +7,8 @@ abbrev pub set_of : List ℕ → ℕ → ℕ → ℕ
 set_of words word sign = slice_index words (word * 32 + sign)
 
 -- 1 if the node shows the sign, and else 0
-abbrev pub shown : List ℕ → ℕ → ℕ → ℕ
-shown words node sign = bit_at (set_of words (node / 64) sign) (node % 64)
+abbrev pub sign_shown : List ℕ → ℕ → ℕ → ℕ
+sign_shown words node sign = bit_at (set_of words (node / 64) sign) (node % 64)
 
 abbrev pub AreRoomFor : List ℕ → ℕ → Type 0
 AreRoomFor words count = count ≤ 2 * length words
@@ -29,14 +29,14 @@ bit_of false = 0
 -- the sign of one node has been set or cleared
 pub record IsTurnedAt (old new : List ℕ) (node sign : ℕ) (shows : Bool) : Type 0 where
   pub count : length new ≡ length old
-  pub here : shown new node sign ≡ bit_of shows
-  pub others : (k s : ℕ) → s < 32 → (k ≡ node → s ≡ sign → ⊥) → shown new k s ≡ shown old k s
+  pub here : sign_shown new node sign ≡ bit_of shows
+  pub others : (k s : ℕ) → s < 32 → (k ≡ node → s ≡ sign → ⊥) → sign_shown new k s ≡ sign_shown old k s
 
 -- one node shows these signs, and no others
 pub record IsChangedAt (old new : List ℕ) (node signs : ℕ) : Type 0 where
   pub count : length new ≡ length old
-  pub here : (s : ℕ) → s < 32 → shown new node s ≡ bit_at signs s
-  pub others : (k s : ℕ) → s < 32 → (k ≡ node → ⊥) → shown new k s ≡ shown old k s
+  pub here : (s : ℕ) → s < 32 → sign_shown new node s ≡ bit_at signs s
+  pub others : (k s : ℕ) → s < 32 → (k ≡ node → ⊥) → sign_shown new k s ≡ sign_shown old k s
 
 -- the bits that some word has of those of the wanted signs, among the first so many
 pub record AreJoined (words : List ℕ) (first wanted count set : ℕ) : Type 0 where
@@ -44,10 +44,10 @@ pub record AreJoined (words : List ℕ) (first wanted count set : ℕ) : Type 0 
   pub some : (bit : ℕ) → bit_at set bit ≡ 1 → (sign : ℕ) × (sign < 32) × (bit_at wanted sign ≡ 1) × (bit_at (slice_index words (first + sign)) bit ≡ 1)
 
 abbrev pub ShowsNone : List ℕ → ℕ → ℕ → Type 0
-ShowsNone words wanted node = (sign : ℕ) → sign < 32 → bit_at wanted sign ≡ 1 → shown words node sign ≡ 0
+ShowsNone words wanted node = (sign : ℕ) → sign < 32 → bit_at wanted sign ≡ 1 → sign_shown words node sign ≡ 0
 
 abbrev pub ShowsSome : List ℕ → ℕ → ℕ → Type 0
-ShowsSome words wanted node = (sign : ℕ) × (sign < 32) × (bit_at wanted sign ≡ 1) × (shown words node sign ≡ 1)
+ShowsSome words wanted node = (sign : ℕ) × (sign < 32) × (bit_at wanted sign ≡ 1) × (sign_shown words node sign ≡ 1)
 
 abbrev pub IsFirstShown : List ℕ → ℕ → ℕ → Option ℕ → Type 0
 IsFirstShown words wanted from None = (k : ℕ) → from ≤ k → ShowsNone words wanted k

@@ -2,7 +2,7 @@
 use Rattle.std.specs.Prelude.{◌≡◌, ◌<◌, ◌≤◌, ℕ, List, length, Bool, true, false, not, nat_eq, Option, Some, None, slice_index, slice_set}
 use Rattle.std.specs.Int.{bit_at}
 use Rattle.std.specs.Int.Bits.{bit_and}
-use Rattle.batch_signs.specs.SignSets.{AreRoomFor, shown}
+use Rattle.batch_signs.specs.SignSets.{AreRoomFor, sign_shown}
 
 -- one of the wanted signs is among these
 abbrev pub shows : ℕ → ℕ → Bool
@@ -15,7 +15,7 @@ sign_at signs k = slice_index signs k
 -- the signs of nodes, and for each sign the nodes that show it
 pub record AreBySign (signs words : List ℕ) : Type 0 where
   pub room : AreRoomFor words (length signs)
-  pub same : (k sign : ℕ) → sign < 32 → shown words k sign ≡ bit_at (sign_at signs k) sign
+  pub same : (k sign : ℕ) → sign < 32 → sign_shown words k sign ≡ bit_at (sign_at signs k) sign
 
 abbrev pub NoneShows : List ℕ → ℕ → ℕ → ℕ → Type 0
 NoneShows signs wanted from end = (k : ℕ) → from ≤ k → k < end → bit_and (sign_at signs k) wanted ≡ 0

@@ -1,7 +1,7 @@
 //! For each sign the nodes that show it.
 ghost use Rattle.std.specs.Prelude.{◌≡◌, ◌<◌, ◌≤◌, ◌+◌, ◌*◌, ◌/◌, ◌%◌, ℕ, length, replicate, slice_set, IfOk};
 ghost use Rattle.std.specs.Int.{bit_at};
-ghost use Rattle.batch_signs.specs.SignSets.{AreJoined, AreRoomFor, IsChangedAt, IsFirstShown, IsTurnedAt, shown};
+ghost use Rattle.batch_signs.specs.SignSets.{AreJoined, AreRoomFor, IsChangedAt, IsFirstShown, IsTurnedAt, sign_shown};
 
 use crate::word::{lowest_from, with_bit_as};
 use std::alloc::{AllocError, Global};
@@ -37,7 +37,7 @@ impl Sets {
     /// So many nodes without a sign.
     pub fn new(alloc: Global, count: usize) -> Result<Sets, AllocError>
         requires { count ≤ 4096 }
-        ensures { IfOk result (λ sets. AreRoomFor sets count × ((node sign : ℕ) → shown sets node sign ≡ 0)) }
+        ensures { IfOk result (λ sets. AreRoomFor sets count × ((node sign : ℕ) → sign_shown sets node sign ≡ 0)) }
     {
         Ok(Sets {
             words: vec![in alloc; 0; count.div_ceil(64) * SIGNS]?,
@@ -58,7 +58,7 @@ impl Sets {
     /// Replaces the old signs of the node by the new ones.
     pub fn change(&mut self, node: usize, was: u32, signs: u32)
         requires room { node < 2 * length self.old }
-        requires was { (sign : ℕ) → sign < 32 → shown self.old node sign ≡ bit_at was sign }
+        requires was { (sign : ℕ) → sign < 32 → sign_shown self.old node sign ≡ bit_at was sign }
         ensures { IsChangedAt self.old self.new node signs }
     {
         let turned = u64::from(was ^ signs);

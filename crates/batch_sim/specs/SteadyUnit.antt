@@ -21,17 +21,17 @@ unstarted = record { state = Idle; ticks_left = 0 }
 -- Orders
 
 -- not started, or ended
-abbrev pub is_over : State → Bool
-is_over Idle = true
-is_over Complete = true
-is_over Stopped = true
-is_over Aborted = true
-is_over _ = false
+abbrev pub is_at_end : State → Bool
+is_at_end Idle = true
+is_at_end Complete = true
+is_at_end Stopped = true
+is_at_end Aborted = true
+is_at_end _ = false
 
 -- a started phase has all its ticks to run; a command leads a phase that isn't over to the state of its name
 abbrev pub ordered : ℕ → Order → SteadyPhase → SteadyPhase
 ordered ticks Start p = record { state = Running; ticks_left = ticks }
-ordered ticks (Send command) p = elim (is_over p.state) [ true ↦ p | false ↦ record p { state = target command } ]
+ordered ticks (Send command) p = elim (is_at_end p.state) [ true ↦ p | false ↦ record p { state = target command } ]
 
 -- an order for a phase that the unit doesn't have changes nothing
 abbrev pub Commands : SteadyView → ℕ → Order → SteadyView → Type 0
@@ -44,35 +44,35 @@ Commands old phase order new =
 -- Ticks
 
 -- a moment passes: a running phase has a tick less to run
-abbrev pub passed : SteadyPhase → SteadyPhase
-passed p = elim (same_state p.state Running) [ true ↦ record p { ticks_left = p.ticks_left - 1 } | false ↦ p ]
+abbrev pub after_tick : SteadyPhase → SteadyPhase
+after_tick p = elim (same_state p.state Running) [ true ↦ record p { ticks_left = p.ticks_left - 1 } | false ↦ p ]
 
 -- the state as which the phase ends by itself now; one that runs does so when it has no tick left
 abbrev pub end_of : SteadyPhase → Option State
 end_of p = elim (same_state p.state Running && nat_lt 0 p.ticks_left) [ true ↦ None | false ↦ ends_as p.state ]
 
-abbrev pub is_due : SteadyPhase → Bool
-is_due p = elim (end_of p) [ None ↦ false | Some state ↦ true ]
+abbrev pub is_report_due : SteadyPhase → Bool
+is_report_due p = elim (end_of p) [ None ↦ false | Some state ↦ true ]
 
 -- the report of an end
-abbrev pub word_of : State → Report
-word_of Paused = reports.Paused
-word_of Held = reports.Held
-word_of Running = reports.Running
-word_of Stopped = reports.Stopped
-word_of Aborted = reports.Aborted
-word_of _ = reports.Done
+abbrev pub report_of_end : State → Report
+report_of_end Paused = reports.Paused
+report_of_end Held = reports.Held
+report_of_end Running = reports.Running
+report_of_end Stopped = reports.Stopped
+report_of_end Aborted = reports.Aborted
+report_of_end _ = reports.Done
 
 -- of the phases that end now, the one with the least number does so and reports it
 abbrev pub Reports : List SteadyPhase → Option (ℕ × Report) → List SteadyPhase → Type 0
 Reports old answer new =
-    elim (position is_due old) [
+    elim (position is_report_due old) [
       | None ↦ (answer ≡ None) × (new ≡ old)
       | Some number ↦
           (phase : SteadyPhase) × (end : State) × (slice_get old number ≡ Some phase) × (end_of phase ≡ Some end)
-          × (answer ≡ Some (number, word_of end)) × (new ≡ slice_set old number (record phase { state = end }))
+          × (answer ≡ Some (number, report_of_end end)) × (new ≡ slice_set old number (record phase { state = end }))
     ]
 
 -- a moment passes at all phases, and then at most one reports
 abbrev pub TicksSteadily : SteadyView → Option (ℕ × Report) → SteadyView → Type 0
-TicksSteadily old answer new = Reports (map passed old.phases) answer new.phases × (new.ticks ≡ old.ticks)
+TicksSteadily old answer new = Reports (map after_tick old.phases) answer new.phases × (new.ticks ≡ old.ticks)

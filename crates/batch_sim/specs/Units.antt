@@ -12,8 +12,8 @@ Ticks {D} gives unit old answer new =
     ]
 
 -- a phase of the unit with this number is given an order, and whether the unit is known
-abbrev pub Takes : {D : Type 0} → (D → ℕ → Order → D → Type 0) → ℕ → ℕ → Order → List D → Bool → List D → Type 0
-Takes {D} gives unit phase order old known new =
+abbrev pub TakesOrder : {D : Type 0} → (D → ℕ → Order → D → Type 0) → ℕ → ℕ → Order → List D → Bool → List D → Type 0
+TakesOrder {D} gives unit phase order old known new =
     elim (slice_get old unit) [
       | None ↦ (known ≡ false) × (new ≡ old)
       | Some driver ↦ (after : D) × (known ≡ true) × gives driver phase order after × (new ≡ slice_set old unit after)

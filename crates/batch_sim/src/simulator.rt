@@ -1,6 +1,6 @@
 //! The units of a cell.
 ghost use Rattle.std.specs.Prelude.{◌≡◌};
-ghost use Rattle.batch_sim.specs.Units.{Takes, Ticks};
+ghost use Rattle.batch_sim.specs.Units.{TakesOrder, Ticks};
 
 use crate::driver::UnitDriver;
 use crate::order::Order;
@@ -32,7 +32,7 @@ impl<D: UnitDriver> Simulator<D> {
     /// Gives an order to a phase of a unit. False, and nothing done, if no unit has the number.
     // claim: order to a unit
     pub fn order(&mut self, unit: u16, phase: u16, order: Order) -> bool
-        ensures { Takes D.command_gives unit phase order self.old result self.new }
+        ensures { TakesOrder D.command_gives unit phase order self.old result self.new }
     {
         let Some(driver) = self.drivers.get_mut(usize::from(unit)) else {
             return false;

@@ -1,7 +1,7 @@
 //! A phase of a steady unit.
 ghost use Rattle.std.specs.Prelude.{◌≡◌};
 ghost use Rattle.batch_matrix.specs.Matrix as matrix;
-ghost use Rattle.batch_sim.specs.SteadyUnit.{end_of, is_over, ordered, passed, unstarted, word_of};
+ghost use Rattle.batch_sim.specs.SteadyUnit.{end_of, is_at_end, ordered, after_tick, unstarted, report_of_end};
 
 use crate::order::Order;
 use batch_matrix::{Command, Report, State, ends_as};
@@ -42,7 +42,7 @@ impl SteadyPhase {
 
     /// A moment passes.
     pub(crate) fn count_down(&mut self)
-        ensures { self.new ≡ passed self.old }
+        ensures { self.new ≡ after_tick self.old }
     {
         if self.state == State::Running {
             self.ticks_left = self.ticks_left.saturating_sub(1);
@@ -63,7 +63,7 @@ impl SteadyPhase {
 
 /// Whether a phase in this state isn't started, or has ended.
 fn is_over(state: State) -> bool
-    ensures { result ≡ is_over state }
+    ensures { result ≡ is_at_end state }
 {
     matches!(
         state,
@@ -88,7 +88,7 @@ fn target(command: Command) -> State
 
 /// The report of a phase that ended as this.
 pub(crate) fn word_of(end: State) -> Report
-    ensures { result ≡ word_of end }
+    ensures { result ≡ report_of_end end }
 {
     match end {
         State::Paused => Report::Paused,

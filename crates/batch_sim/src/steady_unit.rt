@@ -1,6 +1,6 @@
 //! A unit that works steadily.
 ghost use Rattle.std.specs.Prelude.{◌≡◌, ◌<◌, ◌^◌, length, map, position, replicate, IfOk};
-ghost use Rattle.batch_sim.specs.SteadyUnit.{Reports, is_due, passed, unstarted};
+ghost use Rattle.batch_sim.specs.SteadyUnit.{Reports, is_report_due, after_tick, unstarted};
 
 use crate::driver::UnitDriver;
 use crate::order::Order;
@@ -64,7 +64,7 @@ impl UnitDriver for SteadyUnit {
 /// A moment passes for each phase, and one may report.
 fn tick(phases: &mut [SteadyPhase]) -> Option<(u16, Report)>
     requires { length phases.old < 2 ^ 16 }
-    ensures { Reports (map passed phases.old) result phases.new }
+    ensures { Reports (map after_tick phases.old) result phases.new }
 {
     count_down_each(phases);
     report(phases)
@@ -72,7 +72,7 @@ fn tick(phases: &mut [SteadyPhase]) -> Option<(u16, Report)>
 
 /// A moment passes for each phase.
 fn count_down_each(phases: &mut [SteadyPhase])
-    ensures { phases.new ≡ map passed phases.old }
+    ensures { phases.new ≡ map after_tick phases.old }
 {
     for phase in phases.iter_mut() {
         phase.count_down();
@@ -81,7 +81,7 @@ fn count_down_each(phases: &mut [SteadyPhase])
 
 /// The number of the first phase that ends now.
 fn first_due(phases: &[SteadyPhase]) -> Option<usize>
-    ensures { result ≡ position is_due phases.now }
+    ensures { result ≡ position is_report_due phases.now }
 {
     phases.iter().position(|phase| phase.end().is_some())
 }

@@ -5,7 +5,7 @@ use Rattle.batch_recipe.specs.Conditions.{Name}
 use Rattle.batch_recipe.specs.Following.{Follower, follower}
 use Rattle.batch_recipe.specs.Levels.{Level, below}
 use Rattle.batch_model.specs.Lists.{Has}
-use Rattle.batch_model.specs.Standing.{due}
+use Rattle.batch_model.specs.Standing.{due_followers}
 use Rattle.batch_step_laws.proofs.DueUnitProcedures.{done-is}
 use Rattle.std.proofs.lemmas.Option.{slice_get_within}
 use Rattle.batch_matrix.specs.declared.state.State.{State}
@@ -23,7 +23,7 @@ use Rattle.batch_recipe.specs.declared.need.Need.{Need}
 
 -- the followers that are due at the act stay so
 abbrev pub DueStays : Rest → Rest → Type 0
-DueStays a after = (level : Level) (next : List Follower) (f : Follower) → Has (due level next a) f → Has (due level next after) f
+DueStays a after = (level : Level) (next : List Follower) (f : Follower) → Has (due_followers level next a) f → Has (due_followers level next after) f
 
 -- a unit that is passed goes from an act that is freeing to a unit procedure that follows it
 abbrev pub IsComing : Batch → Rest → Move → Type 0
@@ -68,10 +68,10 @@ freed-due : (s : Step) (k n : ℕ) → DueStays (freeing s k) (freed s n)
 freed-due s k zero level next f h = h
 freed-due s k (suc n) level next f h = h
 
-ended-due : (level : Level) (next : List Follower) (s : Step) (r : Rest) (f : Follower) → is_done r ≡ true → Has (due level next (open_act s r)) f
-    → Has (due level next (freed s (length s.needs))) f
+ended-due : (level : Level) (next : List Follower) (s : Step) (r : Rest) (f : Follower) → is_done r ≡ true → Has (due_followers level next (open_act s r)) f
+    → Has (due_followers level next (freed s (length s.needs))) f
 ended-due level next s r f e h =
-    freed-due s 0 (length s.needs) level next f (subst (λ z. Has (due (below level) next z) f) (done-is r e) h)
+    freed-due s 0 (length s.needs) level next f (subst (λ z. Has (due_followers (below level) next z) f) (done-is r e) h)
 
 reserved-follows : (c : Tree) (s : Step) (n : ℕ) (to : Place) → reserved_place c s n ≡ Some to → (name : Name) × (follower c s.place name ≡ Some to)
 reserved-follows c s n to e = go (find (λ (reserve : Reserve). nat_eq reserve.need n) s.reserves) e

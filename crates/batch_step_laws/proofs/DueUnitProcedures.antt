@@ -12,7 +12,7 @@ use Rattle.batch_model.specs.Lists.{Has}
 use Rattle.batch_model.specs.Placed.{IsPlaced, ArePlaced, IsChoicePlaced}
 use Rattle.batch_model.specs.Rest.{same_place, Rest, ready, asking, open_act, live, freeing, in_seq, in_par, in_loop, done, Rests, no_rests, rest, is_done, all_done, joined, turning, Moment, reach, reach_first, reach_each, continued, turned, advance, advance_each, acts, acts_of_each, place_of, changed_at, changed_in_each}
 use Rattle.batch_model.specs.Settled.{IsAdvanced, AreAdvanced}
-use Rattle.batch_model.specs.Standing.{after_branch, due, due_in_each, IsAwaited, IsRestOf, IsBranch, AreBranches, IsChosen}
+use Rattle.batch_model.specs.Standing.{after_branch, due_followers, due_in_each, IsAwaited, IsRestOf, IsBranch, AreBranches, IsChosen}
 use Rattle.batch_model.proofs.Members.{Has-left, Has-right, Has-split, find-Has}
 use Rattle.batch_step_laws.proofs.WorkAfterChange.{to_same_place}
 use Rattle.batch_step_laws.proofs.ListsOverActs.{no-acts_of_done, no-acts_of_all_done}
@@ -92,7 +92,7 @@ each-done-due level (rest r rs) e = absurd (grind arith)
 
 -- once the rest has gone on, the unit procedure is reached, or still due
 abbrev IsNext : Level → List Follower → Rest → Follower → Type 0
-IsNext level next r f = StandsAt (acts r) f.1 ⊎ Has (due level next r) f
+IsNext level next r f = StandsAt (acts r) f.1 ⊎ Has (due_followers level next r) f
 
 module _ (mo : Moment) where
   continued-next : (level : Level) (next : List Follower) (cs : Trees) (f : Follower) (r : Rest)
@@ -137,7 +137,7 @@ module _ (mo : Moment) where
 
   mutual
     -- a due follower is reached, or still due, once a rest has advanced
-    pub advance-next : (level : Level) (next : List Follower) (r : Rest) (f : Follower) → Has (due level next r) f → IsNext level next (advance mo r) f
+    pub advance-next : (level : Level) (next : List Follower) (r : Rest) (f : Follower) → Has (due_followers level next r) f → IsNext level next (advance mo r) f
     advance-next level next (ready s w k) f h = absurd h
     advance-next level next (asking s w k) f h = absurd h
     advance-next level next (live s x y) f h = absurd h
@@ -153,16 +153,16 @@ module _ (mo : Moment) where
     advance_each-next : (level : Level) (rs : Rests) (f : Follower) → Has (due_in_each level rs) f → AreNext level (advance_each mo rs) f
     advance_each-next level no_rests f h = absurd h
     advance_each-next level (rest r rs) f h =
-        elim (Has-split (due level [] r) (due_in_each level rs) f h) [
+        elim (Has-split (due_followers level [] r) (due_in_each level rs) f h) [
           | inl k ↦
               elim (advance-next level [] r f k) [
                 | inl m ↦ inl (left-stands (acts (advance mo r)) (acts_of_each (advance_each mo rs)) f.1 m)
-                | inr m ↦ inr (Has-left (due level [] (advance mo r)) (due_in_each level (advance_each mo rs)) f m)
+                | inr m ↦ inr (Has-left (due_followers level [] (advance mo r)) (due_in_each level (advance_each mo rs)) f m)
               ]
           | inr k ↦
               elim (advance_each-next level rs f k) [
                 | inl m ↦ inl (right-stands (acts (advance mo r)) (acts_of_each (advance_each mo rs)) f.1 m)
-                | inr m ↦ inr (Has-right (due level [] (advance mo r)) (due_in_each level (advance_each mo rs)) f m)
+                | inr m ↦ inr (Has-right (due_followers level [] (advance mo r)) (due_in_each level (advance_each mo rs)) f m)
               ]
         ]
 
@@ -171,18 +171,18 @@ module _ (mo : Moment) where
 module _ (p : Place) (g : Rest → Rest) (f : Follower) where
   -- the follower, if due, stays so when the acts of the list at the place are changed
   abbrev pub KeepsDue : List Rest → Type 0
-  KeepsDue as' = (a : Rest) → Has as' a → place_of a ≡ p → (level : Level) (next : List Follower) → Has (due level next a) f → Has (due level next (g a)) f
+  KeepsDue as' = (a : Rest) → Has as' a → place_of a ≡ p → (level : Level) (next : List Follower) → Has (due_followers level next a) f → Has (due_followers level next (g a)) f
 
-  at_place-due : (q : Place) (a b : Rest) (level : Level) (next : List Follower) → (q ≡ p → Has (due level next (g a)) f) → Has (due level next b) f
-      → Has (due level next (elim (same_place q p) [ true ↦ g a | false ↦ b ])) f
+  at_place-due : (q : Place) (a b : Rest) (level : Level) (next : List Follower) → (q ≡ p → Has (due_followers level next (g a)) f) → Has (due_followers level next b) f
+      → Has (due_followers level next (elim (same_place q p) [ true ↦ g a | false ↦ b ])) f
   at_place-due q a b level next h k = go (same_place q p) refl
     where
-      go : (t : Bool) → same_place q p ≡ t → Has (due level next (elim t [ true ↦ g a | false ↦ b ])) f
+      go : (t : Bool) → same_place q p ≡ t → Has (due_followers level next (elim t [ true ↦ g a | false ↦ b ])) f
       go true e = h (to_same_place q p e)
       go false e = k
 
   mutual
-    pub changed-due : (level : Level) (next : List Follower) (r : Rest) → KeepsDue (acts r) → Has (due level next r) f → Has (due level next (changed_at p g r)) f
+    pub changed-due : (level : Level) (next : List Follower) (r : Rest) → KeepsDue (acts r) → Has (due_followers level next r) f → Has (due_followers level next (changed_at p g r)) f
     changed-due level next (ready s w k) keep h = absurd h
     changed-due level next (asking s w k) keep h = absurd h
     changed-due level next (live s x y) keep h = absurd h
@@ -199,12 +199,12 @@ module _ (p : Place) (g : Rest → Rest) (f : Follower) where
     changed_in_each-due : (level : Level) (rs : Rests) → KeepsDue (acts_of_each rs) → Has (due_in_each level rs) f → Has (due_in_each level (changed_in_each p g rs)) f
     changed_in_each-due level no_rests keep h = h
     changed_in_each-due level (rest r rs) keep h =
-        elim (Has-split (due level [] r) (due_in_each level rs) f h) [
+        elim (Has-split (due_followers level [] r) (due_in_each level rs) f h) [
           | inl k ↦
-              Has-left (due level [] (changed_at p g r)) (due_in_each level (changed_in_each p g rs)) f
+              Has-left (due_followers level [] (changed_at p g r)) (due_in_each level (changed_in_each p g rs)) f
               (changed-due level [] r (λ a i. keep a (Has-left (acts r) (acts_of_each rs) a i)) k)
           | inr k ↦
-              Has-right (due level [] (changed_at p g r)) (due_in_each level (changed_in_each p g rs)) f
+              Has-right (due_followers level [] (changed_at p g r)) (due_in_each level (changed_in_each p g rs)) f
               (changed_in_each-due level rs (λ a i. keep a (Has-right (acts r) (acts_of_each rs) a i)) k)
         ]
 
@@ -216,7 +216,7 @@ pub record Leaves (level : Level) (next : List Follower) (base : Place) (c : Tre
   pub place : s.place ≡ base ++ below
   pub some : 0 < k
   pub within : k ≤ length s.needs
-  pub follow : (f : Follower) → Has (following_below level next c below) f → Has (due level next r) f
+  pub follow : (f : Follower) → Has (following_below level next c below) f → Has (due_followers level next r) f
 
 -- the same below a child with this number or a later one, of which `tree_at` gives the trees and `next_at` the followers
 pub record LeavesBranch (level : Level) (tree_at : ℕ → Option Tree) (next_at : ℕ → List Follower) (base : Place) (i : ℕ) (coming : List Follower) (s : Step) (k : ℕ) : Type 0 where
@@ -231,7 +231,7 @@ pub record LeavesBranch (level : Level) (tree_at : ℕ → Option Tree) (next_at
 
 -- in a branch that is child i
 at_first : (level : Level) (next : List Follower) (tree_at : ℕ → Option Tree) (next_at : ℕ → List Follower) (base : Place) (i : ℕ) (c : Tree) (r : Rest) (s : Step) (k : ℕ)
-    → tree_at 0 ≡ Some c → next_at 0 ≡ next → Leaves level next (child base i) c r s k → LeavesBranch level tree_at next_at base i (due level next r) s k
+    → tree_at 0 ≡ Some c → next_at 0 ≡ next → Leaves level next (child base i) c r s k → LeavesBranch level tree_at next_at base i (due_followers level next r) s k
 at_first level next tree_at next_at base i c r s k is after l =
     record {
       number = 0;
@@ -306,13 +306,13 @@ module _ (s : Step) (k : ℕ) where
     leaves level next base c r l h i = absurd (grind arith)
 
     leaves_branch : (level : Level) (next : List Follower) (base : Place) (i : ℕ) (cs : Trees) (r : Rest) (ds : Trees) → ArePlaced base i cs → IsBranch cs r ds
-        → Has (acts r) (freeing s k) → LeavesBranch level (branch cs) (next_in level next cs) base i (due level (after_branch level next ds) r) s k
+        → Has (acts r) (freeing s k) → LeavesBranch level (branch cs) (next_in level next cs) base i (due_followers level (after_branch level next ds) r) s k
     leaves_branch level next base i no_trees r ds l h m = absurd h
     leaves_branch level next base i (tree c cs) r ds l (inl h) m =
         at_first level (after_branch level next ds) (branch (tree c cs)) (next_in level next (tree c cs)) base i c r s k refl
         (next_in-first level next c cs ∙ ap (after_branch level next) (sym h.1)) (leaves level (after_branch level next ds) (child base i) c r l.0 h.0 m)
     leaves_branch level next base i (tree c cs) r ds l (inr h) m =
-        at_later level (branch (tree c cs)) (next_in level next (tree c cs)) base i (due level (after_branch level next ds) r) s k
+        at_later level (branch (tree c cs)) (next_in level next (tree c cs)) base i (due_followers level (after_branch level next ds) r) s k
         (leaves_branch level next base (i + 1) cs r ds l.1 h m)
 
     leaves_each : (level : Level) (base : Place) (i : ℕ) (cs : Trees) (rs : Rests) → ArePlaced base i cs → AreBranches cs rs
@@ -328,7 +328,7 @@ module _ (s : Step) (k : ℕ) where
                 place = z.place;
                 some = z.some;
                 within = z.within;
-                follow = λ f q. Has-left (due level [] r) (due_in_each level rs) f (z.follow f q);
+                follow = λ f q. Has-left (due_followers level [] r) (due_in_each level rs) f (z.follow f q);
               }
           | inr n ↦
               let z = at_later level (branch (tree c cs)) (λ n. []) base i (due_in_each level rs) s k (leaves_each level base (i + 1) cs rs l.1 h.1 n) in
@@ -338,19 +338,19 @@ module _ (s : Step) (k : ℕ) where
                 place = z.place;
                 some = z.some;
                 within = z.within;
-                follow = λ f q. Has-right (due level [] r) (due_in_each level rs) f (z.follow f q);
+                follow = λ f q. Has-right (due_followers level [] r) (due_in_each level rs) f (z.follow f q);
               }
         ]
     leaves_each level base i cs rs l h m = absurd (grind arith)
 
     leaves_chosen : (level : Level) (next : List Follower) (base : Place) (i : ℕ) (ch : Choices) (r : Rest) → IsChoicePlaced base i ch → IsChosen ch r
-        → Has (acts r) (freeing s k) → LeavesBranch level (choice_at ch) (λ n. next) base i (due level next r) s k
+        → Has (acts r) (freeing s k) → LeavesBranch level (choice_at ch) (λ n. next) base i (due_followers level next r) s k
     leaves_chosen level next base i (otherwise c) r l h m =
         at_first level next (choice_at (otherwise c)) (λ n. next) base i c r s k refl refl (leaves level next (child base i) c r l h m)
     leaves_chosen level next base i (choice q c ch) r l (inl h) m =
         at_first level next (choice_at (choice q c ch)) (λ n. next) base i c r s k refl refl (leaves level next (child base i) c r l.0 h m)
     leaves_chosen level next base i (choice q c ch) r l (inr h) m =
-        at_later level (choice_at (choice q c ch)) (λ n. next) base i (due level next r) s k (leaves_chosen level next base (i + 1) ch r l.1 h m)
+        at_later level (choice_at (choice q c ch)) (λ n. next) base i (due_followers level next r) s k (leaves_chosen level next base (i + 1) ch r l.1 h m)
 
 -- a follower that is found in a list is in it
 found-follower : (fs : List Follower) (name : Name) (to : Place) → option_map (λ (f : Follower). f.1) (find (λ (f : Follower). same_name f.0 name) fs) ≡ Some to
@@ -369,7 +369,7 @@ follower-due c r s k name to l h i is =
     let m = leaves s k is_procedure [] (0 ∷ []) c r l h i in
     let at : follower c (0 ∷ m.below) name ≡ Some to = subst (λ p. follower c p name ≡ Some to) m.place is in
     let found = found-follower (following_below is_procedure [] c m.below) name to at in
-    (found.0.0, subst (λ p. Has (due is_procedure [] r) (found.0.0, p)) found.2 (m.follow found.0 found.1))
+    (found.0.0, subst (λ p. Has (due_followers is_procedure [] r) (found.0.0, p)) found.2 (m.follow found.0 found.1))
 
 -- Acts that have a move
 
@@ -384,7 +384,7 @@ HasLeaving reached = (a : Rest) × Has reached a × IsLeaving a
 
 mutual
   -- if something is due, some act leaves its place, or the rest is finished
-  leaving : (level : Level) (next : List Follower) (r : Rest) (f : Follower) → IsAdvanced r → Has (due level next r) f → (is_done r ≡ true) ⊎ HasLeaving (acts r)
+  leaving : (level : Level) (next : List Follower) (r : Rest) (f : Follower) → IsAdvanced r → Has (due_followers level next r) f → (is_done r ≡ true) ⊎ HasLeaving (acts r)
   leaving level next (ready s w k) f h i = absurd i
   leaving level next (asking s w k) f h i = absurd i
   leaving level next (live s x y) f h i = absurd i
@@ -400,10 +400,10 @@ mutual
   leaving_each : (level : Level) (rs : Rests) (f : Follower) → AreAdvanced rs → Has (due_in_each level rs) f → HasLeaving (acts_of_each rs)
   leaving_each level no_rests f h i = absurd i
   leaving_each level (rest r rs) f h i =
-      elim (Has-split (due level [] r) (due_in_each level rs) f i) [
+      elim (Has-split (due_followers level [] r) (due_in_each level rs) f i) [
         | inl k ↦
             elim (leaving level [] r f h.0 k) [
-              | inl e ↦ absurd (subst (λ z. Has (due level [] z) f) (done-is r e) k)
+              | inl e ↦ absurd (subst (λ z. Has (due_followers level [] z) f) (done-is r e) k)
               | inr m ↦ (m.0, Has-left (acts r) (acts_of_each rs) m.0 m.1, m.2)
             ]
         | inr k ↦ (let m = leaving_each level rs f h.1 k in (m.0, Has-right (acts r) (acts_of_each rs) m.0 m.1, m.2))
@@ -412,4 +412,4 @@ mutual
 pub leaving_in : (r : Rest) (p : Place) → IsAdvanced r → IsAwaited r p → HasLeaving (acts r)
 leaving_in r p h i =
     elim (leaving is_procedure [] r (i.0, p) h i.1)
-    [ inl e ↦ absurd (subst (λ z. Has (due is_procedure [] z) (i.0, p)) (done-is r e) i.1) | inr m ↦ m ]
+    [ inl e ↦ absurd (subst (λ z. Has (due_followers is_procedure [] z) (i.0, p)) (done-is r e) i.1) | inr m ↦ m ]

@@ -10,9 +10,9 @@ use Rattle.batch_recipe.specs.Levels.{Level, is_procedure}
 use Rattle.batch_recipe.specs.Tree.{Place}
 use Rattle.batch_model.specs.Lists.{Has, Each}
 use Rattle.batch_model.specs.Rest.{same_place, Rest, ready, Moment, acts, advance, changed_at, place_of}
-use Rattle.batch_model.specs.Plant.{Setup, InAdvance, Batch, Plant, moment_of, is_reached, in_act}
-use Rattle.batch_model.specs.Moves.{Move, pass, batch_of, place_of_move, act_after, act_move, is_running, is_stopping, is_quiet, entering, giving_back, passing, batch_moves, possible, batch_after, after}
-use Rattle.batch_model.specs.Standing.{due, is_resting, IsUnbegun, IsAwaited, HasPlacedTrees, IsStandingBatch, IsStanding}
+use Rattle.batch_model.specs.Plant.{Setup, InAdvance, Batch, Plant, moment_of, is_act_reached, in_act}
+use Rattle.batch_model.specs.Moves.{Move, pass, batch_of, place_of_move, act_after, act_move, is_running, is_stopping, is_quiet, entering, giving_back, passing, batch_moves, possible, batch_after, after_move}
+use Rattle.batch_model.specs.Standing.{due_followers, is_resting, IsUnbegun, IsAwaited, HasPlacedTrees, IsStandingBatch, IsStanding}
 use Rattle.batch_model.specs.Placed.{IsPlaced, Rises}
 use Rattle.batch_model.proofs.Members.{Each-Has, Has-flat_map}
 use Rattle.batch_model.specs.Runs.{goes_on}
@@ -28,13 +28,13 @@ use Rattle.batch_step_laws.proofs.WorkAfterMove.{one_act, same-rest, same-state,
 
 -- the follower, if due at an act, stays so once the act is changed
 abbrev DueStaysFor : Follower → Rest → Rest → Type 0
-DueStaysFor fo a after = (level : Level) (next : List Follower) → Has (due level next a) fo → Has (due level next after) fo
+DueStaysFor fo a after_move = (level : Level) (next : List Follower) → Has (due_followers level next a) fo → Has (due_followers level next after_move) fo
 
 or-true : (b : Bool) → (b || true) ≡ true
 or-true b = grind arith
 
 -- an act that stands at the place is reached
-stands-reached : (r : Rest) (p : Place) → StandsAt (acts r) p → is_reached r p ≡ true
+stands-reached : (r : Rest) (p : Place) → StandsAt (acts r) p → is_act_reached r p ≡ true
 stands-reached r p h = go (acts r) h.1
   where
     go : (xs : List Rest) → Has xs h.0 → list_any (λ act. same_place (place_of act) p) xs ≡ true
@@ -48,15 +48,15 @@ IsNextIn r p = StandsAt (acts r) p ⊎ IsAwaited r p
 
 -- a place that holds in advance and isn't reached still does so, and is due
 still-awaited : (r : Rest) (xs : List InAdvance) → ((held : InAdvance) → Has xs held → IsNextIn r held.place)
-    → Each (λ held. IsAwaited r held.place) (filter (λ held. not (is_reached r held.place)) xs)
+    → Each (λ held. IsAwaited r held.place) (filter (λ held. not (is_act_reached r held.place)) xs)
 still-awaited r [] h = tt
-still-awaited r (held ∷ xs) h = go (is_reached r held.place) refl (still-awaited r xs (λ other i. h other (inr i)))
+still-awaited r (held ∷ xs) h = go (is_act_reached r held.place) refl (still-awaited r xs (λ other i. h other (inr i)))
   where
-    go : (t : Bool) → is_reached r held.place ≡ t → Each (λ held. IsAwaited r held.place) (filter (λ held. not (is_reached r held.place)) xs)
-        → Each (λ held. IsAwaited r held.place) (cond (not t) (held ∷ filter (λ held. not (is_reached r held.place)) xs) (filter (λ held. not (is_reached r held.place)) xs))
+    go : (t : Bool) → is_act_reached r held.place ≡ t → Each (λ held. IsAwaited r held.place) (filter (λ held. not (is_act_reached r held.place)) xs)
+        → Each (λ held. IsAwaited r held.place) (cond (not t) (held ∷ filter (λ held. not (is_act_reached r held.place)) xs) (filter (λ held. not (is_act_reached r held.place)) xs))
     go true e more = more
     go false e more =
-        (elim (h held (inl refl)) [ inl stands ↦ absurd (let told = stands-reached r held.place stands in cc) | inr due ↦ due ], more)
+        (elim (h held (inl refl)) [ inl stands ↦ absurd (let told = stands-reached r held.place stands in cc) | inr due_followers ↦ due_followers ], more)
 
 -- a batch still stands after a change that keeps its acts possible rests and its due followers due
 pub in_act-stands : (c : Setup) (b : Batch) (p : Place) (f : Rest → Rest) → IsStandingBatch c b → KeepsActs p f (acts b.rest)
@@ -72,8 +72,8 @@ in_act-stands c b p f k keep keep_due busy =
           (λ held i.
           let at = Each-Has (λ held. IsAwaited b.rest held.place) b.in_advance held k.awaited i in
           elim (advance-next mo is_procedure [] (changed_at p f b.rest) (at.0, held.place) (changed-due p f (at.0, held.place) is_procedure [] b.rest (keep_due held i at.0) at.1))
-          [ inl stands ↦ inl stands | inr due ↦ inr (at.0, due) ]);
-      given_up = λ e. ap (filter (λ held. not (is_reached (advance mo (changed_at p f b.rest)) held.place))) (k.given_up e);
+          [ inl stands ↦ inl stands | inr due_followers ↦ inr (at.0, due_followers) ]);
+      given_up = λ e. ap (filter (λ held. not (is_act_reached (advance mo (changed_at p f b.rest)) held.place))) (k.given_up e);
       unbegun = λ e. absurd cc;
     }
 
@@ -148,7 +148,7 @@ batch_moves-stand c s b m placed k h =
 after-number : (m : Move) (b : Batch) → (batch_after m b).number ≡ b.number
 after-number m b = grind arith
 
-pub possible-stands : (c : Setup) (s : Plant) (m : Move) → HasPlacedTrees c → IsStanding c s → Has (possible c s) m → IsStanding c (after s m)
+pub possible-stands : (c : Setup) (s : Plant) (m : Move) → HasPlacedTrees c → IsStanding c s → Has (possible c s) m → IsStanding c (after_move s m)
 possible-stands c s m placed k h =
     let d = Has-flat_map (batch_moves c s) s.batches m h in
     let number = batch_moves-number c s d.0 m d.2 in

@@ -1,7 +1,7 @@
 -- Every plant to which a record leads stands.
 use Rattle.std.proofs.Common.{arith, sym, subst, List, [], ◌∷◌, inl, inr}
 use Rattle.batch_model.specs.Plant.{Setup, Plant, opening}
-use Rattle.batch_model.specs.Moves.{after}
+use Rattle.batch_model.specs.Moves.{after_move}
 use Rattle.batch_model.specs.Events.{Event, Reply}
 use Rattle.batch_model.specs.Runs.{Out, reply, move, Reacts, Leads}
 use Rattle.batch_model.specs.Standing.{HasPlacedTrees, IsStanding}
@@ -19,7 +19,7 @@ reacts-stands c placed s t e r k (inr h) = subst (IsStanding c) (sym h.2) k
 pub leads-stands : (c : Setup) → HasPlacedTrees c → (s t : Plant) (es : List Event) (outs : List Out) → IsStanding c s → Leads c s es outs t → IsStanding c t
 leads-stands c placed s t [] [] k h = subst (IsStanding c) h k
 leads-stands c placed s t es (move m ∷ outs) k h =
-    leads-stands c placed (after s m) t es outs (possible-stands c s m placed k (next-possible c s m h.0)) h.1
+    leads-stands c placed (after_move s m) t es outs (possible-stands c s m placed k (next-possible c s m h.0)) h.1
 leads-stands c placed s t (e ∷ es) (reply r ∷ outs) k h = leads-stands c placed h.0 t es outs (reacts-stands c placed s h.0 e r k h.1) h.2
 leads-stands c placed s t es outs k h = grind arith
 

@@ -2,7 +2,7 @@
 use Rattle.std.proofs.Common.{◌≡◌, refl, sym, subst, ℕ, zero, suc, ◌≤◌, arith, List, [], ◌∷◌, ◌++◌, Some, None, inl}
 use Rattle.std.specs.Prelude.{Option, map}
 use Rattle.batch_model.specs.Plant.{Setup, Plant, opening}
-use Rattle.batch_model.specs.Moves.{Move, next, after}
+use Rattle.batch_model.specs.Moves.{Move, next, after_move}
 use Rattle.batch_model.specs.Events.{Event, react}
 use Rattle.batch_model.specs.Runs.{Out, move, Leads, work_left, settling, run_from, run}
 use Rattle.batch_model.specs.Standing.{HasPlacedTrees, IsStanding}
@@ -22,11 +22,11 @@ settling-ends c placed zero s k l = go (next c s) refl
 settling-ends c placed (suc n) s k l = go (next c s) refl (λ t h i. settling-ends c placed n t h i)
   where
     go : (o : Option Move) → next c s ≡ o → ((t : Plant) → IsStanding c t → work_left t ≤ n → next c (settling n c t).1 ≡ None)
-        → next c (let r : List Move × Plant = elim o [ None ↦ ([], s) | Some m ↦ (m ∷ (settling n c (after s m)).0, (settling n c (after s m)).1) ] in r.1) ≡ None
+        → next c (let r : List Move × Plant = elim o [ None ↦ ([], s) | Some m ↦ (m ∷ (settling n c (after_move s m)).0, (settling n c (after_move s m)).1) ] in r.1) ≡ None
     go None e more = e
     go (Some m) e more =
         let h = next-possible c s m e in
-        more (after s m) (possible-stands c s m placed k h) (omega (arith, l, possible-falls c s m placed k h))
+        more (after_move s m) (possible-stands c s m placed k h) (omega (arith, l, possible-falls c s m placed k h))
 
 -- its moves are those that the plant makes
 pub settling-leads : (c : Setup) (n : ℕ) (s : Plant) → Leads c s [] (map move (settling n c s).0) (settling n c s).1
@@ -34,10 +34,10 @@ settling-leads c zero s = refl
 settling-leads c (suc n) s = go (next c s) refl (λ t. settling-leads c n t)
   where
     go : (o : Option Move) → next c s ≡ o → ((t : Plant) → Leads c t [] (map move (settling n c t).0) (settling n c t).1)
-        → (let r : List Move × Plant = elim o [ None ↦ ([], s) | Some m ↦ (m ∷ (settling n c (after s m)).0, (settling n c (after s m)).1) ] in
+        → (let r : List Move × Plant = elim o [ None ↦ ([], s) | Some m ↦ (m ∷ (settling n c (after_move s m)).0, (settling n c (after_move s m)).1) ] in
         Leads c s [] (map move r.0) r.1)
     go None e more = refl
-    go (Some m) e more = (e, more (after s m))
+    go (Some m) e more = (e, more (after_move s m))
 
 -- a plant that stands comes to rest
 pub settling-rests : (c : Setup) → HasPlacedTrees c → (s : Plant) → IsStanding c s → (ms : List Move) × LeadsToRest c s [] (map move ms)
@@ -48,7 +48,7 @@ settling-rests c placed s k =
 pub leads-along : (c : Setup) (s t u : Plant) (ms : List Move) (es : List Event) (outs : List Out)
     → Leads c s [] (map move ms) t → Leads c t es outs u → Leads c s es (map move ms ++ outs) u
 leads-along c s t u [] es outs h k = subst (λ z. Leads c z es outs u) (sym h) k
-leads-along c s t u (m ∷ ms) es outs h k = (h.0, leads-along c (after s m) t u ms es outs h.1 k)
+leads-along c s t u (m ∷ ms) es outs h k = (h.0, leads-along c (after_move s m) t u ms es outs h.1 k)
 
 pub run_from-leads : (c : Setup) → HasPlacedTrees c → (s : Plant) (es : List Event) → IsStanding c s → next c s ≡ None → LeadsToRest c s es (run_from c s es)
 run_from-leads c placed s [] k e = (s, refl, e)

@@ -6,7 +6,7 @@ use Rattle.batch_model.specs.Lists.{Has}
 use Rattle.batch_recipe.specs.Tree.{Place, is_before}
 use Rattle.batch_model.specs.Rest.{Rest, acts, advance, changed_at, place_of}
 use Rattle.batch_model.specs.Plant.{Setup, Batch, Plant, moment_of, with_rest, in_act}
-use Rattle.batch_model.specs.Moves.{Move, batch_of, place_of_move, act_move, act_after, state_move, batch_moves, possible, passing, batch_after, after, next}
+use Rattle.batch_model.specs.Moves.{Move, batch_of, place_of_move, act_move, act_after, state_move, batch_moves, possible, passing, batch_after, after_move, next}
 use Rattle.batch_model.specs.Runs.{goes_on, toil_left, state_moves_left, batch_work_left, work_left}
 use Rattle.batch_model.specs.Standing.{HasPlacedTrees, IsStandingBatch, IsStanding}
 use Rattle.batch_model.specs.Placed.{Rises}
@@ -99,7 +99,7 @@ batch_moves-fall c s b m placed k h =
     ]
 
 -- each possible move lowers the work left
-pub possible-falls : (c : Setup) (s : Plant) (m : Move) → HasPlacedTrees c → IsStanding c s → Has (possible c s) m → work_left (after s m) < work_left s
+pub possible-falls : (c : Setup) (s : Plant) (m : Move) → HasPlacedTrees c → IsStanding c s → Has (possible c s) m → work_left (after_move s m) < work_left s
 possible-falls c s m placed k h =
     let d = Has-flat_map (batch_moves c s) s.batches m h in
     let lower = batch_moves-fall c s d.0 m placed (Each-Has (IsStandingBatch c) s.batches d.0 k.batches d.1) d.2 in

@@ -11,7 +11,7 @@ use Rattle.batch_recipe.specs.declared.acts.Acts.{Acts}
 use Rattle.batch_model.specs.Lists.{Has, Each}
 use Rattle.batch_model.specs.Rest.{Rest, Moment, acts, reach, advance, withdrawn, place_of}
 use Rattle.batch_model.specs.Plant.{Master, Setup, InAdvance, Batch, Plant, opening, held_in, phase_states}
-use Rattle.batch_model.specs.Moves.{Move, batch_of, kind_of, place_of_move, is_earlier, is_stopping, possible, next, after}
+use Rattle.batch_model.specs.Moves.{Move, batch_of, kind_of, place_of_move, is_earlier, is_stopping, possible, next, after_move}
 use Rattle.batch_model.specs.Events.{Event, create, report, Reply, refused, Refusal, output_left_out, bad_binding, full, LivePhase, live_phase, moves_pending, no_memory, is_binding}
 use Rattle.batch_model.specs.Runs.{Out, reply, move, Reacts, Leads, goes_on, work_left, settling, run}
 use Rattle.batch_model.specs.Records.{holders_after, holders_told, waiters_after, waiters_told, active_after, active_told, state_after, state_told}
@@ -110,7 +110,7 @@ ActsHaveOneMove =
 abbrev pub WorkFalls : Type 0
 WorkFalls =
     (setup : Setup) (plant : Plant) (made : Move) → HasPlacedTrees setup → IsStanding setup plant → Has (possible setup plant) made
-    → work_left (after plant made) < work_left plant
+    → work_left (after_move plant made) < work_left plant
 
 -- Units that are held in advance
 
@@ -189,7 +189,7 @@ abbrev pub RecordsGoOnByMoves : Type 0
 RecordsGoOnByMoves =
     (setup : Setup) (plant later : Plant) (made : Move) (events : List Event) (outs : List Out)
     → Leads setup plant events outs later → next setup later ≡ Some made
-    → Leads setup plant events (outs ++ move made ∷ []) (after later made)
+    → Leads setup plant events (outs ++ move made ∷ []) (after_move later made)
 
 abbrev pub RecordsGoOnByReplies : Type 0
 RecordsGoOnByReplies =

@@ -9,7 +9,7 @@ use Rattle.batch_verify.specs.ClearedSet.{ClearedSet}
 use Rattle.batch_cli.specs.CommandLine.{Judgement, check, draw, show, verify}
 use Rattle.batch_verdicts.specs.Judging.{IsClearedBy}
 use Rattle.batch_verdicts.specs.Reading.{AreCleared, AreRead, Gives, Warns, IsSoWarned}
-use Rattle.batch_verdicts.specs.Requests.{IsVerdict}
+use Rattle.batch_verdicts.specs.Requests.{IsVerdictText}
 use Rattle.batch_verdicts.specs.Saying.{IsWarned}
 use Rattle.batch_verdicts.specs.WarningTexts.{warnings_text}
 
@@ -41,7 +41,7 @@ so_more gives these those cell paths is_so follows so = record {
 
 -- a verdict stays one with any effect of warnings that follows from its own
 pub verdict_more : (gives : Gives) (these those : Warns) (judgement : Judgement) (text : List ℕ) → ((text : List ℕ) → these text → those text)
-    → IsVerdict gives these judgement text → IsVerdict gives those judgement text
+    → IsVerdictText gives these judgement text → IsVerdictText gives those judgement text
 verdict_more gives these those (check all cell paths) text follows told = so_more gives these those cell paths _ follows told
 verdict_more gives these those (draw all cell paths) text follows told = so_more gives these those cell paths _ follows told
 verdict_more gives these those (show cell paths) text follows (told, said) = (told, follows _ said)

@@ -12,7 +12,7 @@ use Rattle.batch_reader.specs.declared.fault.Spot.{Spot}
 use Rattle.batch_reader.specs.declared.fault.TableKind.TheVariants as table
 use Rattle.batch_reader.specs.DeskUnits.{HaveUnits}
 use Rattle.batch_reader.specs.DesksDocument.{IsDesksDocument}
-use Rattle.batch_reader.specs.DesksFaults.{FaultStands}
+use Rattle.batch_reader.specs.DesksFaults.{DesksFaultStands}
 use Rattle.batch_reader.specs.declared.desk_set.Desks.{Desks}
 use Rattle.batch_verify.specs.ClearedSet.{ClearedSet}
 use Rattle.batch_verdicts.specs.Digested.{AreDigested}
@@ -31,7 +31,7 @@ pub record RefusesDesks (path bytes : List ℕ) (h : Halt) : Type 0 where
   pub not_toml : fault ≡ NotToml → ¬ (IsToml bytes)
   pub long : MAX_DOCUMENT_LEN < length bytes → fault ≡ Entry (record { kind = table.Desk; entry = 0 }) OutOfLimit
   pub told : (spot : Spot) (wrong : EntryFault) → fault ≡ Entry spot wrong → spot.kind ≡ table.Desk
-  pub is_there : (spot : Spot) (wrong : EntryFault) → fault ≡ Entry spot wrong → FaultStands bytes spot.entry wrong
+  pub is_there : (spot : Spot) (wrong : EntryFault) → fault ≡ Entry spot wrong → DesksFaultStands bytes spot.entry wrong
   pub halts : HaltsWith (document_text path fault) (document_kind fault) h
 
 -- a desk names a unit that the cell doesn't have: the first that does

@@ -13,8 +13,8 @@ use Rattle.batch_verdicts.specs.declared.texts.graphs.TheConstants.{LEGEND}
 
 -- The cell's resources, in the shape of their kind
 
-abbrev pub unit_text : Unit → List ℕ
-unit_text u = codes "  \"" ++ (u.name ++ codes "\" [shape=box];\n")
+abbrev pub unit_box_text : Unit → List ℕ
+unit_box_text u = codes "  \"" ++ (u.name ++ codes "\" [shape=box];\n")
 
 -- a module that belongs to a unit is no resource
 abbrev pub module_text : Module → List ℕ
@@ -24,7 +24,7 @@ abbrev pub shared_text : Shared → List ℕ
 shared_text s = codes "  \"" ++ (s.name ++ (codes "\" [label=\"" ++ (s.name ++ (codes "\\nunits: " ++ (decimal s.capacity ++ codes "\"];\n")))))
 
 abbrev pub resources_text : Cell → List ℕ
-resources_text c = flat_map unit_text c.units.items ++ (flat_map module_text c.modules.items ++ flat_map shared_text c.shared.items)
+resources_text c = flat_map unit_box_text c.units.items ++ (flat_map module_text c.modules.items ++ flat_map shared_text c.shared.items)
 
 -- The edges
 

@@ -4,7 +4,7 @@ use Rattle.batch_cell.specs.declared.cell.Cell.{Cell}
 use Rattle.batch_recipe.specs.declared.recipe.Recipe.{Recipe}
 use Rattle.batch_reader.specs.CellDocument.{IsCellDocument}
 use Rattle.batch_reader.specs.RecipeDocument.{IsRecipeDocument}
-use Rattle.batch_outline.specs.Showing.{shown}
+use Rattle.batch_outline.specs.Showing.{shown_recipes}
 use Rattle.batch_verify.specs.CertificateText.{Rank, IsCertificateText}
 use Rattle.batch_verify.specs.ClearedSet.{ClearedSet}
 use Rattle.batch_verdicts.specs.Drawing.{IsDrawn}
@@ -72,7 +72,7 @@ DrawsDocuments gives warns cell paths text = IsSoWarned gives warns cell paths (
 
 -- the output of `show` on them: the nodes of the recipes' expanded trees, whether they can be cleared or not
 abbrev pub ShowsDocuments : Gives → List ℕ → List (List ℕ) → List ℕ → Type 0
-ShowsDocuments gives cell paths text = IsSoOf gives cell paths (λ c rs. text ≡ shown rs)
+ShowsDocuments gives cell paths text = IsSoOf gives cell paths (λ c rs. text ≡ shown_recipes rs)
 
 -- the documents at these paths are the cell, a certificate of these ranks, and the recipes
 pub record AreRead (gives : Gives) (cell certificate : List ℕ) (paths : List (List ℕ)) (equipment : Cell) (ranks : List Rank) (recipes : List Recipe) : Type 0 where

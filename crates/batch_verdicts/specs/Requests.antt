@@ -23,11 +23,11 @@ abbrev pub HaltsDemo : Halt → Type 0
 HaltsDemo h = HaltsClearing demo_gives CELL_PATH.now CERTIFICATE_PATH.now (RECIPE_PATH.now ∷ []) h
 
 -- the output if nothing is refused
-abbrev pub IsVerdict : Gives → Warns → Judgement → List ℕ → Type 0
-IsVerdict gives warns (check all cell recipes) text = ChecksDocuments gives warns cell recipes text
-IsVerdict gives warns (draw all cell recipes) text = DrawsDocuments gives warns cell recipes text
-IsVerdict gives warns (verify cell certificate recipes) text = VerifiesDocuments gives warns cell certificate recipes text
-IsVerdict gives warns (show cell recipes) text = ShowsDocuments gives cell recipes text × warns []
+abbrev pub IsVerdictText : Gives → Warns → Judgement → List ℕ → Type 0
+IsVerdictText gives warns (check all cell recipes) text = ChecksDocuments gives warns cell recipes text
+IsVerdictText gives warns (draw all cell recipes) text = DrawsDocuments gives warns cell recipes text
+IsVerdictText gives warns (verify cell certificate recipes) text = VerifiesDocuments gives warns cell certificate recipes text
+IsVerdictText gives warns (show cell recipes) text = ShowsDocuments gives cell recipes text × warns []
 
 -- the set that is to be served, or whose plant is to be run: the demo's, or that of the documents, cleared by their certificate
 abbrev pub IsSetOf : Gives → Source → ClearedSet → Type 0

@@ -7,13 +7,13 @@ use Rattle.clap.specs.Kinds.{IsAmong}
 use Rattle.clap.specs.Walk.{Text}
 use Rattle.clap.specs.Words.{subcommand_of}
 use Rattle.clap.specs.declared.error.kind.ErrorKind.{ErrorKind}
-use Rattle.batch_messages.specs.Explaining.{HaveNoCode, Tells}
-use Rattle.batch_cli.specs.CommandLine.{IsShown, Judgement, Request, Source, asked_by, asks_quiet, audit, explain, judge, plant, program_app, serve, serve_desks, source_of, tell, keep, write, faults_of, remark, picture}
+use Rattle.batch_messages.specs.Explaining.{HaveNoCode, TellsCodes}
+use Rattle.batch_cli.specs.CommandLine.{IsShown, Judgement, Request, Source, request_entered, asks_quiet, audit, explain, judge, plant, program_app, serve, serve_desks, source_of, tell, keep, write, faults_of, remark, picture}
 use Rattle.batch_verdicts.specs.DeskSets.{AreDesksCleared}
 use Rattle.batch_verdicts.specs.Digested.{AreDigested}
 use Rattle.batch_verdicts.specs.Judging.{is_for_memory, status_of}
 use Rattle.batch_verdicts.specs.Reading.{Gives}
-use Rattle.batch_verdicts.specs.Requests.{Halts, IsSetOf, IsVerdict}
+use Rattle.batch_verdicts.specs.Requests.{Halts, IsSetOf, IsVerdictText}
 use Rattle.batch_verdicts.specs.Saying.{AreSaid, IsSaid, IsWarned}
 use Rattle.batch_verify.specs.ClearedSet.{ClearedSet}
 use Rattle.batch_cli.specs.declared.command.AuditWords.{AuditWords}
@@ -87,7 +87,7 @@ AreRefused quiet output errors refusals status =
 
 -- the words ask for this, and have no fault
 abbrev pub AskFor : List Text → Request → Type 0
-AskFor words request = (faults_of words ≡ []) × (request ≡ asked_by (subcommand_of program_app words))
+AskFor words request = (faults_of words ≡ []) × (request ≡ request_entered (subcommand_of program_app words))
 
 -- they ask the program to write no sentence on a refusal
 abbrev pub ask_quiet : List Text → Bool
@@ -112,7 +112,7 @@ IsAnnounced quiet output errors halt.Memory status = IsUnwritten output × (stat
 -- the explanation that the texts ask for is printed, or they have no code, or memory was wanting
 abbrev pub IsExplained : List Text → Stream → Stream → ℕ → Type 0
 IsExplained texts output errors status =
-    ((text : List ℕ) × Tells texts text × IsPrinted output errors text success_status status)
+    ((text : List ℕ) × TellsCodes texts text × IsPrinted output errors text success_status status)
     ⊎ (IsUnwritten output × ((HaveNoCode texts × (status ≡ usage_status)) ⊎ (status ≡ memory_status)))
 
 -- Runs
@@ -122,11 +122,11 @@ IsExplained texts output errors status =
 pub data IsDone (gives : Gives) (request : Request) (quiet : Bool) (output errors : Stream) : Course → Type 0 where
   -- the errors have the same contents behind the warnings and before the verdict is printed
   judges : (judgement : Judgement) (text : List ℕ) (status : ℕ) (warned : Option (List ℕ))
-      → request ≡ judge judgement → IsVerdict gives (IsWarned quiet errors.before warned) judgement text
+      → request ≡ judge judgement → IsVerdictText gives (IsWarned quiet errors.before warned) judgement text
       → IsPrinted output (record { before = warned; after = errors.after }) text success_status status
       → IsDone gives request quiet output errors (Ends status)
   writes : (judgement : Judgement) (path text : String Global)
-      → request ≡ write (string_bytes path) judgement → IsVerdict gives (IsWarned quiet errors.before errors.after) judgement (string_bytes text)
+      → request ≡ write (string_bytes path) judgement → IsVerdictText gives (IsWarned quiet errors.before errors.after) judgement (string_bytes text)
       → IsUnwritten output → IsDone gives request quiet output errors (Writes path text)
   serves : (source : Source) (set : ClearedSet)
       → request ≡ serve source → IsSetOf gives source set → IsUnwritten output → IsUnwritten errors

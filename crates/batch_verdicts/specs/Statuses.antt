@@ -5,24 +5,24 @@ use Rattle.clap.specs.Walk.{Text}
 use Rattle.batch_verify.specs.ClearedSet.{ClearedSet}
 use Rattle.batch_cli.specs.CommandLine.{Request, Source, audit, demo, explain, judge, plant, serve, tell, keep, write, remark, picture, serve_desks}
 use Rattle.batch_verdicts.specs.Reading.{Gives}
-use Rattle.batch_verdicts.specs.Requests.{HaltsDemo, IsDemoSet, IsSetOf, IsVerdict}
+use Rattle.batch_verdicts.specs.Requests.{HaltsDemo, IsDemoSet, IsSetOf, IsVerdictText}
 use Rattle.batch_verdicts.specs.Running.{AskFor, IsRun, Stream, ask_quiet, memory_status}
 use Rattle.batch_verdicts.specs.Saying.{IsWarned}
-use Rattle.batch_messages.specs.Explaining.{Tells}
+use Rattle.batch_messages.specs.Explaining.{TellsCodes}
 use Rattle.batch_verdicts.specs.declared.course.Course.{Course}
 use Rattle.batch_verdicts.specs.declared.course.Course.TheVariants.{Ends, Serves}
 use Rattle.batch_verdicts.specs.declared.refusal.Halt.{Halt}
 
 -- the explanation that the texts ask for was written
 abbrev pub AreCodesTold : List Text → Stream → Type 0
-AreCodesTold texts output = (text : List ℕ) × Tells texts text × Appends output.before output.after text
+AreCodesTold texts output = (text : List ℕ) × TellsCodes texts text × Appends output.before output.after text
 
 -- `check` wrote the certificate with the least ranks, or the drawing of recipes that can be cleared; `show` wrote the recipes' nodes;
 -- `verify` wrote that it accepts the set of the documents, which their certificate clears; `explain` wrote the explanation. On the
 -- errors `check` and `verify` wrote their warnings alone. Nothing else ends so before it has served or written a file
 abbrev pub IsSuccess : Gives → Bool → Request → Stream → Stream → Type 0
 IsSuccess gives quiet (judge judgement) output errors =
-    (text : List ℕ) × Appends output.before output.after text × IsVerdict gives (IsWarned quiet errors.before errors.after) judgement text
+    (text : List ℕ) × Appends output.before output.after text × IsVerdictText gives (IsWarned quiet errors.before errors.after) judgement text
 IsSuccess gives quiet (keep journal cell certificate recipes echo times) output errors = ⊥
 IsSuccess gives quiet (audit beginning path source) output errors = ⊥
 IsSuccess gives quiet (write path judgement) output errors = ⊥

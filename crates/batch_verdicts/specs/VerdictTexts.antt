@@ -55,13 +55,13 @@ document_text path fault = refused (document_words path fault)
 -- Places
 
 -- the place of the node with this number
-abbrev pub place_of : Recipe → ℕ → List ℕ
-place_of r node = unwrap_or (option_map (λ (n : Node). place_text n.place) (slice_get (procedure_nodes r.acts) node)) []
+abbrev pub place_text_at : Recipe → ℕ → List ℕ
+place_text_at r node = unwrap_or (option_map (λ (n : Node). place_text n.place) (slice_get (procedure_nodes r.acts) node)) []
 
 -- the recipe's name and the place of its node, by their numbers
 abbrev pub node_text : List Recipe → ℕ → ℕ → List ℕ
 node_text rs recipe node =
-    unwrap_or (option_map (λ (r : Recipe). r.acts.procedure.name ++ (codes " " ++ place_of r node)) (slice_get rs recipe)) []
+    unwrap_or (option_map (λ (r : Recipe). r.acts.procedure.name ++ (codes " " ++ place_text_at r node)) (slice_get rs recipe)) []
 
 -- Certificates
 

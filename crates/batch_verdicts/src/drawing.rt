@@ -2,7 +2,7 @@
 ghost use Rattle.std.specs.Prelude.{[], IfErr, IfOk, string_bytes};
 ghost use Rattle.std.specs.List.{All};
 ghost use Rattle.batch_check.specs.Checking.{IsFault};
-ghost use Rattle.batch_check.specs.Edges.{Stands};
+ghost use Rattle.batch_check.specs.Edges.{EdgeStands};
 ghost use Rattle.batch_verdicts.specs.Drawing.{IsDrawingOf, IsDrawn, IsFaultDrawn, RefusesDrawing};
 
 use crate::judging::fault_halt;
@@ -62,7 +62,7 @@ fn drawing(
     recipes: &[Recipe],
     circle: &[Edge],
 ) -> Result<String, AllocError>
-    requires { All (Stands cell.now recipes.now) circle.now }
+    requires { All (EdgeStands cell.now recipes.now) circle.now }
     ensures { IfOk result (λ text. IsDrawingOf cell.now recipes.now circle.now (string_bytes text)) }
 {
     match graph_of(alloc, cell, recipes, circle) {

@@ -2,7 +2,7 @@
 ghost use Rattle.std.specs.Prelude.{◌≡◌, IfErr, IfOk, OnOk, map, option_map, string_bytes};
 ghost use Rattle.batch_cli.specs.CommandLine.{audit, judgement_of, keep, plant, remark, request_of, serve, serve_desks, source_of};
 ghost use Rattle.std.specs.Io.KnownBytes.{Appends};
-ghost use Rattle.batch_verdicts.specs.Requests.{HaltsDemo, HaltsJudgement, HaltsSource, IsDemoSet, IsSetOf, IsVerdict};
+ghost use Rattle.batch_verdicts.specs.Requests.{HaltsDemo, HaltsJudgement, HaltsSource, IsDemoSet, IsSetOf, IsVerdictText};
 ghost use Rattle.std.specs.List.{flat_map, list_any};
 ghost use Rattle.batch_verdicts.specs.Judging.{is_for_memory};
 ghost use Rattle.batch_verdicts.specs.Running.{AreRefused, IsAnnounced, IsDone, IsExplained, IsPrinted, IsRefused, IsRun, fault_status, status_of_every};
@@ -296,7 +296,7 @@ fn run_judgement<D: Documents, E: Write>(
     quiet: bool,
     errors: &mut E,
 ) -> Result<String, Halt>
-    ensures verdict { IfOk result (λ text. IsVerdict (D.gives documents.now) (IsWarned quiet (E.contents errors.old) (E.contents errors.new))
+    ensures verdict { IfOk result (λ text. IsVerdictText (D.gives documents.now) (IsWarned quiet (E.contents errors.old) (E.contents errors.new))
         (judgement_of judgement.now) (string_bytes text)) }
     ensures halted { IfErr result (HaltsJudgement (D.gives documents.now) (IsWarned quiet (E.contents errors.old) (E.contents errors.new))
         (judgement_of judgement.now)) }

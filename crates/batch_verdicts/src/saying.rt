@@ -1,7 +1,7 @@
 //! The sentences for a person beside a verdict.
 ghost use Rattle.std.specs.Prelude.{◌≡◌, IfOk, string_bytes};
 ghost use Rattle.std.specs.List.{flat_map};
-ghost use Rattle.batch_verdicts.specs.Saying.{AreSaid, IsSaid, WritesFront, line_of};
+ghost use Rattle.batch_verdicts.specs.Saying.{AreSaid, IsSaid, WritesFront, sentence_line};
 
 use crate::refusal::DocumentRefusal;
 use batch_wording::Sentence;
@@ -24,7 +24,7 @@ pub(crate) fn write_sentence<E: Write>(
 }
 
 fn write_line<E: Write>(alloc: Global, sentence: &Sentence, errors: &mut E)
-    ensures { WritesFront (E.contents errors.old) (E.contents errors.new) (line_of sentence.now) }
+    ensures { WritesFront (E.contents errors.old) (E.contents errors.new) (sentence_line sentence.now) }
 {
     if let Ok(line) = format!(in alloc; "batchd: {}\n", sentence.text) {
         write_and_flush(errors, &line);
@@ -48,7 +48,7 @@ pub(crate) fn write_sentences<E: Write>(
 }
 
 fn write_lines<E: Write>(alloc: Global, refusals: &[DocumentRefusal], errors: &mut E)
-    ensures { WritesFront (E.contents errors.old) (E.contents errors.new) (flat_map (λ r. line_of r.sentence) refusals.now) }
+    ensures { WritesFront (E.contents errors.old) (E.contents errors.new) (flat_map (λ r. sentence_line r.sentence) refusals.now) }
 {
     if let Ok(text) = lines_text(alloc, refusals) {
         write_and_flush(errors, &text);
@@ -56,7 +56,7 @@ fn write_lines<E: Write>(alloc: Global, refusals: &[DocumentRefusal], errors: &m
 }
 
 fn lines_text(alloc: Global, refusals: &[DocumentRefusal]) -> Result<String, AllocError>
-    ensures { IfOk result (λ text. string_bytes text ≡ flat_map (λ r. line_of r.sentence) refusals.now) }
+    ensures { IfOk result (λ text. string_bytes text ≡ flat_map (λ r. sentence_line r.sentence) refusals.now) }
 {
     let mut text = String::new(alloc);
     for refusal in refusals {
@@ -67,7 +67,7 @@ fn lines_text(alloc: Global, refusals: &[DocumentRefusal]) -> Result<String, All
 }
 
 fn line_of(alloc: Global, sentence: &Sentence) -> Result<String, AllocError>
-    ensures { IfOk result (λ line. string_bytes line ≡ line_of sentence.now) }
+    ensures { IfOk result (λ line. string_bytes line ≡ sentence_line sentence.now) }
 {
     format!(in alloc; "batchd: {}\n", sentence.text)
 }

@@ -1,7 +1,7 @@
 //! Warnings on documents that are taken.
 ghost use Rattle.std.specs.Prelude.{◌≡◌, IfOk, map, string_bytes};
-ghost use Rattle.batch_verdicts.specs.Saying.{IsWarned, WritesFront, told_line};
-ghost use Rattle.batch_verdicts.specs.WarningTexts.{lines_on, recipe_line, recipe_text, recipes_text, unit_line, units_text, warnings_text};
+ghost use Rattle.batch_verdicts.specs.Saying.{IsWarned, WritesFront, message_line};
+ghost use Rattle.batch_verdicts.specs.WarningTexts.{lines_on, recipe_line, recipe_warnings_text, recipes_text, unit_line, units_text, warnings_text};
 ghost use Rattle.batch_messages.specs.WarningWords.{said_at};
 
 use crate::saying::write_and_flush;
@@ -121,7 +121,7 @@ fn recipe_text(
     recipe: &Recipe,
     warnings: &[RecipeWarning],
 ) -> Result<String, AllocError>
-    ensures { IfOk result (λ text. string_bytes text ≡ recipe_text path.now recipe.now warnings.now) }
+    ensures { IfOk result (λ text. string_bytes text ≡ recipe_warnings_text path.now recipe.now warnings.now) }
 {
     let mut text = String::new(alloc);
     for warning in warnings {
@@ -144,7 +144,7 @@ fn recipe_line(
 }
 
 fn told_line(alloc: Global, text: &str) -> Result<String, AllocError>
-    ensures { IfOk result (λ line. string_bytes line ≡ told_line text.now) }
+    ensures { IfOk result (λ line. string_bytes line ≡ message_line text.now) }
 {
     format!(in alloc; "batchd: {text}\n")
 }

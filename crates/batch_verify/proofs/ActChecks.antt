@@ -10,7 +10,7 @@ use Rattle.batch_cell.specs.declared.cell.Cell as equipment
 use Rattle.batch_recipe.specs.Conditions.{Name, same_name}
 use Rattle.batch_recipe.specs.Needs as needs
 use Rattle.batch_recipe.specs.Tree.{Place, Tree, act, Step, Task}
-use Rattle.batch_recipe.specs.Expanding.{Binding, Sites, act_tree_with, asked_by, needs_with, step_of, task_of, unit_below, unit_named, unit_with}
+use Rattle.batch_recipe.specs.Expanding.{Binding, Sites, act_tree_with, asked_in_order, needs_with, step_of, task_of, unit_below, unit_named, unit_with}
 use Rattle.batch_recipe.specs.WellFormed.{is_among}
 use Rattle.batch_recipe.specs.declared.act.Act.{Act}
 use Rattle.batch_recipe.specs.declared.act.UnitChoice.{UnitChoice}
@@ -110,7 +110,7 @@ unit_missed o rule h = grind arith
 
 -- the resources that an act asks for
 abbrev asked_resources : Sites → Act → List Name
-asked_resources s a = needs.resources_of (needs_with s a)
+asked_resources s a = needs.resources_needed (needs_with s a)
 
 module _ (c : equipment.Cell) where
   among_units : (unit : Name) (k : ℕ) → position (same_name unit) (units_of c) ≡ Some k → is_among (units_of c) unit ≡ true
@@ -150,7 +150,7 @@ module _ (c : equipment.Cell) where
   fits_so need h = let e : nat_le need.units (capacity_of c need.resource) ≡ true = grind arith in e
 
   has_its_unit : (l : Level) (own : Option Name) (reserved : List Name) (work : Work) (step : Step) (w : Task) (number n : Option ℕ) → is_kind l own work ≡ true → unit_under c own number ≡ Ok n
-      → (ns : List Need) → step.needs ≡ asked_by own reserved ns → HasUnit (units_of c) l (act step w)
+      → (ns : List Need) → step.needs ≡ asked_in_order own reserved ns → HasUnit (units_of c) l (act step w)
   has_its_unit is_procedure own reserved work step w number n kind is ns needs_are = tt
   has_its_unit in_procedure None reserved work step w number n kind is ns needs_are = let bad : false ≡ true = kind in cc
   has_its_unit in_procedure (Some u) reserved work step w number n kind is ns needs_are =
@@ -160,7 +160,7 @@ module _ (c : equipment.Cell) where
   has_its_unit in_operation own reserved work step w number n kind is ns needs_are = tt
 
   has_no_unit : (l : Level) (own : Option Name) (reserved : List Name) (work : Work) (step : Step) (w : Task) (number : Option ℕ) (rule : Rule) → is_kind l own work ≡ true → unit_under c own number ≡ Err rule
-      → (ns : List Need) → step.needs ≡ asked_by own reserved ns → (rule ≡ UnknownResource) × (HasUnit (units_of c) l (act step w) → ⊥)
+      → (ns : List Need) → step.needs ≡ asked_in_order own reserved ns → (rule ≡ UnknownResource) × (HasUnit (units_of c) l (act step w) → ⊥)
   has_no_unit l own reserved work step w number rule kind is ns needs_are = grind (arith, unit_missed, not_among_units)
 
   act_apart : (l : Level) (s : Step) (w : Task) → IsApart l (act s w)

@@ -11,9 +11,9 @@ use Rattle.batch_cell.specs.declared.cell.Cell as equipment
 use Rattle.batch_cell.specs.declared.unit.Unit.{Unit}
 use Rattle.batch_cell.proofs.Resources.{no_resource_no_unit, resource_is_no_unit, resource_is_unit}
 use Rattle.batch_recipe.specs.Conditions.{Name, same_name}
-use Rattle.batch_recipe.specs.Expanding.{Binding, Sites, asked_by, needs_with, unit_chosen, unit_named, unit_with}
+use Rattle.batch_recipe.specs.Expanding.{Binding, Sites, asked_in_order, needs_with, unit_chosen, unit_named, unit_with}
 use Rattle.batch_recipe.specs.Needs as needs
-use Rattle.batch_recipe.specs.Outlines.{act_of}
+use Rattle.batch_recipe.specs.Outlines.{act_of_kind}
 use Rattle.batch_recipe.specs.Procedure.{sites}
 use Rattle.batch_recipe.specs.declared.act.Act.{Act}
 use Rattle.batch_recipe.specs.declared.act.UnitChoice.{UnitChoice}
@@ -67,7 +67,7 @@ module _ (c : equipment.Cell) (roles : List declared.Role) (bound : Binding) whe
       ∙ ap (λ (asks : List Ask). ask_of c need ∷ asks) (asks-are links needs h.2)
 
 -- the linked recipe has the asks of each act, whatever units take the roles
-pub says-asks : (c : equipment.Cell) (recipe : document.Recipe) (linked : LinkedRecipe) → IsLinkedIn c recipe linked → (bound : Binding) (kind : Kind) (a : Act) → act_of recipe.acts kind ≡ Some a
+pub says-asks : (c : equipment.Cell) (recipe : document.Recipe) (linked : LinkedRecipe) → IsLinkedIn c recipe linked → (bound : Binding) (kind : Kind) (a : Act) → act_of_kind recipe.acts kind ≡ Some a
     → asks_by c (takers_of c bound recipe.roles.items) (needs_by linked kind) ≡ asks_of c (needs_with (sites bound recipe.acts) a)
 says-asks c recipe linked h bound kind a is =
     asks-are c recipe.roles.items bound (needs_by linked kind) (needs_with (sites bound recipe.acts) a) (needs-said c h.0 recipe linked h.1 bound kind a is)
@@ -104,16 +104,16 @@ module _ (c : equipment.Cell) (takers : List (Option ℕ)) (links : List LinkedN
   pub unit-is : (number : Option ℕ) → unit_by c a.unit (asks_by c takers links) number ≡ unit_under c (unit_with s.bound a.unit) number
   unit-is number = ap (λ asks. unit_by c a.unit asks number) e ∙ go a.unit
     where
-      go : (o : Option UnitChoice) → unit_by c o (asks_of c (asked_by (unit_with s.bound o) (map (unit_named s) a.reserves.items) a.needs.items)) number ≡ unit_under c (unit_with s.bound o) number
+      go : (o : Option UnitChoice) → unit_by c o (asks_of c (asked_in_order (unit_with s.bound o) (map (unit_named s) a.reserves.items) a.needs.items)) number ≡ unit_under c (unit_with s.bound o) number
       go None = refl
       go (Some choice) = ap known_unit (unit-number c (same_name (unit_chosen s.bound choice)))
 
   pub rise-is : (ranks : Option (List ℕ)) (last : Option ℕ) (r : Result (Option ℕ) Rule) → IsRise last (ranks_along ranks (asks_by c takers links)) r
-      → MatchResult r (λ next. RisesFrom (ranking_in c ranks) last (needs.resources_of (needs_with s a)) × (next ≡ last_from (ranking_in c ranks) last (needs.resources_of (needs_with s a))))
-      (λ rule. (rule ≡ RankNotRising) × (RisesFrom (ranking_in c ranks) last (needs.resources_of (needs_with s a)) → ⊥))
+      → MatchResult r (λ next. RisesFrom (ranking_in c ranks) last (needs.resources_needed (needs_with s a)) × (next ≡ last_from (ranking_in c ranks) last (needs.resources_needed (needs_with s a))))
+      (λ rule. (rule ≡ RankNotRising) × (RisesFrom (ranking_in c ranks) last (needs.resources_needed (needs_with s a)) → ⊥))
   rise-is None last r h = h
   rise-is (Some ranks) last r h = subst (λ (rs : List ℕ). IsRise last rs r) (ap (ranks_asked ranks) e ∙ named (needs_with s a)) h
     where
-      named : (own : List Need) → ranks_asked ranks (asks_of c own) ≡ map (rank_in c ranks) (needs.resources_of own)
+      named : (own : List Need) → ranks_asked ranks (asks_of c own) ≡ map (rank_in c ranks) (needs.resources_needed own)
       named [] = refl
       named (need ∷ own) = ap (λ rs. rank_in c ranks need.resource ∷ rs) (named own)

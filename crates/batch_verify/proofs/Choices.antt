@@ -5,10 +5,10 @@ use Rattle.std.proofs.lemmas.List.{append-nil}
 use Rattle.std.proofs.lemmas.Option.{slice_get-get_or, slice_get_within}
 use Rattle.batch_recipe.specs.ActsAtNodes.{procedure_acts}
 use Rattle.batch_recipe.specs.Conditions.{Name}
-use Rattle.batch_recipe.specs.Expanding.{Binding, unbound, act_named, asked_by, needs_with, unit_below, unit_chosen, unit_named, unit_with}
-use Rattle.batch_recipe.specs.Needs.{one_unit, resources_of}
+use Rattle.batch_recipe.specs.Expanding.{Binding, unbound, act_named, asked_in_order, needs_with, unit_below, unit_chosen, unit_named, unit_with}
+use Rattle.batch_recipe.specs.Needs.{one_unit, resources_needed}
 use Rattle.batch_recipe.specs.Nodes.{Node, needs_of}
-use Rattle.batch_recipe.specs.Outlines.{act_of}
+use Rattle.batch_recipe.specs.Outlines.{act_of_kind}
 use Rattle.batch_recipe.specs.Procedure.{bound_nodes, sites}
 use Rattle.batch_recipe.specs.WellFormed.{is_among, has_unit, has_chart}
 use Rattle.batch_recipe.specs.declared.act.Act.{Act}
@@ -82,7 +82,7 @@ pub names_append : (bound : Binding) (xs ys : List Ask) → names_by bound (xs +
 names_append bound [] ys = refl
 names_append bound (x ∷ xs) ys = ap (λ names. unit_chosen bound x.choice ∷ names) (names_append bound xs ys)
 
-pub resources_are : (bound : Binding) (asks : List Ask) → resources_of (map (asked bound) asks) ≡ names_by bound asks
+pub resources_are : (bound : Binding) (asks : List Ask) → resources_needed (map (asked bound) asks) ≡ names_by bound asks
 resources_are bound [] = refl
 resources_are bound (x ∷ xs) = ap (λ names. unit_chosen bound x.choice ∷ names) (resources_are bound xs)
 
@@ -108,7 +108,7 @@ module _ (bound : Binding) where
     later_are (name ∷ names) needs = ap₂ (λ (unit : Name) (ns : List Need). one_unit unit ∷ ns) (unit_is name) (later_are names needs)
 
     asked_are : (own : Option UnitChoice) (names : List Name) (needs : List Need)
-        → asked_by (unit_with bound own) (map (unit_named (sites bound acts)) names) needs ≡ map (asked bound) (own_asks own ++ later_asks acts names needs)
+        → asked_in_order (unit_with bound own) (map (unit_named (sites bound acts)) names) needs ≡ map (asked bound) (own_asks own ++ later_asks acts names needs)
     asked_are None names needs = later_are names needs
     asked_are (Some choice) names needs = ap (λ (ns : List Need). one_unit (unit_chosen bound choice) ∷ ns) (later_are names needs)
 
@@ -209,7 +209,7 @@ act-few acts in_operation above a kind none h = (
 module _ (r : Recipe) where
   -- no act reserves anything
   abbrev pub ReservesNothing : Type 0
-  ReservesNothing = (k : Kind) (a : Act) → act_of r.acts k ≡ Some a → a.reserves.items ≡ []
+  ReservesNothing = (k : Kind) (a : Act) → act_of_kind r.acts k ≡ Some a → a.reserves.items ≡ []
 
   -- a role that is chosen is declared, and the tree names it
   abbrev pub IsNamed : UnitChoice → Type 0
@@ -323,7 +323,7 @@ module _ (r : Recipe) where
 
   module _ (k : ℕ) (e : Entry) (is : slice_get r.outline.entries.items k ≡ Some e) where
     abbrev here : Option Act
-    here = act_of r.acts e.kind
+    here = act_of_kind r.acts e.kind
 
     there : (a : Act) → here ≡ Some a → Has (procedure_acts r.acts) (Some a)
     there a same = has_at (procedure_acts r.acts) k (Some a) (act_at r k e is ∙ ap Some same)
@@ -354,8 +354,8 @@ module _ (r : Recipe) where
           go None h = bare_needs at.x.node.here h.0
           go (Some a) h = ap needs_of h.here_is ∙ needs_are bound r.acts a
 
-      names_here : resources_of (needs_of at.x.node.here) ≡ names_by bound (asks_at r.acts here)
-      names_here = ap resources_of needs_here ∙ resources_are bound (asks_at r.acts here)
+      names_here : resources_needed (needs_of at.x.node.here) ≡ names_by bound (asks_at r.acts here)
+      names_here = ap resources_needed needs_here ∙ resources_are bound (asks_at r.acts here)
 
       unit_under : (above : UnitChoice) → at.own.here.unit ≡ unit_chosen bound above → at.own.under.unit ≡ unit_chosen bound (unit_at above here)
       unit_under above same = go here at.on.here
@@ -366,10 +366,10 @@ module _ (r : Recipe) where
 
   -- the asks of the path to a node are few, where those above it are
   few-here : ReservesNothing → (k : ℕ) (e : Entry) (is : slice_get r.outline.entries.items k ≡ Some e) (above : List Ask) → FewRoles (stands r unbound k e is).own.here.level above
-      → FewRoles (stands r unbound k e is).own.under.level (above ++ asks_at r.acts (act_of r.acts e.kind))
-  few-here nothing k e is above h = go (act_of r.acts e.kind) refl (stands r unbound k e is).on.here
+      → FewRoles (stands r unbound k e is).own.under.level (above ++ asks_at r.acts (act_of_kind r.acts e.kind))
+  few-here nothing k e is above h = go (act_of_kind r.acts e.kind) refl (stands r unbound k e is).on.here
     where
-      go : (o : Option Act) → act_of r.acts e.kind ≡ o → IsHereOn (sites unbound r.acts) (stands r unbound k e is).own (stands r unbound k e is).x o
+      go : (o : Option Act) → act_of_kind r.acts e.kind ≡ o → IsHereOn (sites unbound r.acts) (stands r unbound k e is).own (stands r unbound k e is).x o
           → FewRoles (stands r unbound k e is).own.under.level (above ++ asks_at r.acts o)
       go None same w = subst (λ (l : Level). FewRoles l (above ++ [])) (ap (λ (v : Spot). v.level) (sym w.1)) (subst (FewRoles (stands r unbound k e is).own.here.level) (sym (append-nil above)) h)
       go (Some a) same w =
@@ -391,7 +391,7 @@ module _ (r : Recipe) where
 
   module _ (k : ℕ) (e : Entry) (is : slice_get r.outline.entries.items k ≡ Some e) where
     abbrev own_asked : List Ask
-    own_asked = asks_at r.acts (act_of r.acts e.kind)
+    own_asked = asks_at r.acts (act_of_kind r.acts e.kind)
 
     at_top : k ≡ 0 → HasChoices k e is
     at_top first = record {
@@ -399,7 +399,7 @@ module _ (r : Recipe) where
       asks_are_named = own_asks_are_named k e is;
       path = λ bound. path_at bound (stands r bound k e is).hangs;
       few = λ nothing. few-here nothing k e is [] (subst (λ (l : Level). FewRoles l []) (sym (top_level (stands r unbound k e is).hangs)) tt);
-      unit = unit_at (Unit []) (act_of r.acts e.kind);
+      unit = unit_at (Unit []) (act_of_kind r.acts e.kind);
       unit_is_named = unit_at_named k e is (Unit []) (unit_named_by []);
       under = λ bound. unit_under k e is bound (Unit []) (stands_on bound (stands r bound k e is).hangs);
     }
@@ -456,7 +456,7 @@ module _ (r : Recipe) where
         asks_are_named = Each-append (λ (ask : Ask). IsNamed ask.choice) above.asks own_asked above.asks_are_named (own_asks_are_named k e is);
         path = λ bound. node_asked bound (stands r bound k e is).hangs;
         few = λ nothing. few-here nothing k e is above.asks (subst (λ (l : Level). FewRoles l above.asks) (sym (node_level (stands r unbound k e is).hangs)) (above.few nothing));
-        unit = unit_at above.unit (act_of r.acts e.kind);
+        unit = unit_at above.unit (act_of_kind r.acts e.kind);
         unit_is_named = unit_at_named k e is above.unit above.unit_is_named;
         under = λ bound. unit_under k e is bound above.unit (node_unit bound (stands r bound k e is).hangs);
       }

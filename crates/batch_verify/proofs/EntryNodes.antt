@@ -4,9 +4,9 @@ use Rattle.std.specs.Option.{option_map}
 use Rattle.std.proofs.lemmas.Option.{slice_get-map}
 use Rattle.batch_recipe.specs.Expanding.{Binding}
 use Rattle.batch_recipe.specs.Links.{IsFirst, Hangs, form_at}
-use Rattle.batch_recipe.specs.Needs.{resources_of}
+use Rattle.batch_recipe.specs.Needs.{resources_needed}
 use Rattle.batch_recipe.specs.Nodes.{Node, needs_of}
-use Rattle.batch_recipe.specs.Outlines.{act_of, form_of, shape_of}
+use Rattle.batch_recipe.specs.Outlines.{act_of_kind, form_of, shape_of}
 use Rattle.batch_recipe.specs.Procedure.{bound_nodes, bound_tree, sites}
 use Rattle.batch_recipe.specs.declared.entry.Entry.{Entry}
 use Rattle.batch_recipe.specs.declared.recipe.Recipe.{Recipe}
@@ -21,7 +21,7 @@ use Rattle.batch_verify.proofs.WayActs.{IsOn, part_on}
 pub record IsTop (k : ℕ) (w : Way) (x : Part) : Type 0 where
   pub number : k ≡ 0
   pub stands : w.here ≡ top
-  pub asks : x.node.asked ≡ resources_of (needs_of x.node.here)
+  pub asks : x.node.asked ≡ resources_needed (needs_of x.node.here)
 
 -- it hangs from the node that is its entry's parent
 pub record IsBelow (ws : List Way) (ns : List Node) (k : ℕ) (e : Entry) (w : Way) (x : Part) : Type 0 where
@@ -31,14 +31,14 @@ pub record IsBelow (ws : List Way) (ns : List Node) (k : ℕ) (e : Entry) (w : W
   pub node_is : slice_get ns e.parent ≡ Some node
   pub earlier : e.parent < k
   pub stands : w.here ≡ way.under
-  pub asks : x.node.asked ≡ node.asked ++ resources_of (needs_of x.node.here)
+  pub asks : x.node.asked ≡ node.asked ++ resources_needed (needs_of x.node.here)
 
 pub record Stands (r : Recipe) (bound : Binding) (k : ℕ) (e : Entry) : Type 0 where
   pub own : Way
   pub own_is : slice_get (bound_ways bound r.acts) k ≡ Some own
   pub x : Part
   pub x_is : slice_get (bound_parts bound r.acts) k ≡ Some x
-  pub on : IsOn (sites bound r.acts) own x (act_of r.acts e.kind)
+  pub on : IsOn (sites bound r.acts) own x (act_of_kind r.acts e.kind)
   pub formed : form_of e.kind ≡ form_at x.node.here
   pub hangs : IsTop k own x ⊎ IsBelow (bound_ways bound r.acts) (bound_nodes bound r.acts) k e own x
 
@@ -55,7 +55,7 @@ module _ (r : Recipe) (bound : Binding) where
   pub stands : (k : ℕ) (e : Entry) → slice_get r.outline.entries.items k ≡ Some e → Stands r bound k e
   stands k e is =
       let w = way_of r bound k e is in
-      let p = part_on bound r.acts r.kinds k w.own (act_of r.acts e.kind) w.known (act_at r k e is) in
+      let p = part_on bound r.acts r.kinds k w.own (act_of_kind r.acts e.kind) w.known (act_at r k e is) in
       let it = entry_in r bound k e is in
       let same : it.at ≡ p.0.node = node_is it.at p.0.node (sym it.numbered ∙ node_of k p.0 p.1) in
       record {
@@ -70,7 +70,7 @@ module _ (r : Recipe) (bound : Binding) where
     where
       go : (w : Way) (x : Part) (at : Node) → at ≡ x.node → ((k ≡ 0) × (w.here ≡ top)) ⊎ ((k ≢ 0) × IsUnder (bound_ways bound r.acts) w (shape_of e))
           → IsFirst k at (shape_of e) ⊎ Hangs (bound_nodes bound r.acts) k at (shape_of e) → IsTop k w x ⊎ IsBelow (bound_ways bound r.acts) (bound_nodes bound r.acts) k e w x
-      go w x at same (inl first) (inl f) = inl (record { number = first.0; stands = first.1; asks = subst (λ (n : Node). n.asked ≡ resources_of (needs_of n.here)) same f.asks })
+      go w x at same (inl first) (inl f) = inl (record { number = first.0; stands = first.1; asks = subst (λ (n : Node). n.asked ≡ resources_needed (needs_of n.here)) same f.asks })
       go w x at same (inl first) (inr h) = let bad : e.parent < 0 = subst (λ n. e.parent < n) first.0 h.earlier in absurd (omega arith)
       go w x at same (inr later) (inl f) = absurd (later.0 f.number)
       go w x at same (inr later) (inr h) = inr (record {
@@ -80,5 +80,5 @@ module _ (r : Recipe) (bound : Binding) where
         node_is = h.known;
         earlier = h.earlier;
         stands = later.1.stands;
-        asks = subst (λ (n : Node). n.asked ≡ h.above.asked ++ resources_of (needs_of n.here)) same h.asks;
+        asks = subst (λ (n : Node). n.asked ≡ h.above.asked ++ resources_needed (needs_of n.here)) same h.asks;
       })

@@ -7,7 +7,7 @@ use Rattle.batch_recipe.specs.ActsAtNodes.{IsNoAct}
 use Rattle.batch_recipe.specs.Conditions.{Name}
 use Rattle.batch_recipe.specs.Links.{form_at}
 use Rattle.batch_recipe.specs.Nodes.{Node, reserves_of}
-use Rattle.batch_recipe.specs.Outlines.{act_of, form_of}
+use Rattle.batch_recipe.specs.Outlines.{act_of_kind, form_of}
 use Rattle.batch_recipe.specs.Procedure.{bound_nodes, procedure_nodes, sites}
 use Rattle.batch_recipe.specs.Tree.{Tree}
 use Rattle.batch_recipe.specs.declared.act.Act.{Act}
@@ -82,11 +82,11 @@ module _ (r : Recipe) where
             let d_is = slice_get-get_or below' e.parent Procedure (omega (arith, h.few, b.earlier)) in
             ap depth_is (some d d_is) ∙ (h.depths e.parent b.way d b.way_is d_is ∙ ap (λ (s : Spot). s.level) (sym b.stands))
 
-    module _ (next : Depth) (under : act_of r.acts e.kind ≢ None → depth_is next ≡ below (depth_is depth)) (along : act_of r.acts e.kind ≡ None → next ≡ depth) where
+    module _ (next : Depth) (under : act_of_kind r.acts e.kind ≢ None → depth_is next ≡ below (depth_is depth)) (along : act_of_kind r.acts e.kind ≡ None → next ≡ depth) where
       depth_under : depth_is next ≡ at.own.under.level
-      depth_under = go (act_of r.acts e.kind) refl at.on.here
+      depth_under = go (act_of_kind r.acts e.kind) refl at.on.here
         where
-          go : (o : Option Act) → act_of r.acts e.kind ≡ o → IsHereOn (sites unbound r.acts) at.own at.x o → depth_is next ≡ at.own.under.level
+          go : (o : Option Act) → act_of_kind r.acts e.kind ≡ o → IsHereOn (sites unbound r.acts) at.own at.x o → depth_is next ≡ at.own.under.level
           go None o_is here = ap depth_is (along o_is) ∙ (depth_at ∙ ap (λ (s : Spot). s.level) (sym here.1))
           go (Some a) o_is here = under (λ no. let bad : Some a ≡ None = sym o_is ∙ no in cc) ∙ (ap below depth_at ∙ sym here.under_level)
 
@@ -169,8 +169,8 @@ bare_counted : (t : Tree) → IsNoAct t → length (reserves_of t) ≡ 0
 bare_counted t b = ap length (bare_reserves t b)
 
 pub reserves_counted : (r : Recipe) (bound : Binding) (k : ℕ) (e : Entry) → slice_get r.outline.entries.items k ≡ Some e → (at : Node) → slice_get (bound_nodes bound r.acts) k ≡ Some at
-    → length (reserves_of at.here) ≡ reserve_count (act_of r.acts e.kind)
-reserves_counted r bound k e is at at_is = ap (λ (x : Node). length (reserves_of x.here)) same ∙ go (act_of r.acts e.kind) here.on.here
+    → length (reserves_of at.here) ≡ reserve_count (act_of_kind r.acts e.kind)
+reserves_counted r bound k e is at at_is = ap (λ (x : Node). length (reserves_of x.here)) same ∙ go (act_of_kind r.acts e.kind) here.on.here
   where
     here : Stands r bound k e
     here = stands r bound k e is

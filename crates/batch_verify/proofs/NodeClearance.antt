@@ -5,7 +5,7 @@ use Rattle.std.proofs.lemmas.List.{get_or_past, length-append}
 use Rattle.std.proofs.lemmas.Option.{get_or_from_slice_get, slice_get-get_or}
 use Rattle.batch_cell.specs.declared.cell.Cell as equipment
 use Rattle.batch_recipe.specs.Expanding.{Binding, Sites}
-use Rattle.batch_recipe.specs.Outlines.{act_of}
+use Rattle.batch_recipe.specs.Outlines.{act_of_kind}
 use Rattle.batch_recipe.specs.Procedure.{sites}
 use Rattle.batch_recipe.specs.declared.act.Act.{Act}
 use Rattle.batch_recipe.specs.declared.entry.Entry.{Entry}
@@ -63,7 +63,7 @@ module _ (c : equipment.Cell) (ranks : Option (List ℕ)) (r : Recipe) (linked :
   module _ (is_linked : IsLinkedIn c r linked) (faults : List (Option Rule)) (all : AreFaults r.acts faults) (spans : List Span) (n : ℕ) (h : Clears spans n)
       (e : Entry) (is : slice_get r.outline.entries.items n ≡ Some e) (s : Span) (some : (o : Span) → slice_get spans e.parent ≡ Some o → s ≡ o) (none : length spans ≤ e.parent → s ≡ no_span)
       (fault : Option Rule) (fault_is : slice_get faults n ≡ Some fault) (whole : fault ≡ None) (q : Span)
-      (passed : (a : Act) → act_of r.acts e.kind ≡ Some a → IsPassed c ranks roles lowest highest (needs_by linked e.kind) a s q) (keeps : act_of r.acts e.kind ≡ None → q ≡ s) where
+      (passed : (a : Act) → act_of_kind r.acts e.kind ≡ Some a → IsPassed c ranks roles lowest highest (needs_by linked e.kind) a s q) (keeps : act_of_kind r.acts e.kind ≡ None → q ≡ s) where
     module _ (bound : Binding) (between : AreBetween c ranks roles lowest (takers bound) highest) where
       v : Covers bound spans n
       v = h.covers bound between
@@ -99,16 +99,16 @@ module _ (c : equipment.Cell) (ranks : Option (List ℕ)) (r : Recipe) (linked :
         pub number : IsNumber c ranking bound r path
         pub within : IsWithin c (takers bound) q path
 
-      look_is : (o : Path) → ((a : Act) → act_of r.acts e.kind ≡ Some a → (level : Level) → IsEntered c (sites bound r.acts) ranking fault level p a (Ok o))
-          → (act_of r.acts e.kind ≡ None → Ok o ≡ kept p fault) → LookedSo (Ok o)
+      look_is : (o : Path) → ((a : Act) → act_of_kind r.acts e.kind ≡ Some a → (level : Level) → IsEntered c (sites bound r.acts) ranking fault level p a (Ok o))
+          → (act_of_kind r.acts e.kind ≡ None → Ok o ≡ kept p fault) → LookedSo (Ok o)
       look_is o =
           looked c ranking bound r v.paths n v.kept e is p some_path no_path_there (Ok o) fault
           (fault_known c ranking bound r v.paths n v.kept e is p some_path no_path_there faults all fault fault_is)
 
       goes_on : GoesOn
-      goes_on = go (act_of r.acts e.kind) refl
+      goes_on = go (act_of_kind r.acts e.kind) refl
         where
-          go : (o : Option Act) → act_of r.acts e.kind ≡ o → GoesOn
+          go : (o : Option Act) → act_of_kind r.acts e.kind ≡ o → GoesOn
           go None o_is = record {
             path = p;
             looked = look_is p (λ a a_is. absurd cc) (λ _. ap (kept p) (sym whole));

@@ -3,7 +3,7 @@ use Rattle.std.proofs.Common.{◌≡◌, ℕ, zero, suc, ◌+◌, List, [], ◌�
 use Rattle.batch_recipe.specs.ActsAtNodes.{ActList, procedure_acts, AreActsAt, IsActAt, IsNoAct}
 use Rattle.batch_recipe.specs.Conditions.{Name}
 use Rattle.batch_recipe.specs.Expanding.{task_of, unbound}
-use Rattle.batch_recipe.specs.Needs.{resources_of}
+use Rattle.batch_recipe.specs.Needs.{resources_needed}
 use Rattle.batch_recipe.specs.Nodes.{Node, nodes, nodes_within, nodes_of_each, nodes_of_choices, child, node_count}
 use Rattle.batch_recipe.specs.Procedure.{procedure_nodes}
 use Rattle.batch_recipe.specs.Tree.{Place, Tree, act, skip, seq, par, sel, loop, Task, runs, follows, Trees, no_trees, tree, Choices, otherwise, choice}
@@ -44,7 +44,7 @@ run_along-append (x ∷ xs) ys = ap (λ names. run_at x.here ++ names) (run_alon
 -- the phases of a tree are those that are run at its nodes
 mutual
   tree_runs : (p : Place) (above : List Name) (t : Tree) → phase_names (phases t) ≡ run_along (nodes p above t)
-  tree_runs p above (act s w) = task_runs p (above ++ resources_of s.needs) w
+  tree_runs p above (act s w) = task_runs p (above ++ resources_needed s.needs) w
   tree_runs p above skip = refl
   tree_runs p above (seq ts) = each_runs p above 0 ts
   tree_runs p above (par ts) = each_runs p above 0 ts

@@ -17,7 +17,7 @@ use Rattle.batch_model.specs.Lists.{Each, Has}
 use Rattle.batch_model.specs.Plant.{Setup}
 use Rattle.batch_model.specs.Plant.{Role as ModelRole}
 use Rattle.batch_model.specs.Setups.{master_of, setup_of}
-use Rattle.batch_verify.specs.Bindings.{nobody, candidate_of, numbered, binding_count}
+use Rattle.batch_verify.specs.Bindings.{nobody, candidate_of, numbered_binding, binding_count}
 use Rattle.batch_verify.specs.Refusals.{IsTried, IsTriedFor}
 use Rattle.batch_verify.proofs.NamesInList.{among_at, same_name_sym}
 
@@ -155,11 +155,11 @@ module _ (c : equipment.Cell) where
     differ = (and_parts (are_distinct (role_names roles)) (list_all (is_role_among (role_names roles)) recipe.acts.unit_procedures.items) own).0
 
     -- of each role the candidate with a number of its own
-    pub taken-tried : (number_for : Name → ℕ) → IsTried setup (master_of c recipe) (λ name. numbered c roles (number_for name) name)
+    pub taken-tried : (number_for : Name → ℕ) → IsTried setup (master_of c recipe) (λ name. numbered_binding c roles (number_for name) name)
     taken-tried number_for = go roles (own_role roles differ)
       where
         go : (rest : List Role) → ((role : Role) → Has rest role → role_named roles role.name ≡ Some role)
-            → Each (λ role. Named role.name → IsTriedFor setup role.candidates (numbered c roles (number_for role.name) role.name)) (map model_role rest)
+            → Each (λ role. Named role.name → IsTriedFor setup role.candidates (numbered_binding c roles (number_for role.name) role.name)) (map model_role rest)
         go [] h = tt
         go (role ∷ rest) h = (
           (λ named.
@@ -169,11 +169,11 @@ module _ (c : equipment.Cell) where
         )
 
     -- whether the tree names the role or not
-    pub numbered-gives : (number : ℕ) (role : Role) → Has roles role → IsTriedFor setup (units_of_class c role.class) (numbered c roles number role.name)
+    pub numbered-gives : (number : ℕ) (role : Role) → Has roles role → IsTriedFor setup (units_of_class c role.class) (numbered_binding c roles number role.name)
     numbered-gives number role m =
         subst (λ found. IsTriedFor setup (units_of_class c role.class) (who found number)) (sym (own_role roles differ role m)) (numbered_for setup (units_of_class c role.class) number)
 
-    pub numbered-tried : (number : ℕ) → IsTried setup (master_of c recipe) (numbered c roles number)
+    pub numbered-tried : (number : ℕ) → IsTried setup (master_of c recipe) (numbered_binding c roles number)
     numbered-tried number = taken-tried (λ name. number)
 
     module _ (bound : Binding) (tried : IsTried setup (master_of c recipe) bound) where
@@ -184,7 +184,7 @@ module _ (c : equipment.Cell) where
       tried_at (first ∷ rest) role (inr m) h = tried_at rest role m h.1
 
       -- who is tried for a role that the tree names takes it in a numbered binding
-      pub role-covered : (name : Name) → Named name → is_among (role_names roles) name ≡ true → (k : ℕ) × (k < binding_count c roles) × (bound name ≡ numbered c roles k name)
+      pub role-covered : (name : Name) → Named name → is_among (role_names roles) name ≡ true → (k : ℕ) × (k < binding_count c roles) × (bound name ≡ numbered_binding c roles k name)
       role-covered name named among =
           let f = found_role roles name among in
           let t : IsTriedFor setup (units_of_class c f.role.class) (bound name) =
@@ -192,7 +192,7 @@ module _ (c : equipment.Cell) where
           go f.role f.found f.has (units_of_class c f.role.class) refl t
         where
           go : (role : Role) → role_named roles name ≡ Some role → Has roles role → (candidates : List Name) → units_of_class c role.class ≡ candidates → IsTriedFor setup candidates (bound name)
-              → (k : ℕ) × (k < binding_count c roles) × (bound name ≡ numbered c roles k name)
+              → (k : ℕ) × (k < binding_count c roles) × (bound name ≡ numbered_binding c roles k name)
           go role found m [] is t =
               (0, some-binding roles, t ∙ sym (ap (λ o. who o 0) found ∙ ap (λ cs. taken setup (candidate_of cs 0)) is))
           go role found m (first ∷ more) is t =

@@ -19,7 +19,7 @@ use Rattle.batch_model.specs.Lists.{Each, Has}
 use Rattle.batch_model.specs.Cleared.{Level, is_procedure, in_procedure, in_unit_procedure, in_operation}
 use Rattle.batch_model.specs.Setups.{master_of, setup_of}
 use Rattle.batch_model.proofs.Members.{Each-Has}
-use Rattle.batch_verify.specs.Bindings.{binding_count, numbered}
+use Rattle.batch_verify.specs.Bindings.{binding_count, numbered_binding}
 use Rattle.batch_verify.specs.Refusals.{IsTried}
 use Rattle.batch_verify.proofs.Choices.{has_at, Ask, AreNamed, FewRoles, HasChoices, IsNamed, IsUnit, IsUnitOr, NoRoles, OneRole, ReservesNothing, choices, names_by}
 use Rattle.batch_verify.proofs.RolesInTree.{declared, names_it}
@@ -32,11 +32,11 @@ no_entry = record { kind = kind.Skip; end = 0; parent = 0; child = 0; needs = 0;
 
 -- of this role the candidate with the one number, and of each other role that with the other
 abbrev pub apart : equipment.Cell → List Role → Name → ℕ → ℕ → Binding
-apart cell roles role own other name = numbered cell roles (elim (same_name name role) [ true ↦ own | false ↦ other ]) name
+apart cell roles role own other name = numbered_binding cell roles (elim (same_name name role) [ true ↦ own | false ↦ other ]) name
 
 -- the bindings that are looked at: by number; and, where something is reserved, each two candidates of two roles at once
 pub record ShowPairs (cell : equipment.Cell) (recipe : Recipe) (Looked : Binding → Type 0) : Type 0 where
-  pub by_number : (number : ℕ) → number < binding_count cell recipe.roles.items → Looked (numbered cell recipe.roles.items number)
+  pub by_number : (number : ℕ) → number < binding_count cell recipe.roles.items → Looked (numbered_binding cell recipe.roles.items number)
   pub by_two : ReservesNothing recipe
       ⊎ ((role : Role) → Has recipe.roles.items role → (own other : ℕ) → own < binding_count cell recipe.roles.items → other < binding_count cell recipe.roles.items
       → Looked (apart cell recipe.roles.items role.name own other))
@@ -57,7 +57,7 @@ module _ (c : equipment.Cell) (recipes : List Recipe) (recipe : Recipe) (own : a
   abbrev Same : Binding → UnitChoice → Type 0
   Same b choice = unit_chosen bound choice ≡ unit_chosen b choice
 
-  covered : (choice : UnitChoice) → IsNamed recipe choice → (j : ℕ) × (j < binding_count c roles) × Same (numbered c roles j) choice
+  covered : (choice : UnitChoice) → IsNamed recipe choice → (j : ℕ) × (j < binding_count c roles) × Same (numbered_binding c roles j) choice
   covered (by_name unit) named = (0, some-binding c roles, refl)
   covered (by_role role) named = let both = named role refl in role-covered c recipes recipe own bound tried role both.0 both.1
 
@@ -93,14 +93,14 @@ module _ (c : equipment.Cell) (recipes : List Recipe) (recipe : Recipe) (own : a
   IsShownOnce asks = (b : Binding) × Looked b × (names_by bound asks ≡ names_by b asks)
 
   shown-units : (asks : List Ask) → NoRoles asks → IsShownOnce asks
-  shown-units asks h = (numbered c roles 0, show.by_number 0 (some-binding c roles), same-units (numbered c roles 0) asks h)
+  shown-units asks h = (numbered_binding c roles 0, show.by_number 0 (some-binding c roles), same-units (numbered_binding c roles 0) asks h)
 
   shown-role : (asks : List Ask) → AreNamed recipe asks → OneRole asks → IsShownOnce asks
   shown-role asks named h =
       ⊎_elim (shown-units asks)
       (λ some.
       let by = covered (by_role h.0) some in
-      (numbered c roles by.0, show.by_number by.0 by.1, same-role (numbered c roles by.0) h.0 by.2 asks h.1))
+      (numbered_binding c roles by.0, show.by_number by.0 by.1, same-role (numbered_binding c roles by.0) h.0 by.2 asks h.1))
       (asked-role h.0 asks h.1 named)
 
   shown-once : (level : Level) (asks : List Ask) → AreNamed recipe asks → FewRoles level asks → IsShownOnce asks
@@ -112,11 +112,11 @@ module _ (c : equipment.Cell) (recipes : List Recipe) (recipe : Recipe) (own : a
   -- Two choices
 
   module _ (two : (role : Role) → Has roles role → (one other : ℕ) → one < binding_count c roles → other < binding_count c roles → Looked (apart c roles role.name one other)) where
-    apart-own : (role name : Name) (one other : ℕ) → same_name name role ≡ true → apart c roles role one other name ≡ numbered c roles one name
-    apart-own role name one other e = ap (λ t. numbered c roles (elim t [ true ↦ one | false ↦ other ]) name) e
+    apart-own : (role name : Name) (one other : ℕ) → same_name name role ≡ true → apart c roles role one other name ≡ numbered_binding c roles one name
+    apart-own role name one other e = ap (λ t. numbered_binding c roles (elim t [ true ↦ one | false ↦ other ]) name) e
 
-    apart-other : (role name : Name) (one other : ℕ) → same_name name role ≡ false → apart c roles role one other name ≡ numbered c roles other name
-    apart-other role name one other e = ap (λ t. numbered c roles (elim t [ true ↦ one | false ↦ other ]) name) e
+    apart-other : (role name : Name) (one other : ℕ) → same_name name role ≡ false → apart c roles role one other name ≡ numbered_binding c roles other name
+    apart-other role name one other e = ap (λ t. numbered_binding c roles (elim t [ true ↦ one | false ↦ other ]) name) e
 
     abbrev IsShownBoth : UnitChoice → UnitChoice → Type 0
     IsShownBoth one other = (b : Binding) × Looked b × Same b one × Same b other
@@ -127,13 +127,13 @@ module _ (c : equipment.Cell) (recipes : List Recipe) (recipe : Recipe) (own : a
         n : (names_it recipe one ≡ true) × (is_among (declared recipe) one ≡ true)
         n = named one refl
 
-        by : (j : ℕ) × (j < binding_count c roles) × Same (numbered c roles j) (by_role one)
+        by : (j : ℕ) × (j < binding_count c roles) × Same (numbered_binding c roles j) (by_role one)
         by = covered (by_role one) named
 
         go : (same : Bool) → same_name other one ≡ same → IsShownBoth (by_role one) (by_role other)
         go true e =
             let same : other ≡ one = (bytes_decides other one).0 e in
-            (numbered c roles by.0, show.by_number by.0 by.1, by.2, subst (λ (name : Name). bound name ≡ numbered c roles by.0 name) (sym same) by.2)
+            (numbered_binding c roles by.0, show.by_number by.0 by.1, by.2, subst (λ (name : Name). bound name ≡ numbered_binding c roles by.0 name) (sym same) by.2)
         go false e =
             let also = covered (by_role other) other_named in
             let role = role-tried c recipes recipe own bound tried one n.0 n.1 in
@@ -148,9 +148,9 @@ module _ (c : equipment.Cell) (recipes : List Recipe) (recipe : Recipe) (own : a
 
     shown-both : (one other : UnitChoice) → IsNamed recipe one → IsNamed recipe other → IsShownBoth one other
     shown-both (by_name unit) other named other_named =
-        let by = covered other other_named in (numbered c roles by.0, show.by_number by.0 by.1, refl, by.2)
+        let by = covered other other_named in (numbered_binding c roles by.0, show.by_number by.0 by.1, refl, by.2)
     shown-both (by_role role) (by_name unit) named other_named =
-        let by = covered (by_role role) named in (numbered c roles by.0, show.by_number by.0 by.1, by.2, refl)
+        let by = covered (by_role role) named in (numbered_binding c roles by.0, show.by_number by.0 by.1, by.2, refl)
     shown-both (by_role role) (by_role other) named other_named = both-roles role other named other_named
 
     named-at : (asks : List Ask) → AreNamed recipe asks → (i : ℕ) (x : Ask) → slice_get asks i ≡ Some x → IsNamed recipe x.choice
@@ -171,15 +171,15 @@ module _ (c : equipment.Cell) (recipes : List Recipe) (recipe : Recipe) (own : a
 
         go : (o : Option Ask) → slice_get asks one ≡ o → (p : Option Ask) → slice_get asks other ≡ p → IsShownTwice Looked (names_by bound asks) (λ b. names_by b asks) one other
         go None e None f =
-            let b : Binding = numbered c roles 0 in
+            let b : Binding = numbered_binding c roles 0 in
             record { binding = b; looked = show.by_number 0 (some-binding c roles); first = none_at b one e; second = none_at b other f }
         go None e (Some y) f =
             let by = covered y.choice (named-at asks named other y f) in
-            let b : Binding = numbered c roles by.0 in
+            let b : Binding = numbered_binding c roles by.0 in
             record { binding = b; looked = show.by_number by.0 by.1; first = none_at b one e; second = some_at b other y f by.2 }
         go (Some x) e None f =
             let by = covered x.choice (named-at asks named one x e) in
-            let b : Binding = numbered c roles by.0 in
+            let b : Binding = numbered_binding c roles by.0 in
             record { binding = b; looked = show.by_number by.0 by.1; first = some_at b one x e by.2; second = none_at b other f }
         go (Some x) e (Some y) f =
             let by = shown-both x.choice y.choice (named-at asks named one x e) (named-at asks named other y f) in

@@ -3,7 +3,7 @@ use Rattle.std.proofs.Common.{◌≡◌, ◌≢◌, ◌⊎◌, ◌<◌, ◌≤�
 use Rattle.std.proofs.lemmas.Bool.{cases_eq, cases_lt}
 use Rattle.std.proofs.lemmas.List.{get_or-replicate, get_or-set_other, get_or-set_same, get_or_past, length-replicate, length-set}
 use Rattle.batch_cell.specs.declared.cell.Cell as equipment
-use Rattle.batch_recipe.specs.Outlines.{act_of}
+use Rattle.batch_recipe.specs.Outlines.{act_of_kind}
 use Rattle.batch_recipe.specs.declared.act.Act.{Act}
 use Rattle.batch_recipe.specs.declared.acts.LabelTable.TheVariants.{Phases}
 use Rattle.batch_recipe.specs.declared.entry.Kind.{Kind}
@@ -59,7 +59,7 @@ module _ (P : Kind → Passed → Type 0) where
 
 -- the act of the kind passes on these spans
 abbrev pub HasPassed : equipment.Cell → Option (List ℕ) → document.Recipe → LinkedRecipe → List (Option ℕ) → List (Option ℕ) → Kind → Passed → Type 0
-HasPassed c ranks r linked lowest highest k p = (a : Act) → act_of r.acts k ≡ Some a → IsPassed c ranks r.roles.items lowest highest (needs_by linked k) a p.above p.within
+HasPassed c ranks r linked lowest highest k p = (a : Act) → act_of_kind r.acts k ≡ Some a → IsPassed c ranks r.roles.items lowest highest (needs_by linked k) a p.above p.within
 
 at_most : (a b c : Option ℕ) → IsAtMost a b → IsAtMost b c → IsAtMost a c
 at_most None b c f g = tt

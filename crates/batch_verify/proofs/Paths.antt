@@ -9,9 +9,9 @@ use Rattle.batch_cell.specs.declared.cell.Cell as equipment
 use Rattle.batch_recipe.specs.ActsAtNodes.{IsNoAct}
 use Rattle.batch_recipe.specs.Conditions.{Name}
 use Rattle.batch_recipe.specs.Expanding.{Binding, Sites, act_tree_with, needs_with}
-use Rattle.batch_recipe.specs.Needs.{resources_of}
+use Rattle.batch_recipe.specs.Needs.{resources_needed}
 use Rattle.batch_recipe.specs.Nodes.{Node, needs_of}
-use Rattle.batch_recipe.specs.Outlines.{act_of}
+use Rattle.batch_recipe.specs.Outlines.{act_of_kind}
 use Rattle.batch_recipe.specs.Procedure.{bound_nodes, bound_tree, sites}
 use Rattle.batch_recipe.specs.Tree.{Tree}
 use Rattle.batch_recipe.specs.declared.act.Act.{Act}
@@ -78,7 +78,7 @@ module _ (c : equipment.Cell) (ranking : Option Ranking) (bound : Binding) (r : 
     record HasAbove : Type 0 where
       pub names : List Name
       pub path_is : IsPathTo at.own.here names p
-      pub asks : at.x.node.asked ≡ names ++ resources_of (needs_of at.x.node.here)
+      pub asks : at.x.node.asked ≡ names ++ resources_needed (needs_of at.x.node.here)
 
     above : HasAbove
     above = go at.hangs
@@ -106,7 +106,7 @@ module _ (c : equipment.Cell) (ranking : Option Ranking) (bound : Binding) (r : 
 
     module _ (bare : IsNoAct at.x.node.here) (same : at.own.under ≡ at.own.here) where
       names_are : at.x.node.asked ≡ above.names
-      names_are = above.asks ∙ (ap (λ ns. above.names ++ resources_of ns) (bare_needs at.x.node.here bare) ∙ append-nil above.names)
+      names_are = above.asks ∙ (ap (λ ns. above.names ++ resources_needed ns) (bare_needs at.x.node.here bare) ∙ append-nil above.names)
 
       path_kept : IsPathTo at.own.under at.x.node.asked p
       path_kept = subst (λ (v : Spot). IsPathTo v at.x.node.asked p) (sym same) (subst (λ ns. IsPathTo at.own.here ns p) (sym names_are) above.path_is)
@@ -120,10 +120,10 @@ module _ (c : equipment.Cell) (ranking : Option Ranking) (bound : Binding) (r : 
       tree = act_tree_with on here.acts at.own.here.unit a at.x.node.place
 
       abbrev own_names : List Name
-      own_names = above.names ++ resources_of (needs_with on a)
+      own_names = above.names ++ resources_needed (needs_with on a)
 
       names_go_on : at.x.node.asked ≡ own_names
-      names_go_on = above.asks ∙ ap (λ t. above.names ++ resources_of (needs_of t)) here.here_is
+      names_go_on = above.asks ∙ ap (λ t. above.names ++ resources_needed (needs_of t)) here.here_is
 
       abbrev as_part : Level → List Name → Tree → Part
       as_part l asked t = record { level = l; node = record { place = at.x.node.place; asked = asked; here = t } }
@@ -148,12 +148,12 @@ module _ (c : equipment.Cell) (ranking : Option Ranking) (bound : Binding) (r : 
       act_looked (Err rule) h = λ recipes. subst (λ (y : Part). Breaks (setup_of c recipes) ranking procedure y rule) (sym part_is) (h recipes)
 
     module _ (res : Result Path Rule) (fault : Option Rule) (known : IsFaultOf procedure at.x fault)
-        (entered : (a : Act) → act_of r.acts e.kind ≡ Some a → (level : Level) → IsEntered c on ranking fault level p a res)
-        (kept_is : act_of r.acts e.kind ≡ None → res ≡ kept p fault) where
+        (entered : (a : Act) → act_of_kind r.acts e.kind ≡ Some a → (level : Level) → IsEntered c on ranking fault level p a res)
+        (kept_is : act_of_kind r.acts e.kind ≡ None → res ≡ kept p fault) where
       pub looked : Looked res
-      looked = go (act_of r.acts e.kind) refl at.on.here
+      looked = go (act_of_kind r.acts e.kind) refl at.on.here
         where
-          go : (o : Option Act) → act_of r.acts e.kind ≡ o → IsHereOn on at.own at.x o → Looked res
+          go : (o : Option Act) → act_of_kind r.acts e.kind ≡ o → IsHereOn on at.own at.x o → Looked res
           go None o_is here = subst Looked (sym (kept_is o_is)) (bare_looked here.0 here.1 fault known)
           go (Some a) o_is here =
               act_looked a here res

@@ -9,7 +9,7 @@ use Rattle.batch_recipe.specs.ActsAtNodes.{ActList}
 use Rattle.batch_recipe.specs.Expanding.{unbound}
 use Rattle.batch_recipe.specs.Links.{IsEntryOf, form_at}
 use Rattle.batch_recipe.specs.Nodes.{Node, node_count}
-use Rattle.batch_recipe.specs.Outlines.{a_par, act_of, form_of}
+use Rattle.batch_recipe.specs.Outlines.{a_par, act_of_kind, form_of}
 use Rattle.batch_recipe.specs.Tree.{Trees, par}
 use Rattle.batch_recipe.specs.WellFormed.{are_kinds, has_chart}
 use Rattle.batch_recipe.specs.declared.act.Act.{Act}
@@ -49,11 +49,11 @@ none_in p charted (a ∷ acts) h zero = runs_none a (charted a (and_parts (p a) 
 none_in p charted (a ∷ acts) h (suc number) = none_in p charted acts (and_parts (p a) (list_all p acts) h).1 number
 
 -- an act that is no phase step runs no phase itself
-pub own_is : (acts : Acts) → are_kinds acts ≡ true → (k : Kind) → own_phases acts.phases.items k ≡ phase_at (act_of acts k)
+pub own_is : (acts : Acts) → are_kinds acts ≡ true → (k : Kind) → own_phases acts.phases.items k ≡ phase_at (act_of_kind acts k)
 own_is acts kinds k = grind (arith, and_parts, runs_none, none_in)
 
 -- a `par` runs no phase itself
-pub par_runs_none : (r : Recipe) (k : ℕ) (e : Entry) → slice_get r.outline.entries.items k ≡ Some e → (x : Node) (branches : Trees) → slice_get (ns r) k ≡ Some x → x.here ≡ par branches → phase_at (act_of r.acts e.kind) ≡ []
+pub par_runs_none : (r : Recipe) (k : ℕ) (e : Entry) → slice_get r.outline.entries.items k ≡ Some e → (x : Node) (branches : Trees) → slice_get (ns r) k ≡ Some x → x.here ≡ par branches → phase_at (act_of_kind r.acts e.kind) ≡ []
 par_runs_none r k e read x branches is par_is = none e.kind (h.shaped.formed ∙ ap form_at (ap (λ (y : Node). y.here) same ∙ par_is))
   where
     h : IsEntryOf (ns r) k e
@@ -62,5 +62,5 @@ par_runs_none r k e read x branches is par_is = none e.kind (h.shaped.formed ∙
     same : h.at ≡ x
     same = let both : Some h.at ≡ Some x = sym h.numbered ∙ is in cc
 
-    none : (kind : Kind) → form_of kind ≡ a_par → phase_at (act_of r.acts kind) ≡ []
+    none : (kind : Kind) → form_of kind ≡ a_par → phase_at (act_of_kind r.acts kind) ≡ []
     none kind f = grind arith

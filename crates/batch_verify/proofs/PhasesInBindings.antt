@@ -3,7 +3,7 @@ use Rattle.std.proofs.Common.{arith, ◌≡◌, ℕ, zero, suc, ◌+◌, ◌++�
 use Rattle.batch_recipe.specs.Conditions.{Name, same_name}
 use Rattle.batch_recipe.specs.Diagram.{Diagram, label, skip, seq, par, sel, loop, Diagrams, none, more, Cases, otherwise, when, diagram_of}
 use Rattle.batch_recipe.specs.Expanding.{Binding, Sites, expanded, expanded_each, expanded_cases, task_of, act_named, act_tree_with, named_tree_with, unit_with, unit_below}
-use Rattle.batch_recipe.specs.Needs.{resources_of}
+use Rattle.batch_recipe.specs.Needs.{resources_needed}
 use Rattle.batch_recipe.specs.Nodes.{child}
 use Rattle.batch_recipe.specs.Procedure.{bound_tree, sites, tables_from}
 use Rattle.batch_recipe.specs.Tree as tree
@@ -168,7 +168,7 @@ both _ _ ns ms h g = absurd h
 
 mutual
   parts_alike : (l : Level) (p : Place) (above under : List Name) (t u : Tree) → AreAlike t u → PartsAlike (parts l p above t) (parts l p under u)
-  parts_alike l p above under (tree.act s w) (tree.act r v) h = ((refl, h, refl), within_alike (below l) p (above ++ resources_of s.needs) (under ++ resources_of r.needs) w v h.0)
+  parts_alike l p above under (tree.act s w) (tree.act r v) h = ((refl, h, refl), within_alike (below l) p (above ++ resources_needed s.needs) (under ++ resources_needed r.needs) w v h.0)
   parts_alike l p above under tree.skip tree.skip h = ((refl, tt, refl), tt)
   parts_alike l p above under (tree.seq ts) (tree.seq us) h = ((refl, h, refl), each_alike l p above under 0 ts us h)
   parts_alike l p above under (tree.par ts) (tree.par us) h = ((refl, h, refl), each_alike l p above under 0 ts us h)

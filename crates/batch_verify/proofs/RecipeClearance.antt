@@ -22,7 +22,7 @@ use Rattle.batch_model.specs.Recipes.{recipe_of}
 use Rattle.batch_model.specs.Setups.{master_of, setup_of}
 use Rattle.batch_model.proofs.Members.{Each-Has, Each-map}
 use Rattle.batch_model.proofs.TreeParts.{parts-nodes}
-use Rattle.batch_verify.specs.Bindings.{nobody, numbered}
+use Rattle.batch_verify.specs.Bindings.{nobody, numbered_binding}
 use Rattle.batch_verify.specs.Refusals.{MeetsRules, IsTriedFor, IsVerdictOn}
 use Rattle.batch_verify.specs.Ways.{bound_parts}
 use Rattle.batch_verify.specs.declared.rule.Rule.TheVariants.{UnknownResource}
@@ -49,7 +49,7 @@ module _ (c : equipment.Cell) (recipes : List Recipe) (recipe : Recipe) (own : a
   setup = setup_of c recipes
 
   abbrev first : Binding
-  first = numbered c recipe.roles.items 0
+  first = numbered_binding c recipe.roles.items 0
 
   abbrev IsKnownAt : Node → Type 0
   IsKnownAt at = NeedsResources (resources_of c) at.here

@@ -9,7 +9,7 @@ use Rattle.batch_cell.specs.declared.cell.Cell as equipment
 use Rattle.batch_recipe.specs.Conditions.{Name, same_name}
 use Rattle.batch_recipe.specs.Expanding.{Binding, step_of, task_of, unit_below, unit_chosen, unit_with}
 use Rattle.batch_recipe.specs.Nodes.{needs_of}
-use Rattle.batch_recipe.specs.Outlines.{act_of}
+use Rattle.batch_recipe.specs.Outlines.{act_of_kind}
 use Rattle.batch_recipe.specs.Procedure.{bound_tree, sites}
 use Rattle.batch_recipe.specs.Tree.{Place, Step, Tree, act, skip, seq, par, sel, loop}
 use Rattle.batch_recipe.specs.WellFormed.{are_roles, is_among}
@@ -28,7 +28,7 @@ use Rattle.batch_model.specs.Plant.{Setup}
 use Rattle.batch_model.specs.Cleared.{Ranking, Level, is_procedure, in_procedure, in_unit_procedure, in_operation, Part, BeginsWithUnit, HasUnit, IsApart, IsOffered, ReservesFollow, RiseStrictly, TurnsRun}
 use Rattle.batch_model.specs.Setups.{master_of, setup_of}
 use Rattle.batch_model.proofs.TreeParts.{parts-nodes}
-use Rattle.batch_verify.specs.Bindings.{binding_count, numbered}
+use Rattle.batch_verify.specs.Bindings.{binding_count, numbered_binding}
 use Rattle.batch_verify.specs.Covering.{AreEnough, IsMetInEach, Meets, bound_parts_of}
 use Rattle.batch_verify.specs.Refusals.{IsTried, RisesBy}
 use Rattle.batch_verify.specs.Ways.{bound_parts}
@@ -113,7 +113,7 @@ module _ (c : equipment.Cell) (recipes : List Recipe) (recipe : Recipe) (own : a
   setup = setup_of c recipes
 
   abbrev by_number : ℕ → Binding
-  by_number j = numbered c recipe.roles.items j
+  by_number j = numbered_binding c recipe.roles.items j
 
   -- the unit that is chosen is chosen in a numbered binding
   covered : (choice : UnitChoice) → IsNamed recipe choice → (j : ℕ) × (j < binding_count c recipe.roles.items) × (unit_chosen bound choice ≡ unit_chosen (by_number j) choice)
@@ -202,7 +202,7 @@ module _ (c : equipment.Cell) (recipes : List Recipe) (recipe : Recipe) (own : a
     chosen = choices recipe k e is
 
     abbrev own_asks : List Ask
-    own_asks = asks_at recipe.acts (act_of recipe.acts e.kind)
+    own_asks = asks_at recipe.acts (act_of_kind recipe.acts e.kind)
 
     own_named : AreNamed recipe own_asks
     own_named = own_asks_are_named recipe k e is
@@ -244,7 +244,7 @@ module _ (c : equipment.Cell) (recipes : List Recipe) (recipe : Recipe) (own : a
 
     offered_covered : ((b : Binding) → Looked b → IsOffered setup (x b).node.here) → IsOffered setup (x bound).node.here
     offered_covered h =
-        let here = act_of recipe.acts e.kind in
+        let here = act_of_kind recipe.acts e.kind in
         let by = covered chosen.unit chosen.unit_is_named in
         let b = by_number by.0 in
         let own_unit = subst (OffersAt setup here) (chosen.under b) (offered_from b here (at b).on.here (h b (enough.by_number by.0 by.1))) in

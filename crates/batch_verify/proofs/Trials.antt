@@ -15,8 +15,8 @@ use Rattle.batch_model.specs.Plant.{Role as ModelRole, Setup}
 use Rattle.batch_model.specs.Cleared.{Ranking}
 use Rattle.batch_model.specs.Recipes.{recipe_of}
 use Rattle.batch_model.specs.Setups.{master_of, setup_of}
-use Rattle.batch_verify.specs.Bindings.{binding_count, nobody, numbered}
-use Rattle.batch_verify.specs.Covering.{AreBeside, AreEnough, IsHighest, IsLowest}
+use Rattle.batch_verify.specs.Bindings.{binding_count, nobody, numbered_binding}
+use Rattle.batch_verify.specs.Covering.{AreBeside, AreEnough, IsHighest, IsLeastTaker}
 use Rattle.batch_verify.specs.Comparing.{earlier_of}
 use Rattle.batch_verify.specs.Refusals.{rank_in, ranking_in, IsTried, IsTriedFor, IsVerdict, IsVerdictOn}
 use Rattle.batch_verify.specs.declared.rule.Broken.{Broken}
@@ -50,7 +50,7 @@ module _ (c : equipment.Cell) (recipes : List Recipe) (recipe : Recipe) where
   highest_for rank [] unit t = subst (λ (n : Name). rank n ≤ rank (nobody setup.resources)) (sym t) (omega arith)
   highest_for rank (first ∷ more) unit t = extreme_best rank true first more unit t
 
-  lowest_for : (rank : Ranking) (candidates : List Name) → IsLowest setup rank candidates (raised_unit c (extreme rank false candidates))
+  lowest_for : (rank : Ranking) (candidates : List Name) → IsLeastTaker setup rank candidates (raised_unit c (extreme rank false candidates))
   lowest_for rank [] unit t = subst (λ (n : Name). rank (nobody setup.resources) ≤ rank n) (sym t) (omega arith)
   lowest_for rank (first ∷ more) unit t = extreme_best rank false first more unit t
 
@@ -78,7 +78,7 @@ module _ (c : equipment.Cell) (recipes : List Recipe) (recipe : Recipe) where
 
   -- the bindings by number that were looked at
   abbrev pub ByNumber : ℕ → Binding → Type 0
-  ByNumber n b = (i : ℕ) × (i < n) × (b ≡ numbered c roles i)
+  ByNumber n b = (i : ℕ) × (i < n) × (b ≡ numbered_binding c roles i)
 
   -- and those in which one of the first of these roles is raised
   abbrev pub ByRole : List Role → Ranking → ℕ → Binding → Type 0
@@ -111,7 +111,7 @@ module _ (c : equipment.Cell) (recipes : List Recipe) (recipe : Recipe) where
             bound = raised c roles (rank_in c ranks) high.name;
             looked = inr (at.0, omega (arith, all, slice_get_within (roles_raised (Some ranks) roles) at.0 high at_raised), high, at_raised, refl);
             highest = raised_at own (rank_in c ranks) high.name high m true ((bytes_decides high.name high.name).1 refl) (IsHighest setup (rank_in c ranks) (units_of_class c high.class)) (highest_for (rank_in c ranks) (units_of_class c high.class));
-            lowest = raised_at own (rank_in c ranks) high.name low l false other (IsLowest setup (rank_in c ranks) (units_of_class c low.class)) (lowest_for (rank_in c ranks) (units_of_class c low.class));
+            lowest = raised_at own (rank_in c ranks) high.name low l false other (IsLeastTaker setup (rank_in c ranks) (units_of_class c low.class)) (lowest_for (rank_in c ranks) (units_of_class c low.class));
           })
 
   -- One binding more
@@ -124,14 +124,14 @@ module _ (c : equipment.Cell) (recipes : List Recipe) (recipe : Recipe) where
     number_none b l = absurd (omega (arith, l.1))
 
     pub number_next : (n : ℕ) (found verdict : Option Broken) → IsLeast setup ranking (master_of c recipe) (ByNumber n) found
-        → IsVerdict setup ranking (recipe_of recipe (numbered c roles n)) verdict → IsLeast setup ranking (master_of c recipe) (ByNumber (n + 1)) (earlier_of found verdict)
+        → IsVerdict setup ranking (recipe_of recipe (numbered_binding c roles n)) verdict → IsLeast setup ranking (master_of c recipe) (ByNumber (n + 1)) (earlier_of found verdict)
     number_next n found verdict h v =
-        least_fewer setup ranking (master_of c recipe) (WithOne setup ranking (master_of c recipe) (ByNumber n) (numbered c roles n)) (ByNumber (n + 1)) (λ b l. go b l.0 l.1 l.2 (cases_lt l.0 n)) (earlier_of found verdict)
-        (least_next setup ranking (master_of c recipe) (ByNumber n) (numbered c roles n) (numbered-tried c recipes recipe own n) found verdict h v)
+        least_fewer setup ranking (master_of c recipe) (WithOne setup ranking (master_of c recipe) (ByNumber n) (numbered_binding c roles n)) (ByNumber (n + 1)) (λ b l. go b l.0 l.1 l.2 (cases_lt l.0 n)) (earlier_of found verdict)
+        (least_next setup ranking (master_of c recipe) (ByNumber n) (numbered_binding c roles n) (numbered-tried c recipes recipe own n) found verdict h v)
       where
-        go : (b : Binding) (i : ℕ) → i < n + 1 → b ≡ numbered c roles i → (i < n) ⊎ (n ≤ i) → WithOne setup ranking (master_of c recipe) (ByNumber n) (numbered c roles n) b
+        go : (b : Binding) (i : ℕ) → i < n + 1 → b ≡ numbered_binding c roles i → (i < n) ⊎ (n ≤ i) → WithOne setup ranking (master_of c recipe) (ByNumber n) (numbered_binding c roles n) b
         go b i most is (inl lt) = inl (i, lt, is)
-        go b i most is (inr le) = let same : i ≡ n = omega (arith, le, most) in inr (is ∙ ap (numbered c roles) same)
+        go b i most is (inr le) = let same : i ≡ n = omega (arith, le, most) in inr (is ∙ ap (numbered_binding c roles) same)
 
     abbrev raise : List Role
     raise = roles_raised ranks roles

@@ -4,7 +4,7 @@ use Rattle.batch_recipe.specs.ActsAtNodes.{ActList, acts_along, acts_along_each,
 use Rattle.batch_recipe.specs.Conditions.{Name}
 use Rattle.batch_recipe.specs.Diagram.{Diagram, label, skip, seq, par, sel, loop, Diagrams, none, more, Cases, otherwise, when, diagram_of}
 use Rattle.batch_recipe.specs.Expanding.{Binding, Sites, expanded, expanded_each, expanded_cases, task_of, act_named, act_tree_with, named_tree_with, needs_with, step_of, unit_with, unit_below}
-use Rattle.batch_recipe.specs.Needs.{resources_of}
+use Rattle.batch_recipe.specs.Needs.{resources_needed}
 use Rattle.batch_recipe.specs.Nodes.{child}
 use Rattle.batch_recipe.specs.Procedure.{table_at, tables_from, level_below, sites}
 use Rattle.batch_recipe.specs.Tree as tree
@@ -128,9 +128,9 @@ module _ (bound : Binding) (acts : Acts) (kinds : are_kinds acts ≡ true) where
     act_on : AreOn on (ways at (act_tree_with on trees unit a p)) (parts l p above (act_tree_with on trees unit a p)) (acts_from (acts_named (tables_from acts level)) a)
     act_on = (
       record { level = refl; here = record { acts = trees; here_is = refl; kind = kind; under_level = refl; under_unit = unit_is on l a kind unit } },
-      subst (λ (m : Level). AreOn on (ways_within (spot_within at step) task) (parts_within m p (above ++ resources_of step.needs) task) (acts_below (acts_named (tables_from acts level)) a.work)) (sym under)
-          (subst (λ (v : Spot). AreOn on (ways_within v task) (parts_within (level_of level) p (above ++ resources_of step.needs) task) (acts_below (acts_named (tables_from acts level)) a.work)) (sym chart_at)
-          (work_on (spot_from level own) (trees own) (acts_named (tables_from acts level)) (labels own) own a.name p (above ++ resources_of step.needs) a.work)),
+      subst (λ (m : Level). AreOn on (ways_within (spot_within at step) task) (parts_within m p (above ++ resources_needed step.needs) task) (acts_below (acts_named (tables_from acts level)) a.work)) (sym under)
+          (subst (λ (v : Spot). AreOn on (ways_within v task) (parts_within (level_of level) p (above ++ resources_needed step.needs) task) (acts_below (acts_named (tables_from acts level)) a.work)) (sym chart_at)
+          (work_on (spot_from level own) (trees own) (acts_named (tables_from acts level)) (labels own) own a.name p (above ++ resources_needed step.needs) a.work)),
     )
 
   -- the act that a table has under a name, or none

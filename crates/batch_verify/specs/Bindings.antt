@@ -25,8 +25,8 @@ taking cell roles number name =
     elim (role_named roles name) [ None ↦ None | Some role ↦ candidate_of (units_of_class cell role.class) number ]
 
 -- the binding with this number: each role's candidate with this number takes it, and nobody where no unit is one
-abbrev pub numbered : equipment.Cell → List Role → ℕ → Binding
-numbered cell roles number name = elim (taking cell roles number name) [ None ↦ nobody (resources_of cell) | Some unit ↦ unit ]
+abbrev pub numbered_binding : equipment.Cell → List Role → ℕ → Binding
+numbered_binding cell roles number name = elim (taking cell roles number name) [ None ↦ nobody (resources_of cell) | Some unit ↦ unit ]
 
 -- so many bindings that each candidate of each role takes it in one of them, one at least
 abbrev pub binding_count : equipment.Cell → List Role → ℕ

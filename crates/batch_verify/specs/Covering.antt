@@ -14,7 +14,7 @@ use Rattle.batch_model.specs.Plant.{Setup}
 use Rattle.batch_model.specs.Cleared.{Ranking, Part, NeedsWithinCapacity, IsOffered, IsApart, TurnsRun, ReservesFollow, procedure_parts}
 use Rattle.batch_model.specs.Recipes.{recipe_of}
 use Rattle.batch_model.specs.Setups.{master_of, setup_of}
-use Rattle.batch_verify.specs.Bindings.{binding_count, numbered}
+use Rattle.batch_verify.specs.Bindings.{binding_count, numbered_binding}
 use Rattle.batch_verify.specs.Refusals.{IsKnown, IsTried, IsTriedFor, RisesBy}
 use Rattle.batch_verify.specs.declared.rule.Rule.{Rule}
 use Rattle.batch_verify.specs.declared.rule.Rule.TheVariants.{UnknownResource, ShareAboveCapacity, PhaseNotOffered, SamePhaseInParallel, LoopWithoutPhase, ReserveDoesNotFollow, RankNotRising}
@@ -34,19 +34,19 @@ abbrev pub IsHighest : Setup → Ranking → List Name → Name → Type 0
 IsHighest setup rank candidates taker = (unit : Name) → IsTriedFor setup candidates unit → rank unit ≤ rank taker
 
 -- or a smaller one
-abbrev pub IsLowest : Setup → Ranking → List Name → Name → Type 0
-IsLowest setup rank candidates taker = (unit : Name) → IsTriedFor setup candidates unit → rank taker ≤ rank unit
+abbrev pub IsLeastTaker : Setup → Ranking → List Name → Name → Type 0
+IsLeastTaker setup rank candidates taker = (unit : Name) → IsTriedFor setup candidates unit → rank taker ≤ rank unit
 
 -- in one of the bindings the one role is taken at its highest rank, and the other at its lowest
 pub record AreBeside (setup : Setup) (rank : Ranking) (cell : equipment.Cell) (Looked : Binding → Type 0) (high low : Role) : Type 0 where
   pub bound : Binding
   pub looked : Looked bound
   pub highest : IsHighest setup rank (units_of_class cell high.class) (bound high.name)
-  pub lowest : IsLowest setup rank (units_of_class cell low.class) (bound low.name)
+  pub lowest : IsLeastTaker setup rank (units_of_class cell low.class) (bound low.name)
 
 -- the bindings give each candidate of each role, and, if there are ranks, each two roles beside one another
 pub record AreEnough (setup : Setup) (ranking : Option Ranking) (cell : equipment.Cell) (roles : List Role) (Looked : Binding → Type 0) : Type 0 where
-  pub by_number : (number : ℕ) → number < binding_count cell roles → Looked (numbered cell roles number)
+  pub by_number : (number : ℕ) → number < binding_count cell roles → Looked (numbered_binding cell roles number)
   pub beside : (rank : Ranking) → ranking ≡ Some rank → (high low : Role) → Has roles high → Has roles low → high.name ≢ low.name → AreBeside setup rank cell Looked high low
 
 -- the nodes of a recipe

@@ -7,7 +7,7 @@ use Rattle.batch_recipe.specs.Conditions.{Name, same_name}
 use Rattle.batch_recipe.specs.Expanding.{Binding}
 use Rattle.batch_recipe.specs.declared.role.Role.{Role}
 use Rattle.batch_model.specs.Cleared.{Ranking}
-use Rattle.batch_verify.specs.Bindings.{nobody, numbered, role_named}
+use Rattle.batch_verify.specs.Bindings.{nobody, numbered_binding, role_named}
 use Rattle.batch_verify.specs.Refusals.{rank_in}
 use Rattle.batch_verify.specs.declared.trial.Trial.{Trial}
 use Rattle.batch_verify.specs.declared.trial.Trial.TheVariants.{Numbered, Raised, Leveled}
@@ -49,7 +49,7 @@ abbrev pub raised : equipment.Cell → List Role → Ranking → Name → Bindin
 raised cell roles rank role name = raised_for cell rank (same_name name role) (role_named roles name)
 
 abbrev pub bound_by : equipment.Cell → List Role → Trial → Binding
-bound_by cell roles (Numbered number) = numbered cell roles number
+bound_by cell roles (Numbered number) = numbered_binding cell roles number
 bound_by cell roles (Raised role ranks) = raised cell roles (rank_or_0 cell (option_copied ranks)) role.now
 bound_by cell roles (Leveled is_highest ranks) = λ name. raised_for cell (rank_or_0 cell (option_copied ranks)) is_highest (role_named roles name)
 

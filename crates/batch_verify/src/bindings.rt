@@ -2,7 +2,7 @@
 ghost use Rattle.std.specs.Prelude.{◌≡◌, ◌≤◌, max, slice_get, option_copied, MatchOption};
 ghost use Rattle.batch_cell.specs.LookUps.{resources_of, units_of_class};
 ghost use Rattle.batch_cell.specs.declared.cell.TheConstants.{MAX_UNITS};
-ghost use Rattle.batch_verify.specs.Bindings.{binding_count, nobody, numbered, role_named};
+ghost use Rattle.batch_verify.specs.Bindings.{binding_count, nobody, numbered_binding, role_named};
 
 use batch_cell::Cell;
 use batch_recipe::Role;
@@ -27,8 +27,8 @@ pub fn binding_count(cell: &Cell, roles: &[Role]) -> u16
 // claim: numbered bindings
 pub fn unit_taking<'a>(cell: &'a Cell, roles: &[Role], number: u16, role: &Name) -> Option<&'a Name>
     ensures { MatchOption result
-        (numbered cell.now roles.now number role.now ≡ nobody (resources_of cell.now))
-        (λ unit. unit.now ≡ numbered cell.now roles.now number role.now) }
+        (numbered_binding cell.now roles.now number role.now ≡ nobody (resources_of cell.now))
+        (λ unit. unit.now ≡ numbered_binding cell.now roles.now number role.now) }
 {
     let taken = role_named(roles, role)?;
     match candidate_named(cell, &taken.class, number) {

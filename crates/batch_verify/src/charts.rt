@@ -1,7 +1,7 @@
 //! The rules on `par`s, loops and reserved unit procedures. They don't depend on the units that take the roles.
 ghost use Rattle.std.specs.Prelude.{◌≡◌, ◌≢◌, ◌≤◌, length, slice_get, Some, None, IfOk};
 ghost use Rattle.batch_recipe.specs.Nodes.{Node};
-ghost use Rattle.batch_recipe.specs.Outlines.{act_of, form_of};
+ghost use Rattle.batch_recipe.specs.Outlines.{act_of_kind, form_of};
 ghost use Rattle.batch_recipe.specs.Links.{form_at};
 ghost use Rattle.batch_model.specs.Cleared.{below, surely_runs, Part};
 ghost use Rattle.batch_verify.specs.Charts.{depth_is, of_chart, reserve_count, AreFaults, IsChartFault, ReservesAs};
@@ -28,8 +28,8 @@ fn depth_above(below: &[Depth], entry: &Entry) -> Depth
 
 /// The level of the children of a node that is at `depth` itself.
 fn depth_below(acts: &Acts, entry: &Entry, depth: Depth) -> Depth
-    ensures act { act_of acts.now entry.now.kind ≢ None → depth_is result ≡ below (depth_is depth) }
-    ensures chart { act_of acts.now entry.now.kind ≡ None → result ≡ depth }
+    ensures act { act_of_kind acts.now entry.now.kind ≢ None → depth_is result ≡ below (depth_is depth) }
+    ensures chart { act_of_kind acts.now entry.now.kind ≡ None → result ≡ depth }
 {
     match entry.kind.act(acts) {
         None => depth,
@@ -68,7 +68,7 @@ fn chart_fault(kind: Kind, depth: Depth, apart: bool, runs: bool) -> Option<Rule
 
 /// How many unit procedures the act at the node reserves.
 fn reserve_count(acts: &Acts, entry: &Entry) -> usize
-    ensures { result ≡ reserve_count (act_of acts.now entry.now.kind) }
+    ensures { result ≡ reserve_count (act_of_kind acts.now entry.now.kind) }
 {
     match entry.kind.act(acts) {
         None => 0,

@@ -1,7 +1,7 @@
 //! One walk over the nodes of a recipe for all bindings of its roles at once.
 ghost use Rattle.std.specs.Prelude.{◌≡◌, ◌<◌, ◌≤◌, ◌∷◌, ℕ, [], List, None, Option, Some, length, option_copied, slice_get, true, IfOk, IfSome};
 ghost use Rattle.batch_recipe.specs.Expanding.{Binding};
-ghost use Rattle.batch_recipe.specs.Outlines.{act_of};
+ghost use Rattle.batch_recipe.specs.Outlines.{act_of_kind};
 ghost use Rattle.batch_recipe.specs.declared.act.Act as act;
 ghost use Rattle.batch_recipe.specs.declared.recipe.Recipe as document;
 ghost use Rattle.batch_recipe.specs.declared.role.Role as declared;
@@ -102,12 +102,12 @@ fn span_below(
     known: Option<Passed>,
     above: Span,
 ) -> Option<Passed>
-    requires { (a : act.Act) (spans : passed.Passed) → act_of low.now.acts.now entry.now.kind ≡ Some a → known ≡ Some spans
+    requires { (a : act.Act) (spans : passed.Passed) → act_of_kind low.now.acts.now entry.now.kind ≡ Some a → known ≡ Some spans
         → IsPassed low.now.cell.now (option_copied low.now.ranks) roles.now low.now.takers.now highest.now (needs_by low.now.linked.now entry.now.kind) a spans.above spans.within }
     ensures fault { IfSome result (λ spans. fault ≡ None) }
-    ensures act { IfSome result (λ spans. (a : act.Act) → act_of low.now.acts.now entry.now.kind ≡ Some a
+    ensures act { IfSome result (λ spans. (a : act.Act) → act_of_kind low.now.acts.now entry.now.kind ≡ Some a
         → Allows spans above × IsPassed low.now.cell.now (option_copied low.now.ranks) roles.now low.now.takers.now highest.now (needs_by low.now.linked.now entry.now.kind) a spans.above spans.within) }
-    ensures chart { act_of low.now.acts.now entry.now.kind ≡ None → IfSome result (λ spans. spans.within ≡ above) }
+    ensures chart { act_of_kind low.now.acts.now entry.now.kind ≡ None → IfSome result (λ spans. spans.within ≡ above) }
 {
     if fault.is_some() {
         return None;

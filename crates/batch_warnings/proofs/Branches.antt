@@ -5,7 +5,7 @@ use Rattle.batch_recipe.specs.Conditions.{Name}
 use Rattle.batch_recipe.specs.Diagram.{Diagram, seq, sel, diagram_of, diagrams_of, cases_of}
 use Rattle.batch_recipe.specs.declared.chart.Chart.{Chart}
 use Rattle.batch_recipe.specs.declared.condition.Cond.{Cond}
-use Rattle.batch_warnings.specs.Warnings.{compares, condition_names, has_label}
+use Rattle.batch_warnings.specs.Warnings.{diagram_compares, condition_names, has_label}
 
 either : (a b c : Bool) → ((a || b) || c) ≡ (a || (b || c))
 either a b c = grind (arith)
@@ -25,12 +25,12 @@ module _ (name : Name) where
   choices_labelled (c ∷ cs) last = grind (arith, choices_labelled cs last, either)
 
   pub branches_compare : (charts : List Chart)
-      → list_any (λ chart. compares name (diagram_of chart)) charts ≡ compares name (seq (diagrams_of (map diagram_of charts)))
+      → list_any (λ chart. diagram_compares name (diagram_of chart)) charts ≡ diagram_compares name (seq (diagrams_of (map diagram_of charts)))
   branches_compare [] = refl
   branches_compare (c ∷ cs) = grind (arith, branches_compare cs)
 
   pub choices_compare : (choices : List (Cond × Chart)) (last : Diagram)
-      → (list_any (λ choice. condition_names name choice.0 || compares name (diagram_of choice.1)) choices || compares name last)
-      ≡ compares name (sel (cases_of (map (λ choice. (choice.0, diagram_of choice.1)) choices) last))
+      → (list_any (λ choice. condition_names name choice.0 || diagram_compares name (diagram_of choice.1)) choices || diagram_compares name last)
+      ≡ diagram_compares name (sel (cases_of (map (λ choice. (choice.0, diagram_of choice.1)) choices) last))
   choices_compare [] last = refl
   choices_compare (c ∷ cs) last = grind (arith, choices_compare cs last, either)

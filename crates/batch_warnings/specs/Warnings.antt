@@ -47,27 +47,27 @@ condition_names name c = same_name name c.name || elim c.term [ Named other ↦ 
 
 -- a condition of the chart does
 abbrev mutual
-  pub compares : Name → Diagram → Bool
-  compares name (label own) = false
-  compares name skip = false
-  compares name (seq ds) = branch_compares name ds
-  compares name (par ds) = branch_compares name ds
-  compares name (sel cs) = choice_compares name cs
-  compares name (loop turns c d) = condition_names name c || compares name d
+  pub diagram_compares : Name → Diagram → Bool
+  diagram_compares name (label own) = false
+  diagram_compares name skip = false
+  diagram_compares name (seq ds) = branch_compares name ds
+  diagram_compares name (par ds) = branch_compares name ds
+  diagram_compares name (sel cs) = choice_compares name cs
+  diagram_compares name (loop turns c d) = condition_names name c || diagram_compares name d
 
   pub branch_compares : Name → Diagrams → Bool
   branch_compares name none = false
-  branch_compares name (more d ds) = compares name d || branch_compares name ds
+  branch_compares name (more d ds) = diagram_compares name d || branch_compares name ds
 
   pub choice_compares : Name → Cases → Bool
-  choice_compares name (otherwise d) = compares name d
-  choice_compares name (when c d cs) = (condition_names name c || compares name d) || choice_compares name cs
+  choice_compares name (otherwise d) = diagram_compares name d
+  choice_compares name (when c d cs) = (condition_names name c || diagram_compares name d) || choice_compares name cs
 
 abbrev pub act_has_label : Name → Act → Bool
 act_has_label name a = elim a.work [ Follows c ↦ has_label name (diagram_of c) | Runs phase values reports ↦ false ]
 
 abbrev pub act_compares : Name → Act → Bool
-act_compares name a = elim a.work [ Follows c ↦ compares name (diagram_of c) | Runs phase values reports ↦ false ]
+act_compares name a = elim a.work [ Follows c ↦ diagram_compares name (diagram_of c) | Runs phase values reports ↦ false ]
 
 -- the acts whose labels name those of a table
 abbrev pub acts_above : Acts → LabelTable → List Act
@@ -92,30 +92,30 @@ abbrev pub takes_value : Name → Act → Bool
 takes_value name a = elim a.work [ Follows c ↦ false | Runs phase values reports ↦ is_among values.items name ]
 
 -- the numbers, counted from n, of those that pass
-abbrev pub numbers_of : {X : Type 0} → (X → Bool) → ℕ → List X → List ℕ
-numbers_of p n [] = []
-numbers_of p n (x ∷ xs) = if p x then n ∷ numbers_of p (n + 1) xs else numbers_of p (n + 1) xs
+abbrev pub numbers_passing : {X : Type 0} → (X → Bool) → ℕ → List X → List ℕ
+numbers_passing p n [] = []
+numbers_passing p n (x ∷ xs) = if p x then n ∷ numbers_passing p (n + 1) xs else numbers_passing p (n + 1) xs
 
 abbrev pub unnamed_in : Acts → LabelTable → List RecipeWarning
-unnamed_in acts table = map (UnnamedAct table) (numbers_of (λ a. not (is_named acts table a)) 0 (table_at acts table))
+unnamed_in acts table = map (UnnamedAct table) (numbers_passing (λ a. not (is_named acts table a)) 0 (table_at acts table))
 
 abbrev pub quantities_in : Recipe → QuantityTable → List Quantity
 quantities_in r Inputs = r.inputs.items
 quantities_in r Parameters = r.parameters.items
 
 abbrev pub out_of_range : Recipe → QuantityTable → List RecipeWarning
-out_of_range r table = map (ValueOutOfRange table) (numbers_of (λ q. not (is_in_range r.basis r.basis q)) 0 (quantities_in r table))
+out_of_range r table = map (ValueOutOfRange table) (numbers_passing (λ q. not (is_in_range r.basis r.basis q)) 0 (quantities_in r table))
 
 abbrev pub unreported : Recipe → List RecipeWarning
 unreported r = map UnreportedOutput
-    (numbers_of (λ name. is_compared r.acts name && not (list_any (act_reports name) r.acts.phases.items)) 0 r.outputs.items)
+    (numbers_passing (λ name. is_compared r.acts name && not (list_any (act_reports name) r.acts.phases.items)) 0 r.outputs.items)
 
 abbrev pub unused_roles : Recipe → List RecipeWarning
-unused_roles r = map UnusedRole (numbers_of (λ role. not (list_any (takes_role role.name) r.acts.unit_procedures.items)) 0 r.roles.items)
+unused_roles r = map UnusedRole (numbers_passing (λ role. not (list_any (takes_role role.name) r.acts.unit_procedures.items)) 0 r.roles.items)
 
 abbrev pub scaled_parameters : Recipe → List RecipeWarning
 scaled_parameters r = map ScaledParameter
-    (numbers_of (λ q. not q.fixed && list_any (takes_value q.name) r.acts.phases.items) 0 r.parameters.items)
+    (numbers_passing (λ q. not q.fixed && list_any (takes_value q.name) r.acts.phases.items) 0 r.parameters.items)
 
 -- the warnings on a recipe, in their order
 abbrev pub warnings_of : Recipe → List RecipeWarning
@@ -125,4 +125,4 @@ warnings_of r =
 
 -- the numbers of a cell's units to which no module belongs
 abbrev pub units_without_modules : Cell → List ℕ
-units_without_modules cell = numbers_of (λ u. not (list_any (belongs_to u.name) cell.modules.items)) 0 cell.units.items
+units_without_modules cell = numbers_passing (λ u. not (list_any (belongs_to u.name) cell.modules.items)) 0 cell.units.items

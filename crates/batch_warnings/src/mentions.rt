@@ -2,7 +2,7 @@
 ghost use Rattle.std.specs.Prelude.{◌≡◌, ◌||◌};
 ghost use Rattle.std.specs.List.{list_any};
 ghost use Rattle.batch_recipe.specs.Diagram.{diagram_of};
-ghost use Rattle.batch_warnings.specs.Warnings.{act_compares, act_has_label, compares, condition_names, has_label};
+ghost use Rattle.batch_warnings.specs.Warnings.{act_compares, act_has_label, diagram_compares, condition_names, has_label};
 
 use batch_recipe::{Act, Chart, Cond, Term, Work};
 use batch_text::Name;
@@ -67,7 +67,7 @@ fn choices_have_label(choices: &[(Cond, Chart)], name: &Name) -> bool
 
 #[cycle(values)]
 fn compares(chart: &Chart, name: &Name) -> bool
-    ensures { result ≡ compares name.now (diagram_of chart.now) }
+    ensures { result ≡ diagram_compares name.now (diagram_of chart.now) }
 {
     match chart {
         Chart::Label(_) => false,
@@ -81,7 +81,7 @@ fn compares(chart: &Chart, name: &Name) -> bool
 
 #[cycle(values)]
 fn any_compares(charts: &[Chart], name: &Name) -> bool
-    ensures { result ≡ list_any (λ chart. compares name.now (diagram_of chart)) charts.now }
+    ensures { result ≡ list_any (λ chart. diagram_compares name.now (diagram_of chart)) charts.now }
 {
     for chart in charts {
         if compares(chart, name) {
@@ -93,7 +93,7 @@ fn any_compares(charts: &[Chart], name: &Name) -> bool
 
 #[cycle(values)]
 fn any_choice_compares(choices: &[(Cond, Chart)], name: &Name) -> bool
-    ensures { result ≡ list_any (λ choice. condition_names name.now choice.0 || compares name.now (diagram_of choice.1)) choices.now }
+    ensures { result ≡ list_any (λ choice. condition_names name.now choice.0 || diagram_compares name.now (diagram_of choice.1)) choices.now }
 {
     for choice in choices {
         if is_compared(&choice.0, name) || compares(&choice.1, name) {

@@ -11,7 +11,7 @@ use Rattle.batch_recipe.specs.Tree.{Place}
 use Rattle.batch_recipe.specs.declared.entry.Entry.{Entry}
 use Rattle.batch_recipe.specs.declared.recipe.Recipe.{Recipe}
 use Rattle.batch_recipe.proofs.NodesAbove.{as_many, entry_at, read}
-use Rattle.batch_engine.specs.Names.{place_of}
+use Rattle.batch_engine.specs.Names.{node_place}
 use Rattle.batch_wire.specs.Pieces.{text_of_place}
 
 one-more : (p : Place) (n : ℕ) → 0 < length p → place_text (p ++ n ∷ []) ≡ place_text p ++ (codes "." ++ decimal n)
@@ -29,7 +29,7 @@ module _ (r : Recipe) where
   same-node k a b g h = let e : Some a ≡ Some b = sym g ∙ h in cc
 
   text-at : (k : ℕ) (n : Node) → slice_get ns k ≡ Some n → text_of_place r k ≡ place_text n.place
-  text-at k n is = ap (λ o. place_text (place_of o)) is
+  text-at k n is = ap (λ o. place_text (node_place o)) is
 
   some-numbers : (k : ℕ) (e : Entry) (x : IsEntryOf ns k e) → 0 < length x.at.place
   some-numbers k e x = go x.hangs
@@ -87,7 +87,7 @@ module _ (r : Recipe) where
 
   -- a number that no node has names no place
   pub no-text : (k : ℕ) → length r.outline.entries.items ≤ k → text_of_place r k ≡ []
-  no-text k past = ap (λ o. place_text (place_of o)) (none ns k (omega (arith, past, as_many r)))
+  no-text k past = ap (λ o. place_text (node_place o)) (none ns k (omega (arith, past, as_many r)))
     where
       none : (xs : List Node) (i : ℕ) → length xs ≤ i → slice_get xs i ≡ None
       none [] i h = refl

@@ -1,7 +1,7 @@
 //! Reading the line that creates a batch.
 ghost use Rattle.std.specs.Prelude.{◌≡◌, ◌&&◌, true, length, map, nat_le, if◌then◌else◌, MatchOption, MatchResult, Ok, Err};
 ghost use Rattle.std.specs.List.{list_all};
-ghost use Rattle.batch_wire.specs.EventLine.{words, is_role_pair, role_pair_of, create_of};
+ghost use Rattle.batch_wire.specs.EventLine.{event_words, is_role_pair, role_pair_of, create_of};
 ghost use Rattle.batch_wire.specs.Reading.{ReadsEvent};
 ghost use Rattle.batch_wire.specs.declared.fault.WireFault.TheVariants.{Memory};
 
@@ -15,7 +15,7 @@ use batch_text::{Name, is_name};
 use std::alloc::Global;
 
 pub(crate) fn read_create(alloc: Global, mut arguments: Words<'_>) -> Result<Event, WireFault>
-    ensures { ReadsEvent result (create_of (words arguments.entry.rest.now)) }
+    ensures { ReadsEvent result (create_of (event_words arguments.entry.rest.now)) }
 {
     let recipe = arguments.next().ok_or(WireFault::MissingArgument)?;
     let size = arguments.next().ok_or(WireFault::MissingArgument)?;
@@ -37,7 +37,7 @@ pub(crate) fn read_create(alloc: Global, mut arguments: Words<'_>) -> Result<Eve
 }
 
 fn are_role_pairs(mut pairs: Words<'_>) -> bool
-    ensures { result ≡ list_all is_role_pair (words pairs.entry.rest.now) }
+    ensures { result ≡ list_all is_role_pair (event_words pairs.entry.rest.now) }
 {
     while let Some(pair) = pairs.next() {
         if !is_role_pair(pair) {
@@ -57,8 +57,8 @@ fn is_role_pair(word: &[u8]) -> bool
 
 /// The roles that pairs bind, each with its unit.
 fn read_role_pairs(alloc: Global, mut pairs: Words<'_>) -> Result<Vec<(Name, Name)>, WireFault>
-    requires { list_all is_role_pair (words pairs.rest.now) ≡ true }
-    ensures { MatchResult result (λ roles. roles.items ≡ map role_pair_of (words pairs.entry.rest.now)) (λ fault. fault ≡ Memory) }
+    requires { list_all is_role_pair (event_words pairs.rest.now) ≡ true }
+    ensures { MatchResult result (λ roles. roles.items ≡ map role_pair_of (event_words pairs.entry.rest.now)) (λ fault. fault ≡ Memory) }
 {
     let mut roles = Vec::new(alloc);
     while let Some(pair) = pairs.next() {

@@ -1,13 +1,13 @@
 //! Pairs, `NAME=..`, after the words of a line.
 ghost use Rattle.std.specs.Prelude.{◌≡◌, length, nat_le, IsOkUnless, MatchOption};
 ghost use Rattle.std.specs.List.{before_first, after_first};
-ghost use Rattle.batch_wire.specs.EventLine.{words, is_equals};
+ghost use Rattle.batch_wire.specs.EventLine.{event_words, is_equals};
 
 use crate::words::Words;
 
 /// Whether there are no more than so many words.
 pub fn are_at_most(mut line: Words<'_>, most: usize) -> bool
-    ensures { result ≡ nat_le (length (words line.entry.rest.now)) most }
+    ensures { result ≡ nat_le (length (event_words line.entry.rest.now)) most }
 {
     let mut left = most;
     while left > 0 {

@@ -3,7 +3,7 @@ ghost use Rattle.std.specs.Prelude.{◌≡◌, ◌++◌, ◌&&◌, IfOk, nat_eq,
 ghost use Rattle.std.specs.List.{flat_map};
 ghost use Rattle.batch_check.specs.Edges.{has_pair};
 ghost use Rattle.batch_messages.specs.CircleSentence.{act_name};
-ghost use Rattle.batch_verdicts.specs.GraphTexts.{arrow_text, arrows_text, colour_of, graph_text, module_text, resources_text, shared_text, unit_text};
+ghost use Rattle.batch_verdicts.specs.GraphTexts.{arrow_text, arrows_text, colour_of, graph_text, module_text, resources_text, shared_text, unit_box_text};
 
 use crate::texts::nodes::{node_text, resource_name};
 use batch_cell::{Cell, Module, Shared, Unit};
@@ -45,7 +45,7 @@ fn resources_text(alloc: Global, cell: &Cell) -> Result<String, AllocError>
 }
 
 fn units_text(alloc: Global, units: &[Unit]) -> Result<String, AllocError>
-    ensures { IfOk result (λ text. string_bytes text ≡ flat_map unit_text units.now) }
+    ensures { IfOk result (λ text. string_bytes text ≡ flat_map unit_box_text units.now) }
 {
     let mut text = String::new(alloc);
     for unit in units {
@@ -56,7 +56,7 @@ fn units_text(alloc: Global, units: &[Unit]) -> Result<String, AllocError>
 }
 
 fn unit_text(alloc: Global, unit: &Unit) -> Result<String, AllocError>
-    ensures { IfOk result (λ text. string_bytes text ≡ unit_text unit.now) }
+    ensures { IfOk result (λ text. string_bytes text ≡ unit_box_text unit.now) }
 {
     format!(in alloc; "  \"{}\" [shape=box];\n", unit.name)
 }

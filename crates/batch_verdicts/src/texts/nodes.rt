@@ -1,6 +1,6 @@
 //! The names that a cell and recipes have for the numbers of a verdict.
 ghost use Rattle.std.specs.Prelude.{◌≡◌, ◌++◌, IfOk, codes, string_bytes};
-ghost use Rattle.batch_verdicts.specs.VerdictTexts.{node_text, place_of, resource_name, rule_code};
+ghost use Rattle.batch_verdicts.specs.VerdictTexts.{node_text, place_text_at, resource_name, rule_code};
 
 use crate::texts::places::place_text;
 use batch_cell::Cell;
@@ -25,7 +25,7 @@ pub(crate) fn node_text(
 
 /// The name of the recipe and the place of its node.
 fn node_of_text(alloc: Global, recipe: &Recipe, node: u16) -> Result<String, AllocError>
-    ensures { IfOk result (λ text. string_bytes text ≡ recipe.now.acts.procedure.name ++ (codes " " ++ place_of recipe.now node)) }
+    ensures { IfOk result (λ text. string_bytes text ≡ recipe.now.acts.procedure.name ++ (codes " " ++ place_text_at recipe.now node)) }
 {
     let name = &recipe.acts.procedure.name;
     let place = place_text(alloc, recipe, node)?;

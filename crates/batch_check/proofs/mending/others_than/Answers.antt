@@ -1,7 +1,7 @@
 use Rattle.std.proofs.Common.{◌∙◌, List, get_or, subst, sym, take}
 use Rattle.std.proofs.lemmas.List.{take_more}
 use Rattle.batch_check.specs.declared.edge.Edge.{Edge}
-use Rattle.batch_check.specs.Mending.{AreOthers}
+use Rattle.batch_check.specs.Mending.{AreOtherEdges}
 use Rattle.batch_check.proofs.OrdersWithoutOne.{others_new, others_same}
 use Rattle.batch_check.proofs.Raises.{no_edge}
 use Rattle.batch_check.proofs.mending.others_than.Goals as goal
@@ -12,7 +12,7 @@ loop-other-preserved c =
     let index = c.loop-other.other-index in
     let before = take index edges in
     let last = get_or edges index no_edge in
-    subst (λ (es : List Edge). AreOthers es c.args.edge c.if-not-is_same_order.others.items) (sym (take_more edges index no_edge c.loop-other-test.true))
+    subst (λ (es : List Edge). AreOtherEdges es c.args.edge c.if-not-is_same_order.others.items) (sym (take_more edges index no_edge c.loop-other-test.true))
     (elim c.if-not-is_same_order.branch [
       | goal.then-not-is_same_order+in_ok-push w ↦
           rw (w.others-is, w.in_ok-push.ensures.items)

@@ -1,6 +1,6 @@
 use Rattle.std.proofs.Common.{◌≡◌, ◌<◌, ◌≤◌, ◌∙◌, length, subst, refl, IsPermutation, zip}
 use Rattle.batch_cell.specs.LookUps.{resources_of}
-use Rattle.batch_check.specs.ByName.{name_in}
+use Rattle.batch_check.specs.ByName.{resource_name_in}
 use Rattle.batch_check.proofs.Names.{name_in-found}
 use Rattle.batch_check.proofs.Entries.{zip_more, zip_all, IsCertificateOf-sorted}
 use Rattle.batch_check.proofs.naming.ranks_by_name.Goals as goal
@@ -8,7 +8,7 @@ use Rattle.batch_check.proofs.naming.ranks_by_name.Goals as goal
 pub loop-resource-preserved : goal.loop-resource-preserved
 loop-resource-preserved c =
     let below : c.loop-resource.resource < length (resources_of c.args.cell.now) = subst (λ n. c.loop-resource.resource < n) c.resources-resource-end.ensures c.loop-resource-test.true in
-    let name : name_in c.args.cell.now c.loop-resource.resource ≡ c.name_of.result.now = name_in-found c.args.cell.now c.loop-resource.resource c.name_of.result.now c.name_of.ensures in
+    let name : resource_name_in c.args.cell.now c.loop-resource.resource ≡ c.name_of.result.now = name_in-found c.args.cell.now c.loop-resource.resource c.name_of.result.now c.name_of.ensures in
     rw (c.in_ok-push.ensures.items, c.loop-resource.invariant, c.in_ok-name.ensures, c.from.ensures, zip_more (resources_of c.args.cell.now) c.args.ranks.now c.loop-resource.resource c.requires below, name) refl
 
 pub returns : goal.returns

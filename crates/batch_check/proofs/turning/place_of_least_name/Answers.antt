@@ -1,6 +1,6 @@
 use Rattle.std.proofs.Common.{◌≡◌, ◌∙◌, sym, ap, get_or, is_lt}
 use Rattle.std.proofs.lemmas.Bool.{false≢true}
-use Rattle.batch_check.specs.ByName.{name_in}
+use Rattle.batch_check.specs.ByName.{resource_name_in}
 use Rattle.batch_check.proofs.Raises.{no_edge}
 use Rattle.batch_check.proofs.Names.{name_in-found}
 use Rattle.batch_check.proofs.CircleStarts.{IsLeastOf-one, IsLeastOf-takes, IsLeastOf-keeps, IsLeastOf-all, below_from_lt}
@@ -12,8 +12,8 @@ loop-place-init c = (c.requires.some, IsLeastOf-one c.args.cell.now c.args.edges
 
 pub loop-place-preserved : goal.loop-place-preserved
 loop-place-preserved c =
-    let here : name_in c.args.cell.now (get_or c.args.edges.now c.loop-place.place no_edge).earlier ≡ c.name_of.result.now = name_in-found c.args.cell.now (get_or c.args.edges.now c.loop-place.place no_edge).earlier c.name_of.result.now c.name_of.ensures in
-    let least : name_in c.args.cell.now (get_or c.args.edges.now c.loop-place.least no_edge).earlier ≡ c.name_of-in-loop-place.result.now = name_in-found c.args.cell.now (get_or c.args.edges.now c.loop-place.least no_edge).earlier c.name_of-in-loop-place.result.now c.name_of-in-loop-place.ensures in
+    let here : resource_name_in c.args.cell.now (get_or c.args.edges.now c.loop-place.place no_edge).earlier ≡ c.name_of.result.now = name_in-found c.args.cell.now (get_or c.args.edges.now c.loop-place.place no_edge).earlier c.name_of.result.now c.name_of.ensures in
+    let least : resource_name_in c.args.cell.now (get_or c.args.edges.now c.loop-place.least no_edge).earlier ≡ c.name_of-in-loop-place.result.now = name_in-found c.args.cell.now (get_or c.args.edges.now c.loop-place.least no_edge).earlier c.name_of-in-loop-place.result.now c.name_of-in-loop-place.ensures in
     elim c.if-lt.branch [
       | then-lt w ↦
           rw w.least-is (

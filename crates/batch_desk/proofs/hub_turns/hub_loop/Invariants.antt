@@ -1,7 +1,7 @@
 use Rattle.std.proofs.Common.{◌≡◌, length}
 use mathlib.Core.List.{IsPrefix}
 use Rattle.batch_desk.specs.Gates.{AreAsked}
-use Rattle.batch_desk.specs.HubState.{HasGrown, outlines, rings}
+use Rattle.batch_desk.specs.HubState.{HasHistoryGrown, outlines, rings}
 use Rattle.batch_desk.proofs.hub_turns.hub_loop.Given as goal
 
 abbrev pub invariant-loop-number : goal.invariant-loop-number
@@ -9,7 +9,7 @@ invariant-loop-number g l = record {
   rings : rings l.hub ≡ rings l.initial.hub;
   outlines : outlines l.hub ≡ outlines l.initial.hub;
   cleared : l.hub.engine.cleared ≡ l.initial.hub.engine.cleared;
-  history : HasGrown (length l.initial.hub.ports) l.initial.hub.history l.hub.history;
+  history : HasHistoryGrown (length l.initial.hub.ports) l.initial.hub.history l.hub.history;
   record_grows : IsPrefix l.initial.hub.outs l.hub.outs;
   asked : AreAsked g.G.Gate.passes l.number l.initial.gate l.gate;
 }

@@ -1,6 +1,6 @@
 use Rattle.std.proofs.Common.{subst}
 use Rattle.batch_journal.specs.Disks.{Left, MayLeave}
-use Rattle.batch_journal.specs.Recovery.{IsUnbegun, KeepsLines}
+use Rattle.batch_journal.specs.Recovery.{IsJournalUnbegun, KeepsLines}
 use Rattle.batch_journal.proofs.RecoveryLemmas.{keeps_all, keeps_same}
 use Rattle.batch_journal.proofs.RunsOfCalls.{started, goes_on, then_run}
 use Rattle.batch_journal.proofs.recovery.recover.Goals as goal
@@ -51,5 +51,5 @@ returns-in-None-clause-any_moment g c = λ d2.
 
 pub begin-requires-clause-unbegun : goal.begin-requires-clause-unbegun
 begin-requires-clause-unbegun g c =
-    let found : IsUnbegun c.args.documents.now c.deref.result.now = let ok = c.in_ok-taken.ensures.ok in rw c.in-None.is at ok in
-    subst (IsUnbegun c.args.documents.now) c.deref.ensures.value found
+    let found : IsJournalUnbegun c.args.documents.now c.deref.result.now = let ok = c.in_ok-taken.ensures.ok in rw c.in-None.is at ok in
+    subst (IsJournalUnbegun c.args.documents.now) c.deref.ensures.value found

@@ -2,7 +2,7 @@ use Rattle.std.proofs.Common.{ap, length, rules, sym, tests, ◌∙◌}
 use Rattle.std.specs.Char.{is_ascii_whitespace}
 use Rattle.std.proofs.lemmas.Iterator.Consumers.{YieldsList-at, YieldsList-end, YieldsList-so_far, YieldsList-turn}
 use Rattle.std.proofs.lemmas.Iterator.Splits.{YieldsList-from_slice_split}
-use Rattle.batch_messages.specs.Explaining.{code_of, first_of, words}
+use Rattle.batch_messages.specs.Explaining.{code_of_word, first_code, pieces_of}
 use Rattle.batch_messages.proofs.ExplanationCodes.{first_at, first_of-map, none_more}
 use Rattle.batch_messages.proofs.explanation.explanation_in.Goals as goal
 
@@ -18,14 +18,14 @@ returns-in-Some-explanation_of c =
     (YieldsList-at c.into_iter-word-iterator.ensures.into_iter_gives
     (YieldsList-from_slice_split _ is_ascii_whitespace c.args.text.now cut.rest cut.done cut.closure (λ x r q k. search (rules, tests))))
     c.loop-word.yielded c.loop-word.word-iterator c.loop-word.yielded_by in
-    let before = ap (first_of code_of) (sym so_far) ∙ first_of-map code_of (λ x. x.now) c.loop-word.yielded ∙ c.loop-word.invariant.2 in
-    sym (first_at code_of (words c.args.text.now) (length c.loop-word.yielded) word.now c.in-Some-explanation_of.explanation.code.now turn.0 turn.1 before (sym c.in-Some-explanation_of.ensures))
+    let before = ap (first_code code_of_word) (sym so_far) ∙ first_of-map code_of_word (λ x. x.now) c.loop-word.yielded ∙ c.loop-word.invariant.2 in
+    sym (first_at code_of_word (pieces_of c.args.text.now) (length c.loop-word.yielded) word.now c.in-Some-explanation_of.explanation.code.now turn.0 turn.1 before (sym c.in-Some-explanation_of.ensures))
 
 pub loop-word-preserved : goal.loop-word-preserved
 loop-word-preserved c = (
   search rules,
   search rules,
-  none_more (λ word. code_of word.now) c.loop-word.yielded c.in-Some.word c.loop-word.invariant.2 (sym c.in_default.ensures),
+  none_more (λ word. code_of_word word.now) c.loop-word.yielded c.in-Some.word c.loop-word.invariant.2 (sym c.in_default.ensures),
 )
 
 pub returns : goal.returns
@@ -35,4 +35,4 @@ returns c =
     (YieldsList-at c.into_iter-word-iterator.ensures.into_iter_gives
     (YieldsList-from_slice_split _ is_ascii_whitespace c.args.text.now cut.rest cut.done cut.closure (λ x r q k. search (rules, tests))))
     c.loop-word.yielded _ c.loop-word.yielded_by _ _ c.in-None.is c.next.ensures.steps in
-    sym (ap (first_of code_of) (sym end.0) ∙ first_of-map code_of (λ x. x.now) c.loop-word.yielded ∙ c.loop-word.invariant.2)
+    sym (ap (first_code code_of_word) (sym end.0) ∙ first_of-map code_of_word (λ x. x.now) c.loop-word.yielded ∙ c.loop-word.invariant.2)

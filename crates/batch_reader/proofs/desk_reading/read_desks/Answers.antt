@@ -11,7 +11,7 @@ use Rattle.batch_reader.specs.declared.fault.Spot.{Spot}
 use Rattle.batch_reader.specs.declared.fault.TableFault.{TableFault}
 use Rattle.batch_reader.specs.declared.fault.TableFault.TheVariants.{Entry, Memory}
 use Rattle.batch_reader.specs.declared.fault.TableKind.TheVariants as table
-use Rattle.batch_reader.specs.DesksFaults.{FaultStands, IsDesksFault}
+use Rattle.batch_reader.specs.DesksFaults.{DesksFaultStands, IsDesksFault}
 use Rattle.batch_reader.proofs.desk_reading.read_desks.Goals as goal
 
 pub returns-in_err-table-clause-stands : goal.returns-in_err-table-clause-stands
@@ -23,7 +23,7 @@ returns-in_err-table-clause-stands c = λ spot wrong told.
 -- the document is refused as its table is
 stands : (bytes : List ℕ) (ms : Members) (fault : TableFault) (refusal : DocFault) (spot : Spot) (wrong : EntryFault) → parse_document bytes ≡ Some ms
     → TellsIn table.Desk (IsDesksFault ms) fault → ((here : Spot) (is : EntryFault) → fault ≡ Entry here is → refusal ≡ document.Entry here is)
-    → (fault ≡ Memory → refusal ≡ document.Memory) → refusal ≡ document.Entry spot wrong → FaultStands bytes spot.entry wrong
+    → (fault ≡ Memory → refusal ≡ document.Memory) → refusal ≡ document.Entry spot wrong → DesksFaultStands bytes spot.entry wrong
 stands bytes ms Memory refusal spot wrong parsed told entry memory is = let none = memory refl in absurd (cc (none, is))
 stands bytes ms (Entry here what) refusal spot wrong parsed told entry memory is =
     let e = entry here what refl in

@@ -5,7 +5,7 @@ use Rattle.std.proofs.lemmas.Result.{err_from_is_err_and}
 use Rattle.batch_recipe.specs.Diagram.{diagram_of, cases_of}
 use Rattle.batch_recipe.specs.Conditions.{same_name}
 use Rattle.batch_recipe.specs.Expanding.{act_named}
-use Rattle.batch_recipe.specs.Growing.{Head, grown_work, plain, act_head, topped, grown, grown_cases, told_from, named_from, conditions_of_cases, conditions_along_cases, number_in, unit_number, branch_entries, chart_entries, chart_conditions, act_entries, HasGrown, HasAdded}
+use Rattle.batch_recipe.specs.Growing.{Head, grown_work, plain_head, act_head, topped, grown, grown_cases, told_from, named_from, conditions_of_cases, conditions_along_cases, number_in, unit_number, branch_entries, chart_entries, chart_conditions, act_entries, HasGrown, HasAdded}
 use Rattle.batch_recipe.specs.Procedure.{table_at, tables_from}
 use Rattle.batch_recipe.specs.declared.chart.Chart.{Chart}
 use Rattle.batch_recipe.specs.declared.condition.Cond.{Cond}
@@ -57,14 +57,14 @@ grow_choices-grow-requires-2 t c =
 
 pub grow_parts-returns-clause-grown : goal.grow_parts-returns-clause-grown
 grow_parts-returns-clause-grown t c =
-    node_grown c.args.nodes.now.items c.begin.new.nodes.items c.grow_each.new.nodes.items c.finish.new.nodes.items (plain c.args.kind 0) c.in_ok-node.node c.args.seat.parent c.args.seat.child
+    node_grown c.args.nodes.now.items c.begin.new.nodes.items c.grow_each.new.nodes.items c.finish.new.nodes.items (plain_head c.args.kind 0) c.in_ok-node.node c.args.seat.parent c.args.seat.child
     (λ m n. branch_entries c.args.labels.now.acts.now c.args.seat.level c.args.seat.unit m (length c.args.conditions.now.items) n 0 (map diagram_of c.args.parts.now)) c.in_ok-node.ensures c.in_ok-grow_each.ensures.grown c.finish.ensures
 
 pub grow_parts-returns-in_err-grow_each-clause-grown : goal.grow_parts-returns-in_err-grow_each-clause-grown
 grow_parts-returns-in_err-grow_each-clause-grown t c =
     let p = err_from_is_err_and c.from_residual-in_err-grow_each.result c.from_residual-in_err-grow_each.ensures.1 in
     rw (p.1, p.2)
-    (node_failed c.args.nodes.now.items c.begin.new.nodes.items c.grow_each.new.nodes.items c.grow_each.new.nodes.items (plain c.args.kind 0) c.in_ok-node.node c.args.seat.parent c.args.seat.child
+    (node_failed c.args.nodes.now.items c.begin.new.nodes.items c.grow_each.new.nodes.items c.grow_each.new.nodes.items (plain_head c.args.kind 0) c.in_ok-node.node c.args.seat.parent c.args.seat.child
     (λ m n. branch_entries c.args.labels.now.acts.now c.args.seat.level c.args.seat.unit m (length c.args.conditions.now.items) n 0 (map diagram_of c.args.parts.now)) c.in_ok-node.ensures c.in_err-grow_each.field-0.0 c.in_err-grow_each.ensures.grown)
 
 pub grow_each-overflow_add-child : goal.grow_each-overflow_add-child
@@ -251,12 +251,12 @@ grow_selection-returns-clause-grown t c =
     let pushed_is : pushed ≡ conds ++ conditions_of_cases cs =
     c.in-Ok.ensures ∙ ap (λ (xs : List Cond). conds ++ xs) (conditions-are c.args.choices.now (diagram_of c.args.last.now)) in
     let size : length pushed ≡ length conds + length (conditions_of_cases cs) = ap length pushed_is ∙ length-append conds (conditions_of_cases cs) in
-    let head : plain kind.Sel c.len-first.result ≡ plain kind.Sel (length conds) = ap (λ m. plain kind.Sel m) (omega (arith, c.len-first.ensures)) in
+    let head : plain_head kind.Sel c.len-first.result ≡ plain_head kind.Sel (length conds) = ap (λ m. plain_head kind.Sel m) (omega (arith, c.len-first.ensures)) in
     let below : ℕ → ℕ → List Entry = λ m n. grown_cases told named m (length pushed) n 0 cs in
     let same : below (length before + 1) (length before) ≡ grown_cases told named (length before + 1) (length conds + length (conditions_of_cases cs)) (length before) 0 cs =
     ap (λ m. grown_cases told named (length before + 1) m (length before) 0 cs) size in
-    grown_as before c.finish.new.nodes.items (Ok _) (plain kind.Sel c.len-first.result) (plain kind.Sel (length conds)) (length before) c.args.seat.parent c.args.seat.child _ _ head same
-    (node_grown before c.begin.new.nodes.items c.grow_choices.new.nodes.items c.finish.new.nodes.items (plain kind.Sel c.len-first.result) c.in_ok-node.node c.args.seat.parent c.args.seat.child
+    grown_as before c.finish.new.nodes.items (Ok _) (plain_head kind.Sel c.len-first.result) (plain_head kind.Sel (length conds)) (length before) c.args.seat.parent c.args.seat.child _ _ head same
+    (node_grown before c.begin.new.nodes.items c.grow_choices.new.nodes.items c.finish.new.nodes.items (plain_head kind.Sel c.len-first.result) c.in_ok-node.node c.args.seat.parent c.args.seat.child
     below c.in_ok-node.ensures c.in_ok-grow_choices.ensures.grown c.finish.ensures)
 
 pub grow_selection-returns-clause-added : goal.grow_selection-returns-clause-added
@@ -285,15 +285,15 @@ grow_selection-returns-in_err-grow_choices-clause-grown t c =
     let pushed_is : pushed ≡ conds ++ conditions_of_cases cs =
     c.in-Ok.ensures ∙ ap (λ (xs : List Cond). conds ++ xs) (conditions-are c.args.choices.now (diagram_of c.args.last.now)) in
     let size : length pushed ≡ length conds + length (conditions_of_cases cs) = ap length pushed_is ∙ length-append conds (conditions_of_cases cs) in
-    let head : plain kind.Sel c.len-first.result ≡ plain kind.Sel (length conds) = ap (λ m. plain kind.Sel m) (omega (arith, c.len-first.ensures)) in
+    let head : plain_head kind.Sel c.len-first.result ≡ plain_head kind.Sel (length conds) = ap (λ m. plain_head kind.Sel m) (omega (arith, c.len-first.ensures)) in
     let below : ℕ → ℕ → List Entry = λ m n. grown_cases told named m (length pushed) n 0 cs in
     let same : below (length before + 1) (length before) ≡ grown_cases told named (length before + 1) (length conds + length (conditions_of_cases cs)) (length before) 0 cs =
     ap (λ m. grown_cases told named (length before + 1) m (length before) 0 cs) size in
     let p = err_from_is_err_and c.from_residual-in_err-grow_choices.result c.from_residual-in_err-grow_choices.ensures.1 in
     let fault = c.in_err-grow_choices.field-0.0 in
     rw (p.1, p.2)
-    (grown_as before c.grow_choices.new.nodes.items (Err fault) (plain kind.Sel c.len-first.result) (plain kind.Sel (length conds)) (length before) c.args.seat.parent c.args.seat.child _ _ head same
-    (node_failed before c.begin.new.nodes.items c.grow_choices.new.nodes.items c.grow_choices.new.nodes.items (plain kind.Sel c.len-first.result) c.in_ok-node.node c.args.seat.parent c.args.seat.child
+    (grown_as before c.grow_choices.new.nodes.items (Err fault) (plain_head kind.Sel c.len-first.result) (plain_head kind.Sel (length conds)) (length before) c.args.seat.parent c.args.seat.child _ _ head same
+    (node_failed before c.begin.new.nodes.items c.grow_choices.new.nodes.items c.grow_choices.new.nodes.items (plain_head kind.Sel c.len-first.result) c.in_ok-node.node c.args.seat.parent c.args.seat.child
     below c.in_ok-node.ensures fault c.in_err-grow_choices.ensures.grown))
 
 pub grow_loop-returns-clause-grown : goal.grow_loop-returns-clause-grown
@@ -308,12 +308,12 @@ grow_loop-returns-clause-grown t c =
     let pushed = c.push_condition.new.conditions.items in
     let pushed_is : pushed ≡ conds ++ c.args.turn.now.0 ∷ [] = c.in-Ok.ensures in
     let size : length pushed ≡ length conds + 1 = ap length pushed_is ∙ length-append conds (c.args.turn.now.0 ∷ []) in
-    let head : plain (kind.Loop c.args.turns) c.len-number.result ≡ plain (kind.Loop c.args.turns) (length conds) = ap (λ m. plain (kind.Loop c.args.turns) m) (omega (arith, c.len-number.ensures)) in
+    let head : plain_head (kind.Loop c.args.turns) c.len-number.result ≡ plain_head (kind.Loop c.args.turns) (length conds) = ap (λ m. plain_head (kind.Loop c.args.turns) m) (omega (arith, c.len-number.ensures)) in
     let below : ℕ → ℕ → List Entry = λ m n. grown told named m (length pushed) n 0 d in
     let same : below (length before + 1) (length before) ≡ grown told named (length before + 1) (length conds + 1) (length before) 0 d =
     ap (λ m. grown told named (length before + 1) m (length before) 0 d) size in
-    grown_as before c.finish.new.nodes.items (Ok _) (plain (kind.Loop c.args.turns) c.len-number.result) (plain (kind.Loop c.args.turns) (length conds)) (length before) c.args.seat.parent c.args.seat.child _ _ head same
-    (node_grown before c.begin.new.nodes.items c.grow.new.nodes.items c.finish.new.nodes.items (plain (kind.Loop c.args.turns) c.len-number.result) c.in_ok-node.node c.args.seat.parent c.args.seat.child
+    grown_as before c.finish.new.nodes.items (Ok _) (plain_head (kind.Loop c.args.turns) c.len-number.result) (plain_head (kind.Loop c.args.turns) (length conds)) (length before) c.args.seat.parent c.args.seat.child _ _ head same
+    (node_grown before c.begin.new.nodes.items c.grow.new.nodes.items c.finish.new.nodes.items (plain_head (kind.Loop c.args.turns) c.len-number.result) c.in_ok-node.node c.args.seat.parent c.args.seat.child
     below c.in_ok-node.ensures c.in_ok-grow.ensures.grown c.finish.ensures)
 
 pub grow_loop-returns-clause-added : goal.grow_loop-returns-clause-added
@@ -339,15 +339,15 @@ grow_loop-returns-in_err-grow-clause-grown t c =
     let pushed = c.push_condition.new.conditions.items in
     let pushed_is : pushed ≡ conds ++ c.args.turn.now.0 ∷ [] = c.in-Ok.ensures in
     let size : length pushed ≡ length conds + 1 = ap length pushed_is ∙ length-append conds (c.args.turn.now.0 ∷ []) in
-    let head : plain (kind.Loop c.args.turns) c.len-number.result ≡ plain (kind.Loop c.args.turns) (length conds) = ap (λ m. plain (kind.Loop c.args.turns) m) (omega (arith, c.len-number.ensures)) in
+    let head : plain_head (kind.Loop c.args.turns) c.len-number.result ≡ plain_head (kind.Loop c.args.turns) (length conds) = ap (λ m. plain_head (kind.Loop c.args.turns) m) (omega (arith, c.len-number.ensures)) in
     let below : ℕ → ℕ → List Entry = λ m n. grown told named m (length pushed) n 0 d in
     let same : below (length before + 1) (length before) ≡ grown told named (length before + 1) (length conds + 1) (length before) 0 d =
     ap (λ m. grown told named (length before + 1) m (length before) 0 d) size in
     let p = err_from_is_err_and c.from_residual-in_err-grow.result c.from_residual-in_err-grow.ensures.1 in
     let fault = c.in_err-grow.field-0.0 in
     rw (p.1, p.2)
-    (grown_as before c.grow.new.nodes.items (Err fault) (plain (kind.Loop c.args.turns) c.len-number.result) (plain (kind.Loop c.args.turns) (length conds)) (length before) c.args.seat.parent c.args.seat.child _ _ head same
-    (node_failed before c.begin.new.nodes.items c.grow.new.nodes.items c.grow.new.nodes.items (plain (kind.Loop c.args.turns) c.len-number.result) c.in_ok-node.node c.args.seat.parent c.args.seat.child
+    (grown_as before c.grow.new.nodes.items (Err fault) (plain_head (kind.Loop c.args.turns) c.len-number.result) (plain_head (kind.Loop c.args.turns) (length conds)) (length before) c.args.seat.parent c.args.seat.child _ _ head same
+    (node_failed before c.begin.new.nodes.items c.grow.new.nodes.items c.grow.new.nodes.items (plain_head (kind.Loop c.args.turns) c.len-number.result) c.in_ok-node.node c.args.seat.parent c.args.seat.child
     below c.in_ok-node.ensures fault c.in_err-grow.ensures.grown))
 
 pub grow_act-returns-in_ok-grow-in-Follows-clause-grown : goal.grow_act-returns-in_ok-grow-in-Follows-clause-grown

@@ -1,9 +1,9 @@
-use Rattle.batch_record.specs.Reading.{out_of}
+use Rattle.batch_record.specs.Reading.{out_told}
 use Rattle.batch_record.proofs.Lines.{passed-on, told-on}
 use Rattle.batch_record.proofs.picture_reading.take_line.Goals as goal
 
 pub returns-in_ok-apply_out-in-Ok-Some : goal.returns-in_ok-apply_out-in-Ok-Some
-returns-in_ok-apply_out-in-Ok-Some c = told-on c.args.line.now (out_of c.in-Ok-Some.told) (rw c.in-Ok-Some.field-0-is at c.in-Ok-Some.ensures.ok).0 (rw c.in-Ok-Some.field-0-is at c.in-Ok-Some.ensures.read)
+returns-in_ok-apply_out-in-Ok-Some c = told-on c.args.line.now (out_told c.in-Ok-Some.told) (rw c.in-Ok-Some.field-0-is at c.in-Ok-Some.ensures.ok).0 (rw c.in-Ok-Some.field-0-is at c.in-Ok-Some.ensures.read)
 
 pub returns-in_ok-apply_remark-in-Some : goal.returns-in_ok-apply_remark-in-Some
 returns-in_ok-apply_remark-in-Some c = passed-on c.args.line.now (rw c.in-Ok-None.field-0-is at c.in-Ok-None.ensures.ok).0

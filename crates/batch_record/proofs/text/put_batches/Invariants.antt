@@ -1,8 +1,8 @@
 use Rattle.std.proofs.Common.{◌≡◌, ◌++◌, map}
-use Rattle.batch_record.specs.Kept.{entry_row, rows_of}
+use Rattle.batch_record.specs.Kept.{entry_row, listed_rows}
 use Rattle.batch_record.specs.Listing.{batch_words, lines_behind}
 use Rattle.batch_record.proofs.text.put_batches.Given as goal
 
 abbrev pub invariant-loop-number : goal.invariant-loop-number
 invariant-loop-number l =
-    l.text.items ++ lines_behind l.mark (map batch_words (map entry_row l.number-iterator)) ≡ l.initial.text.items ++ lines_behind l.mark (map batch_words (rows_of l.batches))
+    l.text.items ++ lines_behind l.mark (map batch_words (map entry_row l.number-iterator)) ≡ l.initial.text.items ++ lines_behind l.mark (map batch_words (listed_rows l.batches))

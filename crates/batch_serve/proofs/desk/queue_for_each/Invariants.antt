@@ -1,5 +1,5 @@
 use Rattle.std.proofs.Common.{◌≡◌, ◌<◌, ◌≤◌, ℕ, length, get_or}
-use Rattle.batch_serve.specs.Told.{IsTold}
+use Rattle.batch_serve.specs.Told.{IsDeskTold}
 use Rattle.batch_serve.specs.declared.desk.Desk.{Desk}
 use Rattle.batch_serve.proofs.desk.queue_for_each.Given as goal
 
@@ -7,6 +7,6 @@ use Rattle.batch_serve.proofs.desk.queue_for_each.Given as goal
 abbrev pub invariant-loop-desk : goal.invariant-loop-desk
 invariant-loop-desk l = record {
   count : length l.desks.items ≡ length l.initial.desks.items;
-  told : (k : ℕ) (other : Desk) → k < l.desk → IsTold k l.answers (get_or l.initial.desks.items k other) (get_or l.desks.items k other);
+  told : (k : ℕ) (other : Desk) → k < l.desk → IsDeskTold k l.answers (get_or l.initial.desks.items k other) (get_or l.desks.items k other);
   rest : (k : ℕ) (other : Desk) → l.desk ≤ k → get_or l.desks.items k other ≡ get_or l.initial.desks.items k other;
 }

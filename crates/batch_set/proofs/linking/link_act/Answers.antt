@@ -1,5 +1,5 @@
 use Rattle.std.proofs.Common.{[], ◌∷◌, ◌++◌, ap, map, ◌∙◌}
-use Rattle.batch_set.specs.Linking.{need_linked, one_of, reserved_need, unit_needs}
+use Rattle.batch_set.specs.Linking.{need_linked, one_unit_linked, reserved_need, unit_needs}
 use Rattle.batch_set.proofs.TableRows.{AreAdded-more, AreAdded-all}
 use Rattle.batch_set.proofs.linking.link_act.Goals as goal
 
@@ -7,7 +7,7 @@ pub loop-name-preserved : goal.loop-name-preserved
 loop-name-preserved c =
     AreAdded-more (unit_needs c.args.cell.now c.args.recipe.now c.args.act.now.unit) (reserved_need c.args.cell.now c.args.recipe.now) c.deref-name-items.result.now c.loop-name.name-index
     c.loop-name.needs.items c.push.new.self.items c.loop-name.invariant c.name-item.result c.loop-name-test.true c.name-item.is
-    (c.in_ok-push.ensures.items ∙ ap (λ source. c.loop-name.needs.items ++ one_of source ∷ []) c.reserved-source.ensures)
+    (c.in_ok-push.ensures.items ∙ ap (λ source. c.loop-name.needs.items ++ one_unit_linked source ∷ []) c.reserved-source.ensures)
 
 pub loop-need-preserved : goal.loop-need-preserved
 loop-need-preserved c =

@@ -1,13 +1,13 @@
 use Rattle.std.proofs.Common.{◌≡◌, List, inr, map, subst, string_bytes}
 use Rattle.std.proofs.lemmas.Result.{err_from_is_err_and}
 use Rattle.batch_recipe.specs.declared.recipe.Recipe.{Recipe}
-use Rattle.batch_outline.specs.Showing.{shown}
+use Rattle.batch_outline.specs.Showing.{shown_recipes}
 use Rattle.batch_verdicts.proofs.HaltCauses.{halts_without_memory}
 use Rattle.batch_verdicts.proofs.documents.show_documents.Goals as goal
 
 pub returns-clause-verdict : goal.returns-clause-verdict
 returns-clause-verdict g c =
-    let So : List Recipe → Type 0 = λ rs. string_bytes c.in_ok-show_recipes.field-0 ≡ shown rs in
+    let So : List Recipe → Type 0 = λ rs. string_bytes c.in_ok-show_recipes.field-0 ≡ shown_recipes rs in
     record {
       equipment = c.in_ok-read_cell.field-0;
       recipes = c.in_ok-recipes.recipes.items;

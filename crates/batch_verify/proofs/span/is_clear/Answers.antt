@@ -1,7 +1,7 @@
 use Rattle.std.proofs.Common.{◌≡◌, ◌≤◌, ℕ, List, [], Option, Some, None, false, true, length, option_copied, get_or, replicate, slice_get, refl, sym, ap, ◌∙◌, subst, arith}
 use Rattle.std.proofs.lemmas.List.{with_items_is}
 use Rattle.std.proofs.lemmas.Option.{slice_get-get_or}
-use Rattle.batch_recipe.specs.Outlines.{act_of}
+use Rattle.batch_recipe.specs.Outlines.{act_of_kind}
 use Rattle.batch_recipe.specs.declared.act.Act.{Act}
 use Rattle.batch_recipe.specs.declared.entry.Entry.{Entry}
 use Rattle.batch_recipe.specs.declared.entry.Kind.TheVariants as kind
@@ -82,9 +82,9 @@ loop-entry-preserved c =
     (omega (arith, node, c.loop-entry-test.true, ap length c.deref-entry-items.ensures.value, as_many r, c.requires.faults.as_many)) in
     let some = (λ (o : Span) (o_is : slice_get spans entry.parent ≡ Some o). c.span_above-above.ensures.some o (ap (λ xs. slice_get xs entry.parent) c.deref-in-loop-entry-2.ensures.value ∙ o_is)) in
     let none = (λ (past : length spans ≤ entry.parent). c.span_above-above.ensures.none (omega (arith, past, ap length c.deref-in-loop-entry-2.ensures.value))) in
-    let both : (a : Act) → act_of r.acts entry.kind ≡ Some a → Allows own above × IsPassed cell ranks r.roles.items low high (needs_by c.args.linked.now entry.kind) a own.above own.within =
+    let both : (a : Act) → act_of_kind r.acts entry.kind ≡ Some a → Allows own above × IsPassed cell ranks r.roles.items low high (needs_by c.args.linked.now entry.kind) a own.above own.within =
     (λ a act_is. rw (lowest, c.deref-in-loop-entry-3.ensures.value, c.deref-in-loop-entry-4.ensures.value) at (c.in-Some.ensures.act a act_is)) in
-    let passed : (a : Act) → act_of r.acts entry.kind ≡ Some a → IsPassed cell ranks r.roles.items low high (needs_by c.args.linked.now entry.kind) a above own.within =
+    let passed : (a : Act) → act_of_kind r.acts entry.kind ≡ Some a → IsPassed cell ranks r.roles.items low high (needs_by c.args.linked.now entry.kind) a above own.within =
     (λ a act_is. IsPassed-allowed cell ranks r.roles.items low high (needs_by c.args.linked.now entry.kind) a own above (both a act_is).0 (both a act_is).1) in
     let more : c.note_passed.new.passed ≡ with_passed noted entry.kind own = c.note_passed.ensures ∙ ap (λ all. with_passed all entry.kind own) c.deref_mut.ensures.value in
     let written = with_items_is c.loop-entry.passed c.note_passed.new.passed (c.note_passed.auto.passed ∙ c.deref_mut.ensures.len) in

@@ -2,7 +2,7 @@ use Rattle.std.proofs.Common.{◌≡◌, ◌+◌, ◌<◌, ◌++◌, ◌&&◌, B
 use Rattle.std.proofs.lemmas.Option.{slice_get_within}
 use Rattle.batch_recipe.specs.ActsAtNodes.{procedure_acts}
 use Rattle.batch_recipe.specs.Nodes.{node_count}
-use Rattle.batch_recipe.specs.Outlines.{act_of}
+use Rattle.batch_recipe.specs.Outlines.{act_of_kind}
 use Rattle.batch_recipe.proofs.NodeSubtrees.{some_count}
 use Rattle.batch_recipe.proofs.NodesAbove.{act_at, as_many, ns}
 use Rattle.batch_recipe.proofs.NodesBelow.{end_read, read_at}
@@ -29,7 +29,7 @@ loop-below-init c =
     let e = c.index-entry.result.now in
     let x = end_read r k c.from.result e c.requires.node c.from.ensures c.index-entry.ensures in
     let read = read_at r k c.from.result e c.requires.node c.from.ensures c.index-entry.ensures in
-    let own = one_between acts k (act_of r.acts e.kind) (act_at r k e read) in (
+    let own = one_between acts k (act_of_kind r.acts e.kind) (act_at r k e read) in (
       omega arith,
       omega (arith, x.2, some_count x.0.here),
       subst (λ names. IsSetOf r.acts.phases.items names c.own_set-set.result) (own_is r.acts r.kinds e.kind ∙ sym own) (c.own_set-set.ensures r.acts.phases.items c.requires.sets),
@@ -79,7 +79,7 @@ loop-below-preserved c =
     let names = phase_names (phases y.0.here) in
     let split : earlier ++ names ≡ phases_between acts k e.end =
     ap (λ xs. earlier ++ xs) (node_phases r.acts b y.0 y.1 ∙ ap (phases_between acts b) (sym y.2))
-    ∙ sym (between_split acts k b e.end (omega (arith, inv.0)) (omega (arith, y.2)) (omega (arith, slice_get_within acts b (act_of r.acts e.kind) acted))) in
+    ∙ sym (between_split acts k b e.end (omega (arith, inv.0)) (omega (arith, y.2)) (omega (arith, slice_get_within acts b (act_of_kind r.acts e.kind) acted))) in
     let flag : (c.is_disjoint.result && c.loop-below.apart) ≡ c.if-is_disjoint.apart = elim c.if-is_disjoint.branch [
       | then-is_disjoint w ↦ ap (λ (d : Bool). d && c.loop-below.apart) w.if-is_disjoint.true ∙ sym w.apart-is
       | else-is_disjoint w ↦ ap (λ (d : Bool). d && c.loop-below.apart) w.if-is_disjoint.false ∙ (sym w.if-is_disjoint.false ∙ sym w.apart-is)

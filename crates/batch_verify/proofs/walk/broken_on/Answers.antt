@@ -1,6 +1,6 @@
 use Rattle.std.proofs.Common.{◌≡◌, ◌≤◌, ◌+◌, ℕ, List, Option, Some, None, Ok, Err, length, option_copied, get_or, slice_get, sym, ap, ◌∙◌, subst, arith}
 use Rattle.std.proofs.lemmas.Option.{slice_get-get_or}
-use Rattle.batch_recipe.specs.Outlines.{act_of}
+use Rattle.batch_recipe.specs.Outlines.{act_of_kind}
 use Rattle.batch_recipe.specs.declared.act.Act.{Act}
 use Rattle.batch_recipe.specs.declared.entry.Entry.{Entry}
 use Rattle.batch_recipe.specs.declared.entry.Kind.TheVariants as kind
@@ -62,7 +62,7 @@ returns-in-Err c = λ recipes.
     let fault_is : slice_get c.args.faults.now n ≡ Some fault =
     ap (slice_get c.args.faults.now) node ∙ slice_get-get_or c.args.faults.now c.len-node.result None
     (omega (arith, node, c.loop-entry-test.true, ap length c.deref-entry-items.ensures.value, as_many r, c.requires.faults.as_many)) in
-    let entered = (λ (a : Act) (act_is : act_of r.acts entry.kind ≡ Some a). c.in-Err.ensures.act a act_is (sites bound r.acts)
+    let entered = (λ (a : Act) (act_is : act_of_kind r.acts entry.kind ≡ Some a). c.in-Err.ensures.act a act_is (sites bound r.acts)
     (ap (λ (takers : List (Option ℕ)). asks_by cell takers (needs_by c.args.linked.now entry.kind)) takers ∙ says-asks cell c.args.recipe.now c.args.linked.now c.requires.linked bound entry.kind a act_is)) in
     let some = (λ (q : Path) (q_is : slice_get paths entry.parent ≡ Some q). c.path_above-above.ensures.some q (ap (λ xs. slice_get xs entry.parent) c.deref-in-loop-entry.ensures.value ∙ q_is)) in
     let none = (λ (past : length paths ≤ entry.parent). c.path_above-above.ensures.none (omega (arith, past, ap length c.deref-in-loop-entry.ensures.value))) in
@@ -91,7 +91,7 @@ loop-entry-preserved c =
     let fault_is : slice_get c.args.faults.now n ≡ Some fault =
     ap (slice_get c.args.faults.now) node ∙ slice_get-get_or c.args.faults.now c.len-node.result None
     (omega (arith, node, c.loop-entry-test.true, ap length c.deref-entry-items.ensures.value, as_many r, c.requires.faults.as_many)) in
-    let entered = (λ (a : Act) (act_is : act_of r.acts entry.kind ≡ Some a). c.in-Ok.ensures.act a act_is (sites bound r.acts)
+    let entered = (λ (a : Act) (act_is : act_of_kind r.acts entry.kind ≡ Some a). c.in-Ok.ensures.act a act_is (sites bound r.acts)
     (ap (λ (takers : List (Option ℕ)). asks_by cell takers (needs_by c.args.linked.now entry.kind)) takers ∙ says-asks cell c.args.recipe.now c.args.linked.now c.requires.linked bound entry.kind a act_is)) in
     let some = (λ (q : Path) (q_is : slice_get paths entry.parent ≡ Some q). c.path_above-above.ensures.some q (ap (λ xs. slice_get xs entry.parent) c.deref-in-loop-entry.ensures.value ∙ q_is)) in
     let none = (λ (past : length paths ≤ entry.parent). c.path_above-above.ensures.none (omega (arith, past, ap length c.deref-in-loop-entry.ensures.value))) in

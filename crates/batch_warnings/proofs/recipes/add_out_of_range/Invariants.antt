@@ -1,9 +1,9 @@
 use Rattle.std.proofs.Common.{◌≡◌, ◌++◌, ◌&&◌, not, map, take}
 use Rattle.std.specs.List.{list_any}
 use Rattle.batch_recipe.specs.Formula.{is_in_range}
-use Rattle.batch_warnings.specs.Warnings.{numbers_of, quantities_in, act_reports, is_compared, takes_value, is_named, takes_role}
+use Rattle.batch_warnings.specs.Warnings.{numbers_passing, quantities_in, act_reports, is_compared, takes_value, is_named, takes_role}
 use Rattle.batch_warnings.specs.declared.warning.RecipeWarning.TheVariants.{UnnamedAct, ValueOutOfRange, UnreportedOutput, UnusedRole, ScaledParameter}
 use Rattle.batch_warnings.proofs.recipes.add_out_of_range.Given as goal
 
 abbrev pub invariant-loop-number : goal.invariant-loop-number
-invariant-loop-number l = l.warnings.items ≡ l.initial.warnings.items ++ map (ValueOutOfRange l.table) (numbers_of (λ q. not (is_in_range l.recipe.basis l.recipe.basis q)) 0 (take l.number l.quantity-items))
+invariant-loop-number l = l.warnings.items ≡ l.initial.warnings.items ++ map (ValueOutOfRange l.table) (numbers_passing (λ q. not (is_in_range l.recipe.basis l.recipe.basis q)) 0 (take l.number l.quantity-items))

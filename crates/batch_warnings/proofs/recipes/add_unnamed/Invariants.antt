@@ -1,9 +1,9 @@
 use Rattle.std.proofs.Common.{◌≡◌, ◌++◌, ◌&&◌, not, map, take}
 use Rattle.std.specs.List.{list_any}
 use Rattle.batch_recipe.specs.Formula.{is_in_range}
-use Rattle.batch_warnings.specs.Warnings.{numbers_of, act_reports, is_compared, takes_value, is_named, takes_role}
+use Rattle.batch_warnings.specs.Warnings.{numbers_passing, act_reports, is_compared, takes_value, is_named, takes_role}
 use Rattle.batch_warnings.specs.declared.warning.RecipeWarning.TheVariants.{UnnamedAct, ValueOutOfRange, UnreportedOutput, UnusedRole, ScaledParameter}
 use Rattle.batch_warnings.proofs.recipes.add_unnamed.Given as goal
 
 abbrev pub invariant-loop-number : goal.invariant-loop-number
-invariant-loop-number l = l.warnings.items ≡ l.initial.warnings.items ++ map (UnnamedAct l.table) (numbers_of (λ a. not (is_named l.acts l.table a)) 0 (take l.number l.act-items))
+invariant-loop-number l = l.warnings.items ≡ l.initial.warnings.items ++ map (UnnamedAct l.table) (numbers_passing (λ a. not (is_named l.acts l.table a)) 0 (take l.number l.act-items))

@@ -1,7 +1,7 @@
 use Rattle.std.proofs.Common.{◌≡◌, ◌++◌, codes, append_assoc, sym, ◌∙◌}
 use Rattle.std.proofs.KnownBytes.{Appends-trans}
 use Rattle.std.proofs.lemmas.Result.{err_from_is_err_and}
-use Rattle.batch_engine.specs.Names.{recipe_name, roles_told}
+use Rattle.batch_engine.specs.Names.{recipe_name, roles_taken}
 use Rattle.batch_wire.specs.Pieces.{created_front, roles_text}
 use Rattle.batch_wire.specs.RecordText.{role_texts}
 use Rattle.batch_wire.proofs.WrittenPairs.{line_of_created}
@@ -12,7 +12,7 @@ pub returns-in_err-write_created_front : goal.returns-in_err-write_created_front
 returns-in_err-write_created_front g c =
     let p = err_from_is_err_and c.from_residual.result c.from_residual.ensures.1 in
     let a = c.args in
-    let roles = roles_told a.cleared.now a.recipe a.units in
+    let roles = roles_taken a.cleared.now a.recipe a.units in
     let name = c.recipe_name.result.now in
     let of_name : recipe_name a.cleared.now a.recipe ≡ name = sym c.recipe_name.ensures in
     rw (p.1, of_name, line_of_created a.batch name a.size (role_texts roles))
@@ -22,7 +22,7 @@ pub returns-in_err-write_roles : goal.returns-in_err-write_roles
 returns-in_err-write_roles g c =
     let p = err_from_is_err_and c.from_residual-in_err-write_roles.result c.from_residual-in_err-write_roles.ensures.1 in
     let a = c.args in
-    let roles = roles_told a.cleared.now a.recipe a.units in
+    let roles = roles_taken a.cleared.now a.recipe a.units in
     let name = c.recipe_name.result.now in
     let of_name : recipe_name a.cleared.now a.recipe ≡ name = sym c.recipe_name.ensures in
     rw (p.1, of_name, line_of_created a.batch name a.size (role_texts roles))
@@ -31,7 +31,7 @@ returns-in_err-write_roles g c =
 pub returns : goal.returns
 returns g c =
     let a = c.args in
-    let roles = roles_told a.cleared.now a.recipe a.units in
+    let roles = roles_taken a.cleared.now a.recipe a.units in
     let name = c.recipe_name.result.now in
     let of_name : recipe_name a.cleared.now a.recipe ≡ name = sym c.recipe_name.ensures in
     let front = created_front a.batch name a.size in

@@ -1,13 +1,13 @@
 use Rattle.std.proofs.Common.{◌≡◌, ◌<◌, ◌+◌, ◌^◌, arith, length, ap, ◌∙◌, []}
 use Rattle.std.specs.Prelude.{replicate}
-use Rattle.batch_arbiter.proofs.PoolGrowth.{IsLinked-new, claims-new}
+use Rattle.batch_arbiter.proofs.PoolGrowth.{AreLinkedLists-new, claims-new}
 use Rattle.batch_arbiter.proofs.pool.Pool.new.Goals as goal
 
 pub invariant_of-result : goal.invariant_of-result
 invariant_of-result c =
     let entries : length c.loop-list.entries.items ≡ length c.loop-list.ends.items + 1 = omega (arith, c.loop-list.invariant.0, c.loop-list.invariant.1) in
     let few : length c.loop-list.ends.items < 2 ^ 31 = omega (arith, c.loop-list.invariant.1, c.loop-list.auto.list-end, c.requires) in
-    IsLinked-new _ _ entries few (λ k h. c.loop-list.invariant.2 k (omega (arith, h, c.loop-list.invariant.1)))
+    AreLinkedLists-new _ _ entries few (λ k h. c.loop-list.invariant.2 k (omega (arith, h, c.loop-list.invariant.1)))
 
 pub returns : goal.returns
 returns c =

@@ -1,5 +1,5 @@
 use Rattle.std.proofs.Common.{arith, eq-eqb}
-use Rattle.batch_arbiter.specs.Linked.{claim_of, list_at}
+use Rattle.batch_arbiter.specs.Linked.{entry_claim, list_at}
 use Rattle.batch_arbiter.proofs.ListWithdrawal.{none-first, thinned-first, thinned-none}
 use Rattle.batch_arbiter.proofs.pool.Pool.remove_batch.Goals as goal
 
@@ -11,5 +11,5 @@ returns-in_default c = thinned-none c.args.self.now c.args.list c.args.batch (no
 
 pub returns-then-first-batch : goal.returns-then-first-batch
 returns-then-first-batch c =
-    thinned-first c.args.self.now c.remove_behind.new.self c.take_first.new.self c.args.list c.args.batch (list_at c.args.self.now c.args.list) (claim_of c.in-Some.first)
+    thinned-first c.args.self.now c.remove_behind.new.self c.take_first.new.self c.args.list c.args.batch (list_at c.args.self.now c.args.list) (entry_claim c.in-Some.first)
     c.requires.known c.in-Some.ensures (eq-eqb _ _ c.if-first-batch.true) c.remove_behind.ensures c.take_first.ensures.after

@@ -4,7 +4,7 @@ use Rattle.std.proofs.lemmas.List.{get_or_read, length-map}
 use Rattle.batch_arbiter.specs.declared.ends.Ends.{Ends}
 use Rattle.batch_arbiter.specs.declared.entry.Entry.{Entry}
 use Rattle.batch_arbiter.specs.Allocation.{is_of_batch}
-use Rattle.batch_arbiter.specs.Linked.{Lists, at, claim_of, ends_at, list_at, no_list, nowhere}
+use Rattle.batch_arbiter.specs.Linked.{Lists, at, entry_claim, ends_at, list_at, no_list, nowhere}
 use Rattle.batch_arbiter.proofs.Calls.{length-seen}
 use Rattle.batch_arbiter.proofs.ListWithdrawal.{walked-first, walked-within, walked-gone, walked-kept, walked-through, walked-enough}
 use Rattle.batch_arbiter.proofs.pool.Pool.remove_behind.Goals as goal
@@ -71,8 +71,8 @@ loop-preserved c =
     let here : c.index.result.now ≡ at c.loop.self-inside.entries.items c.loop.before = get_or_read _ _ _ within.0 c.index.ensures nowhere in
     let inside : c.index.result.now.next < length c.loop.self-inside.entries.items = rw here within.1 in
     let next : c.index-in-loop.result.now ≡ at c.loop.self-inside.entries.items c.index.result.now.next = get_or_read _ _ _ inside c.index-in-loop.ensures nowhere in
-    let claim : is_of_batch c.args.batch (claim_of (at c.loop.self-inside.entries.items (at c.loop.self-inside.entries.items c.loop.before).next)) ≡ is_of_batch c.args.batch (claim_of c.index-in-loop.result.now) =
-    ap (λ (e : Entry). is_of_batch c.args.batch (claim_of (at c.loop.self-inside.entries.items e.next))) (sym here) ∙ ap (λ (e : Entry). is_of_batch c.args.batch (claim_of e)) (sym next) in
+    let claim : is_of_batch c.args.batch (entry_claim (at c.loop.self-inside.entries.items (at c.loop.self-inside.entries.items c.loop.before).next)) ≡ is_of_batch c.args.batch (entry_claim c.index-in-loop.result.now) =
+    ap (λ (e : Entry). is_of_batch c.args.batch (entry_claim (at c.loop.self-inside.entries.items e.next))) (sym here) ∙ ap (λ (e : Entry). is_of_batch c.args.batch (entry_claim e)) (sym next) in
     elim c.if-index-batch.branch [
       | then-index-batch w ↦
           let own : w.index_mut.result.now ≡ ends_at c.loop.self-inside.lists.items c.args.list = get_or_read _ _ _ c.loop.invariant.known w.index_mut.ensures.value no_list in

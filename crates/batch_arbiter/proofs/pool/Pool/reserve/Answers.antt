@@ -1,12 +1,12 @@
 use Rattle.std.proofs.Common.{◌≡◌, List, ap, ◌∙◌, map, sym, subst}
 use Rattle.batch_arbiter.specs.declared.entry.Entry.{Entry}
-use Rattle.batch_arbiter.specs.Linked.{Lists, IsLinked, claims_of}
+use Rattle.batch_arbiter.specs.Linked.{Lists, AreLinkedLists, entry_claims}
 use Rattle.batch_arbiter.proofs.pool.Pool.reserve.Goals as goal
 
 pub returns-clause-rest : goal.returns-clause-rest
 returns-clause-rest c =
-    let linked : IsLinked c.reserve.new.self.items c.self.inside.lists.items c.self.inside.free c.self.inside.room =
-    subst (λ (es : List Entry). IsLinked es c.self.inside.lists.items c.self.inside.free c.self.inside.room) (sym c.reserve.ensures.items) c.self.invariant in
-    let same : map (claims_of c.add_free-self-inside.new.entries.items) c.self.inside.lists.items ≡ map (claims_of c.self.inside.entries.items) c.self.inside.lists.items =
-    (c.add_free-self-inside.ensures c.self.inside.lists.items c.self.inside.room linked).1 ∙ ap (λ es. map (claims_of es) c.self.inside.lists.items) c.reserve.ensures.items in
+    let linked : AreLinkedLists c.reserve.new.self.items c.self.inside.lists.items c.self.inside.free c.self.inside.room =
+    subst (λ (es : List Entry). AreLinkedLists es c.self.inside.lists.items c.self.inside.free c.self.inside.room) (sym c.reserve.ensures.items) c.self.invariant in
+    let same : map (entry_claims c.add_free-self-inside.new.entries.items) c.self.inside.lists.items ≡ map (entry_claims c.self.inside.entries.items) c.self.inside.lists.items =
+    (c.add_free-self-inside.ensures c.self.inside.lists.items c.self.inside.room linked).1 ∙ ap (λ es. map (entry_claims es) c.self.inside.lists.items) c.reserve.ensures.items in
     ap (λ ls. record { lists = ls; room = c.args.n }) (same ∙ ap (λ (p : Lists). p.lists) c.self.view_is)

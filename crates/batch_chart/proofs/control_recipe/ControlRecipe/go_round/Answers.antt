@@ -1,5 +1,5 @@
 use Rattle.std.proofs.Common.{◌≡◌, ◌⊎◌, inl, inr, arith, true, refl, sym, ◌∙◌}
-use Rattle.batch_chart.specs.Outlined.{judged, condition_at}
+use Rattle.batch_chart.specs.Outlined.{condition_holds, condition_at}
 use Rattle.batch_chart.proofs.TreePositions.{within}
 use Rattle.batch_chart.proofs.ClimbFromNode.{n-standing, passed-last, passed-round}
 use Rattle.batch_chart.proofs.ClimbSigns.{loop-runs, neatly-last, neatly-round}
@@ -14,7 +14,7 @@ returns-in_default c = record { passes = λ xs ws ms r s. absurd (loop-runs _ _ 
 pub returns-then-left-eq0 : goal.returns-then-left-eq0
 returns-then-left-eq0 c =
     let h = within _ _ _ _ c.requires.standing in
-    let last : (c.in-Some.left ≡ 0) ⊎ (true ≡ judged (condition_at c.args.self.now.master.now c.args.until) c.args.self.now.values.now) =
+    let last : (c.in-Some.left ≡ 0) ⊎ (true ≡ condition_holds (condition_at c.args.self.now.master.now c.args.until) c.args.self.now.values.now) =
     elim c.then-left-eq0.branch [ goal.then-left-eq0-via-then-left-eq0 w ↦ inl w.if-left-eq0.true | goal.then-left-eq0-via-else-left-eq0+then-condition_holds w ↦ inr w.if-condition_holds.ensures ] in
     record {
       passes = λ xs ws ms r s. (

@@ -13,13 +13,13 @@ use Rattle.batch_chart.specs.Charts.{IsChartOf, IsRunningOf}
 use Rattle.batch_chart.specs.Early.{in_advance}
 use Rattle.batch_chart.specs.NodesOf.{needs_in}
 use Rattle.batch_engine.specs.declared.batch.Batch.{Batch}
-use Rattle.batch_engine.specs.View.{EngineView, seen, setup, bound_to, recipe_at, tree_at, batch_of, plant_of}
+use Rattle.batch_engine.specs.View.{EngineView, seen, setup, bound_to, recipe_at, tree_at, model_batch, plant_of}
 use Rattle.batch_engine.specs.Kept.{IsKept, needs_of_all}
 use Rattle.batch_engine.proofs.FewNeeds.{few-batches}
 use Rattle.batch_engine.proofs.BatchLookups.{chart-of, got-chart}
 use Rattle.batch_engine.proofs.InvariantAfterEvent.{with}
 use Rattle.batch_engine.proofs.NewBatch.{react-create, create-reacts, create-kept, room-kept}
-use Rattle.batch_engine.specs.Names.{recipe_name, roles_told}
+use Rattle.batch_engine.specs.Names.{recipe_name, roles_taken}
 use Rattle.batch_engine.proofs.MoveLines.{recipe-named, some-at}
 use Rattle.batch_engine.specs.Batches.{BatchList, HaveOwnNumbers}
 use Rattle.batch_engine.proofs.SlabChanges.{own-numbers-push}
@@ -85,7 +85,7 @@ record IsNew (v : EngineView) (recipe size room : ℕ) (units : List ℕ) (value
   kept : IsKept v
   number : b.number ≡ v.next_number
   runs : IsRunningOf (tree_at v.cleared recipe units) b.running
-  new : batch_of v.cleared b ≡ new_batch v.next_number (recipe_at v.cleared recipe units) size values
+  new : model_batch v.cleared b ≡ new_batch v.next_number (recipe_at v.cleared recipe units) size values
   enough : needs_of_all v.cleared v.batches + needs_in (tree_at v.cleared recipe units) ≤ room
 
 made : (c : In-Ok-reserve) → IsNew c.args.self.now c.args.recipe c.args.size c.reserve.new.self.room c.args.units c.args.values (own c)
@@ -131,7 +131,7 @@ returns c = λ name pairs o.
     let b : Batch = own s in
     let m = made s in
     let room : ℕ = c.reserve.new.self.room in
-    let told = roles_told v.cleared c.args.recipe c.args.units in
+    let told = roles_taken v.cleared c.args.recipe c.args.units in
     let reacts : Reacts (setup v.cleared) (plant_of v) (Events.create name c.args.size pairs) (Events.created v.next_number (recipe_at v.cleared c.args.recipe c.args.units).name c.args.size told)
     (plant_of (with v (v.batches ++ b ∷ []) (v.next_number + 1) (record (v.allocation) { room = room }))) =
     create-reacts v m.kept c.args.recipe name c.args.size pairs c.args.units c.args.values o b room m.number refl m.runs m.new m.enough in

@@ -1,10 +1,10 @@
 use Rattle.std.proofs.Common.{◌≡◌, ◌∙◌, refl, sym, subst, Option, Some, None}
 use Rattle.batch_model.specs.Moves as Moves
 use Rattle.batch_chart.specs.OwnMoves.{own_next}
-use Rattle.batch_chart.specs.Seen.{move_of}
+use Rattle.batch_chart.specs.Seen.{machine_move}
 use Rattle.batch_engine.specs.declared.batch.Batch.{Batch}
 use Rattle.batch_engine.specs.Steps.{IsBatchStep, IsFirstGrant}
-use Rattle.batch_engine.specs.View.{EngineView, batch_of, plant_of, setup, tree_of}
+use Rattle.batch_engine.specs.View.{EngineView, model_batch, plant_of, setup, tree_of}
 use Rattle.batch_engine.proofs.StoppedBatches.{stopped-moves}
 use Rattle.batch_engine.proofs.BatchPlaces.{Has-batch_of}
 use Rattle.batch_engine.proofs.BatchLookups.{has}
@@ -29,8 +29,8 @@ returns-in-Some c =
         here = record { at = s.at; listed = s.listed };
         can = c.in-Some.ensures.possible;
         about = c.in-Some.ensures.about (tree_of v.cleared b) s.chart (recipe-tree s) s.runs;
-        is = own-least v c.args.index b (move_of (tree_of v.cleared b) (batch_of v.cleared b) c.in-Some.made) s.at
-            (sym (c.in-Some.ensures.next (tree_of v.cleared b) (batch_of v.cleared b) s.chart s.runs refl refl (recipe-batch s)));
+        is = own-least v c.args.index b (machine_move (tree_of v.cleared b) (model_batch v.cleared b) c.in-Some.made) s.at
+            (sym (c.in-Some.ensures.next (tree_of v.cleared b) (model_batch v.cleared b) s.chart s.runs refl refl (recipe-batch s)));
       },
     )
 
@@ -41,14 +41,14 @@ returns-in_err-node c =
     let s = seat (goal.at.returns-in_err-node c).After-recipe-chart in
     let grants : IsFirstGrant v b None = subst (IsFirstGrant v b) c.in_err-node.was c.first_grant.ensures in
     subst (IsBatchStep v c.args.index) (sym c.from_residual.ensures)
-    (no-move v c.args.index b s.at (sym (c.in_default.ensures.next (tree_of v.cleared b) (batch_of v.cleared b) s.chart s.runs refl refl (recipe-batch s))) grants)
+    (no-move v c.args.index b s.at (sym (c.in_default.ensures.next (tree_of v.cleared b) (model_batch v.cleared b) s.chart s.runs refl refl (recipe-batch s))) grants)
 
 pub returns : goal.returns
 returns c =
     let v : EngineView = c.args.self.now in
     let b : Batch = c.index-batch.result.now in
     let s = seat (goal.at.returns c).After-recipe-chart in
-    let own : ◌≡◌ {A = Option Moves.Move} None (own_next (batch_of v.cleared b)) = c.in_default.ensures.next (tree_of v.cleared b) (batch_of v.cleared b) s.chart s.runs refl refl (recipe-batch s) in
+    let own : ◌≡◌ {A = Option Moves.Move} None (own_next (model_batch v.cleared b)) = c.in_default.ensures.next (tree_of v.cleared b) (model_batch v.cleared b) s.chart s.runs refl refl (recipe-batch s) in
     let found : IsFirstGrant v b (Some (c.in_ok-node.node, c.in_ok-node.resource, c.in_ok-node.units)) = subst (IsFirstGrant v b) c.in_ok-node.was c.first_grant.ensures in
     let g = found c.args.index s.at in (
       refl,
@@ -80,6 +80,6 @@ returns-then-is_stopped c =
     record {
       batch = b;
       at = r.at;
-      none = stopped-moves (setup v.cleared) (plant_of v) (batch_of v.cleared b) (sym c.is_stopped.ensures ∙ c.if-is_stopped.true)
-          ((safe v r.kept).sound (batch_of v.cleared b) (Has-batch_of v.cleared v.batches b (has v r.kept c.args.index b r.at))).fits;
+      none = stopped-moves (setup v.cleared) (plant_of v) (model_batch v.cleared b) (sym c.is_stopped.ensures ∙ c.if-is_stopped.true)
+          ((safe v r.kept).sound (model_batch v.cleared b) (Has-batch_of v.cleared v.batches b (has v r.kept c.args.index b r.at))).fits;
     }

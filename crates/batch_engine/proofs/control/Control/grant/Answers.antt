@@ -1,13 +1,13 @@
 use Rattle.std.proofs.Common.{◌≡◌, refl, subst, Some}
 use Rattle.std.specs.Prelude.{slice_get, option_map}
 use Rattle.batch_model.specs.Moves as Moves
-use Rattle.batch_arbiter.specs.Allocation.{Allocation, batch_node, granted, next_grant}
+use Rattle.batch_arbiter.specs.Allocation.{Allocation, batch_node, with_grant, next_grant}
 use Rattle.batch_chart.specs.Charts.{AsksAt, IsWaitingAt, remains}
 use Rattle.batch_chart.specs.NodesOf.{need_at, place_at}
 use Rattle.batch_recipe.specs.declared.recipe.Recipe as document
 use Rattle.batch_engine.specs.declared.batch.Batch.{Batch}
 use Rattle.batch_engine.specs.Steps.{IsGrantStep, IsNext}
-use Rattle.batch_engine.specs.View.{EngineView, number_of, tree_of}
+use Rattle.batch_engine.specs.View.{EngineView, resource_number, tree_of}
 use Rattle.batch_engine.proofs.EngineAfterMove.{Becomes, grant-made}
 use Rattle.batch_engine.proofs.BatchAtIndex.{IsRead, IsSeat, closed-makes, counted-set, read-there, seat-of}
 use Rattle.batch_engine.proofs.InvariantAfterMove.{changed}
@@ -45,7 +45,7 @@ move c =
     Moves.grant c.index_mut-batch.result.now.number (place_at t c.args.node) (need_at t c.args.node c.requires.need)
 
 abbrev arbiter : After-grant → Allocation → Allocation
-arbiter c a = granted c.args.resource (next_grant a c.args.resource) a
+arbiter c a = with_grant c.args.resource (next_grant a c.args.resource) a
 
 abbrev own : After-grant → Batch
 own c = record (c.index_mut-batch.result.now) { running = c.grant.new.self }
@@ -61,7 +61,7 @@ made c =
     let same : g.batch ≡ b = same-at v.batches c.args.index g.batch b g.here.at s.at in
     let is : IsNext v (move c) = subst (λ (z : Batch). IsNext v (Moves.grant z.number (place_at (tree_of v.cleared z) c.args.node) (need_at (tree_of v.cleared z) c.args.node g.need))) same g.is in
     let asks = subst (λ (z : Batch). AsksAt (tree_of v.cleared z) (remains (tree_of v.cleared z) z.running) c.args.node g.need) same g.asks in
-    let number = subst (λ (z : Batch). number_of v.cleared (need_at (tree_of v.cleared z) c.args.node g.need).resource ≡ Some c.args.resource) same g.number in
+    let number = subst (λ (z : Batch). resource_number v.cleared (need_at (tree_of v.cleared z) c.args.node g.need).resource ≡ Some c.args.resource) same g.number in
     let first = subst (λ (z : Batch). option_map batch_node (next_grant v.allocation c.args.resource) ≡ Some (z.number, c.args.node)) same g.first in
     let made = c.grant.ensures (tree_of v.cleared b) s.chart s.runs in
     (is, grant-made v s.kept c.args.index b s.at c.args.node g.need c.args.resource c.grant.new.self asks number first made.0 made.2 is)

@@ -2,7 +2,7 @@ use Rattle.std.proofs.Common.{◌≡◌, sym, subst, ℕ, Some}
 use Rattle.batch_model.specs.Moves as Moves
 use Rattle.batch_chart.specs.NodesOf.{need_at, place_at}
 use Rattle.batch_engine.specs.declared.batch.Batch.{Batch}
-use Rattle.batch_engine.specs.View.{EngineView, number_of, tree_of}
+use Rattle.batch_engine.specs.View.{EngineView, resource_number, tree_of}
 use Rattle.batch_engine.specs.Steps.{IsGrantStep, IsNext, IsNextStep, IsNumberAt, TellsNext}
 use Rattle.batch_engine.proofs.BatchAtIndex.{IsRead, read-there}
 use Rattle.batch_engine.proofs.MoveLines.{grant-told}
@@ -18,7 +18,7 @@ returns-in-Grant c =
     let r : IsRead v i b = read-there c.self.view_is c.self.invariant.kept g.here.at c.index-batch.ensures in
     let same : g.batch ≡ b = same-at v.batches i g.batch b g.here.at r.at in
     let number : IsNumberAt v.cleared b c.in-Grant.node g.need c.in-Grant.resource c.in-Grant.units = (
-      subst (λ (z : Batch). number_of v.cleared (need_at (tree_of v.cleared z) c.in-Grant.node g.need).resource ≡ Some c.in-Grant.resource) same g.number,
+      subst (λ (z : Batch). resource_number v.cleared (need_at (tree_of v.cleared z) c.in-Grant.node g.need).resource ≡ Some c.in-Grant.resource) same g.number,
       subst (λ (z : Batch). (need_at (tree_of v.cleared z) c.in-Grant.node g.need).units ≡ c.in-Grant.units) same g.units_are,
     ) in
     subst (TellsNext v) (sym c.claim_line.ensures)

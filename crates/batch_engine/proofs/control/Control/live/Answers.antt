@@ -9,10 +9,10 @@ use Rattle.batch_model.specs.Events.{live_in}
 use Rattle.batch_model.specs.Rest.{acts}
 use Rattle.batch_engine.specs.declared.batch.Batch.{Batch}
 use Rattle.batch_engine.specs.Kept.{IsKept}
-use Rattle.batch_engine.specs.Marked.{AreNoted}
+use Rattle.batch_engine.specs.Marked.{AreHoldingsNoted}
 use Rattle.batch_engine.specs.Reports.{IsLiveIn, IsLivePhase, told_of}
 use Rattle.batch_engine.specs.declared.live_phase.LivePhase.{LivePhase}
-use Rattle.batch_engine.specs.View.{EngineView, batch_of, number_of}
+use Rattle.batch_engine.specs.View.{EngineView, model_batch, resource_number}
 use Rattle.batch_engine.proofs.BatchLookups.{known-resource}
 use Rattle.batch_engine.proofs.HeldUnits.{live-elsewhere, live-no_batch, live-no_unit}
 use Rattle.batch_engine.proofs.ReportAnswers.{live-here, live-nowhere}
@@ -20,18 +20,18 @@ use Rattle.batch_engine.proofs.control.Control.live.Goals as goal
 use Rattle.batch_engine.proofs.control.Control.live.Goals.{After-resource_of}
 
 -- the number of the unit, as the plant has it
-searched : (c : After-resource_of) → number_of c.args.self.now.cleared c.args.unit.now ≡ c.resource_of.result
+searched : (c : After-resource_of) → resource_number c.args.self.now.cleared c.args.unit.now ≡ c.resource_of.result
 searched c = sym (c.resource_of.ensures ∙ ap (λ (z : Cell). position (same_name c.args.unit.now) (resources_of z)) (c.cell.ensures.value ∙ ap (λ (z : EngineView). z.cleared.cell) c.self.view_is))
 
 -- the batch that is noted for it
-noted-is : (v : EngineView) (hs : List ℕ) → IsKept v → AreNoted v hs → (unit : Name) (q i : ℕ) → number_of v.cleared unit ≡ Some q → i ≡ q → slice_get hs q ≡ Some (get_or hs i 0)
+noted-is : (v : EngineView) (hs : List ℕ) → IsKept v → AreHoldingsNoted v hs → (unit : Name) (q i : ℕ) → resource_number v.cleared unit ≡ Some q → i ≡ q → slice_get hs q ≡ Some (get_or hs i 0)
 noted-is v hs k are unit q i e f =
     slice_get-get_or hs q 0 (omega (arith, are.count, known-resource v k unit q e)) ∙ ap (λ j. Some (get_or hs j 0)) (sym f)
 
 pub returns-in_err-resource : goal.returns-in_err-resource
 returns-in_err-resource c =
     let v : EngineView = c.args.self.now in
-    let none : number_of v.cleared c.args.unit.now ≡ None = searched (goal.at.returns-in_err-resource c).After-resource_of ∙ c.in_err-resource.was in
+    let none : resource_number v.cleared c.args.unit.now ≡ None = searched (goal.at.returns-in_err-resource c).After-resource_of ∙ c.in_err-resource.was in
     subst (IsLivePhase v c.args.unit.now c.args.phase.now) (sym c.from_residual.ensures)
     (live-nowhere v c.args.unit.now c.args.phase.now v.batches (live-no_unit v c.is_kept.ensures c.args.holders.now c.requires c.args.unit.now c.args.phase.now none))
 
@@ -39,14 +39,14 @@ pub returns-in_err-index : goal.returns-in_err-index
 returns-in_err-index c =
     let v : EngineView = c.args.self.now in
     let hs : List ℕ = c.args.holders.now in
-    let unit : number_of v.cleared c.args.unit.now ≡ Some c.in_ok-resource.resource = searched (goal.at.returns-in_err-index c).After-resource_of ∙ c.in_ok-resource.was in
+    let unit : resource_number v.cleared c.args.unit.now ≡ Some c.in_ok-resource.resource = searched (goal.at.returns-in_err-index c).After-resource_of ∙ c.in_ok-resource.was in
     subst (IsLivePhase v c.args.unit.now c.args.phase.now) (sym c.from_residual-in_err-index.ensures)
     (live-nowhere v c.args.unit.now c.args.phase.now v.batches
     (live-no_batch v c.is_kept.ensures hs c.requires c.args.unit.now c.args.phase.now c.in_ok-resource.resource (get_or hs c.from.result 0) unit
     (noted-is v hs c.is_kept.ensures c.requires c.args.unit.now c.in_ok-resource.resource c.from.result unit c.from.ensures) (sym c.index_of.ensures ∙ c.in_err-index.was)))
 
 -- the live phase of the batch that is noted is the unit's, if there is one
-found-in : (v : EngineView) (unit name : Name) (i : ℕ) → ((j : ℕ) (d : Batch) → slice_get v.batches j ≡ Some d → (j ≡ i → ⊥) → live_in (batch_of v.cleared d) unit name (acts (batch_of v.cleared d).rest) ≡ None)
+found-in : (v : EngineView) (unit name : Name) (i : ℕ) → ((j : ℕ) (d : Batch) → slice_get v.batches j ≡ Some d → (j ≡ i → ⊥) → live_in (model_batch v.cleared d) unit name (acts (model_batch v.cleared d).rest) ≡ None)
     → (o : Option LivePhase) → IsLiveIn v i unit name o → IsLivePhase v unit name o
 found-in v unit name i elsewhere None h =
     live-nowhere v unit name v.batches
@@ -61,7 +61,7 @@ pub returns : goal.returns
 returns c =
     let v : EngineView = c.args.self.now in
     let hs : List ℕ = c.args.holders.now in
-    let unit : number_of v.cleared c.args.unit.now ≡ Some c.in_ok-resource.resource = searched (goal.at.returns c).After-resource_of ∙ c.in_ok-resource.was in
+    let unit : resource_number v.cleared c.args.unit.now ≡ Some c.in_ok-resource.resource = searched (goal.at.returns c).After-resource_of ∙ c.in_ok-resource.was in
     found-in v c.args.unit.now c.args.phase.now c.in_ok-index.index
     (live-elsewhere v c.is_kept.ensures hs c.requires c.args.unit.now c.args.phase.now c.in_ok-resource.resource (get_or hs c.from.result 0) unit
     (noted-is v hs c.is_kept.ensures c.requires c.args.unit.now c.in_ok-resource.resource c.from.result unit c.from.ensures) c.in_ok-index.index (sym c.index_of.ensures ∙ c.in_ok-index.was))

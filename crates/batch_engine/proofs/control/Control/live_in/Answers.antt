@@ -11,7 +11,7 @@ use Rattle.batch_recipe.specs.declared.recipe.Recipe.{Recipe}
 use Rattle.batch_verify.proofs.ListLookups.{found_below}
 use Rattle.batch_engine.specs.declared.batch.Batch.{Batch}
 use Rattle.batch_engine.specs.Names.{resource_name}
-use Rattle.batch_engine.specs.View.{EngineView, batch_of, tree_of}
+use Rattle.batch_engine.specs.View.{EngineView, model_batch, tree_of}
 use Rattle.batch_engine.proofs.ElementAtIndex.{at-same}
 use Rattle.batch_engine.proofs.LivePhases.{found-on, named-phase, passed-over, phase-within}
 use Rattle.batch_engine.proofs.BatchAtIndex.{IsSeat, read-at, seat-of}
@@ -35,7 +35,7 @@ pub loop-node-init : goal.loop-node-init
 loop-node-init c =
     let v : EngineView = c.args.self.now in
     let b : Batch = c.index-batch.result.now in
-    (omega arith, λ name number. ap (live_in (batch_of v.cleared b) name c.args.phase.now) (sym (from-first (tree_of v.cleared b) b.running.stages.items)))
+    (omega arith, λ name number. ap (live_in (model_batch v.cleared b) name c.args.phase.now) (sym (from-first (tree_of v.cleared b) b.running.stages.items)))
 
 pub live-requires : goal.live-requires
 live-requires c = (seat (goal.at.live-requires c).After-recipe-chart).running
@@ -66,8 +66,8 @@ returns-then-number-unit c =
         unit_is = ap (resource_name v.cleared) c.if-number-unit.true ∙ resource-told v.cleared name c.args.unit number;
         name_is = c.phase_at-number.ensures.name_is ∙ named-phase (node_at t node).here ((phase_at t node).unit, c.args.phase.now) (c.in-Some.ensures.runs t s.chart s.runs);
       },
-      c.loop-node.invariant.1 name number ∙ c.in-Some.ensures.found t (batch_of v.cleared b) name s.chart s.runs
-          ∙ found-on t (batch_of v.cleared b) (remains_from t b.running) name c.args.phase.now node c.in-Some.state units c.phase_at-number.result.unit is
+      c.loop-node.invariant.1 name number ∙ c.in-Some.ensures.found t (model_batch v.cleared b) name s.chart s.runs
+          ∙ found-on t (model_batch v.cleared b) (remains_from t b.running) name c.args.phase.now node c.in-Some.state units c.phase_at-number.result.unit is
           ((unit-is_resource v.cleared name c.args.unit c.phase_at-number.result.unit number (found_below (same_name (phase_at t node).unit) units c.phase_at-number.result.unit is)).0 (omega (arith, c.if-number-unit.true))),
     )
 
@@ -82,8 +82,8 @@ loop-node-preserved c =
     let units : List Name = units_of v.cleared.cell in
     let is : position (same_name (phase_at t node).unit) units ≡ Some c.phase_at-number.result.unit = own w.After-phase_at-number s in (
       omega (arith, c.in-Some.ensures.later.1),
-      λ name number. c.loop-node.invariant.1 name number ∙ c.in-Some.ensures.found t (batch_of v.cleared b) name s.chart s.runs
-          ∙ passed-over t (batch_of v.cleared b) (remains_from t b.running) name c.args.phase.now node c.in-Some.state units c.phase_at-number.result.unit is
+      λ name number. c.loop-node.invariant.1 name number ∙ c.in-Some.ensures.found t (model_batch v.cleared b) name s.chart s.runs
+          ∙ passed-over t (model_batch v.cleared b) (remains_from t b.running) name c.args.phase.now node c.in-Some.state units c.phase_at-number.result.unit is
           (λ unit. absurd (
           let same : c.args.unit ≡ c.phase_at-number.result.unit = (unit-is_resource v.cleared name c.args.unit c.phase_at-number.result.unit number (found_below (same_name (phase_at t node).unit) units c.phase_at-number.result.unit is)).1 unit in
           omega (arith, c.if-number-unit.false, same)
@@ -95,5 +95,5 @@ returns c =
     let v : EngineView = c.args.self.now in
     let b : Batch = c.index-batch.result.now in
     let s = seat (goal.at.returns c).After-recipe-chart in
-    λ name number d e. at-same v.batches c.args.index b d (λ (z : Batch). live_in (batch_of v.cleared z) name c.args.phase.now (acts (batch_of v.cleared z).rest) ≡ None) s.at e
-    (c.loop-node.invariant.1 name number ∙ c.in_default.ensures.found (tree_of v.cleared b) (batch_of v.cleared b) name s.chart s.runs)
+    λ name number d e. at-same v.batches c.args.index b d (λ (z : Batch). live_in (model_batch v.cleared z) name c.args.phase.now (acts (model_batch v.cleared z).rest) ≡ None) s.at e
+    (c.loop-node.invariant.1 name number ∙ c.in_default.ensures.found (tree_of v.cleared b) (model_batch v.cleared b) name s.chart s.runs)

@@ -8,7 +8,7 @@ use Rattle.batch_model.specs.Moves.{next}
 use Rattle.batch_model.specs.Runs.{Reacts}
 use Rattle.batch_engine.specs.Answered.{IsAnswered}
 use Rattle.batch_engine.specs.Orders.{IsOrder, IsOrdered, IsPlain}
-use Rattle.batch_engine.specs.View.{EngineView, batch_of, plant_of, setup}
+use Rattle.batch_engine.specs.View.{EngineView, model_batch, plant_of, setup}
 use Rattle.batch_engine.specs.declared.batch.Batch.{Batch}
 use Rattle.batch_engine.specs.declared.reply.Reply.TheVariants as Reply
 use Rattle.batch_engine.proofs.AcceptedCommands.{accepted, not-accepted}
@@ -52,7 +52,7 @@ returns-in_default-after c =
     let b : Batch = c.index.result.now in
     record {
       cleared = refl;
-      reacts = order-refused v c.args.command c.args.number (batch_of v.cleared b) c.requires (found (goal.at.returns-in_default-after c).After-index).is
+      reacts = order-refused v c.args.command c.args.number (model_batch v.cleared b) c.requires (found (goal.at.returns-in_default-after c).After-index).is
           (not-accepted b.state c.args.command (sym c.after.ensures ∙ c.in_default-after.is));
     }
 

@@ -4,7 +4,7 @@ use Rattle.batch_model.specs.Events as Events
 use Rattle.batch_model.specs.Runs.{Reacts}
 use Rattle.batch_engine.specs.Batches.{BatchList, HaveOwnNumbers}
 use Rattle.batch_engine.specs.Kept.{IsKept, needs_of_all}
-use Rattle.batch_engine.specs.View.{EngineView, batch_of, plant_of, seen, setup, tree_of}
+use Rattle.batch_engine.specs.View.{EngineView, model_batch, plant_of, seen, setup, tree_of}
 use Rattle.batch_engine.proofs.SlabChanges.{own-numbers-remove}
 use Rattle.batch_engine.proofs.InvariantAfterEvent.{with}
 use Rattle.batch_engine.proofs.BatchRemoval.{remove-busy, remove-kept, remove-reacts, remove-unknown}
@@ -41,7 +41,7 @@ returns-in_default-state c =
     let v : EngineView = c.args.self.now in
     record {
       cleared = refl;
-      reacts = remove-busy v c.args.number (batch_of v.cleared c.index.result.now) c.requires (found (goal.at.returns-in_default-state c).After-index).is c.in_default-state.not-Idle;
+      reacts = remove-busy v c.args.number (model_batch v.cleared c.index.result.now) c.requires (found (goal.at.returns-in_default-state c).After-index).is c.in_default-state.not-Idle;
     }
 
 pub overflow_sub-self : goal.overflow_sub-self

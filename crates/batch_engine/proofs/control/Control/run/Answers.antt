@@ -1,12 +1,12 @@
 use Rattle.std.proofs.Common.{◌∙◌, refl, sym, ap, subst, ℕ}
-use Rattle.batch_arbiter.specs.Allocation.{Allocation, asked}
-use Rattle.batch_chart.specs.Seen.{move_of}
+use Rattle.batch_arbiter.specs.Allocation.{Allocation, with_ask}
+use Rattle.batch_chart.specs.Seen.{machine_move}
 use Rattle.batch_chart.specs.declared.chart_move.Move.{Move}
 use Rattle.batch_chart.specs.declared.chart_move.Move.TheVariants.{Ask, Pass, Release, State}
 use Rattle.batch_chart.specs.declared.running.Running.{Running}
 use Rattle.batch_engine.specs.declared.batch.Batch.{Batch}
 use Rattle.batch_engine.specs.Steps.{IsClaimed, IsMaking, IsMover, IsOfAct}
-use Rattle.batch_engine.specs.View.{EngineView, batch_of, tree_of}
+use Rattle.batch_engine.specs.View.{EngineView, model_batch, tree_of}
 use Rattle.batch_engine.proofs.EngineAfterMove.{Becomes, MadeChart, ask-made, pass-made, release-made, run-quiet}
 use Rattle.batch_engine.proofs.RoomForAsk.{room-for-ask}
 use Rattle.batch_engine.proofs.BatchAtIndex.{IsSeat, chart-within, closed-makes, counted-set, linked-here, mover, seat-of}
@@ -17,20 +17,20 @@ use Rattle.batch_engine.proofs.control.Control.run.Goals.{After-index_mut-batch,
 
 -- the engine after the move
 becomes : {v : EngineView} {i : ℕ} {b : Batch} (m : Move) (h : IsMover v i b m) {r : Running} {a : Allocation} → IsOfAct m → IsClaimed v.cleared b m v.allocation a → MadeChart v h.kept i b h.at m r
-    → Becomes v (changed v i (record b { running = r }) a) (move_of (tree_of v.cleared b) (batch_of v.cleared b) m)
+    → Becomes v (changed v i (record b { running = r }) a) (machine_move (tree_of v.cleared b) (model_batch v.cleared b) m)
 becomes {v} {i} {b} (Ask node need) h {r} {a} act (q, u, number, is) made =
-    subst (λ (z : Allocation). Becomes v (changed v i (record b { running = r }) z) (move_of (tree_of v.cleared b) (batch_of v.cleared b) (Ask node need)))
-    (ap (λ n. asked q (record { batch = b.number; node = node; units = n }) v.allocation) number.1 ∙ sym is)
+    subst (λ (z : Allocation). Becomes v (changed v i (record b { running = r }) z) (machine_move (tree_of v.cleared b) (model_batch v.cleared b) (Ask node need)))
+    (ap (λ n. with_ask q (record { batch = b.number; node = node; units = n }) v.allocation) number.1 ∙ sym is)
     (ask-made v h.kept i b h.at node need q r h.about number.0 made h.is (room-for-ask v h.kept i b h.at node need q h.about number.0 h.is))
 becomes {v} {i} {b} (Release node need) h {r} {a} act (q, u, number, is) made =
-    subst (λ (z : Allocation). Becomes v (changed v i (record b { running = r }) z) (move_of (tree_of v.cleared b) (batch_of v.cleared b) (Release node need))) (sym is)
+    subst (λ (z : Allocation). Becomes v (changed v i (record b { running = r }) z) (machine_move (tree_of v.cleared b) (model_batch v.cleared b) (Release node need))) (sym is)
     (release-made v h.kept i b h.at node need q r h.about number.0 made h.is)
 becomes {v} {i} {b} (Pass node to need) h {r} {a} act (q, u, number, is) made =
-    subst (λ (z : Allocation). Becomes v (changed v i (record b { running = r }) z) (move_of (tree_of v.cleared b) (batch_of v.cleared b) (Pass node to need))) (sym is)
+    subst (λ (z : Allocation). Becomes v (changed v i (record b { running = r }) z) (machine_move (tree_of v.cleared b) (model_batch v.cleared b) (Pass node to need))) (sym is)
     (pass-made v h.kept i b h.at node to need q r h.about number.0 made h.is)
 becomes (State state) h act is made = absurd act
 becomes {v} {i} {b} m h {r} {a} act is made =
-    subst (λ (z : Allocation). Becomes v (changed v i (record b { running = r }) z) (move_of (tree_of v.cleared b) (batch_of v.cleared b) m)) (sym is)
+    subst (λ (z : Allocation). Becomes v (changed v i (record b { running = r }) z) (machine_move (tree_of v.cleared b) (model_batch v.cleared b) m)) (sym is)
     (run-quiet v h.kept i b h.at m r tt made h.is)
 
 moves : (c : After-index_mut-batch) → IsMover c.args.self.now c.args.index c.index_mut-batch.result.now c.args.made
@@ -72,7 +72,7 @@ own c = record (c.index_mut-batch.result.now) { running = c.make_move.new.self }
 
 made : (c : After-make_move) (h : IsMaking c.args.self.now c.linked-set.result.now c.recipe-chart.result.now c.self.inside.arbiter c.args.index c.index_mut-batch.result.now c.args.made)
     → IsSeat c.args.self.now c.args.index c.index_mut-batch.result.now c.recipe-chart.result.now
-    → Becomes c.args.self.now (changed c.args.self.now c.args.index (own c) c.claim.new.arbiter) (move_of (tree_of c.args.self.now.cleared c.index_mut-batch.result.now) (batch_of c.args.self.now.cleared c.index_mut-batch.result.now) c.args.made)
+    → Becomes c.args.self.now (changed c.args.self.now c.args.index (own c) c.claim.new.arbiter) (machine_move (tree_of c.args.self.now.cleared c.index_mut-batch.result.now) (model_batch c.args.self.now.cleared c.index_mut-batch.result.now) c.args.made)
 made c h s =
     becomes c.args.made h.0 c.requires.act
     (subst (λ (z : Allocation). IsClaimed c.args.self.now.cleared c.index_mut-batch.result.now c.args.made z c.claim.new.arbiter) h.3 (c.claim.ensures c.args.self.now c.args.index h))

@@ -2,14 +2,14 @@ use Rattle.std.proofs.Common.{◌≡◌, refl, sym, subst, None}
 use Rattle.batch_model.specs.Moves.{next}
 use Rattle.batch_engine.specs.View.{EngineView, setup, plant_of}
 use Rattle.batch_engine.specs.Answered.{IsAnswered}
-use Rattle.batch_engine.specs.Marked.{AreNoted}
+use Rattle.batch_engine.specs.Marked.{AreHoldingsNoted}
 use Rattle.batch_engine.proofs.HeldUnits.{reply-kept}
 use Rattle.batch_engine.specs.Surface.{event_of}
 use Rattle.batch_engine.proofs.BatchMarks.{marked-answered}
 use Rattle.batch_engine.proofs.engine.Engine.accept.Goals as goal
 
 pub answer_event-reply-requires-clause-noted : goal.answer_event-reply-requires-clause-noted
-answer_event-reply-requires-clause-noted c = subst (AreNoted c.self.inside.control) (sym c.deref.ensures.value) c.self.invariant.noted_are
+answer_event-reply-requires-clause-noted c = subst (AreHoldingsNoted c.self.inside.control) (sym c.deref.ensures.value) c.self.invariant.noted_are
 
 pub invariant_of-self : goal.invariant_of-self
 invariant_of-self c =

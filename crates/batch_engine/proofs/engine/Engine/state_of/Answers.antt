@@ -10,7 +10,7 @@ use Rattle.batch_recipe.specs.Tree.{Tree}
 use Rattle.batch_recipe.specs.declared.recipe.Recipe.{Recipe}
 use Rattle.batch_recipe.proofs.NodeOrder.{counted_nodes}
 use Rattle.batch_verify.specs.ClearedSet.{ClearedSet}
-use Rattle.batch_engine.specs.View.{EngineView, batch_of, bound_to, tree_of}
+use Rattle.batch_engine.specs.View.{EngineView, model_batch, bound_to, tree_of}
 use Rattle.batch_engine.specs.declared.batch.Batch.{Batch}
 use Rattle.batch_engine.proofs.PlacesWithoutNodes.{state-nowhere}
 use Rattle.batch_engine.proofs.NodesAcrossBindings.{node-alike, nowhere-alike}
@@ -52,7 +52,7 @@ returns-in_err-node c =
     let none : NoNodeAt (nodes_of (tree_of v.cleared b)) c.args.place.now =
     subst (λ (z : Tree). NoNodeAt (nodes_of z) c.args.place.now) (sym r.2) (nowhere-alike (bound_to v.cleared b.recipe b.units) r.0.acts c.args.place.now (c.in_err-node.ensures.none r.0 r.1 refl)) in
     c.from_residual-in_err-node.ensures
-    ∙ sym (state-nowhere (batch_of v.cleared b) c.args.place.now (tree-placed v c.self.invariant.kept i b c.in_ok-batch.ensures.0.1) (batch-runs v c.self.invariant.kept i b c.in_ok-batch.ensures.0.1).runs.alive.stands none)
+    ∙ sym (state-nowhere (model_batch v.cleared b) c.args.place.now (tree-placed v c.self.invariant.kept i b c.in_ok-batch.ensures.0.1) (batch-runs v c.self.invariant.kept i b c.in_ok-batch.ensures.0.1).runs.alive.stands none)
     ∙ looked c.args.batch (Some c.in_ok-batch.batch.now) (λ d. state_in d c.args.place.now) c.self.view_is c.in_ok-batch.ensures
 
 pub state_at-requires : goal.state_at-requires
@@ -71,4 +71,4 @@ returns c =
     subst (λ (z : Tree). IsNodeAt (nodes_of z) node c.args.place.now) (sym r.2) (node-alike (bound_to v.cleared b.recipe b.units) r.0.acts node c.args.place.now (c.in_ok-node.ensures.some r.0 r.1)) in
     let few : node < node_count t = (let l : node < length (nodes_of t) = slice_get_within (nodes_of t) node node_is.0 node_is.1 in omega (arith, l, counted_nodes (0 ∷ []) [] t)) in
     let place : place_at t node ≡ c.args.place.now = ap (λ (n : Node). n.place) (get_or_from_slice_get (nodes_of t) node node_is.0 _ node_is.1) ∙ node_is.2 in
-    c.state_at.ensures.act t (batch_of v.cleared b) s.chart s.runs few refl refl refl ∙ ap (state_in (batch_of v.cleared b)) place ∙ looked c.args.batch (Some c.in_ok-batch.batch.now) (λ d. state_in d c.args.place.now) c.self.view_is c.in_ok-batch.ensures
+    c.state_at.ensures.act t (model_batch v.cleared b) s.chart s.runs few refl refl refl ∙ ap (state_in (model_batch v.cleared b)) place ∙ looked c.args.batch (Some c.in_ok-batch.batch.now) (λ d. state_in d c.args.place.now) c.self.view_is c.in_ok-batch.ensures

@@ -1,13 +1,13 @@
 use Rattle.std.proofs.Common.{rules}
 use Rattle.std.proofs.lemmas.List.Sorted.{answers_always, ranks_by}
-use Rattle.batch_record.specs.Kept.{live_of}
+use Rattle.batch_record.specs.Kept.{kept_live}
 use Rattle.batch_record.specs.Listing.{live_cmp}
 use Rattle.batch_record.proofs.StableSort.{is_before, sorted-seen, live_total, live-back, on-unit}
 use Rattle.batch_record.proofs.live.LivePhases.sort.Goals as goal
 
 pub returns-in-Ok-clause-sorted : goal.returns-in-Ok-clause-sorted
 returns-in-Ok-clause-sorted c =
-    sorted-seen live_of live_cmp live-back _ (c.in-Ok.ensures.sorted (is_before live_of live_cmp) (ranks_by live_total live_of) (answers_always _ _ _ (λ f a r g h. search rules)))
+    sorted-seen kept_live live_cmp live-back _ (c.in-Ok.ensures.sorted (is_before kept_live live_cmp) (ranks_by live_total kept_live) (answers_always _ _ _ (λ f a r g h. search rules)))
 
 pub returns-in-Ok-clause-stable : goal.returns-in-Ok-clause-stable
-returns-in-Ok-clause-stable c = on-unit _ _ (c.in-Ok.ensures.stable (is_before live_of live_cmp) (ranks_by live_total live_of) (answers_always _ _ _ (λ f a r g h. search rules)))
+returns-in-Ok-clause-stable c = on-unit _ _ (c.in-Ok.ensures.stable (is_before kept_live live_cmp) (ranks_by live_total kept_live) (answers_always _ _ _ (λ f a r g h. search rules)))

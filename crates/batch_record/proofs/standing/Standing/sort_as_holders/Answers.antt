@@ -1,13 +1,13 @@
 use Rattle.std.proofs.Common.{rules}
 use Rattle.std.proofs.lemmas.List.Sorted.{answers_always, ranks_by}
-use Rattle.batch_record.specs.Kept.{claim_of}
+use Rattle.batch_record.specs.Kept.{kept_claim}
 use Rattle.batch_record.specs.Listing.{holder_cmp}
 use Rattle.batch_record.proofs.StableSort.{is_before, sorted-seen, holder_total, kept-back, at-act}
 use Rattle.batch_record.proofs.standing.Standing.sort_as_holders.Goals as goal
 
 pub returns-in-Ok-clause-sorted : goal.returns-in-Ok-clause-sorted
 returns-in-Ok-clause-sorted c =
-    sorted-seen claim_of holder_cmp kept-back _ (c.in-Ok.ensures.sorted (is_before claim_of holder_cmp) (ranks_by holder_total claim_of) (answers_always _ _ _ (λ f a r g h. search rules)))
+    sorted-seen kept_claim holder_cmp kept-back _ (c.in-Ok.ensures.sorted (is_before kept_claim holder_cmp) (ranks_by holder_total kept_claim) (answers_always _ _ _ (λ f a r g h. search rules)))
 
 pub returns-in-Ok-clause-stable : goal.returns-in-Ok-clause-stable
-returns-in-Ok-clause-stable c = at-act _ _ (c.in-Ok.ensures.stable (is_before claim_of holder_cmp) (ranks_by holder_total claim_of) (answers_always _ _ _ (λ f a r g h. search rules)))
+returns-in-Ok-clause-stable c = at-act _ _ (c.in-Ok.ensures.stable (is_before kept_claim holder_cmp) (ranks_by holder_total kept_claim) (answers_always _ _ _ (λ f a r g h. search rules)))

@@ -1,13 +1,13 @@
 use Rattle.std.proofs.Common.{rules}
 use Rattle.std.proofs.lemmas.List.Sorted.{answers_always, ranks_by}
-use Rattle.batch_record.specs.Kept.{claim_of}
+use Rattle.batch_record.specs.Kept.{kept_claim}
 use Rattle.batch_record.specs.Listing.{waiter_cmp}
 use Rattle.batch_record.proofs.StableSort.{is_before, sorted-seen, waiter_total, kept-back, at-resource}
 use Rattle.batch_record.proofs.standing.Standing.sort_as_waiters.Goals as goal
 
 pub returns-in-Ok-clause-sorted : goal.returns-in-Ok-clause-sorted
 returns-in-Ok-clause-sorted c =
-    sorted-seen claim_of waiter_cmp kept-back _ (c.in-Ok.ensures.sorted (is_before claim_of waiter_cmp) (ranks_by waiter_total claim_of) (answers_always _ _ _ (λ f a r g h. search rules)))
+    sorted-seen kept_claim waiter_cmp kept-back _ (c.in-Ok.ensures.sorted (is_before kept_claim waiter_cmp) (ranks_by waiter_total kept_claim) (answers_always _ _ _ (λ f a r g h. search rules)))
 
 pub returns-in-Ok-clause-stable : goal.returns-in-Ok-clause-stable
-returns-in-Ok-clause-stable c = at-resource _ _ (c.in-Ok.ensures.stable (is_before claim_of waiter_cmp) (ranks_by waiter_total claim_of) (answers_always _ _ _ (λ f a r g h. search rules)))
+returns-in-Ok-clause-stable c = at-resource _ _ (c.in-Ok.ensures.stable (is_before kept_claim waiter_cmp) (ranks_by waiter_total kept_claim) (answers_always _ _ _ (λ f a r g h. search rules)))

@@ -1,5 +1,5 @@
 use Rattle.std.proofs.Common.{◌<◌, ◌++◌, ◌∙◌, [], length, ap, rules, string_bytes}
-use Rattle.batch_verdicts.specs.GraphTexts.{unit_text}
+use Rattle.batch_verdicts.specs.GraphTexts.{unit_box_text}
 use Rattle.batch_verdicts.proofs.texts.graphs.units_text.Goals as goal
 use Rattle.batch_outline.proofs.LineSeats.{texts_more}
 
@@ -8,5 +8,5 @@ loop-unit-preserved c =
     let units = c.args.units.now in
     let within : c.loop-unit.unit-index < length units = search rules in
     c.in_ok-push_str.ensures.bytes ∙ ap (λ text. string_bytes c.loop-unit.text ++ text) (c.deref.ensures ∙ c.in_ok-more.ensures)
-    ∙ ap (λ text. text ++ unit_text c.unit-item.result) c.loop-unit.invariant
-    ∙ texts_more unit_text [] units c.loop-unit.unit-index c.unit-item.result c.unit-item.result within c.unit-item.is
+    ∙ ap (λ text. text ++ unit_box_text c.unit-item.result) c.loop-unit.invariant
+    ∙ texts_more unit_box_text [] units c.loop-unit.unit-index c.unit-item.result c.unit-item.result within c.unit-item.is
