@@ -150,13 +150,13 @@ module _ (v : EngineView) (k : IsKept v) (i : ℕ) (b : Batch) (at : slice_get v
   first-serves j l q asks e f =
       let need : Need = need_at (tree_of v.cleared b) j l in
       is-served v k q need (b.number, place_at (tree_of v.cleared b) j) e
-      ∙ serves-next (claim_act v.cleared v.batches) (Rattle.batch_arbiter.specs.Allocation.capacity_of v.allocation q) need.units (shares_at v.allocation q) (queue_at v.allocation q) b.number j
+      ∙ serves-next (claim_act v.cleared v.batches) (Rattle.batch_arbiter.specs.Allocation.capacity_at v.allocation q) need.units (shares_at v.allocation q) (queue_at v.allocation q) b.number j
       (b.number, place_at (tree_of v.cleared b) j) (λ x. claim-act x j) (λ x h. line-units j l q asks e x h) f
 
   pub serves-first : (j l q : ℕ) → asks_here j l → resource_number v.cleared (need_at (tree_of v.cleared b) j l).resource ≡ Some q → served_here j l → first_here q j
   serves-first j l q asks e s =
       let need : Need = need_at (tree_of v.cleared b) j l in
-      next-serves (claim_act v.cleared v.batches) (Rattle.batch_arbiter.specs.Allocation.capacity_of v.allocation q) need.units (shares_at v.allocation q) (queue_at v.allocation q) b.number j
+      next-serves (claim_act v.cleared v.batches) (Rattle.batch_arbiter.specs.Allocation.capacity_at v.allocation q) need.units (shares_at v.allocation q) (queue_at v.allocation q) b.number j
       (b.number, place_at (tree_of v.cleared b) j) (λ x. act-claim x j asks.0) (λ x h. line-units j l q asks e x h)
       (sym (is-served v k q need (b.number, place_at (tree_of v.cleared b) j) e) ∙ s)
 
