@@ -6,14 +6,14 @@ use Rattle.std.proofs.lemmas.Bool.{cases_eq, leb-true}
 use Rattle.std.proofs.lemmas.List.{length-set, get_or-set_same, get_or-set_other, set-set, get_or-take, get_or-drop, take-set-le, drop-set-lt, drop-set-add, take-replicate, drop-replicate, length-replicate, get_or-replicate}
 use Rattle.std.proofs.lemmas.List.Sums.{sum_by_push, sum_by-cons}
 use Rattle.std.proofs.Math.Seq.{take-set-lt}
-use Rattle.batch_arbiter.specs.Allocation.{Claim, Allocation, is_claim, held_units, without_first, shares_at, queue_at, next_in, next_grant, units_claimed, handed_over, idle, with_ask, with_grant, with_pass, with_release}
+use Rattle.batch_arbiter.specs.Allocation.{Claim, Allocation, is_claim, held_units, without_first, shares_at, line_of_asks, next_in, next_grant, units_claimed, handed_over, idle, after_ask, after_grant, after_pass, after_release}
 use Rattle.batch_arbiter.specs.Linked.{Lists, list_at, with_list, IsRemoved}
 use Rattle.batch_arbiter.specs.Standing.{pool_seen, StandsInPool}
 
 pub shares-seen : (capacities : List ℕ) (p : Lists) (r : ℕ) → r < length capacities → shares_at (pool_seen capacities p) r ≡ list_at p r
 shares-seen capacities p r h = get_or-take (length capacities) p.lists r [] h
 
-pub line-seen : (capacities : List ℕ) (p : Lists) (r : ℕ) → queue_at (pool_seen capacities p) r ≡ list_at p (length capacities + r)
+pub line-seen : (capacities : List ℕ) (p : Lists) (r : ℕ) → line_of_asks (pool_seen capacities p) r ≡ list_at p (length capacities + r)
 line-seen capacities p r = get_or-drop (length capacities) p.lists r []
 
 -- another list of shares
@@ -27,11 +27,11 @@ pub seen-line : (capacities : List ℕ) (p : Lists) (r room : ℕ) (claims : Lis
 seen-line capacities p r room claims = grind (arith, drop-set-add (length capacities) p.lists r claims, take-set-le)
 
 pub seen-ask : (capacities : List ℕ) (p : Lists) (r : ℕ) (c : Claim)
-    → pool_seen capacities (with_list p (length capacities + r) (list_at p (length capacities + r) ++ c ∷ []) (p.room - 1)) ≡ with_ask r c (pool_seen capacities p)
+    → pool_seen capacities (with_list p (length capacities + r) (list_at p (length capacities + r) ++ c ∷ []) (p.room - 1)) ≡ after_ask r c (pool_seen capacities p)
 seen-ask capacities p r c = grind (arith, seen-line capacities p r (p.room - 1) (list_at p (length capacities + r) ++ c ∷ []), line-seen capacities p r)
 
 pub seen-release : (capacities : List ℕ) (p : Lists) (r batch node : ℕ) → r < length capacities
-    → pool_seen capacities (with_list p r (without_first (is_claim batch node) (list_at p r)) (p.room + 1)) ≡ with_release r batch node (pool_seen capacities p)
+    → pool_seen capacities (with_list p r (without_first (is_claim batch node) (list_at p r)) (p.room + 1)) ≡ after_release r batch node (pool_seen capacities p)
 seen-release capacities p r batch node h = grind (arith, seen-share capacities p r (p.room + 1) (without_first (is_claim batch node) (list_at p r)) h, shares-seen capacities p r h)
 
 -- no act holds or waits for anything
@@ -64,12 +64,12 @@ module _ (capacities held : List ℕ) (p q s : Lists) (r : ℕ) (c : Claim) (kno
   same_shares k h = ap (λ x. list_at x k) left ∙ get_or-set_other p.lists (length capacities + r) k (drop 1 (list_at p (length capacities + r))) [] (omega arith)
 
   free : held_units (list_at p r) + c.units ≤ slice_index capacities r
-  free = subst (λ (cs : List Claim). held_units cs + c.units ≤ slice_index capacities r) (shares-seen capacities p r known) (next-free (slice_index capacities r) (shares_at (pool_seen capacities p) r) (queue_at (pool_seen capacities p) r) c next)
+  free = subst (λ (cs : List Claim). held_units cs + c.units ≤ slice_index capacities r) (shares-seen capacities p r known) (next-free (slice_index capacities r) (shares_at (pool_seen capacities p) r) (line_of_asks (pool_seen capacities p) r) c next)
 
   pub fits : slice_index held r + c.units ≤ slice_index capacities r
   fits = omega (arith, free, sound.sums r known)
 
-  pub seen-grant : pool_seen capacities s ≡ with_grant r (next_grant (pool_seen capacities p) r) (pool_seen capacities p)
+  pub seen-grant : pool_seen capacities s ≡ after_grant r (next_grant (pool_seen capacities p) r) (pool_seen capacities p)
   seen-grant =
       let room : q.room - 1 ≡ p.room = omega (arith, ap (λ (x : Lists). x.room) left) in
       let old : list_at q r ≡ shares_at (pool_seen capacities p) r = same_shares r known ∙ sym (shares-seen capacities p r known) in
@@ -80,7 +80,7 @@ module _ (capacities held : List ℕ) (p q s : Lists) (r : ℕ) (c : Claim) (kno
       ∙ ap (λ (a : Allocation). record a { shares = set a.shares r (shares_at (pool_seen capacities p) r ++ c ∷ []); room = p.room })
       (ap (pool_seen capacities) left ∙ seen-line capacities p r (p.room + 1) (drop 1 (list_at p (length capacities + r))))
       ∙ ap (λ cs. record (pool_seen capacities p) { shares = set (pool_seen capacities p).shares r (shares_at (pool_seen capacities p) r ++ c ∷ []); lines = set (pool_seen capacities p).lines r (drop 1 cs) }) (sym (line-seen capacities p r))
-      ∙ ap (λ o. with_grant r o (pool_seen capacities p)) (sym next)
+      ∙ ap (λ o. after_grant r o (pool_seen capacities p)) (sym next)
 
   list_r : list_at s r ≡ list_at p r ++ c ∷ []
   list_r =
@@ -162,7 +162,7 @@ module _ (capacities held : List ℕ) (p q s : Lists) (r batch from to units : �
       ∙ ap (λ ls. record { lists = ls; room = p.room + 1 - 1 }) (set-set p.lists r less (handed_over batch from to (list_at p r)))
       ∙ ap (λ n. with_list p r (handed_over batch from to (list_at p r)) n) (omega arith)
 
-  pub seen-pass : pool_seen capacities s ≡ with_pass r batch from to (pool_seen capacities p)
+  pub seen-pass : pool_seen capacities s ≡ after_pass r batch from to (pool_seen capacities p)
   seen-pass =
       ap (pool_seen capacities) after_both
       ∙ seen-share capacities p r p.room (handed_over batch from to (list_at p r)) known

@@ -34,7 +34,7 @@ use Rattle.batch_chart.proofs.ReachedTree.{within-set}
 use Rattle.batch_chart.specs.declared.sign.TheConstants.{IS_ACT}
 use Rattle.batch_chart.specs.Noting.{signs_of}
 use Rattle.batch_signs.specs.Signs.{shows}
-use Rattle.batch_chart.specs.Needs.{need_count}
+use Rattle.batch_chart.specs.Needs.{needs_of_kind}
 use Rattle.batch_chart.proofs.NumberedActs.{numbered-acts, acts-all, AllActs}
 use Rattle.batch_chart.proofs.NodeNumbers.{sits-self, same-itself, told, marked, IsEntryOf, entry-of}
 use Rattle.batch_chart.proofs.StageChange.{meaning-changed}
@@ -94,7 +94,7 @@ fits-act x1 x2 x3 x4 = grind arith
 pub more-act : (κ : Kind) (i : ℕ) → HasMore κ i → is_act_kind κ ≡ true
 more-act x1 x2 x3 = grind arith
 
-pub fits-count : (κ : Kind) (s : Step) (w : Task) → Fits κ s w → length s.needs ≡ need_count κ
+pub fits-count : (κ : Kind) (s : Step) (w : Task) → Fits κ s w → length s.needs ≡ needs_of_kind κ
 fits-count (kind.Phase j d) s (runs p) f = f
 fits-count (Act j) s (follows name c) f = f
 fits-count κ s w f = absurd f

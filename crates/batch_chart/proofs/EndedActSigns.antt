@@ -15,7 +15,7 @@ use Rattle.batch_chart.specs.Outlined.{end_at, kind_at, is_act_kind, Stands}
 use Rattle.batch_chart.specs.Freeing.{HasCleared, HasGivenUp, IsFreed}
 use Rattle.batch_chart.specs.Meaning.{AgreeOutside}
 use Rattle.batch_chart.specs.Neat.{AllFinished, AreNeat, AreBlank, SignsOutside}
-use Rattle.batch_chart.specs.Needs.{need_count}
+use Rattle.batch_chart.specs.Needs.{needs_of_kind}
 use Rattle.batch_chart.specs.Noting.{stage_signs, HasCome}
 use Rattle.batch_chart.specs.Running.{IsLaid, SomeLives}
 use Rattle.batch_signs.specs.Signs.{sign_at, replaced}
@@ -150,21 +150,21 @@ module _ (ns : List Entry) (doc : Recipe) (vs : ValueList) (xs : List Stage) (li
   neat-held held ys new come =
       subst (λ z. AreNeat ns doc 0 (length ns) z new) (sym come.stages)
       (subst (λ z. AreNeat ns doc 0 (length ns) (slice_set mid k (Freeing held)) z) (sym come.signs)
-      (neat-after ns doc lives.0 lives.1 k lt xs (slice_set mid k (Freeing held)) ms (slice_set sg k (stage_signs (need_count (kind_at ns k)) (Freeing held)))
-      (set-out ns doc vs xs mid lives k lt fits given-out below-gone (Freeing held)) (signs-out (stage_signs (need_count (kind_at ns k)) (Freeing held))) left (ap is_finished own) neat
-      (neat-one ns doc k (end_at ns k) (slice_set mid k (Freeing held)) (slice_set sg k (stage_signs (need_count (kind_at ns k)) (Freeing held)))
-      (plain-neat ns doc lives.0 lives.1 k lt acting (slice_set mid k (Freeing held)) (slice_set sg k (stage_signs (need_count (kind_at ns k)) (Freeing held))) (Freeing held) tt own
-      (get_or-set_same sg k (stage_signs (need_count (kind_at ns k)) (Freeing held)) 0 (omega (arith, lt, count, given-count))) (λ j a b. (still j a b).0))
-      (blank-neat ns doc (k + 1) (end_at ns k) (slice_set mid k (Freeing held)) (slice_set sg k (stage_signs (need_count (kind_at ns k)) (Freeing held)))
+      (neat-after ns doc lives.0 lives.1 k lt xs (slice_set mid k (Freeing held)) ms (slice_set sg k (stage_signs (needs_of_kind (kind_at ns k)) (Freeing held)))
+      (set-out ns doc vs xs mid lives k lt fits given-out below-gone (Freeing held)) (signs-out (stage_signs (needs_of_kind (kind_at ns k)) (Freeing held))) left (ap is_finished own) neat
+      (neat-one ns doc k (end_at ns k) (slice_set mid k (Freeing held)) (slice_set sg k (stage_signs (needs_of_kind (kind_at ns k)) (Freeing held)))
+      (plain-neat ns doc lives.0 lives.1 k lt acting (slice_set mid k (Freeing held)) (slice_set sg k (stage_signs (needs_of_kind (kind_at ns k)) (Freeing held))) (Freeing held) tt own
+      (get_or-set_same sg k (stage_signs (needs_of_kind (kind_at ns k)) (Freeing held)) 0 (omega (arith, lt, count, given-count))) (λ j a b. (still j a b).0))
+      (blank-neat ns doc (k + 1) (end_at ns k) (slice_set mid k (Freeing held)) (slice_set sg k (stage_signs (needs_of_kind (kind_at ns k)) (Freeing held)))
       (nests-below ns doc k (k + 1) (end_at ns k) (omega arith) (nests ns doc k at-k.0 at-k.1)) still))))
     where
       own : stage_at (slice_set mid k (Freeing held)) k ≡ Freeing held
       own = stage-set_same mid k (Freeing held) inside
 
-      still : AreBlank (k + 1) (end_at ns k) (slice_set mid k (Freeing held)) (slice_set sg k (stage_signs (need_count (kind_at ns k)) (Freeing held)))
+      still : AreBlank (k + 1) (end_at ns k) (slice_set mid k (Freeing held)) (slice_set sg k (stage_signs (needs_of_kind (kind_at ns k)) (Freeing held)))
       still j a b = (let q = given-blank j a b in (
         stage-set_other mid k j (Freeing held) (λ e. absurd (omega (arith, a, e))) ∙ q.0,
-        get_or-set_other sg k j (stage_signs (need_count (kind_at ns k)) (Freeing held)) 0 (λ e. absurd (omega (arith, a, e))) ∙ q.1,
+        get_or-set_other sg k j (stage_signs (needs_of_kind (kind_at ns k)) (Freeing held)) 0 (λ e. absurd (omega (arith, a, e))) ∙ q.1,
       ))
 
   -- or it is finished

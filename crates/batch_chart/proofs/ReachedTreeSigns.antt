@@ -15,7 +15,7 @@ use Rattle.batch_chart.specs.declared.stage.Stage.TheVariants.{Finished, Ready, 
 use Rattle.batch_chart.specs.Outlined.{end_at, kind_at, Stands, HasTree, HaveTrees, HaveChoices}
 use Rattle.batch_chart.specs.Meaning.{AgreeOutside}
 use Rattle.batch_chart.specs.Neat.{runs_below, is_single, AllFinished, IsLone, shown_of, IsNeat, AreNeat, AreBlank, SignsOutside, IsReachedNeatly, IsRowNeat}
-use Rattle.batch_chart.specs.Needs.{need_count}
+use Rattle.batch_chart.specs.Needs.{needs_of_kind}
 use Rattle.batch_chart.specs.Noting.{stage_signs}
 use Rattle.batch_signs.specs.Signs.{sign_at}
 use Rattle.batch_chart.specs.Stages.{stage_at, is_finished, turns_of, closed_as, looped_as}
@@ -40,12 +40,12 @@ module _ (ns : List Entry) (doc : Recipe) (xs : List Stage) (n : ℕ) (standing 
   end-of c h = (stood ns doc n c h).end
 
   -- an act is ready, and shows it
-  module _ (old : List ℕ) (v : ℕ) (lt : n < length xs) (inside : n < length old) (is : v ≡ stage_signs (need_count (kind_at ns n)) (Ready 0)) where
-    shows-ready : (s : Step) (w : Task) → length s.needs ≡ need_count (kind_at ns n) → (b : Bool) → v ≡ shown_of (act s w) (Ready 0) b
+  module _ (old : List ℕ) (v : ℕ) (lt : n < length xs) (inside : n < length old) (is : v ≡ stage_signs (needs_of_kind (kind_at ns n)) (Ready 0)) where
+    shows-ready : (s : Step) (w : Task) → length s.needs ≡ needs_of_kind (kind_at ns n) → (b : Bool) → v ≡ shown_of (act s w) (Ready 0) b
     shows-ready s (runs p) e b = is ∙ ap (λ k. stage_signs k (Ready 0)) (sym e)
     shows-ready s (follows name c) e b = is ∙ ap (λ k. stage_signs k (Ready 0)) (sym e)
 
-    ready-act : (s : Step) (w : Task) → length s.needs ≡ need_count (kind_at ns n) → end_at ns n ≡ n + node_count (act s w) → AreBlank n (end_at ns n) xs old → IsNeat ns (act s w) n (slice_set xs n (Ready 0)) (slice_set old n v)
+    ready-act : (s : Step) (w : Task) → length s.needs ≡ needs_of_kind (kind_at ns n) → end_at ns n ≡ n + node_count (act s w) → AreBlank n (end_at ns n) xs old → IsNeat ns (act s w) n (slice_set xs n (Ready 0)) (slice_set old n v)
     ready-act s w e f h = record {
       shut = λ u k a b. stage-set_other xs n k (Ready 0) (λ q. absurd (omega (arith, q))) ∙ (h k (omega arith) (omega arith)).0;
       lone = λ one. absurd (cc);
@@ -57,11 +57,11 @@ module _ (ns : List Entry) (doc : Recipe) (xs : List Stage) (n : ℕ) (standing 
     ready-here (inl q) h c s = go c (phase-at ns doc n q.0 q.1 q.2 c s) (end-of c s)
       where
         go : (c : Tree) → PhaseAt ns doc n q.0 q.1 c → end_at ns n ≡ n + node_count c → IsNeat ns c n (slice_set xs n (Ready 0)) (slice_set old n v)
-        go _ (phase_at u p a f count) e = ready-act u (runs p) (count ∙ sym (ap need_count q.2)) e h
+        go _ (phase_at u p a f count) e = ready-act u (runs p) (count ∙ sym (ap needs_of_kind q.2)) e h
     ready-here (inr q) h c s = go c (act-at ns doc n q.0 q.1 c s) (end-of c s)
       where
         go : (c : Tree) → ActAt ns doc n q.0 c → end_at ns n ≡ n + node_count c → IsNeat ns c n (slice_set xs n (Ready 0)) (slice_set old n v)
-        go _ (act_at u name d a f count) e = ready-act u (follows name d) (count ∙ sym (ap need_count q.1)) e h
+        go _ (act_at u name d a f count) e = ready-act u (follows name d) (count ∙ sym (ap needs_of_kind q.1)) e h
 
     pub neatly-ready : ((k : ℕ) × (i : ℕ) × (kind_at ns n ≡ kind.Phase k i)) ⊎ ((k : ℕ) × (kind_at ns n ≡ Act k)) → IsReachedNeatly ns doc n xs (slice_set xs n (Ready 0)) old (slice_set old n v)
     neatly-ready q = record {

@@ -199,7 +199,7 @@ module _ (doc : Recipe) (bound : Binding) where
             let stood = node_of n 0 (act_head k o a) u i [] (kind.Phase (length step.needs) number) h (is (needs_count a) ∙ ap (λ q. kind.Phase q number) (needs_counted (sites bound doc.acts) a)) refl in
             let read = node_read es n (entry (act_head k o a) (n + 1 + 0) u i) (from_head es n _ [] h) in
             let under : unit_under es n ≡ o = ap (λ (x : Entry). x.detail) read in
-            let named_so = ap phase_by at ∙ ap Rattle.batch_chart.specs.Outlined.phase_run_in w in
+            let named_so = ap phase_by at ∙ ap Rattle.batch_chart.specs.Outlined.run_phase_in w in
             (refl, (number, (stood.0, stood.1, stood.2 ∙ (let e : n + (1 + 0) ≡ n + 1 = omega arith in e), omega (arith, stood.3)), named_so, ap (λ z. unit_name bound (unit_choice doc z)) under ∙ on))
 
   -- charts whose labels are looked up from the level on stand on the unit of unit procedure o

@@ -18,7 +18,7 @@ use Rattle.batch_chart.specs.Stages.{stage_at, is_finished, is_begun}
 use Rattle.batch_chart.specs.Outlined.{end_at, kind_at, is_act_kind, Stands}
 use Rattle.batch_chart.specs.Meaning.{AgreeOutside}
 use Rattle.batch_chart.specs.Neat.{AllFinished, act_shows, shown_of, step_shows, IsNeat, AreNeat, SignsOutside, IsReachedNeatly, AreBlank}
-use Rattle.batch_chart.specs.Needs.{need_count}
+use Rattle.batch_chart.specs.Needs.{needs_of_kind}
 use Rattle.batch_chart.specs.Noting.{stage_signs, open_signs, HasCome}
 use Rattle.batch_chart.specs.Running.{Allows, CanRelease, IsLaid, IsNodeLive, IsNodeAsking, SomeLives}
 use Rattle.batch_signs.specs.Signs.{sign_at}
@@ -65,7 +65,7 @@ module _ (ns : List Entry) (doc : Recipe) (t : Tree) (laid : IsLaid ns doc t) (k
   apart j (inr q) = λ e. absurd (omega (arith, q, e, k-below))
 
   -- the act itself, if all is finished below it
-  pub plain-neat : (ys : List Stage) (new : List ℕ) (v : Stage) → IsPlain v → stage_at ys k ≡ v → sign_at new k ≡ stage_signs (need_count (kind_at ns k)) v → AllFinished (k + 1) (end_at ns k) ys → (c : Tree) → Stands ns doc k c → IsNeat ns c k ys new
+  pub plain-neat : (ys : List Stage) (new : List ℕ) (v : Stage) → IsPlain v → stage_at ys k ≡ v → sign_at new k ≡ stage_signs (needs_of_kind (kind_at ns k)) v → AllFinished (k + 1) (end_at ns k) ys → (c : Tree) → Stands ns doc k c → IsNeat ns c k ys new
   plain-neat ys new v plain own sign below c s =
       let here = act-here ns doc k c acting s in
       subst (λ z. IsNeat ns z k ys new) (sym here.is)
@@ -84,11 +84,11 @@ module _ (ns : List Entry) (doc : Recipe) (t : Tree) (laid : IsLaid ns doc t) (k
     other : (j : ℕ) → j ≢ k → stage_at ys j ≡ stage_at xs j
     other j ne = ap (λ l. stage_at l j) h.stages ∙ stage-set_other xs k j v ne
 
-    sign-own : sign_at new k ≡ stage_signs (need_count (kind_at ns k)) v
-    sign-own = ap (λ l. sign_at l k) h.signs ∙ get_or-set_same old k (stage_signs (need_count (kind_at ns k)) v) 0 (omega (arith, count))
+    sign-own : sign_at new k ≡ stage_signs (needs_of_kind (kind_at ns k)) v
+    sign-own = ap (λ l. sign_at l k) h.signs ∙ get_or-set_same old k (stage_signs (needs_of_kind (kind_at ns k)) v) 0 (omega (arith, count))
 
     sign-other : (j : ℕ) → j ≢ k → sign_at new j ≡ sign_at old j
-    sign-other j ne = ap (λ l. sign_at l j) h.signs ∙ get_or-set_other old k j (stage_signs (need_count (kind_at ns k)) v) 0 ne
+    sign-other j ne = ap (λ l. sign_at l j) h.signs ∙ get_or-set_other old k j (stage_signs (needs_of_kind (kind_at ns k)) v) 0 ne
 
     pub come-neat : AreNeat ns doc 0 (length ns) xs old → AreNeat ns doc 0 (length ns) ys new
     come-neat neat =
@@ -106,7 +106,7 @@ module _ (ns : List Entry) (doc : Recipe) (t : Tree) (laid : IsLaid ns doc t) (k
 module _ (ns : List Entry) (doc : Recipe) (xs ys : List Stage) (old new : List ℕ) (lives : SomeLives ns doc xs) (count : length old ≡ length ns) where
   pub come-kept : (k : ℕ) (x v : Stage) → k < length ns → is_act_kind (kind_at ns k) ≡ true → IsPlain x → IsPlain v → stage_at xs k ≡ x → HasCome ns k v xs ys old new → IsKeptUp ns doc xs ys old new
   come-kept k x v lt acting from to was h = record {
-    count = ap length h.signs ∙ length-set old k (stage_signs (need_count (kind_at ns k)) v);
+    count = ap length h.signs ∙ length-set old k (stage_signs (needs_of_kind (kind_at ns k)) v);
     keeps = come-neat ns doc lives.0 lives.1 k lt acting xs ys old new x v (lives.2.fits ∙ sym lives.1.count) count from to was h;
   }
 
@@ -146,7 +146,7 @@ module _ (ns : List Entry) (doc : Recipe) (xs ys : List Stage) (old new : List �
 
 module _ (ns : List Entry) (doc : Recipe) (t : Tree) (laid : IsLaid ns doc t) (k j : ℕ) (lt : k < length ns) (e : kind_at ns k ≡ Act j) (xs ys : List Stage) (old sg : List ℕ) (x : Stage) (r : Bool) (v : ℕ)
     (fits : length xs ≡ length ns) (count : length old ≡ length ns) (was : stage_at xs k ≡ x) (plain : IsPlain x) (own : is_finished (stage_at ys (k + 1)) ≡ r) (outside : AgreeOutside (k + 1) (end_at ns (k + 1)) (slice_set xs k Open) ys)
-    (reached : IsReachedNeatly ns doc (k + 1) (slice_set xs k Open) ys old sg) (is : v ≡ open_signs (need_count (kind_at ns k)) r) where
+    (reached : IsReachedNeatly ns doc (k + 1) (slice_set xs k Open) ys old sg) (is : v ≡ open_signs (needs_of_kind (kind_at ns k)) r) where
   here : (c : Tree) × Stands ns doc k c
   here = some-stands ns doc k t 0 laid.stands (omega arith) (omega (arith, laid.count))
 
@@ -203,12 +203,12 @@ module _ (ns : List Entry) (doc : Recipe) (t : Tree) (laid : IsLaid ns doc t) (k
       show _ (act_at s name d a f g) = record {
         shut = λ u. let q : ◌≡◌ {A = Bool} true false = sym (ap is_begun opened) ∙ u in absurd (cc);
         lone = λ one. absurd (cc);
-        shown = get_or-set_same sg k v 0 (omega (arith, lt, count, reached.count)) ∙ is ∙ ap (λ z. open_signs z r) (ap need_count e ∙ sym g)
+        shown = get_or-set_same sg k v 0 (omega (arith, lt, count, reached.count)) ∙ is ∙ ap (λ z. open_signs z r) (ap needs_of_kind e ∙ sym g)
             ∙ sym (ap (λ z. act_shows (length s.needs) z (is_finished (stage_at ys (k + 1)))) opened ∙ ap (open_signs (length s.needs)) own);
       }
 
 pub keeps-begin : (ns : List Entry) (doc : Recipe) (xs ys : List Stage) (old sg : List ℕ) → SomeLives ns doc xs → length old ≡ length ns → (k n : ℕ) → Allows ns xs (move.Begin k) → n ≡ k → (r : Bool) (v : ℕ) → is_finished (stage_at ys (n + 1)) ≡ r
-    → AgreeOutside (n + 1) (end_at ns (n + 1)) (slice_set xs n Open) ys → IsReachedNeatly ns doc (n + 1) (slice_set xs n Open) ys old sg → v ≡ open_signs (need_count (kind_at ns n)) r → IsKeptUp ns doc xs ys old (slice_set sg n v)
+    → AgreeOutside (n + 1) (end_at ns (n + 1)) (slice_set xs n Open) ys → IsReachedNeatly ns doc (n + 1) (slice_set xs n Open) ys old sg → v ≡ open_signs (needs_of_kind (kind_at ns n)) r → IsKeptUp ns doc xs ys old (slice_set sg n v)
 keeps-begin ns doc xs ys old sg lives count k n a f r v own outside reached is = record {
   count = length-set sg n v ∙ reached.count;
   keeps = begins-neatly ns doc lives.0 lives.1 n a.0 (omega (arith, f, a.2)) (ap (kind_at ns) f ∙ a.3) xs ys old sg (Ready a.1) r v (lives.2.fits ∙ sym lives.1.count) count (ap (stage_at xs) f ∙ a.4) tt own outside reached is;

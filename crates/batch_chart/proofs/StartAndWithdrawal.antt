@@ -26,7 +26,7 @@ use Rattle.batch_chart.specs.Outlined.{end_at, kind_at, Stands}
 use Rattle.batch_chart.specs.declared.node.Kind.TheVariants.{Act}
 use Rattle.batch_chart.specs.declared.node.Kind.TheVariants as kind
 use Rattle.batch_chart.specs.Neat.{AllFinished, AreNeat}
-use Rattle.batch_chart.specs.Needs.{need_count}
+use Rattle.batch_chart.specs.Needs.{needs_of_kind}
 use Rattle.batch_chart.specs.Noting.{stage_signs}
 use Rattle.batch_signs.specs.Signs.{sign_at}
 use Rattle.batch_chart.specs.Starting.{HasStarted, AreStarted, again, HasWithdrawn}
@@ -100,7 +100,7 @@ module _ (ns : List Entry) (xs : List Stage) (m v : ℕ) (some : 0 < length ns) 
       has-started (length ns) (slice_set xs 0 (Ready 0)) (λ lt. length-set xs 0 (Ready 0) ∙ l) (stage-set_same xs 0 (Ready 0) (omega (arith, some, l)))
       (λ j lt. stage-set_other xs 0 j (Ready 0) (λ e. absurd (omega (arith, lt, e))) ∙ all-stages xs gone j)
 
-  pub starts-neatly : v ≡ stage_signs (need_count (kind_at ns 0)) (Ready 0) → AreStarted ns (slice_set xs 0 (Ready 0)) (slice_set (replicate m 0) 0 v)
+  pub starts-neatly : v ≡ stage_signs (needs_of_kind (kind_at ns 0)) (Ready 0) → AreStarted ns (slice_set xs 0 (Ready 0)) (slice_set (replicate m 0) 0 v)
   starts-neatly is = (
     length-set (replicate {A = ℕ} m 0) 0 v ∙ length-replicate {A = ℕ} m 0 ∙ k,
     λ doc t laid. (

@@ -16,7 +16,7 @@ use Rattle.batch_chart.specs.declared.stage.Stage.TheVariants.{Ready}
 use Rattle.batch_chart.specs.Early.{is_early, is_ready, taking_first, taken_by, taken_by_each, is_of, to_at, first_held, IsTakenTo, IsTakenAt, IsTakenBy}
 use Rattle.batch_chart.specs.declared.passed.Passed.{Passed}
 use Rattle.batch_chart.specs.Meaning.{meaning, meaning_below, meaning_each, act_as, loop_as, meaning_of_branch, chosen}
-use Rattle.batch_chart.specs.Needs.{need_count}
+use Rattle.batch_chart.specs.Needs.{needs_of_kind}
 use Rattle.batch_chart.specs.NodesOf.{node_at, place_at}
 use Rattle.batch_chart.specs.Noting.{HasCome}
 use Rattle.batch_chart.specs.Outlined.{kind_at, is_act_kind, Stands}
@@ -139,7 +139,7 @@ take-short : {X : Type 0} (l : List X) → length (take 1 l) ≤ length l
 take-short [] = omega arith
 take-short (x ∷ l) = omega arith
 
-good-taking : (κ : Kind) (h m : ℕ) → m ≡ first_held (need_count κ) → (s : Step) (w : Task) (r : Rest) → Fits κ s w → IsGood taking_first (Ready h) (Ready m) s w r
+good-taking : (κ : Kind) (h m : ℕ) → m ≡ first_held (needs_of_kind κ) → (s : Step) (w : Task) (r : Rest) → Fits κ s w → IsGood taking_first (Ready h) (Ready m) s w r
 good-taking κ h m e s w r f = (refl, ap (ready s w) (first-is s.needs ∙ ap first_held (fits-count κ s w f) ∙ sym e), λ t v q. (q.0, q.1, take-short s.needs))
 
 -- a ready node is an act
@@ -161,7 +161,7 @@ module _ (ns : List Entry) (doc : Recipe) (xs : List Stage) (n h : ℕ) (ready_h
       let here = node-stands ns doc t laid n lt in
       ready-acts (node_at t n).here here (all-told ns doc t laid xs alive n (node_at t n).here (omega arith) lt here)
 
-taking-next : (ns : List Entry) (doc : Recipe) (xs : List Stage) (k h m : ℕ) → k < length ns → is_act_kind (kind_at ns k) ≡ true → stage_at xs k ≡ Ready h → m ≡ first_held (need_count (kind_at ns k))
+taking-next : (ns : List Entry) (doc : Recipe) (xs : List Stage) (k h m : ℕ) → k < length ns → is_act_kind (kind_at ns k) ≡ true → stage_at xs k ≡ Ready h → m ≡ first_held (needs_of_kind (kind_at ns k))
     → IsChangedOnly ns doc k taking_first xs (slice_set xs k (Ready m))
 taking-next ns doc xs k h m lt acting was e =
     record {
@@ -204,7 +204,7 @@ module _ (ns : List Entry) (doc : Recipe) (held : List Passed) (xs : List Stage)
     }
 
     -- the act there takes its unit over
-    module _ (j m : ℕ) (zs : List Stage) (signs : List ℕ) (was : stage_at ys (to_at held i) ≡ Ready j) (inside : to_at held i < length ns) (first : m ≡ first_held (need_count (kind_at ns (to_at held i))))
+    module _ (j m : ℕ) (zs : List Stage) (signs : List ℕ) (was : stage_at ys (to_at held i) ≡ Ready j) (inside : to_at held i < length ns) (first : m ≡ first_held (needs_of_kind (kind_at ns (to_at held i))))
         (come : HasCome ns (to_at held i) (Ready m) ys zs new signs) (lives : SomeLives ns doc xs) (count : length old ≡ length ns) where
       ys-alive : IsAlive lives.0 ys
       ys-alive = (h.means lives.0 lives.1 lives.2).0
@@ -265,7 +265,7 @@ module _ (ns : List Entry) (doc : Recipe) (held : List Passed) (xs : List Stage)
     taken-next zs signs at inside lives count = go at
       where
         go : IsTakenAt ns (to_at held i) ys zs new signs → IsTakenTo ns doc held (i + 1) xs zs old signs
-        go (inl a) = taken-one a.0 (first_held (need_count (kind_at ns (to_at held i)))) zs signs a.1 inside refl a.2 lives count
+        go (inl a) = taken-one a.0 (first_held (needs_of_kind (kind_at ns (to_at held i)))) zs signs a.1 inside refl a.2 lives count
         go (inr a) = subst (λ z. IsTakenTo ns doc held (i + 1) xs z old signs) (sym a.1) (subst (λ z. IsTakenTo ns doc held (i + 1) xs ys old z) (sym a.2) (taken-not a.0))
 
     pub as-many-stages : SomeLives ns doc xs → length ys ≡ length ns
@@ -331,7 +331,7 @@ not-ready x f = refl
 
 module _ (ns : List Entry) (n : ℕ) (xs : List Stage) (old : List ℕ) where
   -- a ready act gets its first need
-  pub taken-at : (j m : ℕ) (ys : List Stage) (new : List ℕ) → stage_at xs n ≡ Ready j → m ≡ first_held (need_count (kind_at ns n)) → HasCome ns n (Ready m) xs ys old new → IsTakenAt ns n xs ys old new
+  pub taken-at : (j m : ℕ) (ys : List Stage) (new : List ℕ) → stage_at xs n ≡ Ready j → m ≡ first_held (needs_of_kind (kind_at ns n)) → HasCome ns n (Ready m) xs ys old new → IsTakenAt ns n xs ys old new
   taken-at j m ys new was e come = inl (j, was, subst (λ z. HasCome ns n (Ready z) xs ys old new) e come)
 
   pub idle-at : ((h : ℕ) → stage_at xs n ≡ Ready h → ⊥) → IsTakenAt ns n xs xs old old

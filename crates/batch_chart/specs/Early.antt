@@ -13,7 +13,7 @@ use Rattle.batch_chart.specs.declared.passed.Passed.{Passed}
 use Rattle.batch_chart.specs.declared.stage.Stage.{Stage}
 use Rattle.batch_chart.specs.declared.stage.Stage.TheVariants.{Ready}
 use Rattle.batch_chart.specs.Meaning.{meaning}
-use Rattle.batch_chart.specs.Needs.{need_count}
+use Rattle.batch_chart.specs.Needs.{needs_of_kind}
 use Rattle.batch_chart.specs.Noting.{HasCome}
 use Rattle.batch_chart.specs.Outlined.{kind_at}
 use Rattle.batch_chart.specs.NodesOf.{need_at, place_at}
@@ -73,7 +73,7 @@ is_of t ks = λ p. list_any (λ k. same_place p (place_at t k)) ks
 -- the act at node n holds its first need, if it was ready
 abbrev pub IsTakenAt : List Entry → ℕ → List Stage → List Stage → List ℕ → List ℕ → Type 0
 IsTakenAt ns n xs ys old new =
-    ((j : ℕ) × (stage_at xs n ≡ Ready j) × HasCome ns n (Ready (first_held (need_count (kind_at ns n)))) xs ys old new)
+    ((j : ℕ) × (stage_at xs n ≡ Ready j) × HasCome ns n (Ready (first_held (needs_of_kind (kind_at ns n)))) xs ys old new)
     ⊎ ((is_ready (stage_at xs n) ≡ false) × (ys ≡ xs) × (new ≡ old))
 
 -- so do those of the first so many that hold in advance

@@ -4,7 +4,7 @@ use Rattle.batch_recipe.specs.Tree.{Step, Task, Trees}
 use Rattle.batch_chart.specs.declared.most.Counts.{Counts}
 use Rattle.batch_chart.specs.declared.node.Kind.{Kind}
 use Rattle.batch_chart.specs.declared.node.Kind.TheVariants.{Act, Par}
-use Rattle.batch_chart.specs.Needs.{need_count}
+use Rattle.batch_chart.specs.Needs.{needs_of_kind}
 use Rattle.batch_chart.specs.NodesOf.{own_needs, own_units, most_of_all, most_of_one}
 
 -- a quantity that is counted over acts
@@ -31,7 +31,7 @@ own_by Units = own_units
 
 -- the same of an act of this kind
 abbrev pub own_of : Counted → Kind → ℕ
-own_of Needs k = need_count k
+own_of Needs k = needs_of_kind k
 own_of Units (Act needs) = 1
 own_of Units _ = 0
 

@@ -15,7 +15,7 @@ use Rattle.batch_chart.specs.declared.stage.Stage.TheVariants as stage
 use Rattle.batch_chart.specs.declared.sign.TheConstants.{LACKS, FITS, WAITS, IS_OVER, FREES, HOLDS, IS_ACT, IDLE, RUNNING, PAUSING, PAUSED, HOLDING, HELD, RESTARTING, STOPPING, STOPPED, ABORTING, ABORTED, COMPLETE, LIVES, CAN_HOLD, CAN_STOP, CAN_ABORT, CAN_RESET}
 use Rattle.batch_signs.specs.Signs.{sign_at}
 use Rattle.batch_chart.specs.Outlined.{kind_at}
-use Rattle.batch_chart.specs.Needs.{need_count}
+use Rattle.batch_chart.specs.Needs.{needs_of_kind}
 use Rattle.batch_chart.specs.Numbered.{numbered}
 
 -- one of the first k needs can be given back
@@ -103,4 +103,4 @@ pub record AreNoted (t : Tree) (xs : List Stage) (signs : List ℕ) : Type 0 whe
 -- the stage of the act at node k has been set, and its signs have been
 pub record HasCome (ns : List Entry) (k : ℕ) (x : Stage) (xs ys : List Stage) (old new : List ℕ) : Type 0 where
   pub stages : ys ≡ slice_set xs k x
-  pub signs : new ≡ slice_set old k (stage_signs (need_count (kind_at ns k)) x)
+  pub signs : new ≡ slice_set old k (stage_signs (needs_of_kind (kind_at ns k)) x)

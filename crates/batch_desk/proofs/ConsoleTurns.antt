@@ -11,7 +11,7 @@ use Rattle.batch_desk.specs.declared.batch_plan.BatchPlan.{BatchPlan}
 use Rattle.batch_desk.specs.declared.step.Step.TheVariants as step
 use Rattle.batch_desk.specs.declared.console.Console.{Console}
 use Rattle.batch_desk.specs.DeskState.{DeskState, Sends}
-use Rattle.batch_desk.specs.Consoles.{IsConsoleEvent, IsSamePlan, create_count, creations, starting, telling_created}
+use Rattle.batch_desk.specs.Consoles.{IsConsoleEvent, IsSamePlan, sending_create, creations, starting, telling_created}
 use Rattle.batch_desk.specs.ConsoleSteps.{Follows, GoesOn, IsTried, Minds, learned}
 use Rattle.batch_desk.proofs.Consoles.{learns}
 
@@ -19,7 +19,7 @@ more_appended : {X : Type 0} (before more old new : List X) (x : X) → old ≡ 
 more_appended before more old new x is grown = grown ∙ (ap (λ xs. xs ++ x ∷ []) is ∙ append_assoc before more (x ∷ []))
 
 -- an event of the plan was sent: a create of those that are to be sent, or the start that is next
-sent_goes : (plan : BatchPlan) (event : Event) (c f : Console) (d e : DeskState) → IsConsoleEvent plan event → create_count event + f.to_create ≡ c.to_create
+sent_goes : (plan : BatchPlan) (event : Event) (c f : Console) (d e : DeskState) → IsConsoleEvent plan event → sending_create event + f.to_create ≡ c.to_create
     → ((n : ℕ) → (starting n event ≡ 0) ⊎ ((starting n event ≡ 1) × (c.step ≡ step.Start n)))
     → f.step ≡ step.Wait → f.last ≡ c.last → f.to_complete ≡ c.to_complete → f.refused ≡ c.refused → Sends d event e → GoesOn plan c d f e
 sent_goes plan event c f d e planned left starts-one waits last completing same sends batches before was = record {
@@ -31,7 +31,7 @@ sent_goes plan event c f d e planned left starts-one waits last completing same 
     sent = more_appended before.sent was.is.more d.sent e.sent event was.is.sent sends.sent;
     taken = ap (λ (x : DeskState). x.taken) sends.others ∙ was.is.taken;
     each = All-push (IsConsoleEvent plan) was.is.more event was.is.each planned;
-    creates = omega (arith, sum_by_push create_count was.is.more event, was.minds.to_create, left);
+    creates = omega (arith, sum_by_push sending_create was.is.more event, was.minds.to_create, left);
     once = λ n. elim (starts-one n) [
       | inl none ↦ omega (arith, sum_by_push (starting n) was.is.more event, none, was.is.once n)
       | inr one ↦ omega (arith, sum_by_push (starting n) was.is.more event, one.0, (was.minds.next n one.1).1)
@@ -42,7 +42,7 @@ sent_goes plan event c f d e planned left starts-one waits last completing same 
     ];
   };
   minds = record {
-    to_create = omega (arith, sum_by_push create_count was.is.more event, was.minds.to_create, left);
+    to_create = omega (arith, sum_by_push sending_create was.is.more event, was.minds.to_create, left);
     to_complete = completing ∙ was.minds.to_complete;
     above = λ n up. elim (starts-one n) [
       | inl none ↦ omega (arith, sum_by_push (starting n) was.is.more event, none, was.minds.above n (omega (arith, last, up)))

@@ -13,7 +13,7 @@ use Rattle.batch_desk.specs.declared.scope.Scope.{Scope}
 use Rattle.batch_desk.specs.Due.{due, sees, events_of, up_to}
 use Rattle.batch_desk.specs.PortState.{PortState}
 use Rattle.batch_desk.specs.PortSteps.{tell, owe_line, answered}
-use Rattle.batch_desk.specs.HubState.{IsPort, outs_told}
+use Rattle.batch_desk.specs.HubState.{IsPort, port_outs}
 use Rattle.batch_desk.specs.PortState.{outline}
 use Rattle.batch_desk.proofs.DueOuts.{due-line, due-reply, due-later, replies-take, events_of-append}
 
@@ -39,7 +39,7 @@ tell_keeps true None out p = record { scope = refl; events = refl; taken = refl;
 tell_keeps true (Some n) out p = record { scope = refl; events = refl; taken = refl; outs = refl; closed = refl }
 tell_keeps false c out p = record { scope = refl; events = refl; taken = refl; outs = refl; closed = refl }
 
-tell_told : (b : Bool) (c : Option ℕ) (out : Out) (p : PortState) → outs_told (cond b (tell c out p) p) ≡ outs_told p ++ news c b out
+tell_told : (b : Bool) (c : Option ℕ) (out : Out) (p : PortState) → port_outs (cond b (tell c out p) p) ≡ port_outs p ++ news c b out
 tell_told true None out p = sym (append_assoc p.put p.waiting (out ∷ []))
 tell_told true (Some n) out p = sym (append-nil _)
 tell_told false None out p = sym (append-nil _)

@@ -24,7 +24,7 @@ use Rattle.batch_desk.specs.PortSteps.{StaysOpen}
 use Rattle.batch_engine.specs.View.{EngineView}
 use Rattle.batch_desk.specs.DeskState.{DeskState, desk_rings}
 use Rattle.batch_desk.specs.Rings.{IsOfRing}
-use Rattle.batch_desk.specs.HubState.{HubState, IsHub, IsPort, outs_told}
+use Rattle.batch_desk.specs.HubState.{HubState, IsHub, IsPort, port_outs}
 use Rattle.batch_desk.specs.Ends.{Closes, RefusesClose, Seals}
 
 closes : (h : List (ℕ × Event)) (outs : List Out) (k : ℕ) (p : PortState) (c : Option ℕ) → p.closed ≡ c → IsPort h outs k p → IsPort h outs k (closed_at c (length outs) p)
@@ -36,7 +36,7 @@ closes h outs k p None e is = record {
 closes h outs k p (Some n) e is = is
 
 -- a port with an empty queue has put all outs that are due to it
-put_all : (h : List (ℕ × Event)) (outs : List Out) (k : ℕ) (p : PortState) (o : Option Ring) → p.waiting ≡ [] → IsSome o → IfSome o (λ _. outs_told p ≡ due p.scope k h (up_to p.closed outs))
+put_all : (h : List (ℕ × Event)) (outs : List Out) (k : ℕ) (p : PortState) (o : Option Ring) → p.waiting ≡ [] → IsSome o → IfSome o (λ _. port_outs p ≡ due p.scope k h (up_to p.closed outs))
     → p.put ≡ due p.scope k h (up_to p.closed outs)
 put_all h outs k p None none some is = cc
 put_all h outs k p (Some ring) none some is = sym (append-nil p.put) ∙ (ap (λ xs. p.put ++ xs) (sym none) ∙ is)
@@ -110,7 +110,7 @@ opening_port k p is = record {
   told = told_none p.outs;
   closed = rw is.closed tt;
 } where
-  told_none : (o : Option Ring) → IfSome o (λ _. outs_told p ≡ due p.scope k [] (up_to p.closed []))
+  told_none : (o : Option Ring) → IfSome o (λ _. port_outs p ≡ due p.scope k [] (up_to p.closed []))
   told_none None = tt
   told_none (Some ring) = let a = is.put in let b = is.waiting in rw (is.closed, a, b) refl
 

@@ -25,9 +25,9 @@ IsConsoleEvent plan (Order word batch) = word ≡ command.Start
 IsConsoleEvent plan _ = ⊥
 
 -- one for a create, and for nothing else
-abbrev pub create_count : Event → ℕ
-create_count (Create name amount roles) = 1
-create_count _ = 0
+abbrev pub sending_create : Event → ℕ
+sending_create (Create name amount roles) = 1
+sending_create _ = 0
 
 -- one for the start of batch n
 abbrev pub starting : ℕ → Event → ℕ
@@ -51,7 +51,7 @@ telling_refused _ = 0
 
 -- how many creates there are, and how many starts of batch n
 abbrev pub creates : List Event → ℕ
-creates events = sum_by create_count events
+creates events = sum_by sending_create events
 
 abbrev pub starts : ℕ → List Event → ℕ
 starts n events = sum_by (starting n) events

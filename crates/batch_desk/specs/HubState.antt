@@ -24,14 +24,14 @@ pub record HubState : Type 0 where
   pub ports : List PortState
 
 -- the outs that were added for the port: those put into its ring, and behind them its queue
-abbrev pub outs_told : PortState → List Out
-outs_told p = p.put ++ p.waiting
+abbrev pub port_outs : PortState → List Out
+port_outs p = p.put ++ p.waiting
 
 -- the events that were taken from the port are its events in the history, and until it is sealed the outs added for it are those due
 -- to it
 pub record IsPort (history : List (ℕ × Event)) (outs : List Out) (port : ℕ) (p : PortState) : Type 0 where
   pub taken : p.taken ≡ events_of port history
-  pub told : IfSome p.outs (λ _. outs_told p ≡ due p.scope port history (up_to p.closed outs))
+  pub told : IfSome p.outs (λ _. port_outs p ≡ due p.scope port history (up_to p.closed outs))
   pub closed : IfSome p.closed (λ n. n ≤ length outs)
 
 abbrev pub ArePorts : List (ℕ × Event) → List Out → List PortState → Type 0

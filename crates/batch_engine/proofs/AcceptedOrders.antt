@@ -19,7 +19,7 @@ use Rattle.batch_model.specs.Events.{order, ordered, refused, moves_pending, unk
 use Rattle.batch_model.specs.Runs.{Reacts}
 use Rattle.batch_record_laws.proofs.Entries.{IsOnce, once-filter}
 use Rattle.batch_arbiter.specs.Allocation as Arbiter
-use Rattle.batch_arbiter.specs.Allocation.{Claim, Allocation, shares_at, queue_at, is_of_batch}
+use Rattle.batch_arbiter.specs.Allocation.{Claim, Allocation, shares_at, line_of_asks, is_of_batch}
 use Rattle.batch_recipe.specs.Tree.{Tree}
 use Rattle.batch_chart.specs.ByValues.{reach_by}
 use Rattle.batch_chart.specs.Charts.{IsRunningOf, RunsAs}
@@ -63,7 +63,7 @@ module _ (v : EngineView) (k : IsKept v) (i : ℕ) (command : Command) (n : ℕ)
     where
       go : (m : Option ℕ) → line_at (changed v i b' a') m ≡ line_at (record v { allocation = a' }) m
       go None = refl
-      go (Some q) = acts-same v.cleared v.next_number b' v.batches i o.batch o.at number made (queue_at a' q)
+      go (Some q) = acts-same v.cleared v.next_number b' v.batches i o.batch o.at number made (line_of_asks a' q)
 
   order-reacts : Reacts (setup v.cleared) (plant_of v) (order command n) (ordered command n (target command)) (plant_of (changed v i b' a'))
   order-reacts =
@@ -73,7 +73,7 @@ module _ (v : EngineView) (k : IsKept v) (i : ℕ) (command : Command) (n : ℕ)
       (batches-same v.cleared v.next_number b' v.batches i o.batch (commanded command) (standing v k).numbers o.at becomes)
       (fun_ext (λ name. line-same name ∙ lines name)))))
 
-  pub order-made : ((q : ℕ) → shares_at a' q ≡ shares_at v.allocation q) → IsOfCell v.cleared a' → ((name : Name) (q : ℕ) → resource_number v.cleared name ≡ Some q → IsOnce (claimed_shares v.cleared v.batches (queue_at a' q))) → HasRoom (changed v i b' a')
+  pub order-made : ((q : ℕ) → shares_at a' q ≡ shares_at v.allocation q) → IsOfCell v.cleared a' → ((name : Name) (q : ℕ) → resource_number v.cleared name ≡ Some q → IsOnce (claimed_shares v.cleared v.batches (line_of_asks a' q))) → HasRoom (changed v i b' a')
       → Ordered v (changed v i b' a') command n
   order-made shares cell once room =
       record {
@@ -86,7 +86,7 @@ module _ (v : EngineView) (k : IsKept v) (i : ℕ) (command : Command) (n : ℕ)
               runs = subst (λ (r : ℕ × List ℕ). IsRunningOf (tree_at v.cleared r.0 r.1) b'.running) (sym made) runs;
             }))
             cell
-            (λ name q e. subst IsOnce (sym (acts-same v.cleared v.next_number b' v.batches i o.batch o.at number made (queue_at a' q))) (once name q e))
+            (λ name q e. subst IsOnce (sym (acts-same v.cleared v.next_number b' v.batches i o.batch o.at number made (line_of_asks a' q))) (once name q e))
             room;
         reacts = order-reacts;
       }
@@ -153,13 +153,13 @@ all-parted p (x ∷ xss) =
 module _ (v : EngineView) (k : IsKept v) (i : ℕ) (command : Command) (n : ℕ) (o : IsOrder v i command n) (ends : EndsAsks command) (r : Running)
     (runs : IsRunningOf (tree_of v.cleared o.batch) r) (left : RunsAs (tree_of v.cleared o.batch) r (withdrawn (model_batch v.cleared o.batch).rest) (model_batch v.cleared o.batch).in_advance) where
   abbrev less : Allocation
-  less = Arbiter.with_withdrawal o.batch.number v.allocation
+  less = Arbiter.after_withdrawal o.batch.number v.allocation
 
-  stopped-lines : (q : ℕ) → queue_at less q ≡ filter (λ c. not (is_of_batch o.batch.number c)) (queue_at v.allocation q)
+  stopped-lines : (q : ℕ) → line_of_asks less q ≡ filter (λ c. not (is_of_batch o.batch.number c)) (line_of_asks v.allocation q)
   stopped-lines q = at-mapped (filter (λ c. not (is_of_batch o.batch.number c))) refl v.allocation.lines q
 
-  stopped-acts : (q : ℕ) → claimed_shares v.cleared v.batches (queue_at less q) ≡ filter (λ a. not (nat_eq a.act.0 o.batch.number)) (claimed_shares v.cleared v.batches (queue_at v.allocation q))
-  stopped-acts q = ap (claimed_shares v.cleared v.batches) (stopped-lines q) ∙ acts-filtered (share_of v.cleared v.batches) o.batch.number (queue_at v.allocation q) (λ x. refl)
+  stopped-acts : (q : ℕ) → claimed_shares v.cleared v.batches (line_of_asks less q) ≡ filter (λ a. not (nat_eq a.act.0 o.batch.number)) (claimed_shares v.cleared v.batches (line_of_asks v.allocation q))
+  stopped-acts q = ap (claimed_shares v.cleared v.batches) (stopped-lines q) ∙ acts-filtered (share_of v.cleared v.batches) o.batch.number (line_of_asks v.allocation q) (λ x. refl)
 
   stopped-line : (name : Name) → line_in (record v { allocation = less }) name ≡ filter (λ a. not (nat_eq a.act.0 o.batch.number)) (line_in v name)
   stopped-line name = go (resource_number v.cleared name)
@@ -169,7 +169,7 @@ module _ (v : EngineView) (k : IsKept v) (i : ℕ) (command : Command) (n : ℕ)
       go (Some q) = stopped-acts q
 
   -- all asks of the batch leave their lines
-  pub stop-made : Ordered v (changed v i (record (o.batch) { state = target command; running = r }) (Arbiter.with_withdrawal o.batch.number v.allocation)) command n
+  pub stop-made : Ordered v (changed v i (record (o.batch) { state = target command; running = r }) (Arbiter.after_withdrawal o.batch.number v.allocation)) command n
   stop-made =
       let b' : Batch = record (o.batch) { state = target command; running = r } in
       order-made v k i command n o b' refl refl runs
@@ -180,7 +180,7 @@ module _ (v : EngineView) (k : IsKept v) (i : ℕ) (command : Command) (n : ℕ)
         shares = k.cell.shares;
         lines = length-map v.allocation.lines (filter (λ c. not (is_of_batch o.batch.number c))) ∙ k.cell.lines;
       })
-      (λ name q e. subst IsOnce (sym (stopped-acts q)) (once-filter (λ a. not (nat_eq a.act.0 o.batch.number)) (claimed_shares v.cleared v.batches (queue_at v.allocation q)) (k.once name q e)))
+      (λ name q e. subst IsOnce (sym (stopped-acts q)) (once-filter (λ a. not (nat_eq a.act.0 o.batch.number)) (claimed_shares v.cleared v.batches (line_of_asks v.allocation q)) (k.once name q e)))
       (omega (arith, k.room, needs-same v.cleared v.batches i o.batch b' o.at refl, all-parted (is_of_batch o.batch.number) v.allocation.lines))
 
 -- the procedure is reached anew

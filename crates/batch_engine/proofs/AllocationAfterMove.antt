@@ -13,7 +13,7 @@ use Rattle.batch_model.specs.Records.{holders_after}
 use Rattle.batch_record_laws.proofs.Entries.{IsOnce, act_self, once-snoc, same_act}
 use Rattle.batch_record_laws.proofs.Members.{map-Has}
 use Rattle.batch_verify.specs.ClearedSet.{ClearedSet}
-use Rattle.batch_arbiter.specs.Allocation.{Claim, shares_at, queue_at, units_claimed, with_ask, with_grant, handed_over, with_pass, with_release, without_first, is_claim, next_in, batch_node, held_units}
+use Rattle.batch_arbiter.specs.Allocation.{Claim, shares_at, line_of_asks, units_claimed, after_ask, after_grant, handed_over, after_pass, after_release, without_first, is_claim, next_in, batch_node, held_units}
 use Rattle.batch_engine.specs.View.{EngineView, claim_act, share_of, claimed_shares, names_of, resource_number, line_in, line_at}
 use Rattle.batch_engine.specs.Kept.{IsOfCell}
 use Rattle.batch_engine.proofs.BatchPlaces.{chosen-true, chosen-false}
@@ -62,48 +62,48 @@ module _ (v : EngineView) (cell : IsOfCell v.cleared v.allocation) (q : ℕ) (ne
 
   -- An act joins a line
   module _ (x : Claim) (a : BatchAct) (is : share_of v.cleared v.batches x ≡ record { act = a; units = need.units }) where
-    pub lines-asked : (name : Name) → line_in (record v { allocation = with_ask q x v.allocation }) name ≡ line_after (ask a.0 a.1 need) (line_in v) name
+    pub lines-asked : (name : Name) → line_in (record v { allocation = after_ask q x v.allocation }) name ≡ line_after (ask a.0 a.1 need) (line_in v) name
     lines-asked name = go (resource_number v.cleared name) refl
       where
         lines : List (List Claim)
         lines = v.allocation.lines
 
         go : (o : Option ℕ) → resource_number v.cleared name ≡ o
-            → line_at (record v { allocation = with_ask q x v.allocation }) o ≡ elim (same_name name need.resource) [ true ↦ line_at v o ++ record { act = (a.0, a.1); units = need.units } ∷ [] | false ↦ line_at v o ]
+            → line_at (record v { allocation = after_ask q x v.allocation }) o ≡ elim (same_name name need.resource) [ true ↦ line_at v o ++ record { act = (a.0, a.1); units = need.units } ∷ [] | false ↦ line_at v o ]
         go None f = sym (chosen-false (same_name name need.resource) _ _ (name-no name need.resource (λ s. absurd (let g : ◌≡◌ {A = Option ℕ} None (Some q) = sym f ∙ ap (resource_number v.cleared) s ∙ e in cc))))
         go (Some r) f =
-            is-same name need.resource (line_at (record v { allocation = with_ask q x v.allocation }) (Some r) ≡ elim (same_name name need.resource) [ true ↦ line_at v (Some r) ++ record { act = (a.0, a.1); units = need.units } ∷ [] | false ↦ line_at v (Some r) ])
-            (λ s. ap (claimed_shares v.cleared v.batches) (at-same v.cleared v.allocation.lines q need.resource e (omega (arith, cell.lines, within)) (queue_at v.allocation q ++ x ∷ []) name r f s)
-            ∙ map-append (share_of v.cleared v.batches) (queue_at v.allocation q) (x ∷ [])
-            ∙ ap₂ (λ (j : ℕ) (y : Share). claimed_shares v.cleared v.batches (queue_at v.allocation j) ++ y ∷ []) (sym (same-named v.cleared name need.resource r q f e s)) is
+            is-same name need.resource (line_at (record v { allocation = after_ask q x v.allocation }) (Some r) ≡ elim (same_name name need.resource) [ true ↦ line_at v (Some r) ++ record { act = (a.0, a.1); units = need.units } ∷ [] | false ↦ line_at v (Some r) ])
+            (λ s. ap (claimed_shares v.cleared v.batches) (at-same v.cleared v.allocation.lines q need.resource e (omega (arith, cell.lines, within)) (line_of_asks v.allocation q ++ x ∷ []) name r f s)
+            ∙ map-append (share_of v.cleared v.batches) (line_of_asks v.allocation q) (x ∷ [])
+            ∙ ap₂ (λ (j : ℕ) (y : Share). claimed_shares v.cleared v.batches (line_of_asks v.allocation j) ++ y ∷ []) (sym (same-named v.cleared name need.resource r q f e s)) is
             ∙ sym (chosen-true (same_name name need.resource) _ _ (name-yes name need.resource s)))
-            (λ d. ap (claimed_shares v.cleared v.batches) (at-other v.cleared v.allocation.lines q need.resource e (omega (arith, cell.lines, within)) (queue_at v.allocation q ++ x ∷ []) name r f d)
+            (λ d. ap (claimed_shares v.cleared v.batches) (at-other v.cleared v.allocation.lines q need.resource e (omega (arith, cell.lines, within)) (line_of_asks v.allocation q ++ x ∷ []) name r f d)
             ∙ sym (chosen-false (same_name name need.resource) _ _ (name-no name need.resource d)))
 
-    pub once-asked : ((n : Name) (j : ℕ) → resource_number v.cleared n ≡ Some j → IsOnce (claimed_shares v.cleared v.batches (queue_at v.allocation j))) → ((y : Share) → Has (claimed_shares v.cleared v.batches (queue_at v.allocation q)) y → y.act ≡ a → ⊥)
-        → (n : Name) (j : ℕ) → resource_number v.cleared n ≡ Some j → IsOnce (claimed_shares v.cleared v.batches (queue_at (with_ask q x v.allocation) j))
+    pub once-asked : ((n : Name) (j : ℕ) → resource_number v.cleared n ≡ Some j → IsOnce (claimed_shares v.cleared v.batches (line_of_asks v.allocation j))) → ((y : Share) → Has (claimed_shares v.cleared v.batches (line_of_asks v.allocation q)) y → y.act ≡ a → ⊥)
+        → (n : Name) (j : ℕ) → resource_number v.cleared n ≡ Some j → IsOnce (claimed_shares v.cleared v.batches (line_of_asks (after_ask q x v.allocation) j))
     once-asked once d n j f =
-        is-same n need.resource (IsOnce (claimed_shares v.cleared v.batches (queue_at (with_ask q x v.allocation) j)))
-        (λ s. subst (λ xs. IsOnce (claimed_shares v.cleared v.batches xs)) (sym (at-same v.cleared v.allocation.lines q need.resource e (omega (arith, cell.lines, within)) (queue_at v.allocation q ++ x ∷ []) n j f s))
-        (subst IsOnce (sym (map-append (share_of v.cleared v.batches) (queue_at v.allocation q) (x ∷ [])))
-        (once-snoc (share_of v.cleared v.batches x) (claimed_shares v.cleared v.batches (queue_at v.allocation q)) (once need.resource q e) (λ y h g. d y h (g ∙ ap (λ (z : Share). z.act) is)))))
-        (λ t. subst (λ xs. IsOnce (claimed_shares v.cleared v.batches xs)) (sym (at-other v.cleared v.allocation.lines q need.resource e (omega (arith, cell.lines, within)) (queue_at v.allocation q ++ x ∷ []) n j f t)) (once n j f))
+        is-same n need.resource (IsOnce (claimed_shares v.cleared v.batches (line_of_asks (after_ask q x v.allocation) j)))
+        (λ s. subst (λ xs. IsOnce (claimed_shares v.cleared v.batches xs)) (sym (at-same v.cleared v.allocation.lines q need.resource e (omega (arith, cell.lines, within)) (line_of_asks v.allocation q ++ x ∷ []) n j f s))
+        (subst IsOnce (sym (map-append (share_of v.cleared v.batches) (line_of_asks v.allocation q) (x ∷ [])))
+        (once-snoc (share_of v.cleared v.batches x) (claimed_shares v.cleared v.batches (line_of_asks v.allocation q)) (once need.resource q e) (λ y h g. d y h (g ∙ ap (λ (z : Share). z.act) is)))))
+        (λ t. subst (λ xs. IsOnce (claimed_shares v.cleared v.batches xs)) (sym (at-other v.cleared v.allocation.lines q need.resource e (omega (arith, cell.lines, within)) (line_of_asks v.allocation q ++ x ∷ []) n j f t)) (once n j f))
 
-  pub cell-asked : (x : Claim) → IsOfCell v.cleared (with_ask q x v.allocation)
+  pub cell-asked : (x : Claim) → IsOfCell v.cleared (after_ask q x v.allocation)
   cell-asked x =
       record {
         capacities = cell.capacities;
         shares = cell.shares;
-        lines = length-set v.allocation.lines q (queue_at v.allocation q ++ x ∷ []) ∙ cell.lines;
+        lines = length-set v.allocation.lines q (line_of_asks v.allocation q ++ x ∷ []) ∙ cell.lines;
       }
 
   -- A share is given back
   pub shares-released : (n node : ℕ) (p : Place) → IsOnce (claimed_shares v.cleared v.batches (shares_at v.allocation q))
       → ((x : Claim) → is_claim n node x ≡ is_same_act (claim_act v.cleared v.batches x) (n, p))
       → (name : Name) (r : ℕ) → resource_number v.cleared name ≡ Some r
-      → claimed_shares v.cleared v.batches (shares_at (with_release q n node v.allocation) r) ≡ holders_after name (claimed_shares v.cleared v.batches (shares_at v.allocation r)) (move (release n p need))
+      → claimed_shares v.cleared v.batches (shares_at (after_release q n node v.allocation) r) ≡ holders_after name (claimed_shares v.cleared v.batches (shares_at v.allocation r)) (move (release n p need))
   shares-released n node p once same name r f =
-      is-same name need.resource (claimed_shares v.cleared v.batches (shares_at (with_release q n node v.allocation) r) ≡ holders_after name (claimed_shares v.cleared v.batches (shares_at v.allocation r)) (move (release n p need)))
+      is-same name need.resource (claimed_shares v.cleared v.batches (shares_at (after_release q n node v.allocation) r) ≡ holders_after name (claimed_shares v.cleared v.batches (shares_at v.allocation r)) (move (release n p need)))
       (λ s. ap (claimed_shares v.cleared v.batches) (at-same v.cleared v.allocation.shares q need.resource e (omega (arith, cell.shares, within)) (without_first (is_claim n node) (shares_at v.allocation q)) name r f s)
       ∙ without-claim (share_of v.cleared v.batches) (is_claim n node) (n, p) (shares_at v.allocation q) once same
       ∙ ap (λ j. without (n, p) (claimed_shares v.cleared v.batches (shares_at v.allocation j))) (sym (same-named v.cleared name need.resource r q f e s))
@@ -111,7 +111,7 @@ module _ (v : EngineView) (cell : IsOfCell v.cleared v.allocation) (q : ℕ) (ne
       (λ d. ap (claimed_shares v.cleared v.batches) (at-other v.cleared v.allocation.shares q need.resource e (omega (arith, cell.shares, within)) (without_first (is_claim n node) (shares_at v.allocation q)) name r f d)
       ∙ sym (chosen-false (same_name name need.resource) _ _ (name-no name need.resource d)))
 
-  pub cell-released : (n node : ℕ) → IsOfCell v.cleared (with_release q n node v.allocation)
+  pub cell-released : (n node : ℕ) → IsOfCell v.cleared (after_release q n node v.allocation)
   cell-released n node =
       record {
         capacities = cell.capacities;
@@ -125,9 +125,9 @@ module _ (v : EngineView) (cell : IsOfCell v.cleared v.allocation) (q : ℕ) (ne
       → units_claimed n node (shares_at v.allocation q) ≡ need.units
       → claim_act v.cleared v.batches (record { batch = n; node = to; units = need.units }) ≡ (n, there)
       → (name : Name) (r : ℕ) → resource_number v.cleared name ≡ Some r
-      → claimed_shares v.cleared v.batches (shares_at (with_pass q n node to v.allocation) r) ≡ holders_after name (claimed_shares v.cleared v.batches (shares_at v.allocation r)) (move (pass n p there need))
+      → claimed_shares v.cleared v.batches (shares_at (after_pass q n node to v.allocation) r) ≡ holders_after name (claimed_shares v.cleared v.batches (shares_at v.allocation r)) (move (pass n p there need))
   shares-passed n node to p there once same units at name r f =
-      is-same name need.resource (claimed_shares v.cleared v.batches (shares_at (with_pass q n node to v.allocation) r) ≡ holders_after name (claimed_shares v.cleared v.batches (shares_at v.allocation r)) (move (pass n p there need)))
+      is-same name need.resource (claimed_shares v.cleared v.batches (shares_at (after_pass q n node to v.allocation) r) ≡ holders_after name (claimed_shares v.cleared v.batches (shares_at v.allocation r)) (move (pass n p there need)))
       (λ s. ap (claimed_shares v.cleared v.batches) (at-same v.cleared v.allocation.shares q need.resource e (omega (arith, cell.shares, within)) (handed_over n node to (shares_at v.allocation q)) name r f s)
       ∙ map-append (share_of v.cleared v.batches) (without_first (is_claim n node) (shares_at v.allocation q)) (record { batch = n; node = to; units = units_claimed n node (shares_at v.allocation q) } ∷ [])
       ∙ ap₂ (λ (xs : List Share) (y : Share). xs ++ y ∷ []) (without-claim (share_of v.cleared v.batches) (is_claim n node) (n, p) (shares_at v.allocation q) once same)
@@ -137,7 +137,7 @@ module _ (v : EngineView) (cell : IsOfCell v.cleared v.allocation) (q : ℕ) (ne
       (λ d. ap (claimed_shares v.cleared v.batches) (at-other v.cleared v.allocation.shares q need.resource e (omega (arith, cell.shares, within)) (handed_over n node to (shares_at v.allocation q)) name r f d)
       ∙ sym (neither-chosen (n, p) (record { act = (n, there); units = need.units }) (same_name name need.resource) (name-no name need.resource d) (claimed_shares v.cleared v.batches (shares_at v.allocation r))))
 
-  pub cell-passed : (n node to : ℕ) → IsOfCell v.cleared (with_pass q n node to v.allocation)
+  pub cell-passed : (n node to : ℕ) → IsOfCell v.cleared (after_pass q n node to v.allocation)
   cell-passed n node to =
       record {
         capacities = cell.capacities;
@@ -146,37 +146,37 @@ module _ (v : EngineView) (cell : IsOfCell v.cleared v.allocation) (q : ℕ) (ne
       }
 
   -- The oldest ask is granted
-  module _ (x : Claim) (later : List Claim) (a : BatchAct) (first : queue_at v.allocation q ≡ x ∷ later) (is : share_of v.cleared v.batches x ≡ record { act = a; units = need.units })
-      (once : (n : Name) (j : ℕ) → resource_number v.cleared n ≡ Some j → IsOnce (claimed_shares v.cleared v.batches (queue_at v.allocation j))) where
+  module _ (x : Claim) (later : List Claim) (a : BatchAct) (first : line_of_asks v.allocation q ≡ x ∷ later) (is : share_of v.cleared v.batches x ≡ record { act = a; units = need.units })
+      (once : (n : Name) (j : ℕ) → resource_number v.cleared n ≡ Some j → IsOnce (claimed_shares v.cleared v.batches (line_of_asks v.allocation j))) where
     alone : (y : Share) → Has (claimed_shares v.cleared v.batches later) y → y.act ≡ a → ⊥
     alone y h g = (subst (λ xs. IsOnce (claimed_shares v.cleared v.batches xs)) first (once need.resource q e)).0 y h (g ∙ sym (ap (λ (z : Share). z.act) is))
 
-    pub lines-granted : (name : Name) → line_in (record v { allocation = with_grant q (Some x) v.allocation }) name ≡ line_after (grant a.0 a.1 need) (line_in v) name
+    pub lines-granted : (name : Name) → line_in (record v { allocation = after_grant q (Some x) v.allocation }) name ≡ line_after (grant a.0 a.1 need) (line_in v) name
     lines-granted name = go (resource_number v.cleared name) refl
       where
-        taken : (r : ℕ) → r ≡ q → claimed_shares v.cleared v.batches (drop 1 (queue_at v.allocation q)) ≡ without a (claimed_shares v.cleared v.batches (queue_at v.allocation r))
+        taken : (r : ℕ) → r ≡ q → claimed_shares v.cleared v.batches (drop 1 (line_of_asks v.allocation q)) ≡ without a (claimed_shares v.cleared v.batches (line_of_asks v.allocation r))
         taken r s =
             ap (λ xs. claimed_shares v.cleared v.batches (drop 1 xs)) first
             ∙ sym (without-head (record { act = a; units = need.units }) (claimed_shares v.cleared v.batches later) alone)
             ∙ ap (λ (y : Share). without a (y ∷ claimed_shares v.cleared v.batches later)) (sym is)
             ∙ ap (λ xs. without a (claimed_shares v.cleared v.batches xs)) (sym first)
-            ∙ ap (λ j. without a (claimed_shares v.cleared v.batches (queue_at v.allocation j))) (sym s)
+            ∙ ap (λ j. without a (claimed_shares v.cleared v.batches (line_of_asks v.allocation j))) (sym s)
 
         go : (o : Option ℕ) → resource_number v.cleared name ≡ o
-            → line_at (record v { allocation = with_grant q (Some x) v.allocation }) o ≡ elim (same_name name need.resource) [ true ↦ filter (λ b. not (is_same_act b.act (a.0, a.1))) (line_at v o) | false ↦ line_at v o ]
+            → line_at (record v { allocation = after_grant q (Some x) v.allocation }) o ≡ elim (same_name name need.resource) [ true ↦ filter (λ b. not (is_same_act b.act (a.0, a.1))) (line_at v o) | false ↦ line_at v o ]
         go None f = sym (chosen-false (same_name name need.resource) _ _ (name-no name need.resource (λ s. absurd (let g : ◌≡◌ {A = Option ℕ} None (Some q) = sym f ∙ ap (resource_number v.cleared) s ∙ e in cc))))
         go (Some r) f =
-            is-same name need.resource (line_at (record v { allocation = with_grant q (Some x) v.allocation }) (Some r) ≡ elim (same_name name need.resource) [ true ↦ filter (λ b. not (is_same_act b.act (a.0, a.1))) (line_at v (Some r)) | false ↦ line_at v (Some r) ])
-            (λ s. ap (claimed_shares v.cleared v.batches) (at-same v.cleared v.allocation.lines q need.resource e (omega (arith, cell.lines, within)) (drop 1 (queue_at v.allocation q)) name r f s)
+            is-same name need.resource (line_at (record v { allocation = after_grant q (Some x) v.allocation }) (Some r) ≡ elim (same_name name need.resource) [ true ↦ filter (λ b. not (is_same_act b.act (a.0, a.1))) (line_at v (Some r)) | false ↦ line_at v (Some r) ])
+            (λ s. ap (claimed_shares v.cleared v.batches) (at-same v.cleared v.allocation.lines q need.resource e (omega (arith, cell.lines, within)) (drop 1 (line_of_asks v.allocation q)) name r f s)
             ∙ taken r (same-named v.cleared name need.resource r q f e s)
             ∙ sym (chosen-true (same_name name need.resource) _ _ (name-yes name need.resource s)))
-            (λ d. ap (claimed_shares v.cleared v.batches) (at-other v.cleared v.allocation.lines q need.resource e (omega (arith, cell.lines, within)) (drop 1 (queue_at v.allocation q)) name r f d)
+            (λ d. ap (claimed_shares v.cleared v.batches) (at-other v.cleared v.allocation.lines q need.resource e (omega (arith, cell.lines, within)) (drop 1 (line_of_asks v.allocation q)) name r f d)
             ∙ sym (chosen-false (same_name name need.resource) _ _ (name-no name need.resource d)))
 
     pub shares-granted : (name : Name) (r : ℕ) → resource_number v.cleared name ≡ Some r
-        → claimed_shares v.cleared v.batches (shares_at (with_grant q (Some x) v.allocation) r) ≡ holders_after name (claimed_shares v.cleared v.batches (shares_at v.allocation r)) (move (grant a.0 a.1 need))
+        → claimed_shares v.cleared v.batches (shares_at (after_grant q (Some x) v.allocation) r) ≡ holders_after name (claimed_shares v.cleared v.batches (shares_at v.allocation r)) (move (grant a.0 a.1 need))
     shares-granted name r f =
-        is-same name need.resource (claimed_shares v.cleared v.batches (shares_at (with_grant q (Some x) v.allocation) r) ≡ holders_after name (claimed_shares v.cleared v.batches (shares_at v.allocation r)) (move (grant a.0 a.1 need)))
+        is-same name need.resource (claimed_shares v.cleared v.batches (shares_at (after_grant q (Some x) v.allocation) r) ≡ holders_after name (claimed_shares v.cleared v.batches (shares_at v.allocation r)) (move (grant a.0 a.1 need)))
         (λ s. ap (claimed_shares v.cleared v.batches) (at-same v.cleared v.allocation.shares q need.resource e (omega (arith, cell.shares, within)) (shares_at v.allocation q ++ x ∷ []) name r f s)
         ∙ map-append (share_of v.cleared v.batches) (shares_at v.allocation q) (x ∷ [])
         ∙ ap₂ (λ (j : ℕ) (y : Share). claimed_shares v.cleared v.batches (shares_at v.allocation j) ++ y ∷ []) (sym (same-named v.cleared name need.resource r q f e s)) is
@@ -184,19 +184,19 @@ module _ (v : EngineView) (cell : IsOfCell v.cleared v.allocation) (q : ℕ) (ne
         (λ d. ap (claimed_shares v.cleared v.batches) (at-other v.cleared v.allocation.shares q need.resource e (omega (arith, cell.shares, within)) (shares_at v.allocation q ++ x ∷ []) name r f d)
         ∙ sym (chosen-false (same_name name need.resource) _ _ (name-no name need.resource d)))
 
-    pub once-granted : (n : Name) (j : ℕ) → resource_number v.cleared n ≡ Some j → IsOnce (claimed_shares v.cleared v.batches (queue_at (with_grant q (Some x) v.allocation) j))
+    pub once-granted : (n : Name) (j : ℕ) → resource_number v.cleared n ≡ Some j → IsOnce (claimed_shares v.cleared v.batches (line_of_asks (after_grant q (Some x) v.allocation) j))
     once-granted n j f =
-        is-same n need.resource (IsOnce (claimed_shares v.cleared v.batches (queue_at (with_grant q (Some x) v.allocation) j)))
-        (λ s. subst (λ xs. IsOnce (claimed_shares v.cleared v.batches xs)) (sym (at-same v.cleared v.allocation.lines q need.resource e (omega (arith, cell.lines, within)) (drop 1 (queue_at v.allocation q)) n j f s))
-        (subst IsOnce (sym (map-drop (share_of v.cleared v.batches) (queue_at v.allocation q))) (once-drop (claimed_shares v.cleared v.batches (queue_at v.allocation q)) (once need.resource q e))))
-        (λ t. subst (λ xs. IsOnce (claimed_shares v.cleared v.batches xs)) (sym (at-other v.cleared v.allocation.lines q need.resource e (omega (arith, cell.lines, within)) (drop 1 (queue_at v.allocation q)) n j f t)) (once n j f))
+        is-same n need.resource (IsOnce (claimed_shares v.cleared v.batches (line_of_asks (after_grant q (Some x) v.allocation) j)))
+        (λ s. subst (λ xs. IsOnce (claimed_shares v.cleared v.batches xs)) (sym (at-same v.cleared v.allocation.lines q need.resource e (omega (arith, cell.lines, within)) (drop 1 (line_of_asks v.allocation q)) n j f s))
+        (subst IsOnce (sym (map-drop (share_of v.cleared v.batches) (line_of_asks v.allocation q))) (once-drop (claimed_shares v.cleared v.batches (line_of_asks v.allocation q)) (once need.resource q e))))
+        (λ t. subst (λ xs. IsOnce (claimed_shares v.cleared v.batches xs)) (sym (at-other v.cleared v.allocation.lines q need.resource e (omega (arith, cell.lines, within)) (drop 1 (line_of_asks v.allocation q)) n j f t)) (once n j f))
 
-    pub cell-granted : IsOfCell v.cleared (with_grant q (Some x) v.allocation)
+    pub cell-granted : IsOfCell v.cleared (after_grant q (Some x) v.allocation)
     cell-granted =
         record {
           capacities = cell.capacities;
           shares = length-set v.allocation.shares q (shares_at v.allocation q ++ x ∷ []) ∙ cell.shares;
-          lines = length-set v.allocation.lines q (drop 1 (queue_at v.allocation q)) ∙ cell.lines;
+          lines = length-set v.allocation.lines q (drop 1 (line_of_asks v.allocation q)) ∙ cell.lines;
         }
 
 -- of shares of acts that differ, the one that a claim is for has as many units

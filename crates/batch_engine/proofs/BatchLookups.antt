@@ -23,7 +23,7 @@ use Rattle.batch_model.proofs.Members.{Each-Has}
 use Rattle.batch_record_laws.proofs.Entries.{name_same}
 use Rattle.batch_record_laws.proofs.Members.{map-Has}
 use Rattle.batch_verify.specs.ClearedSet.{ClearedSet}
-use Rattle.batch_arbiter.specs.Allocation.{Claim, shares_at, queue_at, next_grant, batch_node, resource_count}
+use Rattle.batch_arbiter.specs.Allocation.{Claim, shares_at, line_of_asks, next_grant, batch_node, resource_count}
 use Rattle.batch_chart.specs.NodesOf.{no_need, place_at, need_at, step_at, task_at}
 use Rattle.batch_recipe.specs.Nodes.{node_count}
 use Rattle.batch_chart.specs.OwnMoves.{grants}
@@ -126,12 +126,12 @@ module _ (v : EngineView) (k : IsKept v) (i : ℕ) (b : Batch) (at : slice_get v
 
   -- a claim in line is for as many units as its act asks for
   pub line-units : (j l q : ℕ) → asks_here j l → resource_number v.cleared (need_at (tree_of v.cleared b) j l).resource ≡ Some q
-      → (x : Claim) → Has (queue_at v.allocation q) x → batch_node x ≡ (b.number, j) → x.units ≡ (need_at (tree_of v.cleared b) j l).units
+      → (x : Claim) → Has (line_of_asks v.allocation q) x → batch_node x ≡ (b.number, j) → x.units ≡ (need_at (tree_of v.cleared b) j l).units
   line-units j l q asks e x h at_node =
       let t : Tree = tree_of v.cleared b in
       let need : Need = need_at (tree_of v.cleared b) j l in
       let share : Share = share_of v.cleared v.batches x in
-      let told_so = ((told v k).asks need.resource share).0 (subst (λ (xs : List Share). Has xs share) (sym (ap (line_at v) e)) (map-Has (share_of v.cleared v.batches) (queue_at v.allocation q) x h)) in
+      let told_so = ((told v k).asks need.resource share).0 (subst (λ (xs : List Share). Has xs share) (sym (ap (line_at v) e)) (map-Has (share_of v.cleared v.batches) (line_of_asks v.allocation q) x h)) in
       let same : told_so.0 ≡ model_batch v.cleared b =
       one_batch v.next_number (plant_of v).batches told_so.0 (model_batch v.cleared b) (standing v k).numbers told_so.1 (Has-batch_of v.cleared v.batches b has) (told_so.2 ∙ ap (λ (z : ℕ × ℕ). z.0) at_node) in
       let there : Has (acts (remains t b.running)) (asking told_so.3 told_so.4 told_so.5) = subst (λ (d : Model.Batch). Has (acts d.rest) (asking told_so.3 told_so.4 told_so.5)) same told_so.6 in
@@ -150,13 +150,13 @@ module _ (v : EngineView) (k : IsKept v) (i : ℕ) (b : Batch) (at : slice_get v
   first-serves j l q asks e f =
       let need : Need = need_at (tree_of v.cleared b) j l in
       is-served v k q need (b.number, place_at (tree_of v.cleared b) j) e
-      ∙ serves-next (claim_act v.cleared v.batches) (Rattle.batch_arbiter.specs.Allocation.capacity_at v.allocation q) need.units (shares_at v.allocation q) (queue_at v.allocation q) b.number j
+      ∙ serves-next (claim_act v.cleared v.batches) (Rattle.batch_arbiter.specs.Allocation.capacity_at v.allocation q) need.units (shares_at v.allocation q) (line_of_asks v.allocation q) b.number j
       (b.number, place_at (tree_of v.cleared b) j) (λ x. claim-act x j) (λ x h. line-units j l q asks e x h) f
 
   pub serves-first : (j l q : ℕ) → asks_here j l → resource_number v.cleared (need_at (tree_of v.cleared b) j l).resource ≡ Some q → served_here j l → first_here q j
   serves-first j l q asks e s =
       let need : Need = need_at (tree_of v.cleared b) j l in
-      next-serves (claim_act v.cleared v.batches) (Rattle.batch_arbiter.specs.Allocation.capacity_at v.allocation q) need.units (shares_at v.allocation q) (queue_at v.allocation q) b.number j
+      next-serves (claim_act v.cleared v.batches) (Rattle.batch_arbiter.specs.Allocation.capacity_at v.allocation q) need.units (shares_at v.allocation q) (line_of_asks v.allocation q) b.number j
       (b.number, place_at (tree_of v.cleared b) j) (λ x. act-claim x j asks.0) (λ x h. line-units j l q asks e x h)
       (sym (is-served v k q need (b.number, place_at (tree_of v.cleared b) j) e) ∙ s)
 

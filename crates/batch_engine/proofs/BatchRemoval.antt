@@ -26,7 +26,7 @@ use Rattle.batch_record_laws.proofs.Invariant.{IsFitting, standing-of}
 use Rattle.batch_record_laws.proofs.BatchProgress.{early-none, is_under_way}
 use Rattle.batch_record_laws.proofs.Members.{map-Has}
 use Rattle.batch_verify.specs.ClearedSet.{ClearedSet}
-use Rattle.batch_arbiter.specs.Allocation.{Claim, shares_at, queue_at}
+use Rattle.batch_arbiter.specs.Allocation.{Claim, shares_at, line_of_asks}
 use Rattle.batch_chart.specs.NodesOf.{needs_in, place_at}
 use Rattle.batch_engine.specs.declared.batch.Batch.{Batch}
 use Rattle.batch_engine.specs.View.{EngineView, setup, model_batch, claim_act, share_of, claimed_shares, place_in, resource_number, line_in, line_at, plant_of, tree_of}
@@ -113,11 +113,11 @@ module _ (v : EngineView) (k : IsKept v) (i : ℕ) (b : Batch) (at : slice_get v
       one_batch v.next_number (plant_of v).batches d.0 (model_batch v.cleared b) (standing v k).numbers d.1 (Has-batch_of v.cleared v.batches b (Has-get v.batches i b at)) (d.2 ∙ e) in
       subst (λ es. Has es (a.1, f)) (ap (λ (z : Model.Batch). batch_facts z) same ∙ no-facts) d.3
 
-  no-waiter : (name : Name) (q : ℕ) → resource_number v.cleared name ≡ Some q → (x : Claim) → Has (queue_at v.allocation q) x → x.batch ≡ b.number → ⊥
+  no-waiter : (name : Name) (q : ℕ) → resource_number v.cleared name ≡ Some q → (x : Claim) → Has (line_of_asks v.allocation q) x → x.batch ≡ b.number → ⊥
   no-waiter name q e x h s =
       no-entry (claim_act v.cleared v.batches x) (awaiting (record { resource = name; units = x.units })) s
       ((safe v k).asked name (share_of v.cleared v.batches x)
-      (subst (λ (xs : List Share). Has xs (share_of v.cleared v.batches x)) (sym (ap (line_at v) e)) (map-Has (share_of v.cleared v.batches) (queue_at v.allocation q) x h)))
+      (subst (λ (xs : List Share). Has xs (share_of v.cleared v.batches x)) (sym (ap (line_at v) e)) (map-Has (share_of v.cleared v.batches) (line_of_asks v.allocation q) x h)))
 
   no-holder : (name : Name) (q : ℕ) → resource_number v.cleared name ≡ Some q → (x : Claim) → Has (shares_at v.allocation q) x → x.batch ≡ b.number → ⊥
   no-holder name q e x h s =
@@ -126,8 +126,8 @@ module _ (v : EngineView) (k : IsKept v) (i : ℕ) (b : Batch) (at : slice_get v
       (((safe v k).held name).1 (share_of v.cleared v.batches x)
       (subst (λ (xs : List Share). Has xs (share_of v.cleared v.batches x)) (k.tracked.shares q name e) (map-Has (share_of v.cleared v.batches) (shares_at v.allocation q) x h))))
 
-  lines-less : (name : Name) (q : ℕ) → resource_number v.cleared name ≡ Some q → claimed_shares v.cleared (remove v.batches i) (queue_at v.allocation q) ≡ claimed_shares v.cleared v.batches (queue_at v.allocation q)
-  lines-less name q e = acts-less v.cleared v.batches i b at (queue_at v.allocation q) (no-waiter name q e)
+  lines-less : (name : Name) (q : ℕ) → resource_number v.cleared name ≡ Some q → claimed_shares v.cleared (remove v.batches i) (line_of_asks v.allocation q) ≡ claimed_shares v.cleared v.batches (line_of_asks v.allocation q)
+  lines-less name q e = acts-less v.cleared v.batches i b at (line_of_asks v.allocation q) (no-waiter name q e)
 
   line-less : (name : Name) → line_in (with v (remove v.batches i) v.next_number v.allocation) name ≡ line_in v name
   line-less name = go (resource_number v.cleared name) refl

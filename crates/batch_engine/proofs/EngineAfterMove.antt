@@ -22,7 +22,7 @@ use Rattle.batch_step_laws.proofs.HoldersInAdvance.{flat_map-Has}
 use Rattle.batch_model.proofs.Members.{Has-flat_map, Has-right}
 use Rattle.batch_record_laws.proofs.Entries.{IsOnce, same_act, act_self, filter-Has, name_self}
 use Rattle.batch_record_laws.proofs.Members.{Has-map, map-Has}
-use Rattle.batch_arbiter.specs.Allocation.{Claim, shares_at, queue_at, with_ask, with_grant, with_pass, with_release, units_claimed, is_claim, IsHeld, next_grant, batch_node, capacity_at}
+use Rattle.batch_arbiter.specs.Allocation.{Claim, shares_at, line_of_asks, after_ask, after_grant, after_pass, after_release, units_claimed, is_claim, IsHeld, next_grant, batch_node, capacity_at}
 use Rattle.batch_chart.specs.NodesOf.{no_need, place_at, step_at, task_at, need_at}
 use Rattle.batch_recipe.specs.Nodes.{node_count}
 use Rattle.batch_chart.specs.Charts.{Awaits, IsRunningOf, AsksAt, RunsAs, remains, StandsFor}
@@ -206,7 +206,7 @@ module _ (v : EngineView) (k : IsKept v) (i : ℕ) (b : Batch) (at : slice_get v
   pub not-in-line : (node need q : ℕ) → node < node_count (tree_of v.cleared b) → need < length (step_at (tree_of v.cleared b) node).needs
       → Has (acts (remains (tree_of v.cleared b) b.running)) (ready (step_at (tree_of v.cleared b) node) (task_at (tree_of v.cleared b) node) need)
       → resource_number v.cleared (need_at (tree_of v.cleared b) node need).resource ≡ Some q
-      → (y : Share) → Has (claimed_shares v.cleared v.batches (queue_at v.allocation q)) y → y.act ≡ (b.number, place_at (tree_of v.cleared b) node) → ⊥
+      → (y : Share) → Has (claimed_shares v.cleared v.batches (line_of_asks v.allocation q)) y → y.act ≡ (b.number, place_at (tree_of v.cleared b) node) → ⊥
   not-in-line node need q few few' here e y h is =
       let name : Name = (need_at (tree_of v.cleared b) node need).resource in
       let asks = ((told v k).asks name y).0 (subst (λ (xs : List Share). Has xs y) (sym (ap (line_at v) e)) h) in
@@ -225,7 +225,7 @@ module _ (v : EngineView) (k : IsKept v) (i : ℕ) (b : Batch) (at : slice_get v
   pub ask-made : (node need q : ℕ) (r : Running) → StandsFor (tree_of v.cleared b) (remains (tree_of v.cleared b) b.running) (Ask node need)
       → resource_number v.cleared (need_at (tree_of v.cleared b) node need).resource ≡ Some q → MadeChart (Ask node need) r
       → IsNext v (machine_move (tree_of v.cleared b) (View.model_batch v.cleared b) (Ask node need)) → 0 < v.allocation.room
-      → Becomes v (changed v i (record b { running = r }) (with_ask q (record { batch = b.number; node = node; units = (need_at (tree_of v.cleared b) node need).units }) v.allocation)) (machine_move (tree_of v.cleared b) (View.model_batch v.cleared b) (Ask node need))
+      → Becomes v (changed v i (record b { running = r }) (after_ask q (record { batch = b.number; node = node; units = (need_at (tree_of v.cleared b) node need).units }) v.allocation)) (machine_move (tree_of v.cleared b) (View.model_batch v.cleared b) (Ask node need))
   ask-made node need q r s e made is some =
       let name : Need = need_at (tree_of v.cleared b) node need in
       let x : Claim = record { batch = b.number; node = node; units = (need_at (tree_of v.cleared b) node need).units } in
@@ -234,11 +234,11 @@ module _ (v : EngineView) (k : IsKept v) (i : ℕ) (b : Batch) (at : slice_get v
       let l : Moves.Move = machine_move (tree_of v.cleared b) (View.model_batch v.cleared b) (Ask node need) in
       let t : IsMove v i b (record b { running = r }) l = is-move (Ask node need) r tt made is in
       record {
-        kept = kept-after v k i b (record b { running = r }) l t (with_ask q x v.allocation) (lines-asked v k.cell q name e x a is-share) (λ name q e. refl)
+        kept = kept-after v k i b (record b { running = r }) l t (after_ask q x v.allocation) (lines-asked v k.cell q name e x a is-share) (λ name q e. refl)
             (cell-asked v k.cell q name e x)
             (once-asked v k.cell q name e x a is-share k.once (not-in-line node need q s.0 s.1 s.2 e))
             (room-asked v i b (record b { running = r }) at refl k.room q x (omega (arith, k.cell.lines, in-lists name.resource q e)) some);
-        plant = plant-after v k i b (record b { running = r }) l t (with_ask q x v.allocation) (lines-asked v k.cell q name e x a is-share);
+        plant = plant-after v k i b (record b { running = r }) l t (after_ask q x v.allocation) (lines-asked v k.cell q name e x a is-share);
       }
 
   -- whose share is released
@@ -306,23 +306,23 @@ module _ (v : EngineView) (k : IsKept v) (i : ℕ) (b : Batch) (at : slice_get v
   pub release-made : (node need q : ℕ) (r : Running) → StandsFor (tree_of v.cleared b) (remains (tree_of v.cleared b) b.running) (Release node need)
       → resource_number v.cleared (need_at (tree_of v.cleared b) node need).resource ≡ Some q → MadeChart (Release node need) r
       → IsNext v (machine_move (tree_of v.cleared b) (View.model_batch v.cleared b) (Release node need))
-      → Becomes v (changed v i (record b { running = r }) (with_release q b.number node v.allocation)) (machine_move (tree_of v.cleared b) (View.model_batch v.cleared b) (Release node need))
+      → Becomes v (changed v i (record b { running = r }) (after_release q b.number node v.allocation)) (machine_move (tree_of v.cleared b) (View.model_batch v.cleared b) (Release node need))
   release-made node need q r s e made is =
       let name : Need = need_at (tree_of v.cleared b) node need in
       let l : Moves.Move = machine_move (tree_of v.cleared b) (View.model_batch v.cleared b) (Release node need) in
       let t : IsMove v i b (record b { running = r }) l = is-move (Release node need) r tt made is in
       record {
-        kept = kept-after v k i b (record b { running = r }) l t (with_release q b.number node v.allocation) (λ name. lines name)
+        kept = kept-after v k i b (record b { running = r }) l t (after_release q b.number node v.allocation) (λ name. lines name)
             (shares-released v k.cell q name e b.number node (place_at (tree_of v.cleared b) node) (subst IsOnce (sym (k.tracked.shares q name.resource e)) ((safe v k).held name.resource).3) (same-claim node s.0))
             (cell-released v k.cell q name e b.number node) k.once
             (room-released v i b (record b { running = r }) at refl k.room q b.number node (omega (arith, k.cell.shares, in-lists name.resource q e)));
-        plant = plant-after v k i b (record b { running = r }) l t (with_release q b.number node v.allocation) (λ name. lines name);
+        plant = plant-after v k i b (record b { running = r }) l t (after_release q b.number node v.allocation) (λ name. lines name);
       }
     where
-      lines : (n : Name) → line_in (record v { allocation = with_release q b.number node v.allocation }) n ≡ line_in v n
+      lines : (n : Name) → line_in (record v { allocation = after_release q b.number node v.allocation }) n ≡ line_in v n
       lines n = go (resource_number v.cleared n)
         where
-          go : (o : Option ℕ) → line_at (record v { allocation = with_release q b.number node v.allocation }) o ≡ line_at v o
+          go : (o : Option ℕ) → line_at (record v { allocation = after_release q b.number node v.allocation }) o ≡ line_at v o
           go None = refl
           go (Some j) = refl
 
@@ -335,7 +335,7 @@ module _ (v : EngineView) (k : IsKept v) (i : ℕ) (b : Batch) (at : slice_get v
   pub pass-made : (node to need q : ℕ) (r : Running) → StandsFor (tree_of v.cleared b) (remains (tree_of v.cleared b) b.running) (Pass node to need)
       → resource_number v.cleared (need_at (tree_of v.cleared b) node need).resource ≡ Some q → MadeChart (Pass node to need) r
       → IsNext v (machine_move (tree_of v.cleared b) (View.model_batch v.cleared b) (Pass node to need))
-      → Becomes v (changed v i (record b { running = r }) (with_pass q b.number node to v.allocation)) (machine_move (tree_of v.cleared b) (View.model_batch v.cleared b) (Pass node to need))
+      → Becomes v (changed v i (record b { running = r }) (after_pass q b.number node to v.allocation)) (machine_move (tree_of v.cleared b) (View.model_batch v.cleared b) (Pass node to need))
   pass-made node to need q r s e made is =
       let name : Need = need_at (tree_of v.cleared b) node need in
       let l : Moves.Move = machine_move (tree_of v.cleared b) (View.model_batch v.cleared b) (Pass node to need) in
@@ -345,17 +345,17 @@ module _ (v : EngineView) (k : IsKept v) (i : ℕ) (b : Batch) (at : slice_get v
       units-found (share_of v.cleared v.batches) b.number node (b.number, place_at (tree_of v.cleared b) node) (shares_at v.allocation q) (record { batch = b.number; node = node; units = name.units }) once (same-claim node s.0)
       (own-share node need q (as-released node to need s) e) (claim-place node name.units) in
       record {
-        kept = kept-after v k i b (record b { running = r }) l t (with_pass q b.number node to v.allocation) (λ name. lines name)
+        kept = kept-after v k i b (record b { running = r }) l t (after_pass q b.number node to v.allocation) (λ name. lines name)
             (shares-passed v k.cell q name e b.number node to (place_at (tree_of v.cleared b) node) (place_at (tree_of v.cleared b) to) once (same-claim node s.0) units (claim-place to name.units))
             (cell-passed v k.cell q name e b.number node to) k.once
             (room-passed v i b (record b { running = r }) at refl k.room q b.number node to (omega (arith, k.cell.shares, in-lists name.resource q e)));
-        plant = plant-after v k i b (record b { running = r }) l t (with_pass q b.number node to v.allocation) (λ name. lines name);
+        plant = plant-after v k i b (record b { running = r }) l t (after_pass q b.number node to v.allocation) (λ name. lines name);
       }
     where
-      lines : (n : Name) → line_in (record v { allocation = with_pass q b.number node to v.allocation }) n ≡ line_in v n
+      lines : (n : Name) → line_in (record v { allocation = after_pass q b.number node to v.allocation }) n ≡ line_in v n
       lines n = go (resource_number v.cleared n)
         where
-          go : (o : Option ℕ) → line_at (record v { allocation = with_pass q b.number node to v.allocation }) o ≡ line_at v o
+          go : (o : Option ℕ) → line_at (record v { allocation = after_pass q b.number node to v.allocation }) o ≡ line_at v o
           go None = refl
           go (Some j) = refl
 
@@ -366,13 +366,13 @@ module _ (v : EngineView) (k : IsKept v) (i : ℕ) (b : Batch) (at : slice_get v
       → ((d : Model.Batch) → RunsAs (tree_of v.cleared b) b.running d.rest d.in_advance
       → RunsAs (tree_of v.cleared b) r (in_act (place_at (tree_of v.cleared b) node) Moves.granted d).rest (in_act (place_at (tree_of v.cleared b) node) Moves.granted d).in_advance)
       → IsNext v (Moves.grant b.number (place_at (tree_of v.cleared b) node) (need_at (tree_of v.cleared b) node need))
-      → Becomes v (changed v i (record b { running = r }) (with_grant q (next_grant v.allocation q) v.allocation)) (Moves.grant b.number (place_at (tree_of v.cleared b) node) (need_at (tree_of v.cleared b) node need))
+      → Becomes v (changed v i (record b { running = r }) (after_grant q (next_grant v.allocation q) v.allocation)) (Moves.grant b.number (place_at (tree_of v.cleared b) node) (need_at (tree_of v.cleared b) node need))
   grant-made node need q r asks e first runs goes is =
       let name : Need = need_at (tree_of v.cleared b) node need in
       let a : BatchAct = (b.number, place_at (tree_of v.cleared b) node) in
-      let f = first-of-line (capacity_at v.allocation q) (shares_at v.allocation q) (queue_at v.allocation q) b.number node first in
+      let f = first-of-line (capacity_at v.allocation q) (shares_at v.allocation q) (line_of_asks v.allocation q) b.number node first in
       let x : Claim = f.0 in
-      let in-line : Has (queue_at v.allocation q) x = subst (λ (xs : List Claim). Has xs x) (sym f.2) (inl refl) in
+      let in-line : Has (line_of_asks v.allocation q) x = subst (λ (xs : List Claim). Has xs x) (sym f.2) (inl refl) in
       let here : share_of v.cleared v.batches x ≡ record { act = a; units = name.units } =
       ap₂ (λ (z : BatchAct) u. let w : Share = record { act = z; units = u } in w) (claim-act v k i b at x node f.4) (line-units v k i b at node need q asks e x in-line f.4) in
       let l : Moves.Move = Moves.grant b.number (place_at (tree_of v.cleared b) node) name in
@@ -386,11 +386,11 @@ module _ (v : EngineView) (k : IsKept v) (i : ℕ) (b : Batch) (at : slice_get v
         of_batch = refl;
         becomes = ap₂ (as_left (View.model_batch v.cleared b)) (sym left.rest) (sym left.held);
       } in
-      subst (λ (o : Option Claim). Becomes v (changed v i (record b { running = r }) (with_grant q o v.allocation)) l) (sym f.3)
+      subst (λ (o : Option Claim). Becomes v (changed v i (record b { running = r }) (after_grant q o v.allocation)) l) (sym f.3)
       (record {
-        kept = kept-after v k i b (record b { running = r }) l t (with_grant q (Some x) v.allocation)
+        kept = kept-after v k i b (record b { running = r }) l t (after_grant q (Some x) v.allocation)
             (lines-granted v k.cell q name e x f.1 a f.2 here k.once) (shares-granted v k.cell q name e x f.1 a f.2 here k.once)
             (cell-granted v k.cell q name e x f.1 a f.2 here k.once) (once-granted v k.cell q name e x f.1 a f.2 here k.once)
             (room-granted v i b (record b { running = r }) at refl k.room q x f.1 (omega (arith, k.cell.lines, in-lists name.resource q e)) (omega (arith, k.cell.shares, in-lists name.resource q e)) f.2);
-        plant = plant-after v k i b (record b { running = r }) l t (with_grant q (Some x) v.allocation) (lines-granted v k.cell q name e x f.1 a f.2 here k.once);
+        plant = plant-after v k i b (record b { running = r }) l t (after_grant q (Some x) v.allocation) (lines-granted v k.cell q name e x f.1 a f.2 here k.once);
       })

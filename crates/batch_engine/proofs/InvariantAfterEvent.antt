@@ -8,7 +8,7 @@ use Rattle.batch_model.specs.Runs.{reply, Reacts}
 use Rattle.batch_step_laws.proofs.RecordGrowth.{Leads-reply}
 use Rattle.batch_step_laws.proofs.LastLineEffect.{holders_told-last}
 use Rattle.batch_record_laws.proofs.Entries.{IsOnce}
-use Rattle.batch_arbiter.specs.Allocation.{Allocation, shares_at, queue_at}
+use Rattle.batch_arbiter.specs.Allocation.{Allocation, shares_at, line_of_asks}
 use Rattle.batch_engine.specs.declared.batch.Batch.{Batch}
 use Rattle.batch_engine.specs.View.{EngineView, setup, claimed_shares, resource_number, plant_of}
 use Rattle.batch_engine.specs.Kept.{IsOfCell, IsRunningBatch, HasRoom, IsKept}
@@ -20,7 +20,7 @@ with v bs n a = record v { batches = bs; next_number = n; allocation = a }
 pub event-kept : (v : EngineView) → IsKept v → (bs : List Batch) (n : ℕ) (a : Allocation) (e : Event) (r : Reply)
     → Reacts (setup v.cleared) (plant_of v) e r (plant_of (with v bs n a))
     → ((name : Name) (q : ℕ) → resource_number v.cleared name ≡ Some q → claimed_shares v.cleared bs (shares_at a q) ≡ claimed_shares v.cleared v.batches (shares_at v.allocation q))
-    → Each (IsRunningBatch v.cleared) bs → IsOfCell v.cleared a → ((name : Name) (q : ℕ) → resource_number v.cleared name ≡ Some q → IsOnce (claimed_shares v.cleared bs (queue_at a q))) → HasRoom (with v bs n a)
+    → Each (IsRunningBatch v.cleared) bs → IsOfCell v.cleared a → ((name : Name) (q : ℕ) → resource_number v.cleared name ≡ Some q → IsOnce (claimed_shares v.cleared bs (line_of_asks a q))) → HasRoom (with v bs n a)
     → IsKept (with v bs n a)
 event-kept v k bs n a e r reacts shares batches cell once room =
     record {

@@ -12,7 +12,7 @@ use Rattle.batch_step_laws.proofs.Batches.{only}
 use Rattle.batch_step_laws.proofs.RecordGrowth.{Leads-move}
 use Rattle.batch_step_laws.proofs.LastLineEffect.{holders_told-last}
 use Rattle.batch_record_laws.proofs.Entries.{IsOnce}
-use Rattle.batch_arbiter.specs.Allocation.{Allocation, shares_at, queue_at}
+use Rattle.batch_arbiter.specs.Allocation.{Allocation, shares_at, line_of_asks}
 use Rattle.batch_chart.specs.Charts.{IsRunningOf}
 use Rattle.batch_engine.specs.declared.batch.Batch.{Batch}
 use Rattle.batch_engine.specs.View as View
@@ -49,7 +49,7 @@ module _ (v : EngineView) (k : IsKept v) (i : ℕ) (b b' : Batch) (m : Move) (t 
     where
       go : (o : Option ℕ) → line_at (changed v i b' a') o ≡ line_at (record v { allocation = a' }) o
       go None = refl
-      go (Some q) = acts-same v.cleared v.next_number b' v.batches i b t.at t.number t.made (queue_at a' q)
+      go (Some q) = acts-same v.cleared v.next_number b' v.batches i b t.at t.number t.made (line_of_asks a' q)
 
   pub plant-after : plant_of (changed v i b' a') ≡ after_move (plant_of v) m
   plant-after =
@@ -74,7 +74,7 @@ module _ (v : EngineView) (k : IsKept v) (i : ℕ) (b b' : Batch) (m : Move) (t 
 
   pub kept-after : ((name : Name) (q : ℕ) → resource_number v.cleared name ≡ Some q
       → claimed_shares v.cleared v.batches (shares_at a' q) ≡ holders_after name (claimed_shares v.cleared v.batches (shares_at v.allocation q)) (move m))
-      → IsOfCell v.cleared a' → ((name : Name) (q : ℕ) → resource_number v.cleared name ≡ Some q → IsOnce (claimed_shares v.cleared v.batches (queue_at a' q))) → HasRoom (changed v i b' a') → IsKept (changed v i b' a')
+      → IsOfCell v.cleared a' → ((name : Name) (q : ℕ) → resource_number v.cleared name ≡ Some q → IsOnce (claimed_shares v.cleared v.batches (line_of_asks a' q))) → HasRoom (changed v i b' a') → IsKept (changed v i b' a')
   kept-after shares cell once room =
       record {
         cleared = k.cleared;
@@ -86,6 +86,6 @@ module _ (v : EngineView) (k : IsKept v) (i : ℕ) (b b' : Batch) (m : Move) (t 
             });
         cell = cell;
         tracked = tracked-after shares;
-        once = λ name q e. subst IsOnce (sym (acts-same v.cleared v.next_number b' v.batches i b t.at t.number t.made (queue_at a' q))) (once name q e);
+        once = λ name q e. subst IsOnce (sym (acts-same v.cleared v.next_number b' v.batches i b t.at t.number t.made (line_of_asks a' q))) (once name q e);
         room = room;
       }

@@ -17,7 +17,7 @@ use Rattle.batch_model.specs.Plant.{BatchAct, Share}
 use Rattle.batch_model.specs.Rest.{asking, acts}
 use Rattle.batch_record_laws.proofs.Entries.{IsOnce, nat_same}
 use Rattle.batch_record_laws.proofs.Members.{map-Has}
-use Rattle.batch_arbiter.specs.Allocation.{AsksAtMost, Claim, asks_of, is_claim, is_of_batch, queue_at, resource_count}
+use Rattle.batch_arbiter.specs.Allocation.{AsksAtMost, Claim, asks_of, is_claim, is_of_batch, line_of_asks, resource_count}
 use Rattle.batch_chart.specs.NodesOf.{need_at, no_need, place_at}
 use Rattle.batch_chart.specs.Charts.{remains}
 use Rattle.batch_chart.proofs.ActsAtNodes.{asking-at}
@@ -95,7 +95,7 @@ zeros (suc m) (suc q) = zeros m q
 pub record AreCounted (v : EngineView) (n from : ℕ) (asks : List ℕ) : Type 0 where
   pub count : length asks ≡ 384
   pub few : (q : ℕ) → slice_index asks q ≤ from
-  pub each : (q : ℕ) → q < resource_count v.allocation → length (filter (is_below n from) (queue_at v.allocation q)) ≤ slice_index asks q
+  pub each : (q : ℕ) → q < resource_count v.allocation → length (filter (is_below n from) (line_of_asks v.allocation q)) ≤ slice_index asks q
 
 pub counted-none : (v : EngineView) (n : ℕ) → AreCounted v n 0 (replicate 384 0)
 counted-none v n =
@@ -103,8 +103,8 @@ counted-none v n =
       count = length-replicate {A = ℕ} 384 0;
       few = λ q. omega (arith, zeros 384 q);
       each = λ q l.
-          (let none : length (filter (is_below n 0) (queue_at v.allocation q)) ≡ 0 =
-          none-pass (is_below n 0) (queue_at v.allocation q)
+          (let none : length (filter (is_below n 0) (line_of_asks v.allocation q)) ≡ 0 =
+          none-pass (is_below n 0) (line_of_asks v.allocation q)
           (λ x m e. (let low : x.node < 0 = less x.node 0 (and_parts (is_of_batch n x) (nat_lt x.node 0) e).1 in absurd (omega (arith, low)))) in
           omega (arith, none));
     }
@@ -128,7 +128,7 @@ resource-within v k name q is = omega (arith, known-resource v k name q is, few-
 
 module _ (v : EngineView) (k : IsKept v) (i : ℕ) (b : Batch) (at : slice_get v.batches i ≡ Some b) where
   -- an ask of the batch is of an act that waits for the resource
-  claim-asks : (q : ℕ) → q < resource_count v.allocation → (x : Claim) → Has (queue_at v.allocation q) x → x.batch ≡ b.number
+  claim-asks : (q : ℕ) → q < resource_count v.allocation → (x : Claim) → Has (line_of_asks v.allocation q) x → x.batch ≡ b.number
       → (l : ℕ) × asks_here v k i b at x.node l × (resource_number v.cleared (need_at (tree_of v.cleared b) x.node l).resource ≡ Some q)
   claim-asks q few x h own =
       let t : Tree = tree_of v.cleared b in
@@ -136,7 +136,7 @@ module _ (v : EngineView) (k : IsKept v) (i : ℕ) (b : Batch) (at : slice_get v
       let within : q < length (names_of v.cleared) = omega (arith, few, ap (λ (xs : List ℕ). length xs) k.cell.capacities, length-capacities v.cleared.cell) in
       let e : resource_number v.cleared name ≡ Some q = number-at v.cleared q name (slice_get-get_or (names_of v.cleared) q [] within) in
       let share : Share = share_of v.cleared v.batches x in
-      let told_so = ((told v k).asks name share).0 (subst (λ (xs : List Share). Has xs share) (sym (ap (line_at v) e)) (map-Has (share_of v.cleared v.batches) (queue_at v.allocation q) x h)) in
+      let told_so = ((told v k).asks name share).0 (subst (λ (xs : List Share). Has xs share) (sym (ap (line_at v) e)) (map-Has (share_of v.cleared v.batches) (line_of_asks v.allocation q) x h)) in
       let same : told_so.0 ≡ model_batch v.cleared b =
       one_batch v.next_number (plant_of v).batches told_so.0 (model_batch v.cleared b) (standing v k).numbers told_so.1 (Has-batch_of v.cleared v.batches b (has v k i b at)) (told_so.2 ∙ own) in
       let there : Has (acts (remains t b.running)) (asking told_so.3 told_so.4 told_so.5) = subst (λ (d : Model.Batch). Has (acts d.rest) (asking told_so.3 told_so.4 told_so.5)) same told_so.6 in
@@ -162,8 +162,8 @@ module _ (v : EngineView) (k : IsKept v) (i : ℕ) (b : Batch) (at : slice_get v
   module _ (from node need q : ℕ) (asks : List ℕ) (before : AreCounted v b.number from asks) (past : from ≤ node) (none : (j l : ℕ) → from ≤ j → j < node → asks_here v k i b at j l → ⊥)
       (here : asks_here v k i b at node need) (is : resource_number v.cleared (need_at (tree_of v.cleared b) node need).resource ≡ Some q) where
     more-below : (r : ℕ) → r < resource_count v.allocation
-        → length (filter (is_below b.number (node + 1)) (queue_at v.allocation r)) ≤ length (filter (is_below b.number from) (queue_at v.allocation r)) + length (filter (is_claim b.number node) (queue_at v.allocation r))
-    more-below r few = either-passes (is_below b.number (node + 1)) (is_below b.number from) (is_claim b.number node) (queue_at v.allocation r) (λ x m e.
+        → length (filter (is_below b.number (node + 1)) (line_of_asks v.allocation r)) ≤ length (filter (is_below b.number from) (line_of_asks v.allocation r)) + length (filter (is_claim b.number node) (line_of_asks v.allocation r))
+    more-below r few = either-passes (is_below b.number (node + 1)) (is_below b.number from) (is_claim b.number node) (line_of_asks v.allocation r) (λ x m e.
         (let h = and_parts (is_of_batch b.number x) (nat_lt x.node (node + 1)) e in
         let low : x.node < node + 1 = less x.node (node + 1) h.1 in
         elim (within-or_past x.node from) [
@@ -174,16 +174,16 @@ module _ (v : EngineView) (k : IsKept v) (i : ℕ) (b : Batch) (at : slice_get v
           ]
         ]))
 
-    few-here : (r : ℕ) → r < resource_count v.allocation → length (filter (is_claim b.number node) (queue_at v.allocation r)) ≤ 1
+    few-here : (r : ℕ) → r < resource_count v.allocation → length (filter (is_claim b.number node) (line_of_asks v.allocation r)) ≤ 1
     few-here r few =
         let name : Name = get_or (names_of v.cleared) r [] in
         let within : r < length (names_of v.cleared) = omega (arith, few, ap (λ (xs : List ℕ). length xs) k.cell.capacities, length-capacities v.cleared.cell) in
-        one-claim (share_of v.cleared v.batches) b.number node (same-act node) (queue_at v.allocation r)
+        one-claim (share_of v.cleared v.batches) b.number node (same-act node) (line_of_asks v.allocation r)
         (k.once name r (number-at v.cleared r name (slice_get-get_or (names_of v.cleared) r [] within)))
 
     -- it stands in the line of its own resource alone
-    none-elsewhere : (r : ℕ) → r < resource_count v.allocation → (r ≡ q → ⊥) → length (filter (is_claim b.number node) (queue_at v.allocation r)) ≡ 0
-    none-elsewhere r few other = none-pass (is_claim b.number node) (queue_at v.allocation r) (λ x m e.
+    none-elsewhere : (r : ℕ) → r < resource_count v.allocation → (r ≡ q → ⊥) → length (filter (is_claim b.number node) (line_of_asks v.allocation r)) ≡ 0
+    none-elsewhere r few other = none-pass (is_claim b.number node) (line_of_asks v.allocation r) (λ x m e.
         (let h = claim-parts b.number node x e in
         let a = claim-asks r few x m h.0 in
         let l : a.0 ≡ need = same-need v k i b at node a.0 need (subst (λ z. asks_here v k i b at z a.0) h.1 a.1) here in
@@ -210,10 +210,10 @@ module _ (v : EngineView) (k : IsKept v) (i : ℕ) (b : Batch) (at : slice_get v
   pub counted-all : (from : ℕ) (asks : List ℕ) → AreCounted v b.number from asks → ((j l : ℕ) → from ≤ j → asks_here v k i b at j l → ⊥) → AsksAtMost v.allocation b.number asks
   counted-all from asks counted none q few =
       let nothing : Claim → Bool = λ x. false in
-      let all : asks_of b.number (queue_at v.allocation q) ≤ length (filter (is_below b.number from) (queue_at v.allocation q)) + length (filter nothing (queue_at v.allocation q)) =
-      either-passes (is_of_batch b.number) (is_below b.number from) nothing (queue_at v.allocation q) (λ x m e.
+      let all : asks_of b.number (line_of_asks v.allocation q) ≤ length (filter (is_below b.number from) (line_of_asks v.allocation q)) + length (filter nothing (line_of_asks v.allocation q)) =
+      either-passes (is_of_batch b.number) (is_below b.number from) nothing (line_of_asks v.allocation q) (λ x m e.
       elim (within-or_past x.node from) [
         | inl lt ↦ inl (both_true e (is-lt x.node from lt))
         | inr ge ↦ absurd (let a = claim-asks q few x m (nat_same x.batch b.number e) in none x.node a.0 ge a.1)
       ]) in
-      omega (arith, all, none-pass nothing (queue_at v.allocation q) (λ x m e. cc), counted.each q few)
+      omega (arith, all, none-pass nothing (line_of_asks v.allocation q) (λ x m e. cc), counted.each q few)

@@ -83,7 +83,7 @@ chosen-by r bound o unit e = go (slice_get r.acts.unit_procedures.items o) refl 
 run-by : (r : Recipe) (step : ℕ) (phase : Name) → phase_step_name r step ≡ Some phase → (a : Act) × (slice_get r.acts.phases.items step ≡ Some a) × (run_phase a.work ≡ Some phase)
 run-by r step phase e = go (slice_get r.acts.phases.items step) refl e
   where
-    same : (work : Work) → run_phase work ≡ Outlined.phase_run_in work
+    same : (work : Work) → run_phase work ≡ Outlined.run_phase_in work
     same (Follows chart) = refl
     same (Runs own values reports) = refl
 

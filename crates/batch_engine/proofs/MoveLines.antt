@@ -36,7 +36,7 @@ place-seen [] k = refl
 place-seen (n ∷ ns) zero = refl
 place-seen (n ∷ ns) (suc k) = place-seen ns k
 
-name-here : (t : Tree) → Names.name_of_act t ≡ Tree.name_in (tree_task t)
+name-here : (t : Tree) → Names.chart_act_name t ≡ Tree.name_in (tree_task t)
 name-here t = grind arith
 
 name-seen : (ns : List Node) (k : ℕ) → Names.name_of (slice_get ns k) ≡ Tree.name_in (tree_task (get_or ns k (record { place = []; asked = []; here = skip })).here)
@@ -71,7 +71,7 @@ module _ (c : ClearedSet) (recipe : ℕ) (r : Recipe) (at : slice_get c.recipes 
   pub roles-read : Names.roles_at c recipe ≡ Names.roles_of r
   roles-read = ap (λ (o : Option Recipe). let ns : List Name = elim o [ None ↦ [] | Some z ↦ Names.roles_of z ] in ns) at
 
-  pub node-is : (k : ℕ) → Names.recipe_node c recipe k ≡ Names.node_of k r
+  pub node-is : (k : ℕ) → Names.recipe_node_at c recipe k ≡ Names.node_of k r
   node-is k = ap (λ (o : Option Recipe). let n : Option Node = elim o [ None ↦ None | Some z ↦ Names.node_of k z ] in n) at
 
   -- whatever units take the roles
@@ -82,11 +82,11 @@ module _ (c : ClearedSet) (recipe : ℕ) (r : Recipe) (at : slice_get c.recipes 
     node-bound : (k : ℕ) → slice_get (bound_nodes (bound_to c recipe units) r.acts) k ≡ slice_get (nodes_of (tree_at c recipe units)) k
     node-bound k = sym (ap (λ t. slice_get (nodes_of t) k) tree-is)
 
-    pub place-told : (k : ℕ) → Names.recipe_place c recipe k ≡ Tree.place_at (tree_at c recipe units) k
+    pub place-told : (k : ℕ) → Names.recipe_place_at c recipe k ≡ Tree.place_at (tree_at c recipe units) k
     place-told k =
         ap Names.node_place (node-is k) ∙ place-alike (bound_to c recipe units) r.acts k ∙ ap Names.node_place (node-bound k) ∙ place-seen (nodes_of (tree_at c recipe units)) k
 
-    pub name-told : (k : ℕ) → Names.act_name_at c recipe k ≡ Tree.name_at (tree_at c recipe units) k
+    pub name-told : (k : ℕ) → Names.chart_act_name_at c recipe k ≡ Tree.name_at (tree_at c recipe units) k
     name-told k = ap Names.name_of (node-is k) ∙ name-alike (bound_to c recipe units) r.acts k ∙ ap Names.name_of (node-bound k) ∙ name-seen (nodes_of (tree_at c recipe units)) k
 
     pub handed-told : (k : ℕ) → Names.handed_at c recipe k ≡ (Tree.phase_at (tree_at c recipe units) k).handed
@@ -110,7 +110,7 @@ module _ (v : EngineView) (k : IsKept v) (i : ℕ) (b : Batch) (at : slice_get v
   pub recipe-here : (r : Recipe) × (slice_get v.cleared.recipes b.recipe ≡ Some r)
   recipe-here = some-at v.cleared.recipes b.recipe (batch-runs v k i b at).known
 
-  pub place-here : (n : ℕ) → Names.recipe_place v.cleared b.recipe n ≡ Tree.place_at (tree_of v.cleared b) n
+  pub place-here : (n : ℕ) → Names.recipe_place_at v.cleared b.recipe n ≡ Tree.place_at (tree_of v.cleared b) n
   place-here n = place-told v.cleared b.recipe recipe-here.0 recipe-here.1 b.units n
 
   reports-told : (n : ℕ) → Names.reports_at v.cleared b.recipe n ≡ (Tree.phase_at (tree_of v.cleared b) n).reports

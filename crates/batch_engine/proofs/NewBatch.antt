@@ -17,7 +17,7 @@ use Rattle.batch_model.proofs.Members.{Each-append, Has-flat_map, Has-split}
 use Rattle.batch_record_laws.proofs.Entries.{IsOnce, nat_differs}
 use Rattle.batch_record_laws.proofs.Members.{Has-map, map-Has}
 use Rattle.batch_verify.specs.ClearedSet.{ClearedSet}
-use Rattle.batch_arbiter.specs.Allocation.{Claim, shares_at, queue_at}
+use Rattle.batch_arbiter.specs.Allocation.{Claim, shares_at, line_of_asks}
 use Rattle.batch_chart.specs.NodesOf.{needs_in, place_at}
 use Rattle.batch_chart.specs.Charts.{IsRunningOf}
 use Rattle.batch_engine.specs.declared.batch.Batch.{Batch}
@@ -103,10 +103,10 @@ share-number name b a h =
 
 module _ (v : EngineView) (k : IsKept v) where
   -- each act that holds or waits is of a batch that there is
-  pub waiter-below : (name : Name) (q : ℕ) → resource_number v.cleared name ≡ Some q → (x : Claim) → Has (queue_at v.allocation q) x → x.batch < v.next_number
+  pub waiter-below : (name : Name) (q : ℕ) → resource_number v.cleared name ≡ Some q → (x : Claim) → Has (line_of_asks v.allocation q) x → x.batch < v.next_number
   waiter-below name q e x h =
       let a : Share = share_of v.cleared v.batches x in
-      let asks = ((told v k).asks name a).0 (subst (λ (xs : List Share). Has xs a) (sym (ap (line_at v) e)) (map-Has (share_of v.cleared v.batches) (queue_at v.allocation q) x h)) in
+      let asks = ((told v k).asks name a).0 (subst (λ (xs : List Share). Has xs a) (sym (ap (line_at v) e)) (map-Has (share_of v.cleared v.batches) (line_of_asks v.allocation q) x h)) in
       below-next v.next_number (plant_of v).batches asks.0 x.batch (standing v k).numbers asks.1 asks.2
     where
       below-next : (next : ℕ) (bs : List Model.Batch) (b : Model.Batch) (n : ℕ) → AreNumbered next bs → Has bs b → b.number ≡ n → n < next
@@ -131,8 +131,8 @@ module _ (v : EngineView) (k : IsKept v) where
       (number : b.number ≡ v.next_number) (made : made_by b ≡ (recipe, units)) (runs : IsRunningOf (tree_at v.cleared recipe units) b.running)
       (new : model_batch v.cleared b ≡ new_batch v.next_number (recipe_at v.cleared recipe units) size vs)
       (enough : needs_of_all v.cleared v.batches + needs_in (tree_at v.cleared recipe units) ≤ room) where
-    lines-more : (n : Name) (q : ℕ) → resource_number v.cleared n ≡ Some q → claimed_shares v.cleared (v.batches ++ b ∷ []) (queue_at v.allocation q) ≡ claimed_shares v.cleared v.batches (queue_at v.allocation q)
-    lines-more n q e = acts-more v.cleared b v.batches (queue_at v.allocation q) (λ x h i. absurd (omega (arith, waiter-below n q e x h, i, number)))
+    lines-more : (n : Name) (q : ℕ) → resource_number v.cleared n ≡ Some q → claimed_shares v.cleared (v.batches ++ b ∷ []) (line_of_asks v.allocation q) ≡ claimed_shares v.cleared v.batches (line_of_asks v.allocation q)
+    lines-more n q e = acts-more v.cleared b v.batches (line_of_asks v.allocation q) (λ x h i. absurd (omega (arith, waiter-below n q e x h, i, number)))
 
     shares-more : (n : Name) (q : ℕ) → resource_number v.cleared n ≡ Some q → claimed_shares v.cleared (v.batches ++ b ∷ []) (shares_at v.allocation q) ≡ claimed_shares v.cleared v.batches (shares_at v.allocation q)
     shares-more n q e = acts-more v.cleared b v.batches (shares_at v.allocation q) (λ x h i. absurd (omega (arith, holder-below n q e x h, i, number)))

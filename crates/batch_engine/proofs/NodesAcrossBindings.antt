@@ -17,7 +17,7 @@ use Rattle.batch_recipe.specs.declared.acts.Acts.{Acts}
 use Rattle.batch_recipe.proofs.PlacesInBindings.{places_stay}
 use Rattle.batch_recipe.proofs.NodeActs.{procedure_acts_are}
 use Rattle.batch_recipe.proofs.NodeOrder.{counted_nodes}
-use Rattle.batch_engine.specs.Names.{node_place, name_of_act, name_of, handed_in, handed_of}
+use Rattle.batch_engine.specs.Names.{node_place, chart_act_name, name_of, handed_in, handed_of}
 
 -- Places
 
@@ -93,7 +93,7 @@ act_handed None = []
 act_handed (Some None) = []
 act_handed (Some (Some a)) = handed_with a.work
 
-name_of_tree : (s : Sites) (trees : Name → Name → Place → Tree) (unit : Name) (p : Place) (a : Act) (w : Work) → a.work ≡ w → name_of_act (act_tree_with s trees unit a p) ≡ name_with a.name w
+name_of_tree : (s : Sites) (trees : Name → Name → Place → Tree) (unit : Name) (p : Place) (a : Act) (w : Work) → a.work ≡ w → chart_act_name (act_tree_with s trees unit a p) ≡ name_with a.name w
 name_of_tree s trees unit p a (Follows chart) e = rw e refl
 name_of_tree s trees unit p a (Runs phase values reports) e = rw e refl
 
@@ -101,16 +101,16 @@ handed_of_tree : (s : Sites) (trees : Name → Name → Place → Tree) (unit : 
 handed_of_tree s trees unit p a (Follows chart) e = rw e refl
 handed_of_tree s trees unit p a (Runs phase values reports) e = rw e refl
 
-pub no_name : (t : Tree) → IsNoAct t → name_of_act t ≡ []
+pub no_name : (t : Tree) → IsNoAct t → chart_act_name t ≡ []
 no_name t h = grind arith
 
 pub no_handed : (t : Tree) → IsNoAct t → handed_in t ≡ []
 no_handed t h = grind arith
 
 module _ (bound : Binding) (acts : Acts) where
-  name_at_node : (a : Option Act) (at : Node) → IsActAt bound acts a at → name_of_act at.here ≡ act_name (Some a)
+  name_at_node : (a : Option Act) (at : Node) → IsActAt bound acts a at → chart_act_name at.here ≡ act_name (Some a)
   name_at_node None at h = no_name at.here h
-  name_at_node (Some a) at h = ap name_of_act h.here_is ∙ name_of_tree (sites bound acts) (named_tree_with (sites bound acts) (tables_from acts h.below)) h.unit at.place a a.work refl
+  name_at_node (Some a) at h = ap chart_act_name h.here_is ∙ name_of_tree (sites bound acts) (named_tree_with (sites bound acts) (tables_from acts h.below)) h.unit at.place a a.work refl
 
   handed_at_node : (a : Option Act) (at : Node) → IsActAt bound acts a at → handed_in at.here ≡ act_handed (Some a)
   handed_at_node None at h = no_handed at.here h

@@ -20,7 +20,7 @@ use Rattle.batch_recipe.specs.Values.{are_outputs, have_output, left_out, with_v
 use Rattle.batch_recipe.proofs.FirstMatch.{find-nowhere, find-position}
 use Rattle.batch_verify.proofs.ListLookups.{found_below}
 use Rattle.batch_model.specs.Runs.{Reacts}
-use Rattle.batch_arbiter.specs.Allocation.{shares_at, queue_at}
+use Rattle.batch_arbiter.specs.Allocation.{shares_at, line_of_asks}
 use Rattle.batch_chart.specs.NodesOf.{phase_at, place_at}
 use Rattle.batch_chart.specs.Charts.{IsRunningOf, RunsAs}
 use Rattle.batch_chart.specs.declared.running.Running.{Running}
@@ -150,7 +150,7 @@ module _ {v : EngineView} {unit name : Name} {l : LivePhase} {b : Batch} {x : do
       line : (n : Name) (m : Option ℕ) → line_at (taken (batch_state_after word b.state)) m ≡ line_at v m
       line n None = refl
       line n (Some q) =
-          acts-same v.cleared v.next_number (record b { values = vs; state = batch_state_after word b.state; running = r }) v.batches l.index b j.seat.at refl refl (queue_at v.allocation q)
+          acts-same v.cleared v.next_number (record b { values = vs; state = batch_state_after word b.state; running = r }) v.batches l.index b j.seat.at refl refl (line_of_asks v.allocation q)
 
       plant : plant_of (taken (batch_state_after word b.state)) ≡ in_batch b.number (batch_reported word outputs (place_at (tree_of v.cleared b) l.node) end) (plant_of v)
       plant =
@@ -166,7 +166,7 @@ module _ {v : EngineView} {unit name : Name} {l : LivePhase} {b : Batch} {x : do
       words =
           ap₂ (λ u n. reported u n word b.number (place_at (tree_of v.cleared b) l.node) (batch_state_after word b.state)) (sym j.phase.unit_is) (sym j.phase.name_is)
           ∙ ap (λ p. reported (resource_name v.cleared l.phase.unit) (phase_name v.cleared l.phase.unit l.phase.phase) word b.number p (batch_state_after word b.state))
-          (sym (ap (λ q. Names.recipe_place v.cleared q l.node) j.phase.recipe_is ∙ place-here v j.seat.kept l.index b j.seat.at l.node))
+          (sym (ap (λ q. Names.recipe_place_at v.cleared q l.node) j.phase.recipe_is ∙ place-here v j.seat.kept l.index b j.seat.at l.node))
 
       reacts : Reacts (setup v.cleared) (plant_of v) (Events.report unit name word outputs) (reply_of v.cleared (reply (batch_state_after word b.state))) (plant_of (taken (batch_state_after word b.state)))
       reacts =
@@ -181,7 +181,7 @@ module _ {v : EngineView} {unit name : Name} {l : LivePhase} {b : Batch} {x : do
           (Each-set (IsRunningBatch v.cleared) v.batches l.index (record b { values = vs; state = batch_state_after word b.state; running = r }) j.seat.kept.batches
           (record { known = (batch-runs v j.seat.kept l.index b j.seat.at).known; units = (batch-runs v j.seat.kept l.index b j.seat.at).units; runs = runs }))
           j.seat.kept.cell
-          (λ n q f. subst IsOnce (sym (acts-same v.cleared v.next_number (record b { values = vs; state = batch_state_after word b.state; running = r }) v.batches l.index b j.seat.at refl refl (queue_at v.allocation q)))
+          (λ n q f. subst IsOnce (sym (acts-same v.cleared v.next_number (record b { values = vs; state = batch_state_after word b.state; running = r }) v.batches l.index b j.seat.at refl refl (line_of_asks v.allocation q)))
           (j.seat.kept.once n q f))
           (room-quiet v l.index b (record b { values = vs; state = batch_state_after word b.state; running = r }) j.seat.at refl j.seat.kept.room)
 

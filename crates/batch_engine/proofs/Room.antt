@@ -5,7 +5,7 @@ use Rattle.std.specs.Prelude.{slice_get}
 use Rattle.std.proofs.lemmas.List.{length-append}
 use Rattle.std.proofs.lemmas.List.Sums.{sum_by-set, sum_by-cons, sum_by_push}
 use Rattle.batch_verify.specs.ClearedSet.{ClearedSet}
-use Rattle.batch_arbiter.specs.Allocation.{Claim, shares_at, queue_at, units_claimed, with_ask, with_grant, handed_over, with_pass, with_release, without_first, is_claim}
+use Rattle.batch_arbiter.specs.Allocation.{Claim, shares_at, line_of_asks, units_claimed, after_ask, after_grant, handed_over, after_pass, after_release, without_first, is_claim}
 use Rattle.batch_chart.specs.NodesOf.{needs_in}
 use Rattle.batch_engine.specs.Batches.{BatchList, with_batch_at}
 use Rattle.batch_engine.specs.declared.batch.Batch.{Batch}
@@ -60,32 +60,32 @@ module _ (v : EngineView) (i : ℕ) (b b' : Batch) (at : slice_get v.batches i �
   pub room-quiet : HasRoom (changed v i b' v.allocation)
   room-quiet = omega (arith, room, needs-same v.cleared v.batches i b b' at made)
 
-  pub room-asked : (q : ℕ) (x : Claim) → q < length v.allocation.lines → 0 < v.allocation.room → HasRoom (changed v i b' (with_ask q x v.allocation))
+  pub room-asked : (q : ℕ) (x : Claim) → q < length v.allocation.lines → 0 < v.allocation.room → HasRoom (changed v i b' (after_ask q x v.allocation))
   room-asked q x few some =
       omega (
         arith,
         room,
         needs-same v.cleared v.batches i b b' at made,
         some,
-        sum_by-set (λ (xs : List Claim). length xs) v.allocation.lines q (queue_at v.allocation q ++ x ∷ []) [] few,
-        length-append (queue_at v.allocation q) (x ∷ []),
+        sum_by-set (λ (xs : List Claim). length xs) v.allocation.lines q (line_of_asks v.allocation q ++ x ∷ []) [] few,
+        length-append (line_of_asks v.allocation q) (x ∷ []),
       )
 
-  pub room-granted : (q : ℕ) (x : Claim) (later : List Claim) → q < length v.allocation.lines → q < length v.allocation.shares → queue_at v.allocation q ≡ x ∷ later
-      → HasRoom (changed v i b' (with_grant q (Some x) v.allocation))
+  pub room-granted : (q : ℕ) (x : Claim) (later : List Claim) → q < length v.allocation.lines → q < length v.allocation.shares → line_of_asks v.allocation q ≡ x ∷ later
+      → HasRoom (changed v i b' (after_grant q (Some x) v.allocation))
   room-granted q x later few few' first =
       omega (
         arith,
         room,
         needs-same v.cleared v.batches i b b' at made,
-        sum_by-set (λ (xs : List Claim). length xs) v.allocation.lines q (drop 1 (queue_at v.allocation q)) [] few,
+        sum_by-set (λ (xs : List Claim). length xs) v.allocation.lines q (drop 1 (line_of_asks v.allocation q)) [] few,
         sum_by-set (λ (xs : List Claim). length xs) v.allocation.shares q (shares_at v.allocation q ++ x ∷ []) [] few',
         length-append (shares_at v.allocation q) (x ∷ []),
         ap (λ (xs : List Claim). length xs) first,
         ap (λ (xs : List Claim). length (drop 1 xs)) first,
       )
 
-  pub room-released : (q n node : ℕ) → q < length v.allocation.shares → HasRoom (changed v i b' (with_release q n node v.allocation))
+  pub room-released : (q n node : ℕ) → q < length v.allocation.shares → HasRoom (changed v i b' (after_release q n node v.allocation))
   room-released q n node few =
       omega (
         arith,
@@ -95,7 +95,7 @@ module _ (v : EngineView) (i : ℕ) (b b' : Batch) (at : slice_get v.batches i �
         without-length (is_claim n node) (shares_at v.allocation q),
       )
 
-  pub room-passed : (q n node to : ℕ) → q < length v.allocation.shares → HasRoom (changed v i b' (with_pass q n node to v.allocation))
+  pub room-passed : (q n node to : ℕ) → q < length v.allocation.shares → HasRoom (changed v i b' (after_pass q n node to v.allocation))
   room-passed q n node to few =
       let held : List Claim = shares_at v.allocation q in
       omega (

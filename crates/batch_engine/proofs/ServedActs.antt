@@ -11,7 +11,7 @@ use Rattle.batch_model.specs.Plant.{BatchAct, Share, units_in, holders, is_same_
 use Rattle.batch_model.specs.Moves.{is_served}
 use Rattle.batch_cell.specs.LookUps.{capacities_of}
 use Rattle.batch_record_laws.proofs.Entries.{act_self, same_act, units-cons}
-use Rattle.batch_arbiter.specs.Allocation.{Claim, Allocation, queue_at, shares_at, held_units, next_in, batch_node}
+use Rattle.batch_arbiter.specs.Allocation.{Claim, Allocation, line_of_asks, shares_at, held_units, next_in, batch_node}
 use Rattle.batch_engine.specs.View.{EngineView, setup, claim_act, claimed_shares, resource_number, line_in, line_at, plant_of}
 use Rattle.batch_engine.specs.Kept.{IsKept}
 use Rattle.batch_engine.proofs.RecordOfPlant.{told}
@@ -67,11 +67,11 @@ module _ (v : EngineView) (k : IsKept v) where
   -- the plant's test is that of the arbiter's lists
   pub is-served : (i : ℕ) (need : Need) (a : BatchAct) → resource_number v.cleared need.resource ≡ Some i
       → is_served (setup v.cleared) (plant_of v) need a
-      ≡ serves (held_units (shares_at v.allocation i)) need.units (Rattle.batch_arbiter.specs.Allocation.capacity_at v.allocation i) (claimed_shares v.cleared v.batches (queue_at v.allocation i)) a
+      ≡ serves (held_units (shares_at v.allocation i)) need.units (Rattle.batch_arbiter.specs.Allocation.capacity_at v.allocation i) (claimed_shares v.cleared v.batches (line_of_asks v.allocation i)) a
   is-served i need a e =
       let held : units_in (holders (plant_of v) need.resource) ≡ held_units (shares_at v.allocation i) = held-count i need.resource e in
       let capacity : (setup v.cleared).capacity need.resource ≡ Rattle.batch_arbiter.specs.Allocation.capacity_at v.allocation i =
       ap (λ (o : Option ℕ). elim o [ None ↦ 0 | Some number ↦ get_or (capacities_of v.cleared.cell) number 0 ]) e ∙ ap (λ xs. get_or xs i 0) (sym k.cell.capacities) in
-      let line : line_in v need.resource ≡ claimed_shares v.cleared v.batches (queue_at v.allocation i) = ap (line_at v) e in
+      let line : line_in v need.resource ≡ claimed_shares v.cleared v.batches (line_of_asks v.allocation i) = ap (line_at v) e in
       ap₂ (λ h l. serves h need.units ((setup v.cleared).capacity need.resource) l a) held line
-      ∙ ap (λ z. serves (held_units (shares_at v.allocation i)) need.units z (claimed_shares v.cleared v.batches (queue_at v.allocation i)) a) capacity
+      ∙ ap (λ z. serves (held_units (shares_at v.allocation i)) need.units z (claimed_shares v.cleared v.batches (line_of_asks v.allocation i)) a) capacity

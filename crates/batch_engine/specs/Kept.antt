@@ -11,7 +11,7 @@ use Rattle.batch_model.specs.Runs.{Out, Leads}
 use Rattle.batch_model.specs.Records.{holders_told}
 use Rattle.batch_record_laws.specs.Once.{IsOnce}
 use Rattle.batch_verify.specs.ClearedSet.{ClearedSet}
-use Rattle.batch_arbiter.specs.Allocation.{Allocation, queue_at, shares_at}
+use Rattle.batch_arbiter.specs.Allocation.{Allocation, line_of_asks, shares_at}
 use Rattle.batch_chart.specs.NodesOf.{needs_in}
 use Rattle.batch_chart.specs.Charts.{IsRunningOf}
 use Rattle.batch_engine.specs.declared.batch.Batch.{Batch}
@@ -60,7 +60,7 @@ pub record IsKept (v : EngineView) : Type 0 where
   pub cell : IsOfCell v.cleared v.allocation
   pub tracked : IsTracked v
   -- no act is in a line twice
-  pub once : (name : Name) (k : ℕ) → resource_number v.cleared name ≡ Some k → IsOnce (claimed_shares v.cleared v.batches (queue_at v.allocation k))
+  pub once : (name : Name) (k : ℕ) → resource_number v.cleared name ≡ Some k → IsOnce (claimed_shares v.cleared v.batches (line_of_asks v.allocation k))
   pub room : HasRoom v
 
 -- the invariant of a control's fields: that of the engine, each batch can be found by its number, and the needs are counted

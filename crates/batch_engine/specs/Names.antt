@@ -57,27 +57,27 @@ roles_taken c recipe units = zip (roles_at c recipe) (map (resource_name c) unit
 abbrev pub node_of : ℕ → Recipe → Option Node
 node_of node r = slice_get (procedure_nodes r.acts) node
 
-abbrev pub recipe_node : ClearedSet → ℕ → ℕ → Option Node
-recipe_node c recipe node = elim (slice_get c.recipes recipe) [ None ↦ None | Some r ↦ node_of node r ]
+abbrev pub recipe_node_at : ClearedSet → ℕ → ℕ → Option Node
+recipe_node_at c recipe node = elim (slice_get c.recipes recipe) [ None ↦ None | Some r ↦ node_of node r ]
 
 abbrev pub node_place : Option Node → Place
 node_place None = []
 node_place (Some at) = at.place
 
-abbrev pub recipe_place : ClearedSet → ℕ → ℕ → Place
-recipe_place c recipe node = node_place (recipe_node c recipe node)
+abbrev pub recipe_place_at : ClearedSet → ℕ → ℕ → Place
+recipe_place_at c recipe node = node_place (recipe_node_at c recipe node)
 
 -- the name of an act that is no phase step
-abbrev pub name_of_act : Tree → Name
-name_of_act (act s (follows name t)) = name
-name_of_act _ = []
+abbrev pub chart_act_name : Tree → Name
+chart_act_name (act s (follows name t)) = name
+chart_act_name _ = []
 
 abbrev pub name_of : Option Node → Name
 name_of None = []
-name_of (Some at) = name_of_act at.here
+name_of (Some at) = chart_act_name at.here
 
-abbrev pub act_name_at : ClearedSet → ℕ → ℕ → Name
-act_name_at c recipe node = name_of (recipe_node c recipe node)
+abbrev pub chart_act_name_at : ClearedSet → ℕ → ℕ → Name
+chart_act_name_at c recipe node = name_of (recipe_node_at c recipe node)
 
 -- the names of the values that the phase of a phase step is handed
 abbrev pub handed_in : Tree → List Name
@@ -89,11 +89,11 @@ handed_of None = []
 handed_of (Some at) = handed_in at.here
 
 abbrev pub handed_at : ClearedSet → ℕ → ℕ → List Name
-handed_at c recipe node = handed_of (recipe_node c recipe node)
+handed_at c recipe node = handed_of (recipe_node_at c recipe node)
 
 -- the names of the outputs that it reports once it is done
 abbrev pub reports_at : ClearedSet → ℕ → ℕ → List Name
-reports_at c recipe node = reports_of (recipe_node c recipe node)
+reports_at c recipe node = reports_of (recipe_node_at c recipe node)
 
 -- one of these, by its number among them
 abbrev pub output_name : ClearedSet → ℕ → ℕ → ℕ → Name

@@ -3,7 +3,7 @@ use Rattle.std.specs.Prelude.{◌≡◌, ◌<◌, ◌≤◌, ℕ, [], Option, So
 use Rattle.batch_model.specs.Moves as Model
 use Rattle.batch_model.specs.Moves.{next, after_move, least, batch_moves, grant}
 use Rattle.batch_model.specs.Plant.{batch_at}
-use Rattle.batch_arbiter.specs.Allocation.{Allocation, with_ask, batch_node, next_grant, with_pass, with_release, resource_count}
+use Rattle.batch_arbiter.specs.Allocation.{Allocation, after_ask, batch_node, next_grant, after_pass, after_release, resource_count}
 use Rattle.batch_chart.specs.NodesOf.{node_at, place_at, step_at, need_at, phase_at, phase_named}
 use Rattle.batch_cell.specs.LookUps.{units_of}
 use Rattle.batch_recipe.specs.Conditions.{Name, same_name}
@@ -154,9 +154,9 @@ IsMaking v set recipe allocation i b m = IsMover v i b m × IsLinkedSet v.cleare
 -- the arbiter carries out the ask, the release or the pass that is the batch's move; by another move it stays as it is
 abbrev pub IsClaimed : ClearedSet → Batch → Move → Allocation → Allocation → Type 0
 IsClaimed c b (Ask node need) old new =
-    (resource : ℕ) × (units : ℕ) × IsNumberAt c b node need resource units × (new ≡ with_ask resource (record { batch = b.number; node = node; units = units }) old)
-IsClaimed c b (Release node need) old new = (resource : ℕ) × (units : ℕ) × IsNumberAt c b node need resource units × (new ≡ with_release resource b.number node old)
-IsClaimed c b (Pass node to need) old new = (resource : ℕ) × (units : ℕ) × IsNumberAt c b node need resource units × (new ≡ with_pass resource b.number node to old)
+    (resource : ℕ) × (units : ℕ) × IsNumberAt c b node need resource units × (new ≡ after_ask resource (record { batch = b.number; node = node; units = units }) old)
+IsClaimed c b (Release node need) old new = (resource : ℕ) × (units : ℕ) × IsNumberAt c b node need resource units × (new ≡ after_release resource b.number node old)
+IsClaimed c b (Pass node to need) old new = (resource : ℕ) × (units : ℕ) × IsNumberAt c b node need resource units × (new ≡ after_pass resource b.number node to old)
 IsClaimed c b m old new = new ≡ old
 
 -- a batch of the engine has an act at this node

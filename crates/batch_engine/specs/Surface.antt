@@ -6,7 +6,7 @@ use Rattle.batch_model.specs.Moves as Moves
 use Rattle.batch_model.specs.Plant.{Plant}
 use Rattle.batch_model.specs.Runs as Runs
 use Rattle.batch_verify.specs.ClearedSet.{ClearedSet}
-use Rattle.batch_engine.specs.Names.{resource_name, need_of, phase_name, recipe_name, roles_taken, value_name, output_name, recipe_place, act_name_at, handed_at, phase_run_at}
+use Rattle.batch_engine.specs.Names.{resource_name, need_of, phase_name, recipe_name, roles_taken, value_name, output_name, recipe_place_at, chart_act_name_at, handed_at, phase_run_at}
 use Rattle.batch_engine.specs.declared.event.Event.{Event}
 use Rattle.batch_engine.specs.declared.line.ClaimKind.{ClaimKind}
 use Rattle.batch_engine.specs.declared.line.Line.{Line}
@@ -41,21 +41,21 @@ reply_of c (Reply.Created batch recipe size units) = Events.created batch (recip
 reply_of c (Reply.Ordered command batch state) = Events.ordered command batch state
 reply_of c (Reply.Removed batch) = Events.removed batch
 reply_of c (Reply.Reported unit phase word batch recipe node state) =
-    Events.reported (resource_name c unit) (phase_name c unit phase) word batch (recipe_place c recipe node) state
+    Events.reported (resource_name c unit) (phase_name c unit phase) word batch (recipe_place_at c recipe node) state
 reply_of c (Reply.Refused refusal) = Events.refused (refusal_of c refusal)
 
 abbrev pub move_of : ClearedSet → Line → Moves.Move
 move_of c (Line.Send batch recipe node unit phase command) =
-    Moves.send batch (recipe_place c recipe node) (phase_run_at c recipe node unit phase) command
+    Moves.send batch (recipe_place_at c recipe node) (phase_run_at c recipe node unit phase) command
 move_of c (Line.State batch state) = Moves.state batch state
-move_of c (Line.Begin batch recipe node) = Moves.begin batch (recipe_place c recipe node) (act_name_at c recipe node)
+move_of c (Line.Begin batch recipe node) = Moves.begin batch (recipe_place_at c recipe node) (chart_act_name_at c recipe node)
 move_of c (Line.Start batch recipe node unit phase values) =
-    Moves.start batch (recipe_place c recipe node) (phase_run_at c recipe node unit phase) (zip (handed_at c recipe node) values)
-move_of c (Line.End batch recipe node) = Moves.end batch (recipe_place c recipe node)
-move_of c (Line.Pass batch recipe node to resource units) = Moves.pass batch (recipe_place c recipe node) (recipe_place c recipe to) (need_of c resource units)
-move_of c (Line.Claim ClaimKind.Asked batch recipe node resource units) = Moves.ask batch (recipe_place c recipe node) (need_of c resource units)
-move_of c (Line.Claim ClaimKind.Granted batch recipe node resource units) = Moves.grant batch (recipe_place c recipe node) (need_of c resource units)
-move_of c (Line.Claim ClaimKind.Released batch recipe node resource units) = Moves.release batch (recipe_place c recipe node) (need_of c resource units)
+    Moves.start batch (recipe_place_at c recipe node) (phase_run_at c recipe node unit phase) (zip (handed_at c recipe node) values)
+move_of c (Line.End batch recipe node) = Moves.end batch (recipe_place_at c recipe node)
+move_of c (Line.Pass batch recipe node to resource units) = Moves.pass batch (recipe_place_at c recipe node) (recipe_place_at c recipe to) (need_of c resource units)
+move_of c (Line.Claim ClaimKind.Asked batch recipe node resource units) = Moves.ask batch (recipe_place_at c recipe node) (need_of c resource units)
+move_of c (Line.Claim ClaimKind.Granted batch recipe node resource units) = Moves.grant batch (recipe_place_at c recipe node) (need_of c resource units)
+move_of c (Line.Claim ClaimKind.Released batch recipe node resource units) = Moves.release batch (recipe_place_at c recipe node) (need_of c resource units)
 
 abbrev pub out_of : ClearedSet → Out → Runs.Out
 out_of c (Out.Reply reply) = Runs.reply (reply_of c reply)

@@ -10,7 +10,7 @@ use Rattle.batch_model.specs.Events.{bound_by}
 use Rattle.batch_model.specs.Plant.{Master, plain, Setup, BatchAct, Share, Plant, size_out_of_range}
 use Rattle.batch_model.specs.Setups.{setup_of}
 use Rattle.batch_verify.specs.ClearedSet.{ClearedSet}
-use Rattle.batch_arbiter.specs.Allocation.{Claim, Allocation, queue_at}
+use Rattle.batch_arbiter.specs.Allocation.{Claim, Allocation, line_of_asks}
 use Rattle.batch_chart.specs.NodesOf.{place_at}
 use Rattle.batch_chart.specs.Charts.{remains}
 use Rattle.batch_chart.specs.Early.{in_advance}
@@ -92,14 +92,14 @@ claimed_shares c bs xs = map (share_of c bs) xs
 abbrev pub names_of : ClearedSet → List Name
 names_of c = resources_of c.cell
 
--- the number of a resource
+-- the number of the resource of this name, if there is one
 abbrev pub resource_number : ClearedSet → Name → Option ℕ
 resource_number c name = position (same_name name) (names_of c)
 
 -- the acts that wait for a resource, by its number, if it has one
 abbrev pub line_at : EngineView → Option ℕ → List Share
 line_at v None = []
-line_at v (Some k) = claimed_shares v.cleared v.batches (queue_at v.allocation k)
+line_at v (Some k) = claimed_shares v.cleared v.batches (line_of_asks v.allocation k)
 
 abbrev pub line_in : EngineView → Name → List Share
 line_in v name = line_at v (resource_number v.cleared name)

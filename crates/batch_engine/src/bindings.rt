@@ -26,8 +26,7 @@ fn is_bound(role: &Name, pairs: &[(Name, Name)]) -> bool
 
 /// Whether each pair is of one of the roles, and no role is bound twice.
 ///
-/// It ends soon, however many pairs there are: beyond one for each role there is one that isn't of a role, or that is followed by
-/// another of its role.
+/// At most one pair more than there are roles is looked at: by then a name is unknown or repeated.
 fn are_of_roles(roles: &[Role], pairs: &[(Name, Name)]) -> bool
     ensures { result ≡ are_of_roles (map (λ role. role.name) roles.now) pairs.now }
 {

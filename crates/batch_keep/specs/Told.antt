@@ -24,8 +24,8 @@ pub record TellsLines (c : Setup) (old : Plant) (given : List ℕ) (before after
   pub begins : BeginsTranscript c old (take count lines) before after
 
 -- the same, if the bytes of the input are known
-abbrev pub TellsKnownLines : Setup → Plant → Option (List ℕ) → List ℕ → Option (List ℕ) → Option (List ℕ) → Type 0
-TellsKnownLines c old input given before after = (all : List ℕ) → input ≡ Some all → TellsLines c old given before after
+abbrev pub TellsLinesIfKnown : Setup → Plant → Option (List ℕ) → List ℕ → Option (List ℕ) → Option (List ℕ) → Type 0
+TellsLinesIfKnown c old input given before after = (all : List ℕ) → input ≡ Some all → TellsLines c old given before after
 
 -- The lines that the journal had were replayed from a first plant, and the run wrote whole lines that show no want of memory. Whatever
 -- file a crash leaves now, a replay of it in which memory is never wanted writes all of that again, and more behind it.

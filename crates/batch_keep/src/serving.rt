@@ -6,7 +6,7 @@ ghost use Rattle.batch_journal.specs.Lines.{text_of};
 ghost use Rattle.batch_journal.specs.Readers.{IsJournalKept, IsWhole, HasRecalled, IsAccounted};
 ghost use Rattle.batch_wire.specs.Transcript.{lines_of};
 ghost use Rattle.batch_wire.specs.WrittenTranscript.{WritesTranscript};
-ghost use Rattle.batch_keep.specs.Told.{IsJournalAtRest, TellsKnownLines, IsToldAgain, TellsLines};
+ghost use Rattle.batch_keep.specs.Told.{IsJournalAtRest, TellsLinesIfKnown, IsToldAgain, TellsLines};
 
 use batch_engine::Engine;
 use batch_journal::{Disk, JournalReader, Memory, Run, Sum, lines_begin, recovered_are_lines};
@@ -55,7 +55,7 @@ pub fn serve_journalled<R: Read + Drop, D: Disk, K: Clock + Drop, W: Write>(
         WritesTranscript (setup engine.old.cleared) (plant_of engine.old) (lines_of all) (plant_of engine.new) (W.contents writer.old) (W.contents writer.new))) }
     // The written answers are to lines that the machine was given.
     // claim: told of given lines
-    ensures told { D.is_disk result.1 → TellsKnownLines (setup engine.old.cleared) (plant_of engine.old) (R.remaining input) (D.given result.1) (W.contents writer.old) (W.contents writer.new) }
+    ensures told { D.is_disk result.1 → TellsLinesIfKnown (setup engine.old.cleared) (plant_of engine.old) (R.remaining input) (D.given result.1) (W.contents writer.old) (W.contents writer.new) }
     // A replay writes them again, behind the answers from before.
     // claim: output is written again
     ensures again { D.is_disk result.1 → (all : List ℕ) → R.remaining input ≡ Some all → IsToldAgain (setup engine.old.cleared) (plant_of engine.old) journal.documents (D.seen journal.disk)
@@ -109,7 +109,7 @@ pub(crate) fn serve_at<R: Read + Drop, D: Disk, K: Clock + Drop, W: Write, C: Ru
     ensures cleared { engine.new.cleared ≡ engine.old.cleared }
     ensures served { OnOk result.0 (IfSome (R.remaining input) (λ all.
         WritesTranscript (setup engine.old.cleared) (plant_of engine.old) (lines_of all) (plant_of engine.new) (W.contents writer.old) (W.contents writer.new))) }
-    ensures told { D.is_disk result.1 → C.input ≡ R.remaining input → TellsKnownLines (setup engine.old.cleared) (plant_of engine.old) C.input (D.given result.1) (W.contents writer.old) (W.contents writer.new) }
+    ensures told { D.is_disk result.1 → C.input ≡ R.remaining input → TellsLinesIfKnown (setup engine.old.cleared) (plant_of engine.old) C.input (D.given result.1) (W.contents writer.old) (W.contents writer.new) }
     ensures again { D.is_disk result.1 → C.input ≡ R.remaining input → (all start : List ℕ) → C.input ≡ Some all → C.base ≡ text_of (recovered C.documents start)
         → IsToldAgain (setup engine.old.cleared) (plant_of engine.old) C.documents start (D.durable result.1) (D.seen result.1) (D.given result.1) (W.contents writer.old) (W.contents writer.new) }
 {

@@ -62,7 +62,7 @@ pub record Opening : Type 0 where
   pub recorded : Option (List ℕ)
   pub again : Bool
 
--- the same without the record, which has the times of turns in it
+-- the beginning of a life: without the desks' names, and without the record, which has the times of turns in it
 abbrev pub without_record : Opening → Beginning
 without_record begun = record { set = begun.set; plant = begun.plant; kept = begun.kept; recorded = None; again = begun.again }
 

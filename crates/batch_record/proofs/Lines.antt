@@ -5,7 +5,7 @@ use Rattle.batch_model.specs.Lists.{Each}
 use Rattle.batch_record.specs.Laws.{is_passed_over}
 use Rattle.batch_record.specs.RecordLine.{out_of_line}
 use Rattle.batch_model.specs.Runs.{Out}
-use Rattle.batch_record.specs.Blocks.{Stage, mark_of, stage_marked, opening_stage, stage_after, stages, stage_told}
+use Rattle.batch_record.specs.Blocks.{Stage, mark_of, stage_after_mark, opening_stage, stage_after, stages, stage_after_out}
 use Rattle.batch_record.specs.StatusReading.{HasNoFeed, IsRefusedAt, LeadsTo, lines_text}
 use Rattle.batch_record.specs.Taking.{EndsLine}
 use Rattle.batch_record.proofs.InputProgress.{each-more, text-more, length-more, counted-more}
@@ -48,14 +48,14 @@ pub parted : (rest : List ℕ) (at : ℕ) → EndsLine at rest → rest ≡ take
 parted rest at e =
     sym (take-append-drop at rest) ∙ ap (λ l. take at rest ++ l) (drop_more rest at 0 e.within ∙ ap (λ b. b ∷ drop (at + 1) rest) e.feed)
 
-next-number : (number stage_told : ℕ) (lines : List (List ℕ)) (line : List ℕ) → number ≡ min (length lines) (2 ^ 64 - 1) → stage_told ≡ min (number + 1) (2 ^ 64 - 1)
-    → stage_told ≡ min (length (lines ++ line ∷ [])) (2 ^ 64 - 1)
-next-number number stage_told lines line counted next =
+next-number : (number told : ℕ) (lines : List (List ℕ)) (line : List ℕ) → number ≡ min (length lines) (2 ^ 64 - 1) → told ≡ min (number + 1) (2 ^ 64 - 1)
+    → told ≡ min (length (lines ++ line ∷ [])) (2 ^ 64 - 1)
+next-number number told lines line counted next =
     next ∙ counted-more number (length lines) counted ∙ ap (λ n. min n (2 ^ 64 - 1)) (sym (length-more lines line))
 
-pub line-taken : (text rest : List ℕ) (number stage_told at : ℕ) (h : HasTaken text rest number) → EndsLine at rest → stage_told ≡ min (number + 1) (2 ^ 64 - 1)
-    → (next : Stage) → stage_after h.stage (take at rest) ≡ Some next → HasTaken text (drop (at + 1) rest) stage_told
-line-taken text rest number stage_told at h here counted next after = record {
+pub line-taken : (text rest : List ℕ) (number told at : ℕ) (h : HasTaken text rest number) → EndsLine at rest → told ≡ min (number + 1) (2 ^ 64 - 1)
+    → (next : Stage) → stage_after h.stage (take at rest) ≡ Some next → HasTaken text (drop (at + 1) rest) told
+line-taken text rest number told at h here counted next after = record {
   lines = h.lines ++ take at rest ∷ [];
   stage = next;
   whole = each-more HasNoFeed h.lines (take at rest) h.whole here.before;
@@ -63,12 +63,12 @@ line-taken text rest number stage_told at h here counted next after = record {
       ∙ sym (ap (λ l. l ++ drop (at + 1) rest) (text-more h.lines (take at rest)) ∙ append_assoc (lines_text h.lines) (take at rest ++ 10 ∷ []) (drop (at + 1) rest)
       ∙ ap (λ l. lines_text h.lines ++ l) (append_assoc (take at rest) (10 ∷ []) (drop (at + 1) rest)));
   stages = stages-more opening_stage h.lines (take at rest) h.stage next h.stages after;
-  counted = next-number number stage_told h.lines (take at rest) h.counted counted;
+  counted = next-number number told h.lines (take at rest) h.counted counted;
 }
 
-pub line-refused : (text rest : List ℕ) (number stage_told at : ℕ) (h : HasTaken text rest number) → EndsLine at rest → stage_told ≡ min (number + 1) (2 ^ 64 - 1)
-    → stage_after h.stage (take at rest) ≡ None → IsRefusedAt text stage_told
-line-refused text rest number stage_told at h here counted refused = record {
+pub line-refused : (text rest : List ℕ) (number told at : ℕ) (h : HasTaken text rest number) → EndsLine at rest → told ≡ min (number + 1) (2 ^ 64 - 1)
+    → stage_after h.stage (take at rest) ≡ None → IsRefusedAt text told
+line-refused text rest number told at h here counted refused = record {
   before = h.lines;
   line = take at rest;
   rest = drop (at + 1) rest;
@@ -92,12 +92,12 @@ all-taken text rest number h none = record {
 -- The effect of a line
 
 after-line : (stage : Stage) (line : List ℕ) (passed : Bool) → is_passed_over line ≡ passed
-    → stage_after stage line ≡ elim passed [ true ↦ Some (stage_marked stage (mark_of line)) | false ↦ option_map (stage_told stage) (out_of_line line) ]
-after-line stage line passed is = ap (λ (b : Bool). elim b [ true ↦ Some (stage_marked stage (mark_of line)) | false ↦ option_map (stage_told stage) (out_of_line line) ]) is
+    → stage_after stage line ≡ elim passed [ true ↦ Some (stage_after_mark stage (mark_of line)) | false ↦ option_map (stage_after_out stage) (out_of_line line) ]
+after-line stage line passed is = ap (λ (b : Bool). elim b [ true ↦ Some (stage_after_mark stage (mark_of line)) | false ↦ option_map (stage_after_out stage) (out_of_line line) ]) is
 
 pub passed-on : (line : List ℕ) → is_passed_over line ≡ true → (stage : Stage) → (next : Stage) × (stage_after stage line ≡ Some next)
-passed-on line is stage = (stage_marked stage (mark_of line), after-line stage line true is)
+passed-on line is stage = (stage_after_mark stage (mark_of line), after-line stage line true is)
 
 pub told-on : (line : List ℕ) (out : Out) → is_passed_over line ≡ false → out_of_line line ≡ Some out
     → (stage : Stage) → (next : Stage) × (stage_after stage line ≡ Some next)
-told-on line out is tells stage = (stage_told stage out, after-line stage line false is ∙ ap (option_map (stage_told stage)) tells)
+told-on line out is tells stage = (stage_after_out stage out, after-line stage line false is ∙ ap (option_map (stage_after_out stage)) tells)

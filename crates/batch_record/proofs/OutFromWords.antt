@@ -18,7 +18,7 @@ use Rattle.batch_model.specs.Events.{Reply, created, ordered, reported, refused,
 use Rattle.batch_wire.specs.EventLine.{command_of, role_pair_of}
 use Rattle.batch_wire.specs.RecordText.{state_text, command_text, need_text, value_texts, role_texts, refusal_words, reply_words, move_words, out_words}
 use Rattle.batch_record.specs.Naming.{IsShort, IsAct, IsClaim, IsPhaseStep, IsNamed, IsNamedReply, IsNamedMove, IsNamedRefusal, as_told}
-use Rattle.batch_record.specs.RecordLine.{state_of_word, ClaimTold, claim_with, claim_told_of, batch_state_with, batch_state_of, report_with, PhaseTold, phase_with, sent_with, started_with, because, refusal_of_words, passed_with, ask_out, grant_out, release_out, pass_out, state_out, order_out, report_out, send_out, start_out, begin_out, end_out, created_out, refused_out, out_of_words, out_of_line, line_words}
+use Rattle.batch_record.specs.RecordLine.{state_of_word, ClaimTold, claim_with, claim_told_of, batch_state_with, batch_state_of, report_with, PhaseTold, phase_with, sent_with, started_with, because, refusal_of_words, passed_with, asked_out, granted_out, released_out, passed_out, stated_out, obeyed_out, report_out, sent_out, started_out, begun_out, ended_out, created_out, refused_out, out_of_words, out_of_line, line_words}
 use Rattle.batch_record.specs.Laws.{IsLineOf, TellsOut, TellsNothing, TextIsOne}
 use Rattle.batch_record.proofs.AbsentBytes.{lacks, split-joined, name-no_space}
 use Rattle.batch_record.proofs.Numerals.{read-again, decimal-no_space}
@@ -71,14 +71,14 @@ refusal-back bad_binding h = refl
 
 -- no command is `report` or `remove`
 order-back : (c : Command) (n : ℕ) (s : State) → IsShort n → out_of_words (codes "ok" ∷ command_text c ∷ decimal n ∷ state_text s ∷ []) ≡ Some (reply (ordered c n s))
-order-back Command.Start n s h = ap (option_map (order_out Command.Start)) (batch-back n s h)
-order-back Command.Pause n s h = ap (option_map (order_out Command.Pause)) (batch-back n s h)
-order-back Command.Resume n s h = ap (option_map (order_out Command.Resume)) (batch-back n s h)
-order-back Command.Hold n s h = ap (option_map (order_out Command.Hold)) (batch-back n s h)
-order-back Command.Restart n s h = ap (option_map (order_out Command.Restart)) (batch-back n s h)
-order-back Command.Stop n s h = ap (option_map (order_out Command.Stop)) (batch-back n s h)
-order-back Command.Abort n s h = ap (option_map (order_out Command.Abort)) (batch-back n s h)
-order-back Command.Reset n s h = ap (option_map (order_out Command.Reset)) (batch-back n s h)
+order-back Command.Start n s h = ap (option_map (obeyed_out Command.Start)) (batch-back n s h)
+order-back Command.Pause n s h = ap (option_map (obeyed_out Command.Pause)) (batch-back n s h)
+order-back Command.Resume n s h = ap (option_map (obeyed_out Command.Resume)) (batch-back n s h)
+order-back Command.Hold n s h = ap (option_map (obeyed_out Command.Hold)) (batch-back n s h)
+order-back Command.Restart n s h = ap (option_map (obeyed_out Command.Restart)) (batch-back n s h)
+order-back Command.Stop n s h = ap (option_map (obeyed_out Command.Stop)) (batch-back n s h)
+order-back Command.Abort n s h = ap (option_map (obeyed_out Command.Abort)) (batch-back n s h)
+order-back Command.Reset n s h = ap (option_map (obeyed_out Command.Reset)) (batch-back n s h)
 
 reply-back : (r : Reply) → IsNamedReply r → out_of_words (reply_words r) ≡ Some (reply r)
 reply-back (created n recipe size roles) (short, named, size_short, are_roles) =
@@ -107,31 +107,31 @@ reply-back (refused why) h = ap (option_map refused_out) (refusal-back why h)
 
 move-back : (m : Move) → IsNamedMove m → out_of_words (move_words m) ≡ Some (as_told (move m))
 move-back (send n p phase c) h =
-    ap (option_map send_out)
+    ap (option_map sent_out)
     (ap (λ r. sent_with r (command_of (command_text c))) (phase-back n p phase.unit phase.name h) ∙ ap (sent_with (Some (record { batch = n; place = p; unit = phase.unit; name = phase.name }))) (command-read c))
-move-back (state n s) h = ap (option_map state_out) (batch-back n s h)
-move-back (release n p need) h = ap (option_map release_out) (claim-back n p need h)
+move-back (state n s) h = ap (option_map stated_out) (batch-back n s h)
+move-back (release n p need) h = ap (option_map released_out) (claim-back n p need h)
 move-back (begin n p name) (act, named) =
     let (plain, number) = read-again n act.batch_short in
     let (placed, place) = place-read p act.placed in
-    ap (option_map begin_out) (taken _ _ _ (and_from _ _ (and_from _ _ plain placed) (name-test name named)) (ap (λ m. (m, numbers_of (place_text p), name)) number ∙ ap (λ q. (n, q, name)) place))
+    ap (option_map begun_out) (taken _ _ _ (and_from _ _ (and_from _ _ plain placed) (name-test name named)) (ap (λ m. (m, numbers_of (place_text p), name)) number ∙ ap (λ q. (n, q, name)) place))
 move-back (start n p phase values) (h, are) =
     let (all, back) = values-read values are in
     let told : PhaseTold = record { batch = n; place = p; unit = phase.unit; name = phase.name } in
-    ap (option_map start_out)
+    ap (option_map started_out)
     (ap (started_with (value_texts values)) (phase-back n p phase.unit phase.name h)
     ∙ taken _ _ _ all (ap (λ vs. (told, vs)) back))
 move-back (end n p) act =
     let (plain, number) = read-again n act.batch_short in
     let (placed, place) = place-read p act.placed in
-    ap (option_map end_out) (taken _ _ _ (and_from _ _ plain placed) (ap (λ m. (m, numbers_of (place_text p))) number ∙ ap (λ q. (n, q)) place))
+    ap (option_map ended_out) (taken _ _ _ (and_from _ _ plain placed) (ap (λ m. (m, numbers_of (place_text p))) number ∙ ap (λ q. (n, q)) place))
 move-back (pass n p to need) (h, placed) =
     let (plain, place) = place-read to placed in
     let told : ClaimTold = record { batch = n; place = p; need = need } in
-    ap (option_map pass_out)
+    ap (option_map passed_out)
     (ap (passed_with (place_text to)) (claim-back n p need h) ∙ taken _ _ _ plain (ap (λ q. (told, q)) place))
-move-back (ask n p need) h = ap (option_map ask_out) (claim-back n p need h)
-move-back (grant n p need) h = ap (option_map grant_out) (claim-back n p need h)
+move-back (ask n p need) h = ap (option_map asked_out) (claim-back n p need h)
+move-back (grant n p need) h = ap (option_map granted_out) (claim-back n p need h)
 
 pub words-back : (out : Out) → IsNamed out → out_of_words (out_words out) ≡ Some (as_told out)
 words-back (reply r) h = reply-back r h

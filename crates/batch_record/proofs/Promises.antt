@@ -15,7 +15,7 @@ use Rattle.batch_record.specs.Laws.{IsLineOf, is_passed_over}
 use Rattle.batch_record.specs.Naming.{IsNamed, as_told}
 use Rattle.batch_record.specs.RecordLine.{out_of_line}
 use Rattle.batch_record.proofs.LivePhases.{appended, filtered}
-use Rattle.batch_record.specs.Blocks.{Stage, stage_marked, mark_of, stage_after, stages, stage_told}
+use Rattle.batch_record.specs.Blocks.{Stage, stage_after_mark, mark_of, stage_after, stages, stage_after_out}
 use Rattle.batch_record.specs.Promises.{AreLinesOf, IsAsModelled, LinesTellTheirOuts, SaysNothing, place_of_active, place_of_live}
 use Rattle.batch_record.specs.Telling.{Tale, Listed, Live, in_state, is_at, led_by, listed_after, live_after, moved_at, said_by, empty_tale, tale_after}
 
@@ -42,14 +42,14 @@ module _ (line : List ℕ) (out : Out) (named : IsNamed out) (text : IsLineOf ou
 
   out-taken : (tale : Tale) → stage_after (whole_tale tale) line ≡ Some (whole_tale (tale_after tale out))
   out-taken tale =
-      ap (λ b. elim b [ true ↦ Some (stage_marked (whole_tale tale) (mark_of line)) | false ↦ option_map (stage_told (whole_tale tale)) (out_of_line line) ]) (passed-by (is_passed_over line) refl)
-      ∙ ap (option_map (stage_told (whole_tale tale))) (line-back line out named text)
+      ap (λ b. elim b [ true ↦ Some (stage_after_mark (whole_tale tale) (mark_of line)) | false ↦ option_map (stage_after_out (whole_tale tale)) (out_of_line line) ]) (passed-by (is_passed_over line) refl)
+      ∙ ap (option_map (stage_after_out (whole_tale tale))) (line-back line out named text)
       ∙ ap (λ t. Some (whole_tale t)) (seen tale out)
 
 nothing-said : (line : List ℕ) (tale : Tale) → SaysNothing line → stage_after (whole_tale tale) line ≡ Some (whole_tale tale)
 nothing-said line tale h =
-    ap (λ b. elim b [ true ↦ Some (stage_marked (whole_tale tale) (mark_of line)) | false ↦ option_map (stage_told (whole_tale tale)) (out_of_line line) ]) h.0
-    ∙ ap (λ mark. Some (stage_marked (whole_tale tale) mark)) h.1
+    ap (λ b. elim b [ true ↦ Some (stage_after_mark (whole_tale tale) (mark_of line)) | false ↦ option_map (stage_after_out (whole_tale tale)) (out_of_line line) ]) h.0
+    ∙ ap (λ mark. Some (stage_after_mark (whole_tale tale) mark)) h.1
 
 goes-on : (stage next : Stage) (line : List ℕ) (lines : List (List ℕ)) → stage_after stage line ≡ Some next → stages stage (line ∷ lines) ≡ stages next lines
 goes-on stage next line lines e = ap (λ o. elim o [ None ↦ None | Some mid ↦ stages mid lines ]) e

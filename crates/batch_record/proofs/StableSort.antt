@@ -13,8 +13,8 @@ use Rattle.batch_recipe.specs.Conditions.{Name, same_name}
 use Rattle.batch_model.specs.Plant.{BatchAct, is_same_act}
 use Rattle.batch_model.specs.Rest.{same_place}
 use Rattle.batch_record.proofs.LivePhases.{filtered}
-use Rattle.batch_record.specs.Kept.{kept_claim, kept_share, shares_kept, kept_live, lives_of}
-use Rattle.batch_record.specs.Listing.{ResourceShare, act_cmp, holder_cmp, waiter_cmp, live_cmp, name_cmp, of_act, on_unit}
+use Rattle.batch_record.specs.Kept.{kept_claim, kept_share, shares_of_resource, kept_live, lives_of}
+use Rattle.batch_record.specs.Listing.{NamedClaim, act_cmp, holder_cmp, waiter_cmp, live_cmp, name_cmp, of_act, on_unit}
 use Rattle.batch_record.specs.Telling.{Live}
 use Rattle.batch_record.specs.declared.live.LivePhase.{LivePhase}
 use Rattle.batch_record.specs.declared.standing.Kept.{Kept}
@@ -73,10 +73,10 @@ act_total : IsTotalOrder act_cmp
 act_total = then_total (on_total (λ (act : BatchAct). act.0) nat_cmp_total) (on_total (λ (act : BatchAct). act.1) nat_list_cmp_total)
 
 pub holder_total : IsTotalOrder holder_cmp
-holder_total = then_total (on_total (λ (claim : ResourceShare). claim.0) nat_list_cmp_total) (on_total (λ (claim : ResourceShare). claim.1.act) act_total)
+holder_total = then_total (on_total (λ (claim : NamedClaim). claim.0) nat_list_cmp_total) (on_total (λ (claim : NamedClaim). claim.1.act) act_total)
 
 pub waiter_total : IsTotalOrder waiter_cmp
-waiter_total = on_total (λ (claim : ResourceShare). claim.0) nat_list_cmp_total
+waiter_total = on_total (λ (claim : NamedClaim). claim.0) nat_list_cmp_total
 
 pub live_total : IsTotalOrder live_cmp
 live_total = then_total (on_total (λ (live : Live). live.unit) nat_list_cmp_total) (on_total (λ (live : Live). live.name) nat_list_cmp_total)
@@ -89,18 +89,18 @@ same-act act other =
 
 -- The shares at a resource, and of an act, before and after
 
-pub at-resource : (xs ys : List Kept) → IsStableBy (is_before kept_claim waiter_cmp) xs ys → (resource : Name) → shares_kept resource ys ≡ shares_kept resource xs
+pub at-resource : (xs ys : List Kept) → IsStableBy (is_before kept_claim waiter_cmp) xs ys → (resource : Name) → shares_of_resource resource ys ≡ shares_of_resource resource xs
 at-resource xs ys h resource =
     ap (map kept_share) (found-again kept_claim waiter_cmp waiter_total xs ys h (record { resource = resource; batch = 0; place = []; units = 0 }) (λ k. same_name resource k.resource) (λ k. texts_ties resource k.resource))
 
 of-act : (resource : Name) (act : BatchAct) (xs : List Kept)
-    → of_act act (shares_kept resource xs) ≡ map kept_share (filter (λ k. same_name resource k.resource && is_same_act act (k.batch, k.place)) xs)
+    → of_act act (shares_of_resource resource xs) ≡ map kept_share (filter (λ k. same_name resource k.resource && is_same_act act (k.batch, k.place)) xs)
 of-act resource act xs =
     sym (filtered kept_share (λ k. is_same_act act (k.batch, k.place)) (λ share. is_same_act act share.act) (λ k. refl) (filter (λ k. same_name resource k.resource) xs))
     ∙ ap (map kept_share) (both-filter (λ k. same_name resource k.resource) (λ k. is_same_act act (k.batch, k.place)) xs)
 
 pub at-act : (xs ys : List Kept) → IsStableBy (is_before kept_claim holder_cmp) xs ys → (resource : Name) (act : BatchAct)
-    → of_act act (shares_kept resource ys) ≡ of_act act (shares_kept resource xs)
+    → of_act act (shares_of_resource resource ys) ≡ of_act act (shares_of_resource resource xs)
 at-act xs ys h resource act =
     of-act resource act ys
     ∙ ap (map kept_share) (found-again kept_claim holder_cmp holder_total xs ys h (record { resource = resource; batch = act.0; place = act.1; units = 0 })
@@ -122,7 +122,7 @@ on-unit xs ys h unit name =
 
 -- A sort that compares so
 
-pub kept-back : ResourceShare → Kept
+pub kept-back : NamedClaim → Kept
 kept-back claim = record { resource = claim.0; batch = claim.1.act.0; place = claim.1.act.1; units = claim.1.units }
 
 pub live-back : Live → LivePhase

@@ -7,7 +7,7 @@ use Rattle.std.specs.Map.{keys_of}
 use Rattle.std.specs.Ordering.{is_eq, nat_cmp}
 use Rattle.batch_recipe.specs.Conditions.{Name, same_name}
 use Rattle.batch_model.specs.Plant.{BatchAct}
-use Rattle.batch_record.specs.Kept.{Keeps, kept_claims, entry_row, listed_of, lives_of, listed_rows, kept_share, shares_kept}
+use Rattle.batch_record.specs.Kept.{Keeps, kept_claims, entry_row, listed_of, lives_of, listed_rows, kept_share, shares_of_resource}
 use Rattle.batch_record.specs.Listing.{AreRowsOf, Rows, holder_cmp, live_cmp, of_act, on_unit, shares_in, waiter_cmp}
 use Rattle.batch_record.specs.Telling.{Tale}
 use Rattle.batch_record.specs.declared.batches.Batch.{Batch}
@@ -16,12 +16,12 @@ use Rattle.batch_record.specs.declared.standing.Kept.{Kept}
 use Rattle.batch_record.specs.declared.status.Status.{Status}
 
 module _ (r : Name) where
-  in_more : (x : Kept) (xs : List Kept) (b : Bool) → same_name r x.resource ≡ b → shares_in r (kept_claims xs) ≡ shares_kept r xs
-      → shares_in r (kept_claims (x ∷ xs)) ≡ shares_kept r (x ∷ xs)
+  in_more : (x : Kept) (xs : List Kept) (b : Bool) → same_name r x.resource ≡ b → shares_in r (kept_claims xs) ≡ shares_of_resource r xs
+      → shares_in r (kept_claims (x ∷ xs)) ≡ shares_of_resource r (x ∷ xs)
   in_more x xs true e h = rw e (ap (λ ss. kept_share x ∷ ss) h)
   in_more x xs false e h = rw e h
 
-  claims-in : (xs : List Kept) → shares_in r (kept_claims xs) ≡ shares_kept r xs
+  claims-in : (xs : List Kept) → shares_in r (kept_claims xs) ≡ shares_of_resource r xs
   claims-in [] = refl
   claims-in (x ∷ xs) = in_more x xs (same_name r x.resource) refl (claims-in xs)
 
@@ -42,9 +42,9 @@ pub record IsInOrder (old new : Status) : Type 0 where
   pub batches_stay : new.batches ≡ old.batches
   pub batches_rise : IsStrictlySortedBy nat_cmp (keys_of (listed_rows new.batches))
   pub holders_rise : IsSorted holder_cmp (kept_claims new.holders.shares.items)
-  pub holders : (resource : Name) (act : BatchAct) → of_act act (shares_kept resource new.holders.shares.items) ≡ of_act act (shares_kept resource old.holders.shares.items)
+  pub holders : (resource : Name) (act : BatchAct) → of_act act (shares_of_resource resource new.holders.shares.items) ≡ of_act act (shares_of_resource resource old.holders.shares.items)
   pub waiters_rise : IsSorted waiter_cmp (kept_claims new.waiters.shares.items)
-  pub waiters : (resource : Name) → shares_kept resource new.waiters.shares.items ≡ shares_kept resource old.waiters.shares.items
+  pub waiters : (resource : Name) → shares_of_resource resource new.waiters.shares.items ≡ shares_of_resource resource old.waiters.shares.items
   pub live_rise : IsSorted live_cmp (lives_of new.live.phases.items)
   pub live : (unit name : Name) → on_unit unit name (lives_of new.live.phases.items) ≡ on_unit unit name (lives_of old.live.phases.items)
 

@@ -19,7 +19,7 @@ use Rattle.batch_model.specs.Events.{Refusal, unknown_recipe, unknown_batch, com
 use Rattle.batch_wire.specs.EventLine.{command_of, word_of_report, is_role_pair}
 use Rattle.batch_wire.specs.RecordText.{state_text, command_text, report_text, need_text, value_texts, role_texts, refusal_words, out_words}
 use Rattle.batch_record.specs.Naming.{IsShort, IsAct, IsClaim, IsPhaseStep, IsNamed, IsNamedRefusal, as_told}
-use Rattle.batch_record.specs.RecordLine.{is_plain_number, is_plain_place, is_plain_value, need_of_word, state_of_word, claim_with, claim_told_of, ClaimTold, passed_with, passed_of, batch_state_with, batch_state_of, removed_of, ReportTold, report_with, report_told_of, PhaseTold, phase_with, sent_with, sent_of, started_with, started_of, begun_of, ended_of, CreatedTold, created_of, because, formula_refusal_of, left_out_of, state_alone, code_alone, refusal_of_words, ask_out, grant_out, release_out, pass_out, state_out, order_out, report_out, send_out, start_out, begin_out, end_out, created_out, refused_out, order_of_words, ok_of, other_of, out_of_words}
+use Rattle.batch_record.specs.RecordLine.{is_plain_number, is_plain_place, is_plain_value, need_of_word, state_of_word, claim_with, claim_told_of, ClaimTold, passed_with, passed_of, batch_state_with, batch_state_of, removed_of, ReportTold, report_with, report_told_of, PhaseTold, phase_with, sent_with, sent_of, started_with, started_of, begun_of, ended_of, CreatedTold, created_of, because, formula_refusal_of_words, left_out_of, state_alone, code_alone, refusal_of_words, asked_out, granted_out, released_out, passed_out, stated_out, obeyed_out, report_out, sent_out, started_out, begun_out, ended_out, created_out, refused_out, order_of_words, ok_of, other_of, out_of_words}
 use Rattle.batch_record.proofs.Numerals.{written-again}
 use Rattle.batch_record.proofs.Places.{place-written, place-is}
 use Rattle.batch_record.proofs.WordRoundTrips.{chosen, nothing, same, tested, is_word, state-written, command-written, report-written, name-is, need-written, NeedIs, values-written, roles-written}
@@ -54,7 +54,7 @@ claim-is (a ∷ b ∷ d ∷ f ∷ more) c e = nothing (ClaimIs (a ∷ b ∷ d �
 
 -- the same, and the place that follows the first
 record PassedIs (words : List (List ℕ)) (t : ClaimTold × Place) : Type 0 where
-  is : IsNamed (pass_out t)
+  is : IsNamed (passed_out t)
   text : decimal t.0.batch ∷ place_text t.0.place ∷ place_text t.1 ∷ need_text t.0.need ∷ [] ≡ words
 
 passed_with-is : (batch place to word : List ℕ) (r : Option ClaimTold) → ((c : ClaimTold) → r ≡ Some c → ClaimIs (batch ∷ place ∷ word ∷ []) c) → (t : ClaimTold × Place)
@@ -196,7 +196,7 @@ sent-is (batch ∷ place ∷ unit ∷ name ∷ word ∷ []) t e =
 sent-is (a ∷ b ∷ c ∷ d ∷ f ∷ g ∷ more) t e = nothing (SentIs (a ∷ b ∷ c ∷ d ∷ f ∷ g ∷ more)) t e
 
 record StartedIs (words : List (List ℕ)) (t : PhaseTold × ValueList) : Type 0 where
-  is : IsNamed (start_out t)
+  is : IsNamed (started_out t)
   text : decimal t.0.batch ∷ place_text t.0.place ∷ t.0.unit ∷ t.0.name ∷ value_texts t.1 ≡ words
 
 started_with-is : (batch place unit name : List ℕ) (values : List (List ℕ)) (r : Option PhaseTold) → ((x : PhaseTold) → r ≡ Some x → PhaseIs batch place unit name x)
@@ -223,7 +223,7 @@ started-is (batch ∷ place ∷ unit ∷ name ∷ values) t e =
 -- Acts
 
 record BegunIs (words : List (List ℕ)) (t : ℕ × Place × List ℕ) : Type 0 where
-  is : IsNamed (begin_out t)
+  is : IsNamed (begun_out t)
   text : decimal t.0 ∷ place_text t.1 ∷ t.2 ∷ [] ≡ words
 
 begun-is : (words : List (List ℕ)) (t : ℕ × Place × List ℕ) → begun_of words ≡ Some t → BegunIs words t
@@ -240,7 +240,7 @@ begun-is (batch ∷ place ∷ name ∷ []) t e =
 begun-is (a ∷ b ∷ c ∷ d ∷ more) t e = nothing (BegunIs (a ∷ b ∷ c ∷ d ∷ more)) t e
 
 record EndedIs (words : List (List ℕ)) (t : ℕ × Place) : Type 0 where
-  is : IsNamed (end_out t)
+  is : IsNamed (ended_out t)
   text : decimal t.0 ∷ place_text t.1 ∷ [] ≡ words
 
 ended-is : (words : List (List ℕ)) (t : ℕ × Place) → ended_of words ≡ Some t → EndedIs words t
@@ -307,7 +307,7 @@ because-is word words why h None k other e = nothing (RefusalIs (word ∷ words)
 because-is word words why h (Some s) k other e =
     subst (RefusalIs (word ∷ words)) (same (why s) other e) (record { is = (h s).0; text = (h s).1 ∙ ap (λ ws. word ∷ ws) (k s refl) })
 
-formula-is : (words : List (List ℕ)) → ReadsRefusal (codes "E7" ∷ words) (formula_refusal_of words)
+formula-is : (words : List (List ℕ)) → ReadsRefusal (codes "E7" ∷ words) (formula_refusal_of_words words)
 formula-is [] why e = nothing (RefusalIs (codes "E7" ∷ [])) why e
 formula-is (cause ∷ []) why e =
     let (first, is) = tested (bytes_eq cause (codes "F1")) _ why e in
@@ -375,7 +375,7 @@ claim-kind word words f named text whole =
 order-is : (first : List ℕ) (words : List (List ℕ)) (r : Option Command) → ((c : Command) → r ≡ Some c → command_text c ≡ first) → Sound (codes "ok" ∷ first ∷ words) (order_of_words r words)
 order-is first words None h = λ out e. nothing (TellsWords (codes "ok" ∷ first ∷ words)) out e
 order-is first words (Some c) h =
-    mapped (codes "ok" ∷ first ∷ words) (order_out c) (batch_state_of words)
+    mapped (codes "ok" ∷ first ∷ words) (obeyed_out c) (batch_state_of words)
     (λ b e. let is = batch-is words b e in record { named = is.0; text = ap (λ ws. codes "ok" ∷ command_text c ∷ ws) (is.1) ∙ ap (λ w. codes "ok" ∷ w ∷ words) (h c refl); whole = refl })
 
 ok-is : (words : List (List ℕ)) → Sound (codes "ok" ∷ words) (ok_of words)
@@ -394,13 +394,13 @@ other-is : (first : List ℕ) (words : List (List ℕ)) → Sound (first ∷ wor
 other-is first words =
     let into = λ (ws : List (List ℕ)). ws in
     kind into first (codes "begin") words _ _
-    (mapped (codes "begin" ∷ words) begin_out (begun_of words) (λ t e. let is = begun-is words t e in record { named = is.is; text = ap (λ ws. codes "begin" ∷ ws) is.text; whole = refl }))
+    (mapped (codes "begin" ∷ words) begun_out (begun_of words) (λ t e. let is = begun-is words t e in record { named = is.is; text = ap (λ ws. codes "begin" ∷ ws) is.text; whole = refl }))
     (kind into first (codes "end") words _ _
-    (mapped (codes "end" ∷ words) end_out (ended_of words) (λ t e. let is = ended-is words t e in record { named = is.is; text = ap (λ ws. codes "end" ∷ ws) is.text; whole = refl }))
+    (mapped (codes "end" ∷ words) ended_out (ended_of words) (λ t e. let is = ended-is words t e in record { named = is.is; text = ap (λ ws. codes "end" ∷ ws) is.text; whole = refl }))
     (kind into first (codes "send") words _ _
-    (mapped (codes "send" ∷ words) send_out (sent_of words) (λ t e. let is = sent-is words t e in record { named = is.is; text = ap (λ ws. codes "send" ∷ ws) is.text; whole = refl }))
+    (mapped (codes "send" ∷ words) sent_out (sent_of words) (λ t e. let is = sent-is words t e in record { named = is.is; text = ap (λ ws. codes "send" ∷ ws) is.text; whole = refl }))
     (kind into first (codes "start") words _ _
-    (mapped (codes "start" ∷ words) start_out (started_of words) (λ t e. let is = started-is words t e in record { named = is.is; text = ap (λ ws. codes "start" ∷ ws) is.text; whole = refl }))
+    (mapped (codes "start" ∷ words) started_out (started_of words) (λ t e. let is = started-is words t e in record { named = is.is; text = ap (λ ws. codes "start" ∷ ws) is.text; whole = refl }))
     (kind into first (codes "created") words _ _
     (mapped (codes "created" ∷ words) created_out (created_of words) (λ t e. let is = created-is words t e in record { named = is.is; text = ap (λ ws. codes "created" ∷ ws) is.text; whole = refl }))
     (kind into first (codes "refused") words _ _
@@ -411,12 +411,12 @@ pub words-tell : (words : List (List ℕ)) → Sound words (out_of_words words)
 words-tell [] = λ out e. nothing (TellsWords []) out e
 words-tell (first ∷ words) =
     let into = λ (ws : List (List ℕ)). ws in
-    kind into first (codes "grant") words _ _ (claim-kind (codes "grant") words grant_out (λ c h. h) (λ c. refl) (λ c. refl))
-    (kind into first (codes "ask") words _ _ (claim-kind (codes "ask") words ask_out (λ c h. h) (λ c. refl) (λ c. refl))
-    (kind into first (codes "release") words _ _ (claim-kind (codes "release") words release_out (λ c h. h) (λ c. refl) (λ c. refl))
+    kind into first (codes "grant") words _ _ (claim-kind (codes "grant") words granted_out (λ c h. h) (λ c. refl) (λ c. refl))
+    (kind into first (codes "ask") words _ _ (claim-kind (codes "ask") words asked_out (λ c h. h) (λ c. refl) (λ c. refl))
+    (kind into first (codes "release") words _ _ (claim-kind (codes "release") words released_out (λ c h. h) (λ c. refl) (λ c. refl))
     (kind into first (codes "pass") words _ _
-    (mapped (codes "pass" ∷ words) pass_out (passed_of words) (λ t e. let is = passed-is words t e in record { named = is.is; text = ap (λ ws. codes "pass" ∷ ws) is.text; whole = refl }))
+    (mapped (codes "pass" ∷ words) passed_out (passed_of words) (λ t e. let is = passed-is words t e in record { named = is.is; text = ap (λ ws. codes "pass" ∷ ws) is.text; whole = refl }))
     (kind into first (codes "ok") words _ _ (ok-is words)
     (kind into first (codes "state") words _ _
-    (mapped (codes "state" ∷ words) state_out (batch_state_of words) (λ b e. let is = batch-is words b e in record { named = is.0; text = ap (λ ws. codes "state" ∷ ws) (is.1); whole = refl }))
+    (mapped (codes "state" ∷ words) stated_out (batch_state_of words) (λ b e. let is = batch-is words b e in record { named = is.0; text = ap (λ ws. codes "state" ∷ ws) (is.1); whole = refl }))
     (other-is first words))))))

@@ -112,20 +112,20 @@ abbrev pub opening_stage : Stage
 opening_stage = record { tale = empty_tale; block = None }
 
 -- a block begins with the empty state, and at its end the state by it replaces the one before
-abbrev pub stage_marked : Stage → Option Mark → Stage
-stage_marked stage (Some begins) = record { tale = stage.tale; block = Some empty_tale }
-stage_marked stage (Some (row r)) = record { tale = stage.tale; block = option_map (λ tale. tale_with tale r) stage.block }
-stage_marked stage (Some ends) = record { tale = elim stage.block [ None ↦ stage.tale | Some tale ↦ tale ]; block = None }
-stage_marked stage None = stage
+abbrev pub stage_after_mark : Stage → Option Mark → Stage
+stage_after_mark stage (Some begins) = record { tale = stage.tale; block = Some empty_tale }
+stage_after_mark stage (Some (row r)) = record { tale = stage.tale; block = option_map (λ tale. tale_with tale r) stage.block }
+stage_after_mark stage (Some ends) = record { tale = elim stage.block [ None ↦ stage.tale | Some tale ↦ tale ]; block = None }
+stage_after_mark stage None = stage
 
 -- an out ends a block, which then has no effect
-abbrev pub stage_told : Stage → Out → Stage
-stage_told stage out = record { tale = tale_after stage.tale out; block = None }
+abbrev pub stage_after_out : Stage → Out → Stage
+stage_after_out stage out = record { tale = tale_after stage.tale out; block = None }
 
 -- the stage after a line more, or None if it is no line of a record
 abbrev pub stage_after : Stage → List ℕ → Option Stage
 stage_after stage line =
-    elim (is_passed_over line) [ true ↦ Some (stage_marked stage (mark_of line)) | false ↦ option_map (stage_told stage) (out_of_line line) ]
+    elim (is_passed_over line) [ true ↦ Some (stage_after_mark stage (mark_of line)) | false ↦ option_map (stage_after_out stage) (out_of_line line) ]
 
 abbrev pub stages : Stage → List (List ℕ) → Option Stage
 stages stage [] = Some stage

@@ -13,7 +13,7 @@ use Rattle.batch_model.specs.Records.{shares_without_batch, holders_after, waite
 use Rattle.batch_model.specs.Runs.{Out}
 use Rattle.batch_record.specs.RecordLine.{ClaimTold, PhaseTold}
 use Rattle.batch_record.specs.Telling.{Listed, Live, Tale, led_by, listed_after, live_after, said_by, state_told_to}
-use Rattle.batch_record.specs.Listing.{ResourceShare}
+use Rattle.batch_record.specs.Listing.{NamedClaim}
 use Rattle.batch_record.specs.declared.standing.Kept.{Kept}
 use Rattle.batch_record.specs.declared.live.Change.{Change}
 use Rattle.batch_record.specs.declared.live.LivePhase.{LivePhase}
@@ -30,14 +30,14 @@ abbrev pub kept_share : Kept → Model.Share
 kept_share kept = record { act = kept_act kept; units = kept.units }
 
 -- the shares of a resource, in the order in which they came
-abbrev pub shares_kept : Name → List Kept → List Model.Share
-shares_kept resource kept = map kept_share (filter (λ k. same_name resource k.resource) kept)
+abbrev pub shares_of_resource : Name → List Kept → List Model.Share
+shares_of_resource resource kept = map kept_share (filter (λ k. same_name resource k.resource) kept)
 
 -- the share with its resource
-abbrev pub kept_claim : Kept → ResourceShare
+abbrev pub kept_claim : Kept → NamedClaim
 kept_claim kept = (kept.resource, kept_share kept)
 
-abbrev pub kept_claims : List Kept → List ResourceShare
+abbrev pub kept_claims : List Kept → List NamedClaim
 kept_claims kept = map kept_claim kept
 
 -- it isn't the act's share of the resource
@@ -46,26 +46,27 @@ is_other resource act kept = not (same_name resource kept.resource && is_same_ac
 
 -- at each resource the shares became those of its holders after the out
 abbrev pub HoldersAfter : List Kept → Out → List Kept → Type 0
-HoldersAfter old out new = (resource : Name) → shares_kept resource new ≡ holders_after resource (shares_kept resource old) out
+HoldersAfter old out new = (resource : Name) → shares_of_resource resource new ≡ holders_after resource (shares_of_resource resource old) out
 
 -- at each resource the shares became those of its waiting acts after the out
 abbrev pub WaitersAfter : List Kept → Out → List Kept → Type 0
-WaitersAfter old out new = (resource : Name) → shares_kept resource new ≡ waiters_after resource (shares_kept resource old) out
+WaitersAfter old out new = (resource : Name) → shares_of_resource resource new ≡ waiters_after resource (shares_of_resource resource old) out
 
--- a share joined at its resource, after the others, or left there
-abbrev pub AddsShare : List Kept → ClaimTold → List Kept → Type 0
-AddsShare old claim new = (resource : Name) → shares_kept resource new ≡ with_share resource (claim.batch, claim.place) claim.need (shares_kept resource old)
+-- the claim's share stands last at its resource
+abbrev pub ShareJoins : List Kept → ClaimTold → List Kept → Type 0
+ShareJoins old claim new = (resource : Name) → shares_of_resource resource new ≡ with_share resource (claim.batch, claim.place) claim.need (shares_of_resource resource old)
 
+-- it is there no more
 abbrev pub Leaves : List Kept → ClaimTold → List Kept → Type 0
-Leaves old claim new = (resource : Name) → shares_kept resource new ≡ without_share resource (claim.batch, claim.place) claim.need (shares_kept resource old)
+Leaves old claim new = (resource : Name) → shares_of_resource resource new ≡ without_share resource (claim.batch, claim.place) claim.need (shares_of_resource resource old)
 
 -- it left at its place and joined at the other
 abbrev pub Passes : List Kept → ClaimTold × Place → List Kept → Type 0
-Passes old told new = (resource : Name) → shares_kept resource new
-    ≡ with_share resource (told.0.batch, told.1) told.0.need (without_share resource (told.0.batch, told.0.place) told.0.need (shares_kept resource old))
+Passes old told new = (resource : Name) → shares_of_resource resource new
+    ≡ with_share resource (told.0.batch, told.1) told.0.need (without_share resource (told.0.batch, told.0.place) told.0.need (shares_of_resource resource old))
 
 abbrev pub BatchLeaves : ℕ → List Kept → List Kept → Type 0
-BatchLeaves batch old new = (resource : Name) → shares_kept resource new ≡ shares_without_batch batch (shares_kept resource old)
+BatchLeaves batch old new = (resource : Name) → shares_of_resource resource new ≡ shares_without_batch batch (shares_of_resource resource old)
 
 -- if the command is stop or abort, the batch's shares leave
 abbrev pub LeavesAt : Command → ℕ → List Kept → List Kept → Type 0
@@ -119,8 +120,8 @@ abbrev pub ListsBatch : Batches → ℕ → Listed → Batches → Type 0
 ListsBatch old batch listed new = (number : ℕ) → listed_in new number ≡ elim (nat_eq batch number) [ true ↦ Some listed | false ↦ listed_in old number ]
 
 -- it isn't listed any more
-abbrev pub Unlists : Batches → ℕ → Batches → Type 0
-Unlists old batch new = (number : ℕ) → listed_in new number ≡ elim (nat_eq batch number) [ true ↦ None | false ↦ listed_in old number ]
+abbrev pub UnlistsBatch : Batches → ℕ → Batches → Type 0
+UnlistsBatch old batch new = (number : ℕ) → listed_in new number ≡ elim (nat_eq batch number) [ true ↦ None | false ↦ listed_in old number ]
 
 -- if it is listed, it has this state from now on
 abbrev pub TellsState : Batches → ℕ → State → Batches → Type 0
@@ -133,7 +134,7 @@ BatchesAfter old out new = (number : ℕ) → listed_in new number ≡ listed_af
 
 -- the kept state is that of the record
 pub record Keeps (status : Status) (tale : Tale) : Type 0 where
-  pub holders : (resource : Name) → shares_kept resource status.holders.shares.items ≡ tale.holders resource
-  pub waiters : (resource : Name) → shares_kept resource status.waiters.shares.items ≡ tale.waiters resource
+  pub holders : (resource : Name) → shares_of_resource resource status.holders.shares.items ≡ tale.holders resource
+  pub waiters : (resource : Name) → shares_of_resource resource status.waiters.shares.items ≡ tale.waiters resource
   pub batches : (number : ℕ) → listed_in status.batches number ≡ tale.batches number
   pub live : lives_of status.live.phases.items ≡ tale.live

@@ -11,15 +11,15 @@ use Rattle.batch_model.specs.Plant.{BatchAct, Share, is_same_act}
 use Rattle.batch_wire.specs.RecordText.{state_text}
 use Rattle.batch_record.specs.Telling.{Listed, Live, Tale}
 
--- a share of a resource
-abbrev pub ResourceShare : Type 0
-ResourceShare = Name × Share
+-- an act with the units that it holds or awaits, and the resource's name
+abbrev pub NamedClaim : Type 0
+NamedClaim = Name × Share
 
 -- batches with their numbers, who holds, who waits, and live phases
 pub record Rows : Type 0 where
   pub batches : List (ℕ × Listed)
-  pub holders : List ResourceShare
-  pub waiters : List ResourceShare
+  pub holders : List NamedClaim
+  pub waiters : List NamedClaim
   pub live : List Live
 
 -- Order
@@ -32,17 +32,17 @@ name_cmp = slice_cmp nat_cmp
 abbrev pub act_cmp : BatchAct → BatchAct → Ordering
 act_cmp act other = ordering_then (nat_cmp act.0 other.0) (slice_cmp nat_cmp act.1 other.1)
 
-abbrev pub holder_cmp : ResourceShare → ResourceShare → Ordering
+abbrev pub holder_cmp : NamedClaim → NamedClaim → Ordering
 holder_cmp claim other = ordering_then (name_cmp claim.0 other.0) (act_cmp claim.1.act other.1.act)
 
-abbrev pub waiter_cmp : ResourceShare → ResourceShare → Ordering
+abbrev pub waiter_cmp : NamedClaim → NamedClaim → Ordering
 waiter_cmp claim other = name_cmp claim.0 other.0
 
 abbrev pub live_cmp : Live → Live → Ordering
 live_cmp live other = ordering_then (name_cmp live.unit other.unit) (name_cmp live.name other.name)
 
 -- the shares of a resource
-abbrev pub shares_in : Name → List ResourceShare → List Share
+abbrev pub shares_in : Name → List NamedClaim → List Share
 shares_in resource claims = map (λ claim. claim.1) (filter (λ claim. same_name resource claim.0) claims)
 
 -- those of an act
@@ -70,7 +70,7 @@ pub record AreRowsOf (tale : Tale) (rows : Rows) : Type 0 where
 abbrev pub batch_words : ℕ × Listed → List (List ℕ)
 batch_words row = codes "batch" ∷ decimal row.0 ∷ row.1.recipe ∷ decimal row.1.size ∷ state_text row.1.state ∷ []
 
-abbrev pub claim_words : List ℕ → ResourceShare → List (List ℕ)
+abbrev pub claim_words : List ℕ → NamedClaim → List (List ℕ)
 claim_words word claim = word ∷ claim.0 ∷ decimal claim.1.act.0 ∷ place_text claim.1.act.1 ∷ decimal claim.1.units ∷ []
 
 abbrev pub live_words : Live → List (List ℕ)

@@ -39,9 +39,9 @@ colour_text hue =
 
 -- the title of a bar of a batch
 
-abbrev pub holding_verb : Bool → List ℕ
-holding_verb true = codes "waits for"
-holding_verb false = codes "holds"
+abbrev pub claim_verb : Bool → List ℕ
+claim_verb true = codes "waits for"
+claim_verb false = codes "holds"
 
 abbrev pub hatching : Bool → List ℕ
 hatching true = codes "url(#waits)"
@@ -49,7 +49,7 @@ hatching false = codes "none"
 
 abbrev pub title_text : Block → List ℕ
 title_text block =
-    codes "<g><title>" ++ (decimal block.batch ++ (codes " " ++ (holding_verb block.waits ++ (codes " " ++ (decimal block.units ++ (codes " of " ++ (block.resource ++ (codes " at " ++ (string_bytes block.place ++ codes "</title>")))))))))
+    codes "<g><title>" ++ (decimal block.batch ++ (codes " " ++ (claim_verb block.waits ++ (codes " " ++ (decimal block.units ++ (codes " of " ++ (block.resource ++ (codes " at " ++ (string_bytes block.place ++ codes "</title>")))))))))
 
 -- its colour
 abbrev pub area_text : Block → List ℕ

@@ -26,15 +26,15 @@ LinesTellTheirOuts =
     (outs : List Out) (lines : List (List ℕ)) → AreLinesOf outs lines → stages opening_stage lines ≡ Some (record { tale = tale_told outs; block = None })
 
 -- a live phase, without its state
-pub record LivePlace : Type 0 where
+pub record LiveStep : Type 0 where
   pub act : BatchAct
   pub unit : Name
   pub name : Name
 
-abbrev pub place_of_live : Live → LivePlace
+abbrev pub place_of_live : Live → LiveStep
 place_of_live live = record { act = live.act; unit = live.unit; name = live.name }
 
-abbrev pub place_of_active : Active → LivePlace
+abbrev pub place_of_active : Active → LiveStep
 place_of_active active = record { act = active.act; unit = active.phase.unit; name = active.phase.name }
 
 -- the holders, the waiting acts, the live phases and the states of batches are those in the definitions of a safe record

@@ -1,7 +1,7 @@
 //! The listed batches, by the lines of a record.
 ghost use Rattle.std.specs.Prelude.{◌≡◌, ℕ, None, OnOk};
 ghost use Rattle.batch_record.specs.Reading.{out_told};
-ghost use Rattle.batch_record.specs.Kept.{BatchesAfter, ListsBatch, TellsState, Unlists, listed_in, listed_of};
+ghost use Rattle.batch_record.specs.Kept.{BatchesAfter, ListsBatch, TellsState, UnlistsBatch, listed_in, listed_of};
 
 use crate::memory::{NoMemory, read_name};
 use crate::told::Told;
@@ -106,7 +106,7 @@ impl Batches {
     }
 
     fn remove(&mut self, number: u64)
-        ensures { Unlists self.old number self.new }
+        ensures { UnlistsBatch self.old number self.new }
     {
         self.listed.remove(&number);
     }

@@ -1,7 +1,7 @@
 //! A record's lines, one after the other, with the recovery blocks in it.
 ghost use Rattle.std.specs.Prelude.{◌≡◌, Some, OnOk, option_map};
 ghost use Rattle.batch_record.specs.Reading.{out_told};
-ghost use Rattle.batch_record.specs.Blocks.{Stage, ends, stage_marked, opening_stage, row as row_mark, stage_told as told_more};
+ghost use Rattle.batch_record.specs.Blocks.{Stage, ends, stage_after_mark, opening_stage, row as row_mark, stage_after_out};
 ghost use Rattle.batch_record.specs.Marks.{mark_told, row_told};
 ghost use Rattle.batch_record.specs.Standings.{IsAt, Takes};
 
@@ -61,14 +61,14 @@ impl Course {
     }
 
     fn apply_out(&mut self, alloc: Global, told: Told<'_>) -> Result<(), NoMemory>
-        ensures { OnOk result ((stage : Stage) → IsAt self.old stage → IsAt self.new (told_more stage (out_told told.entry))) }
+        ensures { OnOk result ((stage : Stage) → IsAt self.old stage → IsAt self.new (stage_after_out stage (out_told told.entry))) }
     {
         self.block = None;
         self.status.apply_out(alloc, told)
     }
 
     fn mark(&mut self, alloc: Global, mark: Option<Mark<'_>>) -> Result<(), NoMemory>
-        ensures { OnOk result ((stage : Stage) → IsAt self.old stage → IsAt self.new (stage_marked stage (option_map mark_told mark.entry))) }
+        ensures { OnOk result ((stage : Stage) → IsAt self.old stage → IsAt self.new (stage_after_mark stage (option_map mark_told mark.entry))) }
     {
         match mark {
             Some(Mark::Begins) => self.block = Some(Status::new(alloc)),
@@ -80,7 +80,7 @@ impl Course {
     }
 
     fn list(&mut self, alloc: Global, row: Row<'_>) -> Result<(), NoMemory>
-        ensures { OnOk result ((stage : Stage) → IsAt self.old stage → IsAt self.new (stage_marked stage (Some (row_mark (row_told row.entry))))) }
+        ensures { OnOk result ((stage : Stage) → IsAt self.old stage → IsAt self.new (stage_after_mark stage (Some (row_mark (row_told row.entry))))) }
     {
         match &mut self.block {
             Some(block) => block.list(alloc, row),
@@ -90,7 +90,7 @@ impl Course {
 
     /// The state by the block replaces the one before.
     fn end(&mut self)
-        ensures { (stage : Stage) → IsAt self.old stage → IsAt self.new (stage_marked stage (Some ends)) }
+        ensures { (stage : Stage) → IsAt self.old stage → IsAt self.new (stage_after_mark stage (Some ends)) }
     {
         if let Some(block) = self.block.take() {
             self.status = block;

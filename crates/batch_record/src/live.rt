@@ -2,7 +2,7 @@
 ghost use Rattle.std.specs.Prelude.{◌≡◌, ◌++◌, ◌∷◌, [], filter, map, OnOk};
 ghost use Rattle.batch_model.specs.Records.{ends_phase};
 ghost use Rattle.batch_record.specs.Reading.{out_told, phase_told, report_told, sent_told};
-ghost use Rattle.batch_record.specs.RecordLine.{report_out, send_out};
+ghost use Rattle.batch_record.specs.RecordLine.{report_out, sent_out};
 ghost use Rattle.batch_record.specs.Kept.{changed_by, is_elsewhere, phase_changed, kept_live, live_at_step, lives_of, LiveAfter};
 ghost use Rattle.batch_recipe.specs.Conditions.{Name};
 ghost use Rattle.batch_record.specs.Listing.{live_cmp, on_unit};
@@ -107,7 +107,7 @@ impl LivePhases {
     }
 
     fn send(&mut self, alloc: Global, told: Sent<'_>) -> Result<(), NoMemory>
-        ensures { OnOk result (LiveAfter self.old.phases.items (send_out (sent_told told.entry)) self.new.phases.items) }
+        ensures { OnOk result (LiveAfter self.old.phases.items (sent_out (sent_told told.entry)) self.new.phases.items) }
     {
         let place = read_place(alloc, told.step.place)?;
         self.go_on(told.step.batch, &place, Change::Led(told.command));

@@ -1,9 +1,9 @@
 //! Reading a line of a record.
 ghost use Rattle.std.specs.Prelude.{◌≡◌, ◌∷◌, [], Some, MatchOption};
 ghost use Rattle.batch_wire.specs.EventLine.{word_of_report};
-ghost use Rattle.batch_record.specs.RecordLine.{words_left, need_of_word, state_of_word, claim_told_of, claim_with, batch_state_of, batch_state_with, removed_of, report_told_of, report_with, order_of_words, ok_of, other_of, begun_of, passed_of, passed_with, ended_of, phase_with, sent_of, started_of, created_of, refusal_of_words, code_alone, state_alone, formula_refusal_of, left_out_of, out_of_words, out_of_line};
+ghost use Rattle.batch_record.specs.RecordLine.{words_left, need_of_word, state_of_word, claim_told_of, claim_with, batch_state_of, batch_state_with, removed_of, report_told_of, report_with, order_of_words, ok_of, other_of, begun_of, passed_of, passed_with, ended_of, phase_with, sent_of, started_of, created_of, refusal_of_words, code_alone, state_alone, formula_refusal_of_words, left_out_of, out_of_words, out_of_line};
 ghost use Rattle.batch_record.specs.Laws.{TellsOut, TellsNothing};
-ghost use Rattle.batch_record.specs.Reading.{GivesAsDefined, claim_told, report_told, begun_told, pass_told, ended_told, phase_told, sent_told, started_told, created_told, refusal_told, out_told};
+ghost use Rattle.batch_record.specs.Reading.{GivesAsDefined, claim_told, report_told, begun_told, claim_and_place_told, ended_told, phase_told, sent_told, started_told, created_told, refusal_told, out_told};
 
 use crate::pairs::{are_plain_values, are_role_pairs};
 use crate::told::{
@@ -267,7 +267,7 @@ fn state_alone(word: &[u8], mut others: Words<'_>) -> Option<State>
 }
 
 fn refused_formula<'a>(cause: &'a [u8], mut others: Words<'a>) -> Option<Refused<'a>>
-    ensures { GivesAsDefined refusal_told result (formula_refusal_of (cause.now ∷ words_left others.entry.rest)) }
+    ensures { GivesAsDefined refusal_told result (formula_refusal_of_words (cause.now ∷ words_left others.entry.rest)) }
 {
     let Some(name) = others.next() else {
         return if cause == b"F1".as_slice() {
@@ -331,7 +331,7 @@ fn claim_with<'a>(batch: &'a [u8], place: &'a [u8], need: &'a [u8]) -> Option<Cl
 
 /// A batch, a place, the place of a unit procedure and a need.
 fn read_passed(mut arguments: Words<'_>) -> Option<Passed<'_>>
-    ensures { GivesAsDefined pass_told result (passed_of (words_left arguments.entry.rest)) }
+    ensures { GivesAsDefined claim_and_place_told result (passed_of (words_left arguments.entry.rest)) }
 {
     let batch = arguments.next()?;
     let place = arguments.next()?;
@@ -349,7 +349,7 @@ fn passed_with<'a>(
     to: &'a [u8],
     need: &'a [u8],
 ) -> Option<Passed<'a>>
-    ensures { GivesAsDefined pass_told result (passed_with to.now (claim_with batch.now place.now (need_of_word need.now))) }
+    ensures { GivesAsDefined claim_and_place_told result (passed_with to.now (claim_with batch.now place.now (need_of_word need.now))) }
 {
     let claim = claim_with(batch, place, need)?;
     if is_plain_place(to) {

@@ -1,6 +1,6 @@
 //! The shapes of a picture.
 ghost use Rattle.std.specs.Prelude.{◌≡◌, Some};
-ghost use Rattle.batch_record.specs.Pictures.{anchor_word, area_text, bar_text, colour_text, holding_verb, frame_text, grid_text, hatching, label_text, shape_text, title_text};
+ghost use Rattle.batch_record.specs.Pictures.{anchor_word, area_text, bar_text, colour_text, claim_verb, frame_text, grid_text, hatching, label_text, shape_text, title_text};
 
 use batch_text::Name;
 use std::fmt;
@@ -163,7 +163,7 @@ impl<'a> fmt::Display for Frame<'a> {
 
 /// The verb of a batch that waits or holds.
 fn does(waits: bool) -> &'static str
-    ensures { result.now ≡ holding_verb waits }
+    ensures { result.now ≡ claim_verb waits }
 {
     if waits { "waits for" } else { "holds" }
 }

@@ -4,8 +4,8 @@ ghost use Rattle.std.specs.List.Sorted.{IsSorted};
 ghost use Rattle.batch_recipe.specs.Conditions.{Name};
 ghost use Rattle.batch_model.specs.Plant.{BatchAct};
 ghost use Rattle.batch_record.specs.Listing.{act_cmp, holder_cmp, waiter_cmp, of_act};
-ghost use Rattle.batch_record.specs.Kept.{kept_act, kept_claim, kept_claims, shares_kept, is_other, HoldersAfter, WaitersAfter, AddsShare, Leaves, Passes, BatchLeaves, LeavesAt};
-ghost use Rattle.batch_record.specs.Reading.{out_told, claim_told, pass_told};
+ghost use Rattle.batch_record.specs.Kept.{kept_act, kept_claim, kept_claims, shares_of_resource, is_other, HoldersAfter, WaitersAfter, ShareJoins, Leaves, Passes, BatchLeaves, LeavesAt};
+ghost use Rattle.batch_record.specs.Reading.{out_told, claim_told, claim_and_place_told};
 
 use crate::memory::{NoMemory, read_name, read_place};
 use crate::told::{Claim, Passed, Told};
@@ -49,8 +49,8 @@ impl Standing {
     /// Sorts them by resource, then by the batch's number, then by place.
     pub(crate) fn sort_as_holders(&mut self) -> Result<(), NoMemory>
         ensures sorted { OnOk result (IsSorted holder_cmp (kept_claims self.new.shares.items)) }
-        ensures stable { (resource : Name) (act : BatchAct) → of_act act (shares_kept resource self.new.shares.items)
-            ≡ of_act act (shares_kept resource self.old.shares.items) }
+        ensures stable { (resource : Name) (act : BatchAct) → of_act act (shares_of_resource resource self.new.shares.items)
+            ≡ of_act act (shares_of_resource resource self.old.shares.items) }
     {
         match self
             .shares
@@ -64,7 +64,7 @@ impl Standing {
     /// Sorts them by resource, then as they came.
     pub(crate) fn sort_as_waiters(&mut self) -> Result<(), NoMemory>
         ensures sorted { OnOk result (IsSorted waiter_cmp (kept_claims self.new.shares.items)) }
-        ensures stable { (resource : Name) → shares_kept resource self.new.shares.items ≡ shares_kept resource self.old.shares.items }
+        ensures stable { (resource : Name) → shares_of_resource resource self.new.shares.items ≡ shares_of_resource resource self.old.shares.items }
     {
         match self
             .shares
@@ -161,7 +161,7 @@ impl Standing {
     }
 
     pub(crate) fn claim_joins(&mut self, alloc: Global, claim: Claim<'_>) -> Result<(), NoMemory>
-        ensures ok { OnOk result (AddsShare self.old.shares.items (claim_told claim.entry) self.new.shares.items) }
+        ensures ok { OnOk result (ShareJoins self.old.shares.items (claim_told claim.entry) self.new.shares.items) }
         ensures err { OnErr result (self.new.shares.items ≡ self.old.shares.items) }
     {
         let resource = read_name(alloc, claim.resource)?;
@@ -185,7 +185,7 @@ impl Standing {
     }
 
     fn claim_passes(&mut self, alloc: Global, told: Passed<'_>) -> Result<(), NoMemory>
-        ensures ok { OnOk result (Passes self.old.shares.items (pass_told told.entry) self.new.shares.items) }
+        ensures ok { OnOk result (Passes self.old.shares.items (claim_and_place_told told.entry) self.new.shares.items) }
         ensures err { OnErr result (self.new.shares.items ≡ self.old.shares.items) }
     {
         let claim = told.claim;

@@ -10,16 +10,16 @@ use Rattle.std.specs.Io.KnownBytes.{Keeps, append_known}
 use Rattle.std.specs.List.{list_all, starts_with}
 use Rattle.memchr.specs.Find.{FindsNeedle, IsLastByte, OccursAt, is_byte}
 use Rattle.memchr.proofs.lemmas.MatchLemmas.{OccursAt-from_part, OccursAt-split}
-use Rattle.batch_serve.specs.Held.{is_whole, IsWholeWithoutWant, IsHeldBack, IsPassed, IsUnended, TellsAll, TellsClear}
+use Rattle.batch_serve.specs.Held.{is_whole, IsClearText, IsHeldBack, IsPassed, IsUnended, TellsAll, TellsClear}
 use Rattle.batch_serve.specs.Holding.{StandsFirst, FindsFirst, StopsAt, IsWholeTo, sooner}
-use Rattle.batch_serve.specs.Replays.{HasBytes, ShowsNoWant, IsWholeLines}
+use Rattle.batch_serve.specs.Replays.{ContainsBytes, ShowsNoWant, IsWholeLines}
 use Rattle.batch_serve.specs.RowsOfHeld.{HeldRows}
 use Rattle.batch_serve.proofs.PassedText.{whole_lines, ends_whole, clear_both, passed_more, tells_clear}
 use Rattle.batch_serve.proofs.Replays.{in_front, first_shows, whole_line, whole_then, is_other}
 
 -- A needle
 
-occurs : (text needle : List ℕ) → (has : HasBytes needle text) → OccursAt text needle (length has.front)
+occurs : (text needle : List ℕ) → (has : ContainsBytes needle text) → OccursAt text needle (length has.front)
 occurs text needle has =
     let front = has.front in
     let rest = has.rest in
@@ -29,8 +29,8 @@ occurs text needle has =
     OccursAt-from_part text needle (length front) (omega (arith, size)) part
 
 -- bytes that a prefix of the text contains are in the text
-of_front : (needle text : List ℕ) (at : ℕ) → HasBytes needle (take at text) → HasBytes needle text
-of_front needle text at has = subst (HasBytes needle) (take-append-drop at text) (in_front needle (take at text) (drop at text) has)
+of_front : (needle text : List ℕ) (at : ℕ) → ContainsBytes needle (take at text) → ContainsBytes needle text
+of_front needle text at has = subst (ContainsBytes needle) (take-append-drop at text) (in_front needle (take at text) (drop at text) has)
 
 pub finds_first : (text needle : List ℕ) (found : Option ℕ) → 0 < length needle → FindsNeedle text needle 0 found → FindsFirst needle text found
 finds_first text needle None some finds = λ has. let at = occurs text needle has in finds (length has.front) (omega arith) (omega (arith, at.fits)) at
@@ -49,8 +49,8 @@ finds_first text needle (Some at) some finds = record {
 }
 
 -- in a shorter beginning it isn't either
-not_before : (needle text : List ℕ) (n at : ℕ) → n ≤ at → (HasBytes needle (take at text) → ⊥) → HasBytes needle (take n text) → ⊥
-not_before needle text n at few not has = not (of_front needle (take at text) n (subst (HasBytes needle) (sym (take-take n at text few)) has))
+not_before : (needle text : List ℕ) (n at : ℕ) → n ≤ at → (ContainsBytes needle (take at text) → ⊥) → ContainsBytes needle (take n text) → ⊥
+not_before needle text n at few not has = not (of_front needle (take at text) n (subst (ContainsBytes needle) (sym (take-take n at text few)) has))
 
 -- Where clear text stops
 
@@ -66,13 +66,13 @@ module _ (line text rest : List ℕ) (at n : ℕ) (plain : list_all is_other lin
   longer : take (n - at) (drop at text) ≡ [] → ⊥
   longer none = absurd (omega (arith, past, most, ap length none, length-take (n - at) (drop at text), length-drop at text))
 
-  has_line : IsWholeLines (take n text) → HasBytes (line ++ 10 ∷ []) (take n text)
+  has_line : IsWholeLines (take n text) → ContainsBytes (line ++ 10 ∷ []) (take n text)
   has_line whole = go (whole_then (take n text) (take at text) told behind whole)
     where
       told : List ℕ
       told = take (n - at) (drop at text)
 
-      go : IsWholeLines told → HasBytes (line ++ 10 ∷ []) (take n text)
+      go : IsWholeLines told → ContainsBytes (line ++ 10 ∷ []) (take n text)
       go (inl none) = absurd (longer none)
       go (inr (front, ends)) =
           let found = whole_line line told (drop (n - at) (drop at text)) rest plain front ends
@@ -80,7 +80,7 @@ module _ (line text rest : List ℕ) (at n : ℕ) (plain : list_all is_other lin
           record { front = take at text; rest = found.0; splits = behind ∙ ap (λ l. take at text ++ l) (found.1 ∙ sym (append_assoc line (10 ∷ []) found.0)) }
 
 stops_before : (line text : List ℕ) (at : ℕ) → list_all is_other line ≡ true → StandsFirst (line ++ 10 ∷ []) text at → (n : ℕ) → n ≤ length text → is_whole (take n text) ≡ true
-    → (HasBytes (line ++ 10 ∷ []) (take n text) → ⊥) → n ≤ at
+    → (ContainsBytes (line ++ 10 ∷ []) (take n text) → ⊥) → n ≤ at
 stops_before line text at plain first n most whole shows = go (cases_lt at n)
   where
     go : (at < n) ⊎ (n ≤ at) → n ≤ at
@@ -88,7 +88,7 @@ stops_before line text at plain first n most whole shows = go (cases_lt at n)
     go (inr few) = few
 
 -- at a refusal of an event, if none of a line is before it
-stops_at_event : (text : List ℕ) (at : ℕ) → StandsFirst (codes "refused E11\n") text at → (HasBytes (codes "refused W6\n") (take at text) → ⊥) → StopsAt text at
+stops_at_event : (text : List ℕ) (at : ℕ) → StandsFirst (codes "refused E11\n") text at → (ContainsBytes (codes "refused W6\n") (take at text) → ⊥) → StopsAt text at
 stops_at_event text at first none = record {
   within = first.within;
   shows = record { no_event = first.before; no_line = none };
@@ -96,14 +96,14 @@ stops_at_event text at first none = record {
 }
 
 -- and the other way round
-stops_at_line : (text : List ℕ) (at : ℕ) → StandsFirst (codes "refused W6\n") text at → (HasBytes (codes "refused E11\n") (take at text) → ⊥) → StopsAt text at
+stops_at_line : (text : List ℕ) (at : ℕ) → StandsFirst (codes "refused W6\n") text at → (ContainsBytes (codes "refused E11\n") (take at text) → ⊥) → StopsAt text at
 stops_at_line text at first none = record {
   within = first.within;
   shows = record { no_event = none; no_line = first.before };
   stops = λ n most clear. stops_before (codes "refused W6") text at refl first n most clear.whole clear.shows.no_line;
 }
 
-stops_at_end : (text : List ℕ) → (HasBytes (codes "refused E11\n") text → ⊥) → (HasBytes (codes "refused W6\n") text → ⊥) → StopsAt text (length text)
+stops_at_end : (text : List ℕ) → (ContainsBytes (codes "refused E11\n") text → ⊥) → (ContainsBytes (codes "refused W6\n") text → ⊥) → StopsAt text (length text)
 stops_at_end text no_event no_line = record {
   within = omega arith;
   shows = record { no_event = λ has. no_event (of_front _ text (length text) has); no_line = λ has. no_line (of_front _ text (length text) has) };
@@ -125,11 +125,11 @@ stops_where text (Some at) (Some other) event line = elim (cases_lt other at) [
       subst (StopsAt text) (sym least) (stops_at_event text at event (not_before (codes "refused W6\n") text at other few line.before))
 ]
 
-pub found_none : (needle text : List ℕ) (found : Option ℕ) → FindsFirst needle text found → is_some found ≡ false → HasBytes needle text → ⊥
+pub found_none : (needle text : List ℕ) (found : Option ℕ) → FindsFirst needle text found → is_some found ≡ false → ContainsBytes needle text → ⊥
 found_none needle text None finds none = finds
 found_none needle text (Some at) finds none = let clash : true ≡ false = none in absurd (cc clash)
 
-pub found_some : (needle text : List ℕ) (found : Option ℕ) → FindsFirst needle text found → is_some found ≡ true → HasBytes needle text
+pub found_some : (needle text : List ℕ) (found : Option ℕ) → FindsFirst needle text found → is_some found ≡ true → ContainsBytes needle text
 found_some needle text None finds some = let clash : false ≡ true = some in absurd (cc clash)
 found_some needle text (Some at) finds some = record { front = take at text; rest = drop (at + length needle) text; splits = finds.here }
 
@@ -156,7 +156,7 @@ no_feed [] plain k d lt = absurd (omega (arith, lt))
 no_feed (b ∷ text) plain zero d lt = is_false (b == 10) (and_parts (is_other b) (list_all is_other text) plain).0
 no_feed (b ∷ text) plain (suc k) d lt = no_feed text (and_parts (is_other b) (list_all is_other text) plain).1 k d (omega (arith, lt))
 
-front_is_clear : (text : List ℕ) (at n : ℕ) → StopsAt text at → IsWholeTo (take at text) n → IsWholeWithoutWant (take n text)
+front_is_clear : (text : List ℕ) (at n : ℕ) → StopsAt text at → IsWholeTo (take at text) n → IsClearText (take n text)
 front_is_clear text at n stop whole =
     let start : take n (take at text) ≡ take n text = take-take n at text (omega (arith, whole.within, length-take at text)) in
     record {
@@ -168,7 +168,7 @@ rest_is_held : (text : List ℕ) (at n : ℕ) → StopsAt text at → IsWholeTo 
 rest_is_held text at n stop whole m most clear =
     let front : n ≤ at = omega (arith, whole.within, length-take at text) in
     let first = front_is_clear text at n stop whole in
-    let both : IsWholeWithoutWant (take (n + m) text) = subst IsWholeWithoutWant (sym (take-add n m text)) (clear_both (take n text) (take m (drop n text)) first clear) in
+    let both : IsClearText (take (n + m) text) = subst IsClearText (sym (take-add n m text)) (clear_both (take n text) (take m (drop n text)) first clear) in
     let few : n + m ≤ at = stop.stops (n + m) (omega (arith, most, length-drop n text, front, stop.within)) both in
     let here : take m (drop n (take at text)) ≡ take m (drop n text) = same_part text at n m few in
     let none : take m (drop n (take at text)) ≡ [] =
@@ -277,7 +277,7 @@ stands_at needle (b ∷ text) (x ∷ front) rest is =
     let tail : text ≡ front ++ (needle ++ rest) = cc is in
     or_right (starts_with nat_eq (b ∷ text) needle) (stands needle text) (stands_at needle text front rest tail)
 
-absent : (needle text : List ℕ) → stands needle text ≡ false → HasBytes needle text → ⊥
+absent : (needle text : List ℕ) → stands needle text ≡ false → ContainsBytes needle text → ⊥
 absent needle text none has = let clash : false ≡ true = sym none ∙ stands_at needle text has.front has.rest has.splits in absurd (cc clash)
 
 shows_none : (text : List ℕ) → stands (codes "refused E11\n") text ≡ false → stands (codes "refused W6\n") text ≡ false → ShowsNoWant text
@@ -308,7 +308,7 @@ line_first rest n most clear =
     none_there (x ∷ front) rest is = absurd (cc is)
 
 -- a beginning that is clear isn't held back
-passes : (n : ℕ) (text : List ℕ) → nat_le (suc n) (length text) ≡ true → IsWholeWithoutWant (take (suc n) text) → IsHeldBack text → ⊥
+passes : (n : ℕ) (text : List ℕ) → nat_le (suc n) (length text) ≡ true → IsClearText (take (suc n) text) → IsHeldBack text → ⊥
 passes n text most clear held = let none : suc n ≡ 0 = held (suc n) (leb-true (suc n) (length text) most) clear in absurd (cc none)
 
 pub held_rows : HeldRows

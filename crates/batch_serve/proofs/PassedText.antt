@@ -5,8 +5,8 @@ use Rattle.std.proofs.lemmas.Bool.{eqb-true}
 use Rattle.std.proofs.lemmas.List.{take_all, drop_all, take-append-le, drop-append-le, drop-take, take-take, length-take}
 use Rattle.std.specs.List.{list_all}
 use Rattle.std.specs.Io.KnownBytes.{Appends, Keeps, append_known}
-use Rattle.batch_serve.specs.Held.{is_whole, IsWholeWithoutWant, IsPassed, TellsClear}
-use Rattle.batch_serve.specs.Replays.{HasBytes, IsWholeLines}
+use Rattle.batch_serve.specs.Held.{is_whole, IsClearText, IsPassed, TellsClear}
+use Rattle.batch_serve.specs.Replays.{ContainsBytes, IsWholeLines}
 use Rattle.batch_serve.proofs.Replays.{is_other, whole_line}
 
 -- Whole lines
@@ -39,13 +39,13 @@ ends_whole (x ∷ y ∷ front) = ends_whole (y ∷ front)
 
 -- a line that is contained in whole lines and the text after them is contained in one of the two
 module _ (line : List ℕ) (plain : list_all is_other line ≡ true) where
-  at_front : (a b rest : List ℕ) → IsWholeLines a → (a ≡ [] → ⊥) → a ++ b ≡ (line ++ 10 ∷ []) ++ rest → HasBytes (line ++ 10 ∷ []) a
+  at_front : (a b rest : List ℕ) → IsWholeLines a → (a ≡ [] → ⊥) → a ++ b ≡ (line ++ 10 ∷ []) ++ rest → ContainsBytes (line ++ 10 ∷ []) a
   at_front a b rest (inl none) some is = absurd (some none)
   at_front a b rest (inr (front, ends)) some is =
       let found = whole_line line a b rest plain front ends (is ∙ append_assoc line (10 ∷ []) rest) in
       record { front = []; rest = found.0; splits = found.1 ∙ sym (append_assoc line (10 ∷ []) found.0) }
 
-  across : (a b front rest : List ℕ) → is_whole a ≡ true → a ++ b ≡ front ++ ((line ++ 10 ∷ []) ++ rest) → HasBytes (line ++ 10 ∷ []) a ⊎ HasBytes (line ++ 10 ∷ []) b
+  across : (a b front rest : List ℕ) → is_whole a ≡ true → a ++ b ≡ front ++ ((line ++ 10 ∷ []) ++ rest) → ContainsBytes (line ++ 10 ∷ []) a ⊎ ContainsBytes (line ++ 10 ∷ []) b
   across [] b front rest whole is = inr (record { front = front; rest = rest; splits = is })
   across (x ∷ a) b [] rest whole is = inl (at_front (x ∷ a) b rest (whole_lines (x ∷ a) whole) (λ none. absurd (cc none)) is)
   across (x ∷ a) b (y ∷ front) rest whole is =
@@ -60,13 +60,13 @@ none_there : (needle front rest : List ℕ) (b : ℕ) → [] ≡ front ++ ((b �
 none_there needle [] rest b is = absurd (cc is)
 none_there needle (x ∷ front) rest b is = absurd (cc is)
 
-pub clear_nothing : IsWholeWithoutWant []
+pub clear_nothing : IsClearText []
 clear_nothing = record {
   whole = refl;
   shows = record { no_event = λ has. none_there (codes "efused E11\n") has.front has.rest 114 has.splits; no_line = λ has. none_there (codes "efused W6\n") has.front has.rest 114 has.splits };
 }
 
-pub clear_both : (a b : List ℕ) → IsWholeWithoutWant a → IsWholeWithoutWant b → IsWholeWithoutWant (a ++ b)
+pub clear_both : (a b : List ℕ) → IsClearText a → IsClearText b → IsClearText (a ++ b)
 clear_both a b one other = record {
   whole = whole_both a b one.whole other.whole;
   shows = record {
@@ -85,7 +85,7 @@ passed_first first contents same = record {
   kept = λ held known. ap (option_map (take (length held))) (sym same ∙ known) ∙ ap Some (take_all (length held) held (omega arith));
   clear = λ held all known is.
       let text : all ≡ held = cc (sym is ∙ (sym same ∙ known)) in
-      subst IsWholeWithoutWant (sym (ap (λ l. drop (length held) l ++ []) text ∙ ap (λ l. l ++ []) (drop_all (length held) held (omega arith)))) clear_nothing;
+      subst IsClearText (sym (ap (λ l. drop (length held) l ++ []) text ∙ ap (λ l. l ++ []) (drop_all (length held) held (omega arith)))) clear_nothing;
 }
 
 pub passed_on : (first old new : Option (List ℕ)) (waiting bytes now : List ℕ) → Appends old new bytes → waiting ≡ bytes ++ now → IsPassed first old waiting → IsPassed first new now
@@ -97,17 +97,17 @@ passed_on first (Some x) (Some y) waiting bytes now appends is passed = record {
       ap (λ l. Some (take (length held) l)) appends ∙ ap Some (take-append-le (length held) x bytes (within_of x held (passed.kept held known))) ∙ passed.kept held known;
   clear = λ held all known same.
       let text : y ≡ all = cc same in
-      subst IsWholeWithoutWant
+      subst IsClearText
       (ap (λ l. drop (length held) x ++ l) is ∙ sym (append_assoc (drop (length held) x) bytes now)
       ∙ ap (λ l. l ++ now) (sym (drop-append-le (length held) x bytes (within_of x held (passed.kept held known))))
       ∙ ap (λ l. drop (length held) l ++ now) (sym appends ∙ text)) (passed.clear held x known refl);
 }
 
-pub passed_more : (first contents : Option (List ℕ)) (waiting group now : List ℕ) → IsWholeWithoutWant group → now ≡ waiting ++ group → IsPassed first contents waiting → IsPassed first contents now
+pub passed_more : (first contents : Option (List ℕ)) (waiting group now : List ℕ) → IsClearText group → now ≡ waiting ++ group → IsPassed first contents waiting → IsPassed first contents now
 passed_more first contents waiting group now clear is passed = record {
   kept = passed.kept;
   clear = λ held all known same.
-      subst IsWholeWithoutWant (append_assoc (drop (length held) all) waiting group ∙ ap (λ l. drop (length held) all ++ l) (sym is))
+      subst IsClearText (append_assoc (drop (length held) all) waiting group ∙ ap (λ l. drop (length held) all ++ l) (sym is))
       (clear_both (drop (length held) all ++ waiting) group (passed.clear held all known same) clear);
 }
 

@@ -14,7 +14,7 @@ use Rattle.batch_wire.specs.EventLine.{event_of_line}
 use Rattle.batch_wire.specs.RecordText.{out_text}
 use Rattle.batch_wire.specs.Transcript.{Exchange, handled, followed_by, Answers, Transcript, Handles, Settles}
 use Rattle.batch_wire.specs.declared.fault.WireFault.{WireFault}
-use Rattle.batch_serve.specs.Replays.{AnswersWell, WellServed, ServingAgrees, HasBytes, ShowsNoWant, IsWholeLines, NoWantIsWell, BeginsText, ToldIsRecovered, WantIsNotTold}
+use Rattle.batch_serve.specs.Replays.{AnswersWell, WellServed, ServingAgrees, ContainsBytes, ShowsNoWant, IsWholeLines, NoWantIsWell, BeginsText, ToldIsRecovered, WantIsNotTold}
 
 pub answers_once : (c : Setup) (s : Plant) (says : Result (Option Event) WireFault) (said told : Exchange) (one other : Plant)
     → AnswersWell c s says said one → AnswersWell c s says told other → (said ≡ told) × (one ≡ other)
@@ -33,14 +33,14 @@ serving_agrees c old one other (line ∷ lines) said told (first, others, mid, a
 
 -- Want of memory shows in the text
 
-pub in_front : (needle a b : List ℕ) → HasBytes needle a → HasBytes needle (a ++ b)
+pub in_front : (needle a b : List ℕ) → ContainsBytes needle a → ContainsBytes needle (a ++ b)
 in_front needle a b has = record {
   front = has.front;
   rest = has.rest ++ b;
   splits = ap (λ l. l ++ b) has.splits ∙ append_assoc has.front (needle ++ has.rest) b ∙ ap (λ l. has.front ++ l) (append_assoc needle has.rest b);
 }
 
-behind : (needle a b : List ℕ) → HasBytes needle b → HasBytes needle (a ++ b)
+behind : (needle a b : List ℕ) → ContainsBytes needle b → ContainsBytes needle (a ++ b)
 behind needle a b has = record { front = a ++ has.front; rest = has.rest; splits = ap (λ l. a ++ l) has.splits ∙ sym (append_assoc a has.front (needle ++ has.rest)) }
 
 pub first_shows : (a b : List ℕ) → ShowsNoWant (a ++ b) → ShowsNoWant a
@@ -53,7 +53,7 @@ made : (c : Setup) (old : Plant) (moves : List Move) (new : Plant) → Settles c
 made c old [] new s = (sym s.1, subst (λ (x : Plant). next c x ≡ None) (sym s.1) s.0)
 made c old (m ∷ moves) new s = let on = made c (after_move old m) moves new s.1 in ((s.0, on.0), on.1)
 
-starts_so : (text front rest : List ℕ) → text ≡ front ++ rest → HasBytes front text
+starts_so : (text front rest : List ℕ) → text ≡ front ++ rest → ContainsBytes front text
 starts_so text front rest is = record { front = []; rest = rest; splits = is }
 
 has_memory : (event : Event) (answer : Reply) (moves : List Move) (outs : List Out) → outs ≡ reply answer ∷ map move moves

@@ -10,7 +10,7 @@ is_whole (b ∷ []) = b == 10
 is_whole (b ∷ c ∷ text) = is_whole (c ∷ text)
 
 -- whole lines, none of which is a refusal for want of memory
-pub record IsWholeWithoutWant (text : List ℕ) : Type 0 where
+pub record IsClearText (text : List ℕ) : Type 0 where
   pub whole : is_whole text ≡ true
   pub shows : ShowsNoWant text
 
@@ -20,12 +20,12 @@ IsUnended text = All (λ b. (b == 10) ≡ false) text
 
 -- no prefix of the text is clear but the empty one: it begins with an unfinished line, or with a refusal for want of memory
 abbrev pub IsHeldBack : List ℕ → Type 0
-IsHeldBack text = (n : ℕ) → n ≤ length text → IsWholeWithoutWant (take n text) → n ≡ 0
+IsHeldBack text = (n : ℕ) → n ≤ length text → IsClearText (take n text) → n ≡ 0
 
 -- if the first contents of a writer are known: it holds them, and then a text that is clear together with the waiting one
 pub record IsPassed (first contents : Option (List ℕ)) (waiting : List ℕ) : Type 0 where
   pub kept : (held : List ℕ) → first ≡ Some held → option_map (take (length held)) contents ≡ Some held
-  pub clear : (held all : List ℕ) → first ≡ Some held → contents ≡ Some all → IsWholeWithoutWant (drop (length held) all ++ waiting)
+  pub clear : (held all : List ℕ) → first ≡ Some held → contents ≡ Some all → IsClearText (drop (length held) all ++ waiting)
 
 -- of the taken text the told part was passed on, and together with the waiting part it is whole lines that show no want of memory
 pub record TellsClear (held : List ℕ) (contents taken : Option (List ℕ)) : Type 0 where

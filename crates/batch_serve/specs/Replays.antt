@@ -29,15 +29,15 @@ ServingAgrees =
     → WellServed c old lines said one → WellServed c old lines told other → (said ≡ told) × (one ≡ other)
 
 -- the text contains these bytes
-pub record HasBytes (needle text : List ℕ) : Type 0 where
+pub record ContainsBytes (needle text : List ℕ) : Type 0 where
   pub front : List ℕ
   pub rest : List ℕ
   pub splits : text ≡ front ++ (needle ++ rest)
 
 -- neither an event nor a line was refused for want of memory, as the text shows
 pub record ShowsNoWant (text : List ℕ) : Type 0 where
-  pub no_event : HasBytes (codes "refused E11\n") text → ⊥
-  pub no_line : HasBytes (codes "refused W6\n") text → ⊥
+  pub no_event : ContainsBytes (codes "refused E11\n") text → ⊥
+  pub no_line : ContainsBytes (codes "refused W6\n") text → ⊥
 
 -- a transcript whose text shows no want of memory had memory for each of its lines
 abbrev pub NoWantIsWell : Type 0

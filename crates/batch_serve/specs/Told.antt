@@ -10,7 +10,7 @@ pub record IsDeskTold (desk : ℕ) (answers : List Run) (old new : Desk) : Type 
   pub cut : new.waiting.is_cut ≡ false → old.waiting.is_cut ≡ false
   pub account : (all told : List (List ℕ)) → IsAccount all told old.waiting → IsAccount (all ++ due_of desk old.unit answers) told new.waiting
 
--- each is told
+-- each desk's account grows so
 pub record AreDesksTold (answers : List Run) (old new : List Desk) : Type 0 where
   pub count : length new ≡ length old
   pub each : (desk : ℕ) (other : Desk) → desk < length old → IsDeskTold desk answers (get_or old desk other) (get_or new desk other)

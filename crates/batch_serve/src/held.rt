@@ -3,7 +3,7 @@ ghost use Rattle.batch_wire.specs.EventLine.{event_of_line};
 ghost use Rattle.std.specs.Prelude.{◌≡◌, ◌⊎◌, ◌<◌, ◌≤◌, ℕ, List, Option, Some, None, Ok, [], length, take, drop, IsTrue, IsFalse, MatchOption, OnOk};
 ghost use Rattle.std.specs.Io.KnownBytes.{Appends, Keeps, append_known};
 ghost use Rattle.batch_serve.specs.Held.{IsPassed, IsHeldBack, IsUnended, TellsAll, TellsClear};
-ghost use Rattle.batch_serve.specs.Replays.{HasBytes, ShowsNoWant};
+ghost use Rattle.batch_serve.specs.Replays.{ContainsBytes, ShowsNoWant};
 ghost use Rattle.batch_serve.specs.Holding.{FindsFirst, IsWholeTo, StopsAt, sooner};
 
 use crate::remarks::Remarks;
@@ -235,8 +235,8 @@ pub fn shows_want(text: &[u8]) -> bool
 
 fn occurs(needle: &[u8], text: &[u8]) -> bool
     requires { 0 < length needle.now }
-    ensures none { IsFalse result → HasBytes needle.now text.now → ⊥ }
-    ensures some { IsTrue result → HasBytes needle.now text.now }
+    ensures none { IsFalse result → ContainsBytes needle.now text.now → ⊥ }
+    ensures some { IsTrue result → ContainsBytes needle.now text.now }
 {
     first_of(needle, text).is_some()
 }

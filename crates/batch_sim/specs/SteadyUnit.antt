@@ -21,17 +21,17 @@ unstarted = record { state = Idle; ticks_left = 0 }
 -- Orders
 
 -- not started, or ended
-abbrev pub is_at_end : State → Bool
-is_at_end Idle = true
-is_at_end Complete = true
-is_at_end Stopped = true
-is_at_end Aborted = true
-is_at_end _ = false
+abbrev pub is_unstarted_or_over : State → Bool
+is_unstarted_or_over Idle = true
+is_unstarted_or_over Complete = true
+is_unstarted_or_over Stopped = true
+is_unstarted_or_over Aborted = true
+is_unstarted_or_over _ = false
 
 -- a started phase has all its ticks to run; a command leads a phase that isn't over to the state of its name
 abbrev pub ordered : ℕ → Order → SteadyPhase → SteadyPhase
 ordered ticks Start p = record { state = Running; ticks_left = ticks }
-ordered ticks (Send command) p = elim (is_at_end p.state) [ true ↦ p | false ↦ record p { state = target command } ]
+ordered ticks (Send command) p = elim (is_unstarted_or_over p.state) [ true ↦ p | false ↦ record p { state = target command } ]
 
 -- an order for a phase that the unit doesn't have changes nothing
 abbrev pub Commands : SteadyView → ℕ → Order → SteadyView → Type 0

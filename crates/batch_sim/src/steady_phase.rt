@@ -1,7 +1,7 @@
 //! A phase of a steady unit.
 ghost use Rattle.std.specs.Prelude.{◌≡◌};
 ghost use Rattle.batch_matrix.specs.Matrix as matrix;
-ghost use Rattle.batch_sim.specs.SteadyUnit.{end_of, is_at_end, ordered, after_tick, unstarted, report_of_end};
+ghost use Rattle.batch_sim.specs.SteadyUnit.{end_of, is_unstarted_or_over, ordered, after_tick, unstarted, report_of_end};
 
 use crate::order::Order;
 use batch_matrix::{Command, Report, State, ends_as};
@@ -63,7 +63,7 @@ impl SteadyPhase {
 
 /// Whether a phase in this state isn't started, or has ended.
 fn is_over(state: State) -> bool
-    ensures { result ≡ is_at_end state }
+    ensures { result ≡ is_unstarted_or_over state }
 {
     matches!(
         state,

@@ -11,7 +11,7 @@ pub record IsReadWhole (unread left : Option (List ℕ)) (limit : ℕ) (bytes : 
   pub ended : IsAtEnd left
 
 -- the reader had more bytes than the limit, of which these are the first
-pub record HasMoreBytes (unread : Option (List ℕ)) (limit : ℕ) (front : List ℕ) : Type 0 where
+pub record IsOverLimit (unread : Option (List ℕ)) (limit : ℕ) (front : List ℕ) : Type 0 where
   pub long : limit < length front
   pub first : IfSome unread (λ input. (more : List ℕ) × (input ≡ front ++ more))
 
@@ -19,7 +19,7 @@ pub record HasMoreBytes (unread : Option (List ℕ)) (limit : ℕ) (front : List
 abbrev pub IsReadTooFar : Option (List ℕ) → ℕ → ReadFault → Type 0
 IsReadTooFar unread limit (Failed error) = ⊤
 IsReadTooFar unread limit TooManyReads = ⊤
-IsReadTooFar unread limit (Long front) = HasMoreBytes unread limit front.items
+IsReadTooFar unread limit (Long front) = IsOverLimit unread limit front.items
 IsReadTooFar unread limit Memory = ⊤
 
 -- a fault of the reader says nothing of how many bytes there are

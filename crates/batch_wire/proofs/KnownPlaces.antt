@@ -6,7 +6,7 @@ use Rattle.std.proofs.Math.Seq.{drop-append-add, drop-append_seam, take-append_s
 use Rattle.std.specs.Prelude.{IfSome}
 use Rattle.batch_wire.specs.declared.recipe_places.Known.{Known}
 use Rattle.batch_wire.specs.declared.recipe_places.RecipePlaces.{RecipePlaces}
-use Rattle.batch_wire.specs.Known.{known_at, AreKnownBy, EndsAt, HoldsBatch, IsCutBack, IsAdded, IsKeptOrAdded}
+use Rattle.batch_wire.specs.Known.{known_at, AreKnownBy, EndsAt, HoldsBatch, IsCutBack, IsAdded, IsAddedIfRoom}
 
 -- the text before a text that was put is unchanged
 pub same_before : (old new more : List ℕ) (at end e : ℕ) → take end new ≡ take at old ++ more → e ≤ at → at ≤ end → at ≤ length old → take e new ≡ take e old
@@ -140,7 +140,7 @@ module _ (text_of : ℕ → List ℕ) where
       }
 
   -- a node whose text ends after the known ones is known with them
-  pub known_with : (old new : RecipePlaces) (node end : ℕ) → AreKnownBy text_of old → EndsAt (text_of node) end old → IsKeptOrAdded node end old new
+  pub known_with : (old new : RecipePlaces) (node end : ℕ) → AreKnownBy text_of old → EndsAt (text_of node) end old → IsAddedIfRoom node end old new
       → AreKnownBy text_of new × EndsAt (text_of node) end new
   known_with old new node end h is kept = go kept.path
     where
@@ -195,7 +195,7 @@ module _ (text_of : ℕ → List ℕ) where
   -- a text that is put after the known ones is that of a node
   pub known_further : (old put new : RecipePlaces) (more : List ℕ) (at end node : ℕ) → AreKnownBy text_of old → ((i : ℕ) → i < old.depth → (known_at old i).end ≤ at)
       → take end put.text ≡ take at old.text ++ more → drop 24 (take at old.text) ++ more ≡ text_of node → 24 ≤ at → at ≤ end → end ≤ 408 → at ≤ length old.text
-      → put.path ≡ old.path → put.depth ≡ old.depth → put.batch ≡ old.batch → put.start ≡ old.start → IsKeptOrAdded node end put new → AreKnownBy text_of new × EndsAt (text_of node) end new
+      → put.path ≡ old.path → put.depth ≡ old.depth → put.batch ≡ old.batch → put.start ≡ old.start → IsAddedIfRoom node end put new → AreKnownBy text_of new × EndsAt (text_of node) end new
   known_further old put new more at end node h below text is from after within long path depth batch start kept =
       known_with put new node end (known_before old put more at end h below text from after long path depth batch start)
       (record {

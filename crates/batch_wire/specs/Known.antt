@@ -3,7 +3,7 @@ use Rattle.std.specs.Prelude.{◌≡◌, ℕ, ◌+◌, ◌-◌, ◌≤◌, ◌<�
 use Rattle.std.specs.List.{All}
 use Rattle.batch_recipe.specs.Texts.{place_text}
 use Rattle.batch_verify.specs.ClearedSet.{ClearedSet}
-use Rattle.batch_engine.specs.Names.{recipe_place}
+use Rattle.batch_engine.specs.Names.{recipe_place_at}
 use Rattle.batch_wire.specs.declared.known_places.KnownPlaces.{KnownPlaces}
 use Rattle.batch_wire.specs.declared.recipe_places.Known.{Known}
 use Rattle.batch_wire.specs.declared.recipe_places.RecipePlaces.{RecipePlaces}
@@ -26,7 +26,7 @@ pub record AreKnownBy (text_of : ℕ → List ℕ) (k : RecipePlaces) : Type 0 w
 
 -- the places kept are those of a recipe of the set
 abbrev pub AreKnownIn : ClearedSet → RecipePlaces → Type 0
-AreKnownIn c k = AreKnownBy (λ node. place_text (recipe_place c k.recipe node)) k
+AreKnownIn c k = AreKnownBy (λ node. place_text (recipe_place_at c k.recipe node)) k
 
 -- and of several recipes
 abbrev pub AreKnown : ClearedSet → KnownPlaces → Type 0
@@ -59,8 +59,8 @@ pub record IsAdded (node end : ℕ) (old new : RecipePlaces) : Type 0 where
   pub deeper : new.depth ≡ old.depth + 1
   pub path : new.path ≡ slice_set old.path old.depth (record { node = node; end = end })
 
--- the same, or there was no room for it
-pub record IsKeptOrAdded (node end : ℕ) (old new : RecipePlaces) : Type 0 where
+-- the node is added, or nothing changed, for want of room
+pub record IsAddedIfRoom (node end : ℕ) (old new : RecipePlaces) : Type 0 where
   pub text : new.text ≡ old.text
   pub batch : new.batch ≡ old.batch
   pub start : new.start ≡ old.start

@@ -1,9 +1,9 @@
 //! The place of a recipe that was written last, kept for the next ones.
 ghost use Rattle.std.specs.Prelude.{◌≡◌, ◌≤◌, ◌<◌, ◌++◌, ℕ, List, IfSome, IsTrue, Some, codes, decimal, drop, length, take};
 ghost use Rattle.batch_recipe.specs.Texts.{place_text};
-ghost use Rattle.batch_engine.specs.Names.{recipe_place};
+ghost use Rattle.batch_engine.specs.Names.{recipe_place_at};
 ghost use Rattle.batch_verify.specs.ClearedSet.{ClearedSet};
-ghost use Rattle.batch_wire.specs.Known.{AreKnownBy, AreKnownIn, EndsAt, HoldsBatch, IsCutBack, IsKeptOrAdded, IsLast};
+ghost use Rattle.batch_wire.specs.Known.{AreKnownBy, AreKnownIn, EndsAt, HoldsBatch, IsCutBack, IsAddedIfRoom, IsLast};
 ghost use Rattle.batch_wire.specs.Pieces.{text_of_place, text_of_site};
 
 use crate::names::recipe_at;
@@ -102,7 +102,7 @@ impl RecipePlaces {
         requires { AreKnownIn cleared.now self.old }
         ensures known { AreKnownIn cleared.now self.new }
         ensures batch { self.new.batch ≡ self.old.batch }
-        ensures found { IfSome result (λ end. EndsAt (place_text (recipe_place cleared.now recipe node)) end self.new) }
+        ensures found { IfSome result (λ end. EndsAt (place_text (recipe_place_at cleared.now recipe node)) end self.new) }
     {
         if self.recipe != recipe {
             self.recipe = recipe;
@@ -236,7 +236,7 @@ impl RecipePlaces {
     /// Keeps the node as the last one, unless as many are kept as may be.
     fn push_node(&mut self, node: u16, end: usize)
         requires { end ≤ 408 }
-        ensures { IsKeptOrAdded node end self.old self.new }
+        ensures { IsAddedIfRoom node end self.old self.new }
     {
         if self.depth < MAX_DEPTH {
             self.path[self.depth] = Known {

@@ -2,7 +2,7 @@
 ghost use Rattle.std.specs.Prelude.{◌≡◌, ◌≤◌, Some, ◌∷◌, [], ◌++◌, IfSome, map, codes, decimal, drop, length};
 ghost use Rattle.std.specs.List.{zip};
 ghost use Rattle.batch_recipe.specs.Texts.{line_text, place_text};
-ghost use Rattle.batch_engine.specs.Names.{handed_at, need_of, phase_name, recipe_place, recipe_name, resource_name, roles_of, roles_taken};
+ghost use Rattle.batch_engine.specs.Names.{handed_at, need_of, phase_name, recipe_place_at, recipe_name, resource_name, roles_of, roles_taken};
 ghost use Rattle.batch_engine.specs.Surface.{out_of, reply_of, move_of, refusal_of};
 ghost use Rattle.batch_engine.specs.declared.line.Line.TheVariants as lines;
 ghost use Rattle.batch_engine.specs.declared.reply.Reply.TheVariants as replies;
@@ -568,7 +568,7 @@ fn write_pass<W: Write>(
     writer: &mut W,
 ) -> Result<(), WriteFault>
     ensures { Writes (W.contents writer.old) (W.contents writer.new) result
-        (codes "pass " ++ line_text (told_text place.now ∷ place_text (recipe_place cleared.now recipe to) ∷ need_text (need_of cleared.now resource units) ∷ [])) }
+        (codes "pass " ++ line_text (told_text place.now ∷ place_text (recipe_place_at cleared.now recipe to) ∷ need_text (need_of cleared.now resource units) ∷ [])) }
 {
     write_apart(&[b"pass "], place, &[b" "], writer)?;
     write_node_place(cleared, recipe, to, writer)?;

@@ -1,4 +1,4 @@
-use Rattle.batch_chart.specs.Needs.{need_count}
+use Rattle.batch_chart.specs.Needs.{needs_of_kind}
 use Rattle.std.proofs.Common.{◌∙◌, ap}
 use Rattle.batch_chart.specs.Noting.{stage_signs}
 use Rattle.batch_chart.specs.declared.stage.Stage.TheVariants.{Ready}
@@ -16,5 +16,5 @@ returns c =
     let long = c.finish_all.auto.stages ∙ c.requires.fits in
     record {
       started = starts _ _ _ 0 some long c.requires.signs c.finish_all.ensures;
-      shown = rw (c.set.ensures, c.clear.ensures) (starts-neatly _ _ _ _ some long c.requires.signs c.finish_all.ensures (c.of_stage.ensures ∙ ap (λ k. stage_signs k (Ready 0)) (c.needs.ensures ∙ ap need_count c.kind_of.ensures)));
+      shown = rw (c.set.ensures, c.clear.ensures) (starts-neatly _ _ _ _ some long c.requires.signs c.finish_all.ensures (c.of_stage.ensures ∙ ap (λ k. stage_signs k (Ready 0)) (c.needs.ensures ∙ ap needs_of_kind c.kind_of.ensures)));
     }

@@ -1,5 +1,5 @@
 use Rattle.batch_chart.specs.declared.node.Kind.TheVariants as kind
-use Rattle.batch_chart.specs.Needs.{need_count}
+use Rattle.batch_chart.specs.Needs.{needs_of_kind}
 use Rattle.batch_chart.specs.Outlined.{kind_at}
 use Rattle.batch_chart.proofs.FewTurns.{few-turns}
 use Rattle.std.proofs.Common.{rules, arith, ◌∙◌, ◌≡◌, ◌&&◌, true, false, refl, sym, ap, subst, ℕ, ◌⊎◌}
@@ -55,7 +55,7 @@ reach-returns-in-Phase t c =
     let step = subst (λ κ. ((k : ℕ) × (i : ℕ) × (κ ≡ kind.Phase k i)) ⊎ ((k : ℕ) × (κ ≡ kind.Act k))) c.kind_of-kind.ensures c.in-Phase.is in
     record {
       reached = reached-step _ _ _ _ _ c.requires.standing step (omega arith);
-      neatly = rw c.set.ensures (neatly-ready _ _ _ _ c.requires.standing _ _ (omega arith) (omega (arith, c.requires.fits)) (c.of_stage.ensures ∙ ap (λ k. stage_signs k (Ready 0)) (c.needs.ensures ∙ ap need_count c.kind_of-kind.ensures)) step);
+      neatly = rw c.set.ensures (neatly-ready _ _ _ _ c.requires.standing _ _ (omega arith) (omega (arith, c.requires.fits)) (c.of_stage.ensures ∙ ap (λ k. stage_signs k (Ready 0)) (c.needs.ensures ∙ ap needs_of_kind c.kind_of-kind.ensures)) step);
     }
 
 pub reach-returns-in-Skip : goal.reach-returns-in-Skip

@@ -1,4 +1,4 @@
-use Rattle.batch_chart.specs.Needs.{need_count}
+use Rattle.batch_chart.specs.Needs.{needs_of_kind}
 use Rattle.std.proofs.Common.{◌∙◌, arith, refl, ap, length-set}
 use Rattle.batch_chart.specs.Noting.{open_signs}
 use Rattle.batch_chart.proofs.ActAfterMove.{makes-begin, begin-stands, laid-lengths}
@@ -18,5 +18,5 @@ pub returns : goal.returns
 returns c = record {
   made = makes-begin _ _ _ _ _ c.requires.allowed _ _ _ _ refl c.from-n.ensures c.reach-over.auto.stages c.reach-over.ensures.reached;
   kept = rw c.set.ensures (keeps-begin _ _ _ _ _ _ c.requires.order.lives c.requires.order.count _ _ c.requires.allowed c.from-n.ensures _ _ c.reach-over.ensures.reached.own c.reach-over.ensures.reached.outside c.reach-over.ensures.neatly
-      (c.of_open.ensures ∙ ap (λ k. open_signs k c.reach-over.result) (c.needs.ensures ∙ ap need_count c.kind_of.ensures)));
+      (c.of_open.ensures ∙ ap (λ k. open_signs k c.reach-over.result) (c.needs.ensures ∙ ap needs_of_kind c.kind_of.ensures)));
 }

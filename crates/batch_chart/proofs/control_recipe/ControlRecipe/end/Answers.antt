@@ -1,7 +1,7 @@
 use Rattle.std.proofs.Common.{◌∙◌, refl, ap, subst}
 use Rattle.batch_chart.specs.Outlined.{kind_at}
 use Rattle.batch_chart.specs.Freeing.{IsFreed}
-use Rattle.batch_chart.specs.Needs.{need_count}
+use Rattle.batch_chart.specs.Needs.{needs_of_kind}
 use Rattle.batch_chart.proofs.ActAfterMove.{makes-end}
 use Rattle.batch_chart.proofs.SignUpkeep.{end-acts}
 use Rattle.batch_chart.proofs.control_recipe.ControlRecipe.end.Goals as goal
@@ -16,6 +16,6 @@ returns c =
     let kind = ap (kind_at c.args.self.now.nodes.now) c.from-n.ensures ∙ c.requires.allowed.2 in
     record {
       made = makes-end _ _ _ _ _ c.requires.allowed _ _ _ _ refl c.from-n.ensures kind
-          (subst (λ z. IsFreed c.args.self.now.nodes.now c.args.self.now.master.now c.args.self.now.values.now c.from-n.result z c.args.stages.now c.free.new.stages) (c.needs-needs.ensures ∙ (ap need_count c.kind_of.ensures ∙ ap need_count kind)) c.free.ensures.freed);
+          (subst (λ z. IsFreed c.args.self.now.nodes.now c.args.self.now.master.now c.args.self.now.values.now c.from-n.result z c.args.stages.now c.free.new.stages) (c.needs-needs.ensures ∙ (ap needs_of_kind c.kind_of.ensures ∙ ap needs_of_kind kind)) c.free.ensures.freed);
       kept = record { count = c.free.ensures.count; keeps = λ h. c.free.ensures.neat };
     }

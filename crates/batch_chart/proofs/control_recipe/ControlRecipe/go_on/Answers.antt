@@ -1,7 +1,7 @@
 use Rattle.std.proofs.Common.{◌∙◌, ap, subst}
 use Rattle.batch_chart.specs.Outlined.{kind_at}
 use Rattle.batch_chart.specs.Freeing.{IsFreed}
-use Rattle.batch_chart.specs.Needs.{need_count}
+use Rattle.batch_chart.specs.Needs.{needs_of_kind}
 use Rattle.batch_chart.proofs.ActAfterMove.{reports-now, reports-same, reports-ended}
 use Rattle.batch_chart.proofs.SignUpkeep.{same-kept, keeps-now, live-acts}
 use Rattle.batch_chart.proofs.control_recipe.ControlRecipe.go_on.Goals as goal
@@ -25,6 +25,6 @@ returns-in-Ended c =
     let kind = ap (kind_at c.args.self.now.nodes.now) c.from-n.ensures ∙ c.requires.live.4 in
     record {
       changed = rw c.in-Ended.is (reports-ended _ _ _ _ _ _ c.from-n.ensures c.requires.live _ _ _ kind
-          (subst (λ z. IsFreed c.args.self.now.nodes.now c.args.self.now.master.now c.args.self.now.values.now c.from-n.result z c.args.stages.now c.free.new.stages) (c.needs-needs.ensures ∙ (ap need_count c.kind_of.ensures ∙ ap need_count kind)) c.free.ensures.freed));
+          (subst (λ z. IsFreed c.args.self.now.nodes.now c.args.self.now.master.now c.args.self.now.values.now c.from-n.result z c.args.stages.now c.free.new.stages) (c.needs-needs.ensures ∙ (ap needs_of_kind c.kind_of.ensures ∙ ap needs_of_kind kind)) c.free.ensures.freed));
       kept = record { count = c.free.ensures.count; keeps = λ h. c.free.ensures.neat };
     }

@@ -1,7 +1,7 @@
 use Rattle.std.proofs.Common.{◌≡◌, refl, subst, Some}
 use Rattle.std.specs.Prelude.{slice_get, option_map}
 use Rattle.batch_model.specs.Moves as Moves
-use Rattle.batch_arbiter.specs.Allocation.{Allocation, batch_node, with_grant, next_grant}
+use Rattle.batch_arbiter.specs.Allocation.{Allocation, batch_node, after_grant, next_grant}
 use Rattle.batch_chart.specs.Charts.{AsksAt, IsWaitingAt, remains}
 use Rattle.batch_chart.specs.NodesOf.{need_at, place_at}
 use Rattle.batch_recipe.specs.declared.recipe.Recipe as document
@@ -45,7 +45,7 @@ move c =
     Moves.grant c.index_mut-batch.result.now.number (place_at t c.args.node) (need_at t c.args.node c.requires.need)
 
 abbrev arbiter : After-grant → Allocation → Allocation
-arbiter c a = with_grant c.args.resource (next_grant a c.args.resource) a
+arbiter c a = after_grant c.args.resource (next_grant a c.args.resource) a
 
 abbrev own : After-grant → Batch
 own c = record (c.index_mut-batch.result.now) { running = c.grant.new.self }

@@ -1,5 +1,5 @@
 use Rattle.std.proofs.Common.{◌∙◌, refl, sym, ap, subst, ℕ}
-use Rattle.batch_arbiter.specs.Allocation.{Allocation, with_ask}
+use Rattle.batch_arbiter.specs.Allocation.{Allocation, after_ask}
 use Rattle.batch_chart.specs.Seen.{machine_move}
 use Rattle.batch_chart.specs.declared.chart_move.Move.{Move}
 use Rattle.batch_chart.specs.declared.chart_move.Move.TheVariants.{Ask, Pass, Release, State}
@@ -20,7 +20,7 @@ becomes : {v : EngineView} {i : ℕ} {b : Batch} (m : Move) (h : IsMover v i b m
     → Becomes v (changed v i (record b { running = r }) a) (machine_move (tree_of v.cleared b) (model_batch v.cleared b) m)
 becomes {v} {i} {b} (Ask node need) h {r} {a} act (q, u, number, is) made =
     subst (λ (z : Allocation). Becomes v (changed v i (record b { running = r }) z) (machine_move (tree_of v.cleared b) (model_batch v.cleared b) (Ask node need)))
-    (ap (λ n. with_ask q (record { batch = b.number; node = node; units = n }) v.allocation) number.1 ∙ sym is)
+    (ap (λ n. after_ask q (record { batch = b.number; node = node; units = n }) v.allocation) number.1 ∙ sym is)
     (ask-made v h.kept i b h.at node need q r h.about number.0 made h.is (room-for-ask v h.kept i b h.at node need q h.about number.0 h.is))
 becomes {v} {i} {b} (Release node need) h {r} {a} act (q, u, number, is) made =
     subst (λ (z : Allocation). Becomes v (changed v i (record b { running = r }) z) (machine_move (tree_of v.cleared b) (model_batch v.cleared b) (Release node need))) (sym is)
