@@ -1,5 +1,5 @@
 -- The labels and values that a chart names, branch by branch.
-use Rattle.std.proofs.Common.{arith, ◌≡◌, Bool, ◌||◌, List, [], ◌∷◌, ◌++◌, map, refl, sym, ap, ◌∙◌}
+use Rattle.std.proofs.Common.{arith, ◌≡◌, Bool, ◌||◌, List, [], ◌∷◌, map, refl}
 use Rattle.std.specs.List.{list_any}
 use Rattle.batch_recipe.specs.Conditions.{Name}
 use Rattle.batch_recipe.specs.Diagram.{Diagram, seq, sel, diagram_of, diagrams_of, cases_of}

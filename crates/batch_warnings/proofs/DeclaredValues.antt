@@ -1,7 +1,7 @@
 -- A batch of the size of the basis has the values that are declared.
-use Rattle.std.proofs.Common.{arith, ◌≡◌, ℕ, ◌+◌, ◌*◌, ◌<◌, ◌≤◌}
+use Rattle.std.proofs.Common.{arith, ◌≡◌, ℕ, ◌<◌}
 use Rattle.batch_recipe.specs.Formula.{batch_value}
-use Rattle.batch_recipe.specs.Scale.{IsScaled, scaled}
+use Rattle.batch_recipe.specs.Scale.{IsScaled}
 use Rattle.batch_recipe.specs.declared.quantity.Quantity.{Quantity}
 use Rattle.batch_recipe.proofs.ScaledValues.{scaled_only}
 

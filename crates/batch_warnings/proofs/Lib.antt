@@ -1,3 +1,4 @@
 pub mod Branches
 pub mod NumbersOfMatches
 pub mod DeclaredValues
+pub mod AddedNames

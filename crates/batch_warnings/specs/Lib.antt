@@ -1,1 +1,2 @@
 pub mod Warnings
+pub mod LabelSets

@@ -3,6 +3,7 @@
 
 mod adding;
 mod cells;
+mod labels;
 mod mentions;
 mod recipes;
 mod warning;

@@ -1,21 +1,11 @@
-//! The labels and values that charts name.
+//! The values that conditions of charts compare.
 ghost use Rattle.std.specs.Prelude.{◌≡◌, ◌||◌};
 ghost use Rattle.std.specs.List.{list_any};
 ghost use Rattle.batch_recipe.specs.Diagram.{diagram_of};
-ghost use Rattle.batch_warnings.specs.Warnings.{act_compares, act_has_label, diagram_compares, condition_names, has_label};
+ghost use Rattle.batch_warnings.specs.Warnings.{act_compares, diagram_compares, condition_names};
 
 use batch_recipe::{Act, Chart, Cond, Term, Work};
 use batch_text::Name;
-
-/// Whether the act follows a chart with this label.
-pub(crate) fn act_has_label(act: &Act, name: &Name) -> bool
-    ensures { result ≡ act_has_label name.now act.now }
-{
-    match &act.work {
-        Work::Follows(chart) => has_label(chart, name),
-        Work::Runs { .. } => false,
-    }
-}
 
 /// Whether the act follows a chart with a condition that compares the value of this name.
 pub(crate) fn act_compares(act: &Act, name: &Name) -> bool
@@ -25,44 +15,6 @@ pub(crate) fn act_compares(act: &Act, name: &Name) -> bool
         Work::Follows(chart) => compares(chart, name),
         Work::Runs { .. } => false,
     }
-}
-
-#[cycle(labels)]
-fn has_label(chart: &Chart, name: &Name) -> bool
-    ensures { result ≡ has_label name.now (diagram_of chart.now) }
-{
-    match chart {
-        Chart::Label(label) => *name == *label,
-        Chart::Skip => false,
-        Chart::Seq(parts) => have_label(parts, name),
-        Chart::Par(branches) => have_label(branches, name),
-        Chart::Sel(choices, last) => choices_have_label(choices, name) || has_label(last, name),
-        Chart::Loop(_, turn) => has_label(&turn.1, name),
-    }
-}
-
-#[cycle(labels)]
-fn have_label(charts: &[Chart], name: &Name) -> bool
-    ensures { result ≡ list_any (λ chart. has_label name.now (diagram_of chart)) charts.now }
-{
-    for chart in charts {
-        if has_label(chart, name) {
-            return true;
-        }
-    }
-    false
-}
-
-#[cycle(labels)]
-fn choices_have_label(choices: &[(Cond, Chart)], name: &Name) -> bool
-    ensures { result ≡ list_any (λ choice. has_label name.now (diagram_of choice.1)) choices.now }
-{
-    for choice in choices {
-        if has_label(&choice.1, name) {
-            return true;
-        }
-    }
-    false
 }
 
 #[cycle(values)]

@@ -3,10 +3,11 @@ ghost use Rattle.std.specs.Prelude.{◌≡◌, ◌<◌, ◌++◌, ◌&&◌, not,
 ghost use Rattle.batch_recipe.specs.Formula.{is_in_range};
 ghost use Rattle.std.specs.List.{list_any};
 ghost use Rattle.batch_recipe.specs.WellFormed.{is_among};
-ghost use Rattle.batch_warnings.specs.Warnings.{act_compares, act_has_label, act_reports, is_compared, is_named, out_of_range, quantities_in, scaled_parameters, takes_role, takes_value, unnamed_in, unreported, unused_roles, warnings_of};
+ghost use Rattle.batch_warnings.specs.Warnings.{act_compares, act_reports, is_compared, out_of_range, quantities_in, scaled_parameters, takes_role, takes_value, unnamed_in, unreported, unused_roles, warnings_of};
 
 use crate::adding::push_if;
-use crate::mentions::{act_compares, act_has_label};
+use crate::labels::labels_for;
+use crate::mentions::act_compares;
 use crate::warning::{QuantityTable, RecipeWarning};
 use batch_recipe::{Act, Acts, LabelTable, Quantity, Recipe, UnitChoice, Work};
 use batch_text::Name;
@@ -18,9 +19,9 @@ pub fn recipe_warnings(alloc: Global, recipe: &Recipe) -> Result<Vec<RecipeWarni
     ensures { IfOk result (λ warnings. warnings.items ≡ warnings_of recipe.now) }
 {
     let warnings = Vec::new(alloc);
-    let warnings = add_unnamed(warnings, &recipe.acts, LabelTable::UnitProcedures)?;
-    let warnings = add_unnamed(warnings, &recipe.acts, LabelTable::Operations)?;
-    let warnings = add_unnamed(warnings, &recipe.acts, LabelTable::Phases)?;
+    let warnings = add_unnamed(alloc, warnings, &recipe.acts, LabelTable::UnitProcedures)?;
+    let warnings = add_unnamed(alloc, warnings, &recipe.acts, LabelTable::Operations)?;
+    let warnings = add_unnamed(alloc, warnings, &recipe.acts, LabelTable::Phases)?;
     let warnings = add_out_of_range(warnings, recipe, QuantityTable::Inputs)?;
     let warnings = add_out_of_range(warnings, recipe, QuantityTable::Parameters)?;
     let warnings = add_unreported(warnings, recipe)?;
@@ -29,35 +30,20 @@ pub fn recipe_warnings(alloc: Global, recipe: &Recipe) -> Result<Vec<RecipeWarni
 }
 
 fn add_unnamed(
+    alloc: Global,
     warnings: Vec<RecipeWarning>,
     acts: &Acts,
     table: LabelTable,
 ) -> Result<Vec<RecipeWarning>, AllocError>
     ensures { IfOk result (λ all. all.items ≡ warnings.items ++ unnamed_in acts.now table) }
 {
+    let labels = labels_for(alloc, acts, table)?;
     let mut warnings = warnings;
     for (number, act) in acts.table(table).iter().enumerate() {
-        let is_told = !is_named(acts, table, act);
+        let is_told = !labels.contains(&&act.name);
         warnings = push_if(warnings, is_told, RecipeWarning::UnnamedAct(table, number))?;
     }
     Ok(warnings)
-}
-
-/// Whether a chart names the act of the table.
-fn is_named(acts: &Acts, table: LabelTable, act: &Act) -> bool
-    ensures { result ≡ is_named acts.now table act.now }
-{
-    match table {
-        LabelTable::UnitProcedures => act_has_label(&acts.procedure, &act.name),
-        LabelTable::Operations => any_has_label(&acts.unit_procedures, &act.name),
-        LabelTable::Phases => any_has_label(&acts.operations, &act.name),
-    }
-}
-
-fn any_has_label(acts: &[Act], name: &Name) -> bool
-    ensures { result ≡ list_any (act_has_label name.now) acts.now }
-{
-    acts.iter().any(|act| act_has_label(act, name))
 }
 
 fn add_out_of_range(

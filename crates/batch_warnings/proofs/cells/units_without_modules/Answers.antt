@@ -1,4 +1,4 @@
-use Rattle.std.proofs.Common.{arith, ◌≡◌, ◌++◌, ◌∷◌, [], not, if◌then◌else◌, ap, sym, ◌∙◌}
+use Rattle.std.proofs.Common.{◌++◌, ◌∷◌, [], not, if◌then◌else◌, ap, sym, ◌∙◌}
 use Rattle.std.specs.List.{list_any}
 use Rattle.batch_cell.specs.Equipment.{belongs_to}
 use Rattle.batch_warnings.proofs.NumbersOfMatches.{numbers_at}

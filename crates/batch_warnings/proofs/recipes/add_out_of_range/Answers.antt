@@ -1,8 +1,6 @@
-use Rattle.std.proofs.Common.{arith, ◌≡◌, ◌++◌, ◌∷◌, ◌&&◌, [], not, if◌then◌else◌, ap, sym, ◌∙◌}
-use Rattle.std.specs.List.{list_any}
+use Rattle.std.proofs.Common.{arith, ◌++◌, ◌∷◌, [], not, if◌then◌else◌, ap, sym, ◌∙◌}
 use Rattle.batch_recipe.specs.Formula.{is_in_range}
-use Rattle.batch_warnings.specs.Warnings.{act_reports, is_compared, is_named, takes_role, takes_value}
-use Rattle.batch_warnings.specs.declared.warning.RecipeWarning.TheVariants.{UnnamedAct, ValueOutOfRange, UnreportedOutput, UnusedRole, ScaledParameter}
+use Rattle.batch_warnings.specs.declared.warning.RecipeWarning.TheVariants.{ValueOutOfRange}
 use Rattle.batch_warnings.proofs.NumbersOfMatches.{numbers_on, numbers_through}
 use Rattle.batch_warnings.proofs.recipes.add_out_of_range.Goals as goal
 

@@ -1,8 +1,7 @@
-use Rattle.std.proofs.Common.{◌≡◌, ◌++◌, ◌&&◌, not, map, take}
-use Rattle.std.specs.List.{list_any}
+use Rattle.std.proofs.Common.{◌≡◌, ◌++◌, not, map, take}
 use Rattle.batch_recipe.specs.Formula.{is_in_range}
-use Rattle.batch_warnings.specs.Warnings.{numbers_passing, quantities_in, act_reports, is_compared, takes_value, is_named, takes_role}
-use Rattle.batch_warnings.specs.declared.warning.RecipeWarning.TheVariants.{UnnamedAct, ValueOutOfRange, UnreportedOutput, UnusedRole, ScaledParameter}
+use Rattle.batch_warnings.specs.Warnings.{numbers_passing}
+use Rattle.batch_warnings.specs.declared.warning.RecipeWarning.TheVariants.{ValueOutOfRange}
 use Rattle.batch_warnings.proofs.recipes.add_out_of_range.Given as goal
 
 abbrev pub invariant-loop-number : goal.invariant-loop-number

@@ -1,8 +1,6 @@
-use Rattle.std.proofs.Common.{◌≡◌, ◌++◌, ◌&&◌, not, map, take}
-use Rattle.std.specs.List.{list_any}
-use Rattle.batch_recipe.specs.Formula.{is_in_range}
-use Rattle.batch_warnings.specs.Warnings.{numbers_passing, act_reports, is_compared, takes_value, is_named, takes_role}
-use Rattle.batch_warnings.specs.declared.warning.RecipeWarning.TheVariants.{UnnamedAct, ValueOutOfRange, UnreportedOutput, UnusedRole, ScaledParameter}
+use Rattle.std.proofs.Common.{◌≡◌, ◌++◌, not, map, take}
+use Rattle.batch_warnings.specs.Warnings.{numbers_passing, is_named}
+use Rattle.batch_warnings.specs.declared.warning.RecipeWarning.TheVariants.{UnnamedAct}
 use Rattle.batch_warnings.proofs.recipes.add_unnamed.Given as goal
 
 abbrev pub invariant-loop-number : goal.invariant-loop-number
