@@ -3,7 +3,7 @@ use Rattle.std.proofs.lemmas.List.{drop_all}
 use Rattle.batch_wire.specs.Known.{AreKnownBy, EndsAt}
 use Rattle.batch_wire.specs.Pieces.{text_of_place}
 use Rattle.batch_wire.specs.declared.recipe_places.RecipePlaces.{RecipePlaces}
-use Rattle.batch_wire.proofs.KnownPlaces.{still_known, known_further}
+use Rattle.batch_wire.proofs.PlaceCache.{still_known, known_further}
 use Rattle.batch_wire.proofs.PlaceParts.{entry-at, root-text, text-below}
 use Rattle.batch_wire.proofs.recipe_places.RecipePlaces.+reach.Goals as goal
 use Rattle.batch_wire.proofs.recipe_places.RecipePlaces.+reach.Goals.{reach-then-node-eq0, reach-else-node-eq0+in_ok-above+else-above-gt-MAX_PLACE_END}

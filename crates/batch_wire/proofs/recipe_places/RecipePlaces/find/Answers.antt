@@ -4,7 +4,7 @@ use Rattle.batch_engine.specs.Names.{recipe_place_at}
 use Rattle.batch_verify.specs.ClearedSet.{ClearedSet}
 use Rattle.batch_wire.specs.Known.{AreKnownBy, AreKnownIn}
 use Rattle.batch_wire.specs.declared.recipe_places.RecipePlaces.{RecipePlaces}
-use Rattle.batch_wire.proofs.KnownPlaces.{found_with}
+use Rattle.batch_wire.proofs.PlaceCache.{found_with}
 use Rattle.batch_wire.proofs.recipe_places.RecipePlaces.find.Goals as goal
 
 held : (cleared : ClearedSet) (old new : RecipePlaces) → ((text_of : ℕ → List ℕ) → AreKnownBy text_of old → AreKnownBy text_of new) → new.recipe ≡ old.recipe → AreKnownIn cleared old → AreKnownIn cleared new
