@@ -12,7 +12,7 @@ PROMISES = [
     ("`check` finds the least ranks, or why there are none", ["batch_check::check"]),
     ("A cell or a recipe is that of its document", ["batch_reader::read_cell", "batch_reader::read_recipe"]),
     ("The engine's calls are the machine's steps", ["batch_engine::Engine::*"]),
-    ("What is served is a safe transcript", ["batch_serve::" + it for it in (
+    ("Served lines and their answers are a safe transcript", ["batch_serve::" + it for it in (
         "serve", "serve_set", "serve_remarked", "answer_line", "CleanReader::*", "Held::*", "HeldRemarks::*", "Remarked::*", "Remarking::*",
         "clean_lines_agree", "clean_lines_serve_alike", "no_want_is_well", "serving_agrees", "told_is_recovered", "transcripts_are_safe",
         "transcripts_are_whole", "transcripts_leave_nobody_in_vain", "transcripts_settle", "want_is_not_told",
