@@ -1,5 +1,5 @@
 #!/usr/bin/env python3
-"""The link of a unit, at its own pipes: it does each phase that it is told to start, and answers what it is sent.
+"""The link of a unit, at its own pipes: it does each phase that it is told to start, and answers each command.
 
 Usage: link.py INPUT OUTPUT [--seconds 0.1]
 It writes reports to INPUT, the pipe that the server reads, and reads OUTPUT, the pipe that the server writes. A phase takes so many seconds.
@@ -8,7 +8,7 @@ import argparse
 import sys
 import time
 
-# what a phase reports when it is sent a command
+# the report of a phase that is sent a command
 ANSWERS = {"pause": "paused", "hold": "held", "restart": "running", "stop": "stopped", "abort": "aborted"}
 
 

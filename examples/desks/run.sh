@@ -1,5 +1,5 @@
 #!/usr/bin/env bash
-# A day at three desks: an office and a link for each mixer of the paint plant, over named pipes. It prints what the office was told.
+# A day at three desks: an office and a link for each mixer of the paint plant, over named pipes. It prints the lines that the office was told.
 # Usage: run.sh [PROGRAM], which is batchd where it isn't named.
 set -euo pipefail
 program=${1:-batchd}

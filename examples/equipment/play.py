@@ -1,8 +1,8 @@
 #!/usr/bin/env python3
 """Plays the equipment and an operator of the paint plant beside a server: creates and starts batches, does the phases that the server
-starts, answers what it sends, reports a fault now and then, restarts what is held, and stops a batch here and there.
+starts, answers its commands, reports a fault now and then, restarts held batches, and stops a batch here and there.
 
-It needs the standard library alone, and shows how a link keeps up with a record. At the end it says what it saw.
+It needs the standard library alone, and shows how a link keeps up with a record. At the end it prints a summary.
 Usage: play.py [--program batchd] [--batches 200] [--seed 7] [--record FILE]
 """
 import argparse
@@ -18,7 +18,7 @@ DOCUMENTS = ["cell.toml", "certificate.txt", "primer.toml", "varnish.toml", "top
 # a recipe, the sizes that it is made in, and the units that may take its role
 RECIPES = [("PRIMER", (600, 1000, 1500), ()), ("VARNISH", (500, 800), ()), ("TOPCOAT", (250, 500), ()), ("RINSE", (100,), ()),
            ("THINNER", (100, 300), ("MIXER1", "MIXER2"))]
-# what equipment reports when it is sent a command
+# the report of equipment that is sent a command
 ANSWERS = {"pause": "paused", "hold": "held", "restart": "running", "stop": "stopped", "abort": "aborted"}
 
 
@@ -49,7 +49,7 @@ class Server:
 
 
 class Plant:
-    """What is known of the plant, by the record alone, and what the equipment is about to do."""
+    """The plant by the record alone, and the deeds that the equipment is about to do."""
 
     def __init__(self, chance):
         self.chance = chance
@@ -60,7 +60,7 @@ class Plant:
         self.counts = collections.Counter()
 
     def learn(self, reply, moves):
-        """Takes a reply and its moves, and notes what the equipment has to answer."""
+        """Takes a reply and its moves, and notes the answers that the equipment owes."""
         words = reply.split()
         if words[0] == "created":
             self.states[words[1]] = "idle"

@@ -1,6 +1,6 @@
 """What earlier runs on this machine found of edits, each under a sum of all that a try of it reads: so an entry never goes stale.
 
-Usage: tools/edits/kept.py RLIB: a sum of what other crates can see of a library as it was built, for tools/quick.
+Usage: tools/edits/kept.py RLIB: a sum of the parts of a built library that other crates can see, for tools/quick.
 """
 import hashlib
 import json
@@ -18,11 +18,11 @@ MOST = 2000
 
 
 class Kept:
-    """A file for each crate, of edits that were refused, and in what words. No other result is kept, and none is taken where `is_fresh`.
+    """A file for each crate, of edits that were refused, and by which words. No other result is kept, and none is taken where `is_fresh`.
 
-    It lies beside what the kit keeps, or below ~/.cache where that isn't ours to write; EDITS_KEPT names another folder. A sum is of these
-    scripts, the kit, the edit, the crate's line of crates.txt, its sources, specs and proofs, and of each library below it what another
-    crate can read: its interface and its definitions and lemmas."""
+    It lies beside the results that the kit keeps, or below ~/.cache where that isn't ours to write; EDITS_KEPT names another folder. A sum is of these
+    scripts, the kit, the edit, the crate's line of crates.txt, its sources, specs and proofs, and of each library below it the parts that
+    another crate can read: its interface and its definitions and lemmas."""
 
     def __init__(self, top, crates, is_fresh):
         self.top, self.crates, self.is_fresh, self.libraries = top, crates, is_fresh, {}
@@ -45,7 +45,7 @@ class Kept:
         return self.libraries[name]
 
     def read(self, name):
-        """In what words edits were refused, by the sum."""
+        """The words by which edits were refused, by the sum."""
         return {} if self.is_fresh else self.read_file(name)
 
     def read_file(self, name):
@@ -70,11 +70,11 @@ class Kept:
                 json.dump(dict([*found.items()][-MOST:]), it, indent=0)
             os.replace(it.name, f"{self.folder}/{name}.json")
         except OSError as error:
-            print(f"note: what edits of {name} came to is not kept: {error}", flush=True)
+            print(f"note: the results of edits of {name} are not kept: {error}", flush=True)
 
 
 def seen(rlib):
-    """A sum of what another crate can read of a built library: its interface, its definitions, lemmas and contracts, and no body."""
+    """A sum of the parts of a built library that another crate can read: its interface, its definitions, lemmas and contracts, and no body."""
     files = [it for part in ("interface", "lang") for it in files_of(f"{rlib}/{part}") if os.path.isfile(it) and not it.endswith(MADE)]
     return sum_of_text([[(os.path.relpath(it, rlib), sum_of(it)) for it in files], made(f"{rlib}/{MADE}")])
 

@@ -8,7 +8,7 @@ use crate::entry::Entry;
 use std::alloc::{AllocError, Global};
 use std::marker::Model;
 
-/// As many as a `u32` numbers.
+/// The most entries of a pool: as many as a `u32` numbers.
 const MAX_ENTRIES: usize = 1 << 32;
 
 /// Lists of claims whose entries are in one table. Only `new` and `reserve` take memory.
@@ -35,7 +35,7 @@ impl Model for Pool {
 }
 
 impl Pool {
-    /// So many lists without a claim, and no room.
+    /// A pool of so many lists without a claim, and without room.
     pub fn new(alloc: Global, lists: usize) -> Result<Self, AllocError>
         requires { lists < 2 ^ 31 }
         ensures { IfOk result (λ p. p ≡ record { lists = replicate lists []; room = 0 }) }
@@ -144,7 +144,8 @@ impl Pool {
         }
     }
 
-    /// The same of the claims behind the first one, which stays.
+    /// All claims of the batch behind the first claim of a list leave the list, which has at most so many of them there. The first claim
+    /// stays.
     fn remove_behind(&mut self, list: usize, batch: u64, most: u16)
         requires known { list < length self.old.lists }
         requires some { 0 < length (list_at self.old list) }
@@ -185,7 +186,8 @@ impl Pool {
         self.remove_later(list, batch, node)
     }
 
-    /// The same if the first claim of the list is another act's.
+    /// Removes the first claim of the act from a list whose first claim is another act's, and returns its units. None where the act has
+    /// none there.
     fn remove_later(&mut self, list: usize, batch: u64, node: u16) -> Option<u32>
         requires known { list < length self.old.lists }
         requires later { MatchOption (slice_get (list_at self.old list) 0) ⊥ (λ c. is_claim batch node c ≡ false) }

@@ -125,7 +125,7 @@ pub(crate) fn add_raised(
     Ok(())
 }
 
-/// Those of the edges that lead to or from a role. The numbers of resources are below this count.
+/// The edges among these that lead to or from a role. The numbers of resources are below this count.
 pub(crate) fn edges_of_roles(
     alloc: Global,
     count: u16,
@@ -149,7 +149,7 @@ fn is_between(edge: Edge, count: u16) -> bool
     edge.earlier < count && edge.later < count
 }
 
-/// Those of the edges that join the role with this number and one after it.
+/// The edges among these that join the role with this number and one after it.
 pub(crate) fn edges_behind(
     alloc: Global,
     role: u16,

@@ -16,9 +16,9 @@ use std::alloc::{AllocError, Global};
 /// Which two needs of a path an edge joins.
 #[derive(Clone, Copy)]
 pub(crate) enum Reach {
-    /// Those that follow one another.
+    /// Two needs that follow one another.
     Next,
-    /// Each two, one before the other.
+    /// Each two needs, one before the other.
     Whole,
 }
 

@@ -5,7 +5,7 @@ use Rattle.clap.specs.Simple.{subcommand_of}
 use Rattle.clap.specs.Walk.{Text, Row, first_of}
 use Rattle.clap.specs.declared.error.kind.ErrorKind.TheVariants.{DisplayHelp, DisplayVersion, InvalidSubcommand, MissingRequiredArgument, UnknownArgument, ValueValidation}
 use Rattle.clap.proofs.OnLiterals.{clap_on_literals}
-use Rattle.batch_cli.specs.CommandLine.{request_entered, batches_of, demo, documents, faults_of, is_given, plant, keep, program_app, ring_of, serve_desks, ticks_of, word_of, words_of}
+use Rattle.batch_cli.specs.CommandLine.{request_or_demo, batches_of, demo, documents, faults_of, is_given, plant, keep, program_app, ring_of, serve_desks, ticks_of, word_of, words_of}
 
 abbrev check_line : List Text
 check_line = codes "check" ∷ codes "c" ∷ codes "r" ∷ codes "s" ∷ []
@@ -115,7 +115,7 @@ echo_beside_a_journal_is_taken : fault_of program_app both_line ≡ []
 unfolding clap_on_literals
 echo_beside_a_journal_is_taken = refl
 
-echo_beside_a_journal_is_read : request_entered (subcommand_of program_app both_line) ≡ keep (codes "j") (codes "c") (codes "k") [] true false
+echo_beside_a_journal_is_read : request_or_demo (subcommand_of program_app both_line) ≡ keep (codes "j") (codes "c") (codes "k") [] true false
 unfolding clap_on_literals
 echo_beside_a_journal_is_read = refl
 
@@ -128,11 +128,11 @@ watch_is_unknown = refl
 abbrev desks_line : List Text
 desks_line = codes "serve" ∷ codes "--times" ∷ codes "d" ∷ codes "c" ∷ codes "k" ∷ codes "r" ∷ []
 
-desks_are_read : request_entered (subcommand_of program_app desks_line) ≡ serve_desks None (codes "d") (codes "c") (codes "k") (codes "r" ∷ []) true
+desks_are_read : request_or_demo (subcommand_of program_app desks_line) ≡ serve_desks None (codes "d") (codes "c") (codes "k") (codes "r" ∷ []) true
 unfolding clap_on_literals
 desks_are_read = refl
 
-desks_are_kept : request_entered (subcommand_of program_app (codes "serve" ∷ codes "--journal" ∷ codes "j" ∷ codes "d" ∷ codes "c" ∷ codes "k" ∷ []))
+desks_are_kept : request_or_demo (subcommand_of program_app (codes "serve" ∷ codes "--journal" ∷ codes "j" ∷ codes "d" ∷ codes "c" ∷ codes "k" ∷ []))
     ≡ serve_desks (Some (codes "j")) (codes "d") (codes "c") (codes "k") [] false
 unfolding clap_on_literals
 desks_are_kept = refl
@@ -312,7 +312,7 @@ plant_is_taken = refl
 abbrev planted_line : List Text
 planted_line = codes "plant" ∷ codes "--batches" ∷ codes "7" ∷ codes "c" ∷ codes "k" ∷ codes "r" ∷ codes "s" ∷ []
 
-documents_are_planted : request_entered (subcommand_of program_app planted_line) ≡ plant (documents (codes "c") (codes "k") (codes "r" ∷ codes "s" ∷ [])) 7 5 1
+documents_are_planted : request_or_demo (subcommand_of program_app planted_line) ≡ plant (documents (codes "c") (codes "k") (codes "r" ∷ codes "s" ∷ [])) 7 5 1
 unfolding clap_on_literals
 documents_are_planted = refl
 
@@ -332,7 +332,7 @@ no_recipe_is_missing : faults_of (codes "plant" ∷ []) ≡ []
 unfolding clap_on_literals
 no_recipe_is_missing = refl
 
-demo_is_planted : request_entered (subcommand_of program_app (codes "plant" ∷ [])) ≡ plant demo 3 5 1
+demo_is_planted : request_or_demo (subcommand_of program_app (codes "plant" ∷ [])) ≡ plant demo 3 5 1
 unfolding clap_on_literals
 demo_is_planted = refl
 

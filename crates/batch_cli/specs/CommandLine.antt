@@ -1,7 +1,15 @@
 -- trusted: the command line: one of these commands, or no words at all.
--- `check [--all] [--write FILE] CELL RECIPE..`, `verify CELL CERT RECIPE..`, `show CELL RECIPE..`,
--- `run [--journal FILE] [--echo] [--times] CELL CERT RECIPE..`, `serve [--journal FILE] [--times] DESKS CELL CERT RECIPE..`,
--- `status RECORD`, `draw RECORD`, `audit RECORD CELL CERT RECIPE..`, `plant [CELL CERT RECIPE..]`, `explain CODE..`.
+-- - `check [--dot] [--all] [--write FILE] CELL RECIPE..`
+-- - `verify CELL CERT RECIPE..`
+-- - `show CELL RECIPE..`
+-- - `run [--journal FILE] [--echo] [--times] CELL CERT RECIPE..`
+-- - `serve [--journal FILE] [--times] DESKS CELL CERT RECIPE..`
+-- - `status [RECORD]`
+-- - `draw [RECORD]`
+-- - `audit [--beginning] RECORD CELL CERT RECIPE..`
+-- - `plant [--batches N] [--ticks N] [--ring N] [CELL CERT RECIPE..]`
+-- - `explain [CODE..]`
+-- The first five and `audit` also take `--quiet`.
 use Rattle.std.specs.Prelude.{◌≡◌, ◌≢◌, ◌⊎◌, [], ◌∷◌, ℕ, Bool, List, Option, Some, None, map, option_map, is_some, codes, true, false, ◌&&◌, ◌||◌, not, unwrap_or, string_bytes, if◌then◌else◌, ⊤}
 use Rattle.std.specs.Str.{bytes_eq}
 use Rattle.std.specs.Str.Parse.{digits_value, without_leading_plus}
@@ -252,9 +260,9 @@ named_by name rows =
     else (if bytes_eq name (codes "show") then shown_by rows else certified_by name rows)))))))
 
 -- the request of the words, whether or not a command was entered
-abbrev pub request_entered : Option (Text × List Row) → Request
-request_entered None = serve demo
-request_entered (Some entered) = named_by entered.0 entered.1
+abbrev pub request_or_demo : Option (Text × List Row) → Request
+request_or_demo None = serve demo
+request_or_demo (Some entered) = named_by entered.0 entered.1
 
 -- the program is to write no sentence on a refusal
 abbrev pub asks_quiet : Option (Text × List Row) → Bool
@@ -289,7 +297,7 @@ request_of (Explain texts) = explain (map string_bytes texts.items)
 
 -- the result of the parse is the request of the words
 abbrev pub AreWordsOf : Option (Text × List Row) → CommandWords → Type 0
-AreWordsOf entered words = (request_of words.command ≡ request_entered entered) × (words.quiet ≡ asks_quiet entered)
+AreWordsOf entered words = (request_of words.command ≡ request_or_demo entered) × (words.quiet ≡ asks_quiet entered)
 
 -- the words ask for a plant of a cell without a recipe; if there is a recipe, the certificate precedes it
 abbrev pub lacks_recipe : Option (Text × List Row) → Bool

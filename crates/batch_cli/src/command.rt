@@ -27,12 +27,13 @@ pub enum Subcommand {
     },
     /// To serve event lines from standard input over a set.
     Serve(Source),
-    /// To serve them with comments in the record.
+    /// To serve event lines from standard input over a set, with comments in the record.
     Remark {
         source: Source,
         comments: Comments,
     },
-    /// To serve them over the set of the documents at these paths, with a journal of them in the file at the first one.
+    /// To serve event lines from standard input over the set of the documents at these paths, with a journal of them in the file at the
+    /// first one.
     Keep {
         journal: String,
         cell: String,

@@ -14,8 +14,8 @@ use Rattle.batch_desk.specs.declared.console.Console.{Console}
 use Rattle.batch_desk.specs.DeskState.{DeskState}
 use Rattle.batch_desk.specs.Consoles.{IsConsole, completes, creates, creations, refusals, starts}
 
--- the state of a console of so many batches agrees with the events that it sent and the outs that it took: no batch above the last was
--- started, and the one that is to be started was created, and not started yet
+-- the state of a console of so many batches agrees with the events that it sent and the outs that it took. No batch above the last was
+-- started. The batch that is to be started was created, and not started yet
 pub record Minds (batches : ℕ) (c : Console) (sent : List Event) (taken : List Out) : Type 0 where
   pub to_create : creates sent + c.to_create ≡ batches
   pub to_complete : c.to_complete ≡ batches - completes taken

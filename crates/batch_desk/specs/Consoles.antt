@@ -67,8 +67,8 @@ completes outs = sum_by telling_complete outs
 abbrev pub refusals : List Out → ℕ
 refusals outs = sum_by telling_refused outs
 
--- a console has sent more events from its desk, and taken more outs: it sent creates by its plan, for as many
--- batches at most, and the start of each batch at most once, and only if an out that it took said that the batch was created
+-- a console has sent more events from its desk, and taken more outs. It sent creates by its plan, `batches` of them at most. It sent the
+-- start of each batch at most once, and only if an out that it took said that the batch was created
 pub record IsConsole (plan : BatchPlan) (batches : ℕ) (d e : DeskState) : Type 0 where
   -- the rings of the desk are the same
   pub events : e.events ≡ d.events

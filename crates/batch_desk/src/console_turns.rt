@@ -11,10 +11,13 @@ use crate::gate::Gate;
 use crate::loop_end::LoopEnd;
 use std::alloc::Global;
 
-/// Makes batches by a plan, one after the other: sends a create, starts the batch once a reply says that it was created, and sends the
-/// next create once the start is answered, until `batches` moves were taken by which a batch became complete, or an event is refused.
-/// One turn takes at most one out and sends at most one event; an event for which there is no memory or no place is tried again at the
-/// next. At most `limit` turns are counted, among them those that the gate doesn't let pass.
+/// Makes batches by a plan, one after the other.
+///
+/// The console sends a create, and starts the batch once a reply says that it was created. It sends the next create once the start is
+/// answered. It goes on until `batches` moves were taken by which a batch became complete, or an event is refused.
+///
+/// One turn takes at most one out and sends at most one event. An event for which there is no memory or no place is tried again at the
+/// next turn. At most `limit` turns are counted, among them those that the gate doesn't let pass.
 // claim: end of a console's loop (end, refused, turns)
 pub fn console_loop<G: Gate>(
     alloc: Global,

@@ -21,7 +21,7 @@ use std::marker::Model;
 pub(crate) struct Port {
     scope: Scope,
     events: Consumer<Event>,
-    /// None once the port was sealed.
+    /// The end of the ring that outs go into. None once the port was sealed.
     outs: Option<Producer<Out>>,
     /// The queue of the outs for which its ring had no place.
     waiting: VecDeque<Out>,

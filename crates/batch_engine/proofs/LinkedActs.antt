@@ -27,7 +27,7 @@ use Rattle.batch_chart.specs.Outlined.{entry_at, kind_at, kind_by, kind_of_entry
 use Rattle.batch_chart.specs.Outlined as Outlined
 use Rattle.batch_chart.proofs.NodesAtNumbers.{stands-at}
 use Rattle.batch_set.specs.Linking.{IsLinked, IsLinkedSet, run_phase}
-use Rattle.batch_set.specs.Looked.{needs_by, number_for, phase_on, source_of_unit}
+use Rattle.batch_set.specs.Looked.{needs_by, number_for, phase_on, unit_procedure_source}
 use Rattle.batch_set.specs.Sources.{IsSource, SayNeeds}
 use Rattle.batch_set.specs.declared.cell_phases.CellPhases.{CellPhases}
 use Rattle.batch_set.specs.declared.linked.LinkedNeed.{LinkedNeed}
@@ -168,10 +168,10 @@ module _ (v : EngineView) (k : IsKept v) (i : ℕ) (b : Batch) (at : slice_get v
         let s = run-by r step p.name named in
         let there : slice_get (units_of v.cleared.cell) u.0 ≡ Some p.unit = name-at (units_of v.cleared.cell) p.unit u.0 u.1 in
         let within : u.0 < length (units_of v.cleared.cell) = slice_get_within (units_of v.cleared.cell) u.0 p.unit there in
-        let source : IsSource v.cleared.cell r.roles.items bound (source_of_unit x e.detail) p.unit =
-        subst (IsSource v.cleared.cell r.roles.items bound (source_of_unit x e.detail)) a.4 (units-said v.cleared.cell set.phases r x is-linked bound e.detail a.0 a.1 a.2 a.3) in
+        let source : IsSource v.cleared.cell r.roles.items bound (unit_procedure_source x e.detail) p.unit =
+        subst (IsSource v.cleared.cell r.roles.items bound (unit_procedure_source x e.detail)) a.4 (units-said v.cleared.cell set.phases r x is-linked bound e.detail a.0 a.1 a.2 a.3) in
         let resource : resource_number v.cleared p.unit ≡ Some u.0 = subst (λ (name : Name). resource_number v.cleared name ≡ Some u.0) (unit-named v.cleared u.0 p.unit there) (unit-numbers v.cleared u.0 within).0 in
-        let unit : number_for b.units (source_of_unit x e.detail) ≡ Some u.0 = number-here (source_of_unit x e.detail) p.unit source ∙ resource in
+        let unit : number_for b.units (unit_procedure_source x e.detail) ≡ Some u.0 = number-here (unit_procedure_source x e.detail) p.unit source ∙ resource in
         let phase : phase_on x set.phases step u.0 ≡ Some q.0 =
         phases-said v.cleared.cell set.phases linked.phases r x is-linked step s.0 p.name s.1 s.2 u.0 q.0 within q.1 in
         ap (phase_by x set.phases b.units e.detail) (phase-kind e.kind e.needs e.detail needs step (sym kind-is ∙ f))

@@ -3,7 +3,7 @@ use Rattle.std.specs.Prelude.{ℕ, List, Option, None, option_and_then, option_m
 use Rattle.batch_recipe.specs.declared.acts.LabelTable.TheVariants.{Phases}
 use Rattle.batch_recipe.specs.declared.entry.Kind.{Kind}
 use Rattle.batch_recipe.specs.declared.entry.Kind.TheVariants.{Act}
-use Rattle.batch_set.specs.Looked.{number_for, phase_on, source_of_unit}
+use Rattle.batch_set.specs.Looked.{number_for, phase_on, unit_procedure_source}
 use Rattle.batch_set.specs.declared.cell_phases.CellPhases.{CellPhases}
 use Rattle.batch_set.specs.declared.linked.LinkedRecipe.{LinkedRecipe}
 use Rattle.batch_engine.specs.declared.phase_number.PhaseNumber.{PhaseNumber}
@@ -11,5 +11,5 @@ use Rattle.batch_engine.specs.declared.phase_number.PhaseNumber.{PhaseNumber}
 -- the phase that the act of this kind runs under a unit procedure, if the units with these numbers take the roles
 abbrev pub phase_by : LinkedRecipe → CellPhases → List ℕ → ℕ → Kind → Option PhaseNumber
 phase_by linked phases units unit_procedure (Act Phases step) =
-    option_and_then (λ unit. option_map (λ phase. record { unit = unit; phase = phase }) (phase_on linked phases step unit)) (number_for units (source_of_unit linked unit_procedure))
+    option_and_then (λ unit. option_map (λ phase. record { unit = unit; phase = phase }) (phase_on linked phases step unit)) (number_for units (unit_procedure_source linked unit_procedure))
 phase_by linked phases units unit_procedure _ = None

@@ -67,7 +67,7 @@ impl Batches {
         }
     }
 
-    /// Its index if no batch between the first and it was removed: the difference of their numbers.
+    /// The index of the batch with this number, if no batch between the first and it was removed: the difference of their numbers.
     fn guess(&self, number: u64) -> Option<usize>
         ensures { IfSome result (λ index. Some index ≡ position (λ n. nat_eq n number) self.now.numbers) }
     {
@@ -81,7 +81,7 @@ impl Batches {
         }
     }
 
-    /// Its index, by binary search.
+    /// The index of the batch with this number, by binary search.
     fn search(&self, number: u64) -> Option<usize>
         ensures { result ≡ position (λ n. nat_eq n number) self.now.numbers }
     {

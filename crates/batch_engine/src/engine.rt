@@ -5,8 +5,8 @@ use std::marker::Model;
 
 /// The engine: a cleared set of recipes, and the batches that are made of it.
 ///
-/// It searches the marked batches alone for the next move. A batch is marked by its own moves and events, and if an act of it may
-/// be the next that is served of a resource: after a release or a grant of that resource, and after a stop or an abort.
+/// It searches the marked batches alone for the next move. A batch is marked by its own moves and events. It is also marked if an act of
+/// it may be the next that is served of a resource: after a release or a grant of that resource, and after a stop or an abort.
 pub struct Engine {
     pub(crate) control: Control,
     /// Of the indices of batches: one that isn't marked has no move.

@@ -27,7 +27,7 @@ impl Model for Marks {
 }
 
 impl Marks {
-    /// Nothing is marked.
+    /// Marks of which none is set.
     pub(crate) fn new() -> Marks
         ensures { (i : ℕ) → IsUnmarked result i }
     {

@@ -195,8 +195,12 @@ OneUnitTakesTwoRoles =
     run cell_with_roles (create (codes "E") 1000 ((rx, r2) ∷ (ry, r2) ∷ []) ∷ [])
     ≡ (reply (created 1 (codes "E") 1000 ((rx, r2) ∷ (ry, r2) ∷ [])) ∷ [])
 
--- a role that isn't bound, beside a size out of range too, or is bound to a name of no unit, or twice, or another name alone or beside
--- it; and a size out of range beside a binding
+-- creates that are refused for their bindings, and the last one for its size:
+-- - the role isn't bound, beside a size in range and beside one out of range;
+-- - the role is bound to a name of no unit;
+-- - the role is bound twice;
+-- - another name is bound, alone and beside the role;
+-- - the size is out of range, beside a binding of the role
 abbrev pub BadBindings : Type 0
 BadBindings =
     run cell_with_roles
@@ -304,9 +308,9 @@ ThreeTurnsLength = length record_of_three ≡ 18
 
 -- Kinds before places
 
--- Batch 2 is granted both units while it is held. Once REST has ended at 0.0.0, its release is of kind 3 and comes before
--- the begin of MAKE at 0.0.1, which is of kind 4 and stood possible all the time; before that each begin and end of kind 4
--- comes in the order of places: 0.0.0 begins and ends before 0.0.1 begins.
+-- Batch 2 is granted both units while it is held. Once REST has ended at 0.0.0, its release is of kind 3. The release comes before the
+-- begin of MAKE at 0.0.1, which is of kind 4 and stood possible all the time. Before that each begin and end of kind 4 comes in the order
+-- of places: 0.0.0 begins and ends before 0.0.1 begins.
 abbrev pub ReleaseBeforeBegin : Type 0
 ReleaseBeforeBegin =
     run cell

@@ -209,7 +209,7 @@ pub fn hold_while_pausing()
     ensures { HoldWhilePausing }
 {}
 
-/// So many batches exist at most, and so many numbers are given.
+/// Batches are created up to the limit of live batches and up to the last number, and none beyond these.
 pub fn live_batch_limit()
     ensures removed { RemovedBatchLeavesPlace }
     ensures last_place { LastBatchIsCreated }

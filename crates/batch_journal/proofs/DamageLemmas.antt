@@ -6,7 +6,7 @@ use Rattle.std.proofs.lemmas.Slice.Eq.{starts_is}
 use Rattle.std.proofs.lemmas.List.{append-nil, append_cancel_left, drop_at, drop-drop, length-drop, take-append-le, drop-append-le}
 use Rattle.std.proofs.Math.Seq.{take-append-add}
 use Rattle.batch_journal.specs.Disks.{IsPart}
-use Rattle.batch_journal.specs.Lines.{IsLine, AreLines, text_of, whole_from, lines_before_zero}
+use Rattle.batch_journal.specs.Lines.{IsLine, AreLines, text_of, whole_from, whole_lines_before_zero}
 use Rattle.batch_journal.specs.Groups.{Format, last_sum, AreOthers}
 use Rattle.batch_journal.specs.Journals.{journal_format, closing_mark, header, groups_in, IsClosed, IsJournal}
 use Rattle.batch_journal.specs.Recovery.{IsDamaged, CrashIsNoDamage, closings, raw_lines}
@@ -182,7 +182,7 @@ text_feed line (next ∷ lines) =
     (line ++ 10 ∷ below.0, ap (λ l. line ++ 10 ∷ l) below.1 ∙ sym (append_assoc line (10 ∷ below.0) (10 ∷ [])))
 
 journal_feed : (documents file sum : List ℕ) → IsJournal documents file sum → (front : List ℕ) × (file ≡ front ++ 10 ∷ [])
-journal_feed documents file sum journal = go (lines_before_zero (groups_in documents file)) journal.closed.whole
+journal_feed documents file sum journal = go (whole_lines_before_zero (groups_in documents file)) journal.closed.whole
   where
     start : List ℕ
     start = codes "# batchd journal 1 " ++ documents
@@ -247,9 +247,9 @@ module _ (documents synced sum tail : List ℕ) (line : ℕ) (journal : IsJourna
       let first : IsJournal documents front damaged.sum = subst (λ l. IsJournal documents l damaged.sum) (take-append-le end synced tail (omega (arith, lt))) damaged.journal in
       let groups : groups_in documents synced ≡ groups_in documents front ++ behind = ap (groups_in documents) (sym (take-append-drop end synced)) ∙ groups_behind documents front behind first.begins in
       let closed : IsClosed documents (groups_in documents front ++ behind) sum = subst (λ l. IsClosed documents l sum) groups journal.closed in
-      let wa = lines_before_zero (groups_in documents front) in
-      let wb = lines_before_zero behind in
-      let lines : lines_before_zero (groups_in documents front ++ behind) ≡ wa ++ wb = whole_behind (groups_in documents front) behind first.closed.whole in
+      let wa = whole_lines_before_zero (groups_in documents front) in
+      let wb = whole_lines_before_zero behind in
+      let lines : whole_lines_before_zero (groups_in documents front ++ behind) ≡ wa ++ wb = whole_behind (groups_in documents front) behind first.closed.whole in
       let last : last_sum journal_format damaged.sum [] wb ≡ Some sum =
       sym (go_on journal_format documents damaged.sum [] wa wb first.closed.closed).1 ∙ ap (last_sum journal_format documents []) (sym lines) ∙ closed.closed in
       let text : behind ≡ text_of wb = append_cancel_left (groups_in documents front) behind (text_of wb)

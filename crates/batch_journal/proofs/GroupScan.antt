@@ -2,7 +2,7 @@
 use Rattle.std.proofs.Common.{rules, ◌≡◌, ◌≢◌, ℕ, zero, suc, ◌+◌, ◌-◌, ◌≤◌, ◌<◌, true, false, ◌==◌, ◌||◌, List, [], ◌∷◌, ◌++◌, length, length-append, take, drop, take-append-drop, slice_range, slice_index, get_or, refl, sym, ◌∙◌, ap, subst, arith, append_assoc}
 use Rattle.std.proofs.lemmas.List.{append-nil, take_at, drop_more, take_all, drop-append-le, take-append-le, drop-take, length-drop, length-take-le}
 use lib.Seq.{take-add}
-use Rattle.batch_journal.specs.Lines.{IsLine, AreLines, text_of, lines_before_zero}
+use Rattle.batch_journal.specs.Lines.{IsLine, AreLines, text_of, whole_lines_before_zero}
 use Rattle.batch_journal.specs.Ends.{EndsLine}
 use Rattle.batch_journal.specs.Groups.{is_left, AreOthers}
 use Rattle.batch_journal.specs.Journals.{journal_format, next_sum, IsClosed}
@@ -14,9 +14,9 @@ use Rattle.batch_journal.proofs.LastWholeLine.{nothing_behind, at_zero}
 -- Lines
 
 -- the line that ends there is the first
-pub first_line : (at : ℕ) (bytes : List ℕ) → EndsLine at bytes → lines_before_zero bytes ≡ take at bytes ∷ lines_before_zero (drop (at + 1) bytes)
+pub first_line : (at : ℕ) (bytes : List ℕ) → EndsLine at bytes → whole_lines_before_zero bytes ≡ take at bytes ∷ whole_lines_before_zero (drop (at + 1) bytes)
 first_line at bytes ends =
-    ap lines_before_zero (ends.feed ∙ sym (append_assoc (take at bytes) (10 ∷ []) (drop (at + 1) bytes)))
+    ap whole_lines_before_zero (ends.feed ∙ sym (append_assoc (take at bytes) (10 ∷ []) (drop (at + 1) bytes)))
     ∙ lines_behind (take at bytes ∷ []) (drop (at + 1) bytes) (ends.is_line, tt)
 
 neither : (b : ℕ) → ((b == 0 || b == 10) ≡ true → ⊥) → ((b == 0) ≡ false) × ((b == 10) ≡ false)
@@ -31,15 +31,15 @@ line_until (b ∷ bytes) (suc n) none le =
     let here = neither b (none 0 (omega arith)) in
     (here.0, here.1, line_until bytes n (λ k lt is. none (suc k) (omega (arith, lt)) is) (omega (arith, le)))
 
-pub no_line : (bytes : List ℕ) → ((k : ℕ) → k < length bytes → (slice_index bytes k == 0 || slice_index bytes k == 10) ≡ true → ⊥) → lines_before_zero bytes ≡ []
+pub no_line : (bytes : List ℕ) → ((k : ℕ) → k < length bytes → (slice_index bytes k == 0 || slice_index bytes k == 10) ≡ true → ⊥) → whole_lines_before_zero bytes ≡ []
 no_line bytes none =
     let is : IsLine bytes = subst IsLine (take_all (length bytes) bytes (omega arith)) (line_until bytes (length bytes) none (omega arith)) in
-    ap lines_before_zero (sym (append-nil bytes)) ∙ nothing_behind bytes [] is refl
+    ap whole_lines_before_zero (sym (append-nil bytes)) ∙ nothing_behind bytes [] is refl
 
 pub no_line_before_zero : (bytes : List ℕ) (at : ℕ) → ((k : ℕ) → k < at → (slice_index bytes k == 0 || slice_index bytes k == 10) ≡ true → ⊥) → at < length bytes
-    → get_or bytes at 0 ≡ 0 → lines_before_zero bytes ≡ []
+    → get_or bytes at 0 ≡ 0 → whole_lines_before_zero bytes ≡ []
 no_line_before_zero bytes at none lt is_zero =
-    ap lines_before_zero (sym (take-append-drop at bytes)) ∙ nothing_behind (take at bytes) (drop at bytes) (line_until bytes at none (omega (arith, lt))) (at_zero bytes at lt is_zero)
+    ap whole_lines_before_zero (sym (take-append-drop at bytes)) ∙ nothing_behind (take at bytes) (drop at bytes) (line_until bytes at none (omega (arith, lt))) (at_zero bytes at lt is_zero)
 
 pub ends_there : (bytes : List ℕ) (at : ℕ) → ((k : ℕ) → k < at → (slice_index bytes k == 0 || slice_index bytes k == 10) ≡ true → ⊥) → at < length bytes
     → get_or bytes at 0 ≡ 10 → EndsLine at bytes
@@ -69,21 +69,21 @@ module _ (documents bytes : List ℕ) (end at len : ℕ) (sum : List ℕ) (begun
   behind = ap (drop end) (sym (take-append-drop at bytes)) ∙ drop-append-le end (take at bytes) (drop at bytes) (omega (arith, order, length-take-le at bytes within))
       ∙ ap (λ l. l ++ drop at bytes) range_is
 
-  lines_left : lines_before_zero (drop end bytes) ≡ begun ++ lines_before_zero (drop at bytes)
-  lines_left = ap lines_before_zero behind ∙ ap (λ l. lines_before_zero (l ++ drop at bytes)) text_is ∙ lines_behind begun (drop at bytes) are
+  lines_left : whole_lines_before_zero (drop end bytes) ≡ begun ++ whole_lines_before_zero (drop at bytes)
+  lines_left = ap whole_lines_before_zero behind ∙ ap (λ l. whole_lines_before_zero (l ++ drop at bytes)) text_is ∙ lines_behind begun (drop at bytes) are
 
-  begun_left : is_left journal_format sum [] (lines_before_zero (drop end bytes)) ≡ is_left journal_format sum begun (lines_before_zero (drop at bytes))
-  begun_left = ap (is_left journal_format sum []) lines_left ∙ left_on journal_format sum [] begun (lines_before_zero (drop at bytes)) others
+  begun_left : is_left journal_format sum [] (whole_lines_before_zero (drop end bytes)) ≡ is_left journal_format sum begun (whole_lines_before_zero (drop at bytes))
+  begun_left = ap (is_left journal_format sum []) lines_left ∙ left_on journal_format sum [] begun (whole_lines_before_zero (drop at bytes)) others
 
-  pub none_left : lines_before_zero (drop at bytes) ≡ [] → is_left journal_format sum [] (lines_before_zero (drop end bytes)) ≡ true
+  pub none_left : whole_lines_before_zero (drop at bytes) ≡ [] → is_left journal_format sum [] (whole_lines_before_zero (drop end bytes)) ≡ true
   none_left none = begun_left ∙ ap (is_left journal_format sum begun) none
 
   pub none_closed : (line : List ℕ) → EndsLine len (drop at bytes) → line ≡ take len (drop at bytes) → journal_format.own line ≡ true
-      → journal_format.closes (next_sum sum (slice_range bytes end at)) line ≡ false → is_left journal_format sum [] (lines_before_zero (drop end bytes)) ≡ true
+      → journal_format.closes (next_sum sum (slice_range bytes end at)) line ≡ false → is_left journal_format sum [] (whole_lines_before_zero (drop end bytes)) ≡ true
   none_closed line ends line_is own closes =
       let first = first_line len (drop at bytes) ends in
-      begun_left ∙ ap (is_left journal_format sum begun) (first ∙ ap (λ l. l ∷ lines_before_zero (drop (len + 1) (drop at bytes))) (sym line_is))
-      ∙ wrong_sum journal_format sum begun line (lines_before_zero (drop (len + 1) (drop at bytes))) own (subst (λ t. journal_format.closes (next_sum sum t) line ≡ false) text_is closes)
+      begun_left ∙ ap (is_left journal_format sum begun) (first ∙ ap (λ l. l ∷ whole_lines_before_zero (drop (len + 1) (drop at bytes))) (sym line_is))
+      ∙ wrong_sum journal_format sum begun line (whole_lines_before_zero (drop (len + 1) (drop at bytes))) own (subst (λ t. journal_format.closes (next_sum sum t) line ≡ false) text_is closes)
 
   -- the line and its line feed
   step : EndsLine len (drop at bytes) → take (at + (len + 1)) bytes ≡ take at bytes ++ (take len (drop at bytes) ++ 10 ∷ [])

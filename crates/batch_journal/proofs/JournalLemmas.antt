@@ -1,30 +1,30 @@
 -- Texts of groups behind a header.
 use Rattle.std.proofs.Common.{◌≡◌, ◌⊎◌, ℕ, true, false, List, [], ◌∷◌, ◌++◌, length, length-append, Some, refl, sym, ◌∙◌, ap, subst, arith, append_assoc, inl, inr}
 use Rattle.std.proofs.lemmas.List.{drop-append-le}
-use Rattle.batch_journal.specs.Lines.{IsLine, AreLines, text_of, until_zero, whole_from, lines_before_zero}
+use Rattle.batch_journal.specs.Lines.{IsLine, AreLines, text_of, until_zero, whole_from, whole_lines_before_zero}
 use Rattle.batch_journal.specs.Groups.{Format, taken, last_sum, AreOthers}
 use Rattle.batch_journal.specs.Journals.{journal_format, next_sum, header, groups_in, lines_taken, recovered, IsClosed, IsJournal}
 use Rattle.batch_journal.proofs.LineLemmas.{no_zero, until_zero_behind, until_zero_all, reads_lines, reads_all, text_both, lines_both, are_whole_lines}
 use Rattle.batch_journal.proofs.GroupLemmas.{go_on, is_taken, bool_cases}
 
 -- behind lines others are read as by themselves
-pub lines_behind : (lines : List (List ℕ)) (tail : List ℕ) → AreLines lines → lines_before_zero (text_of lines ++ tail) ≡ lines ++ lines_before_zero tail
+pub lines_behind : (lines : List (List ℕ)) (tail : List ℕ) → AreLines lines → whole_lines_before_zero (text_of lines ++ tail) ≡ lines ++ whole_lines_before_zero tail
 lines_behind lines tail are = ap (whole_from []) (until_zero_behind (text_of lines) tail (no_zero lines are)) ∙ reads_lines lines (until_zero tail) are
 
-pub lines_of_text : (lines : List (List ℕ)) → AreLines lines → lines_before_zero (text_of lines) ≡ lines
+pub lines_of_text : (lines : List (List ℕ)) → AreLines lines → whole_lines_before_zero (text_of lines) ≡ lines
 lines_of_text lines are = ap (whole_from []) (until_zero_all (text_of lines) (no_zero lines are)) ∙ reads_all lines are
 
 -- behind a text of whole lines others are read as by themselves
-pub whole_behind : (text tail : List ℕ) → text ≡ text_of (lines_before_zero text) → lines_before_zero (text ++ tail) ≡ lines_before_zero text ++ lines_before_zero tail
-whole_behind text tail whole = ap (λ l. lines_before_zero (l ++ tail)) whole ∙ lines_behind (lines_before_zero text) tail (are_whole_lines text)
+pub whole_behind : (text tail : List ℕ) → text ≡ text_of (whole_lines_before_zero text) → whole_lines_before_zero (text ++ tail) ≡ whole_lines_before_zero text ++ whole_lines_before_zero tail
+whole_behind text tail whole = ap (λ l. whole_lines_before_zero (l ++ tail)) whole ∙ lines_behind (whole_lines_before_zero text) tail (are_whole_lines text)
 
 module _ (documents : List ℕ) where
   -- behind whole groups others are taken as by themselves
   pub taken_behind : (groups sum tail : List ℕ) → IsClosed documents groups sum
-      → lines_taken documents (groups ++ tail) ≡ lines_taken documents groups ++ taken journal_format sum [] (lines_before_zero tail)
+      → lines_taken documents (groups ++ tail) ≡ lines_taken documents groups ++ taken journal_format sum [] (whole_lines_before_zero tail)
   taken_behind groups sum tail closed =
       ap (taken journal_format documents []) (whole_behind groups tail closed.whole)
-      ∙ (go_on journal_format documents sum [] (lines_before_zero groups) (lines_before_zero tail) closed.closed).0
+      ∙ (go_on journal_format documents sum [] (whole_lines_before_zero groups) (whole_lines_before_zero tail) closed.closed).0
 
   -- a group more
   module _ (groups sum text closing : List ℕ) (lines : List (List ℕ)) (is_closed : IsClosed documents groups sum) (text_is : text ≡ text_of lines)
@@ -36,8 +36,8 @@ module _ (documents : List ℕ) where
     group_lines : AreLines (lines ++ closing ∷ [])
     group_lines = lines_both lines (closing ∷ []) are (is_line, tt)
 
-    read : lines_before_zero (text ++ (closing ++ 10 ∷ [])) ≡ lines ++ closing ∷ []
-    read = ap lines_before_zero group_is ∙ lines_of_text (lines ++ closing ∷ []) group_lines
+    read : whole_lines_before_zero (text ++ (closing ++ 10 ∷ [])) ≡ lines ++ closing ∷ []
+    read = ap whole_lines_before_zero group_is ∙ lines_of_text (lines ++ closing ∷ []) group_lines
 
     closes_so : journal_format.closes (journal_format.next sum lines) closing ≡ true
     closes_so = subst (λ t. journal_format.closes (next_sum sum t) closing ≡ true) text_is closes
@@ -45,15 +45,15 @@ module _ (documents : List ℕ) where
     group : (taken journal_format sum [] (lines ++ closing ∷ []) ≡ lines) × (last_sum journal_format sum [] (lines ++ closing ∷ []) ≡ Some (next_sum sum (text_of lines)))
     group = is_taken journal_format sum lines closing others own closes_so
 
-    all_read : lines_before_zero (groups ++ (text ++ (closing ++ 10 ∷ []))) ≡ lines_before_zero groups ++ (lines ++ closing ∷ [])
-    all_read = whole_behind groups (text ++ (closing ++ 10 ∷ [])) is_closed.whole ∙ ap (λ l. lines_before_zero groups ++ l) read
+    all_read : whole_lines_before_zero (groups ++ (text ++ (closing ++ 10 ∷ []))) ≡ whole_lines_before_zero groups ++ (lines ++ closing ∷ [])
+    all_read = whole_behind groups (text ++ (closing ++ 10 ∷ [])) is_closed.whole ∙ ap (λ l. whole_lines_before_zero groups ++ l) read
 
     pub closed_with : IsClosed documents (groups ++ (text ++ (closing ++ 10 ∷ []))) (next_sum sum text)
     closed_with = record {
-      whole = ap (λ l. l ++ (text ++ (closing ++ 10 ∷ []))) is_closed.whole ∙ ap (λ l. text_of (lines_before_zero groups) ++ l) group_is
-          ∙ sym (text_both (lines_before_zero groups) (lines ++ closing ∷ [])) ∙ ap text_of (sym all_read);
+      whole = ap (λ l. l ++ (text ++ (closing ++ 10 ∷ []))) is_closed.whole ∙ ap (λ l. text_of (whole_lines_before_zero groups) ++ l) group_is
+          ∙ sym (text_both (whole_lines_before_zero groups) (lines ++ closing ∷ [])) ∙ ap text_of (sym all_read);
       closed = ap (last_sum journal_format documents []) all_read
-          ∙ (go_on journal_format documents sum [] (lines_before_zero groups) (lines ++ closing ∷ []) is_closed.closed).1
+          ∙ (go_on journal_format documents sum [] (whole_lines_before_zero groups) (lines ++ closing ∷ []) is_closed.closed).1
           ∙ group.1 ∙ ap (λ t. Some (next_sum sum t)) (sym text_is);
     }
 
@@ -70,7 +70,7 @@ module _ (documents : List ℕ) where
 
   -- behind a journal
   pub recovered_behind : (file sum tail : List ℕ) → IsJournal documents file sum
-      → recovered documents (file ++ tail) ≡ recovered documents file ++ taken journal_format sum [] (lines_before_zero tail)
+      → recovered documents (file ++ tail) ≡ recovered documents file ++ taken journal_format sum [] (whole_lines_before_zero tail)
   recovered_behind file sum tail journal =
       ap (lines_taken documents) (groups_behind file tail journal.begins) ∙ taken_behind (groups_in documents file) sum tail journal.closed
 
@@ -107,4 +107,4 @@ are_taken f sum begun (line ∷ lines) are others =
     (are_taken f (f.next sum begun) [] lines tt others.1) (are_taken f sum (begun ++ line ∷ []) lines (lines_both begun (line ∷ []) are (others.0, tt)) others.1)
 
 pub are_recovered : (documents file : List ℕ) → AreLines (recovered documents file)
-are_recovered documents file = are_taken journal_format documents [] (lines_before_zero (groups_in documents file)) tt (are_whole_lines (groups_in documents file))
+are_recovered documents file = are_taken journal_format documents [] (whole_lines_before_zero (groups_in documents file)) tt (are_whole_lines (groups_in documents file))

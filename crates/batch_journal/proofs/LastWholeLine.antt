@@ -2,7 +2,7 @@
 use Rattle.std.proofs.Common.{rules, ◌≡◌, ◌⊎◌, ℕ, ◌+◌, ◌-◌, ◌≤◌, zero, suc, List, [], ◌∷◌, ◌++◌, length, take, drop, get_or, ◌<◌, ◌≢◌, refl, sym, ◌∙◌, ap, subst, arith, append_assoc, inl, inr, true, false, ◌==◌, length-append}
 use Rattle.std.proofs.lemmas.List.{append-nil, take_at, drop_at, drop_more, at_drop_all}
 use Rattle.std.proofs.Math.Seq.{take-append-add}
-use Rattle.batch_journal.specs.Lines.{IsLine, AreLines, text_of, until_zero, whole_from, lines_before_zero}
+use Rattle.batch_journal.specs.Lines.{IsLine, AreLines, text_of, until_zero, whole_from, whole_lines_before_zero}
 use Rattle.batch_journal.proofs.GroupLemmas.{bool_cases}
 use Rattle.batch_journal.proofs.LineLemmas.{HasNoZero, no_zero, until_zero_behind, reads_lines, text_both, lines_both, line_more}
 
@@ -56,7 +56,7 @@ pub nothing_behind : (line rest : List ℕ) → IsLine line → until_zero rest 
 nothing_behind line rest is none =
     ap (whole_from []) (until_zero_behind line rest (no_zero_line line is) ∙ ap (λ l. line ++ l) none ∙ append-nil line) ∙ no_whole [] line is
 
-pub lines_are : (lines : List (List ℕ)) (line rest : List ℕ) → AreLines lines → IsLine line → until_zero rest ≡ [] → lines_before_zero (text_of lines ++ (line ++ rest)) ≡ lines
+pub lines_are : (lines : List (List ℕ)) (line rest : List ℕ) → AreLines lines → IsLine line → until_zero rest ≡ [] → whole_lines_before_zero (text_of lines ++ (line ++ rest)) ≡ lines
 lines_are lines line rest are is none =
     ap (whole_from []) (until_zero_behind (text_of lines) (line ++ rest) (no_zero lines are))
     ∙ reads_lines lines (until_zero (line ++ rest)) are
@@ -64,10 +64,10 @@ lines_are lines line rest are is none =
     ∙ append-nil lines
 
 module _ (bytes : List ℕ) (end at : ℕ) (rest : List ℕ) (s : Stands bytes end at rest) (none : until_zero rest ≡ []) where
-  pub text_found : take end bytes ≡ text_of (lines_before_zero bytes)
+  pub text_found : take end bytes ≡ text_of (whole_lines_before_zero bytes)
   text_found =
       ap (take end) s.splits ∙ take_at (text_of s.lines) (s.line ++ rest) end (sym s.size)
-      ∙ ap text_of (sym (ap lines_before_zero s.splits ∙ lines_are s.lines s.line rest s.are_lines s.is_line none))
+      ∙ ap text_of (sym (ap whole_lines_before_zero s.splits ∙ lines_are s.lines s.line rest s.are_lines s.is_line none))
 
   pub rest_found : whole_from [] (until_zero (drop end bytes)) ≡ []
   rest_found =
@@ -76,8 +76,8 @@ module _ (bytes : List ℕ) (end at : ℕ) (rest : List ℕ) (s : Stands bytes e
       ∙ nothing_behind s.line rest s.is_line none
 
 module _ (bytes : List ℕ) (end at : ℕ) (rest : List ℕ) (s : Stands bytes end at rest) (none : until_zero rest ≡ []) where
-  pub lines_found : AreLines (lines_before_zero bytes)
-  lines_found = subst AreLines (sym (ap lines_before_zero s.splits ∙ lines_are s.lines s.line rest s.are_lines s.is_line none)) s.are_lines
+  pub lines_found : AreLines (whole_lines_before_zero bytes)
+  lines_found = subst AreLines (sym (ap whole_lines_before_zero s.splits ∙ lines_are s.lines s.line rest s.are_lines s.is_line none)) s.are_lines
 
 -- Steps of the loop
 

@@ -1,7 +1,7 @@
 -- Whole lines of a text, and of texts one behind the other.
 use Rattle.std.proofs.Common.{◌≡◌, ◌⊎◌, ℕ, suc, ◌≤◌, List, [], ◌∷◌, ◌++◌, length, take, refl, sym, ◌∙◌, ap, subst, arith, append_assoc, inl, inr, true, false, Bool, ⊎_elim, ◌==◌, if◌then◌else◌}
 use Rattle.std.proofs.lemmas.List.{append-nil}
-use Rattle.batch_journal.specs.Lines.{IsLine, AreLines, text_of, until_zero, whole_from, lines_before_zero}
+use Rattle.batch_journal.specs.Lines.{IsLine, AreLines, text_of, until_zero, whole_from, whole_lines_before_zero}
 use Rattle.batch_journal.specs.Disks.{Begins}
 use Rattle.batch_journal.proofs.GroupLemmas.{bool_cases}
 
@@ -105,13 +105,13 @@ are_whole : (begun bytes : List ℕ) → IsLine begun → HasNoZero bytes → Ar
 are_whole begun [] is none = tt
 are_whole begun (b ∷ bytes) is none = are_whole_if begun b bytes (bool_cases (b == 10)) is none (are_whole [] bytes tt none.1) (λ on. are_whole (begun ++ b ∷ []) bytes on none.1)
 
-pub are_whole_lines : (file : List ℕ) → AreLines (lines_before_zero file)
+pub are_whole_lines : (file : List ℕ) → AreLines (whole_lines_before_zero file)
 are_whole_lines file = are_whole [] (until_zero file) tt (no_zero_before file)
 
-pub whole_text : (text : List ℕ) (lines : List (List ℕ)) → AreLines lines → text ≡ text_of lines → text ≡ text_of (lines_before_zero text)
+pub whole_text : (text : List ℕ) (lines : List (List ℕ)) → AreLines lines → text ≡ text_of lines → text ≡ text_of (whole_lines_before_zero text)
 whole_text text lines are is =
-    is ∙ ap text_of (sym (ap lines_before_zero is ∙ ap (whole_from []) (until_zero_all (text_of lines) (no_zero lines are)) ∙ reads_all lines are))
+    is ∙ ap text_of (sym (ap whole_lines_before_zero is ∙ ap (whole_from []) (until_zero_all (text_of lines) (no_zero lines are)) ∙ reads_all lines are))
 
-pub whole_both : (a b c : List ℕ) → a ≡ text_of (lines_before_zero a) → b ≡ text_of (lines_before_zero c) → a ++ b ≡ text_of (lines_before_zero (a ++ b))
-whole_both a b c is_a is_b = whole_text (a ++ b) (lines_before_zero a ++ lines_before_zero c) (lines_both (lines_before_zero a) (lines_before_zero c) (are_whole_lines a) (are_whole_lines c))
-    (ap (λ l. l ++ b) is_a ∙ ap (λ l. text_of (lines_before_zero a) ++ l) is_b ∙ sym (text_both (lines_before_zero a) (lines_before_zero c)))
+pub whole_both : (a b c : List ℕ) → a ≡ text_of (whole_lines_before_zero a) → b ≡ text_of (whole_lines_before_zero c) → a ++ b ≡ text_of (whole_lines_before_zero (a ++ b))
+whole_both a b c is_a is_b = whole_text (a ++ b) (whole_lines_before_zero a ++ whole_lines_before_zero c) (lines_both (whole_lines_before_zero a) (whole_lines_before_zero c) (are_whole_lines a) (are_whole_lines c))
+    (ap (λ l. l ++ b) is_a ∙ ap (λ l. text_of (whole_lines_before_zero a) ++ l) is_b ∙ sym (text_both (whole_lines_before_zero a) (whole_lines_before_zero c)))

@@ -2,7 +2,7 @@
 use Rattle.std.proofs.Common.{◌≡◌, ◌^◌, ℕ, ◌+◌, ◌-◌, ◌≤◌, ◌<◌, Bool, true, false, Result, Ok, Err, OnOk, OnErr, List, [], ◌∷◌, ◌++◌, length, take, drop, take-append-drop, refl, sym, ◌∙◌, ap, subst, arith, append_assoc}
 use Rattle.std.proofs.Math.Seq.{drop-append_seam}
 use Rattle.std.proofs.lemmas.List.{drop-take, length-drop, length-take-le}
-use Rattle.batch_journal.specs.Lines.{IsLine, text_of, lines_before_zero}
+use Rattle.batch_journal.specs.Lines.{IsLine, text_of, whole_lines_before_zero}
 use Rattle.batch_journal.specs.Disks.{Left, MayLeave}
 use Rattle.batch_journal.specs.Readers.{IsGroup, IsJournalKept, Recalls, not_given}
 use Rattle.batch_journal.specs.Journals.{next_sum, recovered, IsJournal}
@@ -65,13 +65,13 @@ recalls_on documents base durable seen given rest sum lines left kept is may =
 
 -- Of a window
 
-pub whole_front : (bytes : List ℕ) (end fits : ℕ) → end ≤ fits → take end (take fits bytes) ≡ text_of (lines_before_zero (take fits bytes))
-    → take end bytes ≡ text_of (lines_before_zero (take end bytes))
+pub whole_front : (bytes : List ℕ) (end fits : ℕ) → end ≤ fits → take end (take fits bytes) ≡ text_of (whole_lines_before_zero (take fits bytes))
+    → take end bytes ≡ text_of (whole_lines_before_zero (take end bytes))
 whole_front bytes end fits le is =
-    whole_text (take end bytes) (lines_before_zero (take fits bytes)) (are_whole_lines (take fits bytes)) (take_less end fits bytes le ∙ is)
+    whole_text (take end bytes) (whole_lines_before_zero (take fits bytes)) (are_whole_lines (take fits bytes)) (take_less end fits bytes le ∙ is)
 
-pub group_front : (bytes : List ℕ) (end : ℕ) → take end bytes ≡ text_of (lines_before_zero bytes) → take end bytes ≡ text_of (lines_before_zero (take end bytes))
-group_front bytes end is = whole_text (take end bytes) (lines_before_zero bytes) (are_whole_lines bytes) is
+pub group_front : (bytes : List ℕ) (end : ℕ) → take end bytes ≡ text_of (whole_lines_before_zero bytes) → take end bytes ≡ text_of (whole_lines_before_zero (take end bytes))
+group_front bytes end is = whole_text (take end bytes) (whole_lines_before_zero bytes) (are_whole_lines bytes) is
 
 pub ready_front : (bytes items rest : List ℕ) (end ready : ℕ) → bytes ≡ items → end ≤ length bytes → ready ≡ length (take end bytes) → rest ≡ take end bytes
     → rest ≡ take ready items

@@ -2,7 +2,7 @@
 use Rattle.std.proofs.Common.{◌≡◌, ℕ, zero, suc, ◌+◌, ◌≤◌, List, [], ◌∷◌, ◌++◌, length, take, drop, take-append-drop, Option, Some, None, refl, sym, ◌∙◌, ap, subst, arith, append_assoc, ⊎_elim, Bool, ◌≢◌, min, true, false}
 use Rattle.std.proofs.lemmas.List.{append-nil, take_at, length-take, length-take-le}
 use Rattle.std.specs.Io.KnownBytes.{prepend_known, Keeps, Consumes}
-use Rattle.batch_journal.specs.Lines.{IsLine, text_of, lines_before_zero}
+use Rattle.batch_journal.specs.Lines.{IsLine, text_of, whole_lines_before_zero}
 use Rattle.batch_journal.specs.Disks.{Left, Begins, MayLeave, Elapses, LeavesOnly}
 use Rattle.batch_journal.specs.Readers.{IsJournalKept, StartsText, Recalls, HasRecalled, IsAccounted, LinesBegin}
 use Rattle.batch_journal.specs.Groups.{AreOthers, taken}
@@ -21,7 +21,7 @@ starts front text rest is = ap (take (length front)) is ∙ take_at front rest (
 pub recalls : (documents base durable seen given rest sum : List ℕ) (left : Left) → IsJournal documents durable sum → text_of (recovered documents durable) ≡ base ++ (given ++ rest)
     → MayLeave durable seen given left → Recalls documents base left
 recalls documents base durable seen given rest sum left journal is may =
-    let behind = taken journal_format sum [] (lines_before_zero may.disk.tail) in
+    let behind = taken journal_format sum [] (whole_lines_before_zero may.disk.tail) in
     let more = text_of behind in
     let r = may.output.rest in
     starts (base ++ left.given) (text_of (recovered documents left.file)) (r ++ (rest ++ more))
@@ -53,14 +53,14 @@ kept_ready documents base durable seen given ready other sum same kept = subst (
 
 -- after a group is written
 pub kept_more : (documents base durable seen given sum lines next new_durable new_seen new_given : List ℕ) (milliseconds : ℕ) → IsJournalKept documents base durable seen given [] sum
-    → lines ≡ text_of (lines_before_zero lines) → AreOthers journal_format (lines_before_zero lines) → next ≡ next_sum sum lines
+    → lines ≡ text_of (whole_lines_before_zero lines) → AreOthers journal_format (whole_lines_before_zero lines) → next ≡ next_sum sum lines
     → new_seen ≡ seen ++ group_text lines next milliseconds → new_durable ≡ new_seen → new_given ≡ given
     → IsLine (closing_line next milliseconds) → journal_format.own (closing_line next milliseconds) ≡ true
     → journal_format.closes next (closing_line next milliseconds) ≡ true
     → IsJournalKept documents base new_durable new_seen new_given lines next
 kept_more documents base durable seen given sum lines next new_durable new_seen new_given milliseconds kept is others next_is is_seen is_durable is_given is_line own closes =
     let closing = closing_line next milliseconds in
-    let found = lines_before_zero lines in
+    let found = whole_lines_before_zero lines in
     let are = are_whole_lines lines in
     let closes_so : journal_format.closes (next_sum sum lines) closing ≡ true = subst (λ s. journal_format.closes s closing ≡ true) next_is closes in
     let journal = journal_with documents seen sum lines closing found kept.journal is are others is_line own closes_so in
@@ -163,8 +163,8 @@ prepend_none : (known : Option (List ℕ)) → prepend_known [] known ≡ known
 prepend_none None = refl
 prepend_none (Some xs) = refl
 
-pub whole_as : (given now : List ℕ) → now ≡ given → given ≡ text_of (lines_before_zero given) → now ≡ text_of (lines_before_zero now)
-whole_as given now same whole = subst (λ l. l ≡ text_of (lines_before_zero l)) (sym same) whole
+pub whole_as : (given now : List ℕ) → now ≡ given → given ≡ text_of (whole_lines_before_zero given) → now ≡ text_of (whole_lines_before_zero now)
+whole_as given now same whole = subst (λ l. l ≡ text_of (whole_lines_before_zero l)) (sym same) whole
 
 pub part_within : (count fits : ℕ) (l : List ℕ) → count ≤ length (take fits l) → count ≤ fits
 part_within count fits l le = omega (arith, le, length-take fits l)
@@ -184,4 +184,4 @@ lines_first documents front file are starts_so =
     let text = text_of found in
     let rest = drop (length (text_of front)) text in
     let split : text ≡ text_of front ++ rest = sym (take-append-drop (length (text_of front)) text) ∙ ap (λ l. l ++ rest) starts_so in
-    (lines_before_zero rest, sym (lines_of_text found (are_recovered documents file)) ∙ ap lines_before_zero split ∙ lines_behind front rest are)
+    (whole_lines_before_zero rest, sym (lines_of_text found (are_recovered documents file)) ∙ ap whole_lines_before_zero split ∙ lines_behind front rest are)

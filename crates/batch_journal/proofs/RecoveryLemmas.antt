@@ -4,7 +4,7 @@ use Rattle.std.proofs.lemmas.List.{append-nil, take_at, drop_at, drop-drop, leng
 use lib.Seq.{take-add}
 use Rattle.std.specs.List.{starts_with}
 use Rattle.batch_journal.specs.Disks.{IsPart, Left, Begins, MayLeave, MayCut, Elapses, LeavesOnly}
-use Rattle.batch_journal.specs.Lines.{AreLines, until_zero, whole_from, lines_before_zero}
+use Rattle.batch_journal.specs.Lines.{AreLines, until_zero, whole_from, whole_lines_before_zero}
 use Rattle.batch_journal.specs.Groups.{taken, is_left}
 use Rattle.batch_journal.specs.Journals.{journal_format, header, groups_in, recovered, IsClosed, IsJournal}
 use Rattle.batch_journal.specs.Recovery.{AreGroupsTaken, IsJournalUnbegun, KeepsLines, StandsTo, IsDamaged, ClosesTwice, closing_count, raw_lines}
@@ -37,10 +37,10 @@ front_lines begun (b ∷ text) (suc n) =
     front_on begun b text (take n text) (bool_cases (b == 0)) (bool_cases (b == 10)) (front_lines [] text n) (front_lines (begun ++ b ∷ []) text n)
 
 -- where nothing is taken of a text, nothing is taken of a front of it
-pub none_of_front : (sum text : List ℕ) (n : ℕ) → taken journal_format sum [] (lines_before_zero text) ≡ [] → taken journal_format sum [] (lines_before_zero (take n text)) ≡ []
+pub none_of_front : (sum text : List ℕ) (n : ℕ) → taken journal_format sum [] (whole_lines_before_zero text) ≡ [] → taken journal_format sum [] (whole_lines_before_zero (take n text)) ≡ []
 none_of_front sum text n none =
     let front = front_lines [] text n in
-    none_taken_first journal_format sum [] (lines_before_zero (take n text)) front.0 (ap (taken journal_format sum []) (sym front.1) ∙ none)
+    none_taken_first journal_format sum [] (whole_lines_before_zero (take n text)) front.0 (ap (taken journal_format sum []) (sym front.1) ∙ none)
 
 take_none : (l : List ℕ) → take 0 l ≡ []
 take_none [] = refl
@@ -67,12 +67,12 @@ module _ (documents : List ℕ) where
   pub none_in_front : (file : List ℕ) (k : ℕ) → recovered documents file ≡ [] → recovered documents (take k file) ≡ []
   none_in_front file k none =
       let n = length (header documents) in
-      ap (λ l. taken journal_format documents [] (lines_before_zero l)) (drop_take n k file) ∙ none_of_front documents (drop n file) (k - n) none
+      ap (λ l. taken journal_format documents [] (whole_lines_before_zero l)) (drop_take n k file) ∙ none_of_front documents (drop n file) (k - n) none
 
   none_behind : (file : List ℕ) → length file ≤ length (header documents) → recovered documents file ≡ []
   none_behind file le =
       let none : drop (length (header documents)) file ≡ [] = empty_drop (length (header documents)) file le in
-      ap (λ l. taken journal_format documents [] (lines_before_zero l)) none
+      ap (λ l. taken journal_format documents [] (whole_lines_before_zero l)) none
 
 -- A header that is begun
 
@@ -149,10 +149,10 @@ module _ (documents file sum : List ℕ) (end : ℕ) (stands : StandsTo document
       ∙ append-nil (recovered documents (take end file)) ∙ sym lines_to
 
 -- The lines with which a text begins are its first whole ones, whatever follows them
-front_read : (front more : List (List ℕ)) (text : List ℕ) → raw_lines text ≡ front ++ more → AreLines front → (others : List (List ℕ)) × (lines_before_zero text ≡ front ++ others)
+front_read : (front more : List (List ℕ)) (text : List ℕ) → raw_lines text ≡ front ++ more → AreLines front → (others : List (List ℕ)) × (whole_lines_before_zero text ≡ front ++ others)
 front_read front more text splits are =
     let found = lines_front front more text splits in
-    (lines_before_zero found.0, ap lines_before_zero found.1 ∙ lines_behind front found.0 are)
+    (whole_lines_before_zero found.0, ap whole_lines_before_zero found.1 ∙ lines_behind front found.0 are)
 
 -- How far a file is a journal
 
@@ -170,11 +170,11 @@ module _ (documents file sum : List ℕ) (n end : ℕ) (is : n ≡ length (heade
     closed = subst (λ l. IsClosed documents l sum) (sym groups_to) found.closed;
   }
 
-  left_to : is_left journal_format sum [] (lines_before_zero (drop (n + end) file)) ≡ true
-  left_to = ap (λ l. is_left journal_format sum [] (lines_before_zero l)) (sym (drop-drop end n file)) ∙ found.left
+  left_to : is_left journal_format sum [] (whole_lines_before_zero (drop (n + end) file)) ≡ true
+  left_to = ap (λ l. is_left journal_format sum [] (whole_lines_before_zero l)) (sym (drop-drop end n file)) ∙ found.left
 
   pub stands_to : closing_count (drop (n + end) file) ≤ 1 → StandsTo documents file (n + end) sum
-  stands_to few = record { within = omega (arith, found.within, length-drop n file, ap length begins, length-append (header documents) (drop n file), is); journal = journal_to; no_more = nothing_taken journal_format sum [] (lines_before_zero (drop (n + end) file)) left_to; few = few }
+  stands_to few = record { within = omega (arith, found.within, length-drop n file, ap length begins, length-append (header documents) (drop n file), is); journal = journal_to; no_more = nothing_taken journal_format sum [] (whole_lines_before_zero (drop (n + end) file)) left_to; few = few }
 
   pub damaged_to : (line : ℕ) (behind : ClosesTwice (raw_lines (drop (n + end) file))) → line ≡ length (raw_lines (take (n + end) file)) + (length behind.front + 1)
       → IsDamaged documents file line

@@ -4,7 +4,7 @@ use Rattle.std.specs.Char.{is_ascii_digit}
 use Rattle.std.specs.List.{starts_with, list_all}
 use Rattle.hex.specs.Hex.{encode_lower}
 use Rattle.sha2.specs.Sha256.{sha256}
-use Rattle.batch_journal.specs.Lines.{text_of, lines_before_zero}
+use Rattle.batch_journal.specs.Lines.{text_of, whole_lines_before_zero}
 use Rattle.batch_journal.specs.Groups.{Format, taken, last_sum}
 use Rattle.batch_journal.specs.declared.sum.Sum.{Sum}
 use Rattle.batch_journal.specs.declared.sum.Sum.TheVariants.{Documents, Group}
@@ -41,7 +41,7 @@ groups_in documents file = drop (length (header documents)) file
 
 -- the lines of the groups of this text
 abbrev pub lines_taken : List ℕ → List ℕ → List (List ℕ)
-lines_taken documents groups = taken journal_format documents [] (lines_before_zero groups)
+lines_taken documents groups = taken journal_format documents [] (whole_lines_before_zero groups)
 
 -- the lines that a journal of these documents stands for, whatever a crash made of its end
 abbrev pub recovered : List ℕ → List ℕ → List (List ℕ)
@@ -49,8 +49,8 @@ recovered documents file = lines_taken documents (groups_in documents file)
 
 -- the text is whole groups, and this is the sum of the last of them
 pub record IsClosed (documents groups sum : List ℕ) : Type 0 where
-  pub whole : groups ≡ text_of (lines_before_zero groups)
-  pub closed : last_sum journal_format documents [] (lines_before_zero groups) ≡ Some sum
+  pub whole : groups ≡ text_of (whole_lines_before_zero groups)
+  pub closed : last_sum journal_format documents [] (whole_lines_before_zero groups) ≡ Some sum
 
 -- the file is the header and whole groups
 pub record IsJournal (documents file sum : List ℕ) : Type 0 where

@@ -26,5 +26,5 @@ whole_from begun [] = []
 whole_from begun (b ∷ bs) = if b == 10 then begun ∷ whole_from [] bs else whole_from (begun ++ b ∷ []) bs
 
 -- the whole lines before the first zero
-abbrev pub lines_before_zero : List ℕ → List (List ℕ)
-lines_before_zero text = whole_from [] (until_zero text)
+abbrev pub whole_lines_before_zero : List ℕ → List (List ℕ)
+whole_lines_before_zero text = whole_from [] (until_zero text)

@@ -1,7 +1,7 @@
 -- trusted: the facts of a reader that journals lines before it gives them. Each has one proof at most, so that a struct can keep it.
 use Rattle.std.specs.Prelude.{◌≡◌, ℕ, ◌≤◌, List, ◌++◌, length, take, drop, Option, Some}
 use Rattle.std.specs.Io.KnownBytes.{prepend_known}
-use Rattle.batch_journal.specs.Lines.{AreLines, text_of, lines_before_zero}
+use Rattle.batch_journal.specs.Lines.{AreLines, text_of, whole_lines_before_zero}
 use Rattle.batch_journal.specs.Disks.{Left}
 use Rattle.batch_journal.specs.Groups.{AreOthers}
 use Rattle.batch_journal.specs.Journals.{journal_format, recovered, IsJournal}
@@ -14,12 +14,12 @@ pub record IsJournalKept (documents base durable seen given ready sum : List ℕ
 
 -- whole lines alone
 abbrev pub IsWhole : List ℕ → Type 0
-IsWhole text = text ≡ text_of (lines_before_zero text)
+IsWhole text = text ≡ text_of (whole_lines_before_zero text)
 
 -- whole lines that may be a group: none of them closes one
 pub record IsGroup (lines : List ℕ) : Type 0 where
   pub whole : IsWhole lines
-  pub others : AreOthers journal_format (lines_before_zero lines)
+  pub others : AreOthers journal_format (whole_lines_before_zero lines)
 
 -- the lines of the journal behind those from before and all that was given
 abbrev pub not_given : List ℕ → List ℕ → List ℕ → List ℕ → List ℕ

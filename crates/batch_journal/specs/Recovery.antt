@@ -2,7 +2,7 @@
 use Rattle.std.specs.Prelude.{◌≡◌, ◌⊎◌, ℕ, ◌+◌, ◌≤◌, ◌<◌, Bool, ◌||◌, List, [], ◌∷◌, ◌++◌, length, take, drop, filter, ⊤, false, true, codes, nat_eq, slice_index, ◌==◌}
 use Rattle.std.specs.List.{starts_with}
 use Rattle.batch_journal.specs.Disks.{IsPart, Left, Begins}
-use Rattle.batch_journal.specs.Lines.{IsLine, AreLines, text_of, whole_from, lines_before_zero}
+use Rattle.batch_journal.specs.Lines.{IsLine, AreLines, text_of, whole_from, whole_lines_before_zero}
 use Rattle.batch_journal.specs.Groups.{taken, is_left, AreOthers}
 use Rattle.batch_journal.specs.Journals.{header, journal_format, recovered, IsClosed, IsJournal}
 use Rattle.batch_journal.specs.declared.recovery.RecoveryFault.{RecoveryFault}
@@ -12,7 +12,7 @@ use Rattle.batch_journal.specs.declared.recovery.RecoveryFault.TheVariants.{Disk
 pub record AreGroupsTaken (documents groups : List ℕ) (end : ℕ) (sum : List ℕ) : Type 0 where
   pub within : end ≤ length groups
   pub closed : IsClosed documents (take end groups) sum
-  pub left : is_left journal_format sum [] (lines_before_zero (drop end groups)) ≡ true
+  pub left : is_left journal_format sum [] (whole_lines_before_zero (drop end groups)) ≡ true
 
 -- the lines that a line feed ends, whatever their bytes
 abbrev pub raw_lines : List ℕ → List (List ℕ)
@@ -30,7 +30,7 @@ closing_count text = closings (raw_lines text)
 pub record StandsTo (documents file : List ℕ) (end : ℕ) (sum : List ℕ) : Type 0 where
   pub within : end ≤ length file
   pub journal : IsJournal documents (take end file) sum
-  pub no_more : taken journal_format sum [] (lines_before_zero (drop end file)) ≡ []
+  pub no_more : taken journal_format sum [] (whole_lines_before_zero (drop end file)) ≡ []
   pub few : closing_count (drop end file) ≤ 1
 
 -- another closing line follows the first line that closes a group
@@ -60,7 +60,7 @@ CrashIsNoDamage =
 
 -- whole lines are lines
 abbrev pub WholeLinesAreLines : Type 0
-WholeLinesAreLines = (text : List ℕ) → AreLines (lines_before_zero text)
+WholeLinesAreLines = (text : List ℕ) → AreLines (whole_lines_before_zero text)
 
 -- recovered lines are lines
 abbrev pub RecoveredAreLines : Type 0

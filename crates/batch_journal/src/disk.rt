@@ -32,7 +32,7 @@ impl From<DiskError> for io::Error {
 /// The clauses are of a value that has behaved as a disk: it keeps all synced bytes, and any part of the bytes
 /// written behind them, in which each byte is the written one or zero.
 pub trait Disk {
-    /// It has behaved as a disk so far. Nobody can prove this of a real file.
+    /// The value has behaved as a disk so far. Nobody can prove this of a real file.
     ghost is_disk: { Self → Type 0 };
 
     /// The bytes that are synced.

@@ -1,7 +1,7 @@
 //! The groups of a run, each of which is in the journal, and synced, before any of its lines is given on.
 ghost use Rattle.std.specs.Prelude.{◌≡◌, ◌≤◌, ◌-◌, ℕ, List, [], ◌++◌, length, take, drop, true, false, OnOk, OnErr, IsTrue};
 ghost use Rattle.batch_journal.specs.Journals.{sum_text};
-ghost use Rattle.batch_journal.specs.Lines.{AreLines, lines_before_zero};
+ghost use Rattle.batch_journal.specs.Lines.{AreLines, whole_lines_before_zero};
 ghost use Rattle.batch_journal.specs.Readers.{HasRecalled, IsGroup, IsJournalKept, IsWhole, not_given};
 
 use crate::disk::{Disk, DiskError};
@@ -78,7 +78,7 @@ impl<D: Disk, K: Clock, C: Run> Groups<D, K, C> {
         K: Drop,
         ensures disk { result ≡ self.disk }
         ensures whole { D.is_disk result → IsWhole (D.given result) }
-        ensures lines { D.is_disk result → AreLines (lines_before_zero (D.given result)) }
+        ensures lines { D.is_disk result → AreLines (whole_lines_before_zero (D.given result)) }
         // claim: lines are kept
         ensures recalled { D.is_disk result → HasRecalled C.documents C.base C.since (D.moment result) (D.left_since result) }
         ensures stays { D.is_disk result → ∥ C.was ∥₁ }

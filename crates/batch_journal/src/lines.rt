@@ -2,7 +2,7 @@
 ghost use Rattle.std.specs.Prelude.{◌≡◌, ◌≤◌, [], length, take, drop, IsFalse, IsTrue, MatchOption};
 ghost use Rattle.batch_journal.specs.Groups.{AreOthers};
 ghost use Rattle.batch_journal.specs.Journals.{journal_format};
-ghost use Rattle.batch_journal.specs.Lines.{AreLines, text_of, until_zero, whole_from, lines_before_zero};
+ghost use Rattle.batch_journal.specs.Lines.{AreLines, text_of, until_zero, whole_from, whole_lines_before_zero};
 ghost use Rattle.batch_journal.specs.Ends.{EndsLine};
 ghost use Rattle.batch_journal.specs.Readers.{IsWhole};
 
@@ -11,7 +11,7 @@ use memchr::memchr2;
 
 /// Where the first line ends, if a line feed ends it and no zero byte precedes that.
 pub(crate) fn next_line(bytes: &[u8]) -> Option<usize>
-    ensures { MatchOption result (lines_before_zero bytes.now ≡ []) (λ at. EndsLine at bytes.now) }
+    ensures { MatchOption result (whole_lines_before_zero bytes.now ≡ []) (λ at. EndsLine at bytes.now) }
 {
     match memchr2(0, b'\n', bytes) {
         Some(at) if bytes[at] == b'\n' => Some(at),
@@ -22,9 +22,9 @@ pub(crate) fn next_line(bytes: &[u8]) -> Option<usize>
 /// Where the whole lines before the first zero end.
 pub(crate) fn end_of(bytes: &[u8]) -> usize
     ensures within { result ≤ length bytes.now }
-    ensures text { take result bytes.now ≡ text_of (lines_before_zero bytes.now) }
+    ensures text { take result bytes.now ≡ text_of (whole_lines_before_zero bytes.now) }
     ensures rest { whole_from [] (until_zero (drop result bytes.now)) ≡ [] }
-    ensures lines { AreLines (lines_before_zero bytes.now) }
+    ensures lines { AreLines (whole_lines_before_zero bytes.now) }
 {
     let mut end = 0;
     for i in 0..bytes.len() {
@@ -48,7 +48,7 @@ pub fn are_whole_lines(bytes: &[u8]) -> bool
 
 /// Whether one of the whole lines of a text is a closing line.
 pub(crate) fn has_own(text: &[u8]) -> bool
-    ensures { IsFalse result → AreOthers journal_format (lines_before_zero text.now) }
+    ensures { IsFalse result → AreOthers journal_format (whole_lines_before_zero text.now) }
 {
     let mut rest = text;
     while let Some(at) = next_line(rest) {

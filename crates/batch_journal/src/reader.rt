@@ -3,7 +3,7 @@ ghost use Rattle.std.specs.Prelude.{◌≡◌, ◌≤◌, ℕ, List, Option, [],
 ghost use Rattle.std.specs.Io.{ReadsAtMost};
 ghost use Rattle.std.specs.Io.KnownBytes.{ReadConsumes, Keeps, IsAtEnd, prepend_known};
 ghost use Rattle.batch_journal.specs.Journals.{sum_text};
-ghost use Rattle.batch_journal.specs.Lines.{AreLines, lines_before_zero};
+ghost use Rattle.batch_journal.specs.Lines.{AreLines, whole_lines_before_zero};
 ghost use Rattle.batch_journal.specs.Readers.{IsJournalKept, IsWhole, HasRecalled, IsAccounted, not_given};
 ghost use Rattle.batch_journal.specs.Windows.{items};
 
@@ -59,7 +59,7 @@ impl<R: Read, D: Disk, K: Clock, C: Run> JournalReader<R, D, K, C> {
         K: Drop,
         ensures disk { result ≡ self.groups.disk }
         ensures whole { D.is_disk result → IsWhole (D.given result) }
-        ensures lines { D.is_disk result → AreLines (lines_before_zero (D.given result)) }
+        ensures lines { D.is_disk result → AreLines (whole_lines_before_zero (D.given result)) }
         // claim: lines are kept
         ensures recalled { D.is_disk result → HasRecalled C.documents C.base C.since (D.moment result) (D.left_since result) }
         // claim: nothing is lost on the way

@@ -22,7 +22,7 @@ pub enum RecoveryFault {
     /// The file is no journal.
     #[error("the file is no journal")]
     NoJournal,
-    /// It is a journal of other documents.
+    /// The file is a journal of other documents.
     #[error("it is a journal of other documents")]
     OtherDocuments,
     /// A group is damaged, and others follow it: the line that closes it, counted from 1.

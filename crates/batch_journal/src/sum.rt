@@ -16,7 +16,7 @@ pub enum Sum {
 }
 
 impl Sum {
-    /// Its digits.
+    /// The digits of the sum.
     // claim: a sum's digits
     pub fn as_slice(&self) -> &[u8]
         ensures { result.now ≡ sum_text self.now }

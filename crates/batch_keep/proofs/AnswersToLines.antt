@@ -13,7 +13,7 @@ use Rattle.batch_serve.specs.declared.fault.ServeFault.TheVariants as faults
 use Rattle.std.specs.List.{All}
 use Rattle.std.proofs.lemmas.List.Splits.{slice_split_at}
 use Rattle.std.proofs.lemmas.Bool.{cases_lt}
-use Rattle.batch_journal.specs.Lines.{IsLine, AreLines, text_of, lines_before_zero as whole_texts}
+use Rattle.batch_journal.specs.Lines.{IsLine, AreLines, text_of, whole_lines_before_zero as whole_texts}
 use Rattle.batch_wire.specs.Transcript.{Exchange, Transcript}
 use Rattle.batch_keep.specs.Told.{TellsLines}
 use Rattle.batch_serve.proofs.ServiceProgress.{begun}

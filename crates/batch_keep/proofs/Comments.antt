@@ -17,7 +17,7 @@ use Rattle.batch_wire.specs.declared.event_line.TheConstants.{MAX_LINE_LEN}
 use Rattle.batch_wire.specs.declared.fault.WireFault.TheVariants.{TooLong}
 use Rattle.batch_journal.specs.Groups.{taken, last_sum, at_rest}
 use Rattle.batch_journal.specs.Journals.{journal_format, closing_start, is_time, next_sum, header, groups_in, recovered, IsJournal}
-use Rattle.batch_journal.specs.Lines.{IsLine, AreLines, text_of, lines_before_zero}
+use Rattle.batch_journal.specs.Lines.{IsLine, AreLines, text_of, whole_lines_before_zero}
 use Rattle.batch_keep.proofs.AnswersToLines.{lines_of_text, no_last}
 use Rattle.batch_serve.proofs.JournalLines.{strip_within_if}
 
@@ -80,8 +80,8 @@ taken_others sum last begun (line ∷ lines) is =
     (taken_others (journal_format.next sum begun) last [] lines) (taken_others sum last (begun ++ line ∷ []) lines)
 
 -- the lines recovered from a journal: all but its own
-pub recovered_others : (documents text sum : List ℕ) → IsJournal documents text sum → recovered documents text ≡ others (lines_before_zero (groups_in documents text))
-recovered_others documents text sum journal = taken_others documents sum [] (lines_before_zero (groups_in documents text)) journal.closed.closed
+pub recovered_others : (documents text sum : List ℕ) → IsJournal documents text sum → recovered documents text ≡ others (whole_lines_before_zero (groups_in documents text))
+recovered_others documents text sum journal = taken_others documents sum [] (whole_lines_before_zero (groups_in documents text)) journal.closed.closed
 
 -- a line that gives nothing says nothing
 silent : (c : Setup) (old new : Plant) (line : List ℕ) (lines : List (List ℕ)) (said : Exchange) → event_of_line line ≡ Ok None → Transcript c old (line ∷ lines) said new → Transcript c old lines said new
@@ -120,11 +120,11 @@ start_line = search rules
 
 -- a transcript of the file's lines is one of the lines recovered from it
 pub of_recovered : (c : Setup) (old new : Plant) (documents text sum : List ℕ) (said : Exchange) → IsJournal documents text sum → IsLine documents → length documents ≡ 64
-    → AreLines (lines_before_zero (groups_in documents text))
+    → AreLines (whole_lines_before_zero (groups_in documents text))
     → Transcript c old (lines_of text) said new → Transcript c old (recovered documents text) said new
 of_recovered c old new documents text sum said journal digits size are t =
     let groups = groups_in documents text in
-    let lines = lines_before_zero groups in
+    let lines = whole_lines_before_zero groups in
     let first = codes "# batchd journal 1 " ++ documents in
     let is : text ≡ text_of (first ∷ lines) = journal.begins ∙ ap (λ l. header documents ++ l) journal.closed.whole
     ∙ ap (λ l. l ++ text_of lines) (sym (append_assoc (codes "# batchd journal 1 ") documents (10 ∷ []))) ∙ append_assoc first (10 ∷ []) (text_of lines) in
@@ -136,7 +136,7 @@ of_recovered c old new documents text sum said journal digits size are t =
     subst (λ l. Transcript c old l said new) (sym (taken_others documents sum [] lines journal.closed.closed)) (left_out c new documents sum [] lines old said journal.closed.closed rest)
 
 pub replays : (c : Setup) (old new : Plant) (documents text sum : List ℕ) (before after : Option (List ℕ)) → IsJournal documents text sum → IsLine documents → length documents ≡ 64
-    → AreLines (lines_before_zero (groups_in documents text)) → WritesTranscript c old (lines_of text) new before after → WritesTranscript c old (recovered documents text) new before after
+    → AreLines (whole_lines_before_zero (groups_in documents text)) → WritesTranscript c old (lines_of text) new before after → WritesTranscript c old (recovered documents text) new before after
 replays c old new documents text sum before after journal digits size are w = record {
   said = w.said;
   transcript = of_recovered c old new documents text sum w.said journal digits size are w.transcript;

@@ -9,7 +9,7 @@ use Rattle.std.specs.List.{starts_with}
 use Rattle.memchr.specs.Find.{IsFirstByte, is_byte}
 use Rattle.batch_wire.specs.EventLine.{is_comment}
 use Rattle.batch_journal.specs.Journals.{header, groups_in, closing_mark, journal_format, recovered, IsJournal}
-use Rattle.batch_journal.specs.Lines.{IsLine, AreLines, text_of, lines_before_zero}
+use Rattle.batch_journal.specs.Lines.{IsLine, AreLines, text_of, whole_lines_before_zero}
 use Rattle.batch_keep.specs.Counts.{count_from, count_of, is_counted_behind, own_behind, own_from, sent_lines}
 use Rattle.batch_keep.proofs.Comments.{others, recovered_others}
 
@@ -69,13 +69,13 @@ pub record Counted (all : Bool) (name documents text : List ℕ) (counted : Bool
   pub total : count + count_from all name counted (others lines) ≡ count_from all name all (recovered documents text)
   pub few : count + length rest ≤ length text
 
-pub started : (all : Bool) (name documents text sum : List ℕ) → IsJournal documents text sum → AreLines (lines_before_zero (groups_in documents text))
+pub started : (all : Bool) (name documents text sum : List ℕ) → IsJournal documents text sum → AreLines (whole_lines_before_zero (groups_in documents text))
     → Counted all name documents text all 0 (groups_in documents text)
 started all name documents text sum journal are =
-    let same : count_from all name all (others (lines_before_zero (groups_in documents text))) ≡ count_from all name all (recovered documents text) =
+    let same : count_from all name all (others (whole_lines_before_zero (groups_in documents text))) ≡ count_from all name all (recovered documents text) =
     ap (λ l. count_from all name all l) (sym (recovered_others documents text sum journal)) in
     record {
-      lines = lines_before_zero (groups_in documents text);
+      lines = whole_lines_before_zero (groups_in documents text);
       is = journal.closed.whole;
       are = are;
       total = omega (arith, same);
@@ -88,7 +88,7 @@ header_size documents size =
     let all : length (header documents) ≡ 19 + (length documents + 1) = length-append (codes "# batchd journal 1 ") (documents ++ 10 ∷ []) ∙ ap (λ n. 19 + n) (length-append documents (10 ∷ [])) in
     omega (arith, all, size)
 
-pub started_behind : (all : Bool) (name documents text sum : List ℕ) → IsJournal documents text sum → AreLines (lines_before_zero (groups_in documents text)) → length documents ≡ 64
+pub started_behind : (all : Bool) (name documents text sum : List ℕ) → IsJournal documents text sum → AreLines (whole_lines_before_zero (groups_in documents text)) → length documents ≡ 64
     → Counted all name documents text all 0 (take (length text - 84) (drop 84 text))
 started_behind all name documents text sum journal are size =
     subst (Counted all name documents text all 0) (ap (λ n. drop n text) (header_size documents size) ∙ sym (take_rest text 84)) (started all name documents text sum journal are)

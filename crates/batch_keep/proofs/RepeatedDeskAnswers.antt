@@ -7,7 +7,7 @@ use Rattle.batch_serve.proofs.Exchanges.{followed-assoc}
 use Rattle.batch_serve.proofs.Replays.{answers_once}
 use Rattle.batch_serve.specs.Replays.{NoWantIsWell, ShowsNoWant, WellServed}
 use Rattle.batch_journal.specs.Journals.{recovered}
-use Rattle.batch_journal.specs.Lines.{IsLine, AreLines, text_of, lines_before_zero}
+use Rattle.batch_journal.specs.Lines.{IsLine, AreLines, text_of, whole_lines_before_zero}
 use Rattle.batch_journal.specs.Readers.{LinesBegin, StartsText}
 use Rattle.batch_journal.specs.Recovery.{RecoveredAreLines, WholeLinesAreLines}
 use Rattle.batch_serve.specs.Runs.{Run, is_same, runs_text}
@@ -27,7 +27,7 @@ from_lines names before desk = cond (is_same before desk) [] (from_line names de
 
 abbrev kept_lines : List (List ℕ) → Option ℕ → List Run → List (List ℕ)
 kept_lines names before [] = []
-kept_lines names before (run ∷ runs) = from_lines names before run.desk ++ (lines_before_zero run.text ++ kept_lines names (Some run.desk) runs)
+kept_lines names before (run ∷ runs) = from_lines names before run.desk ++ (whole_lines_before_zero run.text ++ kept_lines names (Some run.desk) runs)
 
 from_if : (same : Bool) (name : List ℕ) → cond same [] (codes "# from " ++ (name ++ 10 ∷ [])) ≡ text_of (cond same [] ((codes "# from " ++ name) ∷ []))
 from_if true name = refl
@@ -37,7 +37,7 @@ kept_text : (names : List (List ℕ)) (before : Option ℕ) (runs : List Run) �
 kept_text names before [] whole = refl
 kept_text names before (run ∷ runs) whole =
     let from = from_lines names before run.desk in
-    let own = lines_before_zero run.text in
+    let own = whole_lines_before_zero run.text in
     let rest = kept_lines names (Some run.desk) runs in
     ap (λ l. l ++ (run.text ++ runs_text names (Some run.desk) runs)) (from_if (is_same before run.desk) (get_or names run.desk []))
     ∙ ap (λ l. text_of from ++ (l ++ runs_text names (Some run.desk) runs)) whole.0
@@ -54,9 +54,9 @@ from_are false line is = (is, tt)
 kept_are : WholeLinesAreLines → (names : List (List ℕ)) (before : Option ℕ) (runs : List Run) → AreShort names → AreLines (kept_lines names before runs)
 kept_are are names before [] short = tt
 kept_are are names before (run ∷ runs) short =
-    lines_both (from_lines names before run.desk) (lines_before_zero run.text ++ kept_lines names (Some run.desk) runs)
+    lines_both (from_lines names before run.desk) (whole_lines_before_zero run.text ++ kept_lines names (Some run.desk) runs)
     (from_are (is_same before run.desk) (from_line names run.desk) (line_both (codes "# from ") (get_or names run.desk []) start_line (short run.desk).0))
-    (lines_both (lines_before_zero run.text) (kept_lines names (Some run.desk) runs) (are run.text) (kept_are are names (Some run.desk) runs short))
+    (lines_both (whole_lines_before_zero run.text) (kept_lines names (Some run.desk) runs) (are run.text) (kept_are are names (Some run.desk) runs short))
 
 -- They are served as the runs are
 
@@ -87,7 +87,7 @@ kept_well : NoWantIsWell → WholeLinesAreLines → (c : Setup) (old new : Plant
     → ShowNoWant answers → AreServed c old runs answers new → AreWell c old (kept_lines names before runs) answers new
 kept_well law are c old new names before [] answers short whole shows served = record { said = silence; well = (refl, served.1); text = ap plain_text (sym served.0) }
 kept_well law are c old new names before (run ∷ runs) answers short whole shows (first, others, mid, is, served, all) =
-    let own = lines_before_zero run.text in
+    let own = whole_lines_before_zero run.text in
     let shown = subst ShowNoWant all shows in
     let split : lines_of run.text ≡ own ++ [] ∷ [] = ap lines_of whole.0 ∙ lines_of_text own (are run.text) in
     let one : WellServed c old own is.said mid =

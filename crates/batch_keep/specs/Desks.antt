@@ -14,8 +14,8 @@ abbrev pub AreShort : List (List ℕ) → Type 0
 AreShort names = (k : ℕ) → IsLine (get_or names k []) × (length (get_or names k []) ≤ 32)
 
 -- The lines that the journal had were replayed from a first plant. Then runs of several desks were kept, and served without want of
--- memory. Whatever file has the lines from before and these first, a replay of it in which memory is never wanted writes again the
--- answers from before and those to these runs, but for the comments, and more behind them.
+-- memory. Let a file begin with the lines from before, and then those of these runs. A replay of the file in which memory is never wanted
+-- writes again the answers from before and those to these runs, but for the comments. Behind them it may write more.
 abbrev pub DesksAreToldAgain : Type 0
 DesksAreToldAgain =
     (c : Setup) (first old new last : Plant) (documents start file : List ℕ) (names : List (List ℕ)) (runs answers : List Run) (replayed whole : Exchange)

@@ -18,7 +18,7 @@ pub(crate) fn sent_count(text: &[u8], documents: &[u8; 64]) -> usize
     count(text, documents, true, b"")
 }
 
-/// How many of them were sent by the desk of this name.
+/// How many lines of a recovered journal were sent by the desk of this name.
 pub(crate) fn own_count(text: &[u8], documents: &[u8; 64], name: &Name) -> usize
     requires { (sum : List ℕ) × IsJournal documents.now text.now sum }
     ensures { result ≡ length (own_lines name.now (recovered documents.now text.now)) }

@@ -7,11 +7,11 @@ use thiserror::Error;
 /// The finding on a record.
 #[derive(Clone, Copy)]
 pub enum Finding {
-    /// It is the record of the lines that were sent.
+    /// The record is that of the lines that were sent.
     Agrees,
-    /// The line with this number, from 1 on, is the first that differs from it.
+    /// The line with this number, from 1 on, is the first that differs from the record of the lines that were sent.
     Differs(u64),
-    /// It ends before the line with this number, or within it.
+    /// The record ends before the line with this number, or within it.
     EndsBefore(u64),
 }
 

@@ -33,9 +33,9 @@ struct Scene<'a> {
 /// The ranks of the asks of acts, in order.
 #[derive(Drop)]
 enum Ranks<'a> {
-    /// They rise, up to this one.
+    /// The ranks rise, up to that of this ask.
     Rise(Option<Asked<'a>>),
-    /// The second of these is the first that isn't above the one before it.
+    /// The second of these asks is the first whose rank isn't above that of the ask before it.
     Fall(Asked<'a>, Asked<'a>),
 }
 
@@ -196,8 +196,10 @@ impl<'a> Ranks<'a> {
     }
 }
 
-/// Names the first ask of the acts whose rank isn't above that of the ask before it, and the units that take the roles of their unit
-/// procedure, and of the unit procedures that they reserve, if these have any.
+/// Names the first ask of the acts whose rank isn't above that of the ask before it.
+///
+/// The sentence also names the units that take the roles of their unit procedure, and of the unit procedures that they reserve, if these
+/// have any.
 pub(crate) fn rank_said<'a>(
     alloc: Global,
     cell: &'a Cell,

@@ -38,9 +38,13 @@ pub record Master : Type 0 where
 abbrev pub plain : Recipe → Master
 plain recipe = record { name = recipe.name; roles = []; names_role = λ role. false; control = λ bound. recipe }
 
--- the setup of the machine: the names of its cell's units, and of all its resources, which are the units, the free modules and the
--- shared resources; the capacity of each resource, the phases that each unit offers, and the master recipes; and the most batches that
--- may exist at once
+-- the setup of the machine:
+-- - the names of the units of its cell;
+-- - the names of all resources of the cell, which are the units, the free modules and the shared resources;
+-- - the capacity of each resource;
+-- - the phases that each unit offers;
+-- - the master recipes;
+-- - the most batches that may exist at once
 pub record Setup : Type 0 where
   pub units : List Name
   pub resources : List Name

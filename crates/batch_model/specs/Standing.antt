@@ -98,9 +98,9 @@ IsControl setup recipe = (master : Master) × Has setup.recipes master × IsCont
 abbrev pub HasPlacedTrees : Setup → Type 0
 HasPlacedTrees setup = (recipe : Recipe) → IsControl setup recipe → IsPlaced (0 ∷ []) recipe.procedure
 
--- the batch makes a control recipe of the setup; its rest is a possible rest of that, with nothing left to be reached; each place
--- that holds a unit in advance is due; a batch on its way to Stopped or Aborted, or there, holds nothing in advance; no act of an idle
--- or complete batch has begun
+-- the batch makes a control recipe of the setup. Its rest is a possible rest of that recipe, with nothing left to be reached. Each place
+-- that holds a unit in advance is due. A batch on its way to Stopped or Aborted, or there, holds nothing in advance. No act of an idle or
+-- complete batch has begun
 pub record IsStandingBatch (setup : Setup) (batch : Batch) : Type 0 where
   pub known : IsControl setup batch.recipe
   pub stands : IsRestOf batch.recipe.procedure batch.rest

@@ -80,10 +80,10 @@ came_from {O} readers desk = get_or (map (λ (r : Reader O). received r.ring) re
 abbrev pub rings_of : {P : Type 0} → Ports P → Rings
 rings_of ports = record { told = told_to ports.writers.items; came = came_from ports.readers.items }
 
--- since then these runs were served, with these answers, which are recorded; the runs are kept, if their keeper has kept all so far.
--- The lines sent to each desk are those that went into the ring of its writer, and the rest is queued. The lines of each that were
--- served, or are to be served next, are those of a prefix of the messages that came out of the ring of its reader, and of all of them
--- unless it is cut. No run is of another desk
+-- since then these runs were served, with these answers, which are recorded. The runs are kept, if their keeper has kept all so far. The
+-- lines sent to each desk are those that went into the ring of its writer, and the rest is queued. The lines of each desk that were
+-- served, or are to be served next, are those of a prefix of the messages that came out of the ring of its reader. They are those of all
+-- these messages unless the desk is cut. No run is of another desk
 pub record IsService (times : Bool) (begun : Opening) (safe : Type 0) (kept : List ℕ) (recorded : Option (List ℕ)) (s : DeskServer) (rings : Rings) : Type 0 where
   pub runs : List Run
   pub answers : List Run
@@ -108,8 +108,9 @@ TurnsOn times again safe_before safe_after kept_before kept_after recorded_befor
 
 -- Serving to its end
 
--- runs of lines of the desks were served from the opening on, whole ones if they are served again, with these answers: the lines are
--- kept, if their keeper has kept all, and the answers are recorded, with the time of each turn if that is asked for
+-- runs of lines of the desks were served from the opening on, with these answers. If the lines are served again, the runs are whole ones,
+-- and no answer is a refusal for want of memory. The lines are kept, if their keeper has kept all. The answers are recorded, with the
+-- time of each turn if that is asked for
 pub record AreDesksServed (times : Bool) (begun : Opening) (safe : Type 0) (kept : List ℕ) (recorded : Option (List ℕ)) : Type 0 where
   pub runs : List Run
   pub answers : List Run

@@ -24,7 +24,7 @@ pub enum PipeFault {
     Unread,
     #[error("out of memory")]
     Memory,
-    /// It was told to end.
+    /// The thread was told to end.
     #[error("it was told to end")]
     Over,
 }

@@ -9,13 +9,13 @@ use std::io::Write;
 pub enum OutputOutcome<W: Write + Drop, P: Outputs<W> + Drop> {
     /// The desk has no output.
     Absent,
-    /// Its thread ended and was joined.
+    /// The thread of the output ended and was joined.
     Joined {
         /// The result that was handed back for its path.
         written: Written<W>,
         /// How many lines were left on their way to it.
         left: usize,
     },
-    /// Its thread wasn't joined: it may be blocked in opening or writing.
+    /// The thread of the output wasn't joined: it may be blocked in opening or writing.
     Unjoined(OutputChild<W, P>),
 }

@@ -18,7 +18,7 @@ pub(crate) struct DeskThreads {
     /// Raised once the desk is cut.
     pub(crate) stop: Flag,
     pub(crate) pace: Pace,
-    /// Why it was cut here.
+    /// Why the desk was cut here.
     pub(crate) why: Option<PipeFault>,
     /// Whether it was reported that the desk is cut.
     pub(crate) is_told: bool,

@@ -34,7 +34,7 @@ pub struct DesksEnd<W: Write + Drop, P: Outputs<W> + Drop> {
     pub unfinished: usize,
     /// The desks. The first lines of the input of each were served, and all of one that isn't cut.
     pub desks: Vec<Desk>,
-    /// The outcomes of their outputs, in the order of the desks.
+    /// The outcomes of the desks' outputs, in the order of the desks.
     pub outputs: Vec<OutputOutcome<W, P>>,
 }
 

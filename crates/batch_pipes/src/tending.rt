@@ -26,7 +26,7 @@ pub(crate) struct Outlook {
     pub(crate) sends: bool,
     /// Lines are on their way to a desk.
     pub(crate) waits: bool,
-    /// They are, and its output goes on.
+    /// Lines are on their way to a desk whose output goes on.
     pub(crate) goes: bool,
 }
 

@@ -26,9 +26,11 @@ finding_status beginning (Differs line) = refused_status
 finding_status true (EndsBefore line) = success_status
 finding_status false (EndsBefore line) = refused_status
 
--- the outcome for the record at the path, against the lines of the input, over the set: the finding is printed; a record that can't be
--- opened or read, an input that can't be read, want of memory, and a record that shows want of memory leave the output as it was, and
--- are reported on the errors in a free text
+-- the outcome for the record at the path, against the lines of the input, over the set. The finding is printed. But the output stays as
+-- it was, and the fault is reported on the errors in a free text, if
+-- - the record can't be opened or read, or shows want of memory;
+-- - the input can't be read;
+-- - memory is wanting
 pub data IsAuditTold (holds : Holds) (set : ClearedSet) (beginning : Bool) (path : Text) (ends : serving.Ends) (errors : Stream) (status : ℕ) : Type 0 where
   finds : (given : Option (List ℕ)) (finding : Finding) → holds path given
       → IfSome given (λ text. IfSome ends.unread (λ input. Finds set (lines_of input) text finding))

@@ -17,9 +17,9 @@ use Rattle.batch_pipes.specs.declared.fault.DesksFault.TheVariants.{Memory, Thre
 use Rattle.batch_verdicts.specs.Running.{Stream, fault_status, memory_status, success_status}
 use Rattle.batch_program.specs.JournalRuns.{Behind, DiskKind, IsOver, IsRunOver, JournalFiles}
 
--- runs of lines of the desks of these names were served, in this order; their answers are the text of a safe transcript over the set,
--- and they were written, each run behind a comment that names its desk if that isn't the desk before, with the time of each turn if
--- that is asked for
+-- runs of lines of the desks of these names were served, in this order. Their answers are the text of a safe transcript over the set. The
+-- answers to each run were written behind a comment that names its desk if that isn't the desk before. The time of each turn was written
+-- with them if that is asked for
 pub record IsDesksRecord (times : Bool) (set : ClearedSet) (names : List (List ℕ)) (output : Stream) : Type 0 where
   pub runs : List Run
   pub answers : List Run
@@ -39,8 +39,8 @@ abbrev pub status_of_desks : Result ℕ DesksFault → ℕ
 status_of_desks (Ok left) = 0
 status_of_desks (Err fault) = status_of_fault fault
 
--- behind a recovery block, from the plant of the block: with status 0 runs of lines of the desks were served and their answers
--- written, and the file was given these runs behind the bytes that it had been given first
+-- behind a recovery block, from the plant of the block: with status 0 runs of lines of the desks were served, their answers were written,
+-- and the file was given these runs. They stand behind the bytes that the file had been given first
 pub record AreDesksBehind (times : Bool) (set : ClearedSet) (names : List (List ℕ)) (is_disk : Type 0) (first given : List ℕ) (after : Option (List ℕ)) (status : ℕ)
     (plant : Plant) (middle : Option (List ℕ)) : Type 0 where
   pub served : status ≡ success_status → AreDesksServed times (record { set = set; names = names; plant = plant; kept = first; recorded = middle; again = true }) is_disk given after

@@ -11,9 +11,9 @@ use Rattle.batch_record.specs.Pictures.{picture_text}
 use Rattle.batch_record.specs.Recorded.{IsRecord}
 use Rattle.batch_record.specs.declared.picture.Picture.{Picture}
 
--- the outcome for a reader's bytes: if they are a record, the text of a picture is printed, and else which line is the first that is
--- none of a record; a record that can't be opened or read, and want of memory leave the output as it was, and are reported on the
--- errors in a free text
+-- the outcome for a reader's bytes. If they are a record, the text of a picture is printed, and else the number of the first line that is
+-- none of a record. A record that can't be opened or read, and want of memory leave the output as it was, and are reported on the errors
+-- in a free text
 pub data IsPictureDrawn (unread : Option (List ℕ)) (output errors : Stream) (status : ℕ) : Type 0 where
   pictures : (picture : Picture) → IfSome unread IsRecord
       → IsPrinted output errors (picture_text picture) success_status status → IsPictureDrawn unread output errors status

@@ -62,8 +62,11 @@ pub record HasRun (set : ClearedSet) (batches handled : ℕ) : Type 0 where
   pub count : handled ≡ length events
   pub made : IsSomeAnd (slice_get set.recipes 0) (λ recipe. All (IsOfRun set.cell recipe) events)
 
--- the three lines are printed, or the one; want of memory, a thread that can't be started, a create that is refused and a port that
--- can't be closed leave the output as it was, and are reported on the errors in a free text
+-- the three lines are printed, or the one. But the output stays as it was, and the fault is reported on the errors in a free text, if
+-- - memory is wanting;
+-- - a thread can't be started;
+-- - a create is refused;
+-- - a port can't be closed
 abbrev pub IsPlantTold : Stream → Stream → ℕ → Result ℕ PlantFault → ℕ → Type 0
 IsPlantTold output errors batches (Ok handled) status =
     IsPrinted output errors (plant_text batches handled) 0 status ⊎ (IsUnwritten output × (status ≡ memory_status))

@@ -113,17 +113,17 @@ pub data IsProgramRun (gives : Gives) (holds : Holds) (files : JournalFiles) (wo
 
 -- Laws
 
--- a run that was to serve and ends with status 0 has answered all lines of its input, by the engine of the set that its documents
--- make, cleared by their certificate; AnswersAll says that the written text is a safe record. On the errors it has written nothing but
--- how many batches the input left unfinished
+-- a run that was to serve and ends with status 0 has answered all lines of its input, by the engine of the set that its documents make,
+-- cleared by their certificate. AnswersAll says that the written text is a safe record. On the errors the run has written nothing but how
+-- many batches the input left unfinished
 abbrev pub ServingIsSafe : Gives → Holds → JournalFiles → Type 0
 ServingIsSafe gives holds files =
     (words : List Text) (ends : serving.Ends) (errors : Stream) (source : Source)
     → AskFor words (serve source) → IsProgramRun gives holds files words ends errors 0
     → (set : ClearedSet) × (left : ℕ) × IsSetOf gives source set × AnswersAll set left ends × IsLeftTold (ask_quiet words) errors left
 
--- a run of `audit` that ends with status 0 has written `accepted`, and the contents at its path are the record of the lines of the
--- input, or begin it if that is accepted, over the set of its documents, cleared by their certificate
+-- a run of `audit` that ends with status 0 has written `accepted`. The contents at its path are the record of the lines of the input, or
+-- begin it if that is accepted. The record is over the set of its documents, cleared by their certificate
 abbrev pub AuditsAreTrue : Gives → Holds → JournalFiles → Type 0
 AuditsAreTrue gives holds files =
     (words : List Text) (ends : serving.Ends) (errors : Stream) (beginning : Bool) (path : Text) (source : Source)
@@ -140,7 +140,7 @@ RemarkedServingIsSafe gives holds files =
     × AnswersAll set left (record ends { after = plain }) × IsLeftTold (ask_quiet words) errors left
 
 -- a run of `check --write` that ends with status 0 has put into its file, and nowhere else, the text of a verdict that accepts its
--- documents: the certificate with the least ranks, or the drawing; on the errors it has written its warnings alone
+-- documents. The text is the certificate with the least ranks, or the drawing. On the errors the run has written its warnings alone
 abbrev pub CertificatesAreKept : Gives → Holds → JournalFiles → Type 0
 CertificatesAreKept gives holds files =
     (words : List Text) (ends : serving.Ends) (errors : Stream) (path : Text) (judgement : Judgement)
@@ -148,18 +148,18 @@ CertificatesAreKept gives holds files =
     → (text : List ℕ) × IsVerdictText gives (IsWarned (ask_quiet words) errors.before errors.after) judgement text × holds path (Some text)
     × IsUnwritten (output_of ends)
 
--- a run of `plant` that ends with status 0 has written its three lines, and a record over the set that the words name, of so many
--- events as the third line says, leads to a plant in which the batches that were asked for are complete, all made of the set's first
--- recipe
+-- a run of `plant` that ends with status 0 has written its three lines. A record over the set that the words name leads to a plant in
+-- which the batches that were asked for are complete, all made of the set's first recipe. The record has as many events as the third line
+-- says
 abbrev pub PlantsAreComplete : Gives → Holds → JournalFiles → Type 0
 PlantsAreComplete gives holds files =
     (words : List Text) (ends : serving.Ends) (errors : Stream) (source : Source) (batches ticks ring : ℕ)
     → AskFor words (plant source batches ticks ring) → IsProgramRun gives holds files words ends errors 0
     → (set : ClearedSet) × (handled : ℕ) × IsSetOf gives source set × HasRun set batches handled × Appends ends.before ends.after (plant_text batches handled)
 
--- a run of `serve` without a journal that ends with status 0 has served the desks of its document over the set that its other
--- documents make, cleared by their certificate; the written text is that of a safe transcript of the desks' lines, in the order in
--- which they were served
+-- a run of `serve` without a journal that ends with status 0 has served the desks of its document over the set that its other documents
+-- make, cleared by their certificate. The written text is that of a safe transcript of the desks' lines, in the order in which they were
+-- served
 abbrev pub DesksAreSafe : Gives → Holds → JournalFiles → Type 0
 DesksAreSafe gives holds files =
     (words : List Text) (ends : serving.Ends) (errors : Stream) (path cell certificate : Text) (recipes : List Text) (times : Bool)
@@ -167,8 +167,8 @@ DesksAreSafe gives holds files =
     → (desks : Desks) × (set : ClearedSet) × (digits : List ℕ) × AreDesksCleared gives path cell certificate recipes desks set digits
     × IsDesksRecord times set (desk_names desks.desks.items) (output_of ends)
 
--- a run of `serve` with a journal that ends with status 0 has served the desks over the file at its path, behind the recovery block
--- of the lines that the file had; a replay of the file that a crash leaves writes this text again
+-- a run of `serve` with a journal that ends with status 0 has served the desks over the file at its path, behind the recovery block of
+-- the lines that the file had. A replay of the file that a crash leaves writes again the answers to these lines and to those of the desks
 abbrev pub DesksAreKept : Gives → Holds → JournalFiles → Type 0
 DesksAreKept gives holds files =
     (words : List Text) (ends : serving.Ends) (errors : Stream) (journal path cell certificate : Text) (recipes : List Text) (times : Bool)

@@ -7,8 +7,9 @@ use crate::records::Records;
 use batch_keep::desks_are_told_again;
 use batch_verdicts::Documents;
 
-/// The meaning of the exit status 0 of a run that serves: the set is that of the documents, cleared by their certificate, all lines
-/// of the input were answered, and the written text is that of a safe record.
+/// If a run that serves ends with status 0, all lines of the input were answered, and the written text is that of a safe record.
+///
+/// The set is that of the documents, cleared by their certificate.
 // claim: all lines answered; documents' own set; safe record written; batches left
 pub fn serving_is_safe<D: Documents + Records + Journals>(documents: &D)
     ensures { ServingIsSafe (D.gives documents.now) (D.holds documents.now)
@@ -17,8 +18,10 @@ pub fn serving_is_safe<D: Documents + Records + Journals>(documents: &D)
     let _documents = documents;
 }
 
-/// The meaning of the exit status 0 of a run of `audit`: `accepted` was written, and the record is that of the lines of the input, or
-/// begins it if that is accepted, over the set of the documents, cleared by their certificate.
+/// If a run of `audit` ends with status 0, it has written `accepted`, and the record is that of the lines of the input, or begins it if
+/// that is accepted.
+///
+/// The set is that of the documents, cleared by their certificate.
 // claim: audit accepted
 pub fn audits_are_true<D: Documents + Records + Journals>(documents: &D)
     ensures { AuditsAreTrue (D.gives documents.now) (D.holds documents.now)
@@ -27,7 +30,10 @@ pub fn audits_are_true<D: Documents + Records + Journals>(documents: &D)
     let _documents = documents;
 }
 
-/// The same of a run with comments in the record: the written text, but for its comments, is that of a safe record.
+/// If a run that serves with comments in the record ends with status 0, all lines of the input were answered, and the written text, but
+/// for its comments, is that of a safe record.
+///
+/// The set is that of the documents, cleared by their certificate.
 // claim: serves with comments
 pub fn remarked_serving_is_safe<D: Documents + Records + Journals>(documents: &D)
     ensures { RemarkedServingIsSafe (D.gives documents.now) (D.holds documents.now)
@@ -36,8 +42,8 @@ pub fn remarked_serving_is_safe<D: Documents + Records + Journals>(documents: &D
     let _documents = documents;
 }
 
-/// The meaning of the exit status 0 of a run of `check --write`: the file contains the text of a verdict that accepts the documents,
-/// if its contents are known, and nothing was written to standard output.
+/// If a run of `check --write` ends with status 0, the file contains the text of a verdict that accepts the documents, if its contents
+/// are known, and nothing was written to standard output.
 // claim: file written
 pub fn certificates_are_kept<D: Documents + Records + Journals>(documents: &D)
     ensures { CertificatesAreKept (D.gives documents.now) (D.holds documents.now)
@@ -46,9 +52,11 @@ pub fn certificates_are_kept<D: Documents + Records + Journals>(documents: &D)
     let _documents = documents;
 }
 
-/// The meaning of the exit status 0 of a run of `plant`: the three lines were written, and a record over the set of the documents, or
-/// of the demo, leads to a plant in which the batches that were asked for are complete. It has as many events as the third line says.
-/// Its creates are of the set's first recipe, in the size of its basis, with the first unit of its class in each role.
+/// If a run of `plant` ends with status 0, it has written the three lines, and a record leads to a plant in which the batches that were
+/// asked for are complete.
+///
+/// The record is over the set of the documents, or of the demo. It has as many events as the third line says. Its creates are of the
+/// set's first recipe, in the size of its basis, with the first unit of its class in each role.
 // claim: plant complete
 pub fn plants_are_complete<D: Documents + Records + Journals>(documents: &D)
     ensures { PlantsAreComplete (D.gives documents.now) (D.holds documents.now)
@@ -57,9 +65,10 @@ pub fn plants_are_complete<D: Documents + Records + Journals>(documents: &D)
     let _documents = documents;
 }
 
-/// The meaning of the exit status 0 of a run that serves desks without a journal: the desks and the set are those of the documents,
-/// cleared by their certificate, and the written text is that of a safe transcript of the desks' lines, in the order in which they
-/// were served.
+/// If a run that serves desks without a journal ends with status 0, the written text is that of a safe transcript of the desks' lines, in
+/// the order in which they were served.
+///
+/// The desks and the set are those of the documents, cleared by their certificate.
 // claim: desks served
 pub fn desks_are_safe<D: Documents + Records + Journals>(documents: &D)
     ensures { DesksAreSafe (D.gives documents.now) (D.holds documents.now)
@@ -68,9 +77,12 @@ pub fn desks_are_safe<D: Documents + Records + Journals>(documents: &D)
     let _documents = documents;
 }
 
-/// The meaning of the exit status 0 of a run that serves desks over a journal: the desks and the set are those of the documents; the
-/// recovery block of the lines that the file had was written, and behind it the answers to lines of the desks; and a replay of the
-/// file that a crash leaves writes all of that again.
+/// If a run that serves desks over a journal ends with status 0, a replay of the file that a crash leaves writes the answers of the run
+/// again.
+///
+/// - the desks and the set are those of the documents;
+/// - the run has written the recovery block of the lines that the file had, and behind it the answers to lines of the desks;
+/// - the replay writes again the answers to the block's lines, and these answers without their comments.
 // claim: desks kept
 pub fn desks_are_kept<D: Documents + Records + Journals>(documents: &D)
     ensures { DesksAreKept (D.gives documents.now) (D.holds documents.now)

@@ -9,9 +9,10 @@ use std::alloc::Global;
 
 /// Who runs a plant: the program by threads of its process, and a test as it likes.
 pub trait PlantRunner {
-    /// Creates and starts batches of the set's first recipe, in the size of its basis, each role taken by the first unit of its class,
-    /// and runs until all are complete, with rings of as many places and phases of as many ticks as the options say. Gives how many
-    /// events the hub has handled.
+    /// Creates and starts batches of the set's first recipe, and runs until all are complete. Gives how many events the hub has handled.
+    ///
+    /// A batch has the size of the recipe's basis, and each role is taken by the first unit of its class. The rings have as many places,
+    /// and the phases run for as many ticks, as the options say.
     ///
     /// The errors are those of [`plant_run`](batch_plant::plant_run), and [`PlantFault::Refused`] if the set has no recipe.
     // claim: options of a run; batches of a run

@@ -36,9 +36,16 @@ struct Stop {
     reason: io::Error,
 }
 
-/// Carries out the command of the words, and gives the exit status: judges documents, and prints the verdict or writes it into a
-/// file, serves event lines from the input over the set that they name, with a journal or without one, prints the state to which a
-/// record leads, draws a record, prints whether it is that of the lines that were sent, or has a plant of a set run.
+/// Carries out the command of the words, and gives the exit status.
+///
+/// A command
+/// - judges documents, and prints the verdict or writes it into a file;
+/// - serves event lines, of the input or of desks, over the set that the words name, with a journal or without one;
+/// - prints the state to which a record leads;
+/// - draws a record;
+/// - prints whether a record is that of the lines that were sent;
+/// - has a plant of a set run;
+/// - or explains codes.
 ///
 /// Verdicts, help, the record, the state, the picture or the finding of one, and the lines of a plant go to the output; all else
 /// goes, in a free text, to the errors. Refused events are part of the record and don't change the status. If the input ends while

@@ -22,7 +22,7 @@ use Rattle.batch_reader.specs.declared.keys.TheConstants.{MAX_LAG}
 use Rattle.batch_reader.specs.declared.keys.ValueForm.TheVariants as form
 use Rattle.batch_reader.specs.DeskNames.{HaveDistinctNames, desk_names}
 use Rattle.batch_reader.specs.DesksDocument.{HasLag, IsDeskTable, IsDesksTable, MayHavePath}
-use Rattle.batch_reader.specs.DesksFaults.{HasDeskTwice, HasRightCount, path_key}
+use Rattle.batch_reader.specs.DesksFaults.{HasDeskNameTwice, HasRightDeskCount, path_key}
 use Rattle.batch_reader.specs.declared.desk.Desk.{Desk}
 use Rattle.batch_reader.specs.declared.desk_set.Desks.{Desks}
 
@@ -132,12 +132,12 @@ lag_refuses spot ms (Entry here wrong) told known desk h = lag_refused ms wrong 
 
 -- where the tables of a document stand for desks, as many as there are of the set, and by the same names
 module _ (ms : Members) (desks : List Desk) (tables : HasTables IsDeskTable (codes "desk") ms desks) where
-  pub right_count : (all : Desks) → IsDesksTable ms all → HasRightCount desks
+  pub right_count : (all : Desks) → IsDesksTable ms all → HasRightDeskCount desks
   right_count all h =
       let count : length all.desks.items ≡ length desks = same_length all.desks.items desks (same_names ms all.desks.items desks h.tables tables) in
       (rw count at h.some_desk, rw count at h.few_desks)
 
-  pub names_refuse : (fault : TableFault) → TellsIn table.Desk (HasDeskTwice desks) fault → fault ≢ Memory → (all : Desks) → IsDesksTable ms all → ⊥
+  pub names_refuse : (fault : TableFault) → TellsIn table.Desk (HasDeskNameTwice desks) fault → fault ≢ Memory → (all : Desks) → IsDesksTable ms all → ⊥
   names_refuse Memory told known all h = known refl
   names_refuse (Entry here wrong) told known all h =
       let P : List (List ℕ) → Type 0 = λ names. IsDistinct (pointwise nat_eq) names in

@@ -44,18 +44,18 @@ IsRightDesk d = (desk : Desk) × IsTableOf IsDeskTable d desk
 abbrev pub HasWrongDeskCount : List Desk → ℕ → EntryFault → Type 0
 HasWrongDeskCount desks entry wrong = (wrong ≡ OutOfLimit) × IsCountFault 1 MAX_DESKS (length desks) entry
 
-abbrev pub HasRightCount : List Desk → Type 0
-HasRightCount desks = (1 ≤ length desks) × (length desks ≤ MAX_DESKS)
+abbrev pub HasRightDeskCount : List Desk → Type 0
+HasRightDeskCount desks = (1 ≤ length desks) × (length desks ≤ MAX_DESKS)
 
 -- the desk is the first that has the name of one before it
-abbrev pub HasDeskTwice : List Desk → ℕ → EntryFault → Type 0
-HasDeskTwice desks entry wrong = (wrong ≡ Duplicate) × FailsFirst HaveDistinctNames desks entry
+abbrev pub HasDeskNameTwice : List Desk → ℕ → EntryFault → Type 0
+HasDeskNameTwice desks entry wrong = (wrong ≡ Duplicate) × FailsFirst HaveDistinctNames desks entry
 
 -- the tables of the document stand for desks, with which this is wrong
 pub record HasSetFault (ms : Members) (entry : ℕ) (wrong : EntryFault) : Type 0 where
   pub desks : List Desk
   pub tables : HasTables IsDeskTable (codes "desk") ms desks
-  pub fault : First (HasWrongDeskCount desks entry wrong) (HasRightCount desks) (HasDeskTwice desks entry wrong)
+  pub fault : First (HasWrongDeskCount desks entry wrong) (HasRightDeskCount desks) (HasDeskNameTwice desks entry wrong)
 
 -- the document has another key than `desk`, which is reported at number 0
 pub record HasUnknownTable (ms : Members) (entry : ℕ) (wrong : EntryFault) : Type 0 where
@@ -70,7 +70,7 @@ IsDesksFault ms entry wrong =
     (IsArrayFault IsRightDesk IsDeskFault (items_at (codes "desk") ms) entry wrong ⊎ HasSetFault ms entry wrong)
 
 -- the bytes are too many, which is reported at number 0
-pub record AreDesksTooLong (bytes : List ℕ) (entry : ℕ) (wrong : EntryFault) : Type 0 where
+pub record IsDesksDocumentTooLong (bytes : List ℕ) (entry : ℕ) (wrong : EntryFault) : Type 0 where
   pub long : MAX_DOCUMENT_LEN < length bytes
   pub first : entry ≡ 0
   pub told : wrong ≡ OutOfLimit
@@ -83,4 +83,4 @@ pub record IsWrongInDesks (bytes : List ℕ) (entry : ℕ) (wrong : EntryFault) 
 
 -- this is wrong with the bytes, at the desk of this number
 abbrev pub DesksFaultStands : List ℕ → ℕ → EntryFault → Type 0
-DesksFaultStands bytes entry wrong = AreDesksTooLong bytes entry wrong ⊎ IsWrongInDesks bytes entry wrong
+DesksFaultStands bytes entry wrong = IsDesksDocumentTooLong bytes entry wrong ⊎ IsWrongInDesks bytes entry wrong

@@ -7,7 +7,7 @@ use Rattle.batch_reader.specs.declared.fault.EntryFault.TheVariants.{Duplicate, 
 use Rattle.batch_reader.specs.DeskNames.{HaveDistinctNames}
 use Rattle.batch_reader.specs.DeskUnits.{HaveUnits}
 use Rattle.batch_reader.specs.DesksDocument.{IsDeskTable}
-use Rattle.batch_reader.specs.DesksFaults.{HasDeskTwice, HasUnknownTable, HasWrongDeskCount, IsDeskFault, path_key}
+use Rattle.batch_reader.specs.DesksFaults.{HasDeskNameTwice, HasUnknownTable, HasWrongDeskCount, IsDeskFault, path_key}
 use Rattle.batch_reader.specs.declared.desk.Desk.{Desk}
 
 -- ---- one table
@@ -82,7 +82,7 @@ NoDeskIsTooFew = HasWrongDeskCount [] 0 OutOfLimit × (¬ HasWrongDeskCount [] 1
 -- of two desks of one name the second is reported, and not the first
 abbrev pub SecondNameIsTold : Type 0
 SecondNameIsTold = (one two : Desk) → one.name ≡ codes "A" → two.name ≡ codes "A"
-    → HasDeskTwice (one ∷ two ∷ []) 1 Duplicate × (¬ HasDeskTwice (one ∷ two ∷ []) 0 Duplicate)
+    → HasDeskNameTwice (one ∷ two ∷ []) 1 Duplicate × (¬ HasDeskNameTwice (one ∷ two ∷ []) 0 Duplicate)
 
 -- names that differ in a letter differ
 abbrev pub OtherNamesDiffer : Type 0

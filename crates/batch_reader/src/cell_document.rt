@@ -27,10 +27,16 @@ const TOP: Spot = Spot {
 
 /// Reads a cell document. It is refused as
 /// - `NotToml`, if its bytes are no TOML in UTF-8;
-/// - `Entry`, if it is too long, which is reported at its top, or says no cell. The first fault is reported: of the top's
-///   entries, then of each table by itself (units, modules, shared resources), then of how many there are, of their
-///   names, of the units that modules name, and of the phases that each unit offers;
+/// - `Entry`, if it is too long, which is reported at its top, or says no cell;
 /// - `Memory`, if memory is refused on the way.
+///
+/// The first fault is reported, in this order:
+/// - of the top's entries;
+/// - of each table by itself: units, modules, shared resources;
+/// - of how many there are;
+/// - of their names;
+/// - of the units that modules name;
+/// - of the phases that each unit offers.
 pub fn read_cell(alloc: Global, bytes: &[u8]) -> Result<Cell, DocFault>
     // claim: cell read
     ensures ok { IfOk result (IsCellDocument bytes.now) }

@@ -18,9 +18,14 @@ ghost use Rattle.batch_reader.specs.RowsOfDesks.{
   AllUnitsAreFound,
 };
 
-/// Worked rows: a table without its optional keys stands for a desk with the usual values and for no other; a desk without
-/// input and output lacks a key; an unknown key is reported before all else; limits are checked at their ends; of two desks
-/// of one name the second is reported; a unit is looked up among those of the cell.
+/// Worked rows:
+///
+/// - a table without its optional keys stands for a desk with the usual values and for no other;
+/// - a desk without input and output lacks a key;
+/// - an unknown key is reported before all else;
+/// - limits are checked at their ends;
+/// - of two desks of one name the second is reported;
+/// - a unit is looked up among those of the cell.
 // claim: worked desks
 pub fn worked_desks()
     ensures console { ConsoleIsRead }

@@ -5,7 +5,7 @@ ghost use Rattle.std.specs.List.{list_any};
 ghost use Rattle.batch_reader.specs.Faults.{TellsIn};
 ghost use Rattle.batch_reader.specs.declared.fault.TableKind.{TableKind};
 ghost use Rattle.batch_reader.specs.DeskNames.{HaveDistinctNames, desk_names};
-ghost use Rattle.batch_reader.specs.DesksFaults.{HasDeskTwice};
+ghost use Rattle.batch_reader.specs.DesksFaults.{HasDeskNameTwice};
 
 use crate::desk::Desk;
 use crate::fault::{EntryFault, Spot, TableFault, TableKind};
@@ -14,7 +14,7 @@ use batch_text::Name;
 /// Tests that the names of desks differ. Of at most 64 each is compared with those before it, which takes no memory.
 pub(crate) fn check_names(desks: &[Desk]) -> Result<(), TableFault>
     ensures distinct { OnOk result (HaveDistinctNames desks.now) }
-    ensures told { IfErr result (TellsIn TableKind.Desk (HasDeskTwice desks.now)) }
+    ensures told { IfErr result (TellsIn TableKind.Desk (HasDeskNameTwice desks.now)) }
 {
     for (entry, desk) in desks.iter().enumerate() {
         if is_name_of(&desks[..entry], &desk.name) {

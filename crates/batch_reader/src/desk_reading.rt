@@ -29,10 +29,16 @@ const TOP: Spot = Spot {
 
 /// Reads a document of desks. It is refused as
 /// - `NotToml`, if its bytes are no TOML in UTF-8;
-/// - `Entry`, if it is too long, which is reported at number 0, or says no desks. The first fault is reported: of the top's
-///   keys, then of each table by itself (unknown keys, and then its values in the order of `Desk`; that there is neither
-///   input nor output follows these two), then of how many there are, then of their names;
+/// - `Entry`, if it is too long, which is reported at number 0, or says no desks;
 /// - `Memory`, if memory is refused on the way.
+///
+/// The first fault is reported, in this order:
+/// - of the top's keys;
+/// - of each table by itself: unknown keys, and then its values in the order of `Desk`;
+/// - of how many tables there are;
+/// - of their names.
+///
+/// That a table has neither input nor output follows the faults of these two values.
 pub fn read_desks(alloc: Global, bytes: &[u8]) -> Result<Desks, DocFault>
     // claim: desks read
     ensures ok { IfOk result (IsDesksDocument bytes.now) }

@@ -90,7 +90,7 @@ fn read_need(alloc: Global, text: &[u8], spot: Spot) -> Result<Need, TableFault>
     }
 }
 
-/// The same by its parts: the resource before the first star, and the units behind it.
+/// The need that a text is, by its parts: the resource before the first star, and the units behind it.
 fn read_parts(alloc: Global, text: &[u8], spot: Spot) -> Result<Need, TableFault>
     ensures ok { IfOk result (λ need. IsNeedText text.now need) }
     ensures refused { IfErr result (λ fault. fault ≢ TableFault.Memory → (need : Need) → ¬ (IsNeedText text.now need)) }

@@ -41,12 +41,20 @@ const TOP: Spot = Spot {
 
 /// Reads a recipe document. The needs, the units, the classes and the phases that it names are looked up in no cell. It is refused as
 /// - `NotToml`, if its bytes are no TOML in UTF-8;
-/// - `Entry`, if it is too long, which is reported at its top, or says no recipe. The first fault is reported: of the top's
-///   entries, then of each table by itself (inputs, parameters, outputs, roles, the procedure, unit procedures, operations,
-///   phase steps), then of how many there are, of the names of values and acts, of the labels and values that acts name,
-///   of the names of roles, of the roles that unit procedures name, of the outputs that phase steps report, of the unit
-///   procedures that acts reserve, and of the size of the expanded tree;
+/// - `Entry`, if it is too long, which is reported at its top, or says no recipe;
 /// - `Memory`, if memory is refused on the way.
+///
+/// The first fault is reported, in this order:
+/// - of the top's entries;
+/// - of each table by itself: inputs, parameters, outputs, roles, the procedure, unit procedures, operations, phase steps;
+/// - of how many there are;
+/// - of the names of values and acts;
+/// - of the labels and values that acts name;
+/// - of the names of roles;
+/// - of the roles that unit procedures name;
+/// - of the outputs that phase steps report;
+/// - of the unit procedures that acts reserve;
+/// - of the size of the expanded tree.
 pub fn read_recipe(alloc: Global, bytes: &[u8]) -> Result<Recipe, DocFault>
     // claim: recipe read
     ensures ok { IfOk result (IsRecipeDocument bytes.now) }

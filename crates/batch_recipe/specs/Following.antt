@@ -10,8 +10,8 @@ Follower = Name × Place
 
 -- Down from a part of the procedure's chart
 
--- the unit procedures met first on each way down, in the order of their places: by the first branch of a `seq`, each branch of a
--- `par` and the body of a `loop`, and by nothing that may be passed over
+-- the unit procedures met first on each way down, in the order of their places. A way goes by the first branch of a `seq`, each branch of
+-- a `par` and the body of a `loop`. It goes by nothing that may be passed over
 abbrev mutual
   pub firsts : Tree → List Follower
   firsts (act step (runs phase)) = []
@@ -65,8 +65,8 @@ abbrev pub level_within : Level → Tree → Level
 level_within level (act step task) = below level
 level_within level _ = level
 
--- the followers of the child of a tree with this number, where `next` are those of the tree: after a branch of a `seq` the next branch
--- is taken, and after the last one, a branch of a `sel` or the chart of an act the way leads further up
+-- the followers of the child of a tree with this number, where `next` are those of the tree. After a branch of a `seq` the next branch is
+-- taken. After the last branch, after a branch of a `sel` and after the chart of an act the way leads further up
 abbrev pub next_after : Level → List Follower → Tree → ℕ → List Follower
 next_after level next (act step task) number = next
 next_after level next skip number = []

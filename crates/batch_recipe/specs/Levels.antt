@@ -1,7 +1,10 @@
 -- trusted: the levels of the procedural model, at which the nodes of an expanded tree stand.
 
--- the level of a node: it is the procedure, or it is in the chart of a procedure, whose labels stand for unit procedures, in that
--- of a unit procedure, whose labels stand for operations, or in that of an operation, whose labels stand for phase steps
+-- the level of a node:
+-- - it is the procedure;
+-- - it is in the chart of a procedure, whose labels stand for unit procedures;
+-- - it is in the chart of a unit procedure, whose labels stand for operations;
+-- - it is in the chart of an operation, whose labels stand for phase steps
 pub data Level : Type 0 where
   is_procedure : Level
   in_procedure : Level

@@ -114,7 +114,7 @@ fn first_named(recipe: &Recipe, node: u16, name: &Name) -> Option<u16>
     }
 }
 
-/// The same, if the node is a `par`.
+/// The act with this name that is met first on a way down from the node, which is a `par`.
 #[cycle(down)]
 fn first_of_branches(recipe: &Recipe, node: u16, name: &Name) -> Option<u16>
     requires within { node < length (procedure_nodes recipe.now.acts) }

@@ -46,18 +46,18 @@ impl Share {
 pub struct Bar {
     pub share: Share,
     pub from: u64,
-    /// None while it stands.
+    /// When the share ended. None while it stands.
     pub to: Option<u64>,
 }
 
 /// Which bars end.
 #[derive(Clone, Copy)]
 pub enum Ending<'a> {
-    /// That of this share.
+    /// The bar of this share.
     Share(&'a Share),
-    /// Those of a batch that wait.
+    /// The bars of the shares for which this batch waits.
     AsksOf(u64),
-    /// Those that a recovery block doesn't list.
+    /// The bars of the shares that a recovery block doesn't list.
     Unlisted(&'a [Share]),
 }
 
@@ -79,7 +79,7 @@ fn is_among(share: &Share, listed: &[Share]) -> bool {
 #[derive(Drop)]
 pub struct Bars {
     pub all: Vec<Bar>,
-    /// Those that stand, by their numbers.
+    /// The numbers of the bars that stand.
     standing: Vec<usize>,
 }
 

@@ -15,7 +15,7 @@ use std::alloc::Global;
 /// Why a line wasn't taken.
 #[derive(Clone, Copy)]
 pub enum LineFault {
-    /// It is no line of a record.
+    /// The line is no line of a record.
     NoRecord,
     /// Memory was refused. The line may be taken in part.
     Memory,

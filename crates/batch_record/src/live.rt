@@ -29,9 +29,9 @@ pub struct LivePhase {
 /// A change of the state of a live phase.
 #[derive(Clone, Copy)]
 pub(crate) enum Change {
-    /// A command was sent to it.
+    /// A command was sent to the phase.
     Led(Command),
-    /// It reported, and goes on.
+    /// The phase reported, and goes on.
     Said(Report),
 }
 
@@ -58,7 +58,7 @@ impl LivePhases {
         self.phases.as_slice()
     }
 
-    /// Sorts them by unit, then by phase, then as they were started.
+    /// Sorts the live phases by unit, then by phase, then as they were started.
     pub(crate) fn sort(&mut self) -> Result<(), NoMemory>
         ensures sorted { OnOk result (IsSorted live_cmp (lives_of self.new.phases.items)) }
         ensures stable { (unit name : Name) → on_unit unit name (lives_of self.new.phases.items) ≡ on_unit unit name (lives_of self.old.phases.items) }

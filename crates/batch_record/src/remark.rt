@@ -11,7 +11,7 @@ pub enum Remark<'a> {
     At(u64),
     /// A recovery block begins.
     Recovered,
-    /// It ends.
+    /// A recovery block ends.
     End,
     Holds(Claim<'a>),
     Waits(Claim<'a>),

@@ -46,7 +46,7 @@ impl Standing {
         self.shares.as_slice()
     }
 
-    /// Sorts them by resource, then by the batch's number, then by place.
+    /// Sorts the shares by resource, then by the batch's number, then by place.
     pub(crate) fn sort_as_holders(&mut self) -> Result<(), NoMemory>
         ensures sorted { OnOk result (IsSorted holder_cmp (kept_claims self.new.shares.items)) }
         ensures stable { (resource : Name) (act : BatchAct) → of_act act (shares_of_resource resource self.new.shares.items)
@@ -61,7 +61,7 @@ impl Standing {
         }
     }
 
-    /// Sorts them by resource, then as they came.
+    /// Sorts the shares by resource, then as they came.
     pub(crate) fn sort_as_waiters(&mut self) -> Result<(), NoMemory>
         ensures sorted { OnOk result (IsSorted waiter_cmp (kept_claims self.new.shares.items)) }
         ensures stable { (resource : Name) → shares_of_resource resource self.new.shares.items ≡ shares_of_resource resource self.old.shares.items }

@@ -20,9 +20,11 @@ pub fn records_are_safe()
     ensures { CanOnlyBeSafe }
 {}
 
-/// If no move is possible, each resource that is asked for has less free than its oldest ask wants, and somebody holds it; no
-/// chain has more waiting steps than the cell has resources; and if a chain can't be continued, its last holder is
-/// at work.
+/// If no move is possible, whoever waits waits for something:
+///
+/// - each resource that is asked for has less free than its oldest ask wants, and somebody holds it;
+/// - no chain has more waiting steps than the cell has resources;
+/// - if a chain can't be continued, its last holder is at work.
 // claim: too few free; somebody holds; short chains; chains end at work
 pub fn nobody_waits_in_vain()
     ensures { NobodyWaitsInVain }

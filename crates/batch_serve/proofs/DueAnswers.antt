@@ -4,7 +4,8 @@ use Rattle.std.proofs.lemmas.Bool.{and_parts}
 use Rattle.std.proofs.lemmas.Bool.Decides.{nat_tests}
 use Rattle.std.proofs.lemmas.List.{drop_all}
 use Rattle.std.specs.List.{list_all, position_or_len}
-use Rattle.batch_serve.specs.Dues.{after_word, due_lines, from_behind, is_comment, is_due, is_from, is_space}
+use Rattle.batch_wire.specs.EventLine.{is_comment, is_space}
+use Rattle.batch_serve.specs.Dues.{after_word, due_lines, from_behind, is_due, is_from}
 use Rattle.batch_serve.proofs.HeldText.{is_false}
 
 -- the text has no space

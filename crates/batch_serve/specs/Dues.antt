@@ -2,13 +2,11 @@
 use Rattle.std.specs.Prelude.{◌≡◌, ℕ, Bool, true, false, not, ◌&&◌, ◌||◌, ◌==◌, nat_eq, List, [], ◌∷◌, ◌++◌, length, drop, filter, Option, Some, None, cond, codes}
 use Rattle.std.specs.Cmp.Lexicographic.{pointwise}
 use Rattle.std.specs.List.{after_first, list_all, starts_with}
+use Rattle.batch_wire.specs.EventLine.{is_comment, is_space}
 
 -- the line begins with this text
 abbrev pub begins : List ℕ → List ℕ → Bool
 begins front line = starts_with nat_eq line front
-
-abbrev pub is_comment : List ℕ → Bool
-is_comment line = begins (codes "#") line
 
 -- the answer to a line, and not a move that follows it
 abbrev pub is_reply : List ℕ → Bool
@@ -17,9 +15,6 @@ is_reply line = begins (codes "created ") line || (begins (codes "ok ") line || 
 -- the start of a phase, or a send to a live one
 abbrev pub is_order : List ℕ → Bool
 is_order line = begins (codes "start ") line || begins (codes "send ") line
-
-abbrev pub is_space : ℕ → Bool
-is_space b = b == 32
 
 -- the text behind the first space
 abbrev pub after_word : List ℕ → List ℕ

@@ -3,7 +3,8 @@ use Rattle.std.specs.Prelude.{◌≡◌, ℕ, ◌<◌, true, false, not, List, [
 use Rattle.std.specs.List.{All, list_all}
 use Rattle.batch_wire.specs.Transcript.{whole_lines}
 use Rattle.batch_serve.specs.Replays.{IsWholeLines}
-use Rattle.batch_serve.specs.Dues.{due_lines, is_comment}
+use Rattle.batch_wire.specs.EventLine.{is_comment}
+use Rattle.batch_serve.specs.Dues.{due_lines}
 use Rattle.batch_serve.specs.Lines.{is_feed}
 use Rattle.batch_serve.specs.Runs.{Run, due_of, runs_text}
 

@@ -38,8 +38,8 @@ pub record AreMessagesOf (input : Option (List ℕ)) (messages : List Sent) : Ty
 
 -- Readers
 
--- at most one message came out of the desk's ring, which allows it; the desk's own lines grew by its text, unless the desk is cut; the
--- reader knows of the end, and has the end of the same ring
+-- at most one message came out of the desk's ring, which allows it. The desk's own lines grew by the text of the message, unless the desk
+-- is cut. The reader knows of the end, and has the end of the same ring
 pub record IsGathered {O : Type 0} (allows : List Sent → Sent → Type 0) (desk : ℕ) (is_cut : Bool) (before after : Reader O) (old new : List Run) : Type 0 where
   pub ring : SameConsumer before.ring after.ring
   pub message : Option Sent

@@ -83,8 +83,10 @@ pub fn lives_go_on<K: Keep>()
     ensures hand_on { LivesHandOn K.is_safe }
 {}
 
-/// The lines of a desk that were served, and those that are to be served in the next turn, are those of a prefix of the messages that
-/// came out of the ring of its reader, and of all of them as long as it isn't cut. That stays so as more come.
+/// The lines of a desk that were served, or are to be served in the next turn, are those of a prefix of the messages that came out of the
+/// ring of its reader.
+///
+/// As long as the desk isn't cut, they are those of all these messages. That stays so as more come.
 // claim: lines from readers
 pub fn lines_go_on<O: Protocol<Sent>>()
     ensures { LinesGoOn O O.allows }

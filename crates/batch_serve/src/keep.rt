@@ -9,13 +9,13 @@ use thiserror::Error;
 pub trait Keep {
     ghost use Rattle.std.specs.Prelude.{ℕ, Bool, List};
 
-    /// It has kept all lines so far. Nobody can prove this of a real file.
+    /// The keeper has kept all lines so far. Nobody can prove this of a real file.
     ghost is_safe: { Self → Type 0 };
 
     /// The text that it keeps.
     ghost kept: { Self → List ℕ };
 
-    /// Its lines are served again after a crash, so that want of memory must end the program before a desk is told of it.
+    /// The kept lines are served again after a crash, so that want of memory must end the program before a desk is told of it.
     ghost again: { Bool };
 
     /// Keeps the lines of a turn, as one group. At Ok they are safe.

@@ -19,8 +19,9 @@ pub fn transcripts_are_safe(cleared: &Cleared)
     batch_safety::cleared_runs_safely(cleared);
 }
 
-/// After a transcript from the opening of a cleared set nobody waits in vain: of each resource that is asked for less is free
-/// than its oldest ask wants, and every chain of waiting ends at a holder that is at work.
+/// After a transcript from the opening of a cleared set nobody waits in vain.
+///
+/// Of each resource that is asked for less is free than its oldest ask wants. Every chain of waiting ends at a holder that is at work.
 // claim: transcripts not in vain
 pub fn transcripts_leave_nobody_in_vain(cleared: &Cleared)
     ensures { TranscriptsLeaveNobodyInVain cleared.now }

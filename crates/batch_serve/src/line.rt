@@ -30,7 +30,7 @@ impl Line {
         })
     }
 
-    /// Its bytes.
+    /// The bytes of the line.
     pub fn as_slice(&self) -> &[u8]
         ensures { result.now ≡ self.now }
     {

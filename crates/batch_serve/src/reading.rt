@@ -24,9 +24,10 @@ enum Got {
 
 /// Puts the lines of an input into the ring, to its end. Each read gives whole lines (`crate::CleanReader`), into this room.
 ///
-/// Returns true if the input has ended and the ring has its end; false if the input failed or gave no whole lines, there was no memory
-/// for a line, the ring's other end is gone, or the pause says to end. The ring's protocol allows the lines of the input, in order, and
-/// the end behind all of them.
+/// Returns true if the input has ended and the ring has its end. Returns false if the input failed or gave no whole lines, there was no
+/// memory for a line, the ring's other end is gone, or the pause says to end.
+///
+/// The ring's protocol allows the lines of the input, in order, and the end behind all of them.
 // claim: reader of a desk
 #[tactic(auto, using(crate::proofs::ReadersAndWriters::reads_begin, crate::proofs::ReadersAndWriters::reads_twice, crate::proofs::ReadersAndWriters::reads_stop))]
 pub fn read_lines<R: Read, O: Protocol<Sent>, P: Pause>(

@@ -35,14 +35,14 @@ impl Lines {
         Lines { text }
     }
 
-    /// Their text.
+    /// The text of the lines.
     pub fn into_text(self) -> Vec<u8>
         ensures { result.items ≡ self }
     {
         self.text
     }
 
-    /// Their text.
+    /// The text of the lines.
     pub fn as_slice(&self) -> &[u8]
         ensures { result.now ≡ self.now }
     {

@@ -1,6 +1,7 @@
 //! The lines of a record that a desk is due.
 ghost use Rattle.std.specs.Prelude.{◌≡◌, position};
-ghost use Rattle.batch_serve.specs.Dues.{after_word, has_word, is_due, is_order, is_reply, is_seen, is_space};
+ghost use Rattle.batch_wire.specs.EventLine.{is_space};
+ghost use Rattle.batch_serve.specs.Dues.{after_word, has_word, is_due, is_order, is_reply, is_seen};
 
 use batch_text::Name;
 

@@ -17,7 +17,7 @@ use Rattle.batch_cell.specs.declared.unit.Unit.{Unit}
 use Rattle.batch_recipe.specs.Conditions.{Name, same_name}
 use Rattle.batch_recipe.specs.declared.act.Work.{Work}
 use Rattle.batch_recipe.specs.declared.act.Work.TheVariants.{Follows, Runs}
-use Rattle.batch_set.specs.Linking.{ArePhasesOf, numbers_on, numbers_on_each, cell_phase_names, phases_in, number_run_by, run_of, run_phase}
+use Rattle.batch_set.specs.Linking.{ArePhasesOf, numbers_on, numbers_on_each, cell_phase_names, phases_in, run_phase_number, run_of, run_phase}
 use Rattle.batch_set.specs.Looked.{offered_on}
 use Rattle.batch_set.specs.Sources.{PhasesSayNames}
 use Rattle.batch_set.specs.declared.cell_phases.CellPhases.{CellPhases}
@@ -98,7 +98,7 @@ phases-said cell phases p r linked h step a phase at runs unit number within off
     let known = phase-known cell phases p phase unit number offered in
     let run : unwrap_or (slice_get linked.runs.items step) None ≡ Some known.0 =
     ap (λ (xs : List (Option ℕ)). unwrap_or (slice_get xs step) None) h.runs
-    ∙ (ap (λ (o : Option (Option ℕ)). unwrap_or o None) (slice_get-map (number_run_by names) r.acts.phases.items step ∙ ap (option_map (number_run_by names)) at)
+    ∙ (ap (λ (o : Option (Option ℕ)). unwrap_or o None) (slice_get-map (run_phase_number names) r.acts.phases.items step ∙ ap (option_map (run_phase_number names)) at)
     ∙ (run-found names a.work phase runs ∙ known.1)) in
     let on : offered_on phases known.0 unit ≡ Some number =
     ap (λ (row : List (Option ℕ)). unwrap_or (slice_get row unit) None)

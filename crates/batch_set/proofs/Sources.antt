@@ -22,7 +22,7 @@ use Rattle.batch_recipe.specs.declared.need.Need.{Need}
 use Rattle.batch_recipe.specs.declared.recipe.Recipe.{Recipe}
 use Rattle.batch_recipe.specs.declared.role.Role.{Role}
 use Rattle.batch_set.specs.Linking.{IsLinked, by_role, chosen_source, need_linked, needs_linked, named, reserved, reserved_need, resource_found, role_found, unit_found, unit_needs, unit_source}
-use Rattle.batch_set.specs.Looked.{first_source, needs_by, source_of_unit}
+use Rattle.batch_set.specs.Looked.{first_source, needs_by, unit_procedure_source}
 use Rattle.batch_set.specs.Sources.{IsSource, SayNeeds, NeedsSayNames, UnitsSayNames}
 use Rattle.batch_set.specs.declared.cell_phases.CellPhases.{CellPhases}
 use Rattle.batch_set.specs.declared.linked.LinkedNeed.{LinkedNeed}
@@ -110,7 +110,7 @@ needs-said cell phases r linked h bound k a is =
 
 pub units-said : UnitsSayNames
 units-said cell phases r linked h bound k a choice at e =
-    let own : source_of_unit linked k ≡ chosen_source cell r choice =
+    let own : unit_procedure_source linked k ≡ chosen_source cell r choice =
     ap first_source (row-there (needs_linked cell r) linked.unit_procedures.items r.acts.unit_procedures.items h.unit_procedures k a at)
     ∙ ap (λ (o : Option UnitChoice). first_source ((unit_needs cell r o ++ map (reserved_need cell r) a.reserves.items) ++ map (need_linked cell) a.needs.items)) e in
     subst (λ (source : Source). IsSource cell r.roles.items bound source (unit_chosen bound choice)) (sym own)

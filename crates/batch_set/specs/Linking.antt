@@ -42,7 +42,7 @@ named cell name = resource_found (position (same_name name) (resources_of cell))
 abbrev pub by_role : List declared.Role → Name → Source
 by_role roles name = role_found (position (λ role. same_name name role.name) roles)
 
--- the unit that is chosen
+-- the resource of the unit's name, or the role
 abbrev pub chosen_source : Cell → document.Recipe → UnitChoice → Source
 chosen_source cell recipe (Choice.Unit name) = named cell name
 chosen_source cell recipe (Choice.Role name) = by_role recipe.roles.items name
@@ -118,8 +118,9 @@ abbrev pub run_of : List Name → Work → Option ℕ
 run_of names (Follows chart) = None
 run_of names (Runs phase values reports) = position (same_name phase) names
 
-abbrev pub number_run_by : List Name → Act → Option ℕ
-number_run_by names a = run_of names a.work
+-- the number among these names of the phase that the act runs, if it runs one of them
+abbrev pub run_phase_number : List Name → Act → Option ℕ
+run_phase_number names a = run_of names a.work
 
 -- Recipes
 
@@ -138,7 +139,7 @@ pub record IsLinked (cell : Cell) (known : CellPhases) (recipe : document.Recipe
   pub operations : table_items linked.operations.items ≡ map (needs_linked cell recipe) recipe.acts.operations.items
   pub phases : table_items linked.phases.items ≡ map (needs_linked cell recipe) recipe.acts.phases.items
   pub candidates : table_items linked.candidates.items ≡ map (candidate_numbers cell) recipe.roles.items
-  pub runs : linked.runs.items ≡ map (number_run_by known.names.keys) recipe.acts.phases.items
+  pub runs : linked.runs.items ≡ map (run_phase_number known.names.keys) recipe.acts.phases.items
 
 -- the recipe is linked in the cell, by some numbers of phases
 abbrev pub IsLinkedIn : Cell → document.Recipe → LinkedRecipe → Type 0

@@ -37,8 +37,8 @@ abbrev pub first_source : List LinkedNeed → Source
 first_source needs = unwrap_or (option_map (λ need. need.source) (slice_get needs 0)) Unknown
 
 -- the source of the unit of a unit procedure
-abbrev pub source_of_unit : LinkedRecipe → ℕ → Source
-source_of_unit linked unit_procedure = first_source (needs_by linked (kind.Act UnitProcedures unit_procedure))
+abbrev pub unit_procedure_source : LinkedRecipe → ℕ → Source
+unit_procedure_source linked unit_procedure = first_source (needs_by linked (kind.Act UnitProcedures unit_procedure))
 
 -- the number that the phase with this number has among those that the unit offers
 abbrev pub offered_on : CellPhases → ℕ → ℕ → Option ℕ

@@ -13,7 +13,7 @@ use Rattle.batch_recipe.specs.declared.need.Need.{Need}
 use Rattle.batch_recipe.specs.declared.recipe.Recipe as document
 use Rattle.batch_recipe.specs.declared.role.Role as declared
 use Rattle.batch_set.specs.Linking.{ArePhasesOf, IsLinked, run_phase}
-use Rattle.batch_set.specs.Looked.{needs_by, phase_on, source_of_unit}
+use Rattle.batch_set.specs.Looked.{needs_by, phase_on, unit_procedure_source}
 use Rattle.batch_set.specs.declared.cell_phases.CellPhases.{CellPhases}
 use Rattle.batch_set.specs.declared.linked.LinkedNeed.{LinkedNeed}
 use Rattle.batch_set.specs.declared.linked.LinkedRecipe.{LinkedRecipe}
@@ -44,7 +44,7 @@ abbrev pub UnitsSayNames : Type 0
 UnitsSayNames =
     (cell : Cell) (phases : CellPhases) (recipe : document.Recipe) (linked : LinkedRecipe) → IsLinked cell phases recipe linked
     → (bound : Binding) (k : ℕ) (a : Act) (choice : UnitChoice) → slice_get recipe.acts.unit_procedures.items k ≡ Some a → a.unit ≡ Some choice
-    → IsSource cell recipe.roles.items bound (source_of_unit linked k) (unit_chosen bound choice)
+    → IsSource cell recipe.roles.items bound (unit_procedure_source linked k) (unit_chosen bound choice)
 
 -- of each phase step, on each unit that offers its phase
 abbrev pub PhasesSayNames : Type 0

@@ -2,7 +2,7 @@
 ghost use Rattle.std.specs.Prelude.{◌≡◌, [], flat_map, map, nat_eq, IfOk, OnOk};
 ghost use Rattle.std.specs.Cmp.Lexicographic.{pointwise};
 ghost use Rattle.indexmap.specs.IndexSet.{insert_all, insert_key, keys};
-ghost use Rattle.batch_set.specs.Linking.{ArePhasesOf, numbers_on, phases_in, number_run_by, table_items};
+ghost use Rattle.batch_set.specs.Linking.{ArePhasesOf, numbers_on, phases_in, run_phase_number, table_items};
 ghost use Rattle.batch_set.specs.Looked.{offered_on};
 
 use batch_cell::{Cell, Module};
@@ -62,7 +62,7 @@ fn number_phase(alloc: Global, cell: &Cell, phase: &Name) -> Result<Vec<Option<u
     Ok(numbers)
 }
 
-/// The same of each name.
+/// For each of the names: the number of the phase among those that a unit offers, for each unit.
 fn number_phases(
     alloc: Global,
     cell: &Cell,
@@ -91,7 +91,7 @@ impl CellPhases {
 
     /// The number of the phase that the act runs, if a unit offers it.
     pub(crate) fn run_by(&self, act: &Act) -> Option<usize>
-        ensures { result ≡ number_run_by self.now.names.keys act.now }
+        ensures { result ≡ run_phase_number self.now.names.keys act.now }
     {
         match &act.work {
             Work::Follows(_) => None,

@@ -1,6 +1,6 @@
 //! The needs and the phases of acts, by number.
 ghost use Rattle.std.specs.Prelude.{◌≡◌};
-ghost use Rattle.batch_set.specs.Looked.{needs_by, number_for, phase_on, rows_at, source_of_unit};
+ghost use Rattle.batch_set.specs.Looked.{needs_by, number_for, phase_on, rows_at, unit_procedure_source};
 
 use crate::cell_phases::CellPhases;
 use batch_recipe::{Kind, LabelTable};
@@ -95,7 +95,7 @@ impl LinkedRecipe {
     // claim: units by number
     #[inline(always)]
     pub fn unit(&self, unit_procedure: usize) -> Source
-        ensures { result ≡ source_of_unit self.now unit_procedure }
+        ensures { result ≡ unit_procedure_source self.now unit_procedure }
     {
         let act = Kind::Act(LabelTable::UnitProcedures, unit_procedure);
         match self.needs(act).first() {

@@ -2,7 +2,7 @@
 ghost use Rattle.std.specs.Prelude.{◌≡◌, ◌≤◌, length, map, position, IfOk};
 ghost use Rattle.batch_recipe.specs.Conditions.{same_name};
 ghost use Rattle.batch_recipe.specs.declared.role.TheConstants.{MAX_ROLES};
-ghost use Rattle.batch_set.specs.Linking.{IsLinked, by_role, candidate_numbers, chosen_source, named, need_linked, needs_linked, reserved, number_run_by, table_items, unit_needs};
+ghost use Rattle.batch_set.specs.Linking.{IsLinked, by_role, candidate_numbers, chosen_source, named, need_linked, needs_linked, reserved, run_phase_number, table_items, unit_needs};
 
 use crate::cell_phases::CellPhases;
 use crate::linked::{LinkedNeed, LinkedRecipe, Source};
@@ -157,7 +157,7 @@ fn link_runs(
     phases: &CellPhases,
     table: &[Act],
 ) -> Result<Vec<Option<usize>>, AllocError>
-    ensures { IfOk result (λ runs. runs.items ≡ map (number_run_by phases.now.names.keys) table.now) }
+    ensures { IfOk result (λ runs. runs.items ≡ map (run_phase_number phases.now.names.keys) table.now) }
 {
     let mut runs = Vec::with_capacity(alloc, table.len())?;
     for act in table {

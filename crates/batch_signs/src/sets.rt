@@ -34,7 +34,7 @@ impl Model for Sets {
 }
 
 impl Sets {
-    /// So many nodes without a sign.
+    /// The sets of so many nodes without a sign.
     pub fn new(alloc: Global, count: usize) -> Result<Sets, AllocError>
         requires { count ≤ 4096 }
         ensures { IfOk result (λ sets. AreRoomFor sets count × ((node sign : ℕ) → sign_shown sets node sign ≡ 0)) }
@@ -103,7 +103,7 @@ impl Sets {
         self.search(wanted, from)
     }
 
-    /// The same, by a search of the words.
+    /// The first node from this one on that shows one of the signs, by a search of the words.
     fn search(&self, wanted: u32, from: usize) -> Option<usize>
         ensures { IsFirstShown self.now wanted from result }
     {

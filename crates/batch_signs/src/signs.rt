@@ -26,7 +26,7 @@ impl Model for Signs {
 }
 
 impl Signs {
-    /// So many nodes without a sign.
+    /// The signs of so many nodes, none of which shows one.
     // claim: signs shown
     pub fn new(alloc: Global, count: usize) -> Result<Signs, AllocError>
         requires { count ≤ 4096 }

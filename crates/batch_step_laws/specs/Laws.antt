@@ -167,8 +167,12 @@ abbrev pub LeavesOut : Plant → Event → Name → Type 0
 LeavesOut plant (report unit name word outputs) output = IsFirstLeftOut plant unit name word outputs output
 LeavesOut plant _ output = ⊥
 
--- the cause of a refusal: moves pend only if there is a next one, the output is the first left out, a binding is bad only if the
--- recipe's roles aren't bound by it, the plant is full only at a limit, and memory is wanted by a create alone
+-- the cause of a refusal:
+-- - moves pend only if there is a next one;
+-- - the output is the first that is left out;
+-- - a binding is bad only if the recipe's roles aren't bound by it;
+-- - the plant is full only at a limit;
+-- - memory is wanted by a create alone
 abbrev pub HasCause : Setup → Plant → Event → Refusal → Type 0
 HasCause setup plant event moves_pending = next setup plant ≡ None → ⊥
 HasCause setup plant event (output_left_out output) = LeavesOut plant event output

@@ -7,9 +7,13 @@ pub fn refusals_change_nothing()
     ensures { RefusalsChangeNothing }
 {}
 
-/// Moves pend only if there is a next one, an output is reported left out only if it is the first that a live phase leaves out, a
-/// binding is bad only if the recipe's roles aren't bound by it, the plant is full only at a limit, and memory is wanted by a create
-/// alone.
+/// Each refusal has its cause:
+///
+/// - E10 comes only while a move is possible;
+/// - E13 only of the first output that a live phase leaves out;
+/// - E12 only of a binding that doesn't bind the recipe's roles;
+/// - E8 only at a limit;
+/// - E11, want of memory, only of a create.
 // claim: causes of refusals
 pub fn refusals_have_causes()
     ensures { RefusalsHaveCauses }

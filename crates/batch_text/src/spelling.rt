@@ -24,7 +24,7 @@ pub(crate) enum Spelling {
 }
 
 impl Spelling {
-    /// These bytes. Only a long name takes memory.
+    /// The spelling of these bytes. Only a long name takes memory.
     pub(crate) fn new(alloc: Global, text: &[u8]) -> Result<Spelling, AllocError>
         requires { length text.now ≤ MAX_NAME_LEN }
         ensures letters { IfOk result (λ spelling. letters spelling ≡ text.now) }

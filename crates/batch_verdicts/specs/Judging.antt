@@ -71,8 +71,8 @@ HaltsWith text kind halt.Memory = ⊤
 abbrev pub IsToml : List ℕ → Type 0
 IsToml bytes = IsUtf8 bytes × IsSome (parse_document bytes)
 
--- the document is refused, and but for memory it stands for no cell: it is called no TOML only if it is none, a document
--- that is too long is refused at its top, a table at fault is one of a cell's, and it has the fault that is named
+-- the document is refused, and but for memory it stands for no cell. It is called no TOML only if it is none. A document that is too long
+-- is refused at its top. A table at fault is one of a cell's, and it has the fault that is named
 pub record RefusesCell (path bytes : List ℕ) (h : Halt) : Type 0 where
   pub fault : DocFault
   pub stands : fault ≢ document.Memory → (c : Cell) → ¬ (IsCellDocument bytes c)

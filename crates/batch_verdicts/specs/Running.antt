@@ -8,7 +8,7 @@ use Rattle.clap.specs.Walk.{Text}
 use Rattle.clap.specs.Words.{subcommand_of}
 use Rattle.clap.specs.declared.error.kind.ErrorKind.{ErrorKind}
 use Rattle.batch_messages.specs.Explaining.{HaveNoCode, TellsCodes}
-use Rattle.batch_cli.specs.CommandLine.{IsShown, Judgement, Request, Source, request_entered, asks_quiet, audit, explain, judge, plant, program_app, serve, serve_desks, source_of, tell, keep, write, faults_of, remark, picture}
+use Rattle.batch_cli.specs.CommandLine.{IsShown, Judgement, Request, Source, request_or_demo, asks_quiet, audit, explain, judge, plant, program_app, serve, serve_desks, source_of, tell, keep, write, faults_of, remark, picture}
 use Rattle.batch_verdicts.specs.DeskSets.{AreDesksCleared}
 use Rattle.batch_verdicts.specs.Digested.{AreDigested}
 use Rattle.batch_verdicts.specs.Judging.{is_for_memory, status_of}
@@ -63,8 +63,8 @@ abbrev pub IsPrinted : Stream → Stream → List ℕ → ℕ → ℕ → Type 0
 IsPrinted output errors text wanted status =
     (Appends output.before output.after text × IsUnwritten errors × (status ≡ wanted)) ⊎ (status ≡ fault_status)
 
--- the refusal was written whole to the output, its sentence was said on the errors, and the program ends with its status;
--- or it ends with the status of a fault, and then nothing is known of the streams
+-- the refusal was written whole to the output, its sentence was said on the errors, and the program ends with its status. Or the program
+-- ends with the status of a fault, and then nothing is known of the streams
 abbrev pub IsRefused : Bool → Stream → Stream → DocumentRefusal → ℕ → Type 0
 IsRefused quiet output errors refusal status =
     (Appends output.before output.after (string_bytes refusal.text) × IsSaid quiet refusal.sentence errors.before errors.after
@@ -75,8 +75,11 @@ IsRefused quiet output errors refusal status =
 abbrev pub status_of_every : List DocumentRefusal → ℕ
 status_of_every refusals = if list_any (λ r. is_for_memory r.kind) refusals then memory_status else status_of Fault
 
--- they were written whole to the output, in their order, their sentences were said on the errors, and the program ends with their
--- status; or it ends with the status of a fault, and then nothing is known of the streams; or memory was wanting
+-- one of these holds:
+-- - the refusals were written whole to the output, in their order, their sentences were said on the errors, and the program ends with
+--   their status;
+-- - the program ends with the status of a fault, and then nothing is known of the streams;
+-- - memory was wanting, and nothing was written to the output
 abbrev pub AreRefused : Bool → Stream → Stream → List DocumentRefusal → ℕ → Type 0
 AreRefused quiet output errors refusals status =
     (Appends output.before output.after (flat_map (λ r. string_bytes r.text) refusals) × AreSaid quiet refusals errors.before errors.after
@@ -87,7 +90,7 @@ AreRefused quiet output errors refusals status =
 
 -- the words ask for this, and have no fault
 abbrev pub AskFor : List Text → Request → Type 0
-AskFor words request = (faults_of words ≡ []) × (request ≡ request_entered (subcommand_of program_app words))
+AskFor words request = (faults_of words ≡ []) × (request ≡ request_or_demo (subcommand_of program_app words))
 
 -- they ask the program to write no sentence on a refusal
 abbrev pub ask_quiet : List Text → Bool
@@ -117,8 +120,12 @@ IsExplained texts output errors status =
 
 -- Runs
 
--- the outcome of a request: the exit status, or the text that a file is to hold, or the set that the program is to serve, quietly or
--- not, with a journal or without one, or whose plant it is to run, or the record that it is to read, to draw, or to audit over a set
+-- the outcome of a request:
+-- - the exit status;
+-- - the text that a file is to hold;
+-- - the set that the program is to serve, quietly or not, with a journal or without one;
+-- - the set whose plant it is to run;
+-- - the record that it is to read, to draw, or to audit over a set
 pub data IsDone (gives : Gives) (request : Request) (quiet : Bool) (output errors : Stream) : Course → Type 0 where
   -- the errors have the same contents behind the warnings and before the verdict is printed
   judges : (judgement : Judgement) (text : List ℕ) (status : ℕ) (warned : Option (List ℕ))

@@ -17,9 +17,9 @@ use Rattle.batch_verdicts.specs.declared.refusal.Halt.{Halt}
 abbrev pub AreCodesTold : List Text → Stream → Type 0
 AreCodesTold texts output = (text : List ℕ) × TellsCodes texts text × Appends output.before output.after text
 
--- `check` wrote the certificate with the least ranks, or the drawing of recipes that can be cleared; `show` wrote the recipes' nodes;
--- `verify` wrote that it accepts the set of the documents, which their certificate clears; `explain` wrote the explanation. On the
--- errors `check` and `verify` wrote their warnings alone. Nothing else ends so before it has served or written a file
+-- `check` wrote the certificate with the least ranks, or the drawing of recipes that can be cleared. `show` wrote the recipes' nodes.
+-- `verify` wrote that it accepts the set of the documents, which their certificate clears. `explain` wrote the explanation. On the errors
+-- `check` and `verify` wrote their warnings alone. Nothing else ends so before it has served or written a file
 abbrev pub IsSuccess : Gives → Bool → Request → Stream → Stream → Type 0
 IsSuccess gives quiet (judge judgement) output errors =
     (text : List ℕ) × Appends output.before output.after text × IsVerdictText gives (IsWarned quiet errors.before errors.after) judgement text

@@ -16,7 +16,7 @@ use Rattle.batch_model.specs.Cleared.{Ranking}
 use Rattle.batch_model.specs.Recipes.{recipe_of}
 use Rattle.batch_model.specs.Setups.{master_of, setup_of}
 use Rattle.batch_verify.specs.Bindings.{binding_count, nobody, numbered_binding}
-use Rattle.batch_verify.specs.Covering.{AreBeside, AreEnough, IsHighest, IsLeastTaker}
+use Rattle.batch_verify.specs.Covering.{AreBeside, AreEnough, IsHighest, IsLowestTaker}
 use Rattle.batch_verify.specs.Comparing.{earlier_of}
 use Rattle.batch_verify.specs.Refusals.{rank_in, ranking_in, IsTried, IsTriedFor, IsVerdict, IsVerdictOn}
 use Rattle.batch_verify.specs.declared.rule.Broken.{Broken}
@@ -50,7 +50,7 @@ module _ (c : equipment.Cell) (recipes : List Recipe) (recipe : Recipe) where
   highest_for rank [] unit t = subst (λ (n : Name). rank n ≤ rank (nobody setup.resources)) (sym t) (omega arith)
   highest_for rank (first ∷ more) unit t = extreme_best rank true first more unit t
 
-  lowest_for : (rank : Ranking) (candidates : List Name) → IsLeastTaker setup rank candidates (raised_unit c (extreme rank false candidates))
+  lowest_for : (rank : Ranking) (candidates : List Name) → IsLowestTaker setup rank candidates (raised_unit c (extreme rank false candidates))
   lowest_for rank [] unit t = subst (λ (n : Name). rank (nobody setup.resources) ≤ rank n) (sym t) (omega arith)
   lowest_for rank (first ∷ more) unit t = extreme_best rank false first more unit t
 
@@ -111,7 +111,7 @@ module _ (c : equipment.Cell) (recipes : List Recipe) (recipe : Recipe) where
             bound = raised c roles (rank_in c ranks) high.name;
             looked = inr (at.0, omega (arith, all, slice_get_within (roles_raised (Some ranks) roles) at.0 high at_raised), high, at_raised, refl);
             highest = raised_at own (rank_in c ranks) high.name high m true ((bytes_decides high.name high.name).1 refl) (IsHighest setup (rank_in c ranks) (units_of_class c high.class)) (highest_for (rank_in c ranks) (units_of_class c high.class));
-            lowest = raised_at own (rank_in c ranks) high.name low l false other (IsLeastTaker setup (rank_in c ranks) (units_of_class c low.class)) (lowest_for (rank_in c ranks) (units_of_class c low.class));
+            lowest = raised_at own (rank_in c ranks) high.name low l false other (IsLowestTaker setup (rank_in c ranks) (units_of_class c low.class)) (lowest_for (rank_in c ranks) (units_of_class c low.class));
           })
 
   -- One binding more

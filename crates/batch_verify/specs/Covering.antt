@@ -33,16 +33,16 @@ Meets setup ranking procedure RankNotRising x = RisesBy ranking x.node.asked
 abbrev pub IsHighest : Setup → Ranking → List Name → Name → Type 0
 IsHighest setup rank candidates taker = (unit : Name) → IsTriedFor setup candidates unit → rank unit ≤ rank taker
 
--- or a smaller one
-abbrev pub IsLeastTaker : Setup → Ranking → List Name → Name → Type 0
-IsLeastTaker setup rank candidates taker = (unit : Name) → IsTriedFor setup candidates unit → rank taker ≤ rank unit
+-- none that is tried for a role of these candidates has a smaller rank
+abbrev pub IsLowestTaker : Setup → Ranking → List Name → Name → Type 0
+IsLowestTaker setup rank candidates taker = (unit : Name) → IsTriedFor setup candidates unit → rank taker ≤ rank unit
 
 -- in one of the bindings the one role is taken at its highest rank, and the other at its lowest
 pub record AreBeside (setup : Setup) (rank : Ranking) (cell : equipment.Cell) (Looked : Binding → Type 0) (high low : Role) : Type 0 where
   pub bound : Binding
   pub looked : Looked bound
   pub highest : IsHighest setup rank (units_of_class cell high.class) (bound high.name)
-  pub lowest : IsLeastTaker setup rank (units_of_class cell low.class) (bound low.name)
+  pub lowest : IsLowestTaker setup rank (units_of_class cell low.class) (bound low.name)
 
 -- the bindings give each candidate of each role, and, if there are ranks, each two roles beside one another
 pub record AreEnough (setup : Setup) (ranking : Option Ranking) (cell : equipment.Cell) (roles : List Role) (Looked : Binding → Type 0) : Type 0 where

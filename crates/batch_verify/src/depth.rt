@@ -6,7 +6,7 @@ ghost use Rattle.batch_verify.specs.Charts.{depth_is};
 /// The level of a node.
 #[derive(Clone, Copy)]
 pub(crate) enum Depth {
-    /// It is the procedure.
+    /// The node is the procedure.
     Procedure,
     /// In the procedure's chart, whose labels stand for unit procedures.
     InProcedure,

@@ -184,7 +184,8 @@ fn after_needs(
     Some(greatest)
 }
 
-/// The same of one need.
+/// The greatest rank that the need can have; without ranks it is `last`. None unless the need is of a resource with so many units, and
+/// its least rank, if there are ranks, is above `last`.
 fn after_need(
     low: &Site,
     highest: &[Option<u16>],

@@ -22,7 +22,7 @@ impl LineRoom {
         }
     }
 
-    /// Empties it.
+    /// Empties the room.
     #[inline(always)]
     pub(crate) fn clear(&mut self)
         ensures { take self.new.len self.new.bytes ≡ [] }

@@ -1,8 +1,9 @@
 //! Putting a text together from its end.
 ghost use Rattle.std.specs.Prelude.{◌≡◌, ◌≤◌, ◌++◌, IfNone, IfSome, drop, length};
 
-/// Puts a piece in front of the text that begins at `end`, and returns its start. Without room for it, puts nothing, and returns
-/// None.
+/// Puts a piece in front of the text that begins at `end`, and returns the start of the piece.
+///
+/// If there is no room for the piece, the text stays as it is, and the result is None.
 #[inline(always)]
 pub fn put_piece(text: &mut [u8], end: usize, piece: &[u8]) -> Option<usize>
     requires { end ≤ length text.old }

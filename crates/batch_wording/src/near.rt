@@ -46,8 +46,11 @@ fn known_said(alloc: Global, names: &[&str]) -> Result<String, AllocError> {
     format!(in alloc; "; known are {known}")
 }
 
-/// The name that is the written one but for the case of its letters; else the first of the nearest names, if few letters are wrong;
-/// else the only name that has the written one as a prefix, or is a prefix of it.
+/// The name that was nearly written: the first of these that there is.
+///
+/// - the name that is the written one but for the case of its letters;
+/// - the first of the nearest names, if few letters are wrong;
+/// - the only name that has the written one as a prefix, or is a prefix of it.
 fn nearest<'a>(
     alloc: Global,
     written: &str,

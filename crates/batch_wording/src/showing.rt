@@ -9,7 +9,7 @@ use std::alloc::{AllocError, Global};
 pub fn shown(alloc: Global, text: &str) -> Result<String, AllocError>
     ensures { IfOk result (λ told. string_bytes told ≡ shown text.now) }
 {
-    let mut told = String::new(alloc);
+    let mut told = String::with_capacity(alloc, text.len())?;
     for letter in text.chars() {
         push_shown(&mut told, letter)?;
     }

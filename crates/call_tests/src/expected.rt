@@ -12,7 +12,7 @@ pub(crate) fn assert_text(
     Ok(())
 }
 
-/// That no row of a table is wrong.
+/// Checks that no row of a table is wrong.
 pub(crate) fn assert_none(
     rt: &impl Abort,
     first_wrong: Result<Option<usize>, Fail>,
@@ -21,7 +21,7 @@ pub(crate) fn assert_none(
     Ok(())
 }
 
-/// That it is so.
+/// Checks that it is so.
 pub(crate) fn assert_so(rt: &impl Abort, is_so: Result<bool, Fail>) -> Result<(), Fail> {
     assert!(rt; is_so?);
     Ok(())

@@ -13,7 +13,7 @@ pub(crate) const MANY_READS: u64 = 1_000;
 /// A batch from its making to its end.
 pub(crate) const INPUT: &[u8] = b"create A 1000\nstart 1\nreport R1 ADD done\n";
 
-/// Its record.
+/// The record of that batch.
 pub(crate) const RECORD: &[u8] = b"created 1 A 1000
 ok start 1 running
 begin 1 0 A
@@ -58,7 +58,7 @@ pub(crate) struct Outcome {
 }
 
 impl Outcome {
-    /// Whether it ended so, and its record has these bytes.
+    /// Whether the run ended so, and its record has these bytes.
     pub(crate) fn is(&self, ending: Result<usize, SetFault>, record: &[u8]) -> bool {
         self.ending == ending && self.record.as_slice() == record
     }

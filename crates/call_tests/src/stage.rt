@@ -60,8 +60,12 @@ fn operate<D: UnitDriver>(
     Ok(told)
 }
 
-/// Answers `drive ROUNDS` by the written text, `accept` and an event line by the reply alone, with no move made, `move` by one
-/// move, `moves` by all that are possible, and an event line alone by its reply and all moves.
+/// Answers a line of a script:
+///
+/// - `drive ROUNDS` by the written text;
+/// - `accept` and an event line by the reply alone, with no move made;
+/// - `move` by one move, and `moves` by all that are possible;
+/// - an event line alone by its reply and all moves.
 impl<D: UnitDriver> Teller<Simulator<D>> for Engine {
     fn answer(
         &mut self,

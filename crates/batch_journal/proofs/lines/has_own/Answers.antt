@@ -1,6 +1,6 @@
 use Rattle.std.proofs.Common.{rules, ◌+◌, ◌++◌, ◌∷◌, [], length, take, arith, sym, ◌∙◌, ap, append_assoc}
 use Rattle.std.proofs.lemmas.List.{length-drop}
-use Rattle.batch_journal.specs.Lines.{lines_before_zero}
+use Rattle.batch_journal.specs.Lines.{whole_lines_before_zero}
 use Rattle.batch_journal.proofs.GroupScan.{first_line, others_more, to_end}
 use Rattle.batch_journal.proofs.lines.has_own.Goals as goal
 
@@ -17,5 +17,5 @@ loop-at-preserved c =
       within = omega (arith, so_far.within, ap length (to_end rest (at + 1)), length-drop (at + 1) rest);
       front = so_far.front ++ line ∷ [];
       others = others_more so_far.front line so_far.others (sym c.is_closing.ensures ∙ c.if-is_closing.false);
-      splits = so_far.splits ∙ ap (λ l. so_far.front ++ l) (first_line at rest c.in-Some.ensures ∙ ap (λ l. line ∷ lines_before_zero l) (sym (to_end rest (at + 1)))) ∙ sym (append_assoc so_far.front (line ∷ []) _);
+      splits = so_far.splits ∙ ap (λ l. so_far.front ++ l) (first_line at rest c.in-Some.ensures ∙ ap (λ l. line ∷ whole_lines_before_zero l) (sym (to_end rest (at + 1)))) ∙ sym (append_assoc so_far.front (line ∷ []) _);
     }

@@ -1,7 +1,7 @@
 use Rattle.std.proofs.Common.{◌≡◌, ℕ, List, ◌++◌, ◌≤◌, length}
 use Rattle.batch_journal.specs.Groups.{AreOthers}
 use Rattle.batch_journal.specs.Journals.{journal_format}
-use Rattle.batch_journal.specs.Lines.{lines_before_zero}
+use Rattle.batch_journal.specs.Lines.{whole_lines_before_zero}
 use Rattle.batch_journal.proofs.lines.has_own.Given as goal
 
 abbrev pub invariant-loop-at : goal.invariant-loop-at
@@ -9,7 +9,7 @@ invariant-loop-at l = record {
   within : length l.rest ≤ length l.text;
   front : List (List ℕ);
   others : AreOthers journal_format front;
-  splits : lines_before_zero l.text ≡ front ++ lines_before_zero l.rest;
+  splits : whole_lines_before_zero l.text ≡ front ++ whole_lines_before_zero l.rest;
 }
 
 abbrev pub decreases-loop-at : goal.decreases-loop-at

@@ -2,7 +2,7 @@ use Rattle.std.proofs.Common.{◌≡◌, ◌+◌, ◌++◌, ◌∷◌, [], true,
 use Rattle.std.proofs.lemmas.List.{length-drop}
 use Rattle.batch_journal.specs.Journals.{journal_format, sum_text, IsClosed}
 use Rattle.batch_journal.specs.Ends.{EndsLine}
-use Rattle.batch_journal.specs.Lines.{IsLine, lines_before_zero}
+use Rattle.batch_journal.specs.Lines.{IsLine, whole_lines_before_zero}
 use Rattle.batch_journal.proofs.LineLemmas.{lines_both}
 use Rattle.batch_journal.proofs.GroupScan.{none_left, none_closed, closed_there, begun_there, others_more, line_at, none_between, to_end}
 use Rattle.batch_journal.proofs.recovery.take_groups.Goals as goal
@@ -80,5 +80,5 @@ returns c =
       within = omega (arith, so_far.order, so_far.within);
       closed = so_far.closed;
       left = none_left c.args.documents.now bytes end at 0 (sum_text c.loop-len.sum) so_far.begun so_far.order so_far.within so_far.text so_far.are so_far.others
-          (ap lines_before_zero (sym (to_end bytes at)) ∙ c.in_default.ensures);
+          (ap whole_lines_before_zero (sym (to_end bytes at)) ∙ c.in_default.ensures);
     }
