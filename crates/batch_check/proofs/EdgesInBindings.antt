@@ -1,30 +1,17 @@
 -- Edges between resources and roles, one more of which is taken as it is in a binding.
-use Rattle.std.proofs.Common.{◌≡◌, ◌⊎◌, ℕ, ◌<◌, inl, inr, List, [], ◌∷◌, ◌++◌, map, set, length, get_or, Vec, Option, Some, None, Bool, false, refl, sym, ap, ◌∙◌, subst, arith}
+use Rattle.std.proofs.Common.{◌≡◌, ◌⊎◌, ℕ, ◌<◌, inl, inr, List, [], ◌∷◌, ◌++◌, set, length, get_or, Vec, Option, Some, None, Bool, false, refl, sym, ap, ◌∙◌, subst, arith}
 use Rattle.std.specs.Global.{Global}
 use Rattle.std.specs.List.{Contains}
 use Rattle.std.proofs.lemmas.Bool.{cases_eq}
 use Rattle.std.proofs.lemmas.List.{get_or-set_same, get_or-set_other, length-set}
 use Rattle.std.proofs.lemmas.Option.{slice_get-get_or}
 use Rattle.std.proofs.lemmas.List.Elements.{Contains-append_cases, Contains-append_left, Contains-append_right}
-use Rattle.batch_cell.specs.declared.cell.Cell.{Cell}
-use Rattle.batch_recipe.specs.Conditions.{Name}
-use Rattle.batch_recipe.specs.declared.role.Role.{Role}
 use Rattle.batch_check.specs.declared.edge.Edge.{Edge}
 use Rattle.batch_check.specs.declared.edge_set.EdgeSet.{EdgeSet}
 use Rattle.batch_check.specs.Collecting.{AreTakenIn, AreThose, HasRaised, HasTakenBy, IsTakenAs, raised}
-use Rattle.batch_check.specs.Edges.{number_of_resource, numbers_of_resources}
 use Rattle.batch_check.specs.Joining.{AreBelow, HasJoined}
-use Rattle.batch_check.specs.Takings.{Taking, bound_by, resource_for, units_by}
+use Rattle.batch_check.specs.Takings.{resource_for}
 use Rattle.batch_check.proofs.EdgesFromNeeds.{Contains-at, Contains-none, Contains-one, Grows-same, Grows-twice}
-
--- Units
-
-numbers_in_turn : (cell : Cell) (name_of : Role → Name) (roles : List Role) → map (λ role. number_of_resource cell (name_of role)) roles ≡ numbers_of_resources cell (map name_of roles)
-numbers_in_turn cell name_of [] = refl
-numbers_in_turn cell name_of (role ∷ roles) = ap (λ (ns : List (Option ℕ)). number_of_resource cell (name_of role) ∷ ns) (numbers_in_turn cell name_of roles)
-
-pub units_in_turn : (cell : Cell) (roles : List Role) (t : Taking) → map (λ role. number_of_resource cell (bound_by cell roles t role.name)) roles ≡ units_by cell roles t
-units_in_turn cell roles t = numbers_in_turn cell (λ role. bound_by cell roles t role.name) roles
 
 -- Edges
 

@@ -11,7 +11,7 @@ use Rattle.batch_check.specs.declared.edge.Edge.{Edge}
 use Rattle.batch_check.specs.LeastRanking.{HasEndsBelow}
 use Rattle.batch_check.specs.ByName.{resource_name_in}
 use Rattle.batch_verify.specs.Refusals.{rank_in}
-use Rattle.batch_verify.proofs.ResourceNumbers.{number-own}
+use Rattle.batch_set.proofs.ResourceNumbers.{number-own}
 
 -- a cell has few resources
 pub resources_few : (c : Cell) → length (resources_of c) < 385

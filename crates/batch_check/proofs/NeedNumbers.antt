@@ -25,7 +25,7 @@ use Rattle.batch_set.specs.declared.linked.LinkedRecipe.{LinkedRecipe}
 use Rattle.batch_set.specs.declared.linked.Source.{Source}
 use Rattle.batch_set.specs.declared.linked.Source.TheVariants.{Resource, Role, Unknown}
 use Rattle.batch_set.proofs.Sources.{needs-said}
-use Rattle.batch_verify.proofs.ResourceNumbers.{number-at}
+use Rattle.batch_set.proofs.ResourceNumbers.{number-at}
 use Rattle.batch_check.specs.declared.site.Site.{Site}
 use Rattle.batch_check.specs.Edges.{number_of_resource, numbers_of_resources}
 use Rattle.batch_check.specs.Joining.{AreBelow}

@@ -29,7 +29,7 @@ use Rattle.batch_check.specs.Sites.{bound_on, count_with_roles, nodes_on, resour
 use Rattle.batch_check.proofs.EdgesOfAct.{Follows-keeps}
 use Rattle.batch_check.proofs.PairsInBindings.{follows_shown, paired_shown}
 use Rattle.batch_check.proofs.EdgesFromNeeds.{Contains-at, Contains-none, Grows-twice, at-Contains}
-use Rattle.batch_verify.proofs.ResourceNumbers.{number-at}
+use Rattle.batch_set.proofs.ResourceNumbers.{number-at}
 use Rattle.batch_check.proofs.RanksAlongPaths.{Each-get}
 use Rattle.batch_check.proofs.Roles.{resource_for-below, resource_for-past}
 use Rattle.batch_check.proofs.RoleUnits.{apart_other, apart_own, as_many_units, item_at, itself, last_or_before, raised_is, roles_apart, same_unit}

@@ -15,7 +15,7 @@ use Rattle.batch_model.proofs.Members.{Each-append}
 use Rattle.batch_verify.proofs.RulesInBindings.{Each_left, Each_right}
 use Rattle.batch_check.specs.Edges.{number_of_resource}
 use Rattle.batch_check.proofs.Names.{name_in-found}
-use Rattle.batch_verify.proofs.ResourceNumbers.{number-own}
+use Rattle.batch_set.proofs.ResourceNumbers.{number-own}
 use Rattle.batch_check.specs.ByName.{resource_name_in}
 use Rattle.batch_recipe.specs.Needs as own
 use Rattle.batch_recipe.specs.declared.need.Need.{Need}

@@ -1,42 +1,31 @@
 //! Edges between resources and roles, where units take the roles.
-ghost use Rattle.std.specs.Prelude.{◌≡◌, ◌<◌, ◌&&◌, ltb, length, IfOk, OnOk};
+ghost use Rattle.std.specs.Prelude.{◌≡◌, ◌<◌, ◌&&◌, ltb, length, map, IfOk, OnOk};
 ghost use Rattle.batch_check.specs.Collecting.{AreThose, AreUnitsWithin, HasRaised, HasTakenBy, is_behind, is_of_role, raised};
-ghost use Rattle.batch_check.specs.Edges.{number_of_resource};
 ghost use Rattle.batch_check.specs.Joining.{AreBelow};
-ghost use Rattle.batch_check.specs.Takings.{AreUnitsOf, alike, resource_for, units_by};
-ghost use Rattle.batch_verify.specs.Bindings.{binding_count, numbered_binding};
+ghost use Rattle.batch_check.specs.Takings.{AreUnitsOf, resource_for};
+ghost use Rattle.batch_set.specs.Linking.{IsLinkedIn};
+ghost use Rattle.batch_verify.specs.Bindings.{binding_count, candidate_of};
 
 use crate::edge::Edge;
 use crate::edge_set::EdgeSet;
 use crate::joining::join;
 use batch_cell::Cell;
-use batch_recipe::Role;
-use batch_text::Name;
-use batch_verify::{binding_count, unit_taking};
+use batch_recipe::Recipe;
+use batch_set::LinkedRecipe;
+use batch_verify::{binding_count, candidate_of};
 use std::alloc::{AllocError, Global};
-
-/// The number of the unit that takes the role: its candidate with this number.
-fn unit_by(cell: &Cell, roles: &[Role], number: u16, role: &Name) -> Option<u16>
-    ensures { result ≡ number_of_resource cell.now (numbered_binding cell.now roles.now number role.now) }
-{
-    match unit_taking(cell, roles, number, role) {
-        None => None,
-        Some(unit) => cell.resource_of(unit),
-    }
-}
 
 /// Of each role the number of the unit that takes it: its candidate with this number.
 pub(crate) fn units_by(
     alloc: Global,
-    cell: &Cell,
-    roles: &[Role],
+    linked: &LinkedRecipe,
     number: u16,
 ) -> Result<Vec<Option<u16>>, AllocError>
-    ensures { IfOk result (λ units. units.items ≡ units_by cell.now roles.now (alike number)) }
+    ensures { IfOk result (λ units. units.items ≡ map (λ row. candidate_of row.items number) linked.now.candidates.items) }
 {
-    let mut units = Vec::with_capacity(alloc, roles.len())?;
-    for role in roles {
-        units.push(unit_by(cell, roles, number, &role.name))?;
+    let mut units = Vec::with_capacity(alloc, linked.candidates.len())?;
+    for candidates in &linked.candidates {
+        units.push(candidate_of(candidates, number))?;
     }
     Ok(units)
 }
@@ -45,14 +34,16 @@ pub(crate) fn units_by(
 pub(crate) fn units_of_each(
     alloc: Global,
     cell: &Cell,
-    roles: &[Role],
+    recipe: &Recipe,
+    linked: &LinkedRecipe,
 ) -> Result<Vec<Vec<Option<u16>>>, AllocError>
-    ensures { IfOk result (λ units. AreUnitsOf cell.now roles.now (binding_count cell.now roles.now) units.items) }
+    requires { IsLinkedIn cell.now recipe.now linked.now }
+    ensures { IfOk result (λ units. AreUnitsOf cell.now recipe.now.roles.items (binding_count cell.now recipe.now.roles.items) units.items) }
 {
-    let count = binding_count(cell, roles);
+    let count = binding_count(cell, &recipe.roles);
     let mut units = Vec::with_capacity(alloc, usize::from(count))?;
     for number in 0..count {
-        let taken = units_by(alloc, cell, roles, number)?;
+        let taken = units_by(alloc, linked, number)?;
         units.push(taken)?;
     }
     Ok(units)

@@ -98,10 +98,10 @@ fn add_edges(
 {
     let site = Site { cell, recipe };
     let collected = collect(alloc, &site, linked, number, reach)?;
-    let first = units_by(alloc, cell, &recipe.roles, 0)?;
+    let first = units_by(alloc, linked, 0)?;
     add_taken(&collected.edges, &first, edges)?;
     let of_roles = edges_of_roles(alloc, cell.resources(), &collected.edges)?;
-    let units = units_of_each(alloc, cell, &recipe.roles)?;
+    let units = units_of_each(alloc, cell, recipe, linked)?;
     for taken in &units {
         add_taken(&of_roles, taken, edges)?;
     }

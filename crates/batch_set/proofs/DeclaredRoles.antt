@@ -33,7 +33,7 @@ found-all {X} q p (y ∷ xs) x e all = go (p y) e (λ later. found-all q p xs x 
     go true f later = subst (λ z. q z ≡ true) (let same : y ≡ x = cc in same) own.0
     go false f later = later f
 
-same_name_sym : (a b : Name) (r : Bool) → same_name a b ≡ r → same_name b a ≡ r
+pub same_name_sym : (a b : Name) (r : Bool) → same_name a b ≡ r → same_name b a ≡ r
 same_name_sym a b r e = let turned : same_name b a ≡ same_name a b = nat_list_eq_equiv.symm b a in cc
 
 abbrev has_found_unit : Option Act → Bool

@@ -3,5 +3,7 @@ pub mod DeclaredRoles
 pub mod TableRows
 pub mod PhaseNumbers
 pub mod Positions
+pub mod ResourceNumbers
+pub mod CandidateNumbers
 pub mod SetRecipes
 pub mod Sources

@@ -1,6 +1,6 @@
 -- surface: the numbers of a linked recipe mean the same as its names.
-use Rattle.std.specs.Prelude.{◌≡◌, ℕ, ◌<◌, List, [], ◌∷◌, Some, None, length, position, slice_get, ⊤}
-use Rattle.batch_cell.specs.LookUps.{resources_of, units_of, phases_of}
+use Rattle.std.specs.Prelude.{◌≡◌, ℕ, ◌<◌, List, [], ◌∷◌, Some, None, length, map, position, slice_get, ⊤}
+use Rattle.batch_cell.specs.LookUps.{resources_of, units_of, units_of_class, phases_of}
 use Rattle.batch_cell.specs.declared.cell.Cell.{Cell}
 use Rattle.batch_recipe.specs.Conditions.{Name, same_name}
 use Rattle.batch_recipe.specs.Expanding.{Binding, needs_with, unit_chosen}
@@ -12,7 +12,7 @@ use Rattle.batch_recipe.specs.declared.entry.Kind.{Kind}
 use Rattle.batch_recipe.specs.declared.need.Need.{Need}
 use Rattle.batch_recipe.specs.declared.recipe.Recipe as document
 use Rattle.batch_recipe.specs.declared.role.Role as declared
-use Rattle.batch_set.specs.Linking.{ArePhasesOf, IsLinked, run_phase}
+use Rattle.batch_set.specs.Linking.{ArePhasesOf, IsLinked, candidate_numbers, run_phase}
 use Rattle.batch_set.specs.Looked.{needs_by, phase_on, unit_procedure_source}
 use Rattle.batch_set.specs.declared.cell_phases.CellPhases.{CellPhases}
 use Rattle.batch_set.specs.declared.linked.LinkedNeed.{LinkedNeed}
@@ -45,6 +45,11 @@ UnitsSayNames =
     (cell : Cell) (phases : CellPhases) (recipe : document.Recipe) (linked : LinkedRecipe) → IsLinked cell phases recipe linked
     → (bound : Binding) (k : ℕ) (a : Act) (choice : UnitChoice) → slice_get recipe.acts.unit_procedures.items k ≡ Some a → a.unit ≡ Some choice
     → IsSource cell recipe.roles.items bound (unit_procedure_source linked k) (unit_chosen bound choice)
+
+-- of the candidates of each role, one after another
+abbrev pub CandidatesSayNames : Type 0
+CandidatesSayNames =
+    (cell : Cell) (role : declared.Role) → map (λ name. position (same_name name) (resources_of cell)) (units_of_class cell role.class) ≡ map (λ number. Some number) (candidate_numbers cell role)
 
 -- of each phase step, on each unit that offers its phase
 abbrev pub PhasesSayNames : Type 0

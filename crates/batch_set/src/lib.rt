@@ -10,7 +10,7 @@ mod linked_set;
 mod linking;
 
 pub use cell_phases::CellPhases;
-pub use laws::{needs_say_names, phases_say_names, units_say_names};
+pub use laws::{candidates_say_names, needs_say_names, phases_say_names, units_say_names};
 pub use linked::{LinkedNeed, LinkedRecipe, Source};
 pub use linked_set::LinkedSet;
 pub use linking::link;

@@ -1,6 +1,6 @@
 //! The needs and the phases of acts, by number.
 ghost use Rattle.std.specs.Prelude.{◌≡◌};
-ghost use Rattle.batch_set.specs.Looked.{needs_by, number_for, phase_on, rows_at, unit_procedure_source};
+ghost use Rattle.batch_set.specs.Looked.{needs_by, number_for, phase_on, row_at, rows_at, unit_procedure_source};
 
 use crate::cell_phases::CellPhases;
 use batch_recipe::{Kind, LabelTable};
@@ -88,6 +88,17 @@ impl LinkedRecipe {
                 None => &[],
             },
             Kind::Skip | Kind::Seq | Kind::Par | Kind::Sel | Kind::Loop(_) => &[],
+        }
+    }
+
+    /// The numbers of the units that may take the role with this number, in the order of the cell.
+    // claim: candidates by number
+    pub fn candidates_of(&self, role: usize) -> &[u16]
+        ensures { result.now ≡ row_at self.now.candidates.items role }
+    {
+        match self.candidates.get(role) {
+            Some(units) => units,
+            None => &[],
         }
     }
 

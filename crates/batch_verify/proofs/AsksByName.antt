@@ -35,7 +35,7 @@ use Rattle.batch_verify.specs.Walking.{RisesFrom, is_of_resource, is_within_capa
 use Rattle.batch_verify.specs.declared.rule.Rule.{Rule}
 use Rattle.batch_verify.specs.declared.rule.Rule.TheVariants.{RankNotRising}
 use Rattle.batch_verify.proofs.ListLookups.{found_below, found_is_among}
-use Rattle.batch_verify.proofs.ResourceNumbers.{number-at}
+use Rattle.batch_set.proofs.ResourceNumbers.{number-at}
 
 pub among_first-all : (count : ℕ) (o : Option ℕ) → ((k : ℕ) → o ≡ Some k → k < count) → among_first count o ≡ o
 among_first-all count None h = refl

@@ -1,11 +1,10 @@
 -- Whoever takes a role stands between the candidates of the least and of the greatest rank, by number.
-use Rattle.std.proofs.Common.{◌≡◌, ℕ, zero, suc, ◌<◌, Bool, true, false, cond, List, [], ◌∷◌, ◌++◌, length, map, filter, position, get_or, slice_get, option_map, Option, Some, None, inl, inr, refl, sym, ap, ◌∙◌, subst, arith}
+use Rattle.std.proofs.Common.{◌≡◌, ℕ, zero, suc, Bool, true, false, cond, List, [], ◌∷◌, map, filter, position, slice_get, option_map, Option, Some, None, inl, inr, refl, sym, ap, ◌∙◌, subst, arith}
 use Rattle.std.specs.List.{slice_index_or}
 use Rattle.std.specs.Cmp.Lexicographic.{bytes_decides}
 use Rattle.std.proofs.lemmas.Bool.{or_cases}
-use Rattle.std.proofs.lemmas.List.{append_assoc, get_or_append_left, length-append}
-use Rattle.std.proofs.lemmas.Option.{get_or_from_slice_get, slice_get-map, slice_get_within}
-use Rattle.batch_cell.specs.Equipment.{is_free, unit_names}
+use Rattle.std.proofs.lemmas.Option.{slice_get-map}
+use Rattle.batch_cell.specs.Equipment.{unit_names}
 use Rattle.batch_cell.specs.LookUps.{capacities_of, is_of_class, resources_of, units_of, units_of_class}
 use Rattle.batch_cell.specs.declared.cell.Cell as equipment
 use Rattle.batch_cell.specs.declared.unit.Unit.{Unit}
@@ -17,6 +16,7 @@ use Rattle.batch_model.specs.Cleared.{Ranking}
 use Rattle.batch_model.specs.Lists.{Has}
 use Rattle.batch_model.specs.Setups.{setup_of}
 use Rattle.batch_model.proofs.ExclusiveUnits.{unit_is_exclusive}
+use Rattle.batch_set.proofs.CandidateNumbers.{unit-number}
 use Rattle.batch_verify.specs.Asking.{rank_by, takers_of}
 use Rattle.batch_verify.specs.Bindings.{nobody, role_named}
 use Rattle.batch_verify.specs.Refusals.{IsTriedFor}
@@ -25,8 +25,8 @@ use Rattle.batch_verify.specs.Trials.{extreme, extreme_from, raised_for, raised_
 use Rattle.batch_verify.proofs.Extremes.{extreme_best, extreme_is}
 use Rattle.batch_verify.proofs.ListLookups.{found_below}
 use Rattle.batch_verify.proofs.NamesInList.{among_at}
-use Rattle.batch_verify.proofs.ResourceNumbers.{number-own}
 use Rattle.batch_verify.proofs.RoleTakers.{nobody_unknown}
+use Rattle.batch_verify.proofs.TakerNumbers.{rank_is}
 
 -- One of the units that pass a test
 
@@ -64,14 +64,8 @@ record IsCandidate (c : equipment.Cell) (class name : Name) : Type 0 where
 candidate : (c : equipment.Cell) (class name : Name) → is_among (units_of_class c class) name ≡ true → IsCandidate c class name
 candidate c class name h =
     let p = picked (is_of_class class) c.units.items name h in
-    let rest : List Name = map (λ m. m.name) (filter is_free c.modules.items) ++ map (λ s. s.name) c.shared.items in
-    let all : resources_of c ≡ units_of c ++ rest = append_assoc (units_of c) (map (λ m. m.name) (filter is_free c.modules.items)) (map (λ s. s.name) c.shared.items) in
     let here : slice_get (units_of c) p.at ≡ Some name = slice_get-map (λ (u : Unit). u.name) c.units.items p.at ∙ (ap (option_map (λ (u : Unit). u.name)) p.is ∙ ap Some p.named) in
-    let within : p.at < length (units_of c) = slice_get_within (units_of c) p.at name here in
-    let there : get_or (resources_of c) p.at [] ≡ name =
-    ap (λ names. get_or names p.at []) all ∙ (get_or_append_left (units_of c) rest [] p.at within ∙ get_or_from_slice_get (units_of c) p.at name [] here) in
-    let number : position (same_name name) (resources_of c) ≡ Some p.at =
-    ap (λ (n : Name). position (same_name n) (resources_of c)) (sym there) ∙ number-own c p.at (omega (arith, within, ap length all, length-append (units_of c) rest)) in
+    let number : position (same_name name) (resources_of c) ≡ Some p.at = ap (λ (n : Name). position (same_name n) (resources_of c)) (sym p.named) ∙ unit-number c p.at p.unit p.is in
     record {
       at = p.at;
       unit = p.unit;
@@ -93,17 +87,6 @@ module _ (c : equipment.Cell) (ranks : Option (List ℕ)) (roles : List Role) (o
   abbrev number_of : Name → Option ℕ
   number_of name = position (same_name name) (resources_of c)
 
-  rank_is : (name : Name) → rank name ≡ rank_by (ranks_or_none ranks) (number_of name)
-  rank_is name = go ranks
-    where
-      none : (o : Option ℕ) → 0 ≡ rank_by [] o
-      none None = refl
-      none (Some n) = refl
-
-      go : (rs : Option (List ℕ)) → rank_or_0 c rs name ≡ rank_by (ranks_or_none rs) (number_of name)
-      go None = none (number_of name)
-      go (Some rs) = refl
-
   taken_so : (role : Role) (candidates : List Name) → units_of_class c role.class ≡ candidates → (name : Name) → IsTriedFor (setup_of c []) candidates name
       → IsTakenAt c (ranks_or_none ranks) (Some role) (number_of (raised_unit c (extreme rank false candidates))) (number_of name) (number_of (raised_unit c (extreme rank true candidates)))
   taken_so role [] is name t = subst (λ o. IsTakenAt c (ranks_or_none ranks) (Some role) o (number_of name) (number_of (nobody (resources_of c)))) (sym (nobody_unknown (resources_of c)))
@@ -123,8 +106,8 @@ module _ (c : equipment.Cell) (ranks : Option (List ℕ)) (roles : List Role) (o
         of_class = b.of_class;
         known = found_below (same_name name) (resources_of c) b.at b.numbered;
         as_many = l.one ∙ sym b.one;
-        least = omega (arith, extreme_best rank false first more name t, rank_is low, rank_is name, ap (rank_by (ranks_or_none ranks)) l.numbered, ap (rank_by (ranks_or_none ranks)) b.numbered);
-        greatest = omega (arith, extreme_best rank true first more name t, rank_is high, rank_is name, ap (rank_by (ranks_or_none ranks)) b.numbered);
+        least = omega (arith, extreme_best rank false first more name t, rank_is c ranks low, rank_is c ranks name, ap (rank_by (ranks_or_none ranks)) l.numbered, ap (rank_by (ranks_or_none ranks)) b.numbered);
+        greatest = omega (arith, extreme_best rank true first more name t, rank_is c ranks high, rank_is c ranks name, ap (rank_by (ranks_or_none ranks)) b.numbered);
       })
 
   slot : (f : Role → Option ℕ) (rs : List Role) (k : ℕ) → slice_index_or (map f rs) k None ≡ elim (slice_get rs k) [ None ↦ None | Some role ↦ f role ]

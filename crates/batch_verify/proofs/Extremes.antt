@@ -1,12 +1,7 @@
 -- Of candidates the one that has the greatest rank, or the least one.
-use Rattle.std.proofs.Common.{◌≡◌, ◌⊎◌, ℕ, suc, ◌+◌, ◌<◌, ◌≤◌, Bool, true, false, cond, if◌then◌else◌, ltb, IsTrue, List, [], ◌∷◌, ◌++◌, length, filter, take, get_or, slice_get, Some, append-nil, refl, sym, ap, ◌∙◌, subst, arith, inl, inr}
+use Rattle.std.proofs.Common.{◌≡◌, ◌⊎◌, ℕ, suc, ◌≤◌, Bool, true, false, if◌then◌else◌, ltb, IsTrue, List, [], ◌∷◌, ◌++◌, slice_get, Some, refl, sym, ap, ◌∙◌, subst, arith, inl, inr}
 use Rattle.std.specs.Cmp.Lexicographic.{bytes_decides}
 use Rattle.std.proofs.lemmas.Bool.{ltb-true, ltb-false, or_cases, or_left, or_right}
-use Rattle.std.proofs.lemmas.List.{map-append}
-use Rattle.std.proofs.lemmas.List.Elements.{filter_more}
-use Rattle.batch_cell.specs.Equipment.{unit_names}
-use Rattle.batch_cell.specs.LookUps.{is_of_class}
-use Rattle.batch_cell.specs.declared.unit.Unit.{Unit}
 use Rattle.batch_recipe.specs.Conditions.{Name, same_name}
 use Rattle.batch_recipe.specs.WellFormed.{is_among}
 use Rattle.batch_recipe.specs.declared.role.Role.{Role}
@@ -101,28 +96,11 @@ module _ (rank : Ranking) where
 
 -- Candidates one after another
 
-module _ (rank : Ranking) (b : Bool) where
-  last_more : (best : Name) (names : List Name) (name : Name) → extreme_from rank b best (names ++ name ∷ []) ≡ better rank b (Some (extreme_from rank b best names)) name
-  last_more best [] name = refl
-  last_more best (x ∷ xs) name = last_more (better rank b (Some best) x) xs name
+module _ {X : Type 0} (rank : X → ℕ) (b : Bool) where
+  last_more : (best : X) (more : List X) (one : X) → extreme_from rank b best (more ++ one ∷ []) ≡ better rank b (Some (extreme_from rank b best more)) one
+  last_more best [] one = refl
+  last_more best (x ∷ xs) one = last_more (better rank b (Some best) x) xs one
 
-  one_more : (names : List Name) (name : Name) → extreme rank b (names ++ name ∷ []) ≡ Some (better rank b (extreme rank b names) name)
-  one_more [] name = refl
-  one_more (x ∷ xs) name = ap Some (last_more x xs name)
-
-  module _ (class : Name) (units : List Unit) (i : ℕ) (unit : Unit) (within : i < length units) (is : unit ≡ get_or units i unit) where
-    -- the names of the first units of the class
-    abbrev named : ℕ → List Name
-    named n = unit_names (filter (is_of_class class) (take n units))
-
-    so_far : (t : Bool) → is_of_class class unit ≡ t → named (i + 1) ≡ named i ++ unit_names (cond t (unit ∷ []) [])
-    so_far t e =
-        ap unit_names (filter_more (is_of_class class) units i unit within)
-        ∙ (map-append (λ (u : Unit). u.name) (filter (is_of_class class) (take i units)) (cond (is_of_class class (get_or units i unit)) (get_or units i unit ∷ []) [])
-        ∙ (ap (λ (u : Unit). named i ++ unit_names (cond (is_of_class class u) (u ∷ []) [])) (sym is) ∙ ap (λ t. named i ++ unit_names (cond t (unit ∷ []) [])) e))
-
-    pub passed : is_of_class class unit ≡ false → named (i + 1) ≡ named i
-    passed other = so_far false other ∙ append-nil (named i)
-
-    pub taken : is_of_class class unit ≡ true → extreme rank b (named (i + 1)) ≡ Some (better rank b (extreme rank b (named i)) unit.name)
-    taken own = ap (extreme rank b) (so_far true own) ∙ one_more (named i) unit.name
+  pub one_more : (all : List X) (one : X) → extreme rank b (all ++ one ∷ []) ≡ Some (better rank b (extreme rank b all) one)
+  one_more [] one = refl
+  one_more (x ∷ xs) one = ap Some (last_more x xs one)

@@ -22,7 +22,6 @@ pub mod Spots
 pub mod WayActs
 pub mod PhasesInBindings
 pub mod FollowersInBindings
-pub mod ResourceNumbers
 pub mod AsksByName
 pub mod EntryNodes
 pub mod Faults
@@ -40,6 +39,7 @@ pub mod Trials
 pub mod Spans
 pub mod NodeClearance
 pub mod CandidateBounds
+pub mod TakerNumbers
 pub mod RoleTakers
 pub mod RunningTrees
 pub mod RunningBranches

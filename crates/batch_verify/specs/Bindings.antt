@@ -12,7 +12,7 @@ nobody [] = 0 ∷ []
 nobody (name ∷ names) = name ++ nobody names
 
 -- the candidate with this number, or the first one where they are fewer
-abbrev pub candidate_of : List Name → ℕ → Option Name
+abbrev pub candidate_of : {X : Type 0} → List X → ℕ → Option X
 candidate_of candidates number = elim (slice_get candidates number) [ None ↦ slice_get candidates 0 | Some unit ↦ Some unit ]
 
 -- the role with this name

@@ -1,12 +1,10 @@
 //! Bindings of roles that are tried one after another, so that each candidate of each role takes it in one of them.
-ghost use Rattle.std.specs.Prelude.{◌≡◌, ◌≤◌, max, slice_get, option_copied, MatchOption};
-ghost use Rattle.batch_cell.specs.LookUps.{resources_of, units_of_class};
+ghost use Rattle.std.specs.Prelude.{◌≡◌, ◌≤◌, max};
 ghost use Rattle.batch_cell.specs.declared.cell.TheConstants.{MAX_UNITS};
-ghost use Rattle.batch_verify.specs.Bindings.{binding_count, nobody, numbered_binding, role_named};
+ghost use Rattle.batch_verify.specs.Bindings.{binding_count, candidate_of};
 
 use batch_cell::Cell;
 use batch_recipe::Role;
-use batch_text::Name;
 
 /// The number of bindings to try: as many as there are candidates of the role that has the most, and one at least.
 // claim: numbered bindings
@@ -22,18 +20,15 @@ pub fn binding_count(cell: &Cell, roles: &[Role]) -> u16
     most
 }
 
-/// The unit that takes the role in the binding with this number: the role's candidate with this number, or its first one where
-/// they are fewer. None where no unit may take it.
+/// The one of these candidates that takes a role in the binding with this number: the candidate with this number, or the first one
+/// where they are fewer. None where there is no candidate.
 // claim: numbered bindings
-pub fn unit_taking<'a>(cell: &'a Cell, roles: &[Role], number: u16, role: &Name) -> Option<&'a Name>
-    ensures { MatchOption result
-        (numbered_binding cell.now roles.now number role.now ≡ nobody (resources_of cell.now))
-        (λ unit. unit.now ≡ numbered_binding cell.now roles.now number role.now) }
+pub fn candidate_of(candidates: &[u16], number: u16) -> Option<u16>
+    ensures { result ≡ candidate_of candidates.now number }
 {
-    let taken = role_named(roles, role)?;
-    match candidate_named(cell, &taken.class, number) {
-        Some(unit) => Some(unit),
-        None => candidate_named(cell, &taken.class, 0),
+    match candidates.get(usize::from(number)) {
+        Some(unit) => Some(*unit),
+        None => candidates.first().copied(),
     }
 }
 
@@ -41,21 +36,4 @@ fn greater(one: u16, other: u16) -> u16
     ensures { result ≡ max one other }
 {
     if one < other { other } else { one }
-}
-
-/// The role with this name.
-pub(crate) fn role_named<'a>(roles: &'a [Role], name: &Name) -> Option<&'a Role>
-    ensures { option_copied result ≡ role_named roles.now name.now }
-{
-    roles.iter().find(|role| role.name == *name)
-}
-
-/// The name of the unit that is the one with this index among those of the class.
-fn candidate_named<'a>(cell: &'a Cell, class: &Name, index: u16) -> Option<&'a Name>
-    ensures { option_copied result ≡ slice_get (units_of_class cell.now class.now) index }
-{
-    match cell.candidate(class, index) {
-        None => None,
-        Some(unit) => Some(cell.name_of(unit)),
-    }
 }

@@ -28,7 +28,7 @@ mod tree_phases;
 mod trial;
 mod walk;
 
-pub use bindings::{binding_count, unit_taking};
+pub use bindings::{binding_count, candidate_of};
 pub use certificate::{CertFault, Certificate, MAX_LINES, MAX_RANK};
 pub use cleared::Cleared;
 pub use judgement::verify;

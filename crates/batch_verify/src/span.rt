@@ -51,8 +51,8 @@ pub(crate) fn is_clear(
     ensures { IfOk result (λ clear. clear ≡ true → (bound : Binding) → GivesUnits cell.now recipe.now.roles.items bound → (recipes : List document.Recipe)
         → IsVerdict (setup_of cell.now recipes) (ranking_in cell.now (option_copied ranks.entry)) (recipe_of recipe.now bound) None) }
 {
-    let lowest = takers_in(alloc, cell, &recipe.roles, Trial::Leveled(false, ranks))?;
-    let highest = takers_in(alloc, cell, &recipe.roles, Trial::Leveled(true, ranks))?;
+    let lowest = takers_in(alloc, recipe, linked, Trial::Leveled(false, ranks))?;
+    let highest = takers_in(alloc, recipe, linked, Trial::Leveled(true, ranks))?;
     let low = Site {
         cell,
         acts: &recipe.acts,

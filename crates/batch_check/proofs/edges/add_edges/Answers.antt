@@ -11,7 +11,7 @@ use Rattle.batch_check.specs.declared.edge.Edge.{Edge}
 use Rattle.batch_check.specs.declared.edge_set.EdgeSet.{EdgeSet}
 use Rattle.batch_check.specs.declared.site.Site.{Site}
 use Rattle.batch_check.proofs.RecipeEdges.{KeepsBindings, KeepsBindings-alike, KeepsBindings-apart, KeepsBindings-fewer, KeepsBindings-first, added_all}
-use Rattle.batch_check.proofs.RoleUnits.{item_at, units_below, units_within}
+use Rattle.batch_check.proofs.RoleUnits.{item_at, units_below, units_linked, units_within}
 use Rattle.batch_check.proofs.edges.add_edges.Goals as goal
 
 abbrev Units : Type 0
@@ -31,9 +31,6 @@ taken_by us units es edges old new e f h = subst (λ (xs : List (Option ℕ)). H
 raised_by : (place : ℕ) (us units : List Units) (es edges : List Edge) (old new : EdgeSet) → us ≡ units → es ≡ edges → HasRaised place us us es old new → HasRaised place units units edges old new
 raised_by place us units es edges old new e f h = subst (λ (xs : List Units). HasRaised place xs xs edges old new) e (subst (λ (xs : List Edge). HasRaised place us us xs old new) f h)
 
-units_of : (cell : Cell) (rs roles : List Role) (units : List Units) → rs ≡ roles → AreUnitsOf cell rs (binding_count cell rs) units → AreUnitsOf cell roles (binding_count cell roles) units
-units_of cell rs roles units e h = subst (λ (xs : List Role). AreUnitsOf cell xs (binding_count cell xs) units) e h
-
 -- the units that were read at a place
 units_read : (cell : Cell) (roles : List Role) (count : ℕ) (xs units : List Units) (index : ℕ) (taken : Units) → AreUnitsOf cell roles count units → xs ≡ units → index < length xs → taken ≡ get_or xs index taken
     → taken.items ≡ units_by cell roles (alike index)
@@ -44,8 +41,8 @@ pub add_taken-requires : goal.add_taken-requires
 add_taken-requires c =
     let cell = c.args.cell.now in
     let roles = c.args.recipe.now.roles.items in
-    units_below cell roles c.args.edges.now.count (alike 0) c.deref-3.result.now c.requires.sized
-    (c.deref-3.ensures.value ∙ (c.in_ok-first.ensures ∙ ap (λ (rs : List Role). units_by cell rs (alike 0)) c.deref.ensures.value))
+    units_below cell roles c.args.edges.now.count (alike 0) c.deref-2.result.now c.requires.sized
+    (c.deref-2.ensures.value ∙ (c.in_ok-first.ensures ∙ units_linked cell c.args.recipe.now c.args.linked.now c.requires.linked 0))
 
 pub loop-taken-init : goal.loop-taken-init
 loop-taken-init c =
@@ -54,10 +51,10 @@ loop-taken-init c =
     let collected = c.in_ok-collected.collected.edges.items in
     let of_roles = c.in_ok-of_roles.of_roles.items in
     KeepsBindings-first site (kept_at_top c.args.reach) c.args.number collected of_roles c.args.edges.now c.requires.sized c.in_ok-collected.ensures
-    (of_roles_by c.resources.result (resource_count site) c.deref-4.result.now collected of_roles c.resources.ensures c.deref-4.ensures.value c.in_ok-of_roles.ensures)
+    (of_roles_by c.resources.result (resource_count site) c.deref-3.result.now collected of_roles c.resources.ensures c.deref-3.ensures.value c.in_ok-of_roles.ensures)
     c.add_taken.new.set
-    (taken_by c.deref-3.result.now (units_on site (alike 0)) c.deref-2.result.now collected c.args.edges.now c.add_taken.new.set
-    (c.deref-3.ensures.value ∙ (c.in_ok-first.ensures ∙ ap (λ (rs : List Role). units_by cell rs (alike 0)) c.deref.ensures.value)) c.deref-2.ensures.value c.in_ok-add_taken.ensures)
+    (taken_by c.deref-2.result.now (units_on site (alike 0)) c.deref.result.now collected c.args.edges.now c.add_taken.new.set
+    (c.deref-2.ensures.value ∙ (c.in_ok-first.ensures ∙ units_linked cell c.args.recipe.now c.args.linked.now c.requires.linked 0)) c.deref.ensures.value c.in_ok-add_taken.ensures)
 
 pub add_taken-requires-in-loop-taken : goal.add_taken-requires-in-loop-taken
 add_taken-requires-in-loop-taken c =
@@ -66,7 +63,7 @@ add_taken-requires-in-loop-taken c =
     units_below cell roles c.loop-taken.edges.count (alike c.loop-taken.taken-index) c.deref-in-loop-taken-2.result.now (c.loop-taken.invariant.grown.same_count ∙ c.requires.sized)
     (c.deref-in-loop-taken-2.ensures.value
     ∙ units_read cell roles (binding_count cell roles) c.deref-taken-items.result.now c.in_ok-units.units.items c.loop-taken.taken-index c.taken-item.result
-    (units_of cell c.deref-5.result.now roles c.in_ok-units.units.items c.deref-5.ensures.value c.in_ok-units.ensures) c.deref-taken-items.ensures.value c.loop-taken-test.true c.taken-item.is)
+    c.in_ok-units.ensures c.deref-taken-items.ensures.value c.loop-taken-test.true c.taken-item.is)
 
 pub loop-taken-preserved : goal.loop-taken-preserved
 loop-taken-preserved c =
@@ -76,12 +73,12 @@ loop-taken-preserved c =
     let collected = c.in_ok-collected.collected.edges.items in
     let of_roles = c.in_ok-of_roles.of_roles.items in
     KeepsBindings-alike site (kept_at_top c.args.reach) c.args.number collected of_roles c.args.edges.now c.requires.sized c.in_ok-collected.ensures
-    (of_roles_by c.resources.result (resource_count site) c.deref-4.result.now collected of_roles c.resources.ensures c.deref-4.ensures.value c.in_ok-of_roles.ensures)
+    (of_roles_by c.resources.result (resource_count site) c.deref-3.result.now collected of_roles c.resources.ensures c.deref-3.ensures.value c.in_ok-of_roles.ensures)
     c.loop-taken.taken-index (resource_count site) c.loop-taken.edges c.add_taken-in-loop-taken.new.set c.loop-taken.invariant
     (taken_by c.deref-in-loop-taken-2.result.now (units_on site (alike c.loop-taken.taken-index)) c.deref-in-loop-taken.result.now of_roles c.loop-taken.edges c.add_taken-in-loop-taken.new.set
     (c.deref-in-loop-taken-2.ensures.value
     ∙ units_read cell roles (binding_count cell roles) c.deref-taken-items.result.now c.in_ok-units.units.items c.loop-taken.taken-index c.taken-item.result
-    (units_of cell c.deref-5.result.now roles c.in_ok-units.units.items c.deref-5.ensures.value c.in_ok-units.ensures) c.deref-taken-items.ensures.value c.loop-taken-test.true c.taken-item.is)
+    c.in_ok-units.ensures c.deref-taken-items.ensures.value c.loop-taken-test.true c.taken-item.is)
     c.deref-in-loop-taken.ensures.value c.in_ok-add_taken-2.ensures)
 
 pub loop-role-init : goal.loop-role-init
@@ -92,7 +89,7 @@ loop-role-init c =
     let units = c.in_ok-units.units.items in
     subst (λ done. KeepsBindings site c.args.number collected of_roles (length units) done c.args.edges.now c.loop-taken.edges) (sym c.resources-role.ensures)
     (KeepsBindings-fewer site (kept_at_top c.args.reach) c.args.number collected of_roles c.args.edges.now c.requires.sized c.in_ok-collected.ensures
-    (of_roles_by c.resources.result (resource_count site) c.deref-4.result.now collected of_roles c.resources.ensures c.deref-4.ensures.value c.in_ok-of_roles.ensures)
+    (of_roles_by c.resources.result (resource_count site) c.deref-3.result.now collected of_roles c.resources.ensures c.deref-3.ensures.value c.in_ok-of_roles.ensures)
     c.loop-taken.taken-index (resource_count site) c.loop-taken.edges c.loop-taken.edges c.loop-taken.invariant (length units)
     (omega (arith, c.loop-taken-test.false, ap (λ (us : List Units). length us) c.deref-taken-items.ensures.value)))
 
@@ -105,7 +102,7 @@ add_raised-requires c =
     let place : ℕ = c.from-place.result in
     let place_is : c.loop-role.role ≡ resource_count site + place = omega (arith, c.from-place.ensures, c.resources-in-loop-role.ensures, c.loop-role.auto.role, c.resources-role.ensures) in
     subst (λ (us : List Units). AreUnitsWithin place c.loop-role.edges.count us) (sym c.deref-in-loop-role-2.ensures.value)
-    (units_within cell roles c.loop-role.edges.count (binding_count cell roles) units (units_of cell c.deref-5.result.now roles units c.deref-5.ensures.value c.in_ok-units.ensures)
+    (units_within cell roles c.loop-role.edges.count (binding_count cell roles) units c.in_ok-units.ensures
     (c.loop-role.invariant.grown.same_count ∙ c.requires.sized) place (omega (arith, place_is, c.loop-role-test.true, c.count_with_roles-role-end.ensures)))
 
 pub loop-role-preserved : goal.loop-role-preserved
@@ -121,9 +118,9 @@ loop-role-preserved c =
     let place_is : c.loop-role.role ≡ resource_count site + place = omega (arith, c.from-place.ensures, c.resources-in-loop-role.ensures, c.loop-role.auto.role, c.resources-role.ensures) in
     let role = item_at roles place (omega (arith, place_is, c.loop-role-test.true, c.count_with_roles-role-end.ensures)) in
     KeepsBindings-apart site (kept_at_top c.args.reach) c.args.number collected of_roles c.args.edges.now c.requires.sized c.in_ok-collected.ensures
-    (of_roles_by c.resources.result (resource_count site) c.deref-4.result.now collected of_roles c.resources.ensures c.deref-4.ensures.value c.in_ok-of_roles.ensures)
+    (of_roles_by c.resources.result (resource_count site) c.deref-3.result.now collected of_roles c.resources.ensures c.deref-3.ensures.value c.in_ok-of_roles.ensures)
     (length units) c.loop-role.role c.loop-role.edges c.add_raised.new.set c.loop-role.invariant units
-    (units_of cell c.deref-5.result.now roles units c.deref-5.ensures.value c.in_ok-units.ensures) place place_is role.0 role.1 behind
+    c.in_ok-units.ensures place place_is role.0 role.1 behind
     (those_of (is_behind c.loop-role.role) c.deref-in-loop-role.result.now of_roles behind c.deref-in-loop-role.ensures.value c.in_ok-behind.ensures)
     (raised_by place c.deref-in-loop-role-2.result.now units c.deref-in-loop-role-3.result.now behind c.loop-role.edges c.add_raised.new.set c.deref-in-loop-role-2.ensures.value c.deref-in-loop-role-3.ensures.value
     c.in_ok-add_raised.ensures)
@@ -136,7 +133,7 @@ returns c =
     let collected = c.in_ok-collected.collected.edges.items in
     let of_roles = c.in_ok-of_roles.of_roles.items in
     let units = c.in_ok-units.units.items in
-    let are = units_of cell c.deref-5.result.now roles units c.deref-5.ensures.value c.in_ok-units.ensures in
+    let are = c.in_ok-units.ensures in
     added_all site (kept_at_top c.args.reach) c.args.number collected of_roles c.args.edges.now c.requires.sized c.in_ok-collected.ensures
-    (of_roles_by c.resources.result (resource_count site) c.deref-4.result.now collected of_roles c.resources.ensures c.deref-4.ensures.value c.in_ok-of_roles.ensures)
+    (of_roles_by c.resources.result (resource_count site) c.deref-3.result.now collected of_roles c.resources.ensures c.deref-3.ensures.value c.in_ok-of_roles.ensures)
     (length units) c.loop-role.role c.loop-role.edges (omega (arith, are.as_many)) (omega (arith, c.loop-role-test.false, c.count_with_roles-role-end.ensures)) c.loop-role.invariant

@@ -1,11 +1,10 @@
-use Rattle.std.proofs.Common.{◌≡◌, ◌≤◌, ℕ, List, [], Option, Some, None, false, true, length, option_copied, get_or, replicate, slice_get, refl, sym, ap, ◌∙◌, subst, arith}
+use Rattle.std.proofs.Common.{◌≡◌, ◌≤◌, ℕ, List, [], Option, Some, None, false, length, option_copied, get_or, replicate, slice_get, refl, sym, ap, ◌∙◌, subst, arith}
 use Rattle.std.proofs.lemmas.List.{with_items_is}
 use Rattle.std.proofs.lemmas.Option.{slice_get-get_or}
 use Rattle.batch_recipe.specs.Outlines.{act_of_kind}
 use Rattle.batch_recipe.specs.declared.act.Act.{Act}
 use Rattle.batch_recipe.specs.declared.entry.Entry.{Entry}
 use Rattle.batch_recipe.specs.declared.entry.Kind.TheVariants as kind
-use Rattle.batch_recipe.specs.declared.role.Role.{Role}
 use Rattle.batch_recipe.proofs.NodesAbove.{as_many}
 use Rattle.batch_set.specs.Looked.{needs_by}
 use Rattle.batch_verify.specs.Asking.{takers_of}
@@ -54,7 +53,7 @@ bounds-faults-len c =
 pub span_below-requires : goal.span_below-requires
 span_below-requires c = λ a spans act_is known.
     let entry : Entry = get_or c.deref-entry-items.result.now c.loop-entry.entry-index no_entry in
-    let lowest = c.deref-3.ensures.value ∙ (c.in_ok-lowest.ensures ∙ ap (λ (roles : List Role). takers_of c.args.cell.now (bound_by c.args.cell.now roles (Leveled false c.args.ranks)) roles) c.deref.ensures.value) in
+    let lowest = c.deref.ensures.value ∙ c.in_ok-lowest.ensures c.args.cell.now c.requires.linked in
     rw (lowest, c.deref-in-loop-entry-3.ensures.value, c.deref-in-loop-entry-4.ensures.value)
     (c.loop-entry.invariant.noted entry.kind spans (ap (λ all. passed_at all entry.kind) (sym c.deref-in-loop-entry.ensures.value) ∙ (sym c.passed_at-known.ensures ∙ known)) a act_is)
 
@@ -65,7 +64,7 @@ loop-entry-preserved c =
     let ranks = option_copied c.args.ranks in
     let low = takers_of cell (bound_by cell r.roles.items (Leveled false c.args.ranks)) r.roles.items in
     let high = c.in_ok-highest.highest.items in
-    let lowest : c.deref-3.result.now ≡ low = c.deref-3.ensures.value ∙ (c.in_ok-lowest.ensures ∙ ap (λ (roles : List Role). takers_of cell (bound_by cell roles (Leveled false c.args.ranks)) roles) c.deref.ensures.value) in
+    let lowest : c.deref.result.now ≡ low = c.deref.ensures.value ∙ c.in_ok-lowest.ensures cell c.requires.linked in
     let n = c.loop-entry.entry-index in
     let h = c.loop-entry.invariant.clears in
     let spans = c.loop-entry.spans.items in
@@ -104,7 +103,7 @@ returns c = λ _ bound gives recipes.
     let r = c.args.recipe.now in
     let ranks = option_copied c.args.ranks in
     let roles = r.roles.items in
-    let highest = c.in_ok-highest.ensures ∙ ap (λ (of : List Role). takers_of cell (bound_by cell of (Leveled true c.args.ranks)) of) c.deref-2.ensures.value in
+    let highest = c.in_ok-highest.ensures cell c.requires.linked in
     let low = takers_of cell (bound_by cell roles (Leveled false c.args.ranks)) roles in
     let stands : AreBetween cell ranks roles low (takers_of cell bound roles) c.in_ok-highest.highest.items =
     subst (AreBetween cell ranks roles low (takers_of cell bound roles)) (sym highest) (between cell ranks roles (own_role roles (differ cell [] r r.own_roles)) bound gives) in

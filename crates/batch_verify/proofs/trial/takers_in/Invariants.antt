@@ -1,8 +1,14 @@
-use Rattle.std.proofs.Common.{◌≡◌, take}
-use Rattle.batch_verify.specs.Asking.{takers_of}
+use Rattle.batch_cell.specs.LookUps.{resources_of}
+use Rattle.batch_cell.specs.declared.cell.Cell as equipment
+use Rattle.std.proofs.Common.{position}
+use Rattle.batch_recipe.specs.Conditions.{same_name}
+use Rattle.batch_set.specs.Linking.{IsLinkedIn}
+use Rattle.batch_set.proofs.TableRows.{AreMapped}
 use Rattle.batch_verify.specs.Trials.{bound_by}
 use Rattle.batch_verify.proofs.trial.takers_in.Given as goal
 
 -- the roles so far
-abbrev pub invariant-loop-role : goal.invariant-loop-role
-invariant-loop-role l = l.takers.items ≡ takers_of l.cell (bound_by l.cell l.roles l.trial) (take l.role-index l.roles)
+abbrev pub invariant-loop-number : goal.invariant-loop-number
+invariant-loop-number l =
+    (cell : equipment.Cell) → IsLinkedIn cell l.recipe l.linked
+    → AreMapped (λ role. position (same_name (bound_by cell l.recipe.roles.items l.trial role.name)) (resources_of cell)) l.recipe.roles.items l.number l.takers.items

@@ -4,7 +4,6 @@ use Rattle.batch_recipe.specs.Outlines.{act_of_kind}
 use Rattle.batch_recipe.specs.declared.act.Act.{Act}
 use Rattle.batch_recipe.specs.declared.entry.Entry.{Entry}
 use Rattle.batch_recipe.specs.declared.entry.Kind.TheVariants as kind
-use Rattle.batch_recipe.specs.declared.role.Role.{Role}
 use Rattle.batch_recipe.proofs.NodesAbove.{as_many}
 use Rattle.batch_model.specs.Setups.{setup_of}
 use Rattle.batch_set.specs.Looked.{needs_by}
@@ -49,7 +48,7 @@ returns-in-Err c = λ recipes.
     let r = c.args.recipe.now in
     let ranking = ranking_in cell (option_copied c.args.ranks) in
     let bound = bound_by cell r.roles.items c.args.trial in
-    let takers : c.deref-2.result.now ≡ takers_of cell bound r.roles.items = c.deref-2.ensures.value ∙ (c.in_ok-takers.ensures ∙ ap (λ (roles : List Role). takers_of cell (bound_by cell roles c.args.trial) roles) c.deref.ensures.value) in
+    let takers : c.deref.result.now ≡ takers_of cell bound r.roles.items = c.deref.ensures.value ∙ c.in_ok-takers.ensures cell c.requires.linked in
     let n = c.loop-entry.entry-index in
     let h = c.loop-entry.invariant in
     let paths = c.loop-entry.paths.items in
@@ -78,7 +77,7 @@ loop-entry-preserved c =
     let r = c.args.recipe.now in
     let ranking = ranking_in cell (option_copied c.args.ranks) in
     let bound = bound_by cell r.roles.items c.args.trial in
-    let takers : c.deref-2.result.now ≡ takers_of cell bound r.roles.items = c.deref-2.ensures.value ∙ (c.in_ok-takers.ensures ∙ ap (λ (roles : List Role). takers_of cell (bound_by cell roles c.args.trial) roles) c.deref.ensures.value) in
+    let takers : c.deref.result.now ≡ takers_of cell bound r.roles.items = c.deref.ensures.value ∙ c.in_ok-takers.ensures cell c.requires.linked in
     let n = c.loop-entry.entry-index in
     let h = c.loop-entry.invariant in
     let paths = c.loop-entry.paths.items in

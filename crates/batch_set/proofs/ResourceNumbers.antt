@@ -9,7 +9,7 @@ use Rattle.batch_cell.specs.LookUps.{resources_of}
 use Rattle.batch_cell.specs.declared.cell.Cell as equipment
 use Rattle.batch_cell.proofs.ResourceNames.{resources_once}
 use Rattle.batch_recipe.specs.Conditions.{Name, same_name}
-use Rattle.batch_verify.proofs.NamesInList.{same_name_sym}
+use Rattle.batch_set.proofs.DeclaredRoles.{same_name_sym}
 
 -- the name with this number stands at it alone
 pub number-own : (c : equipment.Cell) (k : ℕ) → k < length (resources_of c) → position (same_name (get_or (resources_of c) k [])) (resources_of c) ≡ Some k
