@@ -86,17 +86,19 @@ pub recipe-batch : {v : EngineView} {i : ℕ} {b : Batch} {x : document.Recipe} 
 recipe-batch {v} {i} {b} {x} s = record { bound = bound_to v.cleared b.recipe b.units; tree = tree-is v.cleared b.recipe x s.listed b.units; follows = refl }
 
 -- The batch that makes the next move
-pub mover : {v w : EngineView} {i : ℕ} {b : Batch} {m : Move} → w ≡ v → IsKept w → IsOwnStep v (IsNext v) i m → b ≡ get_or w.batches i b → IsMover v i b m
-mover {v} {w} {i} {b} {m} e k g h =
-    let r : IsRead v i b = read-there e k g.here.at h in
-    subst (λ (z : Batch). IsMover v i z m) (same-at v.batches i g.batch b g.here.at r.at)
+pub mover-at : {v w : EngineView} {i : ℕ} {b : Batch} {m : Move} → w ≡ v → IsKept w → IsOwnStep v (IsNext v) i m → slice_get v.batches i ≡ Some b → IsMover v i b m
+mover-at {v} {w} {i} {b} {m} e k g at =
+    subst (λ (z : Batch). IsMover v i z m) (same-at v.batches i g.batch b g.here.at at)
     (record {
-      kept = r.kept;
+      kept = subst IsKept e k;
       at = g.here.at;
       can = λ x f. subst (λ (z : document.Recipe). CanMake z g.batch.running m) (same-at v.cleared.recipes g.batch.recipe g.chart x g.here.listed f) g.can;
       about = g.about;
       is = g.is;
     })
+
+pub mover : {v w : EngineView} {i : ℕ} {b : Batch} {m : Move} → w ≡ v → IsKept w → IsOwnStep v (IsNext v) i m → b ≡ get_or w.batches i b → IsMover v i b m
+mover e k g h = mover-at e k g (read-there e k g.here.at h).at
 
 -- The batch with a number
 

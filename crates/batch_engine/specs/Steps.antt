@@ -3,7 +3,7 @@ use Rattle.std.specs.Prelude.{◌≡◌, ◌<◌, ◌≤◌, ℕ, [], Option, So
 use Rattle.batch_model.specs.Moves as Model
 use Rattle.batch_model.specs.Moves.{next, after_move, least, batch_moves, grant}
 use Rattle.batch_model.specs.Plant.{batch_at}
-use Rattle.batch_arbiter.specs.Allocation.{Allocation, after_ask, batch_node, next_grant, after_pass, after_release, resource_count}
+use Rattle.batch_arbiter.specs.Allocation.{Allocation, IsHeld, after_ask, batch_node, next_grant, after_pass, after_release, resource_count}
 use Rattle.batch_chart.specs.NodesOf.{node_at, place_at, step_at, need_at, phase_at, phase_named}
 use Rattle.batch_cell.specs.LookUps.{units_of}
 use Rattle.batch_recipe.specs.Conditions.{Name, same_name}
@@ -147,17 +147,32 @@ pub record IsMover (v : EngineView) (i : ℕ) (b : Batch) (m : Move) : Type 0 wh
   pub about : StandsFor (tree_of v.cleared b) (remains (tree_of v.cleared b) b.running) m
   pub is : IsNext v (machine_move (tree_of v.cleared b) (model_batch v.cleared b) m)
 
--- these are the linked recipes of the engine, the batch's recipe, and the arbiter
-abbrev pub IsMaking : EngineView → LinkedSet → document.Recipe → Allocation → ℕ → Batch → Move → Type 0
-IsMaking v set recipe allocation i b m = IsMover v i b m × IsLinkedSet v.cleared.cell v.cleared.recipes set × (slice_get v.cleared.recipes b.recipe ≡ Some recipe) × (allocation ≡ v.allocation)
+-- the arbiter carries out the ask, the release or the pass of the line
+abbrev pub claimed_by : Line → Allocation → Allocation
+claimed_by (Line.Claim ClaimKind.Asked batch recipe node resource units) a = after_ask resource (record { batch = batch; node = node; units = units }) a
+claimed_by (Line.Claim ClaimKind.Released batch recipe node resource units) a = after_release resource batch node a
+claimed_by (Line.Pass batch recipe node to resource units) a = after_pass resource batch node to a
+claimed_by _ a = a
 
--- the arbiter carries out the ask, the release or the pass that is the batch's move; by another move it stays as it is
-abbrev pub IsClaimed : ClearedSet → Batch → Move → Allocation → Allocation → Type 0
-IsClaimed c b (Ask node need) old new =
-    (resource : ℕ) × (units : ℕ) × IsNumberAt c b node need resource units × (new ≡ after_ask resource (record { batch = b.number; node = node; units = units }) old)
-IsClaimed c b (Release node need) old new = (resource : ℕ) × (units : ℕ) × IsNumberAt c b node need resource units × (new ≡ after_release resource b.number node old)
-IsClaimed c b (Pass node to need) old new = (resource : ℕ) × (units : ℕ) × IsNumberAt c b node need resource units × (new ≡ after_pass resource b.number node to old)
-IsClaimed c b m old new = new ≡ old
+-- it can: there is room for the ask, and what is given back or passed on is held
+abbrev pub CanClaim : Line → Allocation → Type 0
+CanClaim (Line.Claim ClaimKind.Asked batch recipe node resource units) a = (resource < resource_count a) × (0 < a.room)
+CanClaim (Line.Claim ClaimKind.Released batch recipe node resource units) a = (resource < resource_count a) × IsHeld a resource batch node
+CanClaim (Line.Pass batch recipe node to resource units) a = (resource < resource_count a) × IsHeld a resource batch node
+CanClaim _ a = ⊤
+
+-- the line is no claim
+abbrev pub IsNoClaim : Line → Type 0
+IsNoClaim (Line.Claim kind batch recipe node resource units) = ⊥
+IsNoClaim (Line.Pass batch recipe node to resource units) = ⊥
+IsNoClaim _ = ⊤
+
+-- the line of an ask, a release or a pass is its claim, by the number of the resource; that of another move is none
+abbrev pub ClaimsAs : ClearedSet → Batch → Move → Line → Type 0
+ClaimsAs c b (Ask node need) line = (resource : ℕ) × (units : ℕ) × IsNumberAt c b node need resource units × (line ≡ Line.Claim ClaimKind.Asked b.number b.recipe node resource units)
+ClaimsAs c b (Release node need) line = (resource : ℕ) × (units : ℕ) × IsNumberAt c b node need resource units × (line ≡ Line.Claim ClaimKind.Released b.number b.recipe node resource units)
+ClaimsAs c b (Pass node to need) line = (resource : ℕ) × (units : ℕ) × IsNumberAt c b node need resource units × (line ≡ Line.Pass b.number b.recipe node to resource units)
+ClaimsAs c b m line = IsNoClaim line
 
 -- a batch of the engine has an act at this node
 pub record IsNodeAt (v : EngineView) (b : Batch) (node : ℕ) : Type 0 where
@@ -176,6 +191,18 @@ pub record IsPhaseAt (c : ClearedSet) (b : Batch) (node unit phase : ℕ) : Type
 pub record Tells (v : EngineView) (b : Batch) (m : Move) (line : Line) : Type 0 where
   pub is : Surface.move_of v.cleared line ≡ machine_move (tree_of v.cleared b) (model_batch v.cleared b) m
   pub known : IfSome (touched_by line) (λ resource. resource < resource_count v.allocation)
+  pub claims : ClaimsAs v.cleared b m line
+
+-- the line is that of this move of the batch at an index
+pub record IsLineAt (v : EngineView) (i : ℕ) (m : Move) (line : Line) : Type 0 where
+  pub batch : Batch
+  pub at : slice_get v.batches i ≡ Some batch
+  pub tells : Tells v batch m line
+
+-- or of a grant
+abbrev pub IsLineOf : EngineView → Step → Line → Type 0
+IsLineOf v (Own i m) line = IsLineAt v i m line
+IsLineOf v (Grant i node resource units) line = ⊤
 
 -- the same of the next move
 pub record TellsNext (v : EngineView) (line : Line) : Type 0 where

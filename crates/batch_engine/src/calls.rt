@@ -115,7 +115,7 @@ impl Engine {
         };
         let line = self.control.line_of(step);
         note_grant(&mut self.holders, &line);
-        self.control.make_step(step);
+        self.control.make_step(step, &line);
         self.control.is_kept();
         mark_moved(&mut self.marks, &self.control, step.index(), line.touched());
         Some(line)

@@ -6,7 +6,7 @@ ghost use Rattle.batch_model.specs.Moves.{handed_values};
 ghost use Rattle.batch_recipe.specs.declared.act.TheConstants.{MAX_VALUES};
 ghost use Rattle.batch_engine.specs.declared.line.Line.TheVariants as Lines;
 ghost use Rattle.batch_engine.specs.Names.{handed_of, node_of};
-ghost use Rattle.batch_engine.specs.Steps.{IsNext, IsNextStep, IsNodeAt, IsOwnStep, IsPhaseAt, Tells, TellsNext};
+ghost use Rattle.batch_engine.specs.Steps.{IsLineAt, IsLineOf, IsNext, IsNextStep, IsNodeAt, IsOwnStep, IsPhaseAt, Tells, TellsNext};
 
 use crate::batch::Batch;
 use crate::control::Control;
@@ -126,7 +126,7 @@ impl Control {
     /// The line of a move of the batch at an index.
     fn own_line(&self, index: usize, made: Move) -> Line
         requires { IsOwnStep self.now (IsNext self.now) index made }
-        ensures { TellsNext self.now result }
+        ensures { TellsNext self.now result × IsLineAt self.now index made result }
     {
         let batch = &self.batches[index];
         let number = batch.number;
@@ -168,7 +168,7 @@ impl Control {
     /// The line of a step.
     pub(crate) fn line_of(&self, step: Step) -> Line
         requires { IsNextStep self.now (Some step) }
-        ensures { TellsNext self.now result }
+        ensures { TellsNext self.now result × IsLineOf self.now step result }
     {
         match step {
             Step::Own { index, made } => self.own_line(index, made),

@@ -1,38 +1,44 @@
 //! Making the next move.
-ghost use Rattle.std.specs.Prelude.{Some, ℕ};
+ghost use Rattle.std.specs.Prelude.{◌≡◌, Some};
 ghost use Rattle.batch_chart.specs.declared.chart_move.Move.TheVariants as Moves;
-ghost use Rattle.batch_engine.specs.Steps.{IsClaimed, IsGrantStep, IsMaking, IsNext, IsNextStep, IsOfAct, IsOwnStep, MakesNext};
-ghost use Rattle.batch_engine.specs.View.{EngineView};
+ghost use Rattle.batch_engine.specs.Steps.{CanClaim, IsGrantStep, IsLineAt, IsLineOf, IsNext, IsNextStep, IsOfAct, IsOwnStep, MakesNext, claimed_by};
 
-use crate::batch::Batch;
 use crate::control::Control;
-use crate::pending::resource_at;
+use crate::line::{ClaimKind, Line};
 use crate::step::Step;
 use batch_arbiter::Arbiter;
 use batch_chart::Move;
 use batch_matrix::State;
-use batch_recipe::Recipe;
-use batch_set::LinkedSet;
 
 /// An act that asks for a resource joins its line, one that releases it gives it back, and one that passes it on hands its share over.
-/// Other moves need nothing of the arbiter.
-fn claim(arbiter: &mut Arbiter, set: &LinkedSet, recipe: &Recipe, batch: &Batch, made: Move)
-    requires { (v : EngineView) × (i : ℕ) × IsMaking v set.now recipe.now arbiter.old i batch.now made }
-    ensures { (v : EngineView) (i : ℕ) → IsMaking v set.now recipe.now arbiter.old i batch.now made → IsClaimed v.cleared batch.now made arbiter.old arbiter.new }
+/// Other lines need nothing of the arbiter.
+fn claim(arbiter: &mut Arbiter, line: &Line)
+    requires { CanClaim line.now arbiter.old }
+    ensures { arbiter.new ≡ claimed_by line.now arbiter.old }
 {
-    match made {
-        Move::Ask { node, need } => {
-            let (resource, units) = resource_at(set, recipe, batch, node, need);
-            arbiter.ask(resource, units, batch.number, node);
-        }
-        Move::Release { node, need } => {
-            let (resource, _units) = resource_at(set, recipe, batch, node, need);
-            arbiter.release(resource, batch.number, node);
-        }
-        Move::Pass { node, to, need } => {
-            let (resource, _units) = resource_at(set, recipe, batch, node, need);
-            arbiter.pass(resource, batch.number, node, to);
-        }
+    match *line {
+        Line::Claim {
+            kind: ClaimKind::Asked,
+            batch,
+            node,
+            resource,
+            units,
+            ..
+        } => arbiter.ask(resource, units, batch, node),
+        Line::Claim {
+            kind: ClaimKind::Released,
+            batch,
+            node,
+            resource,
+            ..
+        } => arbiter.release(resource, batch, node),
+        Line::Pass {
+            batch,
+            node,
+            to,
+            resource,
+            ..
+        } => arbiter.pass(resource, batch, node, to),
         _ => {}
     }
 }
@@ -47,16 +53,16 @@ impl Control {
         batch.state = state;
     }
 
-    /// The batch at an index makes a move of an act.
-    fn run(&mut self, index: usize, made: Move)
+    /// The batch at an index makes a move of an act, whose line this is.
+    fn run(&mut self, index: usize, made: Move, line: &Line)
         requires step { IsOwnStep self.old (IsNext self.old) index made }
         requires act { IsOfAct made }
+        requires line { IsLineAt self.old index made line.now }
         ensures { MakesNext self.old self.new }
     {
+        claim(&mut self.arbiter, line);
         let batch = &mut self.batches[index];
-        let set = self.cleared.linked();
         let chart = self.cleared.recipe(batch.recipe);
-        claim(&mut self.arbiter, set, chart, batch, made);
         batch.running.make_move(chart, made, &batch.values);
     }
 
@@ -71,24 +77,26 @@ impl Control {
         batch.running.grant(chart, node);
     }
 
-    /// Makes the move of the batch at an index.
-    fn make_own(&mut self, index: usize, made: Move)
-        requires { IsOwnStep self.old (IsNext self.old) index made }
+    /// Makes the move of the batch at an index, whose line this is.
+    fn make_own(&mut self, index: usize, made: Move, line: &Line)
+        requires step { IsOwnStep self.old (IsNext self.old) index made }
+        requires line { IsLineAt self.old index made line.now }
         ensures { MakesNext self.old self.new }
     {
         match made {
             Move::State(state) => self.change_state(index, state),
-            _ => self.run(index, made),
+            _ => self.run(index, made, line),
         }
     }
 
-    /// Makes the next step.
-    pub(crate) fn make_step(&mut self, step: Step)
-        requires { IsNextStep self.old (Some step) }
+    /// Makes the next step, whose line this is.
+    pub(crate) fn make_step(&mut self, step: Step, line: &Line)
+        requires step { IsNextStep self.old (Some step) }
+        requires line { IsLineOf self.old step line.now }
         ensures { MakesNext self.old self.new }
     {
         match step {
-            Step::Own { index, made } => self.make_own(index, made),
+            Step::Own { index, made } => self.make_own(index, made, line),
             Step::Grant {
                 index,
                 node,

@@ -2,8 +2,9 @@ use Rattle.std.proofs.Common.{◌≡◌, sym, subst, ℕ, Some}
 use Rattle.batch_model.specs.Moves as Moves
 use Rattle.batch_chart.specs.NodesOf.{need_at, place_at}
 use Rattle.batch_engine.specs.declared.batch.Batch.{Batch}
+use Rattle.batch_engine.specs.declared.step.Step.{Step}
 use Rattle.batch_engine.specs.View.{EngineView, resource_number, tree_of}
-use Rattle.batch_engine.specs.Steps.{IsGrantStep, IsNext, IsNextStep, IsNumberAt, TellsNext}
+use Rattle.batch_engine.specs.Steps.{IsGrantStep, IsLineOf, IsNext, IsNextStep, IsNumberAt, TellsNext}
 use Rattle.batch_engine.proofs.BatchAtIndex.{IsRead, read-there}
 use Rattle.batch_engine.proofs.MoveLines.{grant-told}
 use Rattle.batch_engine.proofs.control.Control.line_of.Goals as goal
@@ -21,6 +22,8 @@ returns-in-Grant c =
       subst (λ (z : Batch). resource_number v.cleared (need_at (tree_of v.cleared z) c.in-Grant.node g.need).resource ≡ Some c.in-Grant.resource) same g.number,
       subst (λ (z : Batch). (need_at (tree_of v.cleared z) c.in-Grant.node g.need).units ≡ c.in-Grant.units) same g.units_are,
     ) in
+    let tells : TellsNext v c.claim_line.result =
     subst (TellsNext v) (sym c.claim_line.ensures)
     (grant-told v r.kept i b r.at g.need number
-    (subst (λ (z : Batch). IsNext v (Moves.grant z.number (place_at (tree_of v.cleared z) c.in-Grant.node) (need_at (tree_of v.cleared z) c.in-Grant.node g.need))) same g.is))
+    (subst (λ (z : Batch). IsNext v (Moves.grant z.number (place_at (tree_of v.cleared z) c.in-Grant.node) (need_at (tree_of v.cleared z) c.in-Grant.node g.need))) same g.is)) in
+    subst (λ (z : Step). TellsNext v c.claim_line.result × IsLineOf v z c.claim_line.result) (sym c.in-Grant.is) (tells, tt)
