@@ -1,5 +1,6 @@
 -- The units that take roles, by the numbers of the candidates.
-use Rattle.std.proofs.Common.{◌≡◌, ◌⊎◌, ℕ, zero, suc, ◌+◌, ◌<◌, ◌≤◌, true, false, not, List, [], ◌∷◌, ◌++◌, map, length, get_or, slice_get, Vec, Option, Some, None, refl, sym, ap, ◌∙◌, subst, arith, inl, inr, ap₂, length-append}
+use Rattle.std.proofs.Common.{◌≡◌, ◌⊎◌, ℕ, zero, suc, ◌+◌, ◌<◌, ◌≤◌, true, false, not, List, [], ◌∷◌, ◌++◌, map, length, get_or, slice_get, Vec, Option, Some, None, refl, sym, ap, ◌∙◌, subst, arith, inl, inr, length-append}
+use mathlib.Core.List.{map-map}
 use Rattle.std.specs.Cmp.Lexicographic.{bytes_decides}
 use Rattle.std.specs.Global.{Global}
 use Rattle.std.specs.List.{Contains}
@@ -11,16 +12,11 @@ use Rattle.batch_cell.specs.declared.cell.Cell.{Cell}
 use Rattle.batch_recipe.specs.Conditions.{Name, same_name}
 use Rattle.batch_recipe.specs.WellFormed.{are_distinct, is_among}
 use Rattle.batch_recipe.specs.declared.role.Role.{Role}
-use Rattle.batch_recipe.specs.declared.recipe.Recipe.{Recipe}
 use Rattle.batch_recipe.proofs.AppendedLists.{slice_get-split}
-use Rattle.batch_model.specs.Lists.{Has}
-use Rattle.batch_set.specs.Linking.{IsLinkedIn, candidate_numbers, table_items}
-use Rattle.batch_set.specs.declared.linked.LinkedRecipe.{LinkedRecipe}
-use Rattle.batch_verify.specs.Bindings.{candidate_of, numbered_binding}
+use Rattle.batch_verify.specs.Bindings.{numbered_binding, takers_of}
 use Rattle.batch_verify.proofs.Choices.{has_at}
 use Rattle.batch_verify.proofs.NamesInList.{same_name_sym}
-use Rattle.batch_verify.proofs.NumberedBindings.{differ, has_name, own_role}
-use Rattle.batch_verify.proofs.TakerNumbers.{numbered-taker}
+use Rattle.batch_verify.proofs.NumberedBindings.{has_name}
 use Rattle.batch_check.specs.Collecting.{AreUnitsWithin, raised}
 use Rattle.batch_check.specs.Edges.{number_of_resource}
 use Rattle.batch_check.specs.Joining.{AreBelow}
@@ -153,24 +149,6 @@ module _ (cell : Cell) (roles : List Role) where
         units_below count (alike at.0) taken.items counted is,
       )
 
--- The candidates of a linked recipe are these units
-pub units_linked : (cell : Cell) (recipe : Recipe) (linked : LinkedRecipe) → IsLinkedIn cell recipe linked → (n : ℕ)
-    → map (λ (row : Vec ℕ Global). candidate_of row.items n) linked.candidates.items ≡ units_by cell recipe.roles.items (alike n)
-units_linked cell recipe linked h n = apart_rows linked.candidates.items ∙ (ap (map picked) h.1.candidates ∙ go roles (λ role has. has))
-  where
-    roles : List Role
-    roles = recipe.roles.items
-
-    picked : List ℕ → Option ℕ
-    picked row = candidate_of row n
-
-    apart_rows : (rows : List (Vec ℕ Global)) → map (λ (row : Vec ℕ Global). candidate_of row.items n) rows ≡ map picked (table_items rows)
-    apart_rows [] = refl
-    apart_rows (row ∷ rows) = ap (λ (ns : List (Option ℕ)). candidate_of row.items n ∷ ns) (apart_rows rows)
-
-    go : (rest : List Role) → ((role : Role) → Has rest role → Has roles role)
-        → map picked (map (candidate_numbers cell) rest) ≡ map (number_of_resource cell) (map (λ (role : Role). numbered_binding cell roles n role.name) rest)
-    go [] among = refl
-    go (role ∷ rest) among =
-        ap₂ (λ (m : Option ℕ) (ns : List (Option ℕ)). m ∷ ns) (sym (numbered-taker cell roles (own_role roles (differ cell [] recipe recipe.own_roles)) n role (among role (inl refl))))
-        (go rest (λ other has. among other (inr has)))
+-- in the binding with a number
+pub units_numbered : (cell : Cell) (roles : List Role) (n : ℕ) → takers_of cell (numbered_binding cell roles n) roles ≡ units_by cell roles (alike n)
+units_numbered cell roles n = sym (map-map (number_of_resource cell) (λ (role : Role). numbered_binding cell roles n role.name) roles)

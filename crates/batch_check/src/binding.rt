@@ -1,10 +1,10 @@
 //! Edges between resources and roles, where units take the roles.
-ghost use Rattle.std.specs.Prelude.{◌≡◌, ◌<◌, ◌&&◌, ltb, length, map, IfOk, OnOk};
+ghost use Rattle.std.specs.Prelude.{◌≡◌, ◌<◌, ◌&&◌, ltb, length, IfOk, OnOk};
 ghost use Rattle.batch_check.specs.Collecting.{AreThose, AreUnitsWithin, HasRaised, HasTakenBy, is_behind, is_of_role, raised};
 ghost use Rattle.batch_check.specs.Joining.{AreBelow};
 ghost use Rattle.batch_check.specs.Takings.{AreUnitsOf, resource_for};
 ghost use Rattle.batch_set.specs.Linking.{IsLinkedIn};
-ghost use Rattle.batch_verify.specs.Bindings.{binding_count, candidate_of};
+ghost use Rattle.batch_verify.specs.Bindings.{binding_count};
 
 use crate::edge::Edge;
 use crate::edge_set::EdgeSet;
@@ -12,23 +12,8 @@ use crate::joining::join;
 use batch_cell::Cell;
 use batch_recipe::Recipe;
 use batch_set::LinkedRecipe;
-use batch_verify::{binding_count, candidate_of};
+use batch_verify::{binding_count, takers_numbered};
 use std::alloc::{AllocError, Global};
-
-/// Of each role the number of the unit that takes it: its candidate with this number.
-pub(crate) fn units_by(
-    alloc: Global,
-    linked: &LinkedRecipe,
-    number: u16,
-) -> Result<Vec<Option<u16>>, AllocError>
-    ensures { IfOk result (λ units. units.items ≡ map (λ row. candidate_of row.items number) linked.now.candidates.items) }
-{
-    let mut units = Vec::with_capacity(alloc, linked.candidates.len())?;
-    for candidates in &linked.candidates {
-        units.push(candidate_of(candidates, number))?;
-    }
-    Ok(units)
-}
 
 /// For each number of a candidate the units that take the roles then.
 pub(crate) fn units_of_each(
@@ -43,7 +28,7 @@ pub(crate) fn units_of_each(
     let count = binding_count(cell, &recipe.roles);
     let mut units = Vec::with_capacity(alloc, usize::from(count))?;
     for number in 0..count {
-        let taken = units_by(alloc, linked, number)?;
+        let taken = takers_numbered(alloc, recipe, linked, number)?;
         units.push(taken)?;
     }
     Ok(units)

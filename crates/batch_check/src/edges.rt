@@ -8,9 +8,7 @@ ghost use Rattle.batch_check.specs.LeastRanking.{HasEndsBelow};
 ghost use Rattle.batch_model.specs.declared.limits.TheConstants.{MAX_RECIPES};
 ghost use Rattle.batch_set.specs.Linking.{IsLinkedIn, IsLinkedSet};
 
-use crate::binding::{
-    add_raised, add_taken, edges_behind, edges_of_roles, units_by, units_of_each,
-};
+use crate::binding::{add_raised, add_taken, edges_behind, edges_of_roles, units_of_each};
 use crate::collecting::collect;
 use crate::edge::Edge;
 use crate::edge_set::EdgeSet;
@@ -19,6 +17,7 @@ use crate::site::Site;
 use batch_cell::Cell;
 use batch_recipe::Recipe;
 use batch_set::{LinkedRecipe, LinkedSet};
+use batch_verify::takers_numbered;
 use std::alloc::{AllocError, Global};
 
 /// The orders in which the recipes ask for resources: an edge for each two that follow one another on a path, whatever units take
@@ -98,7 +97,7 @@ fn add_edges(
 {
     let site = Site { cell, recipe };
     let collected = collect(alloc, &site, linked, number, reach)?;
-    let first = units_by(alloc, linked, 0)?;
+    let first = takers_numbered(alloc, recipe, linked, 0)?;
     add_taken(&collected.edges, &first, edges)?;
     let of_roles = edges_of_roles(alloc, cell.resources(), &collected.edges)?;
     let units = units_of_each(alloc, cell, recipe, linked)?;

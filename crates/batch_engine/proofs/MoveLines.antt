@@ -129,7 +129,7 @@ module _ (v : EngineView) (k : IsKept v) (i : ℕ) (b : Batch) (at : slice_get v
       ap₂ (λ x y. let r : Need = record { resource = x; units = y } in r) (resource-told v.cleared (need_at (tree_of v.cleared b) n need).resource q e) (sym f)
 
   pub send-told : {n u f : ℕ} (command : Command) → IsPhaseAt v.cleared b n u f → Tells v b (Chart.Send n command) (Lines.Send b.number b.recipe n u f command)
-  send-told {n} {u} {f} command h = record { is = ap₂ (λ p x. Moves.send b.number p x command) (place-here n) (phase-here n u f h.unit_is h.name_is); known = tt; claims = tt }
+  send-told {n} {u} {f} command h = record { is = ap₂ (λ p x. Moves.send b.number p x command) (place-here n) (phase-here n u f h.unit_is h.name_is); known = tt; claims = λ a. (tt, refl) }
 
   pub start-told : (r : Recipe) → slice_get v.cleared.recipes b.recipe ≡ Some r → {n u f : ℕ} (values : List ℕ) → IsPhaseAt v.cleared b n u f
       → zip (Names.handed_of (Names.node_of n r)) values ≡ handed_values b.values (Names.handed_of (Names.node_of n r))
@@ -143,17 +143,17 @@ module _ (v : EngineView) (k : IsKept v) (i : ℕ) (b : Batch) (at : slice_get v
             ∙ ap (λ (o : Option Node). handed_values b.values (Names.handed_of o)) (sym (node-is v.cleared b.recipe r read n))
             ∙ ap (handed_values b.values) (handed-told v.cleared b.recipe r read b.units n));
         known = tt;
-        claims = tt;
+        claims = λ a. (tt, refl);
       }
 
   pub state-told : (x : State) → Tells v b (Chart.State x) (Lines.State b.number x)
-  state-told x = record { is = refl; known = tt; claims = tt }
+  state-told x = record { is = refl; known = tt; claims = λ a. (tt, refl) }
 
   pub begin-told : (n : ℕ) → Tells v b (Chart.Begin n) (Lines.Begin b.number b.recipe n)
-  begin-told n = record { is = ap₂ (Moves.begin b.number) (place-here n) (name-told v.cleared b.recipe recipe-here.0 recipe-here.1 b.units n); known = tt; claims = tt }
+  begin-told n = record { is = ap₂ (Moves.begin b.number) (place-here n) (name-told v.cleared b.recipe recipe-here.0 recipe-here.1 b.units n); known = tt; claims = λ a. (tt, refl) }
 
   pub end-told : (n : ℕ) → Tells v b (Chart.End n) (Lines.End b.number b.recipe n)
-  end-told n = record { is = ap (Moves.end b.number) (place-here n); known = tt; claims = tt }
+  end-told n = record { is = ap (Moves.end b.number) (place-here n); known = tt; claims = λ a. (tt, refl) }
 
   pub ask-told : {n need q u : ℕ} → IsNumberAt v.cleared b n need q u → Tells v b (Chart.Ask n need) (Lines.Claim Asked b.number b.recipe n q u)
   ask-told {n} {need} {q} {u} h = record { is = ap₂ (Moves.ask b.number) (place-here n) (need-here n need q u h.0 h.1); known = tt; claims = (q, u, h, refl) }

@@ -154,25 +154,19 @@ claimed_by (Line.Claim ClaimKind.Released batch recipe node resource units) a = 
 claimed_by (Line.Pass batch recipe node to resource units) a = after_pass resource batch node to a
 claimed_by _ a = a
 
--- it can: there is room for the ask, and what is given back or passed on is held
+-- it can: the resource is one of the arbiter's, there is room for the ask, and a share that is given back or passed on is held
 abbrev pub CanClaim : Line → Allocation → Type 0
 CanClaim (Line.Claim ClaimKind.Asked batch recipe node resource units) a = (resource < resource_count a) × (0 < a.room)
 CanClaim (Line.Claim ClaimKind.Released batch recipe node resource units) a = (resource < resource_count a) × IsHeld a resource batch node
 CanClaim (Line.Pass batch recipe node to resource units) a = (resource < resource_count a) × IsHeld a resource batch node
 CanClaim _ a = ⊤
 
--- the line is no claim
-abbrev pub IsNoClaim : Line → Type 0
-IsNoClaim (Line.Claim kind batch recipe node resource units) = ⊥
-IsNoClaim (Line.Pass batch recipe node to resource units) = ⊥
-IsNoClaim _ = ⊤
-
--- the line of an ask, a release or a pass is its claim, by the number of the resource; that of another move is none
+-- the line of an ask, a release or a pass says it by the number of the resource; that of another move leaves the arbiter as it is
 abbrev pub ClaimsAs : ClearedSet → Batch → Move → Line → Type 0
 ClaimsAs c b (Ask node need) line = (resource : ℕ) × (units : ℕ) × IsNumberAt c b node need resource units × (line ≡ Line.Claim ClaimKind.Asked b.number b.recipe node resource units)
 ClaimsAs c b (Release node need) line = (resource : ℕ) × (units : ℕ) × IsNumberAt c b node need resource units × (line ≡ Line.Claim ClaimKind.Released b.number b.recipe node resource units)
 ClaimsAs c b (Pass node to need) line = (resource : ℕ) × (units : ℕ) × IsNumberAt c b node need resource units × (line ≡ Line.Pass b.number b.recipe node to resource units)
-ClaimsAs c b m line = IsNoClaim line
+ClaimsAs c b m line = (a : Allocation) → CanClaim line a × (claimed_by line a ≡ a)
 
 -- a batch of the engine has an act at this node
 pub record IsNodeAt (v : EngineView) (b : Batch) (node : ℕ) : Type 0 where
@@ -187,11 +181,16 @@ pub record IsPhaseAt (c : ClearedSet) (b : Batch) (node unit phase : ℕ) : Type
   pub name_is : phase_name c unit phase ≡ (phase_at (tree_of c b) node).name
   pub among : (names : Name × Name) → phase_named (node_at (tree_of c b) node).here ≡ Some names → position (same_name names.0) (units_of c.cell) ≡ Some unit
 
--- the line is that of this move of a batch, and the resource of which it gives or takes a share, if any, exists
+-- the line is that of this move of a batch, also by number; and the resource of which it gives or takes a share, if any, exists
 pub record Tells (v : EngineView) (b : Batch) (m : Move) (line : Line) : Type 0 where
   pub is : Surface.move_of v.cleared line ≡ machine_move (tree_of v.cleared b) (model_batch v.cleared b) m
   pub known : IfSome (touched_by line) (λ resource. resource < resource_count v.allocation)
   pub claims : ClaimsAs v.cleared b m line
+
+-- the same of the next move
+pub record TellsNext (v : EngineView) (line : Line) : Type 0 where
+  pub is : IsNext v (Surface.move_of v.cleared line)
+  pub known : IfSome (touched_by line) (λ resource. resource < resource_count v.allocation)
 
 -- the line is that of this move of the batch at an index
 pub record IsLineAt (v : EngineView) (i : ℕ) (m : Move) (line : Line) : Type 0 where
@@ -199,12 +198,7 @@ pub record IsLineAt (v : EngineView) (i : ℕ) (m : Move) (line : Line) : Type 0
   pub at : slice_get v.batches i ≡ Some batch
   pub tells : Tells v batch m line
 
--- or of a grant
+-- of the line of a grant, which the arbiter is told by itself, nothing is asked
 abbrev pub IsLineOf : EngineView → Step → Line → Type 0
 IsLineOf v (Own i m) line = IsLineAt v i m line
 IsLineOf v (Grant i node resource units) line = ⊤
-
--- the same of the next move
-pub record TellsNext (v : EngineView) (line : Line) : Type 0 where
-  pub is : IsNext v (Surface.move_of v.cleared line)
-  pub known : IfSome (touched_by line) (λ resource. resource < resource_count v.allocation)

@@ -126,7 +126,7 @@ impl Control {
     /// The line of a move of the batch at an index.
     fn own_line(&self, index: usize, made: Move) -> Line
         requires { IsOwnStep self.now (IsNext self.now) index made }
-        ensures { TellsNext self.now result × IsLineAt self.now index made result }
+        ensures { IsLineAt self.now index made result }
     {
         let batch = &self.batches[index];
         let number = batch.number;
@@ -168,7 +168,8 @@ impl Control {
     /// The line of a step.
     pub(crate) fn line_of(&self, step: Step) -> Line
         requires { IsNextStep self.now (Some step) }
-        ensures { TellsNext self.now result × IsLineOf self.now step result }
+        ensures next { TellsNext self.now result }
+        ensures line { IsLineOf self.now step result }
     {
         match step {
             Step::Own { index, made } => self.own_line(index, made),

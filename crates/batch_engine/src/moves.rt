@@ -11,27 +11,24 @@ use batch_chart::Move;
 use batch_matrix::State;
 
 /// An act that asks for a resource joins its line, one that releases it gives it back, and one that passes it on hands its share over.
-/// Other lines need nothing of the arbiter.
+/// The arbiter is told of a grant by `Control::grant`; other lines need nothing of it.
 fn claim(arbiter: &mut Arbiter, line: &Line)
     requires { CanClaim line.now arbiter.old }
     ensures { arbiter.new ≡ claimed_by line.now arbiter.old }
 {
     match *line {
         Line::Claim {
-            kind: ClaimKind::Asked,
+            kind,
             batch,
             node,
             resource,
             units,
             ..
-        } => arbiter.ask(resource, units, batch, node),
-        Line::Claim {
-            kind: ClaimKind::Released,
-            batch,
-            node,
-            resource,
-            ..
-        } => arbiter.release(resource, batch, node),
+        } => match kind {
+            ClaimKind::Asked => arbiter.ask(resource, units, batch, node),
+            ClaimKind::Released => arbiter.release(resource, batch, node),
+            ClaimKind::Granted => {}
+        },
         Line::Pass {
             batch,
             node,

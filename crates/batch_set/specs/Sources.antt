@@ -12,8 +12,8 @@ use Rattle.batch_recipe.specs.declared.entry.Kind.{Kind}
 use Rattle.batch_recipe.specs.declared.need.Need.{Need}
 use Rattle.batch_recipe.specs.declared.recipe.Recipe as document
 use Rattle.batch_recipe.specs.declared.role.Role as declared
-use Rattle.batch_set.specs.Linking.{ArePhasesOf, IsLinked, candidate_numbers, run_phase}
-use Rattle.batch_set.specs.Looked.{needs_by, phase_on, unit_procedure_source}
+use Rattle.batch_set.specs.Linking.{ArePhasesOf, IsLinked, run_phase}
+use Rattle.batch_set.specs.Looked.{needs_by, phase_on, row_at, unit_procedure_source}
 use Rattle.batch_set.specs.declared.cell_phases.CellPhases.{CellPhases}
 use Rattle.batch_set.specs.declared.linked.LinkedNeed.{LinkedNeed}
 use Rattle.batch_set.specs.declared.linked.LinkedRecipe.{LinkedRecipe}
@@ -46,10 +46,12 @@ UnitsSayNames =
     → (bound : Binding) (k : ℕ) (a : Act) (choice : UnitChoice) → slice_get recipe.acts.unit_procedures.items k ≡ Some a → a.unit ≡ Some choice
     → IsSource cell recipe.roles.items bound (unit_procedure_source linked k) (unit_chosen bound choice)
 
--- of the candidates of each role, one after another
+-- of the candidates of each role, one after another: the units of its class
 abbrev pub CandidatesSayNames : Type 0
 CandidatesSayNames =
-    (cell : Cell) (role : declared.Role) → map (λ name. position (same_name name) (resources_of cell)) (units_of_class cell role.class) ≡ map (λ number. Some number) (candidate_numbers cell role)
+    (cell : Cell) (phases : CellPhases) (recipe : document.Recipe) (linked : LinkedRecipe) → IsLinked cell phases recipe linked
+    → (k : ℕ) (role : declared.Role) → slice_get recipe.roles.items k ≡ Some role
+    → map (λ name. position (same_name name) (resources_of cell)) (units_of_class cell role.class) ≡ map (λ number. Some number) (row_at linked.candidates.items k)
 
 -- of each phase step, on each unit that offers its phase
 abbrev pub PhasesSayNames : Type 0

@@ -29,7 +29,8 @@ use Rattle.batch_set.specs.declared.linked.LinkedRecipe.{LinkedRecipe}
 use Rattle.batch_set.specs.declared.linked.Source.{Source}
 use Rattle.batch_set.specs.declared.linked.Source.TheVariants.{Resource, Role, Unknown}
 use Rattle.batch_set.proofs.Sources.{needs-said}
-use Rattle.batch_verify.specs.Asking.{Ask, IsRise, among_first, ask_by, ask_of, asks_by, asks_of, is_fitting, is_found, number_by, ranks_along, ranks_asked, takers_of, unit_by}
+use Rattle.batch_verify.specs.Asking.{Ask, IsRise, among_first, ask_by, ask_of, asks_by, asks_of, is_fitting, is_found, number_by, ranks_along, ranks_asked, unit_by}
+use Rattle.batch_verify.specs.Bindings.{takers_of}
 use Rattle.batch_verify.specs.Refusals.{rank_in, ranking_in}
 use Rattle.batch_verify.specs.Walking.{RisesFrom, is_of_resource, is_within_capacity, known_unit, last_from, unit_under}
 use Rattle.batch_verify.specs.declared.rule.Rule.{Rule}

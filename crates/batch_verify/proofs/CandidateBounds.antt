@@ -16,17 +16,17 @@ use Rattle.batch_model.specs.Cleared.{Ranking}
 use Rattle.batch_model.specs.Lists.{Has}
 use Rattle.batch_model.specs.Setups.{setup_of}
 use Rattle.batch_model.proofs.ExclusiveUnits.{unit_is_exclusive}
-use Rattle.batch_set.proofs.CandidateNumbers.{unit-number}
-use Rattle.batch_verify.specs.Asking.{rank_by, takers_of}
-use Rattle.batch_verify.specs.Bindings.{nobody, role_named}
+use Rattle.batch_set.proofs.CandidateNumbers.{number_of, unit-number}
+use Rattle.batch_verify.specs.Asking.{rank_by}
+use Rattle.batch_verify.specs.Bindings.{nobody, role_named, takers_of}
 use Rattle.batch_verify.specs.Refusals.{IsTriedFor}
 use Rattle.batch_verify.specs.Spans.{AreBetween, GivesUnits, IsTakenAt, ranks_or_none}
 use Rattle.batch_verify.specs.Trials.{extreme, extreme_from, raised_for, raised_unit, rank_or_0}
+use Rattle.batch_verify.proofs.Choices.{has_at}
 use Rattle.batch_verify.proofs.Extremes.{extreme_best, extreme_is}
 use Rattle.batch_verify.proofs.ListLookups.{found_below}
 use Rattle.batch_verify.proofs.NamesInList.{among_at}
 use Rattle.batch_verify.proofs.RoleTakers.{nobody_unknown}
-use Rattle.batch_verify.proofs.TakerNumbers.{rank_is}
 
 -- One of the units that pass a test
 
@@ -84,20 +84,17 @@ module _ (c : equipment.Cell) (ranks : Option (List ℕ)) (roles : List Role) (o
   abbrev pub level : Bool → Binding
   level b name = raised_for c rank b (role_named roles name)
 
-  abbrev number_of : Name → Option ℕ
-  number_of name = position (same_name name) (resources_of c)
-
   taken_so : (role : Role) (candidates : List Name) → units_of_class c role.class ≡ candidates → (name : Name) → IsTriedFor (setup_of c []) candidates name
-      → IsTakenAt c (ranks_or_none ranks) (Some role) (number_of (raised_unit c (extreme rank false candidates))) (number_of name) (number_of (raised_unit c (extreme rank true candidates)))
-  taken_so role [] is name t = subst (λ o. IsTakenAt c (ranks_or_none ranks) (Some role) o (number_of name) (number_of (nobody (resources_of c)))) (sym (nobody_unknown (resources_of c)))
-      (ap number_of t ∙ nobody_unknown (resources_of c))
+      → IsTakenAt c (ranks_or_none ranks) (Some role) (number_of c (raised_unit c (extreme rank false candidates))) (number_of c name) (number_of c (raised_unit c (extreme rank true candidates)))
+  taken_so role [] is name t = subst (λ o. IsTakenAt c (ranks_or_none ranks) (Some role) o (number_of c name) (number_of c (nobody (resources_of c)))) (sym (nobody_unknown (resources_of c)))
+      (ap (number_of c) t ∙ nobody_unknown (resources_of c))
   taken_so role (first ∷ more) is name t =
       let low : Name = extreme_from rank false first more in
       let high : Name = extreme_from rank true first more in
       let of = λ (n : Name) (among : is_among (first ∷ more) n ≡ true). candidate c role.class n (subst (λ names. is_among names n ≡ true) (sym is) among) in
       let l = of low (extreme_is rank false first more) in
       let b = of name t in
-      subst (λ o. IsTakenAt c (ranks_or_none ranks) (Some role) o (number_of name) (number_of high)) (sym l.numbered)
+      subst (λ o. IsTakenAt c (ranks_or_none ranks) (Some role) o (number_of c name) (number_of c high)) (sym l.numbered)
       (record {
         at = b.at;
         is = b.numbered;
@@ -106,8 +103,8 @@ module _ (c : equipment.Cell) (ranks : Option (List ℕ)) (roles : List Role) (o
         of_class = b.of_class;
         known = found_below (same_name name) (resources_of c) b.at b.numbered;
         as_many = l.one ∙ sym b.one;
-        least = omega (arith, extreme_best rank false first more name t, rank_is c ranks low, rank_is c ranks name, ap (rank_by (ranks_or_none ranks)) l.numbered, ap (rank_by (ranks_or_none ranks)) b.numbered);
-        greatest = omega (arith, extreme_best rank true first more name t, rank_is c ranks high, rank_is c ranks name, ap (rank_by (ranks_or_none ranks)) b.numbered);
+        least = omega (arith, extreme_best rank false first more name t, ap (rank_by (ranks_or_none ranks)) l.numbered, ap (rank_by (ranks_or_none ranks)) b.numbered);
+        greatest = omega (arith, extreme_best rank true first more name t, ap (rank_by (ranks_or_none ranks)) b.numbered);
       })
 
   slot : (f : Role → Option ℕ) (rs : List Role) (k : ℕ) → slice_index_or (map f rs) k None ≡ elim (slice_get rs k) [ None ↦ None | Some role ↦ f role ]
@@ -115,18 +112,13 @@ module _ (c : equipment.Cell) (ranks : Option (List ℕ)) (roles : List Role) (o
   slot f (x ∷ xs) zero = refl
   slot f (x ∷ xs) (suc k) = slot f xs k
 
-  has_at : (rs : List Role) (k : ℕ) (role : Role) → slice_get rs k ≡ Some role → Has rs role
-  has_at [] k role is = absurd cc
-  has_at (x ∷ xs) zero role is = inl cc
-  has_at (x ∷ xs) (suc k) role is = inr (has_at xs k role is)
-
   pub between : (bound : Binding) → GivesUnits c roles bound → AreBetween c ranks roles (takers_of c (level false) roles) (takers_of c bound roles) (takers_of c (level true) roles)
   between bound gives number =
-      rw (slot (λ role. number_of (level false role.name)) roles number, slot (λ role. number_of (bound role.name)) roles number, slot (λ role. number_of (level true role.name)) roles number)
+      rw (slot (λ role. number_of c (level false role.name)) roles number, slot (λ role. number_of c (bound role.name)) roles number, slot (λ role. number_of c (level true role.name)) roles number)
       (go (slice_get roles number) refl)
     where
       at : Binding → Option Role → Option ℕ
-      at b found = elim found [ None ↦ None | Some role ↦ number_of (b role.name) ]
+      at b found = elim found [ None ↦ None | Some role ↦ number_of c (b role.name) ]
 
       go : (found : Option Role) → slice_get roles number ≡ found → IsTakenAt c (ranks_or_none ranks) found (at (level false) found) (at bound found) (at (level true) found)
       go None is = refl

@@ -16,7 +16,8 @@ use Rattle.batch_set.specs.Linking.{IsLinkedIn}
 use Rattle.batch_set.specs.Looked.{needs_by}
 use Rattle.batch_set.specs.declared.linked.LinkedNeed.{LinkedNeed}
 use Rattle.batch_set.specs.declared.linked.LinkedRecipe.{LinkedRecipe}
-use Rattle.batch_verify.specs.Asking.{asks_by, ranks_along, takers_of}
+use Rattle.batch_verify.specs.Asking.{asks_by, ranks_along}
+use Rattle.batch_verify.specs.Bindings.{takers_of}
 use Rattle.batch_verify.specs.Charts.{AreFaults}
 use Rattle.batch_verify.specs.Refusals.{ranking_in}
 use Rattle.batch_verify.specs.Spans.{AreBetween, IsPassed, IsWithin, no_span}

@@ -5,10 +5,8 @@ use Rattle.std.specs.Option.{is_some}
 use Rattle.batch_cell.specs.LookUps.{capacities_of, resources_of, units_of}
 use Rattle.batch_cell.specs.declared.cell.Cell as equipment
 use Rattle.batch_recipe.specs.Conditions.{same_name}
-use Rattle.batch_recipe.specs.Expanding.{Binding}
 use Rattle.batch_recipe.specs.declared.act.UnitChoice.{UnitChoice}
 use Rattle.batch_recipe.specs.declared.need.Need.{Need}
-use Rattle.batch_recipe.specs.declared.role.Role as declared
 use Rattle.batch_set.specs.declared.linked.LinkedNeed.{LinkedNeed}
 use Rattle.batch_set.specs.declared.linked.Source.{Source}
 use Rattle.batch_set.specs.declared.linked.Source.TheVariants.{Resource, Role, Unknown}
@@ -79,10 +77,6 @@ own_unit c (ask ∷ asks) = known_unit (among_first (length (units_of c)) ask.0)
 abbrev pub unit_by : equipment.Cell → Option UnitChoice → List Ask → Option ℕ → Result (Option ℕ) Rule
 unit_by c None asks number = Ok number
 unit_by c (Some choice) asks number = own_unit c asks
-
--- who takes each role, by number
-abbrev pub takers_of : equipment.Cell → Binding → List declared.Role → List (Option ℕ)
-takers_of c bound roles = map (λ role. position (same_name (bound role.name)) (resources_of c)) roles
 
 -- the asks at a node
 abbrev pub asks_on : site.Site → List LinkedNeed → List Ask

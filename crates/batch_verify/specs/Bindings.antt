@@ -1,5 +1,5 @@
 -- trusted: the bindings by which all candidates of all roles are tried, one for each number.
-use Rattle.std.specs.Prelude.{ℕ, List, [], ◌∷◌, ◌++◌, max, length, find, slice_get, Option, Some, None}
+use Rattle.std.specs.Prelude.{ℕ, List, [], ◌∷◌, ◌++◌, map, max, length, find, position, slice_get, Option, Some, None}
 use Rattle.batch_cell.specs.LookUps.{resources_of, units_of_class}
 use Rattle.batch_cell.specs.declared.cell.Cell as equipment
 use Rattle.batch_recipe.specs.Conditions.{Name, same_name}
@@ -32,3 +32,7 @@ numbered_binding cell roles number name = elim (taking cell roles number name) [
 abbrev pub binding_count : equipment.Cell → List Role → ℕ
 binding_count cell [] = 1
 binding_count cell (role ∷ roles) = max (length (units_of_class cell role.class)) (binding_count cell roles)
+
+-- of each role the number of the unit that takes it
+abbrev pub takers_of : equipment.Cell → Binding → List Role → List (Option ℕ)
+takers_of cell bound roles = map (λ role. position (same_name (bound role.name)) (resources_of cell)) roles

@@ -10,13 +10,13 @@ use Rattle.batch_model.specs.Cleared.{Ranking}
 use Rattle.batch_verify.specs.Asking.{rank_by}
 use Rattle.batch_verify.specs.Bindings.{candidate_of, nobody, numbered_binding, role_named}
 use Rattle.batch_verify.specs.Refusals.{rank_in}
+use Rattle.batch_verify.specs.Spans.{ranks_or_none}
 use Rattle.batch_verify.specs.declared.trial.Trial.{Trial}
 use Rattle.batch_verify.specs.declared.trial.Trial.TheVariants.{Numbered, Raised, Leveled}
 
 -- without ranks each name has rank 0
 abbrev pub rank_or_0 : equipment.Cell → Option (List ℕ) → Ranking
-rank_or_0 cell None = λ name. 0
-rank_or_0 cell (Some ranks) = rank_in cell ranks
+rank_or_0 cell ranks = rank_in cell (ranks_or_none ranks)
 
 abbrev pub is_better : {X : Type 0} → (X → ℕ) → Bool → X → X → Bool
 is_better rank true one other = ltb (rank one) (rank other)
@@ -54,16 +54,15 @@ bound_by cell roles (Numbered number) = numbered_binding cell roles number
 bound_by cell roles (Raised role ranks) = raised cell roles (rank_or_0 cell (option_copied ranks)) role.now
 bound_by cell roles (Leveled is_highest ranks) = λ name. raised_for cell (rank_or_0 cell (option_copied ranks)) is_highest (role_named roles name)
 
--- the rank of the resource with this number; without ranks each has rank 0
-abbrev pub number_rank : Option (List ℕ) → ℕ → ℕ
-number_rank None number = 0
-number_rank (Some ranks) number = rank_by ranks (Some number)
+-- the rank of the resource with this number
+abbrev pub rank_at : List ℕ → ℕ → ℕ
+rank_at ranks number = rank_by ranks (Some number)
 
--- which of these candidates, by number, takes the role with this name
+-- the one of these candidates' numbers that takes the role with this name
 abbrev pub taker_by : Trial → Name → List ℕ → Option ℕ
 taker_by (Numbered number) role candidates = candidate_of candidates number
-taker_by (Raised raised ranks) role candidates = extreme (number_rank (option_copied ranks)) (same_name role raised.now) candidates
-taker_by (Leveled is_highest ranks) role candidates = extreme (number_rank (option_copied ranks)) is_highest candidates
+taker_by (Raised raised ranks) role candidates = extreme (rank_at (ranks_or_none (option_copied ranks))) (same_name role raised.now) candidates
+taker_by (Leveled is_highest ranks) role candidates = extreme (rank_at (ranks_or_none (option_copied ranks))) is_highest candidates
 
 -- the roles that are raised one after another, where there are ranks: two roles at least
 abbrev pub roles_raised : Option (List ℕ) → List Role → List Role

@@ -1,7 +1,7 @@
 //! Bindings of roles that are tried one after another, so that each candidate of each role takes it in one of them.
 ghost use Rattle.std.specs.Prelude.{◌≡◌, ◌≤◌, max};
 ghost use Rattle.batch_cell.specs.declared.cell.TheConstants.{MAX_UNITS};
-ghost use Rattle.batch_verify.specs.Bindings.{binding_count, candidate_of};
+ghost use Rattle.batch_verify.specs.Bindings.{binding_count};
 
 use batch_cell::Cell;
 use batch_recipe::Role;
@@ -18,18 +18,6 @@ pub fn binding_count(cell: &Cell, roles: &[Role]) -> u16
         most = greater(most, cell.candidates(&role.class));
     }
     most
-}
-
-/// The one of these candidates that takes a role in the binding with this number: the candidate with this number, or the first one
-/// where they are fewer. None where there is no candidate.
-// claim: numbered bindings
-pub fn candidate_of(candidates: &[u16], number: u16) -> Option<u16>
-    ensures { result ≡ candidate_of candidates.now number }
-{
-    match candidates.get(usize::from(number)) {
-        Some(unit) => Some(*unit),
-        None => candidates.first().copied(),
-    }
 }
 
 fn greater(one: u16, other: u16) -> u16

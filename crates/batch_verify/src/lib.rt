@@ -28,7 +28,7 @@ mod tree_phases;
 mod trial;
 mod walk;
 
-pub use bindings::{binding_count, candidate_of};
+pub use bindings::binding_count;
 pub use certificate::{CertFault, Certificate, MAX_LINES, MAX_RANK};
 pub use cleared::Cleared;
 pub use judgement::verify;
@@ -38,4 +38,5 @@ pub use recipes::is_recipe_set;
 pub use refusal::SetRefusal;
 pub use rejected::Rejected;
 pub use rule::{Broken, Rule};
+pub use trial::takers_numbered;
 pub use walk::first_broken;

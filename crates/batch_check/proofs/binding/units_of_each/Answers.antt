@@ -1,7 +1,7 @@
 use Rattle.std.proofs.Common.{◌≡◌, ◌∙◌, ap, subst, arith}
 use Rattle.batch_verify.specs.Bindings.{binding_count}
 use Rattle.batch_check.specs.Takings.{AreUnitsOf}
-use Rattle.batch_check.proofs.RoleUnits.{units_linked, units_more, units_none}
+use Rattle.batch_check.proofs.RoleUnits.{units_more, units_none, units_numbered}
 use Rattle.batch_check.proofs.binding.units_of_each.Goals as goal
 
 pub loop-number-init : goal.loop-number-init
@@ -14,7 +14,7 @@ loop-number-preserved c =
     let n = c.loop-number.number in
     rw c.in_ok-push.ensures.items
     (units_more cell recipe.roles.items n c.loop-number.units.items c.in_ok-taken.taken c.loop-number.invariant
-    (c.in_ok-taken.ensures ∙ units_linked cell recipe c.args.linked.now c.requires n))
+    (c.in_ok-taken.ensures cell c.requires ∙ units_numbered cell recipe.roles.items n))
 
 pub returns : goal.returns
 returns c =

@@ -11,7 +11,7 @@ use Rattle.batch_check.specs.declared.edge.Edge.{Edge}
 use Rattle.batch_check.specs.declared.edge_set.EdgeSet.{EdgeSet}
 use Rattle.batch_check.specs.declared.site.Site.{Site}
 use Rattle.batch_check.proofs.RecipeEdges.{KeepsBindings, KeepsBindings-alike, KeepsBindings-apart, KeepsBindings-fewer, KeepsBindings-first, added_all}
-use Rattle.batch_check.proofs.RoleUnits.{item_at, units_below, units_linked, units_within}
+use Rattle.batch_check.proofs.RoleUnits.{item_at, units_below, units_numbered, units_within}
 use Rattle.batch_check.proofs.edges.add_edges.Goals as goal
 
 abbrev Units : Type 0
@@ -42,7 +42,7 @@ add_taken-requires c =
     let cell = c.args.cell.now in
     let roles = c.args.recipe.now.roles.items in
     units_below cell roles c.args.edges.now.count (alike 0) c.deref-2.result.now c.requires.sized
-    (c.deref-2.ensures.value ∙ (c.in_ok-first.ensures ∙ units_linked cell c.args.recipe.now c.args.linked.now c.requires.linked 0))
+    (c.deref-2.ensures.value ∙ (c.in_ok-first.ensures cell c.requires.linked ∙ units_numbered cell c.args.recipe.now.roles.items 0))
 
 pub loop-taken-init : goal.loop-taken-init
 loop-taken-init c =
@@ -54,7 +54,7 @@ loop-taken-init c =
     (of_roles_by c.resources.result (resource_count site) c.deref-3.result.now collected of_roles c.resources.ensures c.deref-3.ensures.value c.in_ok-of_roles.ensures)
     c.add_taken.new.set
     (taken_by c.deref-2.result.now (units_on site (alike 0)) c.deref.result.now collected c.args.edges.now c.add_taken.new.set
-    (c.deref-2.ensures.value ∙ (c.in_ok-first.ensures ∙ units_linked cell c.args.recipe.now c.args.linked.now c.requires.linked 0)) c.deref.ensures.value c.in_ok-add_taken.ensures)
+    (c.deref-2.ensures.value ∙ (c.in_ok-first.ensures cell c.requires.linked ∙ units_numbered cell c.args.recipe.now.roles.items 0)) c.deref.ensures.value c.in_ok-add_taken.ensures)
 
 pub add_taken-requires-in-loop-taken : goal.add_taken-requires-in-loop-taken
 add_taken-requires-in-loop-taken c =

@@ -7,7 +7,7 @@ use Rattle.batch_recipe.specs.declared.entry.Entry.{Entry}
 use Rattle.batch_recipe.specs.declared.entry.Kind.TheVariants as kind
 use Rattle.batch_recipe.proofs.NodesAbove.{as_many}
 use Rattle.batch_set.specs.Looked.{needs_by}
-use Rattle.batch_verify.specs.Asking.{takers_of}
+use Rattle.batch_verify.specs.Bindings.{takers_of}
 use Rattle.batch_verify.specs.PassedSteps.{Allows, passed_at, with_passed}
 use Rattle.batch_verify.specs.Refusals.{ranking_in}
 use Rattle.batch_verify.specs.Spans.{AreBetween, IsPassed}

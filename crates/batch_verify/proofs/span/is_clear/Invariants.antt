@@ -1,6 +1,6 @@
 use Rattle.std.specs.Prelude.{false}
 use Rattle.std.specs.Option.{option_copied}
-use Rattle.batch_verify.specs.Asking.{takers_of}
+use Rattle.batch_verify.specs.Bindings.{takers_of}
 use Rattle.batch_verify.specs.Trials.{bound_by}
 use Rattle.batch_verify.specs.declared.trial.Trial.TheVariants.{Leveled}
 use Rattle.batch_verify.proofs.NodeClearance.{Clears}

@@ -1,12 +1,12 @@
-use Rattle.std.proofs.Common.{◌∙◌, Some, ap, sym, get_or, take, option_copied}
+use Rattle.std.proofs.Common.{◌∙◌, Some, ap, sym, get_or, take}
 use Rattle.std.proofs.lemmas.List.{take_more}
-use Rattle.batch_verify.specs.Trials.{better, extreme, number_rank}
+use Rattle.batch_verify.specs.Trials.{better, extreme, rank_at}
 use Rattle.batch_verify.proofs.Extremes.{one_more}
 use Rattle.batch_verify.proofs.trial.extreme_of.Goals as goal
 
 pub loop-candidate-preserved : goal.loop-candidate-preserved
 loop-candidate-preserved c =
-    let rank = number_rank (option_copied c.args.ranks) in
+    let rank = rank_at c.args.ranks.now in
     let b = c.args.is_greatest in
     let all = c.args.candidates.now in
     let i = c.loop-candidate.candidate-index in

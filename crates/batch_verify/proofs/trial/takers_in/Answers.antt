@@ -4,8 +4,9 @@ use Rattle.batch_cell.specs.LookUps.{resources_of}
 use Rattle.batch_cell.specs.declared.cell.Cell as equipment
 use Rattle.batch_recipe.specs.Conditions.{same_name}
 use Rattle.batch_recipe.specs.declared.role.Role.{Role}
-use Rattle.batch_set.specs.Linking.{candidate_numbers}
-use Rattle.batch_set.proofs.TableRows.{AreAdded-all, AreAdded-more, row-there}
+use Rattle.batch_set.specs.Looked.{row_at}
+use Rattle.batch_set.proofs.CandidateNumbers.{candidates-said}
+use Rattle.batch_set.proofs.TableRows.{AreAdded-all, AreAdded-more}
 use Rattle.batch_verify.specs.Trials.{bound_by, taker_by}
 use Rattle.batch_verify.specs.declared.trial.Trial.{Trial}
 use Rattle.batch_verify.proofs.Choices.{has_at}
@@ -26,11 +27,12 @@ loop-number-preserved c = λ cell is-linked.
     let within : n < length roles = subst (λ (all : List Role). n < length all) same c.loop-number-test.true in
     let is : role ≡ get_or roles n role = c.role-item.is ∙ ap (λ (all : List Role). get_or all n role) same in
     let at : slice_get roles n ≡ Some role = slice_get_read roles (length roles) n role refl within is in
-    let row = row-there (candidate_numbers cell) c.args.linked.now.candidates.items roles is-linked.1.candidates n role at in
+    let numbers = row_at c.args.linked.now.candidates.items n in
     AreAdded-more [] (taker cell roles c.args.trial) roles n c.loop-number.takers.items c.push.new.self.items (c.loop-number.invariant cell is-linked) role within is
     (c.in_ok-push.ensures.items ∙ ap (λ (own : Option ℕ). c.loop-number.takers.items ++ own ∷ [])
-    (c.taker_by.ensures ∙ (ap (taker_by c.args.trial role.name) (c.candidates_of-candidates.ensures ∙ row)
-    ∙ sym (taker-is cell roles (own_role roles (differ cell [] r r.own_roles)) c.args.trial role (has_at roles n role at)))))
+    (c.taker_by.ensures ∙ (ap (taker_by c.args.trial role.name) c.candidates_of-candidates.ensures
+    ∙ sym (taker-is cell roles c.args.trial role (own_role roles (differ cell [] r r.own_roles) role (has_at roles n role at)) numbers
+    (candidates-said cell is-linked.0 r c.args.linked.now is-linked.1 n role at)))))
 
 pub returns : goal.returns
 returns c = λ cell is-linked.

@@ -7,7 +7,8 @@ use Rattle.batch_recipe.specs.declared.entry.Kind.TheVariants as kind
 use Rattle.batch_recipe.proofs.NodesAbove.{as_many}
 use Rattle.batch_model.specs.Setups.{setup_of}
 use Rattle.batch_set.specs.Looked.{needs_by}
-use Rattle.batch_verify.specs.Asking.{asks_by, takers_of}
+use Rattle.batch_verify.specs.Asking.{asks_by}
+use Rattle.batch_verify.specs.Bindings.{takers_of}
 use Rattle.batch_verify.specs.Trials.{bound_by}
 use Rattle.batch_verify.specs.Refusals.{ranking_in, IsFirstBroken}
 use Rattle.batch_verify.specs.Ways.{bound_parts}

@@ -2,16 +2,24 @@ use Rattle.std.proofs.Common.{◌≡◌, sym, subst, ℕ, Some}
 use Rattle.batch_model.specs.Moves as Moves
 use Rattle.batch_chart.specs.NodesOf.{need_at, place_at}
 use Rattle.batch_engine.specs.declared.batch.Batch.{Batch}
-use Rattle.batch_engine.specs.declared.step.Step.{Step}
 use Rattle.batch_engine.specs.View.{EngineView, resource_number, tree_of}
-use Rattle.batch_engine.specs.Steps.{IsGrantStep, IsLineOf, IsNext, IsNextStep, IsNumberAt, TellsNext}
-use Rattle.batch_engine.proofs.BatchAtIndex.{IsRead, read-there}
+use Rattle.batch_engine.specs.Steps.{IsGrantStep, IsNext, IsNextStep, IsNumberAt, IsOwnStep, TellsNext}
+use Rattle.batch_engine.proofs.BatchAtIndex.{IsRead, mover-at, read-there}
 use Rattle.batch_engine.proofs.MoveLines.{grant-told}
 use Rattle.batch_engine.proofs.control.Control.line_of.Goals as goal
 use Rattle.batch_recipe.proofs.ValueUpdates.{same-at}
 
-pub returns-in-Grant : goal.returns-in-Grant
-returns-in-Grant c =
+-- the line of a move of a batch is that of the next one
+pub returns-in-Own-clause-next : goal.returns-in-Own-clause-next
+returns-in-Own-clause-next c =
+    let v : EngineView = c.args.self.now in
+    let own : IsOwnStep v (IsNext v) c.in-Own.index c.in-Own.made = subst (λ s. IsNextStep v (Some s)) c.in-Own.is c.requires in
+    let l = c.own_line.ensures in
+    let h = mover-at c.self.view_is c.self.invariant.kept own l.at in
+    record { is = subst (IsNext v) (sym l.tells.is) h.is; known = l.tells.known }
+
+pub returns-in-Grant-clause-next : goal.returns-in-Grant-clause-next
+returns-in-Grant-clause-next c =
     let v : EngineView = c.args.self.now in
     let b : Batch = c.index-batch.result.now in
     let i : ℕ = c.in-Grant.index in
@@ -22,8 +30,6 @@ returns-in-Grant c =
       subst (λ (z : Batch). resource_number v.cleared (need_at (tree_of v.cleared z) c.in-Grant.node g.need).resource ≡ Some c.in-Grant.resource) same g.number,
       subst (λ (z : Batch). (need_at (tree_of v.cleared z) c.in-Grant.node g.need).units ≡ c.in-Grant.units) same g.units_are,
     ) in
-    let tells : TellsNext v c.claim_line.result =
     subst (TellsNext v) (sym c.claim_line.ensures)
     (grant-told v r.kept i b r.at g.need number
-    (subst (λ (z : Batch). IsNext v (Moves.grant z.number (place_at (tree_of v.cleared z) c.in-Grant.node) (need_at (tree_of v.cleared z) c.in-Grant.node g.need))) same g.is)) in
-    subst (λ (z : Step). TellsNext v c.claim_line.result × IsLineOf v z c.claim_line.result) (sym c.in-Grant.is) (tells, tt)
+    (subst (λ (z : Batch). IsNext v (Moves.grant z.number (place_at (tree_of v.cleared z) c.in-Grant.node) (need_at (tree_of v.cleared z) c.in-Grant.node g.need))) same g.is))

@@ -7,7 +7,7 @@ use Rattle.batch_chart.specs.declared.chart_move.Move.TheVariants.{Ask, Pass, Re
 use Rattle.batch_chart.specs.declared.running.Running.{Running}
 use Rattle.batch_engine.specs.declared.batch.Batch.{Batch}
 use Rattle.batch_engine.specs.declared.line.Line.{Line}
-use Rattle.batch_engine.specs.Steps.{CanClaim, ClaimsAs, IsMover, IsNoClaim, IsOfAct, claimed_by}
+use Rattle.batch_engine.specs.Steps.{CanClaim, ClaimsAs, IsMover, IsOfAct, claimed_by}
 use Rattle.batch_engine.specs.View.{EngineView, model_batch, tree_of}
 use Rattle.batch_engine.proofs.BatchLookups.{known-resource}
 use Rattle.batch_engine.proofs.EngineAfterMove.{Becomes, MadeChart, as-released, ask-made, held-share, pass-made, release-made, run-quiet}
@@ -19,18 +19,6 @@ use Rattle.batch_engine.proofs.control.Control.run.Goals as goal
 use Rattle.batch_engine.proofs.control.Control.run.Goals.{After-index_mut-batch, After-make_move, After-recipe-chart}
 use Rattle.batch_recipe.proofs.ValueUpdates.{same-at}
 
--- A line that is no claim
-
-can-claim : (line : Line) (a : Allocation) → IsNoClaim line → CanClaim line a
-can-claim (Line.Claim kind batch recipe node resource units) a none = absurd none
-can-claim (Line.Pass batch recipe node to resource units) a none = absurd none
-can-claim _ a none = tt
-
-unclaimed : (line : Line) (a : Allocation) → IsNoClaim line → claimed_by line a ≡ a
-unclaimed (Line.Claim kind batch recipe node resource units) a none = absurd none
-unclaimed (Line.Pass batch recipe node to resource units) a none = absurd none
-unclaimed _ a none = refl
-
 can : {v : EngineView} {i : ℕ} {b : Batch} (m : Move) (h : IsMover v i b m) (line : Line) → ClaimsAs v.cleared b m line → CanClaim line v.allocation
 can {v} {i} {b} (Ask node need) h line (q, u, number, is) =
     subst (λ (l : Line). CanClaim l v.allocation) (sym is)
@@ -41,7 +29,7 @@ can {v} {i} {b} (Release node need) h line (q, u, number, is) =
 can {v} {i} {b} (Pass node to need) h line (q, u, number, is) =
     subst (λ (l : Line). CanClaim l v.allocation) (sym is)
     (known-resource v h.kept (need_at (tree_of v.cleared b) node need).resource q number.0, held-share v h.kept i b h.at node need q (as-released v h.kept i b h.at node to need h.about) number.0)
-can {v} m h line none = can-claim line v.allocation none
+can {v} m h line none = (none v.allocation).0
 
 -- the engine after the move
 becomes : {v : EngineView} {i : ℕ} {b : Batch} (m : Move) (h : IsMover v i b m) {r : Running} (line : Line) → IsOfAct m → ClaimsAs v.cleared b m line → MadeChart v h.kept i b h.at m r
@@ -58,7 +46,7 @@ becomes {v} {i} {b} (Pass node to need) h {r} line act (q, u, number, is) made =
     (pass-made v h.kept i b h.at node to need q r h.about number.0 made h.is)
 becomes (State state) h line act is made = absurd act
 becomes {v} {i} {b} m h {r} line act none made =
-    subst (λ (z : Allocation). Becomes v (changed v i (record b { running = r }) z) (machine_move (tree_of v.cleared b) (model_batch v.cleared b) m)) (sym (unclaimed line v.allocation none))
+    subst (λ (z : Allocation). Becomes v (changed v i (record b { running = r }) z) (machine_move (tree_of v.cleared b) (model_batch v.cleared b) m)) (sym (none v.allocation).1)
     (run-quiet v h.kept i b h.at m r tt made h.is)
 
 moves : (c : After-index_mut-batch) → IsMover c.args.self.now c.args.index c.index_mut-batch.result.now c.args.made
