@@ -64,16 +64,20 @@ def without_comments(text):
 
 
 def use_items(text):
-    """The names of an import's braces, each with the name that it has here."""
+    """The names of an import's braces, each with the path before it and the name that it has here."""
     for item in filter(None, (it.strip() for it in text.split(","))):
-        name, _, alias = item.partition(" as ")
-        yield name.strip(), (alias or name).strip()
+        path, _, alias = item.partition(" as ")
+        *below, name = path.strip().split(".")
+        yield below, name, (alias or name).strip()
 
 
 def imports_of(text, pattern):
     """Each import as a path, and either pairs of names or the name of the whole."""
     for path, items, alias in re.findall(pattern + r"Rattle\.([A-Za-z0-9_.]+?)(?:\.\{([^}]*)\}| as (\w+))\s*;?", text, flags=re.M):
-        yield path.split("."), list(use_items(items)) if items else None, alias
+        if not items:
+            yield path.split("."), None, alias
+        for below, name, here in use_items(items):
+            yield [*path.split("."), *below], [(name, here)], alias
 
 
 HEAD = re.compile(r"(?:(?:abbrev|unfoldable) )?(?:pub )?(?:(data|record) )?(\w[\w-]*)(?= |:)")

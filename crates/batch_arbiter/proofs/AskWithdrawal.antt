@@ -1,12 +1,7 @@
 -- The asks of a batch leave the lines of all resources in turn.
 use Rattle.std.proofs.Common.{ℕ, ◌≡◌, ◌+◌, ◌<◌, ◌≤◌, List, [], ◌∷◌, ◌++◌, length, get_or, take, drop, sym, ap, ◌∙◌, arith, map, set}
-use Rattle.std.specs.Prelude.{sum_by}
-use Rattle.std.proofs.lemmas.List.{length-append, length-map, length-drop, length-take-le, drop_more, take_at, drop_at, map_more, get_or_at, set_at, append_assoc}
-use Rattle.std.proofs.lemmas.List.Sums.{sum_by_more}
-use Rattle.batch_arbiter.specs.Allocation.{Claim, asks_of}
-use Rattle.batch_arbiter.specs.Linked.{Lists, list_at, with_list}
-use Rattle.batch_arbiter.specs.Standing.{pool_seen}
-use Rattle.batch_arbiter.proofs.ListWithdrawal.{staying}
+use Rattle.std.{specs.Prelude.sum_by, proofs.lemmas.List.length-append, proofs.lemmas.List.length-map, proofs.lemmas.List.length-drop, proofs.lemmas.List.length-take-le, proofs.lemmas.List.drop_more, proofs.lemmas.List.take_at, proofs.lemmas.List.drop_at, proofs.lemmas.List.map_more, proofs.lemmas.List.get_or_at, proofs.lemmas.List.set_at, proofs.lemmas.List.append_assoc, proofs.lemmas.List.Sums.sum_by_more}
+use Rattle.batch_arbiter.{specs.Allocation.Claim, specs.Allocation.asks_of, specs.Linked.Lists, specs.Linked.list_at, specs.Linked.with_list, specs.Standing.pool_seen, proofs.ListWithdrawal.staying}
 
 -- the pool when so many of the lines behind the first n lists have been gone through
 abbrev pub withdrawn_to : ℕ → ℕ → ℕ → Lists → Lists

@@ -1,12 +1,7 @@
 -- The effect of each call of the pool on its fields, and on the lists that are seen.
 use Rattle.std.proofs.Common.{ℕ, ◌≡◌, ◌+◌, ◌-◌, ◌<◌, List, [], ◌∷◌, ◌++◌, length, get_or, drop, refl, sym, ap, ◌∙◌, subst, arith, suc, zero, set, map}
-use Rattle.std.proofs.lemmas.List.{get_or-map}
-use Rattle.std.proofs.lemmas.List.Sums.{get_or-le-sum_by}
-use Rattle.batch_arbiter.specs.declared.entry.Entry.{Entry}
-use Rattle.batch_arbiter.specs.declared.ends.Ends.{Ends}
-use Rattle.batch_arbiter.specs.Linked.{at, no_list, ends_at, entry_claim, claims_from, entry_claims, free, claim_in, with_part, LeadsThrough, IsLinkedBy, AreLinkedLists}
-use Rattle.batch_arbiter.proofs.PoolSteps.{joined_parts, joined_ends, joined, claims-joined, IsLinkedBy-step, claims-step}
-use Rattle.batch_arbiter.proofs.EntryRemoval.{left_ends, taken, claims-taken, claims-first}
+use Rattle.std.proofs.lemmas.List.{get_or-map, Sums.get_or-le-sum_by}
+use Rattle.batch_arbiter.{specs.declared.entry.Entry.Entry, specs.declared.ends.Ends.Ends, specs.Linked.at, specs.Linked.no_list, specs.Linked.ends_at, specs.Linked.entry_claim, specs.Linked.claims_from, specs.Linked.entry_claims, specs.Linked.free, specs.Linked.claim_in, specs.Linked.with_part, specs.Linked.LeadsThrough, specs.Linked.IsLinkedBy, specs.Linked.AreLinkedLists, proofs.PoolSteps.joined_parts, proofs.PoolSteps.joined_ends, proofs.PoolSteps.joined, proofs.PoolSteps.claims-joined, proofs.PoolSteps.IsLinkedBy-step, proofs.PoolSteps.claims-step, proofs.EntryRemoval.left_ends, proofs.EntryRemoval.taken, proofs.EntryRemoval.claims-taken, proofs.EntryRemoval.claims-first}
 
 -- the list that is seen at k
 pub list-seen : (es : List Entry) (ls : List Ends) (k : ℕ) → k < length ls → get_or (map (entry_claims es) ls) k [] ≡ entry_claims es (ends_at ls k)

@@ -1,19 +1,7 @@
 -- The effect on a list when the first claim of an act leaves it.
 use Rattle.std.proofs.Common.{ℕ, ◌≡◌, ◌≢◌, ◌+◌, ◌-◌, ◌<◌, List, [], length, get_or, refl, sym, ap, ◌∙◌, subst, arith, suc, set, map, false}
-use Rattle.std.specs.Prelude.{slice_get, MatchOption}
-use Rattle.std.specs.List.{remove}
-use Rattle.std.proofs.lemmas.List.{length-set}
-use Rattle.std.proofs.lemmas.List.Sums.{sum_by-remove}
-use Rattle.batch_arbiter.specs.declared.entry.Entry.{Entry}
-use Rattle.batch_arbiter.specs.declared.ends.Ends.{Ends}
-use Rattle.batch_arbiter.specs.Allocation.{Claim, is_claim, held_units, without_first}
-use Rattle.batch_arbiter.specs.Linked.{at, ends_at, entry_claim, entry_claims, free, claim_in, with_part, LeadsThrough, IsLinkedBy, AreLinkedLists, IsBefore, behind, unlinked_behind}
-use Rattle.batch_arbiter.proofs.EntryWrites.{at-set_same, at-set_other, behind-within}
-use Rattle.batch_arbiter.proofs.PoolSteps.{IsLinkedBy-step, claims-step}
-use Rattle.batch_arbiter.proofs.EntryRemoval.{left_ends, behind-suc, b_off_t, unlinked, claims-unlinked, behind-unlinked}
-use Rattle.batch_arbiter.proofs.Calls.{list-seen}
-use Rattle.batch_arbiter.proofs.Positions.{IsFirst, remove-IsFirst}
-use Rattle.batch_arbiter.proofs.ClaimSearch.{claims-behind, IsFirst-before}
+use Rattle.std.{specs.Prelude.slice_get, specs.Prelude.MatchOption, specs.List.remove, proofs.lemmas.List.length-set, proofs.lemmas.List.Sums.sum_by-remove}
+use Rattle.batch_arbiter.{specs.declared.entry.Entry.Entry, specs.declared.ends.Ends.Ends, specs.Allocation.Claim, specs.Allocation.is_claim, specs.Allocation.held_units, specs.Allocation.without_first, specs.Linked.at, specs.Linked.ends_at, specs.Linked.entry_claim, specs.Linked.entry_claims, specs.Linked.free, specs.Linked.claim_in, specs.Linked.with_part, specs.Linked.LeadsThrough, specs.Linked.IsLinkedBy, specs.Linked.AreLinkedLists, specs.Linked.IsBefore, specs.Linked.behind, specs.Linked.unlinked_behind, proofs.EntryWrites.at-set_same, proofs.EntryWrites.at-set_other, proofs.EntryWrites.behind-within, proofs.PoolSteps.IsLinkedBy-step, proofs.PoolSteps.claims-step, proofs.EntryRemoval.left_ends, proofs.EntryRemoval.behind-suc, proofs.EntryRemoval.b_off_t, proofs.EntryRemoval.unlinked, proofs.EntryRemoval.claims-unlinked, proofs.EntryRemoval.behind-unlinked, proofs.Calls.list-seen, proofs.Positions.IsFirst, proofs.Positions.remove-IsFirst, proofs.ClaimSearch.claims-behind, proofs.ClaimSearch.IsFirst-before}
 
 -- the first claim of the list isn't the act's
 pub later-seen : (es : List Entry) (ls : List Ends) (k batch node : ℕ) → k < length ls → MatchOption (slice_get (get_or (map (entry_claims es) ls) k []) 0) ⊥ (λ c. is_claim batch node c ≡ false)

@@ -1,13 +1,6 @@
 -- The claims of a list by their places, for searches along it.
 use Rattle.std.proofs.Common.{ℕ, ◌≡◌, ◌+◌, ◌-◌, ◌<◌, List, length, get_or, sym, ap, ◌∙◌, subst, arith, suc, true, false, below_more}
-use Rattle.batch_arbiter.specs.declared.entry.Entry.{Entry}
-use Rattle.batch_arbiter.specs.declared.ends.Ends.{Ends}
-use Rattle.batch_arbiter.specs.Allocation.{Claim, is_claim}
-use Rattle.batch_arbiter.specs.Linked.{at, entry_claim, claims_from, entry_claims, IsSomeList, IsBefore, HasNone, is_claim_behind, behind}
-use Rattle.batch_arbiter.proofs.EntryWrites.{behind-within}
-use Rattle.batch_arbiter.proofs.EntryRemoval.{behind-suc}
-use Rattle.batch_arbiter.proofs.Calls.{length-claims}
-use Rattle.batch_arbiter.proofs.Positions.{IsFirst}
+use Rattle.batch_arbiter.{specs.declared.entry.Entry.Entry, specs.declared.ends.Ends.Ends, specs.Allocation.Claim, specs.Allocation.is_claim, specs.Linked.at, specs.Linked.entry_claim, specs.Linked.claims_from, specs.Linked.entry_claims, specs.Linked.IsSomeList, specs.Linked.IsBefore, specs.Linked.HasNone, specs.Linked.is_claim_behind, specs.Linked.behind, proofs.EntryWrites.behind-within, proofs.EntryRemoval.behind-suc, proofs.Calls.length-claims, proofs.Positions.IsFirst}
 
 pub claims-behind : (es : List Entry) (n first k : ℕ) (d : Claim) → k < n → get_or (claims_from es n first) k d ≡ entry_claim (at es (behind es k first))
 claims-behind es (suc n) first (suc k) d h = claims-behind es n (at es first).next k d (omega arith)

@@ -1,12 +1,7 @@
 -- The effect on the pool when a claim leaves a list: the first one, or one behind another.
 use Rattle.std.proofs.Common.{ℕ, ◌≡◌, ◌≢◌, ◌<◌, List, ◌∷◌, length, drop, refl, sym, ap, ◌∙◌, subst, arith, suc, zero, set}
-use Rattle.std.specs.List.{remove}
-use Rattle.std.proofs.lemmas.List.{length-set}
-use Rattle.batch_arbiter.specs.declared.entry.Entry.{Entry}
-use Rattle.batch_arbiter.specs.declared.ends.Ends.{Ends}
-use Rattle.batch_arbiter.specs.Linked.{at, ends_at, entry_claim, claims_from, entry_claims, EntryPart, bottom, free, end_of, claim_in, with_part, LeadsThrough, Avoids, IsList, IsLinkedBy, behind}
-use Rattle.batch_arbiter.proofs.EntryWrites.{marked-same, marked-other, at-set_same, at-set_other, Edits, Skips, Avoids-other, Avoids-first, Avoids-behind, Leads-kept, claims-kept, Leads-skip, behind-within}
-use Rattle.batch_arbiter.proofs.PoolSteps.{apart, off, off-claim, Steps}
+use Rattle.std.{specs.List.remove, proofs.lemmas.List.length-set}
+use Rattle.batch_arbiter.{specs.declared.entry.Entry.Entry, specs.declared.ends.Ends.Ends, specs.Linked.at, specs.Linked.ends_at, specs.Linked.entry_claim, specs.Linked.claims_from, specs.Linked.entry_claims, specs.Linked.EntryPart, specs.Linked.bottom, specs.Linked.free, specs.Linked.end_of, specs.Linked.claim_in, specs.Linked.with_part, specs.Linked.LeadsThrough, specs.Linked.Avoids, specs.Linked.IsList, specs.Linked.IsLinkedBy, specs.Linked.behind, proofs.EntryWrites.marked-same, proofs.EntryWrites.marked-other, proofs.EntryWrites.at-set_same, proofs.EntryWrites.at-set_other, proofs.EntryWrites.Edits, proofs.EntryWrites.Skips, proofs.EntryWrites.Avoids-other, proofs.EntryWrites.Avoids-first, proofs.EntryWrites.Avoids-behind, proofs.EntryWrites.Leads-kept, proofs.EntryWrites.claims-kept, proofs.EntryWrites.Leads-skip, proofs.EntryWrites.behind-within, proofs.PoolSteps.apart, proofs.PoolSteps.off, proofs.PoolSteps.off-claim, proofs.PoolSteps.Steps}
 
 abbrev pub left_ends : Ends → ℕ → ℕ → Ends
 left_ends l first n = record { first = first; len = n; end = l.end }

@@ -1,10 +1,7 @@
 -- The effect of writes to entries of the pool on the lists that are linked through it.
 use Rattle.std.proofs.Common.{ℕ, ◌≡◌, ◌≢◌, ◌<◌, ◌≤◌, List, [], ◌∷◌, ◌++◌, length, refl, sym, ap, ◌∙◌, subst, arith, suc, zero, set, cond, eq-eqb}
-use Rattle.std.specs.List.{remove}
-use Rattle.std.proofs.lemmas.List.{get_or-set_same, get_or-set_other}
-use Rattle.std.proofs.lemmas.Bool.{ne_eqb}
-use Rattle.batch_arbiter.specs.declared.entry.Entry.{Entry}
-use Rattle.batch_arbiter.specs.Linked.{nowhere, at, entry_claim, claims_from, EntryPart, with_part, LeadsThrough, Avoids, behind}
+use Rattle.std.{specs.List.remove, proofs.lemmas.List.get_or-set_same, proofs.lemmas.List.get_or-set_other, proofs.lemmas.Bool.ne_eqb}
+use Rattle.batch_arbiter.specs.{declared.entry.Entry.Entry, Linked.nowhere, Linked.at, Linked.entry_claim, Linked.claims_from, Linked.EntryPart, Linked.with_part, Linked.LeadsThrough, Linked.Avoids, Linked.behind}
 
 pub marked-same : (parts : ℕ → EntryPart) (i : ℕ) (part : EntryPart) → with_part parts i part i ≡ part
 marked-same parts i part = ap (λ b. cond b part (parts i)) (eq-eqb i i refl)

@@ -1,17 +1,7 @@
 -- One walk along a list: the claims of a batch behind its first one leave it, and the others stay.
 use Rattle.std.proofs.Common.{ℕ, ◌≡◌, ◌+◌, ◌-◌, ◌<◌, ◌≤◌, List, [], ◌∷◌, ◌++◌, length, get_or, take, drop, refl, sym, ap, ap₂, ◌∙◌, arith, suc, Bool, true, false, not, cond, filter, set, map, Some, None}
-use Rattle.std.specs.Prelude.{slice_get}
-use Rattle.std.specs.List.{remove}
-use Rattle.std.proofs.lemmas.List.{append_assoc, get_or_at, get_or-set_same, length-append, length-drop, length-map, length-set, length-take-le, nil_from_length, set-get_or, set-set, take-append-drop}
-use Rattle.std.proofs.lemmas.List.Edits.{remove-append_right}
-use Rattle.batch_arbiter.specs.declared.entry.Entry.{Entry}
-use Rattle.batch_arbiter.specs.declared.ends.Ends.{Ends}
-use Rattle.batch_arbiter.specs.Allocation.{Claim, asks_of, is_of_batch}
-use Rattle.batch_arbiter.specs.Linked.{Lists, list_at, with_list, at, no_list, ends_at, entry_claim, entry_claims, behind, AreLinkedLists, unlinked_behind}
-use Rattle.batch_arbiter.proofs.EntryRemoval.{left_ends}
-use Rattle.batch_arbiter.proofs.Calls.{length-claims, list-seen}
-use Rattle.batch_arbiter.proofs.ClaimSearch.{claims-behind}
-use Rattle.batch_arbiter.proofs.ClaimRemoval.{with_one_less, here-within, next-is, next-within, unlinks}
+use Rattle.std.{specs.Prelude.slice_get, specs.List.remove, proofs.lemmas.List.append_assoc, proofs.lemmas.List.get_or_at, proofs.lemmas.List.get_or-set_same, proofs.lemmas.List.length-append, proofs.lemmas.List.length-drop, proofs.lemmas.List.length-map, proofs.lemmas.List.length-set, proofs.lemmas.List.length-take-le, proofs.lemmas.List.nil_from_length, proofs.lemmas.List.set-get_or, proofs.lemmas.List.set-set, proofs.lemmas.List.take-append-drop, proofs.lemmas.List.Edits.remove-append_right}
+use Rattle.batch_arbiter.{specs.declared.entry.Entry.Entry, specs.declared.ends.Ends.Ends, specs.Allocation.Claim, specs.Allocation.asks_of, specs.Allocation.is_of_batch, specs.Linked.Lists, specs.Linked.list_at, specs.Linked.with_list, specs.Linked.at, specs.Linked.no_list, specs.Linked.ends_at, specs.Linked.entry_claim, specs.Linked.entry_claims, specs.Linked.behind, specs.Linked.AreLinkedLists, specs.Linked.unlinked_behind, proofs.EntryRemoval.left_ends, proofs.Calls.length-claims, proofs.Calls.list-seen, proofs.ClaimSearch.claims-behind, proofs.ClaimRemoval.with_one_less, proofs.ClaimRemoval.here-within, proofs.ClaimRemoval.next-is, proofs.ClaimRemoval.next-within, proofs.ClaimRemoval.unlinks}
 
 abbrev pub staying : ℕ → List Claim → List Claim
 staying batch claims = filter (λ c. not (is_of_batch batch c)) claims

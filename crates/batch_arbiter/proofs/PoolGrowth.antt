@@ -1,14 +1,7 @@
 -- A new pool, and the effect of one more free entry on a pool.
 use Rattle.std.proofs.Common.{ℕ, ◌≡◌, ◌≢◌, ◌+◌, ◌*◌, ◌<◌, ◌≤◌, ◌^◌, List, [], ◌∷◌, ◌++◌, length, refl, sym, ap, ◌∙◌, subst, arith, suc, zero, map, inl, inr, add-one}
-use Rattle.std.specs.Prelude.{sum_by, replicate}
-use Rattle.std.specs.List.{All}
-use Rattle.std.proofs.lemmas.List.{length-map, length_push, length-replicate, get_or-map, get_or-replicate, get_or_append_left, get_or_past, get_or_push, get_or_default, same_lists}
-use Rattle.std.proofs.lemmas.List.Sums.{sum_by-le}
-use Rattle.std.proofs.lemmas.Bool.{cases_lt}
-use Rattle.batch_arbiter.specs.declared.entry.Entry.{Entry}
-use Rattle.batch_arbiter.specs.declared.ends.Ends.{Ends}
-use Rattle.batch_arbiter.specs.Linked.{nowhere, at, no_list, ends_at, entry_claims, EntryPart, bottom, free, end_of, claim_in, with_part, LeadsThrough, Avoids, IsList, IsLinkedBy, AreLinkedLists, IsGrown}
-use Rattle.batch_arbiter.proofs.EntryWrites.{marked-same, marked-other, Edits, Avoids-past, Leads-kept, claims-kept}
+use Rattle.std.{specs.Prelude.sum_by, specs.Prelude.replicate, specs.List.All, proofs.lemmas.List.length-map, proofs.lemmas.List.length_push, proofs.lemmas.List.length-replicate, proofs.lemmas.List.get_or-map, proofs.lemmas.List.get_or-replicate, proofs.lemmas.List.get_or_append_left, proofs.lemmas.List.get_or_past, proofs.lemmas.List.get_or_push, proofs.lemmas.List.get_or_default, proofs.lemmas.List.same_lists, proofs.lemmas.List.Sums.sum_by-le, proofs.lemmas.Bool.cases_lt}
+use Rattle.batch_arbiter.{specs.declared.entry.Entry.Entry, specs.declared.ends.Ends.Ends, specs.Linked.nowhere, specs.Linked.at, specs.Linked.no_list, specs.Linked.ends_at, specs.Linked.entry_claims, specs.Linked.EntryPart, specs.Linked.bottom, specs.Linked.free, specs.Linked.end_of, specs.Linked.claim_in, specs.Linked.with_part, specs.Linked.LeadsThrough, specs.Linked.Avoids, specs.Linked.IsList, specs.Linked.IsLinkedBy, specs.Linked.AreLinkedLists, specs.Linked.IsGrown, proofs.EntryWrites.marked-same, proofs.EntryWrites.marked-other, proofs.EntryWrites.Edits, proofs.EntryWrites.Avoids-past, proofs.EntryWrites.Leads-kept, proofs.EntryWrites.claims-kept}
 
 module _ (es : List Entry) (e : Entry) where
   longer : length (es ++ e ∷ []) ≡ length es + 1

@@ -1,13 +1,7 @@
 -- The effect of joining and leaving a list on the pool as a whole.
 use Rattle.std.proofs.Common.{ℕ, ◌≡◌, ◌≢◌, ◌+◌, ◌<◌, List, [], ◌∷◌, ◌++◌, length, get_or, refl, sym, ap, ◌∙◌, subst, arith, suc, set, map, inl, inr}
-use Rattle.std.specs.Prelude.{sum_by}
-use Rattle.std.proofs.lemmas.List.{length-set, length-map, get_or-map, get_or-set_same, get_or-set_other, same_lists}
-use Rattle.std.proofs.lemmas.List.Sums.{sum_by-set}
-use Rattle.std.proofs.lemmas.Bool.{cases_eq}
-use Rattle.batch_arbiter.specs.declared.entry.Entry.{Entry}
-use Rattle.batch_arbiter.specs.declared.ends.Ends.{Ends}
-use Rattle.batch_arbiter.specs.Linked.{at, no_list, ends_at, entry_claim, entry_claims, EntryPart, bottom, free, end_of, claim_in, with_part, LeadsThrough, Avoids, IsList, IsLinkedBy}
-use Rattle.batch_arbiter.proofs.EntryWrites.{marked-same, marked-other, at-set_same, at-set_other, Edits, Avoids-other, Avoids-first, Leads-kept, claims-kept, Leads-push, claims-push}
+use Rattle.std.{specs.Prelude.sum_by, proofs.lemmas.List.length-set, proofs.lemmas.List.length-map, proofs.lemmas.List.get_or-map, proofs.lemmas.List.get_or-set_same, proofs.lemmas.List.get_or-set_other, proofs.lemmas.List.same_lists, proofs.lemmas.List.Sums.sum_by-set, proofs.lemmas.Bool.cases_eq}
+use Rattle.batch_arbiter.{specs.declared.entry.Entry.Entry, specs.declared.ends.Ends.Ends, specs.Linked.at, specs.Linked.no_list, specs.Linked.ends_at, specs.Linked.entry_claim, specs.Linked.entry_claims, specs.Linked.EntryPart, specs.Linked.bottom, specs.Linked.free, specs.Linked.end_of, specs.Linked.claim_in, specs.Linked.with_part, specs.Linked.LeadsThrough, specs.Linked.Avoids, specs.Linked.IsList, specs.Linked.IsLinkedBy, proofs.EntryWrites.marked-same, proofs.EntryWrites.marked-other, proofs.EntryWrites.at-set_same, proofs.EntryWrites.at-set_other, proofs.EntryWrites.Edits, proofs.EntryWrites.Avoids-other, proofs.EntryWrites.Avoids-first, proofs.EntryWrites.Leads-kept, proofs.EntryWrites.claims-kept, proofs.EntryWrites.Leads-push, proofs.EntryWrites.claims-push}
 
 map_here : {X Y : Type 0} (f g : X → Y) (xs : List X) (k i : ℕ) (x d : X) (y e : Y) → k < length xs → g x ≡ y → i ≡ k → get_or (map g (set xs k x)) i e ≡ get_or (set (map f xs) k y) i e
 map_here f g xs k i x d y e h here same =

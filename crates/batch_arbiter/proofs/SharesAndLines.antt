@@ -1,14 +1,7 @@
 -- The lists of the pool as shares and lines: the effect of an edit of one list on the allocation.
 use Rattle.std.proofs.Common.{ℕ, ◌≡◌, ◌≢◌, Bool, true, false, cond, find, refl, ◌+◌, ◌-◌, ◌<◌, ◌≤◌, ◌^◌, List, [], ◌∷◌, ◌++◌, length, drop, sym, ap, ◌∙◌, subst, arith, set, Some, None, inl, inr}
-use Rattle.std.specs.Prelude.{slice_index, replicate}
-use Rattle.std.specs.List.{All}
-use Rattle.std.proofs.lemmas.Bool.{cases_eq, leb-true}
-use Rattle.std.proofs.lemmas.List.{length-set, get_or-set_same, get_or-set_other, set-set, get_or-take, get_or-drop, take-set-le, drop-set-lt, drop-set-add, take-replicate, drop-replicate, length-replicate, get_or-replicate}
-use Rattle.std.proofs.lemmas.List.Sums.{sum_by_push, sum_by-cons}
-use Rattle.std.proofs.Math.Seq.{take-set-lt}
-use Rattle.batch_arbiter.specs.Allocation.{Claim, Allocation, is_claim, held_units, without_first, shares_at, line_of_asks, next_in, next_grant, units_claimed, handed_over, idle, after_ask, after_grant, after_pass, after_release}
-use Rattle.batch_arbiter.specs.Linked.{Lists, list_at, with_list, IsRemoved}
-use Rattle.batch_arbiter.specs.Standing.{pool_seen, StandsInPool}
+use Rattle.std.{specs.Prelude.slice_index, specs.Prelude.replicate, specs.List.All, proofs.lemmas.Bool.cases_eq, proofs.lemmas.Bool.leb-true, proofs.lemmas.List.length-set, proofs.lemmas.List.get_or-set_same, proofs.lemmas.List.get_or-set_other, proofs.lemmas.List.set-set, proofs.lemmas.List.get_or-take, proofs.lemmas.List.get_or-drop, proofs.lemmas.List.take-set-le, proofs.lemmas.List.drop-set-lt, proofs.lemmas.List.drop-set-add, proofs.lemmas.List.take-replicate, proofs.lemmas.List.drop-replicate, proofs.lemmas.List.length-replicate, proofs.lemmas.List.get_or-replicate, proofs.lemmas.List.Sums.sum_by_push, proofs.lemmas.List.Sums.sum_by-cons, proofs.Math.Seq.take-set-lt}
+use Rattle.batch_arbiter.specs.{Allocation.Claim, Allocation.Allocation, Allocation.is_claim, Allocation.held_units, Allocation.without_first, Allocation.shares_at, Allocation.line_of_asks, Allocation.next_in, Allocation.next_grant, Allocation.units_claimed, Allocation.handed_over, Allocation.idle, Allocation.after_ask, Allocation.after_grant, Allocation.after_pass, Allocation.after_release, Linked.Lists, Linked.list_at, Linked.with_list, Linked.IsRemoved, Standing.pool_seen, Standing.StandsInPool}
 
 pub shares-seen : (capacities : List ℕ) (p : Lists) (r : ℕ) → r < length capacities → shares_at (pool_seen capacities p) r ≡ list_at p r
 shares-seen capacities p r h = get_or-take (length capacities) p.lists r [] h

@@ -1,7 +1,6 @@
 -- The units of a class, one by one.
 use Rattle.std.proofs.Common.{◌≡◌, ℕ, suc, ◌+◌, ◌<◌, ◌≤◌, Bool, List, ◌∷◌, length, filter, get_or, take, drop, sym, ◌∙◌, ap, arith, add-one, drop-cons}
-use Rattle.std.proofs.lemmas.List.{length-take}
-use Rattle.std.proofs.lemmas.List.Sums.{length-filter, count_by-le-length}
+use Rattle.std.proofs.lemmas.List.{length-take, Sums.length-filter, Sums.count_by-le-length}
 use Rattle.batch_cell.specs.declared.unit.Unit.{Unit}
 
 cut : (units : List Unit) (number : ℕ) (u : Unit) → number < length units → u ≡ get_or units number u → drop number units ≡ u ∷ drop (number + 1) units

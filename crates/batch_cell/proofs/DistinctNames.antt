@@ -1,8 +1,6 @@
 -- Names that differ, put into an index one after another.
 use Rattle.std.proofs.Common.{◌≡◌, Bool, true, false, List, [], ◌∷◌, ◌++◌, refl, sym, ap, ◌∙◌, inl, inr, subst, append_assoc, append-nil}
-use Rattle.std.proofs.lemmas.Bool.{false≢true, or_cases}
-use Rattle.std.specs.Cmp.{IsEquivalence}
-use Rattle.std.specs.List.{AllByRecursion, IsDistinct, list_any}
+use Rattle.std.{proofs.lemmas.Bool.false≢true, proofs.lemmas.Bool.or_cases, specs.Cmp.IsEquivalence, specs.List.AllByRecursion, specs.List.IsDistinct, specs.List.list_any}
 use Rattle.indexmap.specs.IndexSet.{insert_all, insert_key}
 
 -- the front of names that differ

@@ -1,12 +1,7 @@
 -- The phases that the units of a cell offer.
 use Rattle.std.proofs.Common.{◌≡◌, ℕ, ◌*◌, ◌<◌, ◌≤◌, Bool, true, false, if◌then◌else◌, List, [], ◌∷◌, length, map, get_or, sym, ◌∙◌, ap, arith}
-use Rattle.std.proofs.lemmas.List.{length-append, length-map, get_or-map}
-use Rattle.std.specs.HashSet.{HashSet, keys}
-use Rattle.batch_cell.specs.Equipment.{belongs_to, unit_names, phases_for, unit_phases, offered_phases}
-use Rattle.batch_cell.specs.declared.module.TheConstants.{MAX_PHASES}
-use Rattle.batch_cell.specs.declared.unit.Unit.{Unit}
-use Rattle.batch_cell.specs.declared.module.Module.{Module}
-use Rattle.std.specs.Prelude.{None}
+use Rattle.std.{proofs.lemmas.List.length-append, proofs.lemmas.List.length-map, proofs.lemmas.List.get_or-map, specs.HashSet.HashSet, specs.HashSet.keys, specs.Prelude.None}
+use Rattle.batch_cell.specs.{Equipment.belongs_to, Equipment.unit_names, Equipment.phases_for, Equipment.unit_phases, Equipment.offered_phases, declared.module.TheConstants.MAX_PHASES, declared.unit.Unit.Unit, declared.module.Module.Module}
 
 phases_for_few : (unit : List ℕ) (b : Bool) (m : Module) → length (if b then m.phases.items else []) ≤ MAX_PHASES
 phases_for_few unit true m = m.few_phases

@@ -1,14 +1,7 @@
 -- The names of a cell's resources are among those that it declares.
 use Rattle.std.proofs.Common.{◌≡◌, ℕ, Bool, true, false, List, [], ◌∷◌, ◌++◌, map, filter, nat_eq, refl, sym, ap, ◌∙◌, subst, cond}
-use Rattle.std.proofs.lemmas.Map.Made.{IsDistinct-keys_filter}
-use Rattle.std.proofs.lemmas.List.Elements.{filter-append}
-use Rattle.std.specs.Cmp.Lexicographic.{pointwise}
-use Rattle.std.specs.List.{IsDistinct}
-use Rattle.std.specs.Map.{keys_of}
-use Rattle.batch_cell.specs.Equipment.{is_free, unit_names, resource_names, declared_names, IsDeclaredOnce}
-use Rattle.batch_cell.specs.declared.unit.Unit.{Unit}
-use Rattle.batch_cell.specs.declared.module.Module.{Module}
-use Rattle.batch_cell.specs.declared.shared.Shared.{Shared}
+use Rattle.std.{proofs.lemmas.Map.Made.IsDistinct-keys_filter, proofs.lemmas.List.Elements.filter-append, specs.Cmp.Lexicographic.pointwise, specs.List.IsDistinct, specs.Map.keys_of}
+use Rattle.batch_cell.specs.{Equipment.is_free, Equipment.unit_names, Equipment.resource_names, Equipment.declared_names, Equipment.IsDeclaredOnce, declared.unit.Unit.Unit, declared.module.Module.Module, declared.shared.Shared.Shared}
 
 -- names with a mark, and those that have it
 keys-marked : {X : Type 0} (f : X → List ℕ) (p : X → Bool) (xs : List X) → keys_of (map (λ x. (f x, p x)) xs) ≡ map f xs

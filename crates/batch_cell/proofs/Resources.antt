@@ -1,13 +1,7 @@
 -- The resources of a cell: how many there are, and their capacities.
 use Rattle.std.proofs.Common.{◌≡◌, ℕ, ◌+◌, ◌-◌, ◌<◌, ◌≤◌, Bool, List, ◌++◌, length, map, filter, get_or, replicate, slice_index, position, Some, None, sym, ◌∙◌, ap, arith}
-use Rattle.std.proofs.lemmas.List.{append_assoc, length-append, length-map, get_or-map, get_or_append_left, get_or-append_right}
-use Rattle.std.proofs.lemmas.List.{length-replicate, get_or-replicate}
-use Rattle.std.proofs.lemmas.List.Sums.{length-filter, count_by-le-length}
-use Rattle.batch_cell.proofs.Positions.{position_within_front, position_past_front, position_nowhere}
-use Rattle.batch_cell.specs.Equipment.{is_free, unit_names, resource_names, capacities}
-use Rattle.batch_cell.specs.declared.unit.Unit.{Unit}
-use Rattle.batch_cell.specs.declared.module.Module.{Module}
-use Rattle.batch_cell.specs.declared.shared.Shared.{Shared}
+use Rattle.std.proofs.lemmas.List.{append_assoc, length-append, length-map, get_or-map, get_or_append_left, get_or-append_right, length-replicate, get_or-replicate, Sums.length-filter, Sums.count_by-le-length}
+use Rattle.batch_cell.{proofs.Positions.position_within_front, proofs.Positions.position_past_front, proofs.Positions.position_nowhere, specs.Equipment.is_free, specs.Equipment.unit_names, specs.Equipment.resource_names, specs.Equipment.capacities, specs.declared.unit.Unit.Unit, specs.declared.module.Module.Module, specs.declared.shared.Shared.Shared}
 
 length-filter-le : {X : Type 0} (p : X → Bool) (xs : List X) → length (filter p xs) ≤ length xs
 length-filter-le p xs = omega (arith, length-filter p xs, count_by-le-length p xs)

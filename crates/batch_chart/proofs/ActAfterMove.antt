@@ -1,45 +1,14 @@
 -- The change of an act by each move.
 use Rattle.std.proofs.Common.{◌≡◌, ◌≢◌, ◌⊎◌, inl, inr, ◌<◌, ◌≤◌, ℕ, suc, pred, ◌+◌, List, length, Bool, true, false, arith, refl, sym, ◌∙◌, subst, ap, add-one, length-set}
 use Rattle.std.specs.Prelude.{slice_set}
-use Rattle.batch_matrix.specs.declared.state.State.{State}
-use Rattle.batch_matrix.specs.declared.state.State.TheVariants.{Running}
-use Rattle.batch_matrix.specs.declared.command.Command.{Command}
-use Rattle.batch_matrix.specs.Matrix.{target}
-use Rattle.batch_recipe.specs.Conditions.{ValueList}
-use Rattle.batch_recipe.specs.Tree.{Step, Task, runs, follows, Tree, act}
-use Rattle.batch_model.specs.Plant.{Batch}
-use Rattle.batch_model.specs.Moves.{freed, sent, released, ended, asked, granted}
-use Rattle.batch_model.specs.Events.{phase_after}
+use Rattle.batch_matrix.specs.{declared.state.State.State, declared.state.State.TheVariants.Running, declared.command.Command.Command, Matrix.target}
+use Rattle.batch_recipe.{specs.Conditions.ValueList, specs.Tree.Step, specs.Tree.Task, specs.Tree.runs, specs.Tree.follows, specs.Tree.Tree, specs.Tree.act, specs.declared.entry.Entry.Entry, proofs.NodeSubtrees.some_count, specs.declared.recipe.Recipe.Recipe}
+use Rattle.batch_model.specs.{Plant.Batch, Moves.freed, Moves.sent, Moves.released, Moves.ended, Moves.asked, Moves.granted, Events.phase_after, Rest.Rest, Rest.ready, Rest.open_act, Rest.live, Rest.freeing, Rest.changed_at, Rest.is_done, Settled.IsAdvanced}
 use Rattle.batch_matrix.specs.declared.report.PhaseEnd.TheVariants as phase
-use Rattle.batch_model.specs.Rest.{Rest, ready, open_act, live, freeing, changed_at, is_done}
-use Rattle.batch_model.specs.Settled.{IsAdvanced}
-use Rattle.batch_step_laws.proofs.RestsAfterChange.{RemainsAs, sent-remains, released-remains, ended-remains, begun-remains, now-remains}
-use Rattle.batch_step_laws.proofs.AdvancedRests.{reach-advanced}
-use Rattle.batch_recipe.specs.declared.entry.Entry.{Entry}
-use Rattle.batch_recipe.proofs.NodeSubtrees.{some_count}
-use Rattle.batch_chart.specs.declared.node.Kind.{Kind}
-use Rattle.batch_chart.specs.declared.node.Kind.TheVariants.{Act}
+use Rattle.batch_step_laws.proofs.{RestsAfterChange.RemainsAs, RestsAfterChange.sent-remains, RestsAfterChange.released-remains, RestsAfterChange.ended-remains, RestsAfterChange.begun-remains, RestsAfterChange.now-remains, AdvancedRests.reach-advanced}
+use Rattle.batch_chart.{specs.declared.node.Kind.Kind, specs.declared.node.Kind.TheVariants.Act, specs.declared.stage.Stage.Stage, specs.declared.stage.Stage.TheVariants.Ready, specs.declared.stage.Stage.TheVariants.Asking, specs.declared.stage.Stage.TheVariants.Open, specs.declared.stage.Stage.TheVariants.Live, specs.declared.stage.Stage.TheVariants.Freeing, specs.declared.chart_move.Move.Move, specs.Stages.stage_at, specs.Stages.is_finished, specs.Meaning.meaning, specs.Meaning.act_as, specs.Meaning.AgreeOutside, specs.Outlined.end_at, specs.Outlined.kind_at, specs.Outlined.is_act_kind, specs.Outlined.Stands, specs.Reaching.IsReached, specs.Freeing.IsFreed, specs.Freeing.HasFinished, specs.NodesOf.place_at, specs.Seen.machine_move, specs.Running.IsLaid, specs.Running.IsAlive, specs.Running.SomeLives, specs.Running.CanRelease, specs.Running.HasMore, specs.Running.Allows, specs.Running.HasMade, specs.Running.rest_after, specs.Running.IsChanged, specs.Running.IsChangedOnly, specs.Running.IsNodeLive, specs.Running.IsNodeAsking, proofs.TreePositions.stood, proofs.TreePositions.ActAt, proofs.TreePositions.act_at, proofs.TreePositions.act-at, proofs.TreePositions.some-stands, proofs.StageAgreement.stage-set_same, proofs.StageAgreement.stage-set_other, proofs.PathToRoot.as-many, proofs.PathToRoot.set-out, proofs.ChartChange.Fits, proofs.ChartChange.more-act, proofs.ChartChange.IsStep, proofs.ChartChange.IsCalm, proofs.ChartChange.IsGood, proofs.ChartChange.freed-step, proofs.ChartChange.freed-calm, proofs.ChartChange.set-step, proofs.ChartChange.set-calm, proofs.ChartChange.set-told, proofs.ChartChange.stepped, proofs.ChartChange.calmed, proofs.ChartChange.went, proofs.FinishedStages.told-finished, proofs.FinishedStages.told-part, specs.Told.AreTold, specs.ByValues.bare, specs.ByValues.begun_by, specs.ByValues.advance_by}
 use Rattle.batch_chart.specs.declared.node.Kind.TheVariants as kind
-use Rattle.batch_recipe.specs.declared.recipe.Recipe.{Recipe}
-use Rattle.batch_chart.specs.declared.stage.Stage.{Stage}
-use Rattle.batch_chart.specs.declared.stage.Stage.TheVariants.{Ready, Asking, Open, Live, Freeing}
-use Rattle.batch_chart.specs.declared.chart_move.Move.{Move}
 use Rattle.batch_chart.specs.declared.chart_move.Move.TheVariants as move
-use Rattle.batch_chart.specs.Stages.{stage_at, is_finished}
-use Rattle.batch_chart.specs.Meaning.{meaning, act_as, AgreeOutside}
-use Rattle.batch_chart.specs.Outlined.{end_at, kind_at, is_act_kind, Stands}
-use Rattle.batch_chart.specs.Reaching.{IsReached}
-use Rattle.batch_chart.specs.Freeing.{IsFreed, HasFinished}
-use Rattle.batch_chart.specs.NodesOf.{place_at}
-use Rattle.batch_chart.specs.Seen.{machine_move}
-use Rattle.batch_chart.specs.Running.{IsLaid, IsAlive, SomeLives, CanRelease, HasMore, Allows, HasMade, rest_after, IsChanged, IsChangedOnly, IsNodeLive, IsNodeAsking}
-use Rattle.batch_chart.proofs.TreePositions.{stood, ActAt, act_at, act-at, some-stands}
-use Rattle.batch_chart.proofs.StageAgreement.{stage-set_same, stage-set_other}
-use Rattle.batch_chart.proofs.PathToRoot.{as-many, set-out}
-use Rattle.batch_chart.proofs.ChartChange.{Fits, more-act, IsStep, IsCalm, IsGood, freed-step, freed-calm, set-step, set-calm, set-told, stepped, calmed, went}
-use Rattle.batch_chart.proofs.FinishedStages.{told-finished, told-part}
-use Rattle.batch_chart.specs.Told.{AreTold}
-use Rattle.batch_chart.specs.ByValues.{bare, begun_by, advance_by}
 
 same-remains : (a : Rest) → RemainsAs a a
 same-remains a s w h = h

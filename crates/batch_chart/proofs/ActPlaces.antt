@@ -1,14 +1,9 @@
 -- The places of acts after changes by which nothing is reached.
 use Rattle.std.proofs.Common.{◌≡◌, inl, inr, List, ◌∷◌, ◌++◌, Bool, true, false, map, refl, sym, ◌∙◌, ap, ap₂, ⊎_elim}
-use Rattle.std.specs.List.{list_any}
-use Rattle.std.proofs.lemmas.List.{map-append}
+use Rattle.std.{specs.List.list_any, proofs.lemmas.List.map-append}
 use Rattle.batch_recipe.specs.Tree.{Place}
-use Rattle.batch_model.specs.Lists.{Has}
-use Rattle.batch_model.specs.Plant.{is_act_reached}
-use Rattle.batch_model.specs.Rest.{same_place, Rest, ready, asking, open_act, live, freeing, in_seq, in_par, in_loop, done, Rests, no_rests, rest, acts, acts_of_each, place_of, changed_at, changed_in_each, withdrawn, withdrawn_each}
-use Rattle.batch_model.proofs.Members.{Has-split, Has-left, Has-right}
-use Rattle.batch_record_laws.proofs.HoldingsInAdvance.{StandsIn, any-place}
-use Rattle.batch_record_laws.proofs.EffectsOnActs.{Stays}
+use Rattle.batch_model.{specs.Lists.Has, specs.Plant.is_act_reached, specs.Rest.same_place, specs.Rest.Rest, specs.Rest.ready, specs.Rest.asking, specs.Rest.open_act, specs.Rest.live, specs.Rest.freeing, specs.Rest.in_seq, specs.Rest.in_par, specs.Rest.in_loop, specs.Rest.done, specs.Rest.Rests, specs.Rest.no_rests, specs.Rest.rest, specs.Rest.acts, specs.Rest.acts_of_each, specs.Rest.place_of, specs.Rest.changed_at, specs.Rest.changed_in_each, specs.Rest.withdrawn, specs.Rest.withdrawn_each, proofs.Members.Has-split, proofs.Members.Has-left, proofs.Members.Has-right}
+use Rattle.batch_record_laws.proofs.{HoldingsInAdvance.StandsIn, HoldingsInAdvance.any-place, EffectsOnActs.Stays}
 
 -- asks are withdrawn
 

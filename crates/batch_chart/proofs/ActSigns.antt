@@ -1,35 +1,10 @@
 -- Signs that go by the stages are those of the acts.
 use Rattle.std.proofs.Common.{◌≡◌, inl, inr, ◌<◌, ◌≤◌, ℕ, zero, suc, ◌+◌, List, [], ◌∷◌, ◌++◌, length, Bool, true, false, Some, None, nat_eq, arith, refl, sym, ◌∙◌, subst, ap}
-use Rattle.std.specs.Prelude.{Option, is_none, not}
-use Rattle.std.proofs.lemmas.Bool.{cases_lt}
-use Rattle.std.proofs.lemmas.Bool.Decides.{eqb_tells}
-use Rattle.std.proofs.lemmas.List.{get_or_past}
-use Rattle.batch_recipe.specs.Conditions.{Name}
-use Rattle.batch_recipe.specs.Nodes.{node_count}
-use Rattle.batch_recipe.specs.Tree.{Step, Phase, Task, runs, follows, Tree, act, skip, seq, par, sel, loop, Trees, no_trees, tree, Choices, otherwise, choice}
-use Rattle.batch_model.specs.Rest.{Rest, open_act, done, is_done, acts}
-use Rattle.batch_model.specs.Moves.{is_empty}
-use Rattle.batch_recipe.specs.declared.entry.Entry.{Entry}
-use Rattle.batch_recipe.specs.declared.recipe.Recipe.{Recipe}
-use Rattle.batch_recipe.proofs.NodeSubtrees.{some_count}
-use Rattle.batch_chart.specs.declared.stage.Stage.{Stage}
-use Rattle.batch_chart.specs.declared.stage.Stage.TheVariants.{Finished, Ready, Asking, Open, Live, Freeing, Turning}
-use Rattle.batch_chart.specs.Outlined.{Stands, StandsAct, AreStanding, AreChoices}
-use Rattle.batch_chart.specs.Meaning.{meaning, act_as}
-use Rattle.batch_chart.specs.Neat.{runs_below, AllFinished, IsLone, step_shows, shown_of, IsNeat, AreNeat}
-use Rattle.batch_chart.specs.Noting.{signs_of, open_signs, sign_in, AreNoted}
-use Rattle.batch_chart.specs.Numbered.{entries, entries_in, numbered, numbered_each, numbered_branch, numbered_chosen}
-use Rattle.batch_chart.specs.Running.{IsLaid, IsAlive}
+use Rattle.std.{specs.Prelude.Option, specs.Prelude.is_none, specs.Prelude.not, proofs.lemmas.Bool.cases_lt, proofs.lemmas.Bool.Decides.eqb_tells, proofs.lemmas.List.get_or_past}
+use Rattle.batch_recipe.{specs.Conditions.Name, specs.Nodes.node_count, specs.Tree.Step, specs.Tree.Phase, specs.Tree.Task, specs.Tree.runs, specs.Tree.follows, specs.Tree.Tree, specs.Tree.act, specs.Tree.skip, specs.Tree.seq, specs.Tree.par, specs.Tree.sel, specs.Tree.loop, specs.Tree.Trees, specs.Tree.no_trees, specs.Tree.tree, specs.Tree.Choices, specs.Tree.otherwise, specs.Tree.choice, specs.declared.entry.Entry.Entry, specs.declared.recipe.Recipe.Recipe, proofs.NodeSubtrees.some_count}
+use Rattle.batch_model.specs.{Rest.Rest, Rest.open_act, Rest.done, Rest.is_done, Rest.acts, Moves.is_empty}
+use Rattle.batch_chart.{specs.declared.stage.Stage.Stage, specs.declared.stage.Stage.TheVariants.Finished, specs.declared.stage.Stage.TheVariants.Ready, specs.declared.stage.Stage.TheVariants.Asking, specs.declared.stage.Stage.TheVariants.Open, specs.declared.stage.Stage.TheVariants.Live, specs.declared.stage.Stage.TheVariants.Freeing, specs.declared.stage.Stage.TheVariants.Turning, specs.Outlined.Stands, specs.Outlined.StandsAct, specs.Outlined.AreStanding, specs.Outlined.AreChoices, specs.Meaning.meaning, specs.Meaning.act_as, specs.Neat.runs_below, specs.Neat.AllFinished, specs.Neat.IsLone, specs.Neat.step_shows, specs.Neat.shown_of, specs.Neat.IsNeat, specs.Neat.AreNeat, specs.Noting.signs_of, specs.Noting.open_signs, specs.Noting.sign_in, specs.Noting.AreNoted, specs.Numbered.entries, specs.Numbered.entries_in, specs.Numbered.numbered, specs.Numbered.numbered_each, specs.Numbered.numbered_branch, specs.Numbered.numbered_chosen, specs.Running.IsLaid, specs.Running.IsAlive, specs.Stages.stage_at, specs.Stages.is_finished, specs.Stages.is_begun, specs.Stages.turns_of, specs.Told.AreTold, proofs.TreeAdvance.finished-stage, proofs.MoveKinds.empty-done, proofs.NeatCharts.finished-shows, proofs.NeatCharts.neat-part, proofs.NeatCharts.neat-finished, proofs.SignSearch.RiseIn, proofs.SignSearch.rise, proofs.SignSearch.rise-each, proofs.SignSearch.rise-branch, proofs.SignSearch.rise-chosen, proofs.SignSearch.sign-before, proofs.SignSearch.sign-here, proofs.SignSearch.sign-other, proofs.TreePositions.stood, proofs.TreePositions.stood-each, proofs.TreePositions.stood-choices, proofs.TreePositions.some-stands, proofs.TreePositions.some-each, proofs.TreePositions.some-choices, proofs.TreePositions.nested, proofs.ChartChange.all-told, proofs.FinishedStages.told-part}
 use Rattle.batch_signs.specs.Signs.{sign_at}
-use Rattle.batch_chart.specs.Stages.{stage_at, is_finished, is_begun, turns_of}
-use Rattle.batch_chart.specs.Told.{AreTold}
-use Rattle.batch_chart.proofs.TreeAdvance.{finished-stage}
-use Rattle.batch_chart.proofs.MoveKinds.{empty-done}
-use Rattle.batch_chart.proofs.NeatCharts.{finished-shows, neat-part, neat-finished}
-use Rattle.batch_chart.proofs.SignSearch.{RiseIn, rise, rise-each, rise-branch, rise-chosen, sign-before, sign-here, sign-other}
-use Rattle.batch_chart.proofs.TreePositions.{stood, stood-each, stood-choices, some-stands, some-each, some-choices, nested}
-use Rattle.batch_chart.proofs.ChartChange.{all-told}
-use Rattle.batch_chart.proofs.FinishedStages.{told-part}
 
 -- past the last number nothing is shown
 pub sign-after : (k n m : ℕ) (l : List (ℕ × Rest)) (none : ℕ) → RiseIn n m l → m ≤ k → sign_in k l none ≡ none

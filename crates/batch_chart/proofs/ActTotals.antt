@@ -1,21 +1,9 @@
 -- How much the acts that are reached at once have together, counted along the nodes.
 use Rattle.std.proofs.Common.{◌≡◌, ◌≢◌, ◌<◌, ◌≤◌, ◌∙◌, ℕ, ◌+◌, List, Bool, true, false, length, arith, sym, ap, subst}
 use Rattle.std.specs.Prelude.{max}
-use Rattle.batch_recipe.specs.Nodes.{node_count}
-use Rattle.batch_recipe.specs.Tree.{Step, Phase, Task, runs, follows, Tree, act, skip, seq, par, sel, loop, Trees, no_trees, tree, Choices, otherwise, choice}
-use Rattle.batch_recipe.specs.Conditions.{Name}
-use Rattle.batch_recipe.specs.declared.entry.Entry.{Entry}
-use Rattle.batch_recipe.specs.declared.recipe.Recipe.{Recipe}
-use Rattle.batch_recipe.proofs.NodeSubtrees.{some_count}
-use Rattle.batch_chart.specs.Most.{AreFew, Counted, Needs, Units, count_of, is_par, joined, most_of, own_by, own_of}
-use Rattle.batch_chart.specs.declared.most.TheConstants.{NONE}
-use Rattle.batch_chart.specs.NodesOf.{most_by, most_of_chosen, most_of_one}
-use Rattle.batch_chart.specs.Outlined.{end_at, kind_at, Stands, AreStanding, AreChoices}
-use Rattle.batch_chart.specs.Running.{IsLaid}
-use Rattle.batch_chart.specs.declared.node.Kind.{Kind}
-use Rattle.batch_chart.specs.declared.node.Kind.TheVariants.{Skip, Act, Seq, Par, Sel, Loop}
+use Rattle.batch_recipe.{specs.Nodes.node_count, specs.Tree.Step, specs.Tree.Phase, specs.Tree.Task, specs.Tree.runs, specs.Tree.follows, specs.Tree.Tree, specs.Tree.act, specs.Tree.skip, specs.Tree.seq, specs.Tree.par, specs.Tree.sel, specs.Tree.loop, specs.Tree.Trees, specs.Tree.no_trees, specs.Tree.tree, specs.Tree.Choices, specs.Tree.otherwise, specs.Tree.choice, specs.Conditions.Name, specs.declared.entry.Entry.Entry, specs.declared.recipe.Recipe.Recipe, proofs.NodeSubtrees.some_count}
+use Rattle.batch_chart.{specs.Most.AreFew, specs.Most.Counted, specs.Most.Needs, specs.Most.Units, specs.Most.count_of, specs.Most.is_par, specs.Most.joined, specs.Most.most_of, specs.Most.own_by, specs.Most.own_of, specs.declared.most.TheConstants.NONE, specs.NodesOf.most_by, specs.NodesOf.most_of_chosen, specs.NodesOf.most_of_one, specs.Outlined.end_at, specs.Outlined.kind_at, specs.Outlined.Stands, specs.Outlined.AreStanding, specs.Outlined.AreChoices, specs.Running.IsLaid, specs.declared.node.Kind.Kind, specs.declared.node.Kind.TheVariants.Skip, specs.declared.node.Kind.TheVariants.Act, specs.declared.node.Kind.TheVariants.Seq, specs.declared.node.Kind.TheVariants.Par, specs.declared.node.Kind.TheVariants.Sel, specs.declared.node.Kind.TheVariants.Loop, proofs.TreePositions.stood, proofs.TreePositions.RowAt, proofs.TreePositions.row_at, proofs.TreePositions.row-at, proofs.TreePositions.row-end}
 use Rattle.batch_chart.specs.declared.node.Kind.TheVariants as kind
-use Rattle.batch_chart.proofs.TreePositions.{stood, RowAt, row_at, row-at, row-end}
 
 -- Counts
 

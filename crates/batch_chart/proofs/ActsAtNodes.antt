@@ -1,27 +1,11 @@
 -- Each act of a rest of a tree is the act of one of the tree's nodes.
 use Rattle.std.proofs.Common.{◌≡◌, ◌⊎◌, inl, inr, ◌<◌, ℕ, ◌+◌, List, [], ◌∷◌, ◌++◌, length, Some, true, false, arith, refl, sym, ◌∙◌, subst, ap}
 use Rattle.std.specs.Prelude.{slice_get}
-use Rattle.batch_recipe.specs.Needs.{resources_needed}
-use Rattle.batch_recipe.specs.Conditions.{Name}
+use Rattle.batch_recipe.{specs.Needs.resources_needed, specs.Conditions.Name, specs.Nodes.Node, specs.Nodes.node, specs.Nodes.nodes_of_each, specs.Nodes.nodes_of_choices, specs.Nodes.child, specs.Nodes.node_count, specs.Tree.Place, specs.Tree.is_before, specs.Tree.Step, specs.Tree.Task, specs.Tree.runs, specs.Tree.follows, specs.Tree.Tree, specs.Tree.act, specs.Tree.skip, specs.Tree.seq, specs.Tree.par, specs.Tree.sel, specs.Tree.loop, specs.Tree.Trees, specs.Tree.no_trees, specs.Tree.tree, specs.Tree.Choices, specs.Tree.otherwise, specs.Tree.choice, proofs.NodeOrder.counted_nodes, proofs.NodeOrder.in_order, proofs.NodesBelow.in_front}
 use Rattle.batch_recipe.specs.Nodes as nodes
-use Rattle.batch_recipe.specs.Nodes.{Node, node, nodes_of_each, nodes_of_choices, child, node_count}
-use Rattle.batch_recipe.specs.Tree.{Place, is_before, Step, Task, runs, follows, Tree, act, skip, seq, par, sel, loop, Trees, no_trees, tree, Choices, otherwise, choice}
-use Rattle.batch_recipe.proofs.NodeOrder.{counted_nodes, in_order}
-use Rattle.batch_recipe.proofs.NodesBelow.{in_front}
-use Rattle.batch_model.specs.Lists.{Has}
-use Rattle.batch_model.specs.Placed.{IsPlaced, ArePlaced, IsChoicePlaced}
-use Rattle.batch_model.specs.Rest.{Rest, ready, asking, open_act, live, freeing, in_seq, in_par, in_loop, done, Rests, no_rests, rest, acts, acts_of_each, place_of}
-use Rattle.batch_model.specs.Standing.{IsRestOf, IsBranch, AreBranches, IsChosen}
-use Rattle.batch_model.proofs.Members.{Has-split}
-use Rattle.batch_chart.specs.NodesOf.{nodes_of, node_at, place_at, step_at, task_at, tree_step, tree_task}
-use Rattle.batch_chart.proofs.NodeNumbers.{Sits, sits-append, sits-self}
-use Rattle.batch_chart.proofs.ChartChange.{all-has}
-use Rattle.batch_chart.proofs.NodesAtNumbers.{get-or}
-use Rattle.batch_chart.specs.declared.sign.TheConstants.{IS_ACT}
-use Rattle.batch_chart.specs.Noting.{signs_of}
+use Rattle.batch_model.{specs.Lists.Has, specs.Placed.IsPlaced, specs.Placed.ArePlaced, specs.Placed.IsChoicePlaced, specs.Rest.Rest, specs.Rest.ready, specs.Rest.asking, specs.Rest.open_act, specs.Rest.live, specs.Rest.freeing, specs.Rest.in_seq, specs.Rest.in_par, specs.Rest.in_loop, specs.Rest.done, specs.Rest.Rests, specs.Rest.no_rests, specs.Rest.rest, specs.Rest.acts, specs.Rest.acts_of_each, specs.Rest.place_of, specs.Standing.IsRestOf, specs.Standing.IsBranch, specs.Standing.AreBranches, specs.Standing.IsChosen, proofs.Members.Has-split}
+use Rattle.batch_chart.{specs.NodesOf.nodes_of, specs.NodesOf.node_at, specs.NodesOf.place_at, specs.NodesOf.step_at, specs.NodesOf.task_at, specs.NodesOf.tree_step, specs.NodesOf.tree_task, proofs.NodeNumbers.Sits, proofs.NodeNumbers.sits-append, proofs.NodeNumbers.sits-self, proofs.ChartChange.all-has, proofs.NodesAtNumbers.get-or, specs.declared.sign.TheConstants.IS_ACT, specs.Noting.signs_of, proofs.NumberedActs.acts-all, proofs.NumberedActs.AllActs, proofs.TreePositions.below-get}
 use Rattle.batch_signs.specs.Signs.{shows}
-use Rattle.batch_chart.proofs.NumberedActs.{acts-all, AllActs}
-use Rattle.batch_chart.proofs.TreePositions.{below-get}
 
 pub record IsActOf (ls : List Node) (a : Rest) : Type 0 where
   pub number : ℕ

@@ -1,22 +1,11 @@
 -- All acts of a tree are those of its nodes, so that a place finds the act of its node.
 use Rattle.std.proofs.Common.{◌≡◌, ℕ, zero, suc, ◌+◌, List, [], ◌∷◌, ◌++◌, Bool, true, false, Some, None, refl, sym, ◌∙◌, subst, ap, ap₂}
-use Rattle.std.specs.Prelude.{Option, find, slice_get}
-use Rattle.std.specs.List.{filter_map, cons_option, AllByRecursion}
-use Rattle.std.proofs.Math.Bool.{cond}
-use Rattle.std.proofs.lemmas.List.Elements.{filter_map-append}
-use Rattle.batch_matrix.specs.declared.state.State.{State}
-use Rattle.batch_matrix.specs.declared.state.State.TheVariants.{Idle}
-use Rattle.batch_recipe.specs.Conditions.{Name}
-use Rattle.batch_recipe.specs.Needs.{resources_needed}
+use Rattle.std.{specs.Prelude.Option, specs.Prelude.find, specs.Prelude.slice_get, specs.List.filter_map, specs.List.cons_option, specs.List.AllByRecursion, proofs.Math.Bool.cond, proofs.lemmas.List.Elements.filter_map-append}
+use Rattle.batch_matrix.specs.declared.state.State.{State, TheVariants.Idle}
+use Rattle.batch_recipe.specs.{Conditions.Name, Needs.resources_needed, Nodes.nodes_within, Nodes.nodes_of_each, Nodes.nodes_of_choices, Nodes.child, Places.AreInOrder, Tree.Place, Tree.is_before, Tree.Step, Tree.Task, Tree.runs, Tree.follows, Tree.Tree, Tree.act, Tree.skip, Tree.seq, Tree.par, Tree.sel, Tree.loop, Tree.Trees, Tree.no_trees, Tree.tree, Tree.Choices, Tree.otherwise, Tree.choice}
 use Rattle.batch_recipe.specs.Nodes as nodes
-use Rattle.batch_recipe.specs.Nodes.{nodes_within, nodes_of_each, nodes_of_choices, child}
-use Rattle.batch_recipe.specs.Places.{AreInOrder}
-use Rattle.batch_recipe.specs.Tree.{Place, is_before, Step, Task, runs, follows, Tree, act, skip, seq, par, sel, loop, Trees, no_trees, tree, Choices, otherwise, choice}
-use Rattle.batch_model.specs.ActStates.{steps, steps_below, steps_of_each, steps_of_choices}
-use Rattle.batch_model.specs.Lists.{Each}
-use Rattle.batch_model.specs.Rest.{same_place}
-use Rattle.batch_chart.proofs.NodeNumbers.{all-get, not-same, before-differ, same-itself}
-use Rattle.batch_chart.proofs.FirstInLine.{CarriesPlace}
+use Rattle.batch_model.specs.{ActStates.steps, ActStates.steps_below, ActStates.steps_of_each, ActStates.steps_of_choices, Lists.Each, Rest.same_place}
+use Rattle.batch_chart.proofs.{NodeNumbers.all-get, NodeNumbers.not-same, NodeNumbers.before-differ, NodeNumbers.same-itself, FirstInLine.CarriesPlace}
 
 abbrev pub own_step : Tree → Option Step
 own_step (act s w) = Some s

@@ -1,12 +1,7 @@
 -- A change by which nothing is finished leaves nothing to go on with.
 use Rattle.std.proofs.Common.{◌≡◌, inl, inr, ℕ, zero, suc, List, Bool, true, false, ◌&&◌, refl, ◌∙◌, ap, ap₂}
-use Rattle.batch_recipe.specs.Conditions.{holds}
-use Rattle.batch_recipe.specs.declared.condition.Cond.{Cond}
-use Rattle.batch_recipe.specs.Tree.{Place, Tree}
-use Rattle.batch_model.specs.Lists.{Has}
-use Rattle.batch_model.specs.Rest.{same_place, Rest, Moment, ready, asking, open_act, live, freeing, in_seq, in_par, in_loop, done, Rests, no_rests, rest, acts, acts_of_each, changed_at, changed_in_each, is_done, all_done, joined, continued, turned, turning, reach, reach_first, advance, advance_each, place_of}
-use Rattle.batch_model.specs.Settled.{IsAdvanced, AreAdvanced}
-use Rattle.batch_model.proofs.Members.{Has-left, Has-right}
+use Rattle.batch_recipe.specs.{Conditions.holds, declared.condition.Cond.Cond, Tree.Place, Tree.Tree}
+use Rattle.batch_model.{specs.Lists.Has, specs.Rest.same_place, specs.Rest.Rest, specs.Rest.Moment, specs.Rest.ready, specs.Rest.asking, specs.Rest.open_act, specs.Rest.live, specs.Rest.freeing, specs.Rest.in_seq, specs.Rest.in_par, specs.Rest.in_loop, specs.Rest.done, specs.Rest.Rests, specs.Rest.no_rests, specs.Rest.rest, specs.Rest.acts, specs.Rest.acts_of_each, specs.Rest.changed_at, specs.Rest.changed_in_each, specs.Rest.is_done, specs.Rest.all_done, specs.Rest.joined, specs.Rest.continued, specs.Rest.turned, specs.Rest.turning, specs.Rest.reach, specs.Rest.reach_first, specs.Rest.advance, specs.Rest.advance_each, specs.Rest.place_of, specs.Settled.IsAdvanced, specs.Settled.AreAdvanced, proofs.Members.Has-left, proofs.Members.Has-right}
 use Rattle.batch_step_laws.proofs.WorkAfterChange.{to_same_place}
 use Rattle.batch_chart.proofs.KnownTests.{chosen-false}
 

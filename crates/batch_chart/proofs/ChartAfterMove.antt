@@ -1,19 +1,8 @@
 -- A move or a report, and the taking over after it, keep a chart in order; the needs held in advance after a move.
 use Rattle.std.proofs.Common.{◌≡◌, ◌<◌, ℕ, List, ◌∷◌, length, Bool, true, false, arith, inl, inr, refl, sym, ◌∙◌, subst}
-use Rattle.batch_recipe.specs.Tree.{Tree}
-use Rattle.batch_recipe.specs.declared.entry.Entry.{Entry}
-use Rattle.batch_recipe.specs.declared.recipe.Recipe.{Recipe}
-use Rattle.batch_chart.specs.declared.chart_move.Move.{Move}
+use Rattle.batch_recipe.specs.{Tree.Tree, declared.entry.Entry.Entry, declared.recipe.Recipe.Recipe}
+use Rattle.batch_chart.{specs.declared.chart_move.Move.Move, specs.declared.passed.Passed.Passed, specs.declared.stage.Stage.Stage, specs.Early.AreHeld, specs.Early.PassesWithin, specs.Early.held_after, specs.Early.is_early, specs.Nexts.IsInOrder, specs.Running.Allows, specs.Running.IsLaid, specs.Running.IsAlive, specs.Upkeep.IsKeptUp, proofs.KnownTests.chosen-true, proofs.KnownTests.chosen-false, proofs.ActSigns.noted, proofs.ChartChange.all-told}
 use Rattle.batch_chart.specs.declared.chart_move.Move.TheVariants as move
-use Rattle.batch_chart.specs.declared.passed.Passed.{Passed}
-use Rattle.batch_chart.specs.declared.stage.Stage.{Stage}
-use Rattle.batch_chart.specs.Early.{AreHeld, PassesWithin, held_after, is_early}
-use Rattle.batch_chart.specs.Nexts.{IsInOrder}
-use Rattle.batch_chart.specs.Running.{Allows, IsLaid, IsAlive}
-use Rattle.batch_chart.specs.Upkeep.{IsKeptUp}
-use Rattle.batch_chart.proofs.KnownTests.{chosen-true, chosen-false}
-use Rattle.batch_chart.proofs.ActSigns.{noted}
-use Rattle.batch_chart.proofs.ChartChange.{all-told}
 
 pub passes-within : (ns : List Entry) (xs : List Stage) (m : Move) (n : ℕ) → Allows ns xs m → n ≡ length ns → PassesWithin n m
 passes-within ns xs (move.Pass k to i) n a e = omega (arith, a.1, e)

@@ -1,51 +1,13 @@
 -- The change of the whole chart by a change of one act.
 use Rattle.std.proofs.Common.{◌≡◌, ◌≢◌, ◌⊎◌, inl, inr, ◌<◌, ◌≤◌, ℕ, zero, suc, ◌+◌, List, [], ◌∷◌, length, Bool, true, false, nat_eq, arith, refl, sym, ◌∙◌, subst, ap, length-set}
 use Rattle.std.specs.Prelude.{slice_set}
-use Rattle.batch_recipe.specs.Conditions.{ValueList}
-use Rattle.batch_recipe.specs.Nodes.{node_count, count_within}
-use Rattle.batch_recipe.specs.Tree.{Place, Step, Task, runs, follows, Tree, act, skip, sel, loop}
-use Rattle.batch_recipe.proofs.NodeOrder.{in_order}
-use Rattle.batch_model.specs.Lists.{Has}
-use Rattle.batch_model.specs.Rest.{same_place, Rest, Moment, advance, ready, asking, open_act, live, freeing, in_seq, in_par, in_loop, done, Rests, no_rests, rest, acts, acts_of_each, changed_at, is_done, place_of}
-use Rattle.batch_model.specs.Settled.{IsAdvanced, AreAdvanced}
-use Rattle.batch_model.specs.Standing.{IsRestOf}
-use Rattle.batch_step_laws.proofs.AdvancedRests.{advance-advanced}
-use Rattle.batch_step_laws.proofs.RestsAfterChange.{RemainsAs, changed_at-IsRestOf}
-use Rattle.batch_model.proofs.Members.{Has-split}
-use Rattle.batch_step_laws.proofs.NodesOfRests.{advance-IsRestOf}
-use Rattle.batch_recipe.specs.declared.entry.Entry.{Entry}
-use Rattle.batch_recipe.proofs.NodeSubtrees.{some_count}
-use Rattle.batch_chart.specs.declared.node.Kind.{Kind}
-use Rattle.batch_chart.specs.declared.node.Kind.TheVariants.{Act}
+use Rattle.batch_recipe.{specs.Conditions.ValueList, specs.Nodes.node_count, specs.Nodes.count_within, specs.Tree.Place, specs.Tree.Step, specs.Tree.Task, specs.Tree.runs, specs.Tree.follows, specs.Tree.Tree, specs.Tree.act, specs.Tree.skip, specs.Tree.sel, specs.Tree.loop, proofs.NodeOrder.in_order, specs.declared.entry.Entry.Entry, proofs.NodeSubtrees.some_count, specs.declared.recipe.Recipe.Recipe}
+use Rattle.batch_model.{specs.Lists.Has, specs.Rest.same_place, specs.Rest.Rest, specs.Rest.Moment, specs.Rest.advance, specs.Rest.ready, specs.Rest.asking, specs.Rest.open_act, specs.Rest.live, specs.Rest.freeing, specs.Rest.in_seq, specs.Rest.in_par, specs.Rest.in_loop, specs.Rest.done, specs.Rest.Rests, specs.Rest.no_rests, specs.Rest.rest, specs.Rest.acts, specs.Rest.acts_of_each, specs.Rest.changed_at, specs.Rest.is_done, specs.Rest.place_of, specs.Settled.IsAdvanced, specs.Settled.AreAdvanced, specs.Standing.IsRestOf, proofs.Members.Has-split}
+use Rattle.batch_step_laws.proofs.{AdvancedRests.advance-advanced, RestsAfterChange.RemainsAs, RestsAfterChange.changed_at-IsRestOf, NodesOfRests.advance-IsRestOf}
+use Rattle.batch_chart.{specs.declared.node.Kind.Kind, specs.declared.node.Kind.TheVariants.Act, specs.declared.stage.Stage.Stage, specs.declared.stage.Stage.TheVariants.Freeing, specs.Stages.stage_at, specs.Stages.is_finished, specs.Meaning.meaning, specs.Meaning.meaning_below, specs.Meaning.act_as, specs.Meaning.AgreeOutside, specs.Outlined.end_at, specs.Outlined.kind_at, specs.Outlined.is_act_kind, specs.Outlined.Stands, specs.Advancing.HasAdvanced, specs.Numbered.numbered, specs.NodesOf.nodes_of, specs.NodesOf.node_at, specs.NodesOf.place_at, specs.Running.HasMore, specs.Running.IsLaid, specs.Running.IsAlive, proofs.TreePositions.stood, proofs.TreePositions.some-stands, proofs.StageAgreement.stage-set_same, proofs.StageAgreement.stage-set_other, proofs.StageAgreement.meaning_below-agree, proofs.ReachedTree.within-set, specs.declared.sign.TheConstants.IS_ACT, specs.Noting.signs_of, specs.Needs.needs_of_kind, proofs.NumberedActs.numbered-acts, proofs.NumberedActs.acts-all, proofs.NumberedActs.AllActs, proofs.NodeNumbers.sits-self, proofs.NodeNumbers.same-itself, proofs.NodeNumbers.told, proofs.NodeNumbers.marked, proofs.NodeNumbers.IsEntryOf, proofs.NodeNumbers.entry-of, proofs.StageChange.meaning-changed, proofs.CalmChanges.advanced-still, proofs.CalmChanges.changed-advanced, proofs.NodesAtNumbers.node-got, proofs.NodesAtNumbers.node-stands, proofs.TreeLikeness.told-whichever, proofs.TreeLikeness.told-after, proofs.FinishedStages.nests, proofs.FinishedStages.nests-below, proofs.FinishedStages.told-part, proofs.FinishedStages.told-one, proofs.FinishedStages.told-same, specs.Told.TellsWhetherOver, specs.Told.AreTold, specs.ByValues.bare, specs.ByValues.advance_by}
 use Rattle.batch_chart.specs.declared.node.Kind.TheVariants as kind
-use Rattle.batch_recipe.specs.declared.recipe.Recipe.{Recipe}
-use Rattle.batch_chart.specs.declared.stage.Stage.{Stage}
-use Rattle.batch_chart.specs.declared.stage.Stage.TheVariants.{Freeing}
-use Rattle.batch_chart.specs.Stages.{stage_at, is_finished}
-use Rattle.batch_chart.specs.Meaning.{meaning, meaning_below, act_as, AgreeOutside}
-use Rattle.batch_chart.specs.Outlined.{end_at, kind_at, is_act_kind, Stands}
-use Rattle.batch_chart.specs.Advancing.{HasAdvanced}
-use Rattle.batch_chart.specs.Numbered.{numbered}
-use Rattle.batch_chart.specs.NodesOf.{nodes_of, node_at, place_at}
-use Rattle.batch_chart.specs.Running.{HasMore, IsLaid, IsAlive}
-use Rattle.batch_chart.proofs.TreePositions.{stood, some-stands}
-use Rattle.batch_chart.proofs.StageAgreement.{stage-set_same, stage-set_other, meaning_below-agree}
-use Rattle.batch_chart.proofs.ReachedTree.{within-set}
-use Rattle.batch_chart.specs.declared.sign.TheConstants.{IS_ACT}
-use Rattle.batch_chart.specs.Noting.{signs_of}
-use Rattle.batch_signs.specs.Signs.{shows}
-use Rattle.batch_chart.specs.Needs.{needs_of_kind}
-use Rattle.batch_chart.proofs.NumberedActs.{numbered-acts, acts-all, AllActs}
-use Rattle.batch_chart.proofs.NodeNumbers.{sits-self, same-itself, told, marked, IsEntryOf, entry-of}
-use Rattle.batch_chart.proofs.StageChange.{meaning-changed}
-use Rattle.batch_chart.proofs.CalmChanges.{advanced-still, changed-advanced}
-use Rattle.batch_chart.proofs.NodesAtNumbers.{node-got, node-stands}
-use Rattle.batch_chart.proofs.TreeLikeness.{told-whichever, told-after}
-use Rattle.batch_chart.proofs.FinishedStages.{nests, nests-below, told-part, told-one, told-same}
-use Rattle.batch_chart.specs.Told.{TellsWhetherOver, AreTold}
-use Rattle.batch_chart.specs.ByValues.{bare, advance_by}
+use Rattle.batch_signs.{specs.Signs.shows, proofs.Bits.nat-same}
 use Rattle.batch_record_laws.proofs.Members.{Has-map}
-use Rattle.batch_signs.proofs.Bits.{nat-same}
 
 -- acts
 

@@ -1,46 +1,13 @@
 -- A running chart goes on as its batch does, with the units that the batch holds in advance.
 use Rattle.std.proofs.Common.{◌≡◌, ◌⊎◌, inl, inr, ◌<◌, ℕ, List, [], ◌∷◌, length, filter, Bool, true, false, Some, nat_eq, arith, refl, sym, ◌∙◌, subst, ap}
-use Rattle.std.specs.Prelude.{not}
-use Rattle.batch_record_laws.proofs.Entries.{Has-filter}
-use Rattle.batch_chart.specs.Noting.{AreNoted}
-use Rattle.batch_matrix.specs.declared.report.PhaseEnd.{PhaseEnd}
-use Rattle.batch_matrix.specs.declared.report.Report.{Report}
-use Rattle.batch_matrix.specs.declared.state.State.{State}
-use Rattle.batch_matrix.specs.Matrix.{after_report}
-use Rattle.batch_recipe.specs.Conditions.{ValueList}
-use Rattle.batch_recipe.specs.Nodes.{node_count}
-use Rattle.batch_recipe.specs.Tree.{Tree}
-use Rattle.batch_recipe.specs.declared.entry.Entry.{Entry}
-use Rattle.batch_recipe.specs.declared.recipe.Recipe.{Recipe}
-use Rattle.batch_model.specs.Events.{phase_after}
-use Rattle.batch_model.specs.Lists.{Has}
+use Rattle.std.specs.{Prelude.not, VecDeque.deque_capacity}
+use Rattle.batch_record_laws.proofs.{Entries.Has-filter, HoldingsInAdvance.at_moment, HoldingsInAdvance.Nowhere, HoldingsInAdvance.raised, HoldingsInAdvance.IsFresh, HoldingsInAdvance.moved-raised, HoldingsInAdvance.not_reached, HoldingsInAdvance.reached-at, HoldingsInAdvance.fresh-where-none, EffectsOnActs.stays-steady, EffectsOnActs.stays-tidy, EffectsOnActs.granted-stays, EffectsOnActs.phase_after-stays}
+use Rattle.batch_chart.{specs.Noting.AreNoted, specs.ByValues.advance_by, specs.Charts.Awaits, specs.Charts.IsChartOf, specs.Charts.IsRunningOf, specs.Charts.RunsAs, specs.Early.AreHeld, specs.Early.held_after, specs.Early.in_advance, specs.Early.is_early, specs.Early.is_ready, specs.Early.still_held, specs.Early.IsTakenBy, specs.Early.IsMovedOn, specs.Early.IsReportedOn, specs.declared.passed.Passed.Passed, specs.Meaning.meaning, specs.Neat.AreNeat, specs.NodesOf.most_by, specs.NodesOf.need_at, specs.NodesOf.own_units, specs.NodesOf.place_at, specs.Stages.stage_at, specs.Running.Allows, specs.Running.IsAlive, specs.Running.IsLiveIn, specs.Running.rest_after, specs.Running.IsChangedOnly, specs.Seen.machine_move, specs.Upkeep.IsKeptUp, specs.declared.chart_move.Move.Move, specs.declared.running.Running.Running, specs.declared.stage.Stage.Stage, proofs.ChartAfterMove.held-kept, proofs.ChartAfterMove.held-new, proofs.ChartAfterMove.passes-within, proofs.ActPlaces.changed-stands, proofs.RestAfterMove.AreWaiting, proofs.RestAfterMove.IsActMove, proofs.RestAfterMove.act-tidy, proofs.RestAfterMove.after-raised, proofs.RestAfterMove.among, proofs.RestAfterMove.filter-all, proofs.RestAfterMove.now-raised, proofs.RestAfterMove.now-waiting, proofs.RestAfterMove.still-early, proofs.RestAfterMove.early-told, proofs.RestAfterMove.still-held, proofs.RestAfterMove.any-has, proofs.RestAfterMove.raised-none, proofs.RestAfterMove.waiting-nowhere, proofs.RunningCharts.runs-by, proofs.ActSigns.noted}
+use Rattle.batch_matrix.specs.{declared.report.PhaseEnd.PhaseEnd, declared.report.Report.Report, declared.state.State.State, Matrix.after_report}
+use Rattle.batch_recipe.specs.{Conditions.ValueList, Nodes.node_count, Tree.Tree, declared.entry.Entry.Entry, declared.recipe.Recipe.Recipe}
+use Rattle.batch_model.specs.{Events.phase_after, Lists.Has, Moves.act_after, Moves.batch_after, Moves.granted, Moves.passing, Moves.place_of_move, Plant.Batch, Plant.InAdvance, Plant.is_act_reached, Plant.in_act, Plant.moment_of, Plant.with_rest, Rest.Rest, Rest.acts, Rest.advance, Rest.changed_at, Rest.place_of}
 use Rattle.batch_model.specs.Moves as machine
-use Rattle.batch_model.specs.Moves.{act_after, batch_after, granted, passing, place_of_move}
-use Rattle.batch_model.specs.Plant.{Batch, InAdvance, is_act_reached, in_act, moment_of, with_rest}
-use Rattle.batch_model.specs.Rest.{Rest, acts, advance, changed_at, place_of}
-use Rattle.batch_record_laws.proofs.HoldingsInAdvance.{at_moment, Nowhere, raised, IsFresh, moved-raised, not_reached, reached-at, fresh-where-none}
-use Rattle.batch_record_laws.proofs.EffectsOnActs.{stays-steady, stays-tidy, granted-stays, phase_after-stays}
-use Rattle.batch_chart.specs.ByValues.{advance_by}
-use Rattle.batch_chart.specs.Charts.{Awaits, IsChartOf, IsRunningOf, RunsAs}
-use Rattle.batch_chart.specs.Early.{AreHeld, held_after, in_advance, is_early, is_ready, still_held, IsTakenBy, IsMovedOn, IsReportedOn}
-use Rattle.batch_chart.specs.declared.passed.Passed.{Passed}
-use Rattle.std.specs.VecDeque.{deque_capacity}
-use Rattle.batch_chart.specs.Meaning.{meaning}
-use Rattle.batch_chart.specs.Neat.{AreNeat}
-use Rattle.batch_chart.specs.NodesOf.{most_by, need_at, own_units, place_at}
-use Rattle.batch_chart.specs.Stages.{stage_at}
-use Rattle.batch_chart.specs.Running.{Allows, IsAlive, IsLiveIn, rest_after, IsChangedOnly}
-use Rattle.batch_chart.specs.Seen.{machine_move}
-use Rattle.batch_chart.specs.Upkeep.{IsKeptUp}
-use Rattle.batch_chart.specs.declared.chart_move.Move.{Move}
 use Rattle.batch_chart.specs.declared.chart_move.Move.TheVariants as move
-use Rattle.batch_chart.specs.declared.running.Running.{Running}
-use Rattle.batch_chart.specs.declared.stage.Stage.{Stage}
-use Rattle.batch_chart.proofs.ChartAfterMove.{held-kept, held-new, passes-within}
-use Rattle.batch_chart.proofs.ActPlaces.{changed-stands}
-use Rattle.batch_chart.proofs.RestAfterMove.{AreWaiting, IsActMove, act-tidy, after-raised, among, filter-all, now-raised, now-waiting, still-early, early-told, still-held, any-has, raised-none, waiting-nowhere}
-use Rattle.batch_chart.proofs.RunningCharts.{runs-by}
-use Rattle.batch_chart.proofs.ActSigns.{noted}
 use Rattle.batch_signs.proofs.Bits.{nat-self}
 
 -- a part of the needs held in advance is held as before

@@ -1,38 +1,11 @@
 -- Going on from a finished node upwards: the conditions at each kind of node.
 use Rattle.std.proofs.Common.{◌≡◌, ◌≢◌, ◌⊎◌, inl, inr, ◌<◌, ◌≤◌, ℕ, ◌+◌, ◌-◌, List, length, Bool, true, false, ◌&&◌, Some, arith, refl, sym, ◌∙◌, subst, ap, ap₂}
-use Rattle.std.specs.Prelude.{slice_set, is_none, not}
-use Rattle.std.proofs.lemmas.Bool.{cases_lt}
-use Rattle.std.proofs.lemmas.Bool.Decides.{eqb_tells}
-use Rattle.batch_recipe.specs.Conditions.{Name, ValueList}
-use Rattle.batch_recipe.specs.Nodes.{node_count}
-use Rattle.batch_recipe.specs.Tree.{Step, follows, Tree, act, skip, Trees, no_trees, tree, Choices, otherwise, choice}
-use Rattle.batch_model.specs.Rest.{rest, is_done, all_done}
-use Rattle.batch_model.specs.Settled.{IsAdvanced}
+use Rattle.std.{specs.Prelude.slice_set, specs.Prelude.is_none, specs.Prelude.not, proofs.lemmas.Bool.cases_lt, proofs.lemmas.Bool.Decides.eqb_tells}
+use Rattle.batch_recipe.{specs.Conditions.Name, specs.Conditions.ValueList, specs.Nodes.node_count, specs.Tree.Step, specs.Tree.follows, specs.Tree.Tree, specs.Tree.act, specs.Tree.skip, specs.Tree.Trees, specs.Tree.no_trees, specs.Tree.tree, specs.Tree.Choices, specs.Tree.otherwise, specs.Tree.choice, specs.declared.entry.Entry.Entry, proofs.NodeSubtrees.some_count, specs.declared.recipe.Recipe.Recipe}
+use Rattle.batch_model.specs.{Rest.rest, Rest.is_done, Rest.all_done, Settled.IsAdvanced}
 use Rattle.batch_step_laws.proofs.AdvancedRests.{advance-advanced}
-use Rattle.batch_recipe.specs.declared.entry.Entry.{Entry}
-use Rattle.batch_recipe.proofs.NodeSubtrees.{some_count}
-use Rattle.batch_chart.specs.declared.node.Kind.{Kind}
-use Rattle.batch_chart.specs.declared.node.Kind.TheVariants.{Skip, Act, Seq, Par, Sel, Loop}
+use Rattle.batch_chart.{specs.declared.node.Kind.Kind, specs.declared.node.Kind.TheVariants.Skip, specs.declared.node.Kind.TheVariants.Act, specs.declared.node.Kind.TheVariants.Seq, specs.declared.node.Kind.TheVariants.Par, specs.declared.node.Kind.TheVariants.Sel, specs.declared.node.Kind.TheVariants.Loop, specs.declared.stage.Stage.Stage, specs.declared.stage.Stage.TheVariants.Finished, specs.Stages.stage_at, specs.Stages.is_finished, specs.Stages.is_begun, specs.Stages.is_over, specs.Stages.is_over_at, specs.Stages.turns_of, specs.Stages.closed_as, specs.Stages.looped_as, specs.Meaning.meaning, specs.Meaning.meaning_each, specs.Meaning.act_as, specs.Meaning.chosen, specs.Meaning.AgreeOutside, specs.Meaning.AgreeWithin, specs.Outlined.end_at, specs.Outlined.kind_at, specs.Outlined.condition_holds, specs.Outlined.Stands, specs.Outlined.AreStanding, specs.Outlined.AreChoices, specs.Outlined.HasTree, specs.Outlined.HaveTrees, specs.Outlined.HaveBranches, specs.Outlined.condition_at, specs.Parents.IsAbove, specs.Told.TellsWhetherOver, specs.Told.AreTold, specs.Reaching.IsReached, specs.Reaching.IsFirstReached, specs.Advancing.HasAdvanced, specs.Advancing.HasFirstAdvanced, specs.Advancing.HasEachAdvanced, specs.Advancing.HasChoiceAdvanced, specs.Climbing.all_finished, specs.Climbing.AreFinished, specs.Climbing.IsRisen, specs.Climbing.HasStopped, specs.Climbing.HasPassed, proofs.TreePositions.stood, proofs.TreePositions.stood-each, proofs.TreePositions.some-stands, proofs.TreePositions.nested, proofs.TreePositions.SkipAt, proofs.TreePositions.skip_at, proofs.TreePositions.skip-at, proofs.TreePositions.PhaseAt, proofs.TreePositions.phase_at, proofs.TreePositions.phase-at, proofs.TreePositions.ActAt, proofs.TreePositions.act_at, proofs.TreePositions.act-at, proofs.TreePositions.LoopAt, proofs.TreePositions.loop_at, proofs.TreePositions.loop-at, proofs.TreePositions.ChoiceAt, proofs.TreePositions.choice_at, proofs.TreePositions.choice-at, proofs.TreePositions.seq-standing, proofs.TreePositions.sel-standing, proofs.TreePositions.rest-standing, proofs.TreePositions.choices-standing, proofs.StageAgreement.meaning-agree, proofs.CalmChanges.advanced-still, proofs.KnownTests.chosen-false, proofs.ReachedTree.within-set, proofs.FinishedStages.nests, proofs.FinishedStages.nests-below, proofs.FinishedStages.told-one, proofs.FinishedStages.told-part, proofs.FinishedStages.told-same, proofs.FinishedStages.told-agree, proofs.TreeAdvance.unbegun-act, proofs.TreeAdvance.advanced-act_chart, proofs.TreeAdvance.advanced-act_still, proofs.TreeAdvance.advanced-seq, proofs.TreeAdvance.advanced-par, proofs.TreeAdvance.advanced-sel, proofs.TreeAdvance.advanced-loop_over, proofs.TreeAdvance.advanced-loop_anew, proofs.TreeAdvance.not-false, proofs.TreeAdvance.moved-later, proofs.TreeAdvance.moved-on, proofs.TreeAdvance.chosen-last, proofs.TreeAdvance.chosen-later, proofs.TreeAdvance.chosen-here, specs.ByValues.bare, specs.ByValues.advance_by, specs.ByValues.advance_each_by}
 use Rattle.batch_chart.specs.declared.node.Kind.TheVariants as kind
-use Rattle.batch_recipe.specs.declared.recipe.Recipe.{Recipe}
-use Rattle.batch_chart.specs.declared.stage.Stage.{Stage}
-use Rattle.batch_chart.specs.declared.stage.Stage.TheVariants.{Finished}
-use Rattle.batch_chart.specs.Stages.{stage_at, is_finished, is_begun, is_over, is_over_at, turns_of, closed_as, looped_as}
-use Rattle.batch_chart.specs.Meaning.{meaning, meaning_each, act_as, chosen, AgreeOutside, AgreeWithin}
-use Rattle.batch_chart.specs.Outlined.{end_at, kind_at, condition_holds, Stands, AreStanding, AreChoices, HasTree, HaveTrees, HaveBranches, condition_at}
-use Rattle.batch_chart.specs.Parents.{IsAbove}
-use Rattle.batch_chart.specs.Told.{TellsWhetherOver, AreTold}
-use Rattle.batch_chart.specs.Reaching.{IsReached, IsFirstReached}
-use Rattle.batch_chart.specs.Advancing.{HasAdvanced, HasFirstAdvanced, HasEachAdvanced, HasChoiceAdvanced}
-use Rattle.batch_chart.specs.Climbing.{all_finished, AreFinished, IsRisen, HasStopped, HasPassed}
-use Rattle.batch_chart.proofs.TreePositions.{stood, stood-each, some-stands, nested, SkipAt, skip_at, skip-at, PhaseAt, phase_at, phase-at, ActAt, act_at, act-at, LoopAt, loop_at, loop-at, ChoiceAt, choice_at, choice-at, seq-standing, sel-standing, rest-standing, choices-standing}
-use Rattle.batch_chart.proofs.StageAgreement.{meaning-agree}
-use Rattle.batch_chart.proofs.CalmChanges.{advanced-still}
-use Rattle.batch_chart.proofs.KnownTests.{chosen-false}
-use Rattle.batch_chart.proofs.ReachedTree.{within-set}
-use Rattle.batch_chart.proofs.FinishedStages.{nests, nests-below, told-one, told-part, told-same, told-agree}
-use Rattle.batch_chart.proofs.TreeAdvance.{unbegun-act, advanced-act_chart, advanced-act_still, advanced-seq, advanced-par, advanced-sel, advanced-loop_over, advanced-loop_anew, not-false, moved-later, moved-on, chosen-last, chosen-later, chosen-here}
-use Rattle.batch_chart.specs.ByValues.{bare, advance_by, advance_each_by}
 
 -- tests of rows
 

@@ -1,33 +1,9 @@
 -- Going on from a finished node upwards, each node is neat.
 use Rattle.std.proofs.Common.{◌≡◌, ◌⊎◌, inl, inr, None, ◌<◌, ◌≤◌, ℕ, ◌+◌, List, length, Bool, true, false, arith, refl, sym, ◌∙◌, subst, ap, length-set, get_or-set_same, get_or-set_other}
-use Rattle.std.specs.Prelude.{slice_set, not, is_none}
-use Rattle.std.proofs.lemmas.Bool.{cases_lt}
-use Rattle.batch_recipe.specs.Nodes.{node_count}
-use Rattle.batch_recipe.specs.Tree.{runs, follows, Tree, act, skip, seq, par, sel, loop, Trees, no_trees, tree}
-use Rattle.batch_recipe.specs.declared.entry.Entry.{Entry}
-use Rattle.batch_recipe.proofs.NodeSubtrees.{some_count}
-use Rattle.batch_chart.specs.declared.node.Kind.{Kind}
-use Rattle.batch_chart.specs.declared.node.Kind.TheVariants.{Act, Seq, Par, Sel, Loop}
-use Rattle.batch_recipe.specs.declared.recipe.Recipe.{Recipe}
-use Rattle.batch_chart.specs.declared.stage.Stage.{Stage}
-use Rattle.batch_chart.specs.declared.stage.Stage.TheVariants.{Finished, Open}
-use Rattle.batch_chart.specs.Climbing.{all_finished, AreFinished, IsNeatlyRisen, HasPassedNeatly}
-use Rattle.batch_chart.specs.Outlined.{end_at, kind_at, Stands, AreStanding, HasTree}
-use Rattle.batch_chart.specs.Meaning.{AgreeOutside}
-use Rattle.batch_chart.specs.Neat.{runs_below, is_single, AllFinished, act_shows, shown_of, IsNeat, AreNeat, AreBlank, SignsOutside, IsReachedNeatly, IsRowNeat}
-use Rattle.batch_chart.specs.Noting.{open_signs}
-use Rattle.batch_chart.specs.Parents.{IsAbove}
+use Rattle.std.{specs.Prelude.slice_set, specs.Prelude.not, specs.Prelude.is_none, proofs.lemmas.Bool.cases_lt}
+use Rattle.batch_recipe.{specs.Nodes.node_count, specs.Tree.runs, specs.Tree.follows, specs.Tree.Tree, specs.Tree.act, specs.Tree.skip, specs.Tree.seq, specs.Tree.par, specs.Tree.sel, specs.Tree.loop, specs.Tree.Trees, specs.Tree.no_trees, specs.Tree.tree, specs.declared.entry.Entry.Entry, proofs.NodeSubtrees.some_count, specs.declared.recipe.Recipe.Recipe}
+use Rattle.batch_chart.{specs.declared.node.Kind.Kind, specs.declared.node.Kind.TheVariants.Act, specs.declared.node.Kind.TheVariants.Seq, specs.declared.node.Kind.TheVariants.Par, specs.declared.node.Kind.TheVariants.Sel, specs.declared.node.Kind.TheVariants.Loop, specs.declared.stage.Stage.Stage, specs.declared.stage.Stage.TheVariants.Finished, specs.declared.stage.Stage.TheVariants.Open, specs.Climbing.all_finished, specs.Climbing.AreFinished, specs.Climbing.IsNeatlyRisen, specs.Climbing.HasPassedNeatly, specs.Outlined.end_at, specs.Outlined.kind_at, specs.Outlined.Stands, specs.Outlined.AreStanding, specs.Outlined.HasTree, specs.Meaning.AgreeOutside, specs.Neat.runs_below, specs.Neat.is_single, specs.Neat.AllFinished, specs.Neat.act_shows, specs.Neat.shown_of, specs.Neat.IsNeat, specs.Neat.AreNeat, specs.Neat.AreBlank, specs.Neat.SignsOutside, specs.Neat.IsReachedNeatly, specs.Neat.IsRowNeat, specs.Noting.open_signs, specs.Parents.IsAbove, specs.Stages.stage_at, specs.Stages.is_finished, specs.Stages.is_begun, specs.Stages.is_over_at, specs.Stages.turns_of, specs.Stages.closed_as, specs.Stages.looped_as, proofs.StageAgreement.stage-set_same, proofs.TreeAdvance.begun-open, proofs.TreeAdvance.finished-stage, proofs.KnownTests.chosen-true, proofs.ClimbFromNode.only-child, proofs.ClimbFromNode.loop-child, proofs.NeatCharts.unfinished-not, proofs.NeatCharts.finished-shows, proofs.NeatCharts.finished-stops, proofs.NeatCharts.blank-neat, proofs.NeatCharts.blank-part, proofs.NeatCharts.neat-one, proofs.NeatCharts.neat-join, proofs.NeatCharts.neat-same, proofs.NeatCharts.neat-agree, proofs.NeatCharts.neat-finished, proofs.NeatCharts.neat-blank, proofs.NeatCharts.signs-wider, proofs.NeatCharts.signs-same, proofs.ReachedTree.within-set, proofs.ReachedTree.outside-set, proofs.ReachedTree.finished-closed, proofs.ReachedTreeSigns.over-own, proofs.ReachedTreeSigns.closed-own, proofs.ReachedTreeSigns.shut-by, proofs.TreePositions.stood, proofs.TreePositions.stood-each, proofs.TreePositions.some-stands, proofs.TreePositions.nested, proofs.TreePositions.ActAt, proofs.TreePositions.act_at, proofs.TreePositions.act-at, proofs.TreePositions.SeqAt, proofs.TreePositions.seq_at, proofs.TreePositions.seq-at, proofs.TreePositions.ParAt, proofs.TreePositions.par_at, proofs.TreePositions.par-at, proofs.TreePositions.SelAt, proofs.TreePositions.sel_at, proofs.TreePositions.sel-at, proofs.TreePositions.LoopAt, proofs.TreePositions.loop_at, proofs.TreePositions.loop-at, proofs.FinishedStages.AreNested, proofs.FinishedStages.nests, proofs.FinishedStages.nests-below}
 use Rattle.batch_signs.specs.Signs.{sign_at}
-use Rattle.batch_chart.specs.Stages.{stage_at, is_finished, is_begun, is_over_at, turns_of, closed_as, looped_as}
-use Rattle.batch_chart.proofs.StageAgreement.{stage-set_same}
-use Rattle.batch_chart.proofs.TreeAdvance.{begun-open, finished-stage}
-use Rattle.batch_chart.proofs.KnownTests.{chosen-true}
-use Rattle.batch_chart.proofs.ClimbFromNode.{only-child, loop-child}
-use Rattle.batch_chart.proofs.NeatCharts.{unfinished-not, finished-shows, finished-stops, blank-neat, blank-part, neat-one, neat-join, neat-same, neat-agree, neat-finished, neat-blank, signs-wider, signs-same}
-use Rattle.batch_chart.proofs.ReachedTree.{within-set, outside-set, finished-closed}
-use Rattle.batch_chart.proofs.ReachedTreeSigns.{over-own, closed-own, shut-by}
-use Rattle.batch_chart.proofs.TreePositions.{stood, stood-each, some-stands, nested, ActAt, act_at, act-at, SeqAt, seq_at, seq-at, ParAt, par_at, par-at, SelAt, sel_at, sel-at, LoopAt, loop_at, loop-at}
-use Rattle.batch_chart.proofs.FinishedStages.{AreNested, nests, nests-below}
 
 pub runs-unfinished : (c : Tree) (x : Stage) → runs_below c x ≡ true → is_finished x ≡ false
 runs-unfinished c Finished e = let f : ◌≡◌ {A = Bool} false true = sym (finished-stops c) ∙ e in absurd (cc)

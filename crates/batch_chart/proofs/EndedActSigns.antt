@@ -1,35 +1,9 @@
 -- An act that has ended leaves a chart whose signs go by the stages.
 use Rattle.std.proofs.Common.{zero, suc, ◌≡◌, ◌≢◌, ◌⊎◌, inl, inr, ◌<◌, ◌≤◌, ℕ, ◌+◌, List, length, true, false, arith, refl, sym, ◌∙◌, subst, ap, length-set, get_or-set_same, get_or-set_other, nat_eq}
-use Rattle.std.specs.Prelude.{slice_set}
-use Rattle.std.proofs.lemmas.Bool.Decides.{eqb_tells}
-use Rattle.batch_recipe.specs.Conditions.{ValueList}
-use Rattle.batch_recipe.specs.Nodes.{node_count}
-use Rattle.batch_recipe.specs.Tree.{Step, Task, Tree, runs, follows, act}
-use Rattle.batch_recipe.specs.declared.entry.Entry.{Entry}
-use Rattle.batch_recipe.specs.declared.recipe.Recipe.{Recipe}
-use Rattle.batch_recipe.proofs.NodeSubtrees.{some_count}
-use Rattle.batch_chart.specs.declared.stage.Stage.{Stage}
-use Rattle.batch_chart.specs.declared.stage.Stage.TheVariants.{Finished, Freeing}
-use Rattle.batch_chart.specs.Climbing.{IsRisen, IsNeatlyRisen, IsNeatlyLeft, HasRisen}
-use Rattle.batch_chart.specs.Outlined.{end_at, kind_at, is_act_kind, Stands}
-use Rattle.batch_chart.specs.Freeing.{HasCleared, HasGivenUp, IsFreed}
-use Rattle.batch_chart.specs.Meaning.{AgreeOutside}
-use Rattle.batch_chart.specs.Neat.{AllFinished, AreNeat, AreBlank, SignsOutside}
-use Rattle.batch_chart.specs.Needs.{needs_of_kind}
-use Rattle.batch_chart.specs.Noting.{stage_signs, HasCome}
-use Rattle.batch_chart.specs.Running.{IsLaid, SomeLives}
-use Rattle.batch_signs.specs.Signs.{sign_at, replaced}
-use Rattle.batch_chart.specs.Stages.{stage_at, is_finished}
-use Rattle.batch_chart.proofs.TreeAdvance.{finished-stage}
-use Rattle.batch_chart.proofs.StageAgreement.{stage-set_same, stage-set_other}
-use Rattle.batch_chart.proofs.NeatCharts.{neat-after, neat-one, neat-blank, blank-neat}
-use Rattle.batch_chart.proofs.PathToRoot.{finishes, risen, all-gone, set-out}
-use Rattle.batch_chart.proofs.TreePositions.{stood, some-stands}
-use Rattle.batch_chart.proofs.ChartChange.{act-here}
-use Rattle.batch_chart.proofs.FinishedStages.{nests, nests-below}
-use Rattle.batch_chart.proofs.SignUpkeep.{plain-neat}
-use Rattle.batch_signs.proofs.WantedSigns.{more-not_zero}
-use Rattle.batch_chart.proofs.WithdrawalSigns.{replaced-sign, replaced-length}
+use Rattle.std.{specs.Prelude.slice_set, proofs.lemmas.Bool.Decides.eqb_tells}
+use Rattle.batch_recipe.{specs.Conditions.ValueList, specs.Nodes.node_count, specs.Tree.Step, specs.Tree.Task, specs.Tree.Tree, specs.Tree.runs, specs.Tree.follows, specs.Tree.act, specs.declared.entry.Entry.Entry, specs.declared.recipe.Recipe.Recipe, proofs.NodeSubtrees.some_count}
+use Rattle.batch_chart.{specs.declared.stage.Stage.Stage, specs.declared.stage.Stage.TheVariants.Finished, specs.declared.stage.Stage.TheVariants.Freeing, specs.Climbing.IsRisen, specs.Climbing.IsNeatlyRisen, specs.Climbing.IsNeatlyLeft, specs.Climbing.HasRisen, specs.Outlined.end_at, specs.Outlined.kind_at, specs.Outlined.is_act_kind, specs.Outlined.Stands, specs.Freeing.HasCleared, specs.Freeing.HasGivenUp, specs.Freeing.IsFreed, specs.Meaning.AgreeOutside, specs.Neat.AllFinished, specs.Neat.AreNeat, specs.Neat.AreBlank, specs.Neat.SignsOutside, specs.Needs.needs_of_kind, specs.Noting.stage_signs, specs.Noting.HasCome, specs.Running.IsLaid, specs.Running.SomeLives, specs.Stages.stage_at, specs.Stages.is_finished, proofs.TreeAdvance.finished-stage, proofs.StageAgreement.stage-set_same, proofs.StageAgreement.stage-set_other, proofs.NeatCharts.neat-after, proofs.NeatCharts.neat-one, proofs.NeatCharts.neat-blank, proofs.NeatCharts.blank-neat, proofs.PathToRoot.finishes, proofs.PathToRoot.risen, proofs.PathToRoot.all-gone, proofs.PathToRoot.set-out, proofs.TreePositions.stood, proofs.TreePositions.some-stands, proofs.ChartChange.act-here, proofs.FinishedStages.nests, proofs.FinishedStages.nests-below, proofs.SignUpkeep.plain-neat, proofs.WithdrawalSigns.replaced-sign, proofs.WithdrawalSigns.replaced-length}
+use Rattle.batch_signs.{specs.Signs.sign_at, specs.Signs.replaced, proofs.WantedSigns.more-not_zero}
 
 -- where going on upwards has stopped, or has come to the root
 

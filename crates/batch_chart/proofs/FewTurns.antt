@@ -1,33 +1,13 @@
 -- A loop of a recipe has no more turns than a chart may give it, so that a stage can keep those that are left in 16 bits.
 use Rattle.std.proofs.Common.{◌≡◌, ◌≤◌, ℕ, zero, suc, ◌+◌, ◌-◌, List, [], ◌∷◌, length, Bool, true, ◌&&◌, Option, Some, None, nat_le, nat_lt, slice_get, sym, subst, refl, arith}
-use Rattle.std.specs.List.{list_all}
-use Rattle.std.proofs.lemmas.Bool.{and_parts}
-use Rattle.batch_recipe.specs.Conditions.{Name, same_name}
+use Rattle.std.{specs.List.list_all, proofs.lemmas.Bool.and_parts}
+use Rattle.batch_recipe.{specs.Conditions.Name, specs.Conditions.same_name, specs.Diagram.Diagram, specs.Diagram.Diagrams, specs.Diagram.Cases, specs.Diagram.diagram_of, specs.Expanding.act_named, specs.Growing.Labels, specs.Growing.LabelConditions, specs.Growing.needs_count, specs.Growing.bare_entries, specs.Growing.grown, specs.Growing.grown_each, specs.Growing.grown_cases, specs.Growing.grown_work, specs.Growing.grown_act, specs.Growing.grown_named, specs.Growing.conditions_of_cases, specs.Growing.conditions_along, specs.Growing.conditions_named, specs.Growing.levels_from, specs.Growing.number_in, specs.Growing.unit_number, specs.Growing.entries_of, specs.Procedure.table_at, specs.WellFormed.act_names, specs.WellFormed.are_cases, specs.WellFormed.are_charts, specs.WellFormed.are_distinct, specs.WellFormed.follows_no_par, specs.WellFormed.is_among, specs.WellFormed.is_chart, specs.WellFormed.is_condition, specs.WellFormed.is_work, specs.WellFormed.value_names, specs.declared.act.Act.Act, specs.declared.act.TheConstants.MAX_VALUES, specs.declared.act.Work.Work, specs.declared.act.Work.TheVariants.Follows, specs.declared.act.Work.TheVariants.Runs, specs.declared.acts.LabelTable.LabelTable, specs.declared.acts.LabelTable.TheVariants.UnitProcedures, specs.declared.acts.LabelTable.TheVariants.Operations, specs.declared.acts.LabelTable.TheVariants.Phases, specs.declared.chart.TheConstants.MAX_DEPTH, specs.declared.chart.TheConstants.MAX_TURNS, specs.declared.entry.Entry.Entry, specs.declared.recipe.Recipe.Recipe, proofs.Growth.found_at}
 use Rattle.batch_recipe.specs.Diagram as diagram
-use Rattle.batch_recipe.specs.Diagram.{Diagram, Diagrams, Cases, diagram_of}
-use Rattle.batch_recipe.specs.Expanding.{act_named}
-use Rattle.batch_recipe.specs.Growing.{Labels, LabelConditions, needs_count, bare_entries, grown, grown_each, grown_cases, grown_work, grown_act, grown_named, conditions_of_cases, conditions_along, conditions_named, levels_from, number_in, unit_number, entries_of}
-use Rattle.batch_recipe.specs.Procedure.{table_at}
-use Rattle.batch_recipe.specs.WellFormed.{act_names, are_cases, are_charts, are_distinct, follows_no_par, is_among, is_chart, is_condition, is_work, value_names}
-use Rattle.batch_recipe.specs.declared.act.Act.{Act}
-use Rattle.batch_recipe.specs.declared.act.TheConstants.{MAX_VALUES}
-use Rattle.batch_recipe.specs.declared.act.Work.{Work}
-use Rattle.batch_recipe.specs.declared.act.Work.TheVariants.{Follows, Runs}
-use Rattle.batch_recipe.specs.declared.acts.LabelTable.{LabelTable}
-use Rattle.batch_recipe.specs.declared.acts.LabelTable.TheVariants.{UnitProcedures, Operations, Phases}
-use Rattle.batch_recipe.specs.declared.chart.TheConstants.{MAX_DEPTH, MAX_TURNS}
-use Rattle.batch_recipe.specs.declared.entry.Entry.{Entry}
 use Rattle.batch_recipe.specs.declared.entry.Kind as recipe
 use Rattle.batch_recipe.specs.declared.entry.Kind.TheVariants as entry_kind
-use Rattle.batch_recipe.specs.declared.recipe.Recipe.{Recipe}
-use Rattle.batch_recipe.proofs.Growth.{found_at}
-use Rattle.batch_model.specs.Lists.{Each}
-use Rattle.batch_model.proofs.Members.{Each-append}
-use Rattle.batch_chart.specs.Outlined.{kind_at, kind_by, kind_of_entry}
-use Rattle.batch_chart.specs.declared.node.Kind.{Kind}
-use Rattle.batch_chart.specs.declared.node.Kind.TheVariants.{Skip, Act as act_kind, Seq, Par, Sel, Loop}
+use Rattle.batch_model.{specs.Lists.Each, proofs.Members.Each-append}
+use Rattle.batch_chart.{specs.Outlined.kind_at, specs.Outlined.kind_by, specs.Outlined.kind_of_entry, specs.declared.node.Kind.Kind, specs.declared.node.Kind.TheVariants.Skip, specs.declared.node.Kind.TheVariants.Act as act_kind, specs.declared.node.Kind.TheVariants.Seq, specs.declared.node.Kind.TheVariants.Par, specs.declared.node.Kind.TheVariants.Sel, specs.declared.node.Kind.TheVariants.Loop, proofs.FoundElement.found_passes}
 use Rattle.batch_chart.specs.declared.node.Kind.TheVariants as kind
-use Rattle.batch_chart.proofs.FoundElement.{found_passes}
 
 -- a loop has few turns
 abbrev IsFew : Kind → Type 0

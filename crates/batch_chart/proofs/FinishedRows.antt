@@ -1,38 +1,10 @@
 -- Where no node shows that it is an act, nothing is left of a row.
 use Rattle.std.proofs.Common.{◌≡◌, inl, inr, ◌<◌, ◌≤◌, ℕ, ◌+◌, List, [], ◌∷◌, Bool, true, false, arith, refl, sym, ◌∙◌, ap}
-use Rattle.std.specs.Prelude.{map}
-use Rattle.std.specs.Int.Bits.{bit_and}
-use Rattle.std.proofs.lemmas.Bool.{cases_lt}
-use Rattle.batch_recipe.specs.Nodes.{node_count}
-use Rattle.batch_recipe.specs.Tree.{Tree, Trees, no_trees, tree}
-use Rattle.batch_model.specs.Rest.{Rest, acts}
-use Rattle.batch_model.specs.Moves.{is_empty}
-use Rattle.batch_recipe.specs.declared.entry.Entry.{Entry}
-use Rattle.batch_recipe.specs.declared.recipe.Recipe.{Recipe}
-use Rattle.batch_recipe.proofs.NodeSubtrees.{some_count}
-use Rattle.batch_chart.specs.declared.sign.TheConstants.{IS_ACT}
-use Rattle.batch_chart.specs.declared.stage.Stage.{Stage}
-use Rattle.batch_chart.specs.declared.stage.Stage.TheVariants.{Finished}
-use Rattle.batch_chart.specs.Climbing.{all_finished, AreFinished}
-use Rattle.batch_chart.specs.Outlined.{Stands, AreStanding}
-use Rattle.batch_chart.specs.Meaning.{meaning}
-use Rattle.batch_chart.specs.Neat.{AllFinished, AreNeat, shown_of}
-use Rattle.batch_chart.specs.Noting.{signs_of, sign_in}
-use Rattle.batch_chart.specs.Numbered.{numbered}
-use Rattle.batch_signs.specs.Signs.{shows, sign_at, NoneShows, TellsNone}
-use Rattle.batch_chart.specs.Stages.{stage_at, is_finished}
-use Rattle.batch_chart.specs.Told.{AreTold}
-use Rattle.batch_chart.proofs.TreeAdvance.{finished-stage}
-use Rattle.batch_chart.proofs.ClimbFromNode.{both-true}
-use Rattle.batch_chart.proofs.NumberedActs.{AllActs, acts-all, numbered-acts}
-use Rattle.batch_signs.proofs.WantedSigns.{none-shown}
-use Rattle.batch_chart.proofs.MoveKinds.{empty-done}
-use Rattle.batch_chart.proofs.NeatCharts.{finished-shows, neat-part, neat-finished}
-use Rattle.batch_chart.proofs.SignSearch.{RiseIn, rise, sign-here, shown-not}
-use Rattle.batch_chart.proofs.ClimbSigns.{finished-row}
-use Rattle.batch_chart.proofs.ActSigns.{link}
-use Rattle.batch_chart.proofs.TreePositions.{stood-each, some-each}
-use Rattle.batch_chart.proofs.FinishedStages.{told-part}
+use Rattle.std.{specs.Prelude.map, specs.Int.Bits.bit_and, proofs.lemmas.Bool.cases_lt}
+use Rattle.batch_recipe.{specs.Nodes.node_count, specs.Tree.Tree, specs.Tree.Trees, specs.Tree.no_trees, specs.Tree.tree, specs.declared.entry.Entry.Entry, specs.declared.recipe.Recipe.Recipe, proofs.NodeSubtrees.some_count}
+use Rattle.batch_model.specs.{Rest.Rest, Rest.acts, Moves.is_empty}
+use Rattle.batch_chart.{specs.declared.sign.TheConstants.IS_ACT, specs.declared.stage.Stage.Stage, specs.declared.stage.Stage.TheVariants.Finished, specs.Climbing.all_finished, specs.Climbing.AreFinished, specs.Outlined.Stands, specs.Outlined.AreStanding, specs.Meaning.meaning, specs.Neat.AllFinished, specs.Neat.AreNeat, specs.Neat.shown_of, specs.Noting.signs_of, specs.Noting.sign_in, specs.Numbered.numbered, specs.Stages.stage_at, specs.Stages.is_finished, specs.Told.AreTold, proofs.TreeAdvance.finished-stage, proofs.ClimbFromNode.both-true, proofs.NumberedActs.AllActs, proofs.NumberedActs.acts-all, proofs.NumberedActs.numbered-acts, proofs.MoveKinds.empty-done, proofs.NeatCharts.finished-shows, proofs.NeatCharts.neat-part, proofs.NeatCharts.neat-finished, proofs.SignSearch.RiseIn, proofs.SignSearch.rise, proofs.SignSearch.sign-here, proofs.SignSearch.shown-not, proofs.ClimbSigns.finished-row, proofs.ActSigns.link, proofs.TreePositions.stood-each, proofs.TreePositions.some-each, proofs.FinishedStages.told-part}
+use Rattle.batch_signs.{specs.Signs.shows, specs.Signs.sign_at, specs.Signs.NoneShows, specs.Signs.TellsNone, proofs.WantedSigns.none-shown}
 
 module _ (ns : List Entry) (doc : Recipe) (xs : List Stage) (signs : List ℕ) where
   -- a tree of which something is left has an act that shows

@@ -1,26 +1,10 @@
 -- Stages that tell whether anything is left of their nodes.
 use Rattle.std.proofs.Common.{◌≡◌, inl, inr, ◌<◌, ◌≤◌, ℕ, ◌+◌, List, Bool, arith, refl, sym, ◌∙◌, subst, ap}
-use Rattle.std.proofs.lemmas.Bool.{cases_lt}
-use Rattle.std.proofs.lemmas.Bool.Decides.{eqb_tells}
-use Rattle.batch_recipe.specs.Conditions.{ValueList}
-use Rattle.batch_recipe.specs.Nodes.{node_count}
-use Rattle.batch_recipe.specs.Tree.{Tree, act, skip, seq, par, sel, loop, Trees, Choices}
-use Rattle.batch_model.specs.Rest.{in_par, done, is_done}
-use Rattle.batch_model.specs.Settled.{IsAdvanced}
+use Rattle.std.proofs.lemmas.Bool.{cases_lt, Decides.eqb_tells}
+use Rattle.batch_recipe.{specs.Conditions.ValueList, specs.Nodes.node_count, specs.Tree.Tree, specs.Tree.act, specs.Tree.skip, specs.Tree.seq, specs.Tree.par, specs.Tree.sel, specs.Tree.loop, specs.Tree.Trees, specs.Tree.Choices, specs.declared.entry.Entry.Entry, specs.declared.recipe.Recipe.Recipe, proofs.NodeSubtrees.some_count}
+use Rattle.batch_model.specs.{Rest.in_par, Rest.done, Rest.is_done, Settled.IsAdvanced}
 use Rattle.batch_step_laws.proofs.AdvancedRests.{reach-advanced}
-use Rattle.batch_recipe.specs.declared.entry.Entry.{Entry}
-use Rattle.batch_recipe.specs.declared.recipe.Recipe.{Recipe}
-use Rattle.batch_recipe.proofs.NodeSubtrees.{some_count}
-use Rattle.batch_chart.specs.declared.stage.Stage.{Stage}
-use Rattle.batch_chart.specs.declared.stage.Stage.TheVariants.{Finished}
-use Rattle.batch_chart.specs.Stages.{stage_at, is_finished, is_begun, turns_of}
-use Rattle.batch_chart.specs.Meaning.{meaning, meaning_below, meaning_each, act_as, loop_as, meaning_of_branch, chosen, AgreeWithin}
-use Rattle.batch_chart.specs.Outlined.{end_at, Stands, AreStanding, AreChoices}
-use Rattle.batch_chart.specs.Told.{TellsWhetherOver, AreTold}
-use Rattle.batch_chart.proofs.StageAgreement.{meaning-agree, agree-part}
-use Rattle.batch_chart.proofs.KnownTests.{chosen-false}
-use Rattle.batch_chart.proofs.TreePositions.{stood, nested, nested-each, nested-choices}
-use Rattle.batch_chart.specs.ByValues.{bare, reach_by}
+use Rattle.batch_chart.{specs.declared.stage.Stage.Stage, specs.declared.stage.Stage.TheVariants.Finished, specs.Stages.stage_at, specs.Stages.is_finished, specs.Stages.is_begun, specs.Stages.turns_of, specs.Meaning.meaning, specs.Meaning.meaning_below, specs.Meaning.meaning_each, specs.Meaning.act_as, specs.Meaning.loop_as, specs.Meaning.meaning_of_branch, specs.Meaning.chosen, specs.Meaning.AgreeWithin, specs.Outlined.end_at, specs.Outlined.Stands, specs.Outlined.AreStanding, specs.Outlined.AreChoices, specs.Told.TellsWhetherOver, specs.Told.AreTold, proofs.StageAgreement.meaning-agree, proofs.StageAgreement.agree-part, proofs.KnownTests.chosen-false, proofs.TreePositions.stood, proofs.TreePositions.nested, proofs.TreePositions.nested-each, proofs.TreePositions.nested-choices, specs.ByValues.bare, specs.ByValues.reach_by}
 
 pub finished-means : (c : Tree) (n : ℕ) (xs : List Stage) → stage_at xs n ≡ Finished → meaning c n xs ≡ done
 finished-means (act s w) n xs e = ap (λ x. act_as s w (meaning_below w (n + 1) xs) x) e

@@ -1,40 +1,12 @@
 -- The first act in line.
 use Rattle.std.proofs.Common.{◌≡◌, ◌⊎◌, inl, inr, ◌<◌, ◌≤◌, ℕ, zero, suc, ◌+◌, List, [], ◌∷◌, ◌++◌, length, Bool, true, false, Some, None, nat_le, nat_lt, arith, refl, sym, ◌∙◌, subst, ap, ap₂}
-use Rattle.std.specs.Prelude.{map, slice_get, ◌&&◌}
-use Rattle.std.proofs.lemmas.Bool.Decides.{nat_tests}
-use Rattle.batch_recipe.specs.Needs.{resources_needed}
-use Rattle.batch_recipe.specs.Conditions.{Name}
+use Rattle.std.{specs.Prelude.map, specs.Prelude.slice_get, specs.Prelude.◌&&◌, proofs.lemmas.Bool.Decides.nat_tests}
+use Rattle.batch_recipe.{specs.Needs.resources_needed, specs.Conditions.Name, specs.Nodes.node_count, specs.Nodes.nodes_within, specs.Nodes.nodes_of_each, specs.Nodes.nodes_of_choices, specs.Nodes.child, specs.Tree.Place, specs.Tree.is_before, specs.Tree.Step, specs.Tree.Task, specs.Tree.runs, specs.Tree.follows, specs.Tree.Tree, specs.Tree.act, specs.Tree.skip, specs.Tree.seq, specs.Tree.par, specs.Tree.sel, specs.Tree.loop, specs.Tree.Trees, specs.Tree.no_trees, specs.Tree.tree, specs.Tree.Choices, specs.Tree.otherwise, specs.Tree.choice, proofs.NodeOrder.in_order, proofs.NodesBelow.in_front, specs.declared.entry.Entry.Entry, specs.declared.recipe.Recipe.Recipe}
 use Rattle.batch_recipe.specs.Nodes as nodes
-use Rattle.batch_recipe.specs.Nodes.{node_count, nodes_within, nodes_of_each, nodes_of_choices, child}
-use Rattle.batch_recipe.specs.Tree.{Place, is_before, Step, Task, runs, follows, Tree, act, skip, seq, par, sel, loop, Trees, no_trees, tree, Choices, otherwise, choice}
-use Rattle.batch_recipe.proofs.NodeOrder.{in_order}
-use Rattle.batch_recipe.proofs.NodesBelow.{in_front}
-use Rattle.batch_model.specs.Lists.{Has, Each}
-use Rattle.batch_model.specs.Placed.{IsPlaced, IsPlacedBelow, ArePlaced, IsChoicePlaced, Rises}
-use Rattle.batch_model.specs.Rest.{Rest, asking, acts, is_done, place_of}
-use Rattle.batch_model.proofs.Members.{Each-Has}
-use Rattle.batch_step_laws.proofs.MoveOrder.{before-asym}
-use Rattle.batch_step_laws.proofs.ActOrder.{acts-rise}
-use Rattle.batch_recipe.specs.declared.entry.Entry.{Entry}
-use Rattle.batch_recipe.specs.declared.recipe.Recipe.{Recipe}
-use Rattle.batch_chart.specs.declared.stage.Stage.{Stage}
+use Rattle.batch_model.{specs.Lists.Has, specs.Lists.Each, specs.Placed.IsPlaced, specs.Placed.IsPlacedBelow, specs.Placed.ArePlaced, specs.Placed.IsChoicePlaced, specs.Placed.Rises, specs.Rest.Rest, specs.Rest.asking, specs.Rest.acts, specs.Rest.is_done, specs.Rest.place_of, proofs.Members.Each-Has}
+use Rattle.batch_step_laws.proofs.{MoveOrder.before-asym, ActOrder.acts-rise}
+use Rattle.batch_chart.{specs.declared.stage.Stage.Stage, specs.Stages.stage_at, specs.Meaning.meaning, specs.Meaning.meaning_below, specs.Meaning.act_as, specs.Outlined.kind_at, specs.Nexts.first_of, specs.Numbered.numbered, specs.NodesOf.nodes_of, specs.NodesOf.node_at, specs.NodesOf.place_at, specs.NodesOf.step_at, specs.NodesOf.task_at, specs.Nexts.IsFoundFirst, specs.Running.IsLaid, specs.Running.IsAlive, specs.Running.SomeLives, specs.Running.IsNodeAsking, specs.Charts.AsksAt, specs.Charts.IsFirstWaiting, specs.NodesOf.tree_step, proofs.KnownTests.chosen-true, proofs.KnownTests.chosen-false, proofs.NumberedActs.numbered-acts, proofs.ChartChange.fits-act, proofs.ChartChange.fits-count, proofs.ChartChange.number-at-place, proofs.ChartChange.act-place, proofs.ChartChange.entry-undone, proofs.NodesAtNumbers.node-got, proofs.NextMoves.known, proofs.NextMoves.first-has, proofs.SignTests.waits_from}
 use Rattle.batch_chart.specs.declared.stage.Stage.TheVariants as stage
-use Rattle.batch_chart.specs.Stages.{stage_at}
-use Rattle.batch_chart.specs.Meaning.{meaning, meaning_below, act_as}
-use Rattle.batch_chart.specs.Outlined.{kind_at}
-use Rattle.batch_chart.specs.Nexts.{first_of}
-use Rattle.batch_chart.specs.Numbered.{numbered}
-use Rattle.batch_chart.specs.NodesOf.{nodes_of, node_at, place_at, step_at, task_at}
-use Rattle.batch_chart.specs.Nexts.{IsFoundFirst}
-use Rattle.batch_chart.specs.Running.{IsLaid, IsAlive, SomeLives, IsNodeAsking}
-use Rattle.batch_chart.specs.Charts.{AsksAt, IsFirstWaiting}
-use Rattle.batch_chart.specs.NodesOf.{tree_step}
-use Rattle.batch_chart.proofs.KnownTests.{chosen-true, chosen-false}
-use Rattle.batch_chart.proofs.NumberedActs.{numbered-acts}
-use Rattle.batch_chart.proofs.ChartChange.{fits-act, fits-count, number-at-place, act-place, entry-undone}
-use Rattle.batch_chart.proofs.NodesAtNumbers.{node-got}
-use Rattle.batch_chart.proofs.NextMoves.{known, first-has}
-use Rattle.batch_chart.proofs.SignTests.{waits_from}
 
 -- Each act among the nodes carries the place of its node
 

@@ -1,46 +1,13 @@
 -- The first act that is found makes the first move of a kind.
 use Rattle.std.proofs.Common.{◌≡◌, ◌⊎◌, inl, inr, ◌<◌, ℕ, suc, ◌+◌, ◌-◌, List, [], ◌∷◌, length, zero, Bool, true, false, ◌&&◌, Some, None, nat_eq, nat_lt, nat_le, cond, arith, refl, sym, ◌∙◌, subst, ap, ap₂}
-use Rattle.std.specs.Prelude.{slice_index_or, Option, IfSome, not, ◌||◌, map, find, option_map, option_and_then}
-use Rattle.std.specs.List.{filter_map, cons_option}
-use Rattle.std.specs.Int.Bits.{bit_or}
-use Rattle.std.proofs.lemmas.Bool.Decides.{nat_tests}
-use Rattle.batch_matrix.specs.declared.state.State.{State}
-use Rattle.batch_matrix.specs.declared.command.Command.{Command}
-use Rattle.batch_matrix.specs.Matrix.{accepts}
-use Rattle.batch_recipe.specs.Conditions.{Name}
-use Rattle.batch_recipe.specs.Tree.{Place, Step, Phase, Task, runs, follows, Tree}
-use Rattle.batch_model.specs.Lists.{Has}
-use Rattle.batch_model.specs.Plant.{Batch, held_in}
-use Rattle.batch_model.specs.Rest.{Rest, ready, asking, open_act, live, freeing, acts, is_done}
-use Rattle.batch_model.specs.Settled.{IsAdvanced}
+use Rattle.std.{specs.Prelude.slice_index_or, specs.Prelude.Option, specs.Prelude.IfSome, specs.Prelude.not, specs.Prelude.◌||◌, specs.Prelude.map, specs.Prelude.find, specs.Prelude.option_map, specs.Prelude.option_and_then, specs.List.filter_map, specs.List.cons_option, specs.Int.Bits.bit_or, proofs.lemmas.Bool.Decides.nat_tests}
+use Rattle.batch_matrix.specs.{declared.state.State.State, declared.command.Command.Command, Matrix.accepts}
+use Rattle.batch_recipe.specs.{Conditions.Name, Tree.Place, Tree.Step, Tree.Phase, Tree.Task, Tree.runs, Tree.follows, Tree.Tree, declared.entry.Entry.Entry, Nodes.node_count, Procedure.bound_tree, declared.recipe.Recipe.Recipe}
+use Rattle.batch_model.specs.{Lists.Has, Plant.Batch, Plant.held_in, Rest.Rest, Rest.ready, Rest.asking, Rest.open_act, Rest.live, Rest.freeing, Rest.acts, Rest.is_done, Settled.IsAdvanced, Moves.handed_values, Moves.passed_on, Moves.is_running, Moves.is_stopping, Moves.is_stopped, Moves.is_empty, Moves.is_quiet, Moves.when, Moves.entering, Moves.last_held, Moves.giving_back, Moves.reserved_place, Moves.handing_over}
 use Rattle.batch_model.specs.Moves as machine
-use Rattle.batch_model.specs.Moves.{handed_values, passed_on, is_running, is_stopping, is_stopped, is_empty, is_quiet, when, entering, last_held, giving_back, reserved_place, handing_over}
-use Rattle.batch_recipe.specs.declared.entry.Entry.{Entry}
-use Rattle.batch_chart.specs.declared.node.Kind.{Kind}
-use Rattle.batch_chart.specs.declared.node.Kind.TheVariants.{Act}
+use Rattle.batch_chart.{specs.declared.node.Kind.Kind, specs.declared.node.Kind.TheVariants.Act, specs.declared.stage.Stage.Stage, specs.declared.stage.Stage.TheVariants.Ready, specs.declared.stage.Stage.TheVariants.Open, specs.declared.stage.Stage.TheVariants.Live, specs.declared.stage.Stage.TheVariants.Freeing, specs.declared.chart_move.Move.Move, specs.Stages.stage_at, specs.Meaning.act_as, specs.Outlined.kind_at, specs.Outlined.is_act_kind, specs.Nexts.first_of, specs.Noting.gives, specs.NodesOf.no_need, specs.NodesOf.no_phase, specs.NodesOf.phase_in, specs.NodesOf.name_in, specs.NodesOf.place_at, specs.NodesOf.step_at, specs.OwnMoves.own_move, specs.OwnMoves.is_kind, specs.Running.CanRelease, specs.Running.HasMore, specs.Running.Allows, specs.Nexts.held_at, specs.Nexts.last_held as last, specs.Nexts.entered, specs.Nexts.releasing, specs.Nexts.handing, specs.Passing.IsBatchOf, specs.Passing.PassesTo, proofs.KnownTests.chosen-true, proofs.KnownTests.chosen-false, specs.declared.sign.TheConstants.FITS, specs.declared.sign.TheConstants.FREES, specs.declared.sign.TheConstants.IS_OVER, specs.declared.sign.TheConstants.LACKS, proofs.ChartChange.Fits, proofs.ChartChange.fits-act, proofs.SignTests.showing, proofs.SignTests.of_states, proofs.SignTests.gives_back, proofs.SignTests.ready-shows, proofs.SignTests.asking-shows, proofs.SignTests.open-shows, proofs.SignTests.live-shows, proofs.SignTests.freeing-shows, proofs.SignTests.low-1, proofs.SignTests.low-8, proofs.SignTests.low-10, proofs.SignTests.open-lacks, proofs.SignTests.open-frees, proofs.SignTests.live-frees, proofs.SignTests.freeing-frees, proofs.MoveKinds.kind_in, proofs.MoveKinds.less, proofs.MoveKinds.and-true, proofs.MoveKinds.empty-done, proofs.MoveKinds.entering-ask, proofs.MoveKinds.entering-start, proofs.MoveKinds.entering-begin, proofs.MoveKinds.giving-some, proofs.MoveKinds.passing-some, proofs.MoveKinds.ready-kind, proofs.MoveKinds.open-kind, proofs.MoveKinds.live_kind, proofs.MoveKinds.live-kind, proofs.MoveKinds.freeing-kind}
 use Rattle.batch_chart.specs.declared.node.Kind.TheVariants as kind
-use Rattle.batch_chart.specs.declared.stage.Stage.{Stage}
-use Rattle.batch_chart.specs.declared.stage.Stage.TheVariants.{Ready, Open, Live, Freeing}
-use Rattle.batch_chart.specs.declared.chart_move.Move.{Move}
 use Rattle.batch_chart.specs.declared.chart_move.Move.TheVariants as move
-use Rattle.batch_chart.specs.Stages.{stage_at}
-use Rattle.batch_chart.specs.Meaning.{act_as}
-use Rattle.batch_chart.specs.Outlined.{kind_at, is_act_kind}
-use Rattle.batch_chart.specs.Nexts.{first_of}
-use Rattle.batch_chart.specs.Noting.{gives}
-use Rattle.batch_chart.specs.NodesOf.{no_need, no_phase, phase_in, name_in, place_at, step_at}
-use Rattle.batch_chart.specs.OwnMoves.{own_move, is_kind}
-use Rattle.batch_chart.specs.Running.{CanRelease, HasMore, Allows}
-use Rattle.batch_chart.specs.Nexts.{held_at, last_held as last, entered, releasing, handing}
-use Rattle.batch_chart.specs.Passing.{IsBatchOf, PassesTo}
-use Rattle.batch_recipe.specs.Nodes.{node_count}
-use Rattle.batch_recipe.specs.Procedure.{bound_tree}
-use Rattle.batch_recipe.specs.declared.recipe.Recipe.{Recipe}
-use Rattle.batch_chart.proofs.KnownTests.{chosen-true, chosen-false}
-use Rattle.batch_chart.specs.declared.sign.TheConstants.{FITS, FREES, IS_OVER, LACKS}
-use Rattle.batch_chart.proofs.ChartChange.{Fits, fits-act}
-use Rattle.batch_chart.proofs.SignTests.{showing, of_states, gives_back, ready-shows, asking-shows, open-shows, live-shows, freeing-shows, low-1, low-8, low-10, open-lacks, open-frees, live-frees, freeing-frees}
-use Rattle.batch_chart.proofs.MoveKinds.{kind_in, less, and-true, empty-done, entering-ask, entering-start, entering-begin, giving-some, passing-some, ready-kind, open-kind, live_kind, live-kind, freeing-kind}
 
 -- the first move of a kind
 

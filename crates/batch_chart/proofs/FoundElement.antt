@@ -1,7 +1,6 @@
 -- An element that is found passes a test that all pass.
 use Rattle.std.proofs.Common.{◌≡◌, Bool, true, false, cond, Option, Some, None, List, [], ◌∷◌, subst}
-use Rattle.std.proofs.lemmas.Bool.{and_parts}
-use Rattle.std.specs.List.{list_all, find}
+use Rattle.std.{proofs.lemmas.Bool.and_parts, specs.List.list_all, specs.List.find}
 use Rattle.batch_recipe.specs.declared.act.Act.{Act}
 
 found_step : (q : Act → Bool) (b : Bool) (x a : Act) (rest : Option Act) → cond b (Some x) rest ≡ Some a → q x ≡ true → (rest ≡ Some a → q a ≡ true) → q a ≡ true

@@ -1,10 +1,7 @@
 -- A batch without a move of its own can make grants alone.
 use Rattle.std.proofs.Common.{◌≡◌, List, [], ◌∷◌, Some, None, refl, sym, ◌∙◌, ap}
-use Rattle.std.specs.Prelude.{Option, ◌++◌, option_to_list}
-use Rattle.std.specs.List.{filter_map, cons_option}
-use Rattle.batch_model.specs.Plant.{Setup, Batch, Plant}
-use Rattle.batch_model.specs.Rest.{Rest, ready, asking, open_act, live, freeing, in_seq, in_par, in_loop, done, acts}
-use Rattle.batch_model.specs.Moves.{Move, act_move, state_move, batch_moves}
+use Rattle.std.specs.{Prelude.Option, Prelude.◌++◌, Prelude.option_to_list, List.filter_map, List.cons_option}
+use Rattle.batch_model.specs.{Plant.Setup, Plant.Batch, Plant.Plant, Rest.Rest, Rest.ready, Rest.asking, Rest.open_act, Rest.live, Rest.freeing, Rest.in_seq, Rest.in_par, Rest.in_loop, Rest.done, Rest.acts, Moves.Move, Moves.act_move, Moves.state_move, Moves.batch_moves}
 use Rattle.batch_chart.specs.OwnMoves.{own_move, own_moves, own_next, grant_move, grants}
 use Rattle.batch_step_laws.proofs.MoveOrder.{none_least}
 

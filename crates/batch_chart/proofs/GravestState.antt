@@ -1,17 +1,10 @@
 -- The gravest state of live phases is the first, in their order, that one of them has.
 use Rattle.std.proofs.Common.{◌≡◌, ◌⊎◌, inl, inr, ◌<◌, ◌≤◌, ℕ, List, [], ◌∷◌, Bool, true, false, Some, None, nat_lt, arith, refl, sym, ◌∙◌, subst, ap}
-use Rattle.std.specs.Prelude.{Option, find, ◌||◌}
-use Rattle.std.specs.List.{list_any}
-use Rattle.std.proofs.Math.Bool.{cond}
+use Rattle.std.{specs.Prelude.Option, specs.Prelude.find, specs.Prelude.◌||◌, specs.List.list_any, proofs.Math.Bool.cond}
 use denote.Enum.Bare.{same_true, true_same}
-use Rattle.batch_matrix.specs.declared.state.State.{State}
-use Rattle.batch_matrix.specs.declared.state.State.TheVariants.{Running, Pausing, Paused, Holding, Held, Restarting, Stopping, Aborting}
-use Rattle.batch_matrix.specs.contracts.state.State.{the_type}
-use Rattle.batch_matrix.specs.Matrix.{same_state}
-use Rattle.batch_model.specs.ActStates.{gravity, gravest}
-use Rattle.batch_model.specs.Lists.{Has}
-use Rattle.batch_chart.specs.Showing.{is_among}
-use Rattle.batch_chart.proofs.MoveKinds.{less, not-less}
+use Rattle.batch_matrix.specs.{declared.state.State.State, declared.state.State.TheVariants.Running, declared.state.State.TheVariants.Pausing, declared.state.State.TheVariants.Paused, declared.state.State.TheVariants.Holding, declared.state.State.TheVariants.Held, declared.state.State.TheVariants.Restarting, declared.state.State.TheVariants.Stopping, declared.state.State.TheVariants.Aborting, contracts.state.State.the_type, Matrix.same_state}
+use Rattle.batch_model.specs.{ActStates.gravity, ActStates.gravest, Lists.Has}
+use Rattle.batch_chart.{specs.Showing.is_among, proofs.MoveKinds.less, proofs.MoveKinds.not-less}
 
 same-is : (y x : State) → same_state y x ≡ true → y ≡ x
 same-is y x e = same_true the_type tt y x e

@@ -1,23 +1,10 @@
 -- The least of a batch's own moves is the first of the least kind.
 use Rattle.std.proofs.Common.{◌≡◌, ◌≢◌, ◌⊎◌, inl, inr, ◌<◌, ◌≤◌, ℕ, List, [], ◌∷◌, Bool, true, false, Some, None, nat_eq, nat_lt, cond, arith, refl, sym, ◌∙◌, subst, ap}
-use Rattle.std.specs.Prelude.{Option, find, ⊤, ◌++◌, option_to_list, slice_get}
-use Rattle.std.specs.List.{filter_map, cons_option}
-use Rattle.std.proofs.lemmas.Bool.Decides.{nat_tests}
-use Rattle.batch_recipe.specs.declared.need.Need.{Need}
-use Rattle.batch_recipe.specs.Tree.{Place, is_before}
-use Rattle.batch_model.specs.Lists.{Has, Each}
-use Rattle.batch_step_laws.specs.Laws.{IsFirst}
-use Rattle.batch_model.specs.Placed.{Rises}
-use Rattle.batch_model.specs.Plant.{Setup, Batch, Plant, opening}
-use Rattle.batch_model.specs.Rest.{Rest, ready, asking, open_act, live, freeing, in_seq, in_par, in_loop, done, acts, place_of}
-use Rattle.batch_model.specs.Moves.{Move, send, state, release, pass, begin, start, end, ask, grant, batch_of, kind_of, place_of_move, order_of, is_earlier, act_move, state_move, least, batch_moves, when, is_served}
-use Rattle.batch_step_laws.proofs.StateMoves.{IsStateMove, state_move-is}
-use Rattle.batch_step_laws.proofs.ActMoves.{IsMoveOf, act_move-is}
-use Rattle.batch_model.proofs.Members.{Has-filter_map, Each-Has}
-use Rattle.batch_step_laws.proofs.MoveOrder.{least-IsFirst, least-IsLeast, before-asym}
-use Rattle.batch_chart.specs.OwnMoves.{own_move, own_moves, own_next, grant_move, grants, is_kind}
-use Rattle.batch_chart.proofs.MoveKinds.{kind_in}
-use Rattle.batch_chart.proofs.FirstMoves.{no-state, no-grant}
+use Rattle.std.{specs.Prelude.Option, specs.Prelude.find, specs.Prelude.⊤, specs.Prelude.◌++◌, specs.Prelude.option_to_list, specs.Prelude.slice_get, specs.List.filter_map, specs.List.cons_option, proofs.lemmas.Bool.Decides.nat_tests}
+use Rattle.batch_recipe.specs.{declared.need.Need.Need, Tree.Place, Tree.is_before}
+use Rattle.batch_model.{specs.Lists.Has, specs.Lists.Each, specs.Placed.Rises, specs.Plant.Setup, specs.Plant.Batch, specs.Plant.Plant, specs.Plant.opening, specs.Rest.Rest, specs.Rest.ready, specs.Rest.asking, specs.Rest.open_act, specs.Rest.live, specs.Rest.freeing, specs.Rest.in_seq, specs.Rest.in_par, specs.Rest.in_loop, specs.Rest.done, specs.Rest.acts, specs.Rest.place_of, specs.Moves.Move, specs.Moves.send, specs.Moves.state, specs.Moves.release, specs.Moves.pass, specs.Moves.begin, specs.Moves.start, specs.Moves.end, specs.Moves.ask, specs.Moves.grant, specs.Moves.batch_of, specs.Moves.kind_of, specs.Moves.place_of_move, specs.Moves.order_of, specs.Moves.is_earlier, specs.Moves.act_move, specs.Moves.state_move, specs.Moves.least, specs.Moves.batch_moves, specs.Moves.when, specs.Moves.is_served, proofs.Members.Has-filter_map, proofs.Members.Each-Has}
+use Rattle.batch_step_laws.{specs.Laws.IsFirst, proofs.StateMoves.IsStateMove, proofs.StateMoves.state_move-is, proofs.ActMoves.IsMoveOf, proofs.ActMoves.act_move-is, proofs.MoveOrder.least-IsFirst, proofs.MoveOrder.least-IsLeast, proofs.MoveOrder.before-asym}
+use Rattle.batch_chart.{specs.OwnMoves.own_move, specs.OwnMoves.own_moves, specs.OwnMoves.own_next, specs.OwnMoves.grant_move, specs.OwnMoves.grants, specs.OwnMoves.is_kind, proofs.MoveKinds.kind_in, proofs.FirstMoves.no-state, proofs.FirstMoves.no-grant}
 
 abbrev nothing_cleared : Setup
 nothing_cleared = record { units = []; resources = []; capacity = λ r. 0; offers = λ u p. false; recipes = []; batch_limit = 0 }

@@ -1,43 +1,13 @@
 -- The first live phase with a name, from a node on.
 use Rattle.std.proofs.Common.{◌≡◌, inl, inr, ◌<◌, ◌≤◌, ℕ, ◌+◌, List, [], ◌∷◌, length, Bool, true, false, Some, None, nat_le, arith, refl, sym, ◌∙◌, subst, ap}
-use Rattle.std.specs.Prelude.{Option, map, filter, option_map, ◌&&◌, ⊤}
-use Rattle.std.proofs.lemmas.Bool.{cases_lt}
-use Rattle.std.proofs.lemmas.Bool.Decides.{nat_tests}
-use Rattle.batch_matrix.specs.declared.state.State.{State}
-use Rattle.batch_matrix.specs.declared.state.State.TheVariants.{Idle}
-use Rattle.batch_recipe.specs.Conditions.{Name, same_name}
-use Rattle.batch_recipe.specs.Nodes.{node_count}
-use Rattle.batch_recipe.specs.Tree.{is_before, Step, Phase, Task, runs, Tree, act}
-use Rattle.batch_recipe.proofs.ValueUpdates.{same-names}
-use Rattle.batch_recipe.proofs.NodesBelow.{not_before}
-use Rattle.batch_model.specs.Lists.{Has, Each}
-use Rattle.batch_model.specs.Placed.{Rises}
-use Rattle.batch_model.specs.Plant.{Batch}
-use Rattle.batch_model.specs.Rest.{Rest, live, acts, is_done, place_of}
-use Rattle.batch_model.specs.Events.{LivePhase, live_in}
-use Rattle.batch_model.proofs.Members.{Each-Has}
-use Rattle.batch_step_laws.proofs.MoveOrder.{before-asym}
-use Rattle.batch_step_laws.proofs.ActOrder.{acts-rise}
-use Rattle.batch_recipe.specs.declared.entry.Entry.{Entry}
-use Rattle.batch_chart.specs.declared.node.Kind.{Kind}
+use Rattle.std.{specs.Prelude.Option, specs.Prelude.map, specs.Prelude.filter, specs.Prelude.option_map, specs.Prelude.◌&&◌, specs.Prelude.⊤, proofs.lemmas.Bool.cases_lt, proofs.lemmas.Bool.Decides.nat_tests}
+use Rattle.batch_matrix.specs.declared.state.State.{State, TheVariants.Idle}
+use Rattle.batch_recipe.{specs.Conditions.Name, specs.Conditions.same_name, specs.Nodes.node_count, specs.Tree.is_before, specs.Tree.Step, specs.Tree.Phase, specs.Tree.Task, specs.Tree.runs, specs.Tree.Tree, specs.Tree.act, proofs.ValueUpdates.same-names, proofs.NodesBelow.not_before, specs.declared.entry.Entry.Entry, specs.declared.recipe.Recipe.Recipe}
+use Rattle.batch_model.{specs.Lists.Has, specs.Lists.Each, specs.Placed.Rises, specs.Plant.Batch, specs.Rest.Rest, specs.Rest.live, specs.Rest.acts, specs.Rest.is_done, specs.Rest.place_of, specs.Events.LivePhase, specs.Events.live_in, proofs.Members.Each-Has}
+use Rattle.batch_step_laws.proofs.{MoveOrder.before-asym, ActOrder.acts-rise}
+use Rattle.batch_chart.{specs.declared.node.Kind.Kind, specs.declared.stage.Stage.Stage, specs.Stages.stage_at, specs.Meaning.meaning, specs.Meaning.meaning_below, specs.Meaning.act_as, specs.Outlined.kind_at, specs.Nexts.first_of, specs.Numbered.numbered, specs.Numbered.acts_since, specs.NodesOf.node_at, specs.NodesOf.place_at, specs.NodesOf.phase_at, specs.NodesOf.phase_in, specs.NodesOf.phase_named, specs.Nexts.IsFoundFirst, specs.Running.IsLaid, specs.Running.IsAlive, specs.Running.SomeLives, specs.Running.IsLiveIn, specs.Looked.IsLiveFound, specs.Looked.live_by, specs.Looked.live_phase_at, proofs.ActsAtNodes.numbers-rise, proofs.NumberedActs.numbered-acts, proofs.ChartChange.Fits, proofs.ChartChange.act-place, proofs.ChartChange.entry-undone, proofs.NextMoves.known, proofs.NextMoves.first-has, proofs.MoveKinds.and-true}
 use Rattle.batch_chart.specs.declared.node.Kind.TheVariants as kind
-use Rattle.batch_recipe.specs.declared.recipe.Recipe.{Recipe}
-use Rattle.batch_chart.specs.declared.stage.Stage.{Stage}
 use Rattle.batch_chart.specs.declared.stage.Stage.TheVariants as stage
-use Rattle.batch_chart.specs.Stages.{stage_at}
-use Rattle.batch_chart.specs.Meaning.{meaning, meaning_below, act_as}
-use Rattle.batch_chart.specs.Outlined.{kind_at}
-use Rattle.batch_chart.specs.Nexts.{first_of}
-use Rattle.batch_chart.specs.Numbered.{numbered, acts_since}
-use Rattle.batch_chart.specs.NodesOf.{node_at, place_at, phase_at, phase_in, phase_named}
-use Rattle.batch_chart.specs.Nexts.{IsFoundFirst}
-use Rattle.batch_chart.specs.Running.{IsLaid, IsAlive, SomeLives, IsLiveIn}
-use Rattle.batch_chart.specs.Looked.{IsLiveFound, live_by, live_phase_at}
-use Rattle.batch_chart.proofs.ActsAtNodes.{numbers-rise}
-use Rattle.batch_chart.proofs.NumberedActs.{numbered-acts}
-use Rattle.batch_chart.proofs.ChartChange.{Fits, act-place, entry-undone}
-use Rattle.batch_chart.proofs.NextMoves.{known, first-has}
-use Rattle.batch_chart.proofs.MoveKinds.{and-true}
 
 abbrev state_of : Stage → State
 state_of (stage.Live x) = x

@@ -1,33 +1,10 @@
 -- The first live phase with a name, by the signs.
 use Rattle.std.proofs.Common.{◌≡◌, ◌⊎◌, inl, inr, ◌<◌, ◌≤◌, ℕ, ◌+◌, List, [], ◌∷◌, Bool, true, false, ◌&&◌, Some, None, nat_le, arith, refl, sym, ◌∙◌, subst, ap}
-use Rattle.std.specs.Prelude.{Option}
-use Rattle.std.specs.Int.Bits.{bit_and}
-use Rattle.std.proofs.lemmas.Bool.{cases_lt}
-use Rattle.std.proofs.lemmas.Bool.Decides.{eqb_tells, nat_tests}
-use Rattle.batch_recipe.specs.Conditions.{Name, same_name}
-use Rattle.batch_recipe.specs.Nodes.{node_count}
-use Rattle.batch_recipe.specs.Tree.{Step, Phase, Task, runs, follows, Tree, act}
-use Rattle.batch_model.specs.Lists.{Has}
-use Rattle.batch_model.specs.Rest.{Rest, live}
-use Rattle.batch_recipe.specs.declared.entry.Entry.{Entry}
-use Rattle.batch_recipe.specs.declared.recipe.Recipe.{Recipe}
-use Rattle.batch_chart.specs.declared.sign.TheConstants.{LIVES}
-use Rattle.batch_chart.specs.declared.stage.Stage.{Stage}
-use Rattle.batch_chart.specs.Outlined.{kind_at, Stands}
-use Rattle.batch_chart.specs.Nexts.{first_of}
-use Rattle.batch_chart.specs.Meaning.{meaning_below}
-use Rattle.batch_chart.specs.Nexts.{IsFoundFirst, SomeNoted, has_name, is_named, names_at, IsFirstNamed}
-use Rattle.batch_chart.specs.Noting.{signs_of, sign_in}
-use Rattle.batch_chart.specs.Numbered.{numbered}
-use Rattle.batch_chart.specs.Running.{IsLaid}
-use Rattle.batch_signs.specs.Signs.{shows, sign_at, IsNextShown}
-use Rattle.batch_chart.specs.Stages.{stage_at}
-use Rattle.batch_chart.proofs.KnownTests.{chosen-true, chosen-false}
-use Rattle.batch_chart.proofs.LivePhase.{looks, live-known}
-use Rattle.batch_signs.proofs.WantedSigns.{nothing-shown}
-use Rattle.batch_chart.proofs.SignSearch.{RiseIn, rise, sign-here, sign-other, shown-not, noted-alike}
-use Rattle.batch_chart.proofs.SignTests.{any_live, said-live}
-use Rattle.batch_chart.proofs.ChartChange.{entry-at}
+use Rattle.std.{specs.Prelude.Option, specs.Int.Bits.bit_and, proofs.lemmas.Bool.cases_lt, proofs.lemmas.Bool.Decides.eqb_tells, proofs.lemmas.Bool.Decides.nat_tests}
+use Rattle.batch_recipe.specs.{Conditions.Name, Conditions.same_name, Nodes.node_count, Tree.Step, Tree.Phase, Tree.Task, Tree.runs, Tree.follows, Tree.Tree, Tree.act, declared.entry.Entry.Entry, declared.recipe.Recipe.Recipe}
+use Rattle.batch_model.specs.{Lists.Has, Rest.Rest, Rest.live}
+use Rattle.batch_chart.{specs.declared.sign.TheConstants.LIVES, specs.declared.stage.Stage.Stage, specs.Outlined.kind_at, specs.Outlined.Stands, specs.Nexts.first_of, specs.Meaning.meaning_below, specs.Nexts.IsFoundFirst, specs.Nexts.SomeNoted, specs.Nexts.has_name, specs.Nexts.is_named, specs.Nexts.names_at, specs.Nexts.IsFirstNamed, specs.Noting.signs_of, specs.Noting.sign_in, specs.Numbered.numbered, specs.Running.IsLaid, specs.Stages.stage_at, proofs.KnownTests.chosen-true, proofs.KnownTests.chosen-false, proofs.LivePhase.looks, proofs.LivePhase.live-known, proofs.SignSearch.RiseIn, proofs.SignSearch.rise, proofs.SignSearch.sign-here, proofs.SignSearch.sign-other, proofs.SignSearch.shown-not, proofs.SignSearch.noted-alike, proofs.SignTests.any_live, proofs.SignTests.said-live, proofs.ChartChange.entry-at}
+use Rattle.batch_signs.{specs.Signs.shows, specs.Signs.sign_at, specs.Signs.IsNextShown, proofs.WantedSigns.nothing-shown}
 
 -- the first number that passes a test is that of the first entry which does, where the test tells entries
 

@@ -1,21 +1,10 @@
 -- Which kind of move each act makes, and which move it is.
 use Rattle.std.proofs.Common.{◌≡◌, ◌<◌, ◌≤◌, ℕ, zero, suc, pred, ◌-◌, List, [], ◌∷◌, length, Bool, true, false, ◌&&◌, Some, None, nat_eq, nat_lt, arith, refl, sym, ◌∙◌, ap, ap₂}
-use Rattle.std.specs.Prelude.{slice_get, slice_index_or, Option, option_map, option_and_then, ◌||◌, ◌++◌}
-use Rattle.std.proofs.lemmas.Bool.Decides.{nat_tests}
-use Rattle.batch_matrix.specs.declared.state.State.{State}
-use Rattle.batch_matrix.specs.declared.command.Command.{Command}
-use Rattle.batch_matrix.specs.Matrix.{accepts}
-use Rattle.batch_recipe.specs.Conditions.{Name}
-use Rattle.batch_recipe.specs.Tree.{Place, Step, Phase, Task, runs, follows, Tree}
-use Rattle.batch_recipe.specs.declared.need.Need.{Need}
-use Rattle.batch_model.specs.Plant.{Batch, held_in}
-use Rattle.batch_model.specs.Rest.{Rest, ready, open_act, live, freeing, in_seq, in_par, in_loop, Rests, no_rests, rest, acts, acts_of_each, is_done, all_done}
-use Rattle.batch_model.specs.Settled.{IsAdvanced, AreAdvanced}
-use Rattle.batch_model.specs.Moves.{Move, send, begin, start, end, ask, release, pass, kind_of, handed_values, passed_on, is_running, is_stopping, is_stopped, is_empty, is_quiet, when, beginning, entering, last_held, giving_back, reserved_place, handing_over}
-use Rattle.batch_chart.specs.NodesOf.{no_need}
-use Rattle.batch_chart.specs.Noting.{gives}
-use Rattle.batch_chart.specs.OwnMoves.{own_move, is_kind}
-use Rattle.batch_chart.proofs.NodesAtNumbers.{get-or}
+use Rattle.std.{specs.Prelude.slice_get, specs.Prelude.slice_index_or, specs.Prelude.Option, specs.Prelude.option_map, specs.Prelude.option_and_then, specs.Prelude.◌||◌, specs.Prelude.◌++◌, proofs.lemmas.Bool.Decides.nat_tests}
+use Rattle.batch_matrix.specs.{declared.state.State.State, declared.command.Command.Command, Matrix.accepts}
+use Rattle.batch_recipe.specs.{Conditions.Name, Tree.Place, Tree.Step, Tree.Phase, Tree.Task, Tree.runs, Tree.follows, Tree.Tree, declared.need.Need.Need}
+use Rattle.batch_model.specs.{Plant.Batch, Plant.held_in, Rest.Rest, Rest.ready, Rest.open_act, Rest.live, Rest.freeing, Rest.in_seq, Rest.in_par, Rest.in_loop, Rest.Rests, Rest.no_rests, Rest.rest, Rest.acts, Rest.acts_of_each, Rest.is_done, Rest.all_done, Settled.IsAdvanced, Settled.AreAdvanced, Moves.Move, Moves.send, Moves.begin, Moves.start, Moves.end, Moves.ask, Moves.release, Moves.pass, Moves.kind_of, Moves.handed_values, Moves.passed_on, Moves.is_running, Moves.is_stopping, Moves.is_stopped, Moves.is_empty, Moves.is_quiet, Moves.when, Moves.beginning, Moves.entering, Moves.last_held, Moves.giving_back, Moves.reserved_place, Moves.handing_over}
+use Rattle.batch_chart.{specs.NodesOf.no_need, specs.Noting.gives, specs.OwnMoves.own_move, specs.OwnMoves.is_kind, proofs.NodesAtNumbers.get-or}
 
 abbrev pub kind_in : ℕ → Option Move → Bool
 kind_in n None = false

@@ -1,22 +1,9 @@
 -- Charts whose signs go by the stages, part by part.
 use Rattle.std.proofs.Common.{◌≡◌, ◌⊎◌, inl, inr, ◌<◌, ◌≤◌, ℕ, ◌+◌, List, length, Bool, true, false, arith, refl, sym, ◌∙◌, subst, ap}
-use Rattle.std.proofs.lemmas.Bool.{cases_lt}
-use Rattle.std.proofs.lemmas.Bool.Decides.{eqb_tells}
-use Rattle.batch_recipe.specs.Nodes.{node_count}
-use Rattle.batch_recipe.specs.Tree.{follows, Tree, act}
-use Rattle.batch_recipe.specs.declared.entry.Entry.{Entry}
-use Rattle.batch_recipe.specs.declared.recipe.Recipe.{Recipe}
-use Rattle.batch_recipe.proofs.NodeSubtrees.{some_count}
-use Rattle.batch_chart.specs.declared.stage.Stage.{Stage}
-use Rattle.batch_chart.specs.declared.stage.Stage.TheVariants.{Finished, Open}
-use Rattle.batch_chart.specs.Outlined.{end_at, Stands}
-use Rattle.batch_chart.specs.Meaning.{AgreeOutside, AgreeWithin}
-use Rattle.batch_chart.specs.Neat.{runs_below, is_single, AllFinished, IsLone, act_shows, shown_of, IsNeat, AreNeat, AreBlank, SignsOutside}
-use Rattle.batch_chart.specs.Running.{IsLaid}
+use Rattle.std.proofs.lemmas.Bool.{cases_lt, Decides.eqb_tells}
+use Rattle.batch_recipe.{specs.Nodes.node_count, specs.Tree.follows, specs.Tree.Tree, specs.Tree.act, specs.declared.entry.Entry.Entry, specs.declared.recipe.Recipe.Recipe, proofs.NodeSubtrees.some_count}
+use Rattle.batch_chart.{specs.declared.stage.Stage.Stage, specs.declared.stage.Stage.TheVariants.Finished, specs.declared.stage.Stage.TheVariants.Open, specs.Outlined.end_at, specs.Outlined.Stands, specs.Meaning.AgreeOutside, specs.Meaning.AgreeWithin, specs.Neat.runs_below, specs.Neat.is_single, specs.Neat.AllFinished, specs.Neat.IsLone, specs.Neat.act_shows, specs.Neat.shown_of, specs.Neat.IsNeat, specs.Neat.AreNeat, specs.Neat.AreBlank, specs.Neat.SignsOutside, specs.Running.IsLaid, specs.Stages.stage_at, specs.Stages.is_finished, proofs.TreePositions.stood, proofs.TreePositions.some-stands, proofs.TreePositions.nested, proofs.FinishedStages.AreNested}
 use Rattle.batch_signs.specs.Signs.{sign_at}
-use Rattle.batch_chart.specs.Stages.{stage_at, is_finished}
-use Rattle.batch_chart.proofs.TreePositions.{stood, some-stands, nested}
-use Rattle.batch_chart.proofs.FinishedStages.{AreNested}
 
 -- a finished node has no signs
 pub finished-shows : (c : Tree) (b : Bool) → shown_of c Finished b ≡ 0

@@ -1,43 +1,15 @@
 -- The nodes of the next move are nodes of the tree, and its need is one of an act of the rest.
 use Rattle.std.proofs.Common.{◌≡◌, ◌⊎◌, inl, inr, ◌<◌, ℕ, suc, ◌+◌, List, length, Some, None, arith, refl, sym, ◌∙◌, subst, ap, ap₂}
-use Rattle.std.specs.Prelude.{Option, IfSome, take, ◌++◌, option_to_list}
-use Rattle.std.specs.List.{filter_map}
-use Rattle.std.proofs.Math.Seq.{take-length}
+use Rattle.std.{specs.Prelude.Option, specs.Prelude.IfSome, specs.Prelude.take, specs.Prelude.◌++◌, specs.Prelude.option_to_list, specs.List.filter_map, proofs.Math.Seq.take-length}
 use Rattle.batch_matrix.specs.declared.state.State.{State}
-use Rattle.batch_recipe.specs.Nodes.{node_count}
-use Rattle.batch_recipe.specs.Tree.{Step, Task, runs, follows, Tree, act}
-use Rattle.batch_model.specs.Lists.{Has}
-use Rattle.batch_model.specs.Plant.{Batch, held_by}
-use Rattle.batch_model.specs.Rest.{Rest, ready, freeing, acts, place_of}
-use Rattle.batch_model.specs.Standing.{IsRestOf}
+use Rattle.batch_recipe.specs.{Nodes.node_count, Tree.Step, Tree.Task, Tree.runs, Tree.follows, Tree.Tree, Tree.act, declared.entry.Entry.Entry, declared.recipe.Recipe.Recipe}
+use Rattle.batch_model.{specs.Lists.Has, specs.Plant.Batch, specs.Plant.held_by, specs.Rest.Rest, specs.Rest.ready, specs.Rest.freeing, specs.Rest.acts, specs.Rest.place_of, specs.Standing.IsRestOf, specs.Moves.freed, specs.Moves.kind_of, specs.Moves.place_of_move, specs.Moves.state_move, proofs.Members.Has-filter_map}
 use Rattle.batch_model.specs.Moves as machine
-use Rattle.batch_model.specs.Moves.{freed, kind_of, place_of_move, state_move}
-use Rattle.batch_step_laws.proofs.StateMoves.{state_move-is}
-use Rattle.batch_model.proofs.Members.{Has-filter_map}
-use Rattle.batch_step_laws.proofs.MoveOrder.{least-IsLeast}
-use Rattle.batch_recipe.specs.declared.entry.Entry.{Entry}
-use Rattle.batch_chart.specs.declared.node.Kind.{Kind}
+use Rattle.batch_step_laws.proofs.{StateMoves.state_move-is, MoveOrder.least-IsLeast}
+use Rattle.batch_chart.{specs.declared.node.Kind.Kind, specs.declared.stage.Stage.Stage, specs.declared.chart_move.Move.Move, specs.Stages.stage_at, specs.Meaning.meaning, specs.Meaning.meaning_below, specs.Meaning.act_as, specs.Outlined.kind_at, specs.NodesOf.place_at, specs.OwnMoves.own_move, specs.OwnMoves.own_moves, specs.OwnMoves.own_next, specs.Seen.machine_move, specs.Running.IsLaid, specs.Running.IsAlive, specs.Running.CanRelease, specs.Running.Allows, specs.Nexts.IsNext, specs.Passing.IsTreeOf, specs.Charts.StandsFor, proofs.ChartChange.Fits, proofs.ChartChange.number-at-place, proofs.ActAfterMove.fits-count, proofs.ActAfterMove.suc-of, proofs.NextMoves.IsKnown, proofs.NextMoves.known, proofs.NextMoves.some_batch, proofs.LeastOwnMove.own-is, proofs.ActsAtNodes.of-tree}
 use Rattle.batch_chart.specs.declared.node.Kind.TheVariants as kind
-use Rattle.batch_recipe.specs.declared.recipe.Recipe.{Recipe}
-use Rattle.batch_chart.specs.declared.stage.Stage.{Stage}
 use Rattle.batch_chart.specs.declared.stage.Stage.TheVariants as stage
-use Rattle.batch_chart.specs.declared.chart_move.Move.{Move}
 use Rattle.batch_chart.specs.declared.chart_move.Move.TheVariants as move
-use Rattle.batch_chart.specs.Stages.{stage_at}
-use Rattle.batch_chart.specs.Meaning.{meaning, meaning_below, act_as}
-use Rattle.batch_chart.specs.Outlined.{kind_at}
-use Rattle.batch_chart.specs.NodesOf.{place_at}
-use Rattle.batch_chart.specs.OwnMoves.{own_move, own_moves, own_next}
-use Rattle.batch_chart.specs.Seen.{machine_move}
-use Rattle.batch_chart.specs.Running.{IsLaid, IsAlive, CanRelease, Allows}
-use Rattle.batch_chart.specs.Nexts.{IsNext}
-use Rattle.batch_chart.specs.Passing.{IsTreeOf}
-use Rattle.batch_chart.specs.Charts.{StandsFor}
-use Rattle.batch_chart.proofs.ChartChange.{Fits, number-at-place}
-use Rattle.batch_chart.proofs.ActAfterMove.{fits-count, suc-of}
-use Rattle.batch_chart.proofs.NextMoves.{IsKnown, known, some_batch}
-use Rattle.batch_chart.proofs.LeastOwnMove.{own-is}
-use Rattle.batch_chart.proofs.ActsAtNodes.{of-tree}
 
 -- the needs that an act holds whose need i can be given back
 held-is : (κ : Kind) (y : Stage) (i : ℕ) (s : Step) (w : Task) (r : Rest) → Fits κ s w → CanRelease κ y i → (u : Step) (v : Task) → IsRestOf (act u v) (act_as s w r y)

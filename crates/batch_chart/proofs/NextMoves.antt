@@ -1,46 +1,14 @@
 -- The first act that is wanted makes the first move of a kind, in the whole chart.
 use Rattle.std.proofs.Common.{◌≡◌, inl, inr, ◌<◌, ℕ, ◌+◌, List, [], ◌∷◌, length, Bool, true, false, ◌&&◌, Some, None, arith, refl, sym, ◌∙◌, subst, ap}
-use Rattle.std.specs.Prelude.{Option, not, ◌||◌, map, find, IfSome, option_map, option_and_then}
-use Rattle.std.specs.List.{filter_map, list_all, list_any}
-use Rattle.std.specs.Option.{is_some}
-use Rattle.batch_matrix.specs.declared.state.State.{State}
+use Rattle.std.specs.{Prelude.Option, Prelude.not, Prelude.◌||◌, Prelude.map, Prelude.find, Prelude.IfSome, Prelude.option_map, Prelude.option_and_then, List.filter_map, List.list_all, List.list_any, Option.is_some}
+use Rattle.batch_matrix.specs.{declared.state.State.State, declared.command.Command.Command, Matrix.accepts, Matrix.same_state, Matrix.ends_as}
 use Rattle.batch_matrix.specs.declared.state.State.TheVariants as state
-use Rattle.batch_matrix.specs.declared.command.Command.{Command}
-use Rattle.batch_matrix.specs.Matrix.{accepts, same_state, ends_as}
 use Rattle.batch_recipe.specs.Nodes as nodes
-use Rattle.batch_recipe.specs.Tree.{Step, Task, Tree, act}
-use Rattle.batch_model.specs.Lists.{Has}
-use Rattle.batch_model.specs.Plant.{Batch, size_out_of_range, held_in, phase_states}
-use Rattle.batch_model.specs.Rest.{Rest, live, is_done, acts}
-use Rattle.batch_model.specs.Settled.{IsAdvanced}
+use Rattle.batch_recipe.specs.{Tree.Step, Tree.Task, Tree.Tree, Tree.act, declared.entry.Entry.Entry, declared.recipe.Recipe.Recipe}
+use Rattle.batch_model.specs.{Lists.Has, Plant.Batch, Plant.size_out_of_range, Plant.held_in, Plant.phase_states, Rest.Rest, Rest.live, Rest.is_done, Rest.acts, Settled.IsAdvanced, Moves.passed_on, Moves.is_running, Moves.is_stopping, Moves.is_stopped, Moves.is_empty, Moves.is_quiet, Moves.is_reached, Moves.state_move}
 use Rattle.batch_model.specs.Moves as machine
-use Rattle.batch_model.specs.Moves.{passed_on, is_running, is_stopping, is_stopped, is_empty, is_quiet, is_reached, state_move}
-use Rattle.batch_recipe.specs.declared.entry.Entry.{Entry}
-use Rattle.batch_chart.specs.declared.node.Kind.{Kind}
-use Rattle.batch_recipe.specs.declared.recipe.Recipe.{Recipe}
-use Rattle.batch_chart.specs.declared.stage.Stage.{Stage}
-use Rattle.batch_chart.specs.declared.chart_move.Move.{Move}
+use Rattle.batch_chart.{specs.declared.node.Kind.Kind, specs.declared.stage.Stage.Stage, specs.declared.chart_move.Move.Move, specs.Stages.stage_at, specs.Stages.is_begun, specs.Meaning.meaning, specs.Meaning.meaning_below, specs.Meaning.act_as, specs.Outlined.kind_at, specs.Nexts.first_of, specs.Numbered.numbered, specs.NodesOf.node_at, specs.NodesOf.place_at, specs.NodesOf.step_at, specs.NodesOf.task_at, specs.NodesOf.tree_step, specs.NodesOf.tree_task, specs.OwnMoves.own_move, specs.OwnMoves.is_kind, specs.Seen.machine_move, specs.Running.IsLaid, specs.Running.IsAlive, specs.Running.SomeLives, specs.Running.Allows, specs.Nexts.IsAmong, specs.Nexts.IsFoundFirst, specs.Nexts.IsReachedState, specs.Nexts.IsNextOf, specs.Nexts.IsNextState, specs.Nexts.is_phase_kind, specs.Nexts.entered, specs.Nexts.releasing, specs.Nexts.handing, specs.Nexts.last_held, specs.Nexts.held_at, specs.Nexts.made_of, specs.Nexts.IsHanded, specs.Passing.IsBatchOf, specs.Passing.PassesTo, specs.declared.sign.TheConstants.HOLDS, specs.declared.sign.TheConstants.IS_ACT, specs.declared.sign.TheConstants.LACKS, proofs.KnownTests.chosen-true, proofs.KnownTests.chosen-false, proofs.NumberedActs.numbered-acts, proofs.NumberedActs.nothing, proofs.NumberedActs.nothing-any, proofs.NumberedActs.nothing-holds, proofs.ChartChange.Fits, proofs.ChartChange.act-fits, proofs.ChartChange.entry-at, proofs.ChartChange.acts-advanced, proofs.NodesAtNumbers.node-got, proofs.MoveKinds.kind_in, proofs.MoveKinds.empty-done, proofs.FirstMoves.picked, proofs.FirstMoves.picked-none, proofs.FirstMoves.seen_at, proofs.FirstMoves.tells-send, proofs.FirstMoves.tells-asking, proofs.FirstMoves.suits-send, proofs.FirstMoves.suits-releasing, proofs.FirstMoves.suits-handing, proofs.FirstMoves.suits-entering, proofs.FirstMoves.suits-asking, proofs.SignTests.showing, proofs.SignTests.of_states, proofs.SignTests.any_live, proofs.SignTests.live_but}
 use Rattle.batch_chart.specs.declared.chart_move.Move.TheVariants as move
-use Rattle.batch_chart.specs.Stages.{stage_at, is_begun}
-use Rattle.batch_chart.specs.Meaning.{meaning, meaning_below, act_as}
-use Rattle.batch_chart.specs.Outlined.{kind_at}
-use Rattle.batch_chart.specs.Nexts.{first_of}
-use Rattle.batch_chart.specs.Numbered.{numbered}
-use Rattle.batch_chart.specs.NodesOf.{node_at, place_at, step_at, task_at, tree_step, tree_task}
-use Rattle.batch_chart.specs.OwnMoves.{own_move, is_kind}
-use Rattle.batch_chart.specs.Seen.{machine_move}
-use Rattle.batch_chart.specs.Running.{IsLaid, IsAlive, SomeLives, Allows}
-use Rattle.batch_chart.specs.Nexts.{IsAmong, IsFoundFirst, IsReachedState, IsNextOf, IsNextState, is_phase_kind, entered, releasing, handing, last_held, held_at, made_of, IsHanded}
-use Rattle.batch_chart.specs.Passing.{IsBatchOf, PassesTo}
-use Rattle.batch_chart.specs.Running.{Allows}
-use Rattle.batch_chart.specs.declared.sign.TheConstants.{HOLDS, IS_ACT, LACKS}
-use Rattle.batch_chart.proofs.KnownTests.{chosen-true, chosen-false}
-use Rattle.batch_chart.proofs.NumberedActs.{numbered-acts, nothing, nothing-any, nothing-holds}
-use Rattle.batch_chart.proofs.ChartChange.{Fits, act-fits, entry-at, acts-advanced}
-use Rattle.batch_chart.proofs.NodesAtNumbers.{node-got}
-use Rattle.batch_chart.proofs.MoveKinds.{kind_in, empty-done}
-use Rattle.batch_chart.proofs.FirstMoves.{picked, picked-none, seen_at, tells-send, tells-asking, suits-send, suits-releasing, suits-handing, suits-entering, suits-asking}
-use Rattle.batch_chart.proofs.SignTests.{showing, of_states, any_live, live_but}
 
 -- the first that passes a test is among them
 pub first-has : (p : ℕ → Rest → Bool) (l : List (ℕ × Rest)) (k : ℕ) → Some k ≡ first_of p l → (e : ℕ × Rest) × Has l e × (e.0 ≡ k) × (p e.0 e.1 ≡ true)

@@ -1,26 +1,11 @@
 -- The first of the first moves of each kind is the batch's next own move.
 use Rattle.std.proofs.Common.{◌≡◌, ℕ, List, [], ◌∷◌, true, false, Some, None, refl, sym, ◌∙◌, subst, ap}
-use Rattle.std.specs.Prelude.{Option, find, option_map}
-use Rattle.std.specs.List.{filter_map}
-use Rattle.std.specs.Option.{is_some}
+use Rattle.std.specs.{Prelude.Option, Prelude.find, Prelude.option_map, List.filter_map, Option.is_some}
 use Rattle.batch_matrix.specs.declared.state.State.{State}
-use Rattle.batch_recipe.specs.Tree.{Tree}
-use Rattle.batch_model.specs.Placed.{Rises}
-use Rattle.batch_model.specs.Plant.{Batch}
-use Rattle.batch_model.specs.Rest.{acts}
-use Rattle.batch_model.specs.Moves.{state_move}
+use Rattle.batch_recipe.specs.{Tree.Tree, declared.entry.Entry.Entry, declared.recipe.Recipe.Recipe}
+use Rattle.batch_model.specs.{Placed.Rises, Plant.Batch, Rest.acts, Moves.state_move}
 use Rattle.batch_step_laws.proofs.ActOrder.{acts-rise}
-use Rattle.batch_recipe.specs.declared.entry.Entry.{Entry}
-use Rattle.batch_recipe.specs.declared.recipe.Recipe.{Recipe}
-use Rattle.batch_chart.specs.declared.stage.Stage.{Stage}
-use Rattle.batch_chart.specs.declared.chart_move.Move.{Move}
-use Rattle.batch_chart.specs.Meaning.{meaning}
-use Rattle.batch_chart.specs.OwnMoves.{own_move, is_kind}
-use Rattle.batch_chart.specs.Seen.{machine_move}
-use Rattle.batch_chart.specs.Running.{IsLaid, IsAlive}
-use Rattle.batch_chart.specs.Passing.{IsBatchOf}
-use Rattle.batch_chart.specs.Nexts.{IsNextOf, IsNextState, IsNext}
-use Rattle.batch_chart.proofs.LeastOwnMove.{least-send, least-state, least-later, none-of, low-3, low-4, low-5, least-none}
+use Rattle.batch_chart.{specs.declared.stage.Stage.Stage, specs.declared.chart_move.Move.Move, specs.Meaning.meaning, specs.OwnMoves.own_move, specs.OwnMoves.is_kind, specs.Seen.machine_move, specs.Running.IsLaid, specs.Running.IsAlive, specs.Passing.IsBatchOf, specs.Nexts.IsNextOf, specs.Nexts.IsNextState, specs.Nexts.IsNext, proofs.LeastOwnMove.least-send, proofs.LeastOwnMove.least-state, proofs.LeastOwnMove.least-later, proofs.LeastOwnMove.none-of, proofs.LeastOwnMove.low-3, proofs.LeastOwnMove.low-4, proofs.LeastOwnMove.low-5, proofs.LeastOwnMove.least-none}
 
 none-is : {X : Type 0} (o : Option X) → false ≡ is_some o → o ≡ None
 none-is None e = refl

@@ -1,31 +1,11 @@
 -- Numbers of nodes, and their places.
 use Rattle.std.proofs.Common.{◌≡◌, ◌≢◌, ◌⊎◌, inl, inr, ℕ, zero, suc, ◌+◌, ◌<◌, ◌≤◌, List, [], ◌∷◌, ◌++◌, length, Bool, true, false, Some, None, nat_eq, refl, sym, ◌∙◌, subst, ap, arith, add-zero}
-use Rattle.std.specs.Prelude.{slice_get, Option, ⊤}
-use Rattle.std.specs.List.{AllByRecursion}
-use Rattle.std.proofs.lemmas.Bool.{cases_lt}
-use Rattle.std.proofs.lemmas.Bool.Decides.{eqb_tells}
-use Rattle.std.proofs.lemmas.Slice.Eq.{bytes_eq-Decides}
-use Rattle.batch_recipe.specs.Needs.{resources_needed}
-use Rattle.batch_recipe.specs.Conditions.{Name}
-use Rattle.batch_recipe.specs.Nodes.{Node, node, nodes, nodes_within, nodes_of_each, nodes_of_choices, child, node_count, count_within, count_of_each, count_of_choices}
-use Rattle.batch_recipe.specs.Places.{AreInOrder}
-use Rattle.batch_recipe.specs.Tree.{Place, is_before, Step, Task, runs, follows, Tree, act, skip, seq, par, sel, loop, Trees, no_trees, tree, Choices, otherwise, choice}
-use Rattle.batch_recipe.proofs.NodeOrder.{counted_nodes}
-use Rattle.batch_recipe.proofs.NodesBelow.{in_front, not_before}
-use Rattle.batch_model.specs.Lists.{Has}
-use Rattle.batch_model.specs.Placed.{IsPlaced, IsPlacedBelow, ArePlaced, IsChoicePlaced}
-use Rattle.batch_model.specs.Rest.{same_place, Rest, ready, asking, live}
-use Rattle.batch_model.specs.Moves.{freed}
-use Rattle.batch_model.proofs.Members.{Has-split}
+use Rattle.std.{specs.Prelude.slice_get, specs.Prelude.Option, specs.Prelude.⊤, specs.List.AllByRecursion, proofs.lemmas.Bool.cases_lt, proofs.lemmas.Bool.Decides.eqb_tells, proofs.lemmas.Slice.Eq.bytes_eq-Decides}
+use Rattle.batch_recipe.{specs.Needs.resources_needed, specs.Conditions.Name, specs.Nodes.Node, specs.Nodes.node, specs.Nodes.nodes, specs.Nodes.nodes_within, specs.Nodes.nodes_of_each, specs.Nodes.nodes_of_choices, specs.Nodes.child, specs.Nodes.node_count, specs.Nodes.count_within, specs.Nodes.count_of_each, specs.Nodes.count_of_choices, specs.Places.AreInOrder, specs.Tree.Place, specs.Tree.is_before, specs.Tree.Step, specs.Tree.Task, specs.Tree.runs, specs.Tree.follows, specs.Tree.Tree, specs.Tree.act, specs.Tree.skip, specs.Tree.seq, specs.Tree.par, specs.Tree.sel, specs.Tree.loop, specs.Tree.Trees, specs.Tree.no_trees, specs.Tree.tree, specs.Tree.Choices, specs.Tree.otherwise, specs.Tree.choice, proofs.NodeOrder.counted_nodes, proofs.NodesBelow.in_front, proofs.NodesBelow.not_before, specs.declared.entry.Entry.Entry, specs.declared.recipe.Recipe.Recipe}
+use Rattle.batch_model.{specs.Lists.Has, specs.Placed.IsPlaced, specs.Placed.IsPlacedBelow, specs.Placed.ArePlaced, specs.Placed.IsChoicePlaced, specs.Rest.same_place, specs.Rest.Rest, specs.Rest.ready, specs.Rest.asking, specs.Rest.live, specs.Moves.freed, proofs.Members.Has-split}
 use Rattle.batch_step_laws.proofs.WorkAfterChange.{to_same_place}
-use Rattle.batch_recipe.specs.declared.entry.Entry.{Entry}
-use Rattle.batch_recipe.specs.declared.recipe.Recipe.{Recipe}
-use Rattle.batch_chart.specs.Outlined.{Stands, StandsAct, AreStanding, AreChoices}
-use Rattle.batch_chart.specs.declared.stage.Stage.{Stage}
+use Rattle.batch_chart.specs.{Outlined.Stands, Outlined.StandsAct, Outlined.AreStanding, Outlined.AreChoices, declared.stage.Stage.Stage, Stages.stage_at, Stages.is_begun, Stages.is_finished, Stages.turns_of, Meaning.act_as, Meaning.meaning, Meaning.meaning_below, Numbered.entries, Numbered.entries_in, Numbered.numbered, Numbered.numbered_below, Numbered.numbered_each, Numbered.numbered_branch, Numbered.numbered_chosen}
 use Rattle.batch_chart.specs.declared.stage.Stage.TheVariants as stage
-use Rattle.batch_chart.specs.Stages.{stage_at, is_begun, is_finished, turns_of}
-use Rattle.batch_chart.specs.Meaning.{act_as, meaning, meaning_below}
-use Rattle.batch_chart.specs.Numbered.{entries, entries_in, numbered, numbered_below, numbered_each, numbered_branch, numbered_chosen}
 
 -- a list stands in another from n on
 abbrev pub Sits : List Node → ℕ → List Node → Type 0

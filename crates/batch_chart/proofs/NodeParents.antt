@@ -1,18 +1,8 @@
 -- The parent of each node is the one above it.
 use Rattle.std.proofs.Common.{◌≡◌, inl, inr, ℕ, ◌+◌, ◌<◌, ◌≤◌, List, [], length, Some, slice_get, sym, ap, ◌∙◌, refl, subst, arith, append-nil}
-use Rattle.std.proofs.lemmas.Bool.{cases_lt}
-use Rattle.std.proofs.lemmas.Bool.Decides.{eqb_tells}
-use Rattle.batch_recipe.specs.Nodes.{node_count, count_within, count_of_each, count_of_choices}
-use Rattle.batch_recipe.specs.Outlines.{Shape, shapes, shapes_within, shapes_of_each, shapes_of_choices}
-use Rattle.batch_recipe.specs.Tree.{Step, Task, runs, follows, Tree, act, skip, seq, par, sel, loop, Trees, no_trees, tree, Choices, otherwise, choice}
-use Rattle.batch_recipe.proofs.EntryShapes.{shapes_counted}
-use Rattle.batch_recipe.proofs.NodeSubtrees.{some_count}
-use Rattle.batch_chart.specs.Outlined.{end_at, Stands, StandsAct, AreStanding, AreChoices}
-use Rattle.batch_chart.specs.Parents.{parent_at, IsAbove, HaveParents}
-use Rattle.batch_recipe.specs.declared.entry.Entry.{Entry}
-use Rattle.batch_recipe.specs.declared.recipe.Recipe.{Recipe}
-use Rattle.batch_chart.proofs.Sublists.{AreFrom, from_left, from_right, from_tail, from_head}
-use Rattle.batch_chart.proofs.TreePositions.{stood-each, stood-choices, nested}
+use Rattle.std.proofs.lemmas.Bool.{cases_lt, Decides.eqb_tells}
+use Rattle.batch_recipe.{specs.Nodes.node_count, specs.Nodes.count_within, specs.Nodes.count_of_each, specs.Nodes.count_of_choices, specs.Outlines.Shape, specs.Outlines.shapes, specs.Outlines.shapes_within, specs.Outlines.shapes_of_each, specs.Outlines.shapes_of_choices, specs.Tree.Step, specs.Tree.Task, specs.Tree.runs, specs.Tree.follows, specs.Tree.Tree, specs.Tree.act, specs.Tree.skip, specs.Tree.seq, specs.Tree.par, specs.Tree.sel, specs.Tree.loop, specs.Tree.Trees, specs.Tree.no_trees, specs.Tree.tree, specs.Tree.Choices, specs.Tree.otherwise, specs.Tree.choice, proofs.EntryShapes.shapes_counted, proofs.NodeSubtrees.some_count, specs.declared.entry.Entry.Entry, specs.declared.recipe.Recipe.Recipe}
+use Rattle.batch_chart.{specs.Outlined.end_at, specs.Outlined.Stands, specs.Outlined.StandsAct, specs.Outlined.AreStanding, specs.Outlined.AreChoices, specs.Parents.parent_at, specs.Parents.IsAbove, specs.Parents.HaveParents, proofs.Sublists.AreFrom, proofs.Sublists.from_left, proofs.Sublists.from_right, proofs.Sublists.from_tail, proofs.Sublists.from_head, proofs.TreePositions.stood-each, proofs.TreePositions.stood-choices, proofs.TreePositions.nested}
 
 module _ (all : List Shape) (ns : List Entry) (doc : Recipe) (parents : (k : ℕ) (s : Shape) → slice_get all k ≡ Some s → parent_at ns k ≡ s.parent) where
   -- the nodes between node u and the number n have ended there

@@ -1,23 +1,10 @@
 -- The numbered acts are those of the rest, and the meaning of finding none.
 use Rattle.std.proofs.Common.{rules, ◌≡◌, ℕ, zero, suc, ◌+◌, List, [], ◌∷◌, ◌++◌, length, take, Bool, true, false, ◌&&◌, Some, None, refl, ◌∙◌, ap, nat_lt}
 use Rattle.std.specs.Prelude.{Option, map, flat_map, not, ⊤}
-use Rattle.batch_recipe.specs.declared.need.Need.{Need}
-use Rattle.batch_recipe.specs.Nodes.{node_count}
-use Rattle.batch_recipe.specs.Tree.{Step, Task, runs, follows, Tree, act, skip, seq, par, sel, loop, Trees, no_trees, tree, Choices, otherwise, choice}
-use Rattle.batch_model.specs.Rest.{Rest, ready, asking, open_act, live, freeing, in_seq, in_par, in_loop, done, Rests, no_rests, rest, acts, acts_of_each}
-use Rattle.batch_model.specs.Plant.{held_by, held_in}
-use Rattle.batch_model.specs.Moves.{is_empty}
-use Rattle.batch_chart.specs.declared.stage.Stage.{Stage}
-use Rattle.batch_chart.specs.declared.stage.Stage.TheVariants.{Finished, Ready, Asking, Open, Live, Freeing, Turning}
-use Rattle.batch_chart.specs.Stages.{stage_at, is_finished, is_begun, turns_of}
-use Rattle.batch_chart.specs.Meaning.{meaning, meaning_below, meaning_each, act_as, loop_as, meaning_of_branch, chosen}
-use Rattle.batch_chart.specs.Nexts.{first_of}
-use Rattle.batch_chart.specs.Numbered.{entries, entries_in, numbered, numbered_below, numbered_each, numbered_branch, numbered_chosen}
-use Rattle.batch_chart.specs.declared.sign.TheConstants.{HOLDS, IS_ACT}
-use Rattle.batch_chart.specs.Noting.{signs_of}
+use Rattle.batch_recipe.specs.{declared.need.Need.Need, Nodes.node_count, Tree.Step, Tree.Task, Tree.runs, Tree.follows, Tree.Tree, Tree.act, Tree.skip, Tree.seq, Tree.par, Tree.sel, Tree.loop, Tree.Trees, Tree.no_trees, Tree.tree, Tree.Choices, Tree.otherwise, Tree.choice}
+use Rattle.batch_model.specs.{Rest.Rest, Rest.ready, Rest.asking, Rest.open_act, Rest.live, Rest.freeing, Rest.in_seq, Rest.in_par, Rest.in_loop, Rest.done, Rest.Rests, Rest.no_rests, Rest.rest, Rest.acts, Rest.acts_of_each, Plant.held_by, Plant.held_in, Moves.is_empty}
+use Rattle.batch_chart.{specs.declared.stage.Stage.Stage, specs.declared.stage.Stage.TheVariants.Finished, specs.declared.stage.Stage.TheVariants.Ready, specs.declared.stage.Stage.TheVariants.Asking, specs.declared.stage.Stage.TheVariants.Open, specs.declared.stage.Stage.TheVariants.Live, specs.declared.stage.Stage.TheVariants.Freeing, specs.declared.stage.Stage.TheVariants.Turning, specs.Stages.stage_at, specs.Stages.is_finished, specs.Stages.is_begun, specs.Stages.turns_of, specs.Meaning.meaning, specs.Meaning.meaning_below, specs.Meaning.meaning_each, specs.Meaning.act_as, specs.Meaning.loop_as, specs.Meaning.meaning_of_branch, specs.Meaning.chosen, specs.Nexts.first_of, specs.Numbered.entries, specs.Numbered.entries_in, specs.Numbered.numbered, specs.Numbered.numbered_below, specs.Numbered.numbered_each, specs.Numbered.numbered_branch, specs.Numbered.numbered_chosen, specs.declared.sign.TheConstants.HOLDS, specs.declared.sign.TheConstants.IS_ACT, specs.Noting.signs_of, proofs.KnownTests.chosen-true, proofs.SignTests.showing, proofs.SignTests.ready-shows, proofs.SignTests.asking-shows, proofs.SignTests.open-shows, proofs.SignTests.live-shows, proofs.SignTests.freeing-shows, proofs.SignTests.ready-holds, proofs.SignTests.asking-holds, proofs.SignTests.open-holds, proofs.SignTests.live-holds, proofs.SignTests.freeing-holds}
 use Rattle.batch_signs.specs.Signs.{shows}
-use Rattle.batch_chart.proofs.KnownTests.{chosen-true}
-use Rattle.batch_chart.proofs.SignTests.{showing, ready-shows, asking-shows, open-shows, live-shows, freeing-shows, ready-holds, asking-holds, open-holds, live-holds, freeing-holds}
 
 has-numbers : (l m : List (ℕ × Rest)) → map (λ a. a.1) (l ++ m) ≡ map (λ a. a.1) l ++ map (λ a. a.1) m
 has-numbers [] m = refl

@@ -1,25 +1,9 @@
 -- The node to which an act passes on a need.
 use Rattle.std.proofs.Common.{◌≡◌, ◌<◌, ℕ, zero, suc, ◌+◌, List, [], ◌∷◌, length, Bool, true, false, Some, None, nat_eq, cond, arith, refl, sym, ◌∙◌, ap}
-use Rattle.std.specs.Prelude.{Option, IfSome, IsNone, find, slice_get, option_map, option_and_then}
-use Rattle.std.proofs.lemmas.Bool.Decides.{nat_tests}
-use Rattle.batch_recipe.specs.ActsAtNodes.{IsNoAct, procedure_acts}
-use Rattle.batch_recipe.specs.Conditions.{Name}
-use Rattle.batch_recipe.specs.Expanding.{Binding, unbound, reserves_from, unit_count}
-use Rattle.batch_recipe.specs.Followers.{IsFollowerAt, follower_of}
-use Rattle.batch_recipe.specs.Following.{follower}
-use Rattle.batch_recipe.specs.Nodes.{Node, node_count}
-use Rattle.batch_recipe.specs.Places.{IsNodeAt}
-use Rattle.batch_recipe.specs.Procedure.{bound_nodes, bound_tree, procedure_nodes}
-use Rattle.batch_recipe.specs.Tree.{Place, Reserve, Step, Tree, act, skip, seq, par, sel, loop}
-use Rattle.batch_recipe.specs.declared.act.Act.{Act}
-use Rattle.batch_recipe.specs.declared.recipe.Recipe.{Recipe}
-use Rattle.batch_recipe.proofs.Followers.{act_of_node}
-use Rattle.batch_recipe.proofs.NodeOrder.{counted_nodes}
+use Rattle.std.{specs.Prelude.Option, specs.Prelude.IfSome, specs.Prelude.IsNone, specs.Prelude.find, specs.Prelude.slice_get, specs.Prelude.option_map, specs.Prelude.option_and_then, proofs.lemmas.Bool.Decides.nat_tests}
+use Rattle.batch_recipe.{specs.ActsAtNodes.IsNoAct, specs.ActsAtNodes.procedure_acts, specs.Conditions.Name, specs.Expanding.Binding, specs.Expanding.unbound, specs.Expanding.reserves_from, specs.Expanding.unit_count, specs.Followers.IsFollowerAt, specs.Followers.follower_of, specs.Following.follower, specs.Nodes.Node, specs.Nodes.node_count, specs.Places.IsNodeAt, specs.Procedure.bound_nodes, specs.Procedure.bound_tree, specs.Procedure.procedure_nodes, specs.Tree.Place, specs.Tree.Reserve, specs.Tree.Step, specs.Tree.Tree, specs.Tree.act, specs.Tree.skip, specs.Tree.seq, specs.Tree.par, specs.Tree.sel, specs.Tree.loop, specs.declared.act.Act.Act, specs.declared.recipe.Recipe.Recipe, proofs.Followers.act_of_node, proofs.NodeOrder.counted_nodes}
 use Rattle.batch_model.specs.Moves.{reserved_place}
-use Rattle.batch_chart.specs.NodesOf.{node_at, place_at, step_at, tree_step}
-use Rattle.batch_chart.specs.Passing.{PassesTo}
-use Rattle.batch_chart.proofs.RecipeChart.{is_chart}
-use Rattle.batch_chart.proofs.NodesAtNumbers.{get-or}
+use Rattle.batch_chart.{specs.NodesOf.node_at, specs.NodesOf.place_at, specs.NodesOf.step_at, specs.NodesOf.tree_step, specs.Passing.PassesTo, proofs.RecipeChart.is_chart, proofs.NodesAtNumbers.get-or}
 
 -- the reserved unit procedures by the numbers of their needs
 

@@ -1,33 +1,9 @@
 -- Going on along the path to the root is going on with the whole chart.
 use Rattle.std.proofs.Common.{◌≡◌, ◌⊎◌, inl, inr, ◌<◌, ◌≤◌, ℕ, ◌+◌, List, length, true, arith, refl, sym, ◌∙◌, subst, ap, length-set}
-use Rattle.std.specs.Prelude.{slice_set}
-use Rattle.std.proofs.lemmas.Bool.Decides.{eqb_tells}
-use Rattle.batch_recipe.specs.Conditions.{ValueList}
-use Rattle.batch_recipe.specs.Tree.{Tree, act, skip, seq, par, sel, loop}
+use Rattle.std.{specs.Prelude.slice_set, proofs.lemmas.Bool.Decides.eqb_tells}
+use Rattle.batch_recipe.{specs.Conditions.ValueList, specs.Tree.Tree, specs.Tree.act, specs.Tree.skip, specs.Tree.seq, specs.Tree.par, specs.Tree.sel, specs.Tree.loop, specs.declared.entry.Entry.Entry, specs.declared.recipe.Recipe.Recipe, proofs.NodeSubtrees.some_count}
 use Rattle.batch_model.specs.Rest.{in_par, done, is_done}
-use Rattle.batch_recipe.specs.declared.entry.Entry.{Entry}
-use Rattle.batch_recipe.specs.declared.recipe.Recipe.{Recipe}
-use Rattle.batch_recipe.proofs.NodeSubtrees.{some_count}
-use Rattle.batch_chart.specs.declared.stage.Stage.{Stage}
-use Rattle.batch_chart.specs.declared.stage.Stage.TheVariants.{Finished, Freeing}
-use Rattle.batch_chart.specs.Advancing.{HasAdvanced}
-use Rattle.batch_chart.specs.Climbing.{IsRisen, HasStopped, HasRisen}
-use Rattle.batch_chart.specs.Outlined.{end_at, Stands, HasTree}
-use Rattle.batch_chart.specs.Freeing.{HasFinished}
-use Rattle.batch_chart.specs.Neat.{AllFinished}
-use Rattle.batch_chart.specs.Meaning.{meaning, meaning_below, meaning_each, act_as, loop_as, meaning_of_branch, chosen, AgreeOutside}
-use Rattle.batch_chart.specs.Parents.{IsAbove, parent_at}
-use Rattle.batch_chart.specs.Running.{IsLaid, SomeLives}
-use Rattle.batch_chart.specs.Stages.{stage_at, is_finished, is_begun, turns_of}
-use Rattle.batch_chart.specs.Told.{AreTold}
-use Rattle.batch_chart.proofs.StageAgreement.{stage-set_same, stage-set_other}
-use Rattle.batch_chart.proofs.TreeLikeness.{told-after}
-use Rattle.batch_chart.proofs.KnownTests.{chosen-false}
-use Rattle.batch_chart.proofs.TreesAbove.{lifted}
-use Rattle.batch_chart.proofs.TreePositions.{some-stands, stood}
-use Rattle.batch_chart.proofs.ChartChange.{all-told}
-use Rattle.batch_chart.proofs.FinishedStages.{finished-means, told-finished}
-use Rattle.batch_chart.specs.ByValues.{advance_by}
+use Rattle.batch_chart.{specs.declared.stage.Stage.Stage, specs.declared.stage.Stage.TheVariants.Finished, specs.declared.stage.Stage.TheVariants.Freeing, specs.Advancing.HasAdvanced, specs.Climbing.IsRisen, specs.Climbing.HasStopped, specs.Climbing.HasRisen, specs.Outlined.end_at, specs.Outlined.Stands, specs.Outlined.HasTree, specs.Freeing.HasFinished, specs.Neat.AllFinished, specs.Meaning.meaning, specs.Meaning.meaning_below, specs.Meaning.meaning_each, specs.Meaning.act_as, specs.Meaning.loop_as, specs.Meaning.meaning_of_branch, specs.Meaning.chosen, specs.Meaning.AgreeOutside, specs.Parents.IsAbove, specs.Parents.parent_at, specs.Running.IsLaid, specs.Running.SomeLives, specs.Stages.stage_at, specs.Stages.is_finished, specs.Stages.is_begun, specs.Stages.turns_of, specs.Told.AreTold, proofs.StageAgreement.stage-set_same, proofs.StageAgreement.stage-set_other, proofs.TreeLikeness.told-after, proofs.KnownTests.chosen-false, proofs.TreesAbove.lifted, proofs.TreePositions.some-stands, proofs.TreePositions.stood, proofs.ChartChange.all-told, proofs.FinishedStages.finished-means, proofs.FinishedStages.told-finished, specs.ByValues.advance_by}
 
 module _ (ns : List Entry) (doc : Recipe) (t : Tree) (laid : IsLaid ns doc t) where
   root-end : end_at ns 0 ≡ length ns

@@ -1,28 +1,10 @@
 -- Reaching a tree: the conditions at each kind of node.
 use Rattle.std.proofs.Common.{◌≡◌, ◌≢◌, ◌⊎◌, inl, inr, ◌<◌, ◌≤◌, ℕ, ◌+◌, ◌-◌, List, length, Bool, true, false, ◌&&◌, arith, refl, sym, ◌∙◌, subst, ap, pred, sub-one}
-use Rattle.std.proofs.Math.Bool.{and_assoc, and-true}
-use Rattle.std.specs.Prelude.{slice_set}
-use Rattle.batch_recipe.specs.Conditions.{ValueList, holds}
-use Rattle.batch_recipe.specs.Nodes.{node_count, count_of_each, count_of_choices}
-use Rattle.batch_recipe.specs.Tree.{Step, Task, runs, follows, Tree, act, Trees, tree, Choices, choice}
-use Rattle.batch_recipe.specs.declared.condition.Cond.{Cond}
+use Rattle.std.{proofs.Math.Bool.and_assoc, proofs.Math.Bool.and-true, specs.Prelude.slice_set}
+use Rattle.batch_recipe.specs.{Conditions.ValueList, Conditions.holds, Nodes.node_count, Nodes.count_of_each, Nodes.count_of_choices, Tree.Step, Tree.Task, Tree.runs, Tree.follows, Tree.Tree, Tree.act, Tree.Trees, Tree.tree, Tree.Choices, Tree.choice, declared.condition.Cond.Cond, declared.entry.Entry.Entry, declared.recipe.Recipe.Recipe}
 use Rattle.batch_model.specs.Rest.{Rest, in_seq, in_par, in_loop, done, Rests, rest, is_done, all_done, joined, turning}
-use Rattle.batch_recipe.specs.declared.entry.Entry.{Entry}
-use Rattle.batch_chart.specs.declared.node.Kind.TheVariants.{Skip, Act, Seq, Par, Sel, Loop}
+use Rattle.batch_chart.{specs.declared.node.Kind.TheVariants.Skip, specs.declared.node.Kind.TheVariants.Act, specs.declared.node.Kind.TheVariants.Seq, specs.declared.node.Kind.TheVariants.Par, specs.declared.node.Kind.TheVariants.Sel, specs.declared.node.Kind.TheVariants.Loop, specs.declared.stage.Stage.Stage, specs.declared.stage.Stage.TheVariants.Finished, specs.declared.stage.Stage.TheVariants.Ready, specs.declared.stage.Stage.TheVariants.Turning, specs.Stages.stage_at, specs.Stages.is_finished, specs.Stages.is_begun, specs.Stages.turns_of, specs.Stages.closed_as, specs.Stages.looped_as, specs.Meaning.meaning, specs.Meaning.meaning_below, specs.Meaning.meaning_each, specs.Meaning.act_as, specs.Meaning.loop_as, specs.Meaning.meaning_of_branch, specs.Meaning.chosen, specs.Meaning.AgreeWithin, specs.Meaning.AgreeOutside, specs.Outlined.end_at, specs.Outlined.kind_at, specs.Outlined.Stands, specs.Outlined.HasTree, specs.Outlined.HaveTrees, specs.Outlined.HaveChoices, specs.Outlined.condition_holds, specs.Outlined.condition_at, specs.Reaching.IsReached, specs.Reaching.IsFirstReached, specs.Reaching.IsEachReached, specs.Reaching.IsChoiceReached, proofs.TreePositions.stood, proofs.TreePositions.SkipAt, proofs.TreePositions.skip_at, proofs.TreePositions.skip-at, proofs.TreePositions.PhaseAt, proofs.TreePositions.phase_at, proofs.TreePositions.phase-at, proofs.TreePositions.ActAt, proofs.TreePositions.act_at, proofs.TreePositions.act-at, proofs.TreePositions.SeqAt, proofs.TreePositions.seq_at, proofs.TreePositions.seq-at, proofs.TreePositions.ParAt, proofs.TreePositions.par_at, proofs.TreePositions.par-at, proofs.TreePositions.SelAt, proofs.TreePositions.sel_at, proofs.TreePositions.sel-at, proofs.TreePositions.LoopAt, proofs.TreePositions.loop_at, proofs.TreePositions.loop-at, proofs.TreePositions.RowAt, proofs.TreePositions.row_at, proofs.TreePositions.row-at, proofs.TreePositions.row-end, proofs.TreePositions.LastAt, proofs.TreePositions.last_at, proofs.TreePositions.last-at, proofs.TreePositions.ChoiceAt, proofs.TreePositions.choice_at, proofs.TreePositions.choice-at, proofs.TreePositions.below-end, proofs.TreePositions.first-end, proofs.TreePositions.first-standing, proofs.TreePositions.choice-standing, proofs.TreePositions.choice-end, proofs.KnownTests.chosen-true, proofs.KnownTests.chosen-false, specs.Told.AreTold, proofs.FinishedStages.nests, proofs.FinishedStages.nests-each, proofs.FinishedStages.nests-choices, proofs.FinishedStages.nests-below, proofs.FinishedStages.told-finished, proofs.FinishedStages.told-reached, proofs.FinishedStages.told-one, proofs.FinishedStages.told-part, proofs.FinishedStages.told-same, proofs.FinishedStages.told-row, proofs.StageAgreement.stage-set_same, proofs.StageAgreement.stage-set_other, proofs.StageAgreement.meaning-agree, proofs.StageAgreement.meaning_each-agree, proofs.StageAgreement.branch-agree, proofs.StageAgreement.chosen-agree, specs.ByValues.reach_by, specs.ByValues.reach_first_by, specs.ByValues.reach_each_by, specs.ByValues.reach_chosen_by}
 use Rattle.batch_chart.specs.declared.node.Kind.TheVariants as kind
-use Rattle.batch_recipe.specs.declared.recipe.Recipe.{Recipe}
-use Rattle.batch_chart.specs.declared.stage.Stage.{Stage}
-use Rattle.batch_chart.specs.declared.stage.Stage.TheVariants.{Finished, Ready, Turning}
-use Rattle.batch_chart.specs.Stages.{stage_at, is_finished, is_begun, turns_of, closed_as, looped_as}
-use Rattle.batch_chart.specs.Meaning.{meaning, meaning_below, meaning_each, act_as, loop_as, meaning_of_branch, chosen, AgreeWithin, AgreeOutside}
-use Rattle.batch_chart.specs.Outlined.{end_at, kind_at, Stands, HasTree, HaveTrees, HaveChoices, condition_holds, condition_at}
-use Rattle.batch_chart.specs.Reaching.{IsReached, IsFirstReached, IsEachReached, IsChoiceReached}
-use Rattle.batch_chart.proofs.TreePositions.{stood, SkipAt, skip_at, skip-at, PhaseAt, phase_at, phase-at, ActAt, act_at, act-at, SeqAt, seq_at, seq-at, ParAt, par_at, par-at, SelAt, sel_at, sel-at, LoopAt, loop_at, loop-at, RowAt, row_at, row-at, row-end, LastAt, last_at, last-at, ChoiceAt, choice_at, choice-at, below-end, first-end, first-standing, choice-standing, choice-end}
-use Rattle.batch_chart.proofs.KnownTests.{chosen-true, chosen-false}
-use Rattle.batch_chart.specs.Told.{AreTold}
-use Rattle.batch_chart.proofs.FinishedStages.{nests, nests-each, nests-choices, nests-below, told-finished, told-reached, told-one, told-part, told-same, told-row}
-use Rattle.batch_chart.proofs.StageAgreement.{stage-set_same, stage-set_other, meaning-agree, meaning_each-agree, branch-agree, chosen-agree}
-use Rattle.batch_chart.specs.ByValues.{reach_by, reach_first_by, reach_each_by, reach_chosen_by}
 use Rattle.batch_step_laws.proofs.DueUnitProcedures.{done-is}
 
 -- writing a node's own stage

@@ -1,30 +1,10 @@
 -- A reached tree is neat, at each kind of node.
 use Rattle.std.proofs.Common.{◌≡◌, ◌≢◌, ◌⊎◌, inl, inr, ◌<◌, ◌≤◌, ℕ, ◌+◌, List, length, Bool, true, false, ◌&&◌, arith, refl, sym, ◌∙◌, subst, ap, length-set, get_or-set_same, get_or-set_other}
-use Rattle.std.specs.Prelude.{slice_set, not, is_none}
-use Rattle.std.proofs.lemmas.Bool.{cases_lt}
-use Rattle.std.proofs.lemmas.Bool.Decides.{eqb_tells}
-use Rattle.batch_recipe.specs.Nodes.{node_count}
-use Rattle.batch_recipe.specs.Tree.{Step, Task, runs, follows, Tree, act, loop}
-use Rattle.batch_recipe.specs.declared.entry.Entry.{Entry}
-use Rattle.batch_recipe.proofs.NodeSubtrees.{some_count}
-use Rattle.batch_chart.specs.declared.node.Kind.TheVariants.{Act, Seq, Par, Sel, Loop}
+use Rattle.std.{specs.Prelude.slice_set, specs.Prelude.not, specs.Prelude.is_none, proofs.lemmas.Bool.cases_lt, proofs.lemmas.Bool.Decides.eqb_tells}
+use Rattle.batch_recipe.{specs.Nodes.node_count, specs.Tree.Step, specs.Tree.Task, specs.Tree.runs, specs.Tree.follows, specs.Tree.Tree, specs.Tree.act, specs.Tree.loop, specs.declared.entry.Entry.Entry, proofs.NodeSubtrees.some_count, specs.declared.recipe.Recipe.Recipe}
+use Rattle.batch_chart.{specs.declared.node.Kind.TheVariants.Act, specs.declared.node.Kind.TheVariants.Seq, specs.declared.node.Kind.TheVariants.Par, specs.declared.node.Kind.TheVariants.Sel, specs.declared.node.Kind.TheVariants.Loop, specs.declared.stage.Stage.Stage, specs.declared.stage.Stage.TheVariants.Finished, specs.declared.stage.Stage.TheVariants.Ready, specs.declared.stage.Stage.TheVariants.Open, specs.Outlined.end_at, specs.Outlined.kind_at, specs.Outlined.Stands, specs.Outlined.HasTree, specs.Outlined.HaveTrees, specs.Outlined.HaveChoices, specs.Meaning.AgreeOutside, specs.Neat.runs_below, specs.Neat.is_single, specs.Neat.AllFinished, specs.Neat.IsLone, specs.Neat.shown_of, specs.Neat.IsNeat, specs.Neat.AreNeat, specs.Neat.AreBlank, specs.Neat.SignsOutside, specs.Neat.IsReachedNeatly, specs.Neat.IsRowNeat, specs.Needs.needs_of_kind, specs.Noting.stage_signs, specs.Stages.stage_at, specs.Stages.is_finished, specs.Stages.turns_of, specs.Stages.closed_as, specs.Stages.looped_as, proofs.TreeAdvance.finished-stage, proofs.StageAgreement.stage-set_same, proofs.StageAgreement.stage-set_other, proofs.NeatCharts.unfinished-not, proofs.NeatCharts.blank-neat, proofs.NeatCharts.blank-part, proofs.NeatCharts.blank-same, proofs.NeatCharts.neat-one, proofs.NeatCharts.neat-join, proofs.NeatCharts.neat-same, proofs.NeatCharts.neat-finished, proofs.NeatCharts.signs-join, proofs.NeatCharts.signs-wider, proofs.NeatCharts.signs-same, proofs.ReachedTree.within-set, proofs.ReachedTree.outside-set, proofs.ReachedTree.outside-same, proofs.TreePositions.stood, proofs.TreePositions.PhaseAt, proofs.TreePositions.phase_at, proofs.TreePositions.phase-at, proofs.TreePositions.ActAt, proofs.TreePositions.act_at, proofs.TreePositions.act-at, proofs.TreePositions.SeqAt, proofs.TreePositions.seq_at, proofs.TreePositions.seq-at, proofs.TreePositions.ParAt, proofs.TreePositions.par_at, proofs.TreePositions.par-at, proofs.TreePositions.SelAt, proofs.TreePositions.sel_at, proofs.TreePositions.sel-at, proofs.TreePositions.LoopAt, proofs.TreePositions.loop_at, proofs.TreePositions.loop-at, proofs.TreePositions.below-end, proofs.TreePositions.first-end, proofs.TreePositions.first-standing, proofs.TreePositions.choice-standing, proofs.TreePositions.choice-end, proofs.FinishedStages.AreNested, proofs.FinishedStages.nests, proofs.FinishedStages.nests-each, proofs.FinishedStages.nests-choices, proofs.FinishedStages.nests-below}
 use Rattle.batch_chart.specs.declared.node.Kind.TheVariants as kind
-use Rattle.batch_recipe.specs.declared.recipe.Recipe.{Recipe}
-use Rattle.batch_chart.specs.declared.stage.Stage.{Stage}
-use Rattle.batch_chart.specs.declared.stage.Stage.TheVariants.{Finished, Ready, Open}
-use Rattle.batch_chart.specs.Outlined.{end_at, kind_at, Stands, HasTree, HaveTrees, HaveChoices}
-use Rattle.batch_chart.specs.Meaning.{AgreeOutside}
-use Rattle.batch_chart.specs.Neat.{runs_below, is_single, AllFinished, IsLone, shown_of, IsNeat, AreNeat, AreBlank, SignsOutside, IsReachedNeatly, IsRowNeat}
-use Rattle.batch_chart.specs.Needs.{needs_of_kind}
-use Rattle.batch_chart.specs.Noting.{stage_signs}
 use Rattle.batch_signs.specs.Signs.{sign_at}
-use Rattle.batch_chart.specs.Stages.{stage_at, is_finished, turns_of, closed_as, looped_as}
-use Rattle.batch_chart.proofs.TreeAdvance.{finished-stage}
-use Rattle.batch_chart.proofs.StageAgreement.{stage-set_same, stage-set_other}
-use Rattle.batch_chart.proofs.NeatCharts.{unfinished-not, blank-neat, blank-part, blank-same, neat-one, neat-join, neat-same, neat-finished, signs-join, signs-wider, signs-same}
-use Rattle.batch_chart.proofs.ReachedTree.{within-set, outside-set, outside-same}
-use Rattle.batch_chart.proofs.TreePositions.{stood, PhaseAt, phase_at, phase-at, ActAt, act_at, act-at, SeqAt, seq_at, seq-at, ParAt, par_at, par-at, SelAt, sel_at, sel-at, LoopAt, loop_at, loop-at, below-end, first-end, first-standing, choice-standing, choice-end}
-use Rattle.batch_chart.proofs.FinishedStages.{AreNested, nests, nests-each, nests-choices, nests-below}
 
 module _ (ns : List Entry) (doc : Recipe) (xs : List Stage) (n : ℕ) (standing : HasTree ns doc xs n) where
   below : n < end_at ns n

@@ -1,23 +1,9 @@
 -- A recipe's outline is laid out as its procedure's tree, whatever units take its roles.
 use Rattle.std.proofs.Common.{◌≡◌, ◌≤◌, ◌∙◌, ℕ, [], ◌∷◌, List, map, ap, sym, subst, refl, Option, Some, None, slice_get}
-use Rattle.std.specs.Option.{option_map}
-use Rattle.std.proofs.lemmas.Option.{slice_get-map}
-use Rattle.batch_recipe.specs.Expanding.{Binding}
-use Rattle.batch_recipe.specs.Outlines.{IsOutline, Shape, shape_of}
-use Rattle.batch_recipe.specs.Procedure.{bound_tree}
-use Rattle.batch_recipe.specs.declared.entry.Entry.{Entry}
-use Rattle.batch_recipe.specs.declared.recipe.Recipe.{Recipe}
-use Rattle.batch_recipe.specs.declared.recipe.TheConstants.{MAX_NODES}
-use Rattle.batch_recipe.proofs.OutlineLinks.{as_many_entries}
-use Rattle.batch_recipe.proofs.NodeOrder.{counted_nodes}
-use Rattle.batch_recipe.proofs.EntryShapes.{is_outline}
+use Rattle.std.{specs.Option.option_map, proofs.lemmas.Option.slice_get-map}
+use Rattle.batch_recipe.{specs.Expanding.Binding, specs.Outlines.IsOutline, specs.Outlines.Shape, specs.Outlines.shape_of, specs.Procedure.bound_tree, specs.declared.entry.Entry.Entry, specs.declared.recipe.Recipe.Recipe, specs.declared.recipe.TheConstants.MAX_NODES, proofs.OutlineLinks.as_many_entries, proofs.NodeOrder.counted_nodes, proofs.EntryShapes.is_outline}
 use Rattle.batch_step_laws.proofs.ActPlaces.{bound_tree-IsPlaced}
-use Rattle.batch_chart.specs.Charts.{IsChartFor}
-use Rattle.batch_chart.specs.Outlined.{StandsOn}
-use Rattle.batch_chart.specs.Parents.{parent_at}
-use Rattle.batch_chart.proofs.RecipeEntries.{node_read, recipe_stands}
-use Rattle.batch_chart.proofs.NodeParents.{have_parents}
-use Rattle.batch_chart.proofs.TreesOfBindings.{untied}
+use Rattle.batch_chart.{specs.Charts.IsChartFor, specs.Outlined.StandsOn, specs.Parents.parent_at, proofs.RecipeEntries.node_read, proofs.RecipeEntries.recipe_stands, proofs.NodeParents.have_parents, proofs.TreesOfBindings.untied}
 
 module _ (r : Recipe) where
   abbrev entries : List Entry

@@ -1,39 +1,13 @@
 -- The entries of a recipe stand for the nodes of its expanded tree, whatever units take its roles.
 use Rattle.std.proofs.Common.{◌≡◌, ℕ, zero, suc, ◌+◌, ◌≤◌, List, [], ◌∷◌, ◌++◌, length, Bool, true, false, not, ◌&&◌, Option, Some, None, slice_get, sym, ap, ◌∙◌, refl, subst, arith, append-nil, length-append}
-use Rattle.std.proofs.lemmas.List.{length-map}
-use Rattle.std.specs.List.{list_all}
-use Rattle.std.specs.Prelude.{⊤, map}
-use Rattle.std.proofs.lemmas.Bool.{and_parts}
-use Rattle.std.proofs.lemmas.Option.{slice_get_within}
-use Rattle.batch_recipe.specs.Conditions.{Name, same_name}
+use Rattle.std.{proofs.lemmas.List.length-map, specs.List.list_all, specs.Prelude.⊤, specs.Prelude.map, proofs.lemmas.Bool.and_parts, proofs.lemmas.Option.slice_get_within}
+use Rattle.batch_recipe.{specs.Conditions.Name, specs.Conditions.same_name, specs.Diagram.Diagram, specs.Diagram.Diagrams, specs.Diagram.Cases, specs.Diagram.diagram_of, specs.Expanding.Binding, specs.Expanding.expanded, specs.Expanding.expanded_each, specs.Expanding.expanded_cases, specs.Expanding.act_named, specs.Expanding.act_tree_with, specs.Expanding.named_tree_with, specs.Expanding.unit_with, specs.Expanding.unit_below, specs.Expanding.asked_in_order, specs.Expanding.task_of, specs.Expanding.Sites, specs.Expanding.unit_named, specs.Expanding.needs_with, specs.Expanding.step_of, specs.Expanding.unit_count, specs.Needs.one_unit, specs.Growing.Head, specs.Growing.Labels, specs.Growing.LabelConditions, specs.Growing.entry, specs.Growing.plain_head, specs.Growing.act_head, specs.Growing.needs_count, specs.Growing.topped, specs.Growing.bare_entries, specs.Growing.grown, specs.Growing.grown_each, specs.Growing.grown_cases, specs.Growing.grown_work, specs.Growing.grown_act, specs.Growing.grown_named, specs.Growing.conditions_of_cases, specs.Growing.conditions_along, specs.Growing.conditions_along_each, specs.Growing.conditions_along_cases, specs.Growing.conditions_below, specs.Growing.conditions_named, specs.Growing.conditions_of, specs.Growing.levels_from, specs.Growing.number_in, specs.Growing.unit_number, specs.Growing.entries_of, specs.Nodes.node_count, specs.Nodes.count_of_each, specs.Nodes.count_of_choices, specs.Nodes.child, specs.Procedure.table_at, specs.Procedure.tables_from, specs.Procedure.level_below, specs.Procedure.bound_tree, specs.Procedure.sites, specs.Tree.Place, specs.Tree.Step, specs.Tree.Tree, specs.WellFormed.has_unit, specs.WellFormed.has_chart, specs.declared.act.Act.Act, specs.declared.act.UnitChoice.UnitChoice, specs.declared.act.Work.Work, specs.declared.act.Work.TheVariants.Follows, specs.declared.act.Work.TheVariants.Runs, specs.declared.acts.LabelTable.LabelTable, specs.declared.acts.LabelTable.TheVariants.UnitProcedures, specs.declared.acts.LabelTable.TheVariants.Operations, specs.declared.acts.LabelTable.TheVariants.Phases, specs.declared.condition.Cond.Cond, specs.declared.entry.Entry.Entry, specs.declared.recipe.Recipe.Recipe, proofs.Growth.found_at, proofs.Growth.not_found}
 use Rattle.batch_recipe.specs.Diagram as diagram
-use Rattle.batch_recipe.specs.Diagram.{Diagram, Diagrams, Cases, diagram_of}
-use Rattle.batch_recipe.specs.Expanding.{Binding, expanded, expanded_each, expanded_cases, act_named, act_tree_with, named_tree_with, unit_with, unit_below, asked_in_order, task_of, Sites, unit_named, needs_with, step_of, unit_count}
-use Rattle.batch_recipe.specs.Needs.{one_unit}
-use Rattle.batch_recipe.specs.Growing.{Head, Labels, LabelConditions, entry, plain_head, act_head, needs_count, topped, bare_entries, grown, grown_each, grown_cases, grown_work, grown_act, grown_named, conditions_of_cases, conditions_along, conditions_along_each, conditions_along_cases, conditions_below, conditions_named, conditions_of, levels_from, number_in, unit_number, entries_of}
-use Rattle.batch_recipe.specs.Nodes.{node_count, count_of_each, count_of_choices, child}
-use Rattle.batch_recipe.specs.Procedure.{table_at, tables_from, level_below, bound_tree, sites}
 use Rattle.batch_recipe.specs.Tree as tree
-use Rattle.batch_recipe.specs.Tree.{Place, Step, Tree}
-use Rattle.batch_recipe.specs.WellFormed.{has_unit, has_chart}
-use Rattle.batch_recipe.specs.declared.act.Act.{Act}
-use Rattle.batch_recipe.specs.declared.act.UnitChoice.{UnitChoice}
-use Rattle.batch_recipe.specs.declared.act.Work.{Work}
-use Rattle.batch_recipe.specs.declared.act.Work.TheVariants.{Follows, Runs}
-use Rattle.batch_recipe.specs.declared.acts.LabelTable.{LabelTable}
-use Rattle.batch_recipe.specs.declared.acts.LabelTable.TheVariants.{UnitProcedures, Operations, Phases}
-use Rattle.batch_recipe.specs.declared.condition.Cond.{Cond}
-use Rattle.batch_recipe.specs.declared.entry.Entry.{Entry}
 use Rattle.batch_recipe.specs.declared.entry.Kind as recipe
 use Rattle.batch_recipe.specs.declared.entry.Kind.TheVariants as entry_kind
-use Rattle.batch_recipe.specs.declared.recipe.Recipe.{Recipe}
-use Rattle.batch_recipe.proofs.Growth.{found_at, not_found}
-use Rattle.batch_chart.specs.Outlined.{entry_at, kind_of_entry, kind_by, unit_under, unit_name, unit_by, unit_choice, phase_by, IsNode, IsCondition, StandsOn, AreStandingOn, AreChoicesOn}
-use Rattle.batch_chart.specs.declared.node.Kind.{Kind}
-use Rattle.batch_chart.specs.declared.node.Kind.TheVariants.{Skip, Act as act_kind, Seq, Par, Sel, Loop}
+use Rattle.batch_chart.{specs.Outlined.entry_at, specs.Outlined.kind_of_entry, specs.Outlined.kind_by, specs.Outlined.unit_under, specs.Outlined.unit_name, specs.Outlined.unit_by, specs.Outlined.unit_choice, specs.Outlined.phase_by, specs.Outlined.IsNode, specs.Outlined.IsCondition, specs.Outlined.StandsOn, specs.Outlined.AreStandingOn, specs.Outlined.AreChoicesOn, specs.declared.node.Kind.Kind, specs.declared.node.Kind.TheVariants.Skip, specs.declared.node.Kind.TheVariants.Act as act_kind, specs.declared.node.Kind.TheVariants.Seq, specs.declared.node.Kind.TheVariants.Par, specs.declared.node.Kind.TheVariants.Sel, specs.declared.node.Kind.TheVariants.Loop, proofs.Sublists.AreFrom, proofs.Sublists.from_left, proofs.Sublists.from_right, proofs.Sublists.from_tail, proofs.Sublists.from_head, proofs.Sublists.from_end, proofs.FoundElement.found_passes}
 use Rattle.batch_chart.specs.declared.node.Kind.TheVariants as kind
-use Rattle.batch_chart.proofs.Sublists.{AreFrom, from_left, from_right, from_tail, from_head, from_end}
-use Rattle.batch_chart.proofs.FoundElement.{found_passes}
 
 pub node_read : (ns : List Entry) (k : ℕ) (x : Entry) → slice_get ns k ≡ Some x → entry_at ns k ≡ x
 node_read [] k x h = let bad : None ≡ Some x = h in cc

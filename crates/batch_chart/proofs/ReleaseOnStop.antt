@@ -1,43 +1,10 @@
 -- The first act that can give back a need while the batch stops, by the signs.
 use Rattle.std.proofs.Common.{◌≡◌, ◌⊎◌, inl, inr, ◌<◌, ◌≤◌, ℕ, zero, suc, ◌+◌, List, [], ◌∷◌, length, Bool, true, false, ◌&&◌, Some, None, nat_eq, nat_lt, nat_le, arith, refl, sym, ◌∙◌, subst, ap}
-use Rattle.std.specs.Prelude.{Option}
-use Rattle.std.specs.Int.Bits.{bit_and}
-use Rattle.std.proofs.lemmas.Bool.{cases_lt}
-use Rattle.std.proofs.lemmas.Bool.Decides.{eqb_tells, nat_tests}
-use Rattle.std.proofs.lemmas.List.{get_or_past}
-use Rattle.batch_recipe.specs.Nodes.{node_count}
-use Rattle.batch_recipe.specs.Tree.{Step, Task, runs, follows, Tree, act}
-use Rattle.batch_model.specs.Lists.{Has}
-use Rattle.batch_model.specs.Moves.{is_empty}
-use Rattle.batch_model.specs.Plant.{held_in}
-use Rattle.batch_model.specs.Rest.{Rest, ready, open_act, freeing, acts}
-use Rattle.batch_recipe.specs.declared.entry.Entry.{Entry}
-use Rattle.batch_recipe.specs.declared.recipe.Recipe.{Recipe}
-use Rattle.batch_chart.specs.declared.sign.TheConstants.{HOLDS}
-use Rattle.batch_chart.specs.declared.stage.Stage.{Stage}
-use Rattle.batch_chart.specs.declared.stage.Stage.TheVariants.{Finished, Ready, Asking, Open, Live, Freeing, Turning}
-use Rattle.batch_chart.specs.Outlined.{end_at, kind_at, Stands}
-use Rattle.batch_chart.specs.Nexts.{first_of}
-use Rattle.batch_chart.specs.Meaning.{meaning, meaning_below, act_as}
-use Rattle.batch_chart.specs.Neat.{AreNeat}
-use Rattle.batch_chart.specs.Nexts.{IsFoundFirst, SomeNoted, GivesAs, GivesNone, IsFirstGiving}
-use Rattle.batch_chart.specs.Noting.{gives, signs_of, sign_in}
-use Rattle.batch_chart.specs.Numbered.{numbered}
-use Rattle.batch_chart.specs.Running.{IsLaid}
-use Rattle.batch_signs.specs.Signs.{shows, sign_at, TellsNone, IsNextShown}
-use Rattle.batch_chart.specs.Stages.{stage_at}
-use Rattle.batch_chart.specs.Told.{AreTold}
-use Rattle.batch_chart.proofs.KnownTests.{chosen-true, chosen-false}
-use Rattle.batch_chart.proofs.NumberedActs.{nothing, nothing-holds}
-use Rattle.batch_signs.proofs.WantedSigns.{none-shown}
-use Rattle.batch_chart.proofs.LivePhaseSigns.{entry-or-not, sign-entry, beyond, first-none, first-some}
-use Rattle.batch_chart.proofs.NeatCharts.{neat-part}
-use Rattle.batch_chart.proofs.SignSearch.{RiseIn, rise, sign-before, first-shown, first-same, picks, noted-alike, shown-not, shown-so}
-use Rattle.batch_chart.proofs.ActSigns.{link}
-use Rattle.batch_chart.proofs.SignTests.{Says, says-all, showing, said-showing, gives_back, ready-holds, open-holds, freeing-holds}
-use Rattle.batch_chart.proofs.TreePositions.{stood}
-use Rattle.batch_chart.proofs.ChartChange.{Fits, fits-count, act-fits, entry-at}
-use Rattle.batch_chart.proofs.FinishedStages.{told-part}
+use Rattle.std.{specs.Prelude.Option, specs.Int.Bits.bit_and, proofs.lemmas.Bool.cases_lt, proofs.lemmas.Bool.Decides.eqb_tells, proofs.lemmas.Bool.Decides.nat_tests, proofs.lemmas.List.get_or_past}
+use Rattle.batch_recipe.specs.{Nodes.node_count, Tree.Step, Tree.Task, Tree.runs, Tree.follows, Tree.Tree, Tree.act, declared.entry.Entry.Entry, declared.recipe.Recipe.Recipe}
+use Rattle.batch_model.specs.{Lists.Has, Moves.is_empty, Plant.held_in, Rest.Rest, Rest.ready, Rest.open_act, Rest.freeing, Rest.acts}
+use Rattle.batch_chart.{specs.declared.sign.TheConstants.HOLDS, specs.declared.stage.Stage.Stage, specs.declared.stage.Stage.TheVariants.Finished, specs.declared.stage.Stage.TheVariants.Ready, specs.declared.stage.Stage.TheVariants.Asking, specs.declared.stage.Stage.TheVariants.Open, specs.declared.stage.Stage.TheVariants.Live, specs.declared.stage.Stage.TheVariants.Freeing, specs.declared.stage.Stage.TheVariants.Turning, specs.Outlined.end_at, specs.Outlined.kind_at, specs.Outlined.Stands, specs.Nexts.first_of, specs.Meaning.meaning, specs.Meaning.meaning_below, specs.Meaning.act_as, specs.Neat.AreNeat, specs.Nexts.IsFoundFirst, specs.Nexts.SomeNoted, specs.Nexts.GivesAs, specs.Nexts.GivesNone, specs.Nexts.IsFirstGiving, specs.Noting.gives, specs.Noting.signs_of, specs.Noting.sign_in, specs.Numbered.numbered, specs.Running.IsLaid, specs.Stages.stage_at, specs.Told.AreTold, proofs.KnownTests.chosen-true, proofs.KnownTests.chosen-false, proofs.NumberedActs.nothing, proofs.NumberedActs.nothing-holds, proofs.LivePhaseSigns.entry-or-not, proofs.LivePhaseSigns.sign-entry, proofs.LivePhaseSigns.beyond, proofs.LivePhaseSigns.first-none, proofs.LivePhaseSigns.first-some, proofs.NeatCharts.neat-part, proofs.SignSearch.RiseIn, proofs.SignSearch.rise, proofs.SignSearch.sign-before, proofs.SignSearch.first-shown, proofs.SignSearch.first-same, proofs.SignSearch.picks, proofs.SignSearch.noted-alike, proofs.SignSearch.shown-not, proofs.SignSearch.shown-so, proofs.ActSigns.link, proofs.SignTests.Says, proofs.SignTests.says-all, proofs.SignTests.showing, proofs.SignTests.said-showing, proofs.SignTests.gives_back, proofs.SignTests.ready-holds, proofs.SignTests.open-holds, proofs.SignTests.freeing-holds, proofs.TreePositions.stood, proofs.ChartChange.Fits, proofs.ChartChange.fits-count, proofs.ChartChange.act-fits, proofs.ChartChange.entry-at, proofs.FinishedStages.told-part}
+use Rattle.batch_signs.{specs.Signs.shows, specs.Signs.sign_at, specs.Signs.TellsNone, specs.Signs.IsNextShown, proofs.WantedSigns.none-shown}
 
 -- the search, step by step
 

@@ -1,47 +1,14 @@
 -- The rest of a batch's recipe after a move, if the batch holds a unit in advance.
 use Rattle.std.proofs.Common.{◌≡◌, inl, inr, ◌<◌, ℕ, zero, suc, ◌+◌, List, [], ◌∷◌, length, take, map, filter, cond, Bool, true, false, ◌||◌, nat_eq, arith, refl, sym, ◌∙◌, subst, ap, ap₂}
-use Rattle.std.specs.Prelude.{not, ⊤}
-use Rattle.std.specs.List.{list_any}
-use Rattle.std.proofs.lemmas.Bool.{cases_lt}
-use Rattle.std.proofs.lemmas.Bool.Decides.{eqb_tells}
-use Rattle.std.proofs.lemmas.List.{get_or_past}
-use Rattle.batch_recipe.specs.Conditions.{ValueList}
-use Rattle.batch_recipe.specs.Nodes.{node_count}
-use Rattle.batch_recipe.specs.Tree.{Place, Step, Task, runs, follows, Tree}
-use Rattle.batch_recipe.specs.declared.entry.Entry.{Entry}
-use Rattle.batch_recipe.specs.declared.recipe.Recipe.{Recipe}
-use Rattle.batch_model.specs.Lists.{Has}
+use Rattle.std.{specs.Prelude.not, specs.Prelude.⊤, specs.List.list_any, proofs.lemmas.Bool.cases_lt, proofs.lemmas.Bool.Decides.eqb_tells, proofs.lemmas.List.get_or_past}
+use Rattle.batch_recipe.specs.{Conditions.ValueList, Nodes.node_count, Tree.Place, Tree.Step, Tree.Task, Tree.runs, Tree.follows, Tree.Tree, declared.entry.Entry.Entry, declared.recipe.Recipe.Recipe}
+use Rattle.batch_model.specs.{Lists.Has, Moves.act_after, Moves.sent, Moves.released, Moves.ended, Moves.asked, Moves.granted, Moves.batch_after, Moves.passing, Plant.Batch, Plant.InAdvance, Plant.is_act_reached, Plant.with_rest, Rest.same_place, Rest.Rest, Rest.ready, Rest.asking, Rest.open_act, Rest.live, Rest.freeing, Rest.in_seq, Rest.in_par, Rest.in_loop, Rest.done, Rest.Rests, Rest.no_rests, Rest.rest, Rest.acts, Rest.place_of}
 use Rattle.batch_model.specs.Moves as machine
-use Rattle.batch_model.specs.Moves.{act_after, sent, released, ended, asked, granted, batch_after, passing}
-use Rattle.batch_model.specs.Plant.{Batch, InAdvance, is_act_reached, with_rest}
-use Rattle.batch_model.specs.Rest.{same_place, Rest, ready, asking, open_act, live, freeing, in_seq, in_par, in_loop, done, Rests, no_rests, rest, acts, place_of}
 use Rattle.batch_step_laws.proofs.WorkAfterChange.{to_same_place, same_test}
-use Rattle.batch_record_laws.proofs.Entries.{Has-filter}
-use Rattle.batch_record_laws.proofs.HoldingsInAdvance.{at_moment, Nowhere, lifted, lifted_each, lifted-none, raised, places, IsSteady, IsTidy, IsFresh, moved-raised, reached-raised, reached-at, not_reached}
-use Rattle.batch_record_laws.proofs.EffectsOnActs.{stays-steady, stays-tidy, sent-stays, released-stays, ended-stays, asked-stays, granted-stays, begun-steady, begun-tidy}
-use Rattle.batch_chart.specs.Early.{is_early, is_ready, in_advance, taken_by, taken_by_each, is_of, IsTakenBy}
-use Rattle.batch_chart.specs.declared.passed.Passed.{Passed}
-use Rattle.batch_chart.specs.Meaning.{meaning, meaning_below, act_as}
-use Rattle.batch_chart.specs.NodesOf.{need_at, node_at, place_at}
-use Rattle.batch_chart.specs.Running.{IsLaid, IsAlive, rest_after}
-use Rattle.batch_chart.specs.Stages.{stage_at, is_finished}
-use Rattle.batch_chart.specs.declared.sign.TheConstants.{IS_ACT}
-use Rattle.batch_chart.specs.declared.stage.Stage.{Stage}
+use Rattle.batch_record_laws.proofs.{Entries.Has-filter, HoldingsInAdvance.at_moment, HoldingsInAdvance.Nowhere, HoldingsInAdvance.lifted, HoldingsInAdvance.lifted_each, HoldingsInAdvance.lifted-none, HoldingsInAdvance.raised, HoldingsInAdvance.places, HoldingsInAdvance.IsSteady, HoldingsInAdvance.IsTidy, HoldingsInAdvance.IsFresh, HoldingsInAdvance.moved-raised, HoldingsInAdvance.reached-raised, HoldingsInAdvance.reached-at, HoldingsInAdvance.not_reached, EffectsOnActs.stays-steady, EffectsOnActs.stays-tidy, EffectsOnActs.sent-stays, EffectsOnActs.released-stays, EffectsOnActs.ended-stays, EffectsOnActs.asked-stays, EffectsOnActs.granted-stays, EffectsOnActs.begun-steady, EffectsOnActs.begun-tidy}
+use Rattle.batch_chart.{specs.Early.is_early, specs.Early.is_ready, specs.Early.in_advance, specs.Early.taken_by, specs.Early.taken_by_each, specs.Early.is_of, specs.Early.IsTakenBy, specs.declared.passed.Passed.Passed, specs.Meaning.meaning, specs.Meaning.meaning_below, specs.Meaning.act_as, specs.NodesOf.need_at, specs.NodesOf.node_at, specs.NodesOf.place_at, specs.Running.IsLaid, specs.Running.IsAlive, specs.Running.rest_after, specs.Stages.stage_at, specs.Stages.is_finished, specs.declared.sign.TheConstants.IS_ACT, specs.declared.stage.Stage.Stage, specs.Neat.AreNeat, specs.Neat.IsNeat, specs.Neat.step_shows, specs.Noting.AreNoted, specs.Numbered.numbered, specs.Outlined.Stands, proofs.ActsAtNodes.stands-at, proofs.ActsAtNodes.numbers-rise, proofs.NextMoves.known, proofs.LivePhaseSigns.entry-or-not, proofs.NodesAtNumbers.node-stands, proofs.NodeNumbers.same-itself, proofs.NodeNumbers.not-same, proofs.NodeNumbers.before-differ, proofs.SignTests.ready-shows, proofs.ChartChange.number-at-place, proofs.ChartChange.act-here, proofs.UnitTakeover.taken-none, proofs.UnitTakeover.taken-alike, proofs.UnitTakeover.ready-act_at}
 use Rattle.batch_chart.specs.declared.stage.Stage.TheVariants as stage
-use Rattle.batch_chart.specs.Neat.{AreNeat, IsNeat, step_shows}
-use Rattle.batch_chart.specs.Noting.{AreNoted}
-use Rattle.batch_chart.specs.Numbered.{numbered}
-use Rattle.batch_chart.specs.Outlined.{Stands}
-use Rattle.batch_signs.specs.Signs.{shows, sign_at}
-use Rattle.batch_signs.proofs.WantedSigns.{nothing-shown}
-use Rattle.batch_chart.proofs.ActsAtNodes.{stands-at, numbers-rise}
-use Rattle.batch_chart.proofs.NextMoves.{known}
-use Rattle.batch_chart.proofs.LivePhaseSigns.{entry-or-not}
-use Rattle.batch_chart.proofs.NodesAtNumbers.{node-stands}
-use Rattle.batch_chart.proofs.NodeNumbers.{same-itself, not-same, before-differ}
-use Rattle.batch_chart.proofs.SignTests.{ready-shows}
-use Rattle.batch_chart.proofs.ChartChange.{number-at-place, act-here}
-use Rattle.batch_chart.proofs.UnitTakeover.{taken-none, taken-alike, ready-act_at}
+use Rattle.batch_signs.{specs.Signs.shows, specs.Signs.sign_at, proofs.WantedSigns.nothing-shown}
 
 -- Acts that are raised are taken over
 

@@ -1,40 +1,9 @@
 -- A running chart is in order over every chart of its tree, and calls keep it a running one.
-use Rattle.std.proofs.Common.{◌≡◌, inl, inr, ◌<◌, ◌≤◌, ◌∙◌, refl, sym, subst, ap, arith, ℕ, ◌+◌, List, length, Bool, Some, None}
-use Rattle.std.specs.Prelude.{Option, IfSome}
-use Rattle.batch_recipe.specs.Nodes.{node_count}
-use Rattle.batch_recipe.specs.Conditions.{Name}
-use Rattle.batch_recipe.specs.declared.condition.Cond.{Cond}
-use Rattle.batch_recipe.specs.Tree.{Step, Phase, Trees, Choices, Tree, runs, follows, act, skip, seq, par, sel, loop}
-use Rattle.batch_recipe.specs.declared.entry.Entry.{Entry}
-use Rattle.batch_recipe.specs.declared.recipe.Recipe.{Recipe}
-use Rattle.batch_chart.specs.declared.running.Running.{Running}
-use Rattle.batch_chart.specs.declared.stage.Stage.{Stage}
-use Rattle.batch_recipe.specs.Conditions.{ValueList}
-use Rattle.batch_model.specs.Rest.{Rest, withdrawn}
-use Rattle.batch_model.specs.Plant.{InAdvance}
-use Rattle.std.proofs.Common.{[], ◌∷◌, zero, suc}
-use Rattle.std.specs.VecDeque.{deque_capacity}
-use Rattle.batch_model.specs.Lists.{Has}
-use Rattle.batch_chart.specs.Early.{AreHeld, AreNodes, in_advance}
-use Rattle.batch_chart.specs.declared.passed.Passed.{Passed}
-use Rattle.batch_chart.proofs.ActPlaces.{withdrawn-reached}
-use Rattle.batch_chart.specs.Charts.{IsChartOf, IsRunning, IsRunningOf, RunsAs, remains}
-use Rattle.batch_chart.specs.Meaning.{meaning}
-use Rattle.batch_chart.specs.Starting.{HasStarted, AreStarted, HasWithdrawn, AreWithdrawn}
-use Rattle.batch_chart.proofs.WithdrawalSigns.{withdrawn-neat}
-use Rattle.batch_chart.specs.Outlined.{end_at, Stands}
-use Rattle.batch_chart.specs.Noting.{stage_signs}
-use Rattle.batch_chart.specs.Neat.{act_shows, runs_below, is_single, shown_of, AreNeat}
-use Rattle.batch_chart.specs.Nexts.{IsInOrder}
-use Rattle.batch_chart.specs.NodesOf.{most_by, needs_in, node_at, own_units}
-use Rattle.batch_chart.specs.Running.{IsLaid, IsAlive}
-use Rattle.batch_chart.specs.Stages.{stage_at, is_finished}
-use Rattle.batch_chart.specs.Upkeep.{IsKeptUp}
-use Rattle.batch_chart.proofs.NodesAtNumbers.{node-stands}
-use Rattle.batch_chart.proofs.ActSigns.{noted}
-use Rattle.batch_chart.proofs.ChartChange.{all-told}
-use Rattle.batch_chart.proofs.TreePositions.{stood, PhaseAt, phase_at, phase-at, ActAt, act_at, act-at, SkipAt, skip_at, skip-at, SeqAt, seq_at, seq-at, ParAt, par_at, par-at, SelAt, sel_at, sel-at, LoopAt, loop_at, loop-at}
-use Rattle.batch_chart.specs.ByValues.{reach_by}
+use Rattle.std.proofs.Common.{◌≡◌, inl, inr, ◌<◌, ◌≤◌, ◌∙◌, refl, sym, subst, ap, arith, ℕ, ◌+◌, List, length, Bool, Some, None, [], ◌∷◌, zero, suc}
+use Rattle.std.specs.{Prelude.Option, Prelude.IfSome, VecDeque.deque_capacity}
+use Rattle.batch_recipe.specs.{Nodes.node_count, Conditions.Name, declared.condition.Cond.Cond, Tree.Step, Tree.Phase, Tree.Trees, Tree.Choices, Tree.Tree, Tree.runs, Tree.follows, Tree.act, Tree.skip, Tree.seq, Tree.par, Tree.sel, Tree.loop, declared.entry.Entry.Entry, declared.recipe.Recipe.Recipe, Conditions.ValueList}
+use Rattle.batch_chart.{specs.declared.running.Running.Running, specs.declared.stage.Stage.Stage, specs.Early.AreHeld, specs.Early.AreNodes, specs.Early.in_advance, specs.declared.passed.Passed.Passed, proofs.ActPlaces.withdrawn-reached, specs.Charts.IsChartOf, specs.Charts.IsRunning, specs.Charts.IsRunningOf, specs.Charts.RunsAs, specs.Charts.remains, specs.Meaning.meaning, specs.Starting.HasStarted, specs.Starting.AreStarted, specs.Starting.HasWithdrawn, specs.Starting.AreWithdrawn, proofs.WithdrawalSigns.withdrawn-neat, specs.Outlined.end_at, specs.Outlined.Stands, specs.Noting.stage_signs, specs.Neat.act_shows, specs.Neat.runs_below, specs.Neat.is_single, specs.Neat.shown_of, specs.Neat.AreNeat, specs.Nexts.IsInOrder, specs.NodesOf.most_by, specs.NodesOf.needs_in, specs.NodesOf.node_at, specs.NodesOf.own_units, specs.Running.IsLaid, specs.Running.IsAlive, specs.Stages.stage_at, specs.Stages.is_finished, specs.Upkeep.IsKeptUp, proofs.NodesAtNumbers.node-stands, proofs.ActSigns.noted, proofs.ChartChange.all-told, proofs.TreePositions.stood, proofs.TreePositions.PhaseAt, proofs.TreePositions.phase_at, proofs.TreePositions.phase-at, proofs.TreePositions.ActAt, proofs.TreePositions.act_at, proofs.TreePositions.act-at, proofs.TreePositions.SkipAt, proofs.TreePositions.skip_at, proofs.TreePositions.skip-at, proofs.TreePositions.SeqAt, proofs.TreePositions.seq_at, proofs.TreePositions.seq-at, proofs.TreePositions.ParAt, proofs.TreePositions.par_at, proofs.TreePositions.par-at, proofs.TreePositions.SelAt, proofs.TreePositions.sel_at, proofs.TreePositions.sel-at, proofs.TreePositions.LoopAt, proofs.TreePositions.loop_at, proofs.TreePositions.loop-at, specs.ByValues.reach_by}
+use Rattle.batch_model.specs.{Rest.Rest, Rest.withdrawn, Plant.InAdvance, Lists.Has}
 
 -- two trees at one node are alike in the signs of the node, and in the running of its descendants
 record AreLike (c d : Tree) : Type 0 where

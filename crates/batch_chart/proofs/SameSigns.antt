@@ -1,24 +1,9 @@
 -- Two trees at the same nodes show the same signs.
 use Rattle.std.proofs.Common.{◌≡◌, ◌≢◌, ℕ, suc, ◌+◌, List, [], ◌∷◌, ◌++◌, length, Bool, true, false, Some, None, arith, refl, sym, ◌∙◌, ap, ap₂, subst, nat_eq}
 use Rattle.std.specs.Prelude.{Option, map}
-use Rattle.batch_recipe.specs.Conditions.{Name}
-use Rattle.batch_recipe.specs.Nodes.{node_count}
-use Rattle.batch_recipe.specs.Tree.{Step, Phase, Task, runs, follows, Tree, act, skip, seq, par, sel, loop, Trees, no_trees, tree, Choices, otherwise, choice}
-use Rattle.batch_recipe.specs.declared.condition.Cond.{Cond}
-use Rattle.batch_model.specs.Rest.{Rest, done, acts}
-use Rattle.batch_model.specs.Moves.{is_empty}
-use Rattle.batch_recipe.specs.declared.entry.Entry.{Entry}
-use Rattle.batch_recipe.specs.declared.recipe.Recipe.{Recipe}
-use Rattle.batch_recipe.proofs.NodeSubtrees.{some_count}
-use Rattle.batch_chart.specs.declared.stage.Stage.{Stage}
-use Rattle.batch_chart.specs.declared.stage.Stage.TheVariants.{Ready, Asking, Open, Live, Freeing}
-use Rattle.batch_chart.specs.Stages.{stage_at, is_finished, is_begun, turns_of}
-use Rattle.batch_chart.specs.Meaning.{meaning, act_as}
-use Rattle.batch_chart.specs.Outlined.{end_at, Stands, StandsAct, AreStanding, AreChoices}
-use Rattle.batch_chart.specs.Numbered.{entries, entries_in, numbered, numbered_each, numbered_branch, numbered_chosen}
-use Rattle.batch_chart.specs.Noting.{signs_of, ready_signs, asking_signs, freeing_signs, live_signs, open_signs, sign_in}
-use Rattle.batch_chart.proofs.TreePositions.{SkipAt, skip_at, skip-at, PhaseAt, phase_at, phase-at, ActAt, act_at, act-at, SeqAt, seq_at, seq-at, ParAt, par_at, par-at, SelAt, sel_at, sel-at, LoopAt, loop_at, loop-at, RowAt, row_at, row-at, row-end, LastAt, last_at, last-at, ChoiceAt, choice_at, choice-at, stood, stood-each, stood-choices, choices-pos}
-use Rattle.batch_chart.proofs.NumberedActs.{numbered-acts}
+use Rattle.batch_recipe.{specs.Conditions.Name, specs.Nodes.node_count, specs.Tree.Step, specs.Tree.Phase, specs.Tree.Task, specs.Tree.runs, specs.Tree.follows, specs.Tree.Tree, specs.Tree.act, specs.Tree.skip, specs.Tree.seq, specs.Tree.par, specs.Tree.sel, specs.Tree.loop, specs.Tree.Trees, specs.Tree.no_trees, specs.Tree.tree, specs.Tree.Choices, specs.Tree.otherwise, specs.Tree.choice, specs.declared.condition.Cond.Cond, specs.declared.entry.Entry.Entry, specs.declared.recipe.Recipe.Recipe, proofs.NodeSubtrees.some_count}
+use Rattle.batch_model.specs.{Rest.Rest, Rest.done, Rest.acts, Moves.is_empty}
+use Rattle.batch_chart.{specs.declared.stage.Stage.Stage, specs.declared.stage.Stage.TheVariants.Ready, specs.declared.stage.Stage.TheVariants.Asking, specs.declared.stage.Stage.TheVariants.Open, specs.declared.stage.Stage.TheVariants.Live, specs.declared.stage.Stage.TheVariants.Freeing, specs.Stages.stage_at, specs.Stages.is_finished, specs.Stages.is_begun, specs.Stages.turns_of, specs.Meaning.meaning, specs.Meaning.act_as, specs.Outlined.end_at, specs.Outlined.Stands, specs.Outlined.StandsAct, specs.Outlined.AreStanding, specs.Outlined.AreChoices, specs.Numbered.entries, specs.Numbered.entries_in, specs.Numbered.numbered, specs.Numbered.numbered_each, specs.Numbered.numbered_branch, specs.Numbered.numbered_chosen, specs.Noting.signs_of, specs.Noting.ready_signs, specs.Noting.asking_signs, specs.Noting.freeing_signs, specs.Noting.live_signs, specs.Noting.open_signs, specs.Noting.sign_in, proofs.TreePositions.SkipAt, proofs.TreePositions.skip_at, proofs.TreePositions.skip-at, proofs.TreePositions.PhaseAt, proofs.TreePositions.phase_at, proofs.TreePositions.phase-at, proofs.TreePositions.ActAt, proofs.TreePositions.act_at, proofs.TreePositions.act-at, proofs.TreePositions.SeqAt, proofs.TreePositions.seq_at, proofs.TreePositions.seq-at, proofs.TreePositions.ParAt, proofs.TreePositions.par_at, proofs.TreePositions.par-at, proofs.TreePositions.SelAt, proofs.TreePositions.sel_at, proofs.TreePositions.sel-at, proofs.TreePositions.LoopAt, proofs.TreePositions.loop_at, proofs.TreePositions.loop-at, proofs.TreePositions.RowAt, proofs.TreePositions.row_at, proofs.TreePositions.row-at, proofs.TreePositions.row-end, proofs.TreePositions.LastAt, proofs.TreePositions.last_at, proofs.TreePositions.last-at, proofs.TreePositions.ChoiceAt, proofs.TreePositions.choice_at, proofs.TreePositions.choice-at, proofs.TreePositions.stood, proofs.TreePositions.stood-each, proofs.TreePositions.stood-choices, proofs.TreePositions.choices-pos, proofs.NumberedActs.numbered-acts}
 
 -- the signs of each act, with its number
 abbrev pub marks : List (ℕ × Rest) → List (ℕ × ℕ)

@@ -1,55 +1,13 @@
 -- The states that acts show, as the stages tell them.
 use Rattle.std.proofs.Common.{◌≡◌, ◌≢◌, ◌⊎◌, inl, inr, ◌<◌, ◌≤◌, ℕ, suc, ◌+◌, List, [], ◌∷◌, length, Bool, true, false, Some, None, nat_eq, arith, refl, sym, ◌∙◌, subst, ap, ap₂}
-use Rattle.std.specs.Prelude.{Option, not, map, find, ⊤}
-use Rattle.std.proofs.Math.Bool.{cond}
-use Rattle.std.proofs.lemmas.Bool.Decides.{eqb_tells}
-use Rattle.batch_matrix.specs.declared.state.State.{State}
-use Rattle.batch_matrix.specs.declared.state.State.TheVariants.{Idle}
-use Rattle.batch_matrix.specs.Matrix.{same_state}
-use Rattle.batch_recipe.specs.Nodes.{node_count}
-use Rattle.batch_recipe.specs.Tree.{Place, Step, Task, runs, follows, Tree, act, skip, seq, par, sel, loop, Trees, no_trees, tree, Choices, otherwise, choice}
-use Rattle.batch_recipe.proofs.NodeOrder.{in_order}
-use Rattle.batch_model.specs.ActStates.{root, steps, act_state, state_in}
-use Rattle.batch_model.specs.Lists.{Has}
-use Rattle.batch_model.specs.Moves.{is_empty}
-use Rattle.batch_model.proofs.Members.{Has-split}
-use Rattle.batch_model.specs.Plant.{Batch, phase_states}
-use Rattle.batch_model.specs.Rest.{same_place, Rest, live, acts, is_done, place_of}
-use Rattle.batch_recipe.specs.declared.entry.Entry.{Entry}
-use Rattle.batch_recipe.proofs.NodeSubtrees.{some_count}
-use Rattle.batch_chart.specs.declared.node.Kind.{Kind}
+use Rattle.std.{specs.Prelude.Option, specs.Prelude.not, specs.Prelude.map, specs.Prelude.find, specs.Prelude.⊤, proofs.Math.Bool.cond, proofs.lemmas.Bool.Decides.eqb_tells}
+use Rattle.batch_matrix.specs.{declared.state.State.State, declared.state.State.TheVariants.Idle, Matrix.same_state}
+use Rattle.batch_recipe.{specs.Nodes.node_count, specs.Tree.Place, specs.Tree.Step, specs.Tree.Task, specs.Tree.runs, specs.Tree.follows, specs.Tree.Tree, specs.Tree.act, specs.Tree.skip, specs.Tree.seq, specs.Tree.par, specs.Tree.sel, specs.Tree.loop, specs.Tree.Trees, specs.Tree.no_trees, specs.Tree.tree, specs.Tree.Choices, specs.Tree.otherwise, specs.Tree.choice, proofs.NodeOrder.in_order, specs.declared.entry.Entry.Entry, proofs.NodeSubtrees.some_count, specs.declared.recipe.Recipe.Recipe}
+use Rattle.batch_model.{specs.ActStates.root, specs.ActStates.steps, specs.ActStates.act_state, specs.ActStates.state_in, specs.Lists.Has, specs.Moves.is_empty, proofs.Members.Has-split, specs.Plant.Batch, specs.Plant.phase_states, specs.Rest.same_place, specs.Rest.Rest, specs.Rest.live, specs.Rest.acts, specs.Rest.is_done, specs.Rest.place_of}
+use Rattle.batch_chart.{specs.declared.node.Kind.Kind, specs.declared.stage.Stage.Stage, specs.Nexts.first_of, specs.Stages.stage_at, specs.Stages.is_begun, specs.Stages.is_finished, specs.Stages.turns_of, specs.Meaning.act_as, specs.Meaning.meaning, specs.Meaning.meaning_below, specs.Outlined.end_at, specs.Outlined.kind_at, specs.Outlined.is_act_kind, specs.Outlined.Stands, specs.Outlined.StandsAct, specs.Outlined.AreStanding, specs.Outlined.AreChoices, specs.Neat.step_shows, specs.Neat.IsNeat, specs.Noting.state_sign, specs.Told.TellsWhetherOver, specs.declared.sign.TheConstants.IS_ACT, specs.declared.sign.TheConstants.LIVES, specs.Numbered.numbered, specs.Numbered.numbered_below, specs.Numbered.numbered_each, specs.Numbered.numbered_branch, specs.Numbered.numbered_chosen, specs.NodesOf.nodes_of, specs.NodesOf.node_at, specs.NodesOf.place_at, specs.Nexts.SomeNoted, specs.Running.IsActTree, specs.Running.IsLaid, specs.Showing.is_among, specs.Showing.shown_by, specs.Showing.StandsBelow, specs.Showing.IsFirstShown, specs.Showing.IsShown, specs.Showing.IsStateAt, proofs.NumberedActs.nothing, proofs.NumberedActs.numbered-acts, proofs.ReleaseOnStop.below-told, proofs.ReleaseOnStop.below-first, proofs.LivePhaseSigns.entry-or-not, proofs.SignSearch.noted-alike, proofs.SignSearch.other-number, proofs.SignTests.Says, proofs.SignTests.any_live, proofs.SignTests.live_as, proofs.SignTests.said-live, proofs.SignTests.said-in, proofs.SignTests.live-shows, proofs.SignTests.open-shows, proofs.GravestState.gravest_states, proofs.GravestState.gravest-is, proofs.NextMoves.live-nothing, proofs.NextMoves.no-live, proofs.NextMoves.known, proofs.LivePhase.live-known, proofs.NodesAtNumbers.node-got, proofs.NodesAtNumbers.node-stands, proofs.NodeNumbers.told, proofs.NodeNumbers.has-entry, proofs.NodeNumbers.if-begun, proofs.NodeNumbers.either, proofs.NodeNumbers.if-turning, proofs.ActsByPlace.steps-of, proofs.ActsByPlace.own_step, proofs.ActsByPlace.step_in, proofs.ActsByPlace.unreached, proofs.ActsByPlace.step-found, proofs.ChartChange.Fits, proofs.ChartChange.entry-at, proofs.ChartChange.entry-undone, proofs.ChartChange.act-place, proofs.FirstInLine.carries}
 use Rattle.batch_chart.specs.declared.node.Kind.TheVariants as kind
-use Rattle.batch_recipe.specs.declared.recipe.Recipe.{Recipe}
-use Rattle.batch_chart.specs.declared.stage.Stage.{Stage}
 use Rattle.batch_chart.specs.declared.stage.Stage.TheVariants as stage
-use Rattle.batch_chart.specs.Nexts.{first_of}
-use Rattle.batch_chart.specs.Stages.{stage_at, is_begun, is_finished, turns_of}
-use Rattle.batch_chart.specs.Meaning.{act_as, meaning, meaning_below}
-use Rattle.batch_chart.specs.Outlined.{end_at, kind_at, is_act_kind, Stands, StandsAct, AreStanding, AreChoices}
-use Rattle.batch_chart.specs.Neat.{step_shows, IsNeat}
-use Rattle.batch_chart.specs.Noting.{state_sign}
-use Rattle.batch_signs.specs.Signs.{shows, sign_at, TellsNone, IsNextShown}
-use Rattle.batch_chart.specs.Told.{TellsWhetherOver}
-use Rattle.batch_chart.specs.declared.sign.TheConstants.{IS_ACT, LIVES}
-use Rattle.batch_chart.specs.Numbered.{numbered, numbered_below, numbered_each, numbered_branch, numbered_chosen}
-use Rattle.batch_chart.specs.NodesOf.{nodes_of, node_at, place_at}
-use Rattle.batch_chart.specs.Nexts.{SomeNoted}
-use Rattle.batch_chart.specs.Running.{IsActTree, IsLaid}
-use Rattle.batch_chart.specs.Showing.{is_among, shown_by, StandsBelow, IsFirstShown, IsShown, IsStateAt}
-use Rattle.batch_chart.proofs.NumberedActs.{nothing, numbered-acts}
-use Rattle.batch_chart.proofs.ReleaseOnStop.{below-told, below-first}
-use Rattle.batch_chart.proofs.LivePhaseSigns.{entry-or-not}
-use Rattle.batch_chart.proofs.SignSearch.{noted-alike, other-number}
-use Rattle.batch_chart.proofs.SignTests.{Says, any_live, live_as, said-live, said-in, live-shows, open-shows}
-use Rattle.batch_signs.proofs.WantedSigns.{tells-none, nothing-shown}
-use Rattle.batch_chart.proofs.GravestState.{gravest_states, gravest-is}
-use Rattle.batch_chart.proofs.NextMoves.{live-nothing, no-live, known}
-use Rattle.batch_chart.proofs.LivePhase.{live-known}
-use Rattle.batch_chart.proofs.NodesAtNumbers.{node-got, node-stands}
-use Rattle.batch_chart.proofs.NodeNumbers.{told, has-entry, if-begun, either, if-turning}
-use Rattle.batch_chart.proofs.ActsByPlace.{steps-of, own_step, step_in, unreached, step-found}
-use Rattle.batch_chart.proofs.ChartChange.{Fits, entry-at, entry-undone, act-place}
-use Rattle.batch_chart.proofs.FirstInLine.{carries}
+use Rattle.batch_signs.{specs.Signs.shows, specs.Signs.sign_at, specs.Signs.TellsNone, specs.Signs.IsNextShown, proofs.WantedSigns.tells-none, proofs.WantedSigns.nothing-shown}
 
 flip : (a b : Bool) → not a ≡ b → a ≡ not b
 flip a b e = grind arith

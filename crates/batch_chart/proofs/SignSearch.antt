@@ -1,29 +1,10 @@
 -- The first act that shows a sign is the first that passes the test which the sign tells.
 use Rattle.std.proofs.Common.{◌≡◌, ◌≢◌, inl, inr, ◌<◌, ◌≤◌, ℕ, zero, suc, ◌+◌, List, [], ◌∷◌, ◌++◌, length, Bool, true, false, ◌&&◌, Some, None, arith, refl, sym, ◌∙◌, ap, nat_eq, nat_le}
-use Rattle.std.specs.Prelude.{Option, not, ⊤}
-use Rattle.std.specs.Int.Bits.{bit_and}
-use Rattle.std.proofs.lemmas.List.{get_or_past}
-use Rattle.std.proofs.lemmas.Bool.{cases_lt}
-use Rattle.std.proofs.lemmas.Bool.Decides.{eqb_tells, nat_tests}
-use Rattle.batch_recipe.specs.Nodes.{node_count, count_of_each, count_of_choices, count_within}
-use Rattle.batch_recipe.specs.Tree.{Task, runs, follows, Tree, act, skip, seq, par, sel, loop, Trees, no_trees, tree, Choices, otherwise, choice}
+use Rattle.std.{specs.Prelude.Option, specs.Prelude.not, specs.Prelude.⊤, specs.Int.Bits.bit_and, proofs.lemmas.List.get_or_past, proofs.lemmas.Bool.cases_lt, proofs.lemmas.Bool.Decides.eqb_tells, proofs.lemmas.Bool.Decides.nat_tests}
+use Rattle.batch_recipe.specs.{Nodes.node_count, Nodes.count_of_each, Nodes.count_of_choices, Nodes.count_within, Tree.Task, Tree.runs, Tree.follows, Tree.Tree, Tree.act, Tree.skip, Tree.seq, Tree.par, Tree.sel, Tree.loop, Tree.Trees, Tree.no_trees, Tree.tree, Tree.Choices, Tree.otherwise, Tree.choice, declared.entry.Entry.Entry, declared.recipe.Recipe.Recipe}
 use Rattle.batch_model.specs.Rest.{Rest, open_act, done}
-use Rattle.batch_recipe.specs.declared.entry.Entry.{Entry}
-use Rattle.batch_recipe.specs.declared.recipe.Recipe.{Recipe}
-use Rattle.batch_chart.specs.declared.stage.Stage.{Stage}
-use Rattle.batch_chart.specs.Stages.{stage_at, is_finished, is_begun, turns_of}
-use Rattle.batch_chart.specs.Meaning.{act_as, meaning_below}
-use Rattle.batch_chart.specs.Nexts.{first_of}
-use Rattle.batch_chart.specs.Numbered.{entries, entries_in, numbered, numbered_below, numbered_each, numbered_branch, numbered_chosen}
-use Rattle.batch_signs.specs.Signs.{shows, sign_at, IsNextShown}
-use Rattle.batch_chart.specs.Noting.{signs_of, sign_in, AreNoted}
-use Rattle.batch_chart.specs.Nexts.{IsFoundFirst, SomeNoted}
-use Rattle.batch_chart.specs.Running.{IsLaid}
-use Rattle.batch_chart.proofs.SameSigns.{alike, same-signs}
-use Rattle.batch_chart.proofs.KnownTests.{chosen-true, chosen-false}
-use Rattle.batch_signs.proofs.WantedSigns.{none-shown, more-not_zero}
-use Rattle.batch_signs.proofs.Bits.{nat-self}
-use Rattle.batch_chart.proofs.SignTests.{Says, says-all, showing, said-showing}
+use Rattle.batch_chart.{specs.declared.stage.Stage.Stage, specs.Stages.stage_at, specs.Stages.is_finished, specs.Stages.is_begun, specs.Stages.turns_of, specs.Meaning.act_as, specs.Meaning.meaning_below, specs.Nexts.first_of, specs.Numbered.entries, specs.Numbered.entries_in, specs.Numbered.numbered, specs.Numbered.numbered_below, specs.Numbered.numbered_each, specs.Numbered.numbered_branch, specs.Numbered.numbered_chosen, specs.Noting.signs_of, specs.Noting.sign_in, specs.Noting.AreNoted, specs.Nexts.IsFoundFirst, specs.Nexts.SomeNoted, specs.Running.IsLaid, proofs.SameSigns.alike, proofs.SameSigns.same-signs, proofs.KnownTests.chosen-true, proofs.KnownTests.chosen-false, proofs.SignTests.Says, proofs.SignTests.says-all, proofs.SignTests.showing, proofs.SignTests.said-showing}
+use Rattle.batch_signs.{specs.Signs.shows, specs.Signs.sign_at, specs.Signs.IsNextShown, proofs.WantedSigns.none-shown, proofs.WantedSigns.more-not_zero, proofs.Bits.nat-self}
 
 -- the numbers rise from n on, and stay below m
 abbrev pub RiseIn : ℕ → ℕ → List (ℕ × Rest) → Type 0

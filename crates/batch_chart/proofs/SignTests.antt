@@ -1,17 +1,10 @@
 -- The signs of acts, form by form, and the tests of acts that signs decide.
 use Rattle.std.proofs.Common.{◌≡◌, ℕ, length, Bool, true, false, ◌&&◌, arith, refl, sym, ◌∙◌, ap, nat_lt, nat_le}
-use Rattle.std.specs.Prelude.{not, ◌||◌}
-use Rattle.std.proofs.lemmas.Bool.Decides.{nat_tests}
-use Rattle.batch_matrix.specs.declared.command.Command.{Command}
-use Rattle.batch_matrix.specs.declared.state.State.{State}
-use Rattle.batch_matrix.specs.Matrix.{accepts, same_state}
-use Rattle.batch_model.specs.Plant.{held_in}
-use Rattle.batch_model.specs.Rest.{Rest, ready, asking, open_act, live, freeing, acts}
-use Rattle.batch_model.specs.Moves.{is_empty}
-use Rattle.batch_chart.specs.declared.sign.TheConstants.{HOLDS, LIVES, WAITS}
-use Rattle.batch_signs.specs.Signs.{shows}
-use Rattle.batch_chart.specs.Noting.{but, gives, flag, state_sign, ready_signs, asking_signs, freeing_signs, live_signs, open_signs, signs_of, states_accepting}
-use Rattle.batch_signs.proofs.WantedSigns.{shows-or, nothing-shown}
+use Rattle.std.{specs.Prelude.not, specs.Prelude.◌||◌, proofs.lemmas.Bool.Decides.nat_tests}
+use Rattle.batch_matrix.specs.{declared.command.Command.Command, declared.state.State.State, Matrix.accepts, Matrix.same_state}
+use Rattle.batch_model.specs.{Plant.held_in, Rest.Rest, Rest.ready, Rest.asking, Rest.open_act, Rest.live, Rest.freeing, Rest.acts, Moves.is_empty}
+use Rattle.batch_chart.specs.{declared.sign.TheConstants.HOLDS, declared.sign.TheConstants.LIVES, declared.sign.TheConstants.WAITS, Noting.but, Noting.gives, Noting.flag, Noting.state_sign, Noting.ready_signs, Noting.asking_signs, Noting.freeing_signs, Noting.live_signs, Noting.open_signs, Noting.signs_of, Noting.states_accepting}
+use Rattle.batch_signs.{specs.Signs.shows, proofs.WantedSigns.shows-or, proofs.WantedSigns.nothing-shown}
 
 shows-flag : (m s : ℕ) (b : Bool) → shows m (flag b s) ≡ (b && shows m s)
 shows-flag m s true = refl

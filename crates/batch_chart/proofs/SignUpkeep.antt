@@ -1,33 +1,11 @@
 -- The signs go with the stage of an act that goes on by itself.
 use Rattle.std.proofs.Common.{◌≡◌, ◌≢◌, ◌⊎◌, inl, inr, ◌<◌, ◌≤◌, ℕ, ◌+◌, List, length, Bool, true, false, arith, refl, sym, ◌∙◌, subst, ap, length-set, get_or-set_same, get_or-set_other}
 use Rattle.std.specs.Prelude.{slice_set, ⊤}
-use Rattle.batch_matrix.specs.declared.state.State.{State}
-use Rattle.batch_matrix.specs.declared.command.Command.{Command}
-use Rattle.batch_recipe.specs.Nodes.{node_count}
-use Rattle.batch_recipe.specs.Tree.{Task, follows, Tree, act}
-use Rattle.batch_recipe.specs.declared.entry.Entry.{Entry}
-use Rattle.batch_recipe.proofs.NodeSubtrees.{some_count}
-use Rattle.batch_chart.specs.declared.node.Kind.{Kind}
-use Rattle.batch_chart.specs.declared.node.Kind.TheVariants.{Act}
-use Rattle.batch_recipe.specs.declared.recipe.Recipe.{Recipe}
-use Rattle.batch_chart.specs.declared.stage.Stage.{Stage}
-use Rattle.batch_chart.specs.declared.stage.Stage.TheVariants.{Ready, Asking, Open, Live, Freeing}
-use Rattle.batch_chart.specs.declared.chart_move.Move.{Move}
+use Rattle.batch_matrix.specs.declared.{state.State.State, command.Command.Command}
+use Rattle.batch_recipe.{specs.Nodes.node_count, specs.Tree.Task, specs.Tree.follows, specs.Tree.Tree, specs.Tree.act, specs.declared.entry.Entry.Entry, proofs.NodeSubtrees.some_count, specs.declared.recipe.Recipe.Recipe}
+use Rattle.batch_chart.{specs.declared.node.Kind.Kind, specs.declared.node.Kind.TheVariants.Act, specs.declared.stage.Stage.Stage, specs.declared.stage.Stage.TheVariants.Ready, specs.declared.stage.Stage.TheVariants.Asking, specs.declared.stage.Stage.TheVariants.Open, specs.declared.stage.Stage.TheVariants.Live, specs.declared.stage.Stage.TheVariants.Freeing, specs.declared.chart_move.Move.Move, specs.Stages.stage_at, specs.Stages.is_finished, specs.Stages.is_begun, specs.Outlined.end_at, specs.Outlined.kind_at, specs.Outlined.is_act_kind, specs.Outlined.Stands, specs.Meaning.AgreeOutside, specs.Neat.AllFinished, specs.Neat.act_shows, specs.Neat.shown_of, specs.Neat.step_shows, specs.Neat.IsNeat, specs.Neat.AreNeat, specs.Neat.SignsOutside, specs.Neat.IsReachedNeatly, specs.Neat.AreBlank, specs.Needs.needs_of_kind, specs.Noting.stage_signs, specs.Noting.open_signs, specs.Noting.HasCome, specs.Running.Allows, specs.Running.CanRelease, specs.Running.IsLaid, specs.Running.IsNodeLive, specs.Running.IsNodeAsking, specs.Running.SomeLives, specs.Upkeep.IsKeptUp, proofs.StageAgreement.stage-set_same, proofs.StageAgreement.stage-set_other, proofs.NeatCharts.finished-shows, proofs.NeatCharts.neat-after, proofs.NeatCharts.neat-one, proofs.NeatCharts.neat-part, proofs.NeatCharts.neat-same, proofs.TreePositions.stood, proofs.TreePositions.some-stands, proofs.TreePositions.ActAt, proofs.TreePositions.act_at, proofs.TreePositions.act-at, proofs.ChartChange.fits-count, proofs.ChartChange.more-act, proofs.ChartChange.act-here, proofs.FinishedStages.nests, proofs.FinishedStages.nests-below}
 use Rattle.batch_chart.specs.declared.chart_move.Move.TheVariants as move
-use Rattle.batch_chart.specs.Stages.{stage_at, is_finished, is_begun}
-use Rattle.batch_chart.specs.Outlined.{end_at, kind_at, is_act_kind, Stands}
-use Rattle.batch_chart.specs.Meaning.{AgreeOutside}
-use Rattle.batch_chart.specs.Neat.{AllFinished, act_shows, shown_of, step_shows, IsNeat, AreNeat, SignsOutside, IsReachedNeatly, AreBlank}
-use Rattle.batch_chart.specs.Needs.{needs_of_kind}
-use Rattle.batch_chart.specs.Noting.{stage_signs, open_signs, HasCome}
-use Rattle.batch_chart.specs.Running.{Allows, CanRelease, IsLaid, IsNodeLive, IsNodeAsking, SomeLives}
 use Rattle.batch_signs.specs.Signs.{sign_at}
-use Rattle.batch_chart.specs.Upkeep.{IsKeptUp}
-use Rattle.batch_chart.proofs.StageAgreement.{stage-set_same, stage-set_other}
-use Rattle.batch_chart.proofs.NeatCharts.{finished-shows, neat-after, neat-one, neat-part, neat-same}
-use Rattle.batch_chart.proofs.TreePositions.{stood, some-stands, ActAt, act_at, act-at}
-use Rattle.batch_chart.proofs.ChartChange.{fits-count, more-act, act-here}
-use Rattle.batch_chart.proofs.FinishedStages.{nests, nests-below}
 
 -- something is left of an act at this stage, and nothing runs below it
 abbrev pub IsPlain : Stage → Type 0

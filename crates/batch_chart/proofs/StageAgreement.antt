@@ -1,13 +1,9 @@
 -- The meaning of a tree depends on the stages of its own nodes alone.
 use Rattle.std.proofs.Common.{◌≡◌, ◌<◌, ◌≤◌, ◌≢◌, ℕ, ◌+◌, List, length, arith, refl, ap, ◌∙◌, true, false, get_or-set_same, get_or-set_other}
 use Rattle.std.specs.Prelude.{slice_set}
-use Rattle.batch_recipe.specs.Nodes.{node_count, count_of_each, count_of_choices, count_within}
-use Rattle.batch_recipe.specs.Tree.{Task, runs, follows, Tree, act, skip, seq, par, sel, loop, Trees, no_trees, tree, Choices, otherwise, choice}
+use Rattle.batch_recipe.{specs.Nodes.node_count, specs.Nodes.count_of_each, specs.Nodes.count_of_choices, specs.Nodes.count_within, specs.Tree.Task, specs.Tree.runs, specs.Tree.follows, specs.Tree.Tree, specs.Tree.act, specs.Tree.skip, specs.Tree.seq, specs.Tree.par, specs.Tree.sel, specs.Tree.loop, specs.Tree.Trees, specs.Tree.no_trees, specs.Tree.tree, specs.Tree.Choices, specs.Tree.otherwise, specs.Tree.choice, proofs.NodeSubtrees.some_count}
 use Rattle.batch_model.specs.Rest.{Rest, done, rest, in_seq, in_par}
-use Rattle.batch_recipe.proofs.NodeSubtrees.{some_count}
-use Rattle.batch_chart.specs.declared.stage.Stage.{Stage}
-use Rattle.batch_chart.specs.Stages.{stage_at, is_finished, is_begun, turns_of}
-use Rattle.batch_chart.specs.Meaning.{act_as, loop_as, meaning, meaning_below, meaning_each, meaning_of_branch, chosen, AgreeWithin}
+use Rattle.batch_chart.specs.{declared.stage.Stage.Stage, Stages.stage_at, Stages.is_finished, Stages.is_begun, Stages.turns_of, Meaning.act_as, Meaning.loop_as, Meaning.meaning, Meaning.meaning_below, Meaning.meaning_each, Meaning.meaning_of_branch, Meaning.chosen, Meaning.AgreeWithin}
 
 pub stage-set_same : (xs : List Stage) (n : ℕ) (v : Stage) → n < length xs → stage_at (slice_set xs n v) n ≡ v
 stage-set_same xs n v h = rw get_or-set_same

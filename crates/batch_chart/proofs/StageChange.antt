@@ -1,29 +1,10 @@
 -- The meaning of a change of one act's stage, or of its descendants.
 use Rattle.std.proofs.Common.{◌≡◌, ◌≢◌, ◌⊎◌, inl, inr, ◌≤◌, ℕ, zero, suc, ◌+◌, List, Bool, true, false, Some, None, nat_eq, arith, refl, sym, ◌∙◌, subst, ap}
-use Rattle.std.specs.Prelude.{slice_get, Option}
-use Rattle.std.proofs.lemmas.Bool.{eq-eqb, cases_lt}
-use Rattle.std.proofs.lemmas.Bool.Decides.{eqb_tells}
-use Rattle.batch_recipe.specs.declared.condition.Cond.{Cond}
-use Rattle.batch_recipe.specs.Nodes.{node_count, count_of_each, count_of_choices}
+use Rattle.std.{specs.Prelude.slice_get, specs.Prelude.Option, proofs.lemmas.Bool.eq-eqb, proofs.lemmas.Bool.cases_lt, proofs.lemmas.Bool.Decides.eqb_tells}
+use Rattle.batch_recipe.specs.{declared.condition.Cond.Cond, Nodes.node_count, Nodes.count_of_each, Nodes.count_of_choices, Places.AreInOrder, Tree.Place, Tree.Step, Tree.Task, Tree.runs, Tree.follows, Tree.Tree, Tree.act, Tree.skip, Tree.seq, Tree.par, Tree.sel, Tree.loop, Tree.Trees, Tree.no_trees, Tree.tree, Tree.Choices, Tree.otherwise, Tree.choice, declared.entry.Entry.Entry, declared.recipe.Recipe.Recipe}
 use Rattle.batch_recipe.specs.Nodes as nodes
-use Rattle.batch_recipe.specs.Places.{AreInOrder}
-use Rattle.batch_recipe.specs.Tree.{Place, Step, Task, runs, follows, Tree, act, skip, seq, par, sel, loop, Trees, no_trees, tree, Choices, otherwise, choice}
-use Rattle.batch_model.specs.Rest.{same_place, Rest, ready, asking, open_act, live, freeing, in_seq, in_par, done, rest, changed_at, changed_in_each, is_done}
-use Rattle.batch_model.specs.Moves.{freed}
-use Rattle.batch_recipe.specs.declared.entry.Entry.{Entry}
-use Rattle.batch_chart.specs.declared.node.Kind.{Kind}
-use Rattle.batch_chart.specs.declared.node.Kind.TheVariants.{Seq, Par, Sel, Loop}
-use Rattle.batch_recipe.specs.declared.recipe.Recipe.{Recipe}
-use Rattle.batch_chart.specs.declared.stage.Stage.{Stage}
-use Rattle.batch_chart.specs.declared.stage.Stage.TheVariants.{Ready, Asking, Open, Live, Freeing}
-use Rattle.batch_chart.specs.Stages.{stage_at, is_finished, is_begun, turns_of}
-use Rattle.batch_chart.specs.Meaning.{meaning, meaning_below, meaning_each, act_as, loop_as, meaning_of_branch, chosen, AgreeOutside}
-use Rattle.batch_chart.specs.Outlined.{end_at, kind_at, is_act_kind, Stands, StandsAct, AreStanding, AreChoices}
-use Rattle.batch_chart.proofs.TreePositions.{nested}
-use Rattle.batch_chart.proofs.KnownTests.{chosen-true, chosen-false, choice-map}
-use Rattle.batch_chart.proofs.TreeAdvance.{finished-stage}
-use Rattle.batch_chart.proofs.FinishedStages.{finished-means}
-use Rattle.batch_chart.proofs.NodeNumbers.{IsMarked, IsMarkedBelow, AreMarked, AreMarkedChoices}
+use Rattle.batch_model.specs.{Rest.same_place, Rest.Rest, Rest.ready, Rest.asking, Rest.open_act, Rest.live, Rest.freeing, Rest.in_seq, Rest.in_par, Rest.done, Rest.rest, Rest.changed_at, Rest.changed_in_each, Rest.is_done, Moves.freed}
+use Rattle.batch_chart.{specs.declared.node.Kind.Kind, specs.declared.node.Kind.TheVariants.Seq, specs.declared.node.Kind.TheVariants.Par, specs.declared.node.Kind.TheVariants.Sel, specs.declared.node.Kind.TheVariants.Loop, specs.declared.stage.Stage.Stage, specs.declared.stage.Stage.TheVariants.Ready, specs.declared.stage.Stage.TheVariants.Asking, specs.declared.stage.Stage.TheVariants.Open, specs.declared.stage.Stage.TheVariants.Live, specs.declared.stage.Stage.TheVariants.Freeing, specs.Stages.stage_at, specs.Stages.is_finished, specs.Stages.is_begun, specs.Stages.turns_of, specs.Meaning.meaning, specs.Meaning.meaning_below, specs.Meaning.meaning_each, specs.Meaning.act_as, specs.Meaning.loop_as, specs.Meaning.meaning_of_branch, specs.Meaning.chosen, specs.Meaning.AgreeOutside, specs.Outlined.end_at, specs.Outlined.kind_at, specs.Outlined.is_act_kind, specs.Outlined.Stands, specs.Outlined.StandsAct, specs.Outlined.AreStanding, specs.Outlined.AreChoices, proofs.TreePositions.nested, proofs.KnownTests.chosen-true, proofs.KnownTests.chosen-false, proofs.KnownTests.choice-map, proofs.TreeAdvance.finished-stage, proofs.FinishedStages.finished-means, proofs.NodeNumbers.IsMarked, proofs.NodeNumbers.IsMarkedBelow, proofs.NodeNumbers.AreMarked, proofs.NodeNumbers.AreMarkedChoices}
 
 -- a node of another kind than an act's is another node
 other : (ns : List Entry) (n k : ℕ) (v : Kind) → is_act_kind (kind_at ns k) ≡ true → kind_at ns n ≡ v → is_act_kind v ≡ false → n ≢ k

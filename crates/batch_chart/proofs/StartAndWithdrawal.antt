@@ -1,45 +1,12 @@
 -- Charts whose root is ready, and those in which no act stands in line.
-use Rattle.std.proofs.Common.{◌≡◌, ◌⊎◌, inl, inr, ◌<◌, ◌≤◌, [], ◌∷◌, length, arith, below_more, ℕ, zero, suc, ◌+◌, List, true, false, refl, sym, ◌∙◌, ap, subst, length-set}
-use Rattle.std.specs.Prelude.{Option, Some, None, slice_set}
-use Rattle.std.proofs.lemmas.Bool.{cases_lt}
-use Rattle.std.proofs.lemmas.Bool.Decides.{eqb_tells}
-use Rattle.batch_recipe.specs.Conditions.{ValueList}
-use Rattle.batch_recipe.specs.declared.condition.Cond.{Cond}
-use Rattle.batch_recipe.specs.Nodes.{node_count}
-use Rattle.batch_recipe.specs.Tree.{Step, Task, runs, follows, Tree, act, skip, seq, par, sel, loop, Trees, no_trees, tree, Choices, otherwise, choice}
-use Rattle.batch_model.specs.Rest.{Rest, ready, in_seq, in_par, done, rest, is_done, withdrawn, withdrawn_each}
-use Rattle.batch_model.specs.Moves.{freed}
-use Rattle.batch_model.specs.Settled.{IsAdvanced}
-use Rattle.batch_model.specs.Standing.{IsRestOf}
-use Rattle.batch_step_laws.proofs.AdvancedRests.{reach-advanced, withdrawn-advanced, withdrawn-done}
-use Rattle.batch_step_laws.proofs.RestsAfterChange.{withdrawn-IsRestOf}
-use Rattle.batch_step_laws.proofs.NodesOfRests.{reach-IsRestOf}
-use Rattle.batch_recipe.specs.declared.entry.Entry.{Entry}
-use Rattle.batch_recipe.specs.declared.recipe.Recipe.{Recipe}
-use Rattle.batch_recipe.proofs.NodeSubtrees.{some_count}
-use Rattle.batch_chart.specs.declared.stage.Stage.{Stage}
-use Rattle.batch_chart.specs.declared.stage.Stage.TheVariants.{Finished, Ready, Asking, Open, Live, Freeing, Turning}
-use Rattle.batch_chart.specs.Stages.{stage_at, is_finished, is_begun, turns_of}
-use Rattle.batch_chart.specs.Meaning.{act_as, loop_as, meaning, meaning_below, meaning_each, meaning_of_branch, chosen}
-use Rattle.batch_chart.specs.Running.{IsActTree, IsAlive}
-use Rattle.batch_chart.specs.Outlined.{end_at, kind_at, Stands}
-use Rattle.batch_chart.specs.declared.node.Kind.TheVariants.{Act}
+use Rattle.std.proofs.Common.{◌≡◌, ◌⊎◌, inl, inr, ◌<◌, ◌≤◌, [], ◌∷◌, length, arith, below_more, ℕ, zero, suc, ◌+◌, List, true, false, refl, sym, ◌∙◌, ap, subst, length-set, replicate, Bool, nat_eq}
+use Rattle.std.{specs.Prelude.Option, specs.Prelude.Some, specs.Prelude.None, specs.Prelude.slice_set, proofs.lemmas.Bool.cases_lt, proofs.lemmas.Bool.Decides.eqb_tells, proofs.lemmas.List.get_or_past, proofs.lemmas.List.get_or-replicate, proofs.lemmas.List.length-replicate}
+use Rattle.batch_recipe.{specs.Conditions.ValueList, specs.declared.condition.Cond.Cond, specs.Nodes.node_count, specs.Tree.Step, specs.Tree.Task, specs.Tree.runs, specs.Tree.follows, specs.Tree.Tree, specs.Tree.act, specs.Tree.skip, specs.Tree.seq, specs.Tree.par, specs.Tree.sel, specs.Tree.loop, specs.Tree.Trees, specs.Tree.no_trees, specs.Tree.tree, specs.Tree.Choices, specs.Tree.otherwise, specs.Tree.choice, specs.declared.entry.Entry.Entry, specs.declared.recipe.Recipe.Recipe, proofs.NodeSubtrees.some_count}
+use Rattle.batch_model.specs.{Rest.Rest, Rest.ready, Rest.in_seq, Rest.in_par, Rest.done, Rest.rest, Rest.is_done, Rest.withdrawn, Rest.withdrawn_each, Moves.freed, Settled.IsAdvanced, Standing.IsRestOf}
+use Rattle.batch_step_laws.proofs.{AdvancedRests.reach-advanced, AdvancedRests.withdrawn-advanced, AdvancedRests.withdrawn-done, RestsAfterChange.withdrawn-IsRestOf, NodesOfRests.reach-IsRestOf}
+use Rattle.batch_chart.{specs.declared.stage.Stage.Stage, specs.declared.stage.Stage.TheVariants.Finished, specs.declared.stage.Stage.TheVariants.Ready, specs.declared.stage.Stage.TheVariants.Asking, specs.declared.stage.Stage.TheVariants.Open, specs.declared.stage.Stage.TheVariants.Live, specs.declared.stage.Stage.TheVariants.Freeing, specs.declared.stage.Stage.TheVariants.Turning, specs.Stages.stage_at, specs.Stages.is_finished, specs.Stages.is_begun, specs.Stages.turns_of, specs.Meaning.act_as, specs.Meaning.loop_as, specs.Meaning.meaning, specs.Meaning.meaning_below, specs.Meaning.meaning_each, specs.Meaning.meaning_of_branch, specs.Meaning.chosen, specs.Running.IsActTree, specs.Running.IsAlive, specs.Outlined.end_at, specs.Outlined.kind_at, specs.Outlined.Stands, specs.declared.node.Kind.TheVariants.Act, specs.Neat.AllFinished, specs.Neat.AreNeat, specs.Needs.needs_of_kind, specs.Noting.stage_signs, specs.Starting.HasStarted, specs.Starting.AreStarted, specs.Starting.again, specs.Starting.HasWithdrawn, proofs.ReachedTreeSigns.neatly-ready, proofs.TreePositions.stood, specs.NodesOf.node_at, specs.Told.TellsWhetherOver, proofs.FinishedStages.told-finished, proofs.KnownTests.choice-map, proofs.StageAgreement.stage-set_same, proofs.StageAgreement.stage-set_other, specs.ByValues.bare, specs.ByValues.reach_by}
 use Rattle.batch_chart.specs.declared.node.Kind.TheVariants as kind
-use Rattle.batch_chart.specs.Neat.{AllFinished, AreNeat}
-use Rattle.batch_chart.specs.Needs.{needs_of_kind}
-use Rattle.batch_chart.specs.Noting.{stage_signs}
 use Rattle.batch_signs.specs.Signs.{sign_at}
-use Rattle.batch_chart.specs.Starting.{HasStarted, AreStarted, again, HasWithdrawn}
-use Rattle.batch_chart.proofs.ReachedTreeSigns.{neatly-ready}
-use Rattle.batch_chart.proofs.TreePositions.{stood}
-use Rattle.std.proofs.lemmas.List.{get_or_past, get_or-replicate, length-replicate}
-use Rattle.std.proofs.Common.{replicate, Bool, nat_eq}
-use Rattle.batch_chart.specs.NodesOf.{node_at}
-use Rattle.batch_chart.specs.Told.{TellsWhetherOver}
-use Rattle.batch_chart.proofs.FinishedStages.{told-finished}
-use Rattle.batch_chart.proofs.KnownTests.{choice-map}
-use Rattle.batch_chart.proofs.StageAgreement.{stage-set_same, stage-set_other}
-use Rattle.batch_chart.specs.ByValues.{bare, reach_by}
 
 ready-root : (t : Tree) (vs : ValueList) (xs : List Stage) → IsActTree t → stage_at xs 0 ≡ Ready 0 → meaning t 0 xs ≡ reach_by vs t
 ready-root (act s w) vs xs h e = ap (λ x. act_as s w (meaning_below w 1 xs) x) e

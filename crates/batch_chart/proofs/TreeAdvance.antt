@@ -1,29 +1,9 @@
 -- Going on with a tree: the conditions at each kind of node.
 use Rattle.std.proofs.Common.{◌≡◌, ◌≢◌, ◌⊎◌, inl, inr, ◌<◌, ◌≤◌, ℕ, zero, suc, ◌+◌, ◌-◌, List, length, Bool, true, false, Some, arith, refl, sym, ◌∙◌, subst, ap, pred, sub-one}
 use Rattle.std.specs.Prelude.{not, slice_set}
-use Rattle.batch_recipe.specs.Conditions.{Name, ValueList, holds}
-use Rattle.batch_recipe.specs.Nodes.{node_count, count_of_each, count_of_choices}
-use Rattle.batch_recipe.specs.Tree.{Step, Phase, Task, runs, follows, Tree, loop, Trees, Choices}
-use Rattle.batch_recipe.specs.declared.condition.Cond.{Cond}
-use Rattle.batch_model.specs.Rest.{Rest, in_seq, in_par, in_loop, done, is_done, joined, turning}
-use Rattle.batch_model.specs.Moves.{freed}
-use Rattle.batch_recipe.specs.declared.entry.Entry.{Entry}
-use Rattle.batch_chart.specs.declared.node.Kind.{Kind}
-use Rattle.batch_chart.specs.declared.node.Kind.TheVariants.{Act, Seq, Par, Sel, Loop}
-use Rattle.batch_recipe.specs.declared.recipe.Recipe.{Recipe}
-use Rattle.batch_chart.specs.declared.stage.Stage.{Stage}
-use Rattle.batch_chart.specs.declared.stage.Stage.TheVariants.{Finished, Open, Freeing, Turning}
-use Rattle.batch_chart.specs.Stages.{stage_at, is_finished, is_begun, is_over, is_over_at, turns_of, closed_as, looped_as}
-use Rattle.batch_chart.specs.Meaning.{meaning, meaning_each, act_as, loop_as, meaning_of_branch, chosen, AgreeWithin, AgreeOutside}
-use Rattle.batch_chart.specs.Outlined.{end_at, kind_at, IsCondition, Stands, HasTree, HaveTrees, HaveBranches, condition_holds, condition_at}
-use Rattle.batch_chart.specs.Reaching.{IsReached, IsFirstReached}
-use Rattle.batch_chart.specs.Advancing.{HasAdvanced, HasFirstAdvanced, HasEachAdvanced, HasChoiceAdvanced}
-use Rattle.batch_chart.proofs.TreePositions.{stood, ActAt, act_at, act-at, SeqAt, seq_at, seq-at, ParAt, par_at, par-at, SelAt, sel_at, sel-at, LoopAt, loop_at, loop-at, RowAt, row_at, row-at, LastAt, last_at, last-at, ChoiceAt, choice_at, choice-at, below-end, first-end, first-standing, choice-standing, choice-end}
-use Rattle.batch_chart.proofs.KnownTests.{chosen-true, chosen-false}
-use Rattle.batch_chart.proofs.FinishedStages.{finished-means}
-use Rattle.batch_chart.proofs.StageAgreement.{stage-set_same, meaning-agree, meaning_each-agree, branch-agree, chosen-agree}
-use Rattle.batch_chart.proofs.ReachedTree.{outside-same, outside-part, outside-join, outside-inner, within-set, own-outside, loop-outside, finished-closed, begun-closed, joins, joined-open}
-use Rattle.batch_chart.specs.ByValues.{turned_by, reach_by, reach_first_by, advance_by, advance_each_by}
+use Rattle.batch_recipe.specs.{Conditions.Name, Conditions.ValueList, Conditions.holds, Nodes.node_count, Nodes.count_of_each, Nodes.count_of_choices, Tree.Step, Tree.Phase, Tree.Task, Tree.runs, Tree.follows, Tree.Tree, Tree.loop, Tree.Trees, Tree.Choices, declared.condition.Cond.Cond, declared.entry.Entry.Entry, declared.recipe.Recipe.Recipe}
+use Rattle.batch_model.specs.{Rest.Rest, Rest.in_seq, Rest.in_par, Rest.in_loop, Rest.done, Rest.is_done, Rest.joined, Rest.turning, Moves.freed}
+use Rattle.batch_chart.{specs.declared.node.Kind.Kind, specs.declared.node.Kind.TheVariants.Act, specs.declared.node.Kind.TheVariants.Seq, specs.declared.node.Kind.TheVariants.Par, specs.declared.node.Kind.TheVariants.Sel, specs.declared.node.Kind.TheVariants.Loop, specs.declared.stage.Stage.Stage, specs.declared.stage.Stage.TheVariants.Finished, specs.declared.stage.Stage.TheVariants.Open, specs.declared.stage.Stage.TheVariants.Freeing, specs.declared.stage.Stage.TheVariants.Turning, specs.Stages.stage_at, specs.Stages.is_finished, specs.Stages.is_begun, specs.Stages.is_over, specs.Stages.is_over_at, specs.Stages.turns_of, specs.Stages.closed_as, specs.Stages.looped_as, specs.Meaning.meaning, specs.Meaning.meaning_each, specs.Meaning.act_as, specs.Meaning.loop_as, specs.Meaning.meaning_of_branch, specs.Meaning.chosen, specs.Meaning.AgreeWithin, specs.Meaning.AgreeOutside, specs.Outlined.end_at, specs.Outlined.kind_at, specs.Outlined.IsCondition, specs.Outlined.Stands, specs.Outlined.HasTree, specs.Outlined.HaveTrees, specs.Outlined.HaveBranches, specs.Outlined.condition_holds, specs.Outlined.condition_at, specs.Reaching.IsReached, specs.Reaching.IsFirstReached, specs.Advancing.HasAdvanced, specs.Advancing.HasFirstAdvanced, specs.Advancing.HasEachAdvanced, specs.Advancing.HasChoiceAdvanced, proofs.TreePositions.stood, proofs.TreePositions.ActAt, proofs.TreePositions.act_at, proofs.TreePositions.act-at, proofs.TreePositions.SeqAt, proofs.TreePositions.seq_at, proofs.TreePositions.seq-at, proofs.TreePositions.ParAt, proofs.TreePositions.par_at, proofs.TreePositions.par-at, proofs.TreePositions.SelAt, proofs.TreePositions.sel_at, proofs.TreePositions.sel-at, proofs.TreePositions.LoopAt, proofs.TreePositions.loop_at, proofs.TreePositions.loop-at, proofs.TreePositions.RowAt, proofs.TreePositions.row_at, proofs.TreePositions.row-at, proofs.TreePositions.LastAt, proofs.TreePositions.last_at, proofs.TreePositions.last-at, proofs.TreePositions.ChoiceAt, proofs.TreePositions.choice_at, proofs.TreePositions.choice-at, proofs.TreePositions.below-end, proofs.TreePositions.first-end, proofs.TreePositions.first-standing, proofs.TreePositions.choice-standing, proofs.TreePositions.choice-end, proofs.KnownTests.chosen-true, proofs.KnownTests.chosen-false, proofs.FinishedStages.finished-means, proofs.StageAgreement.stage-set_same, proofs.StageAgreement.meaning-agree, proofs.StageAgreement.meaning_each-agree, proofs.StageAgreement.branch-agree, proofs.StageAgreement.chosen-agree, proofs.ReachedTree.outside-same, proofs.ReachedTree.outside-part, proofs.ReachedTree.outside-join, proofs.ReachedTree.outside-inner, proofs.ReachedTree.within-set, proofs.ReachedTree.own-outside, proofs.ReachedTree.loop-outside, proofs.ReachedTree.finished-closed, proofs.ReachedTree.begun-closed, proofs.ReachedTree.joins, proofs.ReachedTree.joined-open, specs.ByValues.turned_by, specs.ByValues.reach_by, specs.ByValues.reach_first_by, specs.ByValues.advance_by, specs.ByValues.advance_each_by}
 
 -- an act at its stage, after going on
 

@@ -1,25 +1,9 @@
 -- Trees that stand at the same node, and stages that differ below one node alone: as much is left of them, and as much to be reached.
 use Rattle.std.proofs.Common.{◌≡◌, ◌≢◌, ◌⊎◌, inl, inr, ◌<◌, ◌≤◌, ℕ, zero, suc, ◌+◌, List, length, Bool, true, false, ◌&&◌, Some, None, arith, refl, sym, ◌∙◌, subst, ap, ap₂}
-use Rattle.std.specs.Prelude.{Option}
-use Rattle.std.proofs.lemmas.Bool.{cases_lt}
-use Rattle.std.proofs.lemmas.Bool.Decides.{eqb_tells}
-use Rattle.batch_recipe.specs.Conditions.{Name}
-use Rattle.batch_recipe.specs.declared.condition.Cond.{Cond}
-use Rattle.batch_recipe.specs.Nodes.{node_count}
-use Rattle.batch_recipe.specs.Tree.{Step, Phase, runs, follows, Tree, act, skip, seq, par, sel, loop, Trees, no_trees, tree, Choices, otherwise, choice}
-use Rattle.batch_model.specs.Rest.{Rest, in_seq, in_par, done, Rests, rest, is_done, all_done}
-use Rattle.batch_model.specs.Moves.{freed}
-use Rattle.batch_model.specs.Settled.{IsAdvanced, AreAdvanced}
-use Rattle.batch_recipe.specs.declared.entry.Entry.{Entry}
-use Rattle.batch_recipe.specs.declared.recipe.Recipe.{Recipe}
-use Rattle.batch_recipe.proofs.NodeSubtrees.{some_count}
-use Rattle.batch_chart.specs.declared.stage.Stage.{Stage}
-use Rattle.batch_chart.specs.declared.stage.Stage.TheVariants.{Open, Freeing}
-use Rattle.batch_chart.specs.Stages.{stage_at, is_finished, is_begun, turns_of}
-use Rattle.batch_chart.specs.Meaning.{meaning, meaning_each, act_as, loop_as, meaning_of_branch, chosen, AgreeOutside}
-use Rattle.batch_chart.specs.Outlined.{end_at, Stands, AreStanding, AreChoices}
-use Rattle.batch_chart.specs.Told.{TellsWhetherOver, AreTold}
-use Rattle.batch_chart.proofs.TreePositions.{choices-pos, stood, stood-each, stood-choices, nested, PhaseAt, phase_at, phase-at, ActAt, act_at, act-at, SkipAt, skip_at, skip-at, SeqAt, seq_at, seq-at, ParAt, par_at, par-at, SelAt, sel_at, sel-at, LoopAt, loop_at, loop-at}
+use Rattle.std.{specs.Prelude.Option, proofs.lemmas.Bool.cases_lt, proofs.lemmas.Bool.Decides.eqb_tells}
+use Rattle.batch_recipe.{specs.Conditions.Name, specs.declared.condition.Cond.Cond, specs.Nodes.node_count, specs.Tree.Step, specs.Tree.Phase, specs.Tree.runs, specs.Tree.follows, specs.Tree.Tree, specs.Tree.act, specs.Tree.skip, specs.Tree.seq, specs.Tree.par, specs.Tree.sel, specs.Tree.loop, specs.Tree.Trees, specs.Tree.no_trees, specs.Tree.tree, specs.Tree.Choices, specs.Tree.otherwise, specs.Tree.choice, specs.declared.entry.Entry.Entry, specs.declared.recipe.Recipe.Recipe, proofs.NodeSubtrees.some_count}
+use Rattle.batch_model.specs.{Rest.Rest, Rest.in_seq, Rest.in_par, Rest.done, Rest.Rests, Rest.rest, Rest.is_done, Rest.all_done, Moves.freed, Settled.IsAdvanced, Settled.AreAdvanced}
+use Rattle.batch_chart.{specs.declared.stage.Stage.Stage, specs.declared.stage.Stage.TheVariants.Open, specs.declared.stage.Stage.TheVariants.Freeing, specs.Stages.stage_at, specs.Stages.is_finished, specs.Stages.is_begun, specs.Stages.turns_of, specs.Meaning.meaning, specs.Meaning.meaning_each, specs.Meaning.act_as, specs.Meaning.loop_as, specs.Meaning.meaning_of_branch, specs.Meaning.chosen, specs.Meaning.AgreeOutside, specs.Outlined.end_at, specs.Outlined.Stands, specs.Outlined.AreStanding, specs.Outlined.AreChoices, specs.Told.TellsWhetherOver, specs.Told.AreTold, proofs.TreePositions.choices-pos, proofs.TreePositions.stood, proofs.TreePositions.stood-each, proofs.TreePositions.stood-choices, proofs.TreePositions.nested, proofs.TreePositions.PhaseAt, proofs.TreePositions.phase_at, proofs.TreePositions.phase-at, proofs.TreePositions.ActAt, proofs.TreePositions.act_at, proofs.TreePositions.act-at, proofs.TreePositions.SkipAt, proofs.TreePositions.skip_at, proofs.TreePositions.skip-at, proofs.TreePositions.SeqAt, proofs.TreePositions.seq_at, proofs.TreePositions.seq-at, proofs.TreePositions.ParAt, proofs.TreePositions.par_at, proofs.TreePositions.par-at, proofs.TreePositions.SelAt, proofs.TreePositions.sel_at, proofs.TreePositions.sel-at, proofs.TreePositions.LoopAt, proofs.TreePositions.loop_at, proofs.TreePositions.loop-at}
 
 -- as much is left, and as much to be reached
 abbrev pub Alike : Rest → Rest → Type 0

@@ -1,19 +1,9 @@
 -- Where trees stand.
 use Rattle.std.proofs.Common.{◌≡◌, ◌≢◌, inl, inr, ◌<◌, ◌≤◌, ℕ, zero, suc, ◌+◌, List, [], ◌∷◌, Some, length, arith, refl, sym, ◌∙◌, subst, ap}
-use Rattle.std.specs.Prelude.{slice_get}
-use Rattle.std.proofs.lemmas.Bool.{cases_lt}
-use Rattle.std.proofs.lemmas.Bool.Decides.{eqb_tells}
-use Rattle.batch_recipe.specs.Nodes.{node_count, count_of_each, count_of_choices, count_within}
-use Rattle.batch_recipe.specs.Conditions.{Name}
-use Rattle.batch_recipe.specs.Tree.{Step, Phase, Task, runs, follows, Tree, act, skip, seq, par, sel, loop, Trees, no_trees, tree, Choices, otherwise, choice}
-use Rattle.batch_recipe.specs.declared.condition.Cond.{Cond}
-use Rattle.batch_recipe.specs.declared.entry.Entry.{Entry}
-use Rattle.batch_recipe.proofs.NodeSubtrees.{some_count}
-use Rattle.batch_chart.specs.declared.node.Kind.TheVariants.{Skip, Act, Seq, Par, Sel, Loop}
+use Rattle.std.{specs.Prelude.slice_get, proofs.lemmas.Bool.cases_lt, proofs.lemmas.Bool.Decides.eqb_tells}
+use Rattle.batch_recipe.{specs.Nodes.node_count, specs.Nodes.count_of_each, specs.Nodes.count_of_choices, specs.Nodes.count_within, specs.Conditions.Name, specs.Tree.Step, specs.Tree.Phase, specs.Tree.Task, specs.Tree.runs, specs.Tree.follows, specs.Tree.Tree, specs.Tree.act, specs.Tree.skip, specs.Tree.seq, specs.Tree.par, specs.Tree.sel, specs.Tree.loop, specs.Tree.Trees, specs.Tree.no_trees, specs.Tree.tree, specs.Tree.Choices, specs.Tree.otherwise, specs.Tree.choice, specs.declared.condition.Cond.Cond, specs.declared.entry.Entry.Entry, proofs.NodeSubtrees.some_count, specs.declared.recipe.Recipe.Recipe}
+use Rattle.batch_chart.specs.{declared.node.Kind.TheVariants.Skip, declared.node.Kind.TheVariants.Act, declared.node.Kind.TheVariants.Seq, declared.node.Kind.TheVariants.Par, declared.node.Kind.TheVariants.Sel, declared.node.Kind.TheVariants.Loop, declared.stage.Stage.Stage, Outlined.end_at, Outlined.kind_at, Outlined.IsCondition, Outlined.IsPhase, Outlined.Stands, Outlined.StandsAct, Outlined.AreStanding, Outlined.AreChoices, Outlined.HasTree, Outlined.HaveTrees, Outlined.HaveChoices}
 use Rattle.batch_chart.specs.declared.node.Kind.TheVariants as kind
-use Rattle.batch_recipe.specs.declared.recipe.Recipe.{Recipe}
-use Rattle.batch_chart.specs.declared.stage.Stage.{Stage}
-use Rattle.batch_chart.specs.Outlined.{end_at, kind_at, IsCondition, IsPhase, Stands, StandsAct, AreStanding, AreChoices, HasTree, HaveTrees, HaveChoices}
 
 pub choices-pos : (ch : Choices) → 0 < count_of_choices ch
 choices-pos (otherwise c) = some_count c

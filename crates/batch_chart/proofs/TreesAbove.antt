@@ -1,26 +1,9 @@
 -- Where the tree at p alone has gone on, and is as finished as before, all trees above it have gone on as well.
 use Rattle.std.proofs.Common.{◌≡◌, inl, inr, ℕ, zero, suc, ◌+◌, List, Bool, true, false, Some, None, refl, sym, ◌∙◌, subst, ap, ap₂}
-use Rattle.std.specs.Prelude.{Option}
-use Rattle.std.proofs.lemmas.Bool.Decides.{eqb_tells}
-use Rattle.batch_recipe.specs.Conditions.{Name, ValueList}
-use Rattle.batch_recipe.specs.declared.condition.Cond.{Cond}
-use Rattle.batch_recipe.specs.Nodes.{node_count, count_of_each, count_of_choices}
-use Rattle.batch_recipe.specs.Tree.{Step, runs, follows, Tree, act, skip, seq, par, sel, loop, Trees, no_trees, tree, Choices, otherwise, choice}
-use Rattle.batch_model.specs.Rest.{Rest, open_act, in_seq, in_par, done, Rests, rest, is_done, all_done, joined}
-use Rattle.batch_model.specs.Moves.{freed}
-use Rattle.batch_model.specs.Settled.{IsAdvanced, AreAdvanced}
-use Rattle.batch_recipe.specs.declared.entry.Entry.{Entry}
-use Rattle.batch_recipe.specs.declared.recipe.Recipe.{Recipe}
-use Rattle.batch_chart.specs.declared.stage.Stage.{Stage}
-use Rattle.batch_chart.specs.declared.stage.Stage.TheVariants.{Open, Freeing}
-use Rattle.batch_chart.specs.Stages.{stage_at, is_finished, is_begun, turns_of}
-use Rattle.batch_chart.specs.Meaning.{meaning, meaning_each, act_as, loop_as, meaning_of_branch, chosen, AgreeOutside}
-use Rattle.batch_chart.specs.Outlined.{end_at, Stands, AreStanding, AreChoices}
-use Rattle.batch_chart.proofs.TreeAdvance.{advance-phase}
-use Rattle.batch_chart.proofs.TreeLikeness.{Apart, next-apart, after-apart, same-stage, same-status}
-use Rattle.batch_chart.proofs.CalmChanges.{turned-still}
-use Rattle.batch_chart.proofs.KnownTests.{chosen-false}
-use Rattle.batch_chart.specs.ByValues.{bare, continued_by, turned_by, reach_first_by, advance_by, advance_each_by}
+use Rattle.std.{specs.Prelude.Option, proofs.lemmas.Bool.Decides.eqb_tells}
+use Rattle.batch_recipe.specs.{Conditions.Name, Conditions.ValueList, declared.condition.Cond.Cond, Nodes.node_count, Nodes.count_of_each, Nodes.count_of_choices, Tree.Step, Tree.runs, Tree.follows, Tree.Tree, Tree.act, Tree.skip, Tree.seq, Tree.par, Tree.sel, Tree.loop, Tree.Trees, Tree.no_trees, Tree.tree, Tree.Choices, Tree.otherwise, Tree.choice, declared.entry.Entry.Entry, declared.recipe.Recipe.Recipe}
+use Rattle.batch_model.specs.{Rest.Rest, Rest.open_act, Rest.in_seq, Rest.in_par, Rest.done, Rest.Rests, Rest.rest, Rest.is_done, Rest.all_done, Rest.joined, Moves.freed, Settled.IsAdvanced, Settled.AreAdvanced}
+use Rattle.batch_chart.{specs.declared.stage.Stage.Stage, specs.declared.stage.Stage.TheVariants.Open, specs.declared.stage.Stage.TheVariants.Freeing, specs.Stages.stage_at, specs.Stages.is_finished, specs.Stages.is_begun, specs.Stages.turns_of, specs.Meaning.meaning, specs.Meaning.meaning_each, specs.Meaning.act_as, specs.Meaning.loop_as, specs.Meaning.meaning_of_branch, specs.Meaning.chosen, specs.Meaning.AgreeOutside, specs.Outlined.end_at, specs.Outlined.Stands, specs.Outlined.AreStanding, specs.Outlined.AreChoices, proofs.TreeAdvance.advance-phase, proofs.TreeLikeness.Apart, proofs.TreeLikeness.next-apart, proofs.TreeLikeness.after-apart, proofs.TreeLikeness.same-stage, proofs.TreeLikeness.same-status, proofs.CalmChanges.turned-still, proofs.KnownTests.chosen-false, specs.ByValues.bare, specs.ByValues.continued_by, specs.ByValues.turned_by, specs.ByValues.reach_first_by, specs.ByValues.advance_by, specs.ByValues.advance_each_by}
 
 -- q goes on to r, if nothing of r is left to be reached
 abbrev Went : ValueList → Rest → Rest → Type 0

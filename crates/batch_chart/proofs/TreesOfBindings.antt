@@ -1,10 +1,6 @@
 -- A tree that stands for one binding stands whatever units the phases run on.
 use Rattle.std.proofs.Common.{ℕ, ◌+◌, List, Some}
-use Rattle.batch_recipe.specs.Expanding.{Binding}
-use Rattle.batch_recipe.specs.Nodes.{node_count}
-use Rattle.batch_recipe.specs.Tree.{Step, Task, runs, follows, Tree, act, skip, seq, par, sel, loop, Trees, no_trees, tree, Choices, otherwise, choice}
-use Rattle.batch_recipe.specs.declared.entry.Entry.{Entry}
-use Rattle.batch_recipe.specs.declared.recipe.Recipe.{Recipe}
+use Rattle.batch_recipe.specs.{Expanding.Binding, Nodes.node_count, Tree.Step, Tree.Task, Tree.runs, Tree.follows, Tree.Tree, Tree.act, Tree.skip, Tree.seq, Tree.par, Tree.sel, Tree.loop, Tree.Trees, Tree.no_trees, Tree.tree, Tree.Choices, Tree.otherwise, Tree.choice, declared.entry.Entry.Entry, declared.recipe.Recipe.Recipe}
 use Rattle.batch_chart.specs.Outlined.{StandsOn, StandsActOn, AreStandingOn, AreChoicesOn, Stands, StandsAct, AreStanding, AreChoices}
 
 module _ (bound : Binding) (ns : List Entry) (doc : Recipe) where

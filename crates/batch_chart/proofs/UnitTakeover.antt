@@ -1,36 +1,10 @@
 -- Ready acts take over the units held for them in advance.
 use Rattle.std.proofs.Common.{◌≡◌, ◌≢◌, ◌⊎◌, inl, inr, ◌<◌, ◌≤◌, ℕ, zero, suc, ◌+◌, List, [], ◌∷◌, length, take, Bool, true, false, ◌||◌, nat_eq, nat_lt, arith, refl, sym, ◌∙◌, subst, ap, ap₂}
-use Rattle.std.proofs.lemmas.Bool.Decides.{eqb_tells, nat_tests}
-use Rattle.std.specs.Prelude.{slice_set, slice_index_or}
-use Rattle.std.proofs.Math.Dec.{eqb}
-use Rattle.batch_recipe.specs.Tree.{Place, Step, Task, runs, follows, Tree, act, skip, seq, par, sel, loop}
-use Rattle.batch_recipe.specs.declared.entry.Entry.{Entry}
-use Rattle.batch_recipe.specs.declared.recipe.Recipe.{Recipe}
-use Rattle.batch_model.specs.Lists.{Has}
-use Rattle.batch_model.specs.Rest.{same_place, Rest, ready, asking, open_act, live, freeing, in_seq, in_par, in_loop, done, Rests, no_rests, rest, acts, acts_of_each, changed_at, changed_in_each, is_done, place_of}
-use Rattle.batch_model.proofs.Members.{Has-left, Has-right}
+use Rattle.std.{proofs.lemmas.Bool.Decides.eqb_tells, proofs.lemmas.Bool.Decides.nat_tests, specs.Prelude.slice_set, specs.Prelude.slice_index_or, proofs.Math.Dec.eqb}
+use Rattle.batch_recipe.specs.{Tree.Place, Tree.Step, Tree.Task, Tree.runs, Tree.follows, Tree.Tree, Tree.act, Tree.skip, Tree.seq, Tree.par, Tree.sel, Tree.loop, declared.entry.Entry.Entry, declared.recipe.Recipe.Recipe}
+use Rattle.batch_model.{specs.Lists.Has, specs.Rest.same_place, specs.Rest.Rest, specs.Rest.ready, specs.Rest.asking, specs.Rest.open_act, specs.Rest.live, specs.Rest.freeing, specs.Rest.in_seq, specs.Rest.in_par, specs.Rest.in_loop, specs.Rest.done, specs.Rest.Rests, specs.Rest.no_rests, specs.Rest.rest, specs.Rest.acts, specs.Rest.acts_of_each, specs.Rest.changed_at, specs.Rest.changed_in_each, specs.Rest.is_done, specs.Rest.place_of, proofs.Members.Has-left, proofs.Members.Has-right}
 use Rattle.batch_step_laws.proofs.WorkAfterChange.{to_same_place}
-use Rattle.batch_chart.specs.declared.node.Kind.{Kind}
-use Rattle.batch_chart.specs.declared.stage.Stage.{Stage}
-use Rattle.batch_chart.specs.declared.stage.Stage.TheVariants.{Ready}
-use Rattle.batch_chart.specs.Early.{is_early, is_ready, taking_first, taken_by, taken_by_each, is_of, to_at, first_held, IsTakenTo, IsTakenAt, IsTakenBy}
-use Rattle.batch_chart.specs.declared.passed.Passed.{Passed}
-use Rattle.batch_chart.specs.Meaning.{meaning, meaning_below, meaning_each, act_as, loop_as, meaning_of_branch, chosen}
-use Rattle.batch_chart.specs.Needs.{needs_of_kind}
-use Rattle.batch_chart.specs.NodesOf.{node_at, place_at}
-use Rattle.batch_chart.specs.Noting.{HasCome}
-use Rattle.batch_chart.specs.Outlined.{kind_at, is_act_kind, Stands}
-use Rattle.batch_chart.specs.Running.{IsLaid, IsAlive, IsChangedOnly, SomeLives}
-use Rattle.batch_chart.specs.Stages.{stage_at, is_finished, is_begun, turns_of}
-use Rattle.batch_chart.specs.Told.{TellsWhetherOver}
-use Rattle.batch_chart.specs.Upkeep.{IsKeptUp}
-use Rattle.batch_chart.proofs.StageAgreement.{stage-set_same, stage-set_other}
-use Rattle.batch_chart.proofs.KnownTests.{chosen-false}
-use Rattle.batch_chart.proofs.NextMoves.{known}
-use Rattle.batch_chart.proofs.ActAfterMove.{calm-ready}
-use Rattle.batch_chart.proofs.NodesAtNumbers.{node-stands}
-use Rattle.batch_chart.proofs.ChartChange.{Fits, fits-count, IsGood, set-step, set-calm, set-told, stepped, calmed, number-at-place, all-told}
-use Rattle.batch_chart.proofs.SignUpkeep.{same-kept, come-kept}
+use Rattle.batch_chart.{specs.declared.node.Kind.Kind, specs.declared.stage.Stage.Stage, specs.declared.stage.Stage.TheVariants.Ready, specs.Early.is_early, specs.Early.is_ready, specs.Early.taking_first, specs.Early.taken_by, specs.Early.taken_by_each, specs.Early.is_of, specs.Early.to_at, specs.Early.first_held, specs.Early.IsTakenTo, specs.Early.IsTakenAt, specs.Early.IsTakenBy, specs.declared.passed.Passed.Passed, specs.Meaning.meaning, specs.Meaning.meaning_below, specs.Meaning.meaning_each, specs.Meaning.act_as, specs.Meaning.loop_as, specs.Meaning.meaning_of_branch, specs.Meaning.chosen, specs.Needs.needs_of_kind, specs.NodesOf.node_at, specs.NodesOf.place_at, specs.Noting.HasCome, specs.Outlined.kind_at, specs.Outlined.is_act_kind, specs.Outlined.Stands, specs.Running.IsLaid, specs.Running.IsAlive, specs.Running.IsChangedOnly, specs.Running.SomeLives, specs.Stages.stage_at, specs.Stages.is_finished, specs.Stages.is_begun, specs.Stages.turns_of, specs.Told.TellsWhetherOver, specs.Upkeep.IsKeptUp, proofs.StageAgreement.stage-set_same, proofs.StageAgreement.stage-set_other, proofs.KnownTests.chosen-false, proofs.NextMoves.known, proofs.ActAfterMove.calm-ready, proofs.NodesAtNumbers.node-stands, proofs.ChartChange.Fits, proofs.ChartChange.fits-count, proofs.ChartChange.IsGood, proofs.ChartChange.set-step, proofs.ChartChange.set-calm, proofs.ChartChange.set-told, proofs.ChartChange.stepped, proofs.ChartChange.calmed, proofs.ChartChange.number-at-place, proofs.ChartChange.all-told, proofs.SignUpkeep.same-kept, proofs.SignUpkeep.come-kept}
 
 -- The acts after that
 

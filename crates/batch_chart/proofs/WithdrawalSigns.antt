@@ -1,23 +1,9 @@
 -- Once no act is in line, each node is neat.
 use Rattle.std.proofs.Common.{◌≡◌, ◌≢◌, ◌⊎◌, ◌&&◌, inl, inr, ◌<◌, ◌≤◌, below_more, ℕ, ◌+◌, List, length, Bool, true, false, nat_eq, nat_lt, nat_le, arith, refl, sym, ◌∙◌, ap, ap₂, length-set, get_or-set_same, get_or-set_other}
-use Rattle.std.specs.Prelude.{slice_set, not, is_none}
-use Rattle.std.specs.Int.Bits.{bit_or}
-use Rattle.std.proofs.lemmas.Bool.{cases_lt}
-use Rattle.std.proofs.lemmas.Bool.Decides.{eqb_tells, nat_tests}
-use Rattle.std.proofs.lemmas.List.{get_or_past}
-use Rattle.batch_recipe.specs.Tree.{runs, follows, Tree, act, skip, loop}
-use Rattle.batch_recipe.specs.declared.entry.Entry.{Entry}
-use Rattle.batch_recipe.specs.declared.recipe.Recipe.{Recipe}
-use Rattle.batch_chart.specs.declared.sign.TheConstants.{LACKS, FITS, WAITS, HOLDS, IS_ACT}
-use Rattle.batch_chart.specs.declared.stage.Stage.{Stage}
-use Rattle.batch_chart.specs.declared.stage.Stage.TheVariants.{Finished, Asking}
-use Rattle.batch_chart.specs.Neat.{runs_below, shown_of, AreNeat}
-use Rattle.batch_chart.specs.Noting.{flag, asking_signs, ready_signs, readied}
+use Rattle.std.{specs.Prelude.slice_set, specs.Prelude.not, specs.Prelude.is_none, specs.Int.Bits.bit_or, proofs.lemmas.Bool.cases_lt, proofs.lemmas.Bool.Decides.eqb_tells, proofs.lemmas.Bool.Decides.nat_tests, proofs.lemmas.List.get_or_past}
+use Rattle.batch_recipe.specs.{Tree.runs, Tree.follows, Tree.Tree, Tree.act, Tree.skip, Tree.loop, declared.entry.Entry.Entry, declared.recipe.Recipe.Recipe}
+use Rattle.batch_chart.{specs.declared.sign.TheConstants.LACKS, specs.declared.sign.TheConstants.FITS, specs.declared.sign.TheConstants.WAITS, specs.declared.sign.TheConstants.HOLDS, specs.declared.sign.TheConstants.IS_ACT, specs.declared.stage.Stage.Stage, specs.declared.stage.Stage.TheVariants.Finished, specs.declared.stage.Stage.TheVariants.Asking, specs.Neat.runs_below, specs.Neat.shown_of, specs.Neat.AreNeat, specs.Noting.flag, specs.Noting.asking_signs, specs.Noting.ready_signs, specs.Noting.readied, specs.Stages.stage_at, specs.Stages.is_finished, specs.Starting.again, specs.Starting.withdrawn_sign, specs.Starting.AreWithdrawn, proofs.KnownTests.chosen-true, proofs.KnownTests.chosen-false, proofs.StartAndWithdrawal.IsSoFar, proofs.StartAndWithdrawal.keeps, proofs.StartAndWithdrawal.finished-again, proofs.StartAndWithdrawal.begun-again, proofs.StartAndWithdrawal.turns-again, proofs.StartAndWithdrawal.stage-past}
 use Rattle.batch_signs.specs.Signs.{sign_at, replaced}
-use Rattle.batch_chart.specs.Stages.{stage_at, is_finished}
-use Rattle.batch_chart.specs.Starting.{again, withdrawn_sign, AreWithdrawn}
-use Rattle.batch_chart.proofs.KnownTests.{chosen-true, chosen-false}
-use Rattle.batch_chart.proofs.StartAndWithdrawal.{IsSoFar, keeps, finished-again, begun-again, turns-again, stage-past}
 
 -- an act in line that is ready again shows just that
 

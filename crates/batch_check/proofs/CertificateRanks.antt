@@ -1,30 +1,11 @@
 -- The ranks that the entries of a certificate give a cell's resources.
 use Rattle.std.proofs.Common.{◌≡◌, ℕ, ◌+◌, ◌<◌, false, nat_cmp, is_lt, true, List, [], ◌∷◌, map, length, get_or, position, IsTrue, IsPermutation, Option, Some, None, unwrap_or, Contains, refl, sym, ap, ◌∙◌, subst, arith}
-use Rattle.std.specs.List.{AllByRecursion, IsDistinct, zip}
-use Rattle.std.specs.Cmp.Lexicographic.{slice_cmp}
-use Rattle.std.specs.Map.{keys_of, lookup}
-use Rattle.std.specs.Ordering.{ordering_reverse}
-use Rattle.std.proofs.lemmas.Cmp.{nat_list_eq_equiv, nat_list_cmp_total}
-use Rattle.std.proofs.lemmas.List.{get_or-map, length-map, get_or_default, same_lists}
-use Rattle.std.proofs.lemmas.List.Elements.{Contains-get_or, recursion_from_All}
-use Rattle.std.proofs.lemmas.List.Folds.{list_any-from_Any}
-use Rattle.std.proofs.lemmas.List.Quantifiers.{position-Some}
-use Rattle.std.proofs.lemmas.List.Sorted.{IsPermutation-map, IsPermutation-sym, Contains-permutation}
-use Rattle.std.proofs.lemmas.Map.Keys.{IsDistinct-IsPermutation, IsDistinct-head, IsDistinct-tail}
-use Rattle.std.proofs.lemmas.Map.Views.{Contains-from_lookup, lookup-from_Contains}
-use Rattle.std.proofs.lemmas.Slice.Eq.{bytes_eq-Decides}
-use Rattle.std.proofs.lemmas.Slice.Zip.{get_or-zip, length-zip, firsts-zip}
-use Rattle.batch_cell.specs.LookUps.{resources_of}
-use Rattle.batch_cell.specs.declared.cell.Cell.{Cell}
-use Rattle.batch_recipe.specs.Conditions.{Name, same_name}
-use Rattle.batch_recipe.specs.WellFormed.{is_among, are_distinct}
+use Rattle.std.{specs.List.AllByRecursion, specs.List.IsDistinct, specs.List.zip, specs.Cmp.Lexicographic.slice_cmp, specs.Map.keys_of, specs.Map.lookup, specs.Ordering.ordering_reverse, proofs.lemmas.Cmp.nat_list_eq_equiv, proofs.lemmas.Cmp.nat_list_cmp_total, proofs.lemmas.List.get_or-map, proofs.lemmas.List.length-map, proofs.lemmas.List.get_or_default, proofs.lemmas.List.same_lists, proofs.lemmas.List.Elements.Contains-get_or, proofs.lemmas.List.Elements.recursion_from_All, proofs.lemmas.List.Folds.list_any-from_Any, proofs.lemmas.List.Quantifiers.position-Some, proofs.lemmas.List.Sorted.IsPermutation-map, proofs.lemmas.List.Sorted.IsPermutation-sym, proofs.lemmas.List.Sorted.Contains-permutation, proofs.lemmas.Map.Keys.IsDistinct-IsPermutation, proofs.lemmas.Map.Keys.IsDistinct-head, proofs.lemmas.Map.Keys.IsDistinct-tail, proofs.lemmas.Map.Views.Contains-from_lookup, proofs.lemmas.Map.Views.lookup-from_Contains, proofs.lemmas.Slice.Eq.bytes_eq-Decides, proofs.lemmas.Slice.Zip.get_or-zip, proofs.lemmas.Slice.Zip.length-zip, proofs.lemmas.Slice.Zip.firsts-zip}
+use Rattle.batch_cell.specs.{LookUps.resources_of, declared.cell.Cell.Cell}
+use Rattle.batch_recipe.specs.{Conditions.Name, Conditions.same_name, WellFormed.is_among, WellFormed.are_distinct}
 use Rattle.batch_model.specs.Lists.{Each}
-use Rattle.batch_check.specs.ByName.{resource_name_in, IsBelow, IsCertificateOf}
-use Rattle.batch_verify.specs.Refusals.{rank_in}
-use Rattle.batch_verify.specs.Ranked.{rank_of}
-use Rattle.batch_check.specs.RanksTold.{TellsRanks}
-use Rattle.batch_check.proofs.Entries.{Entry}
-use Rattle.batch_check.proofs.Names.{resources_distinct, rank_in-name}
+use Rattle.batch_check.{specs.ByName.resource_name_in, specs.ByName.IsBelow, specs.ByName.IsCertificateOf, specs.RanksTold.TellsRanks, proofs.Entries.Entry, proofs.Names.resources_distinct, proofs.Names.rank_in-name}
+use Rattle.batch_verify.specs.{Refusals.rank_in, Ranked.rank_of}
 
 same_by_test : (x y : Name) → same_name x y ≡ true → x ≡ y
 same_by_test x y h = (bytes_eq-Decides x y).0 h

@@ -1,22 +1,9 @@
 -- Circles turned to another start, and the least of the names.
 use Rattle.std.proofs.Common.{◌≡◌, ◌≢◌, ℕ, ◌+◌, ◌<◌, ◌≤◌, suc, true, List, [], ◌∷◌, ◌++◌, map, length, take, drop, drop-cons, get_or, All, AllPairs, Contains, refl, sym, ap, ◌∙◌, subst, arith, below_more, eqb, is_lt, length-append}
-use Rattle.std.specs.Cmp.{unsigned_Decides}
-use Rattle.std.specs.declared.cmp.Ordering.{Ordering}
-use Rattle.std.specs.declared.cmp.Ordering.TheVariants.{Less}
-use Rattle.std.proofs.lemmas.Bool.{false≢true}
-use Rattle.std.proofs.lemmas.Cmp.{tied_itself, nat_list_cmp_total, nat_eq_equiv}
-use Rattle.std.proofs.lemmas.List.{get_or-map, length-map, take-append-drop, get_or_default}
-use Rattle.std.proofs.lemmas.List.Elements.{All-tail}
-use Rattle.std.proofs.lemmas.List.Sorted.{All-permutation, length_permutation, IsPermutation-append_comm, IsPermutation-map}
-use Rattle.std.proofs.lemmas.Map.Keys.{IsDistinct-IsPermutation}
-use Rattle.std.proofs.lemmas.Map.Made.{AllPairs-from_IsDistinct}
+use Rattle.std.{specs.Cmp.unsigned_Decides, specs.declared.cmp.Ordering.Ordering, specs.declared.cmp.Ordering.TheVariants.Less, proofs.lemmas.Bool.false≢true, proofs.lemmas.Cmp.tied_itself, proofs.lemmas.Cmp.nat_list_cmp_total, proofs.lemmas.Cmp.nat_eq_equiv, proofs.lemmas.List.get_or-map, proofs.lemmas.List.length-map, proofs.lemmas.List.take-append-drop, proofs.lemmas.List.get_or_default, proofs.lemmas.List.Elements.All-tail, proofs.lemmas.List.Sorted.All-permutation, proofs.lemmas.List.Sorted.length_permutation, proofs.lemmas.List.Sorted.IsPermutation-append_comm, proofs.lemmas.List.Sorted.IsPermutation-map, proofs.lemmas.Map.Keys.IsDistinct-IsPermutation, proofs.lemmas.Map.Made.AllPairs-from_IsDistinct}
 use Rattle.batch_cell.specs.declared.cell.Cell.{Cell}
 use Rattle.batch_recipe.specs.Conditions.{Name}
-use Rattle.batch_check.specs.declared.edge.Edge.{Edge}
-use Rattle.batch_check.specs.ByName.{resource_name_in, IsBelow, BeginsWithLeastName}
-use Rattle.batch_check.specs.LeastRanking.{IsEdgeCircle, LeadsAlong}
-use Rattle.batch_check.proofs.Raises.{no_edge}
-use Rattle.batch_check.proofs.Walks.{laters_distinct}
+use Rattle.batch_check.{specs.declared.edge.Edge.Edge, specs.ByName.resource_name_in, specs.ByName.IsBelow, specs.ByName.BeginsWithLeastName, specs.LeastRanking.IsEdgeCircle, specs.LeastRanking.LeadsAlong, proofs.Raises.no_edge, proofs.Walks.laters_distinct}
 
 -- Names
 

@@ -3,14 +3,7 @@ use Rattle.std.proofs.Common.{ℕ, ◌≡◌, ◌<◌, ◌≤◌, List, IsTrue, 
 use Rattle.std.proofs.lemmas.List.Elements.{All-weaker, All-contains, All-contains_itself, recursion_from_All}
 use Rattle.batch_cell.specs.declared.cell.Cell.{Cell}
 use Rattle.batch_recipe.specs.declared.recipe.Recipe.{Recipe}
-use Rattle.batch_check.specs.declared.edge.Edge.{Edge}
-use Rattle.batch_check.specs.declared.edge_set.EdgeSet.{EdgeSet}
-use Rattle.batch_check.specs.Clearing.{StandsAsCircle}
-use Rattle.batch_check.specs.Collecting.{HasAllPairs}
-use Rattle.batch_check.specs.Edges.{EdgeStands, has_pair}
-use Rattle.batch_check.specs.LeastRanking.{IsEdgeCircle, HasEndsBelow}
-use Rattle.batch_check.specs.Shortest.{IsShortest}
-use Rattle.batch_check.specs.Spreading.{HasFewest}
+use Rattle.batch_check.specs.{declared.edge.Edge.Edge, declared.edge_set.EdgeSet.EdgeSet, Clearing.StandsAsCircle, Collecting.HasAllPairs, Edges.EdgeStands, Edges.has_pair, LeastRanking.IsEdgeCircle, LeastRanking.HasEndsBelow, Shortest.IsShortest, Spreading.HasFewest}
 
 module _ (edges circle : List Edge) (h : IsEdgeCircle edges circle) where
   pub circle_within : (count : ℕ) → HasEndsBelow count edges → HasEndsBelow count circle

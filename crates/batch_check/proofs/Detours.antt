@@ -1,15 +1,10 @@
 -- A circle with the fewest edges takes no detour.
 use Rattle.std.proofs.Common.{◌≡◌, ◌≢◌, ℕ, suc, ◌+◌, ◌<◌, ◌≤◌, List, [], ◌∷◌, ◌++◌, length, AllPairs, sym, ap, ◌∙◌, subst, arith, length-append}
-use Rattle.std.proofs.lemmas.List.Elements.{All-contains_itself, All-from_recursion, recursion_from_All}
-use Rattle.std.proofs.lemmas.List.Kept.{AllPairs-cons}
+use Rattle.std.proofs.lemmas.List.{Elements.All-contains_itself, Elements.All-from_recursion, Elements.recursion_from_All, Kept.AllPairs-cons}
 use Rattle.batch_cell.specs.declared.cell.Cell.{Cell}
 use Rattle.batch_recipe.specs.declared.recipe.Recipe.{Recipe}
 use Rattle.batch_model.specs.Lists.{Each}
-use Rattle.batch_check.specs.declared.edge.Edge.{Edge}
-use Rattle.batch_check.specs.Clearing.{StandsAsCircle}
-use Rattle.batch_check.specs.Edges.{EdgeStands}
-use Rattle.batch_check.specs.LeastRanking.{LeadsAlong}
-use Rattle.batch_check.specs.Shortest.{CanBeReplaced, IsShortest, TakesNoDetour}
+use Rattle.batch_check.specs.{declared.edge.Edge.Edge, Clearing.StandsAsCircle, Edges.EdgeStands, LeastRanking.LeadsAlong, Shortest.CanBeReplaced, Shortest.IsShortest, Shortest.TakesNoDetour}
 
 -- no two edges lead to one resource
 abbrev AreApart : List Edge → Type 0

@@ -1,15 +1,8 @@
 -- Sets of numbers as bits, and one more edge in a set of edges.
 use Rattle.std.proofs.Common.{◌≡◌, ◌≢◌, ℕ, ◌+◌, ◌*◌, ◌<◌, ◌≤◌, ◌/◌, ◌%◌, true, false, nat_eq, IsTrue, List, [], length, replicate, set, get_or, bit_and, inl, inr, sym, ap, ◌∙◌, subst, arith, get_or-set_same, get_or-set_other}
-use Rattle.std.specs.Prelude.{min}
-use Rattle.std.specs.Int.{bit_at}
-use Rattle.std.proofs.lemmas.Bool.{cases_eq, eqb-true, false_from_ne_true}
-use Rattle.std.proofs.lemmas.Nat.{div-add-mod'}
-use Rattle.std.proofs.lemmas.Nat.Bits.{bit_at-lt, bit_at-zero, bit_at_and}
-use Rattle.batch_signs.specs.Bits.{with_one}
-use Rattle.batch_signs.proofs.Bits.{with-one_same, with-one_other, zeros}
-use Rattle.batch_check.specs.declared.edge.Edge.{Edge}
-use Rattle.batch_check.specs.Edges.{has_pair}
-use Rattle.batch_check.specs.Pairs.{has_bit}
+use Rattle.std.{specs.Prelude.min, specs.Int.bit_at, proofs.lemmas.Bool.cases_eq, proofs.lemmas.Bool.eqb-true, proofs.lemmas.Bool.false_from_ne_true, proofs.lemmas.Nat.div-add-mod', proofs.lemmas.Nat.Bits.bit_at-lt, proofs.lemmas.Nat.Bits.bit_at-zero, proofs.lemmas.Nat.Bits.bit_at_and}
+use Rattle.batch_signs.{specs.Bits.with_one, proofs.Bits.with-one_same, proofs.Bits.with-one_other, proofs.Bits.zeros}
+use Rattle.batch_check.specs.{declared.edge.Edge.Edge, Edges.has_pair, Pairs.has_bit}
 
 -- Bits
 

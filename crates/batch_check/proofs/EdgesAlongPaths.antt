@@ -1,42 +1,10 @@
 -- The paths to the nodes of a recipe, and the edges along them, by the numbers of resources and roles.
 use Rattle.std.proofs.Common.{◌≡◌, ◌≢◌, ◌⊎◌, ℕ, ◌+◌, ◌<◌, ◌≤◌, Bool, true, false, IsTrue, List, [], ◌∷◌, ◌++◌, length, Option, Some, None, slice_get, get_or, set, replicate, option_map, option_and_then, sym, ap, ◌∙◌, refl, subst, arith, inl, inr, length-append}
-use Rattle.std.specs.List.{Contains, slice_index_or}
-use Rattle.std.proofs.lemmas.Bool.{cases_eq, cases_lt}
-use Rattle.std.proofs.lemmas.List.{get_or_append_left, get_or-append-add, get_or_past, get_or-replicate, get_or-set_other, length-map, length-replicate, map-append}
-use Rattle.std.proofs.lemmas.Option.{same_Some, slice_get-map, slice_get_within}
+use Rattle.std.{specs.List.Contains, specs.List.slice_index_or, proofs.lemmas.Bool.cases_eq, proofs.lemmas.Bool.cases_lt, proofs.lemmas.List.get_or_append_left, proofs.lemmas.List.get_or-append-add, proofs.lemmas.List.get_or_past, proofs.lemmas.List.get_or-replicate, proofs.lemmas.List.get_or-set_other, proofs.lemmas.List.length-map, proofs.lemmas.List.length-replicate, proofs.lemmas.List.map-append, proofs.lemmas.Option.same_Some, proofs.lemmas.Option.slice_get-map, proofs.lemmas.Option.slice_get_within}
 use Rattle.batch_cell.specs.declared.cell.Cell.{Cell}
-use Rattle.batch_recipe.specs.Conditions.{Name}
-use Rattle.batch_recipe.specs.Growing.{entries_of}
-use Rattle.batch_recipe.specs.Links.{IsEntryOf, asked_at}
-use Rattle.batch_recipe.specs.Needs.{resources_needed}
-use Rattle.batch_recipe.specs.Nodes.{Node, needs_of}
-use Rattle.batch_recipe.specs.Outlines.{act_of_kind}
-use Rattle.batch_recipe.specs.declared.acts.LabelTable.TheVariants.{Phases}
-use Rattle.batch_recipe.specs.declared.entry.Entry.{Entry}
-use Rattle.batch_recipe.specs.declared.entry.Kind.{Kind}
+use Rattle.batch_recipe.{specs.Conditions.Name, specs.Growing.entries_of, specs.Links.IsEntryOf, specs.Links.asked_at, specs.Needs.resources_needed, specs.Nodes.Node, specs.Nodes.needs_of, specs.Outlines.act_of_kind, specs.declared.acts.LabelTable.TheVariants.Phases, specs.declared.entry.Entry.Entry, specs.declared.entry.Kind.Kind, specs.declared.recipe.Recipe.Recipe, proofs.NodeNeeds.own_needs, proofs.NodesAbove.entry_in, proofs.OutlineLinks.as_many_entries, proofs.EntryShapes.is_outline}
 use Rattle.batch_recipe.specs.declared.entry.Kind.TheVariants as kind
-use Rattle.batch_recipe.specs.declared.recipe.Recipe.{Recipe}
-use Rattle.batch_recipe.proofs.NodeNeeds.{own_needs}
-use Rattle.batch_recipe.proofs.NodesAbove.{entry_in}
-use Rattle.batch_recipe.proofs.OutlineLinks.{as_many_entries}
-use Rattle.batch_recipe.proofs.EntryShapes.{is_outline}
-use Rattle.batch_check.specs.declared.edge.Edge.{Edge}
-use Rattle.batch_check.specs.declared.edge_set.EdgeSet.{EdgeSet}
-use Rattle.batch_check.specs.declared.path.Path.{Path}
-use Rattle.batch_check.specs.declared.path.Reach.{Reach}
-use Rattle.batch_check.specs.declared.path.Reach.TheVariants.{Next, Whole}
-use Rattle.batch_check.specs.declared.site.Site.{Site}
-use Rattle.batch_check.specs.Takings.{Taking}
-use Rattle.batch_check.specs.Edges.{Covers, Follows, number_of_resource, numbers_of_resources}
-use Rattle.batch_check.specs.Joining.{needs_in}
-use Rattle.batch_check.specs.Pairs.{ArePaired, Keeps}
-use Rattle.batch_check.specs.Sites.{StandFor, bound_on, count_with_roles, needs_at, nodes_on, resource_count, resource_on, resources_on, sites_on, units_on}
-use Rattle.batch_check.specs.Collecting.{GoesOn, HasAsked, IsAmong, IsAskedAt, IsCollected, IsPathOf, IsReady, PairsAll, StandsOn, is_joined, kept_at_top, kept_by, with_joined}
-use Rattle.batch_check.proofs.EdgesOfAct.{Follows-keeps, GoesOn-append, GoesOn-grown, GoesOn-none, IsPathOf-append}
-use Rattle.batch_check.proofs.PairsInBindings.{each_at}
-use Rattle.batch_check.proofs.EdgesFromNeeds.{Contains-none}
-use Rattle.batch_check.proofs.ResourceNumbers.{IsNamed, number_at, numbers-append}
-use Rattle.batch_check.proofs.Roles.{ArePaired-taken, Follows-taken}
+use Rattle.batch_check.{specs.declared.edge.Edge.Edge, specs.declared.edge_set.EdgeSet.EdgeSet, specs.declared.path.Path.Path, specs.declared.path.Reach.Reach, specs.declared.path.Reach.TheVariants.Next, specs.declared.path.Reach.TheVariants.Whole, specs.declared.site.Site.Site, specs.Takings.Taking, specs.Edges.Covers, specs.Edges.Follows, specs.Edges.number_of_resource, specs.Edges.numbers_of_resources, specs.Joining.needs_in, specs.Pairs.ArePaired, specs.Pairs.Keeps, specs.Sites.StandFor, specs.Sites.bound_on, specs.Sites.count_with_roles, specs.Sites.needs_at, specs.Sites.nodes_on, specs.Sites.resource_count, specs.Sites.resource_on, specs.Sites.resources_on, specs.Sites.sites_on, specs.Sites.units_on, specs.Collecting.GoesOn, specs.Collecting.HasAsked, specs.Collecting.IsAmong, specs.Collecting.IsAskedAt, specs.Collecting.IsCollected, specs.Collecting.IsPathOf, specs.Collecting.IsReady, specs.Collecting.PairsAll, specs.Collecting.StandsOn, specs.Collecting.is_joined, specs.Collecting.kept_at_top, specs.Collecting.kept_by, specs.Collecting.with_joined, proofs.EdgesOfAct.Follows-keeps, proofs.EdgesOfAct.GoesOn-append, proofs.EdgesOfAct.GoesOn-grown, proofs.EdgesOfAct.GoesOn-none, proofs.EdgesOfAct.IsPathOf-append, proofs.PairsInBindings.each_at, proofs.EdgesFromNeeds.Contains-none, proofs.ResourceNumbers.IsNamed, proofs.ResourceNumbers.number_at, proofs.ResourceNumbers.numbers-append, proofs.Roles.ArePaired-taken, proofs.Roles.Follows-taken}
 
 -- no need was asked for above all nodes
 pub record IsTop (recipe : ℕ) (kept : Option (List (Option ℕ))) (top : Path) : Type 0 where

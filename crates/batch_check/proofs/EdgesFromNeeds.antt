@@ -1,14 +1,8 @@
 -- Edges that join needs to one more.
 use Rattle.std.proofs.Common.{◌≡◌, ℕ, ◌<◌, ◌⊎◌, inl, inr, List, [], ◌∷◌, ◌++◌, length, get_or, slice_get, IsTrue, Option, Some, refl, sym, ap, ◌∙◌, subst, arith}
-use Rattle.std.specs.List.{Contains}
-use Rattle.std.proofs.lemmas.List.Elements.{All-append, All-cons, All-nil, All-weaker, Contains-append_cases, Contains-append_left, Contains-append_right}
-use Rattle.std.proofs.lemmas.Option.{slice_get-get_or, slice_get_within}
+use Rattle.std.{specs.List.Contains, proofs.lemmas.List.Elements.All-append, proofs.lemmas.List.Elements.All-cons, proofs.lemmas.List.Elements.All-nil, proofs.lemmas.List.Elements.All-weaker, proofs.lemmas.List.Elements.Contains-append_cases, proofs.lemmas.List.Elements.Contains-append_left, proofs.lemmas.List.Elements.Contains-append_right, proofs.lemmas.Option.slice_get-get_or, proofs.lemmas.Option.slice_get_within}
 use Rattle.batch_recipe.proofs.AppendedLists.{slice_get-split}
-use Rattle.batch_check.specs.declared.edge.Edge.{Edge}
-use Rattle.batch_check.specs.declared.edge_set.EdgeSet.{EdgeSet}
-use Rattle.batch_check.specs.Edges.{HasPairsOf, has_pair}
-use Rattle.batch_check.specs.Pairs.{ArePaired, Keeps}
-use Rattle.batch_check.specs.Joining.{AreBelow, Grows, HasJoined, HasTaken, LeadsFrom}
+use Rattle.batch_check.specs.{declared.edge.Edge.Edge, declared.edge_set.EdgeSet.EdgeSet, Edges.HasPairsOf, Edges.has_pair, Pairs.ArePaired, Pairs.Keeps, Joining.AreBelow, Joining.Grows, Joining.HasJoined, Joining.HasTaken, Joining.LeadsFrom}
 
 pub Contains-at : {X : Type 0} (xs : List X) (k : ℕ) (x : X) → slice_get xs k ≡ Some x → Contains xs x
 Contains-at xs k x h =

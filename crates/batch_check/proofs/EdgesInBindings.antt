@@ -1,17 +1,7 @@
 -- Edges between resources and roles, one more of which is taken as it is in a binding.
 use Rattle.std.proofs.Common.{◌≡◌, ◌⊎◌, ℕ, ◌<◌, inl, inr, List, [], ◌∷◌, ◌++◌, set, length, get_or, Vec, Option, Some, None, Bool, false, refl, sym, ap, ◌∙◌, subst, arith}
-use Rattle.std.specs.Global.{Global}
-use Rattle.std.specs.List.{Contains}
-use Rattle.std.proofs.lemmas.Bool.{cases_eq}
-use Rattle.std.proofs.lemmas.List.{get_or-set_same, get_or-set_other, length-set}
-use Rattle.std.proofs.lemmas.Option.{slice_get-get_or}
-use Rattle.std.proofs.lemmas.List.Elements.{Contains-append_cases, Contains-append_left, Contains-append_right}
-use Rattle.batch_check.specs.declared.edge.Edge.{Edge}
-use Rattle.batch_check.specs.declared.edge_set.EdgeSet.{EdgeSet}
-use Rattle.batch_check.specs.Collecting.{AreTakenIn, AreThose, HasRaised, HasTakenBy, IsTakenAs, raised}
-use Rattle.batch_check.specs.Joining.{AreBelow, HasJoined}
-use Rattle.batch_check.specs.Takings.{resource_for}
-use Rattle.batch_check.proofs.EdgesFromNeeds.{Contains-at, Contains-none, Contains-one, Grows-same, Grows-twice}
+use Rattle.std.{specs.Global.Global, specs.List.Contains, proofs.lemmas.Bool.cases_eq, proofs.lemmas.List.get_or-set_same, proofs.lemmas.List.get_or-set_other, proofs.lemmas.List.length-set, proofs.lemmas.Option.slice_get-get_or, proofs.lemmas.List.Elements.Contains-append_cases, proofs.lemmas.List.Elements.Contains-append_left, proofs.lemmas.List.Elements.Contains-append_right}
+use Rattle.batch_check.{specs.declared.edge.Edge.Edge, specs.declared.edge_set.EdgeSet.EdgeSet, specs.Collecting.AreTakenIn, specs.Collecting.AreThose, specs.Collecting.HasRaised, specs.Collecting.HasTakenBy, specs.Collecting.IsTakenAs, specs.Collecting.raised, specs.Joining.AreBelow, specs.Joining.HasJoined, specs.Takings.resource_for, proofs.EdgesFromNeeds.Contains-at, proofs.EdgesFromNeeds.Contains-none, proofs.EdgesFromNeeds.Contains-one, proofs.EdgesFromNeeds.Grows-same, proofs.EdgesFromNeeds.Grows-twice}
 
 -- Edges
 

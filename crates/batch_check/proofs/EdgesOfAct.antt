@@ -1,17 +1,8 @@
 -- The edges to the needs of one act.
 use Rattle.std.proofs.Common.{◌≡◌, ℕ, ◌+◌, ◌-◌, ◌<◌, ◌⊎◌, inl, inr, List, [], ◌∷◌, ◌++◌, length, get_or, slice_get, IsTrue, Option, Some, None, option_map, refl, sym, ap, ◌∙◌, subst, arith, length-append, append_assoc, append-nil}
-use Rattle.std.proofs.lemmas.List.Elements.{Contains-append_right}
-use Rattle.std.specs.List.{Contains}
-use Rattle.std.proofs.lemmas.Option.{slice_get_within}
-use Rattle.batch_check.specs.declared.edge.Edge.{Edge}
-use Rattle.batch_check.specs.declared.edge_set.EdgeSet.{EdgeSet}
-use Rattle.batch_check.specs.declared.path.Path.{Path}
-use Rattle.batch_check.specs.Edges.{has_pair, Joins, Follows}
-use Rattle.batch_check.specs.Pairs.{ArePaired, Keeps}
-use Rattle.batch_check.specs.Joining.{AreBelow, Grows, HasJoined, IsKept, needs_in}
-use Rattle.batch_check.specs.Collecting.{IsCopy, IsPathOf, IsReady, ends_in, kept_by, last_number, IsAmong, GoesOn, HasAsked}
+use Rattle.std.{proofs.lemmas.List.Elements.Contains-append_right, specs.List.Contains, proofs.lemmas.Option.slice_get_within}
+use Rattle.batch_check.{specs.declared.edge.Edge.Edge, specs.declared.edge_set.EdgeSet.EdgeSet, specs.declared.path.Path.Path, specs.Edges.has_pair, specs.Edges.Joins, specs.Edges.Follows, specs.Pairs.ArePaired, specs.Pairs.Keeps, specs.Joining.AreBelow, specs.Joining.Grows, specs.Joining.HasJoined, specs.Joining.IsKept, specs.Joining.needs_in, specs.Collecting.IsCopy, specs.Collecting.IsPathOf, specs.Collecting.IsReady, specs.Collecting.ends_in, specs.Collecting.kept_by, specs.Collecting.last_number, specs.Collecting.IsAmong, specs.Collecting.GoesOn, specs.Collecting.HasAsked, proofs.EdgesFromNeeds.ArePaired-push, proofs.EdgesFromNeeds.AreBelow-push, proofs.EdgesFromNeeds.Contains-at, proofs.EdgesFromNeeds.at-Contains, proofs.EdgesFromNeeds.Contains-none, proofs.EdgesFromNeeds.Contains-one, proofs.EdgesFromNeeds.Grows-same, proofs.EdgesFromNeeds.Grows-twice, proofs.EdgesFromNeeds.HasJoined-none}
 use Rattle.batch_recipe.proofs.AppendedLists.{slice_get-left, slice_get-right}
-use Rattle.batch_check.proofs.EdgesFromNeeds.{ArePaired-push, AreBelow-push, Contains-at, at-Contains, Contains-none, Contains-one, Grows-same, Grows-twice, HasJoined-none}
 
 -- Last needs
 

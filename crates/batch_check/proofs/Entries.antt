@@ -1,27 +1,9 @@
 -- Entries of names and ranks, in order of name.
 use Rattle.std.proofs.Common.{◌≡◌, ◌≢◌, ℕ, ◌+◌, ◌<◌, ◌≤◌, false, List, [], ◌∷◌, ◌++◌, map, length, take, min, get_or, AllPairs, IsPermutation, refl, sym, ap, ◌∙◌, subst, arith, nat_cmp, is_lt}
-use Rattle.std.specs.Cmp.{IsTotalOrder}
-use Rattle.std.specs.Cmp.Lexicographic.{slice_cmp}
-use Rattle.std.specs.List.{zip}
-use Rattle.std.specs.List.Sorted.{IsSorted}
-use Rattle.std.specs.Ordering.{ordering_then, ordering_reverse, then_cmp, on}
-use Rattle.std.specs.Str.{bytes_eq}
-use Rattle.std.specs.declared.cmp.Ordering.{Ordering}
-use Rattle.std.specs.declared.cmp.Ordering.TheVariants.{Less, Equal, Greater}
-use Rattle.std.proofs.lemmas.Bool.{false≢true}
-use Rattle.std.proofs.lemmas.Cmp.{nat_list_cmp_total, nat_cmp_total, nat_list_eq_equiv, then_total, on_total}
-use Rattle.std.proofs.lemmas.List.{get_or-map, length-map, take_more, take_all}
-use Rattle.std.proofs.lemmas.List.Sorted.{IsPermutation-map, sorted_far, ranks_by}
-use Rattle.std.proofs.lemmas.Map.Keys.{IsDistinct-IsPermutation}
-use Rattle.std.proofs.lemmas.Map.Lookups.{exact_bytes}
-use Rattle.std.proofs.lemmas.Map.Made.{AllPairs-from_IsDistinct}
-use Rattle.std.proofs.lemmas.Slice.Eq.{bytes_eq-Decides}
-use Rattle.std.proofs.lemmas.Slice.Zip.{get_or-zip, length-zip, firsts-zip}
-use Rattle.batch_cell.specs.LookUps.{resources_of}
-use Rattle.batch_cell.specs.declared.cell.Cell.{Cell}
+use Rattle.std.{specs.Cmp.IsTotalOrder, specs.Cmp.Lexicographic.slice_cmp, specs.List.zip, specs.List.Sorted.IsSorted, specs.Ordering.ordering_then, specs.Ordering.ordering_reverse, specs.Ordering.then_cmp, specs.Ordering.on, specs.Str.bytes_eq, specs.declared.cmp.Ordering.Ordering, specs.declared.cmp.Ordering.TheVariants.Less, specs.declared.cmp.Ordering.TheVariants.Equal, specs.declared.cmp.Ordering.TheVariants.Greater, proofs.lemmas.Bool.false≢true, proofs.lemmas.Cmp.nat_list_cmp_total, proofs.lemmas.Cmp.nat_cmp_total, proofs.lemmas.Cmp.nat_list_eq_equiv, proofs.lemmas.Cmp.then_total, proofs.lemmas.Cmp.on_total, proofs.lemmas.List.get_or-map, proofs.lemmas.List.length-map, proofs.lemmas.List.take_more, proofs.lemmas.List.take_all, proofs.lemmas.List.Sorted.IsPermutation-map, proofs.lemmas.List.Sorted.sorted_far, proofs.lemmas.List.Sorted.ranks_by, proofs.lemmas.Map.Keys.IsDistinct-IsPermutation, proofs.lemmas.Map.Lookups.exact_bytes, proofs.lemmas.Map.Made.AllPairs-from_IsDistinct, proofs.lemmas.Slice.Eq.bytes_eq-Decides, proofs.lemmas.Slice.Zip.get_or-zip, proofs.lemmas.Slice.Zip.length-zip, proofs.lemmas.Slice.Zip.firsts-zip}
+use Rattle.batch_cell.specs.{LookUps.resources_of, declared.cell.Cell.Cell}
 use Rattle.batch_recipe.specs.Conditions.{Name}
-use Rattle.batch_check.specs.ByName.{IsBelow, IsCertificateOf}
-use Rattle.batch_check.proofs.Names.{resources_distinct}
+use Rattle.batch_check.{specs.ByName.IsBelow, specs.ByName.IsCertificateOf, proofs.Names.resources_distinct}
 
 abbrev pub Entry : Type 0
 Entry = Name × ℕ

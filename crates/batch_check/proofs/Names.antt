@@ -1,15 +1,9 @@
 -- A cell's resources by name and by number.
 use Rattle.std.proofs.Common.{◌≡◌, ℕ, ◌<◌, List, [], length, get_or, slice_get, Option, Some, None, All, ◌↔◌, ap, arith}
-use Rattle.std.specs.List.{IsDistinct}
-use Rattle.std.proofs.lemmas.Option.{get_or_from_slice_get}
-use Rattle.batch_cell.proofs.ResourceNames.{resources_once}
-use Rattle.batch_cell.proofs.Resources.{few_resources}
-use Rattle.batch_cell.specs.LookUps.{resources_of}
-use Rattle.batch_cell.specs.declared.cell.Cell.{Cell}
+use Rattle.std.{specs.List.IsDistinct, proofs.lemmas.Option.get_or_from_slice_get}
+use Rattle.batch_cell.{proofs.ResourceNames.resources_once, proofs.Resources.few_resources, specs.LookUps.resources_of, specs.declared.cell.Cell.Cell}
 use Rattle.batch_recipe.specs.Conditions.{Name, same_name}
-use Rattle.batch_check.specs.declared.edge.Edge.{Edge}
-use Rattle.batch_check.specs.LeastRanking.{HasEndsBelow}
-use Rattle.batch_check.specs.ByName.{resource_name_in}
+use Rattle.batch_check.specs.{declared.edge.Edge.Edge, LeastRanking.HasEndsBelow, ByName.resource_name_in}
 use Rattle.batch_verify.specs.Refusals.{rank_in}
 use Rattle.batch_set.proofs.ResourceNumbers.{number-own}
 

@@ -1,38 +1,12 @@
 -- The numbers of linked needs stand for the resources that acts ask for.
 use Rattle.std.proofs.Common.{◌≡◌, ℕ, ◌+◌, ◌-◌, ◌<◌, inl, inr, List, [], ◌∷◌, map, length, get_or, slice_get, Vec, Option, Some, None, option_map, option_and_then, refl, sym, ap, ◌∙◌, subst, arith}
-use Rattle.std.specs.Global.{Global}
-use Rattle.std.specs.Prelude.{unwrap_or}
-use Rattle.std.proofs.lemmas.List.{get_or-map}
-use Rattle.std.proofs.lemmas.List.Elements.{Contains-append_cases}
-use Rattle.std.proofs.lemmas.Option.{get_or_from_slice_get, none-some, same_Some, slice_get-map, slice_get_within}
+use Rattle.std.{specs.Global.Global, specs.Prelude.unwrap_or, proofs.lemmas.List.get_or-map, proofs.lemmas.List.Elements.Contains-append_cases, proofs.lemmas.Option.get_or_from_slice_get, proofs.lemmas.Option.none-some, proofs.lemmas.Option.same_Some, proofs.lemmas.Option.slice_get-map, proofs.lemmas.Option.slice_get_within}
 use Rattle.batch_cell.specs.LookUps.{resources_of as cell_resources}
-use Rattle.batch_recipe.specs.Conditions.{Name}
-use Rattle.batch_recipe.specs.Expanding.{needs_with}
-use Rattle.batch_recipe.specs.Links.{asked_at}
-use Rattle.batch_recipe.specs.Needs.{resources_needed}
-use Rattle.batch_recipe.specs.Outlines.{act_of_kind}
-use Rattle.batch_recipe.specs.declared.act.Act.{Act}
-use Rattle.batch_recipe.specs.declared.acts.LabelTable.TheVariants.{UnitProcedures, Operations, Phases}
-use Rattle.batch_recipe.specs.declared.entry.Kind.{Kind}
+use Rattle.batch_recipe.specs.{Conditions.Name, Expanding.needs_with, Links.asked_at, Needs.resources_needed, Outlines.act_of_kind, declared.act.Act.Act, declared.acts.LabelTable.TheVariants.UnitProcedures, declared.acts.LabelTable.TheVariants.Operations, declared.acts.LabelTable.TheVariants.Phases, declared.entry.Kind.Kind, declared.need.Need.Need}
 use Rattle.batch_recipe.specs.declared.entry.Kind.TheVariants as kind
-use Rattle.batch_recipe.specs.declared.need.Need.{Need}
 use Rattle.batch_recipe.specs.declared.role.Role as declared
-use Rattle.batch_set.specs.Linking.{IsLinkedIn, needs_linked, table_items}
-use Rattle.batch_set.specs.Looked.{needs_by, row_at}
-use Rattle.batch_set.specs.Sources.{IsSource, SayNeeds}
-use Rattle.batch_set.specs.declared.linked.LinkedNeed.{LinkedNeed}
-use Rattle.batch_set.specs.declared.linked.LinkedRecipe.{LinkedRecipe}
-use Rattle.batch_set.specs.declared.linked.Source.{Source}
-use Rattle.batch_set.specs.declared.linked.Source.TheVariants.{Resource, Role, Unknown}
-use Rattle.batch_set.proofs.Sources.{needs-said}
-use Rattle.batch_set.proofs.ResourceNumbers.{number-at}
-use Rattle.batch_check.specs.declared.site.Site.{Site}
-use Rattle.batch_check.specs.Edges.{number_of_resource, numbers_of_resources}
-use Rattle.batch_check.specs.Joining.{AreBelow}
-use Rattle.batch_check.specs.Sites.{StandFor, bound_on, count_with_roles, needs_at, number_of, numbers_at, numbers_of, resource_count, resource_on, resources_on, sites_on, units_on}
-use Rattle.batch_check.specs.Takings.{Taking, alike}
-use Rattle.batch_check.proofs.EdgesFromNeeds.{Contains-none, Contains-one}
-use Rattle.batch_check.proofs.Roles.{resource_for-below, resource_for-past}
+use Rattle.batch_set.{specs.Linking.IsLinkedIn, specs.Linking.needs_linked, specs.Linking.table_items, specs.Looked.needs_by, specs.Looked.row_at, specs.Sources.IsSource, specs.Sources.SayNeeds, specs.declared.linked.LinkedNeed.LinkedNeed, specs.declared.linked.LinkedRecipe.LinkedRecipe, specs.declared.linked.Source.Source, specs.declared.linked.Source.TheVariants.Resource, specs.declared.linked.Source.TheVariants.Role, specs.declared.linked.Source.TheVariants.Unknown, proofs.Sources.needs-said, proofs.ResourceNumbers.number-at}
+use Rattle.batch_check.{specs.declared.site.Site.Site, specs.Edges.number_of_resource, specs.Edges.numbers_of_resources, specs.Joining.AreBelow, specs.Sites.StandFor, specs.Sites.bound_on, specs.Sites.count_with_roles, specs.Sites.needs_at, specs.Sites.number_of, specs.Sites.numbers_at, specs.Sites.numbers_of, specs.Sites.resource_count, specs.Sites.resource_on, specs.Sites.resources_on, specs.Sites.sites_on, specs.Sites.units_on, specs.Takings.Taking, specs.Takings.alike, proofs.EdgesFromNeeds.Contains-none, proofs.EdgesFromNeeds.Contains-one, proofs.Roles.resource_for-below, proofs.Roles.resource_for-past}
 
 module _ (site : Site) (t : Taking) where
   abbrev IsSourceOf : Source → Name → Type 0

@@ -1,16 +1,9 @@
 -- The edges without those of one order, and ranks that rise along the others.
 use Rattle.std.proofs.Common.{◌≡◌, ℕ, ◌<◌, List, [], ◌∷◌, ◌++◌, Bool, true, false, inl, inr, All, Contains, get_or, zero, suc, sym, subst, ◌∙◌, arith}
-use Rattle.std.proofs.lemmas.Bool.{false≢true}
-use Rattle.std.proofs.lemmas.List.Elements.{All-append, All-contains, All-weaker, All-get_or, Contains-append_left, Contains-append_right, Contains-append_cases, Contains-get_or}
+use Rattle.std.proofs.lemmas.{Bool.false≢true, List.Elements.All-append, List.Elements.All-contains, List.Elements.All-weaker, List.Elements.All-get_or, List.Elements.Contains-append_left, List.Elements.Contains-append_right, List.Elements.Contains-append_cases, List.Elements.Contains-get_or}
 use Rattle.batch_cell.specs.declared.cell.Cell.{Cell}
 use Rattle.batch_recipe.specs.declared.recipe.Recipe.{Recipe}
-use Rattle.batch_check.specs.declared.edge.Edge.{Edge}
-use Rattle.batch_check.specs.declared.edge_set.EdgeSet.{EdgeSet}
-use Rattle.batch_check.specs.Collecting.{HasAllPairs}
-use Rattle.batch_check.specs.LeastRanking.{HasEndsBelow, IsEdgeCircle, IsLeastRanking}
-use Rattle.batch_check.specs.Mending.{AreOtherEdges, RiseAlongOthers, RiseWithout, TellRises, TellsRise, TellsRiseAlong, is_same_order}
-use Rattle.batch_check.proofs.RaiseRounds.{circle_rules_out}
-use Rattle.batch_check.proofs.RanksAlongPaths.{edge_of}
+use Rattle.batch_check.{specs.declared.edge.Edge.Edge, specs.declared.edge_set.EdgeSet.EdgeSet, specs.Collecting.HasAllPairs, specs.LeastRanking.HasEndsBelow, specs.LeastRanking.IsEdgeCircle, specs.LeastRanking.IsLeastRanking, specs.Mending.AreOtherEdges, specs.Mending.RiseAlongOthers, specs.Mending.RiseWithout, specs.Mending.TellRises, specs.Mending.TellsRise, specs.Mending.TellsRiseAlong, specs.Mending.is_same_order, proofs.RaiseRounds.circle_rules_out, proofs.RanksAlongPaths.edge_of}
 
 -- The loop
 

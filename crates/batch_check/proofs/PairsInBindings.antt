@@ -2,22 +2,11 @@
 use Rattle.std.proofs.Common.{◌≡◌, ℕ, zero, suc, ◌<◌, Bool, true, false, List, [], ◌∷◌, Option, Some, None, option_map, slice_get, refl, sym, ap, ◌∙◌, subst, inr}
 use Rattle.std.proofs.lemmas.Option.{slice_get-map}
 use Rattle.batch_cell.specs.declared.cell.Cell as equipment
-use Rattle.batch_recipe.specs.Conditions.{Name, same_name}
-use Rattle.batch_recipe.specs.Expanding.{Binding}
-use Rattle.batch_recipe.specs.Nodes.{Node}
-use Rattle.batch_recipe.specs.Procedure.{bound_nodes}
+use Rattle.batch_recipe.specs.{Conditions.Name, Conditions.same_name, Expanding.Binding, Nodes.Node, Procedure.bound_nodes, declared.role.Role.Role}
 use Rattle.batch_recipe.specs.declared.recipe.Recipe as document
-use Rattle.batch_recipe.specs.declared.role.Role.{Role}
-use Rattle.batch_model.specs.Lists.{Each}
-use Rattle.batch_model.specs.Setups.{master_of, setup_of}
-use Rattle.batch_verify.specs.Bindings.{binding_count}
-use Rattle.batch_verify.specs.Refusals.{IsTried}
-use Rattle.batch_verify.proofs.PairsOnPaths.{ShowPairs, pairs_shown}
-use Rattle.batch_check.specs.Edges.{Follows, Joins, number_of_resource, numbers_of_resources}
-use Rattle.batch_check.specs.Pairs.{ArePaired}
-use Rattle.batch_check.specs.Takings.{Taking, alike, apart, bound_by}
-use Rattle.batch_check.specs.declared.edge.Edge.{Edge}
-use Rattle.batch_check.proofs.RanksAlongPaths.{Each-get}
+use Rattle.batch_model.specs.{Lists.Each, Setups.master_of, Setups.setup_of}
+use Rattle.batch_verify.{specs.Bindings.binding_count, specs.Refusals.IsTried, proofs.PairsOnPaths.ShowPairs, proofs.PairsOnPaths.pairs_shown}
+use Rattle.batch_check.{specs.Edges.Follows, specs.Edges.Joins, specs.Edges.number_of_resource, specs.Edges.numbers_of_resources, specs.Pairs.ArePaired, specs.Takings.Taking, specs.Takings.alike, specs.Takings.apart, specs.Takings.bound_by, specs.declared.edge.Edge.Edge, proofs.RanksAlongPaths.Each-get}
 
 -- a predicate that holds at each number holds of all
 pub each_at : {X : Type 0} (P : X → Type 0) (xs : List X) → ((i : ℕ) (x : X) → slice_get xs i ≡ Some x → P x) → Each P xs

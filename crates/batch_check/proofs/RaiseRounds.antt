@@ -1,11 +1,7 @@
 -- The rounds of raises, and the rankings that a circle rules out.
 use Rattle.std.proofs.Common.{◌≡◌, ℕ, ◌+◌, ◌<◌, ◌≤◌, ⊎_elim, List, [], ◌∷◌, length, get_or, Option, All, Contains, take, drop, ◌++◌, ap, ◌∙◌, sym, subst, arith}
-use Rattle.std.specs.List.{AllByRecursion}
-use Rattle.std.proofs.lemmas.List.Elements.{All-contains, All-weaker, recursion_from_All}
-use Rattle.std.proofs.Math.Seq.{take-append_seam}
-use Rattle.batch_check.specs.declared.edge.Edge.{Edge}
-use Rattle.batch_check.specs.LeastRanking.{HasEndsBelow, IsRanking, IsLeastRanking, IsEdgeCircle, LeadsAlong}
-use Rattle.batch_check.specs.Raising.{IsProgress, RisesOr}
+use Rattle.std.{specs.List.AllByRecursion, proofs.lemmas.List.Elements.All-contains, proofs.lemmas.List.Elements.All-weaker, proofs.lemmas.List.Elements.recursion_from_All, proofs.Math.Seq.take-append_seam}
+use Rattle.batch_check.specs.{declared.edge.Edge.Edge, LeastRanking.HasEndsBelow, LeastRanking.IsRanking, LeastRanking.IsLeastRanking, LeastRanking.IsEdgeCircle, LeastRanking.LeadsAlong, Raising.IsProgress, Raising.RisesOr}
 
 -- the invariant of each round
 pub record Rounds (count : ℕ) (edges : List Edge) (ranks : List ℕ) (causes : List (Option Edge)) (round : ℕ) : Type 0 where

@@ -1,10 +1,7 @@
 -- The invariant of one raise of a rank.
 use Rattle.std.proofs.Common.{◌≡◌, ℕ, ◌+◌, ◌<◌, ◌≤◌, ⊎_elim, inl, inr, List, length, set, get_or, Option, Some, None, Bool, true, false, All, Contains, sym, ap, ◌∙◌, subst, arith, below_more, length-set, get_or-set_same, get_or-set_other}
-use Rattle.std.proofs.lemmas.Bool.{cases_eq, false≢true}
-use Rattle.std.proofs.lemmas.List.Elements.{All-contains, All-get_or, Contains-get_or}
-use Rattle.batch_check.specs.declared.edge.Edge.{Edge}
-use Rattle.batch_check.specs.LeastRanking.{HasEndsBelow, IsRanking}
-use Rattle.batch_check.specs.Raising.{IsProgress, IsCaused, RisesOr}
+use Rattle.std.proofs.lemmas.{Bool.cases_eq, Bool.false≢true, List.Elements.All-contains, List.Elements.All-get_or, List.Elements.Contains-get_or}
+use Rattle.batch_check.specs.{declared.edge.Edge.Edge, LeastRanking.HasEndsBelow, LeastRanking.IsRanking, Raising.IsProgress, Raising.IsCaused, Raising.RisesOr}
 
 -- no rank falls in a raise
 raised_at : (ranks : List ℕ) (i v k : ℕ) → i < length ranks → get_or ranks i 0 ≤ v → get_or ranks k 0 ≤ get_or (set ranks i v) k 0

@@ -1,35 +1,11 @@
 -- Ranks that rise along paths, and along edges.
 use Rattle.std.proofs.Common.{◌≡◌, ℕ, zero, suc, ◌<◌, ◌≤◌, List, [], ◌∷◌, IsTrue, true, ◌&&◌, nat_eq, map, length, position, get_or, slice_get, Option, Some, None, All, Contains, refl, sym, ap, ◌∙◌, subst, arith}
-use Rattle.std.specs.List.{Any}
-use Rattle.std.proofs.lemmas.Bool.{and_parts, eqb-true}
-use Rattle.std.proofs.lemmas.List.Quantifiers.{position-Some}
-use Rattle.std.proofs.lemmas.List.Folds.{Any-from_list_any}
-use Rattle.std.proofs.lemmas.List.Elements.{All-weaker, All-contains}
-use Rattle.batch_cell.specs.LookUps.{resources_of}
-use Rattle.batch_cell.specs.declared.cell.Cell.{Cell}
-use Rattle.batch_recipe.specs.Conditions.{Name, same_name}
-use Rattle.batch_recipe.specs.Nodes.{Node}
-use Rattle.batch_recipe.specs.Expanding.{Binding}
-use Rattle.batch_recipe.specs.Procedure.{bound_nodes, bound_tree}
-use Rattle.batch_recipe.specs.WellFormed.{is_among}
-use Rattle.batch_recipe.specs.declared.recipe.Recipe.{Recipe}
-use Rattle.batch_model.specs.Lists.{Each}
-use Rattle.batch_model.specs.Cleared.{Ranking, RiseStrictly, IsClear, IsClearedRecipe, Part, is_procedure, procedure_parts}
-use Rattle.batch_model.specs.Recipes.{recipe_of}
-use Rattle.batch_model.specs.Plant.{Setup}
-use Rattle.batch_model.specs.Setups.{master_of, setup_of}
-use Rattle.batch_model.proofs.Members.{Each-map}
-use Rattle.batch_model.proofs.TreeParts.{parts-nodes}
-use Rattle.batch_check.specs.declared.edge.Edge.{Edge}
-use Rattle.batch_check.specs.ByName.{resource_name_in}
-use Rattle.batch_verify.specs.Refusals.{rank_in}
-use Rattle.batch_check.specs.Edges.{has_pair, OfNodes, EdgeStands, Covers, CoversRecipes, AreEdgesOf, numbers_of_resources, number_of_resource, Follows}
-use Rattle.batch_check.specs.LeastRanking.{IsLeastRanking}
-use Rattle.batch_check.specs.Clearing.{NeedResources, RiseAlongPaths, RiseLeast, StandsAsCircle}
-use Rattle.batch_check.proofs.Names.{name_in-found, rank_in-name}
-use Rattle.batch_check.proofs.ResourceNeeds.{IsFound, found, name_among, known_path}
-use Rattle.batch_check.proofs.RaiseRounds.{circle_rules_out}
-use Rattle.batch_verify.proofs.ServedRoles.{tried_serves}
+use Rattle.std.{specs.List.Any, proofs.lemmas.Bool.and_parts, proofs.lemmas.Bool.eqb-true, proofs.lemmas.List.Quantifiers.position-Some, proofs.lemmas.List.Folds.Any-from_list_any, proofs.lemmas.List.Elements.All-weaker, proofs.lemmas.List.Elements.All-contains}
+use Rattle.batch_cell.specs.{LookUps.resources_of, declared.cell.Cell.Cell}
+use Rattle.batch_recipe.specs.{Conditions.Name, Conditions.same_name, Nodes.Node, Expanding.Binding, Procedure.bound_nodes, Procedure.bound_tree, WellFormed.is_among, declared.recipe.Recipe.Recipe}
+use Rattle.batch_model.{specs.Lists.Each, specs.Cleared.Ranking, specs.Cleared.RiseStrictly, specs.Cleared.IsClear, specs.Cleared.IsClearedRecipe, specs.Cleared.Part, specs.Cleared.is_procedure, specs.Cleared.procedure_parts, specs.Recipes.recipe_of, specs.Plant.Setup, specs.Setups.master_of, specs.Setups.setup_of, proofs.Members.Each-map, proofs.TreeParts.parts-nodes}
+use Rattle.batch_check.{specs.declared.edge.Edge.Edge, specs.ByName.resource_name_in, specs.Edges.has_pair, specs.Edges.OfNodes, specs.Edges.EdgeStands, specs.Edges.Covers, specs.Edges.CoversRecipes, specs.Edges.AreEdgesOf, specs.Edges.numbers_of_resources, specs.Edges.number_of_resource, specs.Edges.Follows, specs.LeastRanking.IsLeastRanking, specs.Clearing.NeedResources, specs.Clearing.RiseAlongPaths, specs.Clearing.RiseLeast, specs.Clearing.StandsAsCircle, proofs.Names.name_in-found, proofs.Names.rank_in-name, proofs.ResourceNeeds.IsFound, proofs.ResourceNeeds.found, proofs.ResourceNeeds.name_among, proofs.ResourceNeeds.known_path, proofs.RaiseRounds.circle_rules_out}
+use Rattle.batch_verify.{specs.Refusals.rank_in, proofs.ServedRoles.tried_serves}
 
 pub Each-get : {X : Type 0} (P : X → Type 0) (xs : List X) (i : ℕ) (x : X) → Each P xs → slice_get xs i ≡ Some x → P x
 Each-get P [] i x h is = let bad : None ≡ Some x = is in absurd cc

@@ -1,38 +1,12 @@
 -- The edges of recipes, one recipe after another.
 use Rattle.std.proofs.Common.{◌≡◌, ℕ, ◌+◌, ◌-◌, ◌<◌, ◌≤◌, ◌⊎◌, ◌&&◌, inl, inr, refl, List, [], ◌∷◌, ◌++◌, get_or, take, length, slice_get, ltb, nat_eq, IsTrue, Vec, Option, Some, None, option_map, All, sym, ap, ◌∙◌, subst, arith, lt-ltb}
-use Rattle.std.specs.Global.{Global}
-use Rattle.std.specs.List.{Contains}
-use Rattle.std.proofs.lemmas.Bool.{and_from, and_parts, cases_lt, eq-eqb, ltb-true, not-false, or_left, or_right, true≢false}
-use Rattle.std.proofs.lemmas.List.{get_or_past, take_more}
-use Rattle.std.proofs.lemmas.List.Elements.{All-weaker, All-contains, Contains-get_or}
-use Rattle.std.proofs.lemmas.Option.{none-some, same_Some, slice_get_within, slice_get-get_or, slice_get-map}
-use Rattle.batch_cell.specs.LookUps.{resources_of}
-use Rattle.batch_cell.specs.declared.cell.Cell.{Cell}
-use Rattle.batch_recipe.specs.Conditions.{Name, same_name}
-use Rattle.batch_recipe.specs.Procedure.{bound_nodes}
-use Rattle.batch_recipe.specs.declared.recipe.Recipe.{Recipe}
-use Rattle.batch_recipe.specs.declared.role.Role.{Role}
-use Rattle.batch_model.specs.Lists.{Each}
-use Rattle.batch_model.proofs.Members.{Each-append, Each-map}
-use Rattle.batch_check.specs.declared.edge.Edge.{Edge}
-use Rattle.batch_check.specs.declared.edge_set.EdgeSet.{EdgeSet}
-use Rattle.batch_verify.specs.Bindings.{binding_count}
-use Rattle.batch_verify.proofs.NumberedBindings.{differ, some-binding, taken-tried}
-use Rattle.batch_check.specs.Takings.{AreUnitsOf, Taking, alike, apart, units_by}
-use Rattle.batch_check.specs.declared.site.Site.{Site}
-use Rattle.batch_check.specs.Edges.{OfNodes, EdgeStands, Covers, CoversRecipes, AreEdgesOf, has_pair, number_of_resource, numbers_of_resources}
-use Rattle.batch_check.specs.LeastRanking.{HasEndsBelow}
-use Rattle.batch_check.specs.Pairs.{Keeps}
-use Rattle.batch_check.specs.Joining.{Grows, HasTaken}
-use Rattle.batch_check.specs.Collecting.{AreAdded, AreTakenIn, AreTakenOn, AreThose, HasAllPairs, HasRaised, HasTakenBy, IsAdded, IsCollected, IsRaised, IsTakenAs, PairsAll, PairsRecipe, is_behind, is_of_role, raised}
-use Rattle.batch_check.specs.Sites.{bound_on, count_with_roles, nodes_on, resource_count, resource_on, units_on}
-use Rattle.batch_check.proofs.EdgesOfAct.{Follows-keeps}
-use Rattle.batch_check.proofs.PairsInBindings.{follows_shown, paired_shown}
-use Rattle.batch_check.proofs.EdgesFromNeeds.{Contains-at, Contains-none, Grows-twice, at-Contains}
+use Rattle.std.{specs.Global.Global, specs.List.Contains, proofs.lemmas.Bool.and_from, proofs.lemmas.Bool.and_parts, proofs.lemmas.Bool.cases_lt, proofs.lemmas.Bool.eq-eqb, proofs.lemmas.Bool.ltb-true, proofs.lemmas.Bool.not-false, proofs.lemmas.Bool.or_left, proofs.lemmas.Bool.or_right, proofs.lemmas.Bool.true≢false, proofs.lemmas.List.get_or_past, proofs.lemmas.List.take_more, proofs.lemmas.List.Elements.All-weaker, proofs.lemmas.List.Elements.All-contains, proofs.lemmas.List.Elements.Contains-get_or, proofs.lemmas.Option.none-some, proofs.lemmas.Option.same_Some, proofs.lemmas.Option.slice_get_within, proofs.lemmas.Option.slice_get-get_or, proofs.lemmas.Option.slice_get-map}
+use Rattle.batch_cell.specs.{LookUps.resources_of, declared.cell.Cell.Cell}
+use Rattle.batch_recipe.specs.{Conditions.Name, Conditions.same_name, Procedure.bound_nodes, declared.recipe.Recipe.Recipe, declared.role.Role.Role}
+use Rattle.batch_model.{specs.Lists.Each, proofs.Members.Each-append, proofs.Members.Each-map}
+use Rattle.batch_check.{specs.declared.edge.Edge.Edge, specs.declared.edge_set.EdgeSet.EdgeSet, specs.Takings.AreUnitsOf, specs.Takings.Taking, specs.Takings.alike, specs.Takings.apart, specs.Takings.units_by, specs.declared.site.Site.Site, specs.Edges.OfNodes, specs.Edges.EdgeStands, specs.Edges.Covers, specs.Edges.CoversRecipes, specs.Edges.AreEdgesOf, specs.Edges.has_pair, specs.Edges.number_of_resource, specs.Edges.numbers_of_resources, specs.LeastRanking.HasEndsBelow, specs.Pairs.Keeps, specs.Joining.Grows, specs.Joining.HasTaken, specs.Collecting.AreAdded, specs.Collecting.AreTakenIn, specs.Collecting.AreTakenOn, specs.Collecting.AreThose, specs.Collecting.HasAllPairs, specs.Collecting.HasRaised, specs.Collecting.HasTakenBy, specs.Collecting.IsAdded, specs.Collecting.IsCollected, specs.Collecting.IsRaised, specs.Collecting.IsTakenAs, specs.Collecting.PairsAll, specs.Collecting.PairsRecipe, specs.Collecting.is_behind, specs.Collecting.is_of_role, specs.Collecting.raised, specs.Sites.bound_on, specs.Sites.count_with_roles, specs.Sites.nodes_on, specs.Sites.resource_count, specs.Sites.resource_on, specs.Sites.units_on, proofs.EdgesOfAct.Follows-keeps, proofs.PairsInBindings.follows_shown, proofs.PairsInBindings.paired_shown, proofs.EdgesFromNeeds.Contains-at, proofs.EdgesFromNeeds.Contains-none, proofs.EdgesFromNeeds.Grows-twice, proofs.EdgesFromNeeds.at-Contains, proofs.RanksAlongPaths.Each-get, proofs.Roles.resource_for-below, proofs.Roles.resource_for-past, proofs.RoleUnits.apart_other, proofs.RoleUnits.apart_own, proofs.RoleUnits.as_many_units, proofs.RoleUnits.item_at, proofs.RoleUnits.itself, proofs.RoleUnits.last_or_before, proofs.RoleUnits.raised_is, proofs.RoleUnits.roles_apart, proofs.RoleUnits.same_unit}
+use Rattle.batch_verify.{specs.Bindings.binding_count, proofs.NumberedBindings.differ, proofs.NumberedBindings.some-binding, proofs.NumberedBindings.taken-tried}
 use Rattle.batch_set.proofs.ResourceNumbers.{number-at}
-use Rattle.batch_check.proofs.RanksAlongPaths.{Each-get}
-use Rattle.batch_check.proofs.Roles.{resource_for-below, resource_for-past}
-use Rattle.batch_check.proofs.RoleUnits.{apart_other, apart_own, as_many_units, item_at, itself, last_or_before, raised_is, roles_apart, same_unit}
 
 covers_more : (cell : Cell) (old new : List Edge) → Keeps old new → (recipes : List Recipe) → CoversRecipes cell recipes old → CoversRecipes cell recipes new
 covers_more cell old new keeps [] h = tt

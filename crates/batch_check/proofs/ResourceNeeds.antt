@@ -1,24 +1,13 @@
 -- Needs that are resources, along whole paths.
 use Rattle.std.proofs.Common.{◌≡◌, ℕ, ◌+◌, ◌<◌, ◌++◌, List, [], ◌∷◌, IsTrue, Some, true, position, length, refl, sym, ap, ◌∙◌}
-use Rattle.std.specs.List.{Any}
-use Rattle.std.proofs.lemmas.List.Folds.{Any-from_list_any, list_any_at}
-use Rattle.std.proofs.lemmas.Option.{slice_get-get_or}
-use Rattle.std.proofs.lemmas.Slice.Eq.{bytes_eq-Decides}
-use Rattle.batch_cell.specs.LookUps.{resources_of}
-use Rattle.batch_cell.specs.declared.cell.Cell.{Cell}
-use Rattle.batch_recipe.specs.Conditions.{Name, same_name}
-use Rattle.batch_recipe.specs.WellFormed.{is_among}
-use Rattle.batch_recipe.specs.Tree.{Place, Task, runs, follows, Tree, act, skip, seq, par, sel, loop, Trees, no_trees, tree, Choices, otherwise, choice}
-use Rattle.batch_recipe.specs.Nodes.{Node, nodes, nodes_within, nodes_of_each, nodes_of_choices, needs_of, child}
-use Rattle.batch_model.specs.Lists.{Each}
-use Rattle.batch_model.proofs.Members.{Each-append}
+use Rattle.std.{specs.List.Any, proofs.lemmas.List.Folds.Any-from_list_any, proofs.lemmas.List.Folds.list_any_at, proofs.lemmas.Option.slice_get-get_or, proofs.lemmas.Slice.Eq.bytes_eq-Decides}
+use Rattle.batch_cell.specs.{LookUps.resources_of, declared.cell.Cell.Cell}
+use Rattle.batch_recipe.specs.{Conditions.Name, Conditions.same_name, WellFormed.is_among, Tree.Place, Tree.Task, Tree.runs, Tree.follows, Tree.Tree, Tree.act, Tree.skip, Tree.seq, Tree.par, Tree.sel, Tree.loop, Tree.Trees, Tree.no_trees, Tree.tree, Tree.Choices, Tree.otherwise, Tree.choice, Nodes.Node, Nodes.nodes, Nodes.nodes_within, Nodes.nodes_of_each, Nodes.nodes_of_choices, Nodes.needs_of, Nodes.child, declared.need.Need.Need}
+use Rattle.batch_model.{specs.Lists.Each, proofs.Members.Each-append}
 use Rattle.batch_verify.proofs.RulesInBindings.{Each_left, Each_right}
-use Rattle.batch_check.specs.Edges.{number_of_resource}
-use Rattle.batch_check.proofs.Names.{name_in-found}
+use Rattle.batch_check.{specs.Edges.number_of_resource, proofs.Names.name_in-found, specs.ByName.resource_name_in}
 use Rattle.batch_set.proofs.ResourceNumbers.{number-own}
-use Rattle.batch_check.specs.ByName.{resource_name_in}
 use Rattle.batch_recipe.specs.Needs as own
-use Rattle.batch_recipe.specs.declared.need.Need.{Need}
 
 -- a resource stands somewhere in the list of resources
 pub record IsFound (c : Cell) (name : Name) : Type 0 where

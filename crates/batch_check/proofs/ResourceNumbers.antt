@@ -1,15 +1,9 @@
 -- The numbers of resources.
 use Rattle.std.proofs.Common.{◌≡◌, ℕ, ◌<◌, List, ◌++◌, length, get_or, slice_get, Option, Some, None, option_map, refl, sym, ap, ◌∙◌}
-use Rattle.std.proofs.lemmas.List.{map-append}
-use Rattle.std.proofs.lemmas.Option.{slice_get-get_or, slice_get-map}
-use Rattle.std.proofs.lemmas.List.Quantifiers.{position-Some}
-use Rattle.std.proofs.lemmas.Slice.Eq.{bytes_eq-Decides}
-use Rattle.batch_cell.specs.LookUps.{resources_of as cell_resources}
-use Rattle.batch_cell.specs.declared.cell.Cell.{Cell}
+use Rattle.std.proofs.lemmas.{List.map-append, Option.slice_get-get_or, Option.slice_get-map, List.Quantifiers.position-Some, Slice.Eq.bytes_eq-Decides}
+use Rattle.batch_cell.specs.{LookUps.resources_of as cell_resources, declared.cell.Cell.Cell}
 use Rattle.batch_recipe.specs.Conditions.{Name, same_name}
-use Rattle.batch_check.specs.Edges.{number_of_resource, numbers_of_resources}
-use Rattle.batch_check.specs.Joining.{AreBelow}
-use Rattle.batch_check.proofs.EdgesFromNeeds.{at-Contains}
+use Rattle.batch_check.{specs.Edges.number_of_resource, specs.Edges.numbers_of_resources, specs.Joining.AreBelow, proofs.EdgesFromNeeds.at-Contains}
 
 module _ (cell : Cell) where
   pub number_within : (name : Name) (k : ℕ) → number_of_resource cell name ≡ Some k → k < length (cell_resources cell)

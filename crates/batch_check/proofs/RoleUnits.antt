@@ -1,28 +1,11 @@
 -- The units that take roles, by the numbers of the candidates.
 use Rattle.std.proofs.Common.{◌≡◌, ◌⊎◌, ℕ, zero, suc, ◌+◌, ◌<◌, ◌≤◌, true, false, not, List, [], ◌∷◌, ◌++◌, map, length, get_or, slice_get, Vec, Option, Some, None, refl, sym, ap, ◌∙◌, subst, arith, inl, inr, length-append}
 use mathlib.Core.List.{map-map}
-use Rattle.std.specs.Cmp.Lexicographic.{bytes_decides}
-use Rattle.std.specs.Global.{Global}
-use Rattle.std.specs.List.{Contains}
-use Rattle.std.proofs.lemmas.Bool.{and_parts, cases_eq, cases_lt, false_from_ne_true, not-true}
-use Rattle.std.proofs.lemmas.List.{ext_get_or, get_or-set_same, get_or-set_other, length-map, length-set}
-use Rattle.std.proofs.lemmas.Option.{same_Some, slice_get_within}
-use Rattle.batch_cell.specs.LookUps.{resources_of}
-use Rattle.batch_cell.specs.declared.cell.Cell.{Cell}
-use Rattle.batch_recipe.specs.Conditions.{Name, same_name}
-use Rattle.batch_recipe.specs.WellFormed.{are_distinct, is_among}
-use Rattle.batch_recipe.specs.declared.role.Role.{Role}
-use Rattle.batch_recipe.proofs.AppendedLists.{slice_get-split}
-use Rattle.batch_verify.specs.Bindings.{numbered_binding, takers_of}
-use Rattle.batch_verify.proofs.Choices.{has_at}
-use Rattle.batch_verify.proofs.NamesInList.{same_name_sym}
-use Rattle.batch_verify.proofs.NumberedBindings.{has_name}
-use Rattle.batch_check.specs.Collecting.{AreUnitsWithin, raised}
-use Rattle.batch_check.specs.Edges.{number_of_resource}
-use Rattle.batch_check.specs.Joining.{AreBelow}
-use Rattle.batch_check.specs.Takings.{AreUnitsOf, Taking, alike, apart, bound_by, units_by}
-use Rattle.batch_check.proofs.EdgesFromNeeds.{Contains-at, Contains-one, at-Contains}
-use Rattle.batch_check.proofs.ResourceNumbers.{numbers_below}
+use Rattle.std.{specs.Cmp.Lexicographic.bytes_decides, specs.Global.Global, specs.List.Contains, proofs.lemmas.Bool.and_parts, proofs.lemmas.Bool.cases_eq, proofs.lemmas.Bool.cases_lt, proofs.lemmas.Bool.false_from_ne_true, proofs.lemmas.Bool.not-true, proofs.lemmas.List.ext_get_or, proofs.lemmas.List.get_or-set_same, proofs.lemmas.List.get_or-set_other, proofs.lemmas.List.length-map, proofs.lemmas.List.length-set, proofs.lemmas.Option.same_Some, proofs.lemmas.Option.slice_get_within}
+use Rattle.batch_cell.specs.{LookUps.resources_of, declared.cell.Cell.Cell}
+use Rattle.batch_recipe.{specs.Conditions.Name, specs.Conditions.same_name, specs.WellFormed.are_distinct, specs.WellFormed.is_among, specs.declared.role.Role.Role, proofs.AppendedLists.slice_get-split}
+use Rattle.batch_verify.{specs.Bindings.numbered_binding, specs.Bindings.takers_of, proofs.Choices.has_at, proofs.NamesInList.same_name_sym, proofs.NumberedBindings.has_name}
+use Rattle.batch_check.{specs.Collecting.AreUnitsWithin, specs.Collecting.raised, specs.Edges.number_of_resource, specs.Joining.AreBelow, specs.Takings.AreUnitsOf, specs.Takings.Taking, specs.Takings.alike, specs.Takings.apart, specs.Takings.bound_by, specs.Takings.units_by, proofs.EdgesFromNeeds.Contains-at, proofs.EdgesFromNeeds.Contains-one, proofs.EdgesFromNeeds.at-Contains, proofs.ResourceNumbers.numbers_below}
 
 -- the last number, or one before it
 pub last_or_before : (k n : ℕ) → k < n + 1 → (k < n) ⊎ (k ≡ n)

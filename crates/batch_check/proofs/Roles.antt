@@ -1,17 +1,7 @@
 -- Numbers of roles, and the units that they stand for.
 use Rattle.std.proofs.Common.{◌≡◌, ℕ, ◌-◌, ◌<◌, ◌≤◌, ◌⊎◌, inl, inr, List, [], ◌∷◌, map, length, get_or, slice_get, zero, suc, IsTrue, Option, Some, None, option_and_then, refl, sym, ap, ◌∙◌, subst, lt-ltb, le-ltb}
-use Rattle.std.specs.List.{Contains}
-use Rattle.std.proofs.lemmas.Bool.{cases_lt}
-use Rattle.std.proofs.lemmas.List.{get_or_past}
-use Rattle.std.proofs.lemmas.Option.{none-some, same_Some, slice_get-get_or}
-use Rattle.batch_check.specs.declared.edge.Edge.{Edge}
-use Rattle.batch_check.specs.Collecting.{AreTakenIn}
-use Rattle.batch_check.specs.Edges.{Follows, Joins, has_pair}
-use Rattle.batch_check.specs.Joining.{AreBelow}
-use Rattle.batch_check.specs.Pairs.{ArePaired}
-use Rattle.batch_check.specs.Takings.{resource_for}
-use Rattle.batch_check.proofs.EdgesFromNeeds.{Contains-at}
-use Rattle.batch_check.proofs.RanksAlongPaths.{edge_of}
+use Rattle.std.{specs.List.Contains, proofs.lemmas.Bool.cases_lt, proofs.lemmas.List.get_or_past, proofs.lemmas.Option.none-some, proofs.lemmas.Option.same_Some, proofs.lemmas.Option.slice_get-get_or}
+use Rattle.batch_check.{specs.declared.edge.Edge.Edge, specs.Collecting.AreTakenIn, specs.Edges.Follows, specs.Edges.Joins, specs.Edges.has_pair, specs.Joining.AreBelow, specs.Pairs.ArePaired, specs.Takings.resource_for, proofs.EdgesFromNeeds.Contains-at, proofs.RanksAlongPaths.edge_of}
 
 -- Resources that numbers stand for
 

@@ -1,13 +1,7 @@
 -- Circles with the fewest edges.
 use Rattle.std.proofs.Common.{◌≡◌, ◌≢◌, ℕ, ◌+◌, ◌<◌, ◌≤◌, ◌⊎◌, inl, inr, List, [], ◌∷◌, length, get_or, IsTrue, Option, Some, None, All, AllPairs, Contains, refl, sym, ap, ◌∙◌, subst, arith}
-use Rattle.std.proofs.lemmas.Bool.{cases_lt}
-use Rattle.std.proofs.lemmas.List.Elements.{All-cons, All-contains}
-use Rattle.std.proofs.lemmas.List.Kept.{AllPairs-cons}
-use Rattle.batch_check.specs.declared.edge.Edge.{Edge}
-use Rattle.batch_check.specs.Edges.{has_pair}
-use Rattle.batch_check.specs.LeastRanking.{IsEdgeCircle, HasEndsBelow, LeadsAlong}
-use Rattle.batch_check.specs.Spreading.{AreJoined, HasFewest, HasReached, IsReached, IsSpread, NoneBelow}
-use Rattle.batch_check.proofs.RanksAlongPaths.{edge_of}
+use Rattle.std.proofs.lemmas.{Bool.cases_lt, List.Elements.All-cons, List.Elements.All-contains, List.Kept.AllPairs-cons}
+use Rattle.batch_check.{specs.declared.edge.Edge.Edge, specs.Edges.has_pair, specs.LeastRanking.IsEdgeCircle, specs.LeastRanking.HasEndsBelow, specs.LeastRanking.LeadsAlong, specs.Spreading.AreJoined, specs.Spreading.HasFewest, specs.Spreading.HasReached, specs.Spreading.IsReached, specs.Spreading.IsSpread, specs.Spreading.NoneBelow, proofs.RanksAlongPaths.edge_of}
 
 -- Walks along joined resources
 

@@ -1,12 +1,7 @@
 -- Rounds that reach further resources.
 use Rattle.std.proofs.Common.{◌≡◌, ◌≢◌, ℕ, ◌+◌, ◌<◌, ◌≤◌, inl, inr, List, length, set, get_or, Option, Some, None, Bool, true, false, Contains, sym, ap, ◌∙◌, subst, arith, below_more, length-set, get_or-set_same, get_or-set_other}
-use Rattle.std.proofs.lemmas.Bool.{cases_eq, cases_lt, false≢true}
-use Rattle.std.proofs.lemmas.List.{get_or_default}
-use Rattle.std.proofs.lemmas.List.Elements.{All-get_or, Contains-get_or}
-use Rattle.batch_check.specs.declared.edge.Edge.{Edge}
-use Rattle.batch_check.specs.LeastRanking.{HasEndsBelow}
-use Rattle.batch_check.specs.Spreading.{HasReached, IsSpread, LeadsOn}
-use Rattle.batch_check.proofs.Raises.{no_edge}
+use Rattle.std.proofs.lemmas.{Bool.cases_eq, Bool.cases_lt, Bool.false≢true, List.get_or_default, List.Elements.All-get_or, List.Elements.Contains-get_or}
+use Rattle.batch_check.{specs.declared.edge.Edge.Edge, specs.LeastRanking.HasEndsBelow, specs.Spreading.HasReached, specs.Spreading.IsSpread, specs.Spreading.LeadsOn, proofs.Raises.no_edge}
 
 -- the invariant of the loop over the edges
 pub record KeepsSpreading (edges : List Edge) (start level : ℕ) (first levels : List ℕ) (causes : List (Option Edge)) (further : Bool) (index : ℕ) : Type 0 where

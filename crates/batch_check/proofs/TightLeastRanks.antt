@@ -1,34 +1,13 @@
 -- Ranks that are one more than the greatest before them on a path.
 use Rattle.std.proofs.Common.{◌≡◌, ℕ, zero, suc, ◌<◌, ◌⊎◌, List, [], ◌∷◌, map, length, get_or, slice_get, IsTrue, Some, None, inl, inr, refl, sym, ap, ◌∙◌, subst, arith}
-use Rattle.std.proofs.lemmas.Bool.{cases_lt}
-use Rattle.std.proofs.lemmas.Option.{slice_get_within}
-use Rattle.std.proofs.lemmas.List.Elements.{All-contains}
+use Rattle.std.proofs.lemmas.{Bool.cases_lt, Option.slice_get_within, List.Elements.All-contains}
 use Rattle.batch_cell.specs.LookUps.{resources_of}
 use Rattle.batch_cell.specs.declared.cell.Cell as equipment
-use Rattle.batch_recipe.specs.Conditions.{Name}
-use Rattle.batch_recipe.specs.Nodes.{Node}
-use Rattle.batch_recipe.specs.Expanding.{Binding}
-use Rattle.batch_recipe.specs.Procedure.{bound_nodes, bound_tree}
-use Rattle.batch_recipe.specs.WellFormed.{is_among}
+use Rattle.batch_recipe.specs.{Conditions.Name, Nodes.Node, Expanding.Binding, Procedure.bound_nodes, Procedure.bound_tree, WellFormed.is_among}
 use Rattle.batch_recipe.specs.declared.recipe.Recipe as document
-use Rattle.batch_model.specs.Lists.{Has, Each}
-use Rattle.batch_model.specs.Plant.{Master}
-use Rattle.batch_model.specs.Cleared.{Ranking, RiseStrictly, HasCandidates, IsServed, Part, is_procedure, procedure_parts}
-use Rattle.batch_model.specs.Recipes.{recipe_of}
-use Rattle.batch_model.specs.Setups.{master_of, setup_of}
-use Rattle.batch_model.proofs.Members.{Each-Has}
-use Rattle.batch_model.proofs.TreeParts.{parts-nodes}
-use Rattle.batch_verify.specs.Refusals.{rank_in}
-use Rattle.batch_check.specs.declared.edge.Edge.{Edge}
-use Rattle.batch_check.specs.ByName.{resource_name_in}
-use Rattle.batch_check.specs.Clearing.{NeedResources}
-use Rattle.batch_check.specs.Edges.{OfNodes, EdgeStands, AreEdgesOf}
-use Rattle.batch_check.specs.LeastRanking.{IsLeastRanking}
-use Rattle.batch_check.specs.TightRanks.{IsAskedBefore, FollowsGreatest, IsLowest, RanksTightly}
-use Rattle.batch_check.proofs.ResourceNeeds.{found, known_path}
-use Rattle.batch_check.proofs.Names.{name_in-found, rank_in-name}
-use Rattle.batch_verify.proofs.ServedRoles.{served_is_tried, tried_serves}
-use Rattle.batch_check.proofs.RanksAlongPaths.{Each-get, nodes-Each, rises_at, rank_of_found, recipes_rise}
+use Rattle.batch_model.{specs.Lists.Has, specs.Lists.Each, specs.Plant.Master, specs.Cleared.Ranking, specs.Cleared.RiseStrictly, specs.Cleared.HasCandidates, specs.Cleared.IsServed, specs.Cleared.Part, specs.Cleared.is_procedure, specs.Cleared.procedure_parts, specs.Recipes.recipe_of, specs.Setups.master_of, specs.Setups.setup_of, proofs.Members.Each-Has, proofs.TreeParts.parts-nodes}
+use Rattle.batch_verify.{specs.Refusals.rank_in, proofs.ServedRoles.served_is_tried, proofs.ServedRoles.tried_serves}
+use Rattle.batch_check.{specs.declared.edge.Edge.Edge, specs.ByName.resource_name_in, specs.Clearing.NeedResources, specs.Edges.OfNodes, specs.Edges.EdgeStands, specs.Edges.AreEdgesOf, specs.LeastRanking.IsLeastRanking, specs.TightRanks.IsAskedBefore, specs.TightRanks.FollowsGreatest, specs.TightRanks.IsLowest, specs.TightRanks.RanksTightly, proofs.ResourceNeeds.found, proofs.ResourceNeeds.known_path, proofs.Names.name_in-found, proofs.Names.rank_in-name, proofs.RanksAlongPaths.Each-get, proofs.RanksAlongPaths.nodes-Each, proofs.RanksAlongPaths.rises_at, proofs.RanksAlongPaths.rank_of_found, proofs.RanksAlongPaths.recipes_rise}
 
 -- Elements
 

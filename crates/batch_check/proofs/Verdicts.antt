@@ -2,34 +2,12 @@
 use Rattle.std.proofs.Common.{arith, ◌≡◌, ◌≢◌, ℕ, ◌+◌, ◌<◌, ◌++◌, List, [], ◌∷◌, take, get_or, option_map, map, length, slice_get, IsTrue, Some, None, inl, inr, refl, sym, ap, ◌∙◌, subst}
 use Rattle.batch_cell.specs.LookUps.{resources_of}
 use Rattle.batch_cell.specs.declared.cell.Cell as equipment
-use Rattle.batch_recipe.specs.Conditions.{Name}
-use Rattle.batch_recipe.specs.Expanding.{Binding}
-use Rattle.batch_recipe.specs.Nodes.{Node}
-use Rattle.batch_recipe.specs.Procedure.{bound_tree}
-use Rattle.batch_recipe.specs.Tree.{Tree}
+use Rattle.batch_recipe.specs.{Conditions.Name, Expanding.Binding, Nodes.Node, Procedure.bound_tree, Tree.Tree}
 use Rattle.batch_recipe.specs.declared.recipe.Recipe as document
-use Rattle.batch_model.specs.Lists.{Each}
-use Rattle.batch_model.specs.Plant.{Role, Master, Setup}
-use Rattle.batch_model.specs.Cleared.{Ranking, Part, NeedsResources, RiseStrictly, IsClear, IsClearedRecipe, HasCandidates, ReservesFollow, is_procedure, procedure_parts, CanBeCleared}
-use Rattle.batch_model.specs.Setups.{master_of, setup_of}
-use Rattle.batch_model.specs.Recipes.{recipe_of}
-use Rattle.std.proofs.lemmas.List.{length-map, take_more}
-use Rattle.std.proofs.lemmas.Option.{get_or_from_slice_get, slice_get_read, slice_get-map}
-use Rattle.batch_model.proofs.Members.{Each-append, Each-map}
-use Rattle.batch_model.proofs.TreeParts.{parts-nodes}
-use Rattle.batch_verify.specs.Refusals.{rank_in, IsSound, Breaks, IsFirstBroken, IsTried, IsTriedFor}
-use Rattle.batch_verify.specs.Verifying.{IsRecipeSet}
-use Rattle.batch_verify.specs.declared.rule.Rule.{Rule}
-use Rattle.batch_verify.specs.declared.rule.Broken.{Broken}
-use Rattle.batch_check.specs.declared.fault.CheckFault.{CheckFault}
-use Rattle.batch_check.specs.declared.fault.CheckFault.TheVariants.{Recipes, Recipe as in_recipe, Circle, Memory}
-use Rattle.batch_check.specs.Checking.{IsSoundMaster}
-use Rattle.batch_check.specs.Finding.{IsRecipeFault, IsCircleFault, AreLeastRanks}
-use Rattle.batch_check.specs.Clearing.{NeedResources, RiseAlongPaths, IsLeastClearance}
-use Rattle.batch_check.proofs.RanksAlongPaths.{Each-get, nodes-Each, parts_hold, cleared_rises, circle_leaves_none}
-use Rattle.batch_verify.specs.Bindings.{nobody}
-use Rattle.batch_verify.proofs.ServedRoles.{served_is_tried, tried_serves}
-use Rattle.batch_verify.proofs.RecipeClearance.{has_candidates}
+use Rattle.batch_model.{specs.Lists.Each, specs.Plant.Role, specs.Plant.Master, specs.Plant.Setup, specs.Cleared.Ranking, specs.Cleared.Part, specs.Cleared.NeedsResources, specs.Cleared.RiseStrictly, specs.Cleared.IsClear, specs.Cleared.IsClearedRecipe, specs.Cleared.HasCandidates, specs.Cleared.ReservesFollow, specs.Cleared.is_procedure, specs.Cleared.procedure_parts, specs.Cleared.CanBeCleared, specs.Setups.master_of, specs.Setups.setup_of, specs.Recipes.recipe_of, proofs.Members.Each-append, proofs.Members.Each-map, proofs.TreeParts.parts-nodes}
+use Rattle.std.proofs.lemmas.{List.length-map, List.take_more, Option.get_or_from_slice_get, Option.slice_get_read, Option.slice_get-map}
+use Rattle.batch_verify.{specs.Refusals.rank_in, specs.Refusals.IsSound, specs.Refusals.Breaks, specs.Refusals.IsFirstBroken, specs.Refusals.IsTried, specs.Refusals.IsTriedFor, specs.Verifying.IsRecipeSet, specs.declared.rule.Rule.Rule, specs.declared.rule.Broken.Broken, specs.Bindings.nobody, proofs.ServedRoles.served_is_tried, proofs.ServedRoles.tried_serves, proofs.RecipeClearance.has_candidates}
+use Rattle.batch_check.{specs.declared.fault.CheckFault.CheckFault, specs.declared.fault.CheckFault.TheVariants.Recipes, specs.declared.fault.CheckFault.TheVariants.Recipe as in_recipe, specs.declared.fault.CheckFault.TheVariants.Circle, specs.declared.fault.CheckFault.TheVariants.Memory, specs.Checking.IsSoundMaster, specs.Finding.IsRecipeFault, specs.Finding.IsCircleFault, specs.Finding.AreLeastRanks, specs.Clearing.NeedResources, specs.Clearing.RiseAlongPaths, specs.Clearing.IsLeastClearance, proofs.RanksAlongPaths.Each-get, proofs.RanksAlongPaths.nodes-Each, proofs.RanksAlongPaths.parts_hold, proofs.RanksAlongPaths.cleared_rises, proofs.RanksAlongPaths.circle_leaves_none}
 
 -- A fault leaves no clearance
 

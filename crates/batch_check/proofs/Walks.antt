@@ -1,16 +1,7 @@
 -- A walk back along the causes.
 use Rattle.std.proofs.Common.{◌≡◌, ◌≢◌, ℕ, suc, zero, ◌+◌, ◌<◌, ◌≤◌, inl, inr, List, [], ◌∷◌, map, length, take, get_or, true, eqb, Option, Some, None, All, AllPairs, Contains, refl, sym, ap, ◌∙◌, subst, arith, length-take, get_or-take, add-one, ne_eqb}
-use Rattle.std.specs.List.{AllByRecursion, list_any, IsDistinct}
-use Rattle.std.proofs.lemmas.Bool.{false≢true, or_cases, eqb-true}
-use Rattle.std.proofs.lemmas.List.{get_or-map, length-map}
-use Rattle.std.proofs.lemmas.List.Elements.{All-cons, All-take, All-map, All-weaker, All-contains, recursion_from_All}
-use Rattle.std.proofs.lemmas.List.Kept.{AllPairs-cons}
-use Rattle.std.proofs.lemmas.Map.Keys.{IsDistinct-from_apart}
-use Rattle.std.proofs.lemmas.Map.Steps.{length-le_from_distinct_below}
-use Rattle.batch_check.specs.declared.edge.Edge.{Edge}
-use Rattle.batch_check.specs.LeastRanking.{HasEndsBelow, IsEdgeCircle, LeadsAlong}
-use Rattle.batch_check.specs.Raising.{IsProgress, IsCaused, Overruns}
-use Rattle.batch_check.proofs.Raises.{no_edge}
+use Rattle.std.{specs.List.AllByRecursion, specs.List.list_any, specs.List.IsDistinct, proofs.lemmas.Bool.false≢true, proofs.lemmas.Bool.or_cases, proofs.lemmas.Bool.eqb-true, proofs.lemmas.List.get_or-map, proofs.lemmas.List.length-map, proofs.lemmas.List.Elements.All-cons, proofs.lemmas.List.Elements.All-take, proofs.lemmas.List.Elements.All-map, proofs.lemmas.List.Elements.All-weaker, proofs.lemmas.List.Elements.All-contains, proofs.lemmas.List.Elements.recursion_from_All, proofs.lemmas.List.Kept.AllPairs-cons, proofs.lemmas.Map.Keys.IsDistinct-from_apart, proofs.lemmas.Map.Steps.length-le_from_distinct_below}
+use Rattle.batch_check.{specs.declared.edge.Edge.Edge, specs.LeastRanking.HasEndsBelow, specs.LeastRanking.IsEdgeCircle, specs.LeastRanking.LeadsAlong, specs.Raising.IsProgress, specs.Raising.IsCaused, specs.Raising.Overruns, proofs.Raises.no_edge}
 
 below_any : (n : ℕ) (xs : List ℕ) → AllByRecursion (λ x. x < n) xs → (q : ℕ) → list_any (eqb q) xs ≡ true → q < n
 below_any n [] h q e = absurd (false≢true e)

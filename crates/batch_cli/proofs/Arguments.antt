@@ -1,12 +1,6 @@
 -- Arguments of a command line and bare commands, as a parse reads them.
 use Rattle.std.proofs.Common.{◌≡◌, ◌∙◌, Bool, Some, ap, ap₂, false}
-use Rattle.clap.specs.Simple.{App, app_of, app_of_fields}
-use Rattle.clap.specs.Walk.{Rule, rule_of}
-use Rattle.clap.specs.declared.builder.action.ArgAction.{ArgAction}
-use Rattle.clap.specs.declared.builder.arg.Arg.{Arg}
-use Rattle.clap.specs.declared.builder.command.Command.{Command}
-use Rattle.clap.specs.declared.builder.command.Command.TheViews.{out-Command}
-use Rattle.clap.specs.declared.builder.texts.Texts.TheVariants.{One}
+use Rattle.clap.specs.{Simple.App, Simple.app_of, Simple.app_of_fields, Walk.Rule, Walk.rule_of, declared.builder.action.ArgAction.ArgAction, declared.builder.arg.Arg.Arg, declared.builder.command.Command.Command, declared.builder.command.Command.TheViews.out-Command, declared.builder.texts.Texts.TheVariants.One}
 use Rattle.batch_cli.specs.Table.{HasApp}
 
 -- the effect of a step of an argument's builder on its rule

@@ -1,10 +1,6 @@
 -- Subcommand lines that are written out, computed in the definitions.
 use Rattle.std.proofs.Common.{◌≡◌, ℕ, Bool, true, false, List, [], ◌∷◌, Option, Some, None, codes, refl, option_map}
-use Rattle.clap.specs.Faults.{fault_of}
-use Rattle.clap.specs.Simple.{subcommand_of}
-use Rattle.clap.specs.Walk.{Text, Row, first_of}
-use Rattle.clap.specs.declared.error.kind.ErrorKind.TheVariants.{DisplayHelp, DisplayVersion, InvalidSubcommand, MissingRequiredArgument, UnknownArgument, ValueValidation}
-use Rattle.clap.proofs.OnLiterals.{clap_on_literals}
+use Rattle.clap.{specs.Faults.fault_of, specs.Simple.subcommand_of, specs.Walk.Text, specs.Walk.Row, specs.Walk.first_of, specs.declared.error.kind.ErrorKind.TheVariants.DisplayHelp, specs.declared.error.kind.ErrorKind.TheVariants.DisplayVersion, specs.declared.error.kind.ErrorKind.TheVariants.InvalidSubcommand, specs.declared.error.kind.ErrorKind.TheVariants.MissingRequiredArgument, specs.declared.error.kind.ErrorKind.TheVariants.UnknownArgument, specs.declared.error.kind.ErrorKind.TheVariants.ValueValidation, proofs.OnLiterals.clap_on_literals}
 use Rattle.batch_cli.specs.CommandLine.{request_or_demo, batches_of, demo, documents, faults_of, is_given, plant, keep, program_app, ring_of, serve_desks, ticks_of, word_of, words_of}
 
 abbrev check_line : List Text

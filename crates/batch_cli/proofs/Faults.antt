@@ -1,13 +1,7 @@
 -- The fault of words that fail to parse.
 use Rattle.std.proofs.Common.{◌≡◌, ◌≢◌, ◌⊎◌, Bool, true, false, [], ◌∷◌, Option, Some, None, is_some, option_map, inl, inr, refl, if◌then◌else◌}
-use Rattle.clap.specs.Kinds.{Kinds, HasKind, IsAmong, or_else}
-use Rattle.clap.specs.Values.{kind_of}
-use Rattle.clap.specs.declared.error.Error.{Error}
-use Rattle.clap.specs.declared.error.kind.ErrorKind.{ErrorKind}
-use Rattle.clap.specs.declared.error.kind.ErrorKind.TheVariants.{MissingRequiredArgument, OutOfMemory}
-use Rattle.batch_cli.specs.CommandLine.{IsFaultOf, IsFaultOfKind, IsShown}
-use Rattle.batch_cli.specs.declared.command.CommandFault.{CommandFault}
-use Rattle.batch_cli.specs.declared.command.CommandFault.TheVariants.{Help, Usage, Memory}
+use Rattle.clap.specs.{Kinds.Kinds, Kinds.HasKind, Kinds.IsAmong, Kinds.or_else, Values.kind_of, declared.error.Error.Error, declared.error.kind.ErrorKind.ErrorKind, declared.error.kind.ErrorKind.TheVariants.MissingRequiredArgument, declared.error.kind.ErrorKind.TheVariants.OutOfMemory}
+use Rattle.batch_cli.specs.{CommandLine.IsFaultOf, CommandLine.IsFaultOfKind, CommandLine.IsShown, declared.command.CommandFault.CommandFault, declared.command.CommandFault.TheVariants.Help, declared.command.CommandFault.TheVariants.Usage, declared.command.CommandFault.TheVariants.Memory}
 
 -- a kind that isn't want of memory is one that the words give
 kind_is_among : (kinds : Kinds) (kind : ErrorKind) → (kind ≡ OutOfMemory) ⊎ IsAmong kind kinds → kind ≢ OutOfMemory → IsAmong kind kinds

@@ -1,9 +1,7 @@
 -- The number that a word gives.
 use Rattle.std.proofs.Common.{◌≡◌, ℕ, Bool, true, false, List, Some, refl}
 use Rattle.std.specs.Str.Parse.{digits_value, without_leading_plus}
-use Rattle.clap.specs.Values.{IsUnsignedIn}
-use Rattle.clap.specs.ValueTests.{is_unsigned_in}
-use Rattle.clap.proofs.ValueTestLemmas.{accepts-Accepts, Accepts-accepts}
+use Rattle.clap.{specs.Values.IsUnsignedIn, specs.ValueTests.is_unsigned_in, proofs.ValueTestLemmas.accepts-Accepts, proofs.ValueTestLemmas.Accepts-accepts}
 use Rattle.clap.specs.declared.builder.value_parser.ValueParser.TheVariants as parser
 use Rattle.batch_cli.specs.CommandLine.{number_given}
 

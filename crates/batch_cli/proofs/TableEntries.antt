@@ -1,14 +1,8 @@
 -- One argument more of a table, and one command more.
 use Rattle.std.proofs.Common.{◌≡◌, ℕ, ◌+◌, ◌<◌, ◌||◌, ◌∙◌, Bool, true, false, List, length, drop, get_or, ap, refl, sym}
 use Rattle.std.proofs.lemmas.List.{drop_more}
-use Rattle.clap.specs.Built.{AddsArg, AddsSubcommand}
-use Rattle.clap.specs.Simple.{App, app_of, with_rule, with_subcommand}
-use Rattle.clap.specs.Walk.{rule_of}
-use Rattle.clap.specs.declared.builder.arg.Arg.{Arg}
-use Rattle.clap.specs.declared.builder.command.Command.{Command}
-use Rattle.batch_cli.specs.Table.{HasApp, argument_rule, text_app, with_arguments, with_commands}
-use Rattle.batch_cli.specs.declared.argument.Argument.{Argument}
-use Rattle.batch_cli.specs.declared.table.CommandText.{CommandText}
+use Rattle.clap.specs.{Built.AddsArg, Built.AddsSubcommand, Simple.App, Simple.app_of, Simple.with_rule, Simple.with_subcommand, Walk.rule_of, declared.builder.arg.Arg.Arg, declared.builder.command.Command.Command}
+use Rattle.batch_cli.specs.{Table.HasApp, Table.argument_rule, Table.text_app, Table.with_arguments, Table.with_commands, declared.argument.Argument.Argument, declared.table.CommandText.CommandText}
 
 pub or_false : (b other : Bool) → other ≡ false → (b || other) ≡ b
 or_false true other is = refl

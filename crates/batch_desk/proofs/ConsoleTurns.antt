@@ -1,19 +1,10 @@
 -- The events that a console sent and the outs that it took, one more of them.
 use Rattle.std.proofs.Common.{◌≡◌, ℕ, ◌+◌, ◌-◌, ◌<◌, ◌≤◌, ◌⊎◌, List, [], ◌∷◌, ◌++◌, length, length-append, inl, inr, cond, refl, sym, ◌∙◌, ap, arith, append_assoc, append-nil}
-use Rattle.std.proofs.lemmas.Bool.Decides.{eqb_tells}
-use Rattle.std.proofs.lemmas.List.Elements.{All-push}
-use Rattle.std.proofs.lemmas.List.Sums.{sum_by_push}
+use Rattle.std.proofs.lemmas.{Bool.Decides.eqb_tells, List.Elements.All-push, List.Sums.sum_by_push}
 use Rattle.batch_matrix.specs.declared.command.Command.TheVariants as command
-use Rattle.batch_engine.specs.declared.event.Event.{Event}
-use Rattle.batch_engine.specs.declared.event.Event.TheVariants.{Create, Order}
-use Rattle.batch_engine.specs.declared.out.Out.{Out}
-use Rattle.batch_desk.specs.declared.batch_plan.BatchPlan.{BatchPlan}
+use Rattle.batch_engine.specs.declared.{event.Event.Event, event.Event.TheVariants.Create, event.Event.TheVariants.Order, out.Out.Out}
+use Rattle.batch_desk.{specs.declared.batch_plan.BatchPlan.BatchPlan, specs.declared.console.Console.Console, specs.DeskState.DeskState, specs.DeskState.Sends, specs.Consoles.IsConsoleEvent, specs.Consoles.IsSamePlan, specs.Consoles.sending_create, specs.Consoles.creations, specs.Consoles.starting, specs.Consoles.telling_created, specs.ConsoleSteps.Follows, specs.ConsoleSteps.GoesOn, specs.ConsoleSteps.IsTried, specs.ConsoleSteps.Minds, specs.ConsoleSteps.learned, proofs.Consoles.learns}
 use Rattle.batch_desk.specs.declared.step.Step.TheVariants as step
-use Rattle.batch_desk.specs.declared.console.Console.{Console}
-use Rattle.batch_desk.specs.DeskState.{DeskState, Sends}
-use Rattle.batch_desk.specs.Consoles.{IsConsoleEvent, IsSamePlan, sending_create, creations, starting, telling_created}
-use Rattle.batch_desk.specs.ConsoleSteps.{Follows, GoesOn, IsTried, Minds, learned}
-use Rattle.batch_desk.proofs.Consoles.{learns}
 
 more_appended : {X : Type 0} (before more old new : List X) (x : X) → old ≡ before ++ more → new ≡ old ++ x ∷ [] → new ≡ before ++ (more ++ x ∷ [])
 more_appended before more old new x is grown = grown ∙ (ap (λ xs. xs ++ x ∷ []) is ∙ append_assoc before more (x ∷ []))

@@ -1,21 +1,12 @@
 -- The state of a console, by the outs that it takes.
 use Rattle.std.proofs.Common.{◌≡◌, ℕ, ◌+◌, ◌-◌, ◌<◌, ◌≤◌, Bool, true, false, cond, eqb, nat_lt, List, [], ◌∷◌, ◌++◌, refl, arith, true≢false}
-use Rattle.std.proofs.lemmas.Bool.Decides.{nat_tests}
-use Rattle.std.proofs.lemmas.List.Sums.{sum_by_push}
+use Rattle.std.proofs.lemmas.{Bool.Decides.nat_tests, List.Sums.sum_by_push}
 use Rattle.batch_matrix.specs.declared.command.Command.TheVariants as command
 use Rattle.batch_matrix.specs.declared.state.State.{State as BatchState}
 use Rattle.batch_matrix.specs.declared.state.State.TheVariants as state
-use Rattle.batch_engine.specs.declared.event.Event.{Event}
-use Rattle.batch_engine.specs.declared.line.Line.TheVariants.{Send, State, Claim, Begin, Start, End, Pass}
-use Rattle.batch_engine.specs.declared.out.Out.{Out}
-use Rattle.batch_engine.specs.declared.out.Out.TheVariants.{Reply, Move}
-use Rattle.batch_engine.specs.declared.refusal.Refusal.{Refusal}
-use Rattle.batch_engine.specs.declared.reply.Reply.TheVariants.{Created, Ordered, Removed, Reported, Refused}
-use Rattle.batch_desk.specs.declared.step.Step.{Step}
+use Rattle.batch_engine.specs.declared.{event.Event.Event, line.Line.TheVariants.Send, line.Line.TheVariants.State, line.Line.TheVariants.Claim, line.Line.TheVariants.Begin, line.Line.TheVariants.Start, line.Line.TheVariants.End, line.Line.TheVariants.Pass, out.Out.Out, out.Out.TheVariants.Reply, out.Out.TheVariants.Move, refusal.Refusal.Refusal, reply.Reply.TheVariants.Created, reply.Reply.TheVariants.Ordered, reply.Reply.TheVariants.Removed, reply.Reply.TheVariants.Reported, reply.Reply.TheVariants.Refused}
+use Rattle.batch_desk.specs.{declared.step.Step.Step, declared.console.Console.Console, Consoles.creations, Consoles.refusals, Consoles.telling_complete, Consoles.telling_created, Consoles.telling_refused, ConsoleSteps.Minds, ConsoleSteps.learned, ConsoleSteps.step_after_start}
 use Rattle.batch_desk.specs.declared.step.Step.TheVariants as step
-use Rattle.batch_desk.specs.declared.console.Console.{Console}
-use Rattle.batch_desk.specs.Consoles.{creations, refusals, telling_complete, telling_created, telling_refused}
-use Rattle.batch_desk.specs.ConsoleSteps.{Minds, learned, step_after_start}
 
 -- one more out, after which no other batch is to be started than before
 more : (batches : ℕ) (c d : Console) (sent : List Event) (taken : List Out) (out : Out) → d.to_create ≡ c.to_create → d.to_complete ≡ c.to_complete - telling_complete out → d.last ≡ c.last

@@ -1,13 +1,7 @@
 -- The outs due to a port as history and record grow.
 use Rattle.std.proofs.Common.{◌≡◌, ℕ, zero, suc, ◌≤◌, Bool, true, false, cond, eqb, List, [], ◌∷◌, ◌++◌, length, take, refl, arith}
-use Rattle.batch_desk.proofs.Replies.{replies}
-use Rattle.batch_engine.specs.declared.event.Event.{Event}
-use Rattle.batch_engine.specs.declared.out.Out.{Out}
-use Rattle.batch_engine.specs.declared.out.Out.TheVariants.{Reply, Move}
-use Rattle.batch_engine.specs.declared.reply.Reply.{Reply as Answer}
-use Rattle.batch_engine.specs.declared.line.Line.{Line}
-use Rattle.batch_desk.specs.declared.scope.Scope.{Scope}
-use Rattle.batch_desk.specs.Due.{due, sees, events_of}
+use Rattle.batch_desk.{proofs.Replies.replies, specs.declared.scope.Scope.Scope, specs.Due.due, specs.Due.sees, specs.Due.events_of}
+use Rattle.batch_engine.specs.declared.{event.Event.Event, out.Out.Out, out.Out.TheVariants.Reply, out.Out.TheVariants.Move, reply.Reply.Reply as Answer, line.Line.Line}
 
 cond-append : {X : Type 0} (b : Bool) (x : X) (xs ys : List X) → cond b (x ∷ (xs ++ ys)) (xs ++ ys) ≡ cond b (x ∷ xs) xs ++ ys
 cond-append true x xs ys = refl

@@ -1,14 +1,8 @@
 -- The ports of a hub, if one is changed or a move is added for all.
 use Rattle.std.proofs.Common.{◌≡◌, ℕ, ◌+◌, ◌<◌, ◌≢◌, List, map, length, get_or, set, sym, ◌∙◌, ap, arith, below_more, get_or-set_other, get_or-set_same, length-set, inl, inr}
-use Rattle.std.proofs.lemmas.List.{get_or-map, get_or_default, length-map}
-use Rattle.std.proofs.lemmas.Bool.Decides.{eqb_tells}
-use Rattle.batch_engine.specs.declared.event.Event.{Event}
-use Rattle.batch_engine.specs.declared.out.Out.{Out}
-use Rattle.batch_desk.specs.PortState.{PortState}
-use Rattle.batch_desk.specs.PortSteps.{Flushes, HasRoom, without_room}
-use Rattle.batch_desk.proofs.ListImages.{map-same_length}
-use Rattle.batch_desk.specs.HubState.{IsPort, ArePorts, HubState}
-use Rattle.batch_desk.specs.PortState.{outline}
+use Rattle.std.proofs.lemmas.{List.get_or-map, List.get_or_default, List.length-map, Bool.Decides.eqb_tells}
+use Rattle.batch_engine.specs.declared.{event.Event.Event, out.Out.Out}
+use Rattle.batch_desk.{specs.PortState.PortState, specs.PortSteps.Flushes, specs.PortSteps.HasRoom, specs.PortSteps.without_room, proofs.ListImages.map-same_length, specs.HubState.IsPort, specs.HubState.ArePorts, specs.HubState.HubState, specs.PortState.outline}
 
 -- the property of each port still holds of each if one is changed, and history and record with it
 pub ports_step : (h h' : List (ℕ × Event)) (outs outs' : List Out) (ps : List PortState) (i : ℕ) (p q : PortState) → i < length ps → p ≡ get_or ps i p → ArePorts h outs ps

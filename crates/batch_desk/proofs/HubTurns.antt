@@ -1,15 +1,9 @@
 -- Properties of a hub that turns, one after the other, keep; and which of its batches are complete.
 use Rattle.std.proofs.Common.{◌≡◌, ℕ, ◌+◌, ◌-◌, ◌<◌, ◌≤◌, List, [], ◌∷◌, ◌++◌, length, sym, ◌∙◌, ap, subst, arith, append_assoc, append-nil, inl, inr, ◌⊎◌}
-use Rattle.std.proofs.lemmas.Bool.{cases_lt}
-use Rattle.std.proofs.lemmas.Bool.Decides.{nat_tests}
-use Rattle.std.proofs.lemmas.List.Elements.{All-nil, All-push}
+use Rattle.std.proofs.lemmas.{Bool.cases_lt, Bool.Decides.nat_tests, List.Elements.All-nil, List.Elements.All-push}
 use mathlib.Core.List.{IsPrefix}
 use Rattle.batch_engine.specs.declared.event.Event.{Event}
-use Rattle.batch_desk.specs.HubState.{HasHistoryGrown, HubState, outlines}
-use Rattle.batch_desk.specs.HubDone.{AreComplete, IsComplete}
-use Rattle.batch_desk.specs.PortState.{outline}
-use Rattle.batch_desk.specs.Turns.{Grows}
-use Rattle.batch_desk.proofs.ListImages.{map-same_length}
+use Rattle.batch_desk.{specs.HubState.HasHistoryGrown, specs.HubState.HubState, specs.HubState.outlines, specs.HubDone.AreComplete, specs.HubDone.IsComplete, specs.PortState.outline, specs.Turns.Grows, proofs.ListImages.map-same_length}
 
 pub prefix_same : {X : Type 0} (xs : List X) → IsPrefix xs xs
 prefix_same xs = ([], append-nil xs)

@@ -1,29 +1,12 @@
 -- The effects of one event and of one move on a hub.
 use Rattle.std.proofs.Common.{◌≡◌, ℕ, ◌<◌, List, [], ◌∷◌, ◌++◌, map, length, get_or, set, Option, Some, IsNone, IfSome, slice_get, option_map, refl, sym, ◌∙◌, ap, subst, arith, inr}
-use Rattle.std.proofs.lemmas.List.{length-map, map_push}
-use Rattle.std.proofs.lemmas.Option.{slice_get-map, slice_get_read}
+use Rattle.std.proofs.lemmas.{List.length-map, List.map_push, Option.slice_get-map, Option.slice_get_read}
 use mathlib.Core.List.{map-map}
-use Rattle.batch_model.specs.Plant.{Plant, opening}
-use Rattle.batch_model.specs.Moves.{next, after_move}
-use Rattle.batch_model.specs.Runs.{Leads}
+use Rattle.batch_model.specs.{Plant.Plant, Plant.opening, Moves.next, Moves.after_move, Runs.Leads}
 use Rattle.batch_step_laws.proofs.RecordGrowth.{Leads-move, Leads-reply}
 use Rattle.batch_verify.specs.ClearedSet.{ClearedSet}
-use Rattle.batch_engine.specs.View.{EngineView, setup, plant_of}
-use Rattle.batch_engine.specs.Answered.{IsAnswered}
-use Rattle.batch_engine.specs.Surface.{event_of, move_of, out_of, plant_after, reply_of}
-use Rattle.batch_engine.specs.declared.event.Event.{Event}
-use Rattle.batch_engine.specs.declared.out.Out.{Out}
-use Rattle.batch_engine.specs.declared.out.Out.TheVariants.{Reply, Move}
-use Rattle.batch_engine.specs.declared.reply.Reply.{Reply as Answer}
-use Rattle.batch_engine.specs.declared.line.Line.{Line}
-use Rattle.batch_desk.specs.PortState.{PortState, outline}
-use Rattle.batch_desk.specs.PortSteps.{owe_line, answered, without_room}
-use Rattle.batch_desk.specs.HubState.{HubState, IsHub, IsEngineSettled, events_in, outs_in}
-use Rattle.batch_desk.specs.Turns.{Grows}
-use Rattle.batch_desk.specs.TurnSteps.{AnswersOne}
-use Rattle.batch_desk.proofs.Replies.{replies, replies-led}
-use Rattle.batch_desk.proofs.HubPorts.{ports_step, ports_mapped, ports_roomless, roomless}
-use Rattle.batch_desk.proofs.PortChanges.{reply_own, reply_other, line_told, line_outline}
+use Rattle.batch_engine.specs.{View.EngineView, View.setup, View.plant_of, Answered.IsAnswered, Surface.event_of, Surface.move_of, Surface.out_of, Surface.plant_after, Surface.reply_of, declared.event.Event.Event, declared.out.Out.Out, declared.out.Out.TheVariants.Reply, declared.out.Out.TheVariants.Move, declared.reply.Reply.Reply as Answer, declared.line.Line.Line}
+use Rattle.batch_desk.{specs.PortState.PortState, specs.PortState.outline, specs.PortSteps.owe_line, specs.PortSteps.answered, specs.PortSteps.without_room, specs.HubState.HubState, specs.HubState.IsHub, specs.HubState.IsEngineSettled, specs.HubState.events_in, specs.HubState.outs_in, specs.Turns.Grows, specs.TurnSteps.AnswersOne, proofs.Replies.replies, proofs.Replies.replies-led, proofs.HubPorts.ports_step, proofs.HubPorts.ports_mapped, proofs.HubPorts.ports_roomless, proofs.HubPorts.roomless, proofs.PortChanges.reply_own, proofs.PortChanges.reply_other, proofs.PortChanges.line_told, proofs.PortChanges.line_outline}
 
 events_in-append : (h : List (ℕ × Event)) (e : ℕ × Event) → events_in (h ++ e ∷ []) ≡ events_in h ++ event_of e.1 ∷ []
 events_in-append h e = map_push (λ (entry : ℕ × Event). event_of entry.1) h e

@@ -1,14 +1,8 @@
 -- How many moves a record has.
 use Rattle.std.proofs.Common.{◌≡◌, ℕ, ◌+◌, List, [], ◌∷◌, ◌++◌, length, sym, ◌∙◌, ap, arith, append_assoc, length-append, Result, Ok, Err, IfOk}
 use mathlib.Core.List.{IsPrefix}
-use Rattle.batch_engine.specs.declared.out.Out.{Out}
-use Rattle.batch_engine.specs.declared.out.Out.TheVariants.{Reply, Move}
-use Rattle.batch_desk.specs.declared.fault.HubFault.{HubFault}
-use Rattle.batch_desk.specs.declared.turned.Turned.{Turned}
-use Rattle.batch_desk.specs.declared.turned.Turned.TheVariants.{Idle, Handled, MovesLeft}
-use Rattle.batch_desk.specs.HubState.{HubState}
-use Rattle.batch_desk.specs.TurnSteps.{AnswersOne, EndsTurn, MakesMove}
-use Rattle.batch_desk.specs.Turns.{AnswersTurn, moves}
+use Rattle.batch_engine.specs.declared.out.Out.{Out, TheVariants.Reply, TheVariants.Move}
+use Rattle.batch_desk.specs.{declared.fault.HubFault.HubFault, declared.turned.Turned.Turned, declared.turned.Turned.TheVariants.Idle, declared.turned.Turned.TheVariants.Handled, declared.turned.Turned.TheVariants.MovesLeft, HubState.HubState, TurnSteps.AnswersOne, TurnSteps.EndsTurn, TurnSteps.MakesMove, Turns.AnswersTurn, Turns.moves}
 
 moves-append : (xs ys : List Out) → moves (xs ++ ys) ≡ moves xs + moves ys
 moves-append [] ys = omega arith

@@ -1,8 +1,7 @@
 -- Ports with the same outlines.
 use Rattle.std.proofs.Common.{◌≡◌, map, sym, ◌∙◌, ap}
 use mathlib.Core.List.{map-map}
-use Rattle.batch_desk.specs.PortState.{PortState, outline, port_rings}
-use Rattle.batch_desk.specs.HubState.{HubState, rings, outlines}
+use Rattle.batch_desk.specs.{PortState.PortState, PortState.outline, PortState.port_rings, HubState.HubState, HubState.rings, HubState.outlines}
 
 -- ports with the same outlines have the same values of a function of the outline
 shown_stays : {X : Type 0} (f : PortState → X) (h g : HubState) → outlines g ≡ outlines h → map (λ p. f (outline p)) g.ports ≡ map (λ p. f (outline p)) h.ports

@@ -1,21 +1,8 @@
 -- The effects of one event and of one move on the ports of a hub.
 use Rattle.std.proofs.Common.{◌≡◌, ℕ, ◌≤◌, ◌≢◌, Bool, true, false, cond, eqb, List, [], ◌∷◌, ◌++◌, length, take, Option, Some, None, IfSome, IsNone, refl, sym, ◌∙◌, ap, arith, append-nil, append_assoc, length-append}
-use Rattle.std.proofs.lemmas.List.{take-append-le}
-use Rattle.std.proofs.lemmas.Option.{IfSome_then}
-use Rattle.std.proofs.lemmas.Bool.Decides.{eqb_tells}
-use Rattle.batch_desk.proofs.Replies.{replies}
-use Rattle.batch_engine.specs.declared.event.Event.{Event}
-use Rattle.batch_engine.specs.declared.out.Out.{Out}
-use Rattle.batch_engine.specs.declared.out.Out.TheVariants.{Reply, Move}
-use Rattle.batch_engine.specs.declared.reply.Reply.{Reply as Answer}
-use Rattle.batch_engine.specs.declared.line.Line.{Line}
-use Rattle.batch_desk.specs.declared.scope.Scope.{Scope}
-use Rattle.batch_desk.specs.Due.{due, sees, events_of, up_to}
-use Rattle.batch_desk.specs.PortState.{PortState}
-use Rattle.batch_desk.specs.PortSteps.{tell, owe_line, answered}
-use Rattle.batch_desk.specs.HubState.{IsPort, port_outs}
-use Rattle.batch_desk.specs.PortState.{outline}
-use Rattle.batch_desk.proofs.DueOuts.{due-line, due-reply, due-later, replies-take, events_of-append}
+use Rattle.std.proofs.lemmas.{List.take-append-le, Option.IfSome_then, Bool.Decides.eqb_tells}
+use Rattle.batch_desk.{proofs.Replies.replies, specs.declared.scope.Scope.Scope, specs.Due.due, specs.Due.sees, specs.Due.events_of, specs.Due.up_to, specs.PortState.PortState, specs.PortSteps.tell, specs.PortSteps.owe_line, specs.PortSteps.answered, specs.HubState.IsPort, specs.HubState.port_outs, specs.PortState.outline, proofs.DueOuts.due-line, proofs.DueOuts.due-reply, proofs.DueOuts.due-later, proofs.DueOuts.replies-take, proofs.DueOuts.events_of-append}
+use Rattle.batch_engine.specs.declared.{event.Event.Event, out.Out.Out, out.Out.TheVariants.Reply, out.Out.TheVariants.Move, reply.Reply.Reply as Answer, line.Line.Line}
 
 -- the outs that are newly added for a port
 abbrev news : Option ℕ → Bool → Out → List Out

@@ -1,31 +1,10 @@
 -- Closing and sealing a port.
 use Rattle.std.proofs.Common.{◌≡◌, ℕ, ◌+◌, ◌<◌, List, [], ◌∷◌, ◌++◌, length, map, take, Option, Some, None, IfSome, IsSome, refl, sym, ◌∙◌, ap, arith, append-nil, inl, inr, set, get_or, slice_get, subst, take_all, Result, Ok, Err, OnOk, IfErr, false}
-use Rattle.std.specs.declared.alloc.Global.{Global}
-use Rattle.rtrb.specs.Ring.{all_sent, consumer_capacity, producer_capacity}
-use Rattle.rtrb.specs.declared.AnyItems.{AnyItems}
-use Rattle.rtrb.specs.declared.consumer.Consumer.{Consumer}
-use Rattle.rtrb.specs.declared.finished.Finished.{Finished}
-use Rattle.rtrb.specs.declared.producer.Producer.{Producer}
-use Rattle.std.specs.List.{All}
+use Rattle.std.{specs.declared.alloc.Global.Global, specs.List.All, proofs.lemmas.Option.IfSome_then, proofs.lemmas.Option.slice_get_read, proofs.lemmas.List.map_push, proofs.lemmas.List.set-get_or, proofs.lemmas.List.take_more}
+use Rattle.rtrb.specs.{Ring.all_sent, Ring.consumer_capacity, Ring.producer_capacity, declared.AnyItems.AnyItems, declared.consumer.Consumer.Consumer, declared.finished.Finished.Finished, declared.producer.Producer.Producer}
 use Rattle.batch_model.specs.Plant.{opening}
-use Rattle.batch_engine.specs.View.{plant_of}
-use Rattle.std.proofs.lemmas.Option.{IfSome_then, slice_get_read}
-use Rattle.std.proofs.lemmas.List.{map_push, set-get_or, take_more}
-use Rattle.batch_desk.specs.declared.plan.PortPlan.{PortPlan}
-use Rattle.batch_engine.specs.declared.event.Event.{Event}
-use Rattle.batch_engine.specs.declared.out.Out.{Out}
-use Rattle.batch_desk.specs.Due.{due, events_of, up_to}
-use Rattle.batch_desk.specs.declared.fault.HubFault.{HubFault}
-use Rattle.batch_desk.specs.declared.fault.HubFault.TheVariants.{Memory, UnknownPort, EventsRemain, Limit, Closed, NotSealable}
-use Rattle.batch_desk.specs.PortState.{PortState, IsSealable, sealed, IsNewPort, closed_at, close_at, port_rings}
-use Rattle.batch_desk.specs.Rings.{Ring, ring_of_consumer, ring_of_producer, sizes_of}
-use Rattle.batch_desk.specs.Plans.{sizes_made}
-use Rattle.batch_desk.specs.PortSteps.{StaysOpen}
-use Rattle.batch_engine.specs.View.{EngineView}
-use Rattle.batch_desk.specs.DeskState.{DeskState, desk_rings}
-use Rattle.batch_desk.specs.Rings.{IsOfRing}
-use Rattle.batch_desk.specs.HubState.{HubState, IsHub, IsPort, port_outs}
-use Rattle.batch_desk.specs.Ends.{Closes, RefusesClose, Seals}
+use Rattle.batch_engine.specs.{View.plant_of, declared.event.Event.Event, declared.out.Out.Out, View.EngineView}
+use Rattle.batch_desk.specs.{declared.plan.PortPlan.PortPlan, Due.due, Due.events_of, Due.up_to, declared.fault.HubFault.HubFault, declared.fault.HubFault.TheVariants.Memory, declared.fault.HubFault.TheVariants.UnknownPort, declared.fault.HubFault.TheVariants.EventsRemain, declared.fault.HubFault.TheVariants.Limit, declared.fault.HubFault.TheVariants.Closed, declared.fault.HubFault.TheVariants.NotSealable, PortState.PortState, PortState.IsSealable, PortState.sealed, PortState.IsNewPort, PortState.closed_at, PortState.close_at, PortState.port_rings, Rings.Ring, Rings.ring_of_consumer, Rings.ring_of_producer, Rings.sizes_of, Plans.sizes_made, PortSteps.StaysOpen, DeskState.DeskState, DeskState.desk_rings, Rings.IsOfRing, HubState.HubState, HubState.IsHub, HubState.IsPort, HubState.port_outs, Ends.Closes, Ends.RefusesClose, Ends.Seals}
 
 closes : (h : List (ℕ × Event)) (outs : List Out) (k : ℕ) (p : PortState) (c : Option ℕ) → p.closed ≡ c → IsPort h outs k p → IsPort h outs k (closed_at c (length outs) p)
 closes h outs k p None e is = record {

@@ -1,13 +1,10 @@
 -- How many replies a record has.
 use Rattle.std.proofs.Common.{◌≡◌, ℕ, ◌+◌, List, [], ◌∷◌, length, refl, sym, ◌∙◌, ap, arith}
-use Rattle.batch_model.specs.Plant.{Setup, Plant}
-use Rattle.batch_model.specs.Moves.{after_move}
+use Rattle.batch_model.specs.{Plant.Setup, Plant.Plant, Moves.after_move, Runs.reply, Runs.move, Runs.Leads}
 use Rattle.batch_model.specs.Events as Events
 use Rattle.batch_model.specs.Runs as Runs
-use Rattle.batch_model.specs.Runs.{reply, move, Leads}
 use Rattle.batch_verify.specs.ClearedSet.{ClearedSet}
-use Rattle.batch_engine.specs.declared.out.Out.{Out}
-use Rattle.batch_engine.specs.declared.out.Out.TheVariants.{Reply, Move}
+use Rattle.batch_engine.specs.declared.out.Out.{Out, TheVariants.Reply, TheVariants.Move}
 use Rattle.batch_desk.specs.HubState.{outs_in}
 
 abbrev pub replies : List Out → ℕ

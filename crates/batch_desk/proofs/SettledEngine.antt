@@ -1,11 +1,6 @@
 -- A settled engine, and turns between which only the ports changed.
 use Rattle.std.proofs.Common.{◌≡◌, ◌↔◌, ℕ, Bool, true, false, IsTrue, IfSome, IsNone, IfOk, Result, Ok, Err, ◌∷◌, [], ◌++◌, length, slice_get, sym, ◌∙◌, ap, subst, arith, inl, inr}
-use Rattle.batch_desk.specs.HubState.{HubState, IsEngineSettled, outlines}
-use Rattle.batch_desk.specs.HubDone.{IsHubDone}
-use Rattle.batch_desk.specs.Turns.{AnswersTurn, Grows, SameWork, moves}
-use Rattle.batch_desk.specs.declared.fault.HubFault.{HubFault}
-use Rattle.batch_desk.specs.declared.turned.Turned.{Turned}
-use Rattle.batch_desk.specs.declared.turned.Turned.TheVariants.{Idle, Handled, MovesLeft}
+use Rattle.batch_desk.specs.{HubState.HubState, HubState.IsEngineSettled, HubState.outlines, HubDone.IsHubDone, Turns.AnswersTurn, Turns.Grows, Turns.SameWork, Turns.moves, declared.fault.HubFault.HubFault, declared.turned.Turned.Turned, declared.turned.Turned.TheVariants.Idle, declared.turned.Turned.TheVariants.Handled, declared.turned.Turned.TheVariants.MovesLeft}
 
 pub settled-same : (h g : HubState) (r : Bool) → h ≡ g → IsTrue r ↔ IsEngineSettled h.engine → IsTrue r ↔ IsEngineSettled g.engine
 settled-same h g r e told = subst (λ (k : HubState). IsTrue r ↔ IsEngineSettled k.engine) e told

@@ -1,8 +1,6 @@
 -- Lists of which no element passes a test.
 use Rattle.std.proofs.Common.{ℕ, ◌≡◌, ◌<◌, ◌≤◌, List, length, get_or, refl, Bool, true, false, cond, arith, Option, Some, None}
-use Rattle.std.specs.Prelude.{nat_lt, position}
-use Rattle.std.specs.List.{position_or_len}
-use Rattle.std.proofs.lemmas.List.Sums.{fails_before_first}
+use Rattle.std.{specs.Prelude.nat_lt, specs.Prelude.position, specs.List.position_or_len, proofs.lemmas.List.Sums.fails_before_first}
 use borrow.Author.Tests.{ltb-false}
 
 -- no element passes

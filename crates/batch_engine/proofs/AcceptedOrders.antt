@@ -1,41 +1,15 @@
 -- An accepted order.
 use Rattle.std.proofs.Common.{◌≡◌, ◌<◌, ◌+◌, refl, sym, ◌∙◌, ap, ap₂, subst, ℕ, zero, suc, List, [], ◌∷◌, Bool, true, false, not, cond, Option, Some, None, inl, arith, length, map, filter, set, get_or, nat_eq}
-use Rattle.std.specs.Prelude.{sum_by}
-use Rattle.std.proofs.lemmas.List.{length-map}
-use Rattle.std.proofs.lemmas.List.Sums.{sum_by-cons}
-use Rattle.batch_matrix.specs.declared.command.Command.{Command}
-use Rattle.batch_matrix.specs.declared.command.Command.TheVariants.{Reset}
-use Rattle.batch_matrix.specs.Matrix.{target}
-use Rattle.batch_recipe.specs.Conditions.{Name}
-use Rattle.batch_matrix.specs.declared.state.State.TheVariants.{Idle}
-use Rattle.batch_recipe.specs.Conditions.{ValueList}
-use Rattle.batch_model.specs.Rest.{withdrawn}
-use Rattle.batch_recipe.specs.Values.{with_outputs_zero}
-use Rattle.batch_engine.specs.View.{tree_of, recipe_made}
+use Rattle.std.{specs.Prelude.sum_by, proofs.lemmas.List.length-map, proofs.lemmas.List.Sums.sum_by-cons}
+use Rattle.batch_matrix.specs.{declared.command.Command.Command, declared.command.Command.TheVariants.Reset, Matrix.target, declared.state.State.TheVariants.Idle}
+use Rattle.batch_recipe.specs.{Conditions.Name, Conditions.ValueList, Values.with_outputs_zero, Tree.Tree}
+use Rattle.batch_model.specs.{Rest.withdrawn, Plant.Share, Plant.Plant, Plant.in_batch, Moves.Move, Events.order, Events.ordered, Events.refused, Events.moves_pending, Events.unknown_batch, Events.command_not_accepted, Events.commanded, Events.lines_under, Events.ordering, Events.judged, Events.react, Events.Answer, Runs.Reacts}
+use Rattle.batch_engine.{specs.View.tree_of, specs.View.recipe_made, specs.declared.batch.Batch.Batch, specs.View.EngineView, specs.View.setup, specs.View.tree_at, specs.View.model_batch, specs.View.share_of, specs.View.claimed_shares, specs.View.resource_number, specs.View.line_in, specs.View.line_at, specs.View.plant_of, specs.Kept.AreUnits, specs.Kept.IsOfCell, specs.Kept.IsRunningBatch, specs.Kept.HasRoom, specs.Kept.IsKept, specs.Orders.IsOrder, specs.Orders.IsPlain, specs.Orders.EndsAsks, proofs.BatchPlaces.made_by, proofs.RecordOfPlant.standing, proofs.BatchLookups.batch-runs, proofs.BatchAfterMove.fun_ext, proofs.BatchAfterMove.acts-same, proofs.BatchAfterMove.batches-same, proofs.InvariantAfterMove.changed, proofs.InvariantAfterMove.Each-set, proofs.Room.needs-same, proofs.Room.room-quiet, proofs.InvariantAfterEvent.event-kept}
 use Rattle.batch_model.specs.Plant as Model
-use Rattle.batch_model.specs.Plant.{Share, Plant, in_batch}
-use Rattle.batch_model.specs.Moves.{Move}
-use Rattle.batch_model.specs.Events.{order, ordered, refused, moves_pending, unknown_batch, command_not_accepted, commanded, lines_under, ordering, judged, react, Answer}
-use Rattle.batch_model.specs.Runs.{Reacts}
 use Rattle.batch_record_laws.proofs.Entries.{IsOnce, once-filter}
 use Rattle.batch_arbiter.specs.Allocation as Arbiter
 use Rattle.batch_arbiter.specs.Allocation.{Claim, Allocation, shares_at, line_of_asks, is_of_batch}
-use Rattle.batch_recipe.specs.Tree.{Tree}
-use Rattle.batch_chart.specs.ByValues.{reach_by}
-use Rattle.batch_chart.specs.Charts.{IsRunningOf, RunsAs}
-use Rattle.batch_chart.specs.Early.{in_advance}
-use Rattle.batch_chart.specs.declared.running.Running.{Running}
-use Rattle.batch_engine.specs.declared.batch.Batch.{Batch}
-use Rattle.batch_engine.specs.View.{EngineView, setup, tree_at, model_batch, share_of, claimed_shares, resource_number, line_in, line_at, plant_of}
-use Rattle.batch_engine.specs.Kept.{AreUnits, IsOfCell, IsRunningBatch, HasRoom, IsKept}
-use Rattle.batch_engine.specs.Orders.{IsOrder, IsPlain, EndsAsks}
-use Rattle.batch_engine.proofs.BatchPlaces.{made_by}
-use Rattle.batch_engine.proofs.RecordOfPlant.{standing}
-use Rattle.batch_engine.proofs.BatchLookups.{batch-runs}
-use Rattle.batch_engine.proofs.BatchAfterMove.{fun_ext, acts-same, batches-same}
-use Rattle.batch_engine.proofs.InvariantAfterMove.{changed, Each-set}
-use Rattle.batch_engine.proofs.Room.{needs-same, room-quiet}
-use Rattle.batch_engine.proofs.InvariantAfterEvent.{event-kept}
+use Rattle.batch_chart.specs.{ByValues.reach_by, Charts.IsRunningOf, Charts.RunsAs, Early.in_advance, declared.running.Running.Running}
 
 -- the machine's answer to an order that is accepted
 pub react-order : (v : EngineView) (i : ℕ) (command : Command) (n : ℕ) (o : IsOrder v i command n)

@@ -1,19 +1,6 @@
 -- The act at a node that needs something.
 use Rattle.std.proofs.Common.{◌≡◌, ◌<◌, refl, ◌∙◌, ap, subst, ℕ, zero, suc, List, [], ◌∷◌, Option, Some, None, arith, length, get_or, slice_get}
-use Rattle.batch_recipe.specs.ActsAtNodes.{ActList, AreActsAt, IsActAt, IsNoAct, procedure_acts}
-use Rattle.batch_recipe.specs.Conditions.{Name}
-use Rattle.batch_recipe.specs.Expanding.{Binding, act_tree_with, named_tree_with, needs_with}
-use Rattle.batch_recipe.specs.Nodes.{Node}
-use Rattle.batch_recipe.specs.Outlines.{act_of_kind}
-use Rattle.batch_recipe.specs.Procedure.{bound_nodes, bound_tree, sites, tables_from}
-use Rattle.batch_recipe.specs.Tree.{Place, Tree, skip}
-use Rattle.batch_recipe.specs.declared.act.Act.{Act}
-use Rattle.batch_recipe.specs.declared.acts.Acts.{Acts}
-use Rattle.batch_recipe.specs.declared.entry.Entry.{Entry}
-use Rattle.batch_recipe.specs.declared.need.Need.{Need}
-use Rattle.batch_recipe.specs.declared.recipe.Recipe.{Recipe}
-use Rattle.batch_recipe.proofs.NodesAbove.{act_at}
-use Rattle.batch_recipe.proofs.NodeActs.{procedure_acts_are}
+use Rattle.batch_recipe.{specs.ActsAtNodes.ActList, specs.ActsAtNodes.AreActsAt, specs.ActsAtNodes.IsActAt, specs.ActsAtNodes.IsNoAct, specs.ActsAtNodes.procedure_acts, specs.Conditions.Name, specs.Expanding.Binding, specs.Expanding.act_tree_with, specs.Expanding.named_tree_with, specs.Expanding.needs_with, specs.Nodes.Node, specs.Outlines.act_of_kind, specs.Procedure.bound_nodes, specs.Procedure.bound_tree, specs.Procedure.sites, specs.Procedure.tables_from, specs.Tree.Place, specs.Tree.Tree, specs.Tree.skip, specs.declared.act.Act.Act, specs.declared.acts.Acts.Acts, specs.declared.entry.Entry.Entry, specs.declared.need.Need.Need, specs.declared.recipe.Recipe.Recipe, proofs.NodesAbove.act_at, proofs.NodeActs.procedure_acts_are}
 use Rattle.batch_chart.specs.NodesOf.{node_at, step_at, tree_step}
 
 -- the node is that of this act, on some unit, where the roles are bound

@@ -1,25 +1,12 @@
 -- The effect of an ask, a grant and a release on the arbiter, on the plant's lines, and on the holders that the record tells.
 use Rattle.std.proofs.Common.{◌≡◌, ◌<◌, ◌+◌, refl, sym, ◌∙◌, ap, ap₂, subst, ℕ, List, [], ◌∷◌, ◌++◌, Bool, true, false, not, Option, Some, None, inl, inr, arith, length, map, filter, find, drop, set, get_or}
-use Rattle.std.specs.Prelude.{option_map, nat_le, cond}
-use Rattle.std.proofs.lemmas.List.{map-append, get_or-set_same, get_or-set_other, length-set}
-use Rattle.batch_recipe.specs.Conditions.{Name, same_name}
-use Rattle.batch_recipe.specs.Tree.{Place}
-use Rattle.batch_recipe.specs.declared.need.Need.{Need}
-use Rattle.batch_model.specs.Lists.{Has}
-use Rattle.batch_model.specs.Plant.{BatchAct, Share, is_same_act, without}
-use Rattle.batch_model.specs.Moves.{ask, grant, pass, release, line_after}
-use Rattle.batch_model.specs.Runs.{move}
-use Rattle.batch_model.specs.Records.{holders_after}
-use Rattle.batch_record_laws.proofs.Entries.{IsOnce, act_self, once-snoc, same_act}
-use Rattle.batch_record_laws.proofs.Members.{map-Has}
+use Rattle.std.{specs.Prelude.option_map, specs.Prelude.nat_le, specs.Prelude.cond, proofs.lemmas.List.map-append, proofs.lemmas.List.get_or-set_same, proofs.lemmas.List.get_or-set_other, proofs.lemmas.List.length-set}
+use Rattle.batch_recipe.specs.{Conditions.Name, Conditions.same_name, Tree.Place, declared.need.Need.Need}
+use Rattle.batch_model.specs.{Lists.Has, Plant.BatchAct, Plant.Share, Plant.is_same_act, Plant.without, Moves.ask, Moves.grant, Moves.pass, Moves.release, Moves.line_after, Runs.move, Records.holders_after}
+use Rattle.batch_record_laws.proofs.{Entries.IsOnce, Entries.act_self, Entries.once-snoc, Entries.same_act, Members.map-Has}
 use Rattle.batch_verify.specs.ClearedSet.{ClearedSet}
 use Rattle.batch_arbiter.specs.Allocation.{Claim, shares_at, line_of_asks, units_claimed, after_ask, after_grant, handed_over, after_pass, after_release, without_first, is_claim, next_in, batch_node, held_units}
-use Rattle.batch_engine.specs.View.{EngineView, claim_act, share_of, claimed_shares, names_of, resource_number, line_in, line_at}
-use Rattle.batch_engine.specs.Kept.{IsOfCell}
-use Rattle.batch_engine.proofs.BatchPlaces.{chosen-true, chosen-false}
-use Rattle.batch_engine.proofs.BatchAfterMove.{same-number, same-named, name-yes, name-no, without-head, without-claim}
-use Rattle.batch_engine.proofs.BatchLookups.{named}
-use Rattle.batch_engine.proofs.PassTarget.{laid_down, taken_up}
+use Rattle.batch_engine.{specs.View.EngineView, specs.View.claim_act, specs.View.share_of, specs.View.claimed_shares, specs.View.names_of, specs.View.resource_number, specs.View.line_in, specs.View.line_at, specs.Kept.IsOfCell, proofs.BatchPlaces.chosen-true, proofs.BatchPlaces.chosen-false, proofs.BatchAfterMove.same-number, proofs.BatchAfterMove.same-named, proofs.BatchAfterMove.name-yes, proofs.BatchAfterMove.name-no, proofs.BatchAfterMove.without-head, proofs.BatchAfterMove.without-claim, proofs.BatchLookups.named, proofs.PassTarget.laid_down, proofs.PassTarget.taken_up}
 
 -- shares when one of them, or none, has passed to another act
 abbrev passed_on : BatchAct → Share → Bool → List Share → List Share

@@ -1,21 +1,15 @@
 -- A move of one batch, in the engine and in its plant.
 use Rattle.std.proofs.Common.{◌≡◌, ◌<◌, refl, sym, ◌∙◌, ap, ap₂, subst, ℕ, zero, suc, List, [], ◌∷◌, Bool, true, false, not, cond, Option, Some, inl, inr, arith, map, filter, set, nat_eq}
 use Rattle.std.specs.Prelude.{slice_get}
-use Rattle.batch_recipe.specs.Conditions.{Name, same_name}
-use Rattle.batch_recipe.specs.Tree.{Place}
-use Rattle.batch_model.specs.Lists.{Has}
+use Rattle.batch_recipe.specs.{Conditions.Name, Conditions.same_name, Tree.Place}
+use Rattle.batch_model.specs.{Lists.Has, Plant.BatchAct, Plant.Share, Plant.is_same_act, Plant.without, Standing.AreNumbered}
 use Rattle.batch_model.specs.Plant as Model
-use Rattle.batch_model.specs.Plant.{BatchAct, Share, is_same_act, without}
-use Rattle.batch_model.specs.Standing.{AreNumbered}
 use Rattle.batch_step_laws.proofs.Batches.{only}
 use Rattle.batch_record_laws.proofs.Entries.{IsOnce, differs, act_self, name_self, name_same, nat_self}
 use Rattle.batch_verify.specs.ClearedSet.{ClearedSet}
 use Rattle.batch_arbiter.specs.Allocation.{Claim, without_first}
 use Rattle.batch_chart.specs.NodesOf.{place_at}
-use Rattle.batch_engine.specs.declared.batch.Batch.{Batch}
-use Rattle.batch_engine.specs.View.{tree_at, model_batch, share_of, claimed_shares, place_in, names_of, resource_number, tree_of}
-use Rattle.batch_engine.proofs.BatchPlaces.{made_by, chosen-true, chosen-false, later-number}
-use Rattle.batch_engine.proofs.BatchLookups.{Has-get, named}
+use Rattle.batch_engine.{specs.declared.batch.Batch.Batch, specs.View.tree_at, specs.View.model_batch, specs.View.share_of, specs.View.claimed_shares, specs.View.place_in, specs.View.names_of, specs.View.resource_number, specs.View.tree_of, proofs.BatchPlaces.made_by, proofs.BatchPlaces.chosen-true, proofs.BatchPlaces.chosen-false, proofs.BatchPlaces.later-number, proofs.BatchLookups.Has-get, proofs.BatchLookups.named}
 
 pub fun_ext : {A B : Type 0} {f g : A → B} → ((x : A) → f x ≡ g x) → f ≡ g
 fun_ext h = λ i x. h x i

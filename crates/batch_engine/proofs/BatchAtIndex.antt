@@ -1,42 +1,16 @@
 -- The batch at an index of an engine, and the recipe of its chart. A call sees the fields of the engine v as w.
 use Rattle.std.proofs.Common.{◌≡◌, ◌<◌, refl, sym, ◌∙◌, ap, subst, ℕ, Some, arith, get_or, length, nat_eq}
-use Rattle.std.specs.Prelude.{position, slice_get}
-use Rattle.std.proofs.lemmas.Option.{slice_get_read, slice_get_within}
+use Rattle.std.{specs.Prelude.position, specs.Prelude.slice_get, proofs.lemmas.Option.slice_get_read, proofs.lemmas.Option.slice_get_within}
 use Rattle.batch_model.specs.Moves as Moves
-use Rattle.batch_model.specs.Moves.{after_move}
-use Rattle.batch_model.specs.Events.{order, ordered}
-use Rattle.batch_model.specs.Plant.{batch_at}
-use Rattle.batch_model.specs.Runs.{Reacts}
-use Rattle.batch_matrix.specs.Matrix.{target}
-use Rattle.batch_matrix.specs.declared.command.Command.{Command}
-use Rattle.batch_recipe.specs.Nodes.{node_count}
-use Rattle.batch_recipe.specs.declared.entry.Entry.{Entry}
+use Rattle.batch_model.specs.{Moves.after_move, Events.order, Events.ordered, Plant.batch_at, Runs.Reacts}
+use Rattle.batch_matrix.specs.{Matrix.target, declared.command.Command.Command}
+use Rattle.batch_recipe.{specs.Nodes.node_count, specs.declared.entry.Entry.Entry, proofs.ValueUpdates.same-at}
 use Rattle.batch_recipe.specs.declared.recipe.Recipe as document
-use Rattle.batch_set.specs.Linking.{IsLinkedSet}
-use Rattle.batch_set.specs.declared.linked.LinkedRecipe.{LinkedRecipe}
-use Rattle.batch_set.specs.declared.linked_set.LinkedSet.{LinkedSet}
+use Rattle.batch_set.specs.{Linking.IsLinkedSet, declared.linked.LinkedRecipe.LinkedRecipe, declared.linked_set.LinkedSet.LinkedSet}
 use Rattle.batch_verify.specs.ClearedSet.{ClearedSet}
 use Rattle.batch_arbiter.specs.Allocation.{Allocation}
-use Rattle.batch_chart.specs.Charts.{CanMake, IsChartOf, IsRunning, IsRunningOf}
-use Rattle.batch_chart.specs.NodesOf.{step_at}
-use Rattle.batch_chart.specs.Passing.{IsBatchOf, IsTreeOf}
-use Rattle.batch_chart.specs.declared.chart_move.Move.{Move}
-use Rattle.batch_engine.specs.Batches.{BatchList, with_batch_at}
-use Rattle.batch_engine.specs.declared.batch.Batch.{Batch}
-use Rattle.batch_engine.specs.View.{EngineView, model_batch, bound_to, plant_of, seen, setup, tree_of}
-use Rattle.batch_engine.specs.Kept.{IsCounted, IsKept}
-use Rattle.batch_engine.specs.Orders.{IsOrdered}
-use Rattle.batch_engine.specs.Steps.{IsMover, IsNeedAt, IsNext, IsOwnStep, Makes}
-use Rattle.batch_engine.proofs.BatchPlaces.{made_by}
-use Rattle.batch_engine.proofs.SlabChanges.{own-numbers-set}
-use Rattle.batch_engine.proofs.BatchLookups.{batch-runs, chart-here, got-batch, got-chart, in-charts, runs-here}
-use Rattle.batch_engine.proofs.EngineAfterMove.{Becomes, same-next}
-use Rattle.batch_engine.proofs.AcceptedOrders.{Ordered}
-use Rattle.batch_engine.proofs.Room.{needs-set}
-use Rattle.batch_engine.proofs.BatchByNumber.{found-at}
-use Rattle.batch_engine.proofs.InvariantAfterMove.{changed}
-use Rattle.batch_engine.proofs.MoveLines.{tree-is}
-use Rattle.batch_recipe.proofs.ValueUpdates.{same-at}
+use Rattle.batch_chart.specs.{Charts.CanMake, Charts.IsChartOf, Charts.IsRunning, Charts.IsRunningOf, NodesOf.step_at, Passing.IsBatchOf, Passing.IsTreeOf, declared.chart_move.Move.Move}
+use Rattle.batch_engine.{specs.Batches.BatchList, specs.Batches.with_batch_at, specs.declared.batch.Batch.Batch, specs.View.EngineView, specs.View.model_batch, specs.View.bound_to, specs.View.plant_of, specs.View.seen, specs.View.setup, specs.View.tree_of, specs.Kept.IsCounted, specs.Kept.IsKept, specs.Orders.IsOrdered, specs.Steps.IsMover, specs.Steps.IsNeedAt, specs.Steps.IsNext, specs.Steps.IsOwnStep, specs.Steps.Makes, proofs.BatchPlaces.made_by, proofs.SlabChanges.own-numbers-set, proofs.BatchLookups.batch-runs, proofs.BatchLookups.chart-here, proofs.BatchLookups.got-batch, proofs.BatchLookups.got-chart, proofs.BatchLookups.in-charts, proofs.BatchLookups.runs-here, proofs.EngineAfterMove.Becomes, proofs.EngineAfterMove.same-next, proofs.AcceptedOrders.Ordered, proofs.Room.needs-set, proofs.BatchByNumber.found-at, proofs.InvariantAfterMove.changed, proofs.MoveLines.tree-is}
 
 -- the batch at an index, and the invariant of the engine
 pub record IsRead (v : EngineView) (i : ℕ) (b : Batch) : Type 0 where

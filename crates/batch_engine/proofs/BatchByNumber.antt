@@ -1,20 +1,10 @@
 -- The batch with a number.
 use Rattle.std.proofs.Common.{◌≡◌, ◌<◌, refl, sym, ◌∙◌, ap, subst, ℕ, zero, suc, List, [], ◌∷◌, Bool, true, false, cond, Option, Some, None, arith, map, find, get_or, nat_eq}
-use Rattle.std.specs.Prelude.{option_and_then, slice_get, position}
-use Rattle.std.proofs.lemmas.List.Quantifiers.{position-Some}
-use Rattle.std.proofs.lemmas.Option.{slice_get-get_or}
-use Rattle.batch_engine.proofs.AbsentElements.{NonePasses, NonePasses-position}
+use Rattle.std.{specs.Prelude.option_and_then, specs.Prelude.slice_get, specs.Prelude.position, proofs.lemmas.List.Quantifiers.position-Some, proofs.lemmas.Option.slice_get-get_or}
+use Rattle.batch_engine.{proofs.AbsentElements.NonePasses, proofs.AbsentElements.NonePasses-position, specs.declared.batch.Batch.Batch, specs.Batches.HaveOwnNumbers, specs.Batches.IsNewNumber, specs.Batches.BatchList, specs.Batches.own_number, specs.Kept.IsKept, specs.Steps.IsFoundBy, specs.View.EngineView, specs.View.model_batch, specs.View.plant_of, proofs.RecordOfPlant.standing}
 use Rattle.batch_model.specs.Plant as Model
-use Rattle.batch_model.specs.Plant.{batch_at}
+use Rattle.batch_model.specs.{Plant.batch_at, Lists.Each, Standing.AreNumbered}
 use Rattle.batch_verify.specs.ClearedSet.{ClearedSet}
-use Rattle.batch_engine.specs.declared.batch.Batch.{Batch}
-use Rattle.batch_model.specs.Lists.{Each}
-use Rattle.batch_model.specs.Standing.{AreNumbered}
-use Rattle.batch_engine.specs.Batches.{HaveOwnNumbers, IsNewNumber, BatchList, own_number}
-use Rattle.batch_engine.specs.Kept.{IsKept}
-use Rattle.batch_engine.specs.Steps.{IsFoundBy}
-use Rattle.batch_engine.specs.View.{EngineView, model_batch, plant_of}
-use Rattle.batch_engine.proofs.RecordOfPlant.{standing}
 use Rattle.batch_record_laws.proofs.Entries.{nat_same}
 
 pub found-true : {X : Type 0} (t : Bool) (x y : Option X) → t ≡ true → cond t x y ≡ x

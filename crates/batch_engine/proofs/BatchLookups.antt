@@ -1,44 +1,17 @@
 -- The results of look-ups at a batch of the engine.
 use Rattle.std.proofs.Common.{◌≡◌, ◌<◌, ◌≤◌, refl, sym, ◌∙◌, ap, ap₂, subst, subst₂, ◌+◌, ℕ, zero, suc, List, [], ◌∷◌, true, Option, Some, inl, inr, arith, length, get_or, map}
-use Rattle.std.specs.Prelude.{option_map, slice_get}
-use Rattle.std.proofs.lemmas.List.Quantifiers.{position-Some}
-use Rattle.std.proofs.lemmas.Option.{slice_get_read, slice_get_within, slice_get-get_or, get_or_from_slice_get, slice_get-map}
-use Rattle.batch_recipe.specs.Expanding.{Binding}
+use Rattle.std.{specs.Prelude.option_map, specs.Prelude.slice_get, proofs.lemmas.List.Quantifiers.position-Some, proofs.lemmas.Option.slice_get_read, proofs.lemmas.Option.slice_get_within, proofs.lemmas.Option.slice_get-get_or, proofs.lemmas.Option.get_or_from_slice_get, proofs.lemmas.Option.slice_get-map}
+use Rattle.batch_recipe.specs.{Expanding.Binding, Conditions.Name, Conditions.same_name, Tree.Place, Tree.Step, Tree.Tree, declared.need.Need.Need, Nodes.node_count}
 use Rattle.batch_recipe.specs.declared.recipe.Recipe as document
-use Rattle.batch_recipe.specs.Conditions.{Name, same_name}
-use Rattle.batch_recipe.specs.Tree.{Place, Step, Tree}
-use Rattle.batch_recipe.specs.declared.need.Need.{Need}
-use Rattle.batch_step_laws.proofs.Batches.{one_batch}
-use Rattle.batch_model.specs.Lists.{Has}
+use Rattle.batch_step_laws.proofs.{Batches.one_batch, WorkAfterMove.one_act, ActOrder.acts-rise}
+use Rattle.batch_model.{specs.Lists.Has, specs.Plant.BatchAct, specs.Plant.Master, specs.Plant.Share, specs.Plant.plain, specs.Setups.master_of, specs.Standing.IsControl, specs.Standing.IsStandingBatch, specs.Moves.grant, specs.Moves.least, specs.Moves.is_served, specs.Placed.IsPlaced, specs.Rest.asking, specs.Rest.acts, proofs.Members.Each-Has}
 use Rattle.batch_model.specs.Plant as Model
-use Rattle.batch_model.specs.Plant.{BatchAct, Master, Share, plain}
-use Rattle.batch_model.specs.Setups.{master_of}
-use Rattle.batch_model.specs.Standing.{IsControl, IsStandingBatch}
-use Rattle.batch_model.specs.Moves.{grant, least, is_served}
-use Rattle.batch_model.specs.Placed.{IsPlaced}
-use Rattle.batch_model.specs.Rest.{asking, acts}
-use Rattle.batch_step_laws.proofs.WorkAfterMove.{one_act}
-use Rattle.batch_step_laws.proofs.ActOrder.{acts-rise}
-use Rattle.batch_model.proofs.Members.{Each-Has}
-use Rattle.batch_record_laws.proofs.Entries.{name_same}
-use Rattle.batch_record_laws.proofs.Members.{map-Has}
+use Rattle.batch_record_laws.proofs.{Entries.name_same, Members.map-Has}
 use Rattle.batch_verify.specs.ClearedSet.{ClearedSet}
-use Rattle.batch_arbiter.specs.Allocation.{Claim, shares_at, line_of_asks, next_grant, batch_node, resource_count}
-use Rattle.batch_chart.specs.NodesOf.{no_need, place_at, need_at, step_at, task_at}
-use Rattle.batch_recipe.specs.Nodes.{node_count}
-use Rattle.batch_chart.specs.OwnMoves.{grants}
-use Rattle.batch_chart.proofs.RecipeChart.{is_chart}
-use Rattle.batch_chart.specs.Charts.{AsksAt, IsChartFor, IsChartOf, IsRunningOf, IsRunning, remains}
-use Rattle.batch_engine.specs.declared.batch.Batch.{Batch}
-use Rattle.batch_engine.specs.View.{EngineView, setup, no_recipe, master_at, bound_to, recipe_made, model_batch, claim_act, share_of, place_in, names_of, resource_number, line_at, plant_of, tree_of}
-use Rattle.batch_engine.specs.Kept.{IsKept, IsRunningBatch}
-use Rattle.batch_engine.proofs.Nodes.{same-node}
-use Rattle.batch_engine.proofs.RecordOfPlant.{placed, told, standing}
-use Rattle.batch_engine.proofs.ServedActs.{serves-next, next-serves, is-served}
-use Rattle.batch_engine.proofs.BatchPlaces.{place-in, Has-batch_of}
+use Rattle.batch_arbiter.{specs.Allocation.Claim, specs.Allocation.shares_at, specs.Allocation.line_of_asks, specs.Allocation.next_grant, specs.Allocation.batch_node, specs.Allocation.resource_count, proofs.CellCapacities.length-capacities}
+use Rattle.batch_chart.{specs.NodesOf.no_need, specs.NodesOf.place_at, specs.NodesOf.need_at, specs.NodesOf.step_at, specs.NodesOf.task_at, specs.OwnMoves.grants, proofs.RecipeChart.is_chart, specs.Charts.AsksAt, specs.Charts.IsChartFor, specs.Charts.IsChartOf, specs.Charts.IsRunningOf, specs.Charts.IsRunning, specs.Charts.remains}
+use Rattle.batch_engine.{specs.declared.batch.Batch.Batch, specs.View.EngineView, specs.View.setup, specs.View.no_recipe, specs.View.master_at, specs.View.bound_to, specs.View.recipe_made, specs.View.model_batch, specs.View.claim_act, specs.View.share_of, specs.View.place_in, specs.View.names_of, specs.View.resource_number, specs.View.line_at, specs.View.plant_of, specs.View.tree_of, specs.Kept.IsKept, specs.Kept.IsRunningBatch, proofs.Nodes.same-node, proofs.RecordOfPlant.placed, proofs.RecordOfPlant.told, proofs.RecordOfPlant.standing, proofs.ServedActs.serves-next, proofs.ServedActs.next-serves, proofs.ServedActs.is-served, proofs.BatchPlaces.place-in, proofs.BatchPlaces.Has-batch_of, proofs.PlacesOfActs.step-place}
 use Rattle.batch_engine.proofs.LeastGrant as Granting
-use Rattle.batch_engine.proofs.PlacesOfActs.{step-place}
-use Rattle.batch_arbiter.proofs.CellCapacities.{length-capacities}
 use Rattle.batch_signs.proofs.Bits.{within-or_past}
 
 pub Has-get : {X : Type 0} (xs : List X) (i : ℕ) (x : X) → slice_get xs i ≡ Some x → Has xs x

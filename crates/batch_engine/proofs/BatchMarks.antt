@@ -1,59 +1,20 @@
 -- Marks on batches.
 use Rattle.std.proofs.Common.{◌≡◌, ◌<◌, ◌≤◌, refl, sym, ◌∙◌, ap, subst, ℕ, zero, suc, List, [], ◌∷◌, ◌++◌, Bool, true, false, Option, Some, None, inl, inr, arith, length, map, get_or, nat_eq}
-use Rattle.std.specs.Prelude.{◌+◌, nat_le, slice_get, IfSome, option_map, position, not, IsTrue}
-use Rattle.std.specs.Option.{is_some}
-use Rattle.std.proofs.lemmas.Bool.{and_parts}
-use Rattle.std.proofs.lemmas.List.{length-map}
-use Rattle.std.proofs.lemmas.Option.{slice_get_within, slice_get-map, get_or_from_slice_get}
-use Rattle.batch_recipe.specs.Conditions.{Name}
-use Rattle.batch_recipe.specs.Tree.{Step, Task, Tree}
-use Rattle.batch_recipe.specs.declared.need.Need.{Need}
+use Rattle.std.{specs.Prelude.◌+◌, specs.Prelude.nat_le, specs.Prelude.slice_get, specs.Prelude.IfSome, specs.Prelude.option_map, specs.Prelude.position, specs.Prelude.not, specs.Prelude.IsTrue, specs.Option.is_some, proofs.lemmas.Bool.and_parts, proofs.lemmas.List.length-map, proofs.lemmas.Option.slice_get_within, proofs.lemmas.Option.slice_get-map, proofs.lemmas.Option.get_or_from_slice_get}
+use Rattle.batch_recipe.specs.{Conditions.Name, Tree.Step, Tree.Task, Tree.Tree, declared.need.Need.Need}
 use Rattle.batch_cell.specs.LookUps.{capacities_of}
-use Rattle.batch_model.specs.Lists.{Has}
-use Rattle.batch_model.specs.Rest.{asking, acts}
+use Rattle.batch_model.specs.{Lists.Has, Rest.asking, Rest.acts, Plant.BatchAct, Plant.Plant, Plant.holders, Plant.units_in, Moves.is_served, Moves.batch_moves, Moves.batch_after, Moves.after_move, Moves.next, Moves.grant, Runs.move, Runs.reply, Standing.AreNumbered}
 use Rattle.batch_model.specs.Plant as Model
-use Rattle.batch_model.specs.Plant.{BatchAct, Plant, holders, units_in}
 use Rattle.batch_model.specs.Events as Events
 use Rattle.batch_model.specs.Moves as Moves
-use Rattle.batch_model.specs.Moves.{is_served, batch_moves, batch_after, after_move, next, grant}
-use Rattle.batch_model.specs.Runs.{move, reply}
-use Rattle.batch_model.specs.Standing.{AreNumbered}
 use Rattle.batch_step_laws.proofs.RecordGrowth.{Leads-move, Leads-reply}
-use Rattle.batch_record_laws.specs.Telling.{IsTold}
-use Rattle.batch_record_laws.proofs.PlantByRecord.{tells_the_plant}
-use Rattle.batch_record_laws.proofs.Entries.{nat_differs}
+use Rattle.batch_record_laws.{specs.Telling.IsTold, proofs.PlantByRecord.tells_the_plant, proofs.Entries.nat_differs}
 use Rattle.batch_verify.specs.ClearedSet.{ClearedSet}
-use Rattle.batch_arbiter.specs.Allocation.{next_grant, batch_node, resource_count}
+use Rattle.batch_arbiter.{specs.Allocation.next_grant, specs.Allocation.batch_node, specs.Allocation.resource_count, proofs.CellCapacities.length-capacities}
 use Rattle.batch_chart.specs.Seen.{machine_move}
-use Rattle.batch_engine.specs.declared.batch.Batch.{Batch}
-use Rattle.batch_engine.specs.declared.line.ClaimKind.{ClaimKind}
-use Rattle.batch_engine.specs.declared.line.Line.{Line}
-use Rattle.batch_engine.specs.declared.reply.Reply.{Reply}
+use Rattle.batch_engine.{specs.declared.batch.Batch.Batch, specs.declared.line.ClaimKind.ClaimKind, specs.declared.line.Line.Line, specs.declared.reply.Reply.Reply, specs.declared.step.Step.TheVariants.Own, specs.declared.step.Step.TheVariants.Grant, specs.Answered.IsAnswered, specs.Kept.IsKept, specs.Marked.HasNoMove, specs.Marked.AreMarked, specs.Marking.touched, specs.Marking.named, specs.Marking.withdraws, specs.Marking.IsServedAt, specs.Marking.IsFirstServed, specs.Marking.IsFirstStep, specs.Marking.IsTouched, specs.Marking.named_by, specs.Marking.withdraws_by, specs.Marking.AreAnswerMarked, specs.Marking.AreMoveMarked, specs.Marks.IsUnmarked, specs.Names.resource_name, specs.Steps.IsNext, specs.Steps.IsStep, specs.Steps.Makes, specs.Steps.MakesNext, specs.Steps.TellsNext, specs.Steps.index_of, specs.Steps.touched_by, specs.Surface.reply_of, specs.View.EngineView, specs.View.setup, specs.View.model_batch, specs.View.line_at, specs.View.names_of, specs.View.resource_number, specs.View.plant_of, specs.View.tree_of, proofs.EngineAfterMove.of-batch, proofs.EngineAfterMove.same-next, proofs.BatchPlaces.chosen-false, proofs.BatchPlaces.later-number, proofs.BatchPlaces.Has-batch_of, proofs.BatchLookups.Has-get, proofs.BatchLookups.batch-runs, proofs.BatchLookups.known-resource, proofs.BatchLookups.serves-first, proofs.BatchLookups.tree-placed, proofs.MovesAcrossPlants.ServesBefore, proofs.MovesAcrossPlants.first_in, proofs.MovesAcrossPlants.lines-alone, proofs.MovesAcrossPlants.serves, proofs.MovesAcrossPlants.settled-none, proofs.MovesAcrossPlants.served-before, proofs.LeastGrant.Granted, proofs.LeastGrant.asks-node, proofs.LeastGrant.served-node, proofs.BatchesAfterEvent.batches-are-few, proofs.BatchesAfterEvent.others-none, proofs.HolderNotes.next-even, proofs.AbsentElements.NonePasses-position, proofs.RoomForAsk.number-at, proofs.BatchByNumber.found-at, proofs.UnitNumbers.name-there, proofs.RecordOfPlant.down, proofs.RecordOfPlant.told, proofs.RecordOfPlant.safe, proofs.RecordOfPlant.standing}
 use Rattle.batch_engine.specs.declared.step.Step as steps
-use Rattle.batch_engine.specs.declared.step.Step.TheVariants.{Own, Grant}
-use Rattle.batch_engine.specs.Answered.{IsAnswered}
-use Rattle.batch_engine.specs.Kept.{IsKept}
-use Rattle.batch_engine.specs.Marked.{HasNoMove, AreMarked}
-use Rattle.batch_engine.specs.Marking.{touched, named, withdraws, IsServedAt, IsFirstServed, IsFirstStep, IsTouched, named_by, withdraws_by, AreAnswerMarked, AreMoveMarked}
-use Rattle.batch_engine.specs.Marks.{IsUnmarked}
-use Rattle.batch_engine.specs.Names.{resource_name}
-use Rattle.batch_engine.specs.Steps.{IsNext, IsStep, Makes, MakesNext, TellsNext, index_of, touched_by}
 use Rattle.batch_engine.specs.Surface as Surface
-use Rattle.batch_engine.specs.Surface.{reply_of}
-use Rattle.batch_engine.specs.View.{EngineView, setup, model_batch, line_at, names_of, resource_number, plant_of, tree_of}
-use Rattle.batch_engine.proofs.EngineAfterMove.{of-batch, same-next}
-use Rattle.batch_engine.proofs.BatchPlaces.{chosen-false, later-number, Has-batch_of}
-use Rattle.batch_engine.proofs.BatchLookups.{Has-get, batch-runs, known-resource, serves-first, tree-placed}
-use Rattle.batch_engine.proofs.MovesAcrossPlants.{ServesBefore, first_in, lines-alone, serves, settled-none, served-before}
-use Rattle.batch_engine.proofs.LeastGrant.{Granted, asks-node, served-node}
-use Rattle.batch_engine.proofs.BatchesAfterEvent.{batches-are-few, others-none}
-use Rattle.batch_engine.proofs.HolderNotes.{next-even}
-use Rattle.batch_engine.proofs.AbsentElements.{NonePasses-position}
-use Rattle.batch_engine.proofs.RoomForAsk.{number-at}
-use Rattle.batch_engine.proofs.BatchByNumber.{found-at}
-use Rattle.batch_engine.proofs.UnitNumbers.{name-there}
-use Rattle.batch_engine.proofs.RecordOfPlant.{down, told, safe, standing}
-use Rattle.batch_arbiter.proofs.CellCapacities.{length-capacities}
 use Rattle.batch_signs.proofs.Bits.{within-or_past}
 
 -- there are marks enough

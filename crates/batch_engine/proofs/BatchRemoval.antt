@@ -1,42 +1,18 @@
 -- A batch is removed.
 use Rattle.std.proofs.Common.{◌≡◌, ◌<◌, ◌≤◌, refl, sym, ◌∙◌, ap, ap₂, subst, ℕ, zero, suc, List, [], ◌∷◌, ◌++◌, Bool, true, false, not, cond, Option, Some, None, inl, inr, arith, map, filter, nat_eq}
-use Rattle.std.specs.Prelude.{slice_get}
-use Rattle.std.specs.List.{remove}
-use Rattle.std.proofs.lemmas.List.Sums.{sum_by-cons}
+use Rattle.std.{specs.Prelude.slice_get, specs.List.remove, proofs.lemmas.List.Sums.sum_by-cons}
 use denote.Enum.Bare.{false_same}
-use Rattle.batch_matrix.specs.declared.state.State.{State}
-use Rattle.batch_matrix.specs.declared.state.State.TheVariants.{Idle}
-use Rattle.batch_matrix.specs.contracts.state.State.{the_type}
-use Rattle.batch_matrix.specs.Matrix.{same_state}
-use Rattle.batch_recipe.specs.Conditions.{Name}
-use Rattle.batch_recipe.specs.Tree.{Place}
-use Rattle.batch_model.specs.Lists.{Has}
+use Rattle.batch_matrix.specs.{declared.state.State.State, declared.state.State.TheVariants.Idle, contracts.state.State.the_type, Matrix.same_state}
+use Rattle.batch_recipe.specs.{Conditions.Name, Tree.Place}
+use Rattle.batch_model.specs.{Lists.Has, Plant.BatchAct, Plant.Share, Plant.Plant, Plant.batch_at, Moves.Move, Moves.next, Events.removed, Events.refused, Events.moves_pending, Events.unknown_batch, Events.not_idle, Events.removing, Events.without_batch, Events.judged, Events.react, Events.Answer, Runs.Reacts, Standing.AreNumbered}
 use Rattle.batch_model.specs.Plant as Model
-use Rattle.batch_model.specs.Plant.{BatchAct, Share, Plant, batch_at}
-use Rattle.batch_model.specs.Moves.{Move, next}
 use Rattle.batch_model.specs.Events as Events
-use Rattle.batch_model.specs.Events.{removed, refused, moves_pending, unknown_batch, not_idle, removing, without_batch, judged, react, Answer}
-use Rattle.batch_model.specs.Runs.{Reacts}
-use Rattle.batch_model.specs.Standing.{AreNumbered}
 use Rattle.batch_step_laws.proofs.Batches.{one_batch}
-use Rattle.batch_record_laws.proofs.Entries.{IsOnce, Has-holders, nat_differs, nat_self}
-use Rattle.batch_record_laws.proofs.PlantFacts.{Fact, holding, awaiting, batch_facts, early_facts, facts, entries}
-use Rattle.batch_record_laws.proofs.Batches.{entry-of}
-use Rattle.batch_record_laws.proofs.Invariant.{IsFitting, standing-of}
-use Rattle.batch_record_laws.proofs.BatchProgress.{early-none, is_under_way}
-use Rattle.batch_record_laws.proofs.Members.{map-Has}
+use Rattle.batch_record_laws.proofs.{Entries.IsOnce, Entries.Has-holders, Entries.nat_differs, Entries.nat_self, PlantFacts.Fact, PlantFacts.holding, PlantFacts.awaiting, PlantFacts.batch_facts, PlantFacts.early_facts, PlantFacts.facts, PlantFacts.entries, Batches.entry-of, Invariant.IsFitting, Invariant.standing-of, BatchProgress.early-none, BatchProgress.is_under_way, Members.map-Has}
 use Rattle.batch_verify.specs.ClearedSet.{ClearedSet}
 use Rattle.batch_arbiter.specs.Allocation.{Claim, shares_at, line_of_asks}
 use Rattle.batch_chart.specs.NodesOf.{needs_in, place_at}
-use Rattle.batch_engine.specs.declared.batch.Batch.{Batch}
-use Rattle.batch_engine.specs.View.{EngineView, setup, model_batch, claim_act, share_of, claimed_shares, place_in, resource_number, line_in, line_at, plant_of, tree_of}
-use Rattle.batch_engine.specs.Kept.{IsRunningBatch, IsKept, needs_of_all}
-use Rattle.batch_engine.proofs.RecordOfPlant.{safe, standing}
-use Rattle.batch_engine.proofs.BatchPlaces.{chosen-false, later-number, Has-batch_of}
-use Rattle.batch_engine.proofs.BatchLookups.{Has-get}
-use Rattle.batch_engine.proofs.BatchAfterMove.{fun_ext, test-other, test-other'}
-use Rattle.batch_engine.proofs.InvariantAfterEvent.{with, event-kept}
-use Rattle.batch_engine.proofs.SlabChanges.{each-remove}
+use Rattle.batch_engine.{specs.declared.batch.Batch.Batch, specs.View.EngineView, specs.View.setup, specs.View.model_batch, specs.View.claim_act, specs.View.share_of, specs.View.claimed_shares, specs.View.place_in, specs.View.resource_number, specs.View.line_in, specs.View.line_at, specs.View.plant_of, specs.View.tree_of, specs.Kept.IsRunningBatch, specs.Kept.IsKept, specs.Kept.needs_of_all, proofs.RecordOfPlant.safe, proofs.RecordOfPlant.standing, proofs.BatchPlaces.chosen-false, proofs.BatchPlaces.later-number, proofs.BatchPlaces.Has-batch_of, proofs.BatchLookups.Has-get, proofs.BatchAfterMove.fun_ext, proofs.BatchAfterMove.test-other, proofs.BatchAfterMove.test-other', proofs.InvariantAfterEvent.with, proofs.InvariantAfterEvent.event-kept, proofs.SlabChanges.each-remove}
 
 -- the machine's answer to the removal of an idle batch
 pub react-remove : (v : EngineView) (n : ℕ) (d : Model.Batch) → next (setup v.cleared) (plant_of v) ≡ None → batch_at (plant_of v) n ≡ Some d → d.state ≡ Idle

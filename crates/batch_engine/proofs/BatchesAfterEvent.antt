@@ -1,28 +1,12 @@
 -- Events: which batches stay as they are, how many there are, and whom the plant serves after them.
 use Rattle.std.proofs.Common.{◌≡◌, ⊎_elim, refl, sym, ◌∙◌, ap, subst, ℕ, ◌<◌, ◌≤◌, ◌||◌, List, [], ◌∷◌, ◌++◌, Bool, true, false, not, map, find, Option, Some, None, inl, inr, length, nat_eq, nat_lt, arith}
-use Rattle.std.specs.Prelude.{nat_le}
-use Rattle.std.proofs.lemmas.List.{length-append, length-map}
-use Rattle.batch_matrix.specs.declared.state.State.TheVariants.{Idle}
-use Rattle.batch_matrix.specs.declared.command.Command.{Command}
-use Rattle.batch_matrix.specs.declared.report.Report.{Report}
-use Rattle.batch_matrix.specs.declared.report.PhaseEnd.{PhaseEnd}
-use Rattle.batch_matrix.specs.Matrix.{same_state, accepts, target, after_report}
-use Rattle.batch_recipe.specs.Conditions.{Name, ValueList, same_name}
-use Rattle.batch_recipe.specs.Values.{are_outputs, left_out}
-use Rattle.batch_model.specs.Lists.{Has}
-use Rattle.batch_model.specs.Plant.{Formula, size_out_of_range, value_out_of_range, scaled, Recipe, Master, Setup, Batch, Share, Plant, opening, batch_at, in_batch}
-use Rattle.batch_model.specs.Moves.{Move, next, after_move, batch_of, batch_after, batch_moves}
-use Rattle.batch_model.specs.Events.{Event, create, order, remove, report, Reply, ordered, removed, refused, unknown_recipe, unknown_batch, command_not_accepted, no_live_phase, report_not_expected, bad_output, output_left_out, owed, accepting, bad_binding, full, not_idle, moves_pending, Answer, is_full, new_batch, creating, creating_for, binding, is_binding, bound_by, roles_told, commanded, lines_under, ordering, without_batch, removing, LivePhase, live_phase, outputs_of, batch_reported, reporting, judged, react}
-use Rattle.batch_model.specs.Runs.{Out, reply, move, Reacts, Leads}
-use Rattle.batch_model.specs.Records.{waiters_after}
-use Rattle.batch_model.specs.declared.limits.TheConstants.{LAST_NUMBER}
-use Rattle.batch_model.proofs.Members.{Has-split}
-use Rattle.batch_step_laws.proofs.LastLineEffect.{waiters_told-last}
-use Rattle.batch_step_laws.proofs.PlantAfterEvent.{commanded-number}
-use Rattle.batch_record_laws.specs.Telling.{IsTold}
-use Rattle.batch_record_laws.proofs.Entries.{nat_same, Has-filter, length-filter_le}
-use Rattle.batch_engine.specs.Marking.{named, withdraws}
-use Rattle.batch_engine.proofs.MovesAcrossPlants.{ServesBefore, lines-alone, settled-none, held-same, as-before}
+use Rattle.std.{specs.Prelude.nat_le, proofs.lemmas.List.length-append, proofs.lemmas.List.length-map}
+use Rattle.batch_matrix.specs.{declared.state.State.TheVariants.Idle, declared.command.Command.Command, declared.report.Report.Report, declared.report.PhaseEnd.PhaseEnd, Matrix.same_state, Matrix.accepts, Matrix.target, Matrix.after_report}
+use Rattle.batch_recipe.specs.{Conditions.Name, Conditions.ValueList, Conditions.same_name, Values.are_outputs, Values.left_out}
+use Rattle.batch_model.{specs.Lists.Has, specs.Plant.Formula, specs.Plant.size_out_of_range, specs.Plant.value_out_of_range, specs.Plant.scaled, specs.Plant.Recipe, specs.Plant.Master, specs.Plant.Setup, specs.Plant.Batch, specs.Plant.Share, specs.Plant.Plant, specs.Plant.opening, specs.Plant.batch_at, specs.Plant.in_batch, specs.Moves.Move, specs.Moves.next, specs.Moves.after_move, specs.Moves.batch_of, specs.Moves.batch_after, specs.Moves.batch_moves, specs.Events.Event, specs.Events.create, specs.Events.order, specs.Events.remove, specs.Events.report, specs.Events.Reply, specs.Events.ordered, specs.Events.removed, specs.Events.refused, specs.Events.unknown_recipe, specs.Events.unknown_batch, specs.Events.command_not_accepted, specs.Events.no_live_phase, specs.Events.report_not_expected, specs.Events.bad_output, specs.Events.output_left_out, specs.Events.owed, specs.Events.accepting, specs.Events.bad_binding, specs.Events.full, specs.Events.not_idle, specs.Events.moves_pending, specs.Events.Answer, specs.Events.is_full, specs.Events.new_batch, specs.Events.creating, specs.Events.creating_for, specs.Events.binding, specs.Events.is_binding, specs.Events.bound_by, specs.Events.roles_told, specs.Events.commanded, specs.Events.lines_under, specs.Events.ordering, specs.Events.without_batch, specs.Events.removing, specs.Events.LivePhase, specs.Events.live_phase, specs.Events.outputs_of, specs.Events.batch_reported, specs.Events.reporting, specs.Events.judged, specs.Events.react, specs.Runs.Out, specs.Runs.reply, specs.Runs.move, specs.Runs.Reacts, specs.Runs.Leads, specs.Records.waiters_after, specs.declared.limits.TheConstants.LAST_NUMBER, proofs.Members.Has-split}
+use Rattle.batch_step_laws.proofs.{LastLineEffect.waiters_told-last, PlantAfterEvent.commanded-number}
+use Rattle.batch_record_laws.{specs.Telling.IsTold, proofs.Entries.nat_same, proofs.Entries.Has-filter, proofs.Entries.length-filter_le}
+use Rattle.batch_engine.{specs.Marking.named, specs.Marking.withdraws, proofs.MovesAcrossPlants.ServesBefore, proofs.MovesAcrossPlants.lines-alone, proofs.MovesAcrossPlants.settled-none, proofs.MovesAcrossPlants.held-same, proofs.MovesAcrossPlants.as-before}
 
 room : (m n : ℕ) (b : Bool) → (nat_le m n || b) ≡ false → n < m
 room m n b e = go (nat_le m n) refl e

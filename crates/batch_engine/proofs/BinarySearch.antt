@@ -1,18 +1,7 @@
 -- The result of a binary search among the numbers of entries.
 use Rattle.std.proofs.Common.{◌≡◌, ◌<◌, ◌≤◌, inl, inr, ◌+◌, refl, sym, ◌∙◌, ap, ap₂, ℕ, zero, suc, List, [], ◌∷◌, Bool, true, false, cond, not, Some, None, Result, Ok, Err, arith, length, map, get_or, nat_eq}
-use Rattle.std.specs.Prelude.{nat_lt, position}
-use Rattle.std.specs.List.{position_or_len}
-use Rattle.std.specs.List.Sorted.{IsSearchInRange, IsBinarySearchResult, IsNonDecreasingBy}
-use Rattle.std.specs.Ordering.{nat_cmp, ordering_index}
-use Rattle.std.specs.Result.{result_ok}
-use Rattle.std.proofs.lemmas.Bool.{cases_lt, lt-ltb, le-ltb}
-use Rattle.std.proofs.lemmas.Bool.Decides.{nat_tests}
-use Rattle.std.proofs.lemmas.Cmp.{ranked}
-use Rattle.std.proofs.lemmas.List.{length-map}
-use Rattle.std.proofs.lemmas.List.Sorted.{IsNonDecreasingBy-from_default}
-use Rattle.batch_engine.specs.declared.batches.Entry.{Entry}
-use Rattle.batch_engine.specs.Batches.{AreRising, entry_number}
-use Rattle.batch_engine.proofs.SlabChanges.{numbers-rise}
+use Rattle.std.{specs.Prelude.nat_lt, specs.Prelude.position, specs.List.position_or_len, specs.List.Sorted.IsSearchInRange, specs.List.Sorted.IsBinarySearchResult, specs.List.Sorted.IsNonDecreasingBy, specs.Ordering.nat_cmp, specs.Ordering.ordering_index, specs.Result.result_ok, proofs.lemmas.Bool.cases_lt, proofs.lemmas.Bool.lt-ltb, proofs.lemmas.Bool.le-ltb, proofs.lemmas.Bool.Decides.nat_tests, proofs.lemmas.Cmp.ranked, proofs.lemmas.List.length-map, proofs.lemmas.List.Sorted.IsNonDecreasingBy-from_default}
+use Rattle.batch_engine.{specs.declared.batches.Entry.Entry, specs.Batches.AreRising, specs.Batches.entry_number, proofs.SlabChanges.numbers-rise}
 use Rattle.batch_record_laws.proofs.Entries.{nat_differs}
 
 first-len : {X : Type 0} (p : X → Bool) (xs : List X) (i : ℕ) (d : X) → i < length xs → p (get_or xs i d) ≡ true → ((k : ℕ) → k < i → p (get_or xs k d) ≡ false) → position_or_len p xs ≡ i

@@ -1,34 +1,13 @@
 -- The engine's answers to a create: why it is refused, and when it makes a batch.
 use Rattle.std.proofs.Common.{◌≡◌, refl, sym, ◌∙◌, ap, subst, ℕ, List, [], true, false, Option, Some, None, inl, inr, find}
-use Rattle.std.specs.Prelude.{◌↔◌, IsTrue, slice_get, option_map, position, unwrap_or, Err}
-use Rattle.std.proofs.lemmas.Option.{slice_get_within}
-use Rattle.batch_recipe.specs.Conditions.{Name, ValueList, same_name}
-use Rattle.batch_recipe.specs.Formula.{quantities_of}
-use Rattle.batch_recipe.specs.declared.quantity.Quantity.{Quantity}
+use Rattle.std.{specs.Prelude.◌↔◌, specs.Prelude.IsTrue, specs.Prelude.slice_get, specs.Prelude.option_map, specs.Prelude.position, specs.Prelude.unwrap_or, specs.Prelude.Err, proofs.lemmas.Option.slice_get_within}
+use Rattle.batch_recipe.{specs.Conditions.Name, specs.Conditions.ValueList, specs.Conditions.same_name, specs.Formula.quantities_of, specs.declared.quantity.Quantity.Quantity, proofs.ValueUpdates.same-at}
 use Rattle.batch_recipe.specs.declared.recipe.Recipe as document
-use Rattle.batch_model.specs.Plant.{Formula, Master, scaled, size_out_of_range, value_out_of_range}
-use Rattle.batch_model.specs.Recipes.{formula_of}
-use Rattle.batch_model.specs.Setups.{master_of}
-use Rattle.batch_model.specs.Moves.{next}
+use Rattle.batch_model.specs.{Plant.Formula, Plant.Master, Plant.scaled, Plant.size_out_of_range, Plant.value_out_of_range, Recipes.formula_of, Setups.master_of, Moves.next, Events.Event, Events.create, Events.refused, Events.unknown_recipe, Events.full, Events.bad_binding, Events.bad_size, Events.bad_value, Events.no_memory, Events.is_full, Events.is_binding, Events.bound_by, Events.roles_told, Events.creating, Events.react, Events.Answer, Runs.Reacts, Runs.IsCreated}
 use Rattle.batch_model.specs.Events as Events
-use Rattle.batch_model.specs.Events.{Event, create, refused, unknown_recipe, full, bad_binding, bad_size, bad_value, no_memory, is_full, is_binding, bound_by, roles_told, creating, react, Answer}
-use Rattle.batch_model.specs.Runs.{Reacts, IsCreated}
-use Rattle.batch_engine.specs.Answered.{MayWant}
-use Rattle.batch_engine.specs.Bindings.{AreTaken, roles_in}
-use Rattle.batch_engine.specs.Creates.{IsChosen, IsCreate, IsRefusedFor}
-use Rattle.batch_engine.specs.Names.{name_of_value, quantity_name, value_name}
+use Rattle.batch_engine.{specs.Answered.MayWant, specs.Bindings.AreTaken, specs.Bindings.roles_in, specs.Creates.IsChosen, specs.Creates.IsCreate, specs.Creates.IsRefusedFor, specs.Names.name_of_value, specs.Names.quantity_name, specs.Names.value_name, specs.Values.IsValuesFor, specs.Values.is_want, specs.Values.refusal_for, specs.declared.refusal.Refusal.Refusal, specs.declared.creates.BadValues.BadValues, specs.declared.creates.BadValues.TheVariants.Size, specs.declared.creates.BadValues.TheVariants.OutOfRange, specs.declared.creates.BadValues.TheVariants.Memory, specs.View.EngineView, specs.View.setup, specs.View.master_at, specs.View.plant_of, proofs.RolePairs.units-for, proofs.NewBatch.create-full, proofs.NewBatch.create-unbound, proofs.NewBatch.create-unknown, proofs.NewBatch.judge-values, proofs.NewBatch.react-create, proofs.BatchLookups.master-found, proofs.RecipeByName.find-at, proofs.RecipeByName.find-nowhere}
 use Rattle.batch_engine.specs.Surface as Surface
-use Rattle.batch_engine.specs.Values.{IsValuesFor, is_want, refusal_for}
-use Rattle.batch_engine.specs.declared.refusal.Refusal.{Refusal}
 use Rattle.batch_engine.specs.declared.refusal.Refusal.TheVariants as Refusals
-use Rattle.batch_engine.specs.declared.creates.BadValues.{BadValues}
-use Rattle.batch_engine.specs.declared.creates.BadValues.TheVariants.{Size, OutOfRange, Memory}
-use Rattle.batch_engine.specs.View.{EngineView, setup, master_at, plant_of}
-use Rattle.batch_engine.proofs.RolePairs.{units-for}
-use Rattle.batch_engine.proofs.NewBatch.{create-full, create-unbound, create-unknown, judge-values, react-create}
-use Rattle.batch_engine.proofs.BatchLookups.{master-found}
-use Rattle.batch_engine.proofs.RecipeByName.{find-at, find-nowhere}
-use Rattle.batch_recipe.proofs.ValueUpdates.{same-at}
 
 same-refusal : (x y : Events.Refusal) → refused x ≡ refused y → x ≡ y
 same-refusal x y is = cc is

@@ -1,21 +1,11 @@
 -- The units that a batch holds in advance, and the needs that its acts hold and ask for, are no more than its tree needs at once.
 use Rattle.std.proofs.Common.{◌≡◌, ◌≤◌, ◌+◌, refl, sym, ap, subst, ℕ, zero, suc, List, [], ◌∷◌, inl, inr, arith, length, map, take, slice_get}
-use Rattle.std.specs.Prelude.{sum_by}
-use Rattle.std.proofs.lemmas.List.{length-append, length-map}
-use Rattle.std.proofs.lemmas.List.Sums.{sum_by-cons}
-use Rattle.batch_recipe.specs.declared.need.Need.{Need}
-use Rattle.batch_recipe.specs.Following.{Follower, enter, firsts, firsts_of_each}
-use Rattle.batch_recipe.specs.Levels.{Level, is_procedure, in_procedure, in_unit_procedure, in_operation, below}
-use Rattle.batch_recipe.specs.Tree.{Place, Step, Task, runs, follows, Tree, act, skip, seq, par, sel, loop, Trees, no_trees, tree, Choices, otherwise, choice}
-use Rattle.batch_model.specs.Lists.{Has}
-use Rattle.batch_model.specs.Plant.{InAdvance}
-use Rattle.batch_model.specs.Rest.{Rest, ready, asking, open_act, live, freeing, in_seq, in_par, in_loop, done, Rests, no_rests, rest}
-use Rattle.batch_model.specs.Standing.{IsRestOf, IsRestBelow, IsBranch, AreBranches, IsChosen, after_branch, due_followers, due_in_each, IsAwaited}
-use Rattle.batch_record_laws.proofs.SameFacts.{StandApart}
-use Rattle.batch_record_laws.proofs.PlantFacts.{facts, facts_of_each, held_at, awaited_at, performing}
+use Rattle.std.{specs.Prelude.sum_by, proofs.lemmas.List.length-append, proofs.lemmas.List.length-map, proofs.lemmas.List.Sums.sum_by-cons}
+use Rattle.batch_recipe.specs.{declared.need.Need.Need, Following.Follower, Following.enter, Following.firsts, Following.firsts_of_each, Levels.Level, Levels.is_procedure, Levels.in_procedure, Levels.in_unit_procedure, Levels.in_operation, Levels.below, Tree.Place, Tree.Step, Tree.Task, Tree.runs, Tree.follows, Tree.Tree, Tree.act, Tree.skip, Tree.seq, Tree.par, Tree.sel, Tree.loop, Tree.Trees, Tree.no_trees, Tree.tree, Tree.Choices, Tree.otherwise, Tree.choice}
+use Rattle.batch_model.specs.{Lists.Has, Plant.InAdvance, Rest.Rest, Rest.ready, Rest.asking, Rest.open_act, Rest.live, Rest.freeing, Rest.in_seq, Rest.in_par, Rest.in_loop, Rest.done, Rest.Rests, Rest.no_rests, Rest.rest, Standing.IsRestOf, Standing.IsRestBelow, Standing.IsBranch, Standing.AreBranches, Standing.IsChosen, Standing.after_branch, Standing.due_followers, Standing.due_in_each, Standing.IsAwaited}
+use Rattle.batch_record_laws.proofs.{SameFacts.StandApart, PlantFacts.facts, PlantFacts.facts_of_each, PlantFacts.held_at, PlantFacts.awaited_at, PlantFacts.performing}
 use Rattle.batch_chart.specs.NodesOf.{own_needs, own_units, most_by, most_below, most_of_one, most_of_all, most_of_chosen, needs_in}
-use Rattle.batch_engine.proofs.ShareCount.{weights, join, held}
-use Rattle.batch_engine.proofs.DistinctElements.{Once, pigeons}
+use Rattle.batch_engine.proofs.{ShareCount.weights, ShareCount.join, ShareCount.held, DistinctElements.Once, DistinctElements.pigeons}
 
 -- No more unit procedures are due than may hold their units in advance
 

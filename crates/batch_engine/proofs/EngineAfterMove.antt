@@ -1,49 +1,17 @@
 -- The engine makes the next move.
 use Rattle.std.proofs.Common.{◌≡◌, ◌<◌, ◌+◌, refl, sym, ◌∙◌, ap, ap₂, subst, ℕ, zero, suc, List, [], ◌∷◌, Bool, true, false, Option, Some, None, inl, inr, arith, length, map, filter, take, flat_map, get_or, nat_eq}
-use Rattle.std.proofs.lemmas.Bool.{and_parts}
-use Rattle.std.specs.Prelude.{slice_get, option_map, Contains}
-use Rattle.std.specs.Cmp.Derive.{both_true}
-use Rattle.batch_recipe.specs.Conditions.{Name, same_name}
-use Rattle.batch_recipe.specs.Tree.{Place, Tree}
-use Rattle.batch_recipe.specs.declared.need.Need.{Need}
+use Rattle.std.{proofs.lemmas.Bool.and_parts, specs.Prelude.slice_get, specs.Prelude.option_map, specs.Prelude.Contains, specs.Cmp.Derive.both_true}
+use Rattle.batch_recipe.specs.{Conditions.Name, Conditions.same_name, Tree.Place, Tree.Tree, declared.need.Need.Need, Nodes.node_count}
 use Rattle.batch_matrix.specs.declared.state.State as states
-use Rattle.batch_model.specs.Lists.{Has}
-use Rattle.batch_model.specs.Rest.{Rest, ready, asking, acts, place_of}
+use Rattle.batch_model.{specs.Lists.Has, specs.Rest.Rest, specs.Rest.ready, specs.Rest.asking, specs.Rest.acts, specs.Rest.place_of, specs.Plant.BatchAct, specs.Plant.InAdvance, specs.Plant.Share, specs.Plant.in_act, specs.Plant.is_same_act, specs.Plant.held_by, specs.Plant.holders, specs.Moves.batch_of, specs.Moves.batch_after, specs.Moves.batch_moves, specs.Moves.line_after, specs.Moves.after_move, specs.Runs.move, specs.Records.holders_after, proofs.Members.Has-flat_map, proofs.Members.Has-right}
 use Rattle.batch_model.specs.Plant as Model
-use Rattle.batch_model.specs.Plant.{BatchAct, InAdvance, Share, in_act, is_same_act, held_by, holders}
 use Rattle.batch_model.specs.Moves as Moves
-use Rattle.batch_model.specs.Moves.{batch_of, batch_after, batch_moves, line_after, after_move}
-use Rattle.batch_model.specs.Runs.{move}
-use Rattle.batch_model.specs.Records.{holders_after}
-use Rattle.batch_step_laws.proofs.Batches.{one_batch}
-use Rattle.batch_step_laws.proofs.WorkAfterMove.{batch_moves-number, next-possible, one_act}
-use Rattle.batch_step_laws.proofs.ActOrder.{acts-rise}
-use Rattle.batch_step_laws.proofs.HoldersInAdvance.{flat_map-Has}
-use Rattle.batch_model.proofs.Members.{Has-flat_map, Has-right}
-use Rattle.batch_record_laws.proofs.Entries.{IsOnce, same_act, act_self, filter-Has, name_self}
-use Rattle.batch_record_laws.proofs.Members.{Has-map, map-Has}
+use Rattle.batch_step_laws.proofs.{Batches.one_batch, WorkAfterMove.batch_moves-number, WorkAfterMove.next-possible, WorkAfterMove.one_act, ActOrder.acts-rise, HoldersInAdvance.flat_map-Has}
+use Rattle.batch_record_laws.proofs.{Entries.IsOnce, Entries.same_act, Entries.act_self, Entries.filter-Has, Entries.name_self, Members.Has-map, Members.map-Has}
 use Rattle.batch_arbiter.specs.Allocation.{Claim, shares_at, line_of_asks, after_ask, after_grant, after_pass, after_release, units_claimed, is_claim, IsHeld, next_grant, batch_node, capacity_at}
-use Rattle.batch_chart.specs.NodesOf.{no_need, place_at, step_at, task_at, need_at}
-use Rattle.batch_recipe.specs.Nodes.{node_count}
-use Rattle.batch_chart.specs.Charts.{Awaits, IsRunningOf, AsksAt, RunsAs, remains, StandsFor}
-use Rattle.batch_chart.specs.Early.{in_advance}
-use Rattle.batch_chart.specs.Seen.{machine_move}
-use Rattle.batch_chart.specs.declared.chart_move.Move.{Move}
-use Rattle.batch_chart.specs.declared.chart_move.Move.TheVariants.{Send, State, Release, Pass, Begin, Start, End, Ask}
-use Rattle.batch_chart.specs.declared.running.Running.{Running}
-use Rattle.batch_engine.specs.declared.batch.Batch.{Batch}
+use Rattle.batch_chart.specs.{NodesOf.no_need, NodesOf.place_at, NodesOf.step_at, NodesOf.task_at, NodesOf.need_at, Charts.Awaits, Charts.IsRunningOf, Charts.AsksAt, Charts.RunsAs, Charts.remains, Charts.StandsFor, Early.in_advance, Seen.machine_move, declared.chart_move.Move.Move, declared.chart_move.Move.TheVariants.Send, declared.chart_move.Move.TheVariants.State, declared.chart_move.Move.TheVariants.Release, declared.chart_move.Move.TheVariants.Pass, declared.chart_move.Move.TheVariants.Begin, declared.chart_move.Move.TheVariants.Start, declared.chart_move.Move.TheVariants.End, declared.chart_move.Move.TheVariants.Ask, declared.running.Running.Running}
+use Rattle.batch_engine.{specs.declared.batch.Batch.Batch, specs.View.EngineView, specs.View.setup, specs.View.claim_act, specs.View.share_of, specs.View.claimed_shares, specs.View.names_of, specs.View.resource_number, specs.View.line_in, specs.View.line_at, specs.View.plant_of, specs.View.tree_of, specs.Kept.IsKept, specs.Steps.IsNext, proofs.RecordOfPlant.told, proofs.RecordOfPlant.safe, proofs.RecordOfPlant.standing, proofs.BatchPlaces.Has-batch_of, proofs.BatchLookups.named, proofs.BatchLookups.has, proofs.BatchLookups.batch-runs, proofs.BatchLookups.tree-placed, proofs.BatchLookups.claim-act, proofs.BatchLookups.act-claim, proofs.BatchLookups.line-units, proofs.PassTarget.held-waits, proofs.PassTarget.pass-awaits, proofs.PlacesOfActs.step-place, proofs.AllocationAfterMove.lines-asked, proofs.AllocationAfterMove.once-asked, proofs.AllocationAfterMove.cell-asked, proofs.AllocationAfterMove.shares-released, proofs.AllocationAfterMove.cell-released, proofs.AllocationAfterMove.shares-passed, proofs.AllocationAfterMove.cell-passed, proofs.AllocationAfterMove.units-found, proofs.AllocationAfterMove.lines-granted, proofs.AllocationAfterMove.shares-granted, proofs.AllocationAfterMove.once-granted, proofs.AllocationAfterMove.cell-granted, proofs.AllocationAfterMove.first-of-line, proofs.InvariantAfterMove.changed, proofs.InvariantAfterMove.IsMove, proofs.InvariantAfterMove.plant-after, proofs.InvariantAfterMove.kept-after, proofs.Room.room-quiet, proofs.Room.room-asked, proofs.Room.room-granted, proofs.Room.room-passed, proofs.Room.room-released}
 use Rattle.batch_engine.specs.View as View
-use Rattle.batch_engine.specs.View.{EngineView, setup, claim_act, share_of, claimed_shares, names_of, resource_number, line_in, line_at, plant_of, tree_of}
-use Rattle.batch_engine.specs.Kept.{IsKept}
-use Rattle.batch_engine.specs.Steps.{IsNext}
-use Rattle.batch_engine.proofs.RecordOfPlant.{told, safe, standing}
-use Rattle.batch_engine.proofs.BatchPlaces.{Has-batch_of}
-use Rattle.batch_engine.proofs.BatchLookups.{named, has, batch-runs, tree-placed, claim-act, act-claim, line-units}
-use Rattle.batch_engine.proofs.PassTarget.{held-waits, pass-awaits}
-use Rattle.batch_engine.proofs.PlacesOfActs.{step-place}
-use Rattle.batch_engine.proofs.AllocationAfterMove.{lines-asked, once-asked, cell-asked, shares-released, cell-released, shares-passed, cell-passed, units-found, lines-granted, shares-granted, once-granted, cell-granted, first-of-line}
-use Rattle.batch_engine.proofs.InvariantAfterMove.{changed, IsMove, plant-after, kept-after}
-use Rattle.batch_engine.proofs.Room.{room-quiet, room-asked, room-granted, room-passed, room-released}
 
 -- a move that neither asks for anything, nor gives anything back, nor changes the batch's state
 abbrev pub IsQuiet : Move → Type 0

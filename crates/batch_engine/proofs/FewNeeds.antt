@@ -1,35 +1,14 @@
 -- A batch needs few resources at once, and so do all batches.
 use Rattle.std.proofs.Common.{◌≡◌, ◌<◌, ◌≤◌, ◌+◌, ◌*◌, ℕ, zero, suc, List, [], ◌∷◌, Bool, true, false, Option, Some, None, arith, length, map, refl}
-use Rattle.std.specs.Prelude.{nat_le, nat_lt, ◌||◌}
-use Rattle.std.specs.List.{slice_index_or}
-use Rattle.std.proofs.lemmas.List.{length-append, length-map}
-use Rattle.std.proofs.lemmas.List.Sums.{sum_by-cons}
-use Rattle.std.proofs.lemmas.Bool.Decides.{nat_tests}
-use Rattle.batch_recipe.specs.Conditions.{Name}
+use Rattle.std.{specs.Prelude.nat_le, specs.Prelude.nat_lt, specs.Prelude.◌||◌, specs.List.slice_index_or, proofs.lemmas.List.length-append, proofs.lemmas.List.length-map, proofs.lemmas.List.Sums.sum_by-cons, proofs.lemmas.Bool.Decides.nat_tests}
+use Rattle.batch_recipe.specs.{Conditions.Name, Diagram.Diagram, Diagram.Diagrams, Diagram.Cases, Diagram.diagram_of, Expanding.Binding, Expanding.Sites, Expanding.act_named, Expanding.act_tree_with, Expanding.asked_in_order, Expanding.expanded, Expanding.expanded_cases, Expanding.expanded_each, Expanding.named_tree_with, Expanding.task_of, Expanding.unit_below, Expanding.unit_named, Expanding.unit_with, Nodes.child, Nodes.count_of_choices, Nodes.count_of_each, Nodes.count_within, Nodes.node_count, Needs.one_unit, Procedure.bound_tree, Procedure.sites, Procedure.tables_from, Tree.Place, Tree.Step, Tree.Task, Tree.runs, Tree.follows, Tree.Tree, Tree.act, Tree.skip, Tree.seq, Tree.par, Tree.sel, Tree.loop, Tree.Trees, Tree.no_trees, Tree.tree, Tree.Choices, Tree.otherwise, Tree.choice, declared.act.Act.Act, declared.act.Work.Work, declared.act.Work.TheVariants.Follows, declared.act.Work.TheVariants.Runs, declared.acts.LabelTable.TheVariants.UnitProcedures, declared.need.Need.Need}
 use Rattle.batch_recipe.specs.Diagram as chart
-use Rattle.batch_recipe.specs.Diagram.{Diagram, Diagrams, Cases, diagram_of}
-use Rattle.batch_recipe.specs.Expanding.{Binding, Sites, act_named, act_tree_with, asked_in_order, expanded, expanded_cases, expanded_each, named_tree_with, task_of, unit_below, unit_named, unit_with}
-use Rattle.batch_recipe.specs.Nodes.{child, count_of_choices, count_of_each, count_within, node_count}
-use Rattle.batch_recipe.specs.Needs.{one_unit}
-use Rattle.batch_recipe.specs.Procedure.{bound_tree, sites, tables_from}
-use Rattle.batch_recipe.specs.Tree.{Place, Step, Task, runs, follows, Tree, act, skip, seq, par, sel, loop, Trees, no_trees, tree, Choices, otherwise, choice}
 use Rattle.batch_cell.specs.declared.cell.Cell.{Cell}
-use Rattle.batch_recipe.specs.declared.act.Act.{Act}
-use Rattle.batch_recipe.specs.declared.act.Work.{Work}
-use Rattle.batch_recipe.specs.declared.act.Work.TheVariants.{Follows, Runs}
-use Rattle.batch_recipe.specs.declared.acts.LabelTable.TheVariants.{UnitProcedures}
-use Rattle.batch_recipe.specs.declared.need.Need.{Need}
 use Rattle.batch_recipe.specs.declared.recipe.Recipe as document
-use Rattle.batch_model.specs.Events.{is_full}
-use Rattle.batch_model.specs.Plant.{plain}
-use Rattle.batch_model.specs.Setups.{master_of}
-use Rattle.batch_model.specs.declared.limits.TheConstants.{LAST_NUMBER, MAX_LIVE_BATCHES}
+use Rattle.batch_model.specs.{Events.is_full, Plant.plain, Setups.master_of, declared.limits.TheConstants.LAST_NUMBER, declared.limits.TheConstants.MAX_LIVE_BATCHES}
 use Rattle.batch_verify.specs.ClearedSet.{ClearedSet}
 use Rattle.batch_chart.specs.NodesOf.{most_by, most_below, most_of_all, most_of_chosen, most_of_one, needs_in, own_needs, own_units}
-use Rattle.batch_engine.specs.declared.batch.Batch.{Batch}
-use Rattle.batch_engine.specs.Kept.{needs_of_all}
-use Rattle.batch_engine.proofs.NodesAcrossBindings.{count-alike}
-use Rattle.batch_engine.specs.View.{EngineView, model_batch, bound_to, setup, no_recipe, plant_of, tree_at, tree_of}
+use Rattle.batch_engine.{specs.declared.batch.Batch.Batch, specs.Kept.needs_of_all, proofs.NodesAcrossBindings.count-alike, specs.View.EngineView, specs.View.model_batch, specs.View.bound_to, specs.View.setup, specs.View.no_recipe, specs.View.plant_of, specs.View.tree_at, specs.View.tree_of}
 
 -- an act needs at most 16 resources beside its unit and the four that it reserves, so the acts of a tree need at most 21 a node
 abbrev pub HasFewNeeds : Tree → Type 0

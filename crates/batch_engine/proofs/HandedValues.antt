@@ -1,31 +1,9 @@
 -- The values that phases are handed.
 use Rattle.std.proofs.Common.{◌≡◌, ◌<◌, ◌≤◌, refl, sym, ◌∙◌, ap, ap₂, subst, ℕ, zero, suc, List, [], ◌∷◌, Bool, true, ◌&&◌, Option, Some, None, inl, inr, arith, ◌+◌, length, get_or, set, nat_le}
-use Rattle.std.specs.Prelude.{slice_get, unwrap_or}
-use Rattle.std.proofs.lemmas.Bool.{and_parts, cases_lt}
-use Rattle.std.proofs.lemmas.List.{get_or-set_same, get_or-set_other}
-use Rattle.std.specs.Global.{Vec}
-use Rattle.std.specs.List.{list_all, zip}
-use Rattle.batch_recipe.specs.ActsAtNodes.{ActList, AreActsAt, IsActAt, StandsIn, procedure_acts}
-use Rattle.batch_recipe.specs.Conditions.{Name, ValueList, same_name, value_or_0}
-use Rattle.batch_recipe.specs.Diagram.{diagram_of}
-use Rattle.batch_recipe.specs.Expanding.{Sites, act_named, act_tree_with, named_tree_with, unbound}
-use Rattle.batch_recipe.specs.Nodes.{Node}
-use Rattle.batch_recipe.specs.Procedure.{procedure_nodes, sites, table_at, tables_from}
-use Rattle.batch_recipe.specs.Tree.{Place, Tree}
-use Rattle.batch_recipe.specs.WellFormed.{act_names, are_distinct, follows_no_par, is_among, is_chart, is_well_formed, is_work, value_names}
-use Rattle.batch_recipe.specs.declared.act.Act.{Act}
-use Rattle.batch_recipe.specs.declared.act.TheConstants.{MAX_VALUES}
-use Rattle.batch_recipe.specs.declared.act.Work.{Work}
-use Rattle.batch_recipe.specs.declared.act.Work.TheVariants.{Follows, Runs}
-use Rattle.batch_recipe.specs.declared.acts.Acts.{Acts}
-use Rattle.batch_recipe.specs.declared.acts.LabelTable.{LabelTable}
-use Rattle.batch_recipe.specs.declared.acts.LabelTable.TheVariants.{UnitProcedures, Operations, Phases}
-use Rattle.batch_recipe.specs.declared.chart.TheConstants.{MAX_DEPTH}
-use Rattle.batch_recipe.specs.declared.recipe.Recipe.{Recipe}
-use Rattle.batch_recipe.proofs.NodeActs.{procedure_acts_are}
+use Rattle.std.{specs.Prelude.slice_get, specs.Prelude.unwrap_or, proofs.lemmas.Bool.and_parts, proofs.lemmas.Bool.cases_lt, proofs.lemmas.List.get_or-set_same, proofs.lemmas.List.get_or-set_other, specs.Global.Vec, specs.List.list_all, specs.List.zip}
+use Rattle.batch_recipe.{specs.ActsAtNodes.ActList, specs.ActsAtNodes.AreActsAt, specs.ActsAtNodes.IsActAt, specs.ActsAtNodes.StandsIn, specs.ActsAtNodes.procedure_acts, specs.Conditions.Name, specs.Conditions.ValueList, specs.Conditions.same_name, specs.Conditions.value_or_0, specs.Diagram.diagram_of, specs.Expanding.Sites, specs.Expanding.act_named, specs.Expanding.act_tree_with, specs.Expanding.named_tree_with, specs.Expanding.unbound, specs.Nodes.Node, specs.Procedure.procedure_nodes, specs.Procedure.sites, specs.Procedure.table_at, specs.Procedure.tables_from, specs.Tree.Place, specs.Tree.Tree, specs.WellFormed.act_names, specs.WellFormed.are_distinct, specs.WellFormed.follows_no_par, specs.WellFormed.is_among, specs.WellFormed.is_chart, specs.WellFormed.is_well_formed, specs.WellFormed.is_work, specs.WellFormed.value_names, specs.declared.act.Act.Act, specs.declared.act.TheConstants.MAX_VALUES, specs.declared.act.Work.Work, specs.declared.act.Work.TheVariants.Follows, specs.declared.act.Work.TheVariants.Runs, specs.declared.acts.Acts.Acts, specs.declared.acts.LabelTable.LabelTable, specs.declared.acts.LabelTable.TheVariants.UnitProcedures, specs.declared.acts.LabelTable.TheVariants.Operations, specs.declared.acts.LabelTable.TheVariants.Phases, specs.declared.chart.TheConstants.MAX_DEPTH, specs.declared.recipe.Recipe.Recipe, proofs.NodeActs.procedure_acts_are}
 use Rattle.batch_model.specs.Moves.{handed_values}
-use Rattle.batch_engine.specs.Names.{handed_in, handed_of, node_of}
-use Rattle.batch_engine.proofs.NodesAcrossBindings.{no_handed}
+use Rattle.batch_engine.{specs.Names.handed_in, specs.Names.handed_of, specs.Names.node_of, proofs.NodesAcrossBindings.no_handed}
 use Rattle.batch_chart.proofs.FoundElement.{found_passes}
 
 -- each name beside its value

@@ -3,32 +3,11 @@ use Rattle.std.proofs.Common.{◌≡◌, ◌<◌, refl, sym, ◌∙◌, ap, subs
 use Rattle.std.specs.Prelude.{IfSome, slice_get, position}
 use Rattle.batch_cell.specs.LookUps.{capacities_of}
 use Rattle.batch_recipe.specs.Conditions.{Name}
-use Rattle.batch_model.specs.Events.{LivePhase, live_in}
-use Rattle.batch_model.specs.Moves.{Move, after_move}
+use Rattle.batch_model.specs.{Events.LivePhase, Events.live_in, Moves.Move, Moves.after_move, Plant.Plant, Rest.acts}
 use Rattle.batch_model.specs.Events as Events
-use Rattle.batch_model.specs.Plant.{Plant}
-use Rattle.batch_model.specs.Rest.{acts}
 use Rattle.batch_arbiter.specs.Allocation.{resource_count}
 use Rattle.batch_verify.specs.ClearedSet.{ClearedSet}
-use Rattle.batch_engine.specs.Answered.{IsAnswered}
-use Rattle.batch_engine.specs.Kept.{IsKept}
-use Rattle.batch_engine.specs.Marked.{AreNotedBy, AreHoldingsNoted}
-use Rattle.batch_engine.specs.Marking.{noted, noted_by, noted_for}
-use Rattle.batch_engine.specs.Steps.{IsNext, IsStep, Makes, MakesNext, TellsNext, touched_by}
-use Rattle.batch_engine.specs.Surface.{move_of, reply_of}
-use Rattle.batch_engine.specs.View.{EngineView, setup, model_batch, resource_number, plant_of}
-use Rattle.batch_engine.specs.declared.batch.Batch.{Batch}
-use Rattle.batch_engine.specs.declared.line.ClaimKind.{ClaimKind}
-use Rattle.batch_engine.specs.declared.line.Line.{Line}
-use Rattle.batch_engine.specs.declared.reply.Reply.{Reply}
-use Rattle.batch_engine.specs.declared.step.Step.{Step}
-use Rattle.batch_engine.proofs.BatchPlaces.{Has-batch_of}
-use Rattle.batch_engine.proofs.BatchLookups.{Has-get, known-resource}
-use Rattle.batch_engine.proofs.EngineAfterMove.{same-next}
-use Rattle.batch_engine.proofs.BatchAfterMove.{same-number}
-use Rattle.batch_engine.proofs.HolderNotes.{live-noted, move-noted, noted-length, reply-noted}
-use Rattle.batch_engine.proofs.RecordOfPlant.{down}
-use Rattle.batch_engine.proofs.BatchMarks.{found-nowhere, found-there, number-named, same-count, step-move}
+use Rattle.batch_engine.{specs.Answered.IsAnswered, specs.Kept.IsKept, specs.Marked.AreNotedBy, specs.Marked.AreHoldingsNoted, specs.Marking.noted, specs.Marking.noted_by, specs.Marking.noted_for, specs.Steps.IsNext, specs.Steps.IsStep, specs.Steps.Makes, specs.Steps.MakesNext, specs.Steps.TellsNext, specs.Steps.touched_by, specs.Surface.move_of, specs.Surface.reply_of, specs.View.EngineView, specs.View.setup, specs.View.model_batch, specs.View.resource_number, specs.View.plant_of, specs.declared.batch.Batch.Batch, specs.declared.line.ClaimKind.ClaimKind, specs.declared.line.Line.Line, specs.declared.reply.Reply.Reply, specs.declared.step.Step.Step, proofs.BatchPlaces.Has-batch_of, proofs.BatchLookups.Has-get, proofs.BatchLookups.known-resource, proofs.EngineAfterMove.same-next, proofs.BatchAfterMove.same-number, proofs.HolderNotes.live-noted, proofs.HolderNotes.move-noted, proofs.HolderNotes.noted-length, proofs.HolderNotes.reply-noted, proofs.RecordOfPlant.down, proofs.BatchMarks.found-nowhere, proofs.BatchMarks.found-there, proofs.BatchMarks.number-named, proofs.BatchMarks.same-count, proofs.BatchMarks.step-move}
 
 -- a name of capacity 1 is a resource's
 known-capacity : (c : ClearedSet) (name : Name) → (setup c).capacity name ≡ 1 → (q : ℕ) × (resource_number c name ≡ Some q)

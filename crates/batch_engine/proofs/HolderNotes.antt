@@ -1,41 +1,12 @@
 -- The notes on resources of capacity 1 name their holders, after every move and every event.
 use Rattle.std.proofs.Common.{◌≡◌, ◌≤◌, ◌<◌, ⊎_elim, refl, sym, ◌∙◌, ap, subst, ℕ, zero, suc, List, [], ◌∷◌, ◌++◌, Bool, true, false, ◌&&◌, Option, Some, None, inl, inr, arith, length, nat_eq}
-use Rattle.std.specs.Prelude.{slice_get, slice_set}
-use Rattle.std.proofs.lemmas.Bool.{and_parts}
-use Rattle.std.proofs.lemmas.List.{length-set}
+use Rattle.std.{specs.Prelude.slice_get, specs.Prelude.slice_set, proofs.lemmas.Bool.and_parts, proofs.lemmas.List.length-set}
 use Rattle.batch_matrix.specs.declared.state.State.{State}
-use Rattle.batch_recipe.specs.Conditions.{Name, same_name}
-use Rattle.batch_recipe.specs.Needs.{one_unit}
-use Rattle.batch_recipe.specs.Tree.{Place, Phase, Step}
-use Rattle.batch_recipe.specs.declared.need.Need.{Need}
-use Rattle.batch_model.specs.Cleared.{Ranking, phases}
-use Rattle.batch_model.specs.Events.{Event, Reply, LivePhase, live_in}
-use Rattle.batch_model.specs.Lists.{Has}
-use Rattle.batch_model.specs.Moves.{Move, send, state, release, pass, begin, start, end, ask, grant, after_move, batch_moves, next}
-use Rattle.batch_model.specs.Plant.{Setup, Batch, BatchAct, Share, units_in, Plant, opening, holders, without}
-use Rattle.batch_model.specs.Records.{holders_told, holders_after}
-use Rattle.batch_model.specs.Rest.{Rest, ready, asking, open_act, live, freeing, in_seq, in_par, in_loop, done, acts}
-use Rattle.batch_model.specs.Runs.{Out, move, reply, Reacts, Leads}
-use Rattle.batch_model.specs.Standing.{IsStanding, IsStandingBatch}
-use Rattle.batch_model.proofs.Members.{Each-Has, Has-flat_map, Has-split, Has-right}
-use Rattle.batch_step_laws.proofs.WorkAfterMove.{next-possible}
-use Rattle.batch_step_laws.proofs.RecordGrowth.{Leads-move, Leads-reply}
-use Rattle.batch_step_laws.proofs.PlantAlongRecord.{led-stands, opening-stands}
-use Rattle.batch_step_laws.proofs.LastLineEffect.{holders_told-last}
-use Rattle.batch_record_laws.specs.Telling.{IsTold, IsLiveAt}
-use Rattle.batch_record_laws.proofs.InvariantAlongRecord.{kept-along, kept-at_first, placed-trees}
-use Rattle.batch_record_laws.proofs.Batches.{of-entry, performing-of, holders-entries}
-use Rattle.batch_record_laws.proofs.ClearanceDownTrees.{AreClearedDown}
-use Rattle.batch_record_laws.proofs.Entries.{Has-without, holders-Has, nat_same, name_same, name_self, units-cons}
-use Rattle.batch_record_laws.proofs.PlantFacts.{holding, performing, entries, share}
-use Rattle.batch_record_laws.proofs.Invariant.{IsKept, IsSound, standing-of}
-use Rattle.batch_record_laws.proofs.PlantByRecord.{tells_the_plant}
-use Rattle.batch_record_laws.proofs.Units.{performed-phase, unit-held}
-use Rattle.batch_record_laws.proofs.PhaseStarts.{member-units}
-use Rattle.batch_engine.specs.Marked.{AreNotedBy}
-use Rattle.batch_engine.specs.Marking.{noted, noted_for}
-use Rattle.batch_engine.proofs.MovesAcrossPlants.{IsEven}
-use Rattle.batch_engine.proofs.PassTarget.{laid_down, pass-even, pass-told, taken_up}
+use Rattle.batch_recipe.specs.{Conditions.Name, Conditions.same_name, Needs.one_unit, Tree.Place, Tree.Phase, Tree.Step, declared.need.Need.Need}
+use Rattle.batch_model.{specs.Cleared.Ranking, specs.Cleared.phases, specs.Events.Event, specs.Events.Reply, specs.Events.LivePhase, specs.Events.live_in, specs.Lists.Has, specs.Moves.Move, specs.Moves.send, specs.Moves.state, specs.Moves.release, specs.Moves.pass, specs.Moves.begin, specs.Moves.start, specs.Moves.end, specs.Moves.ask, specs.Moves.grant, specs.Moves.after_move, specs.Moves.batch_moves, specs.Moves.next, specs.Plant.Setup, specs.Plant.Batch, specs.Plant.BatchAct, specs.Plant.Share, specs.Plant.units_in, specs.Plant.Plant, specs.Plant.opening, specs.Plant.holders, specs.Plant.without, specs.Records.holders_told, specs.Records.holders_after, specs.Rest.Rest, specs.Rest.ready, specs.Rest.asking, specs.Rest.open_act, specs.Rest.live, specs.Rest.freeing, specs.Rest.in_seq, specs.Rest.in_par, specs.Rest.in_loop, specs.Rest.done, specs.Rest.acts, specs.Runs.Out, specs.Runs.move, specs.Runs.reply, specs.Runs.Reacts, specs.Runs.Leads, specs.Standing.IsStanding, specs.Standing.IsStandingBatch, proofs.Members.Each-Has, proofs.Members.Has-flat_map, proofs.Members.Has-split, proofs.Members.Has-right}
+use Rattle.batch_step_laws.proofs.{WorkAfterMove.next-possible, RecordGrowth.Leads-move, RecordGrowth.Leads-reply, PlantAlongRecord.led-stands, PlantAlongRecord.opening-stands, LastLineEffect.holders_told-last}
+use Rattle.batch_record_laws.{specs.Telling.IsTold, specs.Telling.IsLiveAt, proofs.InvariantAlongRecord.kept-along, proofs.InvariantAlongRecord.kept-at_first, proofs.InvariantAlongRecord.placed-trees, proofs.Batches.of-entry, proofs.Batches.performing-of, proofs.Batches.holders-entries, proofs.ClearanceDownTrees.AreClearedDown, proofs.Entries.Has-without, proofs.Entries.holders-Has, proofs.Entries.nat_same, proofs.Entries.name_same, proofs.Entries.name_self, proofs.Entries.units-cons, proofs.PlantFacts.holding, proofs.PlantFacts.performing, proofs.PlantFacts.entries, proofs.PlantFacts.share, proofs.Invariant.IsKept, proofs.Invariant.IsSound, proofs.Invariant.standing-of, proofs.PlantByRecord.tells_the_plant, proofs.Units.performed-phase, proofs.Units.unit-held, proofs.PhaseStarts.member-units}
+use Rattle.batch_engine.{specs.Marked.AreNotedBy, specs.Marking.noted, specs.Marking.noted_for, proofs.MovesAcrossPlants.IsEven, proofs.PassTarget.laid_down, proofs.PassTarget.pass-even, proofs.PassTarget.pass-told, proofs.PassTarget.taken_up}
 
 -- Lists
 

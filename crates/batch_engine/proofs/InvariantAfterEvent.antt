@@ -1,17 +1,11 @@
 -- The invariant when an event is answered.
 use Rattle.std.proofs.Common.{◌≡◌, sym, ◌∙◌, ℕ, List, [], ◌∷◌, ◌++◌, Some}
 use Rattle.batch_recipe.specs.Conditions.{Name}
-use Rattle.batch_model.specs.Lists.{Each}
-use Rattle.batch_model.specs.Plant.{opening}
-use Rattle.batch_model.specs.Events.{Event, Reply}
-use Rattle.batch_model.specs.Runs.{reply, Reacts}
-use Rattle.batch_step_laws.proofs.RecordGrowth.{Leads-reply}
-use Rattle.batch_step_laws.proofs.LastLineEffect.{holders_told-last}
+use Rattle.batch_model.specs.{Lists.Each, Plant.opening, Events.Event, Events.Reply, Runs.reply, Runs.Reacts}
+use Rattle.batch_step_laws.proofs.{RecordGrowth.Leads-reply, LastLineEffect.holders_told-last}
 use Rattle.batch_record_laws.proofs.Entries.{IsOnce}
 use Rattle.batch_arbiter.specs.Allocation.{Allocation, shares_at, line_of_asks}
-use Rattle.batch_engine.specs.declared.batch.Batch.{Batch}
-use Rattle.batch_engine.specs.View.{EngineView, setup, claimed_shares, resource_number, plant_of}
-use Rattle.batch_engine.specs.Kept.{IsOfCell, IsRunningBatch, HasRoom, IsKept}
+use Rattle.batch_engine.specs.{declared.batch.Batch.Batch, View.EngineView, View.setup, View.claimed_shares, View.resource_number, View.plant_of, Kept.IsOfCell, Kept.IsRunningBatch, Kept.HasRoom, Kept.IsKept}
 
 -- the engine with other batches, another next number and another arbiter
 abbrev pub with : EngineView → List Batch → ℕ → Allocation → EngineView

@@ -2,26 +2,14 @@
 use Rattle.std.proofs.Common.{◌≡◌, ◌<◌, refl, sym, ◌∙◌, ap, ap₂, subst, ℕ, zero, suc, List, [], ◌∷◌, ◌++◌, Option, Some, None, length, map, set}
 use Rattle.std.specs.Prelude.{slice_get}
 use Rattle.batch_recipe.specs.Conditions.{Name}
-use Rattle.batch_model.specs.Lists.{Each}
+use Rattle.batch_model.specs.{Lists.Each, Plant.Share, Plant.Plant, Plant.opening, Moves.Move, Moves.batch_of, Moves.batch_after, Moves.line_after, Moves.after_move, Runs.move, Runs.Leads, Records.holders_after}
 use Rattle.batch_model.specs.Plant as Model
-use Rattle.batch_model.specs.Plant.{Share, Plant, opening}
-use Rattle.batch_model.specs.Moves.{Move, batch_of, batch_after, line_after, after_move}
-use Rattle.batch_model.specs.Runs.{move, Leads}
-use Rattle.batch_model.specs.Records.{holders_after}
-use Rattle.batch_step_laws.proofs.Batches.{only}
-use Rattle.batch_step_laws.proofs.RecordGrowth.{Leads-move}
-use Rattle.batch_step_laws.proofs.LastLineEffect.{holders_told-last}
+use Rattle.batch_step_laws.proofs.{Batches.only, RecordGrowth.Leads-move, LastLineEffect.holders_told-last}
 use Rattle.batch_record_laws.proofs.Entries.{IsOnce}
 use Rattle.batch_arbiter.specs.Allocation.{Allocation, shares_at, line_of_asks}
 use Rattle.batch_chart.specs.Charts.{IsRunningOf}
-use Rattle.batch_engine.specs.declared.batch.Batch.{Batch}
+use Rattle.batch_engine.{specs.declared.batch.Batch.Batch, specs.View.EngineView, specs.View.setup, specs.View.tree_at, specs.View.claimed_shares, specs.View.resource_number, specs.View.line_in, specs.View.line_at, specs.View.plant_of, specs.View.tree_of, specs.Kept.AreUnits, specs.Kept.IsTracked, specs.Kept.IsOfCell, specs.Kept.IsRunningBatch, specs.Kept.HasRoom, specs.Kept.IsKept, specs.Steps.IsNext, proofs.BatchPlaces.made_by, proofs.RecordOfPlant.standing, proofs.BatchAfterMove.fun_ext, proofs.BatchAfterMove.acts-same, proofs.BatchAfterMove.batches-same}
 use Rattle.batch_engine.specs.View as View
-use Rattle.batch_engine.specs.View.{EngineView, setup, tree_at, claimed_shares, resource_number, line_in, line_at, plant_of, tree_of}
-use Rattle.batch_engine.specs.Kept.{AreUnits, IsTracked, IsOfCell, IsRunningBatch, HasRoom, IsKept}
-use Rattle.batch_engine.specs.Steps.{IsNext}
-use Rattle.batch_engine.proofs.BatchPlaces.{made_by}
-use Rattle.batch_engine.proofs.RecordOfPlant.{standing}
-use Rattle.batch_engine.proofs.BatchAfterMove.{fun_ext, acts-same, batches-same}
 
 -- the engine after batch i became b' and the arbiter a'
 abbrev pub changed : EngineView → ℕ → Batch → Allocation → EngineView

@@ -1,28 +1,12 @@
 -- The least grant of a batch is that of the first act in line that the arbiter would serve.
 use Rattle.std.proofs.Common.{◌≡◌, ◌<◌, refl, sym, ◌∙◌, ap, ap₂, subst, subst₂, ℕ, [], ◌∷◌, Bool, true, false, Option, Some, None, inl, inr, arith, length, nat_eq}
-use Rattle.std.specs.Prelude.{slice_get, ◌⊎◌}
-use Rattle.std.proofs.lemmas.Bool.{cases_eq}
-use Rattle.std.proofs.lemmas.Option.{slice_get-get_or}
-use Rattle.batch_recipe.specs.declared.need.Need.{Need}
-use Rattle.batch_recipe.specs.Tree.{Place, Step, Task, Tree, is_before}
-use Rattle.batch_model.specs.Lists.{Has}
-use Rattle.batch_model.specs.Rest.{Rest, ready, asking, open_act, live, freeing, in_seq, in_par, in_loop, done, acts}
+use Rattle.std.{specs.Prelude.slice_get, specs.Prelude.◌⊎◌, proofs.lemmas.Bool.cases_eq, proofs.lemmas.Option.slice_get-get_or}
+use Rattle.batch_recipe.specs.{declared.need.Need.Need, Tree.Place, Tree.Step, Tree.Task, Tree.Tree, Tree.is_before}
+use Rattle.batch_model.{specs.Lists.Has, specs.Rest.Rest, specs.Rest.ready, specs.Rest.asking, specs.Rest.open_act, specs.Rest.live, specs.Rest.freeing, specs.Rest.in_seq, specs.Rest.in_par, specs.Rest.in_loop, specs.Rest.done, specs.Rest.acts, specs.Plant.Setup, specs.Plant.Plant, specs.Moves.Move, specs.Moves.grant, specs.Moves.is_earlier, specs.Moves.least, specs.Moves.is_served, specs.Moves.when, specs.Placed.IsPlaced, specs.Standing.IsRestOf, proofs.Members.Has-filter_map}
 use Rattle.batch_model.specs.Plant as Model
-use Rattle.batch_model.specs.Plant.{Setup, Plant}
-use Rattle.batch_model.specs.Moves.{Move, grant, is_earlier, least, is_served, when}
-use Rattle.batch_model.specs.Placed.{IsPlaced}
-use Rattle.batch_model.specs.Standing.{IsRestOf}
-use Rattle.batch_model.proofs.Members.{Has-filter_map}
-use Rattle.batch_step_laws.proofs.MoveOrder.{least-IsFirst}
-use Rattle.batch_step_laws.proofs.WorkAfterMove.{one_act}
-use Rattle.batch_step_laws.proofs.ActOrder.{acts-rise}
-use Rattle.batch_step_laws.proofs.HoldersInAdvance.{filter_map-Has}
-use Rattle.batch_chart.specs.NodesOf.{no_need, place_at, step_at, task_at, need_at}
-use Rattle.batch_chart.specs.OwnMoves.{grant_move, grants}
-use Rattle.batch_chart.specs.Charts.{AsksAt}
-use Rattle.batch_engine.proofs.Nodes.{either}
-use Rattle.batch_engine.proofs.MovesAcrossPlants.{no-elements}
-use Rattle.batch_chart.proofs.ActsAtNodes.{asking-at, numbers-rise}
+use Rattle.batch_step_laws.proofs.{MoveOrder.least-IsFirst, WorkAfterMove.one_act, ActOrder.acts-rise, HoldersInAdvance.filter_map-Has}
+use Rattle.batch_chart.{specs.NodesOf.no_need, specs.NodesOf.place_at, specs.NodesOf.step_at, specs.NodesOf.task_at, specs.NodesOf.need_at, specs.OwnMoves.grant_move, specs.OwnMoves.grants, specs.Charts.AsksAt, proofs.ActsAtNodes.asking-at, proofs.ActsAtNodes.numbers-rise}
+use Rattle.batch_engine.proofs.{Nodes.either, MovesAcrossPlants.no-elements}
 
 -- the act in line that makes a grant
 pub record Granted (c : Setup) (s : Plant) (b : Model.Batch) (m : Move) : Type 0 where

@@ -1,36 +1,15 @@
 -- The number of a batch's asks in each line: that of its acts that wait for the resource.
 use Rattle.std.proofs.Common.{◌≡◌, ◌⊎◌, ◌<◌, ◌≤◌, ◌+◌, ◌&&◌, refl, sym, ◌∙◌, ap, subst, subst₂, ℕ, zero, suc, List, [], ◌∷◌, Bool, true, false, Option, Some, inl, inr, ⊎_elim, arith, cond, length, filter, map, get_or, replicate, set, nat_eq, nat_lt}
-use Rattle.std.specs.Prelude.{slice_get, slice_index}
-use Rattle.std.proofs.lemmas.Bool.{and_parts, cases_eq}
-use Rattle.std.proofs.lemmas.Bool.Decides.{nat_tests}
-use Rattle.std.specs.Cmp.Derive.{both_true}
-use Rattle.std.proofs.lemmas.List.{get_or-set_same, get_or-set_other, length-replicate, length-set}
-use Rattle.std.proofs.lemmas.Option.{slice_get-get_or, get_or_from_slice_get}
+use Rattle.std.{specs.Prelude.slice_get, specs.Prelude.slice_index, proofs.lemmas.Bool.and_parts, proofs.lemmas.Bool.cases_eq, proofs.lemmas.Bool.Decides.nat_tests, specs.Cmp.Derive.both_true, proofs.lemmas.List.get_or-set_same, proofs.lemmas.List.get_or-set_other, proofs.lemmas.List.length-replicate, proofs.lemmas.List.length-set, proofs.lemmas.Option.slice_get-get_or, proofs.lemmas.Option.get_or_from_slice_get}
 use Rattle.batch_cell.proofs.Resources.{few_resources}
-use Rattle.batch_recipe.specs.Conditions.{Name}
-use Rattle.batch_recipe.specs.Tree.{Step, Task, Tree}
-use Rattle.batch_recipe.specs.declared.need.Need.{Need}
+use Rattle.batch_recipe.specs.{Conditions.Name, Tree.Step, Tree.Task, Tree.Tree, declared.need.Need.Need}
 use Rattle.batch_step_laws.proofs.Batches.{one_batch}
-use Rattle.batch_model.specs.Lists.{Has}
+use Rattle.batch_model.specs.{Lists.Has, Plant.BatchAct, Plant.Share, Rest.asking, Rest.acts}
 use Rattle.batch_model.specs.Plant as Model
-use Rattle.batch_model.specs.Plant.{BatchAct, Share}
-use Rattle.batch_model.specs.Rest.{asking, acts}
-use Rattle.batch_record_laws.proofs.Entries.{IsOnce, nat_same}
-use Rattle.batch_record_laws.proofs.Members.{map-Has}
-use Rattle.batch_arbiter.specs.Allocation.{AsksAtMost, Claim, asks_of, is_claim, is_of_batch, line_of_asks, resource_count}
-use Rattle.batch_chart.specs.NodesOf.{need_at, no_need, place_at}
-use Rattle.batch_chart.specs.Charts.{remains}
-use Rattle.batch_chart.proofs.ActsAtNodes.{asking-at}
-use Rattle.batch_chart.proofs.MoveKinds.{less}
-use Rattle.batch_engine.specs.declared.batch.Batch.{Batch}
-use Rattle.batch_engine.specs.Kept.{IsKept}
-use Rattle.batch_engine.specs.View.{EngineView, claim_act, model_batch, line_at, names_of, resource_number, plant_of, share_of, tree_of}
-use Rattle.batch_engine.proofs.BatchPlaces.{Has-batch_of}
-use Rattle.batch_engine.proofs.BatchLookups.{asks_here, batch-runs, claim-act, has, known-resource, same-need, tree-placed}
-use Rattle.batch_engine.proofs.Nodes.{same-node}
-use Rattle.batch_engine.proofs.RoomForAsk.{number-at}
-use Rattle.batch_engine.proofs.RecordOfPlant.{standing, told}
-use Rattle.batch_arbiter.proofs.CellCapacities.{length-capacities}
+use Rattle.batch_record_laws.proofs.{Entries.IsOnce, Entries.nat_same, Members.map-Has}
+use Rattle.batch_arbiter.{specs.Allocation.AsksAtMost, specs.Allocation.Claim, specs.Allocation.asks_of, specs.Allocation.is_claim, specs.Allocation.is_of_batch, specs.Allocation.line_of_asks, specs.Allocation.resource_count, proofs.CellCapacities.length-capacities}
+use Rattle.batch_chart.{specs.NodesOf.need_at, specs.NodesOf.no_need, specs.NodesOf.place_at, specs.Charts.remains, proofs.ActsAtNodes.asking-at, proofs.MoveKinds.less}
+use Rattle.batch_engine.{specs.declared.batch.Batch.Batch, specs.Kept.IsKept, specs.View.EngineView, specs.View.claim_act, specs.View.model_batch, specs.View.line_at, specs.View.names_of, specs.View.resource_number, specs.View.plant_of, specs.View.share_of, specs.View.tree_of, proofs.BatchPlaces.Has-batch_of, proofs.BatchLookups.asks_here, proofs.BatchLookups.batch-runs, proofs.BatchLookups.claim-act, proofs.BatchLookups.has, proofs.BatchLookups.known-resource, proofs.BatchLookups.same-need, proofs.BatchLookups.tree-placed, proofs.Nodes.same-node, proofs.RoomForAsk.number-at, proofs.RecordOfPlant.standing, proofs.RecordOfPlant.told}
 use Rattle.batch_signs.proofs.Bits.{within-or_past}
 
 -- Claims that pass a test

@@ -1,56 +1,16 @@
 -- The needs and the phases of the acts of a batch, by the numbers of its linked recipe.
 use Rattle.std.proofs.Common.{◌≡◌, ◌<◌, refl, sym, ◌∙◌, ap, subst, ℕ, List, true, Option, None, Some, arith, length}
-use Rattle.std.specs.List.{list_any}
-use Rattle.std.specs.Prelude.{slice_get, position, unwrap_or, option_and_then, option_map}
-use Rattle.std.proofs.lemmas.Option.{slice_get_within, slice_get-get_or, get_or_from_slice_get}
-use Rattle.batch_cell.specs.Equipment.{unit_phases}
-use Rattle.batch_cell.specs.LookUps.{units_of}
-use Rattle.batch_recipe.specs.Conditions.{Name, same_name}
-use Rattle.batch_recipe.specs.Expanding.{Binding, needs_with, unit_chosen}
-use Rattle.batch_recipe.specs.Procedure.{sites}
-use Rattle.batch_recipe.specs.Nodes.{node_count}
-use Rattle.batch_recipe.specs.Tree.{Tree, act, skip, seq, par, sel, loop, runs, follows, Phase}
-use Rattle.batch_recipe.specs.declared.act.Act.{Act}
-use Rattle.batch_recipe.specs.declared.act.UnitChoice.{UnitChoice}
-use Rattle.batch_recipe.specs.declared.act.Work.{Work}
-use Rattle.batch_recipe.specs.declared.act.Work.TheVariants.{Follows, Runs}
-use Rattle.batch_recipe.specs.declared.acts.LabelTable.TheVariants.{Phases}
-use Rattle.batch_recipe.specs.declared.entry.Entry.{Entry}
+use Rattle.std.{specs.List.list_any, specs.Prelude.slice_get, specs.Prelude.position, specs.Prelude.unwrap_or, specs.Prelude.option_and_then, specs.Prelude.option_map, proofs.lemmas.Option.slice_get_within, proofs.lemmas.Option.slice_get-get_or, proofs.lemmas.Option.get_or_from_slice_get}
+use Rattle.batch_cell.specs.{Equipment.unit_phases, LookUps.units_of}
+use Rattle.batch_recipe.specs.{Conditions.Name, Conditions.same_name, Expanding.Binding, Expanding.needs_with, Expanding.unit_chosen, Procedure.sites, Nodes.node_count, Tree.Tree, Tree.act, Tree.skip, Tree.seq, Tree.par, Tree.sel, Tree.loop, Tree.runs, Tree.follows, Tree.Phase, declared.act.Act.Act, declared.act.UnitChoice.UnitChoice, declared.act.Work.Work, declared.act.Work.TheVariants.Follows, declared.act.Work.TheVariants.Runs, declared.acts.LabelTable.TheVariants.Phases, declared.entry.Entry.Entry, declared.entry.Kind.TheVariants.Act as at_level, declared.need.Need.Need, declared.recipe.Recipe.Recipe}
 use Rattle.batch_recipe.specs.declared.entry.Kind as entry
-use Rattle.batch_recipe.specs.declared.entry.Kind.TheVariants.{Act as at_level}
-use Rattle.batch_recipe.specs.declared.need.Need.{Need}
-use Rattle.batch_recipe.specs.declared.recipe.Recipe.{Recipe}
 use Rattle.batch_model.specs.Cleared.{IsOffered}
 use Rattle.batch_verify.specs.ClearedSet.{ClearedSet}
-use Rattle.batch_chart.specs.NodesOf.{node_at, phase_in, phase_named, tree_task, need_at, no_need, no_phase, step_at}
-use Rattle.batch_chart.specs.Outlined.{entry_at, kind_at, kind_by, kind_of_entry, phase_step_name, unit_choice, unit_name, unit_under, StandsOn}
+use Rattle.batch_chart.{specs.NodesOf.node_at, specs.NodesOf.phase_in, specs.NodesOf.phase_named, specs.NodesOf.tree_task, specs.NodesOf.need_at, specs.NodesOf.no_need, specs.NodesOf.no_phase, specs.NodesOf.step_at, specs.Outlined.entry_at, specs.Outlined.kind_at, specs.Outlined.kind_by, specs.Outlined.kind_of_entry, specs.Outlined.phase_step_name, specs.Outlined.unit_choice, specs.Outlined.unit_name, specs.Outlined.unit_under, specs.Outlined.StandsOn, proofs.NodesAtNumbers.stands-at}
 use Rattle.batch_chart.specs.Outlined as Outlined
-use Rattle.batch_chart.proofs.NodesAtNumbers.{stands-at}
-use Rattle.batch_set.specs.Linking.{IsLinked, IsLinkedSet, run_phase}
-use Rattle.batch_set.specs.Looked.{needs_by, number_for, phase_on, unit_procedure_source}
-use Rattle.batch_set.specs.Sources.{IsSource, SayNeeds}
-use Rattle.batch_set.specs.declared.cell_phases.CellPhases.{CellPhases}
-use Rattle.batch_set.specs.declared.linked.LinkedNeed.{LinkedNeed}
-use Rattle.batch_set.specs.declared.linked.LinkedRecipe.{LinkedRecipe}
-use Rattle.batch_set.specs.declared.linked.Source.{Source}
-use Rattle.batch_set.proofs.PhaseNumbers.{phases-said}
-use Rattle.batch_set.specs.declared.linked_set.LinkedSet.{LinkedSet}
-use Rattle.batch_set.proofs.Positions.{name-at}
-use Rattle.batch_set.proofs.Sources.{needs-said, said-at, units-said}
-use Rattle.batch_engine.specs.Kept.{IsKept}
-use Rattle.batch_engine.specs.Names.{resource_name}
+use Rattle.batch_set.{specs.Linking.IsLinked, specs.Linking.IsLinkedSet, specs.Linking.run_phase, specs.Looked.needs_by, specs.Looked.number_for, specs.Looked.phase_on, specs.Looked.unit_procedure_source, specs.Sources.IsSource, specs.Sources.SayNeeds, specs.declared.cell_phases.CellPhases.CellPhases, specs.declared.linked.LinkedNeed.LinkedNeed, specs.declared.linked.LinkedRecipe.LinkedRecipe, specs.declared.linked.Source.Source, proofs.PhaseNumbers.phases-said, specs.declared.linked_set.LinkedSet.LinkedSet, proofs.Positions.name-at, proofs.Sources.needs-said, proofs.Sources.said-at, proofs.Sources.units-said}
+use Rattle.batch_engine.{specs.Kept.IsKept, specs.Names.resource_name, specs.Numbered.phase_by, specs.Steps.IsNumberAt, specs.Steps.IsPhaseAt, specs.View.EngineView, specs.View.bound_to, specs.View.resource_number, specs.View.recipe_made, specs.View.setup, specs.View.tree_of, specs.declared.batch.Batch.Batch, specs.declared.phase_number.PhaseNumber.PhaseNumber, specs.declared.phase_number.TheConstants.NO_PHASE, proofs.BatchLookups.batch-runs, proofs.BatchLookups.chart-for, proofs.BatchLookups.is-control, proofs.NumbersOfNames.need-numbered, proofs.NumbersOfNames.node-named, proofs.NumbersOfNames.nothing-named, proofs.NumbersOfNames.phase-among, proofs.NumbersOfNames.phase-named, proofs.NumbersOfNames.unit-named, proofs.NumbersOfNames.unit-number, proofs.ActsAtNodes.act-here, proofs.UnitNumbers.source-number, proofs.UnitNumbers.unit-numbers, proofs.MoveLines.tree-is}
 use Rattle.batch_engine.specs.Names as Names
-use Rattle.batch_engine.specs.Numbered.{phase_by}
-use Rattle.batch_engine.specs.Steps.{IsNumberAt, IsPhaseAt}
-use Rattle.batch_engine.specs.View.{EngineView, bound_to, resource_number, recipe_made, setup, tree_of}
-use Rattle.batch_engine.specs.declared.batch.Batch.{Batch}
-use Rattle.batch_engine.specs.declared.phase_number.PhaseNumber.{PhaseNumber}
-use Rattle.batch_engine.specs.declared.phase_number.TheConstants.{NO_PHASE}
-use Rattle.batch_engine.proofs.BatchLookups.{batch-runs, chart-for, is-control}
-use Rattle.batch_engine.proofs.NumbersOfNames.{need-numbered, node-named, nothing-named, phase-among, phase-named, unit-named, unit-number}
-use Rattle.batch_engine.proofs.ActsAtNodes.{act-here}
-use Rattle.batch_engine.proofs.UnitNumbers.{source-number, unit-numbers}
-use Rattle.batch_engine.proofs.MoveLines.{tree-is}
 
 -- The contents of an entry
 

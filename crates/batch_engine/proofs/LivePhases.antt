@@ -2,16 +2,11 @@
 use Rattle.std.proofs.Common.{◌≡◌, ◌<◌, ◌≤◌, refl, sym, ◌∙◌, ap, ℕ, zero, suc, List, [], ◌∷◌, ◌+◌, Bool, true, false, Option, Some, None, inl, inr, arith, length, get_or}
 use Rattle.std.specs.Prelude.{position}
 use Rattle.batch_matrix.specs.declared.state.State.{State}
-use Rattle.batch_recipe.specs.Conditions.{Name, same_name}
-use Rattle.batch_recipe.specs.Nodes.{Node, node_count}
-use Rattle.batch_recipe.specs.Tree.{Tree, skip}
-use Rattle.batch_recipe.proofs.NodeOrder.{counted_nodes}
-use Rattle.batch_model.specs.Events.{LivePhase, live_in}
+use Rattle.batch_recipe.{specs.Conditions.Name, specs.Conditions.same_name, specs.Nodes.Node, specs.Nodes.node_count, specs.Tree.Tree, specs.Tree.skip, proofs.NodeOrder.counted_nodes}
+use Rattle.batch_model.specs.{Events.LivePhase, Events.live_in, Rest.Rest}
 use Rattle.batch_model.specs.Plant as Model
-use Rattle.batch_model.specs.Rest.{Rest}
 use Rattle.batch_record_laws.proofs.Entries.{name_same, name_self}
-use Rattle.batch_chart.specs.Looked.{live_by, live_phase_at}
-use Rattle.batch_chart.specs.NodesOf.{node_at, nodes_of, phase_at, phase_in, phase_named, tree_task}
+use Rattle.batch_chart.specs.{Looked.live_by, Looked.live_phase_at, NodesOf.node_at, NodesOf.nodes_of, NodesOf.phase_at, NodesOf.phase_in, NodesOf.phase_named, NodesOf.tree_task}
 use Rattle.batch_set.proofs.Positions.{name-at}
 use Rattle.batch_signs.proofs.Bits.{within-or_past}
 

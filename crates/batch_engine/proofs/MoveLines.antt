@@ -1,33 +1,17 @@
 -- The line of each move: its numbers stand for the names and places of the move.
 use Rattle.std.proofs.Common.{◌≡◌, ◌<◌, refl, sym, ◌∙◌, ap, ap₂, subst, ℕ, zero, suc, List, [], ◌∷◌, Option, Some, None, arith, length, get_or}
-use Rattle.std.specs.Prelude.{slice_get, option_map, unwrap_or}
-use Rattle.std.specs.List.{zip}
-use Rattle.batch_matrix.specs.declared.command.Command.{Command}
-use Rattle.batch_matrix.specs.declared.state.State.{State}
-use Rattle.batch_recipe.specs.Conditions.{Name}
-use Rattle.batch_recipe.specs.Nodes.{Node, reports_in, reports_of}
-use Rattle.batch_recipe.specs.Expanding.{Binding}
-use Rattle.batch_recipe.specs.Procedure.{bound_nodes, bound_tree}
-use Rattle.batch_recipe.specs.Tree.{Phase, Tree, skip}
-use Rattle.batch_recipe.proofs.ReportedOutputs.{reports-alike}
-use Rattle.batch_recipe.specs.declared.need.Need.{Need}
-use Rattle.batch_recipe.specs.declared.recipe.Recipe.{Recipe}
+use Rattle.std.specs.{Prelude.slice_get, Prelude.option_map, Prelude.unwrap_or, List.zip}
+use Rattle.batch_matrix.specs.declared.{command.Command.Command, state.State.State}
+use Rattle.batch_recipe.{specs.Conditions.Name, specs.Nodes.Node, specs.Nodes.reports_in, specs.Nodes.reports_of, specs.Expanding.Binding, specs.Procedure.bound_nodes, specs.Procedure.bound_tree, specs.Tree.Phase, specs.Tree.Tree, specs.Tree.skip, proofs.ReportedOutputs.reports-alike, specs.declared.need.Need.Need, specs.declared.recipe.Recipe.Recipe}
 use Rattle.batch_model.specs.Moves as Moves
-use Rattle.batch_model.specs.Moves.{handed_values}
-use Rattle.batch_model.specs.Plant.{Master}
+use Rattle.batch_model.specs.{Moves.handed_values, Plant.Master}
 use Rattle.batch_verify.specs.ClearedSet.{ClearedSet}
 use Rattle.batch_chart.specs.NodesOf as Tree
 use Rattle.batch_chart.specs.NodesOf.{nodes_of, need_at, tree_task}
 use Rattle.batch_chart.specs.declared.chart_move.Move.TheVariants as Chart
-use Rattle.batch_engine.specs.declared.batch.Batch.{Batch}
-use Rattle.batch_engine.specs.declared.line.ClaimKind.TheVariants.{Asked, Granted, Released}
+use Rattle.batch_engine.{specs.declared.batch.Batch.Batch, specs.declared.line.ClaimKind.TheVariants.Asked, specs.declared.line.ClaimKind.TheVariants.Granted, specs.declared.line.ClaimKind.TheVariants.Released, specs.Steps.IsNext, specs.Steps.IsNumberAt, specs.Steps.IsPhaseAt, specs.Steps.Tells, specs.Steps.TellsNext, specs.View.EngineView, specs.View.bound_to, specs.View.resource_number, specs.View.master_at, specs.View.tree_at, specs.View.tree_of, specs.Kept.IsKept, proofs.BatchLookups.known-resource, proofs.BatchLookups.named, proofs.BatchLookups.batch-runs, proofs.BatchLookups.master-found, proofs.NodesAcrossBindings.place-alike, proofs.NodesAcrossBindings.name-alike, proofs.NodesAcrossBindings.handed-alike}
 use Rattle.batch_engine.specs.declared.line.Line.TheVariants as Lines
 use Rattle.batch_engine.specs.Names as Names
-use Rattle.batch_engine.specs.Steps.{IsNext, IsNumberAt, IsPhaseAt, Tells, TellsNext}
-use Rattle.batch_engine.specs.View.{EngineView, bound_to, resource_number, master_at, tree_at, tree_of}
-use Rattle.batch_engine.specs.Kept.{IsKept}
-use Rattle.batch_engine.proofs.BatchLookups.{known-resource, named, batch-runs, master-found}
-use Rattle.batch_engine.proofs.NodesAcrossBindings.{place-alike, name-alike, handed-alike}
 
 -- The place, the name and the values of a node, by its number and by its tree
 

@@ -1,23 +1,10 @@
 -- Moves of a batch in two plants that serve the same acts of it.
 use Rattle.std.proofs.Common.{◌≡◌, ⊎_elim, refl, sym, ◌∙◌, ap, subst, subst₂, ℕ, ◌+◌, List, [], ◌∷◌, ◌++◌, Bool, true, false, ◌&&◌, filter_map, Option, Some, None, inl, inr, slice_get}
-use Rattle.std.specs.Prelude.{nat_le, option_to_list, ⊤}
-use Rattle.std.specs.Cmp.Derive.{both_true}
-use Rattle.std.proofs.lemmas.Bool.{and_parts}
-use Rattle.batch_recipe.specs.Conditions.{Name, same_name}
-use Rattle.batch_recipe.specs.Tree.{Place, Step, Task}
-use Rattle.batch_recipe.specs.declared.need.Need.{Need}
-use Rattle.batch_model.specs.Lists.{Has}
-use Rattle.batch_model.specs.Rest.{Rest, ready, asking, open_act, live, freeing, in_seq, in_par, in_loop, done, acts}
-use Rattle.batch_model.specs.Plant.{Setup, Batch, BatchAct, Share, units_in, Plant, is_same_act, holders, without}
-use Rattle.batch_model.specs.Moves.{Move, send, state, release, pass, begin, start, end, ask, grant, batch_of, act_move, state_move, batch_moves, is_served, when, after_move, next, possible}
-use Rattle.batch_model.specs.Runs.{Out, move}
-use Rattle.batch_model.specs.Records.{holders_told, holders_after}
-use Rattle.batch_step_laws.proofs.WorkAfterMove.{Has-batch_moves}
-use Rattle.batch_step_laws.proofs.MoveOrder.{none_least}
-use Rattle.batch_step_laws.proofs.LastLineEffect.{holders_told-last}
-use Rattle.batch_step_laws.proofs.HoldersInAdvance.{filter_map-Has, flat_map-Has}
-use Rattle.batch_record_laws.specs.Telling.{IsTold}
-use Rattle.batch_record_laws.proofs.Entries.{name_same, same_act}
+use Rattle.std.{specs.Prelude.nat_le, specs.Prelude.option_to_list, specs.Prelude.⊤, specs.Cmp.Derive.both_true, proofs.lemmas.Bool.and_parts}
+use Rattle.batch_recipe.specs.{Conditions.Name, Conditions.same_name, Tree.Place, Tree.Step, Tree.Task, declared.need.Need.Need}
+use Rattle.batch_model.specs.{Lists.Has, Rest.Rest, Rest.ready, Rest.asking, Rest.open_act, Rest.live, Rest.freeing, Rest.in_seq, Rest.in_par, Rest.in_loop, Rest.done, Rest.acts, Plant.Setup, Plant.Batch, Plant.BatchAct, Plant.Share, Plant.units_in, Plant.Plant, Plant.is_same_act, Plant.holders, Plant.without, Moves.Move, Moves.send, Moves.state, Moves.release, Moves.pass, Moves.begin, Moves.start, Moves.end, Moves.ask, Moves.grant, Moves.batch_of, Moves.act_move, Moves.state_move, Moves.batch_moves, Moves.is_served, Moves.when, Moves.after_move, Moves.next, Moves.possible, Runs.Out, Runs.move, Records.holders_told, Records.holders_after}
+use Rattle.batch_step_laws.proofs.{WorkAfterMove.Has-batch_moves, MoveOrder.none_least, LastLineEffect.holders_told-last, HoldersInAdvance.filter_map-Has, HoldersInAdvance.flat_map-Has}
+use Rattle.batch_record_laws.{specs.Telling.IsTold, proofs.Entries.name_same, proofs.Entries.same_act}
 use Rattle.batch_engine.specs.Marking.{touched}
 
 pub no-elements : {X : Type 0} (xs : List X) → ((x : X) → Has xs x → ⊥) → xs ≡ []

@@ -1,34 +1,15 @@
 -- The machine's answers to a create, and the invariant with the batch that it makes.
 use Rattle.std.proofs.Common.{◌≡◌, ◌<◌, ◌≤◌, ◌+◌, refl, sym, ◌∙◌, ap, ap₂, subst, ℕ, suc, List, [], ◌∷◌, ◌++◌, Bool, true, false, Option, Some, None, inl, inr, ⊎_elim, arith, length, map, find, nat_eq}
-use Rattle.std.proofs.lemmas.List.{map-append}
-use Rattle.std.proofs.lemmas.List.Sums.{sum_by_push}
-use Rattle.batch_recipe.specs.Conditions.{Name, ValueList, same_name}
-use Rattle.batch_recipe.specs.Expanding.{Binding}
-use Rattle.batch_recipe.specs.Tree.{Place}
-use Rattle.batch_recipe.specs.declared.need.Need.{Need}
-use Rattle.batch_model.specs.Lists.{Has}
+use Rattle.std.proofs.lemmas.List.{map-append, Sums.sum_by_push}
+use Rattle.batch_recipe.specs.{Conditions.Name, Conditions.ValueList, Conditions.same_name, Expanding.Binding, Tree.Place, declared.need.Need.Need}
+use Rattle.batch_model.{specs.Lists.Has, specs.Plant.Formula, specs.Plant.scaled, specs.Plant.Master, specs.Plant.Share, specs.Plant.Plant, specs.Plant.holders, specs.Moves.Move, specs.Moves.next, specs.Events.create, specs.Events.created, specs.Events.refused, specs.Events.moves_pending, specs.Events.unknown_recipe, specs.Events.full, specs.Events.bad_binding, specs.Events.is_full, specs.Events.is_binding, specs.Events.bound_by, specs.Events.roles_told, specs.Events.binding, specs.Events.creating_for, specs.Events.creating, specs.Events.with_batch, specs.Events.new_batch, specs.Events.judged, specs.Events.react, specs.Events.Answer, specs.Runs.Reacts, specs.Standing.AreNumbered, proofs.Members.Each-append, proofs.Members.Has-flat_map, proofs.Members.Has-split}
 use Rattle.batch_model.specs.Plant as Model
-use Rattle.batch_model.specs.Plant.{Formula, scaled, Master, Share, Plant, holders}
-use Rattle.batch_model.specs.Moves.{Move, next}
-use Rattle.batch_model.specs.Events.{create, created, refused, moves_pending, unknown_recipe, full, bad_binding, is_full, is_binding, bound_by, roles_told, binding, creating_for, creating, with_batch, new_batch, judged, react, Answer}
-use Rattle.batch_model.specs.Runs.{Reacts}
-use Rattle.batch_model.specs.Standing.{AreNumbered}
-use Rattle.batch_model.proofs.Members.{Each-append, Has-flat_map, Has-split}
-use Rattle.batch_record_laws.proofs.Entries.{IsOnce, nat_differs}
-use Rattle.batch_record_laws.proofs.Members.{Has-map, map-Has}
+use Rattle.batch_record_laws.proofs.{Entries.IsOnce, Entries.nat_differs, Members.Has-map, Members.map-Has}
 use Rattle.batch_verify.specs.ClearedSet.{ClearedSet}
 use Rattle.batch_arbiter.specs.Allocation.{Claim, shares_at, line_of_asks}
-use Rattle.batch_chart.specs.NodesOf.{needs_in, place_at}
-use Rattle.batch_chart.specs.Charts.{IsRunningOf}
-use Rattle.batch_engine.specs.declared.batch.Batch.{Batch}
-use Rattle.batch_engine.specs.View.{EngineView, setup, master_at, recipe_at, tree_at, model_batch, share_of, claimed_shares, place_in, resource_number, line_in, line_at, plant_of, tree_of}
+use Rattle.batch_chart.specs.{NodesOf.needs_in, NodesOf.place_at, Charts.IsRunningOf}
+use Rattle.batch_engine.{specs.declared.batch.Batch.Batch, specs.View.EngineView, specs.View.setup, specs.View.master_at, specs.View.recipe_at, specs.View.tree_at, specs.View.model_batch, specs.View.share_of, specs.View.claimed_shares, specs.View.place_in, specs.View.resource_number, specs.View.line_in, specs.View.line_at, specs.View.plant_of, specs.View.tree_of, specs.Kept.AreUnits, specs.Kept.IsRunningBatch, specs.Kept.IsKept, specs.Kept.needs_of_all, specs.Creates.IsCreate, proofs.RecordOfPlant.told, proofs.RecordOfPlant.standing, proofs.BatchPlaces.made_by, proofs.BatchPlaces.chosen-false, proofs.BatchAfterMove.fun_ext, proofs.InvariantAfterEvent.with, proofs.InvariantAfterEvent.event-kept}
 use Rattle.batch_engine.specs.Names as Names
-use Rattle.batch_engine.specs.Kept.{AreUnits, IsRunningBatch, IsKept, needs_of_all}
-use Rattle.batch_engine.specs.Creates.{IsCreate}
-use Rattle.batch_engine.proofs.RecordOfPlant.{told, standing}
-use Rattle.batch_engine.proofs.BatchPlaces.{made_by, chosen-false}
-use Rattle.batch_engine.proofs.BatchAfterMove.{fun_ext}
-use Rattle.batch_engine.proofs.InvariantAfterEvent.{with, event-kept}
 
 -- The machine's answer to a create
 

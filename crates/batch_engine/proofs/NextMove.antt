@@ -1,13 +1,7 @@
 -- The next move is that of the first batch that has one.
 use Rattle.std.proofs.Common.{◌≡◌, ◌<◌, refl, sym, ◌∙◌, ap, subst, ℕ, List, [], ◌∷◌, ◌++◌, Bool, true, false, Option, Some, None, inl, inr, arith, flat_map, nat_eq}
-use Rattle.batch_model.specs.Lists.{Has, Each}
-use Rattle.batch_model.specs.Plant.{Setup, Batch, Plant}
-use Rattle.batch_model.specs.Moves.{Move, batch_of, is_earlier, least, batch_moves, next}
-use Rattle.batch_model.specs.Standing.{AreNumbered}
-use Rattle.batch_step_laws.specs.Laws.{IsLeast}
-use Rattle.batch_model.proofs.Members.{Has-flat_map, Each-Has}
-use Rattle.batch_step_laws.proofs.MoveOrder.{none_least, least-IsLeast}
-use Rattle.batch_step_laws.proofs.WorkAfterMove.{batch_moves-number}
+use Rattle.batch_model.{specs.Lists.Has, specs.Lists.Each, specs.Plant.Setup, specs.Plant.Batch, specs.Plant.Plant, specs.Moves.Move, specs.Moves.batch_of, specs.Moves.is_earlier, specs.Moves.least, specs.Moves.batch_moves, specs.Moves.next, specs.Standing.AreNumbered, proofs.Members.Has-flat_map, proofs.Members.Each-Has}
+use Rattle.batch_step_laws.{specs.Laws.IsLeast, proofs.MoveOrder.none_least, proofs.MoveOrder.least-IsLeast, proofs.WorkAfterMove.batch_moves-number}
 
 least-one : (x : Move) (ys : List Move) → ((y : Move) → Has ys y → is_earlier y x ≡ false) → least (x ∷ ys) ≡ Some x
 least-one x ys h = go (least ys) refl

@@ -1,24 +1,12 @@
 -- The next step of the engine is the next move of the plant.
 use Rattle.std.proofs.Common.{◌≡◌, ◌<◌, refl, sym, ◌∙◌, ap, subst, ℕ, zero, suc, List, [], ◌∷◌, ◌++◌, Option, Some, None, arith, length, map}
-use Rattle.std.specs.Prelude.{slice_get}
-use Rattle.std.proofs.lemmas.List.{map-append}
-use Rattle.batch_model.specs.Lists.{Each}
+use Rattle.std.{specs.Prelude.slice_get, proofs.lemmas.List.map-append}
+use Rattle.batch_model.specs.{Lists.Each, Moves.least, Moves.batch_moves, Moves.next}
 use Rattle.batch_model.specs.Plant as Model
 use Rattle.batch_model.specs.Moves as Moves
-use Rattle.batch_model.specs.Moves.{least, batch_moves, next}
 use Rattle.batch_record_laws.proofs.Members.{Each-image}
-use Rattle.batch_chart.specs.OwnMoves.{grants, own_next}
-use Rattle.batch_chart.specs.Seen.{machine_move}
-use Rattle.batch_engine.specs.declared.batch.Batch.{Batch}
-use Rattle.batch_engine.specs.declared.step.Step.{Step}
-use Rattle.batch_engine.specs.declared.step.Step.TheVariants.{Own, Grant}
-use Rattle.batch_engine.specs.View.{EngineView, setup, model_batch, plant_of, tree_of}
-use Rattle.batch_engine.specs.Kept.{IsKept}
-use Rattle.batch_engine.specs.Marked.{HasNoMove}
-use Rattle.batch_engine.specs.Steps.{IsStep, IsLeastAt, IsNext}
-use Rattle.batch_engine.proofs.NextMove.{next-first, next-none}
-use Rattle.batch_chart.proofs.LeastOwnMove.{own-first-elim}
-use Rattle.batch_engine.proofs.RecordOfPlant.{standing}
+use Rattle.batch_chart.{specs.OwnMoves.grants, specs.OwnMoves.own_next, specs.Seen.machine_move, proofs.LeastOwnMove.own-first-elim}
+use Rattle.batch_engine.{specs.declared.batch.Batch.Batch, specs.declared.step.Step.Step, specs.declared.step.Step.TheVariants.Own, specs.declared.step.Step.TheVariants.Grant, specs.View.EngineView, specs.View.setup, specs.View.model_batch, specs.View.plant_of, specs.View.tree_of, specs.Kept.IsKept, specs.Marked.HasNoMove, specs.Steps.IsStep, specs.Steps.IsLeastAt, specs.Steps.IsNext, proofs.NextMove.next-first, proofs.NextMove.next-none, proofs.RecordOfPlant.standing}
 use Rattle.batch_step_laws.proofs.MoveOrder.{none_least}
 
 pub step-map : (v : EngineView) (P Q : Moves.Move → Type 0) → ((m : Moves.Move) → P m → Q m) → (s : Step) → IsStep v P s → IsStep v Q s

@@ -1,22 +1,7 @@
 -- The place, the name and the values of a node are the same whatever units take the roles.
 use Rattle.std.proofs.Common.{arith, ◌≡◌, ◌≢◌, refl, sym, ◌∙◌, ap, subst, ℕ, zero, suc, List, [], ◌∷◌, Option, Some, None, length, map}
-use Rattle.std.specs.Prelude.{slice_get}
-use Rattle.std.specs.List.{AllByRecursion}
-use Rattle.std.proofs.lemmas.List.{length-map}
-use Rattle.batch_recipe.specs.ActsAtNodes.{ActList, AreActsAt, IsActAt, IsNoAct, procedure_acts}
-use Rattle.batch_recipe.specs.Conditions.{Name}
-use Rattle.batch_recipe.specs.Expanding.{Binding, Sites, unbound, act_tree_with, named_tree_with}
-use Rattle.batch_recipe.specs.Nodes.{Node, node_count}
-use Rattle.batch_recipe.specs.Places.{IsNodeAt, NoNodeAt}
-use Rattle.batch_recipe.specs.Procedure.{bound_nodes, bound_tree, procedure_nodes, sites, tables_from}
-use Rattle.batch_recipe.specs.Tree.{Place, Tree}
-use Rattle.batch_recipe.specs.declared.act.Act.{Act}
-use Rattle.batch_recipe.specs.declared.act.Work.{Work}
-use Rattle.batch_recipe.specs.declared.act.Work.TheVariants.{Follows, Runs}
-use Rattle.batch_recipe.specs.declared.acts.Acts.{Acts}
-use Rattle.batch_recipe.proofs.PlacesInBindings.{places_stay}
-use Rattle.batch_recipe.proofs.NodeActs.{procedure_acts_are}
-use Rattle.batch_recipe.proofs.NodeOrder.{counted_nodes}
+use Rattle.std.{specs.Prelude.slice_get, specs.List.AllByRecursion, proofs.lemmas.List.length-map}
+use Rattle.batch_recipe.{specs.ActsAtNodes.ActList, specs.ActsAtNodes.AreActsAt, specs.ActsAtNodes.IsActAt, specs.ActsAtNodes.IsNoAct, specs.ActsAtNodes.procedure_acts, specs.Conditions.Name, specs.Expanding.Binding, specs.Expanding.Sites, specs.Expanding.unbound, specs.Expanding.act_tree_with, specs.Expanding.named_tree_with, specs.Nodes.Node, specs.Nodes.node_count, specs.Places.IsNodeAt, specs.Places.NoNodeAt, specs.Procedure.bound_nodes, specs.Procedure.bound_tree, specs.Procedure.procedure_nodes, specs.Procedure.sites, specs.Procedure.tables_from, specs.Tree.Place, specs.Tree.Tree, specs.declared.act.Act.Act, specs.declared.act.Work.Work, specs.declared.act.Work.TheVariants.Follows, specs.declared.act.Work.TheVariants.Runs, specs.declared.acts.Acts.Acts, proofs.PlacesInBindings.places_stay, proofs.NodeActs.procedure_acts_are, proofs.NodeOrder.counted_nodes}
 use Rattle.batch_engine.specs.Names.{node_place, chart_act_name, name_of, handed_in, handed_of}
 
 -- Places

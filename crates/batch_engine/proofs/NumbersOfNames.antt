@@ -1,40 +1,17 @@
 -- The resources that a cleared recipe's acts need and the phases that they run have numbers.
 use Rattle.std.proofs.Common.{◌≡◌, ◌<◌, refl, sym, ◌∙◌, ap, subst, ℕ, List, [], ◌∷◌, ◌++◌, Bool, true, false, if◌then◌else◌, Option, Some, None, arith, length, map, filter, nat_lt}
-use Rattle.std.specs.Prelude.{slice_get, position, unwrap_or, IsTrue}
-use Rattle.std.specs.List.{list_any, list_all}
-use Rattle.std.proofs.lemmas.List.{length-map}
-use Rattle.std.proofs.lemmas.Option.{get_or_from_slice_get, slice_get_past, slice_get_within}
-use Rattle.std.proofs.lemmas.Bool.{and_parts}
-use Rattle.batch_cell.specs.Equipment.{is_free, belongs_to, has_declared_unit, unit_phases}
-use Rattle.batch_cell.specs.LookUps.{units_of, resources_of, phases_of}
-use Rattle.batch_cell.specs.declared.cell.Cell.{Cell}
-use Rattle.batch_cell.specs.declared.module.Module.{Module}
-use Rattle.batch_cell.specs.declared.shared.Shared.{Shared}
-use Rattle.batch_cell.specs.declared.unit.Unit.{Unit}
-use Rattle.batch_cell.proofs.Resources.{few_resources}
-use Rattle.batch_recipe.specs.Conditions.{Name, same_name}
-use Rattle.batch_recipe.specs.Nodes.{Node, node_count}
+use Rattle.std.{specs.Prelude.slice_get, specs.Prelude.position, specs.Prelude.unwrap_or, specs.Prelude.IsTrue, specs.List.list_any, specs.List.list_all, proofs.lemmas.List.length-map, proofs.lemmas.Option.get_or_from_slice_get, proofs.lemmas.Option.slice_get_past, proofs.lemmas.Option.slice_get_within, proofs.lemmas.Bool.and_parts}
+use Rattle.batch_cell.{specs.Equipment.is_free, specs.Equipment.belongs_to, specs.Equipment.has_declared_unit, specs.Equipment.unit_phases, specs.LookUps.units_of, specs.LookUps.resources_of, specs.LookUps.phases_of, specs.declared.cell.Cell.Cell, specs.declared.module.Module.Module, specs.declared.shared.Shared.Shared, specs.declared.unit.Unit.Unit, proofs.Resources.few_resources}
+use Rattle.batch_recipe.{specs.Conditions.Name, specs.Conditions.same_name, specs.Nodes.Node, specs.Nodes.node_count, specs.Tree.Phase, specs.Tree.Tree, specs.Tree.skip, specs.WellFormed.is_among, specs.declared.need.Need.Need, proofs.NodeOrder.counted_nodes, proofs.AppendedLists.slice_get-left}
 use Rattle.batch_recipe.specs.Nodes as nodes_spec
-use Rattle.batch_recipe.specs.Tree.{Phase, Tree, skip}
-use Rattle.batch_recipe.specs.WellFormed.{is_among}
-use Rattle.batch_recipe.specs.declared.need.Need.{Need}
-use Rattle.batch_recipe.proofs.NodeOrder.{counted_nodes}
-use Rattle.batch_recipe.proofs.AppendedLists.{slice_get-left}
-use Rattle.batch_model.specs.Cleared.{CanBeCleared, IsClear, IsOffered, NeedsResources, Part, is_procedure, procedure_parts}
-use Rattle.batch_model.specs.Lists.{Each}
+use Rattle.batch_model.{specs.Cleared.CanBeCleared, specs.Cleared.IsClear, specs.Cleared.IsOffered, specs.Cleared.NeedsResources, specs.Cleared.Part, specs.Cleared.is_procedure, specs.Cleared.procedure_parts, specs.Lists.Each, proofs.Members.Each-map, proofs.TreeParts.parts-nodes, specs.Standing.IsControl}
 use Rattle.batch_model.specs.Plant as Model
-use Rattle.batch_model.proofs.Members.{Each-map}
-use Rattle.batch_model.proofs.TreeParts.{parts-nodes}
-use Rattle.batch_model.specs.Standing.{IsControl}
-use Rattle.batch_record_laws.proofs.ClearanceOverNodes.{control-clear}
-use Rattle.batch_record_laws.proofs.Entries.{name_same}
-use Rattle.batch_record_laws.proofs.Members.{Each-image}
+use Rattle.batch_record_laws.proofs.{ClearanceOverNodes.control-clear, Entries.name_same, Members.Each-image}
 use Rattle.batch_verify.specs.ClearedSet.{ClearedSet}
 use Rattle.batch_set.proofs.Positions.{any-position, name-at}
 use Rattle.batch_chart.specs.NodesOf.{nodes_of, node_at, tree_step, step_at, need_at, no_need}
 use Rattle.batch_engine.specs.Names as Names
-use Rattle.batch_engine.specs.View.{setup, resource_number}
-use Rattle.batch_engine.proofs.SlabChanges.{each-at}
+use Rattle.batch_engine.{specs.View.setup, specs.View.resource_number, proofs.SlabChanges.each-at}
 
 -- A unit that offers something is declared
 

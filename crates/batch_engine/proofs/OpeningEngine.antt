@@ -1,18 +1,13 @@
 -- The engine in which nothing has happened.
 use Rattle.std.proofs.Common.{◌≡◌, refl, sym, ◌∙◌, ap, subst, ℕ, zero, suc, List, [], Option, Some, None, arith, length, get_or}
-use Rattle.std.specs.Prelude.{replicate}
-use Rattle.std.proofs.lemmas.List.{length-replicate}
+use Rattle.std.{specs.Prelude.replicate, proofs.lemmas.List.length-replicate}
 use Rattle.batch_cell.specs.LookUps.{capacities_of}
 use Rattle.batch_recipe.specs.Conditions.{Name}
-use Rattle.batch_model.specs.Cleared.{CanBeCleared}
-use Rattle.batch_model.specs.Plant.{Share, Plant, opening}
+use Rattle.batch_model.specs.{Cleared.CanBeCleared, Plant.Share, Plant.Plant, Plant.opening}
 use Rattle.batch_record_laws.proofs.Entries.{IsOnce}
 use Rattle.batch_verify.specs.ClearedSet.{ClearedSet}
-use Rattle.batch_arbiter.specs.Allocation.{Claim, idle}
-use Rattle.batch_engine.specs.View.{seen, setup, claimed_shares, resource_number, line_in, line_at, plant_of}
-use Rattle.batch_engine.specs.Kept.{IsKept}
-use Rattle.batch_engine.proofs.BatchAfterMove.{fun_ext}
-use Rattle.batch_arbiter.proofs.CellCapacities.{length-capacities}
+use Rattle.batch_arbiter.{specs.Allocation.Claim, specs.Allocation.idle, proofs.CellCapacities.length-capacities}
+use Rattle.batch_engine.{specs.View.seen, specs.View.setup, specs.View.claimed_shares, specs.View.resource_number, specs.View.line_in, specs.View.line_at, specs.View.plant_of, specs.Kept.IsKept, proofs.BatchAfterMove.fun_ext}
 
 nothing : (n q : ℕ) → get_or (replicate n (let xs : List Claim = [] in xs)) q [] ≡ []
 nothing zero q = refl

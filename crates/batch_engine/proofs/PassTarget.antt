@@ -1,38 +1,11 @@
 -- The act that a pass goes to isn't reached, and holds nothing in advance.
 use Rattle.std.proofs.Common.{arith, ◌≡◌, refl, sym, ◌∙◌, ap, ap₂, subst, ℕ, zero, suc, List, [], ◌∷◌, ◌++◌, length, map, take, Bool, true, false, Option, Some, None, inl, inr, ⊎_elim, append-nil, find, nat_eq}
-use Rattle.std.specs.Prelude.{⊤, ◌&&◌, ◌||◌, slice_get, option_and_then}
-use Rattle.std.specs.List.{list_any}
-use Rattle.batch_matrix.specs.declared.command.Command.{Command}
-use Rattle.batch_matrix.specs.declared.state.State.{State}
-use Rattle.batch_matrix.specs.Matrix.{accepts}
-use Rattle.batch_recipe.specs.Conditions.{Name, same_name}
-use Rattle.batch_recipe.specs.declared.need.Need.{Need}
-use Rattle.batch_recipe.specs.Following.{follower}
-use Rattle.batch_recipe.specs.Tree.{Place, Reserve, Step, Task, runs, follows}
-use Rattle.batch_model.specs.ActStates.{steps}
-use Rattle.batch_model.specs.Cleared.{Ranking}
-use Rattle.batch_model.specs.Lists.{Has, Each}
-use Rattle.batch_model.specs.Moves.{Move, send, state, release, pass, end, ask, grant, is_running, is_stopping, is_stopped, is_quiet, is_empty, is_served, passed_on, beginning, entering, giving_back, reserved_place, handing_over, when, act_move, batch_moves, released}
-use Rattle.batch_model.specs.Plant.{Setup, BatchAct, InAdvance, Batch, Share, Plant, held_in, is_act_reached, units_in, without}
-use Rattle.batch_model.specs.Records.{holders_after, holders_told}
-use Rattle.batch_model.specs.Rest.{Rest, Rests, ready, asking, open_act, live, freeing, in_seq, in_par, in_loop, done, no_rests, rest, is_done, acts, acts_of_each, changed_at, place_of, same_place}
-use Rattle.batch_model.specs.Runs.{Out, move}
-use Rattle.batch_model.specs.Standing.{IsAwaited, IsStanding, IsStandingBatch}
-use Rattle.batch_model.proofs.Members.{Each-Has, Has-left, Has-right, Has-split}
-use Rattle.batch_step_laws.proofs.WorkAfterChange.{to_same_place}
-use Rattle.batch_step_laws.proofs.WorkAfterMove.{Has-batch_moves, batch_moves-number}
-use Rattle.batch_step_laws.proofs.DueUnitProcedures.{follower-due}
-use Rattle.batch_record_laws.proofs.ActChanges.{IsChange, Becomes, also, nothing}
-use Rattle.batch_record_laws.proofs.DuePlaces.{awaited-nowhere}
-use Rattle.batch_record_laws.proofs.Batches.{of-entry}
-use Rattle.batch_record_laws.proofs.Entries.{holders-Has, name_same, nat_same, sums-without_once, units-append, units-one}
-use Rattle.batch_record_laws.proofs.PlantFacts.{Standing, entries, facts, facts_of_each, held_at, holding}
-use Rattle.batch_record_laws.proofs.Invariant.{IsFirstNeed, IsKept, IsSound, standing-of}
-use Rattle.batch_record_laws.proofs.InvariantAfterChange.{not-held-yet}
-use Rattle.batch_record_laws.proofs.ActMoves.{freed-facts, no_move, some_move, held-next}
-use Rattle.batch_record_laws.proofs.BatchProgress.{act-step_in}
-use Rattle.batch_record_laws.proofs.HoldingsInAdvance.{Nowhere, places, reached-at}
-use Rattle.batch_record_laws.proofs.UnitProcedures.{find-passes}
+use Rattle.std.specs.{Prelude.⊤, Prelude.◌&&◌, Prelude.◌||◌, Prelude.slice_get, Prelude.option_and_then, List.list_any}
+use Rattle.batch_matrix.specs.{declared.command.Command.Command, declared.state.State.State, Matrix.accepts}
+use Rattle.batch_recipe.specs.{Conditions.Name, Conditions.same_name, declared.need.Need.Need, Following.follower, Tree.Place, Tree.Reserve, Tree.Step, Tree.Task, Tree.runs, Tree.follows}
+use Rattle.batch_model.{specs.ActStates.steps, specs.Cleared.Ranking, specs.Lists.Has, specs.Lists.Each, specs.Moves.Move, specs.Moves.send, specs.Moves.state, specs.Moves.release, specs.Moves.pass, specs.Moves.end, specs.Moves.ask, specs.Moves.grant, specs.Moves.is_running, specs.Moves.is_stopping, specs.Moves.is_stopped, specs.Moves.is_quiet, specs.Moves.is_empty, specs.Moves.is_served, specs.Moves.passed_on, specs.Moves.beginning, specs.Moves.entering, specs.Moves.giving_back, specs.Moves.reserved_place, specs.Moves.handing_over, specs.Moves.when, specs.Moves.act_move, specs.Moves.batch_moves, specs.Moves.released, specs.Plant.Setup, specs.Plant.BatchAct, specs.Plant.InAdvance, specs.Plant.Batch, specs.Plant.Share, specs.Plant.Plant, specs.Plant.held_in, specs.Plant.is_act_reached, specs.Plant.units_in, specs.Plant.without, specs.Records.holders_after, specs.Records.holders_told, specs.Rest.Rest, specs.Rest.Rests, specs.Rest.ready, specs.Rest.asking, specs.Rest.open_act, specs.Rest.live, specs.Rest.freeing, specs.Rest.in_seq, specs.Rest.in_par, specs.Rest.in_loop, specs.Rest.done, specs.Rest.no_rests, specs.Rest.rest, specs.Rest.is_done, specs.Rest.acts, specs.Rest.acts_of_each, specs.Rest.changed_at, specs.Rest.place_of, specs.Rest.same_place, specs.Runs.Out, specs.Runs.move, specs.Standing.IsAwaited, specs.Standing.IsStanding, specs.Standing.IsStandingBatch, proofs.Members.Each-Has, proofs.Members.Has-left, proofs.Members.Has-right, proofs.Members.Has-split}
+use Rattle.batch_step_laws.proofs.{WorkAfterChange.to_same_place, WorkAfterMove.Has-batch_moves, WorkAfterMove.batch_moves-number, DueUnitProcedures.follower-due}
+use Rattle.batch_record_laws.proofs.{ActChanges.IsChange, ActChanges.Becomes, ActChanges.also, ActChanges.nothing, DuePlaces.awaited-nowhere, Batches.of-entry, Entries.holders-Has, Entries.name_same, Entries.nat_same, Entries.sums-without_once, Entries.units-append, Entries.units-one, PlantFacts.Standing, PlantFacts.entries, PlantFacts.facts, PlantFacts.facts_of_each, PlantFacts.held_at, PlantFacts.holding, Invariant.IsFirstNeed, Invariant.IsKept, Invariant.IsSound, Invariant.standing-of, InvariantAfterChange.not-held-yet, ActMoves.freed-facts, ActMoves.no_move, ActMoves.some_move, ActMoves.held-next, BatchProgress.act-step_in, HoldingsInAdvance.Nowhere, HoldingsInAdvance.places, HoldingsInAdvance.reached-at, UnitProcedures.find-passes}
 
 -- The act that passes something on
 

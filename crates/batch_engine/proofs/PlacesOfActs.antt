@@ -1,15 +1,9 @@
 -- An act that needs something stands at the place of its node.
 use Rattle.std.proofs.Common.{◌≡◌, ◌<◌, ℕ, zero, suc, ◌+◌, List, [], ◌∷◌, ◌++◌, arith, length, get_or}
 use Rattle.std.specs.List.{AllByRecursion}
-use Rattle.batch_recipe.specs.Conditions.{Name}
-use Rattle.batch_recipe.specs.Needs.{resources_needed}
-use Rattle.batch_recipe.specs.Nodes.{Node, nodes, nodes_within, nodes_of_each, nodes_of_choices, child}
-use Rattle.batch_recipe.specs.Places.{StandsAt}
-use Rattle.batch_recipe.specs.Tree.{Place, Tree, act, skip, seq, par, sel, loop, Task, runs, follows, Trees, no_trees, tree, Choices, otherwise, choice}
+use Rattle.batch_recipe.{specs.Conditions.Name, specs.Needs.resources_needed, specs.Nodes.Node, specs.Nodes.nodes, specs.Nodes.nodes_within, specs.Nodes.nodes_of_each, specs.Nodes.nodes_of_choices, specs.Nodes.child, specs.Places.StandsAt, specs.Tree.Place, specs.Tree.Tree, specs.Tree.act, specs.Tree.skip, specs.Tree.seq, specs.Tree.par, specs.Tree.sel, specs.Tree.loop, specs.Tree.Task, specs.Tree.runs, specs.Tree.follows, specs.Tree.Trees, specs.Tree.no_trees, specs.Tree.tree, specs.Tree.Choices, specs.Tree.otherwise, specs.Tree.choice, specs.Nodes.node_count, proofs.NodeOrder.counted_nodes}
 use Rattle.batch_model.specs.Placed.{IsPlaced, IsPlacedBelow, ArePlaced, IsChoicePlaced}
 use Rattle.batch_chart.specs.NodesOf.{nodes_of, place_at, step_at, tree_step}
-use Rattle.batch_recipe.specs.Nodes.{node_count}
-use Rattle.batch_recipe.proofs.NodeOrder.{counted_nodes}
 
 all-append : (xs ys : List Node) → AllByRecursion (λ (n : Node). StandsAt n.place n.here) xs → AllByRecursion (λ (n : Node). StandsAt n.place n.here) ys → AllByRecursion (λ (n : Node). StandsAt n.place n.here) (xs ++ ys)
 all-append [] ys h k = k

@@ -1,26 +1,12 @@
 -- At a place without a node no act shows a state.
 use Rattle.std.proofs.Common.{◌≡◌, ◌≢◌, refl, sym, ◌∙◌, ap, subst, ℕ, ◌+◌, List, [], ◌∷◌, ◌++◌, Bool, true, false, cond, Option, Some, None, inl, inr, ⊎_elim, arith, find}
-use Rattle.std.specs.List.{AllByRecursion}
-use Rattle.std.proofs.lemmas.Option.{slice_get-get_or}
-use Rattle.batch_matrix.specs.declared.state.State.{State}
-use Rattle.batch_matrix.specs.declared.state.State.TheVariants.{Idle}
-use Rattle.batch_recipe.specs.Conditions.{Name}
-use Rattle.batch_recipe.specs.Needs.{resources_needed}
-use Rattle.batch_recipe.specs.Nodes.{Node, node, nodes, nodes_within, nodes_of_each, nodes_of_choices, child}
-use Rattle.batch_recipe.specs.Places.{NoNodeAt}
-use Rattle.batch_recipe.specs.Tree.{Place, Step, Tree, act, skip, seq, par, sel, loop, Task, runs, follows, Trees, no_trees, tree, Choices, otherwise, choice}
-use Rattle.batch_recipe.proofs.NodeOrder.{counted_nodes}
-use Rattle.batch_model.specs.ActStates.{steps, steps_below, steps_of_each, steps_of_choices, act_state, root, state_in}
-use Rattle.batch_model.specs.Lists.{Has}
-use Rattle.batch_model.specs.Placed.{IsPlaced, IsPlacedBelow, ArePlaced, IsChoicePlaced}
+use Rattle.std.{specs.List.AllByRecursion, proofs.lemmas.Option.slice_get-get_or}
+use Rattle.batch_matrix.specs.declared.state.State.{State, TheVariants.Idle}
+use Rattle.batch_recipe.{specs.Conditions.Name, specs.Needs.resources_needed, specs.Nodes.Node, specs.Nodes.node, specs.Nodes.nodes, specs.Nodes.nodes_within, specs.Nodes.nodes_of_each, specs.Nodes.nodes_of_choices, specs.Nodes.child, specs.Places.NoNodeAt, specs.Tree.Place, specs.Tree.Step, specs.Tree.Tree, specs.Tree.act, specs.Tree.skip, specs.Tree.seq, specs.Tree.par, specs.Tree.sel, specs.Tree.loop, specs.Tree.Task, specs.Tree.runs, specs.Tree.follows, specs.Tree.Trees, specs.Tree.no_trees, specs.Tree.tree, specs.Tree.Choices, specs.Tree.otherwise, specs.Tree.choice, proofs.NodeOrder.counted_nodes}
+use Rattle.batch_model.{specs.ActStates.steps, specs.ActStates.steps_below, specs.ActStates.steps_of_each, specs.ActStates.steps_of_choices, specs.ActStates.act_state, specs.ActStates.root, specs.ActStates.state_in, specs.Lists.Has, specs.Placed.IsPlaced, specs.Placed.IsPlacedBelow, specs.Placed.ArePlaced, specs.Placed.IsChoicePlaced, specs.Rest.Rest, specs.Rest.acts, specs.Rest.same_place, specs.Rest.place_of, specs.Standing.IsRestOf, proofs.Members.Has-split, proofs.Members.Has-left, proofs.Members.Has-right}
 use Rattle.batch_model.specs.Plant as Model
-use Rattle.batch_model.specs.Rest.{Rest, acts, same_place, place_of}
-use Rattle.batch_model.specs.Standing.{IsRestOf}
-use Rattle.batch_model.proofs.Members.{Has-split, Has-left, Has-right}
-use Rattle.batch_chart.specs.NodesOf.{nodes_of, node_at}
-use Rattle.batch_chart.proofs.ActsAtNodes.{stands-at}
-use Rattle.batch_engine.proofs.BatchLookups.{Has-get}
-use Rattle.batch_engine.proofs.BatchAfterMove.{name-no}
+use Rattle.batch_chart.{specs.NodesOf.nodes_of, specs.NodesOf.node_at, proofs.ActsAtNodes.stands-at}
+use Rattle.batch_engine.proofs.{BatchLookups.Has-get, BatchAfterMove.name-no}
 
 all-has : (P : Node → Type 0) (ns : List Node) (n : Node) → AllByRecursion P ns → Has ns n → P n
 all-has P [] n h k = absurd k

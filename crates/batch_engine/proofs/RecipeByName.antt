@@ -1,10 +1,7 @@
 -- The recipe with a name.
 use Rattle.std.proofs.Common.{◌≡◌, ◌<◌, refl, ◌∙◌, ap, ℕ, zero, suc, List, [], ◌∷◌, Bool, true, false, Option, Some, None, arith, map, find, get_or}
-use Rattle.std.specs.Prelude.{slice_get, position}
-use Rattle.std.proofs.lemmas.List.Quantifiers.{position-Some}
-use Rattle.std.proofs.lemmas.Option.{slice_get-get_or}
-use Rattle.batch_engine.proofs.AbsentElements.{NonePasses, NonePasses-position}
-use Rattle.batch_engine.proofs.BatchByNumber.{found-true, found-false}
+use Rattle.std.{specs.Prelude.slice_get, specs.Prelude.position, proofs.lemmas.List.Quantifiers.position-Some, proofs.lemmas.Option.slice_get-get_or}
+use Rattle.batch_engine.proofs.{AbsentElements.NonePasses, AbsentElements.NonePasses-position, BatchByNumber.found-true, BatchByNumber.found-false}
 
 module _ {X Y : Type 0} (f : X → Y) (p : Y → Bool) where
   first : (xs : List X) (i : ℕ) (x d : X) → slice_get xs i ≡ Some x → p (f x) ≡ true → ((j : ℕ) → j < i → p (f (get_or xs j d)) ≡ false) → find p (map f xs) ≡ Some (f x)

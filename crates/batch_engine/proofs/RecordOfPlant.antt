@@ -1,19 +1,11 @@
 -- The record that leads to the engine's plant tells its holders, its asks and its live phases, and these are in order.
 use Rattle.std.proofs.Common.{[]}
-use Rattle.batch_model.specs.Plant.{opening}
-use Rattle.batch_model.specs.Cleared.{CanBeCleared}
-use Rattle.batch_model.specs.Standing.{HasPlacedTrees, IsStanding}
+use Rattle.batch_model.specs.{Plant.opening, Cleared.CanBeCleared, Standing.HasPlacedTrees, Standing.IsStanding}
 use Rattle.batch_step_laws.proofs.PlantAlongRecord.{led-stands, opening-stands}
-use Rattle.batch_record_laws.specs.Telling.{IsTold}
+use Rattle.batch_record_laws.{specs.Telling.IsTold, proofs.ClearanceDownTrees.AreClearedDown, proofs.ClearanceOverNodes.cleared-down, proofs.Sets.sets_are_documents, proofs.PlantByRecord.tells_the_plant, proofs.InvariantAlongRecord.kept-along, proofs.InvariantAlongRecord.kept-at_first, proofs.InvariantAlongRecord.placed-trees}
 use Rattle.batch_record_laws.proofs.Invariant as Safety
-use Rattle.batch_record_laws.proofs.ClearanceDownTrees.{AreClearedDown}
-use Rattle.batch_record_laws.proofs.ClearanceOverNodes.{cleared-down}
-use Rattle.batch_record_laws.proofs.Sets.{sets_are_documents}
-use Rattle.batch_record_laws.proofs.PlantByRecord.{tells_the_plant}
-use Rattle.batch_record_laws.proofs.InvariantAlongRecord.{kept-along, kept-at_first, placed-trees}
 use Rattle.batch_verify.specs.ClearedSet.{ClearedSet}
-use Rattle.batch_engine.specs.View.{EngineView, setup, plant_of}
-use Rattle.batch_engine.specs.Kept.{IsKept}
+use Rattle.batch_engine.specs.{View.EngineView, View.setup, View.plant_of, Kept.IsKept}
 
 module _ (c : ClearedSet) (cleared : CanBeCleared (setup c)) where
   pub down : AreClearedDown (setup c) cleared.0

@@ -1,50 +1,18 @@
 -- The answers to a report of a live phase.
 use Rattle.std.proofs.Common.{◌≡◌, ◌≢◌, ◌<◌, refl, sym, ◌∙◌, ap, ap₂, subst, ℕ, zero, suc, List, [], ◌∷◌, Bool, true, false, ◌&&◌, Option, Some, None, inl, arith, get_or, map, set}
-use Rattle.std.specs.Prelude.{length, not, position, slice_get, unwrap_or}
-use Rattle.std.proofs.lemmas.Option.{slice_get-get_or}
-use Rattle.std.specs.Option.{option_or}
-use Rattle.batch_matrix.specs.declared.state.State.{State}
-use Rattle.batch_matrix.specs.declared.report.Report.{Report}
-use Rattle.batch_matrix.specs.declared.report.PhaseEnd.{PhaseEnd}
-use Rattle.batch_matrix.specs.Matrix.{after_report, same_report}
-use Rattle.batch_recipe.specs.Conditions.{Name, ValueList}
-use Rattle.batch_recipe.specs.Nodes.{Node, reports_of}
+use Rattle.std.{specs.Prelude.length, specs.Prelude.not, specs.Prelude.position, specs.Prelude.slice_get, specs.Prelude.unwrap_or, proofs.lemmas.Option.slice_get-get_or, specs.Option.option_or}
+use Rattle.batch_matrix.specs.{declared.state.State.State, declared.report.Report.Report, declared.report.PhaseEnd.PhaseEnd, Matrix.after_report, Matrix.same_report}
+use Rattle.batch_recipe.{specs.Conditions.Name, specs.Conditions.ValueList, specs.Nodes.Node, specs.Nodes.reports_of, specs.Values.are_outputs, specs.Values.have_output, specs.Values.left_out, specs.Values.with_values, proofs.FirstMatch.find-nowhere, proofs.FirstMatch.find-position}
 use Rattle.batch_recipe.specs.declared.recipe.Recipe as document
-use Rattle.batch_model.specs.Rest.{acts}
+use Rattle.batch_model.specs.{Rest.acts, Plant.Master, Plant.Share, Plant.Plant, Plant.in_act, Plant.in_batch, Moves.Move, Moves.is_stopping, Moves.next, Events.refused, Events.moves_pending, Events.no_live_phase, Events.report_not_expected, Events.bad_output, Events.owed, Events.accepting, Events.reported, Events.reporting, Events.live_in, Events.live_phase, Events.phase_after, Events.batch_state_after, Events.outputs_of, Events.batch_reported, Events.judged, Events.react, Events.Answer, Runs.Reacts}
 use Rattle.batch_model.specs.Plant as Model
-use Rattle.batch_model.specs.Plant.{Master, Share, Plant, in_act, in_batch}
-use Rattle.batch_model.specs.Moves.{Move, is_stopping, next}
 use Rattle.batch_model.specs.Events as Events
-use Rattle.batch_model.specs.Events.{refused, moves_pending, no_live_phase, report_not_expected, bad_output, owed, accepting, reported, reporting, live_in, live_phase, phase_after, batch_state_after, outputs_of, batch_reported, judged, react, Answer}
-use Rattle.batch_recipe.specs.Values.{are_outputs, have_output, left_out, with_values}
-use Rattle.batch_recipe.proofs.FirstMatch.{find-nowhere, find-position}
 use Rattle.batch_verify.proofs.ListLookups.{found_below}
-use Rattle.batch_model.specs.Runs.{Reacts}
 use Rattle.batch_arbiter.specs.Allocation.{shares_at, line_of_asks}
-use Rattle.batch_chart.specs.NodesOf.{phase_at, place_at}
-use Rattle.batch_chart.specs.Charts.{IsRunningOf, RunsAs}
-use Rattle.batch_chart.specs.declared.running.Running.{Running}
-use Rattle.batch_engine.specs.declared.batch.Batch.{Batch}
-use Rattle.batch_engine.specs.declared.live_phase.LivePhase.{LivePhase}
-use Rattle.batch_engine.specs.declared.refusal.Refusal.{Refusal}
-use Rattle.batch_engine.specs.declared.reply.Reply.{Reply}
-use Rattle.batch_engine.specs.Answered.{IsAnswered}
+use Rattle.batch_chart.specs.{NodesOf.phase_at, NodesOf.place_at, Charts.IsRunningOf, Charts.RunsAs, declared.running.Running.Running}
+use Rattle.batch_engine.{specs.declared.batch.Batch.Batch, specs.declared.live_phase.LivePhase.LivePhase, specs.declared.refusal.Refusal.Refusal, specs.declared.reply.Reply.Reply, specs.Answered.IsAnswered, specs.Names.node_of, specs.Names.output_name, specs.Names.phase_name, specs.Names.resource_name, specs.Reports.IsLiveOf, specs.Reports.IsLivePhase, specs.Reports.told_of, specs.Surface.reply_of, specs.View.EngineView, specs.View.setup, specs.View.model_batch, specs.View.bound_to, specs.View.resource_number, specs.View.line_in, specs.View.line_at, specs.View.plant_of, specs.View.tree_of, specs.View.recipe_made, specs.Kept.IsRunningBatch, specs.Kept.IsKept, proofs.RecordOfPlant.standing, proofs.BatchLookups.batch-runs, proofs.BatchLookups.master-found, proofs.EngineAfterMove.as_left, proofs.EngineAfterMove.runs-as, proofs.BatchAfterMove.fun_ext, proofs.BatchAfterMove.acts-same, proofs.BatchAfterMove.batches-same, proofs.BatchAtIndex.IsSeat, proofs.BatchAtIndex.seat-of, proofs.InvariantAfterMove.changed, proofs.InvariantAfterMove.Each-set, proofs.Room.room-quiet, proofs.InvariantAfterEvent.event-kept, proofs.MoveLines.node-is, proofs.MoveLines.place-here, proofs.MoveLines.reports-read}
 use Rattle.batch_engine.specs.Names as Names
-use Rattle.batch_engine.specs.Names.{node_of, output_name, phase_name, resource_name}
-use Rattle.batch_engine.specs.Reports.{IsLiveOf, IsLivePhase, told_of}
-use Rattle.batch_engine.specs.Surface.{reply_of}
-use Rattle.batch_engine.specs.View.{EngineView, setup, model_batch, bound_to, resource_number, line_in, line_at, plant_of, tree_of, recipe_made}
-use Rattle.batch_engine.specs.Kept.{IsRunningBatch, IsKept}
 use Rattle.batch_record_laws.proofs.Entries.{IsOnce}
-use Rattle.batch_engine.proofs.RecordOfPlant.{standing}
-use Rattle.batch_engine.proofs.BatchLookups.{batch-runs, master-found}
-use Rattle.batch_engine.proofs.EngineAfterMove.{as_left, runs-as}
-use Rattle.batch_engine.proofs.BatchAfterMove.{fun_ext, acts-same, batches-same}
-use Rattle.batch_engine.proofs.BatchAtIndex.{IsSeat, seat-of}
-use Rattle.batch_engine.proofs.InvariantAfterMove.{changed, Each-set}
-use Rattle.batch_engine.proofs.Room.{room-quiet}
-use Rattle.batch_engine.proofs.InvariantAfterEvent.{event-kept}
-use Rattle.batch_engine.proofs.MoveLines.{node-is, place-here, reports-read}
 
 -- The batch of a live phase, and its recipe
 

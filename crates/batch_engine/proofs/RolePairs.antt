@@ -1,30 +1,14 @@
 -- The units that pairs give to the roles of a recipe.
 use Rattle.std.proofs.Common.{◌≡◌, ◌≤◌, refl, sym, ◌∙◌, ap, ap₂, subst, ℕ, zero, suc, List, [], ◌∷◌, Bool, true, false, ◌&&◌, ◌||◌, not, cond, Option, Some, None, arith, length, map, filter, find, get_or, nat_eq, inl, inr}
-use Rattle.std.specs.Prelude.{slice_get}
-use Rattle.std.specs.List.{list_all, zip}
-use Rattle.std.proofs.lemmas.Bool.{and_parts}
-use Rattle.std.proofs.lemmas.Bool.Decides.{eqb_tells}
-use Rattle.batch_cell.specs.Equipment.{unit_names}
-use Rattle.batch_cell.specs.LookUps.{is_of_class, units_of_class}
-use Rattle.batch_cell.specs.declared.cell.Cell.{Cell}
-use Rattle.batch_cell.specs.declared.unit.Unit.{Unit}
-use Rattle.batch_recipe.specs.Conditions.{Name, same_name}
-use Rattle.batch_recipe.specs.WellFormed.{are_distinct, is_among}
-use Rattle.batch_recipe.specs.declared.recipe.Recipe.{Recipe}
+use Rattle.std.{specs.Prelude.slice_get, specs.List.list_all, specs.List.zip, proofs.lemmas.Bool.and_parts, proofs.lemmas.Bool.Decides.eqb_tells}
+use Rattle.batch_cell.specs.{Equipment.unit_names, LookUps.is_of_class, LookUps.units_of_class, declared.cell.Cell.Cell, declared.unit.Unit.Unit}
+use Rattle.batch_recipe.specs.{Conditions.Name, Conditions.same_name, WellFormed.are_distinct, WellFormed.is_among, declared.recipe.Recipe.Recipe}
 use Rattle.batch_recipe.specs.declared.role.Role as document
 use Rattle.batch_model.specs.Events as Events
-use Rattle.batch_model.specs.Events.{bound_by, is_binding}
-use Rattle.batch_model.specs.Plant.{Master, Role}
+use Rattle.batch_model.specs.{Events.bound_by, Events.is_binding, Plant.Master, Plant.Role}
 use Rattle.batch_record_laws.proofs.Entries.{name_same, name_self}
 use Rattle.batch_verify.specs.ClearedSet.{ClearedSet}
-use Rattle.batch_engine.specs.Bindings.{AreTaken, are_of_roles, roles_in}
-use Rattle.batch_engine.specs.Creates.{AreUnitsFor}
-use Rattle.batch_engine.specs.Names.{resource_name, roles_taken}
-use Rattle.batch_engine.specs.View.{master_at}
-use Rattle.batch_engine.proofs.BatchLookups.{master-found}
-use Rattle.batch_engine.proofs.BatchAfterMove.{fun_ext}
-use Rattle.batch_engine.proofs.NumbersOfNames.{unit-named}
-use Rattle.batch_engine.proofs.MoveLines.{roles-read}
+use Rattle.batch_engine.{specs.Bindings.AreTaken, specs.Bindings.are_of_roles, specs.Bindings.roles_in, specs.Creates.AreUnitsFor, specs.Names.resource_name, specs.Names.roles_taken, specs.View.master_at, proofs.BatchLookups.master-found, proofs.BatchAfterMove.fun_ext, proofs.NumbersOfNames.unit-named, proofs.MoveLines.roles-read}
 
 abbrev names_in : List document.Role → List Name
 names_in roles = map (λ (role : document.Role). role.name) roles

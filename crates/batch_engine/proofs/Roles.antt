@@ -1,10 +1,7 @@
 -- Roles: the units with these numbers take them.
 use Rattle.std.proofs.Common.{◌≡◌, ◌<◌, ◌≤◌, refl, ◌∙◌, ap, ℕ, zero, suc, List, [], ◌∷◌, Bool, true, false, ◌||◌, not, arith, length, get_or}
-use Rattle.std.specs.List.{list_all, list_any, zip}
-use Rattle.std.proofs.lemmas.Bool.{and_parts, not-true}
-use Rattle.batch_recipe.specs.Conditions.{Name, same_name}
-use Rattle.batch_recipe.specs.WellFormed.{are_distinct, is_among, is_role_among}
-use Rattle.batch_recipe.specs.declared.recipe.Recipe.{Recipe}
+use Rattle.std.{specs.List.list_all, specs.List.list_any, specs.List.zip, proofs.lemmas.Bool.and_parts, proofs.lemmas.Bool.not-true}
+use Rattle.batch_recipe.specs.{Conditions.Name, Conditions.same_name, WellFormed.are_distinct, WellFormed.is_among, WellFormed.is_role_among, declared.recipe.Recipe.Recipe}
 use Rattle.batch_model.specs.Events.{bound_by}
 use Rattle.batch_record_laws.proofs.Entries.{name_self}
 use Rattle.batch_engine.specs.Names.{roles_of}

@@ -1,18 +1,10 @@
 -- Room is there for all that batches can hold and ask for at once.
 use Rattle.std.proofs.Common.{◌≡◌, ◌<◌, ◌≤◌, ◌+◌, refl, sym, ◌∙◌, ap, get_or, ℕ, zero, suc, List, [], ◌∷◌, ◌++◌, Bool, true, false, Some, cond, arith, length, drop, set}
-use Rattle.std.specs.List.{remove}
-use Rattle.std.specs.Prelude.{slice_get}
-use Rattle.std.proofs.lemmas.List.{length-append}
-use Rattle.std.proofs.lemmas.List.Sums.{sum_by-set, sum_by-cons, sum_by_push}
+use Rattle.std.{specs.List.remove, specs.Prelude.slice_get, proofs.lemmas.List.length-append, proofs.lemmas.List.Sums.sum_by-set, proofs.lemmas.List.Sums.sum_by-cons, proofs.lemmas.List.Sums.sum_by_push}
 use Rattle.batch_verify.specs.ClearedSet.{ClearedSet}
 use Rattle.batch_arbiter.specs.Allocation.{Claim, shares_at, line_of_asks, units_claimed, after_ask, after_grant, handed_over, after_pass, after_release, without_first, is_claim}
 use Rattle.batch_chart.specs.NodesOf.{needs_in}
-use Rattle.batch_engine.specs.Batches.{BatchList, with_batch_at}
-use Rattle.batch_engine.specs.declared.batch.Batch.{Batch}
-use Rattle.batch_engine.specs.View.{EngineView, tree_at, tree_of}
-use Rattle.batch_engine.specs.Kept.{needs_of_all, HasRoom}
-use Rattle.batch_engine.proofs.BatchPlaces.{made_by}
-use Rattle.batch_engine.proofs.InvariantAfterMove.{changed}
+use Rattle.batch_engine.{specs.Batches.BatchList, specs.Batches.with_batch_at, specs.declared.batch.Batch.Batch, specs.View.EngineView, specs.View.tree_at, specs.View.tree_of, specs.Kept.needs_of_all, specs.Kept.HasRoom, proofs.BatchPlaces.made_by, proofs.InvariantAfterMove.changed}
 
 -- a changed batch of the same recipe and units has the same needs
 pub needs-same : (c : ClearedSet) (bs : List Batch) (i : ℕ) (b b' : Batch) → slice_get bs i ≡ Some b → made_by b' ≡ made_by b → needs_of_all c (set bs i b') ≡ needs_of_all c bs

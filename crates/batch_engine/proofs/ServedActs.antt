@@ -1,20 +1,12 @@
 -- Whom the arbiter would serve is whom the plant serves.
 use Rattle.std.proofs.Common.{◌≡◌, ◌+◌, refl, sym, ◌∙◌, ap, ap₂, subst, ℕ, List, [], ◌∷◌, Bool, true, false, ◌&&◌, cond, Option, Some, None, inl, get_or, map}
-use Rattle.std.specs.Prelude.{nat_le, option_map}
-use Rattle.std.specs.Cmp.Derive.{both_true}
-use Rattle.std.proofs.lemmas.List.Sums.{sum_by-cons}
-use Rattle.std.proofs.lemmas.Bool.{and_parts}
-use Rattle.batch_recipe.specs.Conditions.{Name}
-use Rattle.batch_recipe.specs.declared.need.Need.{Need}
-use Rattle.batch_model.specs.Lists.{Has}
-use Rattle.batch_model.specs.Plant.{BatchAct, Share, units_in, holders, is_same_act}
-use Rattle.batch_model.specs.Moves.{is_served}
+use Rattle.std.{specs.Prelude.nat_le, specs.Prelude.option_map, specs.Cmp.Derive.both_true, proofs.lemmas.List.Sums.sum_by-cons, proofs.lemmas.Bool.and_parts}
+use Rattle.batch_recipe.specs.{Conditions.Name, declared.need.Need.Need}
+use Rattle.batch_model.specs.{Lists.Has, Plant.BatchAct, Plant.Share, Plant.units_in, Plant.holders, Plant.is_same_act, Moves.is_served}
 use Rattle.batch_cell.specs.LookUps.{capacities_of}
 use Rattle.batch_record_laws.proofs.Entries.{act_self, same_act, units-cons}
 use Rattle.batch_arbiter.specs.Allocation.{Claim, Allocation, line_of_asks, shares_at, held_units, next_in, batch_node}
-use Rattle.batch_engine.specs.View.{EngineView, setup, claim_act, claimed_shares, resource_number, line_in, line_at, plant_of}
-use Rattle.batch_engine.specs.Kept.{IsKept}
-use Rattle.batch_engine.proofs.RecordOfPlant.{told}
+use Rattle.batch_engine.{specs.View.EngineView, specs.View.setup, specs.View.claim_act, specs.View.claimed_shares, specs.View.resource_number, specs.View.line_in, specs.View.line_at, specs.View.plant_of, specs.Kept.IsKept, proofs.RecordOfPlant.told}
 
 units-mapped : (act : Claim → BatchAct) (xs : List Claim) → units_in (map (λ x. let s : Share = record { act = act x; units = x.units } in s) xs) ≡ held_units xs
 units-mapped act [] = refl

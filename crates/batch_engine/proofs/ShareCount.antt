@@ -1,9 +1,7 @@
 -- The number of shares that are held and asked for.
 use Rattle.std.proofs.Common.{◌≡◌, ◌+◌, ℕ, List, [], ◌∷◌, ◌++◌, arith, length, refl}
-use Rattle.std.specs.Prelude.{sum_by}
-use Rattle.std.proofs.lemmas.List.Sums.{sum_by-append, sum_by-cons}
-use Rattle.batch_recipe.specs.declared.need.Need.{Need}
-use Rattle.batch_recipe.specs.Tree.{Place}
+use Rattle.std.{specs.Prelude.sum_by, proofs.lemmas.List.Sums.sum_by-append, proofs.lemmas.List.Sums.sum_by-cons}
+use Rattle.batch_recipe.specs.{declared.need.Need.Need, Tree.Place}
 use Rattle.batch_record_laws.proofs.PlantFacts.{Fact, holding, awaiting, performing, Standing, held_at}
 
 -- a share that is held or asked for

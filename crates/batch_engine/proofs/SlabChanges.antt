@@ -1,17 +1,9 @@
 -- How each change of the slab and of the entries keeps the batches.
 use Rattle.std.proofs.Common.{◌≡◌, ◌≢◌, ◌<◌, ◌+◌, refl, sym, ◌∙◌, ap, ap₂, subst, ℕ, zero, suc, List, [], ◌∷◌, ◌++◌, Option, Some, None, is_some, IsSome, inl, inr, cond, arith, length, map, get_or, set, true≢false, length-append}
-use Rattle.std.specs.List.{remove, cons_option}
-use Rattle.std.proofs.lemmas.Bool.{cases_eq}
-use Rattle.std.proofs.lemmas.List.{map_push}
-use Rattle.std.proofs.lemmas.List.Edits.{length-remove}
-use Rattle.std.proofs.lemmas.List.Elements.{filter_map-append}
-use Rattle.std.proofs.lemmas.List.Sums.{sum_by-set}
-use Rattle.slab.specs.Slab.{Slab, ContainsKey, Updates, get, slab_len, with_value}
-use Rattle.slab.proofs.SlabLemmas.{ContainsKey-within, Updates-with_value}
+use Rattle.std.{specs.List.remove, specs.List.cons_option, proofs.lemmas.Bool.cases_eq, proofs.lemmas.List.map_push, proofs.lemmas.List.Edits.length-remove, proofs.lemmas.List.Elements.filter_map-append, proofs.lemmas.List.Sums.sum_by-set}
+use Rattle.slab.{specs.Slab.Slab, specs.Slab.ContainsKey, specs.Slab.Updates, specs.Slab.get, specs.Slab.slab_len, specs.Slab.with_value, proofs.SlabLemmas.ContainsKey-within, proofs.SlabLemmas.Updates-with_value}
 use Rattle.batch_model.specs.Lists.{Each}
-use Rattle.batch_engine.specs.declared.batch.Batch.{Batch}
-use Rattle.batch_engine.specs.declared.batches.Entry.{Entry}
-use Rattle.batch_engine.specs.Batches.{AreRising, ComesBefore, HaveOwnNumbers, IsFiled, BatchList, batches_in, entry_number, own_number, list_of, with_batch, with_batch_at, without_batch}
+use Rattle.batch_engine.specs.{declared.batch.Batch.Batch, declared.batches.Entry.Entry, Batches.AreRising, Batches.ComesBefore, Batches.HaveOwnNumbers, Batches.IsFiled, Batches.BatchList, Batches.batches_in, Batches.entry_number, Batches.own_number, Batches.list_of, Batches.with_batch, Batches.with_batch_at, Batches.without_batch}
 
 -- Each
 

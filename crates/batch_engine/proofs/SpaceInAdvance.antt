@@ -1,25 +1,14 @@
 -- There is space for one need more that is held in advance.
 use Rattle.std.proofs.Common.{◌≡◌, ◌≤◌, ℕ, Some, arith, length}
-use Rattle.std.specs.Prelude.{slice_get}
-use Rattle.std.proofs.lemmas.List.{length-map}
+use Rattle.std.{specs.Prelude.slice_get, proofs.lemmas.List.length-map}
 use Rattle.batch_recipe.specs.Tree.{Tree}
-use Rattle.batch_model.specs.Lists.{Has}
+use Rattle.batch_model.{specs.Lists.Has, specs.Standing.IsAwaited, specs.Standing.IsStandingBatch, proofs.Members.Each-Has}
 use Rattle.batch_model.specs.Plant as Model
-use Rattle.batch_model.specs.Standing.{IsAwaited, IsStandingBatch}
-use Rattle.batch_model.proofs.Members.{Each-Has}
 use Rattle.batch_record_laws.proofs.Invariant as Safety
 use Rattle.batch_record_laws.proofs.Invariant.{standing-of}
-use Rattle.batch_chart.specs.Charts.{HasSpace, IsRunningOf}
-use Rattle.batch_chart.specs.NodesOf.{most_by, need_at, own_units, place_at}
-use Rattle.batch_chart.specs.declared.passed.Passed.{Passed}
-use Rattle.batch_engine.specs.declared.batch.Batch.{Batch}
-use Rattle.batch_engine.specs.Kept.{IsKept}
+use Rattle.batch_chart.specs.{Charts.HasSpace, Charts.IsRunningOf, NodesOf.most_by, NodesOf.need_at, NodesOf.own_units, NodesOf.place_at, declared.passed.Passed.Passed}
+use Rattle.batch_engine.{specs.declared.batch.Batch.Batch, specs.Kept.IsKept, specs.View.EngineView, specs.View.plant_of, specs.View.setup, specs.View.tree_of, proofs.BatchPlaces.Has-batch_of, proofs.EarlyNeeds.early-bounded, proofs.BatchLookups.has, proofs.RecordOfPlant.safe, proofs.RecordOfPlant.standing}
 use Rattle.batch_engine.specs.View as View
-use Rattle.batch_engine.specs.View.{EngineView, plant_of, setup, tree_of}
-use Rattle.batch_engine.proofs.BatchPlaces.{Has-batch_of}
-use Rattle.batch_engine.proofs.EarlyNeeds.{early-bounded}
-use Rattle.batch_engine.proofs.BatchLookups.{has}
-use Rattle.batch_engine.proofs.RecordOfPlant.{safe, standing}
 
 pub space-in-advance : (v : EngineView) (k : IsKept v) (i : ℕ) (b : Batch) → slice_get v.batches i ≡ Some b → IsRunningOf (tree_of v.cleared b) b.running → HasSpace b.running
 space-in-advance v k i b at runs =

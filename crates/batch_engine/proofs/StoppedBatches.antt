@@ -1,18 +1,10 @@
 -- A batch that was stopped or aborted has no move.
 use Rattle.std.proofs.Common.{arith, ◌≡◌, refl, ℕ, zero, suc, List, [], ◌∷◌, ◌++◌, Option, Some, None, true, take}
-use Rattle.std.specs.Prelude.{slice_get}
-use Rattle.std.specs.List.{filter_map}
-use Rattle.batch_matrix.specs.declared.state.State.{State}
-use Rattle.batch_matrix.specs.declared.state.State.TheVariants.{Stopped, Aborted}
-use Rattle.batch_recipe.specs.declared.need.Need.{Need}
-use Rattle.batch_recipe.specs.Tree.{Step}
-use Rattle.batch_model.specs.Lists.{Each}
-use Rattle.batch_model.specs.Moves.{Move, act_move, batch_moves, giving_back, grant, is_served, is_stopped, when}
-use Rattle.batch_model.specs.Plant.{Setup, Batch, Plant}
-use Rattle.batch_model.specs.Rest.{Rest, ready, asking, open_act, live, freeing, in_seq, in_par, in_loop, done, Rests, no_rests, rest, acts, acts_of_each}
-use Rattle.batch_model.proofs.Members.{Each-append}
-use Rattle.batch_record_laws.proofs.PlantFacts.{Standing, facts, facts_of_each, held_at, awaited_at}
-use Rattle.batch_record_laws.proofs.Invariant.{IsFitting}
+use Rattle.std.specs.{Prelude.slice_get, List.filter_map}
+use Rattle.batch_matrix.specs.declared.state.State.{State, TheVariants.Stopped, TheVariants.Aborted}
+use Rattle.batch_recipe.specs.{declared.need.Need.Need, Tree.Step}
+use Rattle.batch_model.{specs.Lists.Each, specs.Moves.Move, specs.Moves.act_move, specs.Moves.batch_moves, specs.Moves.giving_back, specs.Moves.grant, specs.Moves.is_served, specs.Moves.is_stopped, specs.Moves.when, specs.Plant.Setup, specs.Plant.Batch, specs.Plant.Plant, specs.Rest.Rest, specs.Rest.ready, specs.Rest.asking, specs.Rest.open_act, specs.Rest.live, specs.Rest.freeing, specs.Rest.in_seq, specs.Rest.in_par, specs.Rest.in_loop, specs.Rest.done, specs.Rest.Rests, specs.Rest.no_rests, specs.Rest.rest, specs.Rest.acts, specs.Rest.acts_of_each, proofs.Members.Each-append}
+use Rattle.batch_record_laws.proofs.{PlantFacts.Standing, PlantFacts.facts, PlantFacts.facts_of_each, PlantFacts.held_at, PlantFacts.awaited_at, Invariant.IsFitting}
 
 left-none : (xs ys : List Standing) → xs ++ ys ≡ [] → xs ≡ []
 left-none [] ys e = refl

@@ -1,12 +1,7 @@
 -- A summary of words.
 use Rattle.std.proofs.Common.{◌≡◌, ◌<◌, ◌≤◌, ◌+◌, ◌*◌, ◌/◌, ◌%◌, refl, sym, ◌∙◌, ap, ap₂, subst, ℕ, List, Bool, true, false, Some, None, inl, inr, ◌⊎◌, arith, nat_eq, length}
-use Rattle.std.specs.Prelude.{slice_index, slice_set}
-use Rattle.std.specs.Int.{bit_at}
-use Rattle.std.proofs.lemmas.Nat.Bits.{bit_at-zero}
-use Rattle.std.proofs.lemmas.List.{get_or-set_same, get_or-set_other}
-use Rattle.std.proofs.lemmas.Nat.{div-add-mod', mod_below, div-mul-add, mod-mul-add}
-use Rattle.batch_signs.specs.Bits.{with_one, IsLowestFrom}
-use Rattle.batch_signs.proofs.Bits.{nat-same, differs, within-or_past, one-not_zero, with-one_other, no-bits}
+use Rattle.std.{specs.Prelude.slice_index, specs.Prelude.slice_set, specs.Int.bit_at, proofs.lemmas.Nat.Bits.bit_at-zero, proofs.lemmas.List.get_or-set_same, proofs.lemmas.List.get_or-set_other, proofs.lemmas.Nat.div-add-mod', proofs.lemmas.Nat.mod_below, proofs.lemmas.Nat.div-mul-add, proofs.lemmas.Nat.mod-mul-add}
+use Rattle.batch_signs.{specs.Bits.with_one, specs.Bits.IsLowestFrom, proofs.Bits.nat-same, proofs.Bits.differs, proofs.Bits.within-or_past, proofs.Bits.one-not_zero, proofs.Bits.with-one_other, proofs.Bits.no-bits}
 use Rattle.batch_engine.specs.Marks.{mark_at, IsNextMark, IsSummary}
 
 module _ (words : List ℕ) (summary : ℕ) (h : IsSummary words summary) (at word : ℕ) (l : at < length words) where

@@ -1,28 +1,12 @@
 -- The numbers of the units that take the roles of a batch.
 use Rattle.std.proofs.Common.{◌≡◌, ◌<◌, ◌≤◌, refl, sym, ◌∙◌, ap, subst, ℕ, zero, suc, List, [], ◌∷◌, true, Option, None, Some, arith, length, map, get_or, inl, inr}
-use Rattle.std.proofs.lemmas.Bool.{cases_lt}
-use Rattle.std.specs.Prelude.{slice_get, position, unwrap_or, option_map}
-use Rattle.std.proofs.lemmas.List.{length-map, get_or-map}
-use Rattle.std.proofs.lemmas.Option.{slice_get_within, slice_get-get_or, slice_get-map, get_or_from_slice_get}
-use Rattle.batch_cell.specs.LookUps.{units_of, resources_of}
-use Rattle.batch_cell.specs.declared.unit.Unit.{Unit}
-use Rattle.batch_cell.proofs.Resources.{length-resource_names, resource_is_no_unit, resource_is_unit}
-use Rattle.batch_recipe.specs.Conditions.{Name, same_name}
-use Rattle.batch_recipe.specs.WellFormed.{are_distinct}
-use Rattle.batch_recipe.specs.declared.recipe.Recipe.{Recipe}
+use Rattle.std.{proofs.lemmas.Bool.cases_lt, specs.Prelude.slice_get, specs.Prelude.position, specs.Prelude.unwrap_or, specs.Prelude.option_map, proofs.lemmas.List.length-map, proofs.lemmas.List.get_or-map, proofs.lemmas.Option.slice_get_within, proofs.lemmas.Option.slice_get-get_or, proofs.lemmas.Option.slice_get-map, proofs.lemmas.Option.get_or_from_slice_get}
+use Rattle.batch_cell.{specs.LookUps.units_of, specs.LookUps.resources_of, specs.declared.unit.Unit.Unit, proofs.Resources.length-resource_names, proofs.Resources.resource_is_no_unit, proofs.Resources.resource_is_unit}
+use Rattle.batch_recipe.specs.{Conditions.Name, Conditions.same_name, WellFormed.are_distinct, declared.recipe.Recipe.Recipe}
 use Rattle.batch_recipe.specs.declared.role.Role as document
 use Rattle.batch_verify.specs.ClearedSet.{ClearedSet}
-use Rattle.batch_set.specs.Looked.{number_for}
-use Rattle.batch_set.specs.Sources.{IsSource}
-use Rattle.batch_set.specs.declared.linked.Source.{Source}
-use Rattle.batch_set.specs.declared.linked.Source.TheVariants.{Resource, Role, Unknown}
-use Rattle.batch_engine.specs.Kept.{AreUnits}
-use Rattle.batch_engine.specs.Names.{resource_name, roles_at}
-use Rattle.batch_engine.specs.View.{bound_to, resource_number}
-use Rattle.batch_engine.proofs.Roles.{bound-at, names-differ}
-use Rattle.batch_engine.proofs.RoomForAsk.{number-at}
-use Rattle.batch_engine.proofs.MoveLines.{roles-read}
-use Rattle.batch_engine.proofs.SlabChanges.{each-at}
+use Rattle.batch_set.specs.{Looked.number_for, Sources.IsSource, declared.linked.Source.Source, declared.linked.Source.TheVariants.Resource, declared.linked.Source.TheVariants.Role, declared.linked.Source.TheVariants.Unknown}
+use Rattle.batch_engine.{specs.Kept.AreUnits, specs.Names.resource_name, specs.Names.roles_at, specs.View.bound_to, specs.View.resource_number, proofs.Roles.bound-at, proofs.Roles.names-differ, proofs.RoomForAsk.number-at, proofs.MoveLines.roles-read, proofs.SlabChanges.each-at}
 
 pub name-there : (names : List Name) (q : ℕ) → q < length names → slice_get names q ≡ Some (unwrap_or (slice_get names q) [])
 name-there [] q l = absurd (omega arith)

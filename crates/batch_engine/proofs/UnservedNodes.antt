@@ -4,12 +4,7 @@ use Rattle.std.specs.Prelude.{slice_get}
 use Rattle.batch_recipe.specs.declared.need.Need.{Need}
 use Rattle.batch_arbiter.specs.Allocation.{resource_count}
 use Rattle.batch_chart.specs.NodesOf.{need_at, place_at}
-use Rattle.batch_engine.specs.declared.batch.Batch.{Batch}
-use Rattle.batch_engine.specs.Kept.{IsKept}
-use Rattle.batch_engine.specs.Steps.{AreUnserved, IsServedNode}
-use Rattle.batch_engine.specs.View.{EngineView, tree_of}
-use Rattle.batch_engine.proofs.BatchLookups.{asks_here, known-resource, served_here, serves-first}
-use Rattle.batch_engine.proofs.BatchMarks.{served-named}
+use Rattle.batch_engine.{specs.declared.batch.Batch.Batch, specs.Kept.IsKept, specs.Steps.AreUnserved, specs.Steps.IsServedNode, specs.View.EngineView, specs.View.tree_of, proofs.BatchLookups.asks_here, proofs.BatchLookups.known-resource, proofs.BatchLookups.served_here, proofs.BatchLookups.serves-first, proofs.BatchMarks.served-named}
 use Rattle.batch_signs.proofs.Bits.{within-or_past}
 
 module _ (v : EngineView) (k : IsKept v) (i : ℕ) (b : Batch) (at : slice_get v.batches i ≡ Some b) where

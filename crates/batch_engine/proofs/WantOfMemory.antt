@@ -1,9 +1,6 @@
 -- Events to which want of memory may be the answer.
 use Rattle.std.proofs.Common.{◌≡◌, ◌⊎◌, Option, Some, None, refl, ap, inl, inr}
-use Rattle.batch_model.specs.Events.{Event, refused, no_memory, moves_pending, judged, Answer}
-use Rattle.batch_model.specs.Moves.{Move, next}
-use Rattle.batch_model.specs.Plant.{Setup, Plant}
-use Rattle.batch_model.specs.Runs.{IsCreated, Reacts}
+use Rattle.batch_model.specs.{Events.Event, Events.refused, Events.no_memory, Events.moves_pending, Events.judged, Events.Answer, Moves.Move, Moves.next, Plant.Setup, Plant.Plant, Runs.IsCreated, Runs.Reacts}
 
 module _ (c : Setup) (s : Plant) (e : Event) (t : Plant) where
   abbrev answer : Option Move → Answer

@@ -2,13 +2,9 @@
 use Rattle.std.proofs.Common.{◌≡◌, ◌⊎◌, sym, ap, subst, inl, inr, arith, [], ◌∷◌}
 use Rattle.batch_matrix.specs.declared.state.State.{State}
 use Rattle.batch_recipe.specs.Tree.{Place, Step, Phase}
-use Rattle.batch_model.specs.Lists.{Has}
-use Rattle.batch_model.specs.Plant.{Batch}
-use Rattle.batch_model.specs.Rest.{live, acts}
-use Rattle.batch_model.specs.Records.{IsAtOrAbove}
-use Rattle.batch_examples.specs.RowParts.{p0}
+use Rattle.batch_model.specs.{Lists.Has, Plant.Batch, Rest.live, Rest.acts, Records.IsAtOrAbove}
+use Rattle.batch_examples.specs.{RowParts.p0, RowsOfSettlement.nothing_is_live}
 use Rattle.batch_safety.specs.Settlement.{IsHalting}
-use Rattle.batch_examples.specs.RowsOfSettlement.{nothing_is_live}
 
 -- the condition on which a batch, or a phase of it, works for a holder at a place
 abbrev pub Works : Place → Batch → Type 0

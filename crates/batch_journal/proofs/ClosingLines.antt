@@ -1,11 +1,7 @@
 -- Lines that close groups, counted in any text.
 use Rattle.std.proofs.Common.{◌≡◌, ◌⊎◌, ℕ, zero, suc, ◌+◌, ◌≤◌, ◌<◌, Bool, true, false, ◌==◌, List, [], ◌∷◌, ◌++◌, length, take, drop, slice_index, get_or, Option, Some, None, IfSome, IsSome, MatchOption, is_some, rules, refl, sym, ◌∙◌, ap, subst, arith, append_assoc, inl, inr}
 use Rattle.std.proofs.lemmas.List.{append-nil, drop-drop}
-use Rattle.batch_journal.specs.Lines.{text_of, whole_from}
-use Rattle.batch_journal.specs.Groups.{AreOthers}
-use Rattle.batch_journal.specs.Journals.{journal_format}
-use Rattle.batch_journal.specs.Recovery.{ClosesTwice, closings}
-use Rattle.batch_journal.proofs.GroupLemmas.{bool_cases}
+use Rattle.batch_journal.{specs.Lines.text_of, specs.Lines.whole_from, specs.Groups.AreOthers, specs.Journals.journal_format, specs.Recovery.ClosesTwice, specs.Recovery.closings, proofs.GroupLemmas.bool_cases}
 
 abbrev pub NoFeedBefore : ℕ → List ℕ → Type 0
 NoFeedBefore n text = (k : ℕ) → k < n → (slice_index text k == 10) ≡ true → ⊥

@@ -1,20 +1,7 @@
 -- The bytes that a crash leaves aren't damage.
 use Rattle.std.proofs.Common.{◌≡◌, ◌⊎◌, ℕ, ◌+◌, ◌-◌, ◌≤◌, ◌<◌, true, false, ◌==◌, List, [], ◌∷◌, ◌++◌, length, take, drop, take-append-drop, Some, None, codes, refl, sym, ◌∙◌, ap, subst, arith, append_assoc, inl, inr, if◌then◌else◌}
-use Rattle.std.proofs.lemmas.Bool.{cases_lt}
-use Rattle.std.proofs.lemmas.Bool.Decides.{Decides-eqb}
-use Rattle.std.proofs.lemmas.Slice.Eq.{starts_is}
-use Rattle.std.proofs.lemmas.List.{append-nil, append_cancel_left, drop_at, drop-drop, length-drop, take-append-le, drop-append-le}
-use Rattle.std.proofs.Math.Seq.{take-append-add}
-use Rattle.batch_journal.specs.Disks.{IsPart}
-use Rattle.batch_journal.specs.Lines.{IsLine, AreLines, text_of, whole_from, whole_lines_before_zero}
-use Rattle.batch_journal.specs.Groups.{Format, last_sum, AreOthers}
-use Rattle.batch_journal.specs.Journals.{journal_format, closing_mark, header, groups_in, IsClosed, IsJournal}
-use Rattle.batch_journal.specs.Recovery.{IsDamaged, CrashIsNoDamage, closings, raw_lines}
-use Rattle.batch_journal.proofs.GroupLemmas.{bool_cases, go_on}
-use Rattle.batch_journal.proofs.LineLemmas.{reads_lines, text_both, are_whole_lines}
-use Rattle.batch_journal.proofs.JournalLemmas.{whole_behind, groups_behind}
-use Rattle.batch_journal.proofs.ClosingLines.{closings_both, one_closing}
-use Rattle.batch_journal.proofs.RecoveryLemmas.{not_both}
+use Rattle.std.proofs.{lemmas.Bool.cases_lt, lemmas.Bool.Decides.Decides-eqb, lemmas.Slice.Eq.starts_is, lemmas.List.append-nil, lemmas.List.append_cancel_left, lemmas.List.drop_at, lemmas.List.drop-drop, lemmas.List.length-drop, lemmas.List.take-append-le, lemmas.List.drop-append-le, Math.Seq.take-append-add}
+use Rattle.batch_journal.{specs.Disks.IsPart, specs.Lines.IsLine, specs.Lines.AreLines, specs.Lines.text_of, specs.Lines.whole_from, specs.Lines.whole_lines_before_zero, specs.Groups.Format, specs.Groups.last_sum, specs.Groups.AreOthers, specs.Journals.journal_format, specs.Journals.closing_mark, specs.Journals.header, specs.Journals.groups_in, specs.Journals.IsClosed, specs.Journals.IsJournal, specs.Recovery.IsDamaged, specs.Recovery.CrashIsNoDamage, specs.Recovery.closings, specs.Recovery.raw_lines, proofs.GroupLemmas.bool_cases, proofs.GroupLemmas.go_on, proofs.LineLemmas.reads_lines, proofs.LineLemmas.text_both, proofs.LineLemmas.are_whole_lines, proofs.JournalLemmas.whole_behind, proofs.JournalLemmas.groups_behind, proofs.ClosingLines.closings_both, proofs.ClosingLines.one_closing, proofs.RecoveryLemmas.not_both}
 
 -- Lines that close groups, in a text and in a part of it
 

@@ -1,9 +1,7 @@
 -- Digests of documents.
 use Rattle.std.proofs.Common.{◌≡◌, ℕ, suc, List, [], ◌∷◌, ◌++◌, length, decimal, sym, ◌∙◌, ap, arith, append_assoc, codes}
 use Rattle.std.proofs.lemmas.List.{append-nil}
-use Rattle.batch_journal.specs.Digests.{IsPlain, counted}
-use Rattle.batch_journal.specs.Lines.{IsLine}
-use Rattle.batch_journal.proofs.SumLemmas.{line_byte}
+use Rattle.batch_journal.{specs.Digests.IsPlain, specs.Digests.counted, specs.Lines.IsLine, proofs.SumLemmas.line_byte}
 
 -- one text more
 pub counted_more : (texts : List (List ℕ)) (text : List ℕ) → ((counted texts ++ decimal (length text)) ++ codes "\n") ++ text ≡ counted (texts ++ text ∷ [])

@@ -1,10 +1,7 @@
 -- Calls of a disk in memory.
 use Rattle.std.proofs.Common.{◌≡◌, ℕ, ◌≤◌, Bool, true, false, List, [], ◌∷◌, ◌++◌, length, take, drop, take-append-drop, sym, ap, subst, ◌∙◌, refl, arith, inr}
 use Rattle.std.proofs.lemmas.List.{take_all}
-use Rattle.batch_journal.specs.Disks.{IsPart, Begins, Left, MayLeave, MayCut, Elapses}
-use Rattle.batch_journal.specs.Past.{choose, LeftBy, LeftSince, one_call}
-use Rattle.batch_journal.specs.declared.memory.Past.{Past}
-use Rattle.batch_journal.proofs.CrashLemmas.{as_of, leaves_all}
+use Rattle.batch_journal.{specs.Disks.IsPart, specs.Disks.Begins, specs.Disks.Left, specs.Disks.MayLeave, specs.Disks.MayCut, specs.Disks.Elapses, specs.Past.choose, specs.Past.LeftBy, specs.Past.LeftSince, specs.Past.one_call, specs.declared.memory.Past.Past, proofs.CrashLemmas.as_of, proofs.CrashLemmas.leaves_all}
 
 first_of : (b : Bool) (X Y : Type 0) → b ≡ false → choose b X Y → X
 first_of false X Y e x = x

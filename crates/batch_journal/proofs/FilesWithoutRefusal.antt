@@ -1,19 +1,8 @@
 -- Files that a start takes aren't refused.
 use Rattle.std.proofs.Common.{rules, Bool, ◌&&◌, ◌⊎◌, false, Option, None, Some, is_some, ◌≡◌, ℕ, suc, ◌≤◌, ◌==◌, true, List, [], ◌∷◌, ◌++◌, length, length-append, take, drop, take-append-drop, codes, nat_eq, refl, sym, ◌∙◌, ap, subst, arith, append_assoc, inl, inr}
-use Rattle.std.specs.List.{list_all, starts_with, zip}
+use Rattle.std.{specs.List.list_all, specs.List.starts_with, specs.List.zip, proofs.Math.Bool.or-true, proofs.lemmas.Bool.cases_lt, proofs.lemmas.Bool.Decides.Decides-eqb, proofs.lemmas.Slice.Eq.starts_is}
 use Rattle.memchr.specs.Find.{IsFirstByte, is_byte}
-use Rattle.std.proofs.Math.Bool.{or-true}
-use Rattle.batch_journal.specs.Disks.{IsPart}
-use Rattle.std.proofs.lemmas.Bool.{cases_lt}
-use Rattle.std.proofs.lemmas.Bool.Decides.{Decides-eqb}
-use Rattle.std.proofs.lemmas.Slice.Eq.{starts_is}
-use Rattle.batch_journal.specs.Journals.{header, groups_in, IsJournal}
-use Rattle.batch_journal.specs.Recovery.{StandsTo, IsDamaged, IsJournalUnbegun, HasNoFeed, TakenIsNotRefused, is_like, raw_lines}
-use Rattle.batch_journal.specs.Lines.{whole_from}
-use Rattle.batch_journal.specs.declared.recovery.RecoveryFault.TheVariants.{Disk, NoJournal, OtherDocuments, Damaged}
-use Rattle.batch_journal.proofs.DamageLemmas.{within, behind_them}
-use Rattle.batch_journal.proofs.RecoveryLemmas.{not_both, no_feed_behind, part_length}
-use Rattle.batch_journal.proofs.GroupLemmas.{bool_cases}
+use Rattle.batch_journal.{specs.Disks.IsPart, specs.Journals.header, specs.Journals.groups_in, specs.Journals.IsJournal, specs.Recovery.StandsTo, specs.Recovery.IsDamaged, specs.Recovery.IsJournalUnbegun, specs.Recovery.HasNoFeed, specs.Recovery.TakenIsNotRefused, specs.Recovery.is_like, specs.Recovery.raw_lines, specs.Lines.whole_from, specs.declared.recovery.RecoveryFault.TheVariants.Disk, specs.declared.recovery.RecoveryFault.TheVariants.NoJournal, specs.declared.recovery.RecoveryFault.TheVariants.OtherDocuments, specs.declared.recovery.RecoveryFault.TheVariants.Damaged, proofs.DamageLemmas.within, proofs.DamageLemmas.behind_them, proofs.RecoveryLemmas.not_both, proofs.RecoveryLemmas.no_feed_behind, proofs.RecoveryLemmas.part_length, proofs.GroupLemmas.bool_cases}
 
 -- a journal to some end begins so
 begins_of : (documents file sum : List ℕ) (end : ℕ) → IsJournal documents (take end file) sum → file ≡ header documents ++ (groups_in documents (take end file) ++ drop end file)

@@ -1,7 +1,6 @@
 -- Groups that are taken.
 use Rattle.std.proofs.Common.{◌≡◌, ◌⊎◌, ℕ, Bool, true, false, List, [], ◌∷◌, ◌++◌, Some, None, not, refl, sym, ◌∙◌, ap, subst, inl, inr, append_assoc}
-use Rattle.std.proofs.lemmas.Bool.{not-true}
-use Rattle.std.proofs.lemmas.List.{append-nil}
+use Rattle.std.proofs.lemmas.{Bool.not-true, List.append-nil}
 use Rattle.batch_journal.specs.Groups.{Format, taken, is_left, at_rest, last_sum, AreOthers, GroupsGoOn, GroupIsTaken, TornIsLeft}
 
 pub bool_cases : (t : Bool) → (t ≡ true) ⊎ (t ≡ false)

@@ -2,14 +2,7 @@
 use Rattle.std.proofs.Common.{rules, ◌≡◌, ◌≢◌, ℕ, zero, suc, ◌+◌, ◌-◌, ◌≤◌, ◌<◌, true, false, ◌==◌, ◌||◌, List, [], ◌∷◌, ◌++◌, length, length-append, take, drop, take-append-drop, slice_range, slice_index, get_or, refl, sym, ◌∙◌, ap, subst, arith, append_assoc}
 use Rattle.std.proofs.lemmas.List.{append-nil, take_at, drop_more, take_all, drop-append-le, take-append-le, drop-take, length-drop, length-take-le}
 use lib.Seq.{take-add}
-use Rattle.batch_journal.specs.Lines.{IsLine, AreLines, text_of, whole_lines_before_zero}
-use Rattle.batch_journal.specs.Ends.{EndsLine}
-use Rattle.batch_journal.specs.Groups.{is_left, AreOthers}
-use Rattle.batch_journal.specs.Journals.{journal_format, next_sum, IsClosed}
-use Rattle.batch_journal.proofs.GroupLemmas.{left_on, wrong_sum}
-use Rattle.batch_journal.proofs.LineLemmas.{text_both}
-use Rattle.batch_journal.proofs.JournalLemmas.{lines_behind, closed_with}
-use Rattle.batch_journal.proofs.LastWholeLine.{nothing_behind, at_zero}
+use Rattle.batch_journal.{specs.Lines.IsLine, specs.Lines.AreLines, specs.Lines.text_of, specs.Lines.whole_lines_before_zero, specs.Ends.EndsLine, specs.Groups.is_left, specs.Groups.AreOthers, specs.Journals.journal_format, specs.Journals.next_sum, specs.Journals.IsClosed, proofs.GroupLemmas.left_on, proofs.GroupLemmas.wrong_sum, proofs.LineLemmas.text_both, proofs.JournalLemmas.lines_behind, proofs.JournalLemmas.closed_with, proofs.LastWholeLine.nothing_behind, proofs.LastWholeLine.at_zero}
 
 -- Lines
 

@@ -1,10 +1,7 @@
 -- A group as it is written.
 use Rattle.std.proofs.Common.{◌≡◌, ℕ, List, [], ◌∷◌, ◌++◌, length, drop, Bool, true, ◌&&◌, nat_eq, sym, refl, ◌∙◌, ap, append_assoc}
-use Rattle.batch_journal.specs.Disks.{Left, MayLeave}
+use Rattle.batch_journal.{specs.Disks.Left, specs.Disks.MayLeave, specs.Journals.closing_start, specs.Journals.is_time, specs.Writing.MayKeep, proofs.CrashLemmas.as_of}
 use Rattle.std.specs.List.{starts_with}
-use Rattle.batch_journal.specs.Journals.{closing_start, is_time}
-use Rattle.batch_journal.specs.Writing.{MayKeep}
-use Rattle.batch_journal.proofs.CrashLemmas.{as_of}
 
 pub keeps_so : (durable seen given d g : List ℕ) (left : Left) → d ≡ durable → g ≡ given → MayLeave d seen g left → MayKeep durable given left
 keeps_so durable seen given d g left is_d is_g may = (seen, as_of left is_d refl is_g may)

@@ -1,11 +1,7 @@
 -- Texts of groups behind a header.
 use Rattle.std.proofs.Common.{◌≡◌, ◌⊎◌, ℕ, true, false, List, [], ◌∷◌, ◌++◌, length, length-append, Some, refl, sym, ◌∙◌, ap, subst, arith, append_assoc, inl, inr}
 use Rattle.std.proofs.lemmas.List.{drop-append-le}
-use Rattle.batch_journal.specs.Lines.{IsLine, AreLines, text_of, until_zero, whole_from, whole_lines_before_zero}
-use Rattle.batch_journal.specs.Groups.{Format, taken, last_sum, AreOthers}
-use Rattle.batch_journal.specs.Journals.{journal_format, next_sum, header, groups_in, lines_taken, recovered, IsClosed, IsJournal}
-use Rattle.batch_journal.proofs.LineLemmas.{no_zero, until_zero_behind, until_zero_all, reads_lines, reads_all, text_both, lines_both, are_whole_lines}
-use Rattle.batch_journal.proofs.GroupLemmas.{go_on, is_taken, bool_cases}
+use Rattle.batch_journal.{specs.Lines.IsLine, specs.Lines.AreLines, specs.Lines.text_of, specs.Lines.until_zero, specs.Lines.whole_from, specs.Lines.whole_lines_before_zero, specs.Groups.Format, specs.Groups.taken, specs.Groups.last_sum, specs.Groups.AreOthers, specs.Journals.journal_format, specs.Journals.next_sum, specs.Journals.header, specs.Journals.groups_in, specs.Journals.lines_taken, specs.Journals.recovered, specs.Journals.IsClosed, specs.Journals.IsJournal, proofs.LineLemmas.no_zero, proofs.LineLemmas.until_zero_behind, proofs.LineLemmas.until_zero_all, proofs.LineLemmas.reads_lines, proofs.LineLemmas.reads_all, proofs.LineLemmas.text_both, proofs.LineLemmas.lines_both, proofs.LineLemmas.are_whole_lines, proofs.GroupLemmas.go_on, proofs.GroupLemmas.is_taken, proofs.GroupLemmas.bool_cases}
 
 -- behind lines others are read as by themselves
 pub lines_behind : (lines : List (List ℕ)) (tail : List ℕ) → AreLines lines → whole_lines_before_zero (text_of lines ++ tail) ≡ lines ++ whole_lines_before_zero tail

@@ -1,10 +1,7 @@
 -- Where the whole lines end.
 use Rattle.std.proofs.Common.{rules, ◌≡◌, ◌⊎◌, ℕ, ◌+◌, ◌-◌, ◌≤◌, zero, suc, List, [], ◌∷◌, ◌++◌, length, take, drop, get_or, ◌<◌, ◌≢◌, refl, sym, ◌∙◌, ap, subst, arith, append_assoc, inl, inr, true, false, ◌==◌, length-append}
-use Rattle.std.proofs.lemmas.List.{append-nil, take_at, drop_at, drop_more, at_drop_all}
-use Rattle.std.proofs.Math.Seq.{take-append-add}
-use Rattle.batch_journal.specs.Lines.{IsLine, AreLines, text_of, until_zero, whole_from, whole_lines_before_zero}
-use Rattle.batch_journal.proofs.GroupLemmas.{bool_cases}
-use Rattle.batch_journal.proofs.LineLemmas.{HasNoZero, no_zero, until_zero_behind, reads_lines, text_both, lines_both, line_more}
+use Rattle.std.proofs.{lemmas.List.append-nil, lemmas.List.take_at, lemmas.List.drop_at, lemmas.List.drop_more, lemmas.List.at_drop_all, Math.Seq.take-append-add}
+use Rattle.batch_journal.{specs.Lines.IsLine, specs.Lines.AreLines, specs.Lines.text_of, specs.Lines.until_zero, specs.Lines.whole_from, specs.Lines.whole_lines_before_zero, proofs.GroupLemmas.bool_cases, proofs.LineLemmas.HasNoZero, proofs.LineLemmas.no_zero, proofs.LineLemmas.until_zero_behind, proofs.LineLemmas.reads_lines, proofs.LineLemmas.text_both, proofs.LineLemmas.lines_both, proofs.LineLemmas.line_more}
 
 -- behind whole lines a line has begun, and then comes the rest
 pub record Stands (bytes : List ℕ) (end at : ℕ) (rest : List ℕ) : Type 0 where

@@ -1,9 +1,7 @@
 -- Whole lines of a text, and of texts one behind the other.
 use Rattle.std.proofs.Common.{◌≡◌, ◌⊎◌, ℕ, suc, ◌≤◌, List, [], ◌∷◌, ◌++◌, length, take, refl, sym, ◌∙◌, ap, subst, arith, append_assoc, inl, inr, true, false, Bool, ⊎_elim, ◌==◌, if◌then◌else◌}
 use Rattle.std.proofs.lemmas.List.{append-nil}
-use Rattle.batch_journal.specs.Lines.{IsLine, AreLines, text_of, until_zero, whole_from, whole_lines_before_zero}
-use Rattle.batch_journal.specs.Disks.{Begins}
-use Rattle.batch_journal.proofs.GroupLemmas.{bool_cases}
+use Rattle.batch_journal.{specs.Lines.IsLine, specs.Lines.AreLines, specs.Lines.text_of, specs.Lines.until_zero, specs.Lines.whole_from, specs.Lines.whole_lines_before_zero, specs.Disks.Begins, proofs.GroupLemmas.bool_cases}
 
 -- no byte of the text is zero
 abbrev pub HasNoZero : List ℕ → Type 0

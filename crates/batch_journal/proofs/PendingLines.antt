@@ -1,15 +1,7 @@
 -- Groups of a run: the lines that are in the journal and not given on yet.
 use Rattle.std.proofs.Common.{◌≡◌, ◌^◌, ℕ, ◌+◌, ◌-◌, ◌≤◌, ◌<◌, Bool, true, false, Result, Ok, Err, OnOk, OnErr, List, [], ◌∷◌, ◌++◌, length, take, drop, take-append-drop, refl, sym, ◌∙◌, ap, subst, arith, append_assoc}
-use Rattle.std.proofs.Math.Seq.{drop-append_seam}
-use Rattle.std.proofs.lemmas.List.{drop-take, length-drop, length-take-le}
-use Rattle.batch_journal.specs.Lines.{IsLine, text_of, whole_lines_before_zero}
-use Rattle.batch_journal.specs.Disks.{Left, MayLeave}
-use Rattle.batch_journal.specs.Readers.{IsGroup, IsJournalKept, Recalls, not_given}
-use Rattle.batch_journal.specs.Journals.{next_sum, recovered, IsJournal}
-use Rattle.batch_journal.specs.Writing.{group_text}
-use Rattle.batch_journal.proofs.LineLemmas.{are_whole_lines, whole_text}
-use Rattle.batch_journal.proofs.SumLemmas.{closing_is_line, closing_is_own, closing_closes}
-use Rattle.batch_journal.proofs.ReaderLemmas.{kept_more, kept_ready, recalls, take_less}
+use Rattle.std.proofs.{Math.Seq.drop-append_seam, lemmas.List.drop-take, lemmas.List.length-drop, lemmas.List.length-take-le}
+use Rattle.batch_journal.{specs.Lines.IsLine, specs.Lines.text_of, specs.Lines.whole_lines_before_zero, specs.Disks.Left, specs.Disks.MayLeave, specs.Readers.IsGroup, specs.Readers.IsJournalKept, specs.Readers.Recalls, specs.Readers.not_given, specs.Journals.next_sum, specs.Journals.recovered, specs.Journals.IsJournal, specs.Writing.group_text, proofs.LineLemmas.are_whole_lines, proofs.LineLemmas.whole_text, proofs.SumLemmas.closing_is_line, proofs.SumLemmas.closing_is_own, proofs.SumLemmas.closing_closes, proofs.ReaderLemmas.kept_more, proofs.ReaderLemmas.kept_ready, proofs.ReaderLemmas.recalls, proofs.ReaderLemmas.take_less}
 
 rest_of : (documents base seen given ready : List ℕ) → text_of (recovered documents seen) ≡ base ++ (given ++ ready) → not_given documents base seen given ≡ ready
 rest_of documents base seen given ready is =

@@ -1,16 +1,7 @@
 -- A reader that journals: the facts that each of its steps keeps.
 use Rattle.std.proofs.Common.{◌≡◌, ℕ, zero, suc, ◌+◌, ◌≤◌, List, [], ◌∷◌, ◌++◌, length, take, drop, take-append-drop, Option, Some, None, refl, sym, ◌∙◌, ap, subst, arith, append_assoc, ⊎_elim, Bool, ◌≢◌, min, true, false}
-use Rattle.std.proofs.lemmas.List.{append-nil, take_at, length-take, length-take-le}
-use Rattle.std.specs.Io.KnownBytes.{prepend_known, Keeps, Consumes}
-use Rattle.batch_journal.specs.Lines.{IsLine, text_of, whole_lines_before_zero}
-use Rattle.batch_journal.specs.Disks.{Left, Begins, MayLeave, Elapses, LeavesOnly}
-use Rattle.batch_journal.specs.Readers.{IsJournalKept, StartsText, Recalls, HasRecalled, IsAccounted, LinesBegin}
-use Rattle.batch_journal.specs.Groups.{AreOthers, taken}
-use Rattle.batch_journal.specs.Recovery.{KeepsLines}
-use Rattle.batch_journal.specs.Journals.{journal_format, next_sum, recovered, IsJournal}
-use Rattle.batch_journal.specs.Writing.{closing_line, group_text}
-use Rattle.batch_journal.proofs.LineLemmas.{text_both, are_whole_lines}
-use Rattle.batch_journal.proofs.JournalLemmas.{recovered_behind, journal_with, recovered_with, are_recovered, lines_of_text, lines_behind}
+use Rattle.std.{proofs.lemmas.List.append-nil, proofs.lemmas.List.take_at, proofs.lemmas.List.length-take, proofs.lemmas.List.length-take-le, specs.Io.KnownBytes.prepend_known, specs.Io.KnownBytes.Keeps, specs.Io.KnownBytes.Consumes}
+use Rattle.batch_journal.{specs.Lines.IsLine, specs.Lines.text_of, specs.Lines.whole_lines_before_zero, specs.Disks.Left, specs.Disks.Begins, specs.Disks.MayLeave, specs.Disks.Elapses, specs.Disks.LeavesOnly, specs.Readers.IsJournalKept, specs.Readers.StartsText, specs.Readers.Recalls, specs.Readers.HasRecalled, specs.Readers.IsAccounted, specs.Readers.LinesBegin, specs.Groups.AreOthers, specs.Groups.taken, specs.Recovery.KeepsLines, specs.Journals.journal_format, specs.Journals.next_sum, specs.Journals.recovered, specs.Journals.IsJournal, specs.Writing.closing_line, specs.Writing.group_text, proofs.LineLemmas.text_both, proofs.LineLemmas.are_whole_lines, proofs.JournalLemmas.recovered_behind, proofs.JournalLemmas.journal_with, proofs.JournalLemmas.recovered_with, proofs.JournalLemmas.are_recovered, proofs.JournalLemmas.lines_of_text, proofs.JournalLemmas.lines_behind}
 
 -- Crashes
 

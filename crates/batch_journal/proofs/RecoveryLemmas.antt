@@ -1,21 +1,8 @@
 -- Recovery: files whose lines stay the same, whatever a crash makes of their ends.
 use Rattle.std.proofs.Common.{◌≡◌, ◌⊎◌, ℕ, zero, suc, ◌+◌, ◌-◌, ◌≤◌, ◌<◌, Bool, true, false, ◌==◌, List, [], ◌∷◌, ◌++◌, length, length-append, take, drop, take-append-drop, slice_index, codes, nat_eq, refl, sym, ◌∙◌, ap, subst, arith, append_assoc, inl, inr}
-use Rattle.std.proofs.lemmas.List.{append-nil, take_at, drop_at, drop-drop, length-drop}
+use Rattle.std.{proofs.lemmas.List.append-nil, proofs.lemmas.List.take_at, proofs.lemmas.List.drop_at, proofs.lemmas.List.drop-drop, proofs.lemmas.List.length-drop, specs.List.starts_with, proofs.lemmas.Bool.cases_lt, proofs.lemmas.Bool.Decides.Decides-eqb, proofs.lemmas.Slice.Eq.starts_is}
 use lib.Seq.{take-add}
-use Rattle.std.specs.List.{starts_with}
-use Rattle.batch_journal.specs.Disks.{IsPart, Left, Begins, MayLeave, MayCut, Elapses, LeavesOnly}
-use Rattle.batch_journal.specs.Lines.{AreLines, until_zero, whole_from, whole_lines_before_zero}
-use Rattle.batch_journal.specs.Groups.{taken, is_left}
-use Rattle.batch_journal.specs.Journals.{journal_format, header, groups_in, recovered, IsClosed, IsJournal}
-use Rattle.batch_journal.specs.Recovery.{AreGroupsTaken, IsJournalUnbegun, KeepsLines, StandsTo, IsDamaged, ClosesTwice, closing_count, raw_lines}
-use Rattle.batch_journal.proofs.CrashLemmas.{leaves_all}
-use Rattle.batch_journal.proofs.RunsOfCalls.{started, goes_on}
-use Rattle.std.proofs.lemmas.Bool.{cases_lt}
-use Rattle.std.proofs.lemmas.Bool.Decides.{Decides-eqb}
-use Rattle.std.proofs.lemmas.Slice.Eq.{starts_is}
-use Rattle.batch_journal.proofs.GroupLemmas.{bool_cases, none_taken_first, nothing_taken, left_wrong}
-use Rattle.batch_journal.proofs.JournalLemmas.{recovered_behind, closed_start, lines_behind}
-use Rattle.batch_journal.proofs.ClosingLines.{lines_front}
+use Rattle.batch_journal.{specs.Disks.IsPart, specs.Disks.Left, specs.Disks.Begins, specs.Disks.MayLeave, specs.Disks.MayCut, specs.Disks.Elapses, specs.Disks.LeavesOnly, specs.Lines.AreLines, specs.Lines.until_zero, specs.Lines.whole_from, specs.Lines.whole_lines_before_zero, specs.Groups.taken, specs.Groups.is_left, specs.Journals.journal_format, specs.Journals.header, specs.Journals.groups_in, specs.Journals.recovered, specs.Journals.IsClosed, specs.Journals.IsJournal, specs.Recovery.AreGroupsTaken, specs.Recovery.IsJournalUnbegun, specs.Recovery.KeepsLines, specs.Recovery.StandsTo, specs.Recovery.IsDamaged, specs.Recovery.ClosesTwice, specs.Recovery.closing_count, specs.Recovery.raw_lines, proofs.CrashLemmas.leaves_all, proofs.RunsOfCalls.started, proofs.RunsOfCalls.goes_on, proofs.GroupLemmas.bool_cases, proofs.GroupLemmas.none_taken_first, proofs.GroupLemmas.nothing_taken, proofs.GroupLemmas.left_wrong, proofs.JournalLemmas.recovered_behind, proofs.JournalLemmas.closed_start, proofs.JournalLemmas.lines_behind, proofs.ClosingLines.lines_front}
 
 -- Fronts
 

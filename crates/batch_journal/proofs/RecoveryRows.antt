@@ -1,11 +1,6 @@
 -- The worked rows of files that a start takes.
 use Rattle.std.proofs.Common.{[], ◌∷◌, codes, refl, inl, inr, ⊎_elim, arith}
-use Rattle.batch_journal.specs.Journals.{header}
-use Rattle.batch_journal.specs.Recovery.{IsJournalUnbegun}
-use Rattle.batch_journal.specs.RowsOfRecovery.{RecoveryRows, documents, others}
-use Rattle.batch_journal.specs.declared.recovery.RecoveryFault.TheVariants.{NoJournal, OtherDocuments, Damaged}
-use Rattle.batch_journal.proofs.RecoveryLemmas.{header_journal, not_both}
-use Rattle.batch_journal.proofs.FilesWithoutRefusal.{like_part, part_like, not_refused}
+use Rattle.batch_journal.{specs.Journals.header, specs.Recovery.IsJournalUnbegun, specs.RowsOfRecovery.RecoveryRows, specs.RowsOfRecovery.documents, specs.RowsOfRecovery.others, specs.declared.recovery.RecoveryFault.TheVariants.NoJournal, specs.declared.recovery.RecoveryFault.TheVariants.OtherDocuments, specs.declared.recovery.RecoveryFault.TheVariants.Damaged, proofs.RecoveryLemmas.header_journal, proofs.RecoveryLemmas.not_both, proofs.FilesWithoutRefusal.like_part, proofs.FilesWithoutRefusal.part_like, proofs.FilesWithoutRefusal.not_refused}
 
 not_begun : IsJournalUnbegun documents (codes "start 1\n") → ⊥
 not_begun begun = ⊎_elim (λ none. none 7 (omega arith) refl) (λ part. not_both _ (part_like (codes "start 1\n") (header documents) part) refl) begun

@@ -1,19 +1,8 @@
 -- Sums and closing lines are lines.
 use Rattle.std.proofs.Common.{rules, ◌≡◌, ℕ, zero, suc, ◌+◌, ◌/◌, ◌%◌, ◌^◌, ◌<◌, true, false, ◌==◌, List, [], ◌∷◌, ◌++◌, length, take, decimal, slice_index, get_or, nat_eq, refl, ◌∙◌, arith, append_assoc}
-use Rattle.std.proofs.lemmas.Fmt.{decimal_by_steps, decimal_nonempty, length-decimal-le}
-use Rattle.std.proofs.lemmas.List.{drop_at}
-use Rattle.std.proofs.lemmas.List.Folds.{list_all-append}
-use Rattle.std.proofs.lemmas.Bool.{lt-ltb, le-leb}
-use Rattle.std.specs.Char.{is_ascii_digit}
-use Rattle.std.specs.List.{starts_with, list_all}
-use Rattle.std.proofs.lemmas.Bool.Decides.{Decides-eqb}
-use Rattle.std.proofs.lemmas.Slice.Eq.{starts_is}
+use Rattle.std.{proofs.lemmas.Fmt.decimal_by_steps, proofs.lemmas.Fmt.decimal_nonempty, proofs.lemmas.Fmt.length-decimal-le, proofs.lemmas.List.drop_at, proofs.lemmas.List.Folds.list_all-append, proofs.lemmas.Bool.lt-ltb, proofs.lemmas.Bool.le-leb, specs.Char.is_ascii_digit, specs.List.starts_with, specs.List.list_all, proofs.lemmas.Bool.Decides.Decides-eqb, proofs.lemmas.Slice.Eq.starts_is}
 use Rattle.hex.specs.Hex.{encode_with, encode_lower, lower_digits}
-use Rattle.batch_journal.specs.Lines.{IsLine}
-use Rattle.batch_journal.specs.Journals.{closing_mark, closing_start, is_time, journal_format}
-use Rattle.batch_journal.specs.Writing.{closing_line}
-use Rattle.batch_journal.proofs.LineLemmas.{line_more}
-use Rattle.batch_journal.proofs.LastWholeLine.{is_not}
+use Rattle.batch_journal.{specs.Lines.IsLine, specs.Journals.closing_mark, specs.Journals.closing_start, specs.Journals.is_time, specs.Journals.journal_format, specs.Writing.closing_line, proofs.LineLemmas.line_more, proofs.LastWholeLine.is_not}
 
 pub line_both : (a b : List ℕ) → IsLine a → IsLine b → IsLine (a ++ b)
 line_both [] b is others = others

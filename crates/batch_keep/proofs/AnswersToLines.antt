@@ -1,22 +1,12 @@
 -- The written answers are to lines that were given.
 use Rattle.std.proofs.Common.{◌≡◌, ◌⊎◌, ℕ, ◌-◌, ◌<◌, ◌≤◌, ◌∷◌, ◌==◌, zero, suc, get_or, false, true, inl, inr, List, [], ◌++◌, length, take, Option, Some, None, Result, Ok, Err, OnOk, IfSome, IsOk, IsErrOf, refl, sym, ◌∙◌, ap, subst, arith}
-use Rattle.std.proofs.lemmas.List.{append-nil, append_cancel_right, take_all, length-append, take-append-le}
-use Rattle.std.specs.Io.KnownBytes.{Appends, Consumes, IsAtEnd, append_known, prepend_known}
+use Rattle.std.{proofs.lemmas.List.append-nil, proofs.lemmas.List.append_cancel_right, proofs.lemmas.List.take_all, proofs.lemmas.List.length-append, proofs.lemmas.List.take-append-le, specs.Io.KnownBytes.Appends, specs.Io.KnownBytes.Consumes, specs.Io.KnownBytes.IsAtEnd, specs.Io.KnownBytes.append_known, specs.Io.KnownBytes.prepend_known, specs.List.All, proofs.lemmas.List.Splits.slice_split_at, proofs.lemmas.Bool.cases_lt}
 use Rattle.batch_model.specs.Plant.{Setup, Plant}
-use Rattle.batch_wire.specs.Transcript.{lines_of, whole_lines, silence, followed_by}
-use Rattle.batch_wire.specs.WrittenTranscript.{WritesTranscript, BeginsTranscript, WritesWholeLines}
-use Rattle.batch_serve.specs.Cut.{BeginsLinesRead}
-use Rattle.batch_serve.specs.Held.{TellsAll}
-use Rattle.batch_serve.specs.Replays.{IsWholeLines, TranscriptsAreWhole}
-use Rattle.batch_serve.specs.declared.fault.ServeFault.{ServeFault}
+use Rattle.batch_wire.specs.{Transcript.lines_of, Transcript.whole_lines, Transcript.silence, Transcript.followed_by, WrittenTranscript.WritesTranscript, WrittenTranscript.BeginsTranscript, WrittenTranscript.WritesWholeLines, Transcript.Exchange, Transcript.Transcript}
+use Rattle.batch_serve.{specs.Cut.BeginsLinesRead, specs.Held.TellsAll, specs.Replays.IsWholeLines, specs.Replays.TranscriptsAreWhole, specs.declared.fault.ServeFault.ServeFault, proofs.ServiceProgress.begun}
 use Rattle.batch_serve.specs.declared.fault.ServeFault.TheVariants as faults
-use Rattle.std.specs.List.{All}
-use Rattle.std.proofs.lemmas.List.Splits.{slice_split_at}
-use Rattle.std.proofs.lemmas.Bool.{cases_lt}
 use Rattle.batch_journal.specs.Lines.{IsLine, AreLines, text_of, whole_lines_before_zero as whole_texts}
-use Rattle.batch_wire.specs.Transcript.{Exchange, Transcript}
 use Rattle.batch_keep.specs.Told.{TellsLines}
-use Rattle.batch_serve.proofs.ServiceProgress.{begun}
 
 -- of a transcript of the first lines that were given a beginning was written
 abbrev TellsGiven : Setup → Plant → List ℕ → Option (List ℕ) → Option (List ℕ) → Type 0

@@ -1,30 +1,13 @@
 -- The step of an audit by a line that was sent, and its finding.
 use Rattle.std.proofs.Common.{◌≡◌, ◌⊎◌, ℕ, ◌+◌, ◌-◌, ◌^◌, true, false, not, List, [], ◌∷◌, ◌++◌, Option, Some, None, Result, Ok, Err, length, min, take, drop, refl, sym, ap, subst, ◌∙◌, append_assoc, append-nil, codes, IfSome, inl, inr, arith}
-use Rattle.std.specs.Prelude.{◌≢◌}
-use Rattle.std.specs.List.{list_all}
-use Rattle.std.proofs.lemmas.List.{append_cancel_left, length-append, take_rest}
-use Rattle.std.proofs.lemmas.List.Sums.{list_all-from_AllPass}
-use Rattle.batch_model.specs.Events.{Event}
-use Rattle.batch_model.specs.Plant.{Setup, Plant, opening}
+use Rattle.std.{specs.Prelude.◌≢◌, specs.List.list_all, proofs.lemmas.List.append_cancel_left, proofs.lemmas.List.length-append, proofs.lemmas.List.take_rest, proofs.lemmas.List.Sums.list_all-from_AllPass}
+use Rattle.batch_model.specs.{Events.Event, Plant.Setup, Plant.Plant, Plant.opening}
 use Rattle.batch_verify.specs.ClearedSet.{ClearedSet}
 use Rattle.batch_engine.specs.View.{setup}
-use Rattle.batch_wire.specs.EventLine.{event_of_line, is_comment}
-use Rattle.batch_wire.specs.Transcript.{Answers, Exchange, Transcript, followed_by, lines_of, refusal, silence}
-use Rattle.batch_wire.specs.declared.fault.WireFault.{WireFault}
-use Rattle.batch_wire.specs.declared.fault.WireFault.TheVariants.{Memory}
-use Rattle.batch_serve.specs.Replays.{AnswersWell, BeginsText, IsWholeLines}
-use Rattle.batch_serve.specs.Safe.{TranscriptsAreSafe}
-use Rattle.batch_serve.specs.Serving.{EndsLine, HasNoFeed}
-use Rattle.batch_serve.proofs.Replays.{is_other, whole_line, whole_then}
-use Rattle.batch_serve.proofs.TranscriptLines.{answers_whole}
-use Rattle.batch_keep.specs.Auditing.{IsAnswered, IsAudited, IsFree, IsNotFree, IsPassedOver, Reaches}
-use Rattle.batch_keep.specs.Audits.{BeginsNoRecord, BeginsRecordOf, Finds, IsRecordOfNone, agrees, differs, ends, number_behind, told_line, told_text}
+use Rattle.batch_wire.specs.{EventLine.event_of_line, EventLine.is_comment, Transcript.Answers, Transcript.Exchange, Transcript.Transcript, Transcript.followed_by, Transcript.lines_of, Transcript.refusal, Transcript.silence, declared.fault.WireFault.WireFault, declared.fault.WireFault.TheVariants.Memory}
+use Rattle.batch_serve.{specs.Replays.AnswersWell, specs.Replays.BeginsText, specs.Replays.IsWholeLines, specs.Safe.TranscriptsAreSafe, specs.Serving.EndsLine, specs.Serving.HasNoFeed, proofs.Replays.is_other, proofs.Replays.whole_line, proofs.Replays.whole_then, proofs.TranscriptLines.answers_whole}
+use Rattle.batch_keep.{specs.Auditing.IsAnswered, specs.Auditing.IsAudited, specs.Auditing.IsFree, specs.Auditing.IsNotFree, specs.Auditing.IsPassedOver, specs.Auditing.Reaches, specs.Audits.BeginsNoRecord, specs.Audits.BeginsRecordOf, specs.Audits.Finds, specs.Audits.IsRecordOfNone, specs.Audits.agrees, specs.Audits.differs, specs.Audits.ends, specs.Audits.number_behind, specs.Audits.told_line, specs.Audits.told_text, specs.Comparing.Compares, specs.Comparing.Finishes, specs.Comparing.Halts, specs.Comparing.IsCompared, specs.Comparing.IsEnd, specs.Comparing.IsNextLine, specs.Comparing.TakesLines, specs.declared.finding.Finding.Finding, specs.declared.finding.Finding.TheVariants.Differs, specs.declared.finding.Finding.TheVariants.EndsBefore, proofs.LineOutcomes.free_answers, proofs.LineOutcomes.free_once, proofs.LineOutcomes.silent_once, proofs.LineOutcomes.well_once, proofs.LineOutcomes.well_told, proofs.RecordComparison.comments_tell, proofs.RecordComparison.last_of, proofs.RecordComparison.lines_apart, proofs.RecordComparison.some_lines, proofs.RecordComparison.takes_both, proofs.RecordComparison.told_both, proofs.RecordComparison.told_first, proofs.RecordComparison.told_of}
 use Rattle.batch_keep.specs.Comparing as comparing
-use Rattle.batch_keep.specs.Comparing.{Compares, Finishes, Halts, IsCompared, IsEnd, IsNextLine, TakesLines}
-use Rattle.batch_keep.specs.declared.finding.Finding.{Finding}
-use Rattle.batch_keep.specs.declared.finding.Finding.TheVariants.{Differs, EndsBefore}
-use Rattle.batch_keep.proofs.LineOutcomes.{free_answers, free_once, silent_once, well_once, well_told}
-use Rattle.batch_keep.proofs.RecordComparison.{comments_tell, last_of, lines_apart, some_lines, takes_both, told_both, told_first, told_of}
 
 -- Transcripts
 

@@ -1,23 +1,11 @@
 -- The lines that a journal has for itself are comments.
 use Rattle.std.proofs.Common.{rules, ◌≡◌, ◌⊎◌, ℕ, suc, ◌+◌, ◌-◌, ◌<◌, ◌≤◌, Bool, true, false, ◌==◌, ◌&&◌, List, [], ◌∷◌, ◌++◌, length, length-append, take, drop, Option, Some, None, Ok, Err, cond, codes, nat_eq, nat_le, nat_lt, get_or, refl, sym, ◌∙◌, ap, subst, append_assoc, inl, inr, arith}
-use Rattle.std.proofs.lemmas.Bool.{and_parts, cases_Bool, leb-true, le-ltb}
-use Rattle.std.proofs.lemmas.Bool.Decides.{Decides-eqb}
-use Rattle.std.proofs.lemmas.List.{length-take}
-use Rattle.std.proofs.lemmas.Slice.Eq.{starts_is}
-use Rattle.std.specs.Char.{is_ascii_digit}
-use Rattle.std.specs.List.{starts_with, list_all}
-use Rattle.std.specs.Str.Lines.{strip_carriage_return}
+use Rattle.std.{proofs.lemmas.Bool.and_parts, proofs.lemmas.Bool.cases_Bool, proofs.lemmas.Bool.leb-true, proofs.lemmas.Bool.le-ltb, proofs.lemmas.Bool.Decides.Decides-eqb, proofs.lemmas.List.length-take, proofs.lemmas.Slice.Eq.starts_is, specs.Char.is_ascii_digit, specs.List.starts_with, specs.List.list_all, specs.Str.Lines.strip_carriage_return}
 use Rattle.hex.specs.Hex.{encode_lower}
 use Rattle.sha2.specs.Sha256.{sha256}
 use Rattle.batch_model.specs.Plant.{Setup, Plant}
-use Rattle.batch_wire.specs.EventLine.{is_comment, event_words, event_of_words, event_of_line}
-use Rattle.batch_wire.specs.Transcript.{lines_of, Exchange, silence, followed_by, Answers, Transcript}
-use Rattle.batch_wire.specs.WrittenTranscript.{WritesTranscript}
-use Rattle.batch_wire.specs.declared.event_line.TheConstants.{MAX_LINE_LEN}
-use Rattle.batch_wire.specs.declared.fault.WireFault.TheVariants.{TooLong}
-use Rattle.batch_journal.specs.Groups.{taken, last_sum, at_rest}
-use Rattle.batch_journal.specs.Journals.{journal_format, closing_start, is_time, next_sum, header, groups_in, recovered, IsJournal}
-use Rattle.batch_journal.specs.Lines.{IsLine, AreLines, text_of, whole_lines_before_zero}
+use Rattle.batch_wire.specs.{EventLine.is_comment, EventLine.event_words, EventLine.event_of_words, EventLine.event_of_line, Transcript.lines_of, Transcript.Exchange, Transcript.silence, Transcript.followed_by, Transcript.Answers, Transcript.Transcript, WrittenTranscript.WritesTranscript, declared.event_line.TheConstants.MAX_LINE_LEN, declared.fault.WireFault.TheVariants.TooLong}
+use Rattle.batch_journal.specs.{Groups.taken, Groups.last_sum, Groups.at_rest, Journals.journal_format, Journals.closing_start, Journals.is_time, Journals.next_sum, Journals.header, Journals.groups_in, Journals.recovered, Journals.IsJournal, Lines.IsLine, Lines.AreLines, Lines.text_of, Lines.whole_lines_before_zero}
 use Rattle.batch_keep.proofs.AnswersToLines.{lines_of_text, no_last}
 use Rattle.batch_serve.proofs.JournalLines.{strip_within_if}
 

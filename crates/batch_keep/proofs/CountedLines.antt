@@ -1,17 +1,10 @@
 -- How many lines of a journal were sent.
 use Rattle.std.proofs.Common.{◌≡◌, ℕ, zero, suc, ◌+◌, ◌-◌, ◌≤◌, Bool, true, false, cond, ◌==◌, List, [], ◌∷◌, ◌++◌, length, take, drop, get_or, Some, None, codes, nat_eq, refl, sym, ◌∙◌, ap, subst, inl, inr, arith, length-append, length-drop, ◌⊎◌}
-use Rattle.std.proofs.lemmas.Bool.{cases_Bool}
-use Rattle.std.proofs.lemmas.Bool.Decides.{Decides-eqb}
-use Rattle.std.proofs.lemmas.List.{take_at, take_rest}
-use Rattle.std.proofs.lemmas.Slice.Eq.{starts_is}
-use Rattle.std.proofs.Math.Seq.{drop-append-add}
-use Rattle.std.specs.List.{starts_with}
+use Rattle.std.{proofs.lemmas.Bool.cases_Bool, proofs.lemmas.Bool.Decides.Decides-eqb, proofs.lemmas.List.take_at, proofs.lemmas.List.take_rest, proofs.lemmas.Slice.Eq.starts_is, proofs.Math.Seq.drop-append-add, specs.List.starts_with}
 use Rattle.memchr.specs.Find.{IsFirstByte, is_byte}
 use Rattle.batch_wire.specs.EventLine.{is_comment}
-use Rattle.batch_journal.specs.Journals.{header, groups_in, closing_mark, journal_format, recovered, IsJournal}
-use Rattle.batch_journal.specs.Lines.{IsLine, AreLines, text_of, whole_lines_before_zero}
-use Rattle.batch_keep.specs.Counts.{count_from, count_of, is_counted_behind, own_behind, own_from, sent_lines}
-use Rattle.batch_keep.proofs.Comments.{others, recovered_others}
+use Rattle.batch_journal.specs.{Journals.header, Journals.groups_in, Journals.closing_mark, Journals.journal_format, Journals.recovered, Journals.IsJournal, Lines.IsLine, Lines.AreLines, Lines.text_of, Lines.whole_lines_before_zero}
+use Rattle.batch_keep.{specs.Counts.count_from, specs.Counts.count_of, specs.Counts.is_counted_behind, specs.Counts.own_behind, specs.Counts.own_from, specs.Counts.sent_lines, proofs.Comments.others, proofs.Comments.recovered_others}
 
 -- Counts
 

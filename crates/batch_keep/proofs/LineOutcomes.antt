@@ -1,28 +1,13 @@
 -- The outcomes of a line that was sent: the first line of the answer tells which one it was.
 use Rattle.std.proofs.Common.{◌≡◌, ◌⊎◌, ℕ, true, false, not, eqb, nat_eq, List, [], ◌∷◌, ◌++◌, map, flat_map, codes, Option, Some, None, Result, Ok, Err, refl, sym, ◌∙◌, ap, subst, inl, inr, append_assoc, append-nil}
-use Rattle.std.specs.Prelude.{◌≢◌}
-use Rattle.std.specs.List.{list_all, starts_with}
-use Rattle.std.proofs.lemmas.Bool.{and_parts}
-use Rattle.std.proofs.lemmas.List.Elements.{All-cons, All-nil}
-use Rattle.std.proofs.lemmas.Bool.Decides.{Decides-eqb}
-use Rattle.std.proofs.lemmas.Slice.Eq.{starts_is}
+use Rattle.std.{specs.Prelude.◌≢◌, specs.List.list_all, specs.List.starts_with, proofs.lemmas.Bool.and_parts, proofs.lemmas.List.Elements.All-cons, proofs.lemmas.List.Elements.All-nil, proofs.lemmas.Bool.Decides.Decides-eqb, proofs.lemmas.Slice.Eq.starts_is}
 use Rattle.batch_step_laws.proofs.Refusals.{refusal-just}
-use Rattle.batch_model.specs.Events.{Event, Reply, refused, no_memory}
-use Rattle.batch_model.specs.Moves.{Move, next}
-use Rattle.batch_model.specs.Plant.{Setup, Plant}
-use Rattle.batch_model.specs.Runs.{Out, reply, move, Reacts}
+use Rattle.batch_model.specs.{Events.Event, Events.Reply, Events.refused, Events.no_memory, Moves.Move, Moves.next, Plant.Setup, Plant.Plant, Runs.Out, Runs.reply, Runs.move, Runs.Reacts}
 use Rattle.batch_recipe.specs.Texts.{line_text}
 use Rattle.batch_engine.proofs.WantOfMemory.{wants-settled}
-use Rattle.batch_wire.specs.RecordText.{out_text, out_words}
-use Rattle.batch_wire.specs.Transcript.{Answers, Exchange, Handles, Settles, handled, lines_of, refusal}
-use Rattle.batch_wire.specs.declared.fault.WireFault.{WireFault}
-use Rattle.batch_wire.specs.declared.fault.WireFault.TheVariants.{Memory}
-use Rattle.batch_serve.specs.Replays.{AnswersWell}
-use Rattle.batch_serve.specs.Serving.{HasNoFeed}
-use Rattle.batch_serve.proofs.Replays.{answers_once, takes_so}
-use Rattle.batch_serve.proofs.HeldText.{is_false}
-use Rattle.batch_keep.specs.Auditing.{IsFree}
-use Rattle.batch_keep.proofs.RecordComparison.{first_of_lines}
+use Rattle.batch_wire.specs.{RecordText.out_text, RecordText.out_words, Transcript.Answers, Transcript.Exchange, Transcript.Handles, Transcript.Settles, Transcript.handled, Transcript.lines_of, Transcript.refusal, declared.fault.WireFault.WireFault, declared.fault.WireFault.TheVariants.Memory}
+use Rattle.batch_serve.{specs.Replays.AnswersWell, specs.Serving.HasNoFeed, proofs.Replays.answers_once, proofs.Replays.takes_so, proofs.HeldText.is_false}
+use Rattle.batch_keep.{specs.Auditing.IsFree, proofs.RecordComparison.first_of_lines}
 
 -- Texts
 

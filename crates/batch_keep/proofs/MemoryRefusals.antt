@@ -1,8 +1,7 @@
 -- Lines of a record that are no refusals for want of memory.
 use Rattle.std.proofs.Common.{ℕ, false, List, codes, Option, Some, None, Result, Ok, Err, IsTrue, inl, inr}
 use Rattle.std.specs.Prelude.{◌≢◌, ◌↔◌}
-use Rattle.batch_model.specs.Events.{Event}
-use Rattle.batch_model.specs.Plant.{Setup, Plant}
+use Rattle.batch_model.specs.{Events.Event, Plant.Setup, Plant.Plant}
 use Rattle.batch_wire.specs.declared.fault.WireFault.{WireFault}
 use Rattle.batch_keep.specs.Auditing.{IsFree}
 

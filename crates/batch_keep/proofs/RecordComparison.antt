@@ -1,17 +1,9 @@
 -- How a record is compared line by line.
 use Rattle.std.proofs.Common.{◌≡◌, ◌<◌, ℕ, ◌+◌, ◌-◌, ◌^◌, Bool, true, false, eqb, List, [], ◌∷◌, ◌++◌, Option, Some, None, cond, count_by, length, min, take, drop, refl, sym, ap, subst, ◌∙◌, append_assoc, arith}
-use Rattle.std.specs.Prelude.{◌==◌, ◌≢◌, MatchOption}
-use Rattle.std.specs.Borrow.{Bor}
-use Rattle.std.proofs.lemmas.Grind.{flat_map-append}
-use Rattle.std.proofs.lemmas.Bool.{eqb-true}
-use Rattle.std.proofs.lemmas.List.{append_cancel_left, drop_more, length-append, length-drop, nil_from_length, take-append-drop, take_rest}
-use Rattle.std.proofs.lemmas.List.Splits.{length-slice_split, slice_split_at, slice_split_none}
-use Rattle.batch_wire.specs.EventLine.{is_comment}
-use Rattle.batch_wire.specs.Transcript.{lines_of}
-use Rattle.batch_serve.specs.Replays.{BeginsText}
-use Rattle.batch_serve.specs.Serving.{EndsLine, HasNoFeed}
-use Rattle.batch_keep.specs.Audits.{told_line, told_text}
-use Rattle.batch_keep.specs.Comparing.{IsCompared, TakesLines}
+use Rattle.std.{specs.Prelude.◌==◌, specs.Prelude.◌≢◌, specs.Prelude.MatchOption, specs.Borrow.Bor, proofs.lemmas.Grind.flat_map-append, proofs.lemmas.Bool.eqb-true, proofs.lemmas.List.append_cancel_left, proofs.lemmas.List.drop_more, proofs.lemmas.List.length-append, proofs.lemmas.List.length-drop, proofs.lemmas.List.nil_from_length, proofs.lemmas.List.take-append-drop, proofs.lemmas.List.take_rest, proofs.lemmas.List.Splits.length-slice_split, proofs.lemmas.List.Splits.slice_split_at, proofs.lemmas.List.Splits.slice_split_none}
+use Rattle.batch_wire.specs.{EventLine.is_comment, Transcript.lines_of}
+use Rattle.batch_serve.specs.{Replays.BeginsText, Serving.EndsLine, Serving.HasNoFeed}
+use Rattle.batch_keep.specs.{Audits.told_line, Audits.told_text, Comparing.IsCompared, Comparing.TakesLines}
 
 abbrev is_end : ℕ → Bool
 is_end b = eqb b 10

@@ -2,11 +2,8 @@
 use Rattle.std.proofs.Common.{◌≡◌, ◌++◌, ◌∷◌, ◌+◌, ◌<◌, ℕ, List, [], length, map, take, get_or, codes, sym, ◌∙◌, ap}
 use Rattle.std.proofs.lemmas.List.{map-append, take_more}
 use Rattle.batch_model.specs.Plant.{Setup, Plant}
-use Rattle.batch_record.specs.Blocks.{Stage}
-use Rattle.batch_record.specs.Listing.{IsTextOf}
-use Rattle.batch_record.specs.StatusReading.{LeadsTo}
-use Rattle.batch_keep.specs.Blocks.{AreBlocksOf, IsReplayed, recovery_block_text}
-use Rattle.batch_keep.specs.Counts.{own_lines, sent_lines}
+use Rattle.batch_record.specs.{Blocks.Stage, Listing.IsTextOf, StatusReading.LeadsTo}
+use Rattle.batch_keep.specs.{Blocks.AreBlocksOf, Blocks.IsReplayed, Blocks.recovery_block_text, Counts.own_lines, Counts.sent_lines}
 
 pub are_blocks : (c : Setup) (old new : Plant) (lines names : List (List ℕ)) (told block : List ℕ) (each : List (List ℕ)) (count : ℕ) (stage : Stage) (rows : List ℕ) → IsReplayed c old lines new told → LeadsTo told stage
     → IsTextOf stage.tale (codes "# ") rows → count ≡ length (sent_lines lines) → block ≡ recovery_block_text count rows

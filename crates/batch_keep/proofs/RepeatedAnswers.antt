@@ -1,16 +1,10 @@
 -- The written answers are written again.
 use Rattle.std.proofs.Common.{◌≡◌, ℕ, List, [], ◌∷◌, ◌++◌, take, drop, take-append-drop, Option, Some, refl, sym, ◌∙◌, ap, subst, append_assoc}
-use Rattle.std.proofs.lemmas.List.{append-nil, append_cancel_left}
-use Rattle.std.specs.Io.KnownBytes.{Appends, append_known}
+use Rattle.std.{proofs.lemmas.List.append-nil, proofs.lemmas.List.append_cancel_left, specs.Io.KnownBytes.Appends, specs.Io.KnownBytes.append_known}
 use Rattle.batch_model.specs.Plant.{Setup, Plant}
 use Rattle.batch_wire.specs.Transcript.{Transcript}
-use Rattle.batch_serve.specs.Held.{TellsClear}
-use Rattle.batch_serve.specs.Replays.{WantIsNotTold}
-use Rattle.batch_journal.specs.Disks.{Left, MayLeave}
-use Rattle.batch_journal.specs.Journals.{recovered}
-use Rattle.batch_journal.specs.Lines.{AreLines, text_of}
-use Rattle.batch_journal.specs.Readers.{StartsText, LinesBegin}
-use Rattle.batch_journal.specs.Recovery.{RecoveredAreLines}
+use Rattle.batch_serve.specs.{Held.TellsClear, Replays.WantIsNotTold}
+use Rattle.batch_journal.specs.{Disks.Left, Disks.MayLeave, Journals.recovered, Lines.AreLines, Lines.text_of, Readers.StartsText, Readers.LinesBegin, Recovery.RecoveredAreLines}
 use Rattle.batch_keep.specs.Told.{TellsLines, IsToldAgain, IsNeverLost}
 
 pub text_both : (a b : List (List ℕ)) → text_of (a ++ b) ≡ text_of a ++ text_of b

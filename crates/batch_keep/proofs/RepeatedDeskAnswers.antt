@@ -1,21 +1,10 @@
 -- The answers to several desks are written again.
 use Rattle.std.proofs.Common.{rules, ◌≡◌, ℕ, Bool, true, false, cond, ◌+◌, List, [], ◌∷◌, ◌++◌, length, length-append, get_or, Option, Some, None, Ok, codes, refl, sym, ◌∙◌, ap, subst, append_assoc, arith}
 use Rattle.batch_model.specs.Plant.{Setup, Plant}
-use Rattle.batch_wire.specs.EventLine.{event_of_line}
-use Rattle.batch_wire.specs.Transcript.{Exchange, Transcript, lines_of, silence, followed_by}
-use Rattle.batch_serve.proofs.Exchanges.{followed-assoc}
-use Rattle.batch_serve.proofs.Replays.{answers_once}
-use Rattle.batch_serve.specs.Replays.{NoWantIsWell, ShowsNoWant, WellServed}
-use Rattle.batch_journal.specs.Journals.{recovered}
-use Rattle.batch_journal.specs.Lines.{IsLine, AreLines, text_of, whole_lines_before_zero}
-use Rattle.batch_journal.specs.Readers.{LinesBegin, StartsText}
-use Rattle.batch_journal.specs.Recovery.{RecoveredAreLines, WholeLinesAreLines}
-use Rattle.batch_serve.specs.Runs.{Run, is_same, runs_text}
-use Rattle.batch_serve.specs.Served.{AreServed, AreWhole, ShowNoWant, plain_text}
-use Rattle.batch_keep.specs.Desks.{AreShort, DesksAreToldAgain}
-use Rattle.batch_keep.proofs.RepeatedAnswers.{lines_both, text_both}
-use Rattle.batch_keep.proofs.Comments.{comment, line_both}
-use Rattle.batch_keep.proofs.AnswersToLines.{lines_of_text, no_last}
+use Rattle.batch_wire.specs.{EventLine.event_of_line, Transcript.Exchange, Transcript.Transcript, Transcript.lines_of, Transcript.silence, Transcript.followed_by}
+use Rattle.batch_serve.{proofs.Exchanges.followed-assoc, proofs.Replays.answers_once, specs.Replays.NoWantIsWell, specs.Replays.ShowsNoWant, specs.Replays.WellServed, specs.Runs.Run, specs.Runs.is_same, specs.Runs.runs_text, specs.Served.AreServed, specs.Served.AreWhole, specs.Served.ShowNoWant, specs.Served.plain_text}
+use Rattle.batch_journal.specs.{Journals.recovered, Lines.IsLine, Lines.AreLines, Lines.text_of, Lines.whole_lines_before_zero, Readers.LinesBegin, Readers.StartsText, Recovery.RecoveredAreLines, Recovery.WholeLinesAreLines}
+use Rattle.batch_keep.{specs.Desks.AreShort, specs.Desks.DesksAreToldAgain, proofs.RepeatedAnswers.lines_both, proofs.RepeatedAnswers.text_both, proofs.Comments.comment, proofs.Comments.line_both, proofs.AnswersToLines.lines_of_text, proofs.AnswersToLines.no_last}
 
 -- The lines of a journal
 

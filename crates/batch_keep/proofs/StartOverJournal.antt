@@ -1,11 +1,7 @@
 -- The beginning of a run over a journal.
 use Rattle.std.proofs.Common.{ℕ, List, [], ◌++◌, sym, ◌∙◌, ap}
 use Rattle.std.proofs.lemmas.List.{append-nil}
-use Rattle.batch_journal.specs.Disks.{Left, MayLeave}
-use Rattle.batch_journal.specs.Journals.{recovered}
-use Rattle.batch_journal.specs.Lines.{text_of}
-use Rattle.batch_journal.specs.Readers.{IsJournalKept, HasRecalled}
-use Rattle.batch_journal.proofs.ReaderLemmas.{begun_now}
+use Rattle.batch_journal.{specs.Disks.Left, specs.Disks.MayLeave, specs.Journals.recovered, specs.Lines.text_of, specs.Readers.IsJournalKept, specs.Readers.HasRecalled, proofs.ReaderLemmas.begun_now}
 use Rattle.batch_keep.specs.Told.{IsJournalAtRest}
 
 pub kept_here : (documents durable seen given sum : List ℕ) → IsJournalAtRest documents durable seen given sum → IsJournalKept documents (text_of (recovered documents seen)) durable seen given [] sum

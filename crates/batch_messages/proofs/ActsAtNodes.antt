@@ -1,12 +1,7 @@
 -- A recipe has an act, or none, at each of its nodes, and at no other number.
 use Rattle.std.proofs.Common.{arith, ◌≡◌, ℕ, ◌≤◌, List, [], ◌∷◌, length, slice_get, None, refl}
 use Rattle.std.proofs.lemmas.Option.{slice_get_past}
-use Rattle.batch_recipe.proofs.NodeActs.{procedure_acts_are}
-use Rattle.batch_recipe.specs.ActsAtNodes.{ActList, AreActsAt, procedure_acts}
-use Rattle.batch_recipe.specs.Expanding.{Binding}
-use Rattle.batch_recipe.specs.Nodes.{Node}
-use Rattle.batch_recipe.specs.Procedure.{procedure_nodes}
-use Rattle.batch_recipe.specs.declared.acts.Acts.{Acts}
+use Rattle.batch_recipe.{proofs.NodeActs.procedure_acts_are, specs.ActsAtNodes.ActList, specs.ActsAtNodes.AreActsAt, specs.ActsAtNodes.procedure_acts, specs.Expanding.Binding, specs.Nodes.Node, specs.Procedure.procedure_nodes, specs.declared.acts.Acts.Acts}
 
 as_many : (bound : Binding) (acts : Acts) (list : ActList) (ns : List Node) → AreActsAt bound acts list ns → length list ≡ length ns
 as_many bound acts [] [] h = refl

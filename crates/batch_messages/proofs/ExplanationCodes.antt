@@ -1,11 +1,7 @@
 -- The code of an explanation that is found by its code, and the code of the first element that has one.
 use Rattle.std.proofs.Common.{◌≡◌, ◌++◌, ◌+◌, ◌<◌, ◌∙◌, ℕ, Bool, true, false, List, [], ◌∷◌, Option, None, Some, refl, ap, sym, map, cond, arith, get_or, take, length, zero, suc}
-use Rattle.std.specs.Prelude.{find, option_map}
-use Rattle.std.specs.Option.{option_or}
-use Rattle.std.specs.Str.{str_eq_ignore_ascii_case}
-use Rattle.std.proofs.lemmas.List.{take_more}
-use Rattle.batch_messages.specs.Explaining.{first_code}
-use Rattle.batch_messages.specs.declared.explanation.Explanation.{Explanation}
+use Rattle.std.{specs.Prelude.find, specs.Prelude.option_map, specs.Option.option_or, specs.Str.str_eq_ignore_ascii_case, proofs.lemmas.List.take_more}
+use Rattle.batch_messages.specs.{Explaining.first_code, declared.explanation.Explanation.Explanation}
 
 -- an explanation that is found in a table has the code that is found among the table's codes
 pub found_code : (word : List ℕ) (table : List Explanation)

@@ -1,24 +1,10 @@
 -- The parts of an expanded tree that depend on the units that take the roles: below a unit procedure its unit alone, and above it
 -- nothing that the rules check.
 use Rattle.std.proofs.Common.{◌≡◌, refl, sym, ◌∙◌, ap, ap₂, ℕ, ◌+◌, List, [], ◌∷◌, ◌++◌, map, Bool, true, false, ◌&&◌, ◌||◌, not, Option, Some, None, inl, inr}
-use Rattle.std.proofs.lemmas.Bool.{and_parts}
-use Rattle.std.specs.List.{list_all}
-use Rattle.batch_recipe.specs.Conditions.{Name, same_name}
+use Rattle.std.{proofs.lemmas.Bool.and_parts, specs.List.list_all}
+use Rattle.batch_recipe.specs.{Conditions.Name, Conditions.same_name, Diagram.Diagram, Diagram.Diagrams, Diagram.Cases, Diagram.diagram_of, Expanding.Sites, Expanding.unit_chosen, Expanding.unit_with, Expanding.unit_below, Expanding.unit_named, Expanding.unit_count, Expanding.asked_in_order, Expanding.reserves_from, Expanding.expanded, Expanding.expanded_each, Expanding.expanded_cases, Expanding.task_of, Expanding.act_named, Expanding.act_tree_with, Expanding.named_tree_with, Needs.one_unit, Nodes.child, Tree.Place, Tree.Tree, Tree.act, Tree.skip, WellFormed.has_unit, WellFormed.has_chart, WellFormed.are_kinds, declared.act.Act.Act, declared.act.UnitChoice.UnitChoice, declared.act.Work.Work, declared.act.Work.TheVariants.Follows, declared.act.Work.TheVariants.Runs, declared.acts.Acts.Acts}
 use Rattle.batch_recipe.specs.Diagram as chart
-use Rattle.batch_recipe.specs.Diagram.{Diagram, Diagrams, Cases, diagram_of}
-use Rattle.batch_recipe.specs.Expanding.{Sites, unit_chosen, unit_with, unit_below, unit_named, unit_count, asked_in_order, reserves_from, expanded, expanded_each, expanded_cases, task_of, act_named, act_tree_with, named_tree_with}
-use Rattle.batch_recipe.specs.Needs.{one_unit}
-use Rattle.batch_recipe.specs.Nodes.{child}
-use Rattle.batch_recipe.specs.Tree.{Place, Tree, act, skip}
-use Rattle.batch_recipe.specs.WellFormed.{has_unit, has_chart, are_kinds}
-use Rattle.batch_recipe.specs.declared.act.Act.{Act}
-use Rattle.batch_recipe.specs.declared.act.UnitChoice.{UnitChoice}
-use Rattle.batch_recipe.specs.declared.act.Work.{Work}
-use Rattle.batch_recipe.specs.declared.act.Work.TheVariants.{Follows, Runs}
-use Rattle.batch_recipe.specs.declared.acts.Acts.{Acts}
-use Rattle.batch_model.specs.Lists.{Has, Each}
-use Rattle.batch_model.specs.Cleared.{surely_runs, task_surely_runs, some_surely_runs, each_surely_runs}
-use Rattle.batch_model.proofs.Members.{find-Has}
+use Rattle.batch_model.{specs.Lists.Has, specs.Lists.Each, specs.Cleared.surely_runs, specs.Cleared.task_surely_runs, specs.Cleared.some_surely_runs, specs.Cleared.each_surely_runs, proofs.Members.find-Has}
 use mathlib.Core.Path.{fun_ext}
 
 -- Below a unit procedure nothing depends on the binding

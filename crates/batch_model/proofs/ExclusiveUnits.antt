@@ -1,16 +1,9 @@
 -- A unit of a cell has one user at a time.
 use Rattle.std.proofs.Common.{◌≡◌, ℕ, ◌+◌, ◌<◌, Bool, true, false, ◌||◌, IsTrue, not, List, [], ◌∷◌, ◌++◌, length, map, filter, replicate, position, Some, None, ◌∙◌, ap, arith, cond}
-use Rattle.std.proofs.lemmas.Bool.Decides.{nat_tests}
-use Rattle.std.proofs.lemmas.Grind.{common_steps}
-use Rattle.std.proofs.lemmas.List.{append_assoc, length-map, length-append, length-replicate, get_or-replicate, get_or_append_left}
-use Rattle.std.proofs.lemmas.List.Folds.{prefix_len-append}
-use Rattle.std.specs.List.{list_any, slice_index_or, prefix_len}
-use Rattle.batch_cell.specs.Equipment.{is_free}
-use Rattle.batch_cell.specs.LookUps.{units_of, resources_of, capacities_of}
+use Rattle.std.{proofs.lemmas.Bool.Decides.nat_tests, proofs.lemmas.Grind.common_steps, proofs.lemmas.List.append_assoc, proofs.lemmas.List.length-map, proofs.lemmas.List.length-append, proofs.lemmas.List.length-replicate, proofs.lemmas.List.get_or-replicate, proofs.lemmas.List.get_or_append_left, proofs.lemmas.List.Folds.prefix_len-append, specs.List.list_any, specs.List.slice_index_or, specs.List.prefix_len}
+use Rattle.batch_cell.specs.{Equipment.is_free, LookUps.units_of, LookUps.resources_of, LookUps.capacities_of, declared.unit.Unit.Unit}
 use Rattle.batch_cell.specs.declared.cell.Cell as equipment
-use Rattle.batch_cell.specs.declared.unit.Unit.{Unit}
-use Rattle.batch_recipe.specs.Conditions.{Name, same_name}
-use Rattle.batch_recipe.specs.WellFormed.{is_among}
+use Rattle.batch_recipe.specs.{Conditions.Name, Conditions.same_name, WellFormed.is_among}
 use Rattle.batch_model.specs.Setups.{capacity_of}
 
 module _ {X : Type 0} (p : X → Bool) where

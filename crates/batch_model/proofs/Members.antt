@@ -1,7 +1,6 @@
 -- Members of lists.
 use Rattle.std.proofs.Common.{◌≡◌, ◌⊎◌, refl, subst, List, [], ◌∷◌, ◌++◌, Bool, true, false, cond, Some, None, inl, inr}
-use Rattle.std.specs.Prelude.{Option, filter, find, flat_map}
-use Rattle.std.specs.List.{filter_map, cons_option}
+use Rattle.std.specs.{Prelude.Option, Prelude.filter, Prelude.find, Prelude.flat_map, List.filter_map, List.cons_option}
 use Rattle.batch_model.specs.Lists.{Has, Each}
 
 pub Has-left : {X : Type 0} (xs ys : List X) (x : X) → Has xs x → Has (xs ++ ys) x

@@ -1,10 +1,7 @@
 -- The parts of a tree are its nodes.
 use Rattle.std.proofs.Common.{◌≡◌, refl, ◌∙◌, ap, ap₂, ℕ, ◌+◌, List, [], ◌∷◌, ◌++◌, map}
-use Rattle.batch_recipe.specs.Conditions.{Name}
-use Rattle.batch_recipe.specs.Tree.{Place, Tree, act, skip, seq, par, sel, loop, Task, runs, follows, Trees, no_trees, tree, Choices, otherwise, choice}
-use Rattle.batch_recipe.specs.Nodes.{Node, node, nodes, nodes_within, nodes_of_each, nodes_of_choices, child}
+use Rattle.batch_recipe.specs.{Conditions.Name, Tree.Place, Tree.Tree, Tree.act, Tree.skip, Tree.seq, Tree.par, Tree.sel, Tree.loop, Tree.Task, Tree.runs, Tree.follows, Tree.Trees, Tree.no_trees, Tree.tree, Tree.Choices, Tree.otherwise, Tree.choice, Nodes.Node, Nodes.node, Nodes.nodes, Nodes.nodes_within, Nodes.nodes_of_each, Nodes.nodes_of_choices, Nodes.child, Needs.resources_needed}
 use Rattle.batch_model.specs.Cleared.{Level, below, Part, parts, parts_within, parts_of_each, parts_of_choices}
-use Rattle.batch_recipe.specs.Needs.{resources_needed}
 
 both : (xs ys : List Part) (ns ms : List Node) → map (λ x. x.node) xs ≡ ns → map (λ x. x.node) ys ≡ ms → map (λ x. x.node) (xs ++ ys) ≡ ns ++ ms
 both [] ys ns ms e f = ap₂ (λ a b. a ++ b) e f

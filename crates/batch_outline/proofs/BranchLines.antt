@@ -1,8 +1,6 @@
 -- Branches that are written one by one.
 use Rattle.std.proofs.Common.{◌≡◌, ◌<◌, ◌≤◌, ◌+◌, ◌++◌, ℕ, suc, List, [], ◌∷◌, map, drop, length, get_or, sym, ap, ◌∙◌, add-one, drop-cons, drop_of_length-le, append_assoc, codes}
-use Rattle.batch_recipe.specs.Diagram.{diagram_of, diagrams_of, cases_of}
-use Rattle.batch_recipe.specs.declared.chart.Chart.{Chart}
-use Rattle.batch_recipe.specs.declared.condition.Cond.{Cond}
+use Rattle.batch_recipe.specs.{Diagram.diagram_of, Diagram.diagrams_of, Diagram.cases_of, declared.chart.Chart.Chart, declared.condition.Cond.Cond}
 use Rattle.batch_outline.specs.Along.{Labels, along, along_each, along_cases, if_text, seat_below}
 
 cut : {X : Type 0} (xs : List X) (i : ℕ) (x : X) → i < length xs → x ≡ get_or xs i x → drop i xs ≡ x ∷ drop (i + 1) xs

@@ -1,22 +1,8 @@
 -- The seats of lines.
 use Rattle.std.proofs.Common.{◌≡◌, ◌<◌, ◌-◌, ℕ, ◌+◌, List, [], ◌∷◌, ◌++◌, length, map, take, get_or, nat_eq, Bool, true, false, Option, Some, None, codes, decimal, ap, sym, ◌∙◌, refl, arith, append_assoc, length-append}
-use Rattle.std.specs.List.{flat_map}
-use Rattle.std.proofs.lemmas.List.{flat_map_more, length-map, take_more}
-use Rattle.std.proofs.lemmas.List.Folds.{flat_map-map}
-use Rattle.std.proofs.Math.Seq.{take-append_seam}
-use Rattle.batch_recipe.specs.Conditions.{Name}
-use Rattle.batch_recipe.specs.Expanding.{asked_in_order, needs_with, unit_chosen, unit_named, unit_with}
-use Rattle.batch_recipe.specs.Needs.{one_unit, resources_needed}
-use Rattle.batch_recipe.specs.Nodes.{node, needs_of, child}
-use Rattle.batch_recipe.specs.Procedure.{sites}
-use Rattle.batch_recipe.specs.Texts.{place_text}
-use Rattle.batch_recipe.specs.Tree.{Place, Tree}
-use Rattle.batch_recipe.specs.declared.act.Act.{Act}
-use Rattle.batch_recipe.specs.declared.act.UnitChoice.{UnitChoice}
-use Rattle.batch_recipe.specs.declared.acts.Acts.{Acts}
-use Rattle.batch_recipe.specs.declared.need.Need.{Need}
-use Rattle.batch_outline.specs.Along.{Seat, asked_needs, asked_reserves, asked_text, asked_unit, held_text, seat_below, unit_of_name}
-use Rattle.batch_outline.specs.Showing.{Branch, asked_above, branch_text, itself, kind_text, kind_below, listed, need_text, spaced}
+use Rattle.std.{specs.List.flat_map, proofs.lemmas.List.flat_map_more, proofs.lemmas.List.length-map, proofs.lemmas.List.take_more, proofs.lemmas.List.Folds.flat_map-map, proofs.Math.Seq.take-append_seam}
+use Rattle.batch_recipe.specs.{Conditions.Name, Expanding.asked_in_order, Expanding.needs_with, Expanding.unit_chosen, Expanding.unit_named, Expanding.unit_with, Needs.one_unit, Needs.resources_needed, Nodes.node, Nodes.needs_of, Nodes.child, Procedure.sites, Texts.place_text, Tree.Place, Tree.Tree, declared.act.Act.Act, declared.act.UnitChoice.UnitChoice, declared.acts.Acts.Acts, declared.need.Need.Need}
+use Rattle.batch_outline.specs.{Along.Seat, Along.asked_needs, Along.asked_reserves, Along.asked_text, Along.asked_unit, Along.held_text, Along.seat_below, Along.unit_of_name, Showing.Branch, Showing.asked_above, Showing.branch_text, Showing.itself, Showing.kind_text, Showing.kind_below, Showing.listed, Showing.need_text, Showing.spaced}
 
 pub child_text : (p : Place) (i : ℕ) → 0 < length p → place_text (child p i) ≡ place_text p ++ (codes "." ++ decimal i)
 child_text [] i long = absurd (omega (arith, long))

@@ -1,29 +1,9 @@
 -- The lines along the charts are those of the nodes of the expanded tree.
 use Rattle.std.proofs.Common.{◌≡◌, ◌<◌, ℕ, ◌+◌, List, [], ◌∷◌, ◌++◌, Option, Some, None, length, codes, decimal, ap, sym, subst, ◌∙◌, refl, arith, append-nil, append_assoc, length-append}
-use Rattle.std.specs.List.{flat_map}
-use Rattle.std.proofs.lemmas.Fmt.{decimal_digit}
-use Rattle.std.proofs.lemmas.Grind.{flat_map-append}
-use Rattle.batch_recipe.specs.ActsAtNodes.{ActList, acts_along, acts_along_each, acts_along_cases, acts_below, acts_from, acts_named}
-use Rattle.batch_recipe.specs.Conditions.{Name}
-use Rattle.batch_recipe.specs.Diagram.{Diagram, label, skip, seq, par, sel, loop, Diagrams, none, more, Cases, otherwise, when, diagram_of}
-use Rattle.batch_recipe.specs.Expanding.{act_named, act_tree_with, expanded, expanded_each, expanded_cases, named_tree_with, needs_with, task_of, unit_below, unit_with}
-use Rattle.batch_recipe.specs.Needs.{resources_needed}
-use Rattle.batch_recipe.specs.Nodes.{Node, node, nodes, nodes_within, nodes_of_each, nodes_of_choices, child}
-use Rattle.batch_recipe.specs.Procedure.{level_below, sites, table_at, tables_from}
-use Rattle.batch_recipe.specs.Texts.{place_text}
+use Rattle.std.{specs.List.flat_map, proofs.lemmas.Fmt.decimal_digit, proofs.lemmas.Grind.flat_map-append}
+use Rattle.batch_recipe.specs.{ActsAtNodes.ActList, ActsAtNodes.acts_along, ActsAtNodes.acts_along_each, ActsAtNodes.acts_along_cases, ActsAtNodes.acts_below, ActsAtNodes.acts_from, ActsAtNodes.acts_named, Conditions.Name, Diagram.Diagram, Diagram.label, Diagram.skip, Diagram.seq, Diagram.par, Diagram.sel, Diagram.loop, Diagram.Diagrams, Diagram.none, Diagram.more, Diagram.Cases, Diagram.otherwise, Diagram.when, Diagram.diagram_of, Expanding.act_named, Expanding.act_tree_with, Expanding.expanded, Expanding.expanded_each, Expanding.expanded_cases, Expanding.named_tree_with, Expanding.needs_with, Expanding.task_of, Expanding.unit_below, Expanding.unit_with, Needs.resources_needed, Nodes.Node, Nodes.node, Nodes.nodes, Nodes.nodes_within, Nodes.nodes_of_each, Nodes.nodes_of_choices, Nodes.child, Procedure.level_below, Procedure.sites, Procedure.table_at, Procedure.tables_from, Texts.place_text, Tree.Place, Tree.Step, Tree.Tree, declared.act.Act.Act, declared.act.Work.Work, declared.act.Work.TheVariants.Follows, declared.act.Work.TheVariants.Runs, declared.acts.Acts.Acts, declared.acts.LabelTable.LabelTable, declared.acts.LabelTable.TheVariants.UnitProcedures, declared.acts.LabelTable.TheVariants.Operations, declared.acts.LabelTable.TheVariants.Phases, declared.recipe.Recipe.Recipe, declared.role.Role.Role as RecipeRole}
 use Rattle.batch_recipe.specs.Tree as tree
-use Rattle.batch_recipe.specs.Tree.{Place, Step, Tree}
-use Rattle.batch_recipe.specs.declared.act.Act.{Act}
-use Rattle.batch_recipe.specs.declared.act.Work.{Work}
-use Rattle.batch_recipe.specs.declared.act.Work.TheVariants.{Follows, Runs}
-use Rattle.batch_recipe.specs.declared.acts.Acts.{Acts}
-use Rattle.batch_recipe.specs.declared.acts.LabelTable.{LabelTable}
-use Rattle.batch_recipe.specs.declared.acts.LabelTable.TheVariants.{UnitProcedures, Operations, Phases}
-use Rattle.batch_recipe.specs.declared.recipe.Recipe.{Recipe}
-use Rattle.batch_recipe.specs.declared.role.Role.{Role as RecipeRole}
-use Rattle.batch_outline.specs.Along.{Labels, Seat, act_lines, along, along_each, along_cases, asked_text, below_act, labels_from, line, named_lines, plain_line, seat_below}
-use Rattle.batch_outline.specs.Showing.{Branch, no_branch, chosen_if, chosen_else, Row, act_text, branch_text, branches, branches_within, branches_of_each, branches_of_choices, head_text, itself, kind_text, kind_below, listed, recipe_text, row_text, rows, rows_of, spaced, turns_text}
-use Rattle.batch_outline.proofs.LineSeats.{above_node, asked_is, child_long, held_listed, kind_far, seat_at, seat_of_child}
+use Rattle.batch_outline.{specs.Along.Labels, specs.Along.Seat, specs.Along.act_lines, specs.Along.along, specs.Along.along_each, specs.Along.along_cases, specs.Along.asked_text, specs.Along.below_act, specs.Along.labels_from, specs.Along.line, specs.Along.named_lines, specs.Along.plain_line, specs.Along.seat_below, specs.Showing.Branch, specs.Showing.no_branch, specs.Showing.chosen_if, specs.Showing.chosen_else, specs.Showing.Row, specs.Showing.act_text, specs.Showing.branch_text, specs.Showing.branches, specs.Showing.branches_within, specs.Showing.branches_of_each, specs.Showing.branches_of_choices, specs.Showing.head_text, specs.Showing.itself, specs.Showing.kind_text, specs.Showing.kind_below, specs.Showing.listed, specs.Showing.recipe_text, specs.Showing.row_text, specs.Showing.rows, specs.Showing.rows_of, specs.Showing.spaced, specs.Showing.turns_text, proofs.LineSeats.above_node, proofs.LineSeats.asked_is, proofs.LineSeats.child_long, proofs.LineSeats.held_listed, proofs.LineSeats.kind_far, proofs.LineSeats.seat_at, proofs.LineSeats.seat_of_child}
 
 rows_joined : (ns ms : List Node) (xs ys : ActList) (bs cs : List Branch) → length xs ≡ length ns → length bs ≡ length ns
     → rows (ns ++ ms) (xs ++ ys) (bs ++ cs) ≡ rows ns xs bs ++ rows ms ys cs

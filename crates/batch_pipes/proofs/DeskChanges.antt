@@ -2,17 +2,8 @@
 use Rattle.std.proofs.Common.{◌≡◌, ◌≢◌, ◌<◌, ◌≤◌, ◌+◌, ◌⊎◌, ◌||◌, Bool, true, false, List, ℕ, length, get_or, set, refl, sym, ap, ◌∙◌, subst, arith, inl, inr, get_or-set_other, get_or-set_same}
 use Rattle.std.proofs.lemmas.Bool.{cases_lt, false≢true}
 use Rattle.rtrb.specs.Ring.{SameProducer, sent}
-use Rattle.batch_serve.specs.Rounds.{AreHandedOn, AreSameWriters, IsHandedOn}
-use Rattle.batch_serve.specs.Runs.{Run}
-use Rattle.batch_serve.specs.Told.{AreDesksTold}
-use Rattle.batch_serve.specs.Waits.{IsAccount}
-use Rattle.batch_serve.specs.declared.desk.Desk.{Desk}
-use Rattle.batch_serve.specs.declared.rounds.Reader.{Reader}
-use Rattle.batch_serve.specs.declared.rounds.Writer.{Writer}
-use Rattle.batch_serve.proofs.DeskLines.{was_here}
-use Rattle.batch_pipes.proofs.Lists.{one_of}
-use Rattle.batch_pipes.proofs.Rings.{producer_on, same_ring}
-use Rattle.batch_pipes.specs.Kept.{AreReadersKept, AreSameDesks, IsDeskKept, IsDone, IsReaderKept}
+use Rattle.batch_serve.{specs.Rounds.AreHandedOn, specs.Rounds.AreSameWriters, specs.Rounds.IsHandedOn, specs.Runs.Run, specs.Told.AreDesksTold, specs.Waits.IsAccount, specs.declared.desk.Desk.Desk, specs.declared.rounds.Reader.Reader, specs.declared.rounds.Writer.Writer, proofs.DeskLines.was_here}
+use Rattle.batch_pipes.{proofs.Lists.one_of, proofs.Rings.producer_on, proofs.Rings.same_ring, specs.Kept.AreReadersKept, specs.Kept.AreSameDesks, specs.Kept.IsDeskKept, specs.Kept.IsDone, specs.Kept.IsReaderKept}
 
 pub kept_as_it_is : (desk : Desk) → IsDeskKept desk desk
 kept_as_it_is desk = record { unit = refl; cut = λ uncut. uncut; waits = λ _. refl; account = λ all told h. h }

@@ -4,16 +4,8 @@ use Rattle.std.proofs.lemmas.List.{map-append}
 use Rattle.rtrb.specs.Ring.{sent}
 use Rattle.batch_reader.specs.declared.desk.Desk as plans
 use Rattle.batch_engine.specs.View.{EngineView}
-use Rattle.batch_serve.specs.declared.desk.Desk.{Desk}
-use Rattle.batch_serve.specs.declared.desk_server.DeskServer.{DeskServer}
-use Rattle.batch_serve.specs.declared.rounds.Reader.{Reader}
-use Rattle.batch_serve.specs.declared.rounds.Writer.{Writer}
-use Rattle.batch_pipes.proofs.Lists.{both_more, length_more}
-use Rattle.batch_pipes.specs.Inputs.{IsNewReader}
-use Rattle.batch_pipes.specs.Kept.{ArePortsOf}
-use Rattle.batch_pipes.specs.Opened.{IsOpened, IsOpenedOn}
-use Rattle.batch_pipes.specs.declared.input_order.InputOrder.{InputOrder}
-use Rattle.batch_pipes.specs.declared.ports.Ports.{Ports}
+use Rattle.batch_serve.specs.declared.{desk.Desk.Desk, desk_server.DeskServer.DeskServer, rounds.Reader.Reader, rounds.Writer.Writer}
+use Rattle.batch_pipes.{proofs.Lists.both_more, proofs.Lists.length_more, specs.Inputs.IsNewReader, specs.Kept.ArePortsOf, specs.Opened.IsOpened, specs.Opened.IsOpenedOn, specs.declared.input_order.InputOrder.InputOrder, specs.declared.ports.Ports.Ports}
 
 -- a property of each element, and of one more
 of_last : {T : Type 0} (P : T → Type 0) (xs : List T) (y other : T) (k : ℕ) → ((j : ℕ) (o : T) → j < length xs → P (get_or xs j o)) → P y

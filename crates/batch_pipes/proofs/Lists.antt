@@ -1,7 +1,6 @@
 -- Relations of each element of lists, when one element is set or added.
 use Rattle.std.proofs.Common.{◌≡◌, ◌≢◌, ◌<◌, ◌≤◌, ◌+◌, ◌⊎◌, ℕ, zero, suc, List, [], ◌∷◌, ◌++◌, drop, drop-drop, length, get_or, get_or-drop, set, refl, sym, ap, subst, arith, inl, inr, get_or-set_other, get_or-set_same, ◌∙◌}
-use Rattle.std.proofs.lemmas.Bool.{cases_lt}
-use Rattle.std.proofs.lemmas.List.{get_or_default}
+use Rattle.std.proofs.lemmas.{Bool.cases_lt, List.get_or_default}
 
 -- One is set
 

@@ -1,27 +1,10 @@
 -- The messages of desks' readers, in order.
 use Rattle.std.proofs.Common.{◌≡◌, ◌<◌, ℕ, Bool, true, false, ◌||◌, List, [], ◌∷◌, ◌++◌, length, get_or, Option, Some, None, IfSome, option_map, option_to_list, string_bytes, inl, refl, sym, ap, subst, arith, append_assoc, append-nil, ◌∙◌}
-use Rattle.std.proofs.lemmas.Bool.{false≢true}
-use Rattle.std.proofs.lemmas.Grind.{flat_map-append}
-use Rattle.std.proofs.lemmas.List.Folds.{list_any-append}
-use Rattle.std.specs.List.{list_any}
+use Rattle.std.{proofs.lemmas.Bool.false≢true, proofs.lemmas.Grind.flat_map-append, proofs.lemmas.List.Folds.list_any-append, specs.List.list_any}
 use Rattle.rtrb.specs.Ring.{received, sent}
 use Rattle.batch_wire.specs.Transcript.{lines_of}
-use Rattle.batch_serve.specs.CleanLines.{clean_lines}
-use Rattle.batch_serve.specs.Replays.{IsWholeLines}
-use Rattle.batch_serve.specs.Rounds.{AreGathered, AreMessagesOf, HaveWholeLines, IsGathered, IsTextOfMessages, is_end, text_of_one, text_sent}
-use Rattle.batch_serve.specs.Runs.{Run}
-use Rattle.batch_serve.specs.Threads.{MayHandOver}
-use Rattle.batch_serve.specs.declared.desk.Desk.{Desk}
-use Rattle.batch_serve.specs.declared.rounds.Reader.{Reader}
-use Rattle.batch_serve.specs.declared.rounds.Sent.{Sent}
-use Rattle.batch_serve.specs.declared.rounds.Sent.TheVariants.{Path, Lines, End}
-use Rattle.batch_serve.proofs.TranscriptLines.{both}
-use Rattle.batch_pipes.proofs.Lists.{one_of}
-use Rattle.batch_pipes.specs.InputOrder.{CameBehind, IsGiven, IsOrdered, cleaned, given_by}
-use Rattle.batch_pipes.specs.Inputs.{InputsGoOn, IsInputOf, IsNewReader}
-use Rattle.batch_pipes.specs.Kept.{AreReadersKept}
-use Rattle.batch_pipes.specs.Streams.{IsNew}
-use Rattle.batch_pipes.specs.declared.reading.InputTask.{InputTask}
+use Rattle.batch_serve.{specs.CleanLines.clean_lines, specs.Replays.IsWholeLines, specs.Rounds.AreGathered, specs.Rounds.AreMessagesOf, specs.Rounds.HaveWholeLines, specs.Rounds.IsGathered, specs.Rounds.IsTextOfMessages, specs.Rounds.is_end, specs.Rounds.text_of_one, specs.Rounds.text_sent, specs.Runs.Run, specs.Threads.MayHandOver, specs.declared.desk.Desk.Desk, specs.declared.rounds.Reader.Reader, specs.declared.rounds.Sent.Sent, specs.declared.rounds.Sent.TheVariants.Path, specs.declared.rounds.Sent.TheVariants.Lines, specs.declared.rounds.Sent.TheVariants.End, proofs.TranscriptLines.both}
+use Rattle.batch_pipes.{proofs.Lists.one_of, specs.InputOrder.CameBehind, specs.InputOrder.IsGiven, specs.InputOrder.IsOrdered, specs.InputOrder.cleaned, specs.InputOrder.given_by, specs.Inputs.InputsGoOn, specs.Inputs.IsInputOf, specs.Inputs.IsNewReader, specs.Kept.AreReadersKept, specs.Streams.IsNew, specs.declared.reading.InputTask.InputTask}
 
 -- The protocol
 

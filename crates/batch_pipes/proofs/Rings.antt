@@ -1,9 +1,6 @@
 -- Two ends of one ring, of which both may have moved on.
 use Rattle.std.proofs.Common.{refl, sym, ◌∙◌}
-use Rattle.rtrb.specs.Ends.{SameRing}
-use Rattle.rtrb.specs.Ring.{SameProducer}
-use Rattle.rtrb.specs.declared.end.End.{End}
-use Rattle.rtrb.specs.declared.producer.Producer.{Producer}
+use Rattle.rtrb.specs.{Ends.SameRing, Ring.SameProducer, declared.end.End.End, declared.producer.Producer.Producer}
 
 module _ {T A P : Type 0} where
   ring_on : (a b d : End T A P) → SameRing a b → SameRing b d → SameRing a d

@@ -1,43 +1,13 @@
 -- Rounds lead a service on.
 use Rattle.std.proofs.Common.{◌≡◌, ◌<◌, ℕ, zero, suc, Bool, true, false, List, [], ◌∷◌, ◌++◌, length, get_or, flat_map, map, Option, None, Result, Ok, Err, OnOk, codes, decimal, inl, inr, refl, sym, ap, subst, arith, append-nil, ◌∙◌}
-use Rattle.std.proofs.lemmas.Grind.{flat_map-append}
-use Rattle.std.proofs.lemmas.List.Elements.{All-append, All-nil}
-use Rattle.std.proofs.KnownBytes.{Appends-nil, Appends-trans}
-use Rattle.std.specs.Io.KnownBytes.{Appends}
+use Rattle.std.{proofs.lemmas.Grind.flat_map-append, proofs.lemmas.List.Elements.All-append, proofs.lemmas.List.Elements.All-nil, proofs.KnownBytes.Appends-nil, proofs.KnownBytes.Appends-trans, specs.Io.KnownBytes.Appends}
 use Rattle.batch_engine.specs.View.{EngineView, plant_of, setup}
 use Rattle.rtrb.specs.Ring.{received, sent}
-use Rattle.batch_serve.specs.Rounds.{AreGathered, IsHandedOver, IsTextOfMessages, text_sent}
-use Rattle.batch_serve.specs.Runs.{AreOfDesks, Run, due_of, last_of, own_text, runs_text}
-use Rattle.batch_serve.specs.Served.{AreServed}
-use Rattle.batch_serve.specs.Turns.{IsSameBut, IsTurned}
-use Rattle.batch_serve.specs.Waits.{IsAccount}
-use Rattle.batch_serve.specs.declared.desk.Desk.{Desk}
-use Rattle.batch_serve.specs.declared.desk_server.DeskServer.{DeskServer}
-use Rattle.batch_serve.specs.declared.rounds.Reader.{Reader}
-use Rattle.batch_serve.specs.declared.rounds.Sent.{Sent}
-use Rattle.batch_serve.specs.declared.rounds.Writer.{Writer}
-use Rattle.batch_serve.proofs.DeskLines.{lines_go_on}
-use Rattle.batch_serve.proofs.RunTexts.{texts_go_on}
-use Rattle.batch_serve.proofs.ServerAccounts.{last_same, life_turned, lives_take}
+use Rattle.batch_serve.{specs.Rounds.AreGathered, specs.Rounds.IsHandedOver, specs.Rounds.IsTextOfMessages, specs.Rounds.text_sent, specs.Runs.AreOfDesks, specs.Runs.Run, specs.Runs.due_of, specs.Runs.last_of, specs.Runs.own_text, specs.Runs.runs_text, specs.Served.AreServed, specs.Turns.IsSameBut, specs.Turns.IsTurned, specs.Waits.IsAccount, specs.declared.desk.Desk.Desk, specs.declared.desk_server.DeskServer.DeskServer, specs.declared.rounds.Reader.Reader, specs.declared.rounds.Sent.Sent, specs.declared.rounds.Writer.Writer, proofs.DeskLines.lines_go_on, proofs.RunTexts.texts_go_on, proofs.ServerAccounts.last_same, proofs.ServerAccounts.life_turned, proofs.ServerAccounts.lives_take, specs.Comments.time_text}
 use Rattle.batch_reader.specs.DeskNames.{desk_names}
 use Rattle.batch_reader.specs.declared.desk.Desk as plans
-use Rattle.batch_pipes.proofs.ReaderMessages.{input_begins, no_text, own_begun, own_whole}
-use Rattle.batch_pipes.proofs.Lists.{one_of}
-use Rattle.batch_pipes.proofs.WriterOutputs.{is_given_back}
-use Rattle.batch_pipes.specs.Ended.{AreDesksEnded, IsGivenBack}
-use Rattle.batch_pipes.specs.Inputs.{AreInputsOf, InputsGoOn}
-use Rattle.batch_pipes.specs.Kept.{AreDone, AreReadersKept, ArePortsOf, AreSameDesks}
-use Rattle.batch_pipes.specs.Opened.{IsOpened}
-use Rattle.batch_pipes.specs.OutputEnds.{IsHandedBack}
-use Rattle.batch_pipes.specs.Outputs.{AreOutputsKept, AreOutputsOpened, AreSettled, Asked, asked_by, asked_of}
-use Rattle.batch_serve.specs.Comments.{time_text}
+use Rattle.batch_pipes.{proofs.ReaderMessages.input_begins, proofs.ReaderMessages.no_text, proofs.ReaderMessages.own_begun, proofs.ReaderMessages.own_whole, proofs.Lists.one_of, proofs.WriterOutputs.is_given_back, specs.Ended.AreDesksEnded, specs.Ended.IsGivenBack, specs.Inputs.AreInputsOf, specs.Inputs.InputsGoOn, specs.Kept.AreDone, specs.Kept.AreReadersKept, specs.Kept.ArePortsOf, specs.Kept.AreSameDesks, specs.Opened.IsOpened, specs.OutputEnds.IsHandedBack, specs.Outputs.AreOutputsKept, specs.Outputs.AreOutputsOpened, specs.Outputs.AreSettled, specs.Outputs.Asked, specs.Outputs.asked_by, specs.Outputs.asked_of, specs.Service.AppendsTime, specs.Service.AppendsTimed, specs.Service.AreDesksServed, specs.Service.AreTimes, specs.Service.IsService, specs.Service.IsTime, specs.Service.Opening, specs.Service.RecordPart, specs.Service.Rings, specs.Service.without_record, specs.Service.came_from, specs.Service.rings_of, specs.Service.told_to, specs.declared.input_order.InputOrder.InputOrder, specs.declared.outcome.OutputOutcome.OutputOutcome, specs.declared.output.Output.Output, specs.declared.ports.Ports.Ports, specs.declared.written.Written.Written}
 use Rattle.batch_wire.specs.Written.{Writes}
-use Rattle.batch_pipes.specs.Service.{AppendsTime, AppendsTimed, AreDesksServed, AreTimes, IsService, IsTime, Opening, RecordPart, Rings, without_record, came_from, rings_of, told_to}
-use Rattle.batch_pipes.specs.declared.input_order.InputOrder.{InputOrder}
-use Rattle.batch_pipes.specs.declared.outcome.OutputOutcome.{OutputOutcome}
-use Rattle.batch_pipes.specs.declared.output.Output.{Output}
-use Rattle.batch_pipes.specs.declared.ports.Ports.{Ports}
-use Rattle.batch_pipes.specs.declared.written.Written.{Written}
 
 -- Texts with times
 

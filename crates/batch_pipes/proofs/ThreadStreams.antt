@@ -1,17 +1,9 @@
 -- The lines of inputs that threads hand over, and the text that they write to outputs.
 use Rattle.std.proofs.Common.{◌≡◌, ℕ, Bool, true, false, List, [], ◌++◌, Option, Some, None, IfSome, option_map, refl, sym, ap, subst, append_assoc, append-nil, ◌∙◌}
-use Rattle.std.proofs.KnownBytes.{Appends-kept, Appends-trans}
-use Rattle.std.proofs.lemmas.Bool.{false≢true}
-use Rattle.std.specs.Io.KnownBytes.{Appends, Consumes, IsAtEnd, Keeps, append_known}
-use Rattle.batch_wire.specs.Transcript.{lines_of}
-use Rattle.batch_wire.specs.Written.{AppendsBeginning}
-use Rattle.batch_serve.specs.CleanLines.{clean_lines}
-use Rattle.batch_serve.specs.Rounds.{text_sent}
-use Rattle.batch_serve.specs.Threads.{IsInputRead, AreLinesWritten, lines_text}
-use Rattle.batch_serve.specs.declared.rounds.Sent.{Sent}
-use Rattle.batch_pipes.specs.Streams.{HandsOver, HasNoOutput, HoldsBeginning, IsWrittenBehind, IsWrittenOf, IsWrittenOut}
-use Rattle.batch_pipes.specs.declared.fault.PipeFault.{PipeFault}
-use Rattle.batch_pipes.specs.declared.written.Written.{Written}
+use Rattle.std.{proofs.KnownBytes.Appends-kept, proofs.KnownBytes.Appends-trans, proofs.lemmas.Bool.false≢true, specs.Io.KnownBytes.Appends, specs.Io.KnownBytes.Consumes, specs.Io.KnownBytes.IsAtEnd, specs.Io.KnownBytes.Keeps, specs.Io.KnownBytes.append_known}
+use Rattle.batch_wire.specs.{Transcript.lines_of, Written.AppendsBeginning}
+use Rattle.batch_serve.specs.{CleanLines.clean_lines, Rounds.text_sent, Threads.IsInputRead, Threads.AreLinesWritten, Threads.lines_text, declared.rounds.Sent.Sent}
+use Rattle.batch_pipes.specs.{Streams.HandsOver, Streams.HasNoOutput, Streams.HoldsBeginning, Streams.IsWrittenBehind, Streams.IsWrittenOf, Streams.IsWrittenOut, declared.fault.PipeFault.PipeFault, declared.written.Written.Written}
 
 -- Inputs
 

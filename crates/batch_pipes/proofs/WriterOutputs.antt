@@ -1,29 +1,10 @@
 -- Outputs that are written through the rings of their writers.
 use Rattle.std.proofs.Common.{◌≡◌, ◌<◌, ◌+◌, ℕ, false, List, [], ◌∷◌, ◌++◌, length, length-append, get_or, set, Option, Some, None, IfSome, IsSome, string_bytes, refl, sym, ap, subst, arith, append-nil, append_assoc, length-set, ◌∙◌}
-use Rattle.std.proofs.lemmas.Bool.{false≢true}
-use Rattle.std.proofs.lemmas.Option.{IfSome_then}
+use Rattle.std.proofs.lemmas.{Bool.false≢true, Option.IfSome_then}
 use Rattle.rtrb.specs.Ring.{IsPair, SameProducer, received, sent}
 use Rattle.batch_reader.specs.declared.desk.Desk as plans
-use Rattle.batch_serve.specs.Rounds.{AreSameWriters}
-use Rattle.batch_serve.specs.Threads.{lines_text}
-use Rattle.batch_serve.specs.Waits.{IsAccount}
-use Rattle.batch_serve.specs.declared.desk.Desk.{Desk}
-use Rattle.batch_serve.specs.declared.rounds.Writer.{Writer}
-use Rattle.batch_serve.proofs.ReadersAndWriters.{text_both}
-use Rattle.batch_pipes.proofs.Lists.{at_place, both_more, both_set, first_set, length_more, one_of, same_set}
-use Rattle.batch_pipes.proofs.Rings.{pair_on, same_ring}
-use Rattle.batch_pipes.proofs.ThreadStreams.{text_grown}
-use Rattle.batch_pipes.specs.Ended.{IsGivenBack, IsOutputTold}
-use Rattle.batch_pipes.specs.OutputEnds.{IsHandedBack, Results}
-use Rattle.batch_pipes.specs.Outputs.{AreEnding, AreOutputsKept, AreOutputsOf, AreOutputsOpened, AreSettled, AreSettledBy, Asked, IsEndOf, IsEnding, IsFinished, IsOutputAdded, IsOutputKept, IsOutputOf, IsSettled, IsSettledBy, IsTaskOf, asked_by, asked_of}
-use Rattle.batch_pipes.specs.Streams.{HoldsBeginning, IsWrittenOf}
-use Rattle.batch_pipes.specs.declared.outcome.OutputOutcome.{OutputOutcome}
-use Rattle.batch_pipes.specs.declared.outcome.OutputOutcome.TheVariants.{Absent, Joined, Unjoined}
-use Rattle.batch_pipes.specs.declared.output.Output.{Output}
-use Rattle.batch_pipes.specs.declared.output.OutputChild.{OutputChild}
-use Rattle.batch_pipes.specs.declared.writing.OutputEnd.{OutputEnd}
-use Rattle.batch_pipes.specs.declared.writing.OutputTask.{OutputTask}
-use Rattle.batch_pipes.specs.declared.written.Written.{Written}
+use Rattle.batch_serve.{specs.Rounds.AreSameWriters, specs.Threads.lines_text, specs.Waits.IsAccount, specs.declared.desk.Desk.Desk, specs.declared.rounds.Writer.Writer, proofs.ReadersAndWriters.text_both}
+use Rattle.batch_pipes.{proofs.Lists.at_place, proofs.Lists.both_more, proofs.Lists.both_set, proofs.Lists.first_set, proofs.Lists.length_more, proofs.Lists.one_of, proofs.Lists.same_set, proofs.Rings.pair_on, proofs.Rings.same_ring, proofs.ThreadStreams.text_grown, specs.Ended.IsGivenBack, specs.Ended.IsOutputTold, specs.OutputEnds.IsHandedBack, specs.OutputEnds.Results, specs.Outputs.AreEnding, specs.Outputs.AreOutputsKept, specs.Outputs.AreOutputsOf, specs.Outputs.AreOutputsOpened, specs.Outputs.AreSettled, specs.Outputs.AreSettledBy, specs.Outputs.Asked, specs.Outputs.IsEndOf, specs.Outputs.IsEnding, specs.Outputs.IsFinished, specs.Outputs.IsOutputAdded, specs.Outputs.IsOutputKept, specs.Outputs.IsOutputOf, specs.Outputs.IsSettled, specs.Outputs.IsSettledBy, specs.Outputs.IsTaskOf, specs.Outputs.asked_by, specs.Outputs.asked_of, specs.Streams.HoldsBeginning, specs.Streams.IsWrittenOf, specs.declared.outcome.OutputOutcome.OutputOutcome, specs.declared.outcome.OutputOutcome.TheVariants.Absent, specs.declared.outcome.OutputOutcome.TheVariants.Joined, specs.declared.outcome.OutputOutcome.TheVariants.Unjoined, specs.declared.output.Output.Output, specs.declared.output.OutputChild.OutputChild, specs.declared.writing.OutputEnd.OutputEnd, specs.declared.writing.OutputTask.OutputTask, specs.declared.written.Written.Written}
 
 -- One output
 

@@ -1,23 +1,14 @@
 -- The deeds of a link, one after another.
 use Rattle.std.proofs.Common.{◌≡◌, ℕ, ◌<◌, ◌+◌, ◌-◌, ◌⊎◌, inl, inr, List, [], ◌∷◌, ◌++◌, length, map, Option, Some, None, refl, sym, ap, ap₂, ◌∙◌, subst, slice_get, unwrap_or, arith, append_assoc, append-nil}
-use Rattle.std.proofs.lemmas.List.{length-map, map-append}
-use Rattle.std.proofs.lemmas.List.Sums.{sum_by_push}
+use Rattle.std.proofs.lemmas.List.{length-map, map-append, Sums.sum_by_push}
 use Rattle.batch_matrix.specs.declared.report.Report.{Report}
-use Rattle.batch_cell.specs.LookUps.{units_of, resources_of, phases_of}
-use Rattle.batch_cell.specs.declared.cell.Cell.{Cell}
+use Rattle.batch_cell.specs.{LookUps.units_of, LookUps.resources_of, LookUps.phases_of, declared.cell.Cell.Cell}
 use Rattle.batch_recipe.specs.Conditions.{Name}
 use Rattle.batch_model.specs.Events as Events
-use Rattle.batch_engine.specs.Surface.{event_of}
-use Rattle.batch_engine.specs.declared.event.Event.{Event}
-use Rattle.batch_engine.specs.declared.out.Out.{Out}
-use Rattle.batch_sim.specs.Units.{Ticks}
-use Rattle.batch_sim.specs.declared.order.Order.{Order}
-use Rattle.batch_desk.specs.Consoles.{completes, telling_complete}
-use Rattle.batch_desk.specs.DeskState.{DeskState}
-use Rattle.batch_plant.specs.Links.{report_in, report_named, Deed, took, ticked, outs_taken, reports_made, event_list, unit_after, Linked, TakeOut, AreDone, Links}
-use Rattle.batch_plant.specs.LinkSteps.{Counts, KnowsUnits, SendsKept, kept_in, linked}
-use Rattle.batch_plant.specs.declared.answer.Answer.{Answer}
-use Rattle.batch_plant.specs.declared.link.Link.{Link}
+use Rattle.batch_engine.specs.{Surface.event_of, declared.event.Event.Event, declared.out.Out.Out}
+use Rattle.batch_sim.specs.{Units.Ticks, declared.order.Order.Order}
+use Rattle.batch_desk.specs.{Consoles.completes, Consoles.telling_complete, DeskState.DeskState}
+use Rattle.batch_plant.specs.{Links.report_in, Links.report_named, Links.Deed, Links.took, Links.ticked, Links.outs_taken, Links.reports_made, Links.event_list, Links.unit_after, Links.Linked, Links.TakeOut, Links.AreDone, Links.Links, LinkSteps.Counts, LinkSteps.KnowsUnits, LinkSteps.SendsKept, LinkSteps.kept_in, LinkSteps.linked, declared.answer.Answer.Answer, declared.link.Link.Link}
 
 outs-append : (a b : List Deed) → outs_taken (a ++ b) ≡ outs_taken a ++ outs_taken b
 outs-append [] b = refl

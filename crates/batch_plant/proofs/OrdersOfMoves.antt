@@ -1,29 +1,15 @@
 -- Moves made and written one after another, whose orders the units take.
 use Rattle.std.proofs.Common.{◌≡◌, List, [], ◌∷◌, ◌++◌, ℕ, Option, Some, None, Result, Ok, Err, map, refl, sym, ap, ◌∙◌, subst, append_assoc, append-nil}
-use Rattle.std.specs.Io.KnownBytes.{Appends}
-use Rattle.std.proofs.KnownBytes.{Appends-trans, Appends-nil}
+use Rattle.std.{specs.Io.KnownBytes.Appends, proofs.KnownBytes.Appends-trans, proofs.KnownBytes.Appends-nil}
 use Rattle.batch_matrix.specs.declared.report.Report.{Report}
-use Rattle.batch_model.specs.Events.{Event, Reply}
-use Rattle.batch_model.specs.Moves.{Move, next, after_move}
-use Rattle.batch_model.specs.Plant.{Plant}
-use Rattle.batch_model.specs.Runs.{Out, reply, move, Reacts, Leads}
+use Rattle.batch_model.specs.{Events.Event, Events.Reply, Moves.Move, Moves.next, Moves.after_move, Plant.Plant, Runs.Out, Runs.reply, Runs.move, Runs.Reacts, Runs.Leads}
 use Rattle.batch_verify.specs.ClearedSet.{ClearedSet}
-use Rattle.batch_engine.specs.Surface.{move_of}
-use Rattle.batch_engine.specs.View.{setup}
-use Rattle.batch_engine.specs.declared.line.ClaimKind.TheVariants.{Asked, Granted, Released}
-use Rattle.batch_engine.specs.declared.line.Line.{Line}
-use Rattle.batch_engine.specs.declared.line.Line.TheVariants.{Send, State, Begin, Start, End, Pass, Claim}
+use Rattle.batch_engine.specs.{Surface.move_of, View.setup, declared.line.ClaimKind.TheVariants.Asked, declared.line.ClaimKind.TheVariants.Granted, declared.line.ClaimKind.TheVariants.Released, declared.line.Line.Line, declared.line.Line.TheVariants.Send, declared.line.Line.TheVariants.State, declared.line.Line.TheVariants.Begin, declared.line.Line.TheVariants.Start, declared.line.Line.TheVariants.End, declared.line.Line.TheVariants.Pass, declared.line.Line.TheVariants.Claim}
 use Rattle.batch_engine.specs.declared.out.Out.TheVariants as outs
-use Rattle.batch_wire.specs.RecordText.{out_text}
-use Rattle.batch_wire.specs.Transcript.{Settles}
-use Rattle.batch_wire.specs.Written.{AppendsBeginning}
-use Rattle.batch_wire.specs.declared.fault.WriteFault.{WriteFault}
+use Rattle.batch_wire.specs.{RecordText.out_text, Transcript.Settles, Written.AppendsBeginning, declared.fault.WriteFault.WriteFault}
 use Rattle.batch_serve.specs.Answering.{moves_text}
 use Rattle.batch_sim.specs.declared.order.Order.{Order}
-use Rattle.batch_plant.specs.Links.{TakeOut}
-use Rattle.batch_plant.specs.Drive.{Standing, TakeOrder, TakeOrders}
-use Rattle.batch_plant.specs.Handling.{StopsMoves, WritesOrders, WritesReported}
-use Rattle.batch_plant.specs.Written.{moves_in}
+use Rattle.batch_plant.specs.{Links.TakeOut, Drive.Standing, Drive.TakeOrder, Drive.TakeOrders, Handling.StopsMoves, Handling.WritesOrders, Handling.WritesReported, Written.moves_in}
 
 text-append : (made more : List Move) → moves_text (made ++ more) ≡ moves_text made ++ moves_text more
 text-append [] more = refl

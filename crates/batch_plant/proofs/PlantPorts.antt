@@ -1,40 +1,15 @@
 -- The ports of a plant and their desks, from the new hub to the closed ports.
 use Rattle.std.proofs.Common.{◌≡◌, ℕ, zero, suc, ◌+◌, List, [], ◌∷◌, ◌++◌, length, map, Option, Some, None, IfSome, option_map, slice_get, unwrap_or, refl, sym, ap, ◌∙◌, subst, add-one, arith, length-append}
-use Rattle.std.specs.List.{All, slice_set}
-use Rattle.std.proofs.lemmas.List.{length-map}
-use Rattle.std.proofs.lemmas.Option.{same_Some, slice_get-map, IfSome_then}
-use Rattle.std.proofs.lemmas.List.Elements.{All-nil, All-cons, All-append, All-head, All-tail}
-use Rattle.batch_matrix.specs.declared.report.Report.{Report as Word}
+use Rattle.std.{specs.List.All, specs.List.slice_set, proofs.lemmas.List.length-map, proofs.lemmas.Option.same_Some, proofs.lemmas.Option.slice_get-map, proofs.lemmas.Option.IfSome_then, proofs.lemmas.List.Elements.All-nil, proofs.lemmas.List.Elements.All-cons, proofs.lemmas.List.Elements.All-append, proofs.lemmas.List.Elements.All-head, proofs.lemmas.List.Elements.All-tail, specs.declared.alloc.Global.Global}
+use Rattle.batch_matrix.specs.declared.{report.Report.Report as Word, state.State.TheVariants.Complete}
 use Rattle.batch_recipe.specs.Conditions.{Name}
-use Rattle.batch_cell.specs.LookUps.{phases_of, resources_of}
-use Rattle.batch_cell.specs.declared.cell.Cell.{Cell}
+use Rattle.batch_cell.specs.{LookUps.phases_of, LookUps.resources_of, declared.cell.Cell.Cell}
 use Rattle.batch_model.specs.Events as Events
-use Rattle.batch_matrix.specs.declared.state.State.TheVariants.{Complete}
-use Rattle.batch_engine.specs.Looked.{batch_state_in}
-use Rattle.batch_engine.specs.View.{EngineView, plant_of}
-use Rattle.batch_desk.specs.HubDone.{AreComplete}
-use Rattle.batch_engine.specs.Surface.{event_of}
-use Rattle.batch_engine.specs.declared.event.Event.{Event}
-use Rattle.batch_engine.specs.declared.event.Event.TheVariants.{Create, Order, Remove, Report}
+use Rattle.batch_engine.specs.{Looked.batch_state_in, View.EngineView, View.plant_of, Surface.event_of, declared.event.Event.Event, declared.event.Event.TheVariants.Create, declared.event.Event.TheVariants.Order, declared.event.Event.TheVariants.Remove, declared.event.Event.TheVariants.Report, declared.out.Out.Out}
+use Rattle.batch_desk.specs.{HubDone.AreComplete, declared.batch_plan.BatchPlan.BatchPlan, Consoles.IsConsole, Due.events_of, Ends.Seals, Rings.IsOfRing, Rings.Ring, Rings.places_of, DeskState.DeskState, DeskState.IsNewDesk, DeskState.desk_rings, HubState.AreFromPorts, HubState.HasHistoryGrown, HubState.HubState, HubState.rings, Plans.AreOfPlans, Plans.places_free, Plans.sizes_made, PortState.PortState, PortState.port_rings, PortState.sealed, declared.plan.PortPlan.PortPlan}
 use Rattle.batch_sim.specs.declared.order.Order.{Order as Told}
-use Rattle.rtrb.specs.Ring.{all_sent}
-use Rattle.rtrb.specs.declared.AnyItems.{AnyItems}
-use Rattle.rtrb.specs.declared.finished.Finished.{Finished}
-use Rattle.std.specs.declared.alloc.Global.{Global}
-use Rattle.batch_engine.specs.declared.out.Out.{Out}
-use Rattle.batch_desk.specs.declared.batch_plan.BatchPlan.{BatchPlan}
-use Rattle.batch_desk.specs.Consoles.{IsConsole}
-use Rattle.batch_desk.specs.Due.{events_of}
-use Rattle.batch_desk.specs.Ends.{Seals}
-use Rattle.batch_desk.specs.Rings.{IsOfRing, Ring, places_of}
-use Rattle.batch_desk.specs.DeskState.{DeskState, IsNewDesk, desk_rings}
-use Rattle.batch_desk.specs.HubState.{AreFromPorts, HasHistoryGrown, HubState, rings}
-use Rattle.batch_desk.specs.Plans.{AreOfPlans, places_free, sizes_made}
-use Rattle.batch_desk.specs.PortState.{PortState, port_rings, sealed}
-use Rattle.batch_desk.specs.declared.plan.PortPlan.{PortPlan}
-use Rattle.batch_plant.specs.Links.{Deed, took, ticked, event_list, report_in, report_named, reports_made, IsLinkRun}
-use Rattle.batch_plant.specs.Parts.{AreParts, HaveRings, IsRest, LinkRan}
-use Rattle.batch_plant.specs.Plants.{AreOfConsole, ComesFromDesks, HasEventRings, HasLink, IsReport, event_rings}
+use Rattle.rtrb.specs.{Ring.all_sent, declared.AnyItems.AnyItems, declared.finished.Finished.Finished}
+use Rattle.batch_plant.specs.{Links.Deed, Links.took, Links.ticked, Links.event_list, Links.report_in, Links.report_named, Links.reports_made, Links.IsLinkRun, Parts.AreParts, Parts.HaveRings, Parts.IsRest, Parts.LinkRan, Plants.AreOfConsole, Plants.ComesFromDesks, Plants.HasEventRings, Plants.HasLink, Plants.IsReport, Plants.event_rings}
 
 pub at_place : {X Y : Type 0} (f : X → Y) (xs : List X) (k : ℕ) (y : Y) → slice_get (map f xs) k ≡ Some y → IfSome (slice_get xs k) (λ x. f x ≡ y)
 at_place f [] k y is = tt

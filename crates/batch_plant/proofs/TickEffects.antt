@@ -1,31 +1,15 @@
 -- Ticks after ticks, and the effect of all of them.
 use Rattle.std.proofs.Common.{◌≡◌, ℕ, suc, ◌+◌, ◌-◌, ◌<◌, ◌≤◌, arith, IsErrOf, List, [], ◌∷◌, ◌++◌, flat_map, Option, Some, None, Result, Ok, Err, IsSome, refl, sym, ap, ◌∙◌, subst, inl, inr, append_assoc, append-nil}
-use Rattle.std.specs.Io.KnownBytes.{Appends, Keeps}
-use Rattle.std.proofs.KnownBytes.{Appends-trans, Appends-nil}
+use Rattle.std.{specs.Io.KnownBytes.Appends, specs.Io.KnownBytes.Keeps, proofs.KnownBytes.Appends-trans, proofs.KnownBytes.Appends-nil, specs.List.range_with_len}
 use Rattle.batch_matrix.specs.declared.report.Report.{Report}
-use Rattle.batch_model.specs.Events.{Event}
-use Rattle.batch_model.specs.Plant.{Plant}
-use Rattle.batch_model.specs.Runs.{Out}
+use Rattle.batch_model.specs.{Events.Event, Plant.Plant, Runs.Out}
 use Rattle.batch_safety.specs.Sets.{RunsSafely}
 use Rattle.batch_verify.specs.ClearedSet.{ClearedSet}
 use Rattle.batch_engine.specs.View.{setup}
-use Rattle.batch_wire.specs.RecordText.{out_text}
-use Rattle.batch_wire.specs.Transcript.{Exchange, silence, followed_by, handled}
-use Rattle.batch_wire.specs.Written.{AppendsBeginning}
-use Rattle.batch_wire.specs.declared.fault.WriteFault.{WriteFault}
-use Rattle.batch_wire.proofs.WrittenTexts.{beginning, then_beginning}
-use Rattle.batch_serve.specs.Settled.{IsSettled}
-use Rattle.std.specs.List.{range_with_len}
-use Rattle.batch_serve.proofs.Exchanges.{followed-assoc, followed-silence}
-use Rattle.batch_sim.specs.Units.{Ticks}
-use Rattle.batch_sim.specs.declared.order.Order.{Order}
-use Rattle.batch_plant.specs.Links.{report_in}
-use Rattle.batch_plant.specs.Drive.{Standing, IsReported, IsTick, Comes, Drives, in_rounds}
-use Rattle.batch_plant.specs.Handling.{WritesReported, DrivesSome}
-use Rattle.batch_plant.specs.Written.{StopsHandling, Stops, IsDriven}
-use Rattle.batch_plant.specs.declared.drive_fault.DriveFault.{DriveFault}
-use Rattle.batch_plant.specs.declared.drive_fault.DriveFault.TheVariants.{Write, Memory}
-use Rattle.batch_plant.proofs.TickRecords.{keeps, drives_lead, drives_settle, cut_leads}
+use Rattle.batch_wire.{specs.RecordText.out_text, specs.Transcript.Exchange, specs.Transcript.silence, specs.Transcript.followed_by, specs.Transcript.handled, specs.Written.AppendsBeginning, specs.declared.fault.WriteFault.WriteFault, proofs.WrittenTexts.beginning, proofs.WrittenTexts.then_beginning}
+use Rattle.batch_serve.{specs.Settled.IsSettled, proofs.Exchanges.followed-assoc, proofs.Exchanges.followed-silence}
+use Rattle.batch_sim.specs.{Units.Ticks, declared.order.Order.Order}
+use Rattle.batch_plant.{specs.Links.report_in, specs.Drive.Standing, specs.Drive.IsReported, specs.Drive.IsTick, specs.Drive.Comes, specs.Drive.Drives, specs.Drive.in_rounds, specs.Handling.WritesReported, specs.Handling.DrivesSome, specs.Written.StopsHandling, specs.Written.Stops, specs.Written.IsDriven, specs.declared.drive_fault.DriveFault.DriveFault, specs.declared.drive_fault.DriveFault.TheVariants.Write, specs.declared.drive_fault.DriveFault.TheVariants.Memory, proofs.TickRecords.keeps, proofs.TickRecords.drives_lead, proofs.TickRecords.drives_settle, proofs.TickRecords.cut_leads}
 
 -- a whole text and a prefix of the next are a prefix of both
 then_begun : (a b d : Option (List ℕ)) (s t : List ℕ) → Appends a b s → AppendsBeginning b d t → AppendsBeginning a d (s ++ t)

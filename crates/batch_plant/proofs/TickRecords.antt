@@ -1,19 +1,14 @@
 -- The record that the ticks of units tell, and that the machine is settled after each.
 use Rattle.std.proofs.Common.{◌≡◌, ℕ, sym, ap, subst, List, [], ◌∷◌, ◌++◌, map, Option, Some, None, inl, inr}
 use Rattle.batch_matrix.specs.declared.report.Report.{Report}
-use Rattle.batch_model.specs.Events.{Event}
-use Rattle.batch_model.specs.Moves.{Move, after_move}
-use Rattle.batch_model.specs.Plant.{Setup, Plant, opening}
-use Rattle.batch_model.specs.Runs.{Out, reply, move, Leads}
+use Rattle.batch_model.specs.{Events.Event, Moves.Move, Moves.after_move, Plant.Setup, Plant.Plant, Plant.opening, Runs.Out, Runs.reply, Runs.move, Runs.Leads}
 use Rattle.batch_safety.specs.Sets.{RunsSafely}
 use Rattle.batch_verify.specs.ClearedSet.{ClearedSet}
 use Rattle.batch_engine.specs.View.{setup}
 use Rattle.batch_wire.specs.Transcript.{Exchange, silence, followed_by, handled, Settles, Handles}
 use Rattle.batch_serve.specs.Settled.{IsSettled}
 use Rattle.batch_sim.specs.declared.order.Order.{Order}
-use Rattle.batch_plant.specs.Links.{report_in}
-use Rattle.batch_plant.specs.Drive.{Standing, Comes, Drives}
-use Rattle.batch_plant.specs.Written.{KeepsRecord, Stops}
+use Rattle.batch_plant.specs.{Links.report_in, Drive.Standing, Drive.Comes, Drive.Drives, Written.KeepsRecord, Written.Stops}
 
 -- Records
 

@@ -2,8 +2,7 @@
 use Rattle.std.proofs.Common.{◌≡◌, ℕ, inl, inr, List, [], ◌∷◌, ◌++◌, length}
 use Rattle.batch_cell.specs.declared.cell.Cell.{Cell}
 use Rattle.batch_verify.proofs.Faults.{one_more}
-use Rattle.batch_plant.specs.UnitsOfCell.{AreCellUnits, IsUnitAt}
-use Rattle.batch_plant.specs.declared.unit_phases.UnitPhases.{UnitPhases}
+use Rattle.batch_plant.specs.{UnitsOfCell.AreCellUnits, UnitsOfCell.IsUnitAt, declared.unit_phases.UnitPhases.UnitPhases}
 
 pub one_kept : (cell : Cell) (units : List UnitPhases) (unit : UnitPhases) (n : ℕ) → length units ≡ n → AreCellUnits cell units → IsUnitAt cell n unit → AreCellUnits cell (units ++ unit ∷ [])
 one_kept cell units unit n count all last number found is =

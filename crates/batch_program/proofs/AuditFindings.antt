@@ -1,28 +1,15 @@
 -- The record of an audit that accepts.
 use Rattle.std.proofs.Common.{◌≡◌, ◌⊎◌, ◌++◌, ℕ, Bool, true, false, List, [], Option, Some, None, inl, inr, refl, sym, subst, append-nil, ◌∙◌}
-use Rattle.std.specs.Prelude.{IfSome}
-use Rattle.std.specs.Io.KnownBytes.{Appends}
+use Rattle.std.specs.{Prelude.IfSome, Io.KnownBytes.Appends}
 use Rattle.clap.specs.Walk.{Text}
 use Rattle.batch_verify.specs.ClearedSet.{ClearedSet}
 use Rattle.batch_wire.specs.Transcript.{lines_of}
 use Rattle.batch_cli.specs.CommandLine.{Judgement, Source, audit, keep, remark, serve, tell, write, picture, serve_desks}
 use Rattle.batch_keep.specs.Audits as findings
-use Rattle.batch_keep.specs.Audits.{Finds, told_text}
-use Rattle.batch_keep.specs.declared.finding.Finding.{Finding}
-use Rattle.batch_keep.specs.declared.finding.Finding.TheVariants.{Agrees, Differs, EndsBefore}
-use Rattle.batch_verdicts.specs.Reading.{Gives}
-use Rattle.batch_verdicts.specs.Requests.{IsSetOf}
-use Rattle.batch_verdicts.specs.Running.{AskFor, IsPrinted, IsUnwritten, Stream, memory_status}
-use Rattle.batch_verdicts.specs.VerdictTexts.{accepted_text}
-use Rattle.batch_verdicts.proofs.Successes.{same_request}
+use Rattle.batch_keep.specs.{Audits.Finds, Audits.told_text, declared.finding.Finding.Finding, declared.finding.Finding.TheVariants.Agrees, declared.finding.Finding.TheVariants.Differs, declared.finding.Finding.TheVariants.EndsBefore}
+use Rattle.batch_verdicts.{specs.Reading.Gives, specs.Requests.IsSetOf, specs.Running.AskFor, specs.Running.IsPrinted, specs.Running.IsUnwritten, specs.Running.Stream, specs.Running.memory_status, specs.VerdictTexts.accepted_text, proofs.Successes.same_request}
 use Rattle.batch_serve.specs.Serves as serving
-use Rattle.batch_program.proofs.DeskRequests.{desks_no_audit}
-use Rattle.batch_program.specs.AuditRuns.{IsAccepted, IsAuditTold, finding_status, finding_text, finds, stops}
-use Rattle.batch_program.specs.JournalRuns.{JournalFiles}
-use Rattle.batch_program.specs.Programs.{AuditsAreTrue, IsProgramRun, tells, writes, serves, serves_desks, keeps, remarks, reads, audits, plants, draws}
-use Rattle.batch_program.specs.RecordRuns.{Holds, IsUntold, output_of}
-use Rattle.batch_program.specs.Telling.{IsFindingTold}
-use Rattle.batch_program.proofs.ProgramRuns.{audits_no_journal, plants_no_audit, serves_no_audit, told_at_once}
+use Rattle.batch_program.{proofs.DeskRequests.desks_no_audit, specs.AuditRuns.IsAccepted, specs.AuditRuns.IsAuditTold, specs.AuditRuns.finding_status, specs.AuditRuns.finding_text, specs.AuditRuns.finds, specs.AuditRuns.stops, specs.JournalRuns.JournalFiles, specs.Programs.AuditsAreTrue, specs.Programs.IsProgramRun, specs.Programs.tells, specs.Programs.writes, specs.Programs.serves, specs.Programs.serves_desks, specs.Programs.keeps, specs.Programs.remarks, specs.Programs.reads, specs.Programs.audits, specs.Programs.plants, specs.Programs.draws, specs.RecordRuns.Holds, specs.RecordRuns.IsUntold, specs.RecordRuns.output_of, specs.Telling.IsFindingTold, proofs.ProgramRuns.audits_no_journal, proofs.ProgramRuns.plants_no_audit, proofs.ProgramRuns.serves_no_audit, proofs.ProgramRuns.told_at_once}
 
 -- The bytes that were read
 

@@ -1,34 +1,19 @@
 -- Runs that serve desks.
 use Rattle.std.proofs.Common.{◌≡◌, ◌⊎◌, ◌∙◌, ℕ, Bool, List, Option, Some, None, Result, Ok, Err, IfOk, inl, inr, refl, subst, sym}
-use Rattle.std.specs.Prelude.{IsOk, OnOk, String, option_map, string_bytes}
-use Rattle.std.specs.Global.{Global}
-use Rattle.std.specs.Io.KnownBytes.{Keeps}
+use Rattle.std.specs.{Prelude.IsOk, Prelude.OnOk, Prelude.String, Prelude.option_map, Prelude.string_bytes, Global.Global, Io.KnownBytes.Keeps}
 use Rattle.clap.specs.Walk.{Text}
 use Rattle.batch_model.specs.Plant.{Plant, opening}
 use Rattle.batch_engine.specs.View.{EngineView, plant_of, setup}
 use Rattle.batch_serve.specs.Served.{AreServed, ServiceIsSafe}
 use Rattle.batch_verify.specs.ClearedSet.{ClearedSet}
 use Rattle.batch_cli.specs.CommandLine.{Request, serve_desks}
-use Rattle.batch_verdicts.specs.DeskSets.{AreDesksCleared}
-use Rattle.batch_verdicts.specs.Reading.{Gives}
-use Rattle.batch_verdicts.specs.Running.{AskFor, IsDone, IsRun, Stream, ask_quiet, fault_status, memory_status, success_status}
+use Rattle.batch_verdicts.{specs.DeskSets.AreDesksCleared, specs.Reading.Gives, specs.Running.AskFor, specs.Running.IsDone, specs.Running.IsRun, specs.Running.Stream, specs.Running.ask_quiet, specs.Running.fault_status, specs.Running.memory_status, specs.Running.success_status, specs.declared.course.Course.Course, specs.declared.desks.DeskSet.DeskSet, proofs.Successes.same_request}
 use Rattle.batch_verdicts.specs.Running as running
-use Rattle.batch_verdicts.specs.declared.course.Course.{Course}
 use Rattle.batch_verdicts.specs.declared.course.Course.TheVariants as course_of
-use Rattle.batch_verdicts.specs.declared.desks.DeskSet.{DeskSet}
-use Rattle.batch_verdicts.proofs.Successes.{same_request}
-use Rattle.batch_reader.specs.DeskNames.{desk_names}
-use Rattle.batch_reader.specs.declared.desk_set.Desks.{Desks}
-use Rattle.batch_pipes.specs.Service.{AreDesksServed}
-use Rattle.batch_pipes.specs.declared.fault.DesksFault.{DesksFault}
-use Rattle.batch_pipes.specs.declared.fault.DesksFault.TheVariants.{Memory, Thread, Journal, Record, RoundsOut}
+use Rattle.batch_reader.specs.{DeskNames.desk_names, declared.desk_set.Desks.Desks}
+use Rattle.batch_pipes.specs.{Service.AreDesksServed, declared.fault.DesksFault.DesksFault, declared.fault.DesksFault.TheVariants.Memory, declared.fault.DesksFault.TheVariants.Thread, declared.fault.DesksFault.TheVariants.Journal, declared.fault.DesksFault.TheVariants.Record, declared.fault.DesksFault.TheVariants.RoundsOut}
 use Rattle.batch_serve.specs.Serves as serving
-use Rattle.batch_program.specs.DeskRuns.{AreDesksOn, AreDesksRun, IsDesksRecord, status_of_desks, status_of_fault}
-use Rattle.batch_program.specs.JournalRuns.{JournalFiles}
-use Rattle.batch_program.specs.Programs.{DesksAreSafe, IsProgramRun, audits, draws, keeps, plants, reads, remarks, serves, serves_desks, tells, writes}
-use Rattle.batch_program.specs.RecordRuns.{Holds, output_of}
-use Rattle.batch_program.proofs.DeskRequests.{desks_no_audit, desks_no_comments, desks_no_file, desks_no_journal, desks_no_picture, desks_no_plant, desks_no_record, desks_no_serving}
-use Rattle.batch_program.proofs.ProgramRuns.{kept_then_appended, run_over_kept, told_at_once}
+use Rattle.batch_program.{specs.DeskRuns.AreDesksOn, specs.DeskRuns.AreDesksRun, specs.DeskRuns.IsDesksRecord, specs.DeskRuns.status_of_desks, specs.DeskRuns.status_of_fault, specs.JournalRuns.JournalFiles, specs.Programs.DesksAreSafe, specs.Programs.IsProgramRun, specs.Programs.audits, specs.Programs.draws, specs.Programs.keeps, specs.Programs.plants, specs.Programs.reads, specs.Programs.remarks, specs.Programs.serves, specs.Programs.serves_desks, specs.Programs.tells, specs.Programs.writes, specs.RecordRuns.Holds, specs.RecordRuns.output_of, proofs.DeskRequests.desks_no_audit, proofs.DeskRequests.desks_no_comments, proofs.DeskRequests.desks_no_file, proofs.DeskRequests.desks_no_journal, proofs.DeskRequests.desks_no_picture, proofs.DeskRequests.desks_no_plant, proofs.DeskRequests.desks_no_record, proofs.DeskRequests.desks_no_serving, proofs.ProgramRuns.kept_then_appended, proofs.ProgramRuns.run_over_kept, proofs.ProgramRuns.told_at_once}
 
 -- the desks that are to be served, and nothing was written before
 pub record AreToServe (gives : Gives) (words : List Text) (output errors : Stream) (served : DeskSet) (journal : Option (String Global)) (times : Bool) : Type 0 where

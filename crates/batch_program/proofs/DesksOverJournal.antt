@@ -3,16 +3,13 @@ use Rattle.std.proofs.Common.{◌≡◌, ◌++◌, ◌∙◌, ℕ, Bool, true, L
 use Rattle.std.specs.Prelude.{IsOk, OnOk}
 use Rattle.batch_model.specs.Plant.{Plant, opening}
 use Rattle.batch_engine.specs.View.{setup}
-use Rattle.batch_journal.specs.Journals.{recovered}
-use Rattle.batch_journal.specs.Recovery.{HasNoFault}
+use Rattle.batch_journal.specs.{Journals.recovered, Recovery.HasNoFault}
 use Rattle.batch_keep.specs.Blocks.{IsBlockOf}
 use Rattle.batch_pipes.specs.Service.{AreDesksServed}
 use Rattle.batch_serve.specs.Runs.{runs_text}
 use Rattle.batch_verify.specs.ClearedSet.{ClearedSet}
 use Rattle.batch_verdicts.specs.Running.{Stream}
-use Rattle.batch_program.specs.DeskRuns.{AreDesksOn}
-use Rattle.batch_program.specs.JournalRuns.{DiskKind, IsJournalTold, fails, serves}
-use Rattle.batch_program.specs.Keeping.{AreDesksToldBehind}
+use Rattle.batch_program.specs.{DeskRuns.AreDesksOn, JournalRuns.DiskKind, JournalRuns.IsJournalTold, JournalRuns.fails, JournalRuns.serves, Keeping.AreDesksToldBehind}
 
 pub well_served : {T E : Type 0} (r : Result T E) (P : Type 0) → OnOk r P → IsOk r → P
 well_served (Ok x) P so ok = so

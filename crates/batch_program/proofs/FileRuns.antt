@@ -1,24 +1,13 @@
 -- Runs that write a file.
 use Rattle.std.proofs.Common.{◌≡◌, ℕ, Bool, List, Option, Some, inl, inr, refl, subst}
-use Rattle.std.specs.Prelude.{String, string_bytes}
-use Rattle.std.specs.Global.{Global}
+use Rattle.std.specs.{Prelude.String, Prelude.string_bytes, Global.Global}
 use Rattle.clap.specs.Walk.{Text}
 use Rattle.batch_cli.specs.CommandLine.{Judgement, Request, Source, audit, keep, picture, remark, serve, tell, write, serve_desks}
-use Rattle.batch_verdicts.specs.Reading.{Gives}
-use Rattle.batch_verdicts.specs.Requests.{IsVerdictText}
-use Rattle.batch_verdicts.specs.Running.{AskFor, IsDone, IsRun, IsUnwritten, Stream, ask_quiet}
+use Rattle.batch_verdicts.{specs.Reading.Gives, specs.Requests.IsVerdictText, specs.Running.AskFor, specs.Running.IsDone, specs.Running.IsRun, specs.Running.IsUnwritten, specs.Running.Stream, specs.Running.ask_quiet, specs.Saying.IsWarned, specs.declared.course.Course.Course, proofs.Successes.same_request, proofs.WarningEffects.verdict_more, proofs.WarningEffects.warned_kept}
 use Rattle.batch_verdicts.specs.Running as running
-use Rattle.batch_verdicts.specs.Saying.{IsWarned}
-use Rattle.batch_verdicts.specs.declared.course.Course.{Course}
 use Rattle.batch_verdicts.specs.declared.course.Course.TheVariants as course_of
-use Rattle.batch_verdicts.proofs.Successes.{same_request}
-use Rattle.batch_verdicts.proofs.WarningEffects.{verdict_more, warned_kept}
 use Rattle.batch_serve.specs.Serves as serving
-use Rattle.batch_program.proofs.DeskRequests.{desks_no_file}
-use Rattle.batch_program.specs.Programs.{CertificatesAreKept, IsProgramRun, tells, writes, serves, serves_desks, remarks, keeps, reads, draws, audits, plants}
-use Rattle.batch_program.specs.JournalRuns.{JournalFiles}
-use Rattle.batch_program.specs.RecordRuns.{Holds, output_of}
-use Rattle.batch_program.proofs.ProgramRuns.{plants_no_file, serves_no_file, told_at_once}
+use Rattle.batch_program.{proofs.DeskRequests.desks_no_file, specs.Programs.CertificatesAreKept, specs.Programs.IsProgramRun, specs.Programs.tells, specs.Programs.writes, specs.Programs.serves, specs.Programs.serves_desks, specs.Programs.remarks, specs.Programs.keeps, specs.Programs.reads, specs.Programs.draws, specs.Programs.audits, specs.Programs.plants, specs.JournalRuns.JournalFiles, specs.RecordRuns.Holds, specs.RecordRuns.output_of, proofs.ProgramRuns.plants_no_file, proofs.ProgramRuns.serves_no_file, proofs.ProgramRuns.told_at_once}
 
 done_to_write : (gives : Gives) (request : Request) (quiet : Bool) (output errors : Stream) (course : Course) (path text : String Global)
     → IsDone gives request quiet output errors course → course ≡ course_of.Writes path text

@@ -1,32 +1,16 @@
 -- The machine of a hub whose batches are complete, and the units that take roles first.
 use Rattle.std.proofs.Common.{◌≡◌, ℕ, ◌+◌, ◌<◌, ◌⊎◌, inl, inr, Option, Some, None, IsSomeAnd, Result, Ok, Err, IfOk, List, [], ◌∷◌, ◌++◌, Bor, cond, eqb, option_copied, append_assoc, drop, get_or, length, slice_get, arith, refl, ap, sym, subst, ◌∙◌}
-use Rattle.std.specs.List.{All}
-use Rattle.std.proofs.lemmas.Bool.Decides.{nat_tests}
-use Rattle.std.proofs.lemmas.List.{drop_more, length-map}
-use Rattle.std.proofs.lemmas.List.Elements.{All-nil, All-cons, All-head, All-tail}
+use Rattle.std.{specs.List.All, proofs.lemmas.Bool.Decides.nat_tests, proofs.lemmas.List.drop_more, proofs.lemmas.List.length-map, proofs.lemmas.List.Elements.All-nil, proofs.lemmas.List.Elements.All-cons, proofs.lemmas.List.Elements.All-head, proofs.lemmas.List.Elements.All-tail}
 use Rattle.batch_matrix.specs.declared.state.State.TheVariants.{Complete}
-use Rattle.batch_model.specs.Plant.{Batch, batch_at, opening}
-use Rattle.batch_model.specs.Runs.{Leads}
-use Rattle.batch_cell.specs.LookUps.{units_of_class}
-use Rattle.batch_cell.specs.declared.cell.Cell.{Cell}
-use Rattle.batch_recipe.specs.Conditions.{Name}
-use Rattle.batch_recipe.specs.declared.recipe.Recipe.{Recipe}
-use Rattle.batch_recipe.specs.declared.role.Role.{Role}
+use Rattle.batch_model.specs.{Plant.Batch, Plant.batch_at, Plant.opening, Runs.Leads}
+use Rattle.batch_cell.specs.{LookUps.units_of_class, declared.cell.Cell.Cell}
+use Rattle.batch_recipe.specs.{Conditions.Name, declared.recipe.Recipe.Recipe, declared.role.Role.Role}
 use Rattle.batch_cli.specs.declared.plant_options.PlantOptions.{PlantOptions}
-use Rattle.batch_plant.specs.Plants.{ComesFromDesks, IsReport}
-use Rattle.batch_plant.specs.declared.plant_fault.PlantFault.{PlantFault}
-use Rattle.batch_program.specs.PlantWork.{IsPlanOf, RunsBy}
+use Rattle.batch_plant.specs.{Plants.ComesFromDesks, Plants.IsReport, declared.plant_fault.PlantFault.PlantFault}
+use Rattle.batch_program.specs.{PlantWork.IsPlanOf, PlantWork.RunsBy, PlantRuns.HasRun, PlantRuns.IsOfRun, PlantRuns.first_bindings, PlantRuns.with_binding}
 use Rattle.batch_verify.specs.ClearedSet.{ClearedSet}
-use Rattle.batch_engine.specs.View.{plant_of, setup}
-use Rattle.batch_engine.specs.Surface.{event_of}
-use Rattle.batch_engine.specs.declared.event.Event.{Event}
-use Rattle.batch_engine.specs.declared.event.Event.TheVariants.{Create, Order, Remove, Report}
-use Rattle.batch_desk.specs.declared.batch_plan.BatchPlan.{BatchPlan}
-use Rattle.batch_desk.specs.Consoles.{IsConsoleEvent}
-use Rattle.batch_desk.specs.Due.{events_of}
-use Rattle.batch_desk.specs.HubDone.{AreComplete}
-use Rattle.batch_desk.specs.HubState.{AreFromPorts, HubState, IsHub, events_in, outs_in}
-use Rattle.batch_program.specs.PlantRuns.{HasRun, IsOfRun, first_bindings, with_binding}
+use Rattle.batch_engine.specs.{View.plant_of, View.setup, Surface.event_of, declared.event.Event.Event, declared.event.Event.TheVariants.Create, declared.event.Event.TheVariants.Order, declared.event.Event.TheVariants.Remove, declared.event.Event.TheVariants.Report}
+use Rattle.batch_desk.specs.{declared.batch_plan.BatchPlan.BatchPlan, Consoles.IsConsoleEvent, Due.events_of, HubDone.AreComplete, HubState.AreFromPorts, HubState.HubState, HubState.IsHub, HubState.events_in, HubState.outs_in}
 
 complete_in : (o : Option Batch) → elim o [ None ↦ None | Some batch ↦ Some batch.state ] ≡ Some Complete → IsSomeAnd o (λ batch. batch.state ≡ Complete)
 complete_in None is = absurd cc

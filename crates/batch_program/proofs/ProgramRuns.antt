@@ -1,62 +1,30 @@
 -- Runs of the program by their requests, the safety of serving, and the completeness of a plant.
 use Rattle.std.proofs.Common.{◌≡◌, ◌⊎◌, ℕ, zero, suc, ◌≤◌, Bool, true, false, List, Option, Some, None, Result, Ok, Err, IfOk, inl, inr, refl, subst, arith, ◌∙◌}
-use Rattle.std.specs.Prelude.{◌||◌, IfSome, String, option_map, string_bytes, take}
-use Rattle.std.specs.Global.{Global}
-use Rattle.std.specs.Io.KnownBytes.{Appends, Keeps}
+use Rattle.std.specs.{Prelude.◌||◌, Prelude.IfSome, Prelude.String, Prelude.option_map, Prelude.string_bytes, Prelude.take, Global.Global, Io.KnownBytes.Appends, Io.KnownBytes.Keeps}
 use Rattle.clap.specs.Walk.{Text}
 use Rattle.batch_verify.specs.ClearedSet.{ClearedSet}
 use Rattle.batch_model.specs.Plant.{Plant, Setup}
 use Rattle.batch_engine.specs.View.{setup}
-use Rattle.batch_wire.specs.Transcript.{lines_of, whole_lines}
-use Rattle.batch_wire.specs.Written.{AppendsBeginning}
-use Rattle.batch_serve.specs.Safe.{BeginsSafely, WritesSafely, WritesWholeSafely}
-use Rattle.batch_cli.specs.declared.comments.Comments.{Comments}
-use Rattle.batch_cli.specs.CommandLine.{Request, Source, audit, plant, serve, serve_desks, source_of, tell, keep, Judgement, write, remark, picture}
-use Rattle.batch_cli.specs.declared.command.AuditWords.{AuditWords}
-use Rattle.batch_cli.specs.declared.plant_options.PlantOptions.{PlantOptions}
-use Rattle.batch_verdicts.specs.Reading.{Gives}
-use Rattle.batch_verdicts.specs.Requests.{IsSetOf}
-use Rattle.batch_verdicts.specs.Running.{AskFor, IsAnnounced, IsDone, IsExplained, IsPrinted, IsRun, IsUnwritten, Stream, ask_quiet, fault_status, success_status, usage_status, memory_status}
-use Rattle.batch_verdicts.specs.Statuses.{IsSuccess}
-use Rattle.batch_verdicts.proofs.Successes.{done_keeping, done_serving, every_in_range, same_request, success_is_told}
-use Rattle.batch_verdicts.specs.Judging.{status_of}
+use Rattle.batch_wire.specs.{Transcript.lines_of, Transcript.whole_lines, Written.AppendsBeginning}
+use Rattle.batch_serve.specs.{Safe.BeginsSafely, Safe.WritesSafely, Safe.WritesWholeSafely, Serves.AnswersAll, Serves.Serves, Serves.WritesTo, declared.fault.ServeFault.TheVariants.Read, declared.fault.ServeFault.TheVariants.Write, declared.fault.ServeFault.TheVariants.TooManyReads, declared.fault.SetFault.SetFault, declared.fault.SetFault.TheVariants.Memory, declared.fault.SetFault.TheVariants.Stopped}
+use Rattle.batch_cli.specs.{declared.comments.Comments.Comments, CommandLine.Request, CommandLine.Source, CommandLine.audit, CommandLine.plant, CommandLine.serve, CommandLine.serve_desks, CommandLine.source_of, CommandLine.tell, CommandLine.keep, CommandLine.Judgement, CommandLine.write, CommandLine.remark, CommandLine.picture, declared.command.AuditWords.AuditWords, declared.plant_options.PlantOptions.PlantOptions}
+use Rattle.batch_verdicts.{specs.Reading.Gives, specs.Requests.IsSetOf, specs.Running.AskFor, specs.Running.IsAnnounced, specs.Running.IsDone, specs.Running.IsExplained, specs.Running.IsPrinted, specs.Running.IsRun, specs.Running.IsUnwritten, specs.Running.Stream, specs.Running.ask_quiet, specs.Running.fault_status, specs.Running.success_status, specs.Running.usage_status, specs.Running.memory_status, specs.Statuses.IsSuccess, proofs.Successes.done_keeping, proofs.Successes.done_serving, proofs.Successes.every_in_range, proofs.Successes.same_request, proofs.Successes.success_is_told, specs.Judging.status_of, specs.declared.course.Course.Course, specs.declared.course.Course.TheVariants.Ends, specs.declared.refusal.Halt.Halt, specs.declared.refusal.RefusalKind.RefusalKind, specs.declared.refusal.RefusalKind.TheVariants.Fault, specs.declared.refusal.RefusalKind.TheVariants.OutOfMemory, specs.Digested.AreDigested, specs.declared.digested.Digested.Digested}
 use Rattle.batch_verdicts.specs.Running as running
-use Rattle.batch_verdicts.specs.declared.course.Course.{Course}
-use Rattle.batch_verdicts.specs.declared.course.Course.TheVariants.{Ends}
 use Rattle.batch_verdicts.specs.declared.course.Course.TheVariants as course_of
 use Rattle.batch_verdicts.specs.declared.refusal.Halt.TheVariants as halt
-use Rattle.batch_verdicts.specs.declared.refusal.Halt.{Halt}
-use Rattle.batch_verdicts.specs.declared.refusal.RefusalKind.{RefusalKind}
-use Rattle.batch_verdicts.specs.declared.refusal.RefusalKind.TheVariants.{Fault, OutOfMemory}
 use Rattle.batch_serve.specs.Serves as serving
-use Rattle.batch_serve.specs.Serves.{AnswersAll, Serves, WritesTo}
-use Rattle.batch_serve.specs.declared.fault.ServeFault.TheVariants.{Read, Write, TooManyReads}
-use Rattle.batch_serve.specs.declared.fault.SetFault.{SetFault}
-use Rattle.batch_serve.specs.declared.fault.SetFault.TheVariants.{Memory, Stopped}
-use Rattle.batch_program.specs.declared.program.TheConstants.{MAX_READS}
-use Rattle.batch_program.specs.Programs.{IsLeftTold, IsProgramRun, PlantsAreComplete, ServingIsSafe, tells, serves, serves_desks, reads, audits, plants, status_of_serving, keeps, writes, remarks, draws}
+use Rattle.batch_program.{specs.declared.program.TheConstants.MAX_READS, specs.Programs.IsLeftTold, specs.Programs.IsProgramRun, specs.Programs.PlantsAreComplete, specs.Programs.ServingIsSafe, specs.Programs.tells, specs.Programs.serves, specs.Programs.serves_desks, specs.Programs.reads, specs.Programs.audits, specs.Programs.plants, specs.Programs.status_of_serving, specs.Programs.keeps, specs.Programs.writes, specs.Programs.remarks, specs.Programs.draws, specs.AuditRuns.IsAuditTold, specs.AuditRuns.finding_status, specs.AuditRuns.finding_text, specs.JournalRuns.Behind, specs.JournalRuns.DiskKind, specs.JournalRuns.IsJournalRefused, specs.JournalRuns.IsJournalRun, specs.JournalRuns.IsJournalTold, specs.JournalRuns.IsRunOver, specs.JournalRuns.IsShownBehind, specs.JournalRuns.JournalFiles, specs.DeskRuns.AreDesksOn, specs.DeskRuns.AreDesksRun, specs.DeskRuns.status_of_desks, specs.DeskRuns.status_of_fault, proofs.DeskRequests.desks_no_plant, proofs.DeskRequests.desks_no_serving, specs.FileWriting.IsWritten, specs.PlantRuns.HasRun, specs.PlantRuns.IsPlantTold, specs.PlantRuns.plant_text, specs.PlantRuns.refused_status, specs.DrawingRuns.IsPictureDrawn, specs.DrawingRuns.IsRecordDrawn, specs.RecordRuns.Holds, specs.RecordRuns.IsRecordTold, specs.RecordRuns.IsStatusTold, specs.RecordRuns.IsUntold, specs.RecordRuns.prints, specs.RecordRuns.refuses, specs.RecordRuns.stops, specs.RecordRuns.no_record_text, specs.RecordRuns.output_of}
 use Rattle.batch_plant.specs.declared.plant_fault.PlantFault.{PlantFault}
 use Rattle.batch_plant.specs.declared.plant_fault.PlantFault.TheVariants as plant_fault
-use Rattle.batch_keep.specs.declared.finding.Finding.{Finding}
-use Rattle.batch_keep.specs.declared.finding.Finding.TheVariants.{Agrees, Differs, EndsBefore}
+use Rattle.batch_keep.specs.declared.finding.Finding.{Finding, TheVariants.Agrees, TheVariants.Differs, TheVariants.EndsBefore}
 use Rattle.batch_program.specs.AuditRuns as auditing
-use Rattle.batch_program.specs.AuditRuns.{IsAuditTold, finding_status, finding_text}
-use Rattle.batch_program.specs.JournalRuns.{Behind, DiskKind, IsJournalRefused, IsJournalRun, IsJournalTold, IsRunOver, IsShownBehind, JournalFiles}
 use Rattle.batch_program.specs.JournalRuns as journal
-use Rattle.batch_verdicts.specs.Digested.{AreDigested}
-use Rattle.batch_verdicts.specs.declared.digested.Digested.{Digested}
 use Rattle.batch_journal.specs.declared.recovery.RecoveryFault.{RecoveryFault}
 use Rattle.batch_reader.specs.DeskNames.{desk_names}
 use Rattle.batch_pipes.specs.declared.fault.DesksFault.{DesksFault}
 use Rattle.batch_pipes.specs.declared.fault.DesksFault.TheVariants as desks_fault
-use Rattle.batch_program.specs.DeskRuns.{AreDesksOn, AreDesksRun, status_of_desks, status_of_fault}
-use Rattle.batch_program.proofs.DeskRequests.{desks_no_plant, desks_no_serving}
-use Rattle.batch_program.specs.FileWriting.{IsWritten}
-use Rattle.batch_program.specs.PlantRuns.{HasRun, IsPlantTold, plant_text, refused_status}
 use Rattle.batch_program.specs.DrawingRuns as drawing
-use Rattle.batch_program.specs.DrawingRuns.{IsPictureDrawn, IsRecordDrawn}
 use Rattle.batch_record.specs.Pictures.{picture_text}
-use Rattle.batch_program.specs.RecordRuns.{Holds, IsRecordTold, IsStatusTold, IsUntold, prints, refuses, stops, no_record_text, output_of}
 
 -- Streams
 

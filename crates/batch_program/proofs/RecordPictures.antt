@@ -2,13 +2,8 @@
 use Rattle.std.proofs.Common.{◌≡◌, ◌⊎◌, ℕ, List, Option, Some, None, inl, inr, subst}
 use Rattle.std.specs.Prelude.{IfSome}
 use Rattle.batch_verdicts.specs.Running.{IsPrinted, IsUnwritten, Stream, memory_status, success_status}
-use Rattle.batch_program.specs.DrawingRuns.{IsPictureDrawn, declines, fails, pictures}
-use Rattle.batch_program.specs.PlantRuns.{refused_status}
-use Rattle.batch_program.specs.RecordRuns.{no_record_text}
-use Rattle.batch_record.specs.StatusReading.{IsRefusedAt}
-use Rattle.batch_record.specs.Pictures.{picture_text}
-use Rattle.batch_record.specs.Recorded.{IsRecord}
-use Rattle.batch_record.specs.declared.picture.Picture.{Picture}
+use Rattle.batch_program.specs.{DrawingRuns.IsPictureDrawn, DrawingRuns.declines, DrawingRuns.fails, DrawingRuns.pictures, PlantRuns.refused_status, RecordRuns.no_record_text}
+use Rattle.batch_record.specs.{StatusReading.IsRefusedAt, Pictures.picture_text, Recorded.IsRecord, declared.picture.Picture.Picture}
 
 -- the bytes that were drawn are those of the reader
 pub drawn_of_input : (unread : Option (List ℕ)) (bytes : List ℕ) (output errors : Stream) (status : ℕ) → IfSome unread (λ input. bytes ≡ input)

@@ -2,14 +2,8 @@
 use Rattle.std.proofs.Common.{◌≡◌, ◌⊎◌, ℕ, List, [], Option, Some, None, inl, inr}
 use Rattle.std.specs.Prelude.{IfSome}
 use Rattle.batch_verdicts.specs.Running.{IsPrinted, IsUnwritten, Stream, memory_status}
-use Rattle.batch_program.specs.PlantRuns.{refused_status}
-use Rattle.batch_program.specs.RecordRuns.{IsStatusOf, IsStatusTold, no_record_text, refuses, stops}
-use Rattle.batch_record.specs.Blocks.{Stage}
-use Rattle.batch_record.specs.Kept.{Keeps}
-use Rattle.batch_record.specs.Listing.{IsTextOf}
-use Rattle.batch_record.specs.StatusReading.{IsRefusedAt, LeadsTo}
-use Rattle.batch_record.specs.Telling.{Tale}
-use Rattle.batch_record.specs.declared.status.Status.{Status}
+use Rattle.batch_program.specs.{PlantRuns.refused_status, RecordRuns.IsStatusOf, RecordRuns.IsStatusTold, RecordRuns.no_record_text, RecordRuns.refuses, RecordRuns.stops}
+use Rattle.batch_record.specs.{Blocks.Stage, Kept.Keeps, Listing.IsTextOf, StatusReading.IsRefusedAt, StatusReading.LeadsTo, Telling.Tale, declared.status.Status.Status}
 
 -- the lines of the status are those of the state to which the input leads
 pub text_of_input : (unread : Option (List ℕ)) (status : Status) (text : List ℕ) → ((tale : Tale) → Keeps status tale → IsTextOf tale [] text)

@@ -1,39 +1,20 @@
 -- The answers to desks over a journal are written again.
 use Rattle.std.proofs.Common.{◌≡◌, ◌++◌, ◌∙◌, ℕ, zero, suc, Bool, true, false, List, [], ◌∷◌, Option, Some, None, inl, inr, refl, sym, subst, arith}
-use Rattle.std.proofs.lemmas.Bool.{and_parts}
-use Rattle.std.proofs.lemmas.Bool.Decides.{nat_tests}
-use Rattle.std.specs.Prelude.{◌==◌}
-use Rattle.std.specs.List.{list_all}
+use Rattle.std.{proofs.lemmas.Bool.and_parts, proofs.lemmas.Bool.Decides.nat_tests, specs.Prelude.◌==◌, specs.List.list_all}
 use Rattle.toml.specs.Data.{Items, item, no_items}
 use Rattle.clap.specs.Walk.{Text}
 use Rattle.batch_model.specs.Plant.{Plant, opening}
 use Rattle.batch_text.specs.NameText.{IsName, is_name_byte}
 use Rattle.batch_engine.specs.View.{setup}
 use Rattle.batch_wire.specs.Transcript.{Exchange, Transcript}
-use Rattle.batch_serve.specs.Replays.{BeginsText, ShowsNoWant}
-use Rattle.batch_journal.specs.Disks.{Left}
-use Rattle.batch_journal.specs.Journals.{recovered}
-use Rattle.batch_journal.specs.Lines.{IsLine, text_of}
-use Rattle.batch_journal.specs.Readers.{HasRecalled, StartsText}
-use Rattle.batch_keep.specs.Blocks.{IsBlockOf}
-use Rattle.batch_keep.specs.Desks.{AreShort, DesksAreToldAgain}
+use Rattle.batch_serve.specs.{Replays.BeginsText, Replays.ShowsNoWant, Runs.runs_text, Served.plain_text}
+use Rattle.batch_journal.specs.{Disks.Left, Journals.recovered, Lines.IsLine, Lines.text_of, Readers.HasRecalled, Readers.StartsText}
+use Rattle.batch_keep.specs.{Blocks.IsBlockOf, Desks.AreShort, Desks.DesksAreToldAgain}
 use Rattle.batch_pipes.specs.Service.{AreDesksServed}
-use Rattle.batch_serve.specs.Runs.{runs_text}
-use Rattle.batch_serve.specs.Served.{plain_text}
 use Rattle.batch_verify.specs.ClearedSet.{ClearedSet}
-use Rattle.batch_reader.specs.Entries.{AllItems, IsTableOf}
-use Rattle.batch_reader.specs.DeskNames.{desk_names}
-use Rattle.batch_reader.specs.DesksDocument.{IsDeskTable}
-use Rattle.batch_reader.specs.declared.desk.Desk.{Desk}
-use Rattle.batch_reader.specs.declared.desk_set.Desks.{Desks}
-use Rattle.batch_verdicts.specs.DeskSets.{AreDesksCleared}
-use Rattle.batch_verdicts.specs.Reading.{Gives}
-use Rattle.batch_verdicts.specs.Running.{Stream}
-use Rattle.batch_program.specs.DeskRuns.{AreDesksKept, AreDesksOn, AreDesksOver, AreDesksRun}
-use Rattle.batch_program.specs.JournalRuns.{DiskKind, IsJournalTold, JournalFiles, fails, refuses, serves, stops}
-use Rattle.batch_program.specs.Programs.{DesksAreKept}
-use Rattle.batch_program.specs.RecordRuns.{Holds, IsUntold, output_of}
-use Rattle.batch_program.proofs.DeskService.{desks_ran}
+use Rattle.batch_reader.specs.{Entries.AllItems, Entries.IsTableOf, DeskNames.desk_names, DesksDocument.IsDeskTable, declared.desk.Desk.Desk, declared.desk_set.Desks.Desks}
+use Rattle.batch_verdicts.specs.{DeskSets.AreDesksCleared, Reading.Gives, Running.Stream}
+use Rattle.batch_program.{specs.DeskRuns.AreDesksKept, specs.DeskRuns.AreDesksOn, specs.DeskRuns.AreDesksOver, specs.DeskRuns.AreDesksRun, specs.JournalRuns.DiskKind, specs.JournalRuns.IsJournalTold, specs.JournalRuns.JournalFiles, specs.JournalRuns.fails, specs.JournalRuns.refuses, specs.JournalRuns.serves, specs.JournalRuns.stops, specs.Programs.DesksAreKept, specs.RecordRuns.Holds, specs.RecordRuns.IsUntold, specs.RecordRuns.output_of, proofs.DeskService.desks_ran}
 
 -- Names
 

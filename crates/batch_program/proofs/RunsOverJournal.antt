@@ -1,35 +1,16 @@
 -- A run over a journal.
 use Rattle.std.proofs.Common.{◌≡◌, ◌⊎◌, ℕ, Bool, ◌++◌, List, [], Option, Some, None, Result, Ok, Err, IfErr, OnOk, IsOk, inl, inr, refl, sym, ◌∙◌, ap, subst}
-use Rattle.std.specs.Prelude.{IfSome}
-use Rattle.std.proofs.lemmas.List.{append-nil}
-use Rattle.std.proofs.KnownBytes.{Appends-kept, prepend_known-nil}
-use Rattle.std.specs.Io.KnownBytes.{Appends, Keeps, prepend_known}
-use Rattle.batch_model.specs.Plant.{Setup, Plant}
-use Rattle.batch_wire.specs.Transcript.{lines_of}
-use Rattle.batch_wire.specs.Written.{Writes}
-use Rattle.batch_wire.specs.WrittenTranscript.{WritesTranscript}
+use Rattle.std.{specs.Prelude.IfSome, proofs.lemmas.List.append-nil, proofs.KnownBytes.Appends-kept, proofs.KnownBytes.prepend_known-nil, specs.Io.KnownBytes.Appends, specs.Io.KnownBytes.Keeps, specs.Io.KnownBytes.prepend_known}
+use Rattle.batch_model.specs.Plant.{Setup, Plant, opening}
+use Rattle.batch_wire.specs.{Transcript.lines_of, Written.Writes, WrittenTranscript.WritesTranscript}
 use Rattle.batch_serve.specs.CleanLines.{CleanLinesServeAlike, clean_lines}
-use Rattle.batch_journal.specs.Journals.{IsJournal, recovered}
-use Rattle.batch_journal.specs.Lines.{text_of}
-use Rattle.batch_journal.specs.Readers.{IsAccounted, IsJournalKept, IsWhole}
-use Rattle.batch_journal.specs.Recovery.{AreRests, HasNoFault, IsOfDisk, IsRecoverable, IsRefusedFor}
-use Rattle.batch_journal.proofs.FilesWithoutRefusal.{not_refused}
-use Rattle.batch_journal.specs.declared.recovery.RecoveryFault.{RecoveryFault}
-use Rattle.batch_journal.specs.declared.recovery.RecoveryFault.TheVariants.{Disk, NoJournal, OtherDocuments, Damaged}
+use Rattle.batch_journal.{specs.Journals.IsJournal, specs.Journals.recovered, specs.Lines.text_of, specs.Readers.IsAccounted, specs.Readers.IsJournalKept, specs.Readers.IsWhole, specs.Recovery.AreRests, specs.Recovery.HasNoFault, specs.Recovery.IsOfDisk, specs.Recovery.IsRecoverable, specs.Recovery.IsRefusedFor, proofs.FilesWithoutRefusal.not_refused, specs.declared.recovery.RecoveryFault.RecoveryFault, specs.declared.recovery.RecoveryFault.TheVariants.Disk, specs.declared.recovery.RecoveryFault.TheVariants.NoJournal, specs.declared.recovery.RecoveryFault.TheVariants.OtherDocuments, specs.declared.recovery.RecoveryFault.TheVariants.Damaged, specs.Disks.Left, specs.Readers.HasRecalled}
 use mathlib.Core.HLevel.{Unit-prop, Π_prop, ⊥_prop}
-use Rattle.batch_keep.specs.Starts.{IsStartRefused}
-use Rattle.batch_keep.specs.declared.starting.StartFault.{StartFault}
-use Rattle.batch_keep.specs.declared.starting.StartFault.TheVariants.{Recovery}
-use Rattle.batch_journal.specs.Disks.{Left}
-use Rattle.batch_journal.specs.Readers.{HasRecalled}
-use Rattle.batch_model.specs.Plant.{opening}
+use Rattle.batch_keep.specs.{Starts.IsStartRefused, declared.starting.StartFault.StartFault, declared.starting.StartFault.TheVariants.Recovery, Blocks.IsBlockOf}
 use Rattle.batch_verify.specs.ClearedSet.{ClearedSet}
 use Rattle.batch_engine.specs.View.{setup}
-use Rattle.batch_keep.specs.Blocks.{IsBlockOf}
 use Rattle.batch_verdicts.specs.Running.{IsPrinted, Stream, fault_status, memory_status}
-use Rattle.batch_program.specs.JournalRuns.{Behind, DiskKind, IsJournalRefused, IsJournalTold, IsShownBehind, journal_text, refuses, stops, serves, fails}
-use Rattle.batch_program.specs.PlantRuns.{refused_status}
-use Rattle.batch_program.specs.Keeping.{IsStartTold, IsToldBehind, cleaned}
+use Rattle.batch_program.specs.{JournalRuns.Behind, JournalRuns.DiskKind, JournalRuns.IsJournalRefused, JournalRuns.IsJournalTold, JournalRuns.IsShownBehind, JournalRuns.journal_text, JournalRuns.refuses, JournalRuns.stops, JournalRuns.serves, JournalRuns.fails, PlantRuns.refused_status, Keeping.IsStartTold, Keeping.IsToldBehind, Keeping.cleaned}
 
 -- The block
 

@@ -3,25 +3,13 @@ use Rattle.std.proofs.Common.{◌≡◌, ℕ, Bool, List, Option, Some, None, Re
 use Rattle.std.specs.Io.KnownBytes.{Keeps}
 use Rattle.clap.specs.Walk.{Text}
 use Rattle.batch_verify.specs.ClearedSet.{ClearedSet}
-use Rattle.batch_cli.specs.CommandLine.{Judgement, Request, Source, audit, keep, plant, remark, serve, tell, write, picture, serve_desks}
-use Rattle.batch_cli.specs.declared.comments.Comments.{Comments}
-use Rattle.batch_verdicts.specs.Reading.{Gives}
-use Rattle.batch_verdicts.specs.Requests.{IsSetOf}
+use Rattle.batch_cli.specs.{CommandLine.Judgement, CommandLine.Request, CommandLine.Source, CommandLine.audit, CommandLine.keep, CommandLine.plant, CommandLine.remark, CommandLine.serve, CommandLine.tell, CommandLine.write, CommandLine.picture, CommandLine.serve_desks, declared.comments.Comments.Comments}
+use Rattle.batch_verdicts.{specs.Reading.Gives, specs.Requests.IsSetOf, specs.Running.AskFor, specs.Running.IsDone, specs.Running.IsRun, specs.Running.IsUnwritten, specs.Running.Stream, specs.Running.ask_quiet, specs.declared.course.Course.Course, proofs.Successes.same_request}
 use Rattle.batch_verdicts.specs.Running as running
-use Rattle.batch_verdicts.specs.Running.{AskFor, IsDone, IsRun, IsUnwritten, Stream, ask_quiet}
-use Rattle.batch_verdicts.specs.declared.course.Course.{Course}
 use Rattle.batch_verdicts.specs.declared.course.Course.TheVariants as course_of
-use Rattle.batch_verdicts.proofs.Successes.{same_request}
-use Rattle.batch_serve.specs.Comments.{IsRemarked}
-use Rattle.batch_serve.specs.RemarkedSet.{ServesRemarked}
+use Rattle.batch_serve.specs.{Comments.IsRemarked, RemarkedSet.ServesRemarked, Serves.AnswersAll, declared.fault.SetFault.SetFault}
 use Rattle.batch_serve.specs.Serves as serving
-use Rattle.batch_serve.specs.Serves.{AnswersAll}
-use Rattle.batch_serve.specs.declared.fault.SetFault.{SetFault}
-use Rattle.batch_program.proofs.DeskRequests.{desks_no_comments}
-use Rattle.batch_program.specs.Programs.{IsLeftTold, IsProgramRun, RemarkedServingIsSafe, tells, writes, serves, serves_desks, keeps, remarks, reads, audits, plants, draws}
-use Rattle.batch_program.specs.JournalRuns.{JournalFiles}
-use Rattle.batch_program.specs.RecordRuns.{Holds, output_of}
-use Rattle.batch_program.proofs.ProgramRuns.{ran_to_the_end, served_kept, told_at_once}
+use Rattle.batch_program.{proofs.DeskRequests.desks_no_comments, specs.Programs.IsLeftTold, specs.Programs.IsProgramRun, specs.Programs.RemarkedServingIsSafe, specs.Programs.tells, specs.Programs.writes, specs.Programs.serves, specs.Programs.serves_desks, specs.Programs.keeps, specs.Programs.remarks, specs.Programs.reads, specs.Programs.audits, specs.Programs.plants, specs.Programs.draws, specs.JournalRuns.JournalFiles, specs.RecordRuns.Holds, specs.RecordRuns.output_of, proofs.ProgramRuns.ran_to_the_end, proofs.ProgramRuns.served_kept, proofs.ProgramRuns.told_at_once}
 
 -- contents that are known before are known after it
 same_held : (before mid : Option (List ℕ)) (held : List ℕ) → Keeps before mid → before ≡ Some held → mid ≡ Some held

@@ -1,28 +1,9 @@
 -- Acts, without the places of their parts in memory: the conditions on a recipe's parts depend on no more.
 use Rattle.std.proofs.Common.{arith, ◌≡◌, ◌≤◌, nat_le, Bool, true, ◌&&◌, List, [], ◌∷◌, ◌++◌, map, length, Option, Some, None, option_and_then, option_map, refl, sym, ap, ◌∙◌, subst, find}
-use Rattle.std.proofs.Math.Path.{fun_ext}
-use Rattle.std.proofs.lemmas.List.{length-map}
-use Rattle.std.specs.List.{list_all}
-use Rattle.batch_recipe.specs.Conditions.{Name, same_name}
-use Rattle.batch_recipe.specs.Diagram.{Diagram, diagram_of}
-use Rattle.batch_recipe.specs.Expanding.{Sites, act_named, act_tree_with, asked_in_order, expanded, named_tree_with, reserves_from, task_of, unbound, unit_below, unit_count, unit_named, unit_with}
-use Rattle.batch_recipe.specs.Nodes.{Node, child, nodes}
-use Rattle.batch_recipe.specs.Procedure.{procedure_nodes, procedure_tree, sites}
+use Rattle.std.{proofs.Math.Path.fun_ext, proofs.lemmas.List.length-map, specs.List.list_all}
+use Rattle.batch_recipe.specs.{Conditions.Name, Conditions.same_name, Diagram.Diagram, Diagram.diagram_of, Expanding.Sites, Expanding.act_named, Expanding.act_tree_with, Expanding.asked_in_order, Expanding.expanded, Expanding.named_tree_with, Expanding.reserves_from, Expanding.task_of, Expanding.unbound, Expanding.unit_below, Expanding.unit_count, Expanding.unit_named, Expanding.unit_with, Nodes.Node, Nodes.child, Nodes.nodes, Procedure.procedure_nodes, Procedure.procedure_tree, Procedure.sites, Tree.Place, Tree.Step, Tree.Tree, Tree.Task, Tree.act, Tree.skip, WellFormed.act_names, WellFormed.are_distinct, WellFormed.are_reports, WellFormed.are_reserves, WellFormed.are_roles, WellFormed.has_no_par, WellFormed.is_among, WellFormed.is_chart, WellFormed.is_well_formed, WellFormed.is_work, WellFormed.reports_with, WellFormed.reserve_well, WellFormed.value_names, declared.act.Act.Act, declared.act.TheConstants.MAX_REPORTS, declared.act.TheConstants.MAX_VALUES, declared.act.UnitChoice.UnitChoice, declared.act.UnitChoice.TheVariants.Unit, declared.act.UnitChoice.TheVariants.Role, declared.act.Work.Work, declared.act.Work.TheVariants.Follows, declared.act.Work.TheVariants.Runs, declared.acts.Acts.Acts, declared.quantity.Quantity.Quantity, declared.recipe.TheConstants.MAX_NODES, declared.role.Role.Role as RecipeRole, declared.need.Need.Need}
 use Rattle.batch_recipe.specs.Tree as tree
-use Rattle.batch_recipe.specs.Tree.{Place, Step, Tree, Task, act, skip}
-use Rattle.batch_recipe.specs.WellFormed.{act_names, are_distinct, are_reports, are_reserves, are_roles, has_no_par, is_among, is_chart, is_well_formed, is_work, reports_with, reserve_well, value_names}
-use Rattle.batch_recipe.specs.declared.act.Act.{Act}
-use Rattle.batch_recipe.specs.declared.act.TheConstants.{MAX_REPORTS, MAX_VALUES}
-use Rattle.batch_recipe.specs.declared.act.UnitChoice.{UnitChoice}
-use Rattle.batch_recipe.specs.declared.act.UnitChoice.TheVariants.{Unit, Role}
-use Rattle.batch_recipe.specs.declared.act.Work.{Work}
-use Rattle.batch_recipe.specs.declared.act.Work.TheVariants.{Follows, Runs}
-use Rattle.batch_recipe.specs.declared.acts.Acts.{Acts}
-use Rattle.batch_recipe.specs.declared.quantity.Quantity.{Quantity}
-use Rattle.batch_recipe.specs.declared.recipe.TheConstants.{MAX_NODES}
-use Rattle.batch_recipe.specs.declared.role.Role.{Role as RecipeRole}
 use Rattle.batch_reader.specs.SoundRecipe.{IsSoundRecipe}
-use Rattle.batch_recipe.specs.declared.need.Need.{Need}
 
 -- a chart, or a phase, the names of the values that it is handed, and of the outputs that it reports
 pub data WorkForm : Type 0 where

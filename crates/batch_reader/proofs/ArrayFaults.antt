@@ -1,17 +1,7 @@
 -- A fault that is reported of a table of a document is there.
 use Rattle.std.proofs.Common.{◌≡◌, ℕ, ◌<◌, ◌∙◌, Bool, true, List, length, get_or, Option, Some, None, refl, sym, ap, subst}
-use Rattle.toml.specs.Data.{Data, Items, Members, as_table, get_item}
-use Rattle.toml.specs.View.{view, items_view}
-use Rattle.toml.specs.declared.value.Value.{Value}
-use Rattle.batch_reader.proofs.Items.{get_item-view}
-use Rattle.batch_reader.specs.Faults.{IsAmong, Tells, TellsAt, TellsIn}
-use Rattle.batch_reader.specs.TableFaults.{IsArrayFault}
-use Rattle.batch_reader.specs.declared.fault.EntryFault.{EntryFault}
-use Rattle.batch_reader.specs.declared.fault.EntryFault.TheVariants.{WrongKind}
-use Rattle.batch_reader.specs.declared.fault.Spot.{Spot}
-use Rattle.batch_reader.specs.declared.fault.TableFault.{TableFault}
-use Rattle.batch_reader.specs.declared.fault.TableFault.TheVariants.{Entry, Memory}
-use Rattle.batch_reader.specs.declared.fault.TableKind.{TableKind}
+use Rattle.toml.specs.{Data.Data, Data.Items, Data.Members, Data.as_table, Data.get_item, View.view, View.items_view, declared.value.Value.Value}
+use Rattle.batch_reader.{proofs.Items.get_item-view, specs.Faults.IsAmong, specs.Faults.Tells, specs.Faults.TellsAt, specs.Faults.TellsIn, specs.TableFaults.IsArrayFault, specs.declared.fault.EntryFault.EntryFault, specs.declared.fault.EntryFault.TheVariants.WrongKind, specs.declared.fault.Spot.Spot, specs.declared.fault.TableFault.TableFault, specs.declared.fault.TableFault.TheVariants.Entry, specs.declared.fault.TableFault.TheVariants.Memory, specs.declared.fault.TableKind.TableKind}
 
 -- the item that a loop has come to is no table
 pub array_no_table : (IsRight : Data → Type 0) (IsFault : Members → EntryFault → Type 0) (list : Option Items) (vs : List Value) (i : ℕ) (d : Value)

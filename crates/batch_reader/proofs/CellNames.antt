@@ -1,11 +1,7 @@
 -- The names that a cell declares.
 use Rattle.std.proofs.Common.{arith, ◌≡◌, ℕ, List, [], ◌++◌, map, nat_eq}
-use Rattle.std.specs.Cmp.Lexicographic.{pointwise}
-use Rattle.std.specs.List.{IsDistinct}
-use Rattle.batch_cell.specs.Equipment.{unit_names, IsDeclaredOnce}
-use Rattle.batch_cell.specs.declared.unit.Unit.{Unit}
-use Rattle.batch_cell.specs.declared.module.Module.{Module}
-use Rattle.batch_cell.specs.declared.shared.Shared.{Shared}
+use Rattle.std.specs.{Cmp.Lexicographic.pointwise, List.IsDistinct}
+use Rattle.batch_cell.specs.{Equipment.unit_names, Equipment.IsDeclaredOnce, declared.unit.Unit.Unit, declared.module.Module.Module, declared.shared.Shared.Shared}
 use Rattle.batch_reader.proofs.NamesSoFar.{IsDistinct-front}
 
 -- names that are not distinct among the first of all names

@@ -1,7 +1,6 @@
 -- The kinds of bytes exclude one another.
 use Rattle.std.proofs.Common.{◌≡◌, ℕ, true, false, eqb, arith}
-use Rattle.std.proofs.lemmas.Bool.Decides.{nat_tests}
-use Rattle.std.specs.Char.{is_ascii_alphabetic, is_ascii_digit}
+use Rattle.std.{proofs.lemmas.Bool.Decides.nat_tests, specs.Char.is_ascii_alphabetic, specs.Char.is_ascii_digit}
 use Rattle.batch_text.specs.NameText.{is_name_byte}
 use Rattle.batch_reader.specs.ChartGrammar.{is_chart_space}
 

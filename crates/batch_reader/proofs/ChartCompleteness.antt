@@ -1,24 +1,12 @@
 -- The machine takes every text of a chart.
 use Rattle.std.proofs.Common.{◌≡◌, ℕ, suc, ◌+◌, ◌-◌, List, [], ◌∷◌, ◌++◌, length, true, ltb, Option, Some, None, option_and_then, refl, sym, ap, ◌∙◌, append-nil, arith, length-append}
-use Rattle.std.specs.Prelude.{codes}
-use Rattle.std.proofs.lemmas.Bool.Decides.{nat_tests}
-use Rattle.batch_text.specs.NameText.{IsName}
-use Rattle.batch_text.specs.NumberText.{number_of, IsNumber}
-use Rattle.batch_recipe.specs.declared.chart.TheConstants.{MAX_DEPTH, MAX_TURNS}
-use Rattle.batch_recipe.specs.declared.condition.Op.{Op}
-use Rattle.batch_recipe.specs.declared.condition.Term.{Term}
+use Rattle.std.{specs.Prelude.codes, proofs.lemmas.Bool.Decides.nat_tests}
+use Rattle.batch_text.specs.{NameText.IsName, NumberText.number_of, NumberText.IsNumber}
+use Rattle.batch_recipe.specs.{declared.chart.TheConstants.MAX_DEPTH, declared.chart.TheConstants.MAX_TURNS, declared.condition.Op.Op, declared.condition.Term.Term, declared.condition.Cond.Cond, Diagram.Diagram, Diagram.Diagrams, Diagram.Cases, Diagram.diagrams_of, Diagram.cases_of}
 use Rattle.batch_recipe.specs.declared.condition.Term.TheVariants as term
-use Rattle.batch_recipe.specs.declared.condition.Cond.{Cond}
-use Rattle.batch_recipe.specs.Diagram.{Diagram, Diagrams, Cases, diagrams_of, cases_of}
 use Rattle.batch_recipe.specs.Diagram as chart
-use Rattle.batch_reader.specs.declared.firsts.Firsts.{Firsts}
-use Rattle.batch_reader.specs.ChartGrammar.{Offsets, offsets_joined, ranged, opens_par, Skips, ReadsOp, ReadsTerm, ReadsCond, Reads, ReadsBranches, ReadsCases, IsWideChart}
+use Rattle.batch_reader.{specs.declared.firsts.Firsts.Firsts, specs.ChartGrammar.Offsets, specs.ChartGrammar.offsets_joined, specs.ChartGrammar.ranged, specs.ChartGrammar.opens_par, specs.ChartGrammar.Skips, specs.ChartGrammar.ReadsOp, specs.ChartGrammar.ReadsTerm, specs.ChartGrammar.ReadsCond, specs.ChartGrammar.Reads, specs.ChartGrammar.ReadsBranches, specs.ChartGrammar.ReadsCases, specs.ChartGrammar.IsWideChart, specs.ChartMachine.Frame, specs.ChartMachine.in_seq, specs.ChartMachine.in_par, specs.ChartMachine.in_case, specs.ChartMachine.in_else, specs.ChartMachine.in_loop, specs.ChartMachine.Test, specs.ChartMachine.of_sel, specs.ChartMachine.of_loop, specs.ChartMachine.Want, specs.ChartMachine.a_chart, specs.ChartMachine.open_seq, specs.ChartMachine.open_par, specs.ChartMachine.open_sel, specs.ChartMachine.open_loop, specs.ChartMachine.a_turns, specs.ChartMachine.after_turns, specs.ChartMachine.a_name, specs.ChartMachine.an_operator, specs.ChartMachine.an_operand, specs.ChartMachine.after_condition, specs.ChartMachine.after_else, specs.ChartMachine.after_chart, specs.ChartMachine.State, specs.ChartMachine.between, specs.ChartMachine.start, specs.ChartMachine.finish, specs.ChartMachine.step, specs.ChartMachine.steps, specs.ChartMachine.begin, specs.ChartMachine.no_firsts, specs.ChartMachine.first_or, specs.ChartMachine.noted, specs.ChartMachine.condition_of, specs.ChartMachine.take_word, specs.ChartMachine.take_chart_word, specs.ChartMachine.take_name_word, specs.ChartMachine.take_operand_word, specs.ChartMachine.deeper, proofs.ChartBytes.letter-not_equals, proofs.ChartBytes.digit-not_equals, proofs.ChartTexts.name_from, proofs.ChartTexts.no_name, proofs.ChartTexts.number_first, proofs.ChartWords.label_word, proofs.ChartTokens.runs, proofs.ChartTokens.runs-skips, proofs.ChartTokens.runs-word_token, proofs.ChartTokens.runs-number_token, proofs.ChartTokens.runs-operator_token, proofs.ChartTokens.runs-sign, proofs.ChartTokens.IsFree, proofs.ChartTokens.free-skips, proofs.ChartTokens.IsNotEquals, proofs.ChartTokens.not_equals-skips}
 use Rattle.batch_reader.specs.ChartGrammar as spec
-use Rattle.batch_reader.specs.ChartMachine.{Frame, in_seq, in_par, in_case, in_else, in_loop, Test, of_sel, of_loop, Want, a_chart, open_seq, open_par, open_sel, open_loop, a_turns, after_turns, a_name, an_operator, an_operand, after_condition, after_else, after_chart, State, between, start, finish, step, steps, begin, no_firsts, first_or, noted, condition_of, take_word, take_chart_word, take_name_word, take_operand_word, deeper}
-use Rattle.batch_reader.proofs.ChartBytes.{letter-not_equals, digit-not_equals}
-use Rattle.batch_reader.proofs.ChartTexts.{name_from, no_name, number_first}
-use Rattle.batch_reader.proofs.ChartWords.{label_word}
-use Rattle.batch_reader.proofs.ChartTokens.{runs, runs-skips, runs-word_token, runs-number_token, runs-operator_token, runs-sign, IsFree, free-skips, IsNotEquals, not_equals-skips}
 
 -- ---- the list that is kept, and the parts that the grammar adds to it
 

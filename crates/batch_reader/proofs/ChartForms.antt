@@ -1,21 +1,10 @@
 -- The properties of a chart of the grammar.
 use Rattle.std.proofs.Common.{◌≡◌, ℕ, zero, suc, ◌-◌, ◌<◌, ◌≤◌, List, [], ◌∷◌, ◌++◌, Bool, true, ◌&&◌, ◌↔◌, length, refl, sym, ap, ◌∙◌, subst, arith}
-use Rattle.std.specs.Prelude.{nat_le, nat_lt, slice_index_or, if◌then◌else◌}
-use Rattle.std.specs.List.{list_all, AllByRecursion}
-use Rattle.std.proofs.lemmas.List.Folds.{list_all-append}
-use Rattle.std.proofs.lemmas.Bool.Decides.{nat_tests}
-use Rattle.std.proofs.lemmas.Bool.{and_parts}
+use Rattle.std.{specs.Prelude.nat_le, specs.Prelude.nat_lt, specs.Prelude.slice_index_or, specs.Prelude.if◌then◌else◌, specs.List.list_all, specs.List.AllByRecursion, proofs.lemmas.List.Folds.list_all-append, proofs.lemmas.Bool.Decides.nat_tests, proofs.lemmas.Bool.and_parts}
 use Rattle.batch_text.specs.NumberText.{number_of}
-use Rattle.batch_recipe.specs.Conditions.{Name}
-use Rattle.batch_recipe.specs.declared.chart.TheConstants.{MAX_TURNS}
-use Rattle.batch_recipe.specs.declared.condition.Cond.{Cond}
-use Rattle.batch_recipe.specs.declared.condition.Term.{Term}
-use Rattle.batch_recipe.specs.declared.scaling.TheConstants.{MAX_VALUE}
-use Rattle.batch_recipe.specs.Diagram.{Diagram, seq, sel, Diagrams, none, more, Cases, when}
-use Rattle.batch_recipe.specs.WellFormed.{is_among, is_condition, is_chart, are_charts, are_cases, has_no_par}
-use Rattle.batch_reader.specs.ChartGrammar.{Offsets, IsLabel, ReadsTerm, ReadsCond, Reads, ReadsBranches, ReadsCases, IsChartWithPars, IsChart}
+use Rattle.batch_recipe.specs.{Conditions.Name, declared.chart.TheConstants.MAX_TURNS, declared.condition.Cond.Cond, declared.condition.Term.Term, declared.scaling.TheConstants.MAX_VALUE, Diagram.Diagram, Diagram.seq, Diagram.sel, Diagram.Diagrams, Diagram.none, Diagram.more, Diagram.Cases, Diagram.when, WellFormed.is_among, WellFormed.is_condition, WellFormed.is_chart, WellFormed.are_charts, WellFormed.are_cases, WellFormed.has_no_par}
+use Rattle.batch_reader.specs.{ChartGrammar.Offsets, ChartGrammar.IsLabel, ChartGrammar.ReadsTerm, ChartGrammar.ReadsCond, ChartGrammar.Reads, ChartGrammar.ReadsBranches, ChartGrammar.ReadsCases, ChartGrammar.IsChartWithPars, ChartGrammar.IsChart, ChartForm.labels_of_chart, ChartForm.labels_of_all, ChartForm.labels_of_chart_cases, ChartForm.names_compared, ChartForm.values_of_chart, ChartForm.values_of_all, ChartForm.values_of_cases, ChartForm.IsFormed}
 use Rattle.batch_reader.specs.ChartGrammar as spec
-use Rattle.batch_reader.specs.ChartForm.{labels_of_chart, labels_of_all, labels_of_chart_cases, names_compared, values_of_chart, values_of_all, values_of_cases, IsFormed}
 
 -- ---- lists
 

@@ -1,16 +1,11 @@
 -- The stack and the charts read so far as lists.
 use Rattle.std.proofs.Common.{◌≡◌, ℕ, ◌+◌, List, [], ◌∷◌, ◌++◌, length, map, reverse, get_or, set, take, Some, refl, sym, ap, ◌∙◌, arith, rules, Vec, Box}
-use Rattle.std.proofs.lemmas.List.{reverse-append, map-append, length-reverse, length-map, length-set, take_all, take_more, take_more_set}
-use Rattle.std.specs.Global.{Global}
-use Rattle.batch_recipe.specs.declared.condition.Cond.{Cond}
-use Rattle.batch_recipe.specs.declared.chart.Chart.{Chart, the_lemmas}
+use Rattle.std.{proofs.lemmas.List.reverse-append, proofs.lemmas.List.map-append, proofs.lemmas.List.length-reverse, proofs.lemmas.List.length-map, proofs.lemmas.List.length-set, proofs.lemmas.List.take_all, proofs.lemmas.List.take_more, proofs.lemmas.List.take_more_set, specs.Global.Global}
+use Rattle.batch_recipe.specs.{declared.condition.Cond.Cond, declared.chart.Chart.Chart, declared.chart.Chart.the_lemmas, Diagram.diagram_of, Diagram.diagrams_of, Diagram.cases_of}
 use Rattle.batch_recipe.specs.declared.chart.Chart as Made
-use Rattle.batch_recipe.specs.Diagram.{diagram_of, diagrams_of, cases_of}
 use Rattle.batch_recipe.specs.Diagram as chart
-use Rattle.batch_reader.specs.declared.frame.Frame.{Frame}
+use Rattle.batch_reader.specs.{declared.frame.Frame.Frame, ChartMachine.a_chart, ChartMachine.take_comma, ChartView.frame_view, ChartView.frames_view, ChartView.diagrams_view, ChartView.cases_view}
 use Rattle.batch_reader.specs.declared.frame.Frame.TheVariants as frame
-use Rattle.batch_reader.specs.ChartMachine.{a_chart, take_comma}
-use Rattle.batch_reader.specs.ChartView.{frame_view, frames_view, diagrams_view, cases_view}
 
 pub frames_view_nil : frames_view [] ≡ []
 unfolding frames_view

@@ -1,18 +1,8 @@
 -- The names that a chart uses, branch by branch.
 use Rattle.std.proofs.Common.{arith, ◌≡◌, ℕ, ◌-◌, nat_le, nat_lt, Bool, true, ◌&&◌, List, [], ◌∷◌, ◌++◌, map, refl, sym, ap, ◌∙◌}
-use Rattle.std.proofs.lemmas.List.Folds.{list_all-append}
-use Rattle.std.specs.List.{list_all}
-use Rattle.batch_reader.specs.ChartForm.{labels_of_chart, labels_of_all, labels_of_chart_cases, names_compared, values_of_chart, values_of_all, values_of_cases, IsFormed}
-use Rattle.batch_recipe.specs.Conditions.{Name}
-use Rattle.batch_recipe.specs.Diagram.{Diagram, label, skip, seq, par, sel, loop, Diagrams, none, more, Cases, otherwise, when, diagram_of, diagrams_of, cases_of}
-use Rattle.batch_recipe.specs.WellFormed.{is_among, is_condition, is_chart, are_charts, are_cases}
-use Rattle.batch_recipe.specs.declared.chart.Chart.{Chart}
-use Rattle.batch_recipe.specs.declared.condition.Cond.{Cond}
-use Rattle.batch_recipe.specs.declared.condition.Term.{Term}
-use Rattle.batch_recipe.specs.declared.condition.Term.TheVariants.{Named, Number}
-use Rattle.batch_recipe.specs.declared.scaling.TheConstants.{MAX_VALUE}
-use Rattle.batch_reader.specs.Naming.{is_declared}
-use Rattle.batch_reader.proofs.Conjunctions.{both_true, and_true, same_test, cross, cross_five, first_of_three}
+use Rattle.std.{proofs.lemmas.List.Folds.list_all-append, specs.List.list_all}
+use Rattle.batch_reader.{specs.ChartForm.labels_of_chart, specs.ChartForm.labels_of_all, specs.ChartForm.labels_of_chart_cases, specs.ChartForm.names_compared, specs.ChartForm.values_of_chart, specs.ChartForm.values_of_all, specs.ChartForm.values_of_cases, specs.ChartForm.IsFormed, specs.Naming.is_declared, proofs.Conjunctions.both_true, proofs.Conjunctions.and_true, proofs.Conjunctions.same_test, proofs.Conjunctions.cross, proofs.Conjunctions.cross_five, proofs.Conjunctions.first_of_three}
+use Rattle.batch_recipe.specs.{Conditions.Name, Diagram.Diagram, Diagram.label, Diagram.skip, Diagram.seq, Diagram.par, Diagram.sel, Diagram.loop, Diagram.Diagrams, Diagram.none, Diagram.more, Diagram.Cases, Diagram.otherwise, Diagram.when, Diagram.diagram_of, Diagram.diagrams_of, Diagram.cases_of, WellFormed.is_among, WellFormed.is_condition, WellFormed.is_chart, WellFormed.are_charts, WellFormed.are_cases, declared.chart.Chart.Chart, declared.condition.Cond.Cond, declared.condition.Term.Term, declared.condition.Term.TheVariants.Named, declared.condition.Term.TheVariants.Number, declared.scaling.TheConstants.MAX_VALUE}
 
 module _ (labels values : List Name) where
   -- the test of one branch of a selection

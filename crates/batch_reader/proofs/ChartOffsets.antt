@@ -1,12 +1,8 @@
 -- The offsets that are told of a text are the only ones.
 use Rattle.std.proofs.Common.{◌≡◌, ℕ, ◌+◌, ◌<◌, ◌≤◌, List, ◌++◌, take, drop, sym, ap, ◌∙◌, subst, append_assoc, inl, inr, arith}
-use Rattle.std.proofs.lemmas.List.{take-append-drop, take-take}
-use Rattle.std.proofs.lemmas.Bool.{cases_lt}
+use Rattle.std.proofs.lemmas.{List.take-append-drop, List.take-take, Bool.cases_lt}
 use Rattle.batch_recipe.specs.Diagram.{Diagram}
-use Rattle.batch_reader.specs.ChartGrammar.{Offsets, IsWideChart}
-use Rattle.batch_reader.specs.ChartAnswer.{first_of, HasFaultAt, IsOutsideAt}
-use Rattle.batch_reader.proofs.ChartCompleteness.{one_chart}
-use Rattle.batch_reader.proofs.ChartReader.{first_or-none}
+use Rattle.batch_reader.{specs.ChartGrammar.Offsets, specs.ChartGrammar.IsWideChart, specs.ChartAnswer.first_of, specs.ChartAnswer.HasFaultAt, specs.ChartAnswer.IsOutsideAt, proofs.ChartCompleteness.one_chart, proofs.ChartReader.first_or-none}
 
 pub same_outside : (text : List ℕ) (a b : Diagram) (f g : Offsets) → IsWideChart text a f → IsWideChart text b g → first_of f.outside ≡ first_of g.outside
 same_outside text a b f g x y = grind (arith, first_or-none f.outside, one_chart x y, first_or-none g.outside)

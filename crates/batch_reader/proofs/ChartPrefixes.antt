@@ -1,23 +1,12 @@
 -- A text that the machine has not refused begins a text of a chart.
 use Rattle.std.proofs.Common.{◌≡◌, ℕ, ◌+◌, ◌-◌, List, [], ◌∷◌, ◌++◌, length, Bool, true, false, ltb, Option, Some, None, option_and_then, option_map, eqb, refl, sym, ap, ◌∙◌, subst, arith}
-use Rattle.std.specs.Prelude.{codes}
-use Rattle.std.specs.Char.{is_ascii_alphabetic, is_ascii_digit}
-use Rattle.batch_text.specs.NumberText.{number_of}
-use Rattle.batch_text.specs.declared.name.TheConstants.{MAX_NAME_LEN}
-use Rattle.batch_text.specs.declared.number.TheConstants.{MAX_DIGITS}
-use Rattle.batch_recipe.specs.declared.condition.Op.{Op}
-use Rattle.batch_recipe.specs.declared.condition.Op.TheVariants.{Less, AtMost, Equal, NotEqual, AtLeast, Greater}
+use Rattle.std.specs.{Prelude.codes, Char.is_ascii_alphabetic, Char.is_ascii_digit}
+use Rattle.batch_text.specs.{NumberText.number_of, declared.name.TheConstants.MAX_NAME_LEN, declared.number.TheConstants.MAX_DIGITS}
+use Rattle.batch_recipe.specs.{declared.condition.Op.Op, declared.condition.Op.TheVariants.Less, declared.condition.Op.TheVariants.AtMost, declared.condition.Op.TheVariants.Equal, declared.condition.Op.TheVariants.NotEqual, declared.condition.Op.TheVariants.AtLeast, declared.condition.Op.TheVariants.Greater, declared.condition.Cond.Cond, Diagram.Diagram, Diagram.diagrams_of, Diagram.cases_of}
 use Rattle.batch_recipe.specs.declared.condition.Term.TheVariants as term
-use Rattle.batch_recipe.specs.declared.condition.Cond.{Cond}
-use Rattle.batch_recipe.specs.Diagram.{Diagram, diagrams_of, cases_of}
 use Rattle.batch_recipe.specs.Diagram as chart
-use Rattle.batch_reader.specs.declared.firsts.Firsts.{Firsts}
+use Rattle.batch_reader.{specs.declared.firsts.Firsts.Firsts, specs.ChartGrammar.is_chart_space, specs.ChartGrammar.Offsets, specs.ChartGrammar.opens_par, specs.ChartGrammar.IsWideChart, specs.ChartMachine.Frame, specs.ChartMachine.in_seq, specs.ChartMachine.in_par, specs.ChartMachine.in_case, specs.ChartMachine.in_else, specs.ChartMachine.in_loop, specs.ChartMachine.Test, specs.ChartMachine.of_sel, specs.ChartMachine.of_loop, specs.ChartMachine.Want, specs.ChartMachine.a_chart, specs.ChartMachine.open_seq, specs.ChartMachine.open_par, specs.ChartMachine.open_sel, specs.ChartMachine.open_loop, specs.ChartMachine.a_turns, specs.ChartMachine.after_turns, specs.ChartMachine.a_name, specs.ChartMachine.an_operator, specs.ChartMachine.an_operand, specs.ChartMachine.after_condition, specs.ChartMachine.after_else, specs.ChartMachine.after_chart, specs.ChartMachine.State, specs.ChartMachine.Lexeme, specs.ChartMachine.nothing, specs.ChartMachine.letters, specs.ChartMachine.digits, specs.ChartMachine.less, specs.ChartMachine.more, specs.ChartMachine.slash, specs.ChartMachine.in_token, specs.ChartMachine.takes_word, specs.ChartMachine.takes_number, specs.ChartMachine.takes_operator, specs.ChartMachine.begin, specs.ChartMachine.step, specs.ChartMachine.finish, specs.ChartMachine.end_number, specs.ChartMachine.condition_of, specs.ChartMachine.noted, specs.ChartMachine.number_offsets, specs.ChartMachine.word_of, specs.ChartMachine.take_operator, specs.ChartMachine.take_sign, specs.ChartMachine.starts, specs.ChartMachine.go_on, specs.ChartMachine.continues, specs.ChartMachine.end_token, specs.ChartMachine.steps, specs.ChartMachine.start, proofs.ChartTokens.runs, proofs.ChartSoundness.word_cases, proofs.ChartSoundness.Leads, proofs.ChartSoundness.if_leads, proofs.ChartSoundness.sound, proofs.ChartCompleteness.runs-steps}
 use Rattle.batch_reader.specs.declared.word.Word.TheVariants as word
-use Rattle.batch_reader.specs.ChartGrammar.{is_chart_space, Offsets, opens_par, IsWideChart}
-use Rattle.batch_reader.specs.ChartMachine.{Frame, in_seq, in_par, in_case, in_else, in_loop, Test, of_sel, of_loop, Want, a_chart, open_seq, open_par, open_sel, open_loop, a_turns, after_turns, a_name, an_operator, an_operand, after_condition, after_else, after_chart, State, Lexeme, nothing, letters, digits, less, more, slash, in_token, takes_word, takes_number, takes_operator, begin, step, finish, end_number, condition_of, noted, number_offsets, word_of, take_operator, take_sign, starts, go_on, continues, end_token, steps, start}
-use Rattle.batch_reader.proofs.ChartTokens.{runs}
-use Rattle.batch_reader.proofs.ChartSoundness.{word_cases, Leads, if_leads, sound}
-use Rattle.batch_reader.proofs.ChartCompleteness.{runs-steps}
 
 -- some bytes end well, in a text of any length
 abbrev pub CanEnd : Lexeme → Want → List Frame → Type 0

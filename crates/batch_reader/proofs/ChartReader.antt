@@ -2,15 +2,7 @@
 use Rattle.std.proofs.Common.{◌≡◌, ℕ, suc, ◌+◌, ◌<◌, ◌≤◌, List, [], ◌∷◌, ◌++◌, length, get_or, take, drop, Option, Some, None, option_and_then, refl, sym, ap, ◌∙◌, subst, append-nil, arith, length-append, length-take}
 use Rattle.std.proofs.lemmas.List.{take_more, take-append-drop, take_all}
 use Rattle.batch_recipe.specs.Diagram.{Diagram}
-use Rattle.batch_reader.specs.declared.firsts.Firsts.{Firsts}
-use Rattle.batch_reader.specs.ChartGrammar.{Offsets, IsChart, IsWideChart}
-use Rattle.batch_reader.specs.ChartAnswer.{first_of, HasFaultAt, IsOutsideAt, IsRead}
-use Rattle.batch_reader.specs.ChartMachine.{State, IsGood, start, step, steps, finish, first_or}
-use Rattle.batch_reader.proofs.ChartTokens.{runs}
-use Rattle.batch_reader.proofs.ChartCompleteness.{one_chart, no_chart_begins, no_chart, runs-steps}
-use Rattle.batch_reader.proofs.ChartPrefixes.{begins_a_chart}
-use Rattle.batch_reader.proofs.ChartSoundness.{sound, step_good}
-use Rattle.batch_reader.proofs.ChartForms.{has_its_pars}
+use Rattle.batch_reader.{specs.declared.firsts.Firsts.Firsts, specs.ChartGrammar.Offsets, specs.ChartGrammar.IsChart, specs.ChartGrammar.IsWideChart, specs.ChartAnswer.first_of, specs.ChartAnswer.HasFaultAt, specs.ChartAnswer.IsOutsideAt, specs.ChartAnswer.IsRead, specs.ChartMachine.State, specs.ChartMachine.IsGood, specs.ChartMachine.start, specs.ChartMachine.step, specs.ChartMachine.steps, specs.ChartMachine.finish, specs.ChartMachine.first_or, proofs.ChartTokens.runs, proofs.ChartCompleteness.one_chart, proofs.ChartCompleteness.no_chart_begins, proofs.ChartCompleteness.no_chart, proofs.ChartCompleteness.runs-steps, proofs.ChartPrefixes.begins_a_chart, proofs.ChartSoundness.sound, proofs.ChartSoundness.step_good, proofs.ChartForms.has_its_pars}
 
 -- the state after the first bytes, of which there are place
 pub record IsAfter (text : List ℕ) (place : ℕ) (st : State) : Type 0 where

@@ -1,32 +1,12 @@
 -- A text that the machine accepts is one of the chart that it gives.
 use Rattle.std.proofs.Common.{◌≡◌, ℕ, suc, ◌+◌, ◌-◌, List, [], ◌∷◌, ◌++◌, length, Bool, true, false, ltb, eqb, Option, Some, None, option_map, option_and_then, refl, sym, ap, ◌∙◌, subst, append_assoc, append-nil, arith, length-append}
-use Rattle.std.specs.Prelude.{codes, ⊤, if◌then◌else◌}
-use Rattle.std.specs.Str.{bytes_eq}
-use Rattle.std.specs.Char.{is_ascii_alphabetic, is_ascii_digit}
-use Rattle.std.proofs.lemmas.Slice.Eq.{bytes_eq-Decides}
-use Rattle.std.proofs.lemmas.Bool.Decides.{nat_tests, Decides-eqb}
-use Rattle.std.proofs.lemmas.Bool.{ltb-true}
-use Rattle.batch_text.specs.NameText.{IsName}
-use Rattle.batch_text.specs.NumberText.{number_of, IsNumber}
-use Rattle.batch_text.specs.declared.name.TheConstants.{MAX_NAME_LEN}
-use Rattle.batch_text.specs.declared.number.TheConstants.{MAX_DIGITS}
-use Rattle.batch_recipe.specs.declared.chart.TheConstants.{MAX_DEPTH, MAX_TURNS}
-use Rattle.batch_recipe.specs.declared.condition.Op.{Op}
-use Rattle.batch_recipe.specs.declared.condition.Op.TheVariants.{Less, AtMost, Equal, NotEqual, AtLeast, Greater}
-use Rattle.batch_recipe.specs.declared.condition.Term.{Term}
-use Rattle.batch_recipe.specs.declared.condition.Cond.{Cond}
-use Rattle.batch_recipe.specs.Diagram.{Diagram, Diagrams, Cases}
+use Rattle.std.{specs.Prelude.codes, specs.Prelude.⊤, specs.Prelude.if◌then◌else◌, specs.Str.bytes_eq, specs.Char.is_ascii_alphabetic, specs.Char.is_ascii_digit, proofs.lemmas.Slice.Eq.bytes_eq-Decides, proofs.lemmas.Bool.Decides.nat_tests, proofs.lemmas.Bool.Decides.Decides-eqb, proofs.lemmas.Bool.ltb-true}
+use Rattle.batch_text.specs.{NameText.IsName, NumberText.number_of, NumberText.IsNumber, declared.name.TheConstants.MAX_NAME_LEN, declared.number.TheConstants.MAX_DIGITS}
+use Rattle.batch_recipe.specs.{declared.chart.TheConstants.MAX_DEPTH, declared.chart.TheConstants.MAX_TURNS, declared.condition.Op.Op, declared.condition.Op.TheVariants.Less, declared.condition.Op.TheVariants.AtMost, declared.condition.Op.TheVariants.Equal, declared.condition.Op.TheVariants.NotEqual, declared.condition.Op.TheVariants.AtLeast, declared.condition.Op.TheVariants.Greater, declared.condition.Term.Term, declared.condition.Cond.Cond, Diagram.Diagram, Diagram.Diagrams, Diagram.Cases}
 use Rattle.batch_recipe.specs.Diagram as chart
-use Rattle.batch_reader.specs.declared.word.Word.{Word}
+use Rattle.batch_reader.{specs.declared.word.Word.Word, specs.declared.firsts.Firsts.Firsts, specs.ChartGrammar.is_chart_space, specs.ChartGrammar.Offsets, specs.ChartGrammar.no_offsets, specs.ChartGrammar.offsets_joined, specs.ChartGrammar.opens_par, specs.ChartGrammar.ranged, specs.ChartGrammar.IsLabel, specs.ChartGrammar.Skips, specs.ChartGrammar.here, specs.ChartGrammar.space, specs.ChartGrammar.ReadsOp, specs.ChartGrammar.ReadsTerm, specs.ChartGrammar.Reads, specs.ChartGrammar.ReadsBranches, specs.ChartGrammar.ReadsCases, specs.ChartGrammar.IsWideChart, specs.ChartMachine.Frame, specs.ChartMachine.in_seq, specs.ChartMachine.in_par, specs.ChartMachine.in_case, specs.ChartMachine.in_else, specs.ChartMachine.in_loop, specs.ChartMachine.Test, specs.ChartMachine.of_sel, specs.ChartMachine.of_loop, specs.ChartMachine.Lexeme, specs.ChartMachine.IsGood, specs.ChartMachine.nothing, specs.ChartMachine.letters, specs.ChartMachine.digits, specs.ChartMachine.less, specs.ChartMachine.more, specs.ChartMachine.slash, specs.ChartMachine.begin, specs.ChartMachine.end_token, specs.ChartMachine.end_number, specs.ChartMachine.continues, specs.ChartMachine.go_on, specs.ChartMachine.step, specs.ChartMachine.finish, specs.ChartMachine.result_of, specs.ChartMachine.starts, specs.ChartMachine.takes_word, specs.ChartMachine.takes_number, specs.ChartMachine.takes_operator, specs.ChartMachine.in_token, specs.ChartMachine.start, specs.ChartMachine.Want, specs.ChartMachine.a_chart, specs.ChartMachine.open_seq, specs.ChartMachine.open_par, specs.ChartMachine.open_sel, specs.ChartMachine.open_loop, specs.ChartMachine.a_turns, specs.ChartMachine.after_turns, specs.ChartMachine.a_name, specs.ChartMachine.an_operator, specs.ChartMachine.an_operand, specs.ChartMachine.after_condition, specs.ChartMachine.after_else, specs.ChartMachine.after_chart, specs.ChartMachine.State, specs.ChartMachine.no_firsts, specs.ChartMachine.noted, specs.ChartMachine.number_offsets, specs.ChartMachine.sign_offsets, specs.ChartMachine.word_of, specs.ChartMachine.take_word, specs.ChartMachine.take_chart_word, specs.ChartMachine.take_name_word, specs.ChartMachine.take_operand_word, specs.ChartMachine.take_number, specs.ChartMachine.take_operator, specs.ChartMachine.take_sign, specs.ChartMachine.take_comma, specs.ChartMachine.take_close, specs.ChartMachine.take_else, specs.ChartMachine.condition_of, specs.ChartMachine.deeper, specs.ChartMachine.After, specs.ChartMachine.when_is, proofs.ChartTexts.name_more, proofs.ChartTexts.name_of_letter, proofs.ChartTexts.number_more, proofs.ChartTexts.number_of_digit, proofs.ChartWords.word_label, proofs.ChartTokens.runs, proofs.ChartCompleteness.with_diagrams, proofs.ChartCompleteness.with_diagrams-last, proofs.ChartCompleteness.diagrams_of-last, proofs.ChartCompleteness.with_cases, proofs.ChartCompleteness.with_cases-last, proofs.ChartCompleteness.cases_of-is, proofs.ChartCompleteness.noted-joined}
 use Rattle.batch_reader.specs.declared.word.Word.TheVariants as word
-use Rattle.batch_reader.specs.declared.firsts.Firsts.{Firsts}
-use Rattle.batch_reader.specs.ChartGrammar.{is_chart_space, Offsets, no_offsets, offsets_joined, opens_par, ranged, IsLabel, Skips, here, space, ReadsOp, ReadsTerm, Reads, ReadsBranches, ReadsCases, IsWideChart}
 use Rattle.batch_reader.specs.ChartGrammar as spec
-use Rattle.batch_reader.specs.ChartMachine.{Frame, in_seq, in_par, in_case, in_else, in_loop, Test, of_sel, of_loop, Lexeme, IsGood, nothing, letters, digits, less, more, slash, begin, end_token, end_number, continues, go_on, step, finish, result_of, starts, takes_word, takes_number, takes_operator, in_token, start, Want, a_chart, open_seq, open_par, open_sel, open_loop, a_turns, after_turns, a_name, an_operator, an_operand, after_condition, after_else, after_chart, State, no_firsts, noted, number_offsets, sign_offsets, word_of, take_word, take_chart_word, take_name_word, take_operand_word, take_number, take_operator, take_sign, take_comma, take_close, take_else, condition_of, deeper, After, when_is}
-use Rattle.batch_reader.proofs.ChartTexts.{name_more, name_of_letter, number_more, number_of_digit}
-use Rattle.batch_reader.proofs.ChartWords.{word_label}
-use Rattle.batch_reader.proofs.ChartTokens.{runs}
-use Rattle.batch_reader.proofs.ChartCompleteness.{with_diagrams, with_diagrams-last, diagrams_of-last, with_cases, with_cases-last, cases_of-is, noted-joined}
 
 -- ---- offsets
 

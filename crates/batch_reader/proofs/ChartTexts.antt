@@ -1,15 +1,7 @@
 -- Names and numbers, byte by byte.
 use Rattle.std.proofs.Common.{◌≡◌, ℕ, ◌+◌, ◌-◌, ◌<◌, ◌≤◌, List, [], ◌∷◌, ◌++◌, length, true, drop, arith, length-append, length-take, length-drop}
-use Rattle.std.specs.Prelude.{slice_range, slice_index}
-use Rattle.std.specs.Char.{is_ascii_alphabetic, is_ascii_digit}
-use Rattle.std.specs.List.{list_all}
-use Rattle.std.proofs.lemmas.List.{take_more, get_or-drop}
-use Rattle.std.proofs.lemmas.List.Folds.{list_all-append}
-use Rattle.std.proofs.lemmas.Bool.Decides.{nat_tests}
-use Rattle.batch_text.specs.NameText.{is_name_byte, IsName}
-use Rattle.batch_text.specs.NumberText.{IsNumber}
-use Rattle.batch_text.specs.declared.name.TheConstants.{MAX_NAME_LEN}
-use Rattle.batch_text.specs.declared.number.TheConstants.{MAX_DIGITS}
+use Rattle.std.{specs.Prelude.slice_range, specs.Prelude.slice_index, specs.Char.is_ascii_alphabetic, specs.Char.is_ascii_digit, specs.List.list_all, proofs.lemmas.List.take_more, proofs.lemmas.List.get_or-drop, proofs.lemmas.List.Folds.list_all-append, proofs.lemmas.Bool.Decides.nat_tests}
+use Rattle.batch_text.specs.{NameText.is_name_byte, NameText.IsName, NumberText.IsNumber, declared.name.TheConstants.MAX_NAME_LEN, declared.number.TheConstants.MAX_DIGITS}
 
 -- a name by its first byte and the others
 pub record IsNameFrom (b : ℕ) (bs : List ℕ) : Type 0 where

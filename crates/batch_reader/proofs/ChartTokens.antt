@@ -1,23 +1,10 @@
 -- The machine at a whole token.
 use Rattle.std.proofs.Common.{◌≡◌, ℕ, ◌+◌, ◌-◌, ◌≤◌, List, [], ◌∷◌, ◌++◌, length, true, false, ltb, eqb, Option, Some, option_and_then, refl, ap, ◌∙◌, append_assoc, append-nil, arith, length-append}
-use Rattle.std.specs.Prelude.{⊤}
-use Rattle.std.specs.List.{list_all}
-use Rattle.std.specs.Char.{is_ascii_alphabetic, is_ascii_digit}
-use Rattle.std.proofs.lemmas.Bool.Decides.{nat_tests}
-use Rattle.std.proofs.lemmas.Bool.{and_parts}
-use Rattle.batch_text.specs.NameText.{is_name_byte, IsName}
-use Rattle.batch_text.specs.NumberText.{number_of, IsNumber}
-use Rattle.batch_text.specs.declared.name.TheConstants.{MAX_NAME_LEN}
-use Rattle.batch_text.specs.declared.number.TheConstants.{MAX_DIGITS}
-use Rattle.batch_recipe.specs.declared.condition.Op.{Op}
-use Rattle.batch_recipe.specs.declared.condition.Op.TheVariants.{Less, Greater}
-use Rattle.batch_recipe.specs.Diagram.{Diagram}
-use Rattle.batch_reader.specs.declared.firsts.Firsts.{Firsts}
-use Rattle.batch_reader.specs.ChartGrammar.{Skips, here, space, ReadsOp}
+use Rattle.std.{specs.Prelude.⊤, specs.List.list_all, specs.Char.is_ascii_alphabetic, specs.Char.is_ascii_digit, proofs.lemmas.Bool.Decides.nat_tests, proofs.lemmas.Bool.and_parts}
+use Rattle.batch_text.specs.{NameText.is_name_byte, NameText.IsName, NumberText.number_of, NumberText.IsNumber, declared.name.TheConstants.MAX_NAME_LEN, declared.number.TheConstants.MAX_DIGITS}
+use Rattle.batch_recipe.specs.{declared.condition.Op.Op, declared.condition.Op.TheVariants.Less, declared.condition.Op.TheVariants.Greater, Diagram.Diagram}
+use Rattle.batch_reader.{specs.declared.firsts.Firsts.Firsts, specs.ChartGrammar.Skips, specs.ChartGrammar.here, specs.ChartGrammar.space, specs.ChartGrammar.ReadsOp, specs.ChartMachine.Frame, specs.ChartMachine.Test, specs.ChartMachine.Want, specs.ChartMachine.an_operator, specs.ChartMachine.an_operand, specs.ChartMachine.Lexeme, specs.ChartMachine.letters, specs.ChartMachine.digits, specs.ChartMachine.less, specs.ChartMachine.more, specs.ChartMachine.State, specs.ChartMachine.between, specs.ChartMachine.in_token, specs.ChartMachine.begin, specs.ChartMachine.end_token, specs.ChartMachine.continues, specs.ChartMachine.step, specs.ChartMachine.finish, specs.ChartMachine.with_want, specs.ChartMachine.takes_word, specs.ChartMachine.takes_number, specs.ChartMachine.take_word, specs.ChartMachine.take_number, specs.ChartMachine.end_number, specs.ChartMachine.noted, specs.ChartMachine.number_offsets, specs.ChartMachine.sign_offsets, proofs.ChartBytes.letter-no_space, proofs.ChartBytes.digit-no_space, proofs.ChartBytes.digit-no_letter, proofs.ChartBytes.space-no_name_byte, proofs.ChartBytes.space-not_equals, proofs.ChartTexts.IsNameFrom, proofs.ChartTexts.name_from, proofs.ChartTexts.no_name, proofs.ChartTexts.number_first}
 use Rattle.batch_reader.specs.ChartGrammar as spec
-use Rattle.batch_reader.specs.ChartMachine.{Frame, Test, Want, an_operator, an_operand, Lexeme, letters, digits, less, more, State, between, in_token, begin, end_token, continues, step, finish, with_want, takes_word, takes_number, take_word, take_number, end_number, noted, number_offsets, sign_offsets}
-use Rattle.batch_reader.proofs.ChartBytes.{letter-no_space, digit-no_space, digit-no_letter, space-no_name_byte, space-not_equals}
-use Rattle.batch_reader.proofs.ChartTexts.{IsNameFrom, name_from, no_name, number_first}
 
 -- the machine, over the rest of a text of length total
 unfoldable pub runs : ℕ → List ℕ → State → Option (Diagram × Firsts)

@@ -1,13 +1,9 @@
 -- Labels are the words that are none of the six.
 use Rattle.std.proofs.Common.{arith, ◌≡◌, List, ℕ, Bool, true, false, ◌||◌, sym, ap, ◌∙◌}
-use Rattle.std.specs.Prelude.{codes, if◌then◌else◌, bytes_eq}
-use Rattle.std.proofs.lemmas.Slice.Eq.{bytes_eq-Decides}
+use Rattle.std.{specs.Prelude.codes, specs.Prelude.if◌then◌else◌, specs.Prelude.bytes_eq, proofs.lemmas.Slice.Eq.bytes_eq-Decides}
 use Rattle.batch_text.specs.NameText.{IsName}
-use Rattle.batch_recipe.specs.Conditions.{same_name}
-use Rattle.batch_recipe.specs.WellFormed.{is_among, chart_words}
-use Rattle.batch_reader.specs.ChartGrammar.{IsLabel}
-use Rattle.batch_reader.specs.ChartMachine.{word_of}
-use Rattle.batch_reader.specs.declared.word.Word.{Word}
+use Rattle.batch_recipe.specs.{Conditions.same_name, WellFormed.is_among, WellFormed.chart_words}
+use Rattle.batch_reader.specs.{ChartGrammar.IsLabel, ChartMachine.word_of, declared.word.Word.Word}
 use Rattle.batch_reader.specs.declared.word.Word.TheVariants as word
 
 -- the two tests agree

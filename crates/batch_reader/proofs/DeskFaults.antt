@@ -1,17 +1,7 @@
 -- The faults of a desk's table are told where they stand.
 use Rattle.std.proofs.Common.{◌≡◌, ◌≢◌, ℕ, List, length, Option, Some, None, option_and_then, refl, ap, arith}
 use Rattle.toml.specs.Data.{Data, Members, get_member, as_str}
-use Rattle.batch_reader.proofs.EntryFaults.{told_as}
-use Rattle.batch_reader.specs.Entries.{HasText, MayHaveText}
-use Rattle.batch_reader.specs.Faults.{IsToldAs, TellsAt, kind_fault, value_fault}
-use Rattle.batch_reader.specs.TableFaults.{IsKeyFault}
-use Rattle.batch_reader.specs.declared.fault.EntryFault.TheVariants.{OutOfLimit}
-use Rattle.batch_reader.specs.declared.fault.Spot.{Spot}
-use Rattle.batch_reader.specs.declared.fault.TableFault.{TableFault}
-use Rattle.batch_reader.specs.declared.fault.TableFault.TheVariants.{Memory}
-use Rattle.batch_reader.specs.declared.keys.TheConstants.{MAX_PATH_LEN}
-use Rattle.batch_reader.specs.DesksDocument.{HasPath, MayHavePath}
-use Rattle.batch_reader.specs.DesksFaults.{path_key}
+use Rattle.batch_reader.{proofs.EntryFaults.told_as, specs.Entries.HasText, specs.Entries.MayHaveText, specs.Faults.IsToldAs, specs.Faults.TellsAt, specs.Faults.kind_fault, specs.Faults.value_fault, specs.TableFaults.IsKeyFault, specs.declared.fault.EntryFault.TheVariants.OutOfLimit, specs.declared.fault.Spot.Spot, specs.declared.fault.TableFault.TableFault, specs.declared.fault.TableFault.TheVariants.Memory, specs.declared.keys.TheConstants.MAX_PATH_LEN, specs.DesksDocument.HasPath, specs.DesksDocument.MayHavePath, specs.DesksFaults.path_key}
 
 -- a path is a text of the key
 pub text_of_path : (key : List ℕ) (ms : Members) (path : Option (List ℕ)) → MayHavePath key ms path → MayHaveText key ms MAX_PATH_LEN path

@@ -1,30 +1,11 @@
 -- Where something is wrong with a document, it stands for no desks.
 use Rattle.std.proofs.Common.{◌≡◌, ◌≢◌, ℕ, ◌+◌, ◌⊎◌, inl, inr, Bool, List, ◌++◌, length, take, drop, nat_eq, Option, Some, None, sym, ap, subst, ◌∙◌, pos, codes, take-append-drop, refl}
-use Rattle.std.proofs.lemmas.Bool.{false≢true}
-use Rattle.std.proofs.lemmas.List.{length-map, map-append}
-use Rattle.std.specs.Cmp.Lexicographic.{pointwise}
-use Rattle.std.specs.List.{IsDistinct}
+use Rattle.std.{proofs.lemmas.Bool.false≢true, proofs.lemmas.List.length-map, proofs.lemmas.List.map-append, specs.Cmp.Lexicographic.pointwise, specs.List.IsDistinct}
 use Rattle.toml.specs.Data.{Members, get_member}
 use Rattle.batch_cell.proofs.DistinctNames.{IsDistinct-front}
-use Rattle.batch_reader.proofs.Items.{HasTables_same}
-use Rattle.batch_reader.proofs.OneEntry.{HasName_missing, HasName_unique}
-use Rattle.batch_reader.specs.Entries.{HasName, HasNumber, HasTables, IsTruth, MayHaveName}
-use Rattle.batch_reader.specs.Keys.{needed, optional}
-use Rattle.batch_reader.specs.TableFaults.{IsKeyFault}
-use Rattle.batch_reader.specs.Faults.{TellsAt, TellsIn}
-use Rattle.batch_reader.specs.declared.fault.EntryFault.{EntryFault}
-use Rattle.batch_reader.specs.declared.fault.EntryFault.TheVariants.{MissingKey, WrongKind, UnknownKey, Undeclared, Duplicate, OutOfLimit, Chart}
-use Rattle.batch_reader.specs.declared.fault.Spot.{Spot}
-use Rattle.batch_reader.specs.declared.fault.TableFault.{TableFault}
-use Rattle.batch_reader.specs.declared.fault.TableFault.TheVariants.{Entry, Memory}
+use Rattle.batch_reader.{proofs.Items.HasTables_same, proofs.OneEntry.HasName_missing, proofs.OneEntry.HasName_unique, specs.Entries.HasName, specs.Entries.HasNumber, specs.Entries.HasTables, specs.Entries.IsTruth, specs.Entries.MayHaveName, specs.Keys.needed, specs.Keys.optional, specs.TableFaults.IsKeyFault, specs.Faults.TellsAt, specs.Faults.TellsIn, specs.declared.fault.EntryFault.EntryFault, specs.declared.fault.EntryFault.TheVariants.MissingKey, specs.declared.fault.EntryFault.TheVariants.WrongKind, specs.declared.fault.EntryFault.TheVariants.UnknownKey, specs.declared.fault.EntryFault.TheVariants.Undeclared, specs.declared.fault.EntryFault.TheVariants.Duplicate, specs.declared.fault.EntryFault.TheVariants.OutOfLimit, specs.declared.fault.EntryFault.TheVariants.Chart, specs.declared.fault.Spot.Spot, specs.declared.fault.TableFault.TableFault, specs.declared.fault.TableFault.TheVariants.Entry, specs.declared.fault.TableFault.TheVariants.Memory, specs.declared.keys.TheConstants.MAX_LAG, specs.DeskNames.HaveDistinctNames, specs.DeskNames.desk_names, specs.DesksDocument.HasLag, specs.DesksDocument.IsDeskTable, specs.DesksDocument.IsDesksTable, specs.DesksDocument.MayHavePath, specs.DesksFaults.HasDeskNameTwice, specs.DesksFaults.HasRightDeskCount, specs.DesksFaults.path_key, specs.declared.desk.Desk.Desk, specs.declared.desk_set.Desks.Desks}
 use Rattle.batch_reader.specs.declared.fault.TableKind.TheVariants as table
-use Rattle.batch_reader.specs.declared.keys.TheConstants.{MAX_LAG}
 use Rattle.batch_reader.specs.declared.keys.ValueForm.TheVariants as form
-use Rattle.batch_reader.specs.DeskNames.{HaveDistinctNames, desk_names}
-use Rattle.batch_reader.specs.DesksDocument.{HasLag, IsDeskTable, IsDesksTable, MayHavePath}
-use Rattle.batch_reader.specs.DesksFaults.{HasDeskNameTwice, HasRightDeskCount, path_key}
-use Rattle.batch_reader.specs.declared.desk.Desk.{Desk}
-use Rattle.batch_reader.specs.declared.desk_set.Desks.{Desks}
 
 -- nothing is wrong first, and nothing later
 pub none_first : {Wrong Right Later : Type 0} → (Wrong → ⊥) → (Later → ⊥) → Wrong ⊎ (Right × Later) → ⊥

@@ -1,12 +1,8 @@
 -- Names of desks that differ, one after another.
 use Rattle.std.proofs.Common.{◌≡◌, ℕ, ◌+◌, ◌<◌, true, false, List, [], ◌∷◌, ◌++◌, length, take, get_or, nat_eq, sym, ap, subst, ◌∙◌}
-use Rattle.std.proofs.lemmas.List.{map-append, take_more}
-use Rattle.std.proofs.lemmas.Map.Keys.{IsDistinct-push}
-use Rattle.std.specs.Cmp.Lexicographic.{pointwise, nat_list_eq_equiv}
-use Rattle.std.specs.List.{IsDistinct, list_any}
+use Rattle.std.{proofs.lemmas.List.map-append, proofs.lemmas.List.take_more, proofs.lemmas.Map.Keys.IsDistinct-push, specs.Cmp.Lexicographic.pointwise, specs.Cmp.Lexicographic.nat_list_eq_equiv, specs.List.IsDistinct, specs.List.list_any}
 use Rattle.batch_cell.proofs.DistinctNames.{IsDistinct-twice}
-use Rattle.batch_reader.specs.DeskNames.{HaveDistinctNames, desk_names}
-use Rattle.batch_reader.specs.declared.desk.Desk.{Desk}
+use Rattle.batch_reader.specs.{DeskNames.HaveDistinctNames, DeskNames.desk_names, declared.desk.Desk.Desk}
 
 names_more : (desks : List Desk) (i : ℕ) (d : Desk) → i < length desks → d ≡ get_or desks i d → desk_names (take (i + 1) desks) ≡ desk_names (take i desks) ++ d.name ∷ []
 names_more desks i d below is =

@@ -1,12 +1,8 @@
 -- Names that differ: as a reader's sets tell it, and as a recipe asks it.
 use Rattle.std.proofs.Common.{arith, ◌≡◌, ◌≢◌, Bool, true, false, not, List, [], ◌∷◌, ◌++◌, map, nat_eq, refl, sym, ap, subst, append_assoc}
-use Rattle.std.proofs.lemmas.List.{map-id}
-use Rattle.std.specs.Cmp.Lexicographic.{pointwise}
-use Rattle.std.specs.List.{AllByRecursion, IsDistinct}
-use Rattle.batch_recipe.specs.Conditions.{Name, same_name}
-use Rattle.batch_recipe.specs.WellFormed.{is_among, are_distinct}
-use Rattle.batch_reader.proofs.NamesSoFar.{IsDistinct-front}
-use Rattle.batch_reader.proofs.Conjunctions.{both_true, both_false, and_true}
+use Rattle.std.{proofs.lemmas.List.map-id, specs.Cmp.Lexicographic.pointwise, specs.List.AllByRecursion, specs.List.IsDistinct}
+use Rattle.batch_recipe.specs.{Conditions.Name, Conditions.same_name, WellFormed.is_among, WellFormed.are_distinct}
+use Rattle.batch_reader.proofs.{NamesSoFar.IsDistinct-front, Conjunctions.both_true, Conjunctions.both_false, Conjunctions.and_true}
 
 not_among : (name : Name) (names : List Name) → AllByRecursion (λ y. same_name name y ≡ false) names → is_among names name ≡ false
 not_among name [] h = refl

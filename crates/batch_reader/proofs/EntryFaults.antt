@@ -1,19 +1,8 @@
 -- A fault that is reported of the entry of a table is there.
 use Rattle.std.proofs.Common.{◌≡◌, ◌≢◌, ℕ, ◌<◌, ◌≤◌, ℤ, nat_lt, Bool, true, false, inl, inr, List, [], ◌∷◌, length, Option, Some, None, Result, Ok, Err, if◌then◌else◌, is_some, IfErr, refl, sym, ap, ◌∙◌, subst, arith, codes}
-use Rattle.std.proofs.lemmas.Bool.Decides.{nat_tests}
-use Rattle.std.specs.List.{slice_get}
-use Rattle.std.specs.Option.{option_map_or}
+use Rattle.std.{proofs.lemmas.Bool.Decides.nat_tests, specs.List.slice_get, specs.Option.option_map_or}
 use Rattle.toml.specs.Data.{Data, Items, no_items, item, Members, get_member, as_str, as_integer, as_bool, as_array}
-use Rattle.batch_reader.specs.Entries.{AllItems, IsNameItem, HasName, HasLabel, HasNameOr, HasText, MayHaveName, MayHaveText, HasNumber, HasNames, HasFewNames, IsTruth, items_at}
-use Rattle.batch_reader.specs.Faults.{IsToldAs, TellsAt, missing_or_wrong, value_fault, kind_fault, few_names_fault}
-use Rattle.batch_reader.specs.Keys.{Key, needed, optional, keys_of, may_stand}
-use Rattle.batch_reader.specs.TableFaults.{count_items, IsKeyFault, IsTableFault}
-use Rattle.batch_reader.specs.declared.fault.EntryFault.{EntryFault}
-use Rattle.batch_reader.specs.declared.fault.EntryFault.TheVariants.{MissingKey, WrongKind, UnknownKey, Undeclared, Duplicate, OutOfLimit, Chart}
-use Rattle.batch_reader.specs.declared.fault.Spot.{Spot}
-use Rattle.batch_reader.specs.declared.fault.TableFault.{TableFault}
-use Rattle.batch_reader.specs.declared.fault.TableFault.TheVariants.{Entry, Memory}
-use Rattle.batch_reader.specs.declared.fault.TableKind.{TableKind}
+use Rattle.batch_reader.specs.{Entries.AllItems, Entries.IsNameItem, Entries.HasName, Entries.HasLabel, Entries.HasNameOr, Entries.HasText, Entries.MayHaveName, Entries.MayHaveText, Entries.HasNumber, Entries.HasNames, Entries.HasFewNames, Entries.IsTruth, Entries.items_at, Faults.IsToldAs, Faults.TellsAt, Faults.missing_or_wrong, Faults.value_fault, Faults.kind_fault, Faults.few_names_fault, Keys.Key, Keys.needed, Keys.optional, Keys.keys_of, Keys.may_stand, TableFaults.count_items, TableFaults.IsKeyFault, TableFaults.IsTableFault, declared.fault.EntryFault.EntryFault, declared.fault.EntryFault.TheVariants.MissingKey, declared.fault.EntryFault.TheVariants.WrongKind, declared.fault.EntryFault.TheVariants.UnknownKey, declared.fault.EntryFault.TheVariants.Undeclared, declared.fault.EntryFault.TheVariants.Duplicate, declared.fault.EntryFault.TheVariants.OutOfLimit, declared.fault.EntryFault.TheVariants.Chart, declared.fault.Spot.Spot, declared.fault.TableFault.TableFault, declared.fault.TableFault.TheVariants.Entry, declared.fault.TableFault.TheVariants.Memory, declared.fault.TableKind.TableKind}
 use Rattle.batch_reader.specs.declared.keys.ValueForm.TheVariants as form
 
 -- a table that is refused as this, and only where this is wrong, has the fault

@@ -1,32 +1,10 @@
 -- A fault that is reported of a table among others is there.
 use Rattle.std.proofs.Common.{◌≡◌, ℕ, ◌+◌, ◌<◌, ◌≤◌, List, [], ◌∷◌, ◌++◌, length, map, take, get_or, nat_eq, refl, sym, ap, subst, ◌∙◌, append-nil, inl, inr, arith, Err, IsErrOf}
-use Rattle.std.proofs.lemmas.List.{take_more}
-use Rattle.std.proofs.lemmas.List.Elements.{All-append, All-cons, All-nil}
-use Rattle.std.proofs.lemmas.Option.{slice_get-get_or}
-use Rattle.std.specs.Cmp.Lexicographic.{pointwise}
-use Rattle.std.specs.List.{IsDistinct}
-use Rattle.batch_cell.specs.Equipment.{OffersPhasesOnce, unit_phases}
-use Rattle.batch_cell.specs.declared.module.Module.{Module}
-use Rattle.batch_cell.specs.declared.unit.Unit.{Unit}
-use Rattle.batch_recipe.specs.Conditions.{Name}
-use Rattle.batch_recipe.specs.Procedure.{procedure_nodes}
-use Rattle.batch_recipe.specs.WellFormed.{value_names}
-use Rattle.batch_recipe.specs.declared.act.Act.{Act}
-use Rattle.batch_recipe.specs.declared.acts.Acts.{Acts}
-use Rattle.batch_recipe.specs.declared.outline_fault.OutlineFault.{OutlineFault}
+use Rattle.std.{proofs.lemmas.List.take_more, proofs.lemmas.List.Elements.All-append, proofs.lemmas.List.Elements.All-cons, proofs.lemmas.List.Elements.All-nil, proofs.lemmas.Option.slice_get-get_or, specs.Cmp.Lexicographic.pointwise, specs.List.IsDistinct}
+use Rattle.batch_cell.specs.{Equipment.OffersPhasesOnce, Equipment.unit_phases, declared.module.Module.Module, declared.unit.Unit.Unit}
+use Rattle.batch_recipe.specs.{Conditions.Name, Procedure.procedure_nodes, WellFormed.value_names, declared.act.Act.Act, declared.acts.Acts.Acts, declared.outline_fault.OutlineFault.OutlineFault, declared.quantity.Quantity.Quantity, declared.recipe.Recipe.Recipe, declared.recipe.TheConstants.MAX_NODES}
 use Rattle.batch_recipe.specs.declared.outline_fault.OutlineFault.TheVariants as outline
-use Rattle.batch_recipe.specs.declared.quantity.Quantity.{Quantity}
-use Rattle.batch_recipe.specs.declared.recipe.Recipe.{Recipe}
-use Rattle.batch_recipe.specs.declared.recipe.TheConstants.{MAX_NODES}
-use Rattle.batch_reader.specs.Faults.{IsNamingFault, IsReportFault, IsRoleFault, IsToldIn, IsWrong, Tells}
-use Rattle.batch_reader.specs.PartFaults.{AreDistinct, FailsFirst, HasReserveFault, HasUndeclaredName, IsPartFault, IsReserveFaultOf, OffersTwice, Parts}
-use Rattle.batch_reader.specs.SoundTables.{outline_fault}
-use Rattle.batch_reader.specs.declared.fault.EntryFault.{EntryFault}
-use Rattle.batch_reader.specs.declared.fault.EntryFault.TheVariants.{MissingKey, WrongKind, UnknownKey, Undeclared, Duplicate, OutOfLimit, Chart}
-use Rattle.batch_reader.specs.declared.fault.Spot.{Spot}
-use Rattle.batch_reader.specs.declared.fault.TableFault.{TableFault}
-use Rattle.batch_reader.specs.declared.fault.TableFault.TheVariants.{Entry, Memory}
-use Rattle.batch_reader.specs.declared.fault.TableKind.{TableKind}
+use Rattle.batch_reader.specs.{Faults.IsNamingFault, Faults.IsReportFault, Faults.IsRoleFault, Faults.IsToldIn, Faults.IsWrong, Faults.Tells, PartFaults.AreDistinct, PartFaults.FailsFirst, PartFaults.HasReserveFault, PartFaults.HasUndeclaredName, PartFaults.IsPartFault, PartFaults.IsReserveFaultOf, PartFaults.OffersTwice, PartFaults.Parts, SoundTables.outline_fault, declared.fault.EntryFault.EntryFault, declared.fault.EntryFault.TheVariants.MissingKey, declared.fault.EntryFault.TheVariants.WrongKind, declared.fault.EntryFault.TheVariants.UnknownKey, declared.fault.EntryFault.TheVariants.Undeclared, declared.fault.EntryFault.TheVariants.Duplicate, declared.fault.EntryFault.TheVariants.OutOfLimit, declared.fault.EntryFault.TheVariants.Chart, declared.fault.Spot.Spot, declared.fault.TableFault.TableFault, declared.fault.TableFault.TheVariants.Entry, declared.fault.TableFault.TheVariants.Memory, declared.fault.TableKind.TableKind}
 use Rattle.batch_reader.specs.declared.fault.TableKind.TheVariants as table_kind
 
 -- if the fault is known, or also the kind of its table, it is reported of the spot

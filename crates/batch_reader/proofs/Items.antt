@@ -1,9 +1,7 @@
 -- The items of an array, one for one with the values that they say.
 use Rattle.std.proofs.Common.{◌≡◌, ℕ, ◌+◌, ◌<◌, List, [], ◌∷◌, ◌++◌, map, length, take, get_or, Some, None, refl, zero, suc, arith}
 use Rattle.std.proofs.lemmas.List.{take_more}
-use Rattle.toml.specs.Data.{Data, Members, Items, no_items, item, as_table, get_item}
-use Rattle.toml.specs.View.{view, items_view}
-use Rattle.toml.specs.declared.value.Value.{Value}
+use Rattle.toml.specs.{Data.Data, Data.Members, Data.Items, Data.no_items, Data.item, Data.as_table, Data.get_item, View.view, View.items_view, declared.value.Value.Value}
 use Rattle.batch_reader.specs.Entries.{AllItems, IsTableOf, HasTables, items_at}
 
 -- one more item, and the value that it says

@@ -1,16 +1,8 @@
 -- Keys of a table.
 use Rattle.std.proofs.Common.{arith, ◌≡◌, Bool, false, true, ◌&&◌, ◌||◌, List, [], ◌∷◌, ℕ, map, String, Global, string_bytes, Some, None, Ordering, nat_cmp, refl, sym, ap, ◌∙◌}
-use Rattle.std.proofs.lemmas.Bool.{false≢true}
-use Rattle.std.proofs.lemmas.Map.Lookups.{exact_bytes}
-use Rattle.std.specs.Cmp.Lexicographic.{slice_cmp}
-use Rattle.std.specs.List.{list_any, list_all}
-use Rattle.std.specs.Ordering.{match_ordering}
-use Rattle.std.specs.Map.{keys_of}
-use Rattle.toml.specs.Data.{Data, Members, no_members, member, get_member}
-use Rattle.toml.specs.View.{members_view}
-use Rattle.toml.specs.declared.value.Value.{Value}
-use Rattle.batch_reader.proofs.Conjunctions.{both_true}
-use Rattle.batch_reader.specs.Entries.{all_keys}
+use Rattle.std.{proofs.lemmas.Bool.false≢true, proofs.lemmas.Map.Lookups.exact_bytes, specs.Cmp.Lexicographic.slice_cmp, specs.List.list_any, specs.List.list_all, specs.Ordering.match_ordering, specs.Map.keys_of}
+use Rattle.toml.specs.{Data.Data, Data.Members, Data.no_members, Data.member, Data.get_member, View.members_view, declared.value.Value.Value}
+use Rattle.batch_reader.{proofs.Conjunctions.both_true, specs.Entries.all_keys}
 
 pub list_any-map : {X Y : Type 0} (p : Y → Bool) (f : X → Y) (xs : List X) → list_any (λ x. p (f x)) xs ≡ list_any p (map f xs)
 list_any-map p f [] = refl

@@ -1,9 +1,6 @@
 -- Names that differ, one after another.
 use Rattle.std.proofs.Common.{arith, ◌≡◌, ℕ, ◌+◌, ◌<◌, Bool, List, [], ◌∷◌, ◌++◌, length, take, drop, get_or, map, sym, ap, ◌∙◌, subst, append_assoc, take-append-drop}
-use Rattle.std.proofs.lemmas.Grind.{flat_map-append}
-use Rattle.std.proofs.lemmas.List.{take_more, flat_map_more, map-id}
-use Rattle.std.proofs.lemmas.List.Concat.{flat_map_single}
-use Rattle.std.specs.List.{IsDistinct, flat_map}
+use Rattle.std.{proofs.lemmas.Grind.flat_map-append, proofs.lemmas.List.take_more, proofs.lemmas.List.flat_map_more, proofs.lemmas.List.map-id, proofs.lemmas.List.Concat.flat_map_single, specs.List.IsDistinct, specs.List.flat_map}
 pub use Rattle.batch_cell.proofs.DistinctNames.{IsDistinct-front, IsDistinct-twice}
 
 -- the names so far, after one more element

@@ -1,11 +1,6 @@
 -- The need of a text, by the place of its first star.
 use Rattle.std.proofs.Common.{◌≡◌, ℕ, ◌+◌, ◌-◌, true, false, List, [], ◌∷◌, length, slice_index, take, drop, position, Option, Some, None, refl, sym, ◌∙◌, subst, arith}
-use Rattle.std.specs.Char.{is_ascii_alphabetic}
-use Rattle.std.specs.List.{list_all}
-use Rattle.std.proofs.lemmas.Bool.{and_parts, eqb-true, false≢true}
-use Rattle.std.proofs.lemmas.Bool.Decides.{nat_tests}
-use Rattle.std.proofs.lemmas.Grind.{common_steps}
-use Rattle.std.proofs.lemmas.List.{take_rest}
+use Rattle.std.{specs.Char.is_ascii_alphabetic, specs.List.list_all, proofs.lemmas.Bool.and_parts, proofs.lemmas.Bool.eqb-true, proofs.lemmas.Bool.false≢true, proofs.lemmas.Bool.Decides.nat_tests, proofs.lemmas.Grind.common_steps, proofs.lemmas.List.take_rest}
 use Rattle.batch_text.specs.NameText.{IsName, is_name_byte}
 use Rattle.batch_recipe.specs.declared.need.Need.{Need}
 use Rattle.batch_reader.specs.NeedText.{IsNeedText, IsNeedCut, IsUnits, is_star}

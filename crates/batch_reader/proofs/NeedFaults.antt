@@ -1,20 +1,8 @@
 -- A fault that is reported of a need is there.
 use Rattle.std.proofs.Common.{◌≡◌, ℕ, ◌<◌, List, length, get_or, Option, Some, None, inl, refl, arith}
 use Rattle.std.specs.Option.{option_map_or}
-use Rattle.toml.specs.Data.{Data, no_items, Members, get_member, as_array}
-use Rattle.toml.specs.View.{view, items_view}
-use Rattle.toml.specs.declared.value.Value.{Value}
-use Rattle.batch_reader.proofs.Items.{get_item-view}
-use Rattle.batch_reader.proofs.OneEntry.{count_items-view}
-use Rattle.batch_reader.specs.Entries.{items_at}
-use Rattle.batch_reader.specs.Faults.{IsNeedFault, IsNeedsFault, TellsAt}
-use Rattle.batch_reader.specs.Keys.{optional}
-use Rattle.batch_reader.specs.TableFaults.{IsKeyFault}
-use Rattle.batch_reader.specs.declared.fault.EntryFault.{EntryFault}
-use Rattle.batch_reader.specs.declared.fault.EntryFault.TheVariants.{MissingKey, WrongKind, UnknownKey, Undeclared, Duplicate, OutOfLimit, Chart}
-use Rattle.batch_reader.specs.declared.fault.Spot.{Spot}
-use Rattle.batch_reader.specs.declared.fault.TableFault.{TableFault}
-use Rattle.batch_reader.specs.declared.fault.TableFault.TheVariants.{Entry, Memory}
+use Rattle.toml.specs.{Data.Data, Data.no_items, Data.Members, Data.get_member, Data.as_array, View.view, View.items_view, declared.value.Value.Value}
+use Rattle.batch_reader.{proofs.Items.get_item-view, proofs.OneEntry.count_items-view, specs.Entries.items_at, specs.Faults.IsNeedFault, specs.Faults.IsNeedsFault, specs.Faults.TellsAt, specs.Keys.optional, specs.TableFaults.IsKeyFault, specs.declared.fault.EntryFault.EntryFault, specs.declared.fault.EntryFault.TheVariants.MissingKey, specs.declared.fault.EntryFault.TheVariants.WrongKind, specs.declared.fault.EntryFault.TheVariants.UnknownKey, specs.declared.fault.EntryFault.TheVariants.Undeclared, specs.declared.fault.EntryFault.TheVariants.Duplicate, specs.declared.fault.EntryFault.TheVariants.OutOfLimit, specs.declared.fault.EntryFault.TheVariants.Chart, specs.declared.fault.Spot.Spot, specs.declared.fault.TableFault.TableFault, specs.declared.fault.TableFault.TheVariants.Entry, specs.declared.fault.TableFault.TheVariants.Memory}
 use Rattle.batch_reader.specs.declared.keys.ValueForm.TheVariants as form
 
 pub tells_at : (P Q : EntryFault → Type 0) → ((wrong : EntryFault) → P wrong → Q wrong) → (spot : Spot) (fault : TableFault) → TellsAt spot P fault → TellsAt spot Q fault

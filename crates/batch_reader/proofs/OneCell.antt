@@ -1,22 +1,9 @@
 -- A table stands for one unit, one module and one shared resource at most.
 use Rattle.std.proofs.Common.{◌≡◌, ℕ, ◌<◌, ◌≤◌, inl, inr, Bool, true, List, [], ◌++◌, map, length, get_or, Some, None, codes, nat_eq, sym, ap, ◌∙◌, subst, arith}
-use Rattle.std.proofs.lemmas.Bool.{false≢true}
-use Rattle.std.proofs.lemmas.List.{length-map, map-id, get_or-map}
-use Rattle.std.proofs.lemmas.List.Folds.{list_all-map, flat_map-map}
-use Rattle.std.specs.Cmp.Lexicographic.{pointwise}
-use Rattle.std.specs.List.{IsDistinct, list_all, list_any, flat_map}
-use Rattle.std.specs.Option.{IsSome}
+use Rattle.std.{proofs.lemmas.Bool.false≢true, proofs.lemmas.List.length-map, proofs.lemmas.List.map-id, proofs.lemmas.List.get_or-map, proofs.lemmas.List.Folds.list_all-map, proofs.lemmas.List.Folds.flat_map-map, specs.Cmp.Lexicographic.pointwise, specs.List.IsDistinct, specs.List.list_all, specs.List.list_any, specs.List.flat_map, specs.Option.IsSome}
 use Rattle.toml.specs.Data.{Members, get_member}
-use Rattle.batch_cell.specs.Equipment.{unit_names, declared_names, has_declared_unit, phases_for, unit_phases, IsDeclaredOnce, HasDeclaredUnits, OffersPhasesOnce}
-use Rattle.batch_cell.specs.declared.unit.Unit.{Unit}
-use Rattle.batch_cell.specs.declared.module.Module.{Module}
-use Rattle.batch_cell.specs.declared.module.TheConstants.{MAX_PHASES}
-use Rattle.batch_cell.specs.declared.shared.Shared.{Shared}
-use Rattle.batch_cell.specs.declared.cell.Cell.{Cell}
-use Rattle.batch_reader.proofs.Items.{AllItems_same, HasTables_same}
-use Rattle.batch_reader.proofs.OneEntry.{HasName_unique, HasName_missing, IsNameItem_unique}
-use Rattle.batch_reader.specs.Entries.{HasName, HasNames, HasTables}
-use Rattle.batch_reader.specs.CellDocument.{IsUnitTable, IsUnitModuleTable, IsModuleTable, IsSharedTable, IsSoundEquipment, IsCellTable}
+use Rattle.batch_cell.specs.{Equipment.unit_names, Equipment.declared_names, Equipment.has_declared_unit, Equipment.phases_for, Equipment.unit_phases, Equipment.IsDeclaredOnce, Equipment.HasDeclaredUnits, Equipment.OffersPhasesOnce, declared.unit.Unit.Unit, declared.module.Module.Module, declared.module.TheConstants.MAX_PHASES, declared.shared.Shared.Shared, declared.cell.Cell.Cell}
+use Rattle.batch_reader.{proofs.Items.AllItems_same, proofs.Items.HasTables_same, proofs.OneEntry.HasName_unique, proofs.OneEntry.HasName_missing, proofs.OneEntry.IsNameItem_unique, specs.Entries.HasName, specs.Entries.HasNames, specs.Entries.HasTables, specs.CellDocument.IsUnitTable, specs.CellDocument.IsUnitModuleTable, specs.CellDocument.IsModuleTable, specs.CellDocument.IsSharedTable, specs.CellDocument.IsSoundEquipment, specs.CellDocument.IsCellTable}
 
 pub HasNames_unique : (key : List ℕ) (ms : Members) (xs ys : List (List ℕ)) → HasNames key ms xs → HasNames key ms ys → xs ≡ ys
 HasNames_unique key ms xs ys h k = grind (arith, map-id xs, map-id ys, AllItems_same, IsNameItem_unique)

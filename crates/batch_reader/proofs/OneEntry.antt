@@ -1,23 +1,9 @@
 -- An entry of a table says one thing at most.
 use Rattle.std.proofs.Common.{◌≡◌, ℕ, ◌<◌, ◌≤◌, true, List, [], ◌∷◌, length, Option, Some, None, refl, ap₂, arith, nat_le, position}
-use Rattle.std.proofs.lemmas.List.{map-id}
-use Rattle.std.proofs.lemmas.Bool.Decides.{nat_tests}
-use Rattle.std.specs.Option.{option_and_then}
-use Rattle.toml.specs.Data.{Data, Items, Members, get_member, as_str, as_table}
-use Rattle.toml.specs.View.{items_view}
-use Rattle.toml.specs.declared.value.Value.{Value}
-use Rattle.batch_recipe.specs.Diagram.{Diagram}
-use Rattle.batch_reader.proofs.ChartReader.{at_most_one}
-use Rattle.batch_reader.specs.ChartGrammar.{IsChart}
-use Rattle.batch_reader.proofs.Items.{AllItems_same}
-use Rattle.batch_reader.specs.Entries.{AllItems, IsNameItem, HasLabel, HasName, HasNameOr, HasChart, HasFew, HasFewNames, HasFewNeeds, IsNeedItem, HasTable, items_at}
-use Rattle.batch_reader.specs.Faults.{few_names_fault}
-use Rattle.batch_reader.specs.TableFaults.{count_items}
-use Rattle.batch_reader.specs.declared.fault.EntryFault.TheVariants.{OutOfLimit, WrongKind}
-use Rattle.batch_recipe.specs.declared.need.Need.{Need}
-use Rattle.batch_reader.specs.NeedText.{IsNeedCut, is_star}
-use Rattle.batch_recipe.specs.Needs.{have_units}
-use Rattle.batch_recipe.specs.declared.need.TheConstants.{MAX_UNITS}
+use Rattle.std.{proofs.lemmas.List.map-id, proofs.lemmas.Bool.Decides.nat_tests, specs.Option.option_and_then}
+use Rattle.toml.specs.{Data.Data, Data.Items, Data.Members, Data.get_member, Data.as_str, Data.as_table, View.items_view, declared.value.Value.Value}
+use Rattle.batch_recipe.specs.{Diagram.Diagram, declared.need.Need.Need, Needs.have_units, declared.need.TheConstants.MAX_UNITS}
+use Rattle.batch_reader.{proofs.ChartReader.at_most_one, specs.ChartGrammar.IsChart, proofs.Items.AllItems_same, specs.Entries.AllItems, specs.Entries.IsNameItem, specs.Entries.HasLabel, specs.Entries.HasName, specs.Entries.HasNameOr, specs.Entries.HasChart, specs.Entries.HasFew, specs.Entries.HasFewNames, specs.Entries.HasFewNeeds, specs.Entries.IsNeedItem, specs.Entries.HasTable, specs.Entries.items_at, specs.Faults.few_names_fault, specs.TableFaults.count_items, specs.declared.fault.EntryFault.TheVariants.OutOfLimit, specs.declared.fault.EntryFault.TheVariants.WrongKind, specs.NeedText.IsNeedCut, specs.NeedText.is_star}
 
 -- a list has as many items as it says names
 AllItems_length : {X : Type 0} (R : Data → X → Type 0) (vs : List Value) (xs : List X) → AllItems R (items_view vs) xs → length vs ≡ length xs

@@ -2,21 +2,8 @@
 use Rattle.std.proofs.Common.{arith, ◌≡◌, ℕ, List, map, codes, sym, ap, ap₂, ◌∙◌}
 use Rattle.std.proofs.lemmas.List.{map-id}
 use Rattle.toml.specs.Data.{Members}
-use Rattle.batch_recipe.specs.Conditions.{Name}
-use Rattle.batch_recipe.specs.Diagram.{diagram_of}
-use Rattle.batch_recipe.specs.declared.act.Act.{Act}
-use Rattle.batch_recipe.specs.declared.acts.Acts.{Acts}
-use Rattle.batch_recipe.specs.declared.quantity.Quantity.{Quantity}
-use Rattle.batch_recipe.specs.declared.recipe.Recipe.{Recipe}
-use Rattle.batch_recipe.specs.declared.role.Role.{Role}
-use Rattle.batch_reader.proofs.ActForms.{follows, runs, work_form, form, sound_along}
-use Rattle.batch_reader.proofs.Items.{HasTables_same}
-use Rattle.batch_reader.proofs.OneEntry.{HasName_unique, HasLabel_unique, HasNameOr_unique, HasChart_unique, HasFewNames_unique, HasFewNeeds_unique}
-use Rattle.batch_reader.proofs.UnitChoices.{same_unit}
-use Rattle.batch_reader.specs.Entries.{HasTables}
-use Rattle.batch_reader.specs.RecipeTables.{HasCourse, HasNeeds, HasReserves, IsQuantityTable, IsOutputTable, IsRoleTable, IsProcedureTable, IsUnitProcedureTable, IsOperationTable, IsPhaseTable}
-use Rattle.batch_reader.specs.RecipeDocument.{HasActs, IsRecipeTable}
-use Rattle.batch_reader.specs.SoundRecipe.{IsSoundRecipe}
+use Rattle.batch_recipe.specs.{Conditions.Name, Diagram.diagram_of, declared.act.Act.Act, declared.acts.Acts.Acts, declared.quantity.Quantity.Quantity, declared.recipe.Recipe.Recipe, declared.role.Role.Role}
+use Rattle.batch_reader.{proofs.ActForms.follows, proofs.ActForms.runs, proofs.ActForms.work_form, proofs.ActForms.form, proofs.ActForms.sound_along, proofs.Items.HasTables_same, proofs.OneEntry.HasName_unique, proofs.OneEntry.HasLabel_unique, proofs.OneEntry.HasNameOr_unique, proofs.OneEntry.HasChart_unique, proofs.OneEntry.HasFewNames_unique, proofs.OneEntry.HasFewNeeds_unique, proofs.UnitChoices.same_unit, specs.Entries.HasTables, specs.RecipeTables.HasCourse, specs.RecipeTables.HasNeeds, specs.RecipeTables.HasReserves, specs.RecipeTables.IsQuantityTable, specs.RecipeTables.IsOutputTable, specs.RecipeTables.IsRoleTable, specs.RecipeTables.IsProcedureTable, specs.RecipeTables.IsUnitProcedureTable, specs.RecipeTables.IsOperationTable, specs.RecipeTables.IsPhaseTable, specs.RecipeDocument.HasActs, specs.RecipeDocument.IsRecipeTable, specs.SoundRecipe.IsSoundRecipe}
 
 same_needs : (ms : Members) (a b : Act) → HasNeeds ms a → HasNeeds ms b → a.needs.items ≡ b.needs.items
 same_needs ms a b h k = HasFewNeeds_unique _ ms _ a.needs.items b.needs.items h k

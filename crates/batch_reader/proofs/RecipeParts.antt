@@ -1,23 +1,9 @@
 -- The facts of a recipe's acts and names that its tables give by themselves.
 use Rattle.std.proofs.Common.{arith, ◌≡◌, ◌≤◌, nat_le, length, ℕ, Bool, true, false, not, ◌&&◌, List, [], ◌∷◌, ◌++◌, map, Some, None, codes, refl, sym, ap, ◌∙◌, subst}
-use Rattle.std.proofs.lemmas.List.Elements.{All-nil, All-cons}
-use Rattle.std.proofs.lemmas.List.Folds.{list_all-append, list_all-map}
-use Rattle.std.specs.List.{list_all, All}
+use Rattle.std.{proofs.lemmas.List.Elements.All-nil, proofs.lemmas.List.Elements.All-cons, proofs.lemmas.List.Folds.list_all-append, proofs.lemmas.List.Folds.list_all-map, specs.List.list_all, specs.List.All}
 use Rattle.toml.specs.Data.{Members, Items, no_items, item}
-use Rattle.batch_reader.proofs.ChartForms.{is_formed}
-use Rattle.batch_recipe.specs.Conditions.{Name}
-use Rattle.batch_recipe.specs.Diagram.{diagram_of}
-use Rattle.batch_recipe.specs.WellFormed.{is_among, chart_words, have_no_chart_word, value_names, has_unit, has_chart, are_kinds, follows_no_par, has_free_names, reports_few, reports_with}
-use Rattle.batch_recipe.specs.declared.act.Act.{Act}
-use Rattle.batch_recipe.specs.declared.act.TheConstants.{MAX_REPORTS}
-use Rattle.batch_recipe.specs.declared.act.UnitChoice.{UnitChoice}
-use Rattle.batch_recipe.specs.declared.act.Work.TheVariants.{Follows, Runs}
-use Rattle.batch_recipe.specs.declared.acts.Acts.{Acts}
-use Rattle.batch_recipe.specs.declared.quantity.Quantity.{Quantity}
-use Rattle.batch_reader.specs.Entries.{AllItems, IsTableOf, HasTables, HasLabel}
-use Rattle.batch_reader.specs.FormedActs.{IsFormedWork, AreFormed}
-use Rattle.batch_reader.specs.RecipeTables.{IsQuantityTable, IsOutputTable, HasCourse, IsProcedureTable, IsUnitProcedureTable, IsOperationTable, IsPhaseTable}
-use Rattle.batch_reader.specs.RecipeDocument.{HasActs}
+use Rattle.batch_reader.{proofs.ChartForms.is_formed, specs.Entries.AllItems, specs.Entries.IsTableOf, specs.Entries.HasTables, specs.Entries.HasLabel, specs.FormedActs.IsFormedWork, specs.FormedActs.AreFormed, specs.RecipeTables.IsQuantityTable, specs.RecipeTables.IsOutputTable, specs.RecipeTables.HasCourse, specs.RecipeTables.IsProcedureTable, specs.RecipeTables.IsUnitProcedureTable, specs.RecipeTables.IsOperationTable, specs.RecipeTables.IsPhaseTable, specs.RecipeDocument.HasActs}
+use Rattle.batch_recipe.specs.{Conditions.Name, Diagram.diagram_of, WellFormed.is_among, WellFormed.chart_words, WellFormed.have_no_chart_word, WellFormed.value_names, WellFormed.has_unit, WellFormed.has_chart, WellFormed.are_kinds, WellFormed.follows_no_par, WellFormed.has_free_names, WellFormed.reports_few, WellFormed.reports_with, declared.act.Act.Act, declared.act.TheConstants.MAX_REPORTS, declared.act.UnitChoice.UnitChoice, declared.act.Work.TheVariants.Follows, declared.act.Work.TheVariants.Runs, declared.acts.Acts.Acts, declared.quantity.Quantity.Quantity}
 
 -- a property of each value that a table stands for holds of those of all tables
 each_item : {X : Type 0} (R : Members → X → Type 0) (P : X → Type 0) → ((ms : Members) (x : X) → R ms x → P x)

@@ -2,15 +2,8 @@
 use Rattle.std.proofs.Common.{arith, ◌≡◌, ℕ, true, List, Option, Some, None, codes, refl, sym, ◌∙◌, subst}
 use Rattle.std.proofs.lemmas.Bool.{false≢true}
 use Rattle.toml.specs.Data.{Data, Members, get_member}
-use Rattle.batch_recipe.specs.declared.act.Act.{Act}
-use Rattle.batch_recipe.specs.declared.act.UnitChoice.{UnitChoice}
-use Rattle.batch_recipe.specs.declared.act.UnitChoice.TheVariants.{Unit, Role}
-use Rattle.batch_reader.proofs.KnownKeys.{unknown_missing}
-use Rattle.batch_reader.proofs.OneEntry.{HasName_missing, HasName_unique}
-use Rattle.batch_reader.specs.Entries.{HasName, MayHaveName}
-use Rattle.batch_reader.specs.Keys.{has_known_keys, is_known}
-use Rattle.batch_reader.specs.RecipeTables.{IsUnitProcedureTable, choice_key, choice_name}
-use Rattle.batch_reader.specs.declared.fault.TableKind.TheVariants.{UnitProcedure}
+use Rattle.batch_recipe.specs.declared.act.{Act.Act, UnitChoice.UnitChoice, UnitChoice.TheVariants.Unit, UnitChoice.TheVariants.Role}
+use Rattle.batch_reader.{proofs.KnownKeys.unknown_missing, proofs.OneEntry.HasName_missing, proofs.OneEntry.HasName_unique, specs.Entries.HasName, specs.Entries.MayHaveName, specs.Keys.has_known_keys, specs.Keys.is_known, specs.RecipeTables.IsUnitProcedureTable, specs.RecipeTables.choice_key, specs.RecipeTables.choice_name, specs.declared.fault.TableKind.TheVariants.UnitProcedure}
 
 -- the key at which the choice stands: `role` where it is there, and else `unit`
 abbrev unit_key : Option Data → List ℕ

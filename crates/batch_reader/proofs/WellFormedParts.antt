@@ -1,12 +1,8 @@
 -- A recipe's acts are well formed if their names differ and the names that they use are declared.
 use Rattle.std.proofs.Common.{arith, ◌≡◌, Bool, true, ◌&&◌, List, [], ◌∷◌, refl}
 use Rattle.std.specs.List.{list_all}
-use Rattle.batch_recipe.specs.Conditions.{Name}
-use Rattle.batch_recipe.specs.WellFormed.{act_names, follows_no_par, is_well_formed, is_work}
-use Rattle.batch_recipe.specs.declared.act.Act.{Act}
-use Rattle.batch_recipe.specs.declared.acts.Acts.{Acts}
-use Rattle.batch_reader.specs.Naming.{names_differ, acts_are_declared}
-use Rattle.batch_reader.proofs.Conjunctions.{both_true}
+use Rattle.batch_recipe.specs.{Conditions.Name, WellFormed.act_names, WellFormed.follows_no_par, WellFormed.is_well_formed, WellFormed.is_work, declared.act.Act.Act, declared.acts.Acts.Acts}
+use Rattle.batch_reader.{specs.Naming.names_differ, specs.Naming.acts_are_declared, proofs.Conjunctions.both_true}
 
 alone : (a b : Bool) → ((a && true) && b) ≡ (a && b)
 alone a b = grind arith

@@ -1,9 +1,6 @@
 -- The conditions of choices, copied one after another.
 use Rattle.std.proofs.Common.{◌≡◌, ◌<◌, ◌≤◌, ◌+◌, ◌++◌, ℕ, suc, List, [], ◌∷◌, map, drop, length, get_or, sym, ap, ◌∙◌, refl, add-one, drop-cons, drop_of_length-le, append_assoc, append-nil}
-use Rattle.batch_recipe.specs.Diagram.{Diagram, diagram_of, cases_of}
-use Rattle.batch_recipe.specs.Growing.{conditions_of_cases}
-use Rattle.batch_recipe.specs.declared.chart.Chart.{Chart}
-use Rattle.batch_recipe.specs.declared.condition.Cond.{Cond}
+use Rattle.batch_recipe.specs.{Diagram.Diagram, Diagram.diagram_of, Diagram.cases_of, Growing.conditions_of_cases, declared.chart.Chart.Chart, declared.condition.Cond.Cond}
 
 pub conditions-are : (cs : List (Cond × Chart)) (last : Diagram)
     → map (λ (choice : Cond × Chart). choice.0) cs ≡ conditions_of_cases (cases_of (map (λ (choice : Cond × Chart). (choice.0, diagram_of choice.1)) cs) last)

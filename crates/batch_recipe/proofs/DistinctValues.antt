@@ -1,17 +1,7 @@
 -- Values of which no two have the same name.
-use Rattle.std.specs.Cmp.Lexicographic.{bytes_decides, nat_list_eq_equiv}
+use Rattle.std.{specs.Cmp.Lexicographic.bytes_decides, specs.Cmp.Lexicographic.nat_list_eq_equiv, specs.Prelude.slice_get, proofs.lemmas.Bool.and_parts, proofs.lemmas.Option.slice_get_read, proofs.lemmas.Option.slice_get_within}
 use Rattle.std.proofs.Common.{◌≡◌, ℕ, zero, suc, List, [], ◌∷◌, ◌++◌, Bool, true, false, ◌||◌, ◌&&◌, not, map, set, get_or, length, Some, refl, sym, ap, ap₂, ◌∙◌, arith}
-use Rattle.std.specs.Prelude.{slice_get}
-use Rattle.std.proofs.lemmas.Bool.{and_parts}
-use Rattle.std.proofs.lemmas.Option.{slice_get_read, slice_get_within}
-use Rattle.batch_recipe.specs.Conditions.{Name, ValueList, same_name, value_of}
-use Rattle.batch_recipe.specs.DistinctValues.{HaveDistinctValueNames}
-use Rattle.batch_recipe.specs.Formula.{values_of, zeros}
-use Rattle.batch_recipe.specs.Values.{have_output, with_value}
-use Rattle.batch_recipe.specs.WellFormed.{are_distinct, is_among, value_names}
-use Rattle.batch_recipe.specs.declared.quantity.Quantity.{Quantity}
-use Rattle.batch_recipe.specs.declared.recipe.Recipe.{Recipe}
-use Rattle.batch_recipe.proofs.ValueUpdates.{named, same-at}
+use Rattle.batch_recipe.{specs.Conditions.Name, specs.Conditions.ValueList, specs.Conditions.same_name, specs.Conditions.value_of, specs.DistinctValues.HaveDistinctValueNames, specs.Formula.values_of, specs.Formula.zeros, specs.Values.have_output, specs.Values.with_value, specs.WellFormed.are_distinct, specs.WellFormed.is_among, specs.WellFormed.value_names, specs.declared.quantity.Quantity.Quantity, specs.declared.recipe.Recipe.Recipe, proofs.ValueUpdates.named, proofs.ValueUpdates.same-at}
 
 abbrev pub names : ValueList → List Name
 names vs = map (λ v. v.0) vs

@@ -1,26 +1,9 @@
 -- The entries grown from acts have the shapes and the acts of the expanded tree.
 use Rattle.std.proofs.Common.{◌≡◌, ℕ, ◌+◌, List, [], ◌∷◌, ◌++◌, map, length, Option, Some, None, slice_get, sym, ap, ◌∙◌, refl, arith, length-append}
 use Rattle.std.proofs.lemmas.List.{length-map, map-append}
-use Rattle.batch_recipe.specs.ActsAtNodes.{ActList, acts_along, acts_along_each, acts_along_cases, acts_below, acts_from, acts_named, procedure_acts}
-use Rattle.batch_recipe.specs.Conditions.{Name, same_name}
-use Rattle.batch_recipe.specs.Diagram.{Diagram, label, skip, seq, par, sel, loop, Diagrams, none, more, Cases, otherwise, when, diagram_of}
-use Rattle.batch_recipe.specs.Expanding.{Binding, unbound, expanded, expanded_each, expanded_cases, task_of, act_named, act_tree_with, named_tree_with, unit_with, unit_below, step_of}
-use Rattle.batch_recipe.specs.Growing.{Head, Labels, LabelConditions, plain_head, act_head, topped, bare_entries, grown, grown_each, grown_cases, grown_work, grown_act, grown_named, conditions_along, conditions_of_cases, told_from, levels_from, number_in, unit_number, entries_of}
-use Rattle.batch_recipe.specs.Nodes.{child, node_count, count_within, count_of_each, count_of_choices}
-use Rattle.batch_recipe.specs.Outlines.{an_act, Shape, form_of, act_of_kind, shape_of, shapes, shapes_within, shapes_of_each, shapes_of_choices, IsOutline}
-use Rattle.batch_recipe.specs.Procedure.{sites, table_at, tables_from, level_below, bound_tree}
-use Rattle.batch_recipe.specs.Tree.{Place, Tree, Task, Trees, Choices}
+use Rattle.batch_recipe.{specs.ActsAtNodes.ActList, specs.ActsAtNodes.acts_along, specs.ActsAtNodes.acts_along_each, specs.ActsAtNodes.acts_along_cases, specs.ActsAtNodes.acts_below, specs.ActsAtNodes.acts_from, specs.ActsAtNodes.acts_named, specs.ActsAtNodes.procedure_acts, specs.Conditions.Name, specs.Conditions.same_name, specs.Diagram.Diagram, specs.Diagram.label, specs.Diagram.skip, specs.Diagram.seq, specs.Diagram.par, specs.Diagram.sel, specs.Diagram.loop, specs.Diagram.Diagrams, specs.Diagram.none, specs.Diagram.more, specs.Diagram.Cases, specs.Diagram.otherwise, specs.Diagram.when, specs.Diagram.diagram_of, specs.Expanding.Binding, specs.Expanding.unbound, specs.Expanding.expanded, specs.Expanding.expanded_each, specs.Expanding.expanded_cases, specs.Expanding.task_of, specs.Expanding.act_named, specs.Expanding.act_tree_with, specs.Expanding.named_tree_with, specs.Expanding.unit_with, specs.Expanding.unit_below, specs.Expanding.step_of, specs.Growing.Head, specs.Growing.Labels, specs.Growing.LabelConditions, specs.Growing.plain_head, specs.Growing.act_head, specs.Growing.topped, specs.Growing.bare_entries, specs.Growing.grown, specs.Growing.grown_each, specs.Growing.grown_cases, specs.Growing.grown_work, specs.Growing.grown_act, specs.Growing.grown_named, specs.Growing.conditions_along, specs.Growing.conditions_of_cases, specs.Growing.told_from, specs.Growing.levels_from, specs.Growing.number_in, specs.Growing.unit_number, specs.Growing.entries_of, specs.Nodes.child, specs.Nodes.node_count, specs.Nodes.count_within, specs.Nodes.count_of_each, specs.Nodes.count_of_choices, specs.Outlines.an_act, specs.Outlines.Shape, specs.Outlines.form_of, specs.Outlines.act_of_kind, specs.Outlines.shape_of, specs.Outlines.shapes, specs.Outlines.shapes_within, specs.Outlines.shapes_of_each, specs.Outlines.shapes_of_choices, specs.Outlines.IsOutline, specs.Procedure.sites, specs.Procedure.table_at, specs.Procedure.tables_from, specs.Procedure.level_below, specs.Procedure.bound_tree, specs.Tree.Place, specs.Tree.Tree, specs.Tree.Task, specs.Tree.Trees, specs.Tree.Choices, specs.declared.act.Act.Act, specs.declared.act.Work.Work, specs.declared.act.Work.TheVariants.Follows, specs.declared.act.Work.TheVariants.Runs, specs.declared.acts.Acts.Acts, specs.declared.acts.LabelTable.LabelTable, specs.declared.acts.LabelTable.TheVariants.UnitProcedures, specs.declared.acts.LabelTable.TheVariants.Operations, specs.declared.acts.LabelTable.TheVariants.Phases, specs.declared.entry.Entry.Entry, specs.declared.entry.Kind.Kind, proofs.Growth.found_at, proofs.Growth.not_found}
 use Rattle.batch_recipe.specs.Tree as tree
-use Rattle.batch_recipe.specs.declared.act.Act.{Act}
-use Rattle.batch_recipe.specs.declared.act.Work.{Work}
-use Rattle.batch_recipe.specs.declared.act.Work.TheVariants.{Follows, Runs}
-use Rattle.batch_recipe.specs.declared.acts.Acts.{Acts}
-use Rattle.batch_recipe.specs.declared.acts.LabelTable.{LabelTable}
-use Rattle.batch_recipe.specs.declared.acts.LabelTable.TheVariants.{UnitProcedures, Operations, Phases}
-use Rattle.batch_recipe.specs.declared.entry.Entry.{Entry}
-use Rattle.batch_recipe.specs.declared.entry.Kind.{Kind}
 use Rattle.batch_recipe.specs.declared.entry.Kind.TheVariants as kind
-use Rattle.batch_recipe.proofs.Growth.{found_at, not_found}
 
 mutual
   pub shapes_counted : (n u i : ℕ) (t : Tree) → length (shapes n u i t) ≡ node_count t

@@ -1,27 +1,8 @@
 -- The invariants of the search for the followers of a node, up from it and down from the next branch, whatever units take the roles.
 use Rattle.std.proofs.Common.{◌≡◌, ◌≢◌, ◌⊎◌, inl, inr, ℕ, zero, suc, ◌+◌, ◌<◌, ◌≤◌, List, [], ◌∷◌, length, Bool, true, false, Option, Some, None, get_or, slice_get, sym, ap, ◌∙◌, refl, arith, IfSome, IsNone}
-use Rattle.std.specs.Prelude.{option_map, option_and_then}
-use Rattle.std.proofs.lemmas.Option.{slice_get_within, slice_get-get_or}
-use Rattle.batch_recipe.specs.ActsAtNodes.{procedure_acts}
-use Rattle.batch_recipe.specs.Conditions.{Name}
-use Rattle.batch_recipe.specs.Expanding.{Binding, unbound, reserves_from, unit_count}
-use Rattle.batch_recipe.specs.Following.{Follower, firsts, following, follower}
-use Rattle.batch_recipe.specs.Followers.{level_at, is_in_chart_of_procedure, IsNext, named_among, IsFound, follower_of, IsFollowerAt}
-use Rattle.batch_recipe.specs.Links.{form_at}
-use Rattle.batch_recipe.specs.Nodes.{Node, reserves_of}
-use Rattle.batch_recipe.specs.Outlines.{Form, an_act, a_skip, a_seq, a_par, a_sel, a_loop, form_of}
-use Rattle.batch_recipe.specs.Places.{IsNodeAt}
-use Rattle.batch_recipe.specs.Procedure.{bound_nodes, bound_tree, procedure_nodes}
-use Rattle.batch_recipe.specs.Tree.{Place, Reserve, Tree, act, skip, seq, par, sel, loop}
-use Rattle.batch_recipe.specs.ActsAtNodes.{IsNoAct, IsNodeOf}
-use Rattle.batch_recipe.specs.declared.act.Act.{Act}
-use Rattle.batch_recipe.specs.declared.acts.LabelTable.{LabelTable}
-use Rattle.batch_recipe.specs.declared.entry.Entry.{Entry}
-use Rattle.batch_recipe.specs.declared.entry.Kind.{Kind}
+use Rattle.std.{specs.Prelude.option_map, specs.Prelude.option_and_then, proofs.lemmas.Option.slice_get_within, proofs.lemmas.Option.slice_get-get_or}
+use Rattle.batch_recipe.{specs.ActsAtNodes.procedure_acts, specs.Conditions.Name, specs.Expanding.Binding, specs.Expanding.unbound, specs.Expanding.reserves_from, specs.Expanding.unit_count, specs.Following.Follower, specs.Following.firsts, specs.Following.following, specs.Following.follower, specs.Followers.level_at, specs.Followers.is_in_chart_of_procedure, specs.Followers.IsNext, specs.Followers.named_among, specs.Followers.IsFound, specs.Followers.follower_of, specs.Followers.IsFollowerAt, specs.Links.form_at, specs.Nodes.Node, specs.Nodes.reserves_of, specs.Outlines.Form, specs.Outlines.an_act, specs.Outlines.a_skip, specs.Outlines.a_seq, specs.Outlines.a_par, specs.Outlines.a_sel, specs.Outlines.a_loop, specs.Outlines.form_of, specs.Places.IsNodeAt, specs.Procedure.bound_nodes, specs.Procedure.bound_tree, specs.Procedure.procedure_nodes, specs.Tree.Place, specs.Tree.Reserve, specs.Tree.Tree, specs.Tree.act, specs.Tree.skip, specs.Tree.seq, specs.Tree.par, specs.Tree.sel, specs.Tree.loop, specs.ActsAtNodes.IsNoAct, specs.ActsAtNodes.IsNodeOf, specs.declared.act.Act.Act, specs.declared.acts.LabelTable.LabelTable, specs.declared.entry.Entry.Entry, specs.declared.entry.Kind.Kind, specs.declared.recipe.Recipe.Recipe, proofs.NodeSubtrees.some_count, proofs.NodeSubtrees.ends_within, proofs.Followers.goes_up, proofs.Followers.ends_here, proofs.Followers.after_up, proofs.Followers.after_none, proofs.Followers.entered, proofs.Followers.not_entered, proofs.Followers.under, proofs.Followers.formed, proofs.Followers.ended, proofs.Followers.as_many, proofs.Followers.level_at_first, proofs.Followers.following_first, proofs.Followers.under_act, proofs.Followers.under_other, proofs.Followers.in_seq, proofs.Followers.act_of_node, proofs.Followers.IsLooking, proofs.Followers.looking, proofs.Followers.looking_first, proofs.Followers.looking_last, proofs.Followers.in_loop, proofs.Followers.seq_first, proofs.Followers.found_below, proofs.Followers.is_bare}
 use Rattle.batch_recipe.specs.declared.entry.Kind.TheVariants as kind
-use Rattle.batch_recipe.specs.declared.recipe.Recipe.{Recipe}
-use Rattle.batch_recipe.proofs.NodeSubtrees.{some_count, ends_within}
-use Rattle.batch_recipe.proofs.Followers.{goes_up, ends_here, after_up, after_none, entered, not_entered, under, formed, ended, as_many, level_at_first, following_first, under_act, under_other, in_seq, act_of_node, IsLooking, looking, looking_first, looking_last, in_loop, seq_first, found_below, is_bare}
 
 module _ (r : Recipe) where
   abbrev Entries : List Entry

@@ -1,32 +1,7 @@
 -- The followers of a node, by number: up from the node, and down from the next branch.
 use Rattle.std.proofs.Common.{◌≡◌, ◌≢◌, ◌⊎◌, inl, inr, ℕ, zero, suc, ◌+◌, ◌<◌, List, [], ◌∷◌, length, Bool, true, false, Option, Some, None, get_or, slice_get, sym, ap, ap₂, ◌∙◌, refl, subst, arith}
-use Rattle.std.specs.Option.{option_or}
-use Rattle.std.proofs.lemmas.List.Folds.{find-append}
-use Rattle.std.proofs.lemmas.Option.{slice_get_within, slice_get-get_or, slice_get_read}
-use Rattle.batch_recipe.specs.ActsAtNodes.{IsActAt, IsNoAct, IsNodeOf, procedure_acts}
-use Rattle.batch_recipe.specs.Children.{AreHere, HasBelow}
-use Rattle.batch_recipe.specs.Conditions.{Name, same_name}
-use Rattle.batch_recipe.specs.Expanding.{Binding}
-use Rattle.batch_recipe.specs.Following.{Follower, firsts, firsts_of_each, enter, branch, choice_at, child_of, level_within, next_after, following_below, following}
-use Rattle.batch_recipe.specs.Followers.{level_along, level_at, is_in_chart_of_procedure, named_among, IsFound, is_chart_named}
-use Rattle.batch_recipe.specs.Levels.{Level, is_procedure, in_procedure, in_unit_procedure, in_operation, below}
-use Rattle.batch_recipe.specs.Links.{form_at, IsBranch, IsChoice, IsChildTree, IsEntryOf, IsFirst, Hangs}
-use Rattle.batch_recipe.specs.Nodes.{Node, node, nodes, nodes_of_each, child, node_count, count_of_each}
-use Rattle.batch_recipe.specs.Outlines.{Form, an_act, a_skip, a_seq, a_par, a_sel, a_loop, form_of, shape_of}
-use Rattle.batch_recipe.specs.Procedure.{bound_nodes, bound_tree}
-use Rattle.batch_recipe.specs.Tree.{Place, Tree, act, skip, seq, par, sel, loop, runs, follows, Trees, no_trees, tree, Choices, otherwise, choice, is_before}
-use Rattle.batch_recipe.specs.declared.act.Act.{Act}
-use Rattle.batch_recipe.specs.declared.act.Work.{Work}
-use Rattle.batch_recipe.specs.declared.act.Work.TheVariants.{Follows, Runs}
-use Rattle.batch_recipe.specs.declared.entry.Entry.{Entry}
-use Rattle.batch_recipe.specs.declared.recipe.Recipe.{Recipe}
-use Rattle.batch_recipe.proofs.NodeSubtrees.{some_count, stands, has_below}
-use Rattle.batch_recipe.proofs.NodeNeeds.{acts_at}
-use Rattle.batch_recipe.proofs.NodesAbove.{entry_in, outlines}
-use Rattle.batch_recipe.proofs.OutlineLinks.{AreFrom, as_many_entries, from_left, from_right, from_tail}
-use Rattle.batch_recipe.proofs.NodeActs.{procedure_acts_are}
-use Rattle.batch_recipe.proofs.NodeOrder.{in_order, counted_nodes}
-use Rattle.batch_recipe.proofs.NodesBelow.{in_front, not_before}
+use Rattle.std.{specs.Option.option_or, proofs.lemmas.List.Folds.find-append, proofs.lemmas.Option.slice_get_within, proofs.lemmas.Option.slice_get-get_or, proofs.lemmas.Option.slice_get_read}
+use Rattle.batch_recipe.{specs.ActsAtNodes.IsActAt, specs.ActsAtNodes.IsNoAct, specs.ActsAtNodes.IsNodeOf, specs.ActsAtNodes.procedure_acts, specs.Children.AreHere, specs.Children.HasBelow, specs.Conditions.Name, specs.Conditions.same_name, specs.Expanding.Binding, specs.Following.Follower, specs.Following.firsts, specs.Following.firsts_of_each, specs.Following.enter, specs.Following.branch, specs.Following.choice_at, specs.Following.child_of, specs.Following.level_within, specs.Following.next_after, specs.Following.following_below, specs.Following.following, specs.Followers.level_along, specs.Followers.level_at, specs.Followers.is_in_chart_of_procedure, specs.Followers.named_among, specs.Followers.IsFound, specs.Followers.is_chart_named, specs.Levels.Level, specs.Levels.is_procedure, specs.Levels.in_procedure, specs.Levels.in_unit_procedure, specs.Levels.in_operation, specs.Levels.below, specs.Links.form_at, specs.Links.IsBranch, specs.Links.IsChoice, specs.Links.IsChildTree, specs.Links.IsEntryOf, specs.Links.IsFirst, specs.Links.Hangs, specs.Nodes.Node, specs.Nodes.node, specs.Nodes.nodes, specs.Nodes.nodes_of_each, specs.Nodes.child, specs.Nodes.node_count, specs.Nodes.count_of_each, specs.Outlines.Form, specs.Outlines.an_act, specs.Outlines.a_skip, specs.Outlines.a_seq, specs.Outlines.a_par, specs.Outlines.a_sel, specs.Outlines.a_loop, specs.Outlines.form_of, specs.Outlines.shape_of, specs.Procedure.bound_nodes, specs.Procedure.bound_tree, specs.Tree.Place, specs.Tree.Tree, specs.Tree.act, specs.Tree.skip, specs.Tree.seq, specs.Tree.par, specs.Tree.sel, specs.Tree.loop, specs.Tree.runs, specs.Tree.follows, specs.Tree.Trees, specs.Tree.no_trees, specs.Tree.tree, specs.Tree.Choices, specs.Tree.otherwise, specs.Tree.choice, specs.Tree.is_before, specs.declared.act.Act.Act, specs.declared.act.Work.Work, specs.declared.act.Work.TheVariants.Follows, specs.declared.act.Work.TheVariants.Runs, specs.declared.entry.Entry.Entry, specs.declared.recipe.Recipe.Recipe, proofs.NodeSubtrees.some_count, proofs.NodeSubtrees.stands, proofs.NodeSubtrees.has_below, proofs.NodeNeeds.acts_at, proofs.NodesAbove.entry_in, proofs.NodesAbove.outlines, proofs.OutlineLinks.AreFrom, proofs.OutlineLinks.as_many_entries, proofs.OutlineLinks.from_left, proofs.OutlineLinks.from_right, proofs.OutlineLinks.from_tail, proofs.NodeActs.procedure_acts_are, proofs.NodeOrder.in_order, proofs.NodeOrder.counted_nodes, proofs.NodesBelow.in_front, proofs.NodesBelow.not_before}
 
 -- Trees by place
 

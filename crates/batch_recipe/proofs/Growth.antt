@@ -1,24 +1,9 @@
 -- The entries added to an outline: a node with those below it, and branches one after another.
 use Rattle.std.proofs.Common.{◌≡◌, ℕ, suc, ◌+◌, ◌<◌, ◌≤◌, List, [], ◌∷◌, ◌++◌, map, get_or, drop, length, Option, Some, None, Result, Ok, Err, Bool, position, slice_get, sym, ap, ◌∙◌, refl, subst, arith, add-one, drop-cons, drop_of_length-le, length-append, append_assoc, append-nil}
-use Rattle.std.specs.List.{find}
-use Rattle.std.proofs.lemmas.Grind.{common_steps}
-use Rattle.std.proofs.lemmas.List.Folds.{find_at}
-use Rattle.std.proofs.lemmas.Option.{slice_get_past}
-use Rattle.batch_recipe.specs.Conditions.{Name}
+use Rattle.std.{specs.List.find, proofs.lemmas.Grind.common_steps, proofs.lemmas.List.Folds.find_at, proofs.lemmas.Option.slice_get_past}
+use Rattle.batch_recipe.specs.{Conditions.Name, Diagram.Diagram, Diagram.diagram_of, Diagram.cases_of, Procedure.table_at, Procedure.level_below, Growing.Head, Growing.Labels, Growing.LabelConditions, Growing.entry, Growing.topped, Growing.bare_entries, Growing.grown, Growing.grown_cases, Growing.grown_act, Growing.grown_named, Growing.levels_from, Growing.number_in, Growing.unit_number, Growing.conditions_along_cases, Growing.conditions_named, Growing.told_from, Growing.named_from, Growing.branch_entries, Growing.branch_conditions, Growing.chart_entries, Growing.chart_conditions, Growing.act_entries, Growing.act_conditions, Growing.HasBegun, Growing.HasEnded, Growing.HasGrown, Growing.HasAdded, declared.act.Act.Act, declared.acts.Acts.Acts, declared.acts.LabelTable.LabelTable, declared.chart.Chart.Chart, declared.condition.Cond.Cond, declared.entry.Entry.Entry, declared.outline_fault.OutlineFault.OutlineFault, declared.outline_fault.OutlineFault.TheVariants.TooMany, declared.outline_fault.OutlineFault.TheVariants.Memory, declared.recipe.TheConstants.MAX_NODES}
 use Rattle.batch_recipe.specs.Diagram as chart
-use Rattle.batch_recipe.specs.Diagram.{Diagram, diagram_of, cases_of}
-use Rattle.batch_recipe.specs.Procedure.{table_at, level_below}
-use Rattle.batch_recipe.specs.Growing.{Head, Labels, LabelConditions, entry, topped, bare_entries, grown, grown_cases, grown_act, grown_named, levels_from, number_in, unit_number, conditions_along_cases, conditions_named, told_from, named_from, branch_entries, branch_conditions, chart_entries, chart_conditions, act_entries, act_conditions, HasBegun, HasEnded, HasGrown, HasAdded}
-use Rattle.batch_recipe.specs.declared.act.Act.{Act}
-use Rattle.batch_recipe.specs.declared.acts.Acts.{Acts}
-use Rattle.batch_recipe.specs.declared.acts.LabelTable.{LabelTable}
-use Rattle.batch_recipe.specs.declared.chart.Chart.{Chart}
-use Rattle.batch_recipe.specs.declared.condition.Cond.{Cond}
-use Rattle.batch_recipe.specs.declared.entry.Entry.{Entry}
 use Rattle.batch_recipe.specs.declared.entry.Kind.TheVariants as kind
-use Rattle.batch_recipe.specs.declared.outline_fault.OutlineFault.{OutlineFault}
-use Rattle.batch_recipe.specs.declared.outline_fault.OutlineFault.TheVariants.{TooMany, Memory}
-use Rattle.batch_recipe.specs.declared.recipe.TheConstants.{MAX_NODES}
 
 -- the first that passes, by its number
 module _ {X : Type 0} (p : X → Bool) (xs : List X) where

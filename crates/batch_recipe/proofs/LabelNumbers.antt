@@ -1,13 +1,7 @@
 -- The number of an act by its name, in the table and among the names of the table.
 use Rattle.std.proofs.Common.{◌≡◌, ◌+◌, List, [], ◌∷◌, Bool, cond, not, Some, None, map, refl, ap, ap₂, ◌∙◌}
-use Rattle.std.specs.Prelude.{nat_lt, position}
-use Rattle.std.specs.List.{position_or_len}
-use Rattle.std.specs.Cmp.Lexicographic.{nat_list_eq_equiv}
-use Rattle.std.proofs.lemmas.List.{length-map}
-use Rattle.batch_recipe.specs.Conditions.{Name, same_name}
-use Rattle.batch_recipe.specs.Growing.{number_in}
-use Rattle.batch_recipe.specs.WellFormed.{act_names}
-use Rattle.batch_recipe.specs.declared.act.Act.{Act}
+use Rattle.std.{specs.Prelude.nat_lt, specs.Prelude.position, specs.List.position_or_len, specs.Cmp.Lexicographic.nat_list_eq_equiv, proofs.lemmas.List.length-map}
+use Rattle.batch_recipe.specs.{Conditions.Name, Conditions.same_name, Growing.number_in, WellFormed.act_names, declared.act.Act.Act}
 
 position-map : {X Y : Type 0} (p : Y → Bool) (f : X → Y) (xs : List X) → position p (map f xs) ≡ position (λ x. p (f x)) xs
 position-map {X} p f xs = ap₂ (λ a b. cond (nat_lt a b) (Some a) None) (go xs) (length-map xs f)

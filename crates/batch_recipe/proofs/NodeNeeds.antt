@@ -1,18 +1,6 @@
 -- The needs of the node of an entry.
 use Rattle.std.proofs.Common.{arith, ◌≡◌, ℕ, zero, suc, List, [], ◌∷◌, Option, Some, None, slice_get, subst}
-use Rattle.batch_recipe.specs.ActsAtNodes.{ActList, procedure_acts, AreActsAt, IsActAt, IsNoAct}
-use Rattle.batch_recipe.specs.Expanding.{Binding}
-use Rattle.batch_recipe.specs.Links.{asked_at}
-use Rattle.batch_recipe.specs.Nodes.{Node, needs_of}
-use Rattle.batch_recipe.specs.Outlines.{act_of_kind}
-use Rattle.batch_recipe.specs.Procedure.{sites, bound_nodes}
-use Rattle.batch_recipe.specs.Tree.{Tree}
-use Rattle.batch_recipe.specs.declared.act.Act.{Act}
-use Rattle.batch_recipe.specs.declared.acts.Acts.{Acts}
-use Rattle.batch_recipe.specs.declared.entry.Entry.{Entry}
-use Rattle.batch_recipe.specs.declared.recipe.Recipe.{Recipe}
-use Rattle.batch_recipe.proofs.NodeActs.{procedure_acts_are}
-use Rattle.batch_recipe.proofs.NodesAbove.{act_at}
+use Rattle.batch_recipe.{specs.ActsAtNodes.ActList, specs.ActsAtNodes.procedure_acts, specs.ActsAtNodes.AreActsAt, specs.ActsAtNodes.IsActAt, specs.ActsAtNodes.IsNoAct, specs.Expanding.Binding, specs.Links.asked_at, specs.Nodes.Node, specs.Nodes.needs_of, specs.Outlines.act_of_kind, specs.Procedure.sites, specs.Procedure.bound_nodes, specs.Tree.Tree, specs.declared.act.Act.Act, specs.declared.acts.Acts.Acts, specs.declared.entry.Entry.Entry, specs.declared.recipe.Recipe.Recipe, proofs.NodeActs.procedure_acts_are, proofs.NodesAbove.act_at}
 
 module _ (bound : Binding) (acts : Acts) where
   some_is : (a b : Option Act) → Some a ≡ Some b → a ≡ b

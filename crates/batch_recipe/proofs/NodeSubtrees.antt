@@ -1,17 +1,7 @@
 -- The tree at a node stands from the node's number on, and its subtrees right after it.
 use Rattle.std.proofs.Common.{◌≡◌, ℕ, zero, suc, ◌+◌, ◌-◌, ◌<◌, ◌≤◌, List, [], ◌∷◌, ◌++◌, length, Some, None, get_or, slice_get, sym, ap, ◌∙◌, refl, subst, arith}
-use Rattle.std.specs.List.{AllByRecursion}
-use Rattle.std.proofs.lemmas.Option.{slice_get_within, slice_get-get_or}
-use Rattle.batch_recipe.specs.Children.{IsHere, AreHere, AreCasesHere, IsBelow, HasBelow}
-use Rattle.batch_recipe.specs.Conditions.{Name}
-use Rattle.batch_recipe.specs.Expanding.{Binding}
-use Rattle.batch_recipe.specs.Needs.{resources_needed}
-use Rattle.batch_recipe.specs.Nodes.{Node, node, nodes, nodes_within, nodes_of_each, nodes_of_choices, child, node_count, count_of_each, count_of_choices}
-use Rattle.batch_recipe.specs.Tree.{Place, Tree, act, skip, seq, par, sel, loop, Task, runs, follows, Trees, no_trees, tree, Choices, otherwise, choice}
-use Rattle.batch_recipe.specs.Procedure.{bound_tree, bound_nodes}
-use Rattle.batch_recipe.specs.declared.acts.Acts.{Acts}
-use Rattle.batch_recipe.proofs.OutlineLinks.{AreFrom, from_left, from_right, from_tail, from_head}
-use Rattle.batch_recipe.proofs.NodeOrder.{counted_nodes, in_order}
+use Rattle.std.{specs.List.AllByRecursion, proofs.lemmas.Option.slice_get_within, proofs.lemmas.Option.slice_get-get_or}
+use Rattle.batch_recipe.{specs.Children.IsHere, specs.Children.AreHere, specs.Children.AreCasesHere, specs.Children.IsBelow, specs.Children.HasBelow, specs.Conditions.Name, specs.Expanding.Binding, specs.Needs.resources_needed, specs.Nodes.Node, specs.Nodes.node, specs.Nodes.nodes, specs.Nodes.nodes_within, specs.Nodes.nodes_of_each, specs.Nodes.nodes_of_choices, specs.Nodes.child, specs.Nodes.node_count, specs.Nodes.count_of_each, specs.Nodes.count_of_choices, specs.Tree.Place, specs.Tree.Tree, specs.Tree.act, specs.Tree.skip, specs.Tree.seq, specs.Tree.par, specs.Tree.sel, specs.Tree.loop, specs.Tree.Task, specs.Tree.runs, specs.Tree.follows, specs.Tree.Trees, specs.Tree.no_trees, specs.Tree.tree, specs.Tree.Choices, specs.Tree.otherwise, specs.Tree.choice, specs.Procedure.bound_tree, specs.Procedure.bound_nodes, specs.declared.acts.Acts.Acts, proofs.OutlineLinks.AreFrom, proofs.OutlineLinks.from_left, proofs.OutlineLinks.from_right, proofs.OutlineLinks.from_tail, proofs.OutlineLinks.from_head, proofs.NodeOrder.counted_nodes, proofs.NodeOrder.in_order}
 
 pub all_at : (P : Node → Type 0) (xs : List Node) → AllByRecursion P xs → (j : ℕ) (x : Node) → slice_get xs j ≡ Some x → P x
 all_at P [] h j x is = let bad : None ≡ Some x = is in absurd cc

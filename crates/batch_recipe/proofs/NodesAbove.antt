@@ -1,18 +1,7 @@
 -- The nodes above a node, from the node up.
 use Rattle.std.proofs.Common.{◌≡◌, ◌≢◌, ◌⊎◌, ℕ, ◌+◌, ◌-◌, ◌<◌, ◌≤◌, List, [], ◌∷◌, ◌++◌, length, Some, get_or, slice_get, sym, ap, ◌∙◌, refl, subst, arith, append-nil, append_assoc, length-append, inl, inr}
 use Rattle.std.proofs.lemmas.Option.{slice_get_read, slice_get_within, slice_get-get_or}
-use Rattle.batch_recipe.specs.Expanding.{Binding, unbound}
-use Rattle.batch_recipe.specs.Links.{IsEntryOf, IsFirst, Hangs}
-use Rattle.batch_recipe.specs.Nodes.{Node}
-use Rattle.batch_recipe.specs.Outlines.{IsOutline, act_of_kind, shape_of}
-use Rattle.batch_recipe.specs.ActsAtNodes.{procedure_acts}
-use Rattle.batch_recipe.specs.Procedure.{bound_nodes, procedure_nodes}
-use Rattle.batch_recipe.specs.Tree.{Place}
-use Rattle.batch_recipe.specs.declared.entry.Entry.{Entry}
-use Rattle.batch_recipe.specs.declared.recipe.Recipe.{Recipe}
-use Rattle.batch_recipe.proofs.OutlineLinks.{entry_of, as_many_entries, act_of_entry}
-use Rattle.batch_recipe.proofs.AppendedLists.{slice_get-right}
-use Rattle.batch_recipe.proofs.EntryShapes.{is_outline}
+use Rattle.batch_recipe.{specs.Expanding.Binding, specs.Expanding.unbound, specs.Links.IsEntryOf, specs.Links.IsFirst, specs.Links.Hangs, specs.Nodes.Node, specs.Outlines.IsOutline, specs.Outlines.act_of_kind, specs.Outlines.shape_of, specs.ActsAtNodes.procedure_acts, specs.Procedure.bound_nodes, specs.Procedure.procedure_nodes, specs.Tree.Place, specs.declared.entry.Entry.Entry, specs.declared.recipe.Recipe.Recipe, proofs.OutlineLinks.entry_of, proofs.OutlineLinks.as_many_entries, proofs.OutlineLinks.act_of_entry, proofs.AppendedLists.slice_get-right, proofs.EntryShapes.is_outline}
 
 module _ (r : Recipe) where
   abbrev pub ns : List Node

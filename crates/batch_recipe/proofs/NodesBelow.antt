@@ -1,21 +1,7 @@
 -- Which nodes stand below a node, by their places.
 use Rattle.std.proofs.Common.{◌≡◌, ◌≢◌, ◌⊎◌, inl, inr, ℕ, zero, suc, ◌+◌, ◌<◌, ◌≤◌, ◌++◌, List, [], ◌∷◌, length, Some, None, true, false, get_or, slice_get, take, drop, sym, ap, ◌∙◌, refl, subst, arith, add-one, append-nil, append_assoc, drop-cons, length-append}
-use Rattle.std.specs.List.{AllByRecursion}
-use Rattle.std.proofs.lemmas.List.{take-append-drop}
-use Rattle.std.proofs.lemmas.Option.{slice_get_within, slice_get-get_or}
-use Rattle.batch_recipe.specs.Expanding.{unbound}
-use Rattle.batch_recipe.specs.Links.{IsEntryOf, IsFirst, Hangs}
-use Rattle.batch_recipe.specs.Nodes.{Node, node, child, node_count}
-use Rattle.batch_recipe.specs.Outlines.{shape_of}
-use Rattle.batch_recipe.specs.Places.{AreInOrder, IsNodeAt, NoNodeAt}
-use Rattle.batch_recipe.specs.Procedure.{procedure_tree}
-use Rattle.batch_recipe.specs.Reaching.{IsChildOf, HasNoChild}
-use Rattle.batch_recipe.specs.Tree.{Place, is_before}
-use Rattle.batch_recipe.specs.declared.entry.Entry.{Entry}
-use Rattle.batch_recipe.specs.declared.recipe.Recipe.{Recipe}
-use Rattle.batch_recipe.proofs.NodeSubtrees.{all_at, ends_within, place_within, some_count}
-use Rattle.batch_recipe.proofs.NodesAbove.{ns, entry_at, as_many, read}
-use Rattle.batch_recipe.proofs.NodeOrder.{in_order, same_number}
+use Rattle.std.{specs.List.AllByRecursion, proofs.lemmas.List.take-append-drop, proofs.lemmas.Option.slice_get_within, proofs.lemmas.Option.slice_get-get_or}
+use Rattle.batch_recipe.{specs.Expanding.unbound, specs.Links.IsEntryOf, specs.Links.IsFirst, specs.Links.Hangs, specs.Nodes.Node, specs.Nodes.node, specs.Nodes.child, specs.Nodes.node_count, specs.Outlines.shape_of, specs.Places.AreInOrder, specs.Places.IsNodeAt, specs.Places.NoNodeAt, specs.Procedure.procedure_tree, specs.Reaching.IsChildOf, specs.Reaching.HasNoChild, specs.Tree.Place, specs.Tree.is_before, specs.declared.entry.Entry.Entry, specs.declared.recipe.Recipe.Recipe, proofs.NodeSubtrees.all_at, proofs.NodeSubtrees.ends_within, proofs.NodeSubtrees.place_within, proofs.NodeSubtrees.some_count, proofs.NodesAbove.ns, proofs.NodesAbove.entry_at, proofs.NodesAbove.as_many, proofs.NodesAbove.read, proofs.NodeOrder.in_order, proofs.NodeOrder.same_number}
 
 all_from : (P : Node → Type 0) (xs : List Node) → ((j : ℕ) (x : Node) → slice_get xs j ≡ Some x → P x) → AllByRecursion P xs
 all_from P [] h = tt

@@ -1,23 +1,7 @@
 -- How the nodes of an outline hang together.
 use Rattle.std.proofs.Common.{◌≡◌, ℕ, zero, suc, ◌+◌, ◌<◌, ◌≤◌, List, [], ◌∷◌, ◌++◌, length, Some, None, slice_get, sym, ap, ◌∙◌, refl, subst, arith, append-nil, inl, inr}
-use Rattle.std.specs.Option.{option_map}
-use Rattle.std.proofs.lemmas.List.{length-map}
-use Rattle.std.proofs.lemmas.Option.{slice_get-map}
-use Rattle.batch_recipe.specs.ActsAtNodes.{procedure_acts}
-use Rattle.batch_recipe.specs.Conditions.{Name}
-use Rattle.batch_recipe.specs.Expanding.{Binding}
-use Rattle.batch_recipe.specs.Needs.{resources_needed}
-use Rattle.batch_recipe.specs.Nodes.{Node, node, nodes, nodes_within, nodes_of_each, nodes_of_choices, child, needs_of, node_count, count_within, count_of_each, count_of_choices}
-use Rattle.batch_recipe.specs.Outlines.{Shape, act_of_kind, shape_of, shape, shapes, shapes_within, shapes_of_each, shapes_of_choices, IsOutline}
-use Rattle.batch_recipe.specs.Links.{form_at, IsShaped, Hangs, IsEntryOf, IsBranch, IsChoice, IsOnlyChild, IsChildTree}
-use Rattle.batch_recipe.specs.Procedure.{bound_tree, bound_nodes}
-use Rattle.batch_recipe.specs.Tree.{Place, Tree, act, skip, seq, par, sel, loop, Task, runs, follows, Trees, no_trees, tree, Choices, otherwise, choice}
-use Rattle.batch_recipe.specs.declared.acts.Acts.{Acts}
-use Rattle.batch_recipe.specs.declared.condition.Cond.{Cond}
-use Rattle.batch_recipe.specs.declared.entry.Entry.{Entry}
-use Rattle.batch_recipe.proofs.NodeOrder.{counted_nodes}
-use Rattle.batch_recipe.proofs.AppendedLists.{slice_get-left, slice_get-right}
-use Rattle.batch_recipe.proofs.EntryShapes.{shapes_counted}
+use Rattle.std.{specs.Option.option_map, proofs.lemmas.List.length-map, proofs.lemmas.Option.slice_get-map}
+use Rattle.batch_recipe.{specs.ActsAtNodes.procedure_acts, specs.Conditions.Name, specs.Expanding.Binding, specs.Needs.resources_needed, specs.Nodes.Node, specs.Nodes.node, specs.Nodes.nodes, specs.Nodes.nodes_within, specs.Nodes.nodes_of_each, specs.Nodes.nodes_of_choices, specs.Nodes.child, specs.Nodes.needs_of, specs.Nodes.node_count, specs.Nodes.count_within, specs.Nodes.count_of_each, specs.Nodes.count_of_choices, specs.Outlines.Shape, specs.Outlines.act_of_kind, specs.Outlines.shape_of, specs.Outlines.shape, specs.Outlines.shapes, specs.Outlines.shapes_within, specs.Outlines.shapes_of_each, specs.Outlines.shapes_of_choices, specs.Outlines.IsOutline, specs.Links.form_at, specs.Links.IsShaped, specs.Links.Hangs, specs.Links.IsEntryOf, specs.Links.IsBranch, specs.Links.IsChoice, specs.Links.IsOnlyChild, specs.Links.IsChildTree, specs.Procedure.bound_tree, specs.Procedure.bound_nodes, specs.Tree.Place, specs.Tree.Tree, specs.Tree.act, specs.Tree.skip, specs.Tree.seq, specs.Tree.par, specs.Tree.sel, specs.Tree.loop, specs.Tree.Task, specs.Tree.runs, specs.Tree.follows, specs.Tree.Trees, specs.Tree.no_trees, specs.Tree.tree, specs.Tree.Choices, specs.Tree.otherwise, specs.Tree.choice, specs.declared.acts.Acts.Acts, specs.declared.condition.Cond.Cond, specs.declared.entry.Entry.Entry, proofs.NodeOrder.counted_nodes, proofs.AppendedLists.slice_get-left, proofs.AppendedLists.slice_get-right, proofs.EntryShapes.shapes_counted}
 
 module _ (ns : List Node) where
   -- these are the nodes from number n on

@@ -1,9 +1,7 @@
 -- The text of a place grows by a number at a time.
 use Rattle.std.proofs.Common.{◌≡◌, ℕ, zero, suc, ◌+◌, ◌<◌, ◌≤◌, ◌++◌, List, [], ◌∷◌, length, take, slice_get, Some, None, unwrap_or, option_map, codes, decimal, ap, sym, ◌∙◌, refl, subst, arith, append_assoc}
 use Rattle.std.proofs.lemmas.List.{length-take-le, take_all}
-use Rattle.batch_recipe.specs.Tree.{Place}
-use Rattle.batch_recipe.specs.Nodes.{Node}
-use Rattle.batch_recipe.specs.Texts.{dot_text, place_text}
+use Rattle.batch_recipe.specs.{Tree.Place, Nodes.Node, Texts.dot_text, Texts.place_text}
 
 -- the numbers up to and with the one at depth d
 take_next : (p : Place) (d n : ℕ) → slice_get p d ≡ Some n → (d < length p) × (take (d + 1) p ≡ take d p ++ n ∷ [])

@@ -1,18 +1,8 @@
 -- Nodes stand at the same places whatever units take the roles.
 use Rattle.std.proofs.Common.{arith, ◌≡◌, refl, sym, ◌∙◌, ap, ap₂, ℕ, ◌+◌, List, [], ◌∷◌, ◌++◌, map, Option, Some, None}
 use Rattle.std.proofs.lemmas.List.{map-append}
-use Rattle.batch_recipe.specs.Conditions.{Name}
+use Rattle.batch_recipe.specs.{Conditions.Name, Diagram.Diagram, Diagram.Diagrams, Diagram.Cases, Diagram.diagram_of, Expanding.Binding, Expanding.unbound, Expanding.Sites, Expanding.expanded, Expanding.expanded_each, Expanding.expanded_cases, Expanding.task_of, Expanding.act_named, Expanding.act_tree_with, Expanding.named_tree_with, Nodes.Node, Nodes.child, Nodes.nodes, Nodes.nodes_within, Nodes.nodes_of_each, Nodes.nodes_of_choices, Procedure.sites, Procedure.bound_tree, Procedure.procedure_nodes, Procedure.tables_from, Tree.Place, Tree.Tree, Tree.skip, declared.act.Act.Act, declared.acts.Acts.Acts, declared.acts.LabelTable.TheVariants.UnitProcedures, declared.act.Work.Work, declared.act.Work.TheVariants.Follows, declared.act.Work.TheVariants.Runs}
 use Rattle.batch_recipe.specs.Diagram as chart
-use Rattle.batch_recipe.specs.Diagram.{Diagram, Diagrams, Cases, diagram_of}
-use Rattle.batch_recipe.specs.Expanding.{Binding, unbound, Sites, expanded, expanded_each, expanded_cases, task_of, act_named, act_tree_with, named_tree_with}
-use Rattle.batch_recipe.specs.Nodes.{Node, child, nodes, nodes_within, nodes_of_each, nodes_of_choices}
-use Rattle.batch_recipe.specs.Procedure.{sites, bound_tree, procedure_nodes, tables_from}
-use Rattle.batch_recipe.specs.Tree.{Place, Tree, skip}
-use Rattle.batch_recipe.specs.declared.act.Act.{Act}
-use Rattle.batch_recipe.specs.declared.acts.Acts.{Acts}
-use Rattle.batch_recipe.specs.declared.acts.LabelTable.TheVariants.{UnitProcedures}
-use Rattle.batch_recipe.specs.declared.act.Work.{Work}
-use Rattle.batch_recipe.specs.declared.act.Work.TheVariants.{Follows, Runs}
 
 abbrev places : List Node → List Place
 places ns = map (λ n. n.place) ns

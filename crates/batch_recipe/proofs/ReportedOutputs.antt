@@ -1,19 +1,7 @@
 -- The outputs that the phase of a node reports are those of its act.
 use Rattle.std.proofs.Common.{◌≡◌, ℕ, zero, suc, ◌<◌, ◌≤◌, List, [], ◌∷◌, length, slice_get, Option, Some, None, ap, sym, ◌∙◌, refl, inl, inr}
-use Rattle.std.proofs.lemmas.Bool.{cases_lt}
-use Rattle.std.proofs.lemmas.Option.{slice_get_past}
-use Rattle.batch_recipe.specs.ActsAtNodes.{ActList, AreActsAt, IsActAt, IsNoAct, procedure_acts}
-use Rattle.batch_recipe.specs.Conditions.{Name}
-use Rattle.batch_recipe.specs.Expanding.{Binding, unbound, act_tree_with, named_tree_with}
-use Rattle.batch_recipe.specs.Nodes.{Node, reports_in, reports_of}
-use Rattle.batch_recipe.specs.Procedure.{sites, bound_nodes, procedure_nodes, tables_from}
-use Rattle.batch_recipe.specs.Tree.{Place, Tree, act, skip, seq, par, sel, loop}
-use Rattle.batch_recipe.specs.WellFormed.{reports_with}
-use Rattle.batch_recipe.specs.declared.act.Act.{Act}
-use Rattle.batch_recipe.specs.declared.act.Work.{Work}
-use Rattle.batch_recipe.specs.declared.act.Work.TheVariants.{Follows, Runs}
-use Rattle.batch_recipe.specs.declared.acts.Acts.{Acts}
-use Rattle.batch_recipe.proofs.NodeActs.{procedure_acts_are}
+use Rattle.std.proofs.lemmas.{Bool.cases_lt, Option.slice_get_past}
+use Rattle.batch_recipe.{specs.ActsAtNodes.ActList, specs.ActsAtNodes.AreActsAt, specs.ActsAtNodes.IsActAt, specs.ActsAtNodes.IsNoAct, specs.ActsAtNodes.procedure_acts, specs.Conditions.Name, specs.Expanding.Binding, specs.Expanding.unbound, specs.Expanding.act_tree_with, specs.Expanding.named_tree_with, specs.Nodes.Node, specs.Nodes.reports_in, specs.Nodes.reports_of, specs.Procedure.sites, specs.Procedure.bound_nodes, specs.Procedure.procedure_nodes, specs.Procedure.tables_from, specs.Tree.Place, specs.Tree.Tree, specs.Tree.act, specs.Tree.skip, specs.Tree.seq, specs.Tree.par, specs.Tree.sel, specs.Tree.loop, specs.WellFormed.reports_with, specs.declared.act.Act.Act, specs.declared.act.Work.Work, specs.declared.act.Work.TheVariants.Follows, specs.declared.act.Work.TheVariants.Runs, specs.declared.acts.Acts.Acts, proofs.NodeActs.procedure_acts_are}
 
 abbrev pub act_reports : Option Act → List Name
 act_reports None = []

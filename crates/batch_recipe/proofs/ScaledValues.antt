@@ -1,7 +1,6 @@
 -- A scaled value is the whole number nearest to its quotient, and the only one.
 use Rattle.std.proofs.Common.{◌≡◌, ℕ, ◌+◌, ◌*◌, ◌≤◌, ◌<◌, arith}
-use Rattle.std.proofs.Math.Nat.{mul-div-le, lt-mul-div-succ, div-eq_of_lt-le}
-use Rattle.std.proofs.lemmas.Nat.{mul-le}
+use Rattle.std.proofs.{Math.Nat.mul-div-le, Math.Nat.lt-mul-div-succ, Math.Nat.div-eq_of_lt-le, lemmas.Nat.mul-le}
 use Rattle.batch_recipe.specs.Scale.{IsScaled, scaled}
 
 pub scaled_is : (value size basis : ℕ) → 0 < basis → IsScaled value size basis (scaled value size basis)

@@ -1,9 +1,7 @@
 -- Values that are set one after another.
-use Rattle.std.specs.Cmp.Lexicographic.{bytes_decides}
+use Rattle.std.specs.{Cmp.Lexicographic.bytes_decides, Prelude.slice_get}
 use Rattle.std.proofs.Common.{◌≡◌, ◌+◌, refl, sym, ◌∙◌, ap, ℕ, zero, suc, List, [], ◌∷◌, Option, Some, true, false, arith, take, ◌++◌}
-use Rattle.batch_recipe.specs.Conditions.{Name, ValueList, same_name}
-use Rattle.batch_recipe.specs.Values.{with_value, with_values}
-use Rattle.std.specs.Prelude.{slice_get}
+use Rattle.batch_recipe.specs.{Conditions.Name, Conditions.ValueList, Conditions.same_name, Values.with_value, Values.with_values}
 
 more : (n : ℕ) → suc n ≡ n + 1
 more n = omega arith

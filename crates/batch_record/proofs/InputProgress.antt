@@ -1,16 +1,8 @@
 -- How far reading has come.
 use Rattle.std.proofs.Common.{◌≡◌, ℕ, ◌+◌, ◌-◌, ◌^◌, ◌<◌, false, eqb, List, [], ◌∷◌, ◌++◌, length, take, drop, min, Option, Some, None, Result, Ok, IfSome, refl, sym, ap, subst, ◌∙◌, append_assoc, append-nil, arith}
-use Rattle.std.proofs.lemmas.List.{drop_more, take-append-drop, take_rest}
-use Rattle.std.proofs.lemmas.List.Elements.{All-append}
-use Rattle.std.proofs.KnownBytes.{Consumes-trans, Consumes-whole}
-use Rattle.std.specs.Io.KnownBytes.{Consumes, IsAtEnd, ReadConsumes}
+use Rattle.std.{proofs.lemmas.List.drop_more, proofs.lemmas.List.take-append-drop, proofs.lemmas.List.take_rest, proofs.lemmas.List.Elements.All-append, proofs.KnownBytes.Consumes-trans, proofs.KnownBytes.Consumes-whole, specs.Io.KnownBytes.Consumes, specs.Io.KnownBytes.IsAtEnd, specs.Io.KnownBytes.ReadConsumes}
 use Rattle.batch_model.specs.Lists.{Each}
-use Rattle.batch_record.specs.Blocks.{Stage, opening_stage, stage_after, stages}
-use Rattle.batch_record.specs.Kept.{Keeps}
-use Rattle.batch_record.specs.StatusReading.{HasNoFeed, IsRefusedAt, LeadsTo, lines_text}
-use Rattle.batch_record.specs.Standings.{EndsLine, HasRead, IsAt}
-use Rattle.batch_record.specs.declared.course.Course.{Course}
-use Rattle.batch_record.specs.declared.status_reading.Reading.{Reading}
+use Rattle.batch_record.specs.{Blocks.Stage, Blocks.opening_stage, Blocks.stage_after, Blocks.stages, Kept.Keeps, StatusReading.HasNoFeed, StatusReading.IsRefusedAt, StatusReading.LeadsTo, StatusReading.lines_text, Standings.EndsLine, Standings.HasRead, Standings.IsAt, declared.course.Course.Course, declared.status_reading.Reading.Reading}
 
 -- A line more
 

@@ -1,9 +1,6 @@
 -- The words of a line, from its front: the first word, up to a space, and the only word of a line without a space.
 use Rattle.std.proofs.Common.{◌≡◌, ℕ, ◌+◌, ◌<◌, true, false, List, [], ◌∷◌, length, take, drop, ◌-◌, subst, get_or, sym, ap, ◌∙◌, arith}
-use Rattle.std.specs.List.{position_or_len}
-use Rattle.std.proofs.lemmas.List.{take_rest, get_or_default}
-use Rattle.std.proofs.lemmas.List.Sums.{position_or_len_is}
-use Rattle.std.proofs.lemmas.List.Splits.{slice_split_first, slice_split_none}
+use Rattle.std.{specs.List.position_or_len, proofs.lemmas.List.take_rest, proofs.lemmas.List.get_or_default, proofs.lemmas.List.Sums.position_or_len_is, proofs.lemmas.List.Splits.slice_split_first, proofs.lemmas.List.Splits.slice_split_none}
 use Rattle.batch_wire.specs.EventLine.{is_space}
 use Rattle.batch_record.specs.RecordLine.{line_words}
 

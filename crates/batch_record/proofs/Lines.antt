@@ -1,14 +1,8 @@
 -- Lines of a record, one after the other.
 use Rattle.std.proofs.Common.{◌≡◌, ℕ, ◌+◌, ◌-◌, ◌^◌, List, [], ◌∷◌, ◌++◌, length, take, drop, min, Option, Some, None, true, false, Bool, refl, sym, ap, ◌∙◌, append_assoc, option_map}
 use Rattle.std.proofs.lemmas.List.{drop_more, take-append-drop}
-use Rattle.batch_model.specs.Lists.{Each}
-use Rattle.batch_record.specs.Laws.{is_passed_over}
-use Rattle.batch_record.specs.RecordLine.{out_of_line}
-use Rattle.batch_model.specs.Runs.{Out}
-use Rattle.batch_record.specs.Blocks.{Stage, mark_of, stage_after_mark, opening_stage, stage_after, stages, stage_after_out}
-use Rattle.batch_record.specs.StatusReading.{HasNoFeed, IsRefusedAt, LeadsTo, lines_text}
-use Rattle.batch_record.specs.Taking.{EndsLine}
-use Rattle.batch_record.proofs.InputProgress.{each-more, text-more, length-more, counted-more}
+use Rattle.batch_model.specs.{Lists.Each, Runs.Out}
+use Rattle.batch_record.{specs.Laws.is_passed_over, specs.RecordLine.out_of_line, specs.Blocks.Stage, specs.Blocks.mark_of, specs.Blocks.stage_after_mark, specs.Blocks.opening_stage, specs.Blocks.stage_after, specs.Blocks.stages, specs.Blocks.stage_after_out, specs.StatusReading.HasNoFeed, specs.StatusReading.IsRefusedAt, specs.StatusReading.LeadsTo, specs.StatusReading.lines_text, specs.Taking.EndsLine, proofs.InputProgress.each-more, proofs.InputProgress.text-more, proofs.InputProgress.length-more, proofs.InputProgress.counted-more}
 
 -- A line more
 

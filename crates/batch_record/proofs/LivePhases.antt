@@ -1,17 +1,9 @@
 -- Live phases that change and end, as they are kept and by the record.
 use Rattle.std.proofs.Common.{◌≡◌, ℕ, Bool, true, false, not, List, [], ◌∷◌, ◌++◌, map, filter, refl, sym, ap, ◌∙◌}
-use Rattle.batch_matrix.specs.declared.command.Command.{Command}
-use Rattle.batch_matrix.specs.declared.report.Report.{Report}
-use Rattle.batch_matrix.specs.declared.state.State.{State}
+use Rattle.batch_matrix.specs.declared.{command.Command.Command, report.Report.Report, state.State.State}
 use Rattle.batch_recipe.specs.Conditions.{Name}
-use Rattle.batch_model.specs.Plant.{BatchAct, is_same_act}
-use Rattle.batch_model.specs.Events.{reported}
-use Rattle.batch_model.specs.Records.{ends_phase}
-use Rattle.batch_model.specs.Runs.{reply}
-use Rattle.batch_record.specs.Telling.{is_at, led_by, moved_at, said_by}
-use Rattle.batch_record.specs.Kept.{kept_live, lives_of, is_elsewhere, LiveAfter, phase_changed, changed_by}
-use Rattle.batch_record.specs.declared.live.Change.{Change}
-use Rattle.batch_record.specs.declared.live.LivePhase.{LivePhase}
+use Rattle.batch_model.specs.{Plant.BatchAct, Plant.is_same_act, Events.reported, Records.ends_phase, Runs.reply}
+use Rattle.batch_record.specs.{Telling.is_at, Telling.led_by, Telling.moved_at, Telling.said_by, Kept.kept_live, Kept.lives_of, Kept.is_elsewhere, Kept.LiveAfter, Kept.phase_changed, Kept.changed_by, declared.live.Change.Change, declared.live.LivePhase.LivePhase}
 
 -- a kept list, and its view, without some of its items
 module _ {X Y : Type 0} (f : X → Y) (p : X → Bool) (q : Y → Bool) (h : (x : X) → q (f x) ≡ p x) where

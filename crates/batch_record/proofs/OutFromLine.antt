@@ -1,12 +1,8 @@
 -- The out that is read from a line is the one that the line tells.
 use Rattle.std.proofs.Common.{◌≡◌, ℕ, List, Option, Some, None, sym, subst}
 use Rattle.std.specs.Prelude.{MatchOption}
-use Rattle.batch_record.specs.RecordLine.{out_of_line}
-use Rattle.batch_record.specs.Reading.{GivesAsDefined, out_told}
-use Rattle.batch_record.specs.Laws.{TellsOut, TellsNothing}
-use Rattle.batch_record.specs.declared.told.Told.{Told}
+use Rattle.batch_record.{specs.RecordLine.out_of_line, specs.Reading.GivesAsDefined, specs.Reading.out_told, specs.Laws.TellsOut, specs.Laws.TellsNothing, specs.declared.told.Told.Told, proofs.OutFromWords.line-tells, proofs.OutFromWords.line-no_out}
 use Rattle.batch_model.specs.Runs.{Out}
-use Rattle.batch_record.proofs.OutFromWords.{line-tells, line-no_out}
 
 pub told-back : (r : Option Told) (line : List ℕ) → GivesAsDefined out_told r (out_of_line line) → MatchOption r (TellsNothing line) (λ told. TellsOut line (out_told told))
 told-back None line e = line-no_out line e

@@ -1,30 +1,12 @@
 -- An out is read again from its words, and from its line.
 use Rattle.std.proofs.Common.{◌≡◌, ℕ, ◌<◌, Bool, true, false, if◌then◌else◌, List, [], ◌∷◌, ◌++◌, length, map, decimal, codes, Some, None, refl, sym, ap, ◌∙◌, arith, append_assoc}
-use Rattle.std.proofs.lemmas.List.{append_cancel_right}
-use Rattle.std.proofs.lemmas.List.Splits.{join_with_byte-slice_split}
-use Rattle.std.proofs.lemmas.Bool.{and_from}
-use Rattle.std.specs.Prelude.{option_map}
-use Rattle.std.specs.List.{list_all, join_with_byte}
-use Rattle.batch_text.specs.NumberText.{number_of}
-use Rattle.batch_text.specs.PlaceText.{numbers_of}
-use Rattle.batch_matrix.specs.declared.state.State.{State}
-use Rattle.batch_matrix.specs.declared.command.Command.{Command}
-use Rattle.batch_recipe.specs.Texts.{place_text, line_text}
-use Rattle.batch_recipe.specs.Tree.{Place}
-use Rattle.batch_recipe.specs.declared.need.Need.{Need}
-use Rattle.batch_model.specs.Runs.{Out, reply, move}
-use Rattle.batch_model.specs.Moves.{Move, send, state, release, begin, start, end, pass, ask, grant}
-use Rattle.batch_model.specs.Events.{Reply, created, ordered, reported, refused, Refusal, unknown_recipe, unknown_batch, command_not_accepted, no_live_phase, report_not_expected, bad_output, output_left_out, bad_binding, bad_size, bad_value, full, not_idle, moves_pending, no_memory, removed}
-use Rattle.batch_wire.specs.EventLine.{command_of, role_pair_of}
-use Rattle.batch_wire.specs.RecordText.{state_text, command_text, need_text, value_texts, role_texts, refusal_words, reply_words, move_words, out_words}
-use Rattle.batch_record.specs.Naming.{IsShort, IsAct, IsClaim, IsPhaseStep, IsNamed, IsNamedReply, IsNamedMove, IsNamedRefusal, as_told}
-use Rattle.batch_record.specs.RecordLine.{state_of_word, ClaimTold, claim_with, claim_told_of, batch_state_with, batch_state_of, report_with, PhaseTold, phase_with, sent_with, started_with, because, refusal_of_words, passed_with, asked_out, granted_out, released_out, passed_out, stated_out, obeyed_out, report_out, sent_out, started_out, begun_out, ended_out, created_out, refused_out, out_of_words, out_of_line, line_words}
-use Rattle.batch_record.specs.Laws.{IsLineOf, TellsOut, TellsNothing, TextIsOne}
-use Rattle.batch_record.proofs.AbsentBytes.{lacks, split-joined, name-no_space}
-use Rattle.batch_record.proofs.Numerals.{read-again, decimal-no_space}
-use Rattle.batch_record.proofs.Places.{place-read, place-no_space}
-use Rattle.batch_record.proofs.WordRoundTrips.{state-read, state-no_space, command-read, command-no_space, report-read, report-no_space, name-test, same, need-read, need-no_space, values-read, values-no_space, roles-read, roles-no_space}
-use Rattle.batch_record.proofs.WordsOfOut.{words-tell}
+use Rattle.std.{proofs.lemmas.List.append_cancel_right, proofs.lemmas.List.Splits.join_with_byte-slice_split, proofs.lemmas.Bool.and_from, specs.Prelude.option_map, specs.List.list_all, specs.List.join_with_byte}
+use Rattle.batch_text.specs.{NumberText.number_of, PlaceText.numbers_of}
+use Rattle.batch_matrix.specs.declared.{state.State.State, command.Command.Command}
+use Rattle.batch_recipe.specs.{Texts.place_text, Texts.line_text, Tree.Place, declared.need.Need.Need}
+use Rattle.batch_model.specs.{Runs.Out, Runs.reply, Runs.move, Moves.Move, Moves.send, Moves.state, Moves.release, Moves.begin, Moves.start, Moves.end, Moves.pass, Moves.ask, Moves.grant, Events.Reply, Events.created, Events.ordered, Events.reported, Events.refused, Events.Refusal, Events.unknown_recipe, Events.unknown_batch, Events.command_not_accepted, Events.no_live_phase, Events.report_not_expected, Events.bad_output, Events.output_left_out, Events.bad_binding, Events.bad_size, Events.bad_value, Events.full, Events.not_idle, Events.moves_pending, Events.no_memory, Events.removed}
+use Rattle.batch_wire.specs.{EventLine.command_of, EventLine.role_pair_of, RecordText.state_text, RecordText.command_text, RecordText.need_text, RecordText.value_texts, RecordText.role_texts, RecordText.refusal_words, RecordText.reply_words, RecordText.move_words, RecordText.out_words}
+use Rattle.batch_record.{specs.Naming.IsShort, specs.Naming.IsAct, specs.Naming.IsClaim, specs.Naming.IsPhaseStep, specs.Naming.IsNamed, specs.Naming.IsNamedReply, specs.Naming.IsNamedMove, specs.Naming.IsNamedRefusal, specs.Naming.as_told, specs.RecordLine.state_of_word, specs.RecordLine.ClaimTold, specs.RecordLine.claim_with, specs.RecordLine.claim_told_of, specs.RecordLine.batch_state_with, specs.RecordLine.batch_state_of, specs.RecordLine.report_with, specs.RecordLine.PhaseTold, specs.RecordLine.phase_with, specs.RecordLine.sent_with, specs.RecordLine.started_with, specs.RecordLine.because, specs.RecordLine.refusal_of_words, specs.RecordLine.passed_with, specs.RecordLine.asked_out, specs.RecordLine.granted_out, specs.RecordLine.released_out, specs.RecordLine.passed_out, specs.RecordLine.stated_out, specs.RecordLine.obeyed_out, specs.RecordLine.report_out, specs.RecordLine.sent_out, specs.RecordLine.started_out, specs.RecordLine.begun_out, specs.RecordLine.ended_out, specs.RecordLine.created_out, specs.RecordLine.refused_out, specs.RecordLine.out_of_words, specs.RecordLine.out_of_line, specs.RecordLine.line_words, specs.Laws.IsLineOf, specs.Laws.TellsOut, specs.Laws.TellsNothing, specs.Laws.TextIsOne, proofs.AbsentBytes.lacks, proofs.AbsentBytes.split-joined, proofs.AbsentBytes.name-no_space, proofs.Numerals.read-again, proofs.Numerals.decimal-no_space, proofs.Places.place-read, proofs.Places.place-no_space, proofs.WordRoundTrips.state-read, proofs.WordRoundTrips.state-no_space, proofs.WordRoundTrips.command-read, proofs.WordRoundTrips.command-no_space, proofs.WordRoundTrips.report-read, proofs.WordRoundTrips.report-no_space, proofs.WordRoundTrips.name-test, proofs.WordRoundTrips.same, proofs.WordRoundTrips.need-read, proofs.WordRoundTrips.need-no_space, proofs.WordRoundTrips.values-read, proofs.WordRoundTrips.values-no_space, proofs.WordRoundTrips.roles-read, proofs.WordRoundTrips.roles-no_space, proofs.WordsOfOut.words-tell}
 
 taken : {A : Type 0} (b : Bool) (a c : A) → b ≡ true → a ≡ c → (if b then Some a else None) ≡ Some c
 taken true a c e is = ap Some is

@@ -1,13 +1,8 @@
 -- Lines that are passed over are the text of no out.
 use Rattle.std.proofs.Common.{◌≡◌, ℕ, Bool, true, false, ◌||◌, List, [], ◌∷◌, codes, None, refl, sym, subst}
-use Rattle.std.proofs.lemmas.Bool.{eqb-true}
-use Rattle.std.specs.List.{slice_split, onto_first}
-use Rattle.std.specs.Str.{bytes_eq}
+use Rattle.std.{proofs.lemmas.Bool.eqb-true, specs.List.slice_split, specs.List.onto_first, specs.Str.bytes_eq}
 use Rattle.batch_wire.specs.EventLine.{is_space, is_comment}
-use Rattle.batch_record.specs.RecordLine.{out_of_words, out_of_line}
-use Rattle.batch_record.specs.Laws.{is_fault_line, is_passed_over, TellsNothing}
-use Rattle.batch_record.proofs.WordRoundTrips.{is_word}
-use Rattle.batch_record.proofs.OutFromWords.{line-no_out}
+use Rattle.batch_record.{specs.RecordLine.out_of_words, specs.RecordLine.out_of_line, specs.Laws.is_fault_line, specs.Laws.is_passed_over, specs.Laws.TellsNothing, proofs.WordRoundTrips.is_word, proofs.OutFromWords.line-no_out}
 
 by_parts : (parts : List (List ℕ)) → out_of_words (onto_first 35 parts) ≡ None
 by_parts [] = refl

@@ -1,23 +1,9 @@
 -- The lines of outs give the same state as the outs.
 use Rattle.std.proofs.Common.{◌≡◌, inl, inr, ℕ, Bool, true, false, List, [], ◌∷◌, ◌++◌, fold, map, filter, not, Option, Some, None, option_map, refl, sym, ap, subst, ◌∙◌, nat_eq}
-use Rattle.batch_model.specs.Moves.{send, state, release, begin, start, end, pass, ask, grant}
-use Rattle.batch_model.specs.Events.{created, ordered, removed, reported, refused}
-use Rattle.batch_model.specs.Plant.{BatchAct, is_same_act}
-use Rattle.batch_model.specs.Records.{Active, active_after, ends_phase, holders_after, state_after, waiters_after}
-use Rattle.batch_model.specs.Runs.{Out, reply, move}
-use Rattle.batch_matrix.specs.declared.report.Report.{Report}
-use Rattle.batch_matrix.specs.declared.state.State.{State}
-use Rattle.batch_matrix.specs.declared.state.State.TheVariants.{Idle}
+use Rattle.batch_model.specs.{Moves.send, Moves.state, Moves.release, Moves.begin, Moves.start, Moves.end, Moves.pass, Moves.ask, Moves.grant, Events.created, Events.ordered, Events.removed, Events.reported, Events.refused, Plant.BatchAct, Plant.is_same_act, Records.Active, Records.active_after, Records.ends_phase, Records.holders_after, Records.state_after, Records.waiters_after, Runs.Out, Runs.reply, Runs.move}
+use Rattle.batch_matrix.specs.declared.{report.Report.Report, state.State.State, state.State.TheVariants.Idle}
 use Rattle.batch_recipe.specs.Conditions.{Name}
-use Rattle.batch_record.proofs.OutFromWords.{line-back}
-use Rattle.batch_record.proofs.PassedOverLines.{passed-nothing}
-use Rattle.batch_record.specs.Laws.{IsLineOf, is_passed_over}
-use Rattle.batch_record.specs.Naming.{IsNamed, as_told}
-use Rattle.batch_record.specs.RecordLine.{out_of_line}
-use Rattle.batch_record.proofs.LivePhases.{appended, filtered}
-use Rattle.batch_record.specs.Blocks.{Stage, stage_after_mark, mark_of, stage_after, stages, stage_after_out}
-use Rattle.batch_record.specs.Promises.{AreLinesOf, IsAsModelled, LinesTellTheirOuts, SaysNothing, place_of_active, place_of_live}
-use Rattle.batch_record.specs.Telling.{Tale, Listed, Live, in_state, is_at, led_by, listed_after, live_after, moved_at, said_by, empty_tale, tale_after}
+use Rattle.batch_record.{proofs.OutFromWords.line-back, proofs.PassedOverLines.passed-nothing, specs.Laws.IsLineOf, specs.Laws.is_passed_over, specs.Naming.IsNamed, specs.Naming.as_told, specs.RecordLine.out_of_line, proofs.LivePhases.appended, proofs.LivePhases.filtered, specs.Blocks.Stage, specs.Blocks.stage_after_mark, specs.Blocks.mark_of, specs.Blocks.stage_after, specs.Blocks.stages, specs.Blocks.stage_after_out, specs.Promises.AreLinesOf, specs.Promises.IsAsModelled, specs.Promises.LinesTellTheirOuts, specs.Promises.SaysNothing, specs.Promises.place_of_active, specs.Promises.place_of_live, specs.Telling.Tale, specs.Telling.Listed, specs.Telling.Live, specs.Telling.in_state, specs.Telling.is_at, specs.Telling.led_by, specs.Telling.listed_after, specs.Telling.live_after, specs.Telling.moved_at, specs.Telling.said_by, specs.Telling.empty_tale, specs.Telling.tale_after}
 
 abbrev whole_tale : Tale → Stage
 whole_tale tale = record { tale = tale; block = None }

@@ -1,13 +1,10 @@
 -- Shares that join and leave, at each resource.
 use Rattle.std.proofs.Common.{◌≡◌, ℕ, Bool, true, false, not, nat_eq, ◌&&◌, List, [], ◌∷◌, ◌++◌, filter, refl, sym, ap, subst, ◌∙◌}
 use Rattle.std.specs.Cmp.Lexicographic.{bytes_decides}
-use Rattle.batch_recipe.specs.Conditions.{Name, same_name}
-use Rattle.batch_recipe.specs.declared.need.Need.{Need}
-use Rattle.batch_model.specs.Plant.{BatchAct, is_same_act, with_share, without_share}
+use Rattle.batch_recipe.specs.{Conditions.Name, Conditions.same_name, declared.need.Need.Need}
+use Rattle.batch_model.specs.{Plant.BatchAct, Plant.is_same_act, Plant.with_share, Plant.without_share, Records.shares_without_batch}
 use Rattle.batch_model.specs.Plant as Model
-use Rattle.batch_model.specs.Records.{shares_without_batch}
-use Rattle.batch_record.specs.Kept.{kept_share, shares_of_resource, is_other}
-use Rattle.batch_record.specs.declared.standing.Kept.{Kept}
+use Rattle.batch_record.specs.{Kept.kept_share, Kept.shares_of_resource, Kept.is_other, declared.standing.Kept.Kept}
 
 module _ (r : Name) where
   join_more : (x : Kept) (xs : List Kept) (k : Kept) (b c : Bool) → same_name r x.resource ≡ c

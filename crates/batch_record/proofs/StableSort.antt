@@ -1,23 +1,10 @@
 -- The result of a stable sort: the order, and the items at each key.
 use Rattle.std.proofs.Common.{◌≡◌, ◌+◌, ◌<◌, Bool, true, false, not, ◌&&◌, List, [], ◌∷◌, map, filter, length, get_or, refl, sym, ap, ◌∙◌, arith}
-use Rattle.std.proofs.lemmas.Cmp.{then_total}
-use Rattle.std.proofs.lemmas.List.{get_or-map, length-map}
-use Rattle.std.specs.Cmp.{IsTotalOrder, nat_cmp_total, on_total, tied_then, unsigned_ties}
-use Rattle.std.specs.Cmp.Lexicographic.{nat_list_cmp_total, slice_cmp, texts_ties}
-use Rattle.std.specs.List.Sorted.{IsSorted, IsSortedBy, IsStableBy, ties}
-use Rattle.std.specs.Ordering.{is_lt, is_eq, nat_cmp, ordering_reverse}
-use Rattle.std.specs.declared.cmp.Ordering.{Ordering}
-use Rattle.std.specs.declared.cmp.Ordering.TheVariants.{Less, Equal, Greater}
+use Rattle.std.{proofs.lemmas.Cmp.then_total, proofs.lemmas.List.get_or-map, proofs.lemmas.List.length-map, specs.Cmp.IsTotalOrder, specs.Cmp.nat_cmp_total, specs.Cmp.on_total, specs.Cmp.tied_then, specs.Cmp.unsigned_ties, specs.Cmp.Lexicographic.nat_list_cmp_total, specs.Cmp.Lexicographic.slice_cmp, specs.Cmp.Lexicographic.texts_ties, specs.List.Sorted.IsSorted, specs.List.Sorted.IsSortedBy, specs.List.Sorted.IsStableBy, specs.List.Sorted.ties, specs.Ordering.is_lt, specs.Ordering.is_eq, specs.Ordering.nat_cmp, specs.Ordering.ordering_reverse, specs.declared.cmp.Ordering.Ordering, specs.declared.cmp.Ordering.TheVariants.Less, specs.declared.cmp.Ordering.TheVariants.Equal, specs.declared.cmp.Ordering.TheVariants.Greater}
 use Rattle.batch_matrix.specs.declared.state.State.TheVariants.{Idle}
 use Rattle.batch_recipe.specs.Conditions.{Name, same_name}
-use Rattle.batch_model.specs.Plant.{BatchAct, is_same_act}
-use Rattle.batch_model.specs.Rest.{same_place}
-use Rattle.batch_record.proofs.LivePhases.{filtered}
-use Rattle.batch_record.specs.Kept.{kept_claim, kept_share, shares_of_resource, kept_live, lives_of}
-use Rattle.batch_record.specs.Listing.{NamedClaim, act_cmp, holder_cmp, waiter_cmp, live_cmp, name_cmp, of_act, on_unit}
-use Rattle.batch_record.specs.Telling.{Live}
-use Rattle.batch_record.specs.declared.live.LivePhase.{LivePhase}
-use Rattle.batch_record.specs.declared.standing.Kept.{Kept}
+use Rattle.batch_model.specs.{Plant.BatchAct, Plant.is_same_act, Rest.same_place}
+use Rattle.batch_record.{proofs.LivePhases.filtered, specs.Kept.kept_claim, specs.Kept.kept_share, specs.Kept.shares_of_resource, specs.Kept.kept_live, specs.Kept.lives_of, specs.Listing.NamedClaim, specs.Listing.act_cmp, specs.Listing.holder_cmp, specs.Listing.waiter_cmp, specs.Listing.live_cmp, specs.Listing.name_cmp, specs.Listing.of_act, specs.Listing.on_unit, specs.Telling.Live, specs.declared.live.LivePhase.LivePhase, specs.declared.standing.Kept.Kept}
 
 -- neither is less if they are equal
 tied : (a b : Ordering) → a ≡ ordering_reverse b → (not (is_lt a) && not (is_lt b)) ≡ is_eq a

@@ -1,19 +1,9 @@
 -- The rows of the kept state are those of the record's state.
 use Rattle.std.proofs.Common.{◌≡◌, ℕ, Bool, true, false, List, [], ◌∷◌, map, option_map, refl, ap, ◌∙◌}
-use Rattle.std.proofs.lemmas.Map.Made.{lookup-map_values}
-use Rattle.std.specs.BTreeMap.{get}
-use Rattle.std.specs.List.Sorted.{IsSorted, IsStrictlySortedBy}
-use Rattle.std.specs.Map.{keys_of}
-use Rattle.std.specs.Ordering.{is_eq, nat_cmp}
+use Rattle.std.{proofs.lemmas.Map.Made.lookup-map_values, specs.BTreeMap.get, specs.List.Sorted.IsSorted, specs.List.Sorted.IsStrictlySortedBy, specs.Map.keys_of, specs.Ordering.is_eq, specs.Ordering.nat_cmp}
 use Rattle.batch_recipe.specs.Conditions.{Name, same_name}
 use Rattle.batch_model.specs.Plant.{BatchAct}
-use Rattle.batch_record.specs.Kept.{Keeps, kept_claims, entry_row, listed_of, lives_of, listed_rows, kept_share, shares_of_resource}
-use Rattle.batch_record.specs.Listing.{AreRowsOf, Rows, holder_cmp, live_cmp, of_act, on_unit, shares_in, waiter_cmp}
-use Rattle.batch_record.specs.Telling.{Tale}
-use Rattle.batch_record.specs.declared.batches.Batch.{Batch}
-use Rattle.batch_record.specs.declared.batches.Batches.{Batches}
-use Rattle.batch_record.specs.declared.standing.Kept.{Kept}
-use Rattle.batch_record.specs.declared.status.Status.{Status}
+use Rattle.batch_record.specs.{Kept.Keeps, Kept.kept_claims, Kept.entry_row, Kept.listed_of, Kept.lives_of, Kept.listed_rows, Kept.kept_share, Kept.shares_of_resource, Listing.AreRowsOf, Listing.Rows, Listing.holder_cmp, Listing.live_cmp, Listing.of_act, Listing.on_unit, Listing.shares_in, Listing.waiter_cmp, Telling.Tale, declared.batches.Batch.Batch, declared.batches.Batches.Batches, declared.standing.Kept.Kept, declared.status.Status.Status}
 
 module _ (r : Name) where
   in_more : (x : Kept) (xs : List Kept) (b : Bool) → same_name r x.resource ≡ b → shares_in r (kept_claims xs) ≡ shares_of_resource r xs

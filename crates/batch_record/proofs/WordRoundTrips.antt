@@ -1,26 +1,11 @@
 -- Words of states, commands, reports, needs and pairs, there and back.
 use Rattle.std.proofs.Common.{◌≡◌, ℕ, ◌<◌, Bool, true, false, if◌then◌else◌, List, [], ◌∷◌, ◌++◌, length, map, decimal, codes, Option, Some, None, refl, sym, ap, subst, ◌∙◌, arith}
-use Rattle.std.specs.Prelude.{nat_lt}
-use Rattle.std.specs.List.{list_all, before_first, after_first, All}
-use Rattle.std.specs.Str.{bytes_eq}
-use Rattle.std.proofs.lemmas.Slice.Eq.{bytes_eq-Decides}
-use Rattle.std.proofs.lemmas.Bool.{and_parts, and_from, leb-true, le-leb}
-use Rattle.std.proofs.lemmas.Bool.Decides.{nat_tests}
-use Rattle.std.proofs.lemmas.List.Elements.{All-head, All-tail, All-nil, All-cons}
-use Rattle.batch_text.specs.NameText.{is_name, IsName}
-use Rattle.batch_text.specs.NumberText.{number_of}
-use Rattle.batch_text.proofs.NameTests.{is_name-true}
-use Rattle.batch_matrix.specs.declared.state.State.{State}
-use Rattle.batch_matrix.specs.declared.command.Command.{Command}
-use Rattle.batch_matrix.specs.declared.report.Report.{Report}
-use Rattle.batch_recipe.specs.Conditions.{Name, ValueList}
-use Rattle.batch_recipe.specs.declared.need.Need.{Need}
-use Rattle.batch_wire.specs.EventLine.{command_of, word_of_report, is_equals, pair_of, is_role_pair, role_pair_of}
-use Rattle.batch_wire.specs.RecordText.{state_text, command_text, report_text, need_text, value_text, value_texts, role_text, role_texts}
-use Rattle.batch_record.specs.Naming.{IsShort, IsNeed, IsValue, IsRole}
-use Rattle.batch_record.specs.RecordLine.{is_star, is_plain_number, is_plain_units, is_plain_value, is_starred, need_of_word, one_of, starred_of, state_of_word}
-use Rattle.batch_record.proofs.AbsentBytes.{lacks, lacks-append, before-joined, after-joined, joined-again, name-no_space, name-no_star, name-no_equals, starred-no_name}
-use Rattle.batch_record.proofs.Numerals.{written-again, read-again, decimal-no_space, plain-some}
+use Rattle.std.{specs.Prelude.nat_lt, specs.List.list_all, specs.List.before_first, specs.List.after_first, specs.List.All, specs.Str.bytes_eq, proofs.lemmas.Slice.Eq.bytes_eq-Decides, proofs.lemmas.Bool.and_parts, proofs.lemmas.Bool.and_from, proofs.lemmas.Bool.leb-true, proofs.lemmas.Bool.le-leb, proofs.lemmas.Bool.Decides.nat_tests, proofs.lemmas.List.Elements.All-head, proofs.lemmas.List.Elements.All-tail, proofs.lemmas.List.Elements.All-nil, proofs.lemmas.List.Elements.All-cons}
+use Rattle.batch_text.{specs.NameText.is_name, specs.NameText.IsName, specs.NumberText.number_of, proofs.NameTests.is_name-true}
+use Rattle.batch_matrix.specs.declared.{state.State.State, command.Command.Command, report.Report.Report}
+use Rattle.batch_recipe.specs.{Conditions.Name, Conditions.ValueList, declared.need.Need.Need}
+use Rattle.batch_wire.specs.{EventLine.command_of, EventLine.word_of_report, EventLine.is_equals, EventLine.pair_of, EventLine.is_role_pair, EventLine.role_pair_of, RecordText.state_text, RecordText.command_text, RecordText.report_text, RecordText.need_text, RecordText.value_text, RecordText.value_texts, RecordText.role_text, RecordText.role_texts}
+use Rattle.batch_record.{specs.Naming.IsShort, specs.Naming.IsNeed, specs.Naming.IsValue, specs.Naming.IsRole, specs.RecordLine.is_star, specs.RecordLine.is_plain_number, specs.RecordLine.is_plain_units, specs.RecordLine.is_plain_value, specs.RecordLine.is_starred, specs.RecordLine.need_of_word, specs.RecordLine.one_of, specs.RecordLine.starred_of, specs.RecordLine.state_of_word, proofs.AbsentBytes.lacks, proofs.AbsentBytes.lacks-append, proofs.AbsentBytes.before-joined, proofs.AbsentBytes.after-joined, proofs.AbsentBytes.joined-again, proofs.AbsentBytes.name-no_space, proofs.AbsentBytes.name-no_star, proofs.AbsentBytes.name-no_equals, proofs.AbsentBytes.starred-no_name, proofs.Numerals.written-again, proofs.Numerals.read-again, proofs.Numerals.decimal-no_space, proofs.Numerals.plain-some}
 
 -- Tests
 

@@ -1,28 +1,12 @@
 -- The words from which an out is read are the words of that out.
 use Rattle.std.proofs.Common.{◌≡◌, ℕ, true, ◌&&◌, if◌then◌else◌, List, [], ◌∷◌, decimal, codes, Option, Some, None, refl, sym, ap, subst, ◌∙◌}
-use Rattle.std.specs.Prelude.{option_map}
-use Rattle.std.specs.List.{list_all}
-use Rattle.std.specs.Str.{bytes_eq}
-use Rattle.std.proofs.lemmas.Bool.{and_parts}
-use Rattle.batch_text.specs.NameText.{is_name}
-use Rattle.batch_text.specs.NumberText.{number_of}
-use Rattle.batch_text.specs.PlaceText.{numbers_of}
-use Rattle.batch_matrix.specs.declared.state.State.{State}
-use Rattle.batch_matrix.specs.declared.command.Command.{Command}
-use Rattle.batch_matrix.specs.declared.report.Report.{Report}
-use Rattle.batch_recipe.specs.Texts.{place_text}
-use Rattle.batch_recipe.specs.Tree.{Place}
-use Rattle.batch_recipe.specs.Conditions.{ValueList}
-use Rattle.batch_recipe.specs.declared.need.Need.{Need}
-use Rattle.batch_model.specs.Runs.{Out, reply}
-use Rattle.batch_model.specs.Events.{Refusal, unknown_recipe, unknown_batch, command_not_accepted, no_live_phase, report_not_expected, bad_output, bad_binding, full, not_idle, moves_pending, no_memory, removed}
-use Rattle.batch_wire.specs.EventLine.{command_of, word_of_report, is_role_pair}
-use Rattle.batch_wire.specs.RecordText.{state_text, command_text, report_text, need_text, value_texts, role_texts, refusal_words, out_words}
-use Rattle.batch_record.specs.Naming.{IsShort, IsAct, IsClaim, IsPhaseStep, IsNamed, IsNamedRefusal, as_told}
-use Rattle.batch_record.specs.RecordLine.{is_plain_number, is_plain_place, is_plain_value, need_of_word, state_of_word, claim_with, claim_told_of, ClaimTold, passed_with, passed_of, batch_state_with, batch_state_of, removed_of, ReportTold, report_with, report_told_of, PhaseTold, phase_with, sent_with, sent_of, started_with, started_of, begun_of, ended_of, CreatedTold, created_of, because, formula_refusal_of_words, left_out_of, state_alone, code_alone, refusal_of_words, asked_out, granted_out, released_out, passed_out, stated_out, obeyed_out, report_out, sent_out, started_out, begun_out, ended_out, created_out, refused_out, order_of_words, ok_of, other_of, out_of_words}
-use Rattle.batch_record.proofs.Numerals.{written-again}
-use Rattle.batch_record.proofs.Places.{place-written, place-is}
-use Rattle.batch_record.proofs.WordRoundTrips.{chosen, nothing, same, tested, is_word, state-written, command-written, report-written, name-is, need-written, NeedIs, values-written, roles-written}
+use Rattle.std.{specs.Prelude.option_map, specs.List.list_all, specs.Str.bytes_eq, proofs.lemmas.Bool.and_parts}
+use Rattle.batch_text.specs.{NameText.is_name, NumberText.number_of, PlaceText.numbers_of}
+use Rattle.batch_matrix.specs.declared.{state.State.State, command.Command.Command, report.Report.Report}
+use Rattle.batch_recipe.specs.{Texts.place_text, Tree.Place, Conditions.ValueList, declared.need.Need.Need}
+use Rattle.batch_model.specs.{Runs.Out, Runs.reply, Events.Refusal, Events.unknown_recipe, Events.unknown_batch, Events.command_not_accepted, Events.no_live_phase, Events.report_not_expected, Events.bad_output, Events.bad_binding, Events.full, Events.not_idle, Events.moves_pending, Events.no_memory, Events.removed}
+use Rattle.batch_wire.specs.{EventLine.command_of, EventLine.word_of_report, EventLine.is_role_pair, RecordText.state_text, RecordText.command_text, RecordText.report_text, RecordText.need_text, RecordText.value_texts, RecordText.role_texts, RecordText.refusal_words, RecordText.out_words}
+use Rattle.batch_record.{specs.Naming.IsShort, specs.Naming.IsAct, specs.Naming.IsClaim, specs.Naming.IsPhaseStep, specs.Naming.IsNamed, specs.Naming.IsNamedRefusal, specs.Naming.as_told, specs.RecordLine.is_plain_number, specs.RecordLine.is_plain_place, specs.RecordLine.is_plain_value, specs.RecordLine.need_of_word, specs.RecordLine.state_of_word, specs.RecordLine.claim_with, specs.RecordLine.claim_told_of, specs.RecordLine.ClaimTold, specs.RecordLine.passed_with, specs.RecordLine.passed_of, specs.RecordLine.batch_state_with, specs.RecordLine.batch_state_of, specs.RecordLine.removed_of, specs.RecordLine.ReportTold, specs.RecordLine.report_with, specs.RecordLine.report_told_of, specs.RecordLine.PhaseTold, specs.RecordLine.phase_with, specs.RecordLine.sent_with, specs.RecordLine.sent_of, specs.RecordLine.started_with, specs.RecordLine.started_of, specs.RecordLine.begun_of, specs.RecordLine.ended_of, specs.RecordLine.CreatedTold, specs.RecordLine.created_of, specs.RecordLine.because, specs.RecordLine.formula_refusal_of_words, specs.RecordLine.left_out_of, specs.RecordLine.state_alone, specs.RecordLine.code_alone, specs.RecordLine.refusal_of_words, specs.RecordLine.asked_out, specs.RecordLine.granted_out, specs.RecordLine.released_out, specs.RecordLine.passed_out, specs.RecordLine.stated_out, specs.RecordLine.obeyed_out, specs.RecordLine.report_out, specs.RecordLine.sent_out, specs.RecordLine.started_out, specs.RecordLine.begun_out, specs.RecordLine.ended_out, specs.RecordLine.created_out, specs.RecordLine.refused_out, specs.RecordLine.order_of_words, specs.RecordLine.ok_of, specs.RecordLine.other_of, specs.RecordLine.out_of_words, proofs.Numerals.written-again, proofs.Places.place-written, proofs.Places.place-is, proofs.WordRoundTrips.chosen, proofs.WordRoundTrips.nothing, proofs.WordRoundTrips.same, proofs.WordRoundTrips.tested, proofs.WordRoundTrips.is_word, proofs.WordRoundTrips.state-written, proofs.WordRoundTrips.command-written, proofs.WordRoundTrips.report-written, proofs.WordRoundTrips.name-is, proofs.WordRoundTrips.need-written, proofs.WordRoundTrips.NeedIs, proofs.WordRoundTrips.values-written, proofs.WordRoundTrips.roles-written}
 
 act-is : (batch place : List ℕ) → is_plain_number batch ≡ true → is_plain_place place ≡ true → IsAct (number_of batch) (numbers_of place)
 act-is batch place n p = record { batch_short = (written-again batch n).1; placed = place-is place p }

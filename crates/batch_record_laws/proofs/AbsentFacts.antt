@@ -1,18 +1,9 @@
 -- Where no phase is live, nothing is held and nothing is asked for, there are no facts.
 use Rattle.std.proofs.Common.{arith, ◌≡◌, ⊎_elim, refl, ap, List, [], ◌∷◌, ◌++◌, true, take, slice_get, inl, inr}
-use Rattle.batch_matrix.specs.declared.state.State.{State}
-use Rattle.batch_matrix.specs.declared.state.State.TheVariants.{Stopping, Aborting}
-use Rattle.batch_model.specs.Lists.{Has}
-use Rattle.batch_recipe.specs.Tree.{Place, Step, Phase}
-use Rattle.batch_model.specs.Rest.{Rest, ready, asking, open_act, live, freeing, in_seq, in_par, in_loop, done, Rests, no_rests, rest, acts, acts_of_each}
-use Rattle.batch_model.specs.Plant.{held_by, held_in, phase_states}
-use Rattle.batch_model.specs.Moves.{is_quiet, is_empty, is_stopping}
-use Rattle.batch_record_laws.proofs.PlantFacts.{holding, awaiting, performing, Standing, held_at, awaited_at, facts, facts_of_each}
-use Rattle.batch_model.proofs.Members.{Has-split, Has-left, Has-right}
-use Rattle.batch_record_laws.proofs.RanksOfAsks.{held-holding, held-performing, awaited-holding, awaited-performing, lone-holding}
-use Rattle.batch_record_laws.proofs.Units.{lone-performing}
-use Rattle.batch_record_laws.proofs.Invariant.{IsFitting, NothingAwaited, no_members}
-use Rattle.batch_recipe.specs.declared.need.Need.{Need}
+use Rattle.batch_matrix.specs.declared.state.State.{State, TheVariants.Stopping, TheVariants.Aborting}
+use Rattle.batch_model.{specs.Lists.Has, specs.Rest.Rest, specs.Rest.ready, specs.Rest.asking, specs.Rest.open_act, specs.Rest.live, specs.Rest.freeing, specs.Rest.in_seq, specs.Rest.in_par, specs.Rest.in_loop, specs.Rest.done, specs.Rest.Rests, specs.Rest.no_rests, specs.Rest.rest, specs.Rest.acts, specs.Rest.acts_of_each, specs.Plant.held_by, specs.Plant.held_in, specs.Plant.phase_states, specs.Moves.is_quiet, specs.Moves.is_empty, specs.Moves.is_stopping, proofs.Members.Has-split, proofs.Members.Has-left, proofs.Members.Has-right}
+use Rattle.batch_recipe.specs.{Tree.Place, Tree.Step, Tree.Phase, declared.need.Need.Need}
+use Rattle.batch_record_laws.proofs.{PlantFacts.holding, PlantFacts.awaiting, PlantFacts.performing, PlantFacts.Standing, PlantFacts.held_at, PlantFacts.awaited_at, PlantFacts.facts, PlantFacts.facts_of_each, RanksOfAsks.held-holding, RanksOfAsks.held-performing, RanksOfAsks.awaited-holding, RanksOfAsks.awaited-performing, RanksOfAsks.lone-holding, Units.lone-performing, Invariant.IsFitting, Invariant.NothingAwaited, Invariant.no_members}
 use Rattle.batch_step_laws.proofs.HoldersInAdvance.{flat_map-Has}
 
 abbrev pub LiveAct : List Rest → Phase → Type 0

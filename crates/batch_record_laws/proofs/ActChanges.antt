@@ -2,28 +2,10 @@
 use Rattle.std.proofs.Common.{◌≡◌, ◌⊎◌, ⊎_elim, sym, ◌∙◌, ap, ap₂, subst, subst₂, ℕ, ◌+◌, ◌≤◌, arith, List, [], ◌∷◌, ◌++◌, false, map, Option, Some, inl, inr, bytes_eq, append-nil}
 use Rattle.std.proofs.lemmas.List.{map-append}
 use Rattle.batch_matrix.specs.declared.state.State.{State}
-use Rattle.batch_model.specs.Lists.{Has}
-use Rattle.batch_recipe.specs.Conditions.{Name}
-use Rattle.batch_recipe.specs.Tree.{Place, Phase}
-use Rattle.batch_model.specs.Rest.{Rest, changed_at, place_of}
-use Rattle.batch_model.specs.Plant.{Setup, Batch, BatchAct, Share, units_in, Plant, without}
-use Rattle.batch_model.specs.Runs.{Out}
-use Rattle.batch_model.specs.Records.{holders_after, holders_told, waiters_after, Active, active_after, active_told, state_after, state_told}
+use Rattle.batch_model.{specs.Lists.Has, specs.Rest.Rest, specs.Rest.changed_at, specs.Rest.place_of, specs.Plant.Setup, specs.Plant.Batch, specs.Plant.BatchAct, specs.Plant.Share, specs.Plant.units_in, specs.Plant.Plant, specs.Plant.without, specs.Runs.Out, specs.Records.holders_after, specs.Records.holders_told, specs.Records.waiters_after, specs.Records.Active, specs.Records.active_after, specs.Records.active_told, specs.Records.state_after, specs.Records.state_told, specs.Cleared.Ranking, proofs.Members.Has-split, proofs.Members.Has-left, proofs.Members.Has-right, specs.Standing.IsStanding}
+use Rattle.batch_recipe.specs.{Conditions.Name, Tree.Place, Tree.Phase, declared.need.Need.Need}
 use Rattle.batch_step_laws.proofs.LastLineEffect.{holders_told-last, waiters_told-last, active_told-last, state_told-last}
-use Rattle.batch_record_laws.proofs.PlantFacts.{Fact, holding, awaiting, performing, Standing, held_at, facts, early_facts, batch_facts, Entry, entry, entries, holders_among, need, share}
-use Rattle.batch_model.specs.Cleared.{Ranking}
-use Rattle.batch_record_laws.proofs.ClearanceDownTrees.{IsClearedDown}
-use Rattle.batch_model.proofs.Members.{Has-split, Has-left, Has-right}
-use Rattle.batch_record_laws.proofs.Members.{Has-map}
-use Rattle.batch_record_laws.proofs.RanksOfAsks.{holding-performing, holding-awaiting, same_holding}
-use Rattle.batch_record_laws.proofs.FactsAfterChange.{Frame}
-use Rattle.batch_record_laws.proofs.Entries.{Agrees, Has-holders, holders-append, agrees-more, agrees-less, IsOnce, NoneBy, units-append, units-frame, units-one, Has-frame, frame-front, frame-middle, frame-back, name_self}
-use Rattle.batch_record_laws.proofs.Batches.{NumbersDiffer, only, Has-only, BatchFrame, plant-frame, AreOthers}
-use Rattle.batch_record_laws.proofs.SameFacts.{StandApart}
-use Rattle.batch_record_laws.proofs.Invariant.{IsFitting, AreFirstNeeds, IsSound, IsKept}
-use Rattle.batch_model.specs.Standing.{IsStanding}
-use Rattle.batch_record_laws.proofs.Invariant.{numbers-of}
-use Rattle.batch_recipe.specs.declared.need.Need.{Need}
+use Rattle.batch_record_laws.proofs.{PlantFacts.Fact, PlantFacts.holding, PlantFacts.awaiting, PlantFacts.performing, PlantFacts.Standing, PlantFacts.held_at, PlantFacts.facts, PlantFacts.early_facts, PlantFacts.batch_facts, PlantFacts.Entry, PlantFacts.entry, PlantFacts.entries, PlantFacts.holders_among, PlantFacts.need, PlantFacts.share, ClearanceDownTrees.IsClearedDown, Members.Has-map, RanksOfAsks.holding-performing, RanksOfAsks.holding-awaiting, RanksOfAsks.same_holding, FactsAfterChange.Frame, Entries.Agrees, Entries.Has-holders, Entries.holders-append, Entries.agrees-more, Entries.agrees-less, Entries.IsOnce, Entries.NoneBy, Entries.units-append, Entries.units-frame, Entries.units-one, Entries.Has-frame, Entries.frame-front, Entries.frame-middle, Entries.frame-back, Entries.name_self, Batches.NumbersDiffer, Batches.only, Batches.Has-only, Batches.BatchFrame, Batches.plant-frame, Batches.AreOthers, SameFacts.StandApart, Invariant.IsFitting, Invariant.AreFirstNeeds, Invariant.IsSound, Invariant.IsKept, Invariant.numbers-of}
 
 -- the plant in which g has changed batch n and the lines are these
 abbrev pub changed_plant : Plant → ℕ → (Batch → Batch) → (Name → List Share) → Plant

@@ -1,49 +1,11 @@
 -- Each move of an act keeps the invariant.
 use Rattle.std.proofs.Common.{◌≡◌, ⊎_elim, refl, sym, ◌∙◌, ap, subst, ℕ, zero, suc, pred, ◌<◌, ◌≤◌, ◌+◌, nat_le, arith, List, [], ◌∷◌, ◌++◌, Bool, true, false, not, ◌&&◌, ◌||◌, take, slice_get, map, find, nat_eq, Option, Some, None, inl, length, append-nil, option_map, option_and_then}
-use Rattle.std.proofs.lemmas.Option.{slice_get_within}
-use Rattle.std.proofs.lemmas.List.{map-append}
-use Rattle.std.proofs.lemmas.Bool.{and_parts}
-use Rattle.batch_matrix.specs.declared.state.State.{State}
-use Rattle.batch_matrix.specs.declared.command.Command.{Command}
-use Rattle.batch_matrix.specs.Matrix.{accepts}
-use Rattle.batch_model.specs.Lists.{Has, Each}
-use Rattle.batch_recipe.specs.Conditions.{Name, ValueList}
-use Rattle.batch_recipe.specs.Following.{follower}
-use Rattle.batch_recipe.specs.Tree.{Place, Reserve, Step, Phase, Task, runs, follows, Tree}
-use Rattle.batch_model.specs.Rest.{Rest, Moment, ready, asking, open_act, live, freeing, is_done, acts, place_of, changed_at}
-use Rattle.batch_model.specs.Plant.{Setup, InAdvance, Batch, Share, units_in, Plant, moment_of, in_act, held_in, holders}
-use Rattle.batch_model.specs.ActStates.{steps}
-use Rattle.batch_model.specs.Standing.{IsAwaited, is_resting}
-use Rattle.batch_model.specs.Moves.{Move, send, release, pass, begin, start, end, ask, grant, is_running, is_stopping, is_stopped, is_quiet, is_empty, passed_on, beginning, entering, last_held, giving_back, reserved_place, handing_over, line_after, when, is_served, act_move, freed, sent, released, begun, ended, asked, granted, batch_after, after_move, handed_values}
-use Rattle.batch_model.specs.Runs.{Out, move}
-use Rattle.batch_model.specs.Records.{StartsIdle}
-use Rattle.batch_record_laws.proofs.PlantFacts.{holding, awaiting, performing, Standing, held_at, awaited_at, facts, early_facts, batch_facts, Entry, entries, holders_among}
-use Rattle.batch_model.specs.Cleared.{Ranking}
-use Rattle.batch_model.proofs.Members.{Has-right, Each-Has}
-use Rattle.batch_step_laws.proofs.DueUnitProcedures.{follower-due}
-use Rattle.batch_step_laws.proofs.RestsAfterChange.{RemainsAs, sent-remains, released-remains, ended-remains, begun-remains}
-use Rattle.batch_step_laws.proofs.HoldersInAdvance.{begun-busy}
-use Rattle.batch_step_laws.proofs.WorkAfterMove.{one_act}
-use Rattle.batch_step_laws.proofs.ActOrder.{acts-rise}
-use Rattle.batch_record_laws.proofs.FactsAfterAdvance.{reach-facts, done-facts}
-use Rattle.batch_record_laws.proofs.HoldingsInAdvance.{at_moment, Nowhere, IsSteady, IsTidy}
-use Rattle.batch_record_laws.proofs.DuePlaces.{awaited-nowhere}
-use Rattle.batch_record_laws.proofs.EffectsOnActs.{stays-steady, stays-tidy, sent-stays, released-stays, ended-stays, asked-stays, granted-stays, begun-steady, begun-tidy}
-use Rattle.batch_record_laws.proofs.UnitProcedures.{find-passes}
-use Rattle.batch_record_laws.proofs.SameFacts.{AreAlike, left_over}
-use Rattle.batch_record_laws.proofs.BatchProgress.{GoesOn, HoldsAhead, kept-on, all-alike, act-step_in, is_under_way, fits-under_way, early-none}
-use Rattle.batch_record_laws.proofs.RanksOfAsks.{rises-next}
-use Rattle.batch_record_laws.proofs.FactsAfterChange.{Frame, frame, needs_of, NeedsRise, needs-rise}
-use Rattle.batch_record_laws.proofs.Entries.{frame-middle, nat_same}
-use Rattle.batch_record_laws.proofs.Batches.{holders-entries, only}
-use Rattle.batch_record_laws.proofs.Invariant.{IsFitting, IsFirstNeed, AreFirstNeeds, IsSound, IsKept}
-use Rattle.batch_record_laws.proofs.AbsentFacts.{quiet-performs_nothing, holding-nothing, no_facts, fit-stopping}
-use Rattle.batch_record_laws.proofs.PhaseStarts.{starts-nothing, starts-idle}
-use Rattle.batch_record_laws.proofs.ActChanges.{changed_plant, nothing, also, IsApart, stays, comes, IsChange, change-sound, Becomes, Lacks, not_performing}
-use Rattle.batch_record_laws.proofs.InvariantAfterChange.{kept-quiet, kept-started, kept-asked, kept-granted, kept-released, kept-passed, not-held-yet, act_frame, apart-here}
-use Rattle.batch_model.specs.Standing.{IsStandingBatch, IsStanding}
-use Rattle.batch_record_laws.proofs.Invariant.{standing-of}
-use Rattle.batch_recipe.specs.declared.need.Need.{Need}
+use Rattle.std.proofs.lemmas.{Option.slice_get_within, List.map-append, Bool.and_parts}
+use Rattle.batch_matrix.specs.{declared.state.State.State, declared.command.Command.Command, Matrix.accepts}
+use Rattle.batch_model.{specs.Lists.Has, specs.Lists.Each, specs.Rest.Rest, specs.Rest.Moment, specs.Rest.ready, specs.Rest.asking, specs.Rest.open_act, specs.Rest.live, specs.Rest.freeing, specs.Rest.is_done, specs.Rest.acts, specs.Rest.place_of, specs.Rest.changed_at, specs.Plant.Setup, specs.Plant.InAdvance, specs.Plant.Batch, specs.Plant.Share, specs.Plant.units_in, specs.Plant.Plant, specs.Plant.moment_of, specs.Plant.in_act, specs.Plant.held_in, specs.Plant.holders, specs.ActStates.steps, specs.Standing.IsAwaited, specs.Standing.is_resting, specs.Moves.Move, specs.Moves.send, specs.Moves.release, specs.Moves.pass, specs.Moves.begin, specs.Moves.start, specs.Moves.end, specs.Moves.ask, specs.Moves.grant, specs.Moves.is_running, specs.Moves.is_stopping, specs.Moves.is_stopped, specs.Moves.is_quiet, specs.Moves.is_empty, specs.Moves.passed_on, specs.Moves.beginning, specs.Moves.entering, specs.Moves.last_held, specs.Moves.giving_back, specs.Moves.reserved_place, specs.Moves.handing_over, specs.Moves.line_after, specs.Moves.when, specs.Moves.is_served, specs.Moves.act_move, specs.Moves.freed, specs.Moves.sent, specs.Moves.released, specs.Moves.begun, specs.Moves.ended, specs.Moves.asked, specs.Moves.granted, specs.Moves.batch_after, specs.Moves.after_move, specs.Moves.handed_values, specs.Runs.Out, specs.Runs.move, specs.Records.StartsIdle, specs.Cleared.Ranking, proofs.Members.Has-right, proofs.Members.Each-Has, specs.Standing.IsStandingBatch, specs.Standing.IsStanding}
+use Rattle.batch_recipe.specs.{Conditions.Name, Conditions.ValueList, Following.follower, Tree.Place, Tree.Reserve, Tree.Step, Tree.Phase, Tree.Task, Tree.runs, Tree.follows, Tree.Tree, declared.need.Need.Need}
+use Rattle.batch_record_laws.proofs.{PlantFacts.holding, PlantFacts.awaiting, PlantFacts.performing, PlantFacts.Standing, PlantFacts.held_at, PlantFacts.awaited_at, PlantFacts.facts, PlantFacts.early_facts, PlantFacts.batch_facts, PlantFacts.Entry, PlantFacts.entries, PlantFacts.holders_among, FactsAfterAdvance.reach-facts, FactsAfterAdvance.done-facts, HoldingsInAdvance.at_moment, HoldingsInAdvance.Nowhere, HoldingsInAdvance.IsSteady, HoldingsInAdvance.IsTidy, DuePlaces.awaited-nowhere, EffectsOnActs.stays-steady, EffectsOnActs.stays-tidy, EffectsOnActs.sent-stays, EffectsOnActs.released-stays, EffectsOnActs.ended-stays, EffectsOnActs.asked-stays, EffectsOnActs.granted-stays, EffectsOnActs.begun-steady, EffectsOnActs.begun-tidy, UnitProcedures.find-passes, SameFacts.AreAlike, SameFacts.left_over, BatchProgress.GoesOn, BatchProgress.HoldsAhead, BatchProgress.kept-on, BatchProgress.all-alike, BatchProgress.act-step_in, BatchProgress.is_under_way, BatchProgress.fits-under_way, BatchProgress.early-none, RanksOfAsks.rises-next, FactsAfterChange.Frame, FactsAfterChange.frame, FactsAfterChange.needs_of, FactsAfterChange.NeedsRise, FactsAfterChange.needs-rise, Entries.frame-middle, Entries.nat_same, Batches.holders-entries, Batches.only, Invariant.IsFitting, Invariant.IsFirstNeed, Invariant.AreFirstNeeds, Invariant.IsSound, Invariant.IsKept, AbsentFacts.quiet-performs_nothing, AbsentFacts.holding-nothing, AbsentFacts.no_facts, AbsentFacts.fit-stopping, PhaseStarts.starts-nothing, PhaseStarts.starts-idle, ActChanges.changed_plant, ActChanges.nothing, ActChanges.also, ActChanges.IsApart, ActChanges.stays, ActChanges.comes, ActChanges.IsChange, ActChanges.change-sound, ActChanges.Becomes, ActChanges.Lacks, ActChanges.not_performing, InvariantAfterChange.kept-quiet, InvariantAfterChange.kept-started, InvariantAfterChange.kept-asked, InvariantAfterChange.kept-granted, InvariantAfterChange.kept-released, InvariantAfterChange.kept-passed, InvariantAfterChange.not-held-yet, InvariantAfterChange.act_frame, InvariantAfterChange.apart-here, Invariant.standing-of}
+use Rattle.batch_step_laws.proofs.{DueUnitProcedures.follower-due, RestsAfterChange.RemainsAs, RestsAfterChange.sent-remains, RestsAfterChange.released-remains, RestsAfterChange.ended-remains, RestsAfterChange.begun-remains, HoldersInAdvance.begun-busy, WorkAfterMove.one_act, ActOrder.acts-rise}
 
 -- Lists of needs
 

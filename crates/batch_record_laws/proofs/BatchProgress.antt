@@ -1,33 +1,11 @@
 -- A batch goes on: its charts advance as far as they can, and its holdings in advance pass to the acts that are reached.
 use mathlib.Core.Path.{fun_ext}
 use Rattle.std.proofs.Common.{arith, ◌≡◌, refl, sym, ◌∙◌, ap, ap₂, subst, List, [], ◌∷◌, ◌++◌, Bool, true, false, not, ◌&&◌, cond, map, filter, sum_by, take, slice_get, ◌≤◌, Some, None, inl, inr, ⊎_elim, nat_eq}
-use Rattle.batch_matrix.specs.declared.state.State.{State}
-use Rattle.batch_matrix.specs.declared.state.State.TheVariants.{Idle, Running, Pausing, Paused, Holding, Held, Restarting, Stopping, Stopped, Aborting, Aborted, Complete}
-use Rattle.batch_recipe.specs.Conditions.{Name, ValueList}
-use Rattle.batch_recipe.specs.declared.need.Need.{Need}
-use Rattle.batch_recipe.specs.Tree.{Place, Step, Task, runs, follows, Tree, act, seq, par, sel, loop, Trees, no_trees, tree, Choices, otherwise, choice}
-use Rattle.batch_model.specs.ActStates.{steps, steps_below, steps_of_each, steps_of_choices}
-use Rattle.batch_model.specs.Cleared.{Ranking}
-use Rattle.batch_model.specs.Lists.{Has}
-use Rattle.batch_model.specs.Plant.{Setup, InAdvance, Batch, Share, Plant, is_act_reached}
-use Rattle.batch_model.specs.Rest.{Rest, Moment, ready, asking, open_act, live, freeing, in_seq, in_par, in_loop, done, Rests, no_rests, rest, acts, acts_of_each, advance, place_of, changed_at}
-use Rattle.batch_model.specs.Runs.{Out, goes_on}
-use Rattle.batch_model.specs.Records.{state_told}
-use Rattle.batch_model.specs.Standing.{IsRestOf, IsRestBelow, IsBranch, AreBranches, IsChosen, IsStandingBatch, IsStanding, is_resting}
-use Rattle.batch_model.proofs.Members.{Has-split, Has-left, Has-right}
-use Rattle.batch_step_laws.proofs.RestsAfterChange.{RemainsAs, changed_at-IsRestOf}
-use Rattle.batch_step_laws.proofs.HoldersInAdvance.{holding-goes_on, holding-busy}
-use Rattle.batch_step_laws.proofs.NodesOfRests.{advance-IsRestOf}
-use Rattle.batch_record_laws.proofs.ClearanceDownTrees.{IsClearedDown}
-use Rattle.batch_record_laws.proofs.Members.{map-Has}
-use Rattle.batch_record_laws.proofs.PlantFacts.{awaiting, performing, holding, Standing, facts, early_facts, batch_facts, entries_of, entries, need}
-use Rattle.batch_record_laws.proofs.FactsAfterAdvance.{advance-facts}
-use Rattle.batch_record_laws.proofs.Entries.{nat_same, Has-filter, Has-holders, holders-Has}
-use Rattle.batch_record_laws.proofs.Batches.{only, only-hit, only-miss, same-batch, Has-only}
-use Rattle.batch_record_laws.proofs.SameFacts.{AreAlike, alike-same, StandApart, left_over, raised-alike, entries_of-alike, entries-alike, holders-alike}
-use Rattle.batch_record_laws.proofs.HoldingsInAdvance.{at_moment, Nowhere, raised, places, IsSteady, IsTidy, moved-raised, reached-raised, reached-at, fresh-where-none, AtOnce, at_once}
-use Rattle.batch_record_laws.proofs.Invariant.{IsFitting, IsFirstNeed, AreFirstNeeds, IsSound, IsKept, numbers-of}
-use Rattle.batch_record_laws.proofs.ActChanges.{changed_plant}
+use Rattle.batch_matrix.specs.declared.state.State.{State, TheVariants.Idle, TheVariants.Running, TheVariants.Pausing, TheVariants.Paused, TheVariants.Holding, TheVariants.Held, TheVariants.Restarting, TheVariants.Stopping, TheVariants.Stopped, TheVariants.Aborting, TheVariants.Aborted, TheVariants.Complete}
+use Rattle.batch_recipe.specs.{Conditions.Name, Conditions.ValueList, declared.need.Need.Need, Tree.Place, Tree.Step, Tree.Task, Tree.runs, Tree.follows, Tree.Tree, Tree.act, Tree.seq, Tree.par, Tree.sel, Tree.loop, Tree.Trees, Tree.no_trees, Tree.tree, Tree.Choices, Tree.otherwise, Tree.choice}
+use Rattle.batch_model.{specs.ActStates.steps, specs.ActStates.steps_below, specs.ActStates.steps_of_each, specs.ActStates.steps_of_choices, specs.Cleared.Ranking, specs.Lists.Has, specs.Plant.Setup, specs.Plant.InAdvance, specs.Plant.Batch, specs.Plant.Share, specs.Plant.Plant, specs.Plant.is_act_reached, specs.Rest.Rest, specs.Rest.Moment, specs.Rest.ready, specs.Rest.asking, specs.Rest.open_act, specs.Rest.live, specs.Rest.freeing, specs.Rest.in_seq, specs.Rest.in_par, specs.Rest.in_loop, specs.Rest.done, specs.Rest.Rests, specs.Rest.no_rests, specs.Rest.rest, specs.Rest.acts, specs.Rest.acts_of_each, specs.Rest.advance, specs.Rest.place_of, specs.Rest.changed_at, specs.Runs.Out, specs.Runs.goes_on, specs.Records.state_told, specs.Standing.IsRestOf, specs.Standing.IsRestBelow, specs.Standing.IsBranch, specs.Standing.AreBranches, specs.Standing.IsChosen, specs.Standing.IsStandingBatch, specs.Standing.IsStanding, specs.Standing.is_resting, proofs.Members.Has-split, proofs.Members.Has-left, proofs.Members.Has-right}
+use Rattle.batch_step_laws.proofs.{RestsAfterChange.RemainsAs, RestsAfterChange.changed_at-IsRestOf, HoldersInAdvance.holding-goes_on, HoldersInAdvance.holding-busy, NodesOfRests.advance-IsRestOf}
+use Rattle.batch_record_laws.proofs.{ClearanceDownTrees.IsClearedDown, Members.map-Has, PlantFacts.awaiting, PlantFacts.performing, PlantFacts.holding, PlantFacts.Standing, PlantFacts.facts, PlantFacts.early_facts, PlantFacts.batch_facts, PlantFacts.entries_of, PlantFacts.entries, PlantFacts.need, FactsAfterAdvance.advance-facts, Entries.nat_same, Entries.Has-filter, Entries.Has-holders, Entries.holders-Has, Batches.only, Batches.only-hit, Batches.only-miss, Batches.same-batch, Batches.Has-only, SameFacts.AreAlike, SameFacts.alike-same, SameFacts.StandApart, SameFacts.left_over, SameFacts.raised-alike, SameFacts.entries_of-alike, SameFacts.entries-alike, SameFacts.holders-alike, HoldingsInAdvance.at_moment, HoldingsInAdvance.Nowhere, HoldingsInAdvance.raised, HoldingsInAdvance.places, HoldingsInAdvance.IsSteady, HoldingsInAdvance.IsTidy, HoldingsInAdvance.moved-raised, HoldingsInAdvance.reached-raised, HoldingsInAdvance.reached-at, HoldingsInAdvance.fresh-where-none, HoldingsInAdvance.AtOnce, HoldingsInAdvance.at_once, Invariant.IsFitting, Invariant.IsFirstNeed, Invariant.AreFirstNeeds, Invariant.IsSound, Invariant.IsKept, Invariant.numbers-of, ActChanges.changed_plant}
 
 -- The step of an act that remains of a tree is one of the tree's
 

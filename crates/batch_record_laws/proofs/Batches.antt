@@ -1,19 +1,9 @@
 -- A change of one act of one batch, among the entries of all batches.
 use Rattle.std.proofs.Common.{arith, ◌≡◌, refl, sym, ◌∙◌, ap, ap₂, subst, ℕ, ◌<◌, List, [], ◌∷◌, ◌++◌, Bool, true, false, map, filter, flat_map, take, slice_get, Option, inl, inr, ◌⊎◌, ⊎_elim, bytes_eq, nat_eq, append-nil, append_assoc}
-use Rattle.std.proofs.lemmas.List.{map-append}
-use Rattle.std.proofs.lemmas.Grind.{flat_map-append}
-use Rattle.batch_model.specs.Lists.{Has}
-use Rattle.batch_recipe.specs.Conditions.{Name}
-use Rattle.batch_recipe.specs.Tree.{Place, Phase}
-use Rattle.batch_model.specs.Rest.{Rest, ready, asking, open_act, live, freeing, in_seq, in_par, in_loop, done, Rests, no_rests, rest, acts, acts_of_each, changed_at, place_of}
-use Rattle.batch_model.specs.Plant.{InAdvance, Batch, BatchAct, Share, Plant, held_by, holders}
-use Rattle.batch_record_laws.proofs.RanksOfAsks.{holding-performing, holding-awaiting}
-use Rattle.batch_record_laws.proofs.PlantFacts.{Fact, awaiting, performing, Standing, held_at, awaited_at, holding, facts, facts_of_each, early_facts, batch_facts, Entry, entry, entries_of, entries, holder_of, holders_among, share}
-use Rattle.batch_model.proofs.Members.{Has-split, Has-right, Has-flat_map}
-use Rattle.batch_record_laws.proofs.Members.{Has-map, map-Has}
-use Rattle.batch_record_laws.proofs.FactsAfterChange.{Frame, Frames, IsElsewhere, frame-after, regroup}
-use Rattle.batch_record_laws.proofs.Entries.{nat_same, nat_self, holders-append}
-use Rattle.batch_recipe.specs.declared.need.Need.{Need}
+use Rattle.std.proofs.lemmas.{List.map-append, Grind.flat_map-append}
+use Rattle.batch_model.{specs.Lists.Has, specs.Rest.Rest, specs.Rest.ready, specs.Rest.asking, specs.Rest.open_act, specs.Rest.live, specs.Rest.freeing, specs.Rest.in_seq, specs.Rest.in_par, specs.Rest.in_loop, specs.Rest.done, specs.Rest.Rests, specs.Rest.no_rests, specs.Rest.rest, specs.Rest.acts, specs.Rest.acts_of_each, specs.Rest.changed_at, specs.Rest.place_of, specs.Plant.InAdvance, specs.Plant.Batch, specs.Plant.BatchAct, specs.Plant.Share, specs.Plant.Plant, specs.Plant.held_by, specs.Plant.holders, proofs.Members.Has-split, proofs.Members.Has-right, proofs.Members.Has-flat_map}
+use Rattle.batch_recipe.specs.{Conditions.Name, Tree.Place, Tree.Phase, declared.need.Need.Need}
+use Rattle.batch_record_laws.proofs.{RanksOfAsks.holding-performing, RanksOfAsks.holding-awaiting, PlantFacts.Fact, PlantFacts.awaiting, PlantFacts.performing, PlantFacts.Standing, PlantFacts.held_at, PlantFacts.awaited_at, PlantFacts.holding, PlantFacts.facts, PlantFacts.facts_of_each, PlantFacts.early_facts, PlantFacts.batch_facts, PlantFacts.Entry, PlantFacts.entry, PlantFacts.entries_of, PlantFacts.entries, PlantFacts.holder_of, PlantFacts.holders_among, PlantFacts.share, Members.Has-map, Members.map-Has, FactsAfterChange.Frame, FactsAfterChange.Frames, FactsAfterChange.IsElsewhere, FactsAfterChange.frame-after, FactsAfterChange.regroup, Entries.nat_same, Entries.nat_self, Entries.holders-append}
 use Rattle.batch_step_laws.proofs.HoldersInAdvance.{flat_map-Has}
 
 -- The model's holders are those among the entries

@@ -1,34 +1,12 @@
 -- A path has one unit procedure, so that clearance for every binding is clearance of each unit procedure on each unit.
 use Rattle.std.proofs.Common.{arith, ◌≡◌, refl, sym, ◌∙◌, ap, subst, ℕ, ◌+◌, List, [], ◌∷◌, true, false, ◌&&◌, ◌||◌, not, map, length, nat_le, IsTrue, Option, Some, None, inl, inr}
-use Rattle.std.proofs.lemmas.Bool.{and_parts}
-use Rattle.std.proofs.lemmas.Bool.Decides.{nat_tests}
-use Rattle.std.specs.List.{list_all}
+use Rattle.std.{proofs.lemmas.Bool.and_parts, proofs.lemmas.Bool.Decides.nat_tests, specs.List.list_all}
 use Rattle.batch_cell.specs.declared.cell.Cell as equipment
-use Rattle.batch_recipe.specs.Conditions.{Name, same_name}
+use Rattle.batch_recipe.specs.{Conditions.Name, Conditions.same_name, Diagram.Diagram, Diagram.Diagrams, Diagram.Cases, Diagram.diagram_of, Expanding.Binding, Expanding.unbound, Expanding.Sites, Expanding.unit_chosen, Expanding.unit_with, Expanding.unit_below, Expanding.unit_count, Expanding.unit_named, Expanding.asked_in_order, Expanding.reserves_from, Expanding.expanded, Expanding.expanded_each, Expanding.expanded_cases, Expanding.task_of, Expanding.act_named, Expanding.act_tree_with, Expanding.named_tree_with, Needs.resources_needed, Nodes.child, Tree.Place, Tree.Tree, Tree.act, Tree.skip, Tree.seq, Tree.par, Tree.sel, Tree.loop, Tree.Trees, Tree.Choices, Tree.Step, Tree.follows, ActsAtNodes.procedure_acts, WellFormed.reserves_none, WellFormed.has_unit, WellFormed.has_chart, WellFormed.is_among, WellFormed.are_distinct, WellFormed.is_role_among, declared.act.Act.Act, declared.act.UnitChoice.UnitChoice, declared.act.UnitChoice.TheVariants.Unit, declared.act.UnitChoice.TheVariants.Role, declared.act.Work.Work, declared.act.Work.TheVariants.Follows, declared.act.Work.TheVariants.Runs, declared.condition.Cond.Cond}
 use Rattle.batch_recipe.specs.Diagram as chart
-use Rattle.batch_recipe.specs.Diagram.{Diagram, Diagrams, Cases, diagram_of}
-use Rattle.batch_recipe.specs.Expanding.{Binding, unbound, Sites, unit_chosen, unit_with, unit_below, unit_count, unit_named, asked_in_order, reserves_from, expanded, expanded_each, expanded_cases, task_of, act_named, act_tree_with, named_tree_with}
-use Rattle.batch_recipe.specs.Needs.{resources_needed}
-use Rattle.batch_recipe.specs.Nodes.{child}
-use Rattle.batch_recipe.specs.Tree.{Place, Tree, act, skip, seq, par, sel, loop, Trees, Choices, Step, follows}
-use Rattle.batch_recipe.specs.ActsAtNodes.{procedure_acts}
-use Rattle.batch_recipe.specs.WellFormed.{reserves_none, has_unit, has_chart, is_among, are_distinct, is_role_among}
-use Rattle.batch_recipe.specs.declared.act.Act.{Act}
-use Rattle.batch_recipe.specs.declared.act.UnitChoice.{UnitChoice}
-use Rattle.batch_recipe.specs.declared.act.UnitChoice.TheVariants.{Unit, Role}
-use Rattle.batch_recipe.specs.declared.act.Work.{Work}
-use Rattle.batch_recipe.specs.declared.act.Work.TheVariants.{Follows, Runs}
-use Rattle.batch_recipe.specs.declared.condition.Cond.{Cond}
 use Rattle.batch_recipe.specs.declared.recipe.Recipe as document
-use Rattle.batch_model.specs.Lists.{Has, Each}
-use Rattle.batch_model.specs.Plant.{Role as Declared, Setup}
-use Rattle.batch_model.specs.Cleared.{Ranking, Part, is_procedure, in_procedure, part, parts, parts_of_each, parts_of_choices, surely_runs, IsServed, IsClear, HasCandidates, IsClearedRecipe}
-use Rattle.batch_model.specs.Setups.{labels, labels_of_each, labels_of_cases, labels_of, reserve_role, master_of}
-use Rattle.batch_model.proofs.Bindings.{HaveNoUnits, list_all-Has, none-chosen, no-units-below, unit-of-each, on-chosen, chart-same-runs, label-same-runs}
-use Rattle.batch_model.proofs.Members.{Has-left, Has-right, Each-append, find-Has}
-use Rattle.batch_record_laws.specs.Candidates.{MayBe, MayRun, tree_on, UnitProcedureIsClear, ChartIsClear, ChartsAreClear, CasesAreClear, WorkIsClear, IsClearOnEach, CandidatesSuffice}
-use Rattle.batch_record_laws.proofs.Members.{Each-left, Each-right}
-use Rattle.batch_record_laws.proofs.Roles.{AreServed, some-serves, names_of, one-declared, some-declared, named-role}
+use Rattle.batch_model.{specs.Lists.Has, specs.Lists.Each, specs.Plant.Role as Declared, specs.Plant.Setup, specs.Cleared.Ranking, specs.Cleared.Part, specs.Cleared.is_procedure, specs.Cleared.in_procedure, specs.Cleared.part, specs.Cleared.parts, specs.Cleared.parts_of_each, specs.Cleared.parts_of_choices, specs.Cleared.surely_runs, specs.Cleared.IsServed, specs.Cleared.IsClear, specs.Cleared.HasCandidates, specs.Cleared.IsClearedRecipe, specs.Setups.labels, specs.Setups.labels_of_each, specs.Setups.labels_of_cases, specs.Setups.labels_of, specs.Setups.reserve_role, specs.Setups.master_of, proofs.Bindings.HaveNoUnits, proofs.Bindings.list_all-Has, proofs.Bindings.none-chosen, proofs.Bindings.no-units-below, proofs.Bindings.unit-of-each, proofs.Bindings.on-chosen, proofs.Bindings.chart-same-runs, proofs.Bindings.label-same-runs, proofs.Members.Has-left, proofs.Members.Has-right, proofs.Members.Each-append, proofs.Members.find-Has}
+use Rattle.batch_record_laws.{specs.Candidates.MayBe, specs.Candidates.MayRun, specs.Candidates.tree_on, specs.Candidates.UnitProcedureIsClear, specs.Candidates.ChartIsClear, specs.Candidates.ChartsAreClear, specs.Candidates.CasesAreClear, specs.Candidates.WorkIsClear, specs.Candidates.IsClearOnEach, specs.Candidates.CandidatesSuffice, proofs.Members.Each-left, proofs.Members.Each-right, proofs.Roles.AreServed, proofs.Roles.some-serves, proofs.Roles.names_of, proofs.Roles.one-declared, proofs.Roles.some-declared, proofs.Roles.named-role}
 
 -- Whether a node outside unit procedures is clear doesn't depend on its descendants, but for the body of a loop
 

@@ -1,19 +1,8 @@
 -- Clearance, by recursion down the trees, as the proofs use it.
 use Rattle.std.specs.Prelude.{◌≡◌, suc, List, [], ◌∷◌, ◌++◌, IsTrue, ⊤, Some, slice_get}
-use Rattle.batch_model.specs.Lists.{Has, Each}
-use Rattle.batch_recipe.specs.Conditions.{Name}
-use Rattle.batch_recipe.specs.Following.{follower}
-use Rattle.batch_recipe.specs.Tree.{Place, Step, Phase, Task, runs, follows, Tree, act, skip, seq, par, sel, loop, Trees, no_trees, tree, Choices, otherwise, choice}
-use Rattle.batch_model.specs.ActStates.{steps}
-use Rattle.batch_model.specs.Placed.{IsPlaced}
-use Rattle.batch_model.specs.Plant.{Setup, Recipe}
-use Rattle.batch_model.specs.Cleared.{Ranking, phases, phases_of_each}
-use Rattle.batch_record_laws.specs.Procedures.{ReservesUnits}
-use Rattle.batch_record_laws.specs.Ways.{RisesDown}
-use Rattle.batch_record_laws.proofs.PhaseStepPlaces.{FollowersAreAvoided}
-use Rattle.batch_recipe.specs.declared.need.Need.{Need}
-use Rattle.batch_recipe.specs.Needs.{one_unit}
-use Rattle.batch_model.specs.Standing.{IsControl}
+use Rattle.batch_model.specs.{Lists.Has, Lists.Each, ActStates.steps, Placed.IsPlaced, Plant.Setup, Plant.Recipe, Cleared.Ranking, Cleared.phases, Cleared.phases_of_each, Standing.IsControl}
+use Rattle.batch_recipe.specs.{Conditions.Name, Following.follower, Tree.Place, Tree.Step, Tree.Phase, Tree.Task, Tree.runs, Tree.follows, Tree.Tree, Tree.act, Tree.skip, Tree.seq, Tree.par, Tree.sel, Tree.loop, Tree.Trees, Tree.no_trees, Tree.tree, Tree.Choices, Tree.otherwise, Tree.choice, declared.need.Need.Need, Needs.one_unit}
+use Rattle.batch_record_laws.{specs.Procedures.ReservesUnits, specs.Ways.RisesDown, proofs.PhaseStepPlaces.FollowersAreAvoided}
 
 abbrev pub IsOfferedPhase : Setup → Phase → Type 0
 IsOfferedPhase d x = IsTrue (d.offers x.unit x.name)

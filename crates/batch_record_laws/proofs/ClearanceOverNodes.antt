@@ -1,29 +1,9 @@
 -- Clearance over all nodes makes clearance by recursion down the trees.
 use Rattle.std.proofs.Common.{◌≡◌, refl, sym, ◌∙◌, ap, subst, ℕ, ◌+◌, ◌<◌, arith, List, [], ◌∷◌, ◌++◌, Bool, true, false, map, IsTrue, inl, inr, slice_get}
-use Rattle.std.proofs.lemmas.Bool.{and_parts}
-use Rattle.std.proofs.lemmas.Slice.Eq.{bytes_eq-Decides}
-use Rattle.std.specs.List.{list_all}
-use Rattle.batch_recipe.specs.Conditions.{Name, same_name}
-use Rattle.batch_recipe.specs.Expanding.{Binding}
-use Rattle.batch_recipe.specs.Nodes.{Node, child}
-use Rattle.batch_recipe.specs.Tree.{Place, Phase, Step, Task, runs, follows, Tree, act, skip, seq, par, sel, loop, Trees, no_trees, tree, Choices, otherwise, choice}
-use Rattle.batch_recipe.specs.WellFormed.{is_among, are_distinct}
-use Rattle.batch_model.specs.Lists.{Has, Each}
-use Rattle.batch_model.specs.Plant.{Recipe, Role, Master, Setup}
-use Rattle.batch_model.specs.Events.{is_binding, bound_by}
-use Rattle.batch_model.specs.Standing.{IsControl}
-use Rattle.batch_model.specs.Cleared.{Ranking, Level, is_procedure, in_procedure, in_unit_procedure, in_operation, below, Part, parts, parts_within, parts_of_each, parts_of_choices, procedure_parts, phases, phases_within, phases_of_each, phases_of_choices, RunApart, BranchesRunApart, RiseStrictly, BeginsWithUnit, IsServed, IsClear, IsClearedRecipe, IsCleared}
-use Rattle.batch_model.proofs.Members.{Has-right, Has-split, Each-Has, Each-map, Each-append}
-use Rattle.batch_model.proofs.TreeParts.{parts-nodes}
-use Rattle.batch_record_laws.specs.Procedures.{IsOfLevel, IsActOf, AreOfLevel, AreChoicesOf, HasLevels, IsProcedure}
-use Rattle.batch_record_laws.specs.Premises.{IsOfDocuments}
-use Rattle.batch_record_laws.proofs.PhaseStepPlaces.{followers-avoided}
-use Rattle.batch_record_laws.proofs.ClearanceDownTrees.{RunsInUnits, RunsInUnitsBelow, RunInUnits, RunSideBySide, ChoicesRunInUnits, AreApart, IsOfferedPhase, BeginsAlone, FollowersBeginAlone, IsClearedDown, AreClearedDown}
-use Rattle.batch_record_laws.proofs.Members.{Each-left, Each-right, Each-image, map-Has}
-use Rattle.batch_record_laws.proofs.UnitProcedures.{Top, tops, tops_of_each, tops_of_choices, top-steps, follower-one}
-use Rattle.batch_record_laws.proofs.Ways.{paths-down}
-use Rattle.batch_recipe.specs.declared.need.Need.{Need}
-use Rattle.batch_recipe.specs.Needs.{one_unit, resources_needed}
+use Rattle.std.{proofs.lemmas.Bool.and_parts, proofs.lemmas.Slice.Eq.bytes_eq-Decides, specs.List.list_all}
+use Rattle.batch_recipe.specs.{Conditions.Name, Conditions.same_name, Expanding.Binding, Nodes.Node, Nodes.child, Tree.Place, Tree.Phase, Tree.Step, Tree.Task, Tree.runs, Tree.follows, Tree.Tree, Tree.act, Tree.skip, Tree.seq, Tree.par, Tree.sel, Tree.loop, Tree.Trees, Tree.no_trees, Tree.tree, Tree.Choices, Tree.otherwise, Tree.choice, WellFormed.is_among, WellFormed.are_distinct, declared.need.Need.Need, Needs.one_unit, Needs.resources_needed}
+use Rattle.batch_model.{specs.Lists.Has, specs.Lists.Each, specs.Plant.Recipe, specs.Plant.Role, specs.Plant.Master, specs.Plant.Setup, specs.Events.is_binding, specs.Events.bound_by, specs.Standing.IsControl, specs.Cleared.Ranking, specs.Cleared.Level, specs.Cleared.is_procedure, specs.Cleared.in_procedure, specs.Cleared.in_unit_procedure, specs.Cleared.in_operation, specs.Cleared.below, specs.Cleared.Part, specs.Cleared.parts, specs.Cleared.parts_within, specs.Cleared.parts_of_each, specs.Cleared.parts_of_choices, specs.Cleared.procedure_parts, specs.Cleared.phases, specs.Cleared.phases_within, specs.Cleared.phases_of_each, specs.Cleared.phases_of_choices, specs.Cleared.RunApart, specs.Cleared.BranchesRunApart, specs.Cleared.RiseStrictly, specs.Cleared.BeginsWithUnit, specs.Cleared.IsServed, specs.Cleared.IsClear, specs.Cleared.IsClearedRecipe, specs.Cleared.IsCleared, proofs.Members.Has-right, proofs.Members.Has-split, proofs.Members.Each-Has, proofs.Members.Each-map, proofs.Members.Each-append, proofs.TreeParts.parts-nodes}
+use Rattle.batch_record_laws.{specs.Procedures.IsOfLevel, specs.Procedures.IsActOf, specs.Procedures.AreOfLevel, specs.Procedures.AreChoicesOf, specs.Procedures.HasLevels, specs.Procedures.IsProcedure, specs.Premises.IsOfDocuments, proofs.PhaseStepPlaces.followers-avoided, proofs.ClearanceDownTrees.RunsInUnits, proofs.ClearanceDownTrees.RunsInUnitsBelow, proofs.ClearanceDownTrees.RunInUnits, proofs.ClearanceDownTrees.RunSideBySide, proofs.ClearanceDownTrees.ChoicesRunInUnits, proofs.ClearanceDownTrees.AreApart, proofs.ClearanceDownTrees.IsOfferedPhase, proofs.ClearanceDownTrees.BeginsAlone, proofs.ClearanceDownTrees.FollowersBeginAlone, proofs.ClearanceDownTrees.IsClearedDown, proofs.ClearanceDownTrees.AreClearedDown, proofs.Members.Each-left, proofs.Members.Each-right, proofs.Members.Each-image, proofs.Members.map-Has, proofs.UnitProcedures.Top, proofs.UnitProcedures.tops, proofs.UnitProcedures.tops_of_each, proofs.UnitProcedures.tops_of_choices, proofs.UnitProcedures.top-steps, proofs.UnitProcedures.follower-one, proofs.Ways.paths-down}
 
 -- Phases run on the unit of their unit procedure
 

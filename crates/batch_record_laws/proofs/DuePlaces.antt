@@ -1,18 +1,8 @@
 -- A place that is due isn't reached.
 use Rattle.std.proofs.Common.{arith, ◌≡◌, sym, ◌∙◌, ap, subst, ℕ, ◌+◌, List, [], ◌∷◌, inl, inr, ◌⊎◌, ⊎_elim}
-use Rattle.batch_recipe.specs.Following.{Follower, firsts, firsts_of_each, enter}
-use Rattle.batch_recipe.specs.Levels.{Level, is_procedure, in_procedure, in_unit_procedure, in_operation, below}
-use Rattle.batch_recipe.specs.Nodes.{child}
-use Rattle.batch_recipe.specs.Tree.{Place, Task, runs, follows, Tree, act, skip, seq, par, sel, loop, Trees, no_trees, tree, Choices, otherwise, choice}
-use Rattle.batch_model.specs.Lists.{Has}
-use Rattle.batch_model.specs.Placed.{IsPlaced, IsPlacedBelow, ArePlaced, IsChoicePlaced}
-use Rattle.batch_model.specs.Records.{IsAtOrAbove}
-use Rattle.batch_model.specs.Rest.{Rest, ready, asking, open_act, live, freeing, in_seq, in_par, in_loop, done, Rests, no_rests, rest, acts, acts_of_each, place_of}
-use Rattle.batch_model.specs.Standing.{IsRestOf, IsRestBelow, IsBranch, AreBranches, IsChosen, after_branch, due_followers, due_in_each, IsAwaited}
-use Rattle.batch_model.proofs.Members.{Has-split}
-use Rattle.batch_record_laws.proofs.FactsAfterChange.{at_or_above}
-use Rattle.batch_record_laws.proofs.FactPlaces.{IsUnderChild, IsUnderLater, under_child, under, is_at, acts-under, acts-side_by_side, children_apart, not_above_itself}
-use Rattle.batch_record_laws.proofs.HoldingsInAdvance.{Nowhere}
+use Rattle.batch_recipe.specs.{Following.Follower, Following.firsts, Following.firsts_of_each, Following.enter, Levels.Level, Levels.is_procedure, Levels.in_procedure, Levels.in_unit_procedure, Levels.in_operation, Levels.below, Nodes.child, Tree.Place, Tree.Task, Tree.runs, Tree.follows, Tree.Tree, Tree.act, Tree.skip, Tree.seq, Tree.par, Tree.sel, Tree.loop, Tree.Trees, Tree.no_trees, Tree.tree, Tree.Choices, Tree.otherwise, Tree.choice}
+use Rattle.batch_model.{specs.Lists.Has, specs.Placed.IsPlaced, specs.Placed.IsPlacedBelow, specs.Placed.ArePlaced, specs.Placed.IsChoicePlaced, specs.Records.IsAtOrAbove, specs.Rest.Rest, specs.Rest.ready, specs.Rest.asking, specs.Rest.open_act, specs.Rest.live, specs.Rest.freeing, specs.Rest.in_seq, specs.Rest.in_par, specs.Rest.in_loop, specs.Rest.done, specs.Rest.Rests, specs.Rest.no_rests, specs.Rest.rest, specs.Rest.acts, specs.Rest.acts_of_each, specs.Rest.place_of, specs.Standing.IsRestOf, specs.Standing.IsRestBelow, specs.Standing.IsBranch, specs.Standing.AreBranches, specs.Standing.IsChosen, specs.Standing.after_branch, specs.Standing.due_followers, specs.Standing.due_in_each, specs.Standing.IsAwaited, proofs.Members.Has-split}
+use Rattle.batch_record_laws.proofs.{FactsAfterChange.at_or_above, FactPlaces.IsUnderChild, FactPlaces.IsUnderLater, FactPlaces.under_child, FactPlaces.under, FactPlaces.is_at, FactPlaces.acts-under, FactPlaces.acts-side_by_side, FactPlaces.children_apart, FactPlaces.not_above_itself, HoldingsInAdvance.Nowhere}
 
 -- The first acts of a chart are at or below its place
 

@@ -1,15 +1,8 @@
 -- Moves and reports change an act at its own place alone, and leave the holdings in advance as they are.
 use Rattle.std.proofs.Common.{◌≡◌, refl, sym, ◌∙◌, ap, ℕ, zero, suc, pred, [], length, inl, inr}
-use Rattle.batch_matrix.specs.declared.command.Command.{Command}
-use Rattle.batch_matrix.specs.declared.report.PhaseEnd.{PhaseEnd}
-use Rattle.batch_matrix.specs.declared.report.PhaseEnd.TheVariants.{Ended, Now, Same}
-use Rattle.batch_matrix.specs.declared.state.State.{State}
-use Rattle.batch_recipe.specs.Conditions.{ValueList}
-use Rattle.batch_recipe.specs.Tree.{Step, runs, follows}
-use Rattle.batch_model.specs.Events.{phase_after}
-use Rattle.batch_model.specs.Lists.{Has}
-use Rattle.batch_model.specs.Moves.{freed, sent, released, begun, ended, asked, granted}
-use Rattle.batch_model.specs.Rest.{Rest, ready, asking, open_act, live, freeing, in_seq, in_par, in_loop, done, acts, place_of}
+use Rattle.batch_matrix.specs.declared.{command.Command.Command, report.PhaseEnd.PhaseEnd, report.PhaseEnd.TheVariants.Ended, report.PhaseEnd.TheVariants.Now, report.PhaseEnd.TheVariants.Same, state.State.State}
+use Rattle.batch_recipe.specs.{Conditions.ValueList, Tree.Step, Tree.runs, Tree.follows}
+use Rattle.batch_model.specs.{Events.phase_after, Lists.Has, Moves.freed, Moves.sent, Moves.released, Moves.begun, Moves.ended, Moves.asked, Moves.granted, Rest.Rest, Rest.ready, Rest.asking, Rest.open_act, Rest.live, Rest.freeing, Rest.in_seq, Rest.in_par, Rest.in_loop, Rest.done, Rest.acts, Rest.place_of}
 use Rattle.batch_record_laws.proofs.HoldingsInAdvance.{at_moment, lifted-none, reach-lifted, reach-fresh, StandsIn, IsTidy, IsSteady}
 
 -- the acts that f makes of an act stand at places of its acts

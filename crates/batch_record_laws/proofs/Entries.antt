@@ -1,16 +1,10 @@
 -- Holders among entries, and a record's account of them.
 use Rattle.std.proofs.Common.{◌≡◌, refl, sym, ◌∙◌, ap, ap₂, ℕ, ◌+◌, ◌≤◌, ◌<◌, arith, List, [], ◌∷◌, ◌++◌, Bool, true, false, cond, not, filter, inl, inr, ◌⊎◌, ⊎_elim, length, sum_by, bytes_eq, nat_eq}
-use Rattle.std.proofs.lemmas.List.Sums.{sum_by-append, sum_by-cons, length-filter, count_by-le-length}
-use Rattle.std.proofs.lemmas.Slice.Eq.{bytes_eq-Decides}
-use Rattle.std.proofs.lemmas.Grind.{flat_map-append}
-use Rattle.std.proofs.lemmas.Bool.{and_parts, and_from, not_from_true}
-use Rattle.batch_model.specs.Lists.{Has}
-use Rattle.batch_recipe.specs.Conditions.{Name}
-use Rattle.batch_model.specs.Plant.{BatchAct, Share, units_in, is_same_act, without}
+use Rattle.std.proofs.lemmas.{List.Sums.sum_by-append, List.Sums.sum_by-cons, List.Sums.length-filter, List.Sums.count_by-le-length, Slice.Eq.bytes_eq-Decides, Grind.flat_map-append, Bool.and_parts, Bool.and_from, Bool.not_from_true}
+use Rattle.batch_model.{specs.Lists.Has, specs.Plant.BatchAct, specs.Plant.Share, specs.Plant.units_in, specs.Plant.is_same_act, specs.Plant.without, proofs.Members.Has-split, proofs.Members.Has-left, proofs.Members.Has-right}
+use Rattle.batch_recipe.specs.{Conditions.Name, declared.need.Need.Need}
 pub use Rattle.batch_record_laws.specs.Once.{IsOnce}
 use Rattle.batch_record_laws.proofs.PlantFacts.{holding, awaiting, performing, Entry, holder_of, holders_among, need, share}
-use Rattle.batch_model.proofs.Members.{Has-split, Has-left, Has-right}
-use Rattle.batch_recipe.specs.declared.need.Need.{Need}
 
 pub nat_same : (m n : ℕ) → nat_eq m n ≡ true → m ≡ n
 nat_same m n e = grind arith

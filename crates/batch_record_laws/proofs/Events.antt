@@ -1,38 +1,11 @@
 -- Each event keeps the invariant.
 use Rattle.std.proofs.Common.{◌≡◌, ◌⊎◌, ⊎_elim, refl, sym, ◌∙◌, ap, ap₂, subst, subst₂, ℕ, ◌<◌, ◌≤◌, arith, List, [], ◌∷◌, ◌++◌, Bool, true, false, cond, not, map, filter, Option, Some, inl, inr, nat_eq}
-use Rattle.batch_matrix.specs.declared.state.State.{State}
-use Rattle.batch_matrix.specs.declared.state.State.TheVariants.{Idle, Running, Pausing, Paused, Holding, Held, Restarting, Stopping, Stopped, Aborting, Aborted, Complete}
-use Rattle.batch_matrix.specs.declared.command.Command.{Command}
-use Rattle.batch_matrix.specs.declared.command.Command.TheVariants.{Start, Pause, Resume, Hold, Restart, Stop, Abort, Reset}
-use Rattle.batch_matrix.specs.Matrix.{same_state, accepts, target}
-use Rattle.batch_model.specs.Lists.{Has}
-use Rattle.batch_recipe.specs.Conditions.{Name, ValueList}
-use Rattle.batch_recipe.specs.Tree.{Place, Phase}
-use Rattle.batch_model.specs.Rest.{withdrawn}
-use Rattle.batch_model.specs.Plant.{Recipe, Setup, Batch, BatchAct, Share, units_in, Plant, in_batch}
-use Rattle.batch_recipe.specs.Values.{with_outputs_zero}
-use Rattle.batch_model.specs.Events.{Refusal, created, ordered, removed, refused, command_not_accepted, not_idle, Answer, new_batch, with_batch, reset, commanded, lines_under, ordering, without_batch, removing}
-use Rattle.batch_model.specs.Runs.{Out, reply}
-use Rattle.batch_model.specs.Records.{waiters_after, state_after}
-use Rattle.batch_record_laws.proofs.PlantFacts.{holding, awaiting, performing, Standing, facts, early_facts, batch_facts, Entry, entry, entries_of, entries, holder_of, holders_among, need}
-use Rattle.batch_model.specs.Cleared.{Ranking}
-use Rattle.batch_record_laws.proofs.ClearanceDownTrees.{IsClearedDown}
-use Rattle.batch_model.proofs.Members.{Has-split}
-use Rattle.batch_record_laws.proofs.Members.{map-Has}
-use Rattle.batch_record_laws.proofs.FactsAfterAdvance.{reach-facts, is_kept, withdrawn-facts}
-use Rattle.batch_record_laws.proofs.Entries.{Agrees, once-filter, Has-filter, filter-Has, nat_same, nat_self, nat_differs, holders-append}
-use Rattle.batch_record_laws.proofs.Batches.{Has-only, below-next, only, only-hit, only-miss, same-batch}
-use Rattle.batch_record_laws.proofs.Invariant.{IsFitting, NothingAwaited, IsSound, IsKept}
-use Rattle.batch_record_laws.proofs.Batches.{awaiting-of, performing-of, of-entry, append-holders}
-use Rattle.batch_record_laws.proofs.BatchProgress.{is_under_way, early-none}
+use Rattle.batch_matrix.specs.{declared.state.State.State, declared.state.State.TheVariants.Idle, declared.state.State.TheVariants.Running, declared.state.State.TheVariants.Pausing, declared.state.State.TheVariants.Paused, declared.state.State.TheVariants.Holding, declared.state.State.TheVariants.Held, declared.state.State.TheVariants.Restarting, declared.state.State.TheVariants.Stopping, declared.state.State.TheVariants.Stopped, declared.state.State.TheVariants.Aborting, declared.state.State.TheVariants.Aborted, declared.state.State.TheVariants.Complete, declared.command.Command.Command, declared.command.Command.TheVariants.Start, declared.command.Command.TheVariants.Pause, declared.command.Command.TheVariants.Resume, declared.command.Command.TheVariants.Hold, declared.command.Command.TheVariants.Restart, declared.command.Command.TheVariants.Stop, declared.command.Command.TheVariants.Abort, declared.command.Command.TheVariants.Reset, Matrix.same_state, Matrix.accepts, Matrix.target}
+use Rattle.batch_model.{specs.Lists.Has, specs.Rest.withdrawn, specs.Plant.Recipe, specs.Plant.Setup, specs.Plant.Batch, specs.Plant.BatchAct, specs.Plant.Share, specs.Plant.units_in, specs.Plant.Plant, specs.Plant.in_batch, specs.Events.Refusal, specs.Events.created, specs.Events.ordered, specs.Events.removed, specs.Events.refused, specs.Events.command_not_accepted, specs.Events.not_idle, specs.Events.Answer, specs.Events.new_batch, specs.Events.with_batch, specs.Events.reset, specs.Events.commanded, specs.Events.lines_under, specs.Events.ordering, specs.Events.without_batch, specs.Events.removing, specs.Runs.Out, specs.Runs.reply, specs.Records.waiters_after, specs.Records.state_after, specs.Cleared.Ranking, proofs.Members.Has-split, specs.Standing.IsStanding}
+use Rattle.batch_recipe.specs.{Conditions.Name, Conditions.ValueList, Tree.Place, Tree.Phase, Values.with_outputs_zero, declared.need.Need.Need}
+use Rattle.batch_record_laws.proofs.{PlantFacts.holding, PlantFacts.awaiting, PlantFacts.performing, PlantFacts.Standing, PlantFacts.facts, PlantFacts.early_facts, PlantFacts.batch_facts, PlantFacts.Entry, PlantFacts.entry, PlantFacts.entries_of, PlantFacts.entries, PlantFacts.holder_of, PlantFacts.holders_among, PlantFacts.need, ClearanceDownTrees.IsClearedDown, Members.map-Has, FactsAfterAdvance.reach-facts, FactsAfterAdvance.is_kept, FactsAfterAdvance.withdrawn-facts, Entries.Agrees, Entries.once-filter, Entries.Has-filter, Entries.filter-Has, Entries.nat_same, Entries.nat_self, Entries.nat_differs, Entries.holders-append, Batches.Has-only, Batches.below-next, Batches.only, Batches.only-hit, Batches.only-miss, Batches.same-batch, Invariant.IsFitting, Invariant.NothingAwaited, Invariant.IsSound, Invariant.IsKept, Batches.awaiting-of, Batches.performing-of, Batches.of-entry, Batches.append-holders, BatchProgress.is_under_way, BatchProgress.early-none, ActChanges.changed_plant, ActChanges.kept-after, InvariantAfterChange.kept-quiet, InvariantAfterMove.tells-other, InvariantAfterMove.tells-own, Invariant.standing-of, Invariant.numbers-of}
 use Rattle.batch_step_laws.proofs.LastLineEffect.{holders_told-last, waiters_told-last, active_told-last, state_told-last}
-use Rattle.batch_record_laws.proofs.ActChanges.{changed_plant, kept-after}
-use Rattle.batch_record_laws.proofs.InvariantAfterChange.{kept-quiet}
-use Rattle.batch_record_laws.proofs.InvariantAfterMove.{tells-other, tells-own}
 use Rattle.std.proofs.lemmas.List.{append-nil}
-use Rattle.batch_model.specs.Standing.{IsStanding}
-use Rattle.batch_record_laws.proofs.Invariant.{standing-of, numbers-of}
-use Rattle.batch_recipe.specs.declared.need.Need.{Need}
 
 -- Answers: the record with the reply, and the plant
 

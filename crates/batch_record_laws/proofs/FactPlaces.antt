@@ -1,16 +1,8 @@
 -- All facts of a rest stand at or below the place of its chart.
 use Rattle.std.proofs.Common.{◌+◌, ◌≡◌, refl, sym, ◌∙◌, ap, ℕ, ◌≤◌, arith, List, [], ◌∷◌, ◌++◌, take, slice_get, Option, Some, inl, inr, ⊎_elim, append_assoc, append-nil}
-use Rattle.batch_model.specs.Lists.{Has}
-use Rattle.batch_recipe.specs.Tree.{Place, Tree, act, seq, par, sel, loop, Task, runs, follows, Trees, no_trees, tree, Choices, otherwise, choice}
-use Rattle.batch_model.specs.Rest.{Rest, ready, asking, open_act, live, freeing, in_seq, in_par, in_loop, done, Rests, no_rests, rest, acts, acts_of_each, place_of}
-use Rattle.batch_recipe.specs.Nodes.{child}
-use Rattle.batch_model.specs.Records.{IsAtOrAbove}
-use Rattle.batch_record_laws.proofs.PlantFacts.{holding, performing, Standing, held_at, awaited_at, facts, facts_of_each}
-use Rattle.batch_model.specs.Standing.{IsRestOf, IsRestBelow, IsBranch, AreBranches, IsChosen}
-use Rattle.batch_model.specs.Placed.{IsPlaced, IsPlacedBelow, ArePlaced, IsChoicePlaced}
-use Rattle.batch_model.proofs.Members.{Has-split, Has-left, Has-right}
-use Rattle.batch_record_laws.proofs.Members.{Has-map}
-use Rattle.batch_recipe.specs.declared.need.Need.{Need}
+use Rattle.batch_model.{specs.Lists.Has, specs.Rest.Rest, specs.Rest.ready, specs.Rest.asking, specs.Rest.open_act, specs.Rest.live, specs.Rest.freeing, specs.Rest.in_seq, specs.Rest.in_par, specs.Rest.in_loop, specs.Rest.done, specs.Rest.Rests, specs.Rest.no_rests, specs.Rest.rest, specs.Rest.acts, specs.Rest.acts_of_each, specs.Rest.place_of, specs.Records.IsAtOrAbove, specs.Standing.IsRestOf, specs.Standing.IsRestBelow, specs.Standing.IsBranch, specs.Standing.AreBranches, specs.Standing.IsChosen, specs.Placed.IsPlaced, specs.Placed.IsPlacedBelow, specs.Placed.ArePlaced, specs.Placed.IsChoicePlaced, proofs.Members.Has-split, proofs.Members.Has-left, proofs.Members.Has-right}
+use Rattle.batch_recipe.specs.{Tree.Place, Tree.Tree, Tree.act, Tree.seq, Tree.par, Tree.sel, Tree.loop, Tree.Task, Tree.runs, Tree.follows, Tree.Trees, Tree.no_trees, Tree.tree, Tree.Choices, Tree.otherwise, Tree.choice, Nodes.child, declared.need.Need.Need}
+use Rattle.batch_record_laws.proofs.{PlantFacts.holding, PlantFacts.performing, PlantFacts.Standing, PlantFacts.held_at, PlantFacts.awaited_at, PlantFacts.facts, PlantFacts.facts_of_each, Members.Has-map}
 
 -- at or below child i of p
 abbrev pub IsUnderChild : Place → ℕ → Place → Type 0

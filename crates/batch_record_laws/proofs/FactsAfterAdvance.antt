@@ -1,14 +1,9 @@
 -- Reaching a chart and advancing change no facts; withdrawing takes the asks away.
 use Rattle.std.proofs.Common.{arith, ◌≡◌, refl, sym, ◌∙◌, ap, ap₂, ℕ, pred, List, [], ◌∷◌, ◌++◌, Bool, true, false, filter, take, slice_get, Option, append-nil}
-use Rattle.std.proofs.lemmas.List.Elements.{filter-append}
-use Rattle.std.proofs.lemmas.Bool.{and_parts}
-use Rattle.batch_recipe.specs.Conditions.{ValueList, holds}
-use Rattle.batch_recipe.specs.declared.condition.Cond.{Cond}
-use Rattle.batch_recipe.specs.Tree.{Place, Tree, act, skip, seq, par, sel, loop, Trees, no_trees, tree, Choices, otherwise, choice}
+use Rattle.std.proofs.lemmas.{List.Elements.filter-append, Bool.and_parts}
+use Rattle.batch_recipe.specs.{Conditions.ValueList, Conditions.holds, declared.condition.Cond.Cond, Tree.Place, Tree.Tree, Tree.act, Tree.skip, Tree.seq, Tree.par, Tree.sel, Tree.loop, Tree.Trees, Tree.no_trees, Tree.tree, Tree.Choices, Tree.otherwise, Tree.choice, declared.need.Need.Need}
 use Rattle.batch_model.specs.Rest.{Rest, ready, asking, open_act, live, freeing, in_seq, in_par, in_loop, done, Rests, no_rests, rest, is_done, all_done, joined, turning, reach, reach_first, reach_each, reach_chosen, turned, advance, advance_each, withdrawn, withdrawn_each}
-use Rattle.batch_record_laws.proofs.HoldingsInAdvance.{at_moment}
-use Rattle.batch_record_laws.proofs.PlantFacts.{holding, awaiting, performing, Standing, held_at, awaited_at, facts, facts_of_each}
-use Rattle.batch_recipe.specs.declared.need.Need.{Need}
+use Rattle.batch_record_laws.proofs.{HoldingsInAdvance.at_moment, PlantFacts.holding, PlantFacts.awaiting, PlantFacts.performing, PlantFacts.Standing, PlantFacts.held_at, PlantFacts.awaited_at, PlantFacts.facts, PlantFacts.facts_of_each}
 
 pub done-facts : (r : Rest) → is_done r ≡ true → facts r ≡ []
 done-facts r e = grind arith

@@ -1,20 +1,9 @@
 -- A change of one act changes the facts of that act alone.
 use Rattle.std.proofs.Common.{◌+◌, ◌≡◌, refl, sym, ◌∙◌, ap, ap₂, subst, ℕ, arith, List, [], ◌++◌, true, false, inl, inr, ⊎_elim, bytes_eq, append-nil, append_assoc}
 use Rattle.std.proofs.lemmas.Slice.Eq.{bytes_eq-Decides}
-use Rattle.batch_model.specs.Lists.{Has}
-use Rattle.batch_recipe.specs.Tree.{Place, Step, Tree, act, seq, par, sel, loop, Task, runs, follows, Trees, no_trees, tree, Choices, otherwise, choice}
-use Rattle.batch_model.specs.Rest.{Rest, ready, asking, open_act, live, freeing, in_seq, in_par, in_loop, done, Rests, no_rests, rest, acts, acts_of_each, changed_at, changed_in_each, place_of}
-use Rattle.batch_recipe.specs.Nodes.{child}
-use Rattle.batch_model.specs.Records.{IsAtOrAbove}
-use Rattle.batch_record_laws.proofs.PlantFacts.{Standing, held_at, facts, facts_of_each}
-use Rattle.batch_model.specs.Standing.{IsRestOf, IsRestBelow, IsBranch, AreBranches, IsChosen}
-use Rattle.batch_model.specs.Placed.{IsPlaced, IsPlacedBelow, ArePlaced, IsChoicePlaced}
-use Rattle.batch_model.specs.Cleared.{Ranking}
-use Rattle.batch_record_laws.specs.Ways.{RanksRiseAbove, last_rank, RisesDown, RisesBelow, RiseDown, ChoicesRiseDown}
-use Rattle.batch_model.proofs.Members.{Has-split, Has-left, Has-right}
-use Rattle.batch_record_laws.proofs.FactPlaces.{IsUnderChild, IsUnderLater, under_child, facts-under, facts-side_by_side, acts-under, acts-below, acts-side_by_side, children_apart, not_above_itself, held-place}
-use Rattle.batch_recipe.specs.declared.need.Need.{Need}
-use Rattle.batch_recipe.specs.Needs.{resources_needed}
+use Rattle.batch_model.{specs.Lists.Has, specs.Rest.Rest, specs.Rest.ready, specs.Rest.asking, specs.Rest.open_act, specs.Rest.live, specs.Rest.freeing, specs.Rest.in_seq, specs.Rest.in_par, specs.Rest.in_loop, specs.Rest.done, specs.Rest.Rests, specs.Rest.no_rests, specs.Rest.rest, specs.Rest.acts, specs.Rest.acts_of_each, specs.Rest.changed_at, specs.Rest.changed_in_each, specs.Rest.place_of, specs.Records.IsAtOrAbove, specs.Standing.IsRestOf, specs.Standing.IsRestBelow, specs.Standing.IsBranch, specs.Standing.AreBranches, specs.Standing.IsChosen, specs.Placed.IsPlaced, specs.Placed.IsPlacedBelow, specs.Placed.ArePlaced, specs.Placed.IsChoicePlaced, specs.Cleared.Ranking, proofs.Members.Has-split, proofs.Members.Has-left, proofs.Members.Has-right}
+use Rattle.batch_recipe.specs.{Tree.Place, Tree.Step, Tree.Tree, Tree.act, Tree.seq, Tree.par, Tree.sel, Tree.loop, Tree.Task, Tree.runs, Tree.follows, Tree.Trees, Tree.no_trees, Tree.tree, Tree.Choices, Tree.otherwise, Tree.choice, Nodes.child, declared.need.Need.Need, Needs.resources_needed}
+use Rattle.batch_record_laws.{proofs.PlantFacts.Standing, proofs.PlantFacts.held_at, proofs.PlantFacts.facts, proofs.PlantFacts.facts_of_each, specs.Ways.RanksRiseAbove, specs.Ways.last_rank, specs.Ways.RisesDown, specs.Ways.RisesBelow, specs.Ways.RiseDown, specs.Ways.ChoicesRiseDown, proofs.FactPlaces.IsUnderChild, proofs.FactPlaces.IsUnderLater, proofs.FactPlaces.under_child, proofs.FactPlaces.facts-under, proofs.FactPlaces.facts-side_by_side, proofs.FactPlaces.acts-under, proofs.FactPlaces.acts-below, proofs.FactPlaces.acts-side_by_side, proofs.FactPlaces.children_apart, proofs.FactPlaces.not_above_itself, proofs.FactPlaces.held-place}
 
 pub hit : (x : Place) (q r : Rest) → elim (bytes_eq x x) [ true ↦ q | false ↦ r ] ≡ q
 hit x q r = grind (arith, bytes_eq-Decides x x)

@@ -1,12 +1,8 @@
 -- An act that asks, and the fact that says so.
 use Rattle.std.proofs.Common.{arith, ◌≡◌, ⊎_elim, refl, sym, ap, subst, ℕ, List, [], ◌∷◌, ◌++◌, take, slice_get, Option, Some, inl, inr}
-use Rattle.batch_model.specs.Lists.{Has}
-use Rattle.batch_recipe.specs.Tree.{Place, Step, Task}
-use Rattle.batch_recipe.specs.declared.need.Need.{Need}
-use Rattle.batch_model.specs.Rest.{Rest, ready, asking, open_act, live, freeing, in_seq, in_par, in_loop, done, Rests, no_rests, rest, acts, acts_of_each}
-use Rattle.batch_model.proofs.Members.{Has-split, Has-left, Has-right}
-use Rattle.batch_record_laws.proofs.PlantFacts.{awaiting, performing, held_at, awaited_at, facts, facts_of_each}
-use Rattle.batch_record_laws.proofs.RanksOfAsks.{held-awaiting, awaited-awaiting, lone-awaiting}
+use Rattle.batch_model.{specs.Lists.Has, specs.Rest.Rest, specs.Rest.ready, specs.Rest.asking, specs.Rest.open_act, specs.Rest.live, specs.Rest.freeing, specs.Rest.in_seq, specs.Rest.in_par, specs.Rest.in_loop, specs.Rest.done, specs.Rest.Rests, specs.Rest.no_rests, specs.Rest.rest, specs.Rest.acts, specs.Rest.acts_of_each, proofs.Members.Has-split, proofs.Members.Has-left, proofs.Members.Has-right}
+use Rattle.batch_recipe.specs.{Tree.Place, Tree.Step, Tree.Task, declared.need.Need.Need}
+use Rattle.batch_record_laws.proofs.{PlantFacts.awaiting, PlantFacts.performing, PlantFacts.held_at, PlantFacts.awaited_at, PlantFacts.facts, PlantFacts.facts_of_each, RanksOfAsks.held-awaiting, RanksOfAsks.awaited-awaiting, RanksOfAsks.lone-awaiting}
 
 abbrev pub AskingAct : List Rest → Place → Need → Type 0
 AskingAct as' q x = (p : Step) × (w : Task) × (n : ℕ) × Has as' (asking p w n) × (p.place ≡ q) × (slice_get p.needs n ≡ Some x)

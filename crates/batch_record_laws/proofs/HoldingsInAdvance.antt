@@ -1,23 +1,10 @@
 -- Holdings in advance pass to the acts that are reached: these hold them from then on.
 use Rattle.std.proofs.Common.{arith, ◌≡◌, refl, sym, ◌∙◌, ap, ap₂, subst, ℕ, ◌+◌, zero, suc, pred, List, [], ◌∷◌, ◌++◌, Bool, true, false, ◌||◌, ◌&&◌, map, take, length, inl, inr, ◌⊎◌, ⊎_elim, append_assoc}
-use Rattle.std.specs.List.{list_any}
-use Rattle.std.proofs.lemmas.List.{map-append}
-use Rattle.batch_recipe.specs.Conditions.{ValueList, holds}
-use Rattle.batch_recipe.specs.declared.condition.Cond.{Cond}
-use Rattle.batch_recipe.specs.declared.need.Need.{Need}
-use Rattle.batch_recipe.specs.Nodes.{child}
-use Rattle.batch_recipe.specs.Tree.{Place, Step, Task, runs, follows, Tree, act, skip, seq, par, sel, loop, Trees, no_trees, tree, Choices, otherwise, choice}
-use Rattle.batch_model.specs.Lists.{Has}
-use Rattle.batch_model.specs.Placed.{IsPlaced, IsPlacedBelow, ArePlaced, IsChoicePlaced}
-use Rattle.batch_model.specs.Plant.{InAdvance, is_act_reached}
-use Rattle.batch_model.specs.Rest.{Rest, Moment, ready, asking, open_act, live, freeing, in_seq, in_par, in_loop, done, Rests, no_rests, rest, same_place, is_done, all_done, joined, turning, reach, reach_first, reach_each, reach_chosen, continued, turned, advance, advance_each, acts, acts_of_each, place_of, changed_at, changed_in_each}
-use Rattle.batch_model.specs.Standing.{IsRestOf, IsRestBelow, IsBranch, AreBranches, IsChosen}
-use Rattle.batch_model.proofs.Members.{Has-split, Has-left, Has-right}
+use Rattle.std.{specs.List.list_any, proofs.lemmas.List.map-append}
+use Rattle.batch_recipe.specs.{Conditions.ValueList, Conditions.holds, declared.condition.Cond.Cond, declared.need.Need.Need, Nodes.child, Tree.Place, Tree.Step, Tree.Task, Tree.runs, Tree.follows, Tree.Tree, Tree.act, Tree.skip, Tree.seq, Tree.par, Tree.sel, Tree.loop, Tree.Trees, Tree.no_trees, Tree.tree, Tree.Choices, Tree.otherwise, Tree.choice}
+use Rattle.batch_model.{specs.Lists.Has, specs.Placed.IsPlaced, specs.Placed.IsPlacedBelow, specs.Placed.ArePlaced, specs.Placed.IsChoicePlaced, specs.Plant.InAdvance, specs.Plant.is_act_reached, specs.Rest.Rest, specs.Rest.Moment, specs.Rest.ready, specs.Rest.asking, specs.Rest.open_act, specs.Rest.live, specs.Rest.freeing, specs.Rest.in_seq, specs.Rest.in_par, specs.Rest.in_loop, specs.Rest.done, specs.Rest.Rests, specs.Rest.no_rests, specs.Rest.rest, specs.Rest.same_place, specs.Rest.is_done, specs.Rest.all_done, specs.Rest.joined, specs.Rest.turning, specs.Rest.reach, specs.Rest.reach_first, specs.Rest.reach_each, specs.Rest.reach_chosen, specs.Rest.continued, specs.Rest.turned, specs.Rest.advance, specs.Rest.advance_each, specs.Rest.acts, specs.Rest.acts_of_each, specs.Rest.place_of, specs.Rest.changed_at, specs.Rest.changed_in_each, specs.Standing.IsRestOf, specs.Standing.IsRestBelow, specs.Standing.IsBranch, specs.Standing.AreBranches, specs.Standing.IsChosen, proofs.Members.Has-split, proofs.Members.Has-left, proofs.Members.Has-right}
 use Rattle.batch_step_laws.proofs.WorkAfterChange.{to_same_place, same_test}
-use Rattle.batch_record_laws.proofs.PlantFacts.{holding, Standing, held_at, facts, facts_of_each}
-use Rattle.batch_record_laws.proofs.FactsAfterChange.{miss, at_or_above}
-use Rattle.batch_record_laws.proofs.Members.{Has-map, map-Has}
-use Rattle.batch_record_laws.proofs.FactPlaces.{IsUnderChild, IsUnderLater, under_child, acts-under, acts-side_by_side, children_apart}
+use Rattle.batch_record_laws.proofs.{PlantFacts.holding, PlantFacts.Standing, PlantFacts.held_at, PlantFacts.facts, PlantFacts.facts_of_each, FactsAfterChange.miss, FactsAfterChange.at_or_above, Members.Has-map, Members.map-Has, FactPlaces.IsUnderChild, FactPlaces.IsUnderLater, FactPlaces.under_child, FactPlaces.acts-under, FactPlaces.acts-side_by_side, FactPlaces.children_apart}
 
 -- a moment with these values, at which these places hold in advance
 abbrev pub at_moment : ValueList → List Place → Moment

@@ -1,24 +1,9 @@
 -- The one fact that every event and every move keeps.
 use Rattle.std.proofs.Common.{◌≡◌, refl, subst, ℕ, ◌<◌, ◌≤◌, arith, List, [], ◌∷◌, true, Some, slice_get, inl}
-use Rattle.batch_matrix.specs.declared.state.State.{State}
-use Rattle.batch_matrix.specs.declared.state.State.TheVariants.{Idle, Running, Pausing, Paused, Holding, Held, Restarting, Stopping, Stopped, Aborting, Aborted, Complete}
-use Rattle.batch_model.specs.Lists.{Has}
-use Rattle.batch_recipe.specs.Conditions.{Name}
-use Rattle.batch_recipe.specs.Tree.{Place, Step, Phase, Tree}
-use Rattle.batch_model.specs.Plant.{Setup, InAdvance, Batch, BatchAct, Share, units_in, Plant}
-use Rattle.batch_model.specs.Moves.{is_running}
-use Rattle.batch_model.specs.Runs.{Out}
-use Rattle.batch_model.specs.Records.{holders_told, waiters_told, Active, active_told, state_told, IsAtRest}
-use Rattle.batch_record_laws.proofs.PlantFacts.{awaiting, performing, Standing, facts, entries, holders_among, need}
-use Rattle.batch_model.specs.Cleared.{Ranking}
-use Rattle.batch_record_laws.proofs.ClearanceDownTrees.{IsClearedDown}
-use Rattle.batch_record_laws.proofs.Entries.{Agrees, IsOnce}
-use Rattle.batch_record_laws.proofs.Batches.{NumbersDiffer}
-use Rattle.batch_record_laws.proofs.SameFacts.{StandApart}
-use Rattle.batch_model.specs.ActStates.{steps}
-use Rattle.batch_model.specs.Standing.{IsStandingBatch, AreNumbered, IsStanding}
-use Rattle.batch_model.proofs.Members.{Each-Has}
-use Rattle.batch_recipe.specs.declared.need.Need.{Need}
+use Rattle.batch_matrix.specs.declared.state.State.{State, TheVariants.Idle, TheVariants.Running, TheVariants.Pausing, TheVariants.Paused, TheVariants.Holding, TheVariants.Held, TheVariants.Restarting, TheVariants.Stopping, TheVariants.Stopped, TheVariants.Aborting, TheVariants.Aborted, TheVariants.Complete}
+use Rattle.batch_model.{specs.Lists.Has, specs.Plant.Setup, specs.Plant.InAdvance, specs.Plant.Batch, specs.Plant.BatchAct, specs.Plant.Share, specs.Plant.units_in, specs.Plant.Plant, specs.Moves.is_running, specs.Runs.Out, specs.Records.holders_told, specs.Records.waiters_told, specs.Records.Active, specs.Records.active_told, specs.Records.state_told, specs.Records.IsAtRest, specs.Cleared.Ranking, specs.ActStates.steps, specs.Standing.IsStandingBatch, specs.Standing.AreNumbered, specs.Standing.IsStanding, proofs.Members.Each-Has}
+use Rattle.batch_recipe.specs.{Conditions.Name, Tree.Place, Tree.Step, Tree.Phase, Tree.Tree, declared.need.Need.Need}
+use Rattle.batch_record_laws.proofs.{PlantFacts.awaiting, PlantFacts.performing, PlantFacts.Standing, PlantFacts.facts, PlantFacts.entries, PlantFacts.holders_among, PlantFacts.need, ClearanceDownTrees.IsClearedDown, Entries.Agrees, Entries.IsOnce, Batches.NumbersDiffer, SameFacts.StandApart}
 
 abbrev pub NothingAwaited : List Standing → Type 0
 NothingAwaited es = (p : Place) (r : Need) → Has es (p, awaiting r) → ⊥

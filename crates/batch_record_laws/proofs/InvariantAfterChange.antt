@@ -1,35 +1,9 @@
 -- Each kind of change keeps the invariant.
 use Rattle.std.proofs.Common.{◌≡◌, ⊎_elim, refl, sym, ◌∙◌, ap, ap₂, subst, subst₂, ℕ, ◌+◌, ◌≤◌, arith, le_trans, List, [], ◌∷◌, ◌++◌, Bool, true, false, not, map, filter, Option, Some, inl, inr, bytes_eq, append-nil}
-use Rattle.batch_matrix.specs.declared.state.State.{State}
-use Rattle.batch_matrix.specs.declared.report.Report.{Report}
-use Rattle.batch_model.specs.Lists.{Has}
-use Rattle.batch_recipe.specs.Conditions.{Name, ValueList}
-use Rattle.batch_recipe.specs.Tree.{Place, Phase}
-use Rattle.batch_model.specs.Rest.{Rest, acts, place_of}
-use Rattle.batch_model.specs.Plant.{Setup, InAdvance, Batch, BatchAct, Share, units_in, Plant, is_same_act, without}
-use Rattle.batch_model.specs.Moves.{start, ask, grant, release, pass, line_after, is_running}
-use Rattle.batch_model.specs.Events.{reported}
-use Rattle.batch_model.specs.Runs.{Out, move, reply}
-use Rattle.batch_model.specs.Records.{holders_after, holders_told, waiters_after, Active, active_after, active_told, state_after, ends_phase}
-use Rattle.batch_record_laws.proofs.PlantFacts.{Fact, holding, awaiting, performing, Standing, held_at, facts, early_facts, batch_facts, Entry, entry, entries_of, entries, holders_among, need, share}
-use Rattle.batch_model.specs.Cleared.{Ranking}
-use Rattle.batch_model.proofs.Members.{Has-split, Has-left, Has-right, Each-Has}
-use Rattle.batch_record_laws.proofs.RanksOfAsks.{same_awaiting, holding-awaiting, holding-performing, awaiting-performing}
-use Rattle.batch_record_laws.proofs.FactsAfterChange.{Frame, frame}
-use Rattle.batch_record_laws.proofs.Entries.{Agrees, IsOnce, NoneBy, Has-holders, holders-Has, agrees-more, sums-without_once, units-append, units-one, frame-middle, once-snoc, once-filter, Has-filter, filter-Has, differs, without-Has, name_self, name_same, nat_same, Has-without, act_self}
-use Rattle.batch_record_laws.proofs.Batches.{NumbersDiffer, only, same-batch, BatchFrame, batch-frame, entry-of, of-entry, of-batch, early-fact}
-use Rattle.batch_record_laws.proofs.SameFacts.{AreAlike, agrees-alike, entries-more}
-use Rattle.batch_record_laws.proofs.FactPlaces.{fact-stands}
-use Rattle.batch_record_laws.proofs.HoldingsInAdvance.{Nowhere}
-use Rattle.batch_record_laws.proofs.PhaseStarts.{alone}
-use Rattle.batch_record_laws.proofs.DuePlaces.{awaited-nowhere}
-use Rattle.batch_record_laws.proofs.Members.{Has-map, map-Has}
-use Rattle.batch_record_laws.proofs.Invariant.{IsFitting, IsSound, IsKept, fit-fewer, fit-awaited, fit-running}
-use Rattle.batch_record_laws.proofs.ActChanges.{changed_plant, kept-after, Tail, nothing, also, tail_at, IsApart, stays, comes, others-stay, same-holders, agrees-released, agrees-granted, tail-no_holder, IsChange, change-sound, Becomes, apart, fewer-facts, back_again, not_awaiting, not_yet_awaiting, not_performing, Lacks}
-use Rattle.batch_model.specs.Standing.{IsAwaited, IsStandingBatch, IsStanding}
-use Rattle.batch_record_laws.proofs.Invariant.{standing-of, numbers-of}
-use Rattle.batch_record_laws.proofs.Units.{same_performing}
-use Rattle.batch_recipe.specs.declared.need.Need.{Need}
+use Rattle.batch_matrix.specs.declared.{state.State.State, report.Report.Report}
+use Rattle.batch_model.{specs.Lists.Has, specs.Rest.Rest, specs.Rest.acts, specs.Rest.place_of, specs.Plant.Setup, specs.Plant.InAdvance, specs.Plant.Batch, specs.Plant.BatchAct, specs.Plant.Share, specs.Plant.units_in, specs.Plant.Plant, specs.Plant.is_same_act, specs.Plant.without, specs.Moves.start, specs.Moves.ask, specs.Moves.grant, specs.Moves.release, specs.Moves.pass, specs.Moves.line_after, specs.Moves.is_running, specs.Events.reported, specs.Runs.Out, specs.Runs.move, specs.Runs.reply, specs.Records.holders_after, specs.Records.holders_told, specs.Records.waiters_after, specs.Records.Active, specs.Records.active_after, specs.Records.active_told, specs.Records.state_after, specs.Records.ends_phase, specs.Cleared.Ranking, proofs.Members.Has-split, proofs.Members.Has-left, proofs.Members.Has-right, proofs.Members.Each-Has, specs.Standing.IsAwaited, specs.Standing.IsStandingBatch, specs.Standing.IsStanding}
+use Rattle.batch_recipe.specs.{Conditions.Name, Conditions.ValueList, Tree.Place, Tree.Phase, declared.need.Need.Need}
+use Rattle.batch_record_laws.proofs.{PlantFacts.Fact, PlantFacts.holding, PlantFacts.awaiting, PlantFacts.performing, PlantFacts.Standing, PlantFacts.held_at, PlantFacts.facts, PlantFacts.early_facts, PlantFacts.batch_facts, PlantFacts.Entry, PlantFacts.entry, PlantFacts.entries_of, PlantFacts.entries, PlantFacts.holders_among, PlantFacts.need, PlantFacts.share, RanksOfAsks.same_awaiting, RanksOfAsks.holding-awaiting, RanksOfAsks.holding-performing, RanksOfAsks.awaiting-performing, FactsAfterChange.Frame, FactsAfterChange.frame, Entries.Agrees, Entries.IsOnce, Entries.NoneBy, Entries.Has-holders, Entries.holders-Has, Entries.agrees-more, Entries.sums-without_once, Entries.units-append, Entries.units-one, Entries.frame-middle, Entries.once-snoc, Entries.once-filter, Entries.Has-filter, Entries.filter-Has, Entries.differs, Entries.without-Has, Entries.name_self, Entries.name_same, Entries.nat_same, Entries.Has-without, Entries.act_self, Batches.NumbersDiffer, Batches.only, Batches.same-batch, Batches.BatchFrame, Batches.batch-frame, Batches.entry-of, Batches.of-entry, Batches.of-batch, Batches.early-fact, SameFacts.AreAlike, SameFacts.agrees-alike, SameFacts.entries-more, FactPlaces.fact-stands, HoldingsInAdvance.Nowhere, PhaseStarts.alone, DuePlaces.awaited-nowhere, Members.Has-map, Members.map-Has, Invariant.IsFitting, Invariant.IsSound, Invariant.IsKept, Invariant.fit-fewer, Invariant.fit-awaited, Invariant.fit-running, ActChanges.changed_plant, ActChanges.kept-after, ActChanges.Tail, ActChanges.nothing, ActChanges.also, ActChanges.tail_at, ActChanges.IsApart, ActChanges.stays, ActChanges.comes, ActChanges.others-stay, ActChanges.same-holders, ActChanges.agrees-released, ActChanges.agrees-granted, ActChanges.tail-no_holder, ActChanges.IsChange, ActChanges.change-sound, ActChanges.Becomes, ActChanges.apart, ActChanges.fewer-facts, ActChanges.back_again, ActChanges.not_awaiting, ActChanges.not_yet_awaiting, ActChanges.not_performing, ActChanges.Lacks, Invariant.standing-of, Invariant.numbers-of, Units.same_performing}
 
 entries-only : (n : ℕ) (g : Batch → Batch) (bs : List Batch) → ((c : Batch) → Has bs c → entries_of (only n g c) ≡ entries_of c) → entries (map (only n g) bs) ≡ entries bs
 entries-only n g [] f = refl

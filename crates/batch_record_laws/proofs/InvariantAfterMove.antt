@@ -1,28 +1,11 @@
 -- The next move keeps the invariant.
 use Rattle.std.proofs.Common.{arith, ◌≡◌, refl, subst, ℕ, List, [], Bool, true, false, ◌&&◌, Option, Some, None, option_and_then, option_to_list, inl, inr, nat_eq, ◌++◌, filter_map}
 use Rattle.std.proofs.lemmas.Bool.{and_parts}
-use Rattle.batch_matrix.specs.declared.state.State.{State}
-use Rattle.batch_matrix.specs.declared.state.State.TheVariants.{Running, Pausing, Paused, Holding, Held, Restarting, Stopping, Stopped, Aborting, Aborted, Complete}
-use Rattle.batch_matrix.specs.Matrix.{ends_as}
-use Rattle.batch_model.specs.Lists.{Has}
+use Rattle.batch_matrix.specs.{declared.state.State.State, declared.state.State.TheVariants.Running, declared.state.State.TheVariants.Pausing, declared.state.State.TheVariants.Paused, declared.state.State.TheVariants.Holding, declared.state.State.TheVariants.Held, declared.state.State.TheVariants.Restarting, declared.state.State.TheVariants.Stopping, declared.state.State.TheVariants.Stopped, declared.state.State.TheVariants.Aborting, declared.state.State.TheVariants.Aborted, declared.state.State.TheVariants.Complete, Matrix.ends_as}
+use Rattle.batch_model.{specs.Lists.Has, specs.Rest.Rest, specs.Rest.acts, specs.Plant.Setup, specs.Plant.Batch, specs.Plant.Plant, specs.Plant.held_in, specs.Moves.after_move, specs.Moves.Move, specs.Moves.state, specs.Moves.when, specs.Moves.is_quiet, specs.Moves.is_empty, specs.Moves.is_reached, specs.Moves.act_move, specs.Moves.state_move, specs.Moves.batch_moves, specs.Moves.next, specs.Moves.batch_after, specs.Runs.Out, specs.Runs.move, specs.Cleared.Ranking, proofs.Members.Has-filter_map, proofs.Members.Has-flat_map, specs.Standing.IsStandingBatch, specs.Standing.IsStanding}
 use Rattle.batch_recipe.specs.Tree.{Place}
-use Rattle.batch_model.specs.Rest.{Rest, acts}
-use Rattle.batch_model.specs.Plant.{Setup, Batch, Plant, held_in}
-use Rattle.batch_model.specs.Moves.{after_move, Move, state, when, is_quiet, is_empty, is_reached, act_move, state_move, batch_moves, next, batch_after}
-use Rattle.batch_model.specs.Runs.{Out, move}
-use Rattle.batch_record_laws.proofs.PlantFacts.{facts}
-use Rattle.batch_model.specs.Cleared.{Ranking}
+use Rattle.batch_record_laws.proofs.{PlantFacts.facts, FactsAfterAdvance.done-facts, Entries.nat_self, Entries.nat_differs, Invariant.IsFitting, Invariant.IsSound, Invariant.IsKept, AbsentFacts.quiet-performs_nothing, AbsentFacts.holding-nothing, AbsentFacts.no_facts, PhaseStarts.starts-nothing, InvariantAfterChange.kept-quiet, ActMoves.Stepped, ActMoves.act-step, ActMoves.no_move, ActMoves.some_move, Invariant.standing-of}
 use Rattle.batch_step_laws.proofs.WorkAfterMove.{next-possible}
-use Rattle.batch_model.proofs.Members.{Has-filter_map, Has-flat_map}
-use Rattle.batch_record_laws.proofs.FactsAfterAdvance.{done-facts}
-use Rattle.batch_record_laws.proofs.Entries.{nat_self, nat_differs}
-use Rattle.batch_record_laws.proofs.Invariant.{IsFitting, IsSound, IsKept}
-use Rattle.batch_record_laws.proofs.AbsentFacts.{quiet-performs_nothing, holding-nothing, no_facts}
-use Rattle.batch_record_laws.proofs.PhaseStarts.{starts-nothing}
-use Rattle.batch_record_laws.proofs.InvariantAfterChange.{kept-quiet}
-use Rattle.batch_record_laws.proofs.ActMoves.{Stepped, act-step, no_move, some_move}
-use Rattle.batch_model.specs.Standing.{IsStandingBatch, IsStanding}
-use Rattle.batch_record_laws.proofs.Invariant.{standing-of}
 
 -- A line that tells the state of one batch
 

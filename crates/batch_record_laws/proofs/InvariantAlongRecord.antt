@@ -1,18 +1,8 @@
 -- The invariant holds along a whole record.
 use Rattle.std.proofs.Common.{arith, Some, ◌≡◌, refl, sym, subst, subst₂, zero-le, List, [], ◌∷◌, ◌++◌, append-nil, append_assoc}
-use Rattle.batch_model.specs.Plant.{Setup, Plant, opening}
-use Rattle.batch_model.specs.Moves.{Move, next, after_move}
-use Rattle.batch_model.specs.Events.{Event}
-use Rattle.batch_model.specs.Standing.{HasPlacedTrees, IsStanding}
-use Rattle.batch_model.specs.Runs.{Out, move, reply, Leads}
-use Rattle.batch_model.specs.Cleared.{Ranking}
-use Rattle.batch_step_laws.proofs.WorkAfterMove.{next-possible}
-use Rattle.batch_step_laws.proofs.PlantAfterMove.{possible-stands}
-use Rattle.batch_step_laws.proofs.PlantAlongRecord.{reacts-stands}
-use Rattle.batch_record_laws.proofs.ClearanceDownTrees.{AreClearedDown}
-use Rattle.batch_record_laws.proofs.Invariant.{IsKept}
-use Rattle.batch_record_laws.proofs.InvariantAfterMove.{move-step}
-use Rattle.batch_record_laws.proofs.Reports.{reply-step}
+use Rattle.batch_model.specs.{Plant.Setup, Plant.Plant, Plant.opening, Moves.Move, Moves.next, Moves.after_move, Events.Event, Standing.HasPlacedTrees, Standing.IsStanding, Runs.Out, Runs.move, Runs.reply, Runs.Leads, Cleared.Ranking}
+use Rattle.batch_step_laws.proofs.{WorkAfterMove.next-possible, PlantAfterMove.possible-stands, PlantAlongRecord.reacts-stands}
+use Rattle.batch_record_laws.proofs.{ClearanceDownTrees.AreClearedDown, Invariant.IsKept, InvariantAfterMove.move-step, Reports.reply-step}
 
 pub kept-at_first : (d : Setup) (rank : Ranking) → IsKept d rank [] opening
 kept-at_first d rank =

@@ -1,28 +1,11 @@
 -- The expanded tree of a recipe has the levels of a procedure.
 use Rattle.std.proofs.Common.{arith, ◌≡◌, refl, ℕ, ◌+◌, List, [], ◌∷◌, Bool, true, false, ◌&&◌, not, map, Option, Some, None}
-use Rattle.std.proofs.lemmas.Bool.{and_parts}
-use Rattle.std.specs.List.{list_all}
-use Rattle.batch_recipe.specs.Conditions.{Name}
+use Rattle.std.{proofs.lemmas.Bool.and_parts, specs.List.list_all}
+use Rattle.batch_recipe.specs.{Conditions.Name, Diagram.Diagram, Diagram.Diagrams, Diagram.Cases, Diagram.diagram_of, Tree.Place, Tree.Step, Tree.Tree, Tree.act, Tree.skip, Nodes.child, Expanding.expanded, Expanding.expanded_each, Expanding.expanded_cases, Expanding.unit_below, Expanding.asked_in_order, Expanding.task_of, Expanding.act_named, Expanding.Sites, Expanding.unit_chosen, Expanding.unit_with, Expanding.unit_named, Expanding.step_of, Expanding.act_tree_with, Expanding.named_tree_with, Procedure.sites, Procedure.tables_from, WellFormed.has_unit, WellFormed.has_chart, WellFormed.has_no_par, WellFormed.follows_no_par, WellFormed.is_work, WellFormed.act_names, WellFormed.value_names, declared.act.Act.Act, declared.act.Work.Work, declared.act.Work.TheVariants.Follows, declared.act.Work.TheVariants.Runs, declared.acts.LabelTable.TheVariants.UnitProcedures, declared.need.Need.Need, declared.act.UnitChoice.UnitChoice}
 use Rattle.batch_recipe.specs.Diagram as chart
-use Rattle.batch_recipe.specs.Diagram.{Diagram, Diagrams, Cases, diagram_of}
-use Rattle.batch_recipe.specs.Tree.{Place, Step, Tree, act, skip}
-use Rattle.batch_recipe.specs.Nodes.{child}
-use Rattle.batch_recipe.specs.Expanding.{expanded, expanded_each, expanded_cases, unit_below, asked_in_order, task_of, act_named, Sites, unit_chosen, unit_with, unit_named, step_of, act_tree_with, named_tree_with}
-use Rattle.batch_recipe.specs.Procedure.{sites, tables_from}
-use Rattle.batch_recipe.specs.WellFormed.{has_unit, has_chart, has_no_par, follows_no_par, is_work, act_names, value_names}
-use Rattle.batch_recipe.specs.declared.act.Act.{Act}
-use Rattle.batch_recipe.specs.declared.act.Work.{Work}
-use Rattle.batch_recipe.specs.declared.act.Work.TheVariants.{Follows, Runs}
-use Rattle.batch_recipe.specs.declared.acts.LabelTable.TheVariants.{UnitProcedures}
-use Rattle.batch_model.specs.Lists.{Has}
-use Rattle.batch_model.specs.Cleared.{Level, in_procedure, in_unit_procedure, in_operation}
-use Rattle.batch_model.proofs.Bindings.{list_all-Has}
-use Rattle.batch_model.proofs.Members.{find-Has}
+use Rattle.batch_model.{specs.Lists.Has, specs.Cleared.Level, specs.Cleared.in_procedure, specs.Cleared.in_unit_procedure, specs.Cleared.in_operation, proofs.Bindings.list_all-Has, proofs.Members.find-Has}
 use Rattle.batch_step_laws.proofs.ActPlaces.{bound_tree-IsPlaced}
-use Rattle.batch_record_laws.proofs.NeedsOfReserves.{reserves-units}
-use Rattle.batch_record_laws.specs.Procedures.{AllowsPar, IsOfLevel, IsActOf, AreOfLevel, AreChoicesOf, HasLevels, TreesAreProcedures, RecipesAreProcedures}
-use Rattle.batch_recipe.specs.declared.need.Need.{Need}
-use Rattle.batch_recipe.specs.declared.act.UnitChoice.{UnitChoice}
+use Rattle.batch_record_laws.{proofs.NeedsOfReserves.reserves-units, specs.Procedures.AllowsPar, specs.Procedures.IsOfLevel, specs.Procedures.IsActOf, specs.Procedures.AreOfLevel, specs.Procedures.AreChoicesOf, specs.Procedures.HasLevels, specs.Procedures.TreesAreProcedures, specs.Procedures.RecipesAreProcedures}
 
 -- Charts
 

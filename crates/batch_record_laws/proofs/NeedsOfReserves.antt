@@ -1,36 +1,10 @@
 -- In an expanded tree, the need by which an act reserves a unit procedure that follows it is the first need of that unit procedure.
 use Rattle.std.proofs.Common.{arith, ◌≡◌, refl, sym, ◌∙◌, ap, subst, ℕ, suc, ◌+◌, List, [], ◌∷◌, ◌++◌, map, length, true, Option, Some, None, slice_get, inl, inr, ⊎_elim, append-nil, append_assoc}
-use Rattle.std.proofs.lemmas.List.{length-append}
-use Rattle.std.proofs.lemmas.Slice.Eq.{bytes_eq-Decides}
-use Rattle.std.specs.Prelude.{option_and_then}
-use Rattle.batch_recipe.specs.Conditions.{Name, same_name}
+use Rattle.std.{proofs.lemmas.List.length-append, proofs.lemmas.Slice.Eq.bytes_eq-Decides, specs.Prelude.option_and_then}
+use Rattle.batch_recipe.{specs.Conditions.Name, specs.Conditions.same_name, specs.Diagram.Diagram, specs.Diagram.Diagrams, specs.Diagram.Cases, specs.Diagram.diagram_of, specs.Expanding.Binding, specs.Expanding.Sites, specs.Expanding.expanded, specs.Expanding.expanded_each, specs.Expanding.expanded_cases, specs.Expanding.unit_chosen, specs.Expanding.unit_with, specs.Expanding.unit_below, specs.Expanding.unit_count, specs.Expanding.unit_named, specs.Expanding.asked_in_order, specs.Expanding.needs_with, specs.Expanding.reserves_from, specs.Expanding.step_of, specs.Expanding.task_of, specs.Expanding.act_named, specs.Expanding.act_tree_with, specs.Expanding.named_tree_with, specs.Following.branch, specs.Following.choice_at, specs.Following.follower, specs.Needs.one_unit, specs.Nodes.child, specs.Procedure.sites, specs.Procedure.tables_from, specs.Procedure.bound_tree, specs.Tree.Place, specs.Tree.Reserve, specs.Tree.Step, specs.Tree.Task, specs.Tree.runs, specs.Tree.follows, specs.Tree.Tree, specs.Tree.act, specs.Tree.skip, specs.Tree.seq, specs.Tree.par, specs.Tree.sel, specs.Tree.loop, specs.Tree.Trees, specs.Tree.no_trees, specs.Tree.tree, specs.Tree.Choices, specs.Tree.otherwise, specs.Tree.choice, specs.WellFormed.are_kinds, specs.declared.act.Act.Act, specs.declared.act.UnitChoice.UnitChoice, specs.declared.act.Work.Work, specs.declared.act.Work.TheVariants.Follows, specs.declared.act.Work.TheVariants.Runs, specs.declared.acts.Acts.Acts, specs.declared.acts.LabelTable.TheVariants.UnitProcedures, specs.declared.need.Need.Need, proofs.Followers.tree_below, proofs.AppendedLists.slice_get-right}
 use Rattle.batch_recipe.specs.Diagram as chart
-use Rattle.batch_recipe.specs.Diagram.{Diagram, Diagrams, Cases, diagram_of}
-use Rattle.batch_recipe.specs.Expanding.{Binding, Sites, expanded, expanded_each, expanded_cases, unit_chosen, unit_with, unit_below, unit_count, unit_named, asked_in_order, needs_with, reserves_from, step_of, task_of, act_named, act_tree_with, named_tree_with}
-use Rattle.batch_recipe.specs.Following.{branch, choice_at, follower}
-use Rattle.batch_recipe.specs.Needs.{one_unit}
-use Rattle.batch_recipe.specs.Nodes.{child}
-use Rattle.batch_recipe.specs.Procedure.{sites, tables_from, bound_tree}
-use Rattle.batch_recipe.specs.Tree.{Place, Reserve, Step, Task, runs, follows, Tree, act, skip, seq, par, sel, loop, Trees, no_trees, tree, Choices, otherwise, choice}
-use Rattle.batch_recipe.specs.WellFormed.{are_kinds}
-use Rattle.batch_recipe.specs.declared.act.Act.{Act}
-use Rattle.batch_recipe.specs.declared.act.UnitChoice.{UnitChoice}
-use Rattle.batch_recipe.specs.declared.act.Work.{Work}
-use Rattle.batch_recipe.specs.declared.act.Work.TheVariants.{Follows, Runs}
-use Rattle.batch_recipe.specs.declared.acts.Acts.{Acts}
-use Rattle.batch_recipe.specs.declared.acts.LabelTable.TheVariants.{UnitProcedures}
-use Rattle.batch_recipe.specs.declared.need.Need.{Need}
-use Rattle.batch_recipe.proofs.Followers.{tree_below}
-use Rattle.batch_recipe.proofs.AppendedLists.{slice_get-right}
-use Rattle.batch_model.specs.ActStates.{steps, steps_below, steps_of_each, steps_of_choices}
-use Rattle.batch_model.specs.Lists.{Has, Each}
-use Rattle.batch_model.specs.Placed.{IsPlaced, ArePlaced, IsChoicePlaced}
-use Rattle.batch_model.proofs.Bindings.{unit-of-each}
-use Rattle.batch_model.proofs.Members.{Has-split, Each-Has, Each-append}
-use Rattle.batch_record_laws.specs.Procedures.{ReservesUnits}
-use Rattle.batch_record_laws.proofs.Members.{Has-Each}
-use Rattle.batch_record_laws.proofs.FactPlaces.{drop_prefix}
-use Rattle.batch_record_laws.proofs.UnitProcedures.{Top, tops, tops_of_each, tops_of_choices, top-steps, find-passes, follower-one}
+use Rattle.batch_model.{specs.ActStates.steps, specs.ActStates.steps_below, specs.ActStates.steps_of_each, specs.ActStates.steps_of_choices, specs.Lists.Has, specs.Lists.Each, specs.Placed.IsPlaced, specs.Placed.ArePlaced, specs.Placed.IsChoicePlaced, proofs.Bindings.unit-of-each, proofs.Members.Has-split, proofs.Members.Each-Has, proofs.Members.Each-append}
+use Rattle.batch_record_laws.{specs.Procedures.ReservesUnits, proofs.Members.Has-Each, proofs.FactPlaces.drop_prefix, proofs.UnitProcedures.Top, proofs.UnitProcedures.tops, proofs.UnitProcedures.tops_of_each, proofs.UnitProcedures.tops_of_choices, proofs.UnitProcedures.top-steps, proofs.UnitProcedures.find-passes, proofs.UnitProcedures.follower-one}
 
 -- A step stands at its place
 

@@ -1,26 +1,9 @@
 -- A phase that starts was idle, and its unit offers it.
 use Rattle.std.proofs.Common.{◌≡◌, ⊎_elim, refl, sym, ◌∙◌, ap, ap₂, subst, ℕ, ◌+◌, ◌≤◌, arith, List, [], ◌∷◌, ◌++◌, Bool, true, false, map, inl, inr, nat_eq, IsTrue}
 use Rattle.std.proofs.lemmas.List.{same_from_push}
-use Rattle.batch_model.specs.Lists.{Has, Each}
-use Rattle.batch_recipe.specs.Conditions.{Name, ValueList}
-use Rattle.batch_recipe.specs.Tree.{Place, Phase}
-use Rattle.batch_model.specs.Plant.{Setup, Batch, BatchAct, Share, units_in, Plant}
-use Rattle.batch_model.specs.Moves.{start}
-use Rattle.batch_model.specs.Runs.{Out, move}
-use Rattle.batch_model.specs.Records.{active_told, StartsIdle, IsOnUnit}
-use Rattle.batch_record_laws.proofs.PlantFacts.{holding, performing, Standing, facts, early_facts, batch_facts, entry, entries_of, entries, holder_of, holders_among, share}
-use Rattle.batch_model.specs.Cleared.{Ranking, phases}
-use Rattle.batch_record_laws.proofs.ClearanceDownTrees.{IsOfferedPhase}
-use Rattle.batch_model.proofs.Members.{Each-Has}
-use Rattle.batch_record_laws.proofs.Members.{Has-Each}
-use Rattle.batch_record_laws.proofs.Units.{shares, shares-append, performed-phase, unit-held, twice-held}
-use Rattle.batch_record_laws.proofs.Entries.{holders-append, holders-Has, nat_same, units-append, units-cons, units-one}
-use Rattle.batch_record_laws.proofs.Batches.{same-batch}
-use Rattle.batch_record_laws.proofs.Invariant.{IsSound, IsKept}
-use Rattle.batch_record_laws.proofs.Batches.{performing-of, of-entry}
-use Rattle.batch_model.specs.Standing.{IsStandingBatch, IsStanding}
-use Rattle.batch_record_laws.proofs.Invariant.{standing-of, numbers-of}
-use Rattle.batch_recipe.specs.Needs.{one_unit}
+use Rattle.batch_model.{specs.Lists.Has, specs.Lists.Each, specs.Plant.Setup, specs.Plant.Batch, specs.Plant.BatchAct, specs.Plant.Share, specs.Plant.units_in, specs.Plant.Plant, specs.Moves.start, specs.Runs.Out, specs.Runs.move, specs.Records.active_told, specs.Records.StartsIdle, specs.Records.IsOnUnit, specs.Cleared.Ranking, specs.Cleared.phases, proofs.Members.Each-Has, specs.Standing.IsStandingBatch, specs.Standing.IsStanding}
+use Rattle.batch_recipe.specs.{Conditions.Name, Conditions.ValueList, Tree.Place, Tree.Phase, Needs.one_unit}
+use Rattle.batch_record_laws.proofs.{PlantFacts.holding, PlantFacts.performing, PlantFacts.Standing, PlantFacts.facts, PlantFacts.early_facts, PlantFacts.batch_facts, PlantFacts.entry, PlantFacts.entries_of, PlantFacts.entries, PlantFacts.holder_of, PlantFacts.holders_among, PlantFacts.share, ClearanceDownTrees.IsOfferedPhase, Members.Has-Each, Units.shares, Units.shares-append, Units.performed-phase, Units.unit-held, Units.twice-held, Entries.holders-append, Entries.holders-Has, Entries.nat_same, Entries.units-append, Entries.units-cons, Entries.units-one, Batches.same-batch, Invariant.IsSound, Invariant.IsKept, Batches.performing-of, Batches.of-entry, Invariant.standing-of, Invariant.numbers-of}
 
 -- a line that starts no phase
 pub starts-nothing : (d : Setup) (outs : List Out) (o : Out) → ((n : ℕ) (p : Place) (x : Phase) (vs : ValueList) → o ≡ move (start n p x vs) → ⊥) → StartsIdle d (outs ++ o ∷ [])

@@ -1,21 +1,9 @@
 -- No phase step of a tree stands at the place of one of its unit procedures.
 use Rattle.std.proofs.Common.{◌≡◌, refl, sym, ◌∙◌, ap, subst, ℕ, ◌+◌, arith, [], ◌∷◌, Some, inl, inr, ⊎_elim}
 use Rattle.std.specs.Prelude.{⊤}
-use Rattle.batch_recipe.specs.Conditions.{Name}
-use Rattle.batch_recipe.specs.Following.{follower}
-use Rattle.batch_recipe.specs.Nodes.{child}
-use Rattle.batch_recipe.specs.Tree.{Place, Phase, Step, runs, follows, Tree, act, skip, seq, par, sel, loop, Trees, no_trees, tree, Choices, otherwise, choice}
-use Rattle.batch_model.specs.Lists.{Has}
-use Rattle.batch_model.specs.Placed.{IsPlaced, ArePlaced, IsChoicePlaced}
-use Rattle.batch_model.specs.Records.{IsAtOrAbove}
-use Rattle.batch_model.specs.Rest.{Rest, ready, asking, open_act, live, freeing, in_seq, in_par, in_loop, done, Rests, no_rests, rest, acts, acts_of_each}
-use Rattle.batch_model.specs.Standing.{IsRestOf, IsBranch, AreBranches, IsChosen}
-use Rattle.batch_model.proofs.Members.{Has-split}
-use Rattle.batch_record_laws.specs.Procedures.{HasLevels}
-use Rattle.batch_record_laws.proofs.FactsAfterChange.{at_or_above}
-use Rattle.batch_record_laws.proofs.FactPlaces.{IsUnderChild, IsUnderLater, under_child, under, is_at, children_apart, not_above_itself}
-use Rattle.batch_record_laws.proofs.NeedsOfReserves.{step-at, each-at, chosen-at}
-use Rattle.batch_record_laws.proofs.UnitProcedures.{Top, tops, tops_of_each, tops_of_choices, top-steps, top-steps_of_each, top-steps_of_choices, follower-one}
+use Rattle.batch_recipe.specs.{Conditions.Name, Following.follower, Nodes.child, Tree.Place, Tree.Phase, Tree.Step, Tree.runs, Tree.follows, Tree.Tree, Tree.act, Tree.skip, Tree.seq, Tree.par, Tree.sel, Tree.loop, Tree.Trees, Tree.no_trees, Tree.tree, Tree.Choices, Tree.otherwise, Tree.choice}
+use Rattle.batch_model.{specs.Lists.Has, specs.Placed.IsPlaced, specs.Placed.ArePlaced, specs.Placed.IsChoicePlaced, specs.Records.IsAtOrAbove, specs.Rest.Rest, specs.Rest.ready, specs.Rest.asking, specs.Rest.open_act, specs.Rest.live, specs.Rest.freeing, specs.Rest.in_seq, specs.Rest.in_par, specs.Rest.in_loop, specs.Rest.done, specs.Rest.Rests, specs.Rest.no_rests, specs.Rest.rest, specs.Rest.acts, specs.Rest.acts_of_each, specs.Standing.IsRestOf, specs.Standing.IsBranch, specs.Standing.AreBranches, specs.Standing.IsChosen, proofs.Members.Has-split}
+use Rattle.batch_record_laws.{specs.Procedures.HasLevels, proofs.FactsAfterChange.at_or_above, proofs.FactPlaces.IsUnderChild, proofs.FactPlaces.IsUnderLater, proofs.FactPlaces.under_child, proofs.FactPlaces.under, proofs.FactPlaces.is_at, proofs.FactPlaces.children_apart, proofs.FactPlaces.not_above_itself, proofs.NeedsOfReserves.step-at, proofs.NeedsOfReserves.each-at, proofs.NeedsOfReserves.chosen-at, proofs.UnitProcedures.Top, proofs.UnitProcedures.tops, proofs.UnitProcedures.tops_of_each, proofs.UnitProcedures.tops_of_choices, proofs.UnitProcedures.top-steps, proofs.UnitProcedures.top-steps_of_each, proofs.UnitProcedures.top-steps_of_choices, proofs.UnitProcedures.follower-one}
 
 abbrev mutual
   -- no phase step of the tree stands at the place

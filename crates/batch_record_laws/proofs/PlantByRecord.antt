@@ -1,27 +1,10 @@
 -- A record shows exactly the holders, the asks and the live phases of the plant that it leads to, and its batches' states.
 use Rattle.std.proofs.Common.{◌≡◌, ⊎_elim, sym, ◌∙◌, ap, subst, List, [], ◌∷◌, ◌++◌, take, slice_get, sum_by, inl, inr}
 use Rattle.batch_matrix.specs.declared.state.State.{State}
-use Rattle.batch_model.specs.Lists.{Has}
+use Rattle.batch_model.{specs.Lists.Has, specs.Rest.Rest, specs.Rest.ready, specs.Rest.asking, specs.Rest.open_act, specs.Rest.live, specs.Rest.freeing, specs.Rest.in_seq, specs.Rest.in_par, specs.Rest.in_loop, specs.Rest.done, specs.Rest.Rests, specs.Rest.no_rests, specs.Rest.rest, specs.Rest.acts, specs.Rest.acts_of_each, specs.Plant.Setup, specs.Plant.Share, specs.Plant.units_in, specs.Plant.Plant, specs.Plant.opening, specs.Plant.holders, specs.Records.holders_told, specs.Events.Event, specs.Runs.Out, specs.Runs.Leads, specs.Cleared.Ranking, proofs.Members.Has-split, proofs.Members.Has-left, proofs.Members.Has-right}
 use Rattle.batch_recipe.specs.Tree.{Place, Step, Phase}
-use Rattle.batch_model.specs.Rest.{Rest, ready, asking, open_act, live, freeing, in_seq, in_par, in_loop, done, Rests, no_rests, rest, acts, acts_of_each}
-use Rattle.batch_model.specs.Plant.{Setup, Share, units_in, Plant, opening, holders}
-use Rattle.batch_model.specs.Records.{holders_told}
-use Rattle.batch_model.specs.Events.{Event}
 use Rattle.batch_step_laws.proofs.PlantAlongRecord.{opening-stands}
-use Rattle.batch_model.specs.Runs.{Out, Leads}
-use Rattle.batch_record_laws.proofs.ClearanceDownTrees.{AreClearedDown}
-use Rattle.batch_record_laws.proofs.PlantFacts.{performing, Standing, held_at, awaited_at, facts, facts_of_each, entries, awaiting, need}
-use Rattle.batch_model.specs.Cleared.{Ranking}
-use Rattle.batch_record_laws.specs.Telling.{IsTold}
-use Rattle.batch_model.proofs.Members.{Has-split, Has-left, Has-right}
-use Rattle.batch_record_laws.proofs.RanksOfAsks.{held-performing, awaited-performing}
-use Rattle.batch_record_laws.proofs.Units.{lone-performing}
-use Rattle.batch_record_laws.proofs.Batches.{holders-entries}
-use Rattle.batch_record_laws.proofs.Invariant.{IsKept}
-use Rattle.batch_record_laws.proofs.Batches.{awaiting-of, performing-of, of-entry}
-use Rattle.batch_record_laws.proofs.FactsOfAsks.{awaiting-act, asking-awaits}
-use Rattle.batch_record_laws.proofs.InvariantAlongRecord.{kept-at_first, kept-along}
-use Rattle.batch_record_laws.proofs.Entries.{length-sums}
+use Rattle.batch_record_laws.{proofs.ClearanceDownTrees.AreClearedDown, proofs.PlantFacts.performing, proofs.PlantFacts.Standing, proofs.PlantFacts.held_at, proofs.PlantFacts.awaited_at, proofs.PlantFacts.facts, proofs.PlantFacts.facts_of_each, proofs.PlantFacts.entries, proofs.PlantFacts.awaiting, proofs.PlantFacts.need, specs.Telling.IsTold, proofs.RanksOfAsks.held-performing, proofs.RanksOfAsks.awaited-performing, proofs.Units.lone-performing, proofs.Batches.holders-entries, proofs.Invariant.IsKept, proofs.Batches.awaiting-of, proofs.Batches.performing-of, proofs.Batches.of-entry, proofs.FactsOfAsks.awaiting-act, proofs.FactsOfAsks.asking-awaits, proofs.InvariantAlongRecord.kept-at_first, proofs.InvariantAlongRecord.kept-along, proofs.Entries.length-sums}
 
 abbrev LiveAt : List Rest → Place → Phase → Type 0
 LiveAt as' q x = (p : Step) × (t : State) × Has as' (live p x t) × (p.place ≡ q)

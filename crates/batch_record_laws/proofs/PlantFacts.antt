@@ -1,11 +1,7 @@
 -- The facts of a plant: the resources that acts hold and await, and the phases that they perform.
-use Rattle.std.specs.Prelude.{ℕ, List, [], ◌∷◌, ◌++◌, take, map, flat_map, Option, Some, None, slice_get, true, false}
-use Rattle.std.specs.Str.{bytes_eq}
-use Rattle.batch_recipe.specs.Conditions.{Name}
-use Rattle.batch_recipe.specs.Tree.{Place, Phase}
-use Rattle.batch_model.specs.Rest.{Rest, ready, asking, open_act, live, freeing, in_seq, in_par, in_loop, done, Rests, no_rests, rest}
-use Rattle.batch_model.specs.Plant.{InAdvance, Batch, BatchAct, Share}
-use Rattle.batch_recipe.specs.declared.need.Need.{Need}
+use Rattle.std.specs.{Prelude.ℕ, Prelude.List, Prelude.[], Prelude.◌∷◌, Prelude.◌++◌, Prelude.take, Prelude.map, Prelude.flat_map, Prelude.Option, Prelude.Some, Prelude.None, Prelude.slice_get, Prelude.true, Prelude.false, Str.bytes_eq}
+use Rattle.batch_recipe.specs.{Conditions.Name, Tree.Place, Tree.Phase, declared.need.Need.Need}
+use Rattle.batch_model.specs.{Rest.Rest, Rest.ready, Rest.asking, Rest.open_act, Rest.live, Rest.freeing, Rest.in_seq, Rest.in_par, Rest.in_loop, Rest.done, Rest.Rests, Rest.no_rests, Rest.rest, Plant.InAdvance, Plant.Batch, Plant.BatchAct, Plant.Share}
 
 pub data Fact : Type 0 where
   -- so much of a resource is held

@@ -1,21 +1,8 @@
 -- A resource that is asked for has a higher rank than one that is held at or above the ask.
 use Rattle.std.proofs.Common.{◌+◌, ◌≡◌, sym, ap, subst, ℕ, zero, suc, ◌≤◌, ◌<◌, arith, List, [], ◌∷◌, take, slice_get, Option, Some, inl, inr, ⊎_elim}
-use Rattle.batch_model.specs.Lists.{Has}
-use Rattle.batch_recipe.specs.Conditions.{Name}
-use Rattle.batch_recipe.specs.Tree.{Place, Phase, Tree, act, seq, par, sel, loop, Task, runs, follows, Trees, no_trees, tree, Choices, otherwise, choice}
-use Rattle.batch_model.specs.Rest.{Rest, ready, asking, open_act, live, freeing, in_seq, in_par, in_loop, Rests, rest}
-use Rattle.batch_recipe.specs.Nodes.{child}
-use Rattle.batch_model.specs.Records.{IsAtOrAbove}
-use Rattle.batch_record_laws.proofs.PlantFacts.{Fact, holding, awaiting, performing, Standing, held_at, awaited_at, facts, facts_of_each}
-use Rattle.batch_model.specs.Standing.{IsRestOf, IsRestBelow, IsBranch, AreBranches, IsChosen}
-use Rattle.batch_model.specs.Placed.{IsPlaced, IsPlacedBelow, ArePlaced, IsChoicePlaced}
-use Rattle.batch_model.specs.Cleared.{Ranking}
-use Rattle.batch_record_laws.specs.Ways.{RanksRiseAbove, last_rank, RisesDown, RisesBelow, RiseDown, ChoicesRiseDown}
-use Rattle.batch_model.proofs.Members.{Has-split}
-use Rattle.batch_record_laws.proofs.Members.{Has-map}
-use Rattle.batch_record_laws.proofs.FactPlaces.{IsUnderChild, IsUnderLater, under_child, facts-under, facts-side_by_side, children_apart}
-use Rattle.batch_recipe.specs.declared.need.Need.{Need}
-use Rattle.batch_recipe.specs.Needs.{resources_needed}
+use Rattle.batch_model.{specs.Lists.Has, specs.Rest.Rest, specs.Rest.ready, specs.Rest.asking, specs.Rest.open_act, specs.Rest.live, specs.Rest.freeing, specs.Rest.in_seq, specs.Rest.in_par, specs.Rest.in_loop, specs.Rest.Rests, specs.Rest.rest, specs.Records.IsAtOrAbove, specs.Standing.IsRestOf, specs.Standing.IsRestBelow, specs.Standing.IsBranch, specs.Standing.AreBranches, specs.Standing.IsChosen, specs.Placed.IsPlaced, specs.Placed.IsPlacedBelow, specs.Placed.ArePlaced, specs.Placed.IsChoicePlaced, specs.Cleared.Ranking, proofs.Members.Has-split}
+use Rattle.batch_recipe.specs.{Conditions.Name, Tree.Place, Tree.Phase, Tree.Tree, Tree.act, Tree.seq, Tree.par, Tree.sel, Tree.loop, Tree.Task, Tree.runs, Tree.follows, Tree.Trees, Tree.no_trees, Tree.tree, Tree.Choices, Tree.otherwise, Tree.choice, Nodes.child, declared.need.Need.Need, Needs.resources_needed}
+use Rattle.batch_record_laws.{proofs.PlantFacts.Fact, proofs.PlantFacts.holding, proofs.PlantFacts.awaiting, proofs.PlantFacts.performing, proofs.PlantFacts.Standing, proofs.PlantFacts.held_at, proofs.PlantFacts.awaited_at, proofs.PlantFacts.facts, proofs.PlantFacts.facts_of_each, specs.Ways.RanksRiseAbove, specs.Ways.last_rank, specs.Ways.RisesDown, specs.Ways.RisesBelow, specs.Ways.RiseDown, specs.Ways.ChoicesRiseDown, proofs.Members.Has-map, proofs.FactPlaces.IsUnderChild, proofs.FactPlaces.IsUnderLater, proofs.FactPlaces.under_child, proofs.FactPlaces.facts-under, proofs.FactPlaces.facts-side_by_side, proofs.FactPlaces.children_apart}
 
 pub rises-above : (rank : Ranking) (low : ℕ) (needs : List Need) (r : Need) → RanksRiseAbove rank low (resources_needed needs) → Has needs r → low < rank r.resource
 rises-above rank low [] r h k = absurd k

@@ -1,9 +1,6 @@
 -- Runs of the same events agree.
 use Rattle.std.proofs.Common.{◌≡◌, List, [], ◌∷◌, ◌++◌, None, map, refl, sym, ◌∙◌, ap, subst, inl, inr}
-use Rattle.batch_model.specs.Events.{Event, Reply, refused, no_memory, react}
-use Rattle.batch_model.specs.Moves.{Move, after_move, next}
-use Rattle.batch_model.specs.Plant.{Setup, Plant}
-use Rattle.batch_model.specs.Runs.{Out, reply, move, Reacts, Leads}
+use Rattle.batch_model.specs.{Events.Event, Events.Reply, Events.refused, Events.no_memory, Events.react, Moves.Move, Moves.after_move, Moves.next, Plant.Setup, Plant.Plant, Runs.Out, Runs.reply, Runs.move, Runs.Reacts, Runs.Leads}
 use Rattle.batch_record_laws.specs.Replays.{Takes, Replays, ReplaysAgree}
 
 settles_once : (c : Setup) (s : Plant) (moves others : List Move) (one other : Plant)

@@ -1,40 +1,11 @@
 -- Each report keeps the invariant, and so does each event.
 use Rattle.std.proofs.Common.{arith, ◌≡◌, refl, sym, ◌∙◌, ap, subst, subst₂, ℕ, List, [], ◌∷◌, ◌++◌, Bool, true, false, ◌&&◌, find, Option, Some, None, inl, inr, nat_eq, length, bytes_eq}
-use Rattle.batch_matrix.specs.declared.state.State.{State}
-use Rattle.batch_matrix.specs.declared.state.State.TheVariants.{Holding}
-use Rattle.batch_matrix.specs.declared.command.Command.TheVariants.{Hold}
-use Rattle.batch_matrix.specs.declared.report.Report.{Report}
-use Rattle.batch_matrix.specs.declared.report.PhaseEnd.{PhaseEnd}
-use Rattle.batch_matrix.specs.declared.report.PhaseEnd.TheVariants.{Ended, Now, Same}
-use Rattle.batch_matrix.specs.Matrix.{accepts, after_report}
-use Rattle.std.specs.Option.{option_or}
-use Rattle.batch_model.specs.Lists.{Has}
-use Rattle.batch_recipe.specs.Conditions.{Name, ValueList}
-use Rattle.batch_recipe.specs.Tree.{Place, Phase, Step}
-use Rattle.batch_model.specs.Rest.{Rest, ready, asking, open_act, live, freeing, in_seq, in_par, in_loop, done, acts, place_of, changed_at}
-use Rattle.batch_model.specs.Plant.{Formula, size_out_of_range, value_out_of_range, scaled, Recipe, Master, Setup, Batch, Plant, batch_at, in_batch}
-use Rattle.batch_model.specs.Moves.{Move, ended, next}
-use Rattle.batch_recipe.specs.Values.{with_values, are_outputs, left_out}
-use Rattle.batch_model.specs.Events.{Event, create, order, remove, report, Reply, reported, refused, unknown_recipe, bad_binding, binding, is_binding, bound_by, roles_told, creating_for, unknown_batch, no_live_phase, report_not_expected, bad_output, output_left_out, owed, accepting, bad_size, bad_value, full, moves_pending, no_memory, is_full, creating, ordering, removing, LivePhase, live_in, live_phase, phase_after, batch_state_after, outputs_of, batch_reported, reporting, judged, react}
-use Rattle.batch_model.specs.Runs.{Out, reply, Reacts}
-use Rattle.batch_model.specs.Records.{Active, active_after, ends_phase}
-use Rattle.batch_record_laws.proofs.PlantFacts.{Standing, held_at, facts, early_facts}
+use Rattle.batch_matrix.specs.{declared.state.State.State, declared.state.State.TheVariants.Holding, declared.command.Command.TheVariants.Hold, declared.report.Report.Report, declared.report.PhaseEnd.PhaseEnd, declared.report.PhaseEnd.TheVariants.Ended, declared.report.PhaseEnd.TheVariants.Now, declared.report.PhaseEnd.TheVariants.Same, Matrix.accepts, Matrix.after_report}
+use Rattle.std.{specs.Option.option_or, proofs.lemmas.List.append-nil}
+use Rattle.batch_model.{specs.Lists.Has, specs.Rest.Rest, specs.Rest.ready, specs.Rest.asking, specs.Rest.open_act, specs.Rest.live, specs.Rest.freeing, specs.Rest.in_seq, specs.Rest.in_par, specs.Rest.in_loop, specs.Rest.done, specs.Rest.acts, specs.Rest.place_of, specs.Rest.changed_at, specs.Plant.Formula, specs.Plant.size_out_of_range, specs.Plant.value_out_of_range, specs.Plant.scaled, specs.Plant.Recipe, specs.Plant.Master, specs.Plant.Setup, specs.Plant.Batch, specs.Plant.Plant, specs.Plant.batch_at, specs.Plant.in_batch, specs.Moves.Move, specs.Moves.ended, specs.Moves.next, specs.Events.Event, specs.Events.create, specs.Events.order, specs.Events.remove, specs.Events.report, specs.Events.Reply, specs.Events.reported, specs.Events.refused, specs.Events.unknown_recipe, specs.Events.bad_binding, specs.Events.binding, specs.Events.is_binding, specs.Events.bound_by, specs.Events.roles_told, specs.Events.creating_for, specs.Events.unknown_batch, specs.Events.no_live_phase, specs.Events.report_not_expected, specs.Events.bad_output, specs.Events.output_left_out, specs.Events.owed, specs.Events.accepting, specs.Events.bad_size, specs.Events.bad_value, specs.Events.full, specs.Events.moves_pending, specs.Events.no_memory, specs.Events.is_full, specs.Events.creating, specs.Events.ordering, specs.Events.removing, specs.Events.LivePhase, specs.Events.live_in, specs.Events.live_phase, specs.Events.phase_after, specs.Events.batch_state_after, specs.Events.outputs_of, specs.Events.batch_reported, specs.Events.reporting, specs.Events.judged, specs.Events.react, specs.Runs.Out, specs.Runs.reply, specs.Runs.Reacts, specs.Records.Active, specs.Records.active_after, specs.Records.ends_phase, proofs.Members.Each-Has, specs.Cleared.Ranking, specs.Standing.IsAwaited, specs.Standing.IsControl, specs.Standing.IsStandingBatch, specs.Standing.IsStanding}
+use Rattle.batch_recipe.specs.{Conditions.Name, Conditions.ValueList, Tree.Place, Tree.Phase, Tree.Step, Values.with_values, Values.are_outputs, Values.left_out}
+use Rattle.batch_record_laws.proofs.{PlantFacts.Standing, PlantFacts.held_at, PlantFacts.facts, PlantFacts.early_facts, DuePlaces.awaited-nowhere, EffectsOnActs.stays-steady, EffectsOnActs.stays-tidy, EffectsOnActs.phase_after-stays, BatchProgress.kept-on, BatchProgress.is_under_way, BatchProgress.early-none, ClearanceDownTrees.AreClearedDown, Invariant.IsFitting, Invariant.IsSound, Invariant.IsKept, Invariant.standing-of, ActChanges.changed_plant, ActChanges.IsChange, ActChanges.change-sound, InvariantAfterChange.kept-quiet, InvariantAfterChange.kept-finished, InvariantAfterChange.act_frame, InvariantAfterChange.TellsState, ActMoves.freed-facts, ActMoves.take-length, Events.Answered, Events.kept-refused, Events.kept-created, Events.ordering-step, Events.removing-step, InvariantAfterMove.tells-other, InvariantAfterMove.tells-own, UnitProcedures.find-passes}
 use Rattle.batch_step_laws.proofs.RestsAfterChange.{RemainsAs, phase_after-remains}
-use Rattle.batch_model.proofs.Members.{Each-Has}
-use Rattle.batch_record_laws.proofs.DuePlaces.{awaited-nowhere}
-use Rattle.batch_record_laws.proofs.EffectsOnActs.{stays-steady, stays-tidy, phase_after-stays}
-use Rattle.batch_record_laws.proofs.BatchProgress.{kept-on, is_under_way, early-none}
-use Rattle.batch_model.specs.Cleared.{Ranking}
-use Rattle.batch_record_laws.proofs.ClearanceDownTrees.{AreClearedDown}
-use Rattle.batch_record_laws.proofs.Invariant.{IsFitting, IsSound, IsKept, standing-of}
-use Rattle.batch_record_laws.proofs.ActChanges.{changed_plant, IsChange, change-sound}
-use Rattle.batch_record_laws.proofs.InvariantAfterChange.{kept-quiet, kept-finished, act_frame, TellsState}
-use Rattle.batch_record_laws.proofs.ActMoves.{freed-facts, take-length}
-use Rattle.batch_record_laws.proofs.Events.{Answered, kept-refused, kept-created, ordering-step, removing-step}
-use Rattle.batch_record_laws.proofs.InvariantAfterMove.{tells-other, tells-own}
-use Rattle.batch_record_laws.proofs.UnitProcedures.{find-passes}
-use Rattle.std.proofs.lemmas.List.{append-nil}
-use Rattle.batch_model.specs.Standing.{IsAwaited, IsControl, IsStandingBatch, IsStanding}
 
 -- Reports
 

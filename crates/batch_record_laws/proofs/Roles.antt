@@ -1,20 +1,10 @@
 -- Which bindings of roles serve, and which units may so be chosen.
 use Rattle.std.proofs.Common.{arith, ◌≡◌, refl, sym, ◌∙◌, ap, subst, List, [], ◌∷◌, Bool, true, false, ◌||◌, not, map, IsTrue, inl, inr, bytes_eq, Some, None}
-use Rattle.std.specs.Prelude.{Option, option_and_then}
-use Rattle.std.specs.List.{list_any}
-use Rattle.std.proofs.lemmas.Bool.{and_parts}
+use Rattle.std.{specs.Prelude.Option, specs.Prelude.option_and_then, specs.List.list_any, proofs.lemmas.Bool.and_parts}
 use Rattle.batch_cell.specs.LookUps.{units_of_class}
 use Rattle.batch_cell.specs.declared.cell.Cell as equipment
-use Rattle.batch_recipe.specs.Conditions.{Name, same_name}
-use Rattle.batch_recipe.specs.Expanding.{Binding, unbound, act_named}
-use Rattle.batch_recipe.specs.WellFormed.{is_among, are_distinct}
-use Rattle.batch_recipe.specs.declared.act.Act.{Act}
-use Rattle.batch_recipe.specs.declared.act.UnitChoice.{UnitChoice}
-use Rattle.batch_recipe.specs.declared.act.UnitChoice.TheVariants.{Unit, Role}
-use Rattle.batch_recipe.specs.declared.role.Role.{Role as RecipeRole}
-use Rattle.batch_model.specs.Lists.{Has, Each}
-use Rattle.batch_model.specs.Plant.{Role as Declared}
-use Rattle.batch_model.specs.Setups.{role_of, name_role}
+use Rattle.batch_recipe.specs.{Conditions.Name, Conditions.same_name, Expanding.Binding, Expanding.unbound, Expanding.act_named, WellFormed.is_among, WellFormed.are_distinct, declared.act.Act.Act, declared.act.UnitChoice.UnitChoice, declared.act.UnitChoice.TheVariants.Unit, declared.act.UnitChoice.TheVariants.Role, declared.role.Role.Role as RecipeRole}
+use Rattle.batch_model.specs.{Lists.Has, Lists.Each, Plant.Role as Declared, Setups.role_of, Setups.name_role}
 use Rattle.batch_record_laws.proofs.Entries.{name_self, name_same}
 
 -- A binding with one more role bound

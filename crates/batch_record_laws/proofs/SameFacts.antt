@@ -2,15 +2,8 @@
 use Rattle.std.proofs.Common.{arith, ◌≡◌, refl, sym, ◌∙◌, ap, ap₂, subst, ℕ, ◌+◌, List, [], ◌∷◌, ◌++◌, Bool, true, false, not, cond, map, filter, sum_by, inl, inr, ⊎_elim}
 use Rattle.std.proofs.lemmas.List.Sums.{sum_by-append, sum_by-cons}
 use Rattle.batch_recipe.specs.Conditions.{Name}
-use Rattle.batch_model.specs.Lists.{Has}
-use Rattle.batch_model.specs.Plant.{InAdvance, Batch, Share, is_act_reached}
-use Rattle.batch_model.specs.Rest.{Rest}
-use Rattle.batch_model.proofs.Members.{Has-split, Has-left, Has-right}
-use Rattle.batch_record_laws.proofs.PlantFacts.{holding, Standing, facts, early_facts, batch_facts, Entry, entry, entries_of, entries, holder_of, holders_among, need}
-use Rattle.batch_record_laws.proofs.Members.{Has-map, map-Has}
-use Rattle.batch_record_laws.proofs.Entries.{Agrees, Has-holders, holders-Has}
-use Rattle.batch_record_laws.proofs.Batches.{NumbersDiffer, only, only-hit, only-miss, others-same}
-use Rattle.batch_record_laws.proofs.HoldingsInAdvance.{Adds, AtOnce, raised, lifted, lifted-none, lifted-adds, raised-keeps, nowhere-raised, not_reached}
+use Rattle.batch_model.{specs.Lists.Has, specs.Plant.InAdvance, specs.Plant.Batch, specs.Plant.Share, specs.Plant.is_act_reached, specs.Rest.Rest, proofs.Members.Has-split, proofs.Members.Has-left, proofs.Members.Has-right}
+use Rattle.batch_record_laws.proofs.{PlantFacts.holding, PlantFacts.Standing, PlantFacts.facts, PlantFacts.early_facts, PlantFacts.batch_facts, PlantFacts.Entry, PlantFacts.entry, PlantFacts.entries_of, PlantFacts.entries, PlantFacts.holder_of, PlantFacts.holders_among, PlantFacts.need, Members.Has-map, Members.map-Has, Entries.Agrees, Entries.Has-holders, Entries.holders-Has, Batches.NumbersDiffer, Batches.only, Batches.only-hit, Batches.only-miss, Batches.others-same, HoldingsInAdvance.Adds, HoldingsInAdvance.AtOnce, HoldingsInAdvance.raised, HoldingsInAdvance.lifted, HoldingsInAdvance.lifted-none, HoldingsInAdvance.lifted-adds, HoldingsInAdvance.raised-keeps, HoldingsInAdvance.nowhere-raised, HoldingsInAdvance.not_reached}
 
 pub record AreAlike {X : Type 0} (xs ys : List X) : Type 0 where
   pub sums : (amount : X → ℕ) → sum_by amount xs ≡ sum_by amount ys

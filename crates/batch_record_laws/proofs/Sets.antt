@@ -3,12 +3,8 @@ use Rattle.std.proofs.Common.{List, [], ◌∷◌, map}
 use Rattle.batch_cell.specs.declared.cell.Cell as equipment
 use Rattle.batch_recipe.specs.Expanding.{Binding}
 use Rattle.batch_recipe.specs.declared.recipe.Recipe as document
-use Rattle.batch_model.specs.Lists.{Each}
-use Rattle.batch_model.specs.Setups.{master_of}
-use Rattle.batch_model.proofs.ExclusiveUnits.{unit_is_exclusive}
-use Rattle.batch_record_laws.specs.Procedures.{IsProcedure}
-use Rattle.batch_record_laws.specs.Sets.{SetsAreDocuments}
-use Rattle.batch_record_laws.proofs.Levels.{recipes_are_procedures}
+use Rattle.batch_model.{specs.Lists.Each, specs.Setups.master_of, proofs.ExclusiveUnits.unit_is_exclusive}
+use Rattle.batch_record_laws.{specs.Procedures.IsProcedure, specs.Sets.SetsAreDocuments, proofs.Levels.recipes_are_procedures}
 
 masters-are-procedures : (cell : equipment.Cell) (recipes : List document.Recipe)
     → Each (λ master. (bound : Binding) → IsProcedure (master.control bound).procedure) (map (master_of cell) recipes)

@@ -1,13 +1,8 @@
 -- The unit procedures of a tree, of which those that follow a step are some.
 use Rattle.std.proofs.Common.{arith, ◌≡◌, ◌≢◌, refl, ◌∙◌, ap, subst, ℕ, zero, suc, List, [], ◌∷◌, ◌++◌, Bool, true, find, Option, Some, None, inl, inr, ⊎_elim}
 use Rattle.std.specs.Prelude.{option_map}
-use Rattle.batch_recipe.specs.Conditions.{Name, same_name}
-use Rattle.batch_recipe.specs.Following.{Follower, firsts, firsts_of_each, enter, branch, choice_at, child_of, level_within, next_after, following_below, following, follower}
-use Rattle.batch_recipe.specs.Levels.{Level, is_procedure, in_procedure, in_unit_procedure, in_operation, below}
-use Rattle.batch_recipe.specs.Tree.{Place, Step, runs, follows, Tree, act, skip, seq, par, sel, loop, Trees, no_trees, tree, Choices, otherwise, choice}
-use Rattle.batch_model.specs.ActStates.{steps, steps_of_each, steps_of_choices}
-use Rattle.batch_model.specs.Lists.{Has}
-use Rattle.batch_model.proofs.Members.{Has-split, Has-left, Has-right}
+use Rattle.batch_recipe.specs.{Conditions.Name, Conditions.same_name, Following.Follower, Following.firsts, Following.firsts_of_each, Following.enter, Following.branch, Following.choice_at, Following.child_of, Following.level_within, Following.next_after, Following.following_below, Following.following, Following.follower, Levels.Level, Levels.is_procedure, Levels.in_procedure, Levels.in_unit_procedure, Levels.in_operation, Levels.below, Tree.Place, Tree.Step, Tree.runs, Tree.follows, Tree.Tree, Tree.act, Tree.skip, Tree.seq, Tree.par, Tree.sel, Tree.loop, Tree.Trees, Tree.no_trees, Tree.tree, Tree.Choices, Tree.otherwise, Tree.choice}
+use Rattle.batch_model.{specs.ActStates.steps, specs.ActStates.steps_of_each, specs.ActStates.steps_of_choices, specs.Lists.Has, proofs.Members.Has-split, proofs.Members.Has-left, proofs.Members.Has-right}
 
 -- a unit procedure: its step and its name
 abbrev pub Top : Type 0

@@ -1,23 +1,9 @@
 -- The unit of a live phase is held above it, and a phase that is live twice in a batch has its unit held twice.
 use Rattle.std.proofs.Common.{◌≡◌, refl, sym, ◌∙◌, ap, subst, ℕ, ◌+◌, ◌≤◌, arith, List, [], ◌∷◌, ◌++◌, true, false, take, slice_get, Option, inl, inr, ◌⊎◌, ⊎_elim, bytes_eq, append-nil}
 use Rattle.std.proofs.lemmas.Slice.Eq.{bytes_eq-Decides}
-use Rattle.batch_model.specs.Lists.{Has}
-use Rattle.batch_recipe.specs.Conditions.{Name}
-use Rattle.batch_recipe.specs.Tree.{Place, Phase, Tree, act, seq, par, sel, loop, Task, runs, follows, Trees, no_trees, tree, Choices, otherwise, choice}
-use Rattle.batch_model.specs.Rest.{Rest, ready, asking, open_act, live, freeing, in_seq, in_par, in_loop, Rests, rest}
-use Rattle.batch_recipe.specs.Nodes.{child}
-use Rattle.batch_model.specs.Records.{IsAtOrAbove}
-use Rattle.batch_record_laws.proofs.PlantFacts.{Fact, holding, awaiting, performing, Standing, held_at, awaited_at, facts, facts_of_each}
-use Rattle.batch_model.specs.Standing.{IsRestOf, IsRestBelow, IsBranch, AreBranches, IsChosen}
-use Rattle.batch_model.specs.Placed.{IsPlaced, IsPlacedBelow, ArePlaced, IsChoicePlaced}
-use Rattle.batch_model.specs.Cleared.{phases, phases_within, phases_of_each, phases_of_choices}
-use Rattle.batch_record_laws.proofs.ClearanceDownTrees.{IsSamePhase, RunsInUnits, RunsInUnitsBelow, RunInUnits, RunSideBySide, ChoicesRunInUnits}
-use Rattle.batch_model.proofs.Members.{Has-split, Has-left, Has-right}
-use Rattle.batch_record_laws.proofs.Members.{map-Has}
-use Rattle.batch_record_laws.proofs.FactPlaces.{IsUnderChild, under, facts-below, not_above_itself}
-use Rattle.batch_record_laws.proofs.RanksOfAsks.{held-performing, awaited-performing}
-use Rattle.batch_recipe.specs.declared.need.Need.{Need}
-use Rattle.batch_recipe.specs.Needs.{one_unit}
+use Rattle.batch_model.{specs.Lists.Has, specs.Rest.Rest, specs.Rest.ready, specs.Rest.asking, specs.Rest.open_act, specs.Rest.live, specs.Rest.freeing, specs.Rest.in_seq, specs.Rest.in_par, specs.Rest.in_loop, specs.Rest.Rests, specs.Rest.rest, specs.Records.IsAtOrAbove, specs.Standing.IsRestOf, specs.Standing.IsRestBelow, specs.Standing.IsBranch, specs.Standing.AreBranches, specs.Standing.IsChosen, specs.Placed.IsPlaced, specs.Placed.IsPlacedBelow, specs.Placed.ArePlaced, specs.Placed.IsChoicePlaced, specs.Cleared.phases, specs.Cleared.phases_within, specs.Cleared.phases_of_each, specs.Cleared.phases_of_choices, proofs.Members.Has-split, proofs.Members.Has-left, proofs.Members.Has-right}
+use Rattle.batch_recipe.specs.{Conditions.Name, Tree.Place, Tree.Phase, Tree.Tree, Tree.act, Tree.seq, Tree.par, Tree.sel, Tree.loop, Tree.Task, Tree.runs, Tree.follows, Tree.Trees, Tree.no_trees, Tree.tree, Tree.Choices, Tree.otherwise, Tree.choice, Nodes.child, declared.need.Need.Need, Needs.one_unit}
+use Rattle.batch_record_laws.proofs.{PlantFacts.Fact, PlantFacts.holding, PlantFacts.awaiting, PlantFacts.performing, PlantFacts.Standing, PlantFacts.held_at, PlantFacts.awaited_at, PlantFacts.facts, PlantFacts.facts_of_each, ClearanceDownTrees.IsSamePhase, ClearanceDownTrees.RunsInUnits, ClearanceDownTrees.RunsInUnitsBelow, ClearanceDownTrees.RunInUnits, ClearanceDownTrees.RunSideBySide, ClearanceDownTrees.ChoicesRunInUnits, Members.map-Has, FactPlaces.IsUnderChild, FactPlaces.under, FactPlaces.facts-below, FactPlaces.not_above_itself, RanksOfAsks.held-performing, RanksOfAsks.awaited-performing}
 
 pub same_performing : (x y : Phase) → performing x ≡ performing y → x ≡ y
 same_performing x y e = cc

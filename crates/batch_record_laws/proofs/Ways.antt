@@ -1,14 +1,8 @@
 -- Ranks rise along the path of each node exactly where they rise on the way down.
 use Rattle.std.proofs.Common.{◌≡◌, refl, sym, subst, ℕ, suc, ◌+◌, ◌<◌, arith, List, [], ◌∷◌, ◌++◌}
-use Rattle.batch_model.specs.Lists.{Each}
-use Rattle.batch_recipe.specs.Conditions.{Name}
-use Rattle.batch_recipe.specs.Nodes.{Node, child, nodes, nodes_within, nodes_of_each, nodes_of_choices}
-use Rattle.batch_recipe.specs.Tree.{Place, Task, runs, follows, Tree, act, skip, seq, par, sel, loop, Trees, no_trees, tree, Choices, otherwise, choice}
-use Rattle.batch_model.specs.Cleared.{Ranking, RiseStrictly}
-use Rattle.batch_record_laws.specs.Ways.{RanksRiseAbove, last_rank, RisesDown, RisesBelow, RiseDown, ChoicesRiseDown, WaysRise}
-use Rattle.batch_model.proofs.Members.{Each-append, Each-map}
-use Rattle.batch_record_laws.proofs.Members.{Each-left, Each-right}
-use Rattle.batch_recipe.specs.Needs.{resources_needed}
+use Rattle.batch_model.{specs.Lists.Each, specs.Cleared.Ranking, specs.Cleared.RiseStrictly, proofs.Members.Each-append, proofs.Members.Each-map}
+use Rattle.batch_recipe.specs.{Conditions.Name, Nodes.Node, Nodes.child, Nodes.nodes, Nodes.nodes_within, Nodes.nodes_of_each, Nodes.nodes_of_choices, Tree.Place, Tree.Task, Tree.runs, Tree.follows, Tree.Tree, Tree.act, Tree.skip, Tree.seq, Tree.par, Tree.sel, Tree.loop, Tree.Trees, Tree.no_trees, Tree.tree, Tree.Choices, Tree.otherwise, Tree.choice, Needs.resources_needed}
+use Rattle.batch_record_laws.{specs.Ways.RanksRiseAbove, specs.Ways.last_rank, specs.Ways.RisesDown, specs.Ways.RisesBelow, specs.Ways.RiseDown, specs.Ways.ChoicesRiseDown, specs.Ways.WaysRise, proofs.Members.Each-left, proofs.Members.Each-right}
 
 rises-rest : (rank : Ranking) (low : ℕ) (xs ys : List Name) → RanksRiseAbove rank low (xs ++ ys) → RanksRiseAbove rank (last_rank rank low xs) ys
 rises-rest rank low [] ys h = h

@@ -1,14 +1,9 @@
 -- Which act makes a move that begins a step, and which gives up a unit as long as its batch goes on.
 use Rattle.std.proofs.Common.{arith, ◌≡◌, refl, sym, ◌∙◌, ap, subst, ℕ, zero, suc, length, Bool, true, false, Option, Some, None, slice_get}
 use Rattle.std.specs.Prelude.{⊤, ◌&&◌, ◌||◌, not}
-use Rattle.batch_matrix.specs.declared.command.Command.{Command}
-use Rattle.batch_matrix.specs.Matrix.{accepts}
-use Rattle.batch_recipe.specs.declared.need.Need.{Need}
-use Rattle.batch_recipe.specs.Tree.{Place, Step, Task, Tree, runs, follows}
-use Rattle.batch_model.specs.Moves.{Move, send, release, pass, begin, start, end, ask, grant, is_running, is_stopping, is_stopped, is_quiet, is_empty, is_served, passed_on, handed_values, beginning, entering, giving_back, reserved_place, handing_over, when, act_move}
-use Rattle.batch_model.specs.Plant.{Setup, Batch, Plant, held_in}
-use Rattle.batch_model.specs.Rest.{Rest, ready, asking, open_act, live, freeing, is_done}
-use Rattle.batch_model.specs.Runs.{goes_on}
+use Rattle.batch_matrix.specs.{declared.command.Command.Command, Matrix.accepts}
+use Rattle.batch_recipe.specs.{declared.need.Need.Need, Tree.Place, Tree.Step, Tree.Task, Tree.Tree, Tree.runs, Tree.follows}
+use Rattle.batch_model.specs.{Moves.Move, Moves.send, Moves.release, Moves.pass, Moves.begin, Moves.start, Moves.end, Moves.ask, Moves.grant, Moves.is_running, Moves.is_stopping, Moves.is_stopped, Moves.is_quiet, Moves.is_empty, Moves.is_served, Moves.passed_on, Moves.handed_values, Moves.beginning, Moves.entering, Moves.giving_back, Moves.reserved_place, Moves.handing_over, Moves.when, Moves.act_move, Plant.Setup, Plant.Batch, Plant.Plant, Plant.held_in, Rest.Rest, Rest.ready, Rest.asking, Rest.open_act, Rest.live, Rest.freeing, Rest.is_done, Runs.goes_on}
 use Rattle.batch_record_laws.proofs.ActMoves.{some_move, no_move}
 use Rattle.batch_step_laws.proofs.ActMoves.{stopping-goes_no_further}
 

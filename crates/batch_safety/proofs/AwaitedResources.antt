@@ -1,21 +1,9 @@
 -- A batch of a cleared recipe waits for resources of the cell alone, and for no more of one than its capacity.
 use Rattle.std.proofs.Common.{arith, ⊎_elim, subst, ℕ, ◌+◌, ◌≤◌, List, [], ◌∷◌, ◌++◌, take, slice_get, IsTrue, inl, inr}
 use Rattle.std.proofs.lemmas.Slice.Eq.{bytes_eq-Decides}
-use Rattle.batch_recipe.specs.Conditions.{Name}
-use Rattle.batch_recipe.specs.Nodes.{child}
-use Rattle.batch_recipe.specs.Tree.{Place, Task, runs, follows, Tree, act, seq, par, sel, loop, Trees, no_trees, tree, Choices, otherwise, choice}
-use Rattle.batch_recipe.specs.WellFormed.{is_among}
-use Rattle.batch_model.specs.Lists.{Has, Each}
-use Rattle.batch_model.specs.Rest.{Rest, ready, asking, open_act, live, freeing, in_seq, in_par, in_loop, Rests, rest}
-use Rattle.batch_model.specs.Plant.{Setup}
-use Rattle.batch_model.specs.Standing.{IsRestOf, IsRestBelow, IsBranch, AreBranches, IsChosen}
-use Rattle.batch_model.specs.Cleared.{Ranking, Level, below, Part, parts, parts_within, parts_of_each, parts_of_choices, IsClear}
-use Rattle.batch_model.proofs.Members.{Has-split, Each-Has}
-use Rattle.batch_record_laws.proofs.PlantFacts.{awaiting, performing, held_at, awaited_at, facts, facts_of_each}
-use Rattle.batch_record_laws.proofs.Members.{Each-left, Each-right}
-use Rattle.batch_record_laws.proofs.RanksOfAsks.{Has-get, held-awaiting, awaited-awaiting, lone-awaiting}
-use Rattle.batch_recipe.specs.declared.need.Need.{Need}
-use Rattle.batch_recipe.specs.Needs.{resources_needed}
+use Rattle.batch_recipe.specs.{Conditions.Name, Nodes.child, Tree.Place, Tree.Task, Tree.runs, Tree.follows, Tree.Tree, Tree.act, Tree.seq, Tree.par, Tree.sel, Tree.loop, Tree.Trees, Tree.no_trees, Tree.tree, Tree.Choices, Tree.otherwise, Tree.choice, WellFormed.is_among, declared.need.Need.Need, Needs.resources_needed}
+use Rattle.batch_model.{specs.Lists.Has, specs.Lists.Each, specs.Rest.Rest, specs.Rest.ready, specs.Rest.asking, specs.Rest.open_act, specs.Rest.live, specs.Rest.freeing, specs.Rest.in_seq, specs.Rest.in_par, specs.Rest.in_loop, specs.Rest.Rests, specs.Rest.rest, specs.Plant.Setup, specs.Standing.IsRestOf, specs.Standing.IsRestBelow, specs.Standing.IsBranch, specs.Standing.AreBranches, specs.Standing.IsChosen, specs.Cleared.Ranking, specs.Cleared.Level, specs.Cleared.below, specs.Cleared.Part, specs.Cleared.parts, specs.Cleared.parts_within, specs.Cleared.parts_of_each, specs.Cleared.parts_of_choices, specs.Cleared.IsClear, proofs.Members.Has-split, proofs.Members.Each-Has}
+use Rattle.batch_record_laws.proofs.{PlantFacts.awaiting, PlantFacts.performing, PlantFacts.held_at, PlantFacts.awaited_at, PlantFacts.facts, PlantFacts.facts_of_each, Members.Each-left, Members.Each-right, RanksOfAsks.Has-get, RanksOfAsks.held-awaiting, RanksOfAsks.awaited-awaiting, RanksOfAsks.lone-awaiting}
 
 pub among-Has : (names : List Name) (x : Name) → IsTrue (is_among names x) → Has names x
 among-Has [] x h = absurd cc

@@ -1,42 +1,11 @@
 -- Where no move is possible, the last holder of a chain that can't be continued is at work.
 use Rattle.std.proofs.Common.{◌+◌, ◌≡◌, ◌⊎◌, ⊎_elim, refl, sym, ◌∙◌, ap, subst, ℕ, zero, suc, ◌≤◌, ◌<◌, arith, List, [], ◌∷◌, ◌++◌, Bool, true, false, ◌&&◌, ◌||◌, take, slice_get, Option, Some, None, option_map, inl, inr, length}
-use Rattle.batch_matrix.specs.declared.state.State.{State}
-use Rattle.batch_matrix.specs.declared.state.State.TheVariants.{Idle, Running, Pausing, Paused, Holding, Held, Restarting, Stopping, Stopped, Aborting, Aborted, Complete}
-use Rattle.batch_model.specs.Lists.{Has}
-use Rattle.batch_recipe.specs.Conditions.{Name}
-use Rattle.batch_recipe.specs.Tree.{Place, Step, Phase, Tree, act, seq, par, sel, loop, Task, runs, follows, Trees, no_trees, tree, Choices, otherwise, choice}
-use Rattle.batch_model.specs.Rest.{Rest, ready, asking, open_act, live, freeing, in_seq, in_par, in_loop, done, Rests, no_rests, rest, acts, acts_of_each, is_done, all_done, place_of}
-use Rattle.batch_model.specs.Plant.{Setup, Batch, BatchAct, Share, Plant, opening, holders}
-use Rattle.batch_model.specs.Moves.{Move, begin, start, end, ask, release, pass, reserved_place, handed_values, beginning, entering, giving_back, when, is_running, is_stopping, is_stopped, is_quiet, is_empty, act_move, next}
-use Rattle.batch_model.specs.Runs.{Out}
-use Rattle.batch_model.specs.Cleared.{is_procedure, IsCleared}
-use Rattle.batch_model.specs.Standing.{HasPlacedTrees, IsStandingBatch, IsStanding}
-use Rattle.batch_step_laws.proofs.PlantAlongRecord.{opening-stands, leads-stands}
-use Rattle.batch_safety.proofs.AwaitedResources.{among-Has, CanBeMet, awaited-known}
-use Rattle.batch_record_laws.proofs.ClearanceOverNodes.{cleared-down, control-clear, control-procedure}
-use Rattle.batch_model.specs.Records.{scene_of, Waiting, IsWaiting, IsAtOrAbove, Link, IsLink, IsChain, StandsUnder}
-use Rattle.batch_model.specs.Settled.{IsAdvanced, AreAdvanced}
-use Rattle.batch_recipe.specs.Nodes.{child}
-use Rattle.batch_record_laws.proofs.PlantFacts.{Fact, holding, awaiting, performing, Standing, held_at, awaited_at, facts, facts_of_each, early_facts, entries, need, share}
-use Rattle.batch_model.specs.Standing.{IsRestOf, IsRestBelow, IsBranch, AreBranches, IsChosen}
-use Rattle.batch_model.specs.Placed.{IsPlaced, IsPlacedBelow, ArePlaced, IsChoicePlaced}
-use Rattle.batch_model.specs.Cleared.{Ranking}
-use Rattle.batch_safety.specs.Settlement.{IsHalting, IsAtWork, NobodyWaitsInVain}
-use Rattle.batch_model.proofs.Members.{Has-split, Has-left, Has-right, Each-Has}
-use Rattle.batch_record_laws.proofs.FactPlaces.{acts-below, under}
-use Rattle.batch_record_laws.proofs.FactsAfterChange.{at_or_above}
-use Rattle.batch_record_laws.proofs.FactsOfAsks.{asking-awaits}
-use Rattle.batch_safety.proofs.NeedsOfActs.{IsBounded, AreBounded, rest-bounded}
-use Rattle.batch_record_laws.proofs.Entries.{Has-holders}
-use Rattle.batch_record_laws.proofs.Batches.{holders-entries}
-use Rattle.batch_record_laws.proofs.Invariant.{IsFitting, IsSound, IsKept}
-use Rattle.batch_record_laws.proofs.Batches.{entry-of, of-entry, awaiting-of}
-use Rattle.batch_step_laws.proofs.HoldersInAdvance.{settled-none}
-use Rattle.batch_record_laws.proofs.InvariantAlongRecord.{kept-at_first, kept-along}
-use Rattle.batch_safety.proofs.SettledPlants.{no_act_move, held-by_others, short-chain}
-use Rattle.batch_record_laws.proofs.Invariant.{standing-of}
-use Rattle.batch_recipe.specs.declared.need.Need.{Need}
-use Rattle.batch_record_laws.proofs.Members.{Has-map, map-Has}
+use Rattle.batch_matrix.specs.declared.state.State.{State, TheVariants.Idle, TheVariants.Running, TheVariants.Pausing, TheVariants.Paused, TheVariants.Holding, TheVariants.Held, TheVariants.Restarting, TheVariants.Stopping, TheVariants.Stopped, TheVariants.Aborting, TheVariants.Aborted, TheVariants.Complete}
+use Rattle.batch_model.{specs.Lists.Has, specs.Rest.Rest, specs.Rest.ready, specs.Rest.asking, specs.Rest.open_act, specs.Rest.live, specs.Rest.freeing, specs.Rest.in_seq, specs.Rest.in_par, specs.Rest.in_loop, specs.Rest.done, specs.Rest.Rests, specs.Rest.no_rests, specs.Rest.rest, specs.Rest.acts, specs.Rest.acts_of_each, specs.Rest.is_done, specs.Rest.all_done, specs.Rest.place_of, specs.Plant.Setup, specs.Plant.Batch, specs.Plant.BatchAct, specs.Plant.Share, specs.Plant.Plant, specs.Plant.opening, specs.Plant.holders, specs.Moves.Move, specs.Moves.begin, specs.Moves.start, specs.Moves.end, specs.Moves.ask, specs.Moves.release, specs.Moves.pass, specs.Moves.reserved_place, specs.Moves.handed_values, specs.Moves.beginning, specs.Moves.entering, specs.Moves.giving_back, specs.Moves.when, specs.Moves.is_running, specs.Moves.is_stopping, specs.Moves.is_stopped, specs.Moves.is_quiet, specs.Moves.is_empty, specs.Moves.act_move, specs.Moves.next, specs.Runs.Out, specs.Cleared.is_procedure, specs.Cleared.IsCleared, specs.Standing.HasPlacedTrees, specs.Standing.IsStandingBatch, specs.Standing.IsStanding, specs.Records.scene_of, specs.Records.Waiting, specs.Records.IsWaiting, specs.Records.IsAtOrAbove, specs.Records.Link, specs.Records.IsLink, specs.Records.IsChain, specs.Records.StandsUnder, specs.Settled.IsAdvanced, specs.Settled.AreAdvanced, specs.Standing.IsRestOf, specs.Standing.IsRestBelow, specs.Standing.IsBranch, specs.Standing.AreBranches, specs.Standing.IsChosen, specs.Placed.IsPlaced, specs.Placed.IsPlacedBelow, specs.Placed.ArePlaced, specs.Placed.IsChoicePlaced, specs.Cleared.Ranking, proofs.Members.Has-split, proofs.Members.Has-left, proofs.Members.Has-right, proofs.Members.Each-Has}
+use Rattle.batch_recipe.specs.{Conditions.Name, Tree.Place, Tree.Step, Tree.Phase, Tree.Tree, Tree.act, Tree.seq, Tree.par, Tree.sel, Tree.loop, Tree.Task, Tree.runs, Tree.follows, Tree.Trees, Tree.no_trees, Tree.tree, Tree.Choices, Tree.otherwise, Tree.choice, Nodes.child, declared.need.Need.Need}
+use Rattle.batch_step_laws.proofs.{PlantAlongRecord.opening-stands, PlantAlongRecord.leads-stands, HoldersInAdvance.settled-none}
+use Rattle.batch_safety.{proofs.AwaitedResources.among-Has, proofs.AwaitedResources.CanBeMet, proofs.AwaitedResources.awaited-known, specs.Settlement.IsHalting, specs.Settlement.IsAtWork, specs.Settlement.NobodyWaitsInVain, proofs.NeedsOfActs.IsBounded, proofs.NeedsOfActs.AreBounded, proofs.NeedsOfActs.rest-bounded, proofs.SettledPlants.no_act_move, proofs.SettledPlants.held-by_others, proofs.SettledPlants.short-chain}
+use Rattle.batch_record_laws.proofs.{ClearanceOverNodes.cleared-down, ClearanceOverNodes.control-clear, ClearanceOverNodes.control-procedure, PlantFacts.Fact, PlantFacts.holding, PlantFacts.awaiting, PlantFacts.performing, PlantFacts.Standing, PlantFacts.held_at, PlantFacts.awaited_at, PlantFacts.facts, PlantFacts.facts_of_each, PlantFacts.early_facts, PlantFacts.entries, PlantFacts.need, PlantFacts.share, FactPlaces.acts-below, FactPlaces.under, FactsAfterChange.at_or_above, FactsOfAsks.asking-awaits, Entries.Has-holders, Batches.holders-entries, Invariant.IsFitting, Invariant.IsSound, Invariant.IsKept, Batches.entry-of, Batches.of-entry, Batches.awaiting-of, InvariantAlongRecord.kept-at_first, InvariantAlongRecord.kept-along, Invariant.standing-of, Members.Has-map, Members.map-Has}
 
 -- Acts below an open act
 

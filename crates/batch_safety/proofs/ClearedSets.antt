@@ -1,13 +1,7 @@
 -- Cleared sets run safely: the promise for the documents of a cell and recipes.
 use Rattle.batch_model.specs.Setups.{setup_of}
-use Rattle.batch_record_laws.specs.Premises.{IsOfDocuments}
-use Rattle.batch_safety.specs.Sets.{ClearedSetsRunSafely}
-use Rattle.batch_record_laws.proofs.ClearanceOverNodes.{cleared-down}
-use Rattle.batch_record_laws.proofs.Sets.{sets_are_documents}
-use Rattle.batch_safety.proofs.UnitsAlongRecord.{units-kept}
-use Rattle.batch_safety.proofs.SafeRecords.{safe}
-use Rattle.batch_record_laws.proofs.PlantByRecord.{tells_the_plant}
-use Rattle.batch_safety.proofs.ChainEnds.{nobody_waits_in_vain}
+use Rattle.batch_record_laws.{specs.Premises.IsOfDocuments, proofs.ClearanceOverNodes.cleared-down, proofs.Sets.sets_are_documents, proofs.PlantByRecord.tells_the_plant}
+use Rattle.batch_safety.{specs.Sets.ClearedSetsRunSafely, proofs.UnitsAlongRecord.units-kept, proofs.SafeRecords.safe, proofs.ChainEnds.nobody_waits_in_vain}
 
 pub cleared_sets_run_safely : ClearedSetsRunSafely
 cleared_sets_run_safely c recipes (rank, cleared) =

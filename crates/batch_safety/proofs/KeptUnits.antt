@@ -1,22 +1,11 @@
 -- The effect of one more line on the units that are told to be kept, and on those that are told to be held.
 use Rattle.std.proofs.Common.{◌≡◌, refl, sym, ◌∙◌, ap, subst, ℕ, List, [], ◌∷◌, ◌++◌, Bool, true, false, nat_eq, inl}
-use Rattle.std.proofs.lemmas.List.Sums.{fold-append}
-use Rattle.std.specs.Prelude.{⊤}
+use Rattle.std.{proofs.lemmas.List.Sums.fold-append, specs.Prelude.⊤}
 use Rattle.batch_matrix.specs.declared.command.Command.TheVariants.{Stop, Abort}
-use Rattle.batch_recipe.specs.Conditions.{Name, same_name}
-use Rattle.batch_recipe.specs.declared.need.Need.{Need}
-use Rattle.batch_recipe.specs.Tree.{Place, Tree}
-use Rattle.batch_model.specs.Events.{ordered}
-use Rattle.batch_model.specs.Lists.{Has}
-use Rattle.batch_model.specs.Moves.{release, pass, begin, start, grant, batch_of}
-use Rattle.batch_model.specs.Plant.{BatchAct, Share, acts_in, without, with_share, without_share}
-use Rattle.batch_model.specs.Records.{holders_after, holders_told}
-use Rattle.batch_model.specs.Runs.{Out, reply, move}
-use Rattle.batch_model.specs.Transfers.{Kept, without_begun, kept_until, passed_by, passed_told, reserved_from, reserved_told}
-use Rattle.batch_model.proofs.Members.{Has-left, Has-right}
+use Rattle.batch_recipe.specs.{Conditions.Name, Conditions.same_name, declared.need.Need.Need, Tree.Place, Tree.Tree}
+use Rattle.batch_model.{specs.Events.ordered, specs.Lists.Has, specs.Moves.release, specs.Moves.pass, specs.Moves.begin, specs.Moves.start, specs.Moves.grant, specs.Moves.batch_of, specs.Plant.BatchAct, specs.Plant.Share, specs.Plant.acts_in, specs.Plant.without, specs.Plant.with_share, specs.Plant.without_share, specs.Records.holders_after, specs.Records.holders_told, specs.Runs.Out, specs.Runs.reply, specs.Runs.move, specs.Transfers.Kept, specs.Transfers.without_begun, specs.Transfers.kept_until, specs.Transfers.passed_by, specs.Transfers.passed_told, specs.Transfers.reserved_from, specs.Transfers.reserved_told, proofs.Members.Has-left, proofs.Members.Has-right}
 use Rattle.batch_step_laws.proofs.LastLineEffect.{holders_told-last}
-use Rattle.batch_record_laws.proofs.Entries.{nat_differs, without-Has}
-use Rattle.batch_record_laws.proofs.Members.{Has-map, map-Has}
+use Rattle.batch_record_laws.proofs.{Entries.nat_differs, Entries.without-Has, Members.Has-map, Members.map-Has}
 
 -- Lines
 

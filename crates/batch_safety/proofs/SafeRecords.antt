@@ -1,22 +1,10 @@
 -- Every record is safe after each of its lines.
 use Rattle.std.proofs.Common.{arith, ◌≡◌, sym, ◌∙◌, ap, subst, ℕ, List, [], ◌∷◌, ◌++◌, append-nil, append_assoc}
-use Rattle.batch_recipe.specs.Conditions.{ValueList}
-use Rattle.batch_recipe.specs.Tree.{Phase, Place}
-use Rattle.batch_model.specs.Plant.{Setup, Plant, opening}
-use Rattle.batch_model.specs.Moves.{start, after_move}
-use Rattle.batch_model.specs.Events.{Event, Reply}
-use Rattle.batch_model.specs.Standing.{IsStanding}
+use Rattle.batch_recipe.specs.{Conditions.ValueList, Tree.Phase, Tree.Place}
+use Rattle.batch_model.specs.{Plant.Setup, Plant.Plant, Plant.opening, Moves.start, Moves.after_move, Events.Event, Events.Reply, Standing.IsStanding, Runs.Out, Runs.move, Runs.reply, Runs.Leads, Records.StartsIdle, Records.IsSafeNow, Records.IsSafe, Cleared.Ranking}
 use Rattle.batch_step_laws.proofs.PlantAlongRecord.{opening-stands, reacts-stands}
-use Rattle.batch_model.specs.Runs.{Out, move, reply, Leads}
-use Rattle.batch_model.specs.Records.{StartsIdle, IsSafeNow, IsSafe}
-use Rattle.batch_model.specs.Cleared.{Ranking}
-use Rattle.batch_record_laws.proofs.ClearanceDownTrees.{AreClearedDown}
-use Rattle.batch_record_laws.proofs.Invariant.{IsKept}
+use Rattle.batch_record_laws.proofs.{ClearanceDownTrees.AreClearedDown, Invariant.IsKept, PhaseStarts.starts-nothing, InvariantAfterMove.move-step, Reports.reply-step, InvariantAlongRecord.kept-at_first, InvariantAlongRecord.moved-stands, InvariantAlongRecord.placed-trees}
 use Rattle.batch_safety.proofs.Safety.{safe-now}
-use Rattle.batch_record_laws.proofs.PhaseStarts.{starts-nothing}
-use Rattle.batch_record_laws.proofs.InvariantAfterMove.{move-step}
-use Rattle.batch_record_laws.proofs.Reports.{reply-step}
-use Rattle.batch_record_laws.proofs.InvariantAlongRecord.{kept-at_first, moved-stands, placed-trees}
 
 no_line : (before : List Out) (o : Out) → ◌≡◌ {A = List Out} [] (before ++ o ∷ []) → ⊥
 no_line [] o e = cc

@@ -1,27 +1,9 @@
 -- The invariant makes a record safe.
 use Rattle.std.proofs.Common.{◌≡◌, ◌⊎◌, ⊎_elim, sym, ◌∙◌, ap, ap₂, subst, subst₂, ◌++◌, false, ℕ, suc, ◌≤◌, ◌<◌, arith, List, [], ◌∷◌, Some, inl, inr}
 use Rattle.batch_matrix.specs.declared.state.State.{State}
-use Rattle.batch_model.specs.Lists.{Has, Each}
-use Rattle.batch_recipe.specs.Tree.{Place}
-use Rattle.batch_model.specs.Plant.{Setup, Batch, BatchAct, Share, acts_in, Plant}
-use Rattle.batch_model.specs.Runs.{Out}
-use Rattle.batch_model.specs.Records.{holders_told, waiters_told, state_told, IsAtRest, scene_told, Waiting, IsWaiting, IsAtOrAbove, StandsBefore, WaitsForHolder, WaitsForOlder, PointsTo, PointAlong, HasCapacity, HoldsUnits, StartsIdle, HasNoCircle, RestsEmpty, IsSafeNow}
-use Rattle.batch_record_laws.proofs.PlantFacts.{Fact, holding, awaiting, facts, early_facts, batch_facts, entries, need, share}
-use Rattle.batch_model.specs.Cleared.{Ranking}
-use Rattle.batch_record_laws.proofs.Members.{Has-map, map-Has, Has-Each}
-use Rattle.batch_record_laws.proofs.RanksOfAsks.{rank-rises}
-use Rattle.batch_record_laws.proofs.Units.{unit-held}
-use Rattle.batch_record_laws.proofs.Entries.{IsOnce, Has-holders, holders-Has}
-use Rattle.batch_record_laws.proofs.Batches.{entry-of, of-entry, awaiting-of, performing-of, early-fact, same-batch}
-use Rattle.batch_record_laws.proofs.DuePlaces.{awaited-none_under}
-use Rattle.batch_record_laws.proofs.BatchProgress.{is_under_way, early-none}
-use Rattle.batch_record_laws.proofs.FactPlaces.{fact-stands}
-use Rattle.batch_model.proofs.Members.{Has-split, Each-Has}
-use Rattle.batch_record_laws.proofs.Invariant.{IsSound, IsKept, at_rest-nothing}
-use Rattle.batch_model.specs.Standing.{IsAwaited, IsStandingBatch, IsStanding}
-use Rattle.batch_record_laws.proofs.Invariant.{standing-of, numbers-of}
-use Rattle.batch_recipe.specs.Needs.{one_unit}
-use Rattle.batch_recipe.specs.Conditions.{Name}
+use Rattle.batch_model.{specs.Lists.Has, specs.Lists.Each, specs.Plant.Setup, specs.Plant.Batch, specs.Plant.BatchAct, specs.Plant.Share, specs.Plant.acts_in, specs.Plant.Plant, specs.Runs.Out, specs.Records.holders_told, specs.Records.waiters_told, specs.Records.state_told, specs.Records.IsAtRest, specs.Records.scene_told, specs.Records.Waiting, specs.Records.IsWaiting, specs.Records.IsAtOrAbove, specs.Records.StandsBefore, specs.Records.WaitsForHolder, specs.Records.WaitsForOlder, specs.Records.PointsTo, specs.Records.PointAlong, specs.Records.HasCapacity, specs.Records.HoldsUnits, specs.Records.StartsIdle, specs.Records.HasNoCircle, specs.Records.RestsEmpty, specs.Records.IsSafeNow, specs.Cleared.Ranking, proofs.Members.Has-split, proofs.Members.Each-Has, specs.Standing.IsAwaited, specs.Standing.IsStandingBatch, specs.Standing.IsStanding}
+use Rattle.batch_recipe.specs.{Tree.Place, Needs.one_unit, Conditions.Name}
+use Rattle.batch_record_laws.proofs.{PlantFacts.Fact, PlantFacts.holding, PlantFacts.awaiting, PlantFacts.facts, PlantFacts.early_facts, PlantFacts.batch_facts, PlantFacts.entries, PlantFacts.need, PlantFacts.share, Members.Has-map, Members.map-Has, Members.Has-Each, RanksOfAsks.rank-rises, Units.unit-held, Entries.IsOnce, Entries.Has-holders, Entries.holders-Has, Batches.entry-of, Batches.of-entry, Batches.awaiting-of, Batches.performing-of, Batches.early-fact, Batches.same-batch, DuePlaces.awaited-none_under, BatchProgress.is_under_way, BatchProgress.early-none, FactPlaces.fact-stands, Invariant.IsSound, Invariant.IsKept, Invariant.at_rest-nothing, Invariant.standing-of, Invariant.numbers-of}
 
 rests-not_under_way : (x : State) → IsAtRest x → is_under_way x ≡ false
 rests-not_under_way x r = grind arith

@@ -1,26 +1,10 @@
 -- Where no move is possible: too little is free for the oldest ask, and chains are short.
 use Rattle.std.proofs.Common.{◌≡◌, refl, sym, ap, ap₂, subst, ℕ, suc, ◌+◌, nat_le, option_to_list, ◌++◌, ◌≤◌, ◌<◌, arith, List, [], ◌∷◌, Bool, true, false, not, ◌&&◌, filter, filter_map, slice_get, Option, Some, None, inl, inr, length, bytes_eq}
-use Rattle.batch_model.specs.Lists.{Has}
-use Rattle.batch_recipe.specs.Conditions.{Name}
-use Rattle.batch_recipe.specs.Tree.{Step, Task}
-use Rattle.batch_model.specs.Rest.{Rest, asking, acts}
-use Rattle.batch_model.specs.Plant.{Setup, Batch, BatchAct, Share, units_in, acts_in, Plant, is_same_act, holders}
-use Rattle.batch_model.specs.Moves.{Move, grant, act_move, state_move, batch_moves, possible, next, is_served, when}
-use Rattle.batch_model.specs.Runs.{Out}
-use Rattle.batch_model.specs.Records.{holders_told, scene_of, Link, IsLink, IsChain, StandsUnder}
-use Rattle.batch_step_laws.proofs.MoveOrder.{none_least}
-use Rattle.batch_step_laws.proofs.HoldersInAdvance.{filter_map-Has, flat_map-Has}
-use Rattle.batch_record_laws.proofs.PlantFacts.{need}
-use Rattle.batch_model.specs.Cleared.{Ranking}
-use Rattle.batch_record_laws.proofs.Members.{Has-map, map-Has}
-use Rattle.batch_record_laws.proofs.Entries.{act_self, name_self, name_same, filter-Has, length-filter_lt}
-use Rattle.batch_record_laws.proofs.Batches.{holders-entries}
-use Rattle.batch_record_laws.proofs.Invariant.{IsKept}
-use Rattle.batch_record_laws.proofs.Batches.{awaiting-of}
-use Rattle.batch_record_laws.proofs.FactsOfAsks.{awaiting-act}
+use Rattle.batch_model.specs.{Lists.Has, Rest.Rest, Rest.asking, Rest.acts, Plant.Setup, Plant.Batch, Plant.BatchAct, Plant.Share, Plant.units_in, Plant.acts_in, Plant.Plant, Plant.is_same_act, Plant.holders, Moves.Move, Moves.grant, Moves.act_move, Moves.state_move, Moves.batch_moves, Moves.possible, Moves.next, Moves.is_served, Moves.when, Runs.Out, Records.holders_told, Records.scene_of, Records.Link, Records.IsLink, Records.IsChain, Records.StandsUnder, Cleared.Ranking, Standing.IsStanding}
+use Rattle.batch_recipe.specs.{Conditions.Name, Tree.Step, Tree.Task, declared.need.Need.Need}
+use Rattle.batch_step_laws.proofs.{MoveOrder.none_least, HoldersInAdvance.filter_map-Has, HoldersInAdvance.flat_map-Has}
+use Rattle.batch_record_laws.proofs.{PlantFacts.need, Members.Has-map, Members.map-Has, Entries.act_self, Entries.name_self, Entries.name_same, Entries.filter-Has, Entries.length-filter_lt, Batches.holders-entries, Invariant.IsKept, Batches.awaiting-of, FactsOfAsks.awaiting-act}
 use Rattle.batch_safety.proofs.Safety.{holder-rises}
-use Rattle.batch_model.specs.Standing.{IsStanding}
-use Rattle.batch_recipe.specs.declared.need.Need.{Need}
 
 -- No move
 

@@ -1,18 +1,9 @@
 -- An act that isn't begun stays so until a move begins the act at its place.
 use Rattle.std.proofs.Common.{◌≡◌, refl, sym, ◌∙◌, ap, subst, ℕ, zero, suc, pred, List, length, Bool, true, false, inl, inr, ⊎_elim}
 use Rattle.std.specs.Prelude.{⊤}
-use Rattle.batch_matrix.specs.declared.command.Command.{Command}
-use Rattle.batch_matrix.specs.declared.report.PhaseEnd.{PhaseEnd}
-use Rattle.batch_matrix.specs.declared.report.PhaseEnd.TheVariants.{Ended, Now, Same}
-use Rattle.batch_matrix.specs.declared.state.State.{State}
-use Rattle.batch_recipe.specs.declared.condition.Cond.{Cond}
-use Rattle.batch_recipe.specs.Conditions.{holds}
-use Rattle.batch_recipe.specs.Tree.{Place, Step, runs, follows, Tree, act, skip, seq, par, sel, loop, Trees, no_trees, tree, Choices, otherwise, choice}
-use Rattle.batch_model.specs.Events.{phase_after}
-use Rattle.batch_model.specs.Lists.{Has}
-use Rattle.batch_model.specs.Moves.{Move, begin, start, send, state, release, pass, end, ask, grant, place_of_move, freed, sent, released, begun, ended, asked, granted, act_after}
-use Rattle.batch_model.specs.Rest.{Rest, Moment, ready, asking, open_act, live, freeing, in_seq, in_par, in_loop, done, Rests, no_rests, rest, same_place, is_done, all_done, turning, turned, reach, reach_first, reach_each, reach_chosen, advance, advance_each, acts, acts_of_each, place_of, changed_at, changed_in_each}
-use Rattle.batch_model.proofs.Members.{Has-split, Has-left, Has-right}
+use Rattle.batch_matrix.specs.declared.{command.Command.Command, report.PhaseEnd.PhaseEnd, report.PhaseEnd.TheVariants.Ended, report.PhaseEnd.TheVariants.Now, report.PhaseEnd.TheVariants.Same, state.State.State}
+use Rattle.batch_recipe.specs.{declared.condition.Cond.Cond, Conditions.holds, Tree.Place, Tree.Step, Tree.runs, Tree.follows, Tree.Tree, Tree.act, Tree.skip, Tree.seq, Tree.par, Tree.sel, Tree.loop, Tree.Trees, Tree.no_trees, Tree.tree, Tree.Choices, Tree.otherwise, Tree.choice}
+use Rattle.batch_model.{specs.Events.phase_after, specs.Lists.Has, specs.Moves.Move, specs.Moves.begin, specs.Moves.start, specs.Moves.send, specs.Moves.state, specs.Moves.release, specs.Moves.pass, specs.Moves.end, specs.Moves.ask, specs.Moves.grant, specs.Moves.place_of_move, specs.Moves.freed, specs.Moves.sent, specs.Moves.released, specs.Moves.begun, specs.Moves.ended, specs.Moves.asked, specs.Moves.granted, specs.Moves.act_after, specs.Rest.Rest, specs.Rest.Moment, specs.Rest.ready, specs.Rest.asking, specs.Rest.open_act, specs.Rest.live, specs.Rest.freeing, specs.Rest.in_seq, specs.Rest.in_par, specs.Rest.in_loop, specs.Rest.done, specs.Rest.Rests, specs.Rest.no_rests, specs.Rest.rest, specs.Rest.same_place, specs.Rest.is_done, specs.Rest.all_done, specs.Rest.turning, specs.Rest.turned, specs.Rest.reach, specs.Rest.reach_first, specs.Rest.reach_each, specs.Rest.reach_chosen, specs.Rest.advance, specs.Rest.advance_each, specs.Rest.acts, specs.Rest.acts_of_each, specs.Rest.place_of, specs.Rest.changed_at, specs.Rest.changed_in_each, proofs.Members.Has-split, proofs.Members.Has-left, proofs.Members.Has-right}
 use Rattle.batch_step_laws.proofs.WorkAfterChange.{to_same_place}
 use Rattle.batch_record_laws.proofs.HoldingsInAdvance.{either-acts}
 

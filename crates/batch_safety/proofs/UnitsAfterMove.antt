@@ -1,48 +1,12 @@
 -- A record is right about the units that are passed on or reserved, after every move.
 use Rattle.std.proofs.Common.{arith, ◌≡◌, ◌⊎◌, ⊎_elim, refl, sym, ◌∙◌, ap, subst, ℕ, zero, suc, ◌<◌, ◌≤◌, List, [], ◌∷◌, ◌++◌, Bool, true, false, not, nat_eq, map, take, find, Option, Some, None, slice_get, inl, inr, bytes_eq}
-use Rattle.std.specs.Prelude.{option_and_then, option_map}
-use Rattle.std.proofs.lemmas.Bool.{cases_lt}
-use Rattle.std.proofs.lemmas.Slice.Eq.{bytes_eq-Decides}
+use Rattle.std.{specs.Prelude.option_and_then, specs.Prelude.option_map, proofs.lemmas.Bool.cases_lt, proofs.lemmas.Slice.Eq.bytes_eq-Decides}
 use Rattle.batch_matrix.specs.declared.state.State.{State}
-use Rattle.batch_recipe.specs.Conditions.{Name, same_name}
-use Rattle.batch_recipe.specs.declared.need.Need.{Need}
-use Rattle.batch_recipe.specs.Needs.{resources_needed}
-use Rattle.batch_recipe.specs.Tree.{Place, Reserve, Step, Task, Tree, runs, follows}
-use Rattle.batch_model.specs.ActStates.{steps}
-use Rattle.batch_model.specs.Cleared.{Ranking}
-use Rattle.batch_model.specs.Lists.{Has, Each}
-use Rattle.batch_model.specs.Moves.{Move, state, release, pass, begin, start, place_of_move, batch_of, reserved_place, passing, act_after, act_move, batch_moves, batch_after, next, after_move}
-use Rattle.batch_model.specs.Plant.{Setup, Batch, Share, Plant, moment_of, in_act}
-use Rattle.batch_model.specs.Rest.{Rest, ready, freeing, same_place, acts, changed_at}
-use Rattle.batch_model.specs.Records.{holders_told}
-use Rattle.batch_model.specs.Runs.{Out, move, goes_on}
-use Rattle.batch_model.specs.Standing.{IsStandingBatch, IsStanding}
-use Rattle.batch_model.specs.Transfers.{Kept, without_begun, kept_until, passed_by, passed_told, reserved_by, reserved_at, reserved_from, reserved_told}
-use Rattle.batch_model.proofs.Members.{Has-split, Has-filter_map, Each-Has, Each-map}
-use Rattle.batch_step_laws.proofs.StateMoves.{IsStateMove, state_move-is}
-use Rattle.batch_step_laws.proofs.WorkAfterChange.{to_same_place}
-use Rattle.batch_step_laws.proofs.WorkAfterMove.{Has-batch_moves, batch_moves-number, next-possible, same-rest, same-state}
-use Rattle.batch_step_laws.proofs.DueUnitProcedures.{follower-due}
-use Rattle.batch_step_laws.proofs.ActMoves.{IsComing, IsMoveOf, act_move-is, running-goes_on}
-use Rattle.batch_record_laws.specs.Ways.{RanksRiseAbove}
-use Rattle.batch_record_laws.proofs.PhaseStepPlaces.{Avoids, phase-elsewhere}
-use Rattle.batch_record_laws.proofs.Batches.{only, Has-only, below-next, of-entry}
-use Rattle.batch_record_laws.proofs.DuePlaces.{awaited-nowhere}
-use Rattle.batch_record_laws.proofs.Entries.{nat_same, nat_self, Has-filter, name_same, name_self, frame-middle, holders-Has}
-use Rattle.batch_record_laws.proofs.PlantFacts.{Standing, holding, held_at, facts, entries, share}
-use Rattle.batch_record_laws.proofs.FactsAfterChange.{Frame, frame, NeedsRise, needs-rise}
-use Rattle.batch_record_laws.proofs.Invariant.{IsSound, IsKept, standing-of, numbers-of}
-use Rattle.batch_record_laws.proofs.Members.{map-Has, Has-Each}
-use Rattle.batch_record_laws.proofs.ActMoves.{take-whole}
-use Rattle.batch_record_laws.proofs.BatchProgress.{IsOfStep, act-step_in}
-use Rattle.batch_record_laws.proofs.HoldingsInAdvance.{Nowhere}
-use Rattle.batch_record_laws.proofs.RanksOfAsks.{Has-get, rises-next}
-use Rattle.batch_record_laws.proofs.NeedsOfReserves.{one-step}
-use Rattle.batch_record_laws.proofs.UnitProcedures.{find-passes}
-use Rattle.batch_model.proofs.Members.{Has-flat_map}
-use Rattle.batch_safety.proofs.KeptUnits.{IsOfOther, Holds, Takes, still-held, held-passed, passed_told-last, reserved_told-last, passed_told-others, reserved_told-others}
-use Rattle.batch_safety.proofs.ActsOfMoves.{IsMade, act_move-made}
-use Rattle.batch_safety.proofs.UnbegunActs.{IsUnbegunAt, Begins, advance-unbegun, changed-unbegun, act_after-unbegun}
+use Rattle.batch_recipe.specs.{Conditions.Name, Conditions.same_name, declared.need.Need.Need, Needs.resources_needed, Tree.Place, Tree.Reserve, Tree.Step, Tree.Task, Tree.Tree, Tree.runs, Tree.follows}
+use Rattle.batch_model.{specs.ActStates.steps, specs.Cleared.Ranking, specs.Lists.Has, specs.Lists.Each, specs.Moves.Move, specs.Moves.state, specs.Moves.release, specs.Moves.pass, specs.Moves.begin, specs.Moves.start, specs.Moves.place_of_move, specs.Moves.batch_of, specs.Moves.reserved_place, specs.Moves.passing, specs.Moves.act_after, specs.Moves.act_move, specs.Moves.batch_moves, specs.Moves.batch_after, specs.Moves.next, specs.Moves.after_move, specs.Plant.Setup, specs.Plant.Batch, specs.Plant.Share, specs.Plant.Plant, specs.Plant.moment_of, specs.Plant.in_act, specs.Rest.Rest, specs.Rest.ready, specs.Rest.freeing, specs.Rest.same_place, specs.Rest.acts, specs.Rest.changed_at, specs.Records.holders_told, specs.Runs.Out, specs.Runs.move, specs.Runs.goes_on, specs.Standing.IsStandingBatch, specs.Standing.IsStanding, specs.Transfers.Kept, specs.Transfers.without_begun, specs.Transfers.kept_until, specs.Transfers.passed_by, specs.Transfers.passed_told, specs.Transfers.reserved_by, specs.Transfers.reserved_at, specs.Transfers.reserved_from, specs.Transfers.reserved_told, proofs.Members.Has-split, proofs.Members.Has-filter_map, proofs.Members.Each-Has, proofs.Members.Each-map, proofs.Members.Has-flat_map}
+use Rattle.batch_step_laws.proofs.{StateMoves.IsStateMove, StateMoves.state_move-is, WorkAfterChange.to_same_place, WorkAfterMove.Has-batch_moves, WorkAfterMove.batch_moves-number, WorkAfterMove.next-possible, WorkAfterMove.same-rest, WorkAfterMove.same-state, DueUnitProcedures.follower-due, ActMoves.IsComing, ActMoves.IsMoveOf, ActMoves.act_move-is, ActMoves.running-goes_on}
+use Rattle.batch_record_laws.{specs.Ways.RanksRiseAbove, proofs.PhaseStepPlaces.Avoids, proofs.PhaseStepPlaces.phase-elsewhere, proofs.Batches.only, proofs.Batches.Has-only, proofs.Batches.below-next, proofs.Batches.of-entry, proofs.DuePlaces.awaited-nowhere, proofs.Entries.nat_same, proofs.Entries.nat_self, proofs.Entries.Has-filter, proofs.Entries.name_same, proofs.Entries.name_self, proofs.Entries.frame-middle, proofs.Entries.holders-Has, proofs.PlantFacts.Standing, proofs.PlantFacts.holding, proofs.PlantFacts.held_at, proofs.PlantFacts.facts, proofs.PlantFacts.entries, proofs.PlantFacts.share, proofs.FactsAfterChange.Frame, proofs.FactsAfterChange.frame, proofs.FactsAfterChange.NeedsRise, proofs.FactsAfterChange.needs-rise, proofs.Invariant.IsSound, proofs.Invariant.IsKept, proofs.Invariant.standing-of, proofs.Invariant.numbers-of, proofs.Members.map-Has, proofs.Members.Has-Each, proofs.ActMoves.take-whole, proofs.BatchProgress.IsOfStep, proofs.BatchProgress.act-step_in, proofs.HoldingsInAdvance.Nowhere, proofs.RanksOfAsks.Has-get, proofs.RanksOfAsks.rises-next, proofs.NeedsOfReserves.one-step, proofs.UnitProcedures.find-passes}
+use Rattle.batch_safety.proofs.{KeptUnits.IsOfOther, KeptUnits.Holds, KeptUnits.Takes, KeptUnits.still-held, KeptUnits.held-passed, KeptUnits.passed_told-last, KeptUnits.reserved_told-last, KeptUnits.passed_told-others, KeptUnits.reserved_told-others, ActsOfMoves.IsMade, ActsOfMoves.act_move-made, UnbegunActs.IsUnbegunAt, UnbegunActs.Begins, UnbegunActs.advance-unbegun, UnbegunActs.changed-unbegun, UnbegunActs.act_after-unbegun}
 
 -- Of batch n, whose tree is c and of which r remains: a unit is held where it was passed to, and its unit procedure isn't begun
 pub record IsHeldFor (outs : List Out) (n : ℕ) (c : Tree) (r : Rest) (kept : Kept) : Type 0 where

@@ -1,38 +1,11 @@
 -- A record is right about the units that are passed on or reserved, after every reply.
 use Rattle.std.proofs.Common.{arith, ◌≡◌, ⊎_elim, refl, sym, ◌∙◌, ap, ap₂, subst, subst₂, ℕ, ◌≤◌, List, [], ◌∷◌, ◌++◌, Bool, true, false, not, nat_eq, map, find, Option, Some, None, inl, inr, bytes_eq}
-use Rattle.batch_matrix.specs.declared.command.Command.{Command}
-use Rattle.batch_matrix.specs.declared.command.Command.TheVariants.{Start, Pause, Resume, Hold, Restart, Stop, Abort, Reset}
-use Rattle.batch_matrix.specs.declared.report.PhaseEnd.{PhaseEnd}
-use Rattle.batch_matrix.specs.declared.report.Report.{Report}
-use Rattle.batch_matrix.specs.declared.state.State.{State}
-use Rattle.batch_matrix.specs.declared.state.State.TheVariants.{Idle, Holding}
+use Rattle.batch_matrix.specs.{declared.command.Command.Command, declared.command.Command.TheVariants.Start, declared.command.Command.TheVariants.Pause, declared.command.Command.TheVariants.Resume, declared.command.Command.TheVariants.Hold, declared.command.Command.TheVariants.Restart, declared.command.Command.TheVariants.Stop, declared.command.Command.TheVariants.Abort, declared.command.Command.TheVariants.Reset, declared.report.PhaseEnd.PhaseEnd, declared.report.Report.Report, declared.state.State.State, declared.state.State.TheVariants.Idle, declared.state.State.TheVariants.Holding, Matrix.same_state, Matrix.accepts, Matrix.target, Matrix.after_report}
 use Rattle.batch_matrix.specs.declared.command.Command.TheVariants as commands
-use Rattle.batch_matrix.specs.Matrix.{same_state, accepts, target, after_report}
-use Rattle.batch_recipe.specs.Conditions.{Name, ValueList}
-use Rattle.batch_recipe.specs.Tree.{Place, Tree}
-use Rattle.batch_recipe.specs.Values.{with_values, are_outputs, left_out}
-use Rattle.batch_model.specs.Cleared.{Ranking}
-use Rattle.batch_model.specs.Events.{Event, create, order, remove, report, Refusal, Reply, created, ordered, removed, reported, refused, unknown_recipe, unknown_batch, command_not_accepted, no_live_phase, report_not_expected, bad_output, output_left_out, bad_binding, bad_size, bad_value, full, not_idle, moves_pending, no_memory, Answer, is_full, new_batch, with_batch, creating, creating_for, binding, is_binding, bound_by, roles_told, reset, commanded, lines_under, ordering, without_batch, removing, LivePhase, live_phase, phase_after, batch_state_after, outputs_of, batch_reported, owed, accepting, reporting, judged, react}
-use Rattle.batch_model.specs.Lists.{Has, Each}
-use Rattle.batch_model.specs.Moves.{Move, next}
-use Rattle.batch_model.specs.Plant.{Formula, size_out_of_range, value_out_of_range, scaled, Recipe, Master, Setup, Batch, Share, Plant, batch_at, moment_of, in_batch}
-use Rattle.batch_model.specs.Rest.{Rest, changed_at}
-use Rattle.batch_model.specs.Records.{holders_told}
-use Rattle.batch_model.specs.Runs.{Out, reply, Reacts, goes_on}
-use Rattle.batch_model.specs.Standing.{IsStanding}
-use Rattle.batch_model.specs.Transfers.{Kept, kept_until, passed_told, reserved_told}
-use Rattle.batch_model.proofs.Members.{Has-split, Each-Has}
-use Rattle.batch_record_laws.proofs.Batches.{only, same-batch, below-next, entry-of}
-use Rattle.batch_record_laws.proofs.Entries.{nat_same, nat_self, Has-filter, Has-holders}
-use Rattle.batch_record_laws.proofs.Events.{reset-rests, reset-nothing}
-use Rattle.batch_record_laws.proofs.PlantFacts.{facts, early_facts, batch_facts, entries, holding, need}
-use Rattle.batch_record_laws.proofs.Invariant.{IsKept, standing-of, numbers-of}
-use Rattle.batch_record_laws.proofs.Members.{Has-map}
-use Rattle.batch_record_laws.proofs.BatchProgress.{early-none}
-use Rattle.batch_record_laws.proofs.UnitProcedures.{find-passes}
-use Rattle.batch_safety.proofs.KeptUnits.{IsOfOther, Holds, passed_told-last, reserved_told-last, passed_told-others, reserved_told-others}
-use Rattle.batch_safety.proofs.UnbegunActs.{advance-unbegun, changed-unbegun, phase_after-unbegun}
-use Rattle.batch_safety.proofs.UnitsAfterMove.{IsHeldFor, IsHeldByStep, IsStillKept, KeepsAs, KeepsIn, KeepsAll, keeps-on, other-keeps, still-fresh}
+use Rattle.batch_recipe.specs.{Conditions.Name, Conditions.ValueList, Tree.Place, Tree.Tree, Values.with_values, Values.are_outputs, Values.left_out}
+use Rattle.batch_model.{specs.Cleared.Ranking, specs.Events.Event, specs.Events.create, specs.Events.order, specs.Events.remove, specs.Events.report, specs.Events.Refusal, specs.Events.Reply, specs.Events.created, specs.Events.ordered, specs.Events.removed, specs.Events.reported, specs.Events.refused, specs.Events.unknown_recipe, specs.Events.unknown_batch, specs.Events.command_not_accepted, specs.Events.no_live_phase, specs.Events.report_not_expected, specs.Events.bad_output, specs.Events.output_left_out, specs.Events.bad_binding, specs.Events.bad_size, specs.Events.bad_value, specs.Events.full, specs.Events.not_idle, specs.Events.moves_pending, specs.Events.no_memory, specs.Events.Answer, specs.Events.is_full, specs.Events.new_batch, specs.Events.with_batch, specs.Events.creating, specs.Events.creating_for, specs.Events.binding, specs.Events.is_binding, specs.Events.bound_by, specs.Events.roles_told, specs.Events.reset, specs.Events.commanded, specs.Events.lines_under, specs.Events.ordering, specs.Events.without_batch, specs.Events.removing, specs.Events.LivePhase, specs.Events.live_phase, specs.Events.phase_after, specs.Events.batch_state_after, specs.Events.outputs_of, specs.Events.batch_reported, specs.Events.owed, specs.Events.accepting, specs.Events.reporting, specs.Events.judged, specs.Events.react, specs.Lists.Has, specs.Lists.Each, specs.Moves.Move, specs.Moves.next, specs.Plant.Formula, specs.Plant.size_out_of_range, specs.Plant.value_out_of_range, specs.Plant.scaled, specs.Plant.Recipe, specs.Plant.Master, specs.Plant.Setup, specs.Plant.Batch, specs.Plant.Share, specs.Plant.Plant, specs.Plant.batch_at, specs.Plant.moment_of, specs.Plant.in_batch, specs.Rest.Rest, specs.Rest.changed_at, specs.Records.holders_told, specs.Runs.Out, specs.Runs.reply, specs.Runs.Reacts, specs.Runs.goes_on, specs.Standing.IsStanding, specs.Transfers.Kept, specs.Transfers.kept_until, specs.Transfers.passed_told, specs.Transfers.reserved_told, proofs.Members.Has-split, proofs.Members.Each-Has}
+use Rattle.batch_record_laws.proofs.{Batches.only, Batches.same-batch, Batches.below-next, Batches.entry-of, Entries.nat_same, Entries.nat_self, Entries.Has-filter, Entries.Has-holders, Events.reset-rests, Events.reset-nothing, PlantFacts.facts, PlantFacts.early_facts, PlantFacts.batch_facts, PlantFacts.entries, PlantFacts.holding, PlantFacts.need, Invariant.IsKept, Invariant.standing-of, Invariant.numbers-of, Members.Has-map, BatchProgress.early-none, UnitProcedures.find-passes}
+use Rattle.batch_safety.proofs.{KeptUnits.IsOfOther, KeptUnits.Holds, KeptUnits.passed_told-last, KeptUnits.reserved_told-last, KeptUnits.passed_told-others, KeptUnits.reserved_told-others, UnbegunActs.advance-unbegun, UnbegunActs.changed-unbegun, UnbegunActs.phase_after-unbegun, UnitsAfterMove.IsHeldFor, UnitsAfterMove.IsHeldByStep, UnitsAfterMove.IsStillKept, UnitsAfterMove.KeepsAs, UnitsAfterMove.KeepsIn, UnitsAfterMove.KeepsAll, UnitsAfterMove.keeps-on, UnitsAfterMove.other-keeps, UnitsAfterMove.still-fresh}
 
 -- where nothing is told, nothing is to be kept
 nothing-kept : (outs : List Out) (n : ℕ) (c : Tree) (r : Rest) (x : State) → (passed_told n outs ≡ []) × (reserved_told n c outs ≡ []) → KeepsAs outs n c r x

@@ -1,25 +1,10 @@
 -- Along a whole record, each unit that is told to be kept is kept.
 use Rattle.std.proofs.Common.{arith, refl, sym, subst, subst₂, List, [], ◌∷◌, ◌++◌, append-nil, append_assoc, ⊎_elim}
 use Rattle.batch_recipe.specs.Tree.{Place}
-use Rattle.batch_model.specs.Cleared.{Ranking}
-use Rattle.batch_model.specs.Events.{Event}
-use Rattle.batch_model.specs.Lists.{Has, Each}
-use Rattle.batch_model.specs.Plant.{Setup, Batch, Plant, acts_in, opening}
-use Rattle.batch_model.specs.Records.{holders_told}
-use Rattle.batch_model.specs.Runs.{Out, move, reply, Leads}
-use Rattle.batch_model.specs.Standing.{IsStanding}
-use Rattle.batch_model.specs.Transfers.{Kept, passed_told, reserved_told, KeepsUnits}
-use Rattle.batch_model.proofs.Members.{Each-map}
-use Rattle.batch_model.specs.Moves.{after_move}
+use Rattle.batch_model.{specs.Cleared.Ranking, specs.Events.Event, specs.Lists.Has, specs.Lists.Each, specs.Plant.Setup, specs.Plant.Batch, specs.Plant.Plant, specs.Plant.acts_in, specs.Plant.opening, specs.Records.holders_told, specs.Runs.Out, specs.Runs.move, specs.Runs.reply, specs.Runs.Leads, specs.Standing.IsStanding, specs.Transfers.Kept, specs.Transfers.passed_told, specs.Transfers.reserved_told, specs.Transfers.KeepsUnits, proofs.Members.Each-map, specs.Moves.after_move}
 use Rattle.batch_step_laws.proofs.PlantAlongRecord.{opening-stands, reacts-stands}
-use Rattle.batch_record_laws.proofs.InvariantAlongRecord.{kept-at_first, moved-stands, placed-trees}
-use Rattle.batch_record_laws.proofs.ClearanceDownTrees.{AreClearedDown}
-use Rattle.batch_record_laws.proofs.Invariant.{IsKept}
-use Rattle.batch_record_laws.proofs.Members.{Has-Each}
-use Rattle.batch_record_laws.proofs.InvariantAfterMove.{move-step}
-use Rattle.batch_record_laws.proofs.Reports.{reply-step}
-use Rattle.batch_safety.proofs.UnitsAfterReply.{reply-keeps_all}
-use Rattle.batch_safety.proofs.UnitsAfterMove.{IsHeldFor, IsStillKept, KeepsIn, KeepsAll, move-keeps_all}
+use Rattle.batch_record_laws.proofs.{InvariantAlongRecord.kept-at_first, InvariantAlongRecord.moved-stands, InvariantAlongRecord.placed-trees, ClearanceDownTrees.AreClearedDown, Invariant.IsKept, Members.Has-Each, InvariantAfterMove.move-step, Reports.reply-step}
+use Rattle.batch_safety.proofs.{UnitsAfterReply.reply-keeps_all, UnitsAfterMove.IsHeldFor, UnitsAfterMove.IsStillKept, UnitsAfterMove.KeepsIn, UnitsAfterMove.KeepsAll, UnitsAfterMove.move-keeps_all}
 
 keeps-at_first : KeepsAll [] opening
 keeps-at_first = record { each = λ b h. absurd h; fresh = λ n le. (refl, λ c. refl) }

@@ -1,10 +1,7 @@
 -- Desks that are told one after the other.
 use Rattle.std.proofs.Common.{◌≡◌, ◌≢◌, ◌<◌, ◌≤◌, ◌+◌, ◌⊎◌, ℕ, length, get_or, set, List, sym, ◌∙◌, subst, arith, inl, inr, get_or-set_other, get_or-set_same}
-use Rattle.std.proofs.lemmas.Bool.{cases_lt}
-use Rattle.std.proofs.lemmas.List.{get_or_default}
-use Rattle.batch_serve.specs.Runs.{Run}
-use Rattle.batch_serve.specs.Told.{IsDeskTold}
-use Rattle.batch_serve.specs.declared.desk.Desk.{Desk}
+use Rattle.std.proofs.lemmas.{Bool.cases_lt, List.get_or_default}
+use Rattle.batch_serve.specs.{Runs.Run, Told.IsDeskTold, declared.desk.Desk.Desk}
 
 here : (answers : List Run) (first now : List Desk) (i k : ℕ) (other old new : Desk) → k ≡ i → i < length now → old ≡ get_or now i old → get_or now i other ≡ get_or first i other
     → IsDeskTold i answers old new → IsDeskTold k answers (get_or first k other) (get_or (set now i new) k other)

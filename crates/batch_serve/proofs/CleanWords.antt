@@ -1,19 +1,9 @@
 -- A line is read alike with a `?` for each zero byte.
 use Rattle.std.proofs.Common.{◌≡◌, ◌⊎◌, ℕ, zero, suc, ◌+◌, ◌-◌, Bool, true, false, not, ◌&&◌, List, [], ◌∷◌, length, take, drop, map, filter, Option, Some, None, cond, codes, nat_lt, nat_le, ◌==◌, slice_index, refl, sym, ◌∙◌, ap, inl, inr}
-use Rattle.std.proofs.lemmas.Bool.{and_parts, cases_Bool, not-true, eqb-true}
-use Rattle.std.proofs.lemmas.List.{take-map, length-map}
-use Rattle.std.specs.Char.{is_ascii_alphabetic, is_ascii_digit}
-use Rattle.std.specs.List.{slice_split, onto_first, list_all, before_first, after_first, position_or_len}
-use Rattle.std.specs.Str.{bytes_eq}
-use Rattle.std.specs.Str.Lines.{strip_carriage_return}
-use Rattle.batch_text.specs.NameText.{is_name, is_name_byte, is_name_spelling}
-use Rattle.batch_text.specs.NumberText.{is_digits, number_of}
-use Rattle.batch_text.specs.declared.name.TheConstants.{MAX_NAME_LEN}
-use Rattle.batch_text.specs.declared.number.TheConstants.{MAX_DIGITS}
-use Rattle.batch_text.specs.PlaceText.{is_number_spelling}
+use Rattle.std.{proofs.lemmas.Bool.and_parts, proofs.lemmas.Bool.cases_Bool, proofs.lemmas.Bool.not-true, proofs.lemmas.Bool.eqb-true, proofs.lemmas.List.take-map, proofs.lemmas.List.length-map, specs.Char.is_ascii_alphabetic, specs.Char.is_ascii_digit, specs.List.slice_split, specs.List.onto_first, specs.List.list_all, specs.List.before_first, specs.List.after_first, specs.List.position_or_len, specs.Str.bytes_eq, specs.Str.Lines.strip_carriage_return}
+use Rattle.batch_text.specs.{NameText.is_name, NameText.is_name_byte, NameText.is_name_spelling, NumberText.is_digits, NumberText.number_of, declared.name.TheConstants.MAX_NAME_LEN, declared.number.TheConstants.MAX_DIGITS, PlaceText.is_number_spelling}
 use Rattle.batch_recipe.specs.Conditions.{Name}
-use Rattle.batch_matrix.specs.declared.command.Command.{Command}
-use Rattle.batch_matrix.specs.declared.report.Report.{Report}
+use Rattle.batch_matrix.specs.declared.{command.Command.Command, report.Report.Report}
 use Rattle.batch_wire.specs.EventLine.{is_space, is_word, event_words, is_number, is_equals, is_pair, pair_of, is_role_pair, role_pair_of, command_of, word_of_report, asked_of, create_of, only_batch, told_of, report_of, event_of_order, event_of_words, is_comment, event_of_text, event_of_line}
 use Rattle.batch_serve.specs.CleanLines.{clean_byte}
 

@@ -1,20 +1,8 @@
 -- Desks whose lines are taken, and to which lines are handed on, one after the other.
 use Rattle.std.proofs.Common.{◌≡◌, ◌≢◌, ◌<◌, ◌≤◌, ◌+◌, ◌⊎◌, ℕ, Bool, true, false, ◌||◌, length, length-append, refl, get_or, set, cond, eqb, List, [], ◌∷◌, ◌++◌, append-nil, append_assoc, sym, ◌∙◌, ap, subst, arith, inl, inr, get_or-set_other, get_or-set_same, Some, None, option_to_list, if◌then◌else◌}
-use Rattle.std.proofs.lemmas.Bool.{cases_lt, eq-eqb, false≢true, ne_eqb}
-use Rattle.std.proofs.lemmas.Grind.{flat_map-append}
-use Rattle.std.proofs.lemmas.List.{get_or_default}
-use Rattle.std.proofs.lemmas.List.Elements.{All-push}
+use Rattle.std.proofs.lemmas.{Bool.cases_lt, Bool.eq-eqb, Bool.false≢true, Bool.ne_eqb, Grind.flat_map-append, List.get_or_default, List.Elements.All-push}
 use Rattle.rtrb.specs.Ring.{SameConsumer, received, sent}
-use Rattle.batch_serve.specs.Rounds.{IsCutIfLate, IsGathered, IsTextOfMessages, LinesGoOn, is_end, text_of_one, text_sent}
-use Rattle.batch_serve.specs.Runs.{AreOfDesks, Run, own_text}
-use Rattle.batch_serve.specs.Turns.{IsSameBut, with_run}
-use Rattle.batch_serve.specs.Waits.{IsLate, Waits, cut_off}
-use Rattle.batch_serve.specs.declared.desk.Desk.{Desk}
-use Rattle.batch_serve.specs.declared.desk_server.DeskServer.{DeskServer}
-use Rattle.batch_serve.specs.declared.rounds.Reader.{Reader}
-use Rattle.batch_serve.specs.declared.rounds.Sent.{Sent}
-use Rattle.batch_serve.specs.declared.rounds.Sent.TheVariants.{End, Lines}
-use Rattle.batch_serve.specs.declared.rounds.Writer.{Writer}
+use Rattle.batch_serve.specs.{Rounds.IsCutIfLate, Rounds.IsGathered, Rounds.IsTextOfMessages, Rounds.LinesGoOn, Rounds.is_end, Rounds.text_of_one, Rounds.text_sent, Runs.AreOfDesks, Runs.Run, Runs.own_text, Turns.IsSameBut, Turns.with_run, Waits.IsLate, Waits.Waits, Waits.cut_off, declared.desk.Desk.Desk, declared.desk_server.DeskServer.DeskServer, declared.rounds.Reader.Reader, declared.rounds.Sent.Sent, declared.rounds.Sent.TheVariants.End, declared.rounds.Sent.TheVariants.Lines, declared.rounds.Writer.Writer}
 
 -- a run of one desk is none of another's
 pub own_other : (desk other : ℕ) (group : List Run) (text : List ℕ) → (other ≡ desk → ⊥) → own_text other (group ++ record { desk = desk; text = text } ∷ []) ≡ own_text other group

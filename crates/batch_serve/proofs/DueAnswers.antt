@@ -1,12 +1,8 @@
 -- The text behind the first word of a line, and the answers to a run of lines that a desk is due.
 use Rattle.std.proofs.Common.{◌≡◌, ◌+◌, ℕ, Bool, true, false, not, cond, List, [], ◌∷◌, ◌++◌, drop, filter, position, Option, Some, None, refl, ap, arith, ◌∙◌}
-use Rattle.std.proofs.lemmas.Bool.{and_parts}
-use Rattle.std.proofs.lemmas.Bool.Decides.{nat_tests}
-use Rattle.std.proofs.lemmas.List.{drop_all}
-use Rattle.std.specs.List.{list_all, position_or_len}
+use Rattle.std.{proofs.lemmas.Bool.and_parts, proofs.lemmas.Bool.Decides.nat_tests, proofs.lemmas.List.drop_all, specs.List.list_all, specs.List.position_or_len}
 use Rattle.batch_wire.specs.EventLine.{is_comment, is_space}
-use Rattle.batch_serve.specs.Dues.{after_word, due_lines, from_behind, is_due, is_from}
-use Rattle.batch_serve.proofs.HeldText.{is_false}
+use Rattle.batch_serve.{specs.Dues.after_word, specs.Dues.due_lines, specs.Dues.from_behind, specs.Dues.is_due, specs.Dues.is_from, proofs.HeldText.is_false}
 
 -- the text has no space
 pub after_none : (text : List ℕ) → position is_space text ≡ None → after_word text ≡ []

@@ -1,20 +1,8 @@
 -- The text of a record determines the lines that desks are due.
 use Rattle.std.proofs.Common.{◌≡◌, ◌⊎◌, ◌<◌, ◌+◌, ◌-◌, ℕ, Bool, true, false, cond, List, [], ◌∷◌, ◌++◌, length, take, filter, get_or, Option, Some, None, ◌==◌, eqb, nat_eq, codes, refl, sym, ap, arith, append_assoc, append-nil, ◌∙◌, inl, inr}
-use Rattle.std.proofs.Math.Seq.{take-append-add}
-use Rattle.std.proofs.lemmas.Bool.{eqb-true, false_from_ne_true}
-use Rattle.std.proofs.lemmas.Bool.Decides.{eqb_tells}
-use Rattle.std.proofs.lemmas.List.{length-append}
-use Rattle.std.proofs.lemmas.List.Elements.{All-append, All-cons, All-nil, All-head, All-tail}
-use Rattle.std.proofs.lemmas.List.Splits.{slice_split_at, length-slice_split}
-use Rattle.std.specs.Cmp.Lexicographic.{bytes_decides, pointwise}
-use Rattle.std.specs.List.{All, onto_first}
+use Rattle.std.{proofs.Math.Seq.take-append-add, proofs.lemmas.Bool.eqb-true, proofs.lemmas.Bool.false_from_ne_true, proofs.lemmas.Bool.Decides.eqb_tells, proofs.lemmas.List.length-append, proofs.lemmas.List.Elements.All-append, proofs.lemmas.List.Elements.All-cons, proofs.lemmas.List.Elements.All-nil, proofs.lemmas.List.Elements.All-head, proofs.lemmas.List.Elements.All-tail, proofs.lemmas.List.Splits.slice_split_at, proofs.lemmas.List.Splits.length-slice_split, specs.Cmp.Lexicographic.bytes_decides, specs.Cmp.Lexicographic.pointwise, specs.List.All, specs.List.onto_first}
 use Rattle.batch_wire.specs.Transcript.{lines_of, whole_lines}
-use Rattle.batch_serve.specs.Replays.{IsWholeLines}
-use Rattle.batch_serve.specs.Dues.{due_lines, is_due, is_from}
-use Rattle.batch_serve.specs.Lines.{is_feed}
-use Rattle.batch_serve.specs.Runs.{Run, due_of, is_same, runs_text}
-use Rattle.batch_serve.specs.Recorded.{AreNames, IsPlainRun, RecordsAreSorted}
-use Rattle.batch_serve.proofs.DueAnswers.{runs_sorted}
+use Rattle.batch_serve.{specs.Replays.IsWholeLines, specs.Dues.due_lines, specs.Dues.is_due, specs.Dues.is_from, specs.Lines.is_feed, specs.Runs.Run, specs.Runs.due_of, specs.Runs.is_same, specs.Runs.runs_text, specs.Recorded.AreNames, specs.Recorded.IsPlainRun, specs.Recorded.RecordsAreSorted, proofs.DueAnswers.runs_sorted}
 
 -- Whole lines of a text and of the text behind it
 

@@ -1,21 +1,8 @@
 -- The part of a text that is held back.
 use Rattle.std.proofs.Common.{◌≡◌, ◌⊎◌, ℕ, zero, suc, ◌+◌, ◌-◌, ◌<◌, ◌≤◌, Bool, true, false, not, ◌||◌, ◌==◌, nat_eq, nat_le, List, [], ◌∷◌, ◌++◌, length, take, drop, take-append-drop, drop-drop, min, get_or, codes, Option, Some, None, MatchOption, is_some, option_map, refl, sym, ◌∙◌, ap, subst, append_assoc, inl, inr, arith, length-take, length-drop, length-append}
-use Rattle.std.proofs.lemmas.Bool.{and_parts, or_left, or_right, cases_lt, eqb-true, false_from_ne_true, leb-true}
-use Rattle.std.proofs.lemmas.Bool.Decides.{Decides-eqb}
-use Rattle.std.proofs.lemmas.List.{append-nil, append_cancel_left, take_all, take_at, take_rest, drop_at, drop-take, take-take, take_more, get_or-drop}
-use Rattle.std.proofs.lemmas.List.Elements.{All-from_get_or, All-take}
-use Rattle.std.proofs.lemmas.Slice.Eq.{starts_is}
-use Rattle.std.proofs.Math.Seq.{take-add}
-use Rattle.std.specs.Io.KnownBytes.{Keeps, append_known}
-use Rattle.std.specs.List.{list_all, starts_with}
-use Rattle.memchr.specs.Find.{FindsNeedle, IsLastByte, OccursAt, is_byte}
-use Rattle.memchr.proofs.lemmas.MatchLemmas.{OccursAt-from_part, OccursAt-split}
-use Rattle.batch_serve.specs.Held.{is_whole, IsClearText, IsHeldBack, IsPassed, IsUnended, TellsAll, TellsClear}
-use Rattle.batch_serve.specs.Holding.{StandsFirst, FindsFirst, StopsAt, IsWholeTo, sooner}
-use Rattle.batch_serve.specs.Replays.{ContainsBytes, ShowsNoWant, IsWholeLines}
-use Rattle.batch_serve.specs.RowsOfHeld.{HeldRows}
-use Rattle.batch_serve.proofs.PassedText.{whole_lines, ends_whole, clear_both, passed_more, tells_clear}
-use Rattle.batch_serve.proofs.Replays.{in_front, first_shows, whole_line, whole_then, is_other}
+use Rattle.std.{proofs.lemmas.Bool.and_parts, proofs.lemmas.Bool.or_left, proofs.lemmas.Bool.or_right, proofs.lemmas.Bool.cases_lt, proofs.lemmas.Bool.eqb-true, proofs.lemmas.Bool.false_from_ne_true, proofs.lemmas.Bool.leb-true, proofs.lemmas.Bool.Decides.Decides-eqb, proofs.lemmas.List.append-nil, proofs.lemmas.List.append_cancel_left, proofs.lemmas.List.take_all, proofs.lemmas.List.take_at, proofs.lemmas.List.take_rest, proofs.lemmas.List.drop_at, proofs.lemmas.List.drop-take, proofs.lemmas.List.take-take, proofs.lemmas.List.take_more, proofs.lemmas.List.get_or-drop, proofs.lemmas.List.Elements.All-from_get_or, proofs.lemmas.List.Elements.All-take, proofs.lemmas.Slice.Eq.starts_is, proofs.Math.Seq.take-add, specs.Io.KnownBytes.Keeps, specs.Io.KnownBytes.append_known, specs.List.list_all, specs.List.starts_with}
+use Rattle.memchr.{specs.Find.FindsNeedle, specs.Find.IsLastByte, specs.Find.OccursAt, specs.Find.is_byte, proofs.lemmas.MatchLemmas.OccursAt-from_part, proofs.lemmas.MatchLemmas.OccursAt-split}
+use Rattle.batch_serve.{specs.Held.is_whole, specs.Held.IsClearText, specs.Held.IsHeldBack, specs.Held.IsPassed, specs.Held.IsUnended, specs.Held.TellsAll, specs.Held.TellsClear, specs.Holding.StandsFirst, specs.Holding.FindsFirst, specs.Holding.StopsAt, specs.Holding.IsWholeTo, specs.Holding.sooner, specs.Replays.ContainsBytes, specs.Replays.ShowsNoWant, specs.Replays.IsWholeLines, specs.RowsOfHeld.HeldRows, proofs.PassedText.whole_lines, proofs.PassedText.ends_whole, proofs.PassedText.clear_both, proofs.PassedText.passed_more, proofs.PassedText.tells_clear, proofs.Replays.in_front, proofs.Replays.first_shows, proofs.Replays.whole_line, proofs.Replays.whole_then, proofs.Replays.is_other}
 
 -- A needle
 

@@ -2,8 +2,7 @@
 use Rattle.std.proofs.Common.{[], ◌∷◌, sym, ◌∙◌, ap, subst}
 use Rattle.batch_model.specs.Plant.{Plant}
 use Rattle.batch_wire.specs.Transcript.{Exchange, followed_by, Transcript}
-use Rattle.batch_serve.specs.Joined.{TranscriptsJoin}
-use Rattle.batch_serve.proofs.Exchanges.{followed-assoc}
+use Rattle.batch_serve.{specs.Joined.TranscriptsJoin, proofs.Exchanges.followed-assoc}
 
 pub transcripts_join : TranscriptsJoin
 transcripts_join c old mid new [] others said told one other =

@@ -1,25 +1,10 @@
 -- Lines as a journal has them.
 use Rattle.std.proofs.Common.{◌≡◌, ℕ, suc, ◌+◌, ◌-◌, ◌<◌, ◌≤◌, Bool, true, false, not, ◌&&◌, ◌||◌, List, [], ◌∷◌, ◌++◌, length, take, drop, set, map, filter, replicate, Option, Some, None, MatchOption, option_map, Result, Ok, Err, IfOk, OnErr, cond, eqb, get_or, refl, sym, ◌∙◌, ap, subst, append_assoc, append-nil, inl, inr, arith}
-use Rattle.std.proofs.lemmas.Bool.{and_parts, not-true, cases_lt, lt-ltb, le-ltb}
-use Rattle.std.proofs.lemmas.List.{take_all, take_at, take_rest, take_more_set, map_more, length-take, length-take-le, length-append, length-drop, take-append-drop, take-append-le, drop_more}
-use Rattle.std.proofs.Math.Seq.{take-append-add}
+use Rattle.std.{proofs.lemmas.Bool.and_parts, proofs.lemmas.Bool.not-true, proofs.lemmas.Bool.cases_lt, proofs.lemmas.Bool.lt-ltb, proofs.lemmas.Bool.le-ltb, proofs.lemmas.List.take_all, proofs.lemmas.List.take_at, proofs.lemmas.List.take_rest, proofs.lemmas.List.take_more_set, proofs.lemmas.List.map_more, proofs.lemmas.List.length-take, proofs.lemmas.List.length-take-le, proofs.lemmas.List.length-append, proofs.lemmas.List.length-drop, proofs.lemmas.List.take-append-drop, proofs.lemmas.List.take-append-le, proofs.lemmas.List.drop_more, proofs.Math.Seq.take-append-add, specs.List.slice_split, specs.List.onto_first, specs.List.list_all, specs.Io.ReadsAtMost, specs.Io.KnownBytes.Consumes, specs.Io.KnownBytes.IsAtEnd, specs.Io.KnownBytes.Keeps, specs.Io.KnownBytes.ReadConsumes, specs.Prelude.⊤, specs.Str.Lines.strip_carriage_return}
 use borrow.Rule.Slice.PartMut.{put_mid, post_of}
-use Rattle.std.specs.List.{slice_split, onto_first, list_all}
-use Rattle.std.specs.Io.{ReadsAtMost}
-use Rattle.std.specs.Io.KnownBytes.{Consumes, IsAtEnd, Keeps, ReadConsumes}
-use Rattle.std.specs.Prelude.{⊤}
-use Rattle.std.specs.Str.Lines.{strip_carriage_return}
 use Rattle.batch_model.specs.Plant.{Setup, Plant}
-use Rattle.batch_wire.specs.EventLine.{is_space, is_word, event_words, is_comment, event_of_words, event_of_line}
-use Rattle.batch_wire.specs.Transcript.{lines_of, Exchange, silence, followed_by, Answers, Transcript}
-use Rattle.batch_wire.specs.declared.event_line.TheConstants.{MAX_LINE_LEN}
-use Rattle.batch_wire.specs.declared.fault.WireFault.TheVariants.{TooLong}
-use Rattle.batch_serve.specs.CleanLines.{clean_byte, is_too_long, gives_nothing, clean, clean_text, clean_lines, clean_from, CleansLines, CleanLinesAgree, CleanLinesServeAlike}
-use Rattle.batch_serve.specs.Serving.{EndsLine, HasNoFeed}
-use Rattle.batch_serve.specs.declared.line_buffer.TheConstants.{KEPT}
-use Rattle.batch_serve.proofs.LineBeginnings.{take_twice, length_strip}
-use Rattle.batch_serve.proofs.CleanWords.{bytes_same, test_all}
-use Rattle.batch_serve.proofs.Replays.{is_other}
+use Rattle.batch_wire.specs.{EventLine.is_space, EventLine.is_word, EventLine.event_words, EventLine.is_comment, EventLine.event_of_words, EventLine.event_of_line, Transcript.lines_of, Transcript.Exchange, Transcript.silence, Transcript.followed_by, Transcript.Answers, Transcript.Transcript, declared.event_line.TheConstants.MAX_LINE_LEN, declared.fault.WireFault.TheVariants.TooLong}
+use Rattle.batch_serve.{specs.CleanLines.clean_byte, specs.CleanLines.is_too_long, specs.CleanLines.gives_nothing, specs.CleanLines.clean, specs.CleanLines.clean_text, specs.CleanLines.clean_lines, specs.CleanLines.clean_from, specs.CleanLines.CleansLines, specs.CleanLines.CleanLinesAgree, specs.CleanLines.CleanLinesServeAlike, specs.Serving.EndsLine, specs.Serving.HasNoFeed, specs.declared.line_buffer.TheConstants.KEPT, proofs.LineBeginnings.take_twice, proofs.LineBeginnings.length_strip, proofs.CleanWords.bytes_same, proofs.CleanWords.test_all, proofs.Replays.is_other}
 
 -- Each line has the same meaning
 

@@ -1,13 +1,7 @@
 -- The text that a writer which holds back passes on.
 use Rattle.std.proofs.Common.{◌≡◌, ◌⊎◌, ℕ, ◌+◌, ◌-◌, ◌≤◌, true, List, [], ◌∷◌, ◌++◌, length, take, drop, take-append-drop, Option, Some, None, option_map, codes, refl, sym, ◌∙◌, ap, subst, append_assoc, inl, inr, ⊎_elim, arith}
-use Rattle.std.proofs.KnownBytes.{append_known-moved}
-use Rattle.std.proofs.lemmas.Bool.{eqb-true}
-use Rattle.std.proofs.lemmas.List.{take_all, drop_all, take-append-le, drop-append-le, drop-take, take-take, length-take}
-use Rattle.std.specs.List.{list_all}
-use Rattle.std.specs.Io.KnownBytes.{Appends, Keeps, append_known}
-use Rattle.batch_serve.specs.Held.{is_whole, IsClearText, IsPassed, TellsClear}
-use Rattle.batch_serve.specs.Replays.{ContainsBytes, IsWholeLines}
-use Rattle.batch_serve.proofs.Replays.{is_other, whole_line}
+use Rattle.std.{proofs.KnownBytes.append_known-moved, proofs.lemmas.Bool.eqb-true, proofs.lemmas.List.take_all, proofs.lemmas.List.drop_all, proofs.lemmas.List.take-append-le, proofs.lemmas.List.drop-append-le, proofs.lemmas.List.drop-take, proofs.lemmas.List.take-take, proofs.lemmas.List.length-take, specs.List.list_all, specs.Io.KnownBytes.Appends, specs.Io.KnownBytes.Keeps, specs.Io.KnownBytes.append_known}
+use Rattle.batch_serve.{specs.Held.is_whole, specs.Held.IsClearText, specs.Held.IsPassed, specs.Held.TellsClear, specs.Replays.ContainsBytes, specs.Replays.IsWholeLines, proofs.Replays.is_other, proofs.Replays.whole_line}
 
 -- Whole lines
 

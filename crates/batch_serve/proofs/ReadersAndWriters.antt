@@ -1,17 +1,8 @@
 -- The messages of readers, and the output of writers, step by step.
 use Rattle.std.proofs.Common.{◌≡◌, ℕ, Bool, true, false, List, [], ◌∷◌, ◌++◌, Option, Some, None, Result, Ok, Err, inl, refl, sym, ap, subst, append_assoc, append-nil, ◌||◌, ◌∙◌}
-use Rattle.std.proofs.KnownBytes.{Appends-nil, Appends-kept, Appends-trans, Consumes-kept, Consumes-nil, Consumes-trans, Keeps-refl}
-use Rattle.std.proofs.lemmas.Bool.{false≢true}
-use Rattle.std.proofs.lemmas.Grind.{flat_map-append}
-use Rattle.std.proofs.lemmas.List.Folds.{list_any-append}
-use Rattle.std.specs.Io.KnownBytes.{Appends, Consumes, IsAtEnd, Keeps}
-use Rattle.std.specs.List.{list_any}
+use Rattle.std.{proofs.KnownBytes.Appends-nil, proofs.KnownBytes.Appends-kept, proofs.KnownBytes.Appends-trans, proofs.KnownBytes.Consumes-kept, proofs.KnownBytes.Consumes-nil, proofs.KnownBytes.Consumes-trans, proofs.KnownBytes.Keeps-refl, proofs.lemmas.Bool.false≢true, proofs.lemmas.Grind.flat_map-append, proofs.lemmas.List.Folds.list_any-append, specs.Io.KnownBytes.Appends, specs.Io.KnownBytes.Consumes, specs.Io.KnownBytes.IsAtEnd, specs.Io.KnownBytes.Keeps, specs.List.list_any}
 use Rattle.batch_wire.specs.Written.{AppendsBeginning, Writes}
-use Rattle.batch_serve.specs.Replays.{IsWholeLines}
-use Rattle.batch_serve.specs.Rounds.{AreMessagesOf, HaveWholeLines, is_end, text_of_one, text_sent}
-use Rattle.batch_serve.specs.Threads.{IsInputRead, AreLinesWritten, MayHandOver, ReadsOn, WritesOn, lines_text}
-use Rattle.batch_serve.specs.declared.rounds.Sent.{Sent}
-use Rattle.batch_serve.specs.declared.rounds.Sent.TheVariants.{Path, Lines, End}
+use Rattle.batch_serve.specs.{Replays.IsWholeLines, Rounds.AreMessagesOf, Rounds.HaveWholeLines, Rounds.is_end, Rounds.text_of_one, Rounds.text_sent, Threads.IsInputRead, Threads.AreLinesWritten, Threads.MayHandOver, Threads.ReadsOn, Threads.WritesOn, Threads.lines_text, declared.rounds.Sent.Sent, declared.rounds.Sent.TheVariants.Path, declared.rounds.Sent.TheVariants.Lines, declared.rounds.Sent.TheVariants.End}
 
 -- Readers
 

@@ -1,18 +1,10 @@
 -- A remark before an answer, and as much of the answer as was written behind it.
 use Rattle.std.proofs.Common.{◌≡◌, ℕ, List, [], Option, Some, Result, Ok, Err, refl, inl}
-use Rattle.std.proofs.KnownBytes.{Appends-trans}
-use Rattle.std.specs.Io.KnownBytes.{Keeps}
+use Rattle.std.{proofs.KnownBytes.Appends-trans, specs.Io.KnownBytes.Keeps}
 use Rattle.batch_model.specs.Events as Model
 use Rattle.batch_model.specs.Plant.{Setup, Plant}
-use Rattle.batch_wire.specs.Reading.{ReadsAs}
-use Rattle.batch_wire.specs.Transcript.{Exchange, refusal, Answers}
-use Rattle.batch_wire.specs.Written.{AppendsBeginning}
-use Rattle.batch_wire.specs.declared.fault.WireFault.{WireFault}
-use Rattle.batch_wire.specs.declared.fault.WireFault.TheVariants.{Memory}
-use Rattle.batch_wire.specs.declared.fault.WriteFault.{WriteFault}
-use Rattle.batch_serve.specs.Answering.{WritesAnswer}
-use Rattle.batch_serve.proofs.WrittenAnswers.{refused}
-use Rattle.batch_serve.proofs.TextsWithComments.{kept_nil}
+use Rattle.batch_wire.specs.{Reading.ReadsAs, Transcript.Exchange, Transcript.refusal, Transcript.Answers, Written.AppendsBeginning, declared.fault.WireFault.WireFault, declared.fault.WireFault.TheVariants.Memory, declared.fault.WriteFault.WriteFault}
+use Rattle.batch_serve.{specs.Answering.WritesAnswer, proofs.WrittenAnswers.refused, proofs.TextsWithComments.kept_nil}
 
 -- the answer is written behind a remark
 pub kept_answer : (c : Setup) (old new : Plant) (said : Result (Option Model.Event) WireFault) (r : Result (Unit {0}) WriteFault) (x y z : Option (List ℕ))

@@ -1,19 +1,9 @@
 -- Transcripts with memory for each event.
 use Rattle.std.proofs.Common.{◌≡◌, ◌⊎◌, ℕ, Bool, true, false, not, eqb, nat_eq, List, [], ◌∷◌, ◌++◌, drop, map, flat_map, codes, Option, Some, None, Result, Ok, Err, refl, sym, ◌∙◌, ap, subst, inl, inr, append_assoc}
-use Rattle.std.proofs.lemmas.Bool.{and_parts}
-use Rattle.std.proofs.lemmas.Bool.Decides.{Decides-eqb}
-use Rattle.std.proofs.lemmas.Slice.Eq.{starts_is}
-use Rattle.std.specs.List.{list_all, starts_with}
-use Rattle.batch_model.specs.Events.{Event, Reply, refused, no_memory}
-use Rattle.batch_model.specs.Moves.{Move, after_move, next}
-use Rattle.batch_model.specs.Plant.{Setup, Plant}
-use Rattle.batch_model.specs.Runs.{Out, reply, move, Leads}
-use Rattle.batch_record_laws.specs.Replays.{Takes}
-use Rattle.batch_record_laws.proofs.Replays.{takes_once}
-use Rattle.batch_wire.specs.EventLine.{event_of_line}
-use Rattle.batch_wire.specs.RecordText.{out_text}
-use Rattle.batch_wire.specs.Transcript.{Exchange, handled, followed_by, Answers, Transcript, Handles, Settles}
-use Rattle.batch_wire.specs.declared.fault.WireFault.{WireFault}
+use Rattle.std.{proofs.lemmas.Bool.and_parts, proofs.lemmas.Bool.Decides.Decides-eqb, proofs.lemmas.Slice.Eq.starts_is, specs.List.list_all, specs.List.starts_with}
+use Rattle.batch_model.specs.{Events.Event, Events.Reply, Events.refused, Events.no_memory, Moves.Move, Moves.after_move, Moves.next, Plant.Setup, Plant.Plant, Runs.Out, Runs.reply, Runs.move, Runs.Leads}
+use Rattle.batch_record_laws.{specs.Replays.Takes, proofs.Replays.takes_once}
+use Rattle.batch_wire.specs.{EventLine.event_of_line, RecordText.out_text, Transcript.Exchange, Transcript.handled, Transcript.followed_by, Transcript.Answers, Transcript.Transcript, Transcript.Handles, Transcript.Settles, declared.fault.WireFault.WireFault}
 use Rattle.batch_serve.specs.Replays.{AnswersWell, WellServed, ServingAgrees, ContainsBytes, ShowsNoWant, IsWholeLines, NoWantIsWell, BeginsText, ToldIsRecovered, WantIsNotTold}
 
 pub answers_once : (c : Setup) (s : Plant) (says : Result (Option Event) WireFault) (said told : Exchange) (one other : Plant)

@@ -1,9 +1,7 @@
 -- Texts of runs one behind the other.
 use Rattle.std.proofs.Common.{◌≡◌, ℕ, List, [], ◌∷◌, ◌++◌, Option, Some, cond, ◌==◌, refl, sym, ap, append_assoc, ◌∙◌}
 use Rattle.std.proofs.lemmas.Grind.{flat_map-append}
-use Rattle.batch_serve.specs.GoingOn.{TextsGoOn}
-use Rattle.batch_serve.specs.Runs.{Run, from_text, last_of, runs_text}
-use Rattle.batch_serve.proofs.TextLines.{due_both}
+use Rattle.batch_serve.{specs.GoingOn.TextsGoOn, specs.Runs.Run, specs.Runs.from_text, specs.Runs.last_of, specs.Runs.runs_text, proofs.TextLines.due_both}
 
 text_both : (names : List (List ℕ)) (before : Option ℕ) (runs more : List Run)
     → runs_text names before (runs ++ more) ≡ runs_text names before runs ++ runs_text names (last_of before runs) more

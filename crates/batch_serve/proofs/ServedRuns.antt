@@ -5,11 +5,7 @@ use Rattle.batch_model.specs.Plant.{Setup, Plant, opening}
 use Rattle.batch_verify.specs.ClearedSet.{ClearedSet}
 use Rattle.batch_engine.specs.View.{setup}
 use Rattle.batch_wire.specs.Transcript.{lines_of, Exchange, silence, followed_by, Transcript}
-use Rattle.batch_serve.specs.Joined.{TranscriptsJoin}
-use Rattle.batch_serve.specs.Safe.{TranscriptsAreSafe}
-use Rattle.batch_serve.specs.GoingOn.{ServiceGoesOn}
-use Rattle.batch_serve.specs.Runs.{Run}
-use Rattle.batch_serve.specs.Served.{AreServed, IsRunAnswered, ServiceIsSafe, plain_text, run_lines}
+use Rattle.batch_serve.specs.{Joined.TranscriptsJoin, Safe.TranscriptsAreSafe, GoingOn.ServiceGoesOn, Runs.Run, Served.AreServed, Served.IsRunAnswered, Served.ServiceIsSafe, Served.plain_text, Served.run_lines}
 
 pub goes_on : ServiceGoesOn
 goes_on c old mid new [] more answers told one other =

@@ -1,24 +1,12 @@
 -- Turns continue the account of a server.
 use Rattle.std.proofs.Common.{◌≡◌, ◌<◌, ◌+◌, ℕ, take, List, [], ◌∷◌, ◌++◌, length, get_or, Option, None, Some, refl, sym, ap, subst, arith, append_assoc, ◌∙◌}
-use Rattle.std.proofs.lemmas.List.{append-nil, take_more}
-use Rattle.std.proofs.KnownBytes.{Appends-nil, Appends-trans}
-use Rattle.std.specs.Io.KnownBytes.{Appends}
+use Rattle.std.{proofs.lemmas.List.append-nil, proofs.lemmas.List.take_more, proofs.KnownBytes.Appends-nil, proofs.KnownBytes.Appends-trans, specs.Io.KnownBytes.Appends}
 use Rattle.batch_model.specs.Plant.{Setup, Plant}
 use Rattle.batch_verify.specs.ClearedSet.{ClearedSet}
 use Rattle.batch_engine.specs.View.{EngineView, setup, plant_of}
 use Rattle.batch_journal.specs.Readers.{IsWhole}
-use Rattle.batch_serve.specs.Replays.{ShowsNoWant}
-use Rattle.batch_serve.specs.Lives.{Beginning, IsLife, LivesBegin, LivesGoOn, LivesHandOn, LivesTake, Outside}
+use Rattle.batch_serve.{specs.Replays.ShowsNoWant, specs.Lives.Beginning, specs.Lives.IsLife, specs.Lives.LivesBegin, specs.Lives.LivesGoOn, specs.Lives.LivesHandOn, specs.Lives.LivesTake, specs.Lives.Outside, specs.Runs.Run, specs.Runs.due_of, specs.Runs.last_of, specs.Runs.runs_text, specs.Served.AreServed, specs.Served.AreWhole, specs.Served.ShowNoWant, specs.Told.IsDeskTold, specs.Turns.IsTurned, specs.Waits.IsAccount, specs.declared.desk.Desk.Desk, specs.declared.desk_server.DeskServer.DeskServer, proofs.RunTexts.texts_go_on, proofs.ServedRuns.goes_on}
 use Rattle.rtrb.specs.Ring.{sent}
-use Rattle.batch_serve.specs.Runs.{Run, due_of, last_of, runs_text}
-use Rattle.batch_serve.specs.Served.{AreServed, AreWhole, ShowNoWant}
-use Rattle.batch_serve.specs.Told.{IsDeskTold}
-use Rattle.batch_serve.specs.Turns.{IsTurned}
-use Rattle.batch_serve.specs.Waits.{IsAccount}
-use Rattle.batch_serve.specs.declared.desk.Desk.{Desk}
-use Rattle.batch_serve.specs.declared.desk_server.DeskServer.{DeskServer}
-use Rattle.batch_serve.proofs.RunTexts.{texts_go_on}
-use Rattle.batch_serve.proofs.ServedRuns.{goes_on}
 
 -- answers are of the desks that sent the lines
 pub last_same : (c : Setup) (old new : Plant) (before : Option ℕ) (runs answers : List Run) → AreServed c old runs answers new → last_of before answers ≡ last_of before runs

@@ -3,15 +3,10 @@ use Rattle.std.proofs.Common.{◌≡◌, ℕ, ◌≤◌, List, Option, Some, Non
 use Rattle.std.specs.Io.KnownBytes.{IsAtEnd}
 use Rattle.batch_model.specs.Plant.{Plant, opening}
 use Rattle.batch_verify.specs.ClearedSet.{ClearedSet}
-use Rattle.batch_engine.specs.Looked.{unfinished}
-use Rattle.batch_engine.specs.View.{setup}
-use Rattle.batch_wire.specs.Transcript.{lines_of, Exchange, Transcript}
-use Rattle.batch_wire.specs.WrittenTranscript.{WritesTranscript, BeginsTranscript, WritesWholeLines}
-use Rattle.batch_serve.specs.Safe.{IsSafeTranscript, TranscriptsAreSafe, WritesSafely, BeginsSafely, WritesWholeSafely}
-use Rattle.batch_serve.specs.Serves.{Ends, Serves, WritesTo}
-use Rattle.batch_serve.specs.declared.fault.ServeFault.{ServeFault}
+use Rattle.batch_engine.specs.{Looked.unfinished, View.setup}
+use Rattle.batch_wire.specs.{Transcript.lines_of, Transcript.Exchange, Transcript.Transcript, WrittenTranscript.WritesTranscript, WrittenTranscript.BeginsTranscript, WrittenTranscript.WritesWholeLines}
+use Rattle.batch_serve.specs.{Safe.IsSafeTranscript, Safe.TranscriptsAreSafe, Safe.WritesSafely, Safe.BeginsSafely, Safe.WritesWholeSafely, Serves.Ends, Serves.Serves, Serves.WritesTo, declared.fault.ServeFault.ServeFault, declared.fault.SetFault.TheVariants.Stopped}
 use Rattle.batch_serve.specs.declared.fault.ServeFault.TheVariants as faults
-use Rattle.batch_serve.specs.declared.fault.SetFault.TheVariants.{Stopped}
 
 -- a new engine of the cleared set, as far as serving saw it
 pub record IsNew (set a : ClearedSet) (s : Plant) : Type 0 where

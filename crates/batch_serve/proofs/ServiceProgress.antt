@@ -1,22 +1,9 @@
 -- How serving goes on, line after line.
 use Rattle.std.proofs.Common.{◌≡◌, ℕ, ◌+◌, ◌-◌, ◌<◌, ◌≤◌, Bool, false, List, [], ◌∷◌, ◌++◌, Option, Some, None, Result, Ok, Err, MatchResult, IfSome, length, take, drop, refl, sym, ap, ◌∙◌, subst, append_assoc, append-nil, arith, eqb}
-use Rattle.std.proofs.lemmas.List.{drop_more, take-append-drop, take_all, take_rest, length-append, length-take}
-use Rattle.std.proofs.lemmas.List.Elements.{All-nil, All-append}
-use Rattle.std.proofs.lemmas.List.Splits.{slice_split_at, slice_split_none}
-use Rattle.std.proofs.Math.Seq.{take-append_seam, take-append-add}
-use Rattle.std.specs.Io.KnownBytes.{Appends, Consumes, Keeps, IsAtEnd, ReadConsumes}
-use Rattle.std.proofs.KnownBytes.{Appends-trans, Appends-nil, Consumes-trans}
+use Rattle.std.{proofs.lemmas.List.drop_more, proofs.lemmas.List.take-append-drop, proofs.lemmas.List.take_all, proofs.lemmas.List.take_rest, proofs.lemmas.List.length-append, proofs.lemmas.List.length-take, proofs.lemmas.List.Elements.All-nil, proofs.lemmas.List.Elements.All-append, proofs.lemmas.List.Splits.slice_split_at, proofs.lemmas.List.Splits.slice_split_none, proofs.Math.Seq.take-append_seam, proofs.Math.Seq.take-append-add, specs.Io.KnownBytes.Appends, specs.Io.KnownBytes.Consumes, specs.Io.KnownBytes.Keeps, specs.Io.KnownBytes.IsAtEnd, specs.Io.KnownBytes.ReadConsumes, proofs.KnownBytes.Appends-trans, proofs.KnownBytes.Appends-nil, proofs.KnownBytes.Consumes-trans}
 use Rattle.batch_model.specs.Plant.{Setup, Plant}
-use Rattle.batch_wire.specs.EventLine.{event_of_line}
-use Rattle.batch_serve.specs.Cut.{BeginsLinesRead}
-use Rattle.batch_serve.specs.Serving.{EndsLine, HasNoFeed, IsServed, IsCutOff}
-use Rattle.batch_wire.specs.Transcript.{lines_of, whole_lines, Exchange, silence, followed_by, Answers, Transcript}
-use Rattle.batch_wire.specs.Written.{AppendsBeginning}
-use Rattle.batch_wire.specs.WrittenTranscript.{WritesTranscript, BeginsTranscript}
-use Rattle.batch_serve.specs.declared.line_buffer.TheConstants.{KEPT}
-use Rattle.batch_serve.proofs.Exchanges.{followed-assoc, followed-silence, transcript_leads}
-use Rattle.batch_serve.proofs.LineBeginnings.{take_twice, event_of_line-take}
-use Rattle.batch_wire.proofs.WrittenTexts.{then_beginning}
+use Rattle.batch_wire.{specs.EventLine.event_of_line, specs.Transcript.lines_of, specs.Transcript.whole_lines, specs.Transcript.Exchange, specs.Transcript.silence, specs.Transcript.followed_by, specs.Transcript.Answers, specs.Transcript.Transcript, specs.Written.AppendsBeginning, specs.WrittenTranscript.WritesTranscript, specs.WrittenTranscript.BeginsTranscript, proofs.WrittenTexts.then_beginning}
+use Rattle.batch_serve.{specs.Cut.BeginsLinesRead, specs.Serving.EndsLine, specs.Serving.HasNoFeed, specs.Serving.IsServed, specs.Serving.IsCutOff, specs.declared.line_buffer.TheConstants.KEPT, proofs.Exchanges.followed-assoc, proofs.Exchanges.followed-silence, proofs.Exchanges.transcript_leads, proofs.LineBeginnings.take_twice, proofs.LineBeginnings.event_of_line-take}
 
 abbrev is_end : ℕ → Bool
 is_end b = eqb b 10

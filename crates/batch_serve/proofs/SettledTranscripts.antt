@@ -1,18 +1,11 @@
 -- After each line of a transcript the machine is settled, and from the opening of a cleared set its outs are a safe record.
 use Rattle.std.proofs.Common.{ℕ, List, [], ◌∷◌, Option, Some, None, Result, Ok, Err, refl, sym, ap, ◌∙◌, subst, inl, inr}
-use Rattle.batch_model.specs.Events.{Event}
-use Rattle.batch_model.specs.Moves.{Move, after_move}
-use Rattle.batch_model.specs.Plant.{Setup, Plant, opening}
+use Rattle.batch_model.specs.{Events.Event, Moves.Move, Moves.after_move, Plant.Setup, Plant.Plant, Plant.opening}
 use Rattle.batch_safety.specs.Sets.{RunsSafely}
 use Rattle.batch_verify.specs.ClearedSet.{ClearedSet}
 use Rattle.batch_engine.specs.View.{setup}
-use Rattle.batch_wire.specs.EventLine.{event_of_line}
-use Rattle.batch_wire.specs.Transcript.{Exchange, silence, followed_by, Settles, Answers, Transcript}
-use Rattle.batch_wire.specs.WrittenTranscript.{WritesTranscript}
-use Rattle.batch_wire.specs.declared.fault.WireFault.{WireFault}
-use Rattle.batch_serve.specs.Safe.{TranscriptsAreSafe, TranscriptsLeaveNobodyInVain}
-use Rattle.batch_serve.specs.Settled.{IsSettled, TranscriptsSettle}
-use Rattle.batch_serve.proofs.Exchanges.{followed-assoc, transcript_leads}
+use Rattle.batch_wire.specs.{EventLine.event_of_line, Transcript.Exchange, Transcript.silence, Transcript.followed_by, Transcript.Settles, Transcript.Answers, Transcript.Transcript, WrittenTranscript.WritesTranscript, declared.fault.WireFault.WireFault}
+use Rattle.batch_serve.{specs.Safe.TranscriptsAreSafe, specs.Safe.TranscriptsLeaveNobodyInVain, specs.Settled.IsSettled, specs.Settled.TranscriptsSettle, proofs.Exchanges.followed-assoc, proofs.Exchanges.transcript_leads}
 
 moves_settle : (c : Setup) (old new : Plant) (moves : List Move) → Settles c old moves new → IsSettled c new
 moves_settle c old new [] s = subst (IsSettled c) (sym s.1) s.0

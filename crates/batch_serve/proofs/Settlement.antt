@@ -2,21 +2,11 @@
 use Rattle.std.proofs.Common.{◌≡◌, ◌<◌, List, [], ◌∷◌, Some, None, map, refl, sym, subst}
 use Rattle.batch_cell.specs.declared.cell.Cell.{Cell}
 use Rattle.batch_recipe.specs.declared.recipe.Recipe.{Recipe}
-use Rattle.batch_model.specs.Lists.{Each}
-use Rattle.batch_model.specs.Moves.{Move, after_move, next}
-use Rattle.batch_model.specs.Plant.{Setup, Plant}
-use Rattle.batch_model.specs.Runs.{Leads, move, work_left}
-use Rattle.batch_model.specs.Setups.{master_of}
-use Rattle.batch_model.specs.Standing.{HasPlacedTrees, IsStanding}
-use Rattle.batch_step_laws.specs.Laws.{IsExpanded}
-use Rattle.batch_step_laws.proofs.PlantAlongRecord.{led-stands}
-use Rattle.batch_step_laws.proofs.WorkAfterMove.{possible-falls, next-possible}
-use Rattle.batch_step_laws.proofs.ActPlaces.{expanded-HasPlacedTrees}
-use Rattle.batch_step_laws.proofs.Settlement.{settling-rests}
+use Rattle.batch_model.specs.{Lists.Each, Moves.Move, Moves.after_move, Moves.next, Plant.Setup, Plant.Plant, Runs.Leads, Runs.move, Runs.work_left, Setups.master_of, Standing.HasPlacedTrees, Standing.IsStanding}
+use Rattle.batch_step_laws.{specs.Laws.IsExpanded, proofs.PlantAlongRecord.led-stands, proofs.WorkAfterMove.possible-falls, proofs.WorkAfterMove.next-possible, proofs.ActPlaces.expanded-HasPlacedTrees, proofs.Settlement.settling-rests}
 use Rattle.batch_verify.specs.ClearedSet.{ClearedSet}
 use Rattle.batch_wire.specs.Transcript.{Settles}
-use Rattle.batch_engine.specs.View.{EngineView, setup, plant_of}
-use Rattle.batch_engine.specs.Led.{IsLed}
+use Rattle.batch_engine.specs.{View.EngineView, View.setup, View.plant_of, Led.IsLed}
 
 -- moves that can be made until there is none
 pub record CanSettle (c : Setup) (old : Plant) : Type 0 where

@@ -1,16 +1,8 @@
 -- The whole lines of a text, and those of them that a desk is due.
 use Rattle.std.proofs.Common.{◌≡◌, ◌<◌, ◌≤◌, ◌+◌, ◌-◌, ℕ, suc, Bool, false, List, [], ◌∷◌, ◌++◌, length, take, drop, filter, position, Option, Some, None, ◌==◌, get_or, sym, ap, arith, append_assoc, append-nil, ◌∙◌}
-use Rattle.std.proofs.lemmas.Bool.Decides.{nat_tests}
-use Rattle.std.proofs.lemmas.Grind.{flat_map-append}
-use Rattle.std.proofs.lemmas.List.{take_more}
-use Rattle.std.proofs.lemmas.List.Elements.{All-from_get_or, filter-append}
-use Rattle.std.proofs.lemmas.List.Splits.{slice_split_none, slice_split_first, length-slice_split}
-use Rattle.std.proofs.lemmas.List.Sums.{fails_before_first}
-use Rattle.std.specs.List.{position_or_len}
-use Rattle.batch_serve.specs.Lines.{is_feed}
+use Rattle.std.{proofs.lemmas.Bool.Decides.nat_tests, proofs.lemmas.Grind.flat_map-append, proofs.lemmas.List.take_more, proofs.lemmas.List.Elements.All-from_get_or, proofs.lemmas.List.Elements.filter-append, proofs.lemmas.List.Splits.slice_split_none, proofs.lemmas.List.Splits.slice_split_first, proofs.lemmas.List.Splits.length-slice_split, proofs.lemmas.List.Sums.fails_before_first, specs.List.position_or_len}
+use Rattle.batch_serve.specs.{Lines.is_feed, Dues.is_due, Runs.Run, Runs.due_of}
 use Rattle.batch_wire.specs.Transcript.{lines_of, whole_lines}
-use Rattle.batch_serve.specs.Dues.{is_due}
-use Rattle.batch_serve.specs.Runs.{Run, due_of}
 
 place_of : (text : List ℕ) (at : ℕ) → position is_feed text ≡ Some at → (position_or_len is_feed text ≡ at) × (at < length text)
 place_of text at found = (grind (arith, nat_tests), grind (arith, nat_tests))

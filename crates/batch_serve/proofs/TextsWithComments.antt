@@ -1,24 +1,8 @@
 -- Texts with comments.
 use Rattle.std.proofs.Common.{◌≡◌, ℕ, zero, suc, ◌+◌, ◌<◌, ◌^◌, min, Bool, true, false, not, ◌&&◌, List, [], ◌∷◌, ◌++◌, length, take, take-append-drop, drop, get_or, Option, Some, None, inl, inr, decimal, refl, sym, ◌∙◌, ap, subst, append_assoc, append-nil, eqb, arith}
-use Rattle.std.proofs.lemmas.Bool.{and_parts, cases_lt, eqb-true, false_from_ne_true}
-use Rattle.std.proofs.lemmas.Fmt.{digits_decimal}
-use Rattle.std.proofs.lemmas.List.{drop_at, take_all, take_at, take_more}
-use Rattle.std.proofs.lemmas.List.Elements.{All-from_get_or}
-use Rattle.std.proofs.lemmas.Str.Parse.{numerals_by_value, tells_all_ascii_digits}
-use Rattle.std.proofs.lemmas.List.Sums.{list_all-from_AllPass}
-use Rattle.std.proofs.KnownBytes.{Keeps-refl}
-use Rattle.std.specs.Io.KnownBytes.{Appends, Keeps}
-use Rattle.std.specs.List.{list_all}
-use Rattle.std.specs.Prelude.{if◌then◌else◌, option_map}
+use Rattle.std.{proofs.lemmas.Bool.and_parts, proofs.lemmas.Bool.cases_lt, proofs.lemmas.Bool.eqb-true, proofs.lemmas.Bool.false_from_ne_true, proofs.lemmas.Fmt.digits_decimal, proofs.lemmas.List.drop_at, proofs.lemmas.List.take_all, proofs.lemmas.List.take_at, proofs.lemmas.List.take_more, proofs.lemmas.List.Elements.All-from_get_or, proofs.lemmas.Str.Parse.numerals_by_value, proofs.lemmas.Str.Parse.tells_all_ascii_digits, proofs.lemmas.List.Sums.list_all-from_AllPass, proofs.KnownBytes.Keeps-refl, specs.Io.KnownBytes.Appends, specs.Io.KnownBytes.Keeps, specs.List.list_all, specs.Prelude.if◌then◌else◌, specs.Prelude.option_map, specs.Char.is_ascii_digit, specs.Str.all_ascii_digits}
 use Rattle.memchr.specs.Find.{IsFirstByte, is_byte}
-use Rattle.std.specs.Char.{is_ascii_digit}
-use Rattle.std.specs.Str.{all_ascii_digits}
-use Rattle.batch_serve.specs.Comments.{is_hidden, kept_from, next_spot, spot_behind, without_comments, IsRemarked}
-use Rattle.batch_serve.specs.Remarking.{IsCommentPart, EndsAtSpot, is_plain, uncommented}
-use Rattle.batch_serve.specs.declared.remarked.Spot.{Spot}
-use Rattle.batch_serve.specs.declared.remarked.Spot.TheVariants.{Start, Line, Comment}
-use Rattle.batch_serve.proofs.Replays.{is_other, none_first}
-use Rattle.batch_serve.proofs.HeldText.{is_false}
+use Rattle.batch_serve.{specs.Comments.is_hidden, specs.Comments.kept_from, specs.Comments.next_spot, specs.Comments.spot_behind, specs.Comments.without_comments, specs.Comments.IsRemarked, specs.Remarking.IsCommentPart, specs.Remarking.EndsAtSpot, specs.Remarking.is_plain, specs.Remarking.uncommented, specs.declared.remarked.Spot.Spot, specs.declared.remarked.Spot.TheVariants.Start, specs.declared.remarked.Spot.TheVariants.Line, specs.declared.remarked.Spot.TheVariants.Comment, proofs.Replays.is_other, proofs.Replays.none_first, proofs.HeldText.is_false}
 use Rattle.batch_wire.specs.Written.{AppendsBeginning}
 
 pub same_spot : (first x : Option (List ℕ)) (spot other : Spot) (cut whole : Bool) → (cut ≡ whole) → (spot ≡ other) → EndsAtSpot first x spot cut → EndsAtSpot first x other whole

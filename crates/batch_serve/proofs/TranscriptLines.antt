@@ -1,15 +1,9 @@
 -- The text of a transcript is whole lines.
 use Rattle.std.proofs.Common.{◌≡◌, ℕ, List, [], ◌∷◌, ◌++◌, flat_map, codes, Option, Some, None, Result, Ok, Err, refl, sym, ◌∙◌, ap, subst, append_assoc, inl, inr}
 use Rattle.std.proofs.lemmas.List.{append-nil}
-use Rattle.batch_model.specs.Events.{Event}
-use Rattle.batch_model.specs.Plant.{Setup, Plant}
-use Rattle.batch_model.specs.Runs.{Out}
+use Rattle.batch_model.specs.{Events.Event, Plant.Setup, Plant.Plant, Runs.Out}
 use Rattle.batch_recipe.specs.Texts.{line_text}
-use Rattle.batch_wire.specs.EventLine.{event_of_line}
-use Rattle.batch_wire.specs.RecordText.{out_text, out_words}
-use Rattle.batch_wire.specs.Transcript.{Exchange, fault_code, Answers}
-use Rattle.batch_wire.specs.declared.fault.WireFault.{WireFault}
-use Rattle.batch_wire.specs.declared.fault.WireFault.TheVariants.{Memory}
+use Rattle.batch_wire.specs.{EventLine.event_of_line, RecordText.out_text, RecordText.out_words, Transcript.Exchange, Transcript.fault_code, Transcript.Answers, declared.fault.WireFault.WireFault, declared.fault.WireFault.TheVariants.Memory}
 use Rattle.batch_serve.specs.Replays.{IsWholeLines, TranscriptsAreWhole}
 
 pub both : (a b : List ℕ) → IsWholeLines a → IsWholeLines b → IsWholeLines (a ++ b)

@@ -1,19 +1,10 @@
 -- The engine keeps its cleared set, so a property that holds by the set before a call holds by the set at the beginning.
 use Rattle.std.proofs.Common.{◌≡◌, Option, Some, None, option_map, sym, ap, subst, ◌∙◌, Result, ℕ, List}
-use Rattle.batch_model.specs.Events.{Event}
-use Rattle.batch_model.specs.Moves.{next, after_move}
-use Rattle.batch_model.specs.Plant.{Setup, Plant}
+use Rattle.batch_model.specs.{Events.Event, Moves.next, Moves.after_move, Plant.Setup, Plant.Plant}
 use Rattle.batch_verify.specs.ClearedSet.{ClearedSet}
-use Rattle.batch_engine.specs.Led.{IsLed}
-use Rattle.batch_engine.specs.Surface.{move_of, plant_after}
-use Rattle.batch_engine.specs.View.{EngineView, setup, plant_of}
-use Rattle.batch_engine.specs.declared.line.Line.{Line}
-use Rattle.batch_wire.specs.Transcript.{Exchange, Answers}
-use Rattle.batch_wire.specs.declared.fault.WireFault.{WireFault}
-use Rattle.batch_wire.specs.WrittenTranscript.{WritesTranscript, BeginsTranscript}
-use Rattle.batch_serve.specs.Serving.{IsServed, IsCutOff}
-use Rattle.batch_serve.specs.Settled.{IsSettled}
-use Rattle.batch_serve.proofs.Settlement.{CanSettle, settle}
+use Rattle.batch_engine.specs.{Led.IsLed, Surface.move_of, Surface.plant_after, View.EngineView, View.setup, View.plant_of, declared.line.Line.Line}
+use Rattle.batch_wire.specs.{Transcript.Exchange, Transcript.Answers, declared.fault.WireFault.WireFault, WrittenTranscript.WritesTranscript, WrittenTranscript.BeginsTranscript}
+use Rattle.batch_serve.{specs.Serving.IsServed, specs.Serving.IsCutOff, specs.Settled.IsSettled, proofs.Settlement.CanSettle, proofs.Settlement.settle}
 
 pub next_in : (a set : ClearedSet) (s : Plant) (line : Line) → a ≡ set → option_map (move_of a) (Some line) ≡ next (setup a) s
     → next (setup set) s ≡ Some (move_of set line)

@@ -1,22 +1,10 @@
 -- An answer to a line, and as much of it as was written.
 use Rattle.std.proofs.Common.{◌≡◌, ℕ, List, [], ◌∷◌, ◌++◌, Option, Some, None, Result, Ok, Err, map, refl, subst, inl, inr, append-nil}
-use Rattle.std.proofs.lemmas.Bool.{false≢true}
-use Rattle.std.specs.Io.KnownBytes.{Appends}
-use Rattle.std.proofs.KnownBytes.{Appends-nil, Appends-trans}
+use Rattle.std.{proofs.lemmas.Bool.false≢true, specs.Io.KnownBytes.Appends, proofs.KnownBytes.Appends-nil, proofs.KnownBytes.Appends-trans}
 use Rattle.batch_model.specs.Events as Model
-use Rattle.batch_model.specs.Moves.{Move}
-use Rattle.batch_model.specs.Plant.{Setup, Plant}
-use Rattle.batch_model.specs.Runs.{Out, reply, move, Reacts}
-use Rattle.batch_wire.specs.Reading.{ReadsAs}
-use Rattle.batch_wire.specs.RecordText.{out_text}
-use Rattle.batch_wire.specs.Transcript.{Exchange, silence, refusal, handled, Settles, Handles, Answers}
-use Rattle.batch_wire.specs.Written.{AppendsBeginning, Writes}
-use Rattle.batch_wire.specs.declared.fault.WireFault.{WireFault}
-use Rattle.batch_wire.specs.declared.fault.WireFault.TheVariants.{UnknownWord, MissingArgument, ExtraArgument, BadArgument, TooLong, Memory}
-use Rattle.batch_wire.specs.declared.fault.WriteFault.{WriteFault}
-use Rattle.batch_serve.specs.Answering.{outs_text, moves_text, WritesAnswer, WritesHandled, WritesMoves}
-use Rattle.batch_serve.proofs.Settlement.{CanSettle}
-use Rattle.batch_wire.proofs.WrittenTexts.{longer_text, then_beginning}
+use Rattle.batch_model.specs.{Moves.Move, Plant.Setup, Plant.Plant, Runs.Out, Runs.reply, Runs.move, Runs.Reacts}
+use Rattle.batch_wire.{specs.Reading.ReadsAs, specs.RecordText.out_text, specs.Transcript.Exchange, specs.Transcript.silence, specs.Transcript.refusal, specs.Transcript.handled, specs.Transcript.Settles, specs.Transcript.Handles, specs.Transcript.Answers, specs.Written.AppendsBeginning, specs.Written.Writes, specs.declared.fault.WireFault.WireFault, specs.declared.fault.WireFault.TheVariants.UnknownWord, specs.declared.fault.WireFault.TheVariants.MissingArgument, specs.declared.fault.WireFault.TheVariants.ExtraArgument, specs.declared.fault.WireFault.TheVariants.BadArgument, specs.declared.fault.WireFault.TheVariants.TooLong, specs.declared.fault.WireFault.TheVariants.Memory, specs.declared.fault.WriteFault.WriteFault, proofs.WrittenTexts.longer_text, proofs.WrittenTexts.then_beginning}
+use Rattle.batch_serve.{specs.Answering.outs_text, specs.Answering.moves_text, specs.Answering.WritesAnswer, specs.Answering.WritesHandled, specs.Answering.WritesMoves, proofs.Settlement.CanSettle}
 
 pub refused : (c : Setup) (old : Plant) (said : Result (Option Model.Event) WireFault) (fault : WireFault) → ReadsAs (Err fault) said → Answers c old said (refusal fault) old
 refused c old said UnknownWord e = rw e (refl, refl)

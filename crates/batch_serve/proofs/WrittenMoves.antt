@@ -1,16 +1,9 @@
 -- Moves made and written one after another.
 use Rattle.std.proofs.Common.{◌≡◌, List, [], ◌∷◌, ◌++◌, ℕ, Option, Some, None, refl, sym, ap, ◌∙◌, append_assoc, append-nil}
-use Rattle.std.specs.Io.KnownBytes.{Appends}
-use Rattle.std.proofs.KnownBytes.{Appends-trans}
-use Rattle.batch_model.specs.Moves.{Move, next, after_move}
-use Rattle.batch_model.specs.Plant.{Setup, Plant}
-use Rattle.batch_model.specs.Runs.{move}
-use Rattle.batch_wire.specs.RecordText.{out_text}
-use Rattle.batch_wire.specs.Transcript.{Settles}
-use Rattle.batch_wire.specs.Written.{AppendsBeginning}
-use Rattle.batch_serve.specs.Answering.{moves_text}
-use Rattle.batch_serve.proofs.Settlement.{CanSettle}
-use Rattle.batch_wire.proofs.WrittenTexts.{then_beginning}
+use Rattle.std.{specs.Io.KnownBytes.Appends, proofs.KnownBytes.Appends-trans}
+use Rattle.batch_model.specs.{Moves.Move, Moves.next, Moves.after_move, Plant.Setup, Plant.Plant, Runs.move}
+use Rattle.batch_wire.{specs.RecordText.out_text, specs.Transcript.Settles, specs.Written.AppendsBeginning, proofs.WrittenTexts.then_beginning}
+use Rattle.batch_serve.{specs.Answering.moves_text, proofs.Settlement.CanSettle}
 
 -- the moves made so far were written
 pub record AreWritten (c : Setup) (first now : Plant) (before after_move : Option (List ℕ)) : Type 0 where

@@ -1,17 +1,9 @@
 -- The candidates of a role by number are the units of its class.
 use Rattle.std.proofs.Common.{◌≡◌, ◌+◌, ℕ, suc, List, [], ◌∷◌, ◌++◌, Bool, true, false, cond, map, filter, position, slice_get, option_map, Option, Some, refl, sym, ap, ◌∙◌, arith}
 use Rattle.std.proofs.lemmas.Option.{slice_get-map}
-use Rattle.batch_cell.specs.Equipment.{is_free, unit_names}
-use Rattle.batch_cell.specs.LookUps.{is_of_class, resources_of, units_of, units_of_class}
-use Rattle.batch_cell.specs.declared.cell.Cell.{Cell}
-use Rattle.batch_cell.specs.declared.unit.Unit.{Unit}
-use Rattle.batch_recipe.specs.Conditions.{Name, same_name}
-use Rattle.batch_recipe.specs.declared.role.Role.{Role}
-use Rattle.batch_recipe.proofs.AppendedLists.{slice_get-left}
-use Rattle.batch_set.specs.Linking.{candidate_numbers, numbers_from}
-use Rattle.batch_set.specs.Sources.{CandidatesSayNames}
-use Rattle.batch_set.proofs.ResourceNumbers.{number-at}
-use Rattle.batch_set.proofs.TableRows.{row-there}
+use Rattle.batch_cell.specs.{Equipment.is_free, Equipment.unit_names, LookUps.is_of_class, LookUps.resources_of, LookUps.units_of, LookUps.units_of_class, declared.cell.Cell.Cell, declared.unit.Unit.Unit}
+use Rattle.batch_recipe.{specs.Conditions.Name, specs.Conditions.same_name, specs.declared.role.Role.Role, proofs.AppendedLists.slice_get-left}
+use Rattle.batch_set.{specs.Linking.candidate_numbers, specs.Linking.numbers_from, specs.Sources.CandidatesSayNames, proofs.ResourceNumbers.number-at, proofs.TableRows.row-there}
 
 module _ (cell : Cell) where
   -- the number of the resource with this name

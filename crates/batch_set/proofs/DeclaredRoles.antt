@@ -1,21 +1,9 @@
 -- The acts of a recipe: their roles are declared, and the unit procedures that they reserve have units.
 use Rattle.std.proofs.Common.{◌≡◌, arith, ℕ, zero, suc, List, [], ◌∷◌, map, Bool, true, false, ◌&&◌, cond, find, nat_le, not, length, Option, Some, None, refl, subst, slice_get}
-use Rattle.std.specs.List.{list_all}
-use Rattle.std.specs.Cmp.Lexicographic.{nat_list_eq_equiv}
-use Rattle.std.proofs.lemmas.Bool.{and_parts, not-true}
-use Rattle.std.proofs.lemmas.Bool.Decides.{nat_tests}
-use Rattle.batch_recipe.specs.Conditions.{Name, same_name}
-use Rattle.batch_recipe.specs.Expanding.{act_named}
-use Rattle.batch_recipe.specs.Outlines.{act_of_kind}
-use Rattle.batch_recipe.specs.WellFormed.{act_names, are_distinct, has_chart, has_unit, is_among, is_role_among, reserve_well, reserves_among, reserves_none, reserves_once}
-use Rattle.batch_recipe.specs.declared.act.Act.{Act}
-use Rattle.batch_recipe.specs.declared.act.UnitChoice.{UnitChoice}
+use Rattle.std.{specs.List.list_all, specs.Cmp.Lexicographic.nat_list_eq_equiv, proofs.lemmas.Bool.and_parts, proofs.lemmas.Bool.not-true, proofs.lemmas.Bool.Decides.nat_tests}
+use Rattle.batch_recipe.specs.{Conditions.Name, Conditions.same_name, Expanding.act_named, Outlines.act_of_kind, WellFormed.act_names, WellFormed.are_distinct, WellFormed.has_chart, WellFormed.has_unit, WellFormed.is_among, WellFormed.is_role_among, WellFormed.reserve_well, WellFormed.reserves_among, WellFormed.reserves_none, WellFormed.reserves_once, declared.act.Act.Act, declared.act.UnitChoice.UnitChoice, declared.acts.LabelTable.TheVariants.UnitProcedures, declared.acts.LabelTable.TheVariants.Operations, declared.acts.LabelTable.TheVariants.Phases, declared.entry.Kind.Kind, declared.recipe.Recipe.Recipe, declared.role.Role.Role}
 use Rattle.batch_recipe.specs.declared.act.UnitChoice.TheVariants as Choice
-use Rattle.batch_recipe.specs.declared.acts.LabelTable.TheVariants.{UnitProcedures, Operations, Phases}
-use Rattle.batch_recipe.specs.declared.entry.Kind.{Kind}
 use Rattle.batch_recipe.specs.declared.entry.Kind.TheVariants as kind
-use Rattle.batch_recipe.specs.declared.recipe.Recipe.{Recipe}
-use Rattle.batch_recipe.specs.declared.role.Role.{Role}
 
 all-at : {X : Type 0} (q : X → Bool) (xs : List X) (n : ℕ) (x : X) → slice_get xs n ≡ Some x → list_all q xs ≡ true → q x ≡ true
 all-at q [] n x is all = let bad : None ≡ Some x = is in cc

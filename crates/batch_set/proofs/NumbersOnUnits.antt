@@ -1,9 +1,7 @@
 -- The numbers of a phase on units, one after another.
 use Rattle.std.proofs.Common.{◌≡◌, ℕ, List, [], ◌∷◌, ◌++◌, ◌+◌, ◌<◌, length, drop, get_or, Option, sym, ap, ◌∙◌, add-one, drop-cons, append_assoc, arith}
 use Rattle.std.specs.Prelude.{position}
-use Rattle.batch_cell.specs.LookUps.{phases_of}
-use Rattle.batch_cell.specs.declared.cell.Cell.{Cell}
-use Rattle.batch_cell.specs.declared.unit.Unit.{Unit}
+use Rattle.batch_cell.specs.{LookUps.phases_of, declared.cell.Cell.Cell, declared.unit.Unit.Unit}
 use Rattle.batch_recipe.specs.Conditions.{Name, same_name}
 use Rattle.batch_set.specs.Linking.{numbers_on_each}
 

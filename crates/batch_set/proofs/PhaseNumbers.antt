@@ -1,28 +1,10 @@
 -- The phases of a cell are found by their numbers.
 use Rattle.std.proofs.Common.{◌≡◌, arith, ℕ, zero, suc, ◌+◌, ◌<◌, List, [], ◌∷◌, ◌++◌, length, Bool, true, false, if◌then◌else◌, nat_eq, Option, Some, None, position, slice_get, inl, inr, refl, sym, ap, ◌∙◌, subst}
-use Rattle.std.specs.List.{list_any}
-use Rattle.std.specs.Option.{is_some}
-use Rattle.std.specs.Prelude.{flat_map, option_and_then, option_map, unwrap_or}
-use Rattle.std.specs.Cmp.Lexicographic.{bytes_decides, pointwise}
-use Rattle.std.proofs.lemmas.Bool.{false≢true, or_left, or_right, or_cases}
-use Rattle.std.proofs.lemmas.List.{length-map}
-use Rattle.std.proofs.lemmas.List.Folds.{list_any-append}
-use Rattle.std.proofs.lemmas.Option.{slice_get-map}
+use Rattle.std.{specs.List.list_any, specs.Option.is_some, specs.Prelude.flat_map, specs.Prelude.option_and_then, specs.Prelude.option_map, specs.Prelude.unwrap_or, specs.Cmp.Lexicographic.bytes_decides, specs.Cmp.Lexicographic.pointwise, proofs.lemmas.Bool.false≢true, proofs.lemmas.Bool.or_left, proofs.lemmas.Bool.or_right, proofs.lemmas.Bool.or_cases, proofs.lemmas.List.length-map, proofs.lemmas.List.Folds.list_any-append, proofs.lemmas.Option.slice_get-map}
 use Rattle.indexmap.specs.IndexSet.{insert_all, insert_key}
-use Rattle.batch_cell.specs.Equipment.{belongs_to, phases_for}
-use Rattle.batch_cell.specs.LookUps.{phases_of}
-use Rattle.batch_cell.specs.declared.cell.Cell.{Cell}
-use Rattle.batch_cell.specs.declared.module.Module.{Module}
-use Rattle.batch_cell.specs.declared.unit.Unit.{Unit}
-use Rattle.batch_recipe.specs.Conditions.{Name, same_name}
-use Rattle.batch_recipe.specs.declared.act.Work.{Work}
-use Rattle.batch_recipe.specs.declared.act.Work.TheVariants.{Follows, Runs}
-use Rattle.batch_set.specs.Linking.{ArePhasesOf, numbers_on, numbers_on_each, cell_phase_names, phases_in, run_phase_number, run_of, run_phase}
-use Rattle.batch_set.specs.Looked.{offered_on}
-use Rattle.batch_set.specs.Sources.{PhasesSayNames}
-use Rattle.batch_set.specs.declared.cell_phases.CellPhases.{CellPhases}
-use Rattle.batch_set.proofs.TableRows.{row-there}
-use Rattle.batch_set.proofs.Positions.{any-position, found-any, name-at}
+use Rattle.batch_cell.specs.{Equipment.belongs_to, Equipment.phases_for, LookUps.phases_of, declared.cell.Cell.Cell, declared.module.Module.Module, declared.unit.Unit.Unit}
+use Rattle.batch_recipe.specs.{Conditions.Name, Conditions.same_name, declared.act.Work.Work, declared.act.Work.TheVariants.Follows, declared.act.Work.TheVariants.Runs}
+use Rattle.batch_set.{specs.Linking.ArePhasesOf, specs.Linking.numbers_on, specs.Linking.numbers_on_each, specs.Linking.cell_phase_names, specs.Linking.phases_in, specs.Linking.run_phase_number, specs.Linking.run_of, specs.Linking.run_phase, specs.Looked.offered_on, specs.Sources.PhasesSayNames, specs.declared.cell_phases.CellPhases.CellPhases, proofs.TableRows.row-there, proofs.Positions.any-position, proofs.Positions.found-any, proofs.Positions.name-at}
 
 module _ (name : Name) where
   any-front : (xs ys : List Name) → list_any (same_name name) xs ≡ true → list_any (same_name name) (xs ++ ys) ≡ true

@@ -1,13 +1,8 @@
 -- Each of a cell's resources by name and by number.
 use Rattle.std.proofs.Common.{◌≡◌, ℕ, ◌<◌, length, get_or, slice_get, position, true, false, nat_lt, [], Some, refl, sym, ap, ◌∙◌, arith, lt-ltb}
-use Rattle.std.specs.List.{position_or_len}
-use Rattle.std.specs.Cmp.Lexicographic.{bytes_decides}
-use Rattle.std.proofs.lemmas.List.Sums.{position_or_len_is}
-use Rattle.std.proofs.lemmas.Map.Keys.{apart_from_distinct}
-use Rattle.std.proofs.lemmas.Option.{get_or_from_slice_get, slice_get_within}
-use Rattle.batch_cell.specs.LookUps.{resources_of}
+use Rattle.std.{specs.List.position_or_len, specs.Cmp.Lexicographic.bytes_decides, proofs.lemmas.List.Sums.position_or_len_is, proofs.lemmas.Map.Keys.apart_from_distinct, proofs.lemmas.Option.get_or_from_slice_get, proofs.lemmas.Option.slice_get_within}
+use Rattle.batch_cell.{specs.LookUps.resources_of, proofs.ResourceNames.resources_once}
 use Rattle.batch_cell.specs.declared.cell.Cell as equipment
-use Rattle.batch_cell.proofs.ResourceNames.{resources_once}
 use Rattle.batch_recipe.specs.Conditions.{Name, same_name}
 use Rattle.batch_set.proofs.DeclaredRoles.{same_name_sym}
 

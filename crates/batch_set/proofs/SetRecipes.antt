@@ -3,9 +3,7 @@ use Rattle.std.proofs.Common.{◌≡◌, ◌<◌, ℕ, List, length, get_or, ref
 use Rattle.std.proofs.lemmas.Option.{slice_get_read}
 use Rattle.batch_cell.specs.declared.cell.Cell.{Cell}
 use Rattle.batch_recipe.specs.declared.recipe.Recipe.{Recipe}
-use Rattle.batch_set.specs.Linking.{IsLinkedIn, IsLinkedSet}
-use Rattle.batch_set.specs.declared.linked.LinkedRecipe.{LinkedRecipe}
-use Rattle.batch_set.specs.declared.linked_set.LinkedSet.{LinkedSet}
+use Rattle.batch_set.specs.{Linking.IsLinkedIn, Linking.IsLinkedSet, declared.linked.LinkedRecipe.LinkedRecipe, declared.linked_set.LinkedSet.LinkedSet}
 
 -- each recipe of a linked set is linked
 pub recipe_linked : (cell : Cell) (recipes : List Recipe) (set : LinkedSet) → IsLinkedSet cell recipes set → (k : ℕ) (recipe : Recipe) (own : LinkedRecipe) → k < length recipes

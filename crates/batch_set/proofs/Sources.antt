@@ -1,36 +1,11 @@
 -- The numbers of a linked recipe mean the same as its names.
 use Rattle.std.proofs.Common.{◌≡◌, ℕ, zero, suc, List, [], ◌∷◌, ◌++◌, map, Bool, true, false, Option, Some, None, position, slice_get, refl, sym, ap, ◌∙◌, subst}
-use Rattle.std.specs.List.{list_all}
-use Rattle.std.specs.Prelude.{option_and_then}
-use Rattle.std.specs.Cmp.Lexicographic.{bytes_decides}
-use Rattle.std.proofs.lemmas.Bool.{and_parts}
-use Rattle.batch_cell.specs.LookUps.{resources_of}
-use Rattle.batch_cell.specs.declared.cell.Cell.{Cell}
-use Rattle.batch_recipe.specs.Conditions.{Name, same_name}
-use Rattle.batch_recipe.specs.Expanding.{Binding, asked_in_order, needs_with, unit_chosen, unit_named, unit_with}
-use Rattle.batch_recipe.specs.Needs.{one_unit}
-use Rattle.batch_recipe.specs.Outlines.{act_of_kind}
-use Rattle.batch_recipe.specs.Procedure.{sites}
-use Rattle.batch_recipe.specs.WellFormed.{act_names, is_among}
-use Rattle.batch_recipe.specs.declared.act.Act.{Act}
-use Rattle.batch_recipe.specs.declared.act.UnitChoice.{UnitChoice}
+use Rattle.std.{specs.List.list_all, specs.Prelude.option_and_then, specs.Cmp.Lexicographic.bytes_decides, proofs.lemmas.Bool.and_parts}
+use Rattle.batch_cell.specs.{LookUps.resources_of, declared.cell.Cell.Cell}
+use Rattle.batch_recipe.specs.{Conditions.Name, Conditions.same_name, Expanding.Binding, Expanding.asked_in_order, Expanding.needs_with, Expanding.unit_chosen, Expanding.unit_named, Expanding.unit_with, Needs.one_unit, Outlines.act_of_kind, Procedure.sites, WellFormed.act_names, WellFormed.is_among, declared.act.Act.Act, declared.act.UnitChoice.UnitChoice, declared.acts.LabelTable.TheVariants.UnitProcedures, declared.acts.LabelTable.TheVariants.Operations, declared.acts.LabelTable.TheVariants.Phases, declared.entry.Kind.Kind, declared.need.Need.Need, declared.recipe.Recipe.Recipe, declared.role.Role.Role}
 use Rattle.batch_recipe.specs.declared.act.UnitChoice.TheVariants as Choice
-use Rattle.batch_recipe.specs.declared.acts.LabelTable.TheVariants.{UnitProcedures, Operations, Phases}
-use Rattle.batch_recipe.specs.declared.entry.Kind.{Kind}
 use Rattle.batch_recipe.specs.declared.entry.Kind.TheVariants as kind
-use Rattle.batch_recipe.specs.declared.need.Need.{Need}
-use Rattle.batch_recipe.specs.declared.recipe.Recipe.{Recipe}
-use Rattle.batch_recipe.specs.declared.role.Role.{Role}
-use Rattle.batch_set.specs.Linking.{IsLinked, by_role, chosen_source, need_linked, needs_linked, named, reserved, reserved_need, resource_found, role_found, unit_found, unit_needs, unit_source}
-use Rattle.batch_set.specs.Looked.{first_source, needs_by, unit_procedure_source}
-use Rattle.batch_set.specs.Sources.{IsSource, SayNeeds, NeedsSayNames, UnitsSayNames}
-use Rattle.batch_set.specs.declared.cell_phases.CellPhases.{CellPhases}
-use Rattle.batch_set.specs.declared.linked.LinkedNeed.{LinkedNeed}
-use Rattle.batch_set.specs.declared.linked.LinkedRecipe.{LinkedRecipe}
-use Rattle.batch_set.specs.declared.linked.Source.{Source}
-use Rattle.batch_set.proofs.DeclaredRoles.{declared, named-unit, reserves-units, unit-declared}
-use Rattle.batch_set.proofs.TableRows.{row-there}
-use Rattle.batch_set.proofs.Positions.{any-map, any-position, found-at, name-at}
+use Rattle.batch_set.{specs.Linking.IsLinked, specs.Linking.by_role, specs.Linking.chosen_source, specs.Linking.need_linked, specs.Linking.needs_linked, specs.Linking.named, specs.Linking.reserved, specs.Linking.reserved_need, specs.Linking.resource_found, specs.Linking.role_found, specs.Linking.unit_found, specs.Linking.unit_needs, specs.Linking.unit_source, specs.Looked.first_source, specs.Looked.needs_by, specs.Looked.unit_procedure_source, specs.Sources.IsSource, specs.Sources.SayNeeds, specs.Sources.NeedsSayNames, specs.Sources.UnitsSayNames, specs.declared.cell_phases.CellPhases.CellPhases, specs.declared.linked.LinkedNeed.LinkedNeed, specs.declared.linked.LinkedRecipe.LinkedRecipe, specs.declared.linked.Source.Source, proofs.DeclaredRoles.declared, proofs.DeclaredRoles.named-unit, proofs.DeclaredRoles.reserves-units, proofs.DeclaredRoles.unit-declared, proofs.TableRows.row-there, proofs.Positions.any-map, proofs.Positions.any-position, proofs.Positions.found-at, proofs.Positions.name-at}
 
 module _ (cell : Cell) (roles : List Role) (bound : Binding) where
   named-source : (name : Name) → IsSource cell roles bound (named cell name) name

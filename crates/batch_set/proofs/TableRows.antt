@@ -1,11 +1,7 @@
 -- Rows that are made one after another, and look-ups in them.
 use Rattle.std.proofs.Common.{◌≡◌, ℕ, List, [], ◌∷◌, ◌++◌, ◌+◌, ◌<◌, ◌≤◌, zero, suc, length, drop, get_or, map, Option, Some, Vec, slice_get, sym, ap, subst, ◌∙◌, add-one, drop-cons, drop_of_length-le, append_assoc, append-nil}
-use Rattle.std.specs.Global.{Global}
-use Rattle.std.specs.Prelude.{option_map, unwrap_or}
-use Rattle.std.proofs.lemmas.List.{map-append}
-use Rattle.std.proofs.lemmas.Option.{slice_get-map}
-use Rattle.batch_set.specs.Linking.{table_items}
-use Rattle.batch_set.specs.Looked.{row_at}
+use Rattle.std.{specs.Global.Global, specs.Prelude.option_map, specs.Prelude.unwrap_or, proofs.lemmas.List.map-append, proofs.lemmas.Option.slice_get-map}
+use Rattle.batch_set.specs.{Linking.table_items, Looked.row_at}
 
 -- so far the rows are those before, and then the results of the elements before number i
 abbrev pub AreAdded : {A B : Type 0} → List B → (A → B) → List A → ℕ → List B → Type 0

@@ -1,8 +1,6 @@
 -- Bits of words.
 use Rattle.std.proofs.Common.{◌≡◌, ◌<◌, ◌≤◌, ◌+◌, ◌-◌, ◌*◌, ◌%◌, refl, sym, ◌∙◌, ap, subst, ℕ, Bool, true, false, Option, Some, None, inl, inr, ◌⊎◌, arith, nat_eq, bit_and, bit_or, get_or, w64}
-use Rattle.std.specs.Prelude.{◌^◌, min}
-use Rattle.std.specs.Int.{bit_at, bit_not, trailing_zeros}
-use Rattle.std.proofs.lemmas.Nat.Bits.{bit_at-lt, bit_at-zero, bit_at_and, bit_at_above, bit_at_set_same, bit_at_set_other, bit_at_clear_same, bit_at_clear_other, bit_at_mask_inside, bit_at_mask_below, ones_shl, bit_at-trailing_zeros, same_from_bits}
+use Rattle.std.{specs.Prelude.◌^◌, specs.Prelude.min, specs.Int.bit_at, specs.Int.bit_not, specs.Int.trailing_zeros, proofs.lemmas.Nat.Bits.bit_at-lt, proofs.lemmas.Nat.Bits.bit_at-zero, proofs.lemmas.Nat.Bits.bit_at_and, proofs.lemmas.Nat.Bits.bit_at_above, proofs.lemmas.Nat.Bits.bit_at_set_same, proofs.lemmas.Nat.Bits.bit_at_set_other, proofs.lemmas.Nat.Bits.bit_at_clear_same, proofs.lemmas.Nat.Bits.bit_at_clear_other, proofs.lemmas.Nat.Bits.bit_at_mask_inside, proofs.lemmas.Nat.Bits.bit_at_mask_below, proofs.lemmas.Nat.Bits.ones_shl, proofs.lemmas.Nat.Bits.bit_at-trailing_zeros, proofs.lemmas.Nat.Bits.same_from_bits}
 use Rattle.batch_signs.specs.Bits.{with_one, with_zero, IsLowestFrom}
 
 pub nat-same : (m n : ℕ) → nat_eq m n ≡ true → m ≡ n

@@ -1,13 +1,7 @@
 -- Signs of nodes, and the nodes of each sign.
 use Rattle.std.proofs.Common.{◌≡◌, ◌<◌, ◌≤◌, sym, ◌∙◌, ap, ℕ, List, length, Option, Some, None, inl, inr, ◌⊎◌, arith, bit_and}
-use Rattle.std.specs.Prelude.{◌^◌, min}
-use Rattle.std.specs.Int.{bit_at}
-use Rattle.std.proofs.lemmas.Bool.{cases_lt}
-use Rattle.std.proofs.lemmas.List.{get_or_past}
-use Rattle.std.proofs.lemmas.Nat.Bits.{bit_at-lt, bit_at-zero, bit_at_above}
-use Rattle.batch_signs.specs.SignSets.{ShowsNone, IsFirstShown}
-use Rattle.batch_signs.specs.Signs.{sign_at, AreBySign, IsNextShown}
-use Rattle.batch_signs.proofs.WantedSigns.{no-bit, all-bits}
+use Rattle.std.{specs.Prelude.◌^◌, specs.Prelude.min, specs.Int.bit_at, proofs.lemmas.Bool.cases_lt, proofs.lemmas.List.get_or_past, proofs.lemmas.Nat.Bits.bit_at-lt, proofs.lemmas.Nat.Bits.bit_at-zero, proofs.lemmas.Nat.Bits.bit_at_above}
+use Rattle.batch_signs.{specs.SignSets.ShowsNone, specs.SignSets.IsFirstShown, specs.Signs.sign_at, specs.Signs.AreBySign, specs.Signs.IsNextShown, proofs.WantedSigns.no-bit, proofs.WantedSigns.all-bits}
 
 none-both : (a b : ℕ) → a < 2 → b < 2 → (b ≡ 1 → a ≡ 0) → min a b ≡ 0
 none-both a b l m h = go (cases_lt b 1)

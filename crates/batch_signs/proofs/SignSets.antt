@@ -1,16 +1,7 @@
 -- Sets of nodes by sign.
 use Rattle.std.proofs.Common.{◌≡◌, ◌<◌, ◌≤◌, ◌+◌, ◌*◌, ◌/◌, ◌%◌, refl, sym, ◌∙◌, ap, ap₂, subst, ℕ, List, length, Bool, true, false, Some, None, inl, inr, ◌⊎◌, arith, nat_eq, bit_and, bit_or, get_or}
-use Rattle.std.specs.Prelude.{◌^◌, min, max, not, slice_index, slice_set}
-use Rattle.std.specs.Int.{bit_at}
-use Rattle.std.specs.Int.Bits.{bit_xor}
-use Rattle.std.proofs.lemmas.Bool.{cases_lt}
-use Rattle.std.proofs.lemmas.List.{get_or-set_same, get_or-set_other, get_or_past, length-set}
-use Rattle.std.proofs.lemmas.Nat.{div-add-mod', mod_below, div-mul-add, mod-mul-add}
-use Rattle.std.proofs.lemmas.Nat.Bits.{bit_at-lt, bit_at-zero, bit_at_or, bit_at_xor, bit_at_above}
-use Rattle.batch_signs.specs.Bits.{with_told, IsLowestFrom}
-use Rattle.batch_signs.specs.SignSets.{set_of, sign_shown, bit_of, AreSummed, AreJoined, IsTurnedAt, IsChangedAt, ShowsNone, ShowsSome, IsFirstShown}
-use Rattle.batch_signs.proofs.Bits.{nat-same, differs, no-bits, zeros, with-one_same, with-one_other, with-zero_same, with-zero_other}
-use Rattle.batch_signs.proofs.WantedSigns.{no-bit}
+use Rattle.std.{specs.Prelude.◌^◌, specs.Prelude.min, specs.Prelude.max, specs.Prelude.not, specs.Prelude.slice_index, specs.Prelude.slice_set, specs.Int.bit_at, specs.Int.Bits.bit_xor, proofs.lemmas.Bool.cases_lt, proofs.lemmas.List.get_or-set_same, proofs.lemmas.List.get_or-set_other, proofs.lemmas.List.get_or_past, proofs.lemmas.List.length-set, proofs.lemmas.Nat.div-add-mod', proofs.lemmas.Nat.mod_below, proofs.lemmas.Nat.div-mul-add, proofs.lemmas.Nat.mod-mul-add, proofs.lemmas.Nat.Bits.bit_at-lt, proofs.lemmas.Nat.Bits.bit_at-zero, proofs.lemmas.Nat.Bits.bit_at_or, proofs.lemmas.Nat.Bits.bit_at_xor, proofs.lemmas.Nat.Bits.bit_at_above}
+use Rattle.batch_signs.{specs.Bits.with_told, specs.Bits.IsLowestFrom, specs.SignSets.set_of, specs.SignSets.sign_shown, specs.SignSets.bit_of, specs.SignSets.AreSummed, specs.SignSets.AreJoined, specs.SignSets.IsTurnedAt, specs.SignSets.IsChangedAt, specs.SignSets.ShowsNone, specs.SignSets.ShowsSome, specs.SignSets.IsFirstShown, proofs.Bits.nat-same, proofs.Bits.differs, proofs.Bits.no-bits, proofs.Bits.zeros, proofs.Bits.with-one_same, proofs.Bits.with-one_other, proofs.Bits.with-zero_same, proofs.Bits.with-zero_other, proofs.WantedSigns.no-bit}
 
 not-one : (x : ℕ) → x ≡ 0 → x ≡ 1 → ⊥
 not-one x e f = absurd (omega (arith, e, f))

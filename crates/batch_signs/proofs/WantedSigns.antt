@@ -1,13 +1,6 @@
 -- Whether wanted signs are among those of a node.
 use Rattle.std.proofs.Common.{◌≡◌, ◌<◌, ◌≤◌, refl, sym, ◌∙◌, ap, ℕ, List, length, Bool, true, false, Some, None, inl, inr, ◌⊎◌, arith, nat_eq, nat_le}
-use Rattle.std.specs.Prelude.{min, max, not, ◌||◌, zero, suc}
-use Rattle.std.specs.Int.{bit_at}
-use Rattle.std.specs.Int.Bits.{bit_and, bit_or}
-use Rattle.std.proofs.lemmas.Bool.{cases_lt}
-use Rattle.std.proofs.lemmas.List.{get_or_past}
-use Rattle.std.proofs.lemmas.Bool.Decides.{nat_tests}
-use Rattle.std.proofs.lemmas.Nat.{and_or_apart}
-use Rattle.std.proofs.lemmas.Nat.Bits.{bit_at-zero, bit_at_and, bit_at_or, same_from_bits}
+use Rattle.std.{specs.Prelude.min, specs.Prelude.max, specs.Prelude.not, specs.Prelude.◌||◌, specs.Prelude.zero, specs.Prelude.suc, specs.Int.bit_at, specs.Int.Bits.bit_and, specs.Int.Bits.bit_or, proofs.lemmas.Bool.cases_lt, proofs.lemmas.List.get_or_past, proofs.lemmas.Bool.Decides.nat_tests, proofs.lemmas.Nat.and_or_apart, proofs.lemmas.Nat.Bits.bit_at-zero, proofs.lemmas.Nat.Bits.bit_at_and, proofs.lemmas.Nat.Bits.bit_at_or, proofs.lemmas.Nat.Bits.same_from_bits}
 use Rattle.batch_signs.specs.Signs.{sign_at, shows, IsNextShown, TellsNone}
 
 pub no-bit : (a m : ℕ) → bit_and a m ≡ 0 → (i : ℕ) → min (bit_at a i) (bit_at m i) ≡ 0

@@ -1,11 +1,8 @@
 -- The report of a steady unit at a tick.
 use Rattle.std.proofs.Common.{◌≡◌, ℕ, List, true, false, Option, Some, None, get_or, slice_get, slice_set, position, refl, sym, ◌∙◌}
-use Rattle.std.proofs.lemmas.List.Quantifiers.{position-Some}
-use Rattle.std.proofs.lemmas.Option.{slice_get-get_or}
-use Rattle.batch_matrix.specs.declared.state.State.{State}
-use Rattle.batch_matrix.specs.declared.report.Report.{Report}
-use Rattle.batch_sim.specs.SteadyUnit.{is_report_due, end_of, report_of_end, Reports}
-use Rattle.batch_sim.specs.declared.steady_phase.SteadyPhase.{SteadyPhase}
+use Rattle.std.proofs.lemmas.{List.Quantifiers.position-Some, Option.slice_get-get_or}
+use Rattle.batch_matrix.specs.declared.{state.State.State, report.Report.Report}
+use Rattle.batch_sim.specs.{SteadyUnit.is_report_due, SteadyUnit.end_of, SteadyUnit.report_of_end, SteadyUnit.Reports, declared.steady_phase.SteadyPhase.SteadyPhase}
 
 pub reported : (old new : List SteadyPhase) (n : ℕ) (d : SteadyPhase) (end : State) (answer : Option (ℕ × Report)) → position is_report_due old ≡ Some n
     → end_of (get_or old n d) ≡ Some end → answer ≡ Some (n, report_of_end end) → new ≡ slice_set old n (record (get_or old n d) { state = end }) → Reports old answer new

@@ -1,25 +1,10 @@
 -- Each move of an act takes some of that act's work, and leaves a possible rest of its node.
 use Rattle.std.proofs.Common.{◌≡◌, refl, sym, ap, subst, ℕ, zero, suc, pred, Bool, true, false, Some, None, arith, [], ◌<◌, ◌≤◌, ◌+◌, ◌-◌, ◌*◌, length}
-use Rattle.std.specs.Prelude.{Option, List, find, nat_eq, option_and_then, slice_get, ◌&&◌, ◌||◌, not, ⊤}
-use Rattle.batch_recipe.specs.Conditions.{Name}
-use Rattle.batch_recipe.specs.Following.{Follower, follower}
-use Rattle.batch_recipe.specs.Levels.{Level, below}
-use Rattle.batch_model.specs.Lists.{Has}
-use Rattle.batch_model.specs.Standing.{due_followers}
-use Rattle.batch_step_laws.proofs.DueUnitProcedures.{done-is}
-use Rattle.std.proofs.lemmas.Option.{slice_get_within}
-use Rattle.batch_matrix.specs.declared.state.State.{State}
-use Rattle.batch_matrix.specs.declared.state.State.TheVariants.{Running}
-use Rattle.batch_matrix.specs.declared.command.Command.{Command}
-use Rattle.batch_matrix.specs.Matrix.{accepts, target}
-use Rattle.batch_recipe.specs.Tree.{Place, Reserve, Step, Tree, Task, runs, follows}
-use Rattle.batch_model.specs.Rest.{Rest, ready, asking, open_act, live, freeing, is_done, place_of}
-use Rattle.batch_model.specs.Plant.{Setup, Batch, Plant, moment_of, in_act, held_in}
-use Rattle.batch_model.specs.Moves.{Move, send, release, pass, begin, start, end, ask, grant, batch_of, place_of_move, passed_on, is_running, is_stopping, is_stopped, is_quiet, is_empty, handed_values, when, beginning, entering, giving_back, reserved_place, handing_over, is_served, act_move, act_after, passing, batch_after, freed, released}
-use Rattle.batch_model.specs.Runs.{toil, toil_of_work, sends, goes_on, ahead, toil_left}
-use Rattle.batch_step_laws.proofs.WorkAfterAdvance.{going, going_no_further, reach-toil}
-use Rattle.batch_step_laws.proofs.RestsAfterChange.{RemainsAs, sent-remains, released-remains, ended-remains, begun-remains}
-use Rattle.batch_recipe.specs.declared.need.Need.{Need}
+use Rattle.std.{specs.Prelude.Option, specs.Prelude.List, specs.Prelude.find, specs.Prelude.nat_eq, specs.Prelude.option_and_then, specs.Prelude.slice_get, specs.Prelude.◌&&◌, specs.Prelude.◌||◌, specs.Prelude.not, specs.Prelude.⊤, proofs.lemmas.Option.slice_get_within}
+use Rattle.batch_recipe.specs.{Conditions.Name, Following.Follower, Following.follower, Levels.Level, Levels.below, Tree.Place, Tree.Reserve, Tree.Step, Tree.Tree, Tree.Task, Tree.runs, Tree.follows, declared.need.Need.Need}
+use Rattle.batch_model.specs.{Lists.Has, Standing.due_followers, Rest.Rest, Rest.ready, Rest.asking, Rest.open_act, Rest.live, Rest.freeing, Rest.is_done, Rest.place_of, Plant.Setup, Plant.Batch, Plant.Plant, Plant.moment_of, Plant.in_act, Plant.held_in, Moves.Move, Moves.send, Moves.release, Moves.pass, Moves.begin, Moves.start, Moves.end, Moves.ask, Moves.grant, Moves.batch_of, Moves.place_of_move, Moves.passed_on, Moves.is_running, Moves.is_stopping, Moves.is_stopped, Moves.is_quiet, Moves.is_empty, Moves.handed_values, Moves.when, Moves.beginning, Moves.entering, Moves.giving_back, Moves.reserved_place, Moves.handing_over, Moves.is_served, Moves.act_move, Moves.act_after, Moves.passing, Moves.batch_after, Moves.freed, Moves.released, Runs.toil, Runs.toil_of_work, Runs.sends, Runs.goes_on, Runs.ahead, Runs.toil_left}
+use Rattle.batch_step_laws.proofs.{DueUnitProcedures.done-is, WorkAfterAdvance.going, WorkAfterAdvance.going_no_further, WorkAfterAdvance.reach-toil, RestsAfterChange.RemainsAs, RestsAfterChange.sent-remains, RestsAfterChange.released-remains, RestsAfterChange.ended-remains, RestsAfterChange.begun-remains}
+use Rattle.batch_matrix.specs.{declared.state.State.State, declared.state.State.TheVariants.Running, declared.command.Command.Command, Matrix.accepts, Matrix.target}
 
 -- the followers that are due at the act stay so
 abbrev pub DueStays : Rest → Rest → Type 0

@@ -1,25 +1,10 @@
 -- Each act of an expanded recipe carries the place at which it stands.
 use Rattle.std.proofs.Common.{refl, sym, ap, ◌∙◌, subst, ℕ, ◌+◌, List, [], ◌∷◌, Some, None}
 use Rattle.std.specs.Prelude.{Option}
-use Rattle.batch_recipe.specs.Conditions.{Name}
+use Rattle.batch_recipe.specs.{Conditions.Name, Diagram.Diagram, Diagram.Diagrams, Diagram.Cases, Diagram.diagram_of, Tree.Place, Tree.Tree, Tree.skip, Nodes.child, Expanding.expanded, Expanding.expanded_each, Expanding.expanded_cases, Expanding.unit_below, Expanding.task_of, Expanding.act_named, Expanding.Binding, Expanding.Sites, Expanding.unit_with, Expanding.act_tree_with, Expanding.named_tree_with, Procedure.sites, Procedure.tables_from, Procedure.bound_tree, declared.act.Act.Act, declared.act.Work.Work, declared.act.Work.TheVariants.Follows, declared.act.Work.TheVariants.Runs, declared.acts.Acts.Acts, declared.acts.LabelTable.TheVariants.UnitProcedures}
 use Rattle.batch_recipe.specs.Diagram as chart
-use Rattle.batch_recipe.specs.Diagram.{Diagram, Diagrams, Cases, diagram_of}
-use Rattle.batch_recipe.specs.Tree.{Place, Tree, skip}
-use Rattle.batch_recipe.specs.Nodes.{child}
-use Rattle.batch_recipe.specs.Expanding.{expanded, expanded_each, expanded_cases, unit_below, task_of, act_named, Binding, Sites, unit_with, act_tree_with, named_tree_with}
-use Rattle.batch_recipe.specs.Procedure.{sites, tables_from, bound_tree}
-use Rattle.batch_recipe.specs.declared.act.Act.{Act}
-use Rattle.batch_recipe.specs.declared.act.Work.{Work}
-use Rattle.batch_recipe.specs.declared.act.Work.TheVariants.{Follows, Runs}
-use Rattle.batch_recipe.specs.declared.acts.Acts.{Acts}
-use Rattle.batch_recipe.specs.declared.acts.LabelTable.TheVariants.{UnitProcedures}
-use Rattle.batch_model.specs.Lists.{Each}
-use Rattle.batch_model.specs.Plant.{Setup}
-use Rattle.batch_model.specs.Standing.{HasPlacedTrees}
-use Rattle.batch_model.specs.Events.{bound_by}
+use Rattle.batch_model.{specs.Lists.Each, specs.Plant.Setup, specs.Standing.HasPlacedTrees, specs.Events.bound_by, proofs.Members.Each-Has, specs.Placed.IsPlaced, specs.Placed.IsPlacedBelow, specs.Placed.ArePlaced, specs.Placed.IsChoicePlaced}
 use Rattle.batch_step_laws.specs.Laws.{IsExpanded}
-use Rattle.batch_model.proofs.Members.{Each-Has}
-use Rattle.batch_model.specs.Placed.{IsPlaced, IsPlacedBelow, ArePlaced, IsChoicePlaced}
 
 -- whatever the label names is placed
 abbrev ArePlacedActs : (Name → Place → Tree) → Type 0

@@ -1,10 +1,7 @@
 -- After `reach`, `advance` and the withdrawal of asks nothing is left to be reached.
 use Rattle.std.proofs.Common.{arith, ◌≡◌, refl, ◌∙◌, ap₂, ◌&&◌, ℕ, zero, suc, pred, Bool, true, false}
-use Rattle.batch_recipe.specs.Conditions.{holds}
-use Rattle.batch_recipe.specs.declared.condition.Cond.{Cond}
-use Rattle.batch_recipe.specs.Tree.{Tree, act, skip, seq, par, sel, loop, Trees, no_trees, tree, Choices, otherwise, choice}
-use Rattle.batch_model.specs.Rest.{Rest, Moment, ready, asking, open_act, live, freeing, in_seq, in_par, in_loop, done, Rests, no_rests, rest, is_done, all_done, joined, turning, reach, reach_first, reach_each, reach_chosen, turned, advance, advance_each, withdrawn, withdrawn_each}
-use Rattle.batch_model.specs.Settled.{IsAdvanced, AreAdvanced}
+use Rattle.batch_recipe.specs.{Conditions.holds, declared.condition.Cond.Cond, Tree.Tree, Tree.act, Tree.skip, Tree.seq, Tree.par, Tree.sel, Tree.loop, Tree.Trees, Tree.no_trees, Tree.tree, Tree.Choices, Tree.otherwise, Tree.choice}
+use Rattle.batch_model.specs.{Rest.Rest, Rest.Moment, Rest.ready, Rest.asking, Rest.open_act, Rest.live, Rest.freeing, Rest.in_seq, Rest.in_par, Rest.in_loop, Rest.done, Rest.Rests, Rest.no_rests, Rest.rest, Rest.is_done, Rest.all_done, Rest.joined, Rest.turning, Rest.reach, Rest.reach_first, Rest.reach_each, Rest.reach_chosen, Rest.turned, Rest.advance, Rest.advance_each, Rest.withdrawn, Rest.withdrawn_each, Settled.IsAdvanced, Settled.AreAdvanced}
 
 joined-advanced : (rs : Rests) → AreAdvanced rs → IsAdvanced (joined rs)
 joined-advanced rs h = go (all_done rs) refl

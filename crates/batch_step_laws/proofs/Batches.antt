@@ -1,11 +1,7 @@
 -- Batches whose numbers rise, of which one is changed.
 use Rattle.std.proofs.Common.{◌≡◌, refl, sym, ◌∙◌, ap, ap₂, subst, ℕ, suc, ◌<◌, arith, List, [], ◌∷◌, ◌++◌, Bool, true, false, cond, inl, inr, nat_eq}
-use Rattle.std.specs.Prelude.{map, filter, sum_by}
-use Rattle.std.proofs.lemmas.List.Sums.{sum_by-cons}
-use Rattle.batch_model.specs.Lists.{Has, Each}
-use Rattle.batch_model.specs.Plant.{Batch}
-use Rattle.batch_model.specs.Standing.{AreNumbered}
-use Rattle.batch_model.proofs.Members.{Each-Has, Each-append, Each-filter}
+use Rattle.std.{specs.Prelude.map, specs.Prelude.filter, specs.Prelude.sum_by, proofs.lemmas.List.Sums.sum_by-cons}
+use Rattle.batch_model.{specs.Lists.Has, specs.Lists.Each, specs.Plant.Batch, specs.Standing.AreNumbered, proofs.Members.Each-Has, proofs.Members.Each-append, proofs.Members.Each-filter}
 
 -- f changes batch n alone
 abbrev pub only : ℕ → (Batch → Batch) → Batch → Batch

@@ -1,21 +1,9 @@
 -- A unit procedure that holds a unit in advance is due until its chart is reached, and a due one has a move before it.
 use Rattle.std.proofs.Common.{◌≡◌, ◌⊎◌, refl, sym, ◌∙◌, ap, subst, ℕ, zero, suc, ◌+◌, ◌<◌, ◌≤◌, length, List, [], ◌∷◌, ◌++◌, Bool, true, false, Some, None, arith, inl, inr, append-nil}
-use Rattle.std.specs.Prelude.{Option, find, pred, option_map}
-use Rattle.std.proofs.lemmas.List.{append_assoc}
-use Rattle.batch_recipe.specs.Conditions.{Name, same_name, holds}
-use Rattle.batch_recipe.specs.declared.condition.Cond.{Cond}
-use Rattle.batch_recipe.specs.Following.{Follower, firsts, firsts_of_each, enter, branch, choice_at, following_below, follower}
-use Rattle.batch_recipe.specs.Levels.{Level, is_procedure, in_procedure, in_unit_procedure, in_operation, below}
-use Rattle.batch_recipe.specs.Nodes.{child}
-use Rattle.batch_recipe.specs.Tree.{Place, Step, Task, runs, follows, Tree, act, skip, seq, par, sel, loop, Trees, no_trees, tree, Choices, otherwise, choice}
-use Rattle.batch_model.specs.Lists.{Has}
-use Rattle.batch_model.specs.Placed.{IsPlaced, ArePlaced, IsChoicePlaced}
-use Rattle.batch_model.specs.Rest.{same_place, Rest, ready, asking, open_act, live, freeing, in_seq, in_par, in_loop, done, Rests, no_rests, rest, is_done, all_done, joined, turning, Moment, reach, reach_first, reach_each, continued, turned, advance, advance_each, acts, acts_of_each, place_of, changed_at, changed_in_each}
-use Rattle.batch_model.specs.Settled.{IsAdvanced, AreAdvanced}
-use Rattle.batch_model.specs.Standing.{after_branch, due_followers, due_in_each, IsAwaited, IsRestOf, IsBranch, AreBranches, IsChosen}
-use Rattle.batch_model.proofs.Members.{Has-left, Has-right, Has-split, find-Has}
-use Rattle.batch_step_laws.proofs.WorkAfterChange.{to_same_place}
-use Rattle.batch_step_laws.proofs.ListsOverActs.{no-acts_of_done, no-acts_of_all_done}
+use Rattle.std.{specs.Prelude.Option, specs.Prelude.find, specs.Prelude.pred, specs.Prelude.option_map, proofs.lemmas.List.append_assoc}
+use Rattle.batch_recipe.specs.{Conditions.Name, Conditions.same_name, Conditions.holds, declared.condition.Cond.Cond, Following.Follower, Following.firsts, Following.firsts_of_each, Following.enter, Following.branch, Following.choice_at, Following.following_below, Following.follower, Levels.Level, Levels.is_procedure, Levels.in_procedure, Levels.in_unit_procedure, Levels.in_operation, Levels.below, Nodes.child, Tree.Place, Tree.Step, Tree.Task, Tree.runs, Tree.follows, Tree.Tree, Tree.act, Tree.skip, Tree.seq, Tree.par, Tree.sel, Tree.loop, Tree.Trees, Tree.no_trees, Tree.tree, Tree.Choices, Tree.otherwise, Tree.choice}
+use Rattle.batch_model.{specs.Lists.Has, specs.Placed.IsPlaced, specs.Placed.ArePlaced, specs.Placed.IsChoicePlaced, specs.Rest.same_place, specs.Rest.Rest, specs.Rest.ready, specs.Rest.asking, specs.Rest.open_act, specs.Rest.live, specs.Rest.freeing, specs.Rest.in_seq, specs.Rest.in_par, specs.Rest.in_loop, specs.Rest.done, specs.Rest.Rests, specs.Rest.no_rests, specs.Rest.rest, specs.Rest.is_done, specs.Rest.all_done, specs.Rest.joined, specs.Rest.turning, specs.Rest.Moment, specs.Rest.reach, specs.Rest.reach_first, specs.Rest.reach_each, specs.Rest.continued, specs.Rest.turned, specs.Rest.advance, specs.Rest.advance_each, specs.Rest.acts, specs.Rest.acts_of_each, specs.Rest.place_of, specs.Rest.changed_at, specs.Rest.changed_in_each, specs.Settled.IsAdvanced, specs.Settled.AreAdvanced, specs.Standing.after_branch, specs.Standing.due_followers, specs.Standing.due_in_each, specs.Standing.IsAwaited, specs.Standing.IsRestOf, specs.Standing.IsBranch, specs.Standing.AreBranches, specs.Standing.IsChosen, proofs.Members.Has-left, proofs.Members.Has-right, proofs.Members.Has-split, proofs.Members.find-Has}
+use Rattle.batch_step_laws.proofs.{WorkAfterChange.to_same_place, ListsOverActs.no-acts_of_done, ListsOverActs.no-acts_of_all_done}
 
 -- Reaching
 

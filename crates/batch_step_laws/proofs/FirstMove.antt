@@ -1,20 +1,8 @@
 -- In a plant that stands an act has one move, so one move is the first.
 use Rattle.std.proofs.Common.{◌≡◌, ◌⊎◌, refl, sym, ◌∙◌, ap, subst, [], ◌∷◌, Bool, true, false, Some, inl, inr}
 use Rattle.batch_recipe.specs.Tree.{Place}
-use Rattle.batch_model.specs.Lists.{Has}
-use Rattle.batch_model.specs.Rest.{Rest, acts, place_of}
-use Rattle.batch_model.specs.Plant.{Setup, Batch, Plant}
-use Rattle.batch_model.specs.Moves.{Move, batch_of, kind_of, place_of_move, order_of, is_earlier, act_move, state_move, batch_moves, possible, next}
-use Rattle.batch_step_laws.specs.Laws.{IsLeast, IsFirst}
-use Rattle.batch_model.specs.Standing.{HasPlacedTrees, IsStandingBatch, IsStanding}
-use Rattle.batch_model.specs.Placed.{IsPlaced}
-use Rattle.batch_model.proofs.Members.{Each-Has, Has-flat_map}
-use Rattle.batch_step_laws.proofs.MoveOrder.{before-connected, least-IsLeast}
-use Rattle.batch_step_laws.proofs.ActOrder.{IsUnder, acts-under}
-use Rattle.batch_step_laws.proofs.ActMoves.{IsMoveOf, act_move-is}
-use Rattle.batch_step_laws.proofs.StateMoves.{IsStateMove, state_move-is}
-use Rattle.batch_step_laws.proofs.Batches.{one_batch}
-use Rattle.batch_step_laws.proofs.WorkAfterMove.{one_act, batch-rises, Has-batch_moves, batch_moves-number}
+use Rattle.batch_model.{specs.Lists.Has, specs.Rest.Rest, specs.Rest.acts, specs.Rest.place_of, specs.Plant.Setup, specs.Plant.Batch, specs.Plant.Plant, specs.Moves.Move, specs.Moves.batch_of, specs.Moves.kind_of, specs.Moves.place_of_move, specs.Moves.order_of, specs.Moves.is_earlier, specs.Moves.act_move, specs.Moves.state_move, specs.Moves.batch_moves, specs.Moves.possible, specs.Moves.next, specs.Standing.HasPlacedTrees, specs.Standing.IsStandingBatch, specs.Standing.IsStanding, specs.Placed.IsPlaced, proofs.Members.Each-Has, proofs.Members.Has-flat_map}
+use Rattle.batch_step_laws.{specs.Laws.IsLeast, specs.Laws.IsFirst, proofs.MoveOrder.before-connected, proofs.MoveOrder.least-IsLeast, proofs.ActOrder.IsUnder, proofs.ActOrder.acts-under, proofs.ActMoves.IsMoveOf, proofs.ActMoves.act_move-is, proofs.StateMoves.IsStateMove, proofs.StateMoves.state_move-is, proofs.Batches.one_batch, proofs.WorkAfterMove.one_act, proofs.WorkAfterMove.batch-rises, proofs.WorkAfterMove.Has-batch_moves, proofs.WorkAfterMove.batch_moves-number}
 
 -- no act stands at the place of a state move
 no_act : (c : Setup) (b : Batch) (a : Rest) → HasPlacedTrees c → IsStandingBatch c b → Has (acts b.rest) a → place_of a ≡ [] → ⊥

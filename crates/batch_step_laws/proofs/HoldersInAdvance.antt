@@ -1,21 +1,9 @@
 -- A batch that holds something in advance has a move.
 use Rattle.std.proofs.Common.{◌≡◌, refl, sym, ◌∙◌, ap, subst, ℕ, zero, suc, ◌<◌, ◌≤◌, length, List, [], ◌∷◌, Bool, true, false, Some, None, arith, inl, inr}
-use Rattle.std.specs.Prelude.{Option, flat_map, option_map, option_to_list, pred, ◌&&◌, ◌||◌, not}
-use Rattle.std.specs.List.{filter_map, cons_option}
-use Rattle.std.proofs.lemmas.Option.{slice_get_cases}
-use Rattle.batch_recipe.specs.declared.need.Need.{Need}
-use Rattle.batch_recipe.specs.Tree.{Place, Step}
-use Rattle.batch_model.specs.Lists.{Has, Each}
-use Rattle.batch_model.specs.Rest.{Rest, ready, open_act, freeing, acts, is_done}
-use Rattle.batch_model.specs.Plant.{Setup, InAdvance, Batch, Plant, held_in}
-use Rattle.batch_model.specs.Moves.{Move, release, pass, end, is_stopping, is_stopped, is_quiet, is_empty, when, last_held, giving_back, reserved_place, act_move, state_move, batch_moves, possible, next}
-use Rattle.batch_model.specs.Runs.{goes_on}
-use Rattle.batch_model.specs.Standing.{is_resting, IsUnbegun, IsAwaited, HasPlacedTrees, IsStandingBatch, IsStanding}
-use Rattle.batch_recipe.specs.Levels.{is_procedure}
-use Rattle.batch_model.proofs.Members.{Has-left, Has-right, Each-Has}
-use Rattle.batch_step_laws.specs.Laws.{IsOnTheWay}
-use Rattle.batch_step_laws.proofs.DueUnitProcedures.{IsLeaving, leaving_in, leaves}
-use Rattle.batch_step_laws.proofs.MoveOrder.{none_least}
+use Rattle.std.{specs.Prelude.Option, specs.Prelude.flat_map, specs.Prelude.option_map, specs.Prelude.option_to_list, specs.Prelude.pred, specs.Prelude.◌&&◌, specs.Prelude.◌||◌, specs.Prelude.not, specs.List.filter_map, specs.List.cons_option, proofs.lemmas.Option.slice_get_cases}
+use Rattle.batch_recipe.specs.{declared.need.Need.Need, Tree.Place, Tree.Step, Levels.is_procedure}
+use Rattle.batch_model.{specs.Lists.Has, specs.Lists.Each, specs.Rest.Rest, specs.Rest.ready, specs.Rest.open_act, specs.Rest.freeing, specs.Rest.acts, specs.Rest.is_done, specs.Plant.Setup, specs.Plant.InAdvance, specs.Plant.Batch, specs.Plant.Plant, specs.Plant.held_in, specs.Moves.Move, specs.Moves.release, specs.Moves.pass, specs.Moves.end, specs.Moves.is_stopping, specs.Moves.is_stopped, specs.Moves.is_quiet, specs.Moves.is_empty, specs.Moves.when, specs.Moves.last_held, specs.Moves.giving_back, specs.Moves.reserved_place, specs.Moves.act_move, specs.Moves.state_move, specs.Moves.batch_moves, specs.Moves.possible, specs.Moves.next, specs.Runs.goes_on, specs.Standing.is_resting, specs.Standing.IsUnbegun, specs.Standing.IsAwaited, specs.Standing.HasPlacedTrees, specs.Standing.IsStandingBatch, specs.Standing.IsStanding, proofs.Members.Has-left, proofs.Members.Has-right, proofs.Members.Each-Has}
+use Rattle.batch_step_laws.{specs.Laws.IsOnTheWay, proofs.DueUnitProcedures.IsLeaving, proofs.DueUnitProcedures.leaving_in, proofs.DueUnitProcedures.leaves, proofs.MoveOrder.none_least}
 
 pub flat_map-Has : {X Y : Type 0} (f : X → List Y) (xs : List X) (x : X) (y : Y) → Has xs x → Has (f x) y → Has (flat_map f xs) y
 flat_map-Has f [] x y i j = absurd i

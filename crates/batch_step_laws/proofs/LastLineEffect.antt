@@ -2,8 +2,7 @@
 use Rattle.std.proofs.Common.{◌≡◌, ℕ, List, [], ◌∷◌, ◌++◌, None}
 use Rattle.std.proofs.lemmas.List.Sums.{fold-append}
 use Rattle.batch_recipe.specs.Conditions.{Name}
-use Rattle.batch_model.specs.Runs.{Out}
-use Rattle.batch_model.specs.Records.{holders_after, holders_told, waiters_after, waiters_told, active_after, active_told, state_after, state_told}
+use Rattle.batch_model.specs.{Runs.Out, Records.holders_after, Records.holders_told, Records.waiters_after, Records.waiters_told, Records.active_after, Records.active_told, Records.state_after, Records.state_told}
 
 pub holders_told-last : (outs : List Out) (o : Out) (r : Name) → holders_told (outs ++ o ∷ []) r ≡ holders_after r (holders_told outs r) o
 holders_told-last outs o r = fold-append (holders_after r) [] outs (o ∷ [])

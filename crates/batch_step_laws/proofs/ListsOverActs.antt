@@ -1,15 +1,8 @@
 -- The list that is gathered over the acts of a rest stays the same when the rest advances.
 use Rattle.std.proofs.Common.{arith, ◌≡◌, refl, sym, ◌∙◌, ap, ℕ, zero, suc, pred, List, [], ◌∷◌, ◌++◌, Bool, true, false}
-use Rattle.std.specs.Prelude.{flat_map}
-use Rattle.std.proofs.lemmas.Grind.{flat_map-append}
-use Rattle.std.proofs.lemmas.Bool.{and_parts}
-use Rattle.batch_recipe.specs.Conditions.{holds}
-use Rattle.batch_recipe.specs.declared.condition.Cond.{Cond}
-use Rattle.batch_recipe.specs.Tree.{Step, Tree, act, skip, seq, par, sel, loop, Task, Trees, no_trees, tree, Choices, otherwise, choice}
-use Rattle.batch_model.specs.Rest.{Rest, Moment, held_early, ready, asking, open_act, live, freeing, in_seq, in_par, in_loop, done, Rests, no_rests, rest, is_done, all_done, joined, turning, reach, reach_first, reach_each, reach_chosen, turned, advance, advance_each, acts, acts_of_each}
-use Rattle.batch_model.specs.Lists.{Each}
-use Rattle.batch_model.specs.Standing.{IsUnbegun}
-use Rattle.batch_model.specs.Plant.{held_by, held_in, phase_states}
+use Rattle.std.{specs.Prelude.flat_map, proofs.lemmas.Grind.flat_map-append, proofs.lemmas.Bool.and_parts}
+use Rattle.batch_recipe.specs.{Conditions.holds, declared.condition.Cond.Cond, Tree.Step, Tree.Tree, Tree.act, Tree.skip, Tree.seq, Tree.par, Tree.sel, Tree.loop, Tree.Task, Tree.Trees, Tree.no_trees, Tree.tree, Tree.Choices, Tree.otherwise, Tree.choice}
+use Rattle.batch_model.specs.{Rest.Rest, Rest.Moment, Rest.held_early, Rest.ready, Rest.asking, Rest.open_act, Rest.live, Rest.freeing, Rest.in_seq, Rest.in_par, Rest.in_loop, Rest.done, Rest.Rests, Rest.no_rests, Rest.rest, Rest.is_done, Rest.all_done, Rest.joined, Rest.turning, Rest.reach, Rest.reach_first, Rest.reach_each, Rest.reach_chosen, Rest.turned, Rest.advance, Rest.advance_each, Rest.acts, Rest.acts_of_each, Lists.Each, Standing.IsUnbegun, Plant.held_by, Plant.held_in, Plant.phase_states}
 
 pub no-acts_of_done : (r : Rest) → is_done r ≡ true → acts r ≡ []
 no-acts_of_done done e = refl

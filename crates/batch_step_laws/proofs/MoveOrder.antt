@@ -1,12 +1,9 @@
 -- Places are in order, and the next move is the least that is possible.
-use Rattle.std.proofs.Common.{◌≡◌, refl, sym, ap, ap₂, subst, ℕ, List, [], ◌∷◌, Bool, true, false, Some, None, arith, nat_eq, nat_lt}
+use Rattle.std.proofs.Common.{◌≡◌, refl, sym, ap, ap₂, subst, ℕ, List, [], ◌∷◌, Bool, true, false, Some, None, arith, nat_eq, nat_lt, inl, inr}
 use Rattle.std.specs.Prelude.{Option, ◌⊎◌}
-use Rattle.std.proofs.Common.{inl, inr}
-use Rattle.batch_model.specs.Lists.{Has}
-use Rattle.batch_recipe.specs.Tree.{Place, is_before}
-use Rattle.batch_model.specs.Moves.{Move, order_of, is_earlier, least}
+use Rattle.batch_model.specs.{Lists.Has, Moves.Move, Moves.order_of, Moves.is_earlier, Moves.least}
+use Rattle.batch_recipe.{specs.Tree.Place, specs.Tree.is_before, proofs.NodesBelow.not_before}
 use Rattle.batch_step_laws.specs.Laws.{IsLeast, IsFirst}
-use Rattle.batch_recipe.proofs.NodesBelow.{not_before}
 
 not_before-head : (i j k : ℕ) (a b c : Bool) → elim (nat_eq i j) [ true ↦ a | false ↦ nat_lt i j ] ≡ false → elim (nat_eq j k) [ true ↦ b | false ↦ nat_lt j k ] ≡ false
     → (a ≡ false → b ≡ false → c ≡ false) → elim (nat_eq i k) [ true ↦ c | false ↦ nat_lt i k ] ≡ false

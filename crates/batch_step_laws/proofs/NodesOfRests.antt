@@ -1,13 +1,8 @@
 -- Whatever a rest reaches stands at its node of the expanded tree.
 use Rattle.std.proofs.Common.{◌≡◌, refl, sym, subst, ℕ, zero, suc, pred, Bool, true, false, arith, inl, inr, ◌≤◌, List, [], ◌∷◌, length}
-use Rattle.batch_recipe.specs.Conditions.{holds}
-use Rattle.batch_recipe.specs.declared.condition.Cond.{Cond}
-use Rattle.std.specs.Prelude.{take}
-use Rattle.std.specs.List.{list_any}
-use Rattle.batch_recipe.specs.declared.need.Need.{Need}
-use Rattle.batch_recipe.specs.Tree.{Place, Step, Tree, act, skip, seq, par, sel, loop, Task, runs, follows, Trees, no_trees, tree, Choices, otherwise, choice}
-use Rattle.batch_model.specs.Rest.{same_place, Rest, Moment, held_early, ready, asking, open_act, live, freeing, in_seq, in_par, in_loop, done, Rests, no_rests, rest, is_done, all_done, joined, turning, reach, reach_first, reach_each, reach_chosen, continued, turned, advance, advance_each}
-use Rattle.batch_model.specs.Standing.{IsRestOf, IsRestBelow, IsBranch, AreBranches, IsChosen}
+use Rattle.batch_recipe.specs.{Conditions.holds, declared.condition.Cond.Cond, declared.need.Need.Need, Tree.Place, Tree.Step, Tree.Tree, Tree.act, Tree.skip, Tree.seq, Tree.par, Tree.sel, Tree.loop, Tree.Task, Tree.runs, Tree.follows, Tree.Trees, Tree.no_trees, Tree.tree, Tree.Choices, Tree.otherwise, Tree.choice}
+use Rattle.std.specs.{Prelude.take, List.list_any}
+use Rattle.batch_model.specs.{Rest.same_place, Rest.Rest, Rest.Moment, Rest.held_early, Rest.ready, Rest.asking, Rest.open_act, Rest.live, Rest.freeing, Rest.in_seq, Rest.in_par, Rest.in_loop, Rest.done, Rest.Rests, Rest.no_rests, Rest.rest, Rest.is_done, Rest.all_done, Rest.joined, Rest.turning, Rest.reach, Rest.reach_first, Rest.reach_each, Rest.reach_chosen, Rest.continued, Rest.turned, Rest.advance, Rest.advance_each, Standing.IsRestOf, Standing.IsRestBelow, Standing.IsBranch, Standing.AreBranches, Standing.IsChosen}
 
 mutual
   -- nothing may remain of any chart

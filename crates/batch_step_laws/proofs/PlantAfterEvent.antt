@@ -1,31 +1,10 @@
 -- A plant that stands does so after each event.
 use Rattle.std.proofs.Common.{arith, ◌≡◌, refl, sym, ◌∙◌, ap, subst, inl, inr, ◌&&◌, ℕ, List, [], ◌∷◌, Bool, true, false, Some, None}
-use Rattle.std.specs.Prelude.{Option, find, not, nat_eq}
-use Rattle.std.specs.Option.{option_or}
-use Rattle.batch_matrix.specs.declared.state.State.{State}
-use Rattle.batch_matrix.specs.declared.state.State.TheVariants.{Idle, Holding}
-use Rattle.batch_matrix.specs.declared.command.Command.{Command}
-use Rattle.batch_matrix.specs.declared.report.Report.{Report}
-use Rattle.batch_matrix.specs.declared.report.PhaseEnd.{PhaseEnd}
-use Rattle.batch_matrix.specs.declared.command.Command.TheVariants.{Hold}
-use Rattle.batch_matrix.specs.Matrix.{same_state, same_report, accepts, target, after_report}
-use Rattle.batch_recipe.specs.Conditions.{Name, ValueList, same_name}
-use Rattle.batch_recipe.specs.Tree.{Place}
-use Rattle.batch_model.specs.Lists.{Has, Each}
-use Rattle.batch_model.specs.Rest.{Rest, ready, asking, open_act, live, freeing, in_seq, in_par, in_loop, done, Moment, acts, withdrawn}
-use Rattle.batch_model.specs.Plant.{Formula, size_out_of_range, value_out_of_range, scaled, Recipe, Setup, InAdvance, Batch, Share, Plant, batch_at, in_batch, Master}
-use Rattle.batch_model.specs.Moves.{Move, next}
-use Rattle.batch_recipe.specs.Values.{with_values, with_outputs_zero, are_outputs, left_out}
-use Rattle.batch_model.specs.Events.{Event, create, order, remove, report, ordered, removed, refused, unknown_recipe, bad_binding, binding, is_binding, bound_by, creating_for, roles_told, unknown_batch, command_not_accepted, no_live_phase, report_not_expected, bad_output, owed, accepting, full, not_idle, moves_pending, Answer, is_full, new_batch, with_batch, creating, reset, ends_asks, commanded, lines_under, ordering, without_batch, removing, LivePhase, live_in, live_phase, phase_after, batch_state_after, outputs_of, batch_reported, reporting, judged, react}
-use Rattle.batch_model.specs.Standing.{is_resting, IsAwaited, IsControl, HasPlacedTrees, IsStandingBatch, IsStanding}
-use Rattle.batch_model.proofs.Members.{Each-append, Each-filter, find-Has}
-use Rattle.batch_step_laws.proofs.AdvancedRests.{reach-advanced, withdrawn-advanced}
-use Rattle.batch_step_laws.proofs.NodesOfRests.{reach-IsRestOf}
-use Rattle.batch_step_laws.proofs.RestsAfterChange.{withdrawn-IsRestOf, phase_after-remains}
-use Rattle.batch_step_laws.proofs.ListsOverActs.{reach-unbegun}
-use Rattle.batch_step_laws.proofs.Batches.{one_batch, Each-only, AreNumbered-only, AreNumbered-new, AreNumbered-filter}
-use Rattle.batch_step_laws.proofs.PlantAfterMove.{in_act-stands}
-use Rattle.batch_step_laws.proofs.HoldersInAdvance.{HasBegun, begun-busy, settled-none}
+use Rattle.std.specs.{Prelude.Option, Prelude.find, Prelude.not, Prelude.nat_eq, Option.option_or}
+use Rattle.batch_matrix.specs.{declared.state.State.State, declared.state.State.TheVariants.Idle, declared.state.State.TheVariants.Holding, declared.command.Command.Command, declared.report.Report.Report, declared.report.PhaseEnd.PhaseEnd, declared.command.Command.TheVariants.Hold, Matrix.same_state, Matrix.same_report, Matrix.accepts, Matrix.target, Matrix.after_report}
+use Rattle.batch_recipe.specs.{Conditions.Name, Conditions.ValueList, Conditions.same_name, Tree.Place, Values.with_values, Values.with_outputs_zero, Values.are_outputs, Values.left_out}
+use Rattle.batch_model.{specs.Lists.Has, specs.Lists.Each, specs.Rest.Rest, specs.Rest.ready, specs.Rest.asking, specs.Rest.open_act, specs.Rest.live, specs.Rest.freeing, specs.Rest.in_seq, specs.Rest.in_par, specs.Rest.in_loop, specs.Rest.done, specs.Rest.Moment, specs.Rest.acts, specs.Rest.withdrawn, specs.Plant.Formula, specs.Plant.size_out_of_range, specs.Plant.value_out_of_range, specs.Plant.scaled, specs.Plant.Recipe, specs.Plant.Setup, specs.Plant.InAdvance, specs.Plant.Batch, specs.Plant.Share, specs.Plant.Plant, specs.Plant.batch_at, specs.Plant.in_batch, specs.Plant.Master, specs.Moves.Move, specs.Moves.next, specs.Events.Event, specs.Events.create, specs.Events.order, specs.Events.remove, specs.Events.report, specs.Events.ordered, specs.Events.removed, specs.Events.refused, specs.Events.unknown_recipe, specs.Events.bad_binding, specs.Events.binding, specs.Events.is_binding, specs.Events.bound_by, specs.Events.creating_for, specs.Events.roles_told, specs.Events.unknown_batch, specs.Events.command_not_accepted, specs.Events.no_live_phase, specs.Events.report_not_expected, specs.Events.bad_output, specs.Events.owed, specs.Events.accepting, specs.Events.full, specs.Events.not_idle, specs.Events.moves_pending, specs.Events.Answer, specs.Events.is_full, specs.Events.new_batch, specs.Events.with_batch, specs.Events.creating, specs.Events.reset, specs.Events.ends_asks, specs.Events.commanded, specs.Events.lines_under, specs.Events.ordering, specs.Events.without_batch, specs.Events.removing, specs.Events.LivePhase, specs.Events.live_in, specs.Events.live_phase, specs.Events.phase_after, specs.Events.batch_state_after, specs.Events.outputs_of, specs.Events.batch_reported, specs.Events.reporting, specs.Events.judged, specs.Events.react, specs.Standing.is_resting, specs.Standing.IsAwaited, specs.Standing.IsControl, specs.Standing.HasPlacedTrees, specs.Standing.IsStandingBatch, specs.Standing.IsStanding, proofs.Members.Each-append, proofs.Members.Each-filter, proofs.Members.find-Has}
+use Rattle.batch_step_laws.proofs.{AdvancedRests.reach-advanced, AdvancedRests.withdrawn-advanced, NodesOfRests.reach-IsRestOf, RestsAfterChange.withdrawn-IsRestOf, RestsAfterChange.phase_after-remains, ListsOverActs.reach-unbegun, Batches.one_batch, Batches.Each-only, Batches.AreNumbered-only, Batches.AreNumbered-new, Batches.AreNumbered-filter, PlantAfterMove.in_act-stands, HoldersInAdvance.HasBegun, HoldersInAdvance.begun-busy, HoldersInAdvance.settled-none}
 
 -- One batch
 

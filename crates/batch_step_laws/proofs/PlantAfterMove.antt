@@ -1,30 +1,10 @@
 -- A plant that stands does so after each possible move.
 use Rattle.std.proofs.Common.{arith, ◌≡◌, ◌⊎◌, refl, sym, ◌∙◌, ap, subst, List, [], ◌∷◌, Bool, true, false, cond, inl, inr}
-use Rattle.std.specs.Prelude.{filter, not, ◌||◌, ◌&&◌, Some, None}
-use Rattle.batch_matrix.specs.declared.state.State.{State}
-use Rattle.batch_matrix.specs.declared.state.State.TheVariants.{Idle, Complete}
-use Rattle.std.specs.List.{list_any}
-use Rattle.batch_recipe.specs.Conditions.{Name}
-use Rattle.batch_recipe.specs.Following.{Follower}
-use Rattle.batch_recipe.specs.Levels.{Level, is_procedure}
-use Rattle.batch_recipe.specs.Tree.{Place}
-use Rattle.batch_model.specs.Lists.{Has, Each}
-use Rattle.batch_model.specs.Rest.{same_place, Rest, ready, Moment, acts, advance, changed_at, place_of}
-use Rattle.batch_model.specs.Plant.{Setup, InAdvance, Batch, Plant, moment_of, is_act_reached, in_act}
-use Rattle.batch_model.specs.Moves.{Move, pass, batch_of, place_of_move, act_after, act_move, is_running, is_stopping, is_quiet, entering, giving_back, passing, batch_moves, possible, batch_after, after_move}
-use Rattle.batch_model.specs.Standing.{due_followers, is_resting, IsUnbegun, IsAwaited, HasPlacedTrees, IsStandingBatch, IsStanding}
-use Rattle.batch_model.specs.Placed.{IsPlaced, Rises}
-use Rattle.batch_model.proofs.Members.{Each-Has, Has-flat_map}
-use Rattle.batch_model.specs.Runs.{goes_on}
-use Rattle.batch_step_laws.proofs.DueUnitProcedures.{StandsAt, KeepsDue, advance-next, changed-due, follower-due}
-use Rattle.batch_step_laws.proofs.WorkAfterChange.{same_test}
-use Rattle.batch_step_laws.proofs.AdvancedRests.{advance-advanced}
-use Rattle.batch_step_laws.proofs.NodesOfRests.{advance-IsRestOf}
-use Rattle.batch_step_laws.proofs.RestsAfterChange.{RemainsAs, KeepsActs, changed_at-IsRestOf}
-use Rattle.batch_step_laws.proofs.ActMoves.{IsMoveOf, act_move-is}
-use Rattle.batch_step_laws.proofs.StateMoves.{IsStateMove, state_move-is}
-use Rattle.batch_step_laws.proofs.Batches.{Each-only, AreNumbered-only, one_batch}
-use Rattle.batch_step_laws.proofs.WorkAfterMove.{one_act, same-rest, same-state, batch-rises, Has-batch_moves, batch_moves-number}
+use Rattle.std.specs.{Prelude.filter, Prelude.not, Prelude.◌||◌, Prelude.◌&&◌, Prelude.Some, Prelude.None, List.list_any}
+use Rattle.batch_matrix.specs.declared.state.State.{State, TheVariants.Idle, TheVariants.Complete}
+use Rattle.batch_recipe.specs.{Conditions.Name, Following.Follower, Levels.Level, Levels.is_procedure, Tree.Place}
+use Rattle.batch_model.{specs.Lists.Has, specs.Lists.Each, specs.Rest.same_place, specs.Rest.Rest, specs.Rest.ready, specs.Rest.Moment, specs.Rest.acts, specs.Rest.advance, specs.Rest.changed_at, specs.Rest.place_of, specs.Plant.Setup, specs.Plant.InAdvance, specs.Plant.Batch, specs.Plant.Plant, specs.Plant.moment_of, specs.Plant.is_act_reached, specs.Plant.in_act, specs.Moves.Move, specs.Moves.pass, specs.Moves.batch_of, specs.Moves.place_of_move, specs.Moves.act_after, specs.Moves.act_move, specs.Moves.is_running, specs.Moves.is_stopping, specs.Moves.is_quiet, specs.Moves.entering, specs.Moves.giving_back, specs.Moves.passing, specs.Moves.batch_moves, specs.Moves.possible, specs.Moves.batch_after, specs.Moves.after_move, specs.Standing.due_followers, specs.Standing.is_resting, specs.Standing.IsUnbegun, specs.Standing.IsAwaited, specs.Standing.HasPlacedTrees, specs.Standing.IsStandingBatch, specs.Standing.IsStanding, specs.Placed.IsPlaced, specs.Placed.Rises, proofs.Members.Each-Has, proofs.Members.Has-flat_map, specs.Runs.goes_on}
+use Rattle.batch_step_laws.proofs.{DueUnitProcedures.StandsAt, DueUnitProcedures.KeepsDue, DueUnitProcedures.advance-next, DueUnitProcedures.changed-due, DueUnitProcedures.follower-due, WorkAfterChange.same_test, AdvancedRests.advance-advanced, NodesOfRests.advance-IsRestOf, RestsAfterChange.RemainsAs, RestsAfterChange.KeepsActs, RestsAfterChange.changed_at-IsRestOf, ActMoves.IsMoveOf, ActMoves.act_move-is, StateMoves.IsStateMove, StateMoves.state_move-is, Batches.Each-only, Batches.AreNumbered-only, Batches.one_batch, WorkAfterMove.one_act, WorkAfterMove.same-rest, WorkAfterMove.same-state, WorkAfterMove.batch-rises, WorkAfterMove.Has-batch_moves, WorkAfterMove.batch_moves-number}
 
 -- the follower, if due at an act, stays so once the act is changed
 abbrev DueStaysFor : Follower → Rest → Rest → Type 0

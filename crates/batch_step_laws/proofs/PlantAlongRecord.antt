@@ -1,13 +1,7 @@
 -- Every plant to which a record leads stands.
 use Rattle.std.proofs.Common.{arith, sym, subst, List, [], ◌∷◌, inl, inr}
-use Rattle.batch_model.specs.Plant.{Setup, Plant, opening}
-use Rattle.batch_model.specs.Moves.{after_move}
-use Rattle.batch_model.specs.Events.{Event, Reply}
-use Rattle.batch_model.specs.Runs.{Out, reply, move, Reacts, Leads}
-use Rattle.batch_model.specs.Standing.{HasPlacedTrees, IsStanding}
-use Rattle.batch_step_laws.proofs.WorkAfterMove.{next-possible}
-use Rattle.batch_step_laws.proofs.PlantAfterMove.{possible-stands}
-use Rattle.batch_step_laws.proofs.PlantAfterEvent.{react-stands}
+use Rattle.batch_model.specs.{Plant.Setup, Plant.Plant, Plant.opening, Moves.after_move, Events.Event, Events.Reply, Runs.Out, Runs.reply, Runs.move, Runs.Reacts, Runs.Leads, Standing.HasPlacedTrees, Standing.IsStanding}
+use Rattle.batch_step_laws.proofs.{WorkAfterMove.next-possible, PlantAfterMove.possible-stands, PlantAfterEvent.react-stands}
 
 pub opening-stands : (c : Setup) → IsStanding c opening
 opening-stands c = record { batches = tt; numbers = tt }

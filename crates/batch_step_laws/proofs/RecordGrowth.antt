@@ -1,9 +1,6 @@
 -- A record that leads to a plant goes on by one reply or one move.
 use Rattle.std.proofs.Common.{arith, ◌≡◌, refl, sym, ◌∙◌, ap, subst, List, [], ◌∷◌, ◌++◌, Some}
-use Rattle.batch_model.specs.Plant.{Setup, Plant}
-use Rattle.batch_model.specs.Moves.{Move, next, after_move}
-use Rattle.batch_model.specs.Events.{Event, Reply}
-use Rattle.batch_model.specs.Runs.{Out, reply, move, Reacts, Leads}
+use Rattle.batch_model.specs.{Plant.Setup, Plant.Plant, Moves.Move, Moves.next, Moves.after_move, Events.Event, Events.Reply, Runs.Out, Runs.reply, Runs.move, Runs.Reacts, Runs.Leads}
 
 pub Leads-move : (c : Setup) (s t : Plant) (m : Move) (es : List Event) (outs : List Out)
     → Leads c s es outs t → next c t ≡ Some m → Leads c s es (outs ++ move m ∷ []) (after_move t m)

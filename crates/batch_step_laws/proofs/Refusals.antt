@@ -1,20 +1,10 @@
 -- A refused event leaves the plant as it was, and some refusals come only if they have a cause.
 use Rattle.std.proofs.Common.{◌≡◌, ◌⊎◌, refl, sym, subst, ℕ, ◌<◌, ◌≤◌, arith, length, Bool, true, false, ◌||◌, ◌&&◌, ◌++◌, nat_le, nat_lt, Some, None, inl, inr, List, [], ◌∷◌, ap, cond}
-use Rattle.std.specs.Prelude.{Option, find, not, ⊤}
-use Rattle.std.specs.List.{list_all}
-use Rattle.batch_matrix.specs.declared.state.State.TheVariants.{Idle}
-use Rattle.batch_matrix.specs.declared.command.Command.{Command}
-use Rattle.batch_matrix.specs.declared.report.Report.{Report}
-use Rattle.batch_matrix.specs.declared.report.PhaseEnd.{PhaseEnd}
-use Rattle.batch_matrix.specs.Matrix.{same_state, same_report, accepts, target, after_report}
-use Rattle.batch_recipe.specs.Conditions.{Name, ValueList, same_name}
-use Rattle.batch_model.specs.Plant.{Formula, size_out_of_range, value_out_of_range, scaled, Recipe, Setup, Batch, Plant, batch_at, in_batch, Master}
-use Rattle.batch_model.specs.Moves.{Move, is_stopping, next}
-use Rattle.batch_recipe.specs.Values.{are_outputs, have_output, left_out}
-use Rattle.batch_model.specs.Events.{Event, create, order, remove, report, Reply, created, ordered, removed, refused, Refusal, unknown_recipe, bad_binding, binding, is_binding, bound_by, creating_for, roles_told, unknown_batch, command_not_accepted, no_live_phase, report_not_expected, bad_output, output_left_out, owed, accepting, full, not_idle, moves_pending, no_memory, Answer, is_full, creating, commanded, lines_under, ordering, without_batch, removing, LivePhase, live_phase, outputs_of, reporting, judged, react}
-use Rattle.batch_model.specs.Runs.{IsCreated, Reacts}
+use Rattle.std.specs.{Prelude.Option, Prelude.find, Prelude.not, Prelude.⊤, List.list_all}
+use Rattle.batch_matrix.specs.{declared.state.State.TheVariants.Idle, declared.command.Command.Command, declared.report.Report.Report, declared.report.PhaseEnd.PhaseEnd, Matrix.same_state, Matrix.same_report, Matrix.accepts, Matrix.target, Matrix.after_report}
+use Rattle.batch_recipe.specs.{Conditions.Name, Conditions.ValueList, Conditions.same_name, Values.are_outputs, Values.have_output, Values.left_out}
+use Rattle.batch_model.specs.{Plant.Formula, Plant.size_out_of_range, Plant.value_out_of_range, Plant.scaled, Plant.Recipe, Plant.Setup, Plant.Batch, Plant.Plant, Plant.batch_at, Plant.in_batch, Plant.Master, Moves.Move, Moves.is_stopping, Moves.next, Events.Event, Events.create, Events.order, Events.remove, Events.report, Events.Reply, Events.created, Events.ordered, Events.removed, Events.refused, Events.Refusal, Events.unknown_recipe, Events.bad_binding, Events.binding, Events.is_binding, Events.bound_by, Events.creating_for, Events.roles_told, Events.unknown_batch, Events.command_not_accepted, Events.no_live_phase, Events.report_not_expected, Events.bad_output, Events.output_left_out, Events.owed, Events.accepting, Events.full, Events.not_idle, Events.moves_pending, Events.no_memory, Events.Answer, Events.is_full, Events.creating, Events.commanded, Events.lines_under, Events.ordering, Events.without_batch, Events.removing, Events.LivePhase, Events.live_phase, Events.outputs_of, Events.reporting, Events.judged, Events.react, Runs.IsCreated, Runs.Reacts, declared.limits.TheConstants.LAST_NUMBER}
 use Rattle.batch_step_laws.specs.Laws.{IsCreate, IsFirstLeftOut, HasCause}
-use Rattle.batch_model.specs.declared.limits.TheConstants.{LAST_NUMBER}
 
 -- a refusal has a cause and changes nothing, and a batch is created by a create
 abbrev IsJust : Setup → Plant → Event → Reply → Plant → Type 0

@@ -1,18 +1,9 @@
 -- A change of an act that can remain at its node leaves a rest that can remain of its chart.
 use Rattle.std.proofs.Common.{◌≡◌, refl, sym, subst, List, zero, suc, pred, ℕ, Bool, true, false, arith, inl, inr, length, ◌≤◌}
-use Rattle.batch_matrix.specs.declared.state.State.{State}
-use Rattle.batch_matrix.specs.declared.command.Command.{Command}
-use Rattle.batch_matrix.specs.declared.report.PhaseEnd.{PhaseEnd}
-use Rattle.batch_matrix.specs.declared.report.PhaseEnd.TheVariants.{Ended, Now, Same}
+use Rattle.batch_matrix.specs.declared.{state.State.State, command.Command.Command, report.PhaseEnd.PhaseEnd, report.PhaseEnd.TheVariants.Ended, report.PhaseEnd.TheVariants.Now, report.PhaseEnd.TheVariants.Same}
 use Rattle.batch_recipe.specs.Tree.{Place, Step, Task, runs, follows, Tree, act, seq, par, sel, loop, Trees, no_trees, tree, Choices, otherwise, choice}
-use Rattle.batch_model.specs.Lists.{Has}
-use Rattle.batch_model.specs.Rest.{same_place, Rest, Moment, ready, asking, open_act, live, freeing, in_seq, in_par, in_loop, done, Rests, no_rests, rest, acts, acts_of_each, reach, changed_at, changed_in_each, withdrawn, withdrawn_each, place_of}
-use Rattle.batch_model.specs.Moves.{freed, sent, released, begun, ended}
-use Rattle.batch_model.specs.Events.{phase_after}
-use Rattle.batch_model.specs.Standing.{IsRestOf, IsRestBelow, IsBranch, AreBranches, IsChosen}
-use Rattle.batch_model.proofs.Members.{Has-left, Has-right}
-use Rattle.batch_step_laws.proofs.WorkAfterChange.{to_same_place}
-use Rattle.batch_step_laws.proofs.NodesOfRests.{reach-IsRestOf}
+use Rattle.batch_model.{specs.Lists.Has, specs.Rest.same_place, specs.Rest.Rest, specs.Rest.Moment, specs.Rest.ready, specs.Rest.asking, specs.Rest.open_act, specs.Rest.live, specs.Rest.freeing, specs.Rest.in_seq, specs.Rest.in_par, specs.Rest.in_loop, specs.Rest.done, specs.Rest.Rests, specs.Rest.no_rests, specs.Rest.rest, specs.Rest.acts, specs.Rest.acts_of_each, specs.Rest.reach, specs.Rest.changed_at, specs.Rest.changed_in_each, specs.Rest.withdrawn, specs.Rest.withdrawn_each, specs.Rest.place_of, specs.Moves.freed, specs.Moves.sent, specs.Moves.released, specs.Moves.begun, specs.Moves.ended, specs.Events.phase_after, specs.Standing.IsRestOf, specs.Standing.IsRestBelow, specs.Standing.IsBranch, specs.Standing.AreBranches, specs.Standing.IsChosen, proofs.Members.Has-left, proofs.Members.Has-right}
+use Rattle.batch_step_laws.proofs.{WorkAfterChange.to_same_place, NodesOfRests.reach-IsRestOf}
 
 -- wherever the act a can remain, b can
 abbrev pub RemainsAs : Rest → Rest → Type 0

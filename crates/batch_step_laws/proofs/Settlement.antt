@@ -1,16 +1,8 @@
 -- A settling ends, and so the record of a run leads to a plant at rest.
 use Rattle.std.proofs.Common.{◌≡◌, refl, sym, subst, ℕ, zero, suc, ◌≤◌, arith, List, [], ◌∷◌, ◌++◌, Some, None, inl}
 use Rattle.std.specs.Prelude.{Option, map}
-use Rattle.batch_model.specs.Plant.{Setup, Plant, opening}
-use Rattle.batch_model.specs.Moves.{Move, next, after_move}
-use Rattle.batch_model.specs.Events.{Event, react}
-use Rattle.batch_model.specs.Runs.{Out, move, Leads, work_left, settling, run_from, run}
-use Rattle.batch_model.specs.Standing.{HasPlacedTrees, IsStanding}
-use Rattle.batch_step_laws.specs.Laws.{LeadsToRest}
-use Rattle.batch_step_laws.proofs.WorkAfterMove.{possible-falls, next-possible}
-use Rattle.batch_step_laws.proofs.PlantAfterMove.{possible-stands}
-use Rattle.batch_step_laws.proofs.PlantAfterEvent.{react-stands}
-use Rattle.batch_step_laws.proofs.PlantAlongRecord.{opening-stands, leads-stands}
+use Rattle.batch_model.specs.{Plant.Setup, Plant.Plant, Plant.opening, Moves.Move, Moves.next, Moves.after_move, Events.Event, Events.react, Runs.Out, Runs.move, Runs.Leads, Runs.work_left, Runs.settling, Runs.run_from, Runs.run, Standing.HasPlacedTrees, Standing.IsStanding}
+use Rattle.batch_step_laws.{specs.Laws.LeadsToRest, proofs.WorkAfterMove.possible-falls, proofs.WorkAfterMove.next-possible, proofs.PlantAfterMove.possible-stands, proofs.PlantAfterEvent.react-stands, proofs.PlantAlongRecord.opening-stands, proofs.PlantAlongRecord.leads-stands}
 
 -- no move is possible after as many moves as the work left
 pub settling-ends : (c : Setup) → HasPlacedTrees c → (n : ℕ) (s : Plant) → IsStanding c s → work_left s ≤ n → next c (settling n c s).1 ≡ None

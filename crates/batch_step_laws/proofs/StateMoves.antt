@@ -1,20 +1,10 @@
 -- A batch that changes its state by itself has less work left.
 use Rattle.std.proofs.Common.{◌≡◌, refl, sym, ◌∙◌, ap, subst, ℕ, suc, length, ◌-◌, Bool, true, false, List, [], ◌∷◌, Some, arith, inl, inr, ◌<◌, ◌≤◌, ◌+◌, ◌*◌}
-use Rattle.std.proofs.lemmas.Bool.{and_parts}
-use Rattle.std.specs.List.{list_all}
-use Rattle.std.specs.Prelude.{option_and_then}
-use Rattle.batch_matrix.specs.declared.state.State.{State}
-use Rattle.batch_matrix.specs.declared.state.State.TheVariants.{Running, Pausing, Paused, Holding, Held, Restarting, Stopping, Stopped, Aborting, Aborted, Complete}
-use Rattle.batch_matrix.specs.Matrix.{ends_as}
+use Rattle.std.{proofs.lemmas.Bool.and_parts, specs.List.list_all, specs.Prelude.option_and_then}
+use Rattle.batch_matrix.specs.{declared.state.State.State, declared.state.State.TheVariants.Running, declared.state.State.TheVariants.Pausing, declared.state.State.TheVariants.Paused, declared.state.State.TheVariants.Holding, declared.state.State.TheVariants.Held, declared.state.State.TheVariants.Restarting, declared.state.State.TheVariants.Stopping, declared.state.State.TheVariants.Stopped, declared.state.State.TheVariants.Aborting, declared.state.State.TheVariants.Aborted, declared.state.State.TheVariants.Complete, Matrix.ends_as}
 use Rattle.batch_recipe.specs.Tree.{Step, Phase}
-use Rattle.batch_model.specs.Lists.{Has, Each}
-use Rattle.batch_model.specs.Standing.{is_resting, IsUnbegun}
+use Rattle.batch_model.{specs.Lists.Has, specs.Lists.Each, specs.Standing.is_resting, specs.Standing.IsUnbegun, specs.Rest.Rest, specs.Rest.ready, specs.Rest.asking, specs.Rest.open_act, specs.Rest.live, specs.Rest.freeing, specs.Rest.in_seq, specs.Rest.in_par, specs.Rest.in_loop, specs.Rest.done, specs.Rest.Rests, specs.Rest.no_rests, specs.Rest.rest, specs.Rest.is_done, specs.Rest.acts, specs.Rest.acts_of_each, specs.Plant.Batch, specs.Plant.phase_states, specs.Moves.Move, specs.Moves.state, specs.Moves.is_running, specs.Moves.when, specs.Moves.is_reached, specs.Moves.state_move, specs.Runs.toil, specs.Runs.toil_of_work, specs.Runs.toil_of_each, specs.Runs.sends, specs.Runs.goes_on, specs.Runs.ahead, specs.Runs.toil_left, specs.Runs.toil_left_in_each, specs.Runs.state_moves_left, proofs.Members.Has-left, proofs.Members.Has-right}
 use Rattle.batch_step_laws.proofs.ListsOverActs.{no-acts_of_done}
-use Rattle.batch_model.specs.Rest.{Rest, ready, asking, open_act, live, freeing, in_seq, in_par, in_loop, done, Rests, no_rests, rest, is_done, acts, acts_of_each}
-use Rattle.batch_model.specs.Plant.{Batch, phase_states}
-use Rattle.batch_model.specs.Moves.{Move, state, is_running, when, is_reached, state_move}
-use Rattle.batch_model.specs.Runs.{toil, toil_of_work, toil_of_each, sends, goes_on, ahead, toil_left, toil_left_in_each, state_moves_left}
-use Rattle.batch_model.proofs.Members.{Has-left, Has-right}
 
 -- in state y no more lies ahead than in x, and no more is sent to the live phases
 module _ (x y : State) (no_more : (n : ℕ) → ahead y n ≤ ahead x n) where

@@ -1,12 +1,9 @@
 -- The work left doesn't grow when a rest advances.
 use Rattle.std.proofs.Common.{◌≡◌, refl, ap, [], ℕ, suc, pred, Bool, true, false, arith, ◌≤◌, ◌+◌, ◌-◌, ◌*◌, length}
 use Rattle.batch_matrix.specs.declared.state.State.{State}
-use Rattle.batch_recipe.specs.Conditions.{holds}
-use Rattle.batch_recipe.specs.declared.condition.Cond.{Cond}
-use Rattle.batch_recipe.specs.Tree.{Tree, act, skip, seq, par, sel, loop, Trees, no_trees, tree, Choices, otherwise, choice}
-use Rattle.batch_model.specs.Rest.{Rest, Moment, held_early, open_act, in_seq, in_par, in_loop, done, Rests, no_rests, rest, is_done, joined, turning, reach, reach_first, reach_each, reach_chosen, turned, advance, advance_each}
+use Rattle.batch_recipe.specs.{Conditions.holds, declared.condition.Cond.Cond, Tree.Tree, Tree.act, Tree.skip, Tree.seq, Tree.par, Tree.sel, Tree.loop, Tree.Trees, Tree.no_trees, Tree.tree, Tree.Choices, Tree.otherwise, Tree.choice}
+use Rattle.batch_model.specs.{Rest.Rest, Rest.Moment, Rest.held_early, Rest.open_act, Rest.in_seq, Rest.in_par, Rest.in_loop, Rest.done, Rest.Rests, Rest.no_rests, Rest.rest, Rest.is_done, Rest.joined, Rest.turning, Rest.reach, Rest.reach_first, Rest.reach_each, Rest.reach_chosen, Rest.turned, Rest.advance, Rest.advance_each, Runs.toil, Runs.toil_of_work, Runs.toil_of_each, Runs.toil_of_choices, Runs.goes_on, Runs.ahead, Runs.toil_left, Runs.toil_left_in_each}
 use Rattle.batch_step_laws.proofs.NodesOfRests.{early-within}
-use Rattle.batch_model.specs.Runs.{toil, toil_of_work, toil_of_each, toil_of_choices, goes_on, ahead, toil_left, toil_left_in_each}
 
 -- The moves that lie ahead
 

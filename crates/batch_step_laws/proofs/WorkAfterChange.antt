@@ -1,13 +1,9 @@
 -- A change of the act at one place adds no work to a rest if it adds none to the act, and takes work from the rest if it takes some from the act.
 use Rattle.std.proofs.Common.{◌≡◌, refl, sym, ◌∙◌, ap, subst, Bool, true, false, List, [], ◌∷◌, ◌++◌, arith, inl, inr, ◌<◌, ◌≤◌, ◌+◌}
-use Rattle.std.specs.Prelude.{◌⊎◌}
-use Rattle.std.proofs.lemmas.Slice.Eq.{bytes_eq-Decides}
+use Rattle.std.{specs.Prelude.◌⊎◌, proofs.lemmas.Slice.Eq.bytes_eq-Decides}
 use Rattle.batch_matrix.specs.declared.state.State.{State}
-use Rattle.batch_model.specs.Lists.{Has}
+use Rattle.batch_model.{specs.Lists.Has, specs.Rest.same_place, specs.Rest.Rest, specs.Rest.ready, specs.Rest.asking, specs.Rest.open_act, specs.Rest.live, specs.Rest.freeing, specs.Rest.in_seq, specs.Rest.in_par, specs.Rest.in_loop, specs.Rest.done, specs.Rest.Rests, specs.Rest.no_rests, specs.Rest.rest, specs.Rest.acts, specs.Rest.acts_of_each, specs.Rest.changed_at, specs.Rest.changed_in_each, specs.Rest.place_of, specs.Runs.toil_left, specs.Runs.toil_left_in_each, proofs.Members.Has-left, proofs.Members.Has-right}
 use Rattle.batch_recipe.specs.Tree.{Place, Step}
-use Rattle.batch_model.specs.Rest.{same_place, Rest, ready, asking, open_act, live, freeing, in_seq, in_par, in_loop, done, Rests, no_rests, rest, acts, acts_of_each, changed_at, changed_in_each, place_of}
-use Rattle.batch_model.specs.Runs.{toil_left, toil_left_in_each}
-use Rattle.batch_model.proofs.Members.{Has-left, Has-right}
 
 pub to_same_place : (q p : Place) → same_place q p ≡ true → q ≡ p
 to_same_place q p e = (bytes_eq-Decides q p).0 e

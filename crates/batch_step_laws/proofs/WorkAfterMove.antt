@@ -1,24 +1,9 @@
 -- Each possible move lowers the work left.
 use Rattle.std.proofs.Common.{◌≡◌, ◌⊎◌, refl, sym, ◌∙◌, ap, subst, true, List, [], ◌∷◌, Some, None, arith, inl, inr, ◌<◌, ◌+◌, false}
-use Rattle.std.specs.Prelude.{Option, ◌++◌, map, option_to_list, sum_by}
-use Rattle.std.specs.List.{filter_map}
-use Rattle.batch_model.specs.Lists.{Has}
-use Rattle.batch_recipe.specs.Tree.{Place, is_before}
-use Rattle.batch_model.specs.Rest.{Rest, acts, advance, changed_at, place_of}
-use Rattle.batch_model.specs.Plant.{Setup, Batch, Plant, moment_of, with_rest, in_act}
-use Rattle.batch_model.specs.Moves.{Move, batch_of, place_of_move, act_move, act_after, state_move, batch_moves, possible, passing, batch_after, after_move, next}
-use Rattle.batch_model.specs.Runs.{goes_on, toil_left, state_moves_left, batch_work_left, work_left}
-use Rattle.batch_model.specs.Standing.{HasPlacedTrees, IsStandingBatch, IsStanding}
-use Rattle.batch_model.specs.Placed.{Rises}
-use Rattle.batch_model.proofs.Members.{Each-Has, Has-flat_map, Has-filter_map}
-use Rattle.batch_step_laws.proofs.MoveOrder.{least-IsLeast}
-use Rattle.batch_step_laws.proofs.ActOrder.{acts-rise}
-use Rattle.batch_step_laws.proofs.WorkAfterAdvance.{advance-toil}
-use Rattle.batch_step_laws.proofs.WorkAfterChange.{changed_at-lower}
-use Rattle.batch_step_laws.proofs.ActMoves.{IsMoveOf, act_move-is}
-use Rattle.batch_step_laws.proofs.StateMoves.{IsStateMove, state_move-is}
-use Rattle.batch_step_laws.proofs.Batches.{only, sum-falls}
-use Rattle.batch_recipe.proofs.NodesBelow.{not_before}
+use Rattle.std.specs.{Prelude.Option, Prelude.◌++◌, Prelude.map, Prelude.option_to_list, Prelude.sum_by, List.filter_map}
+use Rattle.batch_model.{specs.Lists.Has, specs.Rest.Rest, specs.Rest.acts, specs.Rest.advance, specs.Rest.changed_at, specs.Rest.place_of, specs.Plant.Setup, specs.Plant.Batch, specs.Plant.Plant, specs.Plant.moment_of, specs.Plant.with_rest, specs.Plant.in_act, specs.Moves.Move, specs.Moves.batch_of, specs.Moves.place_of_move, specs.Moves.act_move, specs.Moves.act_after, specs.Moves.state_move, specs.Moves.batch_moves, specs.Moves.possible, specs.Moves.passing, specs.Moves.batch_after, specs.Moves.after_move, specs.Moves.next, specs.Runs.goes_on, specs.Runs.toil_left, specs.Runs.state_moves_left, specs.Runs.batch_work_left, specs.Runs.work_left, specs.Standing.HasPlacedTrees, specs.Standing.IsStandingBatch, specs.Standing.IsStanding, specs.Placed.Rises, proofs.Members.Each-Has, proofs.Members.Has-flat_map, proofs.Members.Has-filter_map}
+use Rattle.batch_recipe.{specs.Tree.Place, specs.Tree.is_before, proofs.NodesBelow.not_before}
+use Rattle.batch_step_laws.proofs.{MoveOrder.least-IsLeast, ActOrder.acts-rise, WorkAfterAdvance.advance-toil, WorkAfterChange.changed_at-lower, ActMoves.IsMoveOf, ActMoves.act_move-is, StateMoves.IsStateMove, StateMoves.state_move-is, Batches.only, Batches.sum-falls}
 
 not_itself : (p q : Place) → p ≡ q → is_before p q ≡ true → ⊥
 not_itself p q e h = grind (arith, not_before p)

@@ -1,16 +1,7 @@
 -- Two short names are the same where their lengths are and all of their room is, zeroes included.
 use Rattle.std.proofs.Common.{◌≡◌, ◌≤◌, ◌<◌, ◌++◌, arith, ◌-◌, ◌∙◌, ℕ, Bool, zero, suc, true, false, nat_eq, List, [], ◌∷◌, length, refl, sym, ap, subst}
-use Rattle.std.proofs.lemmas.Bool.{and_parts, and_from, and_right, eqb-true, eqb-false, eq-eqb}
-use Rattle.std.proofs.lemmas.List.{length-take-le, take-append-drop, take-take}
-use Rattle.std.proofs.lemmas.Nat.{le_bytes_8}
-use Rattle.std.specs.Cmp.Lexicographic.{pointwise, nat_list_eq_equiv, bytes_decides}
-use Rattle.std.specs.Bool.{Decides, one_answer}
-use Rattle.std.specs.Int.{from_le_bytes, to_le_bytes, w64}
-use Rattle.std.specs.Prelude.{◌≢◌, ◌&&◌, take, drop, replicate, get_or}
-use Rattle.batch_text.specs.Spelling.{letters, IsWithinRoom}
-use Rattle.batch_text.specs.declared.spelling.Spelling.{Spelling}
-use Rattle.batch_text.specs.declared.spelling.Spelling.TheVariants.{Short}
-use Rattle.batch_text.specs.declared.spelling.TheConstants.{MAX_SHORT_LEN}
+use Rattle.std.{proofs.lemmas.Bool.and_parts, proofs.lemmas.Bool.and_from, proofs.lemmas.Bool.and_right, proofs.lemmas.Bool.eqb-true, proofs.lemmas.Bool.eqb-false, proofs.lemmas.Bool.eq-eqb, proofs.lemmas.List.length-take-le, proofs.lemmas.List.take-append-drop, proofs.lemmas.List.take-take, proofs.lemmas.Nat.le_bytes_8, specs.Cmp.Lexicographic.pointwise, specs.Cmp.Lexicographic.nat_list_eq_equiv, specs.Cmp.Lexicographic.bytes_decides, specs.Bool.Decides, specs.Bool.one_answer, specs.Int.from_le_bytes, specs.Int.to_le_bytes, specs.Int.w64, specs.Prelude.◌≢◌, specs.Prelude.◌&&◌, specs.Prelude.take, specs.Prelude.drop, specs.Prelude.replicate, specs.Prelude.get_or}
+use Rattle.batch_text.specs.{Spelling.letters, Spelling.IsWithinRoom, declared.spelling.Spelling.Spelling, declared.spelling.Spelling.TheVariants.Short, declared.spelling.TheConstants.MAX_SHORT_LEN}
 
 same_since_rest : (n : ℕ) (xs ys : List ℕ) → drop n xs ≡ drop n ys → pointwise nat_eq xs ys ≡ pointwise nat_eq (take n xs) (take n ys)
 same_since_rest zero xs ys h = ap (λ them. pointwise nat_eq xs them) (sym h) ∙ nat_list_eq_equiv.refl xs

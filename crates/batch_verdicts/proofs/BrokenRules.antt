@@ -3,8 +3,7 @@ use Rattle.std.proofs.Common.{◌≡◌, ℕ, ◌+◌, ◌<◌, ◌++◌, List, 
 use Rattle.std.proofs.lemmas.List.{take_more}
 use Rattle.batch_cell.specs.declared.cell.Cell.{Cell}
 use Rattle.batch_recipe.specs.declared.recipe.Recipe.{Recipe}
-use Rattle.batch_verdicts.specs.Every.{AreRulesRefused, IsRuleRefused}
-use Rattle.batch_verdicts.specs.declared.refusal.DocumentRefusal.{DocumentRefusal}
+use Rattle.batch_verdicts.specs.{Every.AreRulesRefused, Every.IsRuleRefused, declared.refusal.DocumentRefusal.DocumentRefusal}
 
 length_taken : {X : Type 0} (xs : List X) (i : ℕ) → i < length xs → i ≡ 0 + length (take i xs)
 length_taken [] i within = absurd (omega (arith, within))

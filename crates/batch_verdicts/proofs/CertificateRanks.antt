@@ -1,43 +1,14 @@
 -- The text of a certificate is read as the ranks that it was made of.
 use Rattle.std.proofs.Common.{◌≡◌, ℕ, zero, suc, ◌-◌, ◌*◌, ◌^◌, ◌<◌, ◌≤◌, ◌==◌, ◌&&◌, ◌||◌, Bool, true, false, Some, None, List, [], ◌∷◌, ◌++◌, length, map, get_or, slice_get, codes, decimal, refl, sym, ap, subst, ◌∙◌, arith, rules, inl, inr, append_assoc, lit<, nat_lt, nat_le}
-use Rattle.std.specs.Prelude.{IsTrue, All, unwrap_or}
-use Rattle.std.specs.Char.{is_ascii_digit}
-use Rattle.std.specs.Cmp.Lexicographic.{nat_list_eq_equiv}
-use Rattle.std.specs.List.{list_all, slice_split}
-use Rattle.std.specs.Str.Lines.{lines, lines_of_parts, strip_carriage_return}
-use Rattle.std.proofs.lemmas.Bool.{and_parts, and_from, or_left, or_cases, cond-true, cond-false, ne_eqb, lt-ltb, le-leb, false≢true}
-use Rattle.std.proofs.lemmas.Fmt.{decimal_nonempty, digits_decimal, digits_value-decimal, length-decimal-le}
-use Rattle.std.proofs.lemmas.List.{length-map, length-append}
-use Rattle.std.proofs.lemmas.List.Folds.{list_all-append}
-use Rattle.std.proofs.lemmas.List.Splits.{length-slice_split, slice_split_at, slice_split_none}
-use Rattle.std.proofs.lemmas.List.Sums.{AllPass-from_list_all}
-use Rattle.std.proofs.lemmas.Map.Entries.{lookup_from_place}
-use Rattle.std.proofs.lemmas.Map.Made.{length-le_from_is_member}
-use Rattle.std.proofs.lemmas.Option.{get_or_from_slice_get, slice_get_within}
-use Rattle.std.proofs.lemmas.Slice.Eq.{bytes_eq-Decides}
-use Rattle.std.proofs.lemmas.Str.Parse.{IsNumeralModel, numerals_by_value}
-use Rattle.batch_text.specs.NameText.{IsName, is_name, is_name_byte}
-use Rattle.batch_text.specs.NumberText.{is_digits, number_of}
-use Rattle.batch_text.specs.PlaceText.{is_number_spelling, is_short_number}
-use Rattle.batch_text.specs.declared.number.TheConstants.{MAX_DIGITS}
-use Rattle.batch_text.proofs.NameTests.{is_name-true}
-use Rattle.batch_cell.specs.LookUps.{resources_of}
-use Rattle.batch_cell.specs.declared.cell.Cell.{Cell}
-use Rattle.batch_cell.proofs.Resources.{few_resources}
-use Rattle.batch_recipe.specs.Conditions.{Name, same_name}
-use Rattle.batch_recipe.specs.WellFormed.{is_among}
-use Rattle.batch_recipe.specs.declared.recipe.Recipe.{Recipe}
+use Rattle.std.{specs.Prelude.IsTrue, specs.Prelude.All, specs.Prelude.unwrap_or, specs.Char.is_ascii_digit, specs.Cmp.Lexicographic.nat_list_eq_equiv, specs.List.list_all, specs.List.slice_split, specs.Str.Lines.lines, specs.Str.Lines.lines_of_parts, specs.Str.Lines.strip_carriage_return, proofs.lemmas.Bool.and_parts, proofs.lemmas.Bool.and_from, proofs.lemmas.Bool.or_left, proofs.lemmas.Bool.or_cases, proofs.lemmas.Bool.cond-true, proofs.lemmas.Bool.cond-false, proofs.lemmas.Bool.ne_eqb, proofs.lemmas.Bool.lt-ltb, proofs.lemmas.Bool.le-leb, proofs.lemmas.Bool.false≢true, proofs.lemmas.Fmt.decimal_nonempty, proofs.lemmas.Fmt.digits_decimal, proofs.lemmas.Fmt.digits_value-decimal, proofs.lemmas.Fmt.length-decimal-le, proofs.lemmas.List.length-map, proofs.lemmas.List.length-append, proofs.lemmas.List.Folds.list_all-append, proofs.lemmas.List.Splits.length-slice_split, proofs.lemmas.List.Splits.slice_split_at, proofs.lemmas.List.Splits.slice_split_none, proofs.lemmas.List.Sums.AllPass-from_list_all, proofs.lemmas.Map.Entries.lookup_from_place, proofs.lemmas.Map.Made.length-le_from_is_member, proofs.lemmas.Option.get_or_from_slice_get, proofs.lemmas.Option.slice_get_within, proofs.lemmas.Slice.Eq.bytes_eq-Decides, proofs.lemmas.Str.Parse.IsNumeralModel, proofs.lemmas.Str.Parse.numerals_by_value}
+use Rattle.batch_text.{specs.NameText.IsName, specs.NameText.is_name, specs.NameText.is_name_byte, specs.NumberText.is_digits, specs.NumberText.number_of, specs.PlaceText.is_number_spelling, specs.PlaceText.is_short_number, specs.declared.number.TheConstants.MAX_DIGITS, proofs.NameTests.is_name-true}
+use Rattle.batch_cell.{specs.LookUps.resources_of, specs.declared.cell.Cell.Cell, proofs.Resources.few_resources}
+use Rattle.batch_recipe.specs.{Conditions.Name, Conditions.same_name, WellFormed.is_among, declared.recipe.Recipe.Recipe}
 use Rattle.batch_model.specs.Lists.{Each}
 use Rattle.batch_reader.proofs.DistinctNames.{IsDistinct-from_are_distinct}
-use Rattle.batch_verify.specs.CertificateText.{Rank, words, is_rank, rank_of_words, rank_of_line, AreInOrderOfName, IsCertificateText}
-use Rattle.batch_verify.specs.Ranked.{names_in, rank_of, AreAmong, RanksAll}
-use Rattle.batch_verify.specs.declared.certificate.TheConstants.{MAX_LINES, MAX_RANK}
-use Rattle.batch_verify.proofs.Cuts.{lines_first}
-use Rattle.batch_verify.proofs.NamesInList.{Each-at}
-use Rattle.batch_verify.proofs.CertificateEntries.{name_at}
+use Rattle.batch_verify.{specs.CertificateText.Rank, specs.CertificateText.words, specs.CertificateText.is_rank, specs.CertificateText.rank_of_words, specs.CertificateText.rank_of_line, specs.CertificateText.AreInOrderOfName, specs.CertificateText.IsCertificateText, specs.Ranked.names_in, specs.Ranked.rank_of, specs.Ranked.AreAmong, specs.Ranked.RanksAll, specs.declared.certificate.TheConstants.MAX_LINES, specs.declared.certificate.TheConstants.MAX_RANK, proofs.Cuts.lines_first, proofs.NamesInList.Each-at, proofs.CertificateEntries.name_at}
 use Rattle.batch_check.specs.Clearing.{IsLeastClearance}
-use Rattle.batch_verdicts.specs.declared.judging.TheConstants.{MAX_CERTIFICATE_LEN}
-use Rattle.batch_verdicts.specs.VerdictTexts.{certificate_text, rank_text}
+use Rattle.batch_verdicts.specs.{declared.judging.TheConstants.MAX_CERTIFICATE_LEN, VerdictTexts.certificate_text, VerdictTexts.rank_text}
 
 -- Bytes
 

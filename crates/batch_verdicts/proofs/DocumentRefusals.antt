@@ -1,17 +1,9 @@
 -- The refusals of documents that are looked at one after the other.
 use Rattle.std.proofs.Common.{◌≡◌, ℕ, Bool, ◌+◌, ◌<◌, ◌++◌, List, [], ◌∷◌, Some, None, Result, Ok, Err, IfErr, inl, inr, length, map, take, get_or, suc, zero, refl, ap, sym, subst, arith, append_assoc, append-nil, ◌∙◌}
-use Rattle.std.proofs.lemmas.List.{map-append, take_more}
-use Rattle.std.specs.Prelude.{String}
-use Rattle.std.specs.Global.{Global}
+use Rattle.std.{proofs.lemmas.List.map-append, proofs.lemmas.List.take_more, specs.Prelude.String, specs.Global.Global}
 use Rattle.batch_cell.specs.declared.cell.Cell.{Cell}
 use Rattle.batch_recipe.specs.declared.recipe.Recipe.{Recipe}
-use Rattle.batch_verdicts.specs.Every.{AreLooked, AreRefusalsOf, HaltsAsked, HaltsAtLook, IsOneUnread, RefusesRules}
-use Rattle.batch_verdicts.specs.Halting.{HaltsAtCell, HaltsAtRecipe}
-use Rattle.batch_verdicts.specs.Looking.{AreAllRead, IsCellLooked, IsLooked, IsReadAsked, LooksOn}
-use Rattle.batch_verdicts.specs.Reading.{AreReadWarned, Gives, IsSoWarned, IsUnread, ReadsRecipe, ReadsRecipes, Warns}
-use Rattle.batch_verdicts.specs.declared.refusal.DocumentRefusal.{DocumentRefusal}
-use Rattle.batch_verdicts.specs.declared.refusal.Halt.{Halt}
-use Rattle.batch_verdicts.specs.declared.refusal.Halt.TheVariants.{Refused, Unread}
+use Rattle.batch_verdicts.specs.{Every.AreLooked, Every.AreRefusalsOf, Every.HaltsAsked, Every.HaltsAtLook, Every.IsOneUnread, Every.RefusesRules, Halting.HaltsAtCell, Halting.HaltsAtRecipe, Looking.AreAllRead, Looking.IsCellLooked, Looking.IsLooked, Looking.IsReadAsked, Looking.LooksOn, Reading.AreReadWarned, Reading.Gives, Reading.IsSoWarned, Reading.IsUnread, Reading.ReadsRecipe, Reading.ReadsRecipes, Reading.Warns, declared.refusal.DocumentRefusal.DocumentRefusal, declared.refusal.Halt.Halt, declared.refusal.Halt.TheVariants.Refused, declared.refusal.Halt.TheVariants.Unread}
 
 -- if nothing is refused, all are read
 pub all_read : (gives : Gives) (paths : List (List ℕ)) (rs : List Recipe) (refusals : List DocumentRefusal)

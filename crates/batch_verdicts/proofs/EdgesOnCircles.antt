@@ -1,11 +1,8 @@
 -- Where edges lead, and which of them lie on circles.
 use Rattle.std.proofs.Common.{◌≡◌, ℕ, ◌<◌, List, [], ◌∷◌, ◌++◌, Bool, true, false, inl, inr, All, Contains, set, length, zero, suc, arith, refl, sym, subst, ◌∙◌, get_or-set_other}
-use Rattle.std.proofs.lemmas.Bool.{cases_eq}
-use Rattle.std.proofs.lemmas.List.Elements.{All-append}
-use Rattle.batch_check.specs.LeastRanking.{LeadsAlong}
-use Rattle.batch_check.specs.declared.edge.Edge.{Edge}
-use Rattle.batch_verdicts.specs.Drawing.{IsOnCircle}
-use Rattle.batch_verdicts.specs.Reached.{AreReached, IsReached}
+use Rattle.std.proofs.lemmas.{Bool.cases_eq, List.Elements.All-append}
+use Rattle.batch_check.specs.{LeastRanking.LeadsAlong, declared.edge.Edge.Edge}
+use Rattle.batch_verdicts.specs.{Drawing.IsOnCircle, Reached.AreReached, Reached.IsReached}
 
 All-single : {X : Type 0} (P : X → Type 0) (x : X) → P x → All P (x ∷ [])
 All-single P x h zero d within = h

@@ -3,11 +3,7 @@ use Rattle.std.proofs.Common.{◌≡◌, ℕ, ◌<◌, List, [], ◌∷◌, Resu
 use Rattle.batch_cell.specs.declared.cell.Cell.{Cell}
 use Rattle.batch_recipe.specs.declared.recipe.Recipe.{Recipe}
 use Rattle.batch_verify.specs.CertificateText.{Rank}
-use Rattle.batch_verdicts.specs.Halting.{HaltsAtRecipe, HaltsAtRecipes, HaltsClearing}
-use Rattle.batch_verdicts.specs.Judging.{RefusesSet}
-use Rattle.batch_verdicts.specs.Reading.{AreRead, Gives, ReadsRecipes}
-use Rattle.batch_verdicts.specs.declared.refusal.Halt.{Halt}
-use Rattle.batch_verdicts.specs.declared.refusal.Halt.TheVariants.{Memory}
+use Rattle.batch_verdicts.specs.{Halting.HaltsAtRecipe, Halting.HaltsAtRecipes, Halting.HaltsClearing, Judging.RefusesSet, Reading.AreRead, Reading.Gives, Reading.ReadsRecipes, declared.refusal.Halt.Halt, declared.refusal.Halt.TheVariants.Memory}
 
 -- memory may be wanting anywhere
 pub halts_without_memory : (gives : Gives) (paths : List (List ℕ)) → HaltsAtRecipes gives paths Memory

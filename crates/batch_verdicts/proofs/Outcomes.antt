@@ -1,10 +1,7 @@
 -- The outcome of the demo.
 use Rattle.std.proofs.Common.{◌≡◌, List, ℕ, [], ◌∷◌, subst, Result, Ok, Err, IfErr}
 use Rattle.batch_verify.specs.ClearedSet.{ClearedSet}
-use Rattle.batch_verdicts.specs.Halting.{HaltsClearing}
-use Rattle.batch_verdicts.specs.Requests.{demo_gives, HaltsDemo}
-use Rattle.batch_verdicts.specs.declared.demo.TheConstants.{CELL_PATH, CERTIFICATE_PATH, RECIPE_PATH}
-use Rattle.batch_verdicts.specs.declared.refusal.Halt.{Halt}
+use Rattle.batch_verdicts.specs.{Halting.HaltsClearing, Requests.demo_gives, Requests.HaltsDemo, declared.demo.TheConstants.CELL_PATH, declared.demo.TheConstants.CERTIFICATE_PATH, declared.demo.TheConstants.RECIPE_PATH, declared.refusal.Halt.Halt}
 
 -- the demo's documents end it, at the path of its recipe
 pub halted_by_demo : (path : List ℕ) (set : Result ClearedSet Halt) → path ≡ RECIPE_PATH.now

@@ -2,11 +2,8 @@
 use Rattle.std.proofs.Common.{◌≡◌, ℕ, ◌+◌, ◌<◌, ◌++◌, List, [], ◌∷◌, length, map, take, get_or, ap, sym, subst, ◌∙◌, append_assoc}
 use Rattle.std.proofs.lemmas.List.{append-nil, map-append, take_more}
 use Rattle.batch_recipe.specs.declared.recipe.Recipe.{Recipe}
-use Rattle.batch_journal.specs.Digests.{HasTaken}
-use Rattle.batch_journal.specs.declared.digest.DocumentsDigest.{DocumentsDigest}
-use Rattle.batch_verdicts.specs.Digested.{ReadsRecipeText, ReadsTexts}
-use Rattle.batch_verdicts.specs.Taking.{AreTaken}
-use Rattle.batch_verdicts.specs.Reading.{Gives, ReadsRecipes}
+use Rattle.batch_journal.specs.{Digests.HasTaken, declared.digest.DocumentsDigest.DocumentsDigest}
+use Rattle.batch_verdicts.specs.{Digested.ReadsRecipeText, Digested.ReadsTexts, Taking.AreTaken, Reading.Gives, Reading.ReadsRecipes}
 
 pub none_taken : (gives : Gives) (rs : List Recipe) (digest : DocumentsDigest) → rs ≡ [] → AreTaken gives [] rs digest digest
 none_taken gives rs digest none = record {

@@ -1,31 +1,11 @@
 -- The facts about documents that follow from the result of a run.
 use Rattle.std.proofs.Common.{arith, ◌≡◌, ◌⊎◌, ◌≤◌, ℕ, Bool, true, false, List, inl, inr, refl, sym, subst, ◌∙◌}
-use Rattle.std.specs.Io.KnownBytes.{Appends}
-use Rattle.clap.specs.Kinds.{IsAmong}
-use Rattle.clap.specs.Walk.{Text}
-use Rattle.clap.specs.declared.error.kind.ErrorKind.{ErrorKind}
-use Rattle.batch_cli.specs.declared.comments.Comments.{Comments}
-use Rattle.batch_cli.specs.CommandLine.{Request, Source, demo, faults_of, keep, serve}
+use Rattle.std.specs.{Io.KnownBytes.Appends, Prelude.String, Prelude.if◌then◌else◌, Prelude.string_bytes, List.list_any, Global.Global}
+use Rattle.clap.specs.{Kinds.IsAmong, Walk.Text, declared.error.kind.ErrorKind.ErrorKind}
+use Rattle.batch_cli.specs.{declared.comments.Comments.Comments, CommandLine.Request, CommandLine.Source, CommandLine.demo, CommandLine.faults_of, CommandLine.keep, CommandLine.serve}
 use Rattle.batch_verify.specs.ClearedSet.{ClearedSet}
-use Rattle.batch_verdicts.specs.Judging.{is_for_memory, status_of}
-use Rattle.batch_verdicts.specs.Reading.{Gives}
-use Rattle.batch_verdicts.specs.Requests.{Halts, HaltsDemo, IsDemoSet, IsSetOf}
-use Rattle.batch_verdicts.specs.Running.{AskFor, IsAnnounced, IsDone, IsExplained, IsPrinted, IsRun, IsUnwritten, Stream, ask_quiet, memory_status, success_status, commands, status_of_every, serves, reads, serves_desks, audits, plants, halts, judges, explains, helps, misuses, starves, keeps, writes, remarks, draws}
-use Rattle.batch_verdicts.specs.Saying.{IsWarned}
-use Rattle.batch_verdicts.specs.Statuses.{AreCodesTold, IsSuccess, NoCommandServes, ServesClearedSets, SuccessIsTold}
-use Rattle.batch_verdicts.proofs.WarningEffects.{verdict_more, warned_kept}
-use Rattle.batch_verdicts.specs.declared.course.Course.{Course}
-use Rattle.batch_verdicts.specs.declared.course.Course.TheVariants.{Ends, Serves, Keeps}
-use Rattle.std.specs.Prelude.{String, if◌then◌else◌, string_bytes}
-use Rattle.std.specs.List.{list_any}
-use Rattle.std.specs.Global.{Global}
-use Rattle.batch_verdicts.specs.Digested.{AreDigested}
-use Rattle.batch_verdicts.specs.declared.digested.Digested.{Digested}
-use Rattle.batch_verdicts.specs.declared.refusal.DocumentRefusal.{DocumentRefusal}
-use Rattle.batch_verdicts.specs.declared.refusal.Halt.{Halt}
+use Rattle.batch_verdicts.{specs.Judging.is_for_memory, specs.Judging.status_of, specs.Reading.Gives, specs.Requests.Halts, specs.Requests.HaltsDemo, specs.Requests.IsDemoSet, specs.Requests.IsSetOf, specs.Running.AskFor, specs.Running.IsAnnounced, specs.Running.IsDone, specs.Running.IsExplained, specs.Running.IsPrinted, specs.Running.IsRun, specs.Running.IsUnwritten, specs.Running.Stream, specs.Running.ask_quiet, specs.Running.memory_status, specs.Running.success_status, specs.Running.commands, specs.Running.status_of_every, specs.Running.serves, specs.Running.reads, specs.Running.serves_desks, specs.Running.audits, specs.Running.plants, specs.Running.halts, specs.Running.judges, specs.Running.explains, specs.Running.helps, specs.Running.misuses, specs.Running.starves, specs.Running.keeps, specs.Running.writes, specs.Running.remarks, specs.Running.draws, specs.Saying.IsWarned, specs.Statuses.AreCodesTold, specs.Statuses.IsSuccess, specs.Statuses.NoCommandServes, specs.Statuses.ServesClearedSets, specs.Statuses.SuccessIsTold, proofs.WarningEffects.verdict_more, proofs.WarningEffects.warned_kept, specs.declared.course.Course.Course, specs.declared.course.Course.TheVariants.Ends, specs.declared.course.Course.TheVariants.Serves, specs.declared.course.Course.TheVariants.Keeps, specs.Digested.AreDigested, specs.declared.digested.Digested.Digested, specs.declared.refusal.DocumentRefusal.DocumentRefusal, specs.declared.refusal.Halt.Halt, specs.declared.refusal.RefusalKind.RefusalKind, specs.declared.refusal.RefusalKind.TheVariants.Fault, specs.declared.refusal.RefusalKind.TheVariants.OutOfMemory}
 use Rattle.batch_verdicts.specs.declared.refusal.Halt.TheVariants as halt
-use Rattle.batch_verdicts.specs.declared.refusal.RefusalKind.{RefusalKind}
-use Rattle.batch_verdicts.specs.declared.refusal.RefusalKind.TheVariants.{Fault, OutOfMemory}
 
 -- words that ask for something have no fault
 no_fault : (words : List Text) (request : Request) (kind : ErrorKind) → AskFor words request → IsAmong kind (faults_of words) → ⊥

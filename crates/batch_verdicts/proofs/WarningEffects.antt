@@ -1,17 +1,11 @@
 -- The effect of warnings.
 use Rattle.std.proofs.Common.{◌≡◌, ℕ, Bool, true, false, List, [], Option, refl}
-use Rattle.std.proofs.KnownBytes.{Appends-kept, Appends-nil, Keeps-refl, Keeps-trans}
-use Rattle.std.specs.Io.KnownBytes.{Keeps}
+use Rattle.std.{proofs.KnownBytes.Appends-kept, proofs.KnownBytes.Appends-nil, proofs.KnownBytes.Keeps-refl, proofs.KnownBytes.Keeps-trans, specs.Io.KnownBytes.Keeps}
 use Rattle.batch_cell.specs.declared.cell.Cell.{Cell}
 use Rattle.batch_recipe.specs.declared.recipe.Recipe.{Recipe}
-use Rattle.batch_verify.specs.CertificateText.{Rank}
-use Rattle.batch_verify.specs.ClearedSet.{ClearedSet}
+use Rattle.batch_verify.specs.{CertificateText.Rank, ClearedSet.ClearedSet}
 use Rattle.batch_cli.specs.CommandLine.{Judgement, check, draw, show, verify}
-use Rattle.batch_verdicts.specs.Judging.{IsClearedBy}
-use Rattle.batch_verdicts.specs.Reading.{AreCleared, AreRead, Gives, Warns, IsSoWarned}
-use Rattle.batch_verdicts.specs.Requests.{IsVerdictText}
-use Rattle.batch_verdicts.specs.Saying.{IsWarned}
-use Rattle.batch_verdicts.specs.WarningTexts.{warnings_text}
+use Rattle.batch_verdicts.specs.{Judging.IsClearedBy, Reading.AreCleared, Reading.AreRead, Reading.Gives, Reading.Warns, Reading.IsSoWarned, Requests.IsVerdictText, Saying.IsWarned, WarningTexts.warnings_text}
 
 -- no warning was written
 pub silent : (quiet : Bool) (told : Option (List ℕ)) → IsWarned quiet told told []

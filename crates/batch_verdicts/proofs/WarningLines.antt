@@ -1,8 +1,7 @@
 -- The lines of warnings grow by a document at a time.
 use Rattle.std.proofs.Common.{arith, ◌≡◌, ℕ, suc, zero, ◌+◌, ◌<◌, ◌≤◌, List, [], ◌∷◌, ◌++◌, length, map, take, get_or, ap, refl, sym, ◌∙◌, append_assoc, append-nil}
 use Rattle.batch_recipe.specs.declared.recipe.Recipe.{Recipe}
-use Rattle.batch_messages.proofs.WordsByNumber.{said_found, said_past}
-use Rattle.batch_messages.specs.WarningWords.{said_at}
+use Rattle.batch_messages.{proofs.WordsByNumber.said_found, proofs.WordsByNumber.said_past, specs.WarningWords.said_at}
 use Rattle.batch_verdicts.specs.WarningTexts.{lines_on, recipes_text}
 
 pub found : (path : List ℕ) (rs : List Recipe) (i : ℕ) (r : Recipe) → i < length rs → r ≡ get_or rs i r → said_at (lines_on path) rs i ≡ lines_on path r

@@ -1,39 +1,15 @@
 -- The checks of an act.
 use Rattle.std.proofs.Common.{◌≡◌, ℕ, ◌≤◌, arith, nat_le, Bool, true, false, not, ◌&&◌, IsTrue, Option, Some, None, Result, Ok, Err, List, [], ◌∷◌, map, get_or, position, sym, ◌∙◌, refl, subst}
-use Rattle.std.specs.List.{list_all}
-use Rattle.std.specs.Cmp.Lexicographic.{bytes_decides}
-use Rattle.std.proofs.lemmas.List.Quantifiers.{position-Some}
-use Rattle.std.proofs.lemmas.Bool.{and_parts}
-use Rattle.batch_cell.specs.Equipment.{unit_phases}
-use Rattle.batch_cell.specs.LookUps.{units_of}
+use Rattle.std.{specs.List.list_all, specs.Cmp.Lexicographic.bytes_decides, proofs.lemmas.List.Quantifiers.position-Some, proofs.lemmas.Bool.and_parts}
+use Rattle.batch_cell.specs.{Equipment.unit_phases, LookUps.units_of}
 use Rattle.batch_cell.specs.declared.cell.Cell as equipment
-use Rattle.batch_recipe.specs.Conditions.{Name, same_name}
+use Rattle.batch_recipe.specs.{Conditions.Name, Conditions.same_name, Tree.Place, Tree.Tree, Tree.act, Tree.Step, Tree.Task, Expanding.Binding, Expanding.Sites, Expanding.act_tree_with, Expanding.asked_in_order, Expanding.needs_with, Expanding.step_of, Expanding.task_of, Expanding.unit_below, Expanding.unit_named, Expanding.unit_with, WellFormed.is_among, declared.act.Act.Act, declared.act.UnitChoice.UnitChoice, declared.act.Work.Work, declared.act.Work.TheVariants.Follows, declared.act.Work.TheVariants.Runs, declared.need.Need.Need}
 use Rattle.batch_recipe.specs.Needs as needs
-use Rattle.batch_recipe.specs.Tree.{Place, Tree, act, Step, Task}
-use Rattle.batch_recipe.specs.Expanding.{Binding, Sites, act_tree_with, asked_in_order, needs_with, step_of, task_of, unit_below, unit_named, unit_with}
-use Rattle.batch_recipe.specs.WellFormed.{is_among}
-use Rattle.batch_recipe.specs.declared.act.Act.{Act}
-use Rattle.batch_recipe.specs.declared.act.UnitChoice.{UnitChoice}
-use Rattle.batch_recipe.specs.declared.act.Work.{Work}
-use Rattle.batch_recipe.specs.declared.act.Work.TheVariants.{Follows, Runs}
 use Rattle.batch_recipe.specs.declared.recipe.Recipe as document
-use Rattle.batch_model.specs.Lists.{Each}
-use Rattle.batch_model.specs.Plant.{Setup}
-use Rattle.batch_model.specs.Cleared.{Ranking, Level, is_procedure, in_procedure, in_unit_procedure, in_operation, below, Part, part, NeedsResources, NeedsWithinCapacity, HasUnit, IsOffered, IsApart, TurnsRun, ReservesFollow}
-use Rattle.batch_model.specs.Setups.{capacity_of, setup_of}
+use Rattle.batch_model.{specs.Lists.Each, specs.Plant.Setup, specs.Cleared.Ranking, specs.Cleared.Level, specs.Cleared.is_procedure, specs.Cleared.in_procedure, specs.Cleared.in_unit_procedure, specs.Cleared.in_operation, specs.Cleared.below, specs.Cleared.Part, specs.Cleared.part, specs.Cleared.NeedsResources, specs.Cleared.NeedsWithinCapacity, specs.Cleared.HasUnit, specs.Cleared.IsOffered, specs.Cleared.IsApart, specs.Cleared.TurnsRun, specs.Cleared.ReservesFollow, specs.Setups.capacity_of, specs.Setups.setup_of, proofs.Members.Each-map}
 use Rattle.batch_set.specs.declared.linked.LinkedNeed.{LinkedNeed}
-use Rattle.batch_verify.specs.Asking.{asks_by, asks_of, is_fitting, is_found, unit_by}
-use Rattle.batch_verify.specs.Charts.{IsFaultOf}
-use Rattle.batch_verify.specs.Refusals.{Breaks, IsKnown, IsWithin, MeetsRules, RisesBy}
-use Rattle.batch_verify.specs.Walking.{is_of_resource, is_within_capacity, IsEnteredAs, IsOnUnit, IsUnitNumber, RisesFrom, RisesTo, is_of_level, known_unit, last_from, offers_on, offers_work, unit_under}
-use Rattle.batch_verify.specs.declared.rule.Rule.{Rule}
-use Rattle.batch_verify.specs.declared.rule.Rule.TheVariants.{UnknownResource, ShareAboveCapacity, PhaseNotOffered, SamePhaseInParallel, LoopWithoutPhase, ReserveDoesNotFollow, RankNotRising}
+use Rattle.batch_verify.{specs.Asking.asks_by, specs.Asking.asks_of, specs.Asking.is_fitting, specs.Asking.is_found, specs.Asking.unit_by, specs.Charts.IsFaultOf, specs.Refusals.Breaks, specs.Refusals.IsKnown, specs.Refusals.IsWithin, specs.Refusals.MeetsRules, specs.Refusals.RisesBy, specs.Walking.is_of_resource, specs.Walking.is_within_capacity, specs.Walking.IsEnteredAs, specs.Walking.IsOnUnit, specs.Walking.IsUnitNumber, specs.Walking.RisesFrom, specs.Walking.RisesTo, specs.Walking.is_of_level, specs.Walking.known_unit, specs.Walking.last_from, specs.Walking.offers_on, specs.Walking.offers_work, specs.Walking.unit_under, specs.declared.rule.Rule.Rule, specs.declared.rule.Rule.TheVariants.UnknownResource, specs.declared.rule.Rule.TheVariants.ShareAboveCapacity, specs.declared.rule.Rule.TheVariants.PhaseNotOffered, specs.declared.rule.Rule.TheVariants.SamePhaseInParallel, specs.declared.rule.Rule.TheVariants.LoopWithoutPhase, specs.declared.rule.Rule.TheVariants.ReserveDoesNotFollow, specs.declared.rule.Rule.TheVariants.RankNotRising, proofs.AsksByName.resources-known, proofs.AsksByName.shares-fit, proofs.AsksByName.unit-is, proofs.ListLookups.found_is_among, proofs.Ranks.path_rises, proofs.Ranks.needs_rise, proofs.Ranks.path_below}
 use Rattle.batch_verify.specs.declared.site.Path as path
-use Rattle.batch_verify.proofs.AsksByName.{resources-known, shares-fit, unit-is}
-use Rattle.batch_verify.proofs.ListLookups.{found_is_among}
-use Rattle.batch_verify.proofs.Ranks.{path_rises, needs_rise, path_below}
-use Rattle.batch_recipe.specs.declared.need.Need.{Need}
-use Rattle.batch_model.proofs.Members.{Each-map}
 
 -- A node meets the rules where it meets each of them.
 pub meets : (setup : Setup) (ranking : Option Ranking) (procedure : Tree) (x : Part) → NeedsResources setup.resources x.node.here → HasUnit setup.units x.level x.node.here

@@ -1,42 +1,14 @@
 -- The asks of acts by number are those by name.
 use Rattle.std.proofs.Common.{◌≡◌, ℕ, ◌<◌, List, [], ◌∷◌, length, map, position, Bool, true, false, ◌&&◌, nat_lt, if◌then◌else◌, Option, Some, None, option_map, Result, refl, sym, ap, ◌∙◌, subst, arith, lt-ltb}
-use Rattle.std.specs.Prelude.{MatchResult}
-use Rattle.std.specs.List.{list_all}
-use Rattle.std.proofs.lemmas.Bool.{ltb-true, ltb-false}
-use Rattle.std.proofs.lemmas.List.{length-map}
-use Rattle.std.proofs.lemmas.List.Folds.{list_all-map}
-use Rattle.std.proofs.lemmas.Option.{get_or_from_slice_get, slice_get-map}
-use Rattle.batch_cell.specs.LookUps.{resources_of, units_of}
+use Rattle.std.{specs.Prelude.MatchResult, specs.List.list_all, proofs.lemmas.Bool.ltb-true, proofs.lemmas.Bool.ltb-false, proofs.lemmas.List.length-map, proofs.lemmas.List.Folds.list_all-map, proofs.lemmas.Option.get_or_from_slice_get, proofs.lemmas.Option.slice_get-map}
+use Rattle.batch_cell.{specs.LookUps.resources_of, specs.LookUps.units_of, specs.declared.unit.Unit.Unit, proofs.Resources.no_resource_no_unit, proofs.Resources.resource_is_no_unit, proofs.Resources.resource_is_unit}
 use Rattle.batch_cell.specs.declared.cell.Cell as equipment
-use Rattle.batch_cell.specs.declared.unit.Unit.{Unit}
-use Rattle.batch_cell.proofs.Resources.{no_resource_no_unit, resource_is_no_unit, resource_is_unit}
-use Rattle.batch_recipe.specs.Conditions.{Name, same_name}
-use Rattle.batch_recipe.specs.Expanding.{Binding, Sites, asked_in_order, needs_with, unit_chosen, unit_named, unit_with}
+use Rattle.batch_recipe.specs.{Conditions.Name, Conditions.same_name, Expanding.Binding, Expanding.Sites, Expanding.asked_in_order, Expanding.needs_with, Expanding.unit_chosen, Expanding.unit_named, Expanding.unit_with, Outlines.act_of_kind, Procedure.sites, declared.act.Act.Act, declared.act.UnitChoice.UnitChoice, declared.entry.Kind.Kind, declared.need.Need.Need}
 use Rattle.batch_recipe.specs.Needs as needs
-use Rattle.batch_recipe.specs.Outlines.{act_of_kind}
-use Rattle.batch_recipe.specs.Procedure.{sites}
-use Rattle.batch_recipe.specs.declared.act.Act.{Act}
-use Rattle.batch_recipe.specs.declared.act.UnitChoice.{UnitChoice}
-use Rattle.batch_recipe.specs.declared.entry.Kind.{Kind}
-use Rattle.batch_recipe.specs.declared.need.Need.{Need}
 use Rattle.batch_recipe.specs.declared.recipe.Recipe as document
 use Rattle.batch_recipe.specs.declared.role.Role as declared
-use Rattle.batch_set.specs.Linking.{IsLinkedIn}
-use Rattle.batch_set.specs.Looked.{needs_by}
-use Rattle.batch_set.specs.Sources.{IsSource, SayNeeds}
-use Rattle.batch_set.specs.declared.linked.LinkedNeed.{LinkedNeed}
-use Rattle.batch_set.specs.declared.linked.LinkedRecipe.{LinkedRecipe}
-use Rattle.batch_set.specs.declared.linked.Source.{Source}
-use Rattle.batch_set.specs.declared.linked.Source.TheVariants.{Resource, Role, Unknown}
-use Rattle.batch_set.proofs.Sources.{needs-said}
-use Rattle.batch_verify.specs.Asking.{Ask, IsRise, among_first, ask_by, ask_of, asks_by, asks_of, is_fitting, is_found, number_by, ranks_along, ranks_asked, unit_by}
-use Rattle.batch_verify.specs.Bindings.{takers_of}
-use Rattle.batch_verify.specs.Refusals.{rank_in, ranking_in}
-use Rattle.batch_verify.specs.Walking.{RisesFrom, is_of_resource, is_within_capacity, known_unit, last_from, unit_under}
-use Rattle.batch_verify.specs.declared.rule.Rule.{Rule}
-use Rattle.batch_verify.specs.declared.rule.Rule.TheVariants.{RankNotRising}
-use Rattle.batch_verify.proofs.ListLookups.{found_below, found_is_among}
-use Rattle.batch_set.proofs.ResourceNumbers.{number-at}
+use Rattle.batch_set.{specs.Linking.IsLinkedIn, specs.Looked.needs_by, specs.Sources.IsSource, specs.Sources.SayNeeds, specs.declared.linked.LinkedNeed.LinkedNeed, specs.declared.linked.LinkedRecipe.LinkedRecipe, specs.declared.linked.Source.Source, specs.declared.linked.Source.TheVariants.Resource, specs.declared.linked.Source.TheVariants.Role, specs.declared.linked.Source.TheVariants.Unknown, proofs.Sources.needs-said, proofs.ResourceNumbers.number-at}
+use Rattle.batch_verify.{specs.Asking.Ask, specs.Asking.IsRise, specs.Asking.among_first, specs.Asking.ask_by, specs.Asking.ask_of, specs.Asking.asks_by, specs.Asking.asks_of, specs.Asking.is_fitting, specs.Asking.is_found, specs.Asking.number_by, specs.Asking.ranks_along, specs.Asking.ranks_asked, specs.Asking.unit_by, specs.Bindings.takers_of, specs.Refusals.rank_in, specs.Refusals.ranking_in, specs.Walking.RisesFrom, specs.Walking.is_of_resource, specs.Walking.is_within_capacity, specs.Walking.known_unit, specs.Walking.last_from, specs.Walking.unit_under, specs.declared.rule.Rule.Rule, specs.declared.rule.Rule.TheVariants.RankNotRising, proofs.ListLookups.found_below, proofs.ListLookups.found_is_among}
 
 pub among_first-all : (count : ℕ) (o : Option ℕ) → ((k : ℕ) → o ≡ Some k → k < count) → among_first count o ≡ o
 among_first-all count None h = refl

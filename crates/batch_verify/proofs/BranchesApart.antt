@@ -1,15 +1,9 @@
 -- Branches that run apart.
 use Rattle.std.proofs.Common.{◌≡◌, ◌↔◌, Bool, true, false, ◌&&◌, ⊎_elim, ◌++◌, List, [], ◌∷◌, sym, ap₂, ◌∙◌, refl, subst}
-use Rattle.std.specs.Bool.{IsTrue}
-use Rattle.std.specs.Cmp.Lexicographic.{bytes_decides}
-use Rattle.std.proofs.lemmas.Bool.{and_parts, false_from_ne_true, or_cases, or_left, or_right}
-use Rattle.batch_recipe.specs.Conditions.{Name, same_name}
-use Rattle.batch_recipe.specs.Tree.{Phase, Tree, Trees, tree}
-use Rattle.batch_recipe.specs.WellFormed.{is_among}
-use Rattle.batch_model.specs.Lists.{Each}
-use Rattle.batch_model.specs.Cleared.{phases, phases_of_each, RunApart, BranchesRunApart}
-use Rattle.batch_verify.specs.Walking.{phase_names}
-use Rattle.batch_verify.proofs.PhaseNames.{is_among-append, phase_names-append}
+use Rattle.std.{specs.Bool.IsTrue, specs.Cmp.Lexicographic.bytes_decides, proofs.lemmas.Bool.and_parts, proofs.lemmas.Bool.false_from_ne_true, proofs.lemmas.Bool.or_cases, proofs.lemmas.Bool.or_left, proofs.lemmas.Bool.or_right}
+use Rattle.batch_recipe.specs.{Conditions.Name, Conditions.same_name, Tree.Phase, Tree.Tree, Tree.Trees, Tree.tree, WellFormed.is_among}
+use Rattle.batch_model.specs.{Lists.Each, Cleared.phases, Cleared.phases_of_each, Cleared.RunApart, Cleared.BranchesRunApart}
+use Rattle.batch_verify.{specs.Walking.phase_names, proofs.PhaseNames.is_among-append, proofs.PhaseNames.phase_names-append}
 
 -- no name is among both
 abbrev pub AreApart : List Name → List Name → Type 0

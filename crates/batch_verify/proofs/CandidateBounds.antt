@@ -1,32 +1,12 @@
 -- Whoever takes a role stands between the candidates of the least and of the greatest rank, by number.
 use Rattle.std.proofs.Common.{◌≡◌, ℕ, zero, suc, Bool, true, false, cond, List, [], ◌∷◌, map, filter, position, slice_get, option_map, Option, Some, None, inl, inr, refl, sym, ap, ◌∙◌, subst, arith}
-use Rattle.std.specs.List.{slice_index_or}
-use Rattle.std.specs.Cmp.Lexicographic.{bytes_decides}
-use Rattle.std.proofs.lemmas.Bool.{or_cases}
-use Rattle.std.proofs.lemmas.Option.{slice_get-map}
-use Rattle.batch_cell.specs.Equipment.{unit_names}
-use Rattle.batch_cell.specs.LookUps.{capacities_of, is_of_class, resources_of, units_of, units_of_class}
+use Rattle.std.{specs.List.slice_index_or, specs.Cmp.Lexicographic.bytes_decides, proofs.lemmas.Bool.or_cases, proofs.lemmas.Option.slice_get-map}
+use Rattle.batch_cell.specs.{Equipment.unit_names, LookUps.capacities_of, LookUps.is_of_class, LookUps.resources_of, LookUps.units_of, LookUps.units_of_class, declared.unit.Unit.Unit}
 use Rattle.batch_cell.specs.declared.cell.Cell as equipment
-use Rattle.batch_cell.specs.declared.unit.Unit.{Unit}
-use Rattle.batch_recipe.specs.Conditions.{Name, same_name}
-use Rattle.batch_recipe.specs.Expanding.{Binding}
-use Rattle.batch_recipe.specs.WellFormed.{is_among}
-use Rattle.batch_recipe.specs.declared.role.Role.{Role}
-use Rattle.batch_model.specs.Cleared.{Ranking}
-use Rattle.batch_model.specs.Lists.{Has}
-use Rattle.batch_model.specs.Setups.{setup_of}
-use Rattle.batch_model.proofs.ExclusiveUnits.{unit_is_exclusive}
+use Rattle.batch_recipe.specs.{Conditions.Name, Conditions.same_name, Expanding.Binding, WellFormed.is_among, declared.role.Role.Role}
+use Rattle.batch_model.{specs.Cleared.Ranking, specs.Lists.Has, specs.Setups.setup_of, proofs.ExclusiveUnits.unit_is_exclusive}
 use Rattle.batch_set.proofs.CandidateNumbers.{number_of, unit-number}
-use Rattle.batch_verify.specs.Asking.{rank_by}
-use Rattle.batch_verify.specs.Bindings.{nobody, role_named, takers_of}
-use Rattle.batch_verify.specs.Refusals.{IsTriedFor}
-use Rattle.batch_verify.specs.Spans.{AreBetween, GivesUnits, IsTakenAt, ranks_or_none}
-use Rattle.batch_verify.specs.Trials.{extreme, extreme_from, raised_for, raised_unit, rank_or_0}
-use Rattle.batch_verify.proofs.Choices.{has_at}
-use Rattle.batch_verify.proofs.Extremes.{extreme_best, extreme_is}
-use Rattle.batch_verify.proofs.ListLookups.{found_below}
-use Rattle.batch_verify.proofs.NamesInList.{among_at}
-use Rattle.batch_verify.proofs.RoleTakers.{nobody_unknown}
+use Rattle.batch_verify.{specs.Asking.rank_by, specs.Bindings.nobody, specs.Bindings.role_named, specs.Bindings.takers_of, specs.Refusals.IsTriedFor, specs.Spans.AreBetween, specs.Spans.GivesUnits, specs.Spans.IsTakenAt, specs.Spans.ranks_or_none, specs.Trials.extreme, specs.Trials.extreme_from, specs.Trials.raised_for, specs.Trials.raised_unit, specs.Trials.rank_or_0, proofs.Choices.has_at, proofs.Extremes.extreme_best, proofs.Extremes.extreme_is, proofs.ListLookups.found_below, proofs.NamesInList.among_at, proofs.RoleTakers.nobody_unknown}
 
 -- One of the units that pass a test
 

@@ -1,17 +1,8 @@
 -- Entries of a certificate, one after another.
 use Rattle.std.proofs.Common.{arith, ◌≡◌, ℕ, ◌+◌, Bool, true, false, Option, Some, None, List, [], ◌∷◌, ◌++◌, take, map, slice_get, refl, sym, ap, ◌∙◌, subst}
-use Rattle.std.specs.Prelude.{IsTrue}
-use Rattle.std.specs.Option.{is_some}
-use Rattle.std.specs.Map.{lookup}
-use Rattle.std.proofs.lemmas.Bool.{true≢false}
-use Rattle.std.proofs.lemmas.List.{take-map, map-append}
-use Rattle.std.proofs.lemmas.Map.Made.{is_some-lookup}
-use Rattle.std.proofs.lemmas.Option.{slice_get-map}
-use Rattle.batch_recipe.specs.Conditions.{Name, same_name}
-use Rattle.batch_recipe.specs.WellFormed.{is_among, are_distinct}
-use Rattle.batch_verify.specs.CertificateText.{Rank}
-use Rattle.batch_verify.specs.Ranked.{names_in, rank_of, AreAmong, IsFirstRepeated, IsFirstUnknown}
-use Rattle.batch_verify.proofs.NamesInList.{take_next, Each-next, are_distinct-push}
+use Rattle.std.{specs.Prelude.IsTrue, specs.Option.is_some, specs.Map.lookup, proofs.lemmas.Bool.true≢false, proofs.lemmas.List.take-map, proofs.lemmas.List.map-append, proofs.lemmas.Map.Made.is_some-lookup, proofs.lemmas.Option.slice_get-map}
+use Rattle.batch_recipe.specs.{Conditions.Name, Conditions.same_name, WellFormed.is_among, WellFormed.are_distinct}
+use Rattle.batch_verify.{specs.CertificateText.Rank, specs.Ranked.names_in, specs.Ranked.rank_of, specs.Ranked.AreAmong, specs.Ranked.IsFirstRepeated, specs.Ranked.IsFirstUnknown, proofs.NamesInList.take_next, proofs.NamesInList.Each-next, proofs.NamesInList.are_distinct-push}
 
 pub name_at : (ranks : List Rank) (k : ℕ) (rank : Rank) → slice_get ranks k ≡ Some rank → slice_get (names_in ranks) k ≡ Some rank.0
 name_at ranks k rank e = rw (slice_get-map (λ (r : Rank). r.0) ranks k, e) refl

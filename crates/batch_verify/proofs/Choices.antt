@@ -1,37 +1,10 @@
 -- The needs and the units of the nodes of a recipe, by the choices of these, which are the same in all bindings.
 use Rattle.std.proofs.Common.{◌≡◌, ◌≢◌, ◌⊎◌, ℕ, zero, suc, ◌+◌, ◌<◌, true, false, not, List, [], ◌∷◌, ◌++◌, map, Option, Some, None, slice_get, get_or, refl, sym, ap, ap₂, ◌∙◌, subst, arith, inl, inr}
-use Rattle.std.specs.Prelude.{⊤, option_and_then}
-use Rattle.std.proofs.lemmas.List.{append-nil}
-use Rattle.std.proofs.lemmas.Option.{slice_get-get_or, slice_get_within}
-use Rattle.batch_recipe.specs.ActsAtNodes.{procedure_acts}
-use Rattle.batch_recipe.specs.Conditions.{Name}
-use Rattle.batch_recipe.specs.Expanding.{Binding, unbound, act_named, asked_in_order, needs_with, unit_below, unit_chosen, unit_named, unit_with}
-use Rattle.batch_recipe.specs.Needs.{one_unit, resources_needed}
-use Rattle.batch_recipe.specs.Nodes.{Node, needs_of}
-use Rattle.batch_recipe.specs.Outlines.{act_of_kind}
-use Rattle.batch_recipe.specs.Procedure.{bound_nodes, sites}
-use Rattle.batch_recipe.specs.WellFormed.{is_among, has_unit, has_chart}
-use Rattle.batch_recipe.specs.declared.act.Act.{Act}
-use Rattle.batch_recipe.specs.declared.act.UnitChoice.{UnitChoice}
-use Rattle.batch_recipe.specs.declared.act.UnitChoice.TheVariants.{Unit, Role}
-use Rattle.batch_recipe.specs.declared.acts.Acts.{Acts}
-use Rattle.batch_recipe.specs.declared.entry.Entry.{Entry}
-use Rattle.batch_recipe.specs.declared.entry.Kind.{Kind}
+use Rattle.std.{specs.Prelude.⊤, specs.Prelude.option_and_then, proofs.lemmas.List.append-nil, proofs.lemmas.Option.slice_get-get_or, proofs.lemmas.Option.slice_get_within, proofs.lemmas.Bool.and_parts, proofs.lemmas.Bool.not-true, proofs.lemmas.Bool.or_cases, proofs.lemmas.Bool.or_left, proofs.lemmas.Bool.or_right}
+use Rattle.batch_recipe.{specs.ActsAtNodes.procedure_acts, specs.Conditions.Name, specs.Expanding.Binding, specs.Expanding.unbound, specs.Expanding.act_named, specs.Expanding.asked_in_order, specs.Expanding.needs_with, specs.Expanding.unit_below, specs.Expanding.unit_chosen, specs.Expanding.unit_named, specs.Expanding.unit_with, specs.Needs.one_unit, specs.Needs.resources_needed, specs.Nodes.Node, specs.Nodes.needs_of, specs.Outlines.act_of_kind, specs.Procedure.bound_nodes, specs.Procedure.sites, specs.WellFormed.is_among, specs.WellFormed.has_unit, specs.WellFormed.has_chart, specs.declared.act.Act.Act, specs.declared.act.UnitChoice.UnitChoice, specs.declared.act.UnitChoice.TheVariants.Unit, specs.declared.act.UnitChoice.TheVariants.Role, specs.declared.acts.Acts.Acts, specs.declared.entry.Entry.Entry, specs.declared.entry.Kind.Kind, specs.declared.need.Need.Need, specs.declared.recipe.Recipe.Recipe, proofs.NodesAbove.act_at}
 use Rattle.batch_recipe.specs.declared.entry.Kind.TheVariants as kind
-use Rattle.batch_recipe.specs.declared.need.Need.{Need}
-use Rattle.batch_recipe.specs.declared.recipe.Recipe.{Recipe}
-use Rattle.batch_recipe.proofs.NodesAbove.{act_at}
-use Rattle.batch_model.specs.Lists.{Each, Has}
-use Rattle.batch_model.specs.Cleared.{Level, is_procedure, in_procedure, in_unit_procedure, in_operation, below}
-use Rattle.batch_model.specs.Setups.{labels_of, name_role, reserve_role}
-use Rattle.batch_model.proofs.Members.{Each-append, Each-map, Has-left, Has-right}
-use Rattle.std.proofs.lemmas.Bool.{and_parts, not-true, or_cases, or_left, or_right}
-use Rattle.batch_verify.specs.Walking.{is_of_level}
-use Rattle.batch_verify.specs.Ways.{Spot, Way, bound_ways}
-use Rattle.batch_verify.proofs.RolesInTree.{declared, declared_role, names_it, names_role, owned, owner, reserves_role, role_named, role_reserved, table}
-use Rattle.batch_verify.proofs.EntryNodes.{IsTop, IsBelow, Stands, node_of, stands}
-use Rattle.batch_verify.proofs.Verdicts.{bare_needs}
-use Rattle.batch_verify.proofs.WayActs.{IsHereOn}
+use Rattle.batch_model.{specs.Lists.Each, specs.Lists.Has, specs.Cleared.Level, specs.Cleared.is_procedure, specs.Cleared.in_procedure, specs.Cleared.in_unit_procedure, specs.Cleared.in_operation, specs.Cleared.below, specs.Setups.labels_of, specs.Setups.name_role, specs.Setups.reserve_role, proofs.Members.Each-append, proofs.Members.Each-map, proofs.Members.Has-left, proofs.Members.Has-right}
+use Rattle.batch_verify.{specs.Walking.is_of_level, specs.Ways.Spot, specs.Ways.Way, specs.Ways.bound_ways, proofs.RolesInTree.declared, proofs.RolesInTree.declared_role, proofs.RolesInTree.names_it, proofs.RolesInTree.names_role, proofs.RolesInTree.owned, proofs.RolesInTree.owner, proofs.RolesInTree.reserves_role, proofs.RolesInTree.role_named, proofs.RolesInTree.role_reserved, proofs.RolesInTree.table, proofs.EntryNodes.IsTop, proofs.EntryNodes.IsBelow, proofs.EntryNodes.Stands, proofs.EntryNodes.node_of, proofs.EntryNodes.stands, proofs.Verdicts.bare_needs, proofs.WayActs.IsHereOn}
 
 -- Needs
 

@@ -1,21 +1,9 @@
 -- The node of an entry, and how it hangs from that of its parent.
 use Rattle.std.proofs.Common.{◌≡◌, ◌≢◌, ◌⊎◌, ℕ, ◌<◌, List, [], ◌∷◌, ◌++◌, Some, slice_get, sym, ap, ◌∙◌, subst, arith, inl, inr}
-use Rattle.std.specs.Option.{option_map}
-use Rattle.std.proofs.lemmas.Option.{slice_get-map}
-use Rattle.batch_recipe.specs.Expanding.{Binding}
-use Rattle.batch_recipe.specs.Links.{IsFirst, Hangs, form_at}
-use Rattle.batch_recipe.specs.Needs.{resources_needed}
-use Rattle.batch_recipe.specs.Nodes.{Node, needs_of}
-use Rattle.batch_recipe.specs.Outlines.{act_of_kind, form_of, shape_of}
-use Rattle.batch_recipe.specs.Procedure.{bound_nodes, bound_tree, sites}
-use Rattle.batch_recipe.specs.declared.entry.Entry.{Entry}
-use Rattle.batch_recipe.specs.declared.recipe.Recipe.{Recipe}
-use Rattle.batch_recipe.proofs.NodesAbove.{entry_in, act_at}
-use Rattle.batch_model.specs.Cleared.{Part, is_procedure}
-use Rattle.batch_model.proofs.TreeParts.{parts-nodes}
-use Rattle.batch_verify.specs.Ways.{Way, top, bound_parts, bound_ways}
-use Rattle.batch_verify.proofs.Spots.{IsUnder, way_of}
-use Rattle.batch_verify.proofs.WayActs.{IsOn, part_on}
+use Rattle.std.{specs.Option.option_map, proofs.lemmas.Option.slice_get-map}
+use Rattle.batch_recipe.{specs.Expanding.Binding, specs.Links.IsFirst, specs.Links.Hangs, specs.Links.form_at, specs.Needs.resources_needed, specs.Nodes.Node, specs.Nodes.needs_of, specs.Outlines.act_of_kind, specs.Outlines.form_of, specs.Outlines.shape_of, specs.Procedure.bound_nodes, specs.Procedure.bound_tree, specs.Procedure.sites, specs.declared.entry.Entry.Entry, specs.declared.recipe.Recipe.Recipe, proofs.NodesAbove.entry_in, proofs.NodesAbove.act_at}
+use Rattle.batch_model.{specs.Cleared.Part, specs.Cleared.is_procedure, proofs.TreeParts.parts-nodes}
+use Rattle.batch_verify.{specs.Ways.Way, specs.Ways.top, specs.Ways.bound_parts, specs.Ways.bound_ways, proofs.Spots.IsUnder, proofs.Spots.way_of, proofs.WayActs.IsOn, proofs.WayActs.part_on}
 
 -- it is the first node
 pub record IsTop (k : ℕ) (w : Way) (x : Part) : Type 0 where

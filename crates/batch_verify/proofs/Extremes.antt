@@ -1,12 +1,8 @@
 -- Of candidates the one that has the greatest rank, or the least one.
 use Rattle.std.proofs.Common.{◌≡◌, ◌⊎◌, ℕ, suc, ◌≤◌, Bool, true, false, if◌then◌else◌, ltb, IsTrue, List, [], ◌∷◌, ◌++◌, slice_get, Some, refl, sym, ap, ◌∙◌, subst, arith, inl, inr}
-use Rattle.std.specs.Cmp.Lexicographic.{bytes_decides}
-use Rattle.std.proofs.lemmas.Bool.{ltb-true, ltb-false, or_cases, or_left, or_right}
-use Rattle.batch_recipe.specs.Conditions.{Name, same_name}
-use Rattle.batch_recipe.specs.WellFormed.{is_among}
-use Rattle.batch_recipe.specs.declared.role.Role.{Role}
-use Rattle.batch_model.specs.Lists.{Has}
-use Rattle.batch_model.specs.Cleared.{Ranking}
+use Rattle.std.{specs.Cmp.Lexicographic.bytes_decides, proofs.lemmas.Bool.ltb-true, proofs.lemmas.Bool.ltb-false, proofs.lemmas.Bool.or_cases, proofs.lemmas.Bool.or_left, proofs.lemmas.Bool.or_right}
+use Rattle.batch_recipe.specs.{Conditions.Name, Conditions.same_name, WellFormed.is_among, declared.role.Role.Role}
+use Rattle.batch_model.specs.{Lists.Has, Cleared.Ranking}
 use Rattle.batch_verify.specs.Trials.{better, extreme, extreme_from, is_better}
 
 pub index_of : (rs : List Role) (role : Role) → Has rs role → (k : ℕ) × (slice_get rs k ≡ Some role)

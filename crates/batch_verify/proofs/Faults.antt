@@ -1,32 +1,10 @@
 -- The rules that nodes break whatever units take the roles, by number.
 use Rattle.std.proofs.Common.{◌≡◌, ◌≢◌, ◌⊎◌, ℕ, suc, ◌+◌, ◌<◌, ◌≤◌, List, [], ◌∷◌, ◌++◌, length, Option, Some, None, slice_get, get_or, sym, ap, ◌∙◌, refl, subst, arith, inl, inr, length-append}
-use Rattle.std.proofs.lemmas.Bool.{cases_lt}
-use Rattle.std.proofs.lemmas.Option.{slice_get_within, slice_get-get_or}
-use Rattle.batch_recipe.specs.Expanding.{Binding, unbound, reserves_from, unit_count}
-use Rattle.batch_recipe.specs.ActsAtNodes.{IsNoAct}
-use Rattle.batch_recipe.specs.Conditions.{Name}
-use Rattle.batch_recipe.specs.Links.{form_at}
-use Rattle.batch_recipe.specs.Nodes.{Node, reserves_of}
-use Rattle.batch_recipe.specs.Outlines.{act_of_kind, form_of}
-use Rattle.batch_recipe.specs.Procedure.{bound_nodes, procedure_nodes, sites}
-use Rattle.batch_recipe.specs.Tree.{Tree}
-use Rattle.batch_recipe.specs.declared.act.Act.{Act}
-use Rattle.batch_recipe.specs.declared.acts.Acts.{Acts}
-use Rattle.batch_recipe.specs.declared.entry.Entry.{Entry}
-use Rattle.batch_recipe.specs.declared.recipe.Recipe.{Recipe}
-use Rattle.batch_recipe.proofs.NodesAbove.{as_many}
-use Rattle.batch_recipe.proofs.AppendedLists.{slice_get-left, slice_get-right}
+use Rattle.std.proofs.lemmas.{Bool.cases_lt, Option.slice_get_within, Option.slice_get-get_or}
+use Rattle.batch_recipe.{specs.Expanding.Binding, specs.Expanding.unbound, specs.Expanding.reserves_from, specs.Expanding.unit_count, specs.ActsAtNodes.IsNoAct, specs.Conditions.Name, specs.Links.form_at, specs.Nodes.Node, specs.Nodes.reserves_of, specs.Outlines.act_of_kind, specs.Outlines.form_of, specs.Procedure.bound_nodes, specs.Procedure.procedure_nodes, specs.Procedure.sites, specs.Tree.Tree, specs.declared.act.Act.Act, specs.declared.acts.Acts.Acts, specs.declared.entry.Entry.Entry, specs.declared.recipe.Recipe.Recipe, proofs.NodesAbove.as_many, proofs.AppendedLists.slice_get-left, proofs.AppendedLists.slice_get-right}
 use Rattle.batch_model.specs.Cleared.{Level, Part, below, IsApart}
-use Rattle.batch_verify.specs.Charts.{depth_is, of_chart, reserve_count, AreFaults, IsChartFault, ReservesAs}
-use Rattle.batch_verify.specs.Ways.{Spot, Way, bound_parts, bound_ways}
-use Rattle.batch_verify.specs.declared.depth.Depth.{Depth}
-use Rattle.batch_verify.specs.declared.depth.Depth.TheVariants.{Procedure}
-use Rattle.batch_verify.specs.declared.rule.Rule.{Rule}
+use Rattle.batch_verify.{specs.Charts.depth_is, specs.Charts.of_chart, specs.Charts.reserve_count, specs.Charts.AreFaults, specs.Charts.IsChartFault, specs.Charts.ReservesAs, specs.Ways.Spot, specs.Ways.Way, specs.Ways.bound_parts, specs.Ways.bound_ways, specs.declared.depth.Depth.Depth, specs.declared.depth.Depth.TheVariants.Procedure, specs.declared.rule.Rule.Rule, proofs.PhasesInBindings.IsLike, proofs.PhasesInBindings.apart_as, proofs.PhasesInBindings.turns_as, proofs.PhasesInBindings.part_alike, proofs.EntryNodes.IsTop, proofs.EntryNodes.IsBelow, proofs.EntryNodes.Stands, proofs.EntryNodes.stands, proofs.EntryNodes.node_of, proofs.Verdicts.bare_reserves, proofs.WayActs.IsHereOn}
 use Rattle.batch_verify.specs.declared.rule.Rule.TheVariants as rules
-use Rattle.batch_verify.proofs.PhasesInBindings.{IsLike, apart_as, turns_as, part_alike}
-use Rattle.batch_verify.proofs.EntryNodes.{IsTop, IsBelow, Stands, stands, node_of}
-use Rattle.batch_verify.proofs.Verdicts.{bare_reserves}
-use Rattle.batch_verify.proofs.WayActs.{IsHereOn}
 
 -- the element at a number of a list to which one more was added is one of those before, or it
 pub one_more : {X : Type 0} (xs : List X) (x : X) (n k : ℕ) (y : X) → length xs ≡ n → slice_get (xs ++ x ∷ []) k ≡ Some y → ((k < n) × (slice_get xs k ≡ Some y)) ⊎ ((k ≡ n) × (x ≡ y))

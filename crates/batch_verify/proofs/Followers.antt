@@ -1,14 +1,8 @@
 -- The unit procedures that a node reserves, one after another, and whether they follow it.
 use Rattle.std.proofs.Common.{◌≡◌, ℕ, ◌+◌, ◌<◌, ◌≤◌, arith, false, true, List, [], length, take, take_all, subst, get_or, slice_get, Option, Some, None, refl, sym, ap, ◌∙◌}
-use Rattle.std.specs.Prelude.{option_and_then, IfSome, IsNone}
-use Rattle.std.specs.Option.{is_some}
-use Rattle.std.proofs.lemmas.Option.{slice_get-get_or}
-use Rattle.batch_recipe.specs.Followers.{follower_of}
-use Rattle.batch_recipe.specs.Following.{follower}
-use Rattle.batch_recipe.specs.Nodes.{Node, reserves_of}
-use Rattle.batch_recipe.specs.Tree.{Place, Reserve, Tree}
-use Rattle.batch_model.specs.Lists.{Each}
-use Rattle.batch_model.specs.Cleared.{ReservesFollow}
+use Rattle.std.{specs.Prelude.option_and_then, specs.Prelude.IfSome, specs.Prelude.IsNone, specs.Option.is_some, proofs.lemmas.Option.slice_get-get_or}
+use Rattle.batch_recipe.specs.{Followers.follower_of, Following.follower, Nodes.Node, Nodes.reserves_of, Tree.Place, Tree.Reserve, Tree.Tree}
+use Rattle.batch_model.specs.{Lists.Each, Cleared.ReservesFollow}
 use Rattle.batch_verify.proofs.NamesInList.{Each-at, Each-next}
 
 pub is_none : (o : Option ℕ) → is_some o ≡ false → IsNone o

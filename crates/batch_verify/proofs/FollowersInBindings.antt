@@ -1,13 +1,8 @@
 -- The unit procedures that follow a node are the same in all bindings.
 use Rattle.std.proofs.Common.{◌≡◌, ℕ, zero, suc, List, [], ◌∷◌, ◌++◌, Option, Some, None, refl, ap, ap₂, ◌∙◌, subst}
 use Rattle.std.specs.Prelude.{find, option_map}
-use Rattle.batch_recipe.specs.Conditions.{Name, same_name}
-use Rattle.batch_recipe.specs.Following.{Follower, branch, child_of, choice_at, enter, firsts, firsts_of_each, firsts_of_first, following, following_below, level_within, next_after}
-use Rattle.batch_recipe.specs.Levels.{Level, is_procedure, in_procedure, in_unit_procedure, in_operation}
-use Rattle.batch_recipe.specs.Nodes.{Node, reserves_of}
-use Rattle.batch_recipe.specs.Tree.{Place, Reserve, Tree, act, skip, seq, par, sel, loop, runs, follows, Trees, no_trees, tree, Choices, otherwise, choice}
-use Rattle.batch_model.specs.Lists.{Each}
-use Rattle.batch_model.specs.Cleared.{ReservesFollow}
+use Rattle.batch_recipe.specs.{Conditions.Name, Conditions.same_name, Following.Follower, Following.branch, Following.child_of, Following.choice_at, Following.enter, Following.firsts, Following.firsts_of_each, Following.firsts_of_first, Following.following, Following.following_below, Following.level_within, Following.next_after, Levels.Level, Levels.is_procedure, Levels.in_procedure, Levels.in_unit_procedure, Levels.in_operation, Nodes.Node, Nodes.reserves_of, Tree.Place, Tree.Reserve, Tree.Tree, Tree.act, Tree.skip, Tree.seq, Tree.par, Tree.sel, Tree.loop, Tree.runs, Tree.follows, Tree.Trees, Tree.no_trees, Tree.tree, Tree.Choices, Tree.otherwise, Tree.choice}
+use Rattle.batch_model.specs.{Lists.Each, Cleared.ReservesFollow}
 use Rattle.batch_verify.proofs.PhasesInBindings.{AreAlike, ChoicesAlike, EachAlike}
 
 mutual

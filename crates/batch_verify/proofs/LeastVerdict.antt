@@ -1,19 +1,9 @@
 -- The verdict that is least over all bindings.
 use Rattle.std.proofs.Common.{◌≡◌, ◌⊎◌, ℕ, zero, suc, ◌+◌, ◌<◌, ◌≤◌, inl, inr, Bool, true, false, ◌||◌, ◌&&◌, nat_eq, nat_lt, List, [], ◌∷◌, slice_get, Option, Some, None, refl, sym, subst, arith}
 use Rattle.std.proofs.lemmas.Bool.Decides.{nat_tests}
-use Rattle.batch_recipe.specs.Expanding.{Binding}
-use Rattle.batch_recipe.specs.Tree.{Tree}
-use Rattle.batch_model.specs.Lists.{Each}
-use Rattle.batch_model.specs.Plant.{Master, Recipe, Setup}
-use Rattle.batch_model.specs.Cleared.{Ranking, Part, procedure_parts}
-use Rattle.batch_verify.specs.Comparing.{earlier_of, is_before}
-use Rattle.batch_verify.specs.Covering.{Meets}
-use Rattle.batch_verify.specs.Refusals.{Breaks, MeetsRules, IsFirstBroken, IsTried, IsVerdict, IsNotAfter, rule_number}
-use Rattle.batch_verify.specs.declared.rule.Rule.{Rule}
-use Rattle.batch_verify.specs.declared.rule.Rule.TheVariants.{UnknownResource, ShareAboveCapacity, PhaseNotOffered, SamePhaseInParallel, LoopWithoutPhase, ReserveDoesNotFollow, RankNotRising}
-use Rattle.batch_verify.specs.declared.rule.Broken.{Broken}
-use Rattle.batch_verify.proofs.ActChecks.{meets}
-use Rattle.batch_verify.proofs.NamesInList.{Each-at}
+use Rattle.batch_recipe.specs.{Expanding.Binding, Tree.Tree}
+use Rattle.batch_model.specs.{Lists.Each, Plant.Master, Plant.Recipe, Plant.Setup, Cleared.Ranking, Cleared.Part, Cleared.procedure_parts}
+use Rattle.batch_verify.{specs.Comparing.earlier_of, specs.Comparing.is_before, specs.Covering.Meets, specs.Refusals.Breaks, specs.Refusals.MeetsRules, specs.Refusals.IsFirstBroken, specs.Refusals.IsTried, specs.Refusals.IsVerdict, specs.Refusals.IsNotAfter, specs.Refusals.rule_number, specs.declared.rule.Rule.Rule, specs.declared.rule.Rule.TheVariants.UnknownResource, specs.declared.rule.Rule.TheVariants.ShareAboveCapacity, specs.declared.rule.Rule.TheVariants.PhaseNotOffered, specs.declared.rule.Rule.TheVariants.SamePhaseInParallel, specs.declared.rule.Rule.TheVariants.LoopWithoutPhase, specs.declared.rule.Rule.TheVariants.ReserveDoesNotFollow, specs.declared.rule.Rule.TheVariants.RankNotRising, specs.declared.rule.Broken.Broken, proofs.ActChecks.meets, proofs.NamesInList.Each-at}
 
 -- The order of broken rules
 

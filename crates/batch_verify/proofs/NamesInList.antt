@@ -1,16 +1,9 @@
 -- Names of a list, one after another.
 use Rattle.std.proofs.Common.{arith, ◌≡◌, ℕ, suc, zero, ◌+◌, Bool, true, false, not, Option, Some, List, [], ◌∷◌, ◌++◌, take, slice_get, position, refl, sym, ap, ◌∙◌, subst, inl, inr}
-use Rattle.std.specs.Prelude.{IsTrue}
-use Rattle.std.specs.Option.{is_some}
-use Rattle.std.specs.Cmp.Lexicographic.{nat_list_eq_equiv}
-use Rattle.std.proofs.lemmas.Bool.{false≢true, or_parts, or_from, or_left, or_right, or_cases, and_parts, and_from, not-true, not_from_false}
-use Rattle.std.proofs.lemmas.List.{take_more}
-use Rattle.std.proofs.lemmas.Option.{get_or_from_slice_get, slice_get_within}
-use Rattle.batch_recipe.specs.Conditions.{Name, same_name}
+use Rattle.std.{specs.Prelude.IsTrue, specs.Option.is_some, specs.Cmp.Lexicographic.nat_list_eq_equiv, proofs.lemmas.Bool.false≢true, proofs.lemmas.Bool.or_parts, proofs.lemmas.Bool.or_from, proofs.lemmas.Bool.or_left, proofs.lemmas.Bool.or_right, proofs.lemmas.Bool.or_cases, proofs.lemmas.Bool.and_parts, proofs.lemmas.Bool.and_from, proofs.lemmas.Bool.not-true, proofs.lemmas.Bool.not_from_false, proofs.lemmas.List.take_more, proofs.lemmas.Option.get_or_from_slice_get, proofs.lemmas.Option.slice_get_within}
+use Rattle.batch_recipe.specs.{Conditions.Name, Conditions.same_name, WellFormed.is_among, WellFormed.are_distinct}
 use Rattle.batch_verify.proofs.ListLookups.{found_is_among}
-use Rattle.batch_recipe.specs.WellFormed.{is_among, are_distinct}
-use Rattle.batch_model.specs.Lists.{Each}
-use Rattle.batch_model.proofs.Members.{Each-append}
+use Rattle.batch_model.{specs.Lists.Each, proofs.Members.Each-append}
 
 -- Each
 

@@ -1,35 +1,11 @@
 -- The nodes that were looked at so far are clear for all bindings.
 use Rattle.std.proofs.Common.{◌≡◌, ◌⊎◌, ℕ, ◌+◌, ◌<◌, ◌≤◌, List, [], ◌∷◌, ◌++◌, length, get_or, slice_get, true, Option, Some, None, Result, Ok, inl, inr, refl, sym, ap, subst, arith}
-use Rattle.std.proofs.lemmas.Bool.{cases_lt}
-use Rattle.std.proofs.lemmas.List.{get_or_past, length-append}
-use Rattle.std.proofs.lemmas.Option.{get_or_from_slice_get, slice_get-get_or}
+use Rattle.std.proofs.lemmas.{Bool.cases_lt, List.get_or_past, List.length-append, Option.get_or_from_slice_get, Option.slice_get-get_or}
 use Rattle.batch_cell.specs.declared.cell.Cell as equipment
-use Rattle.batch_recipe.specs.Expanding.{Binding, Sites}
-use Rattle.batch_recipe.specs.Outlines.{act_of_kind}
-use Rattle.batch_recipe.specs.Procedure.{sites}
-use Rattle.batch_recipe.specs.declared.act.Act.{Act}
-use Rattle.batch_recipe.specs.declared.entry.Entry.{Entry}
-use Rattle.batch_recipe.specs.declared.recipe.Recipe.{Recipe}
-use Rattle.batch_recipe.specs.declared.role.Role.{Role}
+use Rattle.batch_recipe.specs.{Expanding.Binding, Expanding.Sites, Outlines.act_of_kind, Procedure.sites, declared.act.Act.Act, declared.entry.Entry.Entry, declared.recipe.Recipe.Recipe, declared.role.Role.Role}
 use Rattle.batch_model.specs.Cleared.{Level, Ranking}
-use Rattle.batch_set.specs.Linking.{IsLinkedIn}
-use Rattle.batch_set.specs.Looked.{needs_by}
-use Rattle.batch_set.specs.declared.linked.LinkedNeed.{LinkedNeed}
-use Rattle.batch_set.specs.declared.linked.LinkedRecipe.{LinkedRecipe}
-use Rattle.batch_verify.specs.Asking.{asks_by, ranks_along}
-use Rattle.batch_verify.specs.Bindings.{takers_of}
-use Rattle.batch_verify.specs.Charts.{AreFaults}
-use Rattle.batch_verify.specs.Refusals.{ranking_in}
-use Rattle.batch_verify.specs.Spans.{AreBetween, IsPassed, IsWithin, no_span}
-use Rattle.batch_verify.specs.Walking.{IsEntered, kept, last_rank, no_path}
-use Rattle.batch_verify.specs.declared.rule.Rule.{Rule}
-use Rattle.batch_verify.specs.declared.site.Path.{Path}
-use Rattle.batch_verify.specs.declared.span.Span.{Span}
-use Rattle.batch_verify.proofs.AsksByName.{rise-is, says-asks}
-use Rattle.batch_verify.proofs.ActChecks.{entered}
-use Rattle.batch_verify.proofs.Faults.{one_more}
-use Rattle.batch_verify.proofs.Paths.{IsNumber, KeepsPaths, KeepsPaths-more, Looked, fault_known, looked}
-use Rattle.batch_verify.proofs.Spans.{number_of, unit_offers}
+use Rattle.batch_set.specs.{Linking.IsLinkedIn, Looked.needs_by, declared.linked.LinkedNeed.LinkedNeed, declared.linked.LinkedRecipe.LinkedRecipe}
+use Rattle.batch_verify.{specs.Asking.asks_by, specs.Asking.ranks_along, specs.Bindings.takers_of, specs.Charts.AreFaults, specs.Refusals.ranking_in, specs.Spans.AreBetween, specs.Spans.IsPassed, specs.Spans.IsWithin, specs.Spans.no_span, specs.Walking.IsEntered, specs.Walking.kept, specs.Walking.last_rank, specs.Walking.no_path, specs.declared.rule.Rule.Rule, specs.declared.site.Path.Path, specs.declared.span.Span.Span, proofs.AsksByName.rise-is, proofs.AsksByName.says-asks, proofs.ActChecks.entered, proofs.Faults.one_more, proofs.Paths.IsNumber, proofs.Paths.KeepsPaths, proofs.Paths.KeepsPaths-more, proofs.Paths.Looked, proofs.Paths.fault_known, proofs.Paths.looked, proofs.Spans.number_of, proofs.Spans.unit_offers}
 
 module _ (c : equipment.Cell) (ranks : Option (List ℕ)) (r : Recipe) (linked : LinkedRecipe) (lowest highest : List (Option ℕ)) where
   abbrev ranking : Option Ranking

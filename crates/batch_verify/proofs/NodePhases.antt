@@ -1,23 +1,8 @@
 -- The phases of a tree are those that the acts at its nodes run.
 use Rattle.std.proofs.Common.{◌≡◌, ℕ, zero, suc, ◌+◌, List, [], ◌∷◌, ◌++◌, length, Option, Some, None, slice_get, take, drop, sym, ap, ap₂, ◌∙◌, refl, arith, append_assoc}
-use Rattle.batch_recipe.specs.ActsAtNodes.{ActList, procedure_acts, AreActsAt, IsActAt, IsNoAct}
-use Rattle.batch_recipe.specs.Conditions.{Name}
-use Rattle.batch_recipe.specs.Expanding.{task_of, unbound}
-use Rattle.batch_recipe.specs.Needs.{resources_needed}
-use Rattle.batch_recipe.specs.Nodes.{Node, nodes, nodes_within, nodes_of_each, nodes_of_choices, child, node_count}
-use Rattle.batch_recipe.specs.Procedure.{procedure_nodes}
-use Rattle.batch_recipe.specs.Tree.{Place, Tree, act, skip, seq, par, sel, loop, Task, runs, follows, Trees, no_trees, tree, Choices, otherwise, choice}
-use Rattle.batch_recipe.specs.declared.act.Act.{Act}
-use Rattle.batch_recipe.specs.declared.act.Work.{Work}
-use Rattle.batch_recipe.specs.declared.acts.Acts.{Acts}
-use Rattle.batch_recipe.proofs.NodeSubtrees.{stands}
-use Rattle.batch_recipe.proofs.OutlineLinks.{AreFrom}
-use Rattle.batch_recipe.proofs.NodeActs.{procedure_acts_are}
-use Rattle.batch_recipe.proofs.NodeOrder.{counted_nodes}
+use Rattle.batch_recipe.{specs.ActsAtNodes.ActList, specs.ActsAtNodes.procedure_acts, specs.ActsAtNodes.AreActsAt, specs.ActsAtNodes.IsActAt, specs.ActsAtNodes.IsNoAct, specs.Conditions.Name, specs.Expanding.task_of, specs.Expanding.unbound, specs.Needs.resources_needed, specs.Nodes.Node, specs.Nodes.nodes, specs.Nodes.nodes_within, specs.Nodes.nodes_of_each, specs.Nodes.nodes_of_choices, specs.Nodes.child, specs.Nodes.node_count, specs.Procedure.procedure_nodes, specs.Tree.Place, specs.Tree.Tree, specs.Tree.act, specs.Tree.skip, specs.Tree.seq, specs.Tree.par, specs.Tree.sel, specs.Tree.loop, specs.Tree.Task, specs.Tree.runs, specs.Tree.follows, specs.Tree.Trees, specs.Tree.no_trees, specs.Tree.tree, specs.Tree.Choices, specs.Tree.otherwise, specs.Tree.choice, specs.declared.act.Act.Act, specs.declared.act.Work.Work, specs.declared.acts.Acts.Acts, proofs.NodeSubtrees.stands, proofs.OutlineLinks.AreFrom, proofs.NodeActs.procedure_acts_are, proofs.NodeOrder.counted_nodes}
 use Rattle.batch_model.specs.Cleared.{phases, phases_within, phases_of_each, phases_of_choices}
-use Rattle.batch_verify.specs.NodePhases.{phase_run, phase_at, phases_along, phases_between}
-use Rattle.batch_verify.specs.Walking.{phase_names}
-use Rattle.batch_verify.proofs.PhaseNames.{phase_names-append}
+use Rattle.batch_verify.{specs.NodePhases.phase_run, specs.NodePhases.phase_at, specs.NodePhases.phases_along, specs.NodePhases.phases_between, specs.Walking.phase_names, proofs.PhaseNames.phase_names-append}
 
 -- the phase that a tree runs at its root
 abbrev run_by : Task → List Name

@@ -1,25 +1,12 @@
 -- The bindings by number are tried, and show each unit that is tried for a role.
 use Rattle.std.proofs.Common.{◌≡◌, ℕ, suc, ◌<◌, ◌≤◌, max, Bool, true, false, not, cond, ◌||◌, IsTrue, List, [], ◌∷◌, ◌++◌, length, map, slice_get, Option, Some, None, refl, sym, ap, ◌∙◌, subst, arith, inl, inr}
-use Rattle.std.specs.List.{find, list_all}
-use Rattle.std.specs.Cmp.Lexicographic.{bytes_decides}
-use Rattle.std.proofs.Math.Nat.{le-max_left, le-max_right}
-use Rattle.std.proofs.lemmas.Bool.{false_from_ne_true, or_from, or_cases, or_left, or_right, and_parts, not-true}
-use Rattle.std.proofs.lemmas.List.{length-append}
-use Rattle.std.proofs.lemmas.Option.{slice_get_within}
+use Rattle.std.{specs.List.find, specs.List.list_all, specs.Cmp.Lexicographic.bytes_decides, proofs.Math.Nat.le-max_left, proofs.Math.Nat.le-max_right, proofs.lemmas.Bool.false_from_ne_true, proofs.lemmas.Bool.or_from, proofs.lemmas.Bool.or_cases, proofs.lemmas.Bool.or_left, proofs.lemmas.Bool.or_right, proofs.lemmas.Bool.and_parts, proofs.lemmas.Bool.not-true, proofs.lemmas.List.length-append, proofs.lemmas.Option.slice_get_within}
 use Rattle.batch_cell.specs.LookUps.{resources_of, units_of_class}
 use Rattle.batch_cell.specs.declared.cell.Cell as equipment
-use Rattle.batch_recipe.specs.Conditions.{Name, same_name}
-use Rattle.batch_recipe.specs.Expanding.{Binding}
-use Rattle.batch_recipe.specs.WellFormed.{is_among, are_distinct, are_roles, is_role_among}
+use Rattle.batch_recipe.specs.{Conditions.Name, Conditions.same_name, Expanding.Binding, WellFormed.is_among, WellFormed.are_distinct, WellFormed.are_roles, WellFormed.is_role_among, declared.role.Role.Role}
 use Rattle.batch_recipe.specs.declared.recipe.Recipe as document
-use Rattle.batch_recipe.specs.declared.role.Role.{Role}
-use Rattle.batch_model.specs.Lists.{Each, Has}
-use Rattle.batch_model.specs.Plant.{Setup}
-use Rattle.batch_model.specs.Plant.{Role as ModelRole}
-use Rattle.batch_model.specs.Setups.{master_of, setup_of}
-use Rattle.batch_verify.specs.Bindings.{nobody, candidate_of, numbered_binding, binding_count}
-use Rattle.batch_verify.specs.Refusals.{IsTried, IsTriedFor}
-use Rattle.batch_verify.proofs.NamesInList.{among_at, same_name_sym}
+use Rattle.batch_model.specs.{Lists.Each, Lists.Has, Plant.Setup, Plant.Role as ModelRole, Setups.master_of, Setups.setup_of}
+use Rattle.batch_verify.{specs.Bindings.nobody, specs.Bindings.candidate_of, specs.Bindings.numbered_binding, specs.Bindings.binding_count, specs.Refusals.IsTried, specs.Refusals.IsTriedFor, proofs.NamesInList.among_at, proofs.NamesInList.same_name_sym}
 
 -- Nobody
 

@@ -1,31 +1,11 @@
 -- The resources asked for at two places of a path are so in one of the bindings that are looked at.
 use Rattle.std.proofs.Common.{◌≡◌, ◌⊎◌, ℕ, ◌<◌, Bool, true, false, List, [], ◌∷◌, length, Option, Some, None, slice_get, get_or, option_map, refl, sym, ap, ap₂, ◌∙◌, subst, arith, inl, inr, ⊎_elim}
-use Rattle.std.specs.Cmp.Lexicographic.{bytes_decides}
-use Rattle.std.proofs.lemmas.Option.{slice_get-get_or, slice_get-map, slice_get_within}
+use Rattle.std.{specs.Cmp.Lexicographic.bytes_decides, proofs.lemmas.Option.slice_get-get_or, proofs.lemmas.Option.slice_get-map, proofs.lemmas.Option.slice_get_within}
 use Rattle.batch_cell.specs.declared.cell.Cell as equipment
-use Rattle.batch_recipe.specs.Conditions.{Name, same_name}
-use Rattle.batch_recipe.specs.Expanding.{Binding, unbound, unit_chosen}
-use Rattle.batch_recipe.specs.Nodes.{Node}
-use Rattle.batch_recipe.specs.Procedure.{bound_nodes}
-use Rattle.batch_recipe.specs.WellFormed.{are_roles, is_among}
-use Rattle.batch_recipe.specs.declared.act.UnitChoice.{UnitChoice}
-use Rattle.batch_recipe.specs.declared.act.UnitChoice.TheVariants.{Unit as by_name, Role as by_role}
-use Rattle.batch_recipe.specs.declared.entry.Entry.{Entry}
+use Rattle.batch_recipe.{specs.Conditions.Name, specs.Conditions.same_name, specs.Expanding.Binding, specs.Expanding.unbound, specs.Expanding.unit_chosen, specs.Nodes.Node, specs.Procedure.bound_nodes, specs.WellFormed.are_roles, specs.WellFormed.is_among, specs.declared.act.UnitChoice.UnitChoice, specs.declared.act.UnitChoice.TheVariants.Unit as by_name, specs.declared.act.UnitChoice.TheVariants.Role as by_role, specs.declared.entry.Entry.Entry, specs.declared.recipe.Recipe.Recipe, specs.declared.role.Role.Role, proofs.OutlineLinks.as_many_entries}
 use Rattle.batch_recipe.specs.declared.entry.Kind.TheVariants as kind
-use Rattle.batch_recipe.specs.declared.recipe.Recipe.{Recipe}
-use Rattle.batch_recipe.specs.declared.role.Role.{Role}
-use Rattle.batch_recipe.proofs.OutlineLinks.{as_many_entries}
-use Rattle.batch_model.specs.Lists.{Each, Has}
-use Rattle.batch_model.specs.Cleared.{Level, is_procedure, in_procedure, in_unit_procedure, in_operation}
-use Rattle.batch_model.specs.Setups.{master_of, setup_of}
-use Rattle.batch_model.proofs.Members.{Each-Has}
-use Rattle.batch_verify.specs.Bindings.{binding_count, numbered_binding}
-use Rattle.batch_verify.specs.Refusals.{IsTried}
-use Rattle.batch_verify.proofs.Choices.{has_at, Ask, AreNamed, FewRoles, HasChoices, IsNamed, IsUnit, IsUnitOr, NoRoles, OneRole, ReservesNothing, choices, names_by}
-use Rattle.batch_verify.proofs.RolesInTree.{declared, names_it}
-use Rattle.batch_verify.proofs.Spots.{outlines}
-use Rattle.batch_verify.proofs.EntryNodes.{node_of, stands}
-use Rattle.batch_verify.proofs.NumberedBindings.{role-covered, role-tried, some-binding}
+use Rattle.batch_model.{specs.Lists.Each, specs.Lists.Has, specs.Cleared.Level, specs.Cleared.is_procedure, specs.Cleared.in_procedure, specs.Cleared.in_unit_procedure, specs.Cleared.in_operation, specs.Setups.master_of, specs.Setups.setup_of, proofs.Members.Each-Has}
+use Rattle.batch_verify.{specs.Bindings.binding_count, specs.Bindings.numbered_binding, specs.Refusals.IsTried, proofs.Choices.has_at, proofs.Choices.Ask, proofs.Choices.AreNamed, proofs.Choices.FewRoles, proofs.Choices.HasChoices, proofs.Choices.IsNamed, proofs.Choices.IsUnit, proofs.Choices.IsUnitOr, proofs.Choices.NoRoles, proofs.Choices.OneRole, proofs.Choices.ReservesNothing, proofs.Choices.choices, proofs.Choices.names_by, proofs.RolesInTree.declared, proofs.RolesInTree.names_it, proofs.Spots.outlines, proofs.EntryNodes.node_of, proofs.EntryNodes.stands, proofs.NumberedBindings.role-covered, proofs.NumberedBindings.role-tried, proofs.NumberedBindings.some-binding}
 
 abbrev no_entry : Entry
 no_entry = record { kind = kind.Skip; end = 0; parent = 0; child = 0; needs = 0; detail = 0 }

@@ -1,23 +1,12 @@
 -- The spans on which phase steps passed.
 use Rattle.std.proofs.Common.{◌≡◌, ◌≢◌, ◌⊎◌, ◌<◌, ◌≤◌, ℕ, List, length, Option, Some, None, get_or, replicate, set, sym, ap, ◌∙◌, subst, arith, inl, inr}
-use Rattle.std.proofs.lemmas.Bool.{cases_eq, cases_lt}
-use Rattle.std.proofs.lemmas.List.{get_or-replicate, get_or-set_other, get_or-set_same, get_or_past, length-replicate, length-set}
+use Rattle.std.proofs.lemmas.{Bool.cases_eq, Bool.cases_lt, List.get_or-replicate, List.get_or-set_other, List.get_or-set_same, List.get_or_past, List.length-replicate, List.length-set}
 use Rattle.batch_cell.specs.declared.cell.Cell as equipment
-use Rattle.batch_recipe.specs.Outlines.{act_of_kind}
-use Rattle.batch_recipe.specs.declared.act.Act.{Act}
-use Rattle.batch_recipe.specs.declared.acts.LabelTable.TheVariants.{Phases}
-use Rattle.batch_recipe.specs.declared.entry.Kind.{Kind}
+use Rattle.batch_recipe.specs.{Outlines.act_of_kind, declared.act.Act.Act, declared.acts.LabelTable.TheVariants.Phases, declared.entry.Kind.Kind, declared.role.Role.Role}
 use Rattle.batch_recipe.specs.declared.entry.Kind.TheVariants as kind
 use Rattle.batch_recipe.specs.declared.recipe.Recipe as document
-use Rattle.batch_recipe.specs.declared.role.Role.{Role}
-use Rattle.batch_set.specs.Looked.{needs_by}
-use Rattle.batch_set.specs.declared.linked.LinkedNeed.{LinkedNeed}
-use Rattle.batch_set.specs.declared.linked.LinkedRecipe.{LinkedRecipe}
-use Rattle.batch_set.specs.declared.linked.Source.{Source}
-use Rattle.batch_verify.specs.PassedSteps.{Allows, passed_at, with_passed}
-use Rattle.batch_verify.specs.Spans.{ComesBelow, IsAtMost, IsPassed}
-use Rattle.batch_verify.specs.declared.passed.Passed.{Passed}
-use Rattle.batch_verify.specs.declared.span.Span.{Span}
+use Rattle.batch_set.specs.{Looked.needs_by, declared.linked.LinkedNeed.LinkedNeed, declared.linked.LinkedRecipe.LinkedRecipe, declared.linked.Source.Source}
+use Rattle.batch_verify.specs.{PassedSteps.Allows, PassedSteps.passed_at, PassedSteps.with_passed, Spans.ComesBelow, Spans.IsAtMost, Spans.IsPassed, declared.passed.Passed.Passed, declared.span.Span.Span}
 
 -- P holds of the spans noted for each act
 abbrev pub AreNoted : (Kind → Passed → Type 0) → List (Option Passed) → Type 0

@@ -1,39 +1,11 @@
 -- The paths to the nodes of a recipe, by number, as far as the nodes meet the rules.
 use Rattle.std.proofs.Common.{◌≡◌, ◌⊎◌, ℕ, ◌+◌, ◌<◌, ◌≤◌, List, [], ◌∷◌, ◌++◌, length, Option, Some, None, Result, Ok, Err, slice_get, get_or, sym, ap, ◌∙◌, refl, subst, arith, inl, inr, append-nil, length-append}
-use Rattle.std.specs.Option.{ForSome}
-use Rattle.std.proofs.lemmas.Bool.{cases_lt}
-use Rattle.std.proofs.lemmas.List.{length-map}
-use Rattle.std.proofs.lemmas.Option.{slice_get-get_or}
+use Rattle.std.{specs.Option.ForSome, proofs.lemmas.Bool.cases_lt, proofs.lemmas.List.length-map, proofs.lemmas.Option.slice_get-get_or}
 use Rattle.batch_cell.specs.LookUps.{units_of}
 use Rattle.batch_cell.specs.declared.cell.Cell as equipment
-use Rattle.batch_recipe.specs.ActsAtNodes.{IsNoAct}
-use Rattle.batch_recipe.specs.Conditions.{Name}
-use Rattle.batch_recipe.specs.Expanding.{Binding, Sites, act_tree_with, needs_with}
-use Rattle.batch_recipe.specs.Needs.{resources_needed}
-use Rattle.batch_recipe.specs.Nodes.{Node, needs_of}
-use Rattle.batch_recipe.specs.Outlines.{act_of_kind}
-use Rattle.batch_recipe.specs.Procedure.{bound_nodes, bound_tree, sites}
-use Rattle.batch_recipe.specs.Tree.{Tree}
-use Rattle.batch_recipe.specs.declared.act.Act.{Act}
-use Rattle.batch_recipe.specs.declared.entry.Entry.{Entry}
-use Rattle.batch_recipe.specs.declared.recipe.Recipe.{Recipe}
-use Rattle.batch_recipe.proofs.OutlineLinks.{as_many_entries}
-use Rattle.batch_model.specs.Lists.{Each}
-use Rattle.batch_model.specs.Cleared.{Ranking, Level, is_procedure, below, Part, part}
-use Rattle.batch_model.specs.Setups.{setup_of}
-use Rattle.batch_model.proofs.TreeParts.{parts-nodes}
-use Rattle.batch_verify.specs.Charts.{AreFaults, IsFaultOf}
-use Rattle.batch_verify.specs.Refusals.{Breaks, IsFirstBroken, MeetsRules}
-use Rattle.batch_verify.specs.Walking.{IsEntered, IsEnteredAs, IsOnUnit, RisesTo, kept, no_path}
-use Rattle.batch_verify.specs.Ways.{Spot, Way, top, bound_parts, bound_ways}
-use Rattle.batch_verify.specs.declared.rule.Rule.{Rule}
-use Rattle.batch_verify.specs.declared.site.Path.{Path}
-use Rattle.batch_verify.proofs.Faults.{one_more}
-use Rattle.batch_verify.proofs.Spots.{outlines}
-use Rattle.batch_verify.proofs.Ranks.{path_begins, path_is_rising}
-use Rattle.batch_verify.proofs.EntryNodes.{IsTop, IsBelow, Stands, stands, node_of}
-use Rattle.batch_verify.proofs.Verdicts.{MeetBelow, all_meet, bare_breaks, bare_meets, bare_needs, first_breaks}
-use Rattle.batch_verify.proofs.WayActs.{IsActOn, IsHereOn}
+use Rattle.batch_recipe.{specs.ActsAtNodes.IsNoAct, specs.Conditions.Name, specs.Expanding.Binding, specs.Expanding.Sites, specs.Expanding.act_tree_with, specs.Expanding.needs_with, specs.Needs.resources_needed, specs.Nodes.Node, specs.Nodes.needs_of, specs.Outlines.act_of_kind, specs.Procedure.bound_nodes, specs.Procedure.bound_tree, specs.Procedure.sites, specs.Tree.Tree, specs.declared.act.Act.Act, specs.declared.entry.Entry.Entry, specs.declared.recipe.Recipe.Recipe, proofs.OutlineLinks.as_many_entries}
+use Rattle.batch_model.{specs.Lists.Each, specs.Cleared.Ranking, specs.Cleared.Level, specs.Cleared.is_procedure, specs.Cleared.below, specs.Cleared.Part, specs.Cleared.part, specs.Setups.setup_of, proofs.TreeParts.parts-nodes}
+use Rattle.batch_verify.{specs.Charts.AreFaults, specs.Charts.IsFaultOf, specs.Refusals.Breaks, specs.Refusals.IsFirstBroken, specs.Refusals.MeetsRules, specs.Walking.IsEntered, specs.Walking.IsEnteredAs, specs.Walking.IsOnUnit, specs.Walking.RisesTo, specs.Walking.kept, specs.Walking.no_path, specs.Ways.Spot, specs.Ways.Way, specs.Ways.top, specs.Ways.bound_parts, specs.Ways.bound_ways, specs.declared.rule.Rule.Rule, specs.declared.site.Path.Path, proofs.Faults.one_more, proofs.Spots.outlines, proofs.Ranks.path_begins, proofs.Ranks.path_is_rising, proofs.EntryNodes.IsTop, proofs.EntryNodes.IsBelow, proofs.EntryNodes.Stands, proofs.EntryNodes.stands, proofs.EntryNodes.node_of, proofs.Verdicts.MeetBelow, proofs.Verdicts.all_meet, proofs.Verdicts.bare_breaks, proofs.Verdicts.bare_meets, proofs.Verdicts.bare_needs, proofs.Verdicts.first_breaks, proofs.WayActs.IsActOn, proofs.WayActs.IsHereOn}
 
 module _ (c : equipment.Cell) (ranking : Option Ranking) (bound : Binding) (r : Recipe) where
   abbrev on : Sites

@@ -1,12 +1,7 @@
 -- The bits of sets of phases.
 use Rattle.std.proofs.Common.{◌≡◌, ◌<◌, ◌≤◌, ◌+◌, ◌-◌, ◌*◌, ◌%◌, ◌||◌, ℕ, Bool, true, false, nat_eq, nat_lt, bit_and, bit_or, inl, inr, refl, sym, ap, ◌∙◌, subst, arith}
-use Rattle.std.specs.Prelude.{◌^◌, min}
-use Rattle.std.specs.Int.{bit_at}
-use Rattle.std.proofs.lemmas.Bool.{cases_lt, eqb-false, eqb-true, le-ltb, lt-ltb}
-use Rattle.std.proofs.lemmas.Nat.{one_shl}
-use Rattle.std.proofs.lemmas.Nat.Bits.{bit_at-lt, bit_at-pow_other, bit_at-pow_same, bit_at-zero, bit_at_above, bit_at_and, bit_at_or, same_from_bits}
-use Rattle.batch_verify.specs.PhaseSets.{has, has_in}
-use Rattle.batch_verify.specs.declared.phase_set.PhaseSet.{PhaseSet}
+use Rattle.std.{specs.Prelude.◌^◌, specs.Prelude.min, specs.Int.bit_at, proofs.lemmas.Bool.cases_lt, proofs.lemmas.Bool.eqb-false, proofs.lemmas.Bool.eqb-true, proofs.lemmas.Bool.le-ltb, proofs.lemmas.Bool.lt-ltb, proofs.lemmas.Nat.one_shl, proofs.lemmas.Nat.Bits.bit_at-lt, proofs.lemmas.Nat.Bits.bit_at-pow_other, proofs.lemmas.Nat.Bits.bit_at-pow_same, proofs.lemmas.Nat.Bits.bit_at-zero, proofs.lemmas.Nat.Bits.bit_at_above, proofs.lemmas.Nat.Bits.bit_at_and, proofs.lemmas.Nat.Bits.bit_at_or, proofs.lemmas.Nat.Bits.same_from_bits}
+use Rattle.batch_verify.specs.{PhaseSets.has, PhaseSets.has_in, declared.phase_set.PhaseSet.PhaseSet}
 
 or_bit : (a b k : ℕ) → nat_eq (bit_at (bit_or a b) k) 1 ≡ (nat_eq (bit_at a k) 1 || nat_eq (bit_at b k) 1)
 or_bit a b k = grind (arith, bit_at_or a b k, bit_at-lt a k, bit_at-lt b k)

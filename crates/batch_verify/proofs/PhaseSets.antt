@@ -1,25 +1,8 @@
 -- Sets of the phases of trees.
 use Rattle.std.proofs.Common.{◌≡◌, ◌≤◌, ◌<◌, ◌+◌, ◌↔◌, ℕ, Bool, true, false, ◌||◌, ◌⊎◌, cond, nat_eq, List, [], ◌∷◌, ◌++◌, length, get_or, set, inl, inr, Option, None, Some, refl, sym, ap, ap₂, ◌∙◌, subst, arith, position, unwrap_or, slice_get}
-use Rattle.std.specs.Borrow.{Bor}
-use Rattle.std.specs.Cmp.Lexicographic.{bytes_decides}
-use Rattle.std.proofs.lemmas.Bool.{cases_eq, eq-eqb, eqb-true, false_from_ne_true, ne_eqb, or_cases}
-use Rattle.std.proofs.lemmas.List.{get_or-set_same, get_or-set_other, length-set}
-use Rattle.std.proofs.lemmas.List.Quantifiers.{position-Some}
-use Rattle.batch_recipe.specs.Conditions.{Name, same_name}
-use Rattle.batch_recipe.specs.Nodes.{Node}
-use Rattle.batch_recipe.specs.Procedure.{procedure_nodes}
-use Rattle.batch_recipe.specs.WellFormed.{is_among}
-use Rattle.batch_recipe.specs.declared.act.Act.{Act}
-use Rattle.batch_recipe.specs.declared.act.Work.{Work}
-use Rattle.batch_recipe.specs.declared.act.Work.TheVariants.{Follows, Runs}
-use Rattle.batch_recipe.specs.declared.acts.Acts.{Acts}
-use Rattle.batch_recipe.proofs.FirstMatch.{position_front, position_later, position_nowhere}
-use Rattle.batch_verify.specs.NodePhases.{phase_run}
-use Rattle.batch_verify.specs.PhaseSets.{has, has_some, number_in, number_of, runs, AreKnownFrom, GivesNumber, IsOfTree, IsSetOf}
-use Rattle.batch_verify.specs.declared.phase_set.PhaseSet.{PhaseSet}
-use Rattle.batch_verify.specs.declared.tree_phases.TreePhases.{TreePhases}
-use Rattle.batch_verify.proofs.PhaseNames.{is_among-append}
-use Rattle.batch_verify.proofs.BranchesApart.{AreApart}
+use Rattle.std.{specs.Borrow.Bor, specs.Cmp.Lexicographic.bytes_decides, proofs.lemmas.Bool.cases_eq, proofs.lemmas.Bool.eq-eqb, proofs.lemmas.Bool.eqb-true, proofs.lemmas.Bool.false_from_ne_true, proofs.lemmas.Bool.ne_eqb, proofs.lemmas.Bool.or_cases, proofs.lemmas.List.get_or-set_same, proofs.lemmas.List.get_or-set_other, proofs.lemmas.List.length-set, proofs.lemmas.List.Quantifiers.position-Some}
+use Rattle.batch_recipe.{specs.Conditions.Name, specs.Conditions.same_name, specs.Nodes.Node, specs.Procedure.procedure_nodes, specs.WellFormed.is_among, specs.declared.act.Act.Act, specs.declared.act.Work.Work, specs.declared.act.Work.TheVariants.Follows, specs.declared.act.Work.TheVariants.Runs, specs.declared.acts.Acts.Acts, proofs.FirstMatch.position_front, proofs.FirstMatch.position_later, proofs.FirstMatch.position_nowhere}
+use Rattle.batch_verify.{specs.NodePhases.phase_run, specs.PhaseSets.has, specs.PhaseSets.has_some, specs.PhaseSets.number_in, specs.PhaseSets.number_of, specs.PhaseSets.runs, specs.PhaseSets.AreKnownFrom, specs.PhaseSets.GivesNumber, specs.PhaseSets.IsOfTree, specs.PhaseSets.IsSetOf, specs.declared.phase_set.PhaseSet.PhaseSet, specs.declared.tree_phases.TreePhases.TreePhases, proofs.PhaseNames.is_among-append, proofs.BranchesApart.AreApart}
 
 or_none : (b : Bool) → (b || false) ≡ true → b ≡ true
 or_none b e = grind arith

@@ -1,28 +1,8 @@
 -- The phases that are run from one node to another, tree by tree.
 use Rattle.std.proofs.Common.{◌≡◌, ◌<◌, ◌≤◌, ◌+◌, ◌++◌, ℕ, zero, suc, Bool, List, [], ◌∷◌, length, drop, take, true, Option, Some, append-nil, refl, sym, ap, ◌∙◌, arith}
-use Rattle.std.specs.Prelude.{slice_get}
-use Rattle.std.specs.List.{list_all}
-use Rattle.std.proofs.lemmas.Bool.{and_parts}
-use Rattle.std.proofs.lemmas.List.{drop-append-le, drop-take, drop_more, length-take-le, take-append-drop, take-take}
-use Rattle.std.proofs.lemmas.Option.{get_or_from_slice_get, slice_get_within}
-use Rattle.batch_recipe.specs.ActsAtNodes.{ActList}
-use Rattle.batch_recipe.specs.Expanding.{unbound}
-use Rattle.batch_recipe.specs.Links.{IsEntryOf, form_at}
-use Rattle.batch_recipe.specs.Nodes.{Node, node_count}
-use Rattle.batch_recipe.specs.Outlines.{a_par, act_of_kind, form_of}
-use Rattle.batch_recipe.specs.Tree.{Trees, par}
-use Rattle.batch_recipe.specs.WellFormed.{are_kinds, has_chart}
-use Rattle.batch_recipe.specs.declared.act.Act.{Act}
-use Rattle.batch_recipe.specs.declared.acts.Acts.{Acts}
-use Rattle.batch_recipe.specs.declared.entry.Entry.{Entry}
-use Rattle.batch_recipe.specs.declared.entry.Kind.{Kind}
-use Rattle.batch_recipe.specs.declared.recipe.Recipe.{Recipe}
-use Rattle.batch_recipe.proofs.NodeSubtrees.{place_within}
-use Rattle.batch_recipe.proofs.NodesAbove.{entry_at, ns}
-use Rattle.batch_recipe.proofs.NodesBelow.{below_place}
-use Rattle.batch_verify.specs.NodePhases.{phase_at, phase_run, phases_along, phases_between}
-use Rattle.batch_verify.specs.PhaseSets.{own_phases}
-use Rattle.batch_verify.proofs.TreesApart.{phases_along-append}
+use Rattle.std.{specs.Prelude.slice_get, specs.List.list_all, proofs.lemmas.Bool.and_parts, proofs.lemmas.List.drop-append-le, proofs.lemmas.List.drop-take, proofs.lemmas.List.drop_more, proofs.lemmas.List.length-take-le, proofs.lemmas.List.take-append-drop, proofs.lemmas.List.take-take, proofs.lemmas.Option.get_or_from_slice_get, proofs.lemmas.Option.slice_get_within}
+use Rattle.batch_recipe.{specs.ActsAtNodes.ActList, specs.Expanding.unbound, specs.Links.IsEntryOf, specs.Links.form_at, specs.Nodes.Node, specs.Nodes.node_count, specs.Outlines.a_par, specs.Outlines.act_of_kind, specs.Outlines.form_of, specs.Tree.Trees, specs.Tree.par, specs.WellFormed.are_kinds, specs.WellFormed.has_chart, specs.declared.act.Act.Act, specs.declared.acts.Acts.Acts, specs.declared.entry.Entry.Entry, specs.declared.entry.Kind.Kind, specs.declared.recipe.Recipe.Recipe, proofs.NodeSubtrees.place_within, proofs.NodesAbove.entry_at, proofs.NodesAbove.ns, proofs.NodesBelow.below_place}
+use Rattle.batch_verify.{specs.NodePhases.phase_at, specs.NodePhases.phase_run, specs.NodePhases.phases_along, specs.NodePhases.phases_between, specs.PhaseSets.own_phases, proofs.TreesApart.phases_along-append}
 
 -- a node with a number of a tree ends within the tree
 pub nested : (r : Recipe) (k : ℕ) (x : Node) → slice_get (ns r) k ≡ Some x → (b : ℕ) (z : Node) → slice_get (ns r) b ≡ Some z → k ≤ b → b < k + node_count x.here → b + node_count z.here ≤ k + node_count x.here

@@ -1,23 +1,9 @@
 -- Trees of one recipe run the same phases, whatever units take the roles.
 use Rattle.std.proofs.Common.{arith, ◌≡◌, ℕ, zero, suc, ◌+◌, ◌++◌, false, ◌&&◌, ◌||◌, List, [], ◌∷◌, Option, Some, None, slice_get, sym, ap, ap₂, ◌∙◌, refl, subst}
-use Rattle.batch_recipe.specs.Conditions.{Name, same_name}
-use Rattle.batch_recipe.specs.Diagram.{Diagram, label, skip, seq, par, sel, loop, Diagrams, none, more, Cases, otherwise, when, diagram_of}
-use Rattle.batch_recipe.specs.Expanding.{Binding, Sites, expanded, expanded_each, expanded_cases, task_of, act_named, act_tree_with, named_tree_with, unit_with, unit_below}
-use Rattle.batch_recipe.specs.Needs.{resources_needed}
-use Rattle.batch_recipe.specs.Nodes.{child}
-use Rattle.batch_recipe.specs.Procedure.{bound_tree, sites, tables_from}
+use Rattle.batch_recipe.specs.{Conditions.Name, Conditions.same_name, Diagram.Diagram, Diagram.label, Diagram.skip, Diagram.seq, Diagram.par, Diagram.sel, Diagram.loop, Diagram.Diagrams, Diagram.none, Diagram.more, Diagram.Cases, Diagram.otherwise, Diagram.when, Diagram.diagram_of, Expanding.Binding, Expanding.Sites, Expanding.expanded, Expanding.expanded_each, Expanding.expanded_cases, Expanding.task_of, Expanding.act_named, Expanding.act_tree_with, Expanding.named_tree_with, Expanding.unit_with, Expanding.unit_below, Needs.resources_needed, Nodes.child, Procedure.bound_tree, Procedure.sites, Procedure.tables_from, Tree.Place, Tree.Phase, Tree.Tree, Tree.Task, Tree.Trees, Tree.Choices, declared.act.Act.Act, declared.act.Work.Work, declared.act.Work.TheVariants.Follows, declared.act.Work.TheVariants.Runs, declared.acts.Acts.Acts, declared.acts.LabelTable.TheVariants.UnitProcedures}
 use Rattle.batch_recipe.specs.Tree as tree
-use Rattle.batch_recipe.specs.Tree.{Place, Phase, Tree, Task, Trees, Choices}
-use Rattle.batch_recipe.specs.declared.act.Act.{Act}
-use Rattle.batch_recipe.specs.declared.act.Work.{Work}
-use Rattle.batch_recipe.specs.declared.act.Work.TheVariants.{Follows, Runs}
-use Rattle.batch_recipe.specs.declared.acts.Acts.{Acts}
-use Rattle.batch_recipe.specs.declared.acts.LabelTable.TheVariants.{UnitProcedures}
-use Rattle.batch_model.specs.Lists.{Each}
-use Rattle.batch_model.specs.Cleared.{Level, is_procedure, in_procedure, in_unit_procedure, in_operation, below, Part, parts, parts_within, parts_of_each, parts_of_choices, IsApart, TurnsRun, phases, phases_within, phases_of_each, phases_of_choices, RunApart, BranchesRunApart, surely_runs, task_surely_runs, some_surely_runs, each_surely_runs}
-use Rattle.batch_verify.specs.Walking.{phase_names}
-use Rattle.batch_verify.specs.Ways.{bound_parts}
-use Rattle.batch_verify.proofs.PhaseNames.{phase_names-append}
+use Rattle.batch_model.specs.{Lists.Each, Cleared.Level, Cleared.is_procedure, Cleared.in_procedure, Cleared.in_unit_procedure, Cleared.in_operation, Cleared.below, Cleared.Part, Cleared.parts, Cleared.parts_within, Cleared.parts_of_each, Cleared.parts_of_choices, Cleared.IsApart, Cleared.TurnsRun, Cleared.phases, Cleared.phases_within, Cleared.phases_of_each, Cleared.phases_of_choices, Cleared.RunApart, Cleared.BranchesRunApart, Cleared.surely_runs, Cleared.task_surely_runs, Cleared.some_surely_runs, Cleared.each_surely_runs}
+use Rattle.batch_verify.{specs.Walking.phase_names, specs.Ways.bound_parts, proofs.PhaseNames.phase_names-append}
 
 -- the same nodes, whose steps stand at the same places and reserve the same, and whose phase steps run phases of the same names
 abbrev mutual

@@ -2,35 +2,9 @@
 use Rattle.std.proofs.Common.{◌≡◌, true, false, IsTrue, List, [], ◌∷◌, map, Option, Some, None, sym, ap, ◌∙◌, subst, inl, inr, refl}
 use Rattle.batch_cell.specs.LookUps.{resources_of}
 use Rattle.batch_cell.specs.declared.cell.Cell as equipment
-use Rattle.batch_recipe.specs.ActsAtNodes.{ActList, AreActsAt, IsActAt, IsNodeOf, procedure_acts}
-use Rattle.batch_recipe.specs.Conditions.{Name}
-use Rattle.batch_recipe.specs.Expanding.{Binding, unit_chosen}
-use Rattle.batch_recipe.specs.Nodes.{Node, needs_of}
-use Rattle.batch_recipe.specs.Procedure.{bound_nodes, bound_tree}
-use Rattle.batch_recipe.specs.Tree.{Tree}
-use Rattle.batch_recipe.specs.WellFormed.{is_among, are_roles}
-use Rattle.batch_recipe.specs.declared.act.Act.{Act}
-use Rattle.batch_recipe.specs.declared.act.UnitChoice.{UnitChoice}
-use Rattle.batch_recipe.specs.declared.acts.Acts.{Acts}
-use Rattle.batch_recipe.specs.declared.need.Need.{Need}
-use Rattle.batch_recipe.specs.declared.recipe.Recipe.{Recipe}
-use Rattle.batch_recipe.proofs.NodeActs.{procedure_acts_are}
-use Rattle.batch_model.specs.Lists.{Each, Has}
-use Rattle.batch_model.specs.Plant.{Role as ModelRole, Setup}
-use Rattle.batch_model.specs.Cleared.{Ranking, Part, is_procedure, HasCandidates, IsClear, IsClearedControl, IsClearedRecipe, NeedsResources, ReservesFollow}
-use Rattle.batch_model.specs.Recipes.{recipe_of}
-use Rattle.batch_model.specs.Setups.{master_of, setup_of}
-use Rattle.batch_model.proofs.Members.{Each-Has, Each-map}
-use Rattle.batch_model.proofs.TreeParts.{parts-nodes}
-use Rattle.batch_verify.specs.Bindings.{nobody, numbered_binding}
-use Rattle.batch_verify.specs.Refusals.{MeetsRules, IsTriedFor, IsVerdictOn}
-use Rattle.batch_verify.specs.Ways.{bound_parts}
-use Rattle.batch_verify.specs.declared.rule.Rule.TheVariants.{UnknownResource}
-use Rattle.batch_verify.proofs.Choices.{asked, asks_for, asks_in, has_mapped, needs_are}
-use Rattle.batch_verify.proofs.LeastVerdict.{meets_each}
-use Rattle.batch_verify.proofs.RolesInTree.{names_it}
-use Rattle.batch_verify.proofs.ServedRoles.{served_is_tried}
-use Rattle.batch_verify.proofs.NumberedBindings.{nobody-apart, numbered-tried}
+use Rattle.batch_recipe.{specs.ActsAtNodes.ActList, specs.ActsAtNodes.AreActsAt, specs.ActsAtNodes.IsActAt, specs.ActsAtNodes.IsNodeOf, specs.ActsAtNodes.procedure_acts, specs.Conditions.Name, specs.Expanding.Binding, specs.Expanding.unit_chosen, specs.Nodes.Node, specs.Nodes.needs_of, specs.Procedure.bound_nodes, specs.Procedure.bound_tree, specs.Tree.Tree, specs.WellFormed.is_among, specs.WellFormed.are_roles, specs.declared.act.Act.Act, specs.declared.act.UnitChoice.UnitChoice, specs.declared.acts.Acts.Acts, specs.declared.need.Need.Need, specs.declared.recipe.Recipe.Recipe, proofs.NodeActs.procedure_acts_are}
+use Rattle.batch_model.{specs.Lists.Each, specs.Lists.Has, specs.Plant.Role as ModelRole, specs.Plant.Setup, specs.Cleared.Ranking, specs.Cleared.Part, specs.Cleared.is_procedure, specs.Cleared.HasCandidates, specs.Cleared.IsClear, specs.Cleared.IsClearedControl, specs.Cleared.IsClearedRecipe, specs.Cleared.NeedsResources, specs.Cleared.ReservesFollow, specs.Recipes.recipe_of, specs.Setups.master_of, specs.Setups.setup_of, proofs.Members.Each-Has, proofs.Members.Each-map, proofs.TreeParts.parts-nodes}
+use Rattle.batch_verify.{specs.Bindings.nobody, specs.Bindings.numbered_binding, specs.Refusals.MeetsRules, specs.Refusals.IsTriedFor, specs.Refusals.IsVerdictOn, specs.Ways.bound_parts, specs.declared.rule.Rule.TheVariants.UnknownResource, proofs.Choices.asked, proofs.Choices.asks_for, proofs.Choices.asks_in, proofs.Choices.has_mapped, proofs.Choices.needs_are, proofs.LeastVerdict.meets_each, proofs.RolesInTree.names_it, proofs.ServedRoles.served_is_tried, proofs.NumberedBindings.nobody-apart, proofs.NumberedBindings.numbered-tried}
 
 each_mapped : {X Y : Type 0} (f : X → Y) (Q : Y → Type 0) (xs : List X) → Each (λ x. Q (f x)) xs → Each Q (map f xs)
 each_mapped f Q [] h = tt

@@ -1,17 +1,9 @@
 -- The verdict on the bindings that are looked at is that on the recipe.
 use Rattle.std.proofs.Common.{◌≡◌, true, List, Option, Some, None}
 use Rattle.batch_cell.specs.declared.cell.Cell as equipment
-use Rattle.batch_recipe.specs.Expanding.{Binding}
-use Rattle.batch_recipe.specs.WellFormed.{are_roles}
-use Rattle.batch_recipe.specs.declared.recipe.Recipe.{Recipe}
-use Rattle.batch_model.specs.Lists.{Has}
-use Rattle.batch_model.specs.Cleared.{Ranking}
-use Rattle.batch_model.specs.Setups.{master_of, setup_of}
-use Rattle.batch_verify.specs.Covering.{AreEnough, NumberedBindingsSuffice}
-use Rattle.batch_verify.specs.Refusals.{IsVerdictOn}
-use Rattle.batch_verify.specs.declared.rule.Broken.{Broken}
-use Rattle.batch_verify.proofs.RulesInBindings.{suffices}
-use Rattle.batch_verify.proofs.LeastVerdict.{IsLeast, all_meet, none_before}
+use Rattle.batch_recipe.specs.{Expanding.Binding, WellFormed.are_roles, declared.recipe.Recipe.Recipe}
+use Rattle.batch_model.specs.{Lists.Has, Cleared.Ranking, Setups.master_of, Setups.setup_of}
+use Rattle.batch_verify.{specs.Covering.AreEnough, specs.Covering.NumberedBindingsSuffice, specs.Refusals.IsVerdictOn, specs.declared.rule.Broken.Broken, proofs.RulesInBindings.suffices, proofs.LeastVerdict.IsLeast, proofs.LeastVerdict.all_meet, proofs.LeastVerdict.none_before}
 
 -- the least verdict of the bindings that were looked at is that on the recipe
 pub least_verdict : (c : equipment.Cell) (recipes : List Recipe) (recipe : Recipe) → are_roles recipe.roles.items recipe.acts ≡ true

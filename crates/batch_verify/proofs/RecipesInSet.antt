@@ -1,18 +1,11 @@
 -- Recipes of a set, one after another.
 use Rattle.std.proofs.Common.{◌≡◌, ℕ, ◌+◌, ◌≤◌, Bool, true, false, ◌||◌, Some, List, [], ◌∷◌, length, take, map, slice_get, refl, sym, ap, ◌∙◌, subst, arith}
-use Rattle.std.specs.Prelude.{IsTrue}
-use Rattle.std.specs.List.{list_any}
-use Rattle.std.proofs.lemmas.Bool.{false_from_ne_true}
-use Rattle.std.proofs.lemmas.List.{length-map, take-map}
-use Rattle.std.proofs.lemmas.Option.{slice_get-map}
-use Rattle.batch_recipe.specs.Conditions.{Name, same_name}
-use Rattle.batch_recipe.specs.WellFormed.{is_among, are_distinct}
+use Rattle.std.{specs.Prelude.IsTrue, specs.List.list_any, proofs.lemmas.Bool.false_from_ne_true, proofs.lemmas.List.length-map, proofs.lemmas.List.take-map, proofs.lemmas.Option.slice_get-map}
+use Rattle.batch_recipe.specs.{Conditions.Name, Conditions.same_name, WellFormed.is_among, WellFormed.are_distinct}
 use Rattle.batch_recipe.specs.declared.recipe.Recipe as document
 use Rattle.batch_cell.specs.declared.cell.Cell as equipment
-use Rattle.batch_model.specs.Setups.{master_of}
-use Rattle.batch_model.specs.declared.limits.TheConstants.{MAX_RECIPES}
-use Rattle.batch_verify.specs.Verifying.{recipe_names, IsRecipeSet}
-use Rattle.batch_verify.proofs.NamesInList.{take_next, are_distinct-push, are_distinct-again}
+use Rattle.batch_model.specs.{Setups.master_of, declared.limits.TheConstants.MAX_RECIPES}
+use Rattle.batch_verify.{specs.Verifying.recipe_names, specs.Verifying.IsRecipeSet, proofs.NamesInList.take_next, proofs.NamesInList.are_distinct-push, proofs.NamesInList.are_distinct-again}
 
 pub recipe_at : (c : equipment.Cell) (recipes : List document.Recipe) (k : ℕ) (recipe : document.Recipe) → slice_get recipes k ≡ Some recipe → slice_get (map (master_of c) recipes) k ≡ Some (master_of c recipe)
 recipe_at c recipes k recipe e = rw (slice_get-map (master_of c) recipes k, e) refl

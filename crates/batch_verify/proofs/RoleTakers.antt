@@ -1,15 +1,10 @@
 -- Nobody is no resource, by number, and a role has no more candidates than there are units.
 use Rattle.std.proofs.Common.{◌≡◌, ℕ, ◌≤◌, max, List, length, position, None, ◌∙◌, arith}
-use Rattle.std.proofs.Math.Nat.{le-max_left, le-max_right, max-le}
-use Rattle.std.proofs.lemmas.List.{length-map}
-use Rattle.std.proofs.lemmas.List.Sums.{length-filter, count_by-le-length}
+use Rattle.std.proofs.{Math.Nat.le-max_left, Math.Nat.le-max_right, Math.Nat.max-le, lemmas.List.length-map, lemmas.List.Sums.length-filter, lemmas.List.Sums.count_by-le-length}
 use Rattle.batch_cell.specs.LookUps.{units_of_class, is_of_class}
 use Rattle.batch_cell.specs.declared.cell.Cell as equipment
 use Rattle.batch_recipe.specs.Conditions.{Name, same_name}
-use Rattle.batch_verify.specs.Bindings.{nobody}
-use Rattle.batch_verify.proofs.ListLookups.{found_is_among}
-use Rattle.batch_verify.proofs.CertificateEntries.{is_none-some}
-use Rattle.batch_verify.proofs.NumberedBindings.{nobody-apart}
+use Rattle.batch_verify.{specs.Bindings.nobody, proofs.ListLookups.found_is_among, proofs.CertificateEntries.is_none-some, proofs.NumberedBindings.nobody-apart}
 
 pub max_joined : (a b c : ℕ) → max (max a b) c ≡ max a (max b c)
 max_joined a b c = grind (arith, le-max_left a (max b c), le-max_left b c, le-max_right a (max b c), le-max_right b c, le-max_left a b, le-max_left (max a b) c, le-max_right a b, le-max_right (max a b) c, max-le)

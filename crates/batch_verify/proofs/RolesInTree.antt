@@ -1,25 +1,8 @@
 -- The roles that a recipe's tree names: those of the unit procedures on whose units its acts run, and of those that they reserve.
 use Rattle.std.proofs.Common.{◌≡◌, Bool, true, false, not, map, ◌||◌, List, [], ◌∷◌, ◌++◌, Option, Some, None, refl, sym, ap, ◌∙◌, subst, inl, inr}
-use Rattle.std.specs.Prelude.{option_and_then}
-use Rattle.std.specs.List.{list_all}
-use Rattle.std.specs.Cmp.Lexicographic.{bytes_decides}
-use Rattle.std.proofs.lemmas.Bool.{and_parts, or_cases, or_left, or_right}
-use Rattle.batch_recipe.specs.ActsAtNodes.{ActList, acts_along, acts_along_each, acts_along_cases, acts_below, acts_from, acts_named, procedure_acts}
-use Rattle.batch_recipe.specs.Conditions.{Name, same_name}
-use Rattle.batch_recipe.specs.Diagram.{Diagram, label, skip, seq, par, sel, loop, Diagrams, none, more, Cases, otherwise, when, diagram_of}
-use Rattle.batch_recipe.specs.Expanding.{act_named}
-use Rattle.batch_recipe.specs.WellFormed.{are_distinct, are_kinds, has_chart, has_unit, is_among, is_role_among}
-use Rattle.batch_recipe.specs.declared.act.Act.{Act}
-use Rattle.batch_recipe.specs.declared.act.UnitChoice.{UnitChoice}
-use Rattle.batch_recipe.specs.declared.act.UnitChoice.TheVariants.{Unit, Role}
-use Rattle.batch_recipe.specs.declared.act.Work.{Work}
-use Rattle.batch_recipe.specs.declared.act.Work.TheVariants.{Follows, Runs}
-use Rattle.batch_recipe.specs.declared.acts.Acts.{Acts}
-use Rattle.batch_recipe.specs.declared.recipe.Recipe.{Recipe}
-use Rattle.batch_model.specs.Lists.{Has}
-use Rattle.batch_model.specs.Setups.{labels, labels_of_each, labels_of_cases, labels_of, name_role, reserve_role, role_of}
-use Rattle.batch_model.proofs.Bindings.{HaveNoUnits, no-units-below, none-chosen}
-use Rattle.batch_model.proofs.Members.{Has-left, Has-right, Has-split, find-Has}
+use Rattle.std.{specs.Prelude.option_and_then, specs.List.list_all, specs.Cmp.Lexicographic.bytes_decides, proofs.lemmas.Bool.and_parts, proofs.lemmas.Bool.or_cases, proofs.lemmas.Bool.or_left, proofs.lemmas.Bool.or_right}
+use Rattle.batch_recipe.specs.{ActsAtNodes.ActList, ActsAtNodes.acts_along, ActsAtNodes.acts_along_each, ActsAtNodes.acts_along_cases, ActsAtNodes.acts_below, ActsAtNodes.acts_from, ActsAtNodes.acts_named, ActsAtNodes.procedure_acts, Conditions.Name, Conditions.same_name, Diagram.Diagram, Diagram.label, Diagram.skip, Diagram.seq, Diagram.par, Diagram.sel, Diagram.loop, Diagram.Diagrams, Diagram.none, Diagram.more, Diagram.Cases, Diagram.otherwise, Diagram.when, Diagram.diagram_of, Expanding.act_named, WellFormed.are_distinct, WellFormed.are_kinds, WellFormed.has_chart, WellFormed.has_unit, WellFormed.is_among, WellFormed.is_role_among, declared.act.Act.Act, declared.act.UnitChoice.UnitChoice, declared.act.UnitChoice.TheVariants.Unit, declared.act.UnitChoice.TheVariants.Role, declared.act.Work.Work, declared.act.Work.TheVariants.Follows, declared.act.Work.TheVariants.Runs, declared.acts.Acts.Acts, declared.recipe.Recipe.Recipe}
+use Rattle.batch_model.{specs.Lists.Has, specs.Setups.labels, specs.Setups.labels_of_each, specs.Setups.labels_of_cases, specs.Setups.labels_of, specs.Setups.name_role, specs.Setups.reserve_role, specs.Setups.role_of, proofs.Bindings.HaveNoUnits, proofs.Bindings.no-units-below, proofs.Bindings.none-chosen, proofs.Members.Has-left, proofs.Members.Has-right, proofs.Members.Has-split, proofs.Members.find-Has}
 use Rattle.batch_verify.proofs.Levels.{found_passes, procedure_kind}
 
 -- From an act along a chart to a label that names it, and back

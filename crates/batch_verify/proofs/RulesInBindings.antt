@@ -1,47 +1,12 @@
 -- Each node meets a rule in all bindings if it does in bindings that are enough, rule by rule.
 use Rattle.std.proofs.Common.{◌≡◌, ◌≢◌, ℕ, ◌<◌, ◌≤◌, Bool, true, false, IsTrue, List, [], ◌∷◌, ◌++◌, map, length, Option, Some, None, slice_get, get_or, refl, sym, ap, ◌∙◌, subst, arith}
-use Rattle.std.specs.Cmp.Lexicographic.{bytes_decides}
-use Rattle.std.proofs.lemmas.Bool.{false≢true}
-use Rattle.std.proofs.lemmas.List.{length-map}
-use Rattle.std.proofs.lemmas.Option.{slice_get-get_or, slice_get_within}
+use Rattle.std.{specs.Cmp.Lexicographic.bytes_decides, proofs.lemmas.Bool.false≢true, proofs.lemmas.List.length-map, proofs.lemmas.Option.slice_get-get_or, proofs.lemmas.Option.slice_get_within}
 use Rattle.batch_cell.specs.LookUps.{units_of, resources_of}
 use Rattle.batch_cell.specs.declared.cell.Cell as equipment
-use Rattle.batch_recipe.specs.Conditions.{Name, same_name}
-use Rattle.batch_recipe.specs.Expanding.{Binding, step_of, task_of, unit_below, unit_chosen, unit_with}
-use Rattle.batch_recipe.specs.Nodes.{needs_of}
-use Rattle.batch_recipe.specs.Outlines.{act_of_kind}
-use Rattle.batch_recipe.specs.Procedure.{bound_tree, sites}
-use Rattle.batch_recipe.specs.Tree.{Place, Step, Tree, act, skip, seq, par, sel, loop}
-use Rattle.batch_recipe.specs.WellFormed.{are_roles, is_among}
-use Rattle.batch_recipe.specs.declared.act.Act.{Act}
-use Rattle.batch_recipe.specs.declared.act.UnitChoice.{UnitChoice}
-use Rattle.batch_recipe.specs.declared.act.UnitChoice.TheVariants.{Unit as by_name, Role as by_role}
-use Rattle.batch_recipe.specs.declared.act.Work.{Work}
-use Rattle.batch_recipe.specs.declared.act.Work.TheVariants.{Follows, Runs}
-use Rattle.batch_recipe.specs.declared.entry.Entry.{Entry}
+use Rattle.batch_recipe.{specs.Conditions.Name, specs.Conditions.same_name, specs.Expanding.Binding, specs.Expanding.step_of, specs.Expanding.task_of, specs.Expanding.unit_below, specs.Expanding.unit_chosen, specs.Expanding.unit_with, specs.Nodes.needs_of, specs.Outlines.act_of_kind, specs.Procedure.bound_tree, specs.Procedure.sites, specs.Tree.Place, specs.Tree.Step, specs.Tree.Tree, specs.Tree.act, specs.Tree.skip, specs.Tree.seq, specs.Tree.par, specs.Tree.sel, specs.Tree.loop, specs.WellFormed.are_roles, specs.WellFormed.is_among, specs.declared.act.Act.Act, specs.declared.act.UnitChoice.UnitChoice, specs.declared.act.UnitChoice.TheVariants.Unit as by_name, specs.declared.act.UnitChoice.TheVariants.Role as by_role, specs.declared.act.Work.Work, specs.declared.act.Work.TheVariants.Follows, specs.declared.act.Work.TheVariants.Runs, specs.declared.entry.Entry.Entry, specs.declared.need.Need.Need, specs.declared.recipe.Recipe.Recipe, proofs.OutlineLinks.as_many_entries}
 use Rattle.batch_recipe.specs.declared.entry.Kind.TheVariants as kind
-use Rattle.batch_recipe.specs.declared.need.Need.{Need}
-use Rattle.batch_recipe.specs.declared.recipe.Recipe.{Recipe}
-use Rattle.batch_recipe.proofs.OutlineLinks.{as_many_entries}
-use Rattle.batch_model.specs.Lists.{Each}
-use Rattle.batch_model.specs.Plant.{Setup}
-use Rattle.batch_model.specs.Cleared.{Ranking, Level, is_procedure, in_procedure, in_unit_procedure, in_operation, Part, BeginsWithUnit, HasUnit, IsApart, IsOffered, ReservesFollow, RiseStrictly, TurnsRun}
-use Rattle.batch_model.specs.Setups.{master_of, setup_of}
-use Rattle.batch_model.proofs.TreeParts.{parts-nodes}
-use Rattle.batch_verify.specs.Bindings.{binding_count, numbered_binding}
-use Rattle.batch_verify.specs.Covering.{AreEnough, IsMetInEach, Meets, bound_parts_of}
-use Rattle.batch_verify.specs.Refusals.{IsTried, RisesBy}
-use Rattle.batch_verify.specs.Ways.{bound_parts}
-use Rattle.batch_verify.specs.declared.rule.Rule.{Rule}
-use Rattle.batch_verify.specs.declared.rule.Rule.TheVariants.{UnknownResource, ShareAboveCapacity, PhaseNotOffered, SamePhaseInParallel, LoopWithoutPhase, ReserveDoesNotFollow, RankNotRising}
-use Rattle.batch_verify.proofs.PhasesInBindings.{AreAlike, IsLike, apart_as, part_alike, tree_alike, turns_as}
-use Rattle.batch_verify.proofs.FollowersInBindings.{follow_alike}
-use Rattle.batch_verify.proofs.Choices.{Ask, AreNamed, HasChoices, IsNamed, asked, asks_at, choices, names_by, needs_here, own_asks_are_named}
-use Rattle.batch_verify.proofs.Spots.{outlines}
-use Rattle.batch_verify.proofs.EntryNodes.{Stands, stands}
-use Rattle.batch_verify.proofs.NumberedBindings.{role-covered, role-tried, some-binding}
-use Rattle.batch_verify.proofs.Verdicts.{bare_offered}
-use Rattle.batch_verify.proofs.WayActs.{IsHereOn}
+use Rattle.batch_model.{specs.Lists.Each, specs.Plant.Setup, specs.Cleared.Ranking, specs.Cleared.Level, specs.Cleared.is_procedure, specs.Cleared.in_procedure, specs.Cleared.in_unit_procedure, specs.Cleared.in_operation, specs.Cleared.Part, specs.Cleared.BeginsWithUnit, specs.Cleared.HasUnit, specs.Cleared.IsApart, specs.Cleared.IsOffered, specs.Cleared.ReservesFollow, specs.Cleared.RiseStrictly, specs.Cleared.TurnsRun, specs.Setups.master_of, specs.Setups.setup_of, proofs.TreeParts.parts-nodes}
+use Rattle.batch_verify.{specs.Bindings.binding_count, specs.Bindings.numbered_binding, specs.Covering.AreEnough, specs.Covering.IsMetInEach, specs.Covering.Meets, specs.Covering.bound_parts_of, specs.Refusals.IsTried, specs.Refusals.RisesBy, specs.Ways.bound_parts, specs.declared.rule.Rule.Rule, specs.declared.rule.Rule.TheVariants.UnknownResource, specs.declared.rule.Rule.TheVariants.ShareAboveCapacity, specs.declared.rule.Rule.TheVariants.PhaseNotOffered, specs.declared.rule.Rule.TheVariants.SamePhaseInParallel, specs.declared.rule.Rule.TheVariants.LoopWithoutPhase, specs.declared.rule.Rule.TheVariants.ReserveDoesNotFollow, specs.declared.rule.Rule.TheVariants.RankNotRising, proofs.PhasesInBindings.AreAlike, proofs.PhasesInBindings.IsLike, proofs.PhasesInBindings.apart_as, proofs.PhasesInBindings.part_alike, proofs.PhasesInBindings.tree_alike, proofs.PhasesInBindings.turns_as, proofs.FollowersInBindings.follow_alike, proofs.Choices.Ask, proofs.Choices.AreNamed, proofs.Choices.HasChoices, proofs.Choices.IsNamed, proofs.Choices.asked, proofs.Choices.asks_at, proofs.Choices.choices, proofs.Choices.names_by, proofs.Choices.needs_here, proofs.Choices.own_asks_are_named, proofs.Spots.outlines, proofs.EntryNodes.Stands, proofs.EntryNodes.stands, proofs.NumberedBindings.role-covered, proofs.NumberedBindings.role-tried, proofs.NumberedBindings.some-binding, proofs.Verdicts.bare_offered, proofs.WayActs.IsHereOn}
 
 pub Each_left : {X : Type 0} (P : X → Type 0) (xs ys : List X) → Each P (xs ++ ys) → Each P xs
 Each_left P [] ys h = tt

@@ -1,15 +1,8 @@
 -- Branches one after another, of which some surely run a phase.
 use Rattle.std.proofs.Common.{◌≡◌, ℕ, ◌+◌, ◌<◌, ◌≤◌, List, Bool, true, false, ◌||◌, Some, slice_get, ap, ◌∙◌, refl, subst, arith}
-use Rattle.batch_recipe.specs.Children.{AreHere}
-use Rattle.batch_recipe.specs.Nodes.{node_count}
-use Rattle.batch_recipe.specs.Tree.{Trees, no_trees, tree}
-use Rattle.batch_recipe.specs.declared.entry.Entry.{Entry}
-use Rattle.batch_recipe.specs.declared.recipe.Recipe.{Recipe}
-use Rattle.batch_recipe.proofs.NodeSubtrees.{some_count}
-use Rattle.batch_recipe.proofs.NodesAbove.{ns}
+use Rattle.batch_recipe.{specs.Children.AreHere, specs.Nodes.node_count, specs.Tree.Trees, specs.Tree.no_trees, specs.Tree.tree, specs.declared.entry.Entry.Entry, specs.declared.recipe.Recipe.Recipe, proofs.NodeSubtrees.some_count, proofs.NodesAbove.ns}
 use Rattle.batch_model.specs.Cleared.{some_surely_runs}
-use Rattle.batch_verify.specs.RunningNodes.{RunsFrom}
-use Rattle.batch_verify.proofs.RunningTrees.{known_at, ends_at, ends_later}
+use Rattle.batch_verify.{specs.RunningNodes.RunsFrom, proofs.RunningTrees.known_at, proofs.RunningTrees.ends_at, proofs.RunningTrees.ends_later}
 
 -- branches end no earlier than they begin
 later : (r : Recipe) (end k : ℕ) (ts : Trees) → AreHere (ns r) k end ts → k ≤ end

@@ -1,15 +1,8 @@
 -- The branches of a selection one after another, each of which surely runs a phase.
 use Rattle.std.proofs.Common.{◌≡◌, ℕ, ◌+◌, ◌<◌, ◌≤◌, List, Bool, true, false, ◌&&◌, Some, slice_get, ap, ◌∙◌, refl, subst, arith}
-use Rattle.batch_recipe.specs.Children.{AreCasesHere}
-use Rattle.batch_recipe.specs.Nodes.{node_count}
-use Rattle.batch_recipe.specs.Tree.{Choices, otherwise, choice}
-use Rattle.batch_recipe.specs.declared.entry.Entry.{Entry}
-use Rattle.batch_recipe.specs.declared.recipe.Recipe.{Recipe}
-use Rattle.batch_recipe.proofs.NodeSubtrees.{some_count}
-use Rattle.batch_recipe.proofs.NodesAbove.{ns}
+use Rattle.batch_recipe.{specs.Children.AreCasesHere, specs.Nodes.node_count, specs.Tree.Choices, specs.Tree.otherwise, specs.Tree.choice, specs.declared.entry.Entry.Entry, specs.declared.recipe.Recipe.Recipe, proofs.NodeSubtrees.some_count, proofs.NodesAbove.ns}
 use Rattle.batch_model.specs.Cleared.{each_surely_runs}
-use Rattle.batch_verify.specs.RunningNodes.{RunsFrom}
-use Rattle.batch_verify.proofs.RunningTrees.{known_at, ends_at, ends_later}
+use Rattle.batch_verify.{specs.RunningNodes.RunsFrom, proofs.RunningTrees.known_at, proofs.RunningTrees.ends_at, proofs.RunningTrees.ends_later}
 
 -- a selection has a branch
 later : (r : Recipe) (end k : ℕ) (cs : Choices) → AreCasesHere (ns r) k end cs → k < end

@@ -1,18 +1,8 @@
 -- Whether a node surely runs a phase, by its form and by the answers for the nodes below it.
 use Rattle.std.proofs.Common.{◌≡◌, ◌≢◌, ◌⊎◌, ℕ, ◌+◌, ◌<◌, ◌≤◌, List, Bool, true, false, length, Some, slice_get, sym, ap, ◌∙◌, subst, arith}
-use Rattle.batch_recipe.specs.Children.{AreHere, AreCasesHere, HasBelow}
-use Rattle.batch_recipe.specs.Expanding.{unbound}
-use Rattle.batch_recipe.specs.Links.{IsEntryOf, form_at}
-use Rattle.batch_recipe.specs.Nodes.{Node, node_count}
-use Rattle.batch_recipe.specs.Outlines.{Form, an_act, a_skip, a_seq, a_par, a_sel, a_loop, form_of}
-use Rattle.batch_recipe.specs.Tree.{Tree, Trees, Choices}
-use Rattle.batch_recipe.specs.declared.entry.Entry.{Entry}
-use Rattle.batch_recipe.specs.declared.recipe.Recipe.{Recipe}
-use Rattle.batch_recipe.proofs.NodeSubtrees.{some_count, has_below, ends_within}
-use Rattle.batch_recipe.proofs.NodesAbove.{ns, entry_at}
+use Rattle.batch_recipe.{specs.Children.AreHere, specs.Children.AreCasesHere, specs.Children.HasBelow, specs.Expanding.unbound, specs.Links.IsEntryOf, specs.Links.form_at, specs.Nodes.Node, specs.Nodes.node_count, specs.Outlines.Form, specs.Outlines.an_act, specs.Outlines.a_skip, specs.Outlines.a_seq, specs.Outlines.a_par, specs.Outlines.a_sel, specs.Outlines.a_loop, specs.Outlines.form_of, specs.Tree.Tree, specs.Tree.Trees, specs.Tree.Choices, specs.declared.entry.Entry.Entry, specs.declared.recipe.Recipe.Recipe, proofs.NodeSubtrees.some_count, proofs.NodeSubtrees.has_below, proofs.NodeSubtrees.ends_within, proofs.NodesAbove.ns, proofs.NodesAbove.entry_at}
 use Rattle.batch_model.specs.Cleared.{surely_runs, some_surely_runs, each_surely_runs}
-use Rattle.batch_verify.specs.RunningNodes.{RunsFrom}
-use Rattle.batch_verify.proofs.RunningTrees.{known_at, same_at}
+use Rattle.batch_verify.{specs.RunningNodes.RunsFrom, proofs.RunningTrees.known_at, proofs.RunningTrees.same_at}
 
 module _ (r : Recipe) (known : List Bool) (node end : ℕ) where
   -- the answer for a node of this form, if all nodes below it come before `end`

@@ -1,14 +1,7 @@
 -- A tree that stands at a node, of which it is known whether it surely runs a phase.
 use Rattle.std.proofs.Common.{◌≡◌, ℕ, ◌+◌, ◌<◌, ◌≤◌, List, Bool, false, length, get_or, Some, slice_get, sym, ap, ◌∙◌, arith}
 use Rattle.std.proofs.lemmas.Option.{slice_get-get_or}
-use Rattle.batch_recipe.specs.Children.{IsHere}
-use Rattle.batch_recipe.specs.Links.{IsEntryOf}
-use Rattle.batch_recipe.specs.Nodes.{Node, node_count}
-use Rattle.batch_recipe.specs.Tree.{Tree}
-use Rattle.batch_recipe.specs.declared.entry.Entry.{Entry}
-use Rattle.batch_recipe.specs.declared.recipe.Recipe.{Recipe}
-use Rattle.batch_recipe.proofs.NodeSubtrees.{some_count}
-use Rattle.batch_recipe.proofs.NodesAbove.{ns, entry_at}
+use Rattle.batch_recipe.{specs.Children.IsHere, specs.Links.IsEntryOf, specs.Nodes.Node, specs.Nodes.node_count, specs.Tree.Tree, specs.declared.entry.Entry.Entry, specs.declared.recipe.Recipe.Recipe, proofs.NodeSubtrees.some_count, proofs.NodesAbove.ns, proofs.NodesAbove.entry_at}
 use Rattle.batch_model.specs.Cleared.{surely_runs}
 use Rattle.batch_verify.specs.RunningNodes.{RunsFrom}
 

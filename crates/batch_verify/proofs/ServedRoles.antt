@@ -1,11 +1,7 @@
 -- Bindings that are tried, and those by which roles are served.
 use Rattle.std.proofs.Common.{◌≡◌, true, false, IsTrue, List, [], ◌∷◌}
-use Rattle.batch_recipe.specs.Conditions.{Name}
-use Rattle.batch_recipe.specs.Expanding.{Binding}
-use Rattle.batch_recipe.specs.WellFormed.{is_among}
-use Rattle.batch_model.specs.Lists.{Each}
-use Rattle.batch_model.specs.Plant.{Role, Master, Setup}
-use Rattle.batch_model.specs.Cleared.{HasCandidates, IsServed}
+use Rattle.batch_recipe.specs.{Conditions.Name, Expanding.Binding, WellFormed.is_among}
+use Rattle.batch_model.specs.{Lists.Each, Plant.Role, Plant.Master, Plant.Setup, Cleared.HasCandidates, Cleared.IsServed}
 use Rattle.batch_verify.specs.Refusals.{IsTried, IsTriedFor}
 
 module _ (setup : Setup) where

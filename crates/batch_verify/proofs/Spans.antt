@@ -1,25 +1,11 @@
 -- One walk for all bindings: a node that passes for all of them passes for each.
 use Rattle.std.proofs.Common.{◌≡◌, ℕ, ◌<◌, ◌≤◌, Bool, true, false, nat_lt, if◌then◌else◌, List, [], ◌∷◌, ◌++◌, length, get_or, slice_get, Option, Some, None, refl, sym, ap, ◌∙◌, subst, arith}
-use Rattle.std.specs.List.{list_all, slice_index_or}
-use Rattle.std.specs.Option.{ForSome}
-use Rattle.std.proofs.lemmas.Bool.{and_parts, ltb-true}
-use Rattle.std.proofs.lemmas.List.{length-map, map-append}
-use Rattle.std.proofs.lemmas.Option.{slice_get_within}
-use Rattle.batch_cell.specs.LookUps.{resources_of, units_of}
+use Rattle.std.{specs.List.list_all, specs.List.slice_index_or, specs.Option.ForSome, proofs.lemmas.Bool.and_parts, proofs.lemmas.Bool.ltb-true, proofs.lemmas.List.length-map, proofs.lemmas.List.map-append, proofs.lemmas.Option.slice_get_within}
+use Rattle.batch_cell.specs.{LookUps.resources_of, LookUps.units_of, declared.unit.Unit.Unit}
 use Rattle.batch_cell.specs.declared.cell.Cell as equipment
-use Rattle.batch_cell.specs.declared.unit.Unit.{Unit}
-use Rattle.batch_recipe.specs.Conditions.{Name}
-use Rattle.batch_recipe.specs.declared.act.UnitChoice.{UnitChoice}
-use Rattle.batch_recipe.specs.declared.act.Work.{Work}
-use Rattle.batch_recipe.specs.declared.act.Work.TheVariants.{Follows, Runs}
-use Rattle.batch_recipe.specs.declared.role.Role.{Role}
-use Rattle.batch_set.specs.declared.linked.LinkedNeed.{LinkedNeed}
-use Rattle.batch_set.specs.declared.linked.Source.{Source}
-use Rattle.batch_set.specs.declared.linked.Source.TheVariants.{Resource, Role as by_role, Unknown}
-use Rattle.batch_verify.specs.Asking.{Ask, among_first, asks_by, is_fitting, is_found, number_by, rank_by, ranks_along}
-use Rattle.batch_verify.specs.Spans.{AreAsked, AreBetween, IsAtMost, IsTakenAt, IsUnitBelow, IsUnitFrom, PhaseOffered, SourceOffers, ok_unit, ranks_or_none}
-use Rattle.batch_verify.specs.Walking.{Rises, known_unit, last_rank, offers_on, offers_work}
-use Rattle.batch_verify.proofs.AsksByName.{among_first-all}
+use Rattle.batch_recipe.specs.{Conditions.Name, declared.act.UnitChoice.UnitChoice, declared.act.Work.Work, declared.act.Work.TheVariants.Follows, declared.act.Work.TheVariants.Runs, declared.role.Role.Role}
+use Rattle.batch_set.specs.declared.linked.{LinkedNeed.LinkedNeed, Source.Source, Source.TheVariants.Resource, Source.TheVariants.Role as by_role, Source.TheVariants.Unknown}
+use Rattle.batch_verify.{specs.Asking.Ask, specs.Asking.among_first, specs.Asking.asks_by, specs.Asking.is_fitting, specs.Asking.is_found, specs.Asking.number_by, specs.Asking.rank_by, specs.Asking.ranks_along, specs.Spans.AreAsked, specs.Spans.AreBetween, specs.Spans.IsAtMost, specs.Spans.IsTakenAt, specs.Spans.IsUnitBelow, specs.Spans.IsUnitFrom, specs.Spans.PhaseOffered, specs.Spans.SourceOffers, specs.Spans.ok_unit, specs.Spans.ranks_or_none, specs.Walking.Rises, specs.Walking.known_unit, specs.Walking.last_rank, specs.Walking.offers_on, specs.Walking.offers_work, proofs.AsksByName.among_first-all}
 
 -- it is the number, and one of the first
 among_is : (count : ℕ) (o : Option ℕ) (n : ℕ) → among_first count o ≡ Some n → (o ≡ Some n) × (n < count)

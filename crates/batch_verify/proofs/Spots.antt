@@ -1,18 +1,7 @@
 -- The nodes below a node are at the spot that its way gives.
 use Rattle.std.proofs.Common.{◌≡◌, ◌≢◌, ◌⊎◌, ℕ, zero, suc, ◌+◌, List, [], ◌∷◌, ◌++◌, length, Some, None, slice_get, sym, ap, ◌∙◌, refl, subst, arith, inl, inr, length-append}
-use Rattle.std.specs.Option.{option_map}
-use Rattle.std.proofs.lemmas.Option.{slice_get-map}
-use Rattle.batch_recipe.specs.Conditions.{Name}
-use Rattle.batch_recipe.specs.Expanding.{Binding, named_tree_with, step_of, task_of, unit_below, unit_with}
-use Rattle.batch_recipe.specs.Nodes.{node_count, count_within, count_of_each, count_of_choices}
-use Rattle.batch_recipe.specs.Outlines.{IsOutline, Shape, shape_of, shapes, shapes_within, shapes_of_each, shapes_of_choices}
-use Rattle.batch_recipe.specs.Tree.{Tree, act, skip, seq, par, sel, loop, Step, Task, runs, follows, Trees, no_trees, tree, Choices, otherwise, choice}
-use Rattle.batch_recipe.specs.Procedure.{sites, tables_from}
-use Rattle.batch_recipe.specs.declared.acts.LabelTable.TheVariants.{UnitProcedures}
-use Rattle.batch_recipe.specs.declared.entry.Entry.{Entry}
-use Rattle.batch_recipe.specs.declared.recipe.Recipe.{Recipe}
-use Rattle.batch_recipe.proofs.AppendedLists.{slice_get-left, slice_get-right}
-use Rattle.batch_recipe.proofs.EntryShapes.{is_outline}
+use Rattle.std.{specs.Option.option_map, proofs.lemmas.Option.slice_get-map}
+use Rattle.batch_recipe.{specs.Conditions.Name, specs.Expanding.Binding, specs.Expanding.named_tree_with, specs.Expanding.step_of, specs.Expanding.task_of, specs.Expanding.unit_below, specs.Expanding.unit_with, specs.Nodes.node_count, specs.Nodes.count_within, specs.Nodes.count_of_each, specs.Nodes.count_of_choices, specs.Outlines.IsOutline, specs.Outlines.Shape, specs.Outlines.shape_of, specs.Outlines.shapes, specs.Outlines.shapes_within, specs.Outlines.shapes_of_each, specs.Outlines.shapes_of_choices, specs.Tree.Tree, specs.Tree.act, specs.Tree.skip, specs.Tree.seq, specs.Tree.par, specs.Tree.sel, specs.Tree.loop, specs.Tree.Step, specs.Tree.Task, specs.Tree.runs, specs.Tree.follows, specs.Tree.Trees, specs.Tree.no_trees, specs.Tree.tree, specs.Tree.Choices, specs.Tree.otherwise, specs.Tree.choice, specs.Procedure.sites, specs.Procedure.tables_from, specs.declared.acts.LabelTable.TheVariants.UnitProcedures, specs.declared.entry.Entry.Entry, specs.declared.recipe.Recipe.Recipe, proofs.AppendedLists.slice_get-left, proofs.AppendedLists.slice_get-right, proofs.EntryShapes.is_outline}
 use Rattle.batch_verify.specs.Ways.{Spot, Way, way, ways, ways_within, ways_of_each, ways_of_choices, spot_within, top, bound_ways}
 
 -- as many ways as nodes

@@ -3,16 +3,9 @@ use Rattle.std.proofs.Common.{◌≡◌, ℕ, Bool, true, false, if◌then◌els
 use Rattle.std.proofs.lemmas.Option.{same_Some, slice_get-map}
 use Rattle.batch_cell.specs.LookUps.{resources_of, units_of_class}
 use Rattle.batch_cell.specs.declared.cell.Cell as equipment
-use Rattle.batch_recipe.specs.Conditions.{Name, same_name}
-use Rattle.batch_recipe.specs.declared.role.Role.{Role}
+use Rattle.batch_recipe.specs.{Conditions.Name, Conditions.same_name, declared.role.Role.Role}
 use Rattle.batch_set.proofs.CandidateNumbers.{number_of}
-use Rattle.batch_verify.specs.Asking.{rank_by}
-use Rattle.batch_verify.specs.Bindings.{candidate_of, nobody, role_named}
-use Rattle.batch_verify.specs.Spans.{ranks_or_none}
-use Rattle.batch_verify.specs.Trials.{better, bound_by, extreme, extreme_from, is_better, raised_for, raised_unit, rank_at, rank_or_0, taker_by}
-use Rattle.batch_verify.specs.declared.trial.Trial.{Trial}
-use Rattle.batch_verify.specs.declared.trial.Trial.TheVariants.{Leveled, Numbered, Raised}
-use Rattle.batch_verify.proofs.RoleTakers.{nobody_unknown}
+use Rattle.batch_verify.{specs.Asking.rank_by, specs.Bindings.candidate_of, specs.Bindings.nobody, specs.Bindings.role_named, specs.Spans.ranks_or_none, specs.Trials.better, specs.Trials.bound_by, specs.Trials.extreme, specs.Trials.extreme_from, specs.Trials.is_better, specs.Trials.raised_for, specs.Trials.raised_unit, specs.Trials.rank_at, specs.Trials.rank_or_0, specs.Trials.taker_by, specs.declared.trial.Trial.Trial, specs.declared.trial.Trial.TheVariants.Leveled, specs.declared.trial.Trial.TheVariants.Numbered, specs.declared.trial.Trial.TheVariants.Raised, proofs.RoleTakers.nobody_unknown}
 
 -- One of a list is picked as its image is picked of the images
 

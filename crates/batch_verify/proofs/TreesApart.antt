@@ -1,21 +1,9 @@
 -- Trees that stand one after another, and their phases.
 use Rattle.std.proofs.Common.{◌≡◌, ◌↔◌, ℕ, Bool, true, false, ◌+◌, ◌<◌, ◌≤◌, List, [], ◌∷◌, ◌++◌, ◌&&◌, length, Some, slice_get, get_or, sym, ap, ◌∙◌, refl, subst, arith, append_assoc}
 use Rattle.std.specs.Bool.{IsTrue}
-use Rattle.batch_recipe.specs.ActsAtNodes.{ActList}
-use Rattle.batch_recipe.specs.Children.{AreHere, HasBelow, IsHere}
-use Rattle.batch_recipe.specs.Conditions.{Name}
-use Rattle.batch_recipe.specs.Expanding.{unbound}
-use Rattle.batch_recipe.specs.Nodes.{Node, node_count}
-use Rattle.batch_recipe.specs.Tree.{Tree, par, Trees, no_trees, tree}
-use Rattle.batch_recipe.specs.declared.entry.Entry.{Entry}
-use Rattle.batch_recipe.specs.declared.recipe.Recipe.{Recipe}
-use Rattle.batch_recipe.proofs.NodeSubtrees.{has_below, some_count}
-use Rattle.batch_recipe.proofs.NodesAbove.{ns, entry_at}
-use Rattle.batch_recipe.proofs.NodesBelow.{read_at}
+use Rattle.batch_recipe.{specs.ActsAtNodes.ActList, specs.Children.AreHere, specs.Children.HasBelow, specs.Children.IsHere, specs.Conditions.Name, specs.Expanding.unbound, specs.Nodes.Node, specs.Nodes.node_count, specs.Tree.Tree, specs.Tree.par, specs.Tree.Trees, specs.Tree.no_trees, specs.Tree.tree, specs.declared.entry.Entry.Entry, specs.declared.recipe.Recipe.Recipe, proofs.NodeSubtrees.has_below, proofs.NodeSubtrees.some_count, proofs.NodesAbove.ns, proofs.NodesAbove.entry_at, proofs.NodesBelow.read_at}
 use Rattle.batch_model.specs.Cleared.{phases, BranchesRunApart}
-use Rattle.batch_verify.specs.NodePhases.{phase_at, phases_along}
-use Rattle.batch_verify.specs.Walking.{phase_names}
-use Rattle.batch_verify.proofs.BranchesApart.{AreApart, KeepsApart, KeepsApart-next}
+use Rattle.batch_verify.{specs.NodePhases.phase_at, specs.NodePhases.phases_along, specs.Walking.phase_names, proofs.BranchesApart.AreApart, proofs.BranchesApart.KeepsApart, proofs.BranchesApart.KeepsApart-next}
 
 pub phases_along-append : (xs ys : ActList) → phases_along (xs ++ ys) ≡ phases_along xs ++ phases_along ys
 phases_along-append [] ys = refl

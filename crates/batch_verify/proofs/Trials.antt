@@ -1,31 +1,11 @@
 -- The bindings that are tried, one after another, are enough.
 use Rattle.std.proofs.Common.{◌≡◌, ◌≢◌, ◌⊎◌, ℕ, ◌+◌, ◌<◌, ◌≤◌, Bool, true, false, IsTrue, List, [], ◌∷◌, length, map, slice_get, Option, Some, None, refl, sym, ap, ◌∙◌, subst, arith, inl, inr}
-use Rattle.std.specs.Cmp.Lexicographic.{bytes_decides}
-use Rattle.std.proofs.lemmas.Bool.{cases_lt, false_from_ne_true}
-use Rattle.std.proofs.lemmas.Option.{slice_get_within}
+use Rattle.std.{specs.Cmp.Lexicographic.bytes_decides, proofs.lemmas.Bool.cases_lt, proofs.lemmas.Bool.false_from_ne_true, proofs.lemmas.Option.slice_get_within}
 use Rattle.batch_cell.specs.LookUps.{units_of_class}
 use Rattle.batch_cell.specs.declared.cell.Cell as equipment
-use Rattle.batch_recipe.specs.Conditions.{Name, same_name}
-use Rattle.batch_recipe.specs.Expanding.{Binding}
-use Rattle.batch_recipe.specs.WellFormed.{are_roles}
-use Rattle.batch_recipe.specs.declared.recipe.Recipe.{Recipe}
-use Rattle.batch_recipe.specs.declared.role.Role.{Role}
-use Rattle.batch_model.specs.Lists.{Each, Has}
-use Rattle.batch_model.specs.Plant.{Role as ModelRole, Setup}
-use Rattle.batch_model.specs.Cleared.{Ranking}
-use Rattle.batch_model.specs.Recipes.{recipe_of}
-use Rattle.batch_model.specs.Setups.{master_of, setup_of}
-use Rattle.batch_verify.specs.Bindings.{binding_count, nobody, numbered_binding}
-use Rattle.batch_verify.specs.Covering.{AreBeside, AreEnough, IsHighest, IsLowestTaker}
-use Rattle.batch_verify.specs.Comparing.{earlier_of}
-use Rattle.batch_verify.specs.Refusals.{rank_in, ranking_in, IsTried, IsTriedFor, IsVerdict, IsVerdictOn}
-use Rattle.batch_verify.specs.declared.rule.Broken.{Broken}
-use Rattle.batch_verify.specs.Spans.{GivesUnits}
-use Rattle.batch_verify.specs.Trials.{extreme, raised, raised_for, raised_unit, rank_or_0, roles_raised}
-use Rattle.batch_verify.proofs.RecipeVerdict.{least_verdict}
-use Rattle.batch_verify.proofs.Extremes.{extreme_best, extreme_is, index_of}
-use Rattle.batch_verify.proofs.LeastVerdict.{IsLeast, WithOne, least_fewer, least_next}
-use Rattle.batch_verify.proofs.NumberedBindings.{differ, numbered-gives, numbered-tried, own_role}
+use Rattle.batch_recipe.specs.{Conditions.Name, Conditions.same_name, Expanding.Binding, WellFormed.are_roles, declared.recipe.Recipe.Recipe, declared.role.Role.Role}
+use Rattle.batch_model.specs.{Lists.Each, Lists.Has, Plant.Role as ModelRole, Plant.Setup, Cleared.Ranking, Recipes.recipe_of, Setups.master_of, Setups.setup_of}
+use Rattle.batch_verify.{specs.Bindings.binding_count, specs.Bindings.nobody, specs.Bindings.numbered_binding, specs.Covering.AreBeside, specs.Covering.AreEnough, specs.Covering.IsHighest, specs.Covering.IsLowestTaker, specs.Comparing.earlier_of, specs.Refusals.rank_in, specs.Refusals.ranking_in, specs.Refusals.IsTried, specs.Refusals.IsTriedFor, specs.Refusals.IsVerdict, specs.Refusals.IsVerdictOn, specs.declared.rule.Broken.Broken, specs.Spans.GivesUnits, specs.Trials.extreme, specs.Trials.raised, specs.Trials.raised_for, specs.Trials.raised_unit, specs.Trials.rank_or_0, specs.Trials.roles_raised, proofs.RecipeVerdict.least_verdict, proofs.Extremes.extreme_best, proofs.Extremes.extreme_is, proofs.Extremes.index_of, proofs.LeastVerdict.IsLeast, proofs.LeastVerdict.WithOne, proofs.LeastVerdict.least_fewer, proofs.LeastVerdict.least_next, proofs.NumberedBindings.differ, proofs.NumberedBindings.numbered-gives, proofs.NumberedBindings.numbered-tried, proofs.NumberedBindings.own_role}
 
 module _ (c : equipment.Cell) (recipes : List Recipe) (recipe : Recipe) where
   abbrev setup : Setup

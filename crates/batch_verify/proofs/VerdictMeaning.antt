@@ -1,31 +1,11 @@
 -- The meaning of the verdicts on recipes for clearance.
 use Rattle.std.proofs.Common.{arith, ◌≡◌, ◌≢◌, ℕ, ◌+◌, true, false, Option, Some, None, List, [], ◌∷◌, map, get_or, position, inl, inr, refl, sym, ap, ◌∙◌, subst}
-use Rattle.std.specs.Prelude.{IsTrue, unwrap_or}
-use Rattle.std.specs.Map.{lookup}
-use Rattle.std.specs.Cmp.Lexicographic.{bytes_decides}
-use Rattle.std.proofs.lemmas.Bool.{false≢true, false_from_ne_true, or_from}
-use Rattle.std.proofs.lemmas.List.{get_or-map}
-use Rattle.std.proofs.lemmas.List.Quantifiers.{position-Some}
+use Rattle.std.{specs.Prelude.IsTrue, specs.Prelude.unwrap_or, specs.Map.lookup, specs.Cmp.Lexicographic.bytes_decides, proofs.lemmas.Bool.false≢true, proofs.lemmas.Bool.false_from_ne_true, proofs.lemmas.Bool.or_from, proofs.lemmas.List.get_or-map, proofs.lemmas.List.Quantifiers.position-Some}
 use Rattle.batch_cell.specs.LookUps.{resources_of}
 use Rattle.batch_cell.specs.declared.cell.Cell as equipment
-use Rattle.batch_recipe.specs.Conditions.{Name, same_name}
-use Rattle.batch_recipe.specs.Tree.{Tree}
-use Rattle.batch_recipe.specs.WellFormed.{is_among}
-use Rattle.batch_model.specs.Lists.{Each}
-use Rattle.batch_model.specs.Plant.{Master, Setup}
-use Rattle.batch_model.specs.Cleared.{Ranking, Part, IsClear, IsCleared, IsClearedRecipe, ReservesFollow, procedure_parts}
-use Rattle.batch_verify.specs.CertificateText.{Rank}
-use Rattle.batch_verify.specs.Ranked.{names_in, rank_of, AreAmong, RanksAll, IsFirstUnknown}
-use Rattle.batch_verify.specs.Refusals.{rank_in, IsFirstBroken, IsFirstBrokenBy}
-use Rattle.batch_verify.specs.Verifying.{IsRecipeSet, IsFirstRefusal}
-use Rattle.batch_verify.specs.Judging.{IsRecipeRefusal}
-use Rattle.batch_verify.specs.declared.rule.Broken.{Broken}
-use Rattle.batch_verify.specs.declared.refusal.SetRefusal.{SetRefusal}
-use Rattle.batch_verify.specs.declared.refusal.SetRefusal.TheVariants.{Recipes, RankedTwice, UnknownEntry, Unranked, Recipe as in_recipe, Memory}
-use Rattle.batch_verify.proofs.LeastVerdict.{no_break}
-use Rattle.batch_verify.proofs.ServedRoles.{tried_serves}
-use Rattle.batch_verify.proofs.NamesInList.{Each-at, are_distinct-again, among_by_place}
-use Rattle.batch_verify.proofs.CertificateEntries.{among_by_lookup, is_none-some}
+use Rattle.batch_recipe.specs.{Conditions.Name, Conditions.same_name, Tree.Tree, WellFormed.is_among}
+use Rattle.batch_model.specs.{Lists.Each, Plant.Master, Plant.Setup, Cleared.Ranking, Cleared.Part, Cleared.IsClear, Cleared.IsCleared, Cleared.IsClearedRecipe, Cleared.ReservesFollow, Cleared.procedure_parts}
+use Rattle.batch_verify.{specs.CertificateText.Rank, specs.Ranked.names_in, specs.Ranked.rank_of, specs.Ranked.AreAmong, specs.Ranked.RanksAll, specs.Ranked.IsFirstUnknown, specs.Refusals.rank_in, specs.Refusals.IsFirstBroken, specs.Refusals.IsFirstBrokenBy, specs.Verifying.IsRecipeSet, specs.Verifying.IsFirstRefusal, specs.Judging.IsRecipeRefusal, specs.declared.rule.Broken.Broken, specs.declared.refusal.SetRefusal.SetRefusal, specs.declared.refusal.SetRefusal.TheVariants.Recipes, specs.declared.refusal.SetRefusal.TheVariants.RankedTwice, specs.declared.refusal.SetRefusal.TheVariants.UnknownEntry, specs.declared.refusal.SetRefusal.TheVariants.Unranked, specs.declared.refusal.SetRefusal.TheVariants.Recipe as in_recipe, specs.declared.refusal.SetRefusal.TheVariants.Memory, proofs.LeastVerdict.no_break, proofs.ServedRoles.tried_serves, proofs.NamesInList.Each-at, proofs.NamesInList.are_distinct-again, proofs.NamesInList.among_by_place, proofs.CertificateEntries.among_by_lookup, proofs.CertificateEntries.is_none-some}
 use mathlib.Core.Path.{fun_ext}
 
 -- The ranking by numbers is that by names

@@ -1,26 +1,11 @@
 -- The act of each node, at the spot of its way.
 use Rattle.std.proofs.Common.{arith, ◌≡◌, ℕ, zero, suc, ◌+◌, ◌++◌, true, List, [], ◌∷◌, Option, Some, None, slice_get, sym, ap₂, refl, subst}
-use Rattle.batch_recipe.specs.ActsAtNodes.{ActList, acts_along, acts_along_each, acts_along_cases, acts_below, acts_from, acts_named, procedure_acts, IsNoAct}
-use Rattle.batch_recipe.specs.Conditions.{Name}
-use Rattle.batch_recipe.specs.Diagram.{Diagram, label, skip, seq, par, sel, loop, Diagrams, none, more, Cases, otherwise, when, diagram_of}
-use Rattle.batch_recipe.specs.Expanding.{Binding, Sites, expanded, expanded_each, expanded_cases, task_of, act_named, act_tree_with, named_tree_with, needs_with, step_of, unit_with, unit_below}
-use Rattle.batch_recipe.specs.Needs.{resources_needed}
-use Rattle.batch_recipe.specs.Nodes.{child}
-use Rattle.batch_recipe.specs.Procedure.{table_at, tables_from, level_below, sites}
+use Rattle.batch_recipe.specs.{ActsAtNodes.ActList, ActsAtNodes.acts_along, ActsAtNodes.acts_along_each, ActsAtNodes.acts_along_cases, ActsAtNodes.acts_below, ActsAtNodes.acts_from, ActsAtNodes.acts_named, ActsAtNodes.procedure_acts, ActsAtNodes.IsNoAct, Conditions.Name, Diagram.Diagram, Diagram.label, Diagram.skip, Diagram.seq, Diagram.par, Diagram.sel, Diagram.loop, Diagram.Diagrams, Diagram.none, Diagram.more, Diagram.Cases, Diagram.otherwise, Diagram.when, Diagram.diagram_of, Expanding.Binding, Expanding.Sites, Expanding.expanded, Expanding.expanded_each, Expanding.expanded_cases, Expanding.task_of, Expanding.act_named, Expanding.act_tree_with, Expanding.named_tree_with, Expanding.needs_with, Expanding.step_of, Expanding.unit_with, Expanding.unit_below, Needs.resources_needed, Nodes.child, Procedure.table_at, Procedure.tables_from, Procedure.level_below, Procedure.sites, Tree.Place, Tree.Tree, Tree.Step, Tree.Task, WellFormed.are_kinds, declared.act.Act.Act, declared.act.Work.Work, declared.act.Work.TheVariants.Follows, declared.act.Work.TheVariants.Runs, declared.acts.Acts.Acts, declared.acts.LabelTable.TheVariants.UnitProcedures, declared.acts.LabelTable.TheVariants.Operations, declared.acts.LabelTable.TheVariants.Phases}
 use Rattle.batch_recipe.specs.Tree as tree
-use Rattle.batch_recipe.specs.Tree.{Place, Tree, Step, Task}
-use Rattle.batch_recipe.specs.WellFormed.{are_kinds}
-use Rattle.batch_recipe.specs.declared.act.Act.{Act}
-use Rattle.batch_recipe.specs.declared.act.Work.{Work}
-use Rattle.batch_recipe.specs.declared.act.Work.TheVariants.{Follows, Runs}
-use Rattle.batch_recipe.specs.declared.acts.Acts.{Acts}
 use Rattle.batch_recipe.specs.declared.acts.LabelTable as table
-use Rattle.batch_recipe.specs.declared.acts.LabelTable.TheVariants.{UnitProcedures, Operations, Phases}
 use Rattle.std.proofs.lemmas.Bool.{and_parts}
 use Rattle.batch_model.specs.Cleared.{Level, is_procedure, below, Part, part, parts, parts_within, parts_of_each, parts_of_choices}
-use Rattle.batch_verify.specs.Walking.{is_of_level, level_of}
-use Rattle.batch_verify.specs.Ways.{Spot, Way, way, ways, ways_within, ways_of_each, ways_of_choices, spot_below, spot_within, unit_within, bound_ways, bound_parts}
-use Rattle.batch_verify.proofs.Levels.{below_is, named_kind, procedure_kind}
+use Rattle.batch_verify.{specs.Walking.is_of_level, specs.Walking.level_of, specs.Ways.Spot, specs.Ways.Way, specs.Ways.way, specs.Ways.ways, specs.Ways.ways_within, specs.Ways.ways_of_each, specs.Ways.ways_of_choices, specs.Ways.spot_below, specs.Ways.spot_within, specs.Ways.unit_within, specs.Ways.bound_ways, specs.Ways.bound_parts, proofs.Levels.below_is, proofs.Levels.named_kind, proofs.Levels.procedure_kind}
 
 -- the act's node is on the unit of its way, and its chart on the unit that it has itself
 pub record IsActOn (s : Sites) (w : Way) (x : Part) (a : Act) : Type 0 where

@@ -1,10 +1,7 @@
 -- The labels and values that a chart names, branch by branch.
 use Rattle.std.proofs.Common.{arith, ◌≡◌, Bool, ◌||◌, List, [], ◌∷◌, map, refl}
 use Rattle.std.specs.List.{list_any}
-use Rattle.batch_recipe.specs.Conditions.{Name}
-use Rattle.batch_recipe.specs.Diagram.{Diagram, seq, sel, diagram_of, diagrams_of, cases_of}
-use Rattle.batch_recipe.specs.declared.chart.Chart.{Chart}
-use Rattle.batch_recipe.specs.declared.condition.Cond.{Cond}
+use Rattle.batch_recipe.specs.{Conditions.Name, Diagram.Diagram, Diagram.seq, Diagram.sel, Diagram.diagram_of, Diagram.diagrams_of, Diagram.cases_of, declared.chart.Chart.Chart, declared.condition.Cond.Cond}
 use Rattle.batch_warnings.specs.Warnings.{diagram_compares, condition_names, has_label}
 
 either : (a b c : Bool) → ((a || b) || c) ≡ (a || (b || c))

@@ -1,9 +1,6 @@
 -- A batch of the size of the basis has the values that are declared.
 use Rattle.std.proofs.Common.{arith, ◌≡◌, ℕ, ◌<◌}
-use Rattle.batch_recipe.specs.Formula.{batch_value}
-use Rattle.batch_recipe.specs.Scale.{IsScaled}
-use Rattle.batch_recipe.specs.declared.quantity.Quantity.{Quantity}
-use Rattle.batch_recipe.proofs.ScaledValues.{scaled_only}
+use Rattle.batch_recipe.{specs.Formula.batch_value, specs.Scale.IsScaled, specs.declared.quantity.Quantity.Quantity, proofs.ScaledValues.scaled_only}
 
 same_scaled : (value basis : ℕ) → 0 < basis → IsScaled value basis basis value
 same_scaled value basis some = record { low = omega (arith, some); high = omega (arith, some) }

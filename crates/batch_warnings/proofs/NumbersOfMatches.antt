@@ -1,7 +1,6 @@
 -- The numbers of the elements that pass a test, one element after the other.
 use Rattle.std.proofs.Common.{◌≤◌, arith, ◌≡◌, ℕ, suc, ◌+◌, ◌<◌, Bool, true, false, List, [], ◌∷◌, ◌++◌, map, length, take, get_or, if◌then◌else◌, refl, sym, ap, ◌∙◌}
-use Rattle.std.proofs.Math.Seq.{take-suc}
-use Rattle.std.proofs.lemmas.List.{take_all, append_assoc, length-take-le, map-append}
+use Rattle.std.proofs.{Math.Seq.take-suc, lemmas.List.take_all, lemmas.List.append_assoc, lemmas.List.length-take-le, lemmas.List.map-append}
 use Rattle.batch_warnings.specs.Warnings.{numbers_passing}
 
 take_more : {X : Type 0} (xs : List X) (k : ℕ) (x : X) → k < length xs → x ≡ get_or xs k x → take (k + 1) xs ≡ take k xs ++ x ∷ []

@@ -1,12 +1,7 @@
 -- Places that stay known while the text of another one is put behind them.
 use Rattle.std.proofs.Common.{◌≡◌, ◌⊎◌, inl, inr, ℕ, ◌<◌, ◌≤◌, List, ◌++◌, length, take, drop, codes, decimal, Option, None, Some, ◌-◌, append_assoc, get_or, sym, ap, ◌∙◌, subst, arith, take-take, length-take-le, get_or-set_same, get_or-set_other}
-use Rattle.std.proofs.Math.Nat.{eq-or-lt_of_le}
-use Rattle.std.proofs.lemmas.List.{take-append-le, drop-append-le, drop-take, length-append, length-take, length-drop, take-append-drop}
-use Rattle.std.proofs.Math.Seq.{drop-append-add, drop-append_seam, take-append_seam}
-use Rattle.std.specs.Prelude.{IfSome}
-use Rattle.batch_wire.specs.declared.recipe_places.Known.{Known}
-use Rattle.batch_wire.specs.declared.recipe_places.RecipePlaces.{RecipePlaces}
-use Rattle.batch_wire.specs.Known.{known_at, AreKnownBy, EndsAt, HoldsBatch, IsCutBack, IsAdded, IsAddedIfRoom}
+use Rattle.std.{proofs.Math.Nat.eq-or-lt_of_le, proofs.lemmas.List.take-append-le, proofs.lemmas.List.drop-append-le, proofs.lemmas.List.drop-take, proofs.lemmas.List.length-append, proofs.lemmas.List.length-take, proofs.lemmas.List.length-drop, proofs.lemmas.List.take-append-drop, proofs.Math.Seq.drop-append-add, proofs.Math.Seq.drop-append_seam, proofs.Math.Seq.take-append_seam, specs.Prelude.IfSome}
+use Rattle.batch_wire.specs.{declared.recipe_places.Known.Known, declared.recipe_places.RecipePlaces.RecipePlaces, Known.known_at, Known.AreKnownBy, Known.EndsAt, Known.HoldsBatch, Known.IsCutBack, Known.IsAdded, Known.IsAddedIfRoom}
 
 -- the text before a text that was put is unchanged
 pub same_before : (old new more : List ℕ) (at end e : ℕ) → take end new ≡ take at old ++ more → e ≤ at → at ≤ end → at ≤ length old → take e new ≡ take e old

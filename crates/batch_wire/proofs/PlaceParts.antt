@@ -1,16 +1,7 @@
 -- The place of a node, from that of the node above it.
 use Rattle.std.proofs.Common.{◌≡◌, ◌≢◌, ◌⊎◌, inl, inr, ◌<◌, ◌≤◌, ℕ, zero, suc, None, List, [], ◌∷◌, ◌++◌, length, true, false, nat_lt, Some, get_or, slice_get, codes, decimal, refl, sym, ◌∙◌, ap, arith, append_assoc, length-append}
-use Rattle.std.proofs.lemmas.Option.{slice_get_within, slice_get-get_or}
-use Rattle.std.proofs.lemmas.Bool.Decides.{nat_tests}
-use Rattle.batch_recipe.specs.Links.{IsEntryOf, IsFirst, Hangs}
-use Rattle.batch_recipe.specs.Nodes.{Node}
-use Rattle.batch_recipe.specs.Outlines.{shape_of}
-use Rattle.batch_recipe.specs.Procedure.{procedure_nodes}
-use Rattle.batch_recipe.specs.Texts.{place_text}
-use Rattle.batch_recipe.specs.Tree.{Place}
-use Rattle.batch_recipe.specs.declared.entry.Entry.{Entry}
-use Rattle.batch_recipe.specs.declared.recipe.Recipe.{Recipe}
-use Rattle.batch_recipe.proofs.NodesAbove.{as_many, entry_at, read}
+use Rattle.std.proofs.lemmas.{Option.slice_get_within, Option.slice_get-get_or, Bool.Decides.nat_tests}
+use Rattle.batch_recipe.{specs.Links.IsEntryOf, specs.Links.IsFirst, specs.Links.Hangs, specs.Nodes.Node, specs.Outlines.shape_of, specs.Procedure.procedure_nodes, specs.Texts.place_text, specs.Tree.Place, specs.declared.entry.Entry.Entry, specs.declared.recipe.Recipe.Recipe, proofs.NodesAbove.as_many, proofs.NodesAbove.entry_at, proofs.NodesAbove.read}
 use Rattle.batch_engine.specs.Names.{node_place}
 use Rattle.batch_wire.specs.Pieces.{text_of_place}
 

@@ -1,17 +1,9 @@
 -- The first port's desk, or the inbox and the token that it left, belong to the port.
 use Rattle.std.proofs.Common.{◌≡◌, ◌<◌, List, [], ◌∷◌, map, length, Option, Some, None, IfSome, IsSome, slice_get, get_or, refl, sym, ap, subst, set, arith}
-use Rattle.std.specs.declared.alloc.Global.{Global}
-use Rattle.std.proofs.lemmas.Bool.{false≢true}
-use Rattle.std.proofs.lemmas.Option.{none-some, same_Some}
-use Rattle.rtrb.specs.declared.AnyItems.{AnyItems}
-use Rattle.rtrb.specs.declared.finished.Finished.{Finished}
-use Rattle.batch_engine.specs.declared.event.Event.{Event}
-use Rattle.batch_engine.specs.declared.out.Out.{Out}
-use Rattle.batch_desk.specs.DeskState.{DeskState, InboxState, IsLeftOf, desk_rings}
-use Rattle.batch_desk.specs.Ends.{Seals}
-use Rattle.batch_desk.specs.HubState.{HubState, rings}
-use Rattle.batch_desk.specs.PortState.{PortState, port_rings, sealed}
-use Rattle.batch_desk.specs.Rings.{Ring, IsOfRing}
+use Rattle.std.{specs.declared.alloc.Global.Global, proofs.lemmas.Bool.false≢true, proofs.lemmas.Option.none-some, proofs.lemmas.Option.same_Some}
+use Rattle.rtrb.specs.declared.{AnyItems.AnyItems, finished.Finished.Finished}
+use Rattle.batch_engine.specs.declared.{event.Event.Event, out.Out.Out}
+use Rattle.batch_desk.specs.{DeskState.DeskState, DeskState.InboxState, DeskState.IsLeftOf, DeskState.desk_rings, Ends.Seals, HubState.HubState, HubState.rings, PortState.PortState, PortState.port_rings, PortState.sealed, Rings.Ring, Rings.IsOfRing}
 use Rattle.call_tests.specs.Seats.{IsLeft, IsSeated}
 
 -- the first of the desks is that of the first port

@@ -1,5 +1,4 @@
-use Rattle.batch_record_laws.proofs.PlantByRecord.{tells_the_plant}
-use Rattle.batch_record_laws.proofs.ClearanceOverNodes.{cleared-down}
+use Rattle.batch_record_laws.proofs.{PlantByRecord.tells_the_plant, ClearanceOverNodes.cleared-down}
 use Rattle.batch_record_laws.proofs.records_tell_the_plant.Goals as goal
 
 pub returns : goal.returns

@@ -1,10 +1,6 @@
 use Rattle.std.proofs.Common.{◌≡◌, ◌<◌, ◌+◌, ◌^◌, ◌++◌, ◌∷◌, [], ℕ, List, length, arith, sym, ap, ◌∙◌, subst, refl}
-use Rattle.std.specs.Prelude.{vec_len, vec_capacity}
-use Rattle.std.proofs.lemmas.List.{length_push}
-use Rattle.batch_arbiter.specs.declared.entry.Entry.{Entry}
-use Rattle.batch_arbiter.specs.Linked.{IsGrown}
-use Rattle.batch_arbiter.proofs.Pushes.{pushed_ok}
-use Rattle.batch_arbiter.proofs.PoolGrowth.{IsGrown-more}
+use Rattle.std.{specs.Prelude.vec_len, specs.Prelude.vec_capacity, proofs.lemmas.List.length_push}
+use Rattle.batch_arbiter.{specs.declared.entry.Entry.Entry, specs.Linked.IsGrown, proofs.Pushes.pushed_ok, proofs.PoolGrowth.IsGrown-more}
 use Rattle.batch_arbiter.proofs.pool.add_free.Goals as goal
 
 pub loop-preserved : goal.loop-preserved

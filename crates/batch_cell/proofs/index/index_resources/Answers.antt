@@ -1,9 +1,7 @@
 use Rattle.std.proofs.Common.{[], nat_eq, ◌∙◌, ap, take_all, arith}
 use Rattle.std.specs.Cmp.Lexicographic.{pointwise, nat_list_eq_equiv}
 use Rattle.indexmap.specs.IndexSet.{insert_all}
-use Rattle.batch_cell.proofs.DistinctNames.{inserted_all}
-use Rattle.batch_cell.proofs.ResourceNames.{resources_once}
-use Rattle.batch_cell.specs.Equipment.{resource_names}
+use Rattle.batch_cell.{proofs.DistinctNames.inserted_all, proofs.ResourceNames.resources_once, specs.Equipment.resource_names}
 use Rattle.batch_cell.proofs.index.index_resources.Goals as goal
 
 pub returns : goal.returns

@@ -1,8 +1,7 @@
 use Rattle.std.proofs.Common.{[], nat_eq, ◌∙◌, ap, take_all, arith}
 use Rattle.std.specs.Cmp.Lexicographic.{pointwise, nat_list_eq_equiv}
 use Rattle.indexmap.specs.IndexSet.{insert_all}
-use Rattle.batch_cell.proofs.DistinctNames.{inserted_all}
-use Rattle.batch_cell.specs.Equipment.{unit_phases}
+use Rattle.batch_cell.{proofs.DistinctNames.inserted_all, specs.Equipment.unit_phases}
 use Rattle.batch_cell.proofs.index.phases_of_unit.Goals as goal
 
 pub returns : goal.returns

@@ -1,6 +1,5 @@
 use Rattle.std.proofs.Common.{rules, arith, ◌≡◌, ◌+◌, ◌∙◌, ap, subst}
-use Rattle.batch_chart.specs.Most.{Needs, Units, count_of, is_par, joined, most_of, own_of}
-use Rattle.batch_chart.proofs.ActTotals.{joined-few, none-counted, none-few, row-more, row-none, some-row}
+use Rattle.batch_chart.{specs.Most.Needs, specs.Most.Units, specs.Most.count_of, specs.Most.is_par, specs.Most.joined, specs.Most.most_of, specs.Most.own_of, proofs.ActTotals.joined-few, proofs.ActTotals.none-counted, proofs.ActTotals.none-few, proofs.ActTotals.row-more, proofs.ActTotals.row-none, proofs.ActTotals.some-row}
 use Rattle.batch_chart.proofs.most.+most_among.Goals as goal
 
 pub bounds-nodes-n : goal.bounds-nodes-n

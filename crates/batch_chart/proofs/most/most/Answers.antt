@@ -1,10 +1,6 @@
 use Rattle.std.proofs.Common.{arith}
-use Rattle.batch_chart.specs.Most.{count_of}
-use Rattle.batch_recipe.specs.Expanding.{unbound}
-use Rattle.batch_recipe.specs.Procedure.{bound_tree}
-use Rattle.batch_recipe.specs.Tree.{no_trees, tree}
-use Rattle.batch_chart.proofs.RecipeChart.{is_chart}
-use Rattle.batch_chart.proofs.ActTotals.{none-counted, none-few, one-counted, whole-row}
+use Rattle.batch_chart.{specs.Most.count_of, proofs.RecipeChart.is_chart, proofs.ActTotals.none-counted, proofs.ActTotals.none-few, proofs.ActTotals.one-counted, proofs.ActTotals.whole-row}
+use Rattle.batch_recipe.specs.{Expanding.unbound, Procedure.bound_tree, Tree.no_trees, Tree.tree}
 use Rattle.batch_chart.proofs.most.most.Goals as goal
 
 pub most_among-requires-clause-standing : goal.most_among-requires-clause-standing

@@ -1,8 +1,5 @@
-use Rattle.batch_chart.specs.Needs.{needs_of_kind}
+use Rattle.batch_chart.{specs.Needs.needs_of_kind, specs.Noting.stage_signs, specs.declared.stage.Stage.TheVariants.Ready, proofs.StartAndWithdrawal.none-started, proofs.StartAndWithdrawal.starts, proofs.StartAndWithdrawal.starts-none, proofs.StartAndWithdrawal.starts-neatly, proofs.StartAndWithdrawal.empty-length, proofs.StartAndWithdrawal.some-length}
 use Rattle.std.proofs.Common.{◌∙◌, ap}
-use Rattle.batch_chart.specs.Noting.{stage_signs}
-use Rattle.batch_chart.specs.declared.stage.Stage.TheVariants.{Ready}
-use Rattle.batch_chart.proofs.StartAndWithdrawal.{none-started, starts, starts-none, starts-neatly, empty-length, some-length}
 use Rattle.batch_chart.proofs.starting.start.Goals as goal
 
 pub returns-then-is_empty : goal.returns-then-is_empty

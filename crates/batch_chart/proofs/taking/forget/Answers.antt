@@ -1,9 +1,6 @@
-use Rattle.std.specs.Prelude.{not}
-use Rattle.batch_chart.specs.Early.{is_ready}
-use Rattle.batch_chart.specs.Stages.{stage_at}
-use Rattle.batch_chart.specs.declared.passed.Passed.{Passed}
+use Rattle.std.{specs.Prelude.not, proofs.lemmas.Fn.filter_same}
+use Rattle.batch_chart.specs.{Early.is_ready, Stages.stage_at, declared.passed.Passed.Passed}
 use Rattle.std.proofs.Common.{rules}
-use Rattle.std.proofs.lemmas.Fn.{filter_same}
 use Rattle.batch_chart.proofs.taking.forget.Goals as goal
 
 pub returns-clause-items : goal.returns-clause-items

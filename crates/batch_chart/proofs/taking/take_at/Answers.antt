@@ -1,7 +1,5 @@
 use Rattle.std.proofs.Common.{◌∙◌, ap}
-use Rattle.batch_chart.specs.Early.{first_held}
-use Rattle.batch_chart.specs.Needs.{needs_of_kind}
-use Rattle.batch_chart.proofs.UnitTakeover.{taken-at, idle-at}
+use Rattle.batch_chart.{specs.Early.first_held, specs.Needs.needs_of_kind, proofs.UnitTakeover.taken-at, proofs.UnitTakeover.idle-at}
 use Rattle.batch_chart.proofs.taking.take_at.Goals as goal
 
 pub returns-in-Ready : goal.returns-in-Ready

@@ -1,11 +1,6 @@
 use Rattle.std.proofs.Common.{◌≡◌, ◌∷◌, ◌++◌, ◌+◌, ◌<◌, [], List, get_or, Option, Some, Vec, arith, ℕ, ap, ◌∙◌, length, subst, sym, take}
-use Rattle.std.specs.Global.{Global}
-use Rattle.std.specs.List.{Contains}
-use Rattle.std.proofs.lemmas.List.{take_all, take_more}
-use Rattle.std.proofs.lemmas.List.Elements.{Contains-get_or}
-use Rattle.batch_check.specs.Collecting.{HasRaised, HasTakenBy, raised}
-use Rattle.batch_check.specs.Joining.{AreBelow}
-use Rattle.batch_check.proofs.EdgesInBindings.{HasRaised-more, HasRaised-none, HasRaised-start, HasRaised-then, raised_below}
+use Rattle.std.{specs.Global.Global, specs.List.Contains, proofs.lemmas.List.take_all, proofs.lemmas.List.take_more, proofs.lemmas.List.Elements.Contains-get_or}
+use Rattle.batch_check.{specs.Collecting.HasRaised, specs.Collecting.HasTakenBy, specs.Collecting.raised, specs.Joining.AreBelow, proofs.EdgesInBindings.HasRaised-more, proofs.EdgesInBindings.HasRaised-none, proofs.EdgesInBindings.HasRaised-start, proofs.EdgesInBindings.HasRaised-then, proofs.EdgesInBindings.raised_below}
 use Rattle.batch_check.proofs.binding.add_raised.Goals as goal
 
 abbrev Units : Type 0

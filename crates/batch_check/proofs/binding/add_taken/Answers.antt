@@ -1,11 +1,6 @@
 use Rattle.std.proofs.Common.{List, get_or, subst, sym, ◌∙◌, take, arith}
 use Rattle.std.proofs.lemmas.List.{take_more}
-use Rattle.batch_check.specs.declared.edge.Edge.{Edge}
-use Rattle.batch_check.specs.Collecting.{HasTakenBy}
-use Rattle.batch_check.specs.Joining.{AreBelow}
-use Rattle.batch_check.proofs.Raises.{no_edge}
-use Rattle.batch_check.proofs.Roles.{resource_for-within}
-use Rattle.batch_check.proofs.EdgesInBindings.{HasTakenBy-more, HasTakenBy-none}
+use Rattle.batch_check.{specs.declared.edge.Edge.Edge, specs.Collecting.HasTakenBy, specs.Joining.AreBelow, proofs.Raises.no_edge, proofs.Roles.resource_for-within, proofs.EdgesInBindings.HasTakenBy-more, proofs.EdgesInBindings.HasTakenBy-none}
 use Rattle.batch_check.proofs.binding.add_taken.Goals as goal
 
 pub loop-edge-init : goal.loop-edge-init

@@ -1,9 +1,6 @@
 use Rattle.std.proofs.Common.{◌∙◌, List, not, ap, get_or, subst, sym, take}
 use Rattle.std.proofs.lemmas.List.{take_more}
-use Rattle.batch_check.specs.declared.edge.Edge.{Edge}
-use Rattle.batch_check.specs.Collecting.{AreThose, is_of_role}
-use Rattle.batch_check.proofs.Raises.{no_edge}
-use Rattle.batch_check.proofs.EdgesInBindings.{AreThose-left, AreThose-more, AreThose-none}
+use Rattle.batch_check.{specs.declared.edge.Edge.Edge, specs.Collecting.AreThose, specs.Collecting.is_of_role, proofs.Raises.no_edge, proofs.EdgesInBindings.AreThose-left, proofs.EdgesInBindings.AreThose-more, proofs.EdgesInBindings.AreThose-none}
 use Rattle.batch_check.proofs.binding.edges_of_roles.Goals as goal
 
 pub loop-edge-init : goal.loop-edge-init

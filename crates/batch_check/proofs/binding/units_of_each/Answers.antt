@@ -1,7 +1,6 @@
 use Rattle.std.proofs.Common.{◌≡◌, ◌∙◌, ap, subst, arith}
 use Rattle.batch_verify.specs.Bindings.{binding_count}
-use Rattle.batch_check.specs.Takings.{AreUnitsOf}
-use Rattle.batch_check.proofs.RoleUnits.{units_more, units_none, units_numbered}
+use Rattle.batch_check.{specs.Takings.AreUnitsOf, proofs.RoleUnits.units_more, proofs.RoleUnits.units_none, proofs.RoleUnits.units_numbered}
 use Rattle.batch_check.proofs.binding.units_of_each.Goals as goal
 
 pub loop-number-init : goal.loop-number-init

@@ -1,13 +1,8 @@
 use Rattle.std.proofs.Common.{sym, subst}
 use Rattle.std.proofs.lemmas.Result.{err_from_is_err_and}
-use Rattle.batch_model.specs.Cleared.{Ranking, IsCleared}
-use Rattle.batch_model.specs.Setups.{setup_of}
-use Rattle.batch_check.specs.ByName.{IsCertificateOf}
-use Rattle.batch_check.specs.Clearing.{IsLeastClearance}
-use Rattle.batch_check.specs.TightRanks.{RanksTightly}
-use Rattle.batch_check.proofs.CertificateRanks.{TellsRanks-certificate}
+use Rattle.batch_model.specs.{Cleared.Ranking, Cleared.IsCleared, Setups.setup_of}
+use Rattle.batch_check.{specs.ByName.IsCertificateOf, specs.Clearing.IsLeastClearance, specs.TightRanks.RanksTightly, proofs.CertificateRanks.TellsRanks-certificate, proofs.Verdicts.recipe_fault_none, proofs.Verdicts.circle_fault_none, proofs.Verdicts.least_clearance, proofs.Verdicts.candidates_known, proofs.Verdicts.needs_known}
 use Rattle.batch_verify.proofs.RecipesInSet.{set_length}
-use Rattle.batch_check.proofs.Verdicts.{recipe_fault_none, circle_fault_none, least_clearance, candidates_known, needs_known}
 use Rattle.batch_check.proofs.checking.check.Goals as goal
 
 pub returns-in_err-check_each-clause-none : goal.returns-in_err-check_each-clause-none

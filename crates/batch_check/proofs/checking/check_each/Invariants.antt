@@ -1,6 +1,5 @@
 use Rattle.std.proofs.Common.{take, map}
-use Rattle.batch_model.specs.Lists.{Each}
-use Rattle.batch_model.specs.Setups.{master_of, setup_of}
+use Rattle.batch_model.specs.{Lists.Each, Setups.master_of, Setups.setup_of}
 use Rattle.batch_check.specs.Checking.{IsSoundMaster}
 use Rattle.batch_check.proofs.checking.check_each.Given as goal
 

@@ -1,10 +1,6 @@
 use Rattle.std.proofs.Common.{length}
 use Rattle.batch_cell.specs.LookUps.{resources_of}
-use Rattle.batch_check.specs.LeastRanking.{IsEdgeCircle, IsLeastRanking}
-use Rattle.batch_check.specs.Spreading.{HasFewest}
-use Rattle.batch_check.proofs.Circles.{circle_stays, circle_within, is_shortest, stands_as_circle}
-use Rattle.batch_check.proofs.RanksAlongPaths.{least_ranks_rise}
-use Rattle.batch_check.proofs.TightLeastRanks.{least_ranks_tight}
+use Rattle.batch_check.{specs.LeastRanking.IsEdgeCircle, specs.LeastRanking.IsLeastRanking, specs.Spreading.HasFewest, proofs.Circles.circle_stays, proofs.Circles.circle_within, proofs.Circles.is_shortest, proofs.Circles.stands_as_circle, proofs.RanksAlongPaths.least_ranks_rise, proofs.TightLeastRanks.least_ranks_tight}
 use Rattle.batch_check.proofs.checking.ranks_of.Goals as goal
 
 pub returns-in-Ranks-clause-least : goal.returns-in-Ranks-clause-least

@@ -1,6 +1,5 @@
 use Rattle.std.proofs.Common.{◌≡◌, ◌<◌, length, Some, None, subst, sym, ap, ◌∙◌, arith}
-use Rattle.batch_check.proofs.Raises.{no_edge}
-use Rattle.batch_check.proofs.Walks.{Walks-first, Walks-more, Walks-caused, Walks-room, IsCircle-take}
+use Rattle.batch_check.proofs.{Raises.no_edge, Walks.Walks-first, Walks.Walks-more, Walks.Walks-caused, Walks.Walks-room, Walks.IsCircle-take}
 use Rattle.batch_check.proofs.circle.circle_through.Goals as goal
 use Rattle.batch_check.proofs.circle.circle_through.Goals.{In_default}
 

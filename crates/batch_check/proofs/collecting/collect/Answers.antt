@@ -1,18 +1,9 @@
 use Rattle.std.proofs.Common.{◌≡◌, ◌+◌, Bool, List, IsTrue, Some, None, get_or, slice_get, length, sym, ap, ◌∙◌, subst, arith}
-use Rattle.std.specs.List.{Contains}
-use Rattle.std.proofs.lemmas.List.{with_items_is}
-use Rattle.std.proofs.lemmas.Option.{slice_get-get_or}
+use Rattle.std.{specs.List.Contains, proofs.lemmas.List.with_items_is, proofs.lemmas.Option.slice_get-get_or}
 use Rattle.batch_recipe.specs.declared.entry.Entry.{Entry}
 use Rattle.batch_recipe.specs.declared.entry.Kind.TheVariants as kind
-use Rattle.batch_check.specs.Edges.{Follows}
-use Rattle.batch_check.specs.Collecting.{IsReady, is_joined, kept_at_top, with_joined}
-use Rattle.batch_check.specs.Sites.{numbers_at, numbers_of}
+use Rattle.batch_check.{specs.Edges.Follows, specs.Collecting.IsReady, specs.Collecting.is_joined, specs.Collecting.kept_at_top, specs.Collecting.with_joined, specs.Sites.numbers_at, specs.Sites.numbers_of, specs.declared.path.Path.Path, proofs.EdgesOfAct.Follows-alone, proofs.EdgesAlongPaths.AreJoined, proofs.EdgesAlongPaths.AreJoined-at, proofs.EdgesAlongPaths.AreJoined-none, proofs.EdgesAlongPaths.AreJoined-with, proofs.EdgesAlongPaths.IsTop, proofs.EdgesAlongPaths.KeepsPaths, proofs.EdgesAlongPaths.KeepsPaths-first, proofs.EdgesAlongPaths.KeepsPaths-more, proofs.EdgesAlongPaths.all_collected, proofs.EdgesAlongPaths.is_above, proofs.EdgesAlongPaths.top_of, proofs.Names.resources_few, proofs.NeedNumbers.numbers_stand}
 use Rattle.batch_set.specs.declared.linked.LinkedNeed.{LinkedNeed}
-use Rattle.batch_check.specs.declared.path.Path.{Path}
-use Rattle.batch_check.proofs.EdgesOfAct.{Follows-alone}
-use Rattle.batch_check.proofs.EdgesAlongPaths.{AreJoined, AreJoined-at, AreJoined-none, AreJoined-with, IsTop, KeepsPaths, KeepsPaths-first, KeepsPaths-more, all_collected, is_above, top_of}
-use Rattle.batch_check.proofs.Names.{resources_few}
-use Rattle.batch_check.proofs.NeedNumbers.{numbers_stand}
 use Rattle.batch_check.proofs.collecting.collect.Goals as goal
 use Rattle.batch_check.proofs.collecting.collect.Goals.{After-path_above-above, After-top-top}
 

@@ -1,5 +1,4 @@
-use Rattle.batch_check.specs.Sites.{numbers_at}
-use Rattle.batch_check.proofs.EdgesAlongPaths.{AreJoined, KeepsPaths}
+use Rattle.batch_check.{specs.Sites.numbers_at, proofs.EdgesAlongPaths.AreJoined, proofs.EdgesAlongPaths.KeepsPaths}
 use Rattle.batch_check.proofs.collecting.collect.Given as goal
 
 abbrev pub invariant-loop-node : goal.invariant-loop-node

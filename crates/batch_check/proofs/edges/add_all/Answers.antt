@@ -1,6 +1,5 @@
 use Rattle.std.proofs.Common.{arith}
-use Rattle.batch_check.specs.Collecting.{kept_at_top}
-use Rattle.batch_check.proofs.RecipeEdges.{AreAdded-more}
+use Rattle.batch_check.{specs.Collecting.kept_at_top, proofs.RecipeEdges.AreAdded-more}
 use Rattle.batch_set.proofs.SetRecipes.{recipe_linked}
 use Rattle.batch_check.proofs.edges.add_all.Goals as goal
 

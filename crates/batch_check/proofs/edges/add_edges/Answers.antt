@@ -1,17 +1,9 @@
 use Rattle.std.proofs.Common.{◌≡◌, ◌∙◌, ◌+◌, ◌<◌, ℕ, Bool, List, get_or, Option, Some, Vec, length, refl, sym, ap, slice_get, subst, arith}
-use Rattle.std.specs.Global.{Global}
-use Rattle.std.proofs.lemmas.Option.{slice_get_read}
+use Rattle.std.{specs.Global.Global, proofs.lemmas.Option.slice_get_read}
 use Rattle.batch_cell.specs.declared.cell.Cell.{Cell}
 use Rattle.batch_recipe.specs.declared.role.Role.{Role}
 use Rattle.batch_verify.specs.Bindings.{binding_count}
-use Rattle.batch_check.specs.Collecting.{AreThose, AreUnitsWithin, HasRaised, HasTakenBy, is_behind, is_of_role, kept_at_top}
-use Rattle.batch_check.specs.Sites.{resource_count, units_on}
-use Rattle.batch_check.specs.Takings.{AreUnitsOf, alike, units_by}
-use Rattle.batch_check.specs.declared.edge.Edge.{Edge}
-use Rattle.batch_check.specs.declared.edge_set.EdgeSet.{EdgeSet}
-use Rattle.batch_check.specs.declared.site.Site.{Site}
-use Rattle.batch_check.proofs.RecipeEdges.{KeepsBindings, KeepsBindings-alike, KeepsBindings-apart, KeepsBindings-fewer, KeepsBindings-first, added_all}
-use Rattle.batch_check.proofs.RoleUnits.{item_at, units_below, units_numbered, units_within}
+use Rattle.batch_check.{specs.Collecting.AreThose, specs.Collecting.AreUnitsWithin, specs.Collecting.HasRaised, specs.Collecting.HasTakenBy, specs.Collecting.is_behind, specs.Collecting.is_of_role, specs.Collecting.kept_at_top, specs.Sites.resource_count, specs.Sites.units_on, specs.Takings.AreUnitsOf, specs.Takings.alike, specs.Takings.units_by, specs.declared.edge.Edge.Edge, specs.declared.edge_set.EdgeSet.EdgeSet, specs.declared.site.Site.Site, proofs.RecipeEdges.KeepsBindings, proofs.RecipeEdges.KeepsBindings-alike, proofs.RecipeEdges.KeepsBindings-apart, proofs.RecipeEdges.KeepsBindings-fewer, proofs.RecipeEdges.KeepsBindings-first, proofs.RecipeEdges.added_all, proofs.RoleUnits.item_at, proofs.RoleUnits.units_below, proofs.RoleUnits.units_numbered, proofs.RoleUnits.units_within}
 use Rattle.batch_check.proofs.edges.add_edges.Goals as goal
 
 abbrev Units : Type 0

@@ -1,6 +1,5 @@
 use Rattle.std.proofs.Common.{length}
-use Rattle.batch_check.specs.Sites.{resource_count}
-use Rattle.batch_check.proofs.RecipeEdges.{KeepsBindings}
+use Rattle.batch_check.{specs.Sites.resource_count, proofs.RecipeEdges.KeepsBindings}
 use Rattle.batch_check.proofs.edges.add_edges.Given as goal
 
 abbrev pub invariant-loop-taken : goal.invariant-loop-taken

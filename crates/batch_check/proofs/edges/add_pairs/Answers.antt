@@ -1,9 +1,7 @@
 use Rattle.std.proofs.Common.{Some, [], length}
 use Rattle.batch_cell.specs.LookUps.{resources_of}
-use Rattle.batch_check.specs.Collecting.{AreAdded, HasAllPairs}
-use Rattle.batch_check.specs.LeastRanking.{HasEndsBelow}
+use Rattle.batch_check.{specs.Collecting.AreAdded, specs.Collecting.HasAllPairs, specs.LeastRanking.HasEndsBelow, proofs.RecipeEdges.pairs_of_all, proofs.RecipeEdges.pairs_within}
 use Rattle.std.proofs.lemmas.Result.{IfOk-weaker}
-use Rattle.batch_check.proofs.RecipeEdges.{pairs_of_all, pairs_within}
 use Rattle.batch_check.proofs.edges.add_pairs.Goals as goal
 
 pub returns-clause-pairs : goal.returns-clause-pairs

@@ -1,6 +1,5 @@
 use Rattle.std.proofs.Common.{None, arith}
-use Rattle.batch_check.proofs.Names.{resources_few}
-use Rattle.batch_check.proofs.RecipeEdges.{edges_of_all, standing_within}
+use Rattle.batch_check.proofs.{Names.resources_few, RecipeEdges.edges_of_all, RecipeEdges.standing_within}
 use Rattle.batch_check.proofs.edges.edges_of.Goals as goal
 
 pub new-requires : goal.new-requires

@@ -1,9 +1,6 @@
 use Rattle.std.proofs.Common.{List, get_or, subst, sym, take}
 use Rattle.std.proofs.lemmas.List.{take_more}
-use Rattle.batch_check.specs.declared.edge.Edge.{Edge}
-use Rattle.batch_check.specs.Joining.{HasTaken}
-use Rattle.batch_check.proofs.EdgesFromNeeds.{HasTaken-more, HasTaken-none}
-use Rattle.batch_check.proofs.Raises.{no_edge}
+use Rattle.batch_check.{specs.declared.edge.Edge.Edge, specs.Joining.HasTaken, proofs.EdgesFromNeeds.HasTaken-more, proofs.EdgesFromNeeds.HasTaken-none, proofs.Raises.no_edge}
 use Rattle.batch_check.proofs.graph.add_each.Goals as goal
 
 pub loop-edge-init : goal.loop-edge-init

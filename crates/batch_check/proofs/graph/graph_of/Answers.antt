@@ -1,7 +1,6 @@
 use Rattle.std.proofs.Common.{length}
 use Rattle.batch_cell.specs.LookUps.{resources_of}
-use Rattle.batch_check.specs.LeastRanking.{HasEndsBelow}
-use Rattle.batch_check.proofs.RecipeEdges.{edges_with, standing_within}
+use Rattle.batch_check.{specs.LeastRanking.HasEndsBelow, proofs.RecipeEdges.edges_with, proofs.RecipeEdges.standing_within}
 use Rattle.batch_verify.proofs.RecipesInSet.{set_length}
 use Rattle.batch_check.proofs.graph.graph_of.Goals as goal
 

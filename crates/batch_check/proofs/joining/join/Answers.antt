@@ -1,8 +1,6 @@
 use Rattle.std.proofs.Common.{◌∷◌, [], Option, OnOk, IsTrue, ℕ, Some, sym, subst}
-use Rattle.batch_check.specs.Edges.{has_pair}
-use Rattle.batch_check.specs.Joining.{HasJoined}
+use Rattle.batch_check.{specs.Edges.has_pair, specs.Joining.HasJoined, proofs.EdgesFromNeeds.HasJoined-pair}
 use Rattle.std.proofs.lemmas.Result.{IfOk-weaker}
-use Rattle.batch_check.proofs.EdgesFromNeeds.{HasJoined-pair}
 use Rattle.batch_check.proofs.joining.join.Goals as goal
 
 pub returns-in-Some-Some : goal.returns-in-Some-Some

@@ -1,6 +1,5 @@
 use Rattle.std.proofs.Common.{ℕ, Option, subst, sym}
-use Rattle.batch_check.specs.Joining.{HasJoined}
-use Rattle.batch_check.proofs.EdgesFromNeeds.{HasJoined-known}
+use Rattle.batch_check.{specs.Joining.HasJoined, proofs.EdgesFromNeeds.HasJoined-known}
 use Rattle.batch_check.proofs.joining.join_asked.Goals as goal
 
 pub returns : goal.returns

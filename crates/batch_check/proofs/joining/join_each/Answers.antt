@@ -1,8 +1,6 @@
 use Rattle.std.proofs.Common.{◌∷◌, [], ◌∙◌, ℕ, List, Option, Some, None, ap, arith, get_or, subst, sym, take}
-use Rattle.std.proofs.lemmas.List.{take_more}
-use Rattle.std.proofs.lemmas.Option.{slice_get-get_or}
-use Rattle.batch_check.specs.Joining.{HasJoined}
-use Rattle.batch_check.proofs.EdgesFromNeeds.{Contains-at, HasJoined-append}
+use Rattle.std.proofs.lemmas.{List.take_more, Option.slice_get-get_or}
+use Rattle.batch_check.{specs.Joining.HasJoined, proofs.EdgesFromNeeds.Contains-at, proofs.EdgesFromNeeds.HasJoined-append}
 use Rattle.batch_check.proofs.joining.join_each.Goals as goal
 
 pub join-requires-clause-earlier : goal.join-requires-clause-earlier

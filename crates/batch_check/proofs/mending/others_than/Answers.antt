@@ -1,9 +1,6 @@
 use Rattle.std.proofs.Common.{◌∙◌, List, get_or, subst, sym, take}
 use Rattle.std.proofs.lemmas.List.{take_more}
-use Rattle.batch_check.specs.declared.edge.Edge.{Edge}
-use Rattle.batch_check.specs.Mending.{AreOtherEdges}
-use Rattle.batch_check.proofs.OrdersWithoutOne.{others_new, others_same}
-use Rattle.batch_check.proofs.Raises.{no_edge}
+use Rattle.batch_check.{specs.declared.edge.Edge.Edge, specs.Mending.AreOtherEdges, proofs.OrdersWithoutOne.others_new, proofs.OrdersWithoutOne.others_same, proofs.Raises.no_edge}
 use Rattle.batch_check.proofs.mending.others_than.Goals as goal
 
 pub loop-other-preserved : goal.loop-other-preserved

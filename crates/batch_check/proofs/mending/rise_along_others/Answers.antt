@@ -1,9 +1,6 @@
 use Rattle.std.proofs.Common.{List, [], ◌∷◌, ◌++◌, get_or, subst, sym, take}
 use Rattle.std.proofs.lemmas.List.{take_all, take_more}
-use Rattle.batch_check.specs.declared.edge.Edge.{Edge}
-use Rattle.batch_check.specs.Mending.{TellRises, TellsRiseAlong}
-use Rattle.batch_check.proofs.OrdersWithoutOne.{TellRises-more, told_standing}
-use Rattle.batch_check.proofs.Raises.{no_edge}
+use Rattle.batch_check.{specs.declared.edge.Edge.Edge, specs.Mending.TellRises, specs.Mending.TellsRiseAlong, proofs.OrdersWithoutOne.TellRises-more, proofs.OrdersWithoutOne.told_standing, proofs.Raises.no_edge}
 use Rattle.batch_check.proofs.mending.rise_along_others.Goals as goal
 
 pub rises_along_others-requires : goal.rises_along_others-requires

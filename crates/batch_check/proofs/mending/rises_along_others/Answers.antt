@@ -1,6 +1,5 @@
 use Rattle.std.proofs.Common.{get_or}
-use Rattle.batch_check.specs.LeastRanking.{IsEdgeCircle, IsLeastRanking}
-use Rattle.batch_check.proofs.OrdersWithoutOne.{circle_stays_in, others_within, ranks_rise}
+use Rattle.batch_check.{specs.LeastRanking.IsEdgeCircle, specs.LeastRanking.IsLeastRanking, proofs.OrdersWithoutOne.circle_stays_in, proofs.OrdersWithoutOne.others_within, proofs.OrdersWithoutOne.ranks_rise}
 use Rattle.batch_check.proofs.mending.rises_along_others.Goals as goal
 
 pub least_ranks-requires : goal.least_ranks-requires

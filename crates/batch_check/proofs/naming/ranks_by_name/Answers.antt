@@ -1,8 +1,6 @@
 use Rattle.std.proofs.Common.{◌≡◌, ◌<◌, ◌≤◌, ◌∙◌, length, subst, refl, IsPermutation, zip}
 use Rattle.batch_cell.specs.LookUps.{resources_of}
-use Rattle.batch_check.specs.ByName.{resource_name_in}
-use Rattle.batch_check.proofs.Names.{name_in-found}
-use Rattle.batch_check.proofs.Entries.{zip_more, zip_all, IsCertificateOf-sorted}
+use Rattle.batch_check.{specs.ByName.resource_name_in, proofs.Names.name_in-found, proofs.Entries.zip_more, proofs.Entries.zip_all, proofs.Entries.IsCertificateOf-sorted}
 use Rattle.batch_check.proofs.naming.ranks_by_name.Goals as goal
 
 pub loop-resource-preserved : goal.loop-resource-preserved

@@ -1,6 +1,5 @@
 use Rattle.std.proofs.Common.{arith, refl}
-use Rattle.batch_check.specs.declared.path.Path.{Path}
-use Rattle.batch_check.proofs.EdgesOfAct.{HasAsked-one}
+use Rattle.batch_check.{specs.declared.path.Path.Path, proofs.EdgesOfAct.HasAsked-one}
 use Rattle.batch_check.proofs.path.ask.Goals as goal
 
 pub returns : goal.returns

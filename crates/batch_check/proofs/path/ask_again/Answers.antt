@@ -1,13 +1,7 @@
 use Rattle.std.proofs.Common.{◌≡◌, ℕ, ◌-◌, ◌<◌, [], ◌∷◌, Option, Some, None, length, get_or, ap, sym, ◌∙◌, subst, arith}
-use Rattle.std.proofs.lemmas.List.{length-map}
-use Rattle.std.proofs.lemmas.Option.{slice_get-get_or}
+use Rattle.std.proofs.lemmas.{List.length-map, Option.slice_get-get_or}
 use Rattle.batch_set.specs.declared.linked.LinkedNeed.{LinkedNeed}
-use Rattle.batch_check.specs.Collecting.{HasAsked, ends_in}
-use Rattle.batch_check.specs.Joining.{HasJoined}
-use Rattle.batch_check.specs.Sites.{number_of, numbers_of}
-use Rattle.batch_check.proofs.EdgesOfAct.{HasAsked-again}
-use Rattle.batch_check.proofs.EdgesFromNeeds.{Contains-at}
-use Rattle.batch_check.proofs.NeedNumbers.{number_there}
+use Rattle.batch_check.{specs.Collecting.HasAsked, specs.Collecting.ends_in, specs.Joining.HasJoined, specs.Sites.number_of, specs.Sites.numbers_of, proofs.EdgesOfAct.HasAsked-again, proofs.EdgesFromNeeds.Contains-at, proofs.NeedNumbers.number_there}
 use Rattle.batch_check.proofs.path.ask_again.Goals as goal
 
 pub join-requires-clause-later : goal.join-requires-clause-later

@@ -1,9 +1,6 @@
 use Rattle.std.proofs.Common.{ℕ, List, [], ◌∷◌, Option, Some, None, ap, ◌∙◌, sym, subst, take, get_or, arith}
-use Rattle.std.proofs.lemmas.List.{take_more}
-use Rattle.std.proofs.lemmas.Option.{slice_get-get_or}
-use Rattle.batch_check.specs.Collecting.{HasAsked}
-use Rattle.batch_check.proofs.EdgesOfAct.{HasAsked-append, HasAsked-copied}
-use Rattle.batch_check.proofs.EdgesFromNeeds.{Contains-at}
+use Rattle.std.proofs.lemmas.{List.take_more, Option.slice_get-get_or}
+use Rattle.batch_check.{specs.Collecting.HasAsked, proofs.EdgesOfAct.HasAsked-append, proofs.EdgesOfAct.HasAsked-copied, proofs.EdgesFromNeeds.Contains-at}
 use Rattle.batch_check.proofs.path.ask_each.Goals as goal
 
 pub loop-need-init : goal.loop-need-init

@@ -1,9 +1,6 @@
 use Rattle.std.proofs.Common.{◌≡◌, ◌<◌, ℕ, List, [], ◌∷◌, Option, Some, None, ap, ◌∙◌, sym, subst, take, get_or, arith, refl}
-use Rattle.std.proofs.lemmas.List.{take_all, take_more}
-use Rattle.std.proofs.lemmas.Option.{slice_get-get_or}
-use Rattle.batch_check.specs.Collecting.{HasAsked, ends_in}
-use Rattle.batch_check.proofs.EdgesOfAct.{HasAsked-append, HasAsked-copied, HasAsked-alone, is_ready}
-use Rattle.batch_check.proofs.EdgesFromNeeds.{Contains-at}
+use Rattle.std.proofs.lemmas.{List.take_all, List.take_more, Option.slice_get-get_or}
+use Rattle.batch_check.{specs.Collecting.HasAsked, specs.Collecting.ends_in, proofs.EdgesOfAct.HasAsked-append, proofs.EdgesOfAct.HasAsked-copied, proofs.EdgesOfAct.HasAsked-alone, proofs.EdgesOfAct.is_ready, proofs.EdgesFromNeeds.Contains-at}
 use Rattle.batch_check.proofs.path.ask_in_turn.Goals as goal
 
 pub loop-need-init : goal.loop-need-init

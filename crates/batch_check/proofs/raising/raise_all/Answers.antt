@@ -1,7 +1,6 @@
 use Rattle.std.proofs.Common.{◌+◌, ◌<◌, get_or, arith}
 use Rattle.std.proofs.lemmas.List.Elements.{All-from_get_or}
-use Rattle.batch_check.specs.Raising.{RisesOr}
-use Rattle.batch_check.proofs.Raises.{KeepsRaising-skip, KeepsRaising-raise, no_edge}
+use Rattle.batch_check.{specs.Raising.RisesOr, proofs.Raises.KeepsRaising-skip, proofs.Raises.KeepsRaising-raise, proofs.Raises.no_edge}
 use Rattle.batch_check.proofs.raising.raise_all.Goals as goal
 use Rattle.batch_check.proofs.raising.raise_all.Goals.{then-ranks-later+else-rank-count, else-ranks-later}
 

@@ -1,6 +1,5 @@
 use Rattle.std.proofs.Common.{◌+◌, arith, subst, sym}
-use Rattle.batch_check.specs.Spreading.{NoneBelow}
-use Rattle.batch_check.proofs.ShortestCircles.{NoneBelow-less, NoneBelow-spread, NoneBelow-still}
+use Rattle.batch_check.{specs.Spreading.NoneBelow, proofs.ShortestCircles.NoneBelow-less, proofs.ShortestCircles.NoneBelow-spread, proofs.ShortestCircles.NoneBelow-still}
 use Rattle.batch_check.proofs.shortest.shorter_through.Goals as goal
 
 pub returns-in-Still : goal.returns-in-Still

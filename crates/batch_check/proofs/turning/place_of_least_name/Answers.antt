@@ -1,9 +1,6 @@
 use Rattle.std.proofs.Common.{◌≡◌, ◌∙◌, sym, ap, get_or, is_lt}
 use Rattle.std.proofs.lemmas.Bool.{false≢true}
-use Rattle.batch_check.specs.ByName.{resource_name_in}
-use Rattle.batch_check.proofs.Raises.{no_edge}
-use Rattle.batch_check.proofs.Names.{name_in-found}
-use Rattle.batch_check.proofs.CircleStarts.{IsLeastOf-one, IsLeastOf-takes, IsLeastOf-keeps, IsLeastOf-all, below_from_lt}
+use Rattle.batch_check.{specs.ByName.resource_name_in, proofs.Raises.no_edge, proofs.Names.name_in-found, proofs.CircleStarts.IsLeastOf-one, proofs.CircleStarts.IsLeastOf-takes, proofs.CircleStarts.IsLeastOf-keeps, proofs.CircleStarts.IsLeastOf-all, proofs.CircleStarts.below_from_lt}
 use Rattle.batch_check.proofs.turning.place_of_least_name.Goals as goal
 use Rattle.batch_check.proofs.turning.place_of_least_name.Goals.{then-lt, else-lt}
 

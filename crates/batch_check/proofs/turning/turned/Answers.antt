@@ -1,5 +1,4 @@
-use Rattle.batch_check.proofs.Raises.{no_edge}
-use Rattle.batch_check.proofs.CircleStarts.{IsCircle-turned, BeginsWithLeastName-turned, length-turned}
+use Rattle.batch_check.proofs.{Raises.no_edge, CircleStarts.IsCircle-turned, CircleStarts.BeginsWithLeastName-turned, CircleStarts.length-turned}
 use Rattle.batch_check.proofs.turning.turned.Goals as goal
 
 pub returns-clause-circle : goal.returns-clause-circle

@@ -1,7 +1,6 @@
 use Rattle.std.proofs.Common.{◌∙◌, ap}
 use Rattle.std.proofs.lemmas.Result.{IfOk-weaker}
-use Rattle.batch_cli.specs.Table.{with_arguments}
-use Rattle.batch_cli.proofs.Arguments.{with_texts}
+use Rattle.batch_cli.{specs.Table.with_arguments, proofs.Arguments.with_texts}
 use Rattle.batch_cli.proofs.line.command.Goals as goal
 
 pub returns : goal.returns

@@ -1,6 +1,5 @@
 use Rattle.std.proofs.Common.{◌≡◌, drop}
-use Rattle.clap.specs.Simple.{app_of}
-use Rattle.clap.specs.declared.builder.command.Command.TheViews.{out-Command}
+use Rattle.clap.specs.{Simple.app_of, declared.builder.command.Command.TheViews.out-Command}
 use Rattle.batch_cli.specs.Table.{with_arguments}
 use Rattle.batch_cli.proofs.line.with_arguments.Given as goal
 

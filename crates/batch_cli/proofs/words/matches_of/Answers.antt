@@ -1,9 +1,6 @@
 use Rattle.std.proofs.Common.{◌≡◌, map, refl, string_bytes, subst, true}
-use Rattle.std.proofs.lemmas.Result.{IfOk-weaker}
-use Rattle.std.specs.Result.{IfOk}
-use Rattle.clap.specs.Faults.{fault_of, is_simple_and_free}
-use Rattle.clap.specs.Kinds.{FailsBy}
-use Rattle.clap.specs.Simple.{HasMatchesOf}
+use Rattle.std.{proofs.lemmas.Result.IfOk-weaker, specs.Result.IfOk}
+use Rattle.clap.specs.{Faults.fault_of, Faults.is_simple_and_free, Kinds.FailsBy, Simple.HasMatchesOf}
 use Rattle.batch_cli.proofs.words.matches_of.Goals as goal
 
 pub returns-clause-entered : goal.returns-clause-entered

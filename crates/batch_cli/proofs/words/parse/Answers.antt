@@ -1,6 +1,5 @@
 use Rattle.std.proofs.Common.{ap, sym, ◌∙◌}
-use Rattle.batch_cli.specs.CommandLine.{lacks_recipe}
-use Rattle.batch_cli.proofs.Faults.{fault_from_kind, fault_missing, kind_first}
+use Rattle.batch_cli.{specs.CommandLine.lacks_recipe, proofs.Faults.fault_from_kind, proofs.Faults.fault_missing, proofs.Faults.kind_first}
 use Rattle.batch_cli.proofs.words.parse.Goals as goal
 
 pub returns-then-lacks_recipe-clause-fault : goal.returns-then-lacks_recipe-clause-fault

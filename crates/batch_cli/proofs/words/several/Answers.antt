@@ -1,8 +1,6 @@
 use Rattle.std.proofs.Common.{ap, ◌∙◌, unwrap_or, [], List, map, string_bytes}
 use Rattle.std.proofs.lemmas.Result.{IfOk-weaker}
-use Rattle.clap.specs.Words.{found_of}
-use Rattle.clap.specs.Walk.{Text}
-use Rattle.clap.proofs.WalkLemmas.{raw_values-rows}
+use Rattle.clap.{specs.Words.found_of, specs.Walk.Text, proofs.WalkLemmas.raw_values-rows}
 use Rattle.batch_cli.proofs.words.several.Goals as goal
 
 pub returns-in-Some : goal.returns-in-Some

@@ -1,8 +1,6 @@
 use Rattle.std.proofs.Common.{ap, ◌∙◌, unwrap_or, []}
 use Rattle.std.proofs.lemmas.Result.{IfOk-weaker}
-use Rattle.clap.specs.Words.{found_of}
-use Rattle.clap.specs.Walk.{Text}
-use Rattle.clap.proofs.WalkLemmas.{first_value-rows}
+use Rattle.clap.{specs.Words.found_of, specs.Walk.Text, proofs.WalkLemmas.first_value-rows}
 use Rattle.batch_cli.proofs.words.word.Goals as goal
 
 pub returns-in-Some : goal.returns-in-Some

@@ -1,6 +1,5 @@
 use Rattle.std.proofs.Common.{refl}
-use Rattle.batch_desk.proofs.ConsoleTurns.{begins}
-use Rattle.batch_desk.proofs.Gates.{asked_once_more}
+use Rattle.batch_desk.proofs.{ConsoleTurns.begins, Gates.asked_once_more}
 use Rattle.batch_desk.proofs.console_turns.console_loop.Goals as goal
 use Rattle.batch_desk.proofs.console_turns.console_loop.Goals.{then-lets_pass, else-lets_pass}
 

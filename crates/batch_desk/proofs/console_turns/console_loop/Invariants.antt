@@ -1,5 +1,4 @@
-use Rattle.batch_desk.specs.ConsoleSteps.{Follows}
-use Rattle.batch_desk.specs.Gates.{AreAsked}
+use Rattle.batch_desk.specs.{ConsoleSteps.Follows, Gates.AreAsked}
 use Rattle.batch_desk.proofs.console_turns.console_loop.Given as goal
 
 abbrev pub invariant-loop-turn : goal.invariant-loop-turn

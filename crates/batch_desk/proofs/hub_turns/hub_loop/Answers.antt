@@ -1,7 +1,5 @@
 use Rattle.std.proofs.Common.{refl, ◌∙◌}
-use Rattle.batch_desk.proofs.Gates.{asked_once_more}
-use Rattle.batch_desk.proofs.HubTurns.{as_many, history_grows, history_same, prefix_same}
-use Rattle.batch_desk.proofs.Moves.{prefix_then}
+use Rattle.batch_desk.proofs.{Gates.asked_once_more, HubTurns.as_many, HubTurns.history_grows, HubTurns.history_same, HubTurns.prefix_same, Moves.prefix_then}
 use Rattle.batch_desk.proofs.hub_turns.hub_loop.Goals as goal
 use Rattle.batch_desk.proofs.hub_turns.hub_loop.Goals.{then-lets_pass, else-lets_pass}
 

@@ -1,7 +1,6 @@
 use Rattle.std.proofs.Common.{◌≡◌, length}
 use mathlib.Core.List.{IsPrefix}
-use Rattle.batch_desk.specs.Gates.{AreAsked}
-use Rattle.batch_desk.specs.HubState.{HasHistoryGrown, outlines, rings}
+use Rattle.batch_desk.specs.{Gates.AreAsked, HubState.HasHistoryGrown, HubState.outlines, HubState.rings}
 use Rattle.batch_desk.proofs.hub_turns.hub_loop.Given as goal
 
 abbrev pub invariant-loop-number : goal.invariant-loop-number

@@ -1,9 +1,6 @@
 use Rattle.std.proofs.Common.{arith}
 use Rattle.std.proofs.lemmas.List.Elements.{All-push}
-use Rattle.batch_desk.specs.PortState.{IsNewPort}
-use Rattle.batch_desk.specs.DeskState.{IsNewDesk}
-use Rattle.batch_desk.specs.Plans.{places_free, port_made, places_planned, port_planned, sizes_made, sizes_planned}
-use Rattle.batch_desk.proofs.PortEnds.{planned_more, rings_pushed}
+use Rattle.batch_desk.{specs.PortState.IsNewPort, specs.DeskState.IsNewDesk, specs.Plans.places_free, specs.Plans.port_made, specs.Plans.places_planned, specs.Plans.port_planned, specs.Plans.sizes_made, specs.Plans.sizes_planned, proofs.PortEnds.planned_more, proofs.PortEnds.rings_pushed}
 use Rattle.batch_desk.proofs.opening.open_ports.Goals as goal
 
 pub loop-plan-preserved : goal.loop-plan-preserved

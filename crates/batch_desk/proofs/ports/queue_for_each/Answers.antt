@@ -1,6 +1,5 @@
 use Rattle.std.proofs.Common.{◌≡◌, ℕ, ◌+◌, ◌-◌, ◌<◌, ◌++◌, List, map, take, drop, length, get_or, set, ap, ◌∙◌, arith, get_or-drop, length-take-le}
-use Rattle.std.proofs.lemmas.List.{get_or-append_right, length-map}
-use Rattle.std.proofs.lemmas.List.Edits.{map_over_more}
+use Rattle.std.proofs.lemmas.List.{get_or-append_right, length-map, Edits.map_over_more}
 use Rattle.batch_desk.specs.PortSteps.{owe_line}
 use Rattle.batch_desk.proofs.ports.queue_for_each.Goals as goal
 

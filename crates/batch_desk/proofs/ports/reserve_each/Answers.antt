@@ -1,7 +1,5 @@
 use Rattle.std.proofs.Common.{◌∙◌, arith}
-use Rattle.batch_desk.specs.PortSteps.{without_room}
-use Rattle.batch_desk.proofs.ListImages.{map-changed, map-same_length}
-use Rattle.batch_desk.proofs.HubPorts.{room_more}
+use Rattle.batch_desk.{specs.PortSteps.without_room, proofs.ListImages.map-changed, proofs.ListImages.map-same_length, proofs.HubPorts.room_more}
 use Rattle.batch_desk.proofs.ports.reserve_each.Goals as goal
 
 pub returns-in_err-reserve-clause-same : goal.returns-in_err-reserve-clause-same

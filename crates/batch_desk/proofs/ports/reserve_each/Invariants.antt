@@ -1,6 +1,5 @@
 use Rattle.std.proofs.Common.{◌≡◌, ℕ, ◌<◌, map, get_or}
-use Rattle.batch_desk.specs.PortState.{PortState}
-use Rattle.batch_desk.specs.PortSteps.{HasRoom, without_room}
+use Rattle.batch_desk.specs.{PortState.PortState, PortSteps.HasRoom, PortSteps.without_room}
 use Rattle.batch_desk.proofs.ports.reserve_each.Given as goal
 
 abbrev pub invariant-loop-index : goal.invariant-loop-index

@@ -1,6 +1,5 @@
 use Rattle.std.proofs.Common.{rules, ◌∙◌}
-use Rattle.std.proofs.lemmas.Iterator.{YieldsList-from_slice}
-use Rattle.std.proofs.lemmas.Iterator.Search.{any_from_yields_List}
+use Rattle.std.proofs.lemmas.Iterator.{YieldsList-from_slice, Search.any_from_yields_List}
 use Rattle.batch_recipe.specs.Conditions.{same_name}
 use Rattle.batch_set.proofs.Positions.{any-map}
 use Rattle.batch_engine.proofs.bindings.is_role.Goals as goal

@@ -1,10 +1,6 @@
 use Rattle.std.proofs.Common.{◌≡◌, ◌<◌, ℕ, Bool, true, false, Some, arith, refl, sym, ◌∙◌, ap, subst, length, get_or, inl, inr}
-use Rattle.std.specs.Prelude.{option_map, slice_get}
-use Rattle.std.proofs.lemmas.Bool.{cases_lt}
-use Rattle.std.proofs.lemmas.List.{length-map}
-use Rattle.std.proofs.lemmas.Option.{slice_get_read, slice_get_within, slice_get-map}
-use Rattle.batch_cell.specs.LookUps.{is_of_class, units_of}
-use Rattle.batch_cell.specs.declared.unit.Unit.{Unit}
+use Rattle.std.{specs.Prelude.option_map, specs.Prelude.slice_get, proofs.lemmas.Bool.cases_lt, proofs.lemmas.List.length-map, proofs.lemmas.Option.slice_get_read, proofs.lemmas.Option.slice_get_within, proofs.lemmas.Option.slice_get-map}
+use Rattle.batch_cell.specs.{LookUps.is_of_class, LookUps.units_of, declared.unit.Unit.Unit}
 use Rattle.batch_recipe.specs.Conditions.{same_name}
 use Rattle.batch_model.specs.Events.{bound_by}
 use Rattle.batch_record_laws.proofs.Entries.{name_same}

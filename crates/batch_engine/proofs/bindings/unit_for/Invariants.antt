@@ -1,6 +1,5 @@
 use Rattle.std.proofs.Common.{◌≡◌, ◌<◌, ℕ, Some, true, false, slice_get}
-use Rattle.batch_cell.specs.LookUps.{is_of_class}
-use Rattle.batch_cell.specs.declared.unit.Unit.{Unit}
+use Rattle.batch_cell.specs.{LookUps.is_of_class, declared.unit.Unit.Unit}
 use Rattle.batch_recipe.specs.Conditions.{same_name}
 use Rattle.batch_model.specs.Events.{bound_by}
 use Rattle.batch_engine.proofs.bindings.unit_for.Given as goal

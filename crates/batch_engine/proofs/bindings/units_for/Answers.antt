@@ -1,12 +1,9 @@
 use Rattle.std.proofs.Common.{◌≡◌, ◌≢◌, ◌<◌, ℕ, Some, arith, refl, sym, ◌∙◌, ap, length, get_or, set, inl, inr, length-set, get_or-set_same, get_or-set_other}
-use Rattle.std.specs.Prelude.{slice_get}
-use Rattle.std.proofs.lemmas.Bool.{cases_lt}
-use Rattle.std.proofs.lemmas.Option.{slice_get_read, slice_get_within}
+use Rattle.std.{specs.Prelude.slice_get, proofs.lemmas.Bool.cases_lt, proofs.lemmas.Option.slice_get_read, proofs.lemmas.Option.slice_get_within}
 use Rattle.batch_cell.specs.LookUps.{units_of}
 use Rattle.batch_recipe.specs.declared.role.Role.{Role}
 use Rattle.batch_model.specs.Events.{bound_by}
-use Rattle.batch_engine.proofs.RolePairs.{not-of-roles, all-may, may_take}
-use Rattle.batch_engine.proofs.InvariantAfterMove.{Each-set}
+use Rattle.batch_engine.proofs.{RolePairs.not-of-roles, RolePairs.all-may, RolePairs.may_take, InvariantAfterMove.Each-set}
 use Rattle.batch_engine.proofs.bindings.units_for.Goals as goal
 
 pub returns-then-not-are_of_roles : goal.returns-then-not-are_of_roles

@@ -1,7 +1,6 @@
 use Rattle.std.proofs.Common.{◌≡◌, ◌<◌, ℕ, Some, true, length, get_or, slice_get}
 use Rattle.batch_cell.specs.LookUps.{units_of}
-use Rattle.batch_model.specs.Events.{bound_by}
-use Rattle.batch_model.specs.Lists.{Each}
+use Rattle.batch_model.specs.{Events.bound_by, Lists.Each}
 use Rattle.batch_recipe.specs.declared.role.Role.{Role}
 use Rattle.batch_engine.proofs.RolePairs.{may_take}
 use Rattle.batch_engine.proofs.bindings.units_for.Given as goal

@@ -1,8 +1,7 @@
 use Rattle.std.proofs.Common.{◌≡◌, refl, subst, sym}
 use Rattle.std.specs.Prelude.{◌↔◌, IsTrue}
 use Rattle.batch_recipe.specs.Conditions.{ValueList}
-use Rattle.batch_model.specs.Plant.{scaled}
-use Rattle.batch_model.specs.Recipes.{formula_of}
+use Rattle.batch_model.specs.{Plant.scaled, Recipes.formula_of}
 use Rattle.batch_engine.proofs.CreateAnswers.{values-if}
 use Rattle.batch_engine.proofs.creates.has_values.Goals as goal
 

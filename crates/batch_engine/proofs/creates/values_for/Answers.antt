@@ -1,10 +1,6 @@
 use Rattle.std.proofs.Common.{◌≡◌, refl, sym, ◌∙◌, ap, subst, ℕ}
 use Rattle.std.specs.Prelude.{IsSomeAnd, Err}
-use Rattle.batch_recipe.specs.Conditions.{Name}
-use Rattle.batch_recipe.specs.declared.fault.FormulaFault.{FormulaFault}
-use Rattle.batch_recipe.specs.Formula.{IsOutOfRange}
-use Rattle.batch_recipe.specs.declared.quantity.Quantity.{Quantity}
-use Rattle.batch_recipe.specs.declared.recipe.Recipe.{Recipe}
+use Rattle.batch_recipe.specs.{Conditions.Name, declared.fault.FormulaFault.FormulaFault, Formula.IsOutOfRange, declared.quantity.Quantity.Quantity, declared.recipe.Recipe.Recipe}
 use Rattle.batch_model.specs.Plant.{scaled}
 use Rattle.batch_engine.proofs.Formulas.{formula-sized, formula-fits, no-fault, outside-number, outside-value}
 use Rattle.batch_engine.proofs.creates.values_for.Goals as goal

@@ -1,10 +1,8 @@
 use Rattle.std.proofs.Common.{◌≡◌, ◌≤◌, refl, sym, ◌∙◌, ap, subst, List, [], length, Some, None, true, false}
 use Rattle.std.specs.List.{zip}
-use Rattle.batch_recipe.specs.Conditions.{Name}
-use Rattle.batch_recipe.specs.declared.act.TheConstants.{MAX_VALUES}
+use Rattle.batch_recipe.specs.{Conditions.Name, declared.act.TheConstants.MAX_VALUES}
 use Rattle.batch_model.specs.Moves.{handed_values}
-use Rattle.batch_engine.specs.Names.{handed_of, node_of}
-use Rattle.batch_engine.proofs.HandedValues.{handed_with, told-handed, told-few}
+use Rattle.batch_engine.{specs.Names.handed_of, specs.Names.node_of, proofs.HandedValues.handed_with, proofs.HandedValues.told-handed, proofs.HandedValues.told-few}
 use Rattle.batch_engine.proofs.lines.handed.Goals as goal
 
 pub values_of-requires : goal.values_of-requires

@@ -1,7 +1,5 @@
 use Rattle.std.proofs.Common.{◌≡◌, ◌<◌, refl, sym, ◌∙◌, ap, ℕ, [], length, get_or, arith, Some, None, Option}
-use Rattle.std.specs.Prelude.{slice_get}
-use Rattle.std.proofs.lemmas.Option.{slice_get_read, get_or_from_slice_get}
-use Rattle.std.proofs.lemmas.List.{length-set}
+use Rattle.std.{specs.Prelude.slice_get, proofs.lemmas.Option.slice_get_read, proofs.lemmas.Option.get_or_from_slice_get, proofs.lemmas.List.length-set}
 use Rattle.batch_recipe.specs.Conditions.{Name, value_of, value_or_0}
 use Rattle.batch_engine.proofs.HandedValues.{or-zero, set-value, zip-values}
 use Rattle.batch_engine.proofs.lines.values_of.Goals as goal

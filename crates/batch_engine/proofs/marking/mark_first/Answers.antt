@@ -1,6 +1,5 @@
 use Rattle.std.proofs.Common.{subst, arith}
-use Rattle.batch_engine.specs.Marks.{IsUnmarked}
-use Rattle.batch_engine.proofs.BatchMarks.{few}
+use Rattle.batch_engine.{specs.Marks.IsUnmarked, proofs.BatchMarks.few}
 use Rattle.batch_engine.proofs.marking.mark_first.Goals as goal
 
 pub mark-requires : goal.mark-requires

@@ -1,6 +1,5 @@
 use Rattle.std.proofs.Common.{sym, ◌∙◌, subst, arith}
-use Rattle.batch_engine.specs.Marking.{IsServedAt}
-use Rattle.batch_engine.proofs.BatchMarks.{few, same-some}
+use Rattle.batch_engine.{specs.Marking.IsServedAt, proofs.BatchMarks.few, proofs.BatchMarks.same-some}
 use Rattle.batch_engine.proofs.marking.mark_moved.Goals as goal
 
 pub clear_below-requires : goal.clear_below-requires

@@ -1,7 +1,5 @@
 use Rattle.std.proofs.Common.{◌<◌, sym, ◌∙◌, subst, arith, length}
-use Rattle.batch_engine.specs.Marks.{IsUnmarked}
-use Rattle.batch_engine.specs.View.{EngineView}
-use Rattle.batch_engine.proofs.BatchMarks.{few, found-within, found-there, found-nowhere}
+use Rattle.batch_engine.{specs.Marks.IsUnmarked, specs.View.EngineView, proofs.BatchMarks.few, proofs.BatchMarks.found-within, proofs.BatchMarks.found-there, proofs.BatchMarks.found-nowhere}
 use Rattle.batch_engine.proofs.marking.mark_number.Goals as goal
 
 pub mark-requires : goal.mark-requires

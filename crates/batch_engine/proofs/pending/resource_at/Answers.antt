@@ -1,11 +1,7 @@
 use Rattle.std.proofs.Common.{◌≡◌, ◌∙◌, ap, sym, arith, List, ℕ, Option, Some, None}
 use Rattle.std.specs.Prelude.{slice_get, unwrap_or}
-use Rattle.batch_set.specs.Looked.{needs_by, number_for}
-use Rattle.batch_set.specs.declared.linked.LinkedNeed.{LinkedNeed}
-use Rattle.batch_engine.specs.Steps.{IsNeedAt, IsNumberAt}
-use Rattle.batch_engine.specs.View.{EngineView}
-use Rattle.batch_engine.proofs.LinkedActs.{need-here}
-use Rattle.batch_engine.proofs.BatchAtIndex.{IsRead, entry-read, entry-within, linked-read, linked-within}
+use Rattle.batch_set.specs.{Looked.needs_by, Looked.number_for, declared.linked.LinkedNeed.LinkedNeed}
+use Rattle.batch_engine.{specs.Steps.IsNeedAt, specs.Steps.IsNumberAt, specs.View.EngineView, proofs.LinkedActs.need-here, proofs.BatchAtIndex.IsRead, proofs.BatchAtIndex.entry-read, proofs.BatchAtIndex.entry-within, proofs.BatchAtIndex.linked-read, proofs.BatchAtIndex.linked-within}
 use Rattle.batch_engine.proofs.pending.resource_at.Goals as goal
 use Rattle.batch_engine.proofs.pending.resource_at.Goals.{After-index-own}
 

@@ -1,8 +1,6 @@
 use Rattle.std.proofs.Common.{◌∙◌, sym, ap, ap₂, Bool, true, false, ℕ, List, [], Option}
-use Rattle.batch_recipe.specs.Conditions.{Name, ValueList}
-use Rattle.batch_recipe.specs.Nodes.{reports_of}
-use Rattle.batch_engine.specs.Names.{node_of}
-use Rattle.batch_engine.proofs.ReportAnswers.{first_number}
+use Rattle.batch_recipe.specs.{Conditions.Name, Conditions.ValueList, Nodes.reports_of}
+use Rattle.batch_engine.{specs.Names.node_of, proofs.ReportAnswers.first_number}
 use Rattle.batch_engine.proofs.reports.left_out.Goals as goal
 
 -- the number of the first that is left out of these, if they are to be reported

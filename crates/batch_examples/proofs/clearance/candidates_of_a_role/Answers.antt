@@ -1,10 +1,8 @@
 use Rattle.std.proofs.Common.{◌≡◌, ◌⊎◌, ⊎_elim, inl, inr, refl, sym, subst, arith, [], ◌∷◌, Bool, true, false, ◌||◌, IsTrue, bytes_eq}
 use Rattle.std.proofs.lemmas.Slice.Eq.{bytes_eq-Decides}
-use Rattle.batch_recipe.specs.Conditions.{Name}
-use Rattle.batch_recipe.specs.WellFormed.{is_among}
+use Rattle.batch_recipe.specs.{Conditions.Name, WellFormed.is_among}
 use Rattle.batch_model.specs.Cleared.{IsClearedControl}
-use Rattle.batch_examples.specs.RowDocuments.{r1, r2, hdr, rx, master_b}
-use Rattle.batch_examples.specs.RowsOfClearance.{with_master, units_first}
+use Rattle.batch_examples.specs.{RowDocuments.r1, RowDocuments.r2, RowDocuments.hdr, RowDocuments.rx, RowDocuments.master_b, RowsOfClearance.with_master, RowsOfClearance.units_first}
 use Rattle.batch_examples.proofs.clearance.candidates_of_a_role.Goals as goal
 
 either : (u : Name) → IsTrue (is_among (r1 ∷ r2 ∷ []) u) → (u ≡ r1) ⊎ (u ≡ r2)

@@ -1,9 +1,6 @@
 use Rattle.std.proofs.Common.{◌≤◌, refl, arith, [], ◌∷◌}
-use Rattle.batch_model.specs.Moves.{grant}
-use Rattle.batch_model.specs.Runs.{move}
-use Rattle.batch_examples.specs.RowDocuments.{hdr, steam}
-use Rattle.batch_examples.specs.RowParts.{p0, grants, releases}
-use Rattle.batch_examples.specs.RowsOfSafety.{all_steam}
+use Rattle.batch_model.specs.{Moves.grant, Runs.move}
+use Rattle.batch_examples.specs.{RowDocuments.hdr, RowDocuments.steam, RowParts.p0, RowParts.grants, RowParts.releases, RowsOfSafety.all_steam}
 use Rattle.batch_examples.proofs.safety.held_past_capacity.Goals as goal
 
 pub returns-clause-holders : goal.returns-clause-holders

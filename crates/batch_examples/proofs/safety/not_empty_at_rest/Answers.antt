@@ -1,9 +1,7 @@
 use Rattle.std.proofs.Common.{refl, [], ◌∷◌}
 use Rattle.batch_matrix.specs.declared.state.State.TheVariants.{Aborted, Complete, Stopped}
-use Rattle.batch_model.specs.Moves.{state}
-use Rattle.batch_model.specs.Runs.{move}
-use Rattle.batch_examples.specs.RowDocuments.{hdr}
-use Rattle.batch_examples.specs.RowParts.{p0, asks, grants}
+use Rattle.batch_model.specs.{Moves.state, Runs.move}
+use Rattle.batch_examples.specs.{RowDocuments.hdr, RowParts.p0, RowParts.asks, RowParts.grants}
 use Rattle.batch_examples.proofs.safety.not_empty_at_rest.Goals as goal
 
 pub returns-clause-complete_holding : goal.returns-clause-complete_holding

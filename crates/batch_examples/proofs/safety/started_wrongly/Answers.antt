@@ -1,6 +1,5 @@
 use Rattle.std.proofs.Common.{◌≡◌, Bool, true, false, refl, [], ◌∷◌, codes}
-use Rattle.batch_examples.specs.RowDocuments.{add, r1}
-use Rattle.batch_examples.specs.RowParts.{p0, p00, p000, p001, grants, on, starts}
+use Rattle.batch_examples.specs.{RowDocuments.add, RowDocuments.r1, RowParts.p0, RowParts.p00, RowParts.p000, RowParts.p001, RowParts.grants, RowParts.on, RowParts.starts}
 use Rattle.batch_examples.proofs.safety.started_wrongly.Goals as goal
 
 pub returns-clause-twice : goal.returns-clause-twice

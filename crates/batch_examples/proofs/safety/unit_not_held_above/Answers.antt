@@ -1,11 +1,8 @@
 use Rattle.std.proofs.Common.{◌≡◌, ℕ, refl, sym, ap, subst, inl, inr, arith, [], ◌∷◌, ◌++◌}
 use Rattle.batch_recipe.specs.Tree.{Place}
-use Rattle.batch_matrix.specs.declared.report.Report.{Report}
-use Rattle.batch_matrix.specs.declared.state.State.TheVariants.{Holding}
-use Rattle.batch_model.specs.Events.{reported}
-use Rattle.batch_model.specs.Runs.{reply}
-use Rattle.batch_examples.specs.RowDocuments.{add, r1, r2}
-use Rattle.batch_examples.specs.RowParts.{p0, p00, p000, p0010, grants, on, releases, starts}
+use Rattle.batch_matrix.specs.declared.{report.Report.Report, state.State.TheVariants.Holding}
+use Rattle.batch_model.specs.{Events.reported, Runs.reply}
+use Rattle.batch_examples.specs.{RowDocuments.add, RowDocuments.r1, RowDocuments.r2, RowParts.p0, RowParts.p00, RowParts.p000, RowParts.p0010, RowParts.grants, RowParts.on, RowParts.releases, RowParts.starts}
 use Rattle.batch_examples.proofs.safety.unit_not_held_above.Goals as goal
 
 -- no place below 0.0.0 is 0.0.1.0

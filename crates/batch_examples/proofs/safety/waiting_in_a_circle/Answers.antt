@@ -1,7 +1,5 @@
 use Rattle.std.proofs.Common.{refl, inl, [], ◌∷◌}
-use Rattle.batch_examples.specs.RowDocuments.{hdr, r1}
-use Rattle.batch_examples.specs.RowParts.{p0, p00, asks, grants}
-use Rattle.batch_examples.specs.RowsOfSafety.{opposed_record, waiting}
+use Rattle.batch_examples.specs.{RowDocuments.hdr, RowDocuments.r1, RowParts.p0, RowParts.p00, RowParts.asks, RowParts.grants, RowsOfSafety.opposed_record, RowsOfSafety.waiting}
 use Rattle.batch_examples.proofs.safety.waiting_in_a_circle.Goals as goal
 
 pub returns-clause-alone : goal.returns-clause-alone

@@ -1,12 +1,8 @@
 use Rattle.std.proofs.Common.{◌≡◌, ◌∙◌, refl, sym, ap, inl, inr, [], ◌∷◌, ◌++◌}
 use Rattle.batch_matrix.specs.declared.state.State.TheVariants.{Running, Held}
-use Rattle.batch_recipe.specs.Needs.{one_unit}
-use Rattle.batch_recipe.specs.Tree.{Place, Step}
+use Rattle.batch_recipe.specs.{Needs.one_unit, Tree.Place, Tree.Step}
 use Rattle.batch_model.specs.Rest.{done}
-use Rattle.batch_examples.specs.RowDocuments.{add, hdr, r1}
-use Rattle.batch_examples.specs.RowParts.{on, p0, p00, p000, p001}
-use Rattle.batch_examples.specs.RowsOfSettlement.{batch, holds, nothing_is_live, phase_at, phase_beside, waits}
-use Rattle.batch_examples.proofs.WorkRows.{Works, first_alone, nothing_works}
+use Rattle.batch_examples.{specs.RowDocuments.add, specs.RowDocuments.hdr, specs.RowDocuments.r1, specs.RowParts.on, specs.RowParts.p0, specs.RowParts.p00, specs.RowParts.p000, specs.RowParts.p001, specs.RowsOfSettlement.batch, specs.RowsOfSettlement.holds, specs.RowsOfSettlement.nothing_is_live, specs.RowsOfSettlement.phase_at, specs.RowsOfSettlement.phase_beside, specs.RowsOfSettlement.waits, proofs.WorkRows.Works, proofs.WorkRows.first_alone, proofs.WorkRows.nothing_works}
 use Rattle.batch_examples.proofs.settlement.holders_at_work.Goals as goal
 
 pub returns-clause-phase : goal.returns-clause-phase

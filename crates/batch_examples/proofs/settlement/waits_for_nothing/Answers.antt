@@ -1,15 +1,8 @@
 use Rattle.std.proofs.Common.{◌≡◌, ◌<◌, ◌≤◌, refl, ap, inl, inr, arith, ℕ, [], ◌∷◌, Bool, true, false}
 use Rattle.batch_matrix.specs.declared.state.State.TheVariants.{Running}
-use Rattle.batch_recipe.specs.Conditions.{same_name}
-use Rattle.batch_recipe.specs.Needs.{one_unit}
-use Rattle.batch_model.specs.Lists.{Has}
-use Rattle.batch_model.specs.Plant.{acts_in}
-use Rattle.batch_model.specs.Records.{Link, Waiting}
-use Rattle.batch_examples.specs.RowDocuments.{hdr, r1, steam}
-use Rattle.batch_examples.specs.RowParts.{p0, p00}
-use Rattle.batch_examples.specs.RowsOfSafety.{waiting}
-use Rattle.batch_examples.specs.RowsOfSettlement.{batch, nothing_is_live, waits}
-use Rattle.batch_examples.proofs.WorkRows.{first_alone, nothing_works}
+use Rattle.batch_recipe.specs.{Conditions.same_name, Needs.one_unit}
+use Rattle.batch_model.specs.{Lists.Has, Plant.acts_in, Records.Link, Records.Waiting}
+use Rattle.batch_examples.{specs.RowDocuments.hdr, specs.RowDocuments.r1, specs.RowDocuments.steam, specs.RowParts.p0, specs.RowParts.p00, specs.RowsOfSafety.waiting, specs.RowsOfSettlement.batch, specs.RowsOfSettlement.nothing_is_live, specs.RowsOfSettlement.waits, proofs.WorkRows.first_alone, proofs.WorkRows.nothing_works}
 use Rattle.batch_examples.proofs.settlement.waits_for_nothing.Goals as goal
 
 pub returns-clause-free : goal.returns-clause-free

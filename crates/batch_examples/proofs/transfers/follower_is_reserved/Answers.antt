@@ -1,12 +1,7 @@
-use Rattle.std.proofs.Common.{refl, arith, []}
-use Rattle.batch_model.specs.Lists.{Each}
-use Rattle.batch_model.specs.Cleared.{IsClear, procedure_parts}
-use Rattle.batch_model.specs.Plant.{Recipe}
-use Rattle.batch_examples.specs.RowParts.{p001}
-use Rattle.batch_examples.specs.RowsOfTransfers.{cell_of, first_r1, recipe_e, e_with, make_then_keep}
-use Rattle.batch_examples.specs.RowDocuments.{heat, add}
+use Rattle.std.proofs.Common.{refl, arith, [], ◌∷◌}
+use Rattle.batch_model.specs.{Lists.Each, Cleared.IsClear, Cleared.procedure_parts, Plant.Recipe}
+use Rattle.batch_examples.specs.{RowParts.p001, RowsOfTransfers.cell_of, RowsOfTransfers.first_r1, RowsOfTransfers.recipe_e, RowsOfTransfers.e_with, RowsOfTransfers.make_then_keep, RowDocuments.heat, RowDocuments.add}
 use Rattle.batch_recipe.specs.Diagram.{label, seq, diagrams_of}
-use Rattle.std.proofs.Common.{◌∷◌}
 use Rattle.batch_examples.proofs.transfers.follower_is_reserved.Goals as goal
 
 abbrev Clear : Recipe → Type 0

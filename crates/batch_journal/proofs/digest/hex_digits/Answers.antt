@@ -1,8 +1,6 @@
 use Rattle.std.proofs.Common.{rules, ◌≡◌, sym, subst}
 use Rattle.hex.specs.Hex.{encode_lower}
-use Rattle.batch_journal.specs.Digests.{IsPlain}
-use Rattle.batch_journal.proofs.DigestLemmas.{plain_of}
-use Rattle.batch_journal.proofs.SumLemmas.{encoded_line}
+use Rattle.batch_journal.{specs.Digests.IsPlain, proofs.DigestLemmas.plain_of, proofs.SumLemmas.encoded_line}
 use Rattle.batch_journal.proofs.digest.hex_digits.Goals as goal
 
 pub returns-clause-plain : goal.returns-clause-plain

@@ -1,7 +1,5 @@
 use Rattle.std.proofs.Common.{rules, ◌≡◌, ◌++◌, ◌∷◌, [], length, length-append, ◌∙◌, ap, arith}
-use Rattle.batch_journal.specs.Journals.{closing_mark, closing_start, is_time}
-use Rattle.batch_journal.proofs.GroupScan.{to_end}
-use Rattle.batch_journal.proofs.GroupWrites.{closes_so}
+use Rattle.batch_journal.{specs.Journals.closing_mark, specs.Journals.closing_start, specs.Journals.is_time, proofs.GroupScan.to_end, proofs.GroupWrites.closes_so}
 use Rattle.batch_journal.proofs.group.closes.Goals as goal
 
 pub returns-then-starts_with : goal.returns-then-starts_with

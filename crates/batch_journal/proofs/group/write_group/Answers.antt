@@ -1,7 +1,6 @@
 use Rattle.std.proofs.Common.{rules, refl}
 use Rattle.std.proofs.lemmas.Fmt.{length-decimal-le}
-use Rattle.batch_journal.proofs.RunsOfCalls.{may_more}
-use Rattle.batch_journal.proofs.GroupWrites.{keeps_so}
+use Rattle.batch_journal.proofs.{RunsOfCalls.may_more, GroupWrites.keeps_so}
 use Rattle.batch_journal.proofs.group.write_group.Goals as goal
 
 pub write_digits-start-requires : goal.write_digits-start-requires

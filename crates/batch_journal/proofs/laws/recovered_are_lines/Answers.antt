@@ -1,5 +1,4 @@
-use Rattle.batch_journal.proofs.LineLemmas.{are_whole_lines}
-use Rattle.batch_journal.proofs.JournalLemmas.{are_recovered}
+use Rattle.batch_journal.proofs.{LineLemmas.are_whole_lines, JournalLemmas.are_recovered}
 use Rattle.batch_journal.proofs.laws.recovered_are_lines.Goals as goal
 
 pub returns : goal.returns

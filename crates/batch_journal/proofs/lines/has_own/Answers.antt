@@ -1,7 +1,6 @@
 use Rattle.std.proofs.Common.{rules, ◌+◌, ◌++◌, ◌∷◌, [], length, take, arith, sym, ◌∙◌, ap, append_assoc}
 use Rattle.std.proofs.lemmas.List.{length-drop}
-use Rattle.batch_journal.specs.Lines.{whole_lines_before_zero}
-use Rattle.batch_journal.proofs.GroupScan.{first_line, others_more, to_end}
+use Rattle.batch_journal.{specs.Lines.whole_lines_before_zero, proofs.GroupScan.first_line, proofs.GroupScan.others_more, proofs.GroupScan.to_end}
 use Rattle.batch_journal.proofs.lines.has_own.Goals as goal
 
 pub overflow_add-rest : goal.overflow_add-rest

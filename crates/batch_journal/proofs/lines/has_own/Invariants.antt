@@ -1,7 +1,5 @@
 use Rattle.std.proofs.Common.{◌≡◌, ℕ, List, ◌++◌, ◌≤◌, length}
-use Rattle.batch_journal.specs.Groups.{AreOthers}
-use Rattle.batch_journal.specs.Journals.{journal_format}
-use Rattle.batch_journal.specs.Lines.{whole_lines_before_zero}
+use Rattle.batch_journal.specs.{Groups.AreOthers, Journals.journal_format, Lines.whole_lines_before_zero}
 use Rattle.batch_journal.proofs.lines.has_own.Given as goal
 
 abbrev pub invariant-loop-at : goal.invariant-loop-at

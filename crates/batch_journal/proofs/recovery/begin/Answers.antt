@@ -1,9 +1,5 @@
 use Rattle.std.proofs.Common.{rules, ◌≡◌, refl, sym, ◌∙◌, ap}
-use Rattle.batch_journal.specs.Disks.{Left}
-use Rattle.batch_journal.specs.Journals.{header, recovered}
-use Rattle.batch_journal.specs.Recovery.{KeepsLines}
-use Rattle.batch_journal.proofs.RunsOfCalls.{started, goes_on}
-use Rattle.batch_journal.proofs.RecoveryLemmas.{keeps_all, left_cut, left_header, header_lines, unbegun_lines}
+use Rattle.batch_journal.{specs.Disks.Left, specs.Journals.header, specs.Journals.recovered, specs.Recovery.KeepsLines, proofs.RunsOfCalls.started, proofs.RunsOfCalls.goes_on, proofs.RecoveryLemmas.keeps_all, proofs.RecoveryLemmas.left_cut, proofs.RecoveryLemmas.left_header, proofs.RecoveryLemmas.header_lines, proofs.RecoveryLemmas.unbegun_lines}
 use Rattle.batch_journal.proofs.recovery.begin.Goals as goal
 
 pub returns-then-is_err-clause-any_moment : goal.returns-then-is_err-clause-any_moment

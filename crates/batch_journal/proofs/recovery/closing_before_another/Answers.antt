@@ -1,9 +1,6 @@
 use Rattle.std.proofs.Common.{rules, ◌≡◌, ◌-◌, ◌++◌, ◌∷◌, [], IsSome, true, false, length, length-append, take, drop, sym, ◌∙◌, ap, subst, arith}
 use Rattle.std.proofs.lemmas.List.{length-drop}
-use Rattle.batch_journal.specs.Journals.{journal_format}
-use Rattle.batch_journal.specs.Recovery.{closings}
-use Rattle.batch_journal.proofs.GroupScan.{line_at, to_end}
-use Rattle.batch_journal.proofs.ClosingLines.{NoFeedBefore, EndsThere, ends_there, line_more, found_twice, few_closings, closings_both, one_closing, no_closing, count_none, first_here, first_more}
+use Rattle.batch_journal.{specs.Journals.journal_format, specs.Recovery.closings, proofs.GroupScan.line_at, proofs.GroupScan.to_end, proofs.ClosingLines.NoFeedBefore, proofs.ClosingLines.EndsThere, proofs.ClosingLines.ends_there, proofs.ClosingLines.line_more, proofs.ClosingLines.found_twice, proofs.ClosingLines.few_closings, proofs.ClosingLines.closings_both, proofs.ClosingLines.one_closing, proofs.ClosingLines.no_closing, proofs.ClosingLines.count_none, proofs.ClosingLines.first_here, proofs.ClosingLines.first_more}
 use Rattle.batch_journal.proofs.recovery.closing_before_another.Goals as goal
 
 pub returns : goal.returns

@@ -1,7 +1,5 @@
 use Rattle.std.proofs.Common.{◌≡◌, ℕ, ◌-◌, ◌≤◌, List, [], ◌++◌, length, drop, IfSome}
-use Rattle.batch_journal.specs.Lines.{whole_from}
-use Rattle.batch_journal.specs.Recovery.{closings}
-use Rattle.batch_journal.proofs.ClosingLines.{ClosesFirst, found_count}
+use Rattle.batch_journal.{specs.Lines.whole_from, specs.Recovery.closings, proofs.ClosingLines.ClosesFirst, proofs.ClosingLines.found_count}
 use Rattle.batch_journal.proofs.recovery.closing_before_another.Given as goal
 
 abbrev pub invariant-loop-len : goal.invariant-loop-len

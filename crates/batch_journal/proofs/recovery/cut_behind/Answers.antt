@@ -1,6 +1,5 @@
 use Rattle.std.proofs.Common.{sym, ◌∙◌, ap}
-use Rattle.batch_journal.specs.Journals.{recovered}
-use Rattle.batch_journal.proofs.RecoveryLemmas.{cut_moments, lines_to}
+use Rattle.batch_journal.{specs.Journals.recovered, proofs.RecoveryLemmas.cut_moments, proofs.RecoveryLemmas.lines_to}
 use Rattle.batch_journal.proofs.recovery.cut_behind.Goals as goal
 
 pub returns-in_err-cut-clause-any_moment : goal.returns-in_err-cut-clause-any_moment

@@ -1,6 +1,5 @@
 use Rattle.std.proofs.Common.{sym, ◌∙◌, inr, ⊎_elim, arith}
-use Rattle.batch_journal.proofs.RecoveryLemmas.{not_both, part_length}
-use Rattle.batch_journal.proofs.FilesWithoutRefusal.{like_part, part_like, some_feed}
+use Rattle.batch_journal.proofs.{RecoveryLemmas.not_both, RecoveryLemmas.part_length, FilesWithoutRefusal.like_part, FilesWithoutRefusal.part_like, FilesWithoutRefusal.some_feed}
 use Rattle.batch_journal.proofs.recovery.is_unbegun.Goals as goal
 
 pub returns-then-bytes-le84-clause-yes : goal.returns-then-bytes-le84-clause-yes

@@ -1,7 +1,6 @@
 use Rattle.std.proofs.Common.{◌-◌, ◌++◌, ◌∷◌, [], length, length-append, take, drop, sym, ◌∙◌, ap, subst, arith}
 use Rattle.std.proofs.lemmas.List.{append-nil, length-drop}
-use Rattle.batch_journal.proofs.GroupScan.{to_end}
-use Rattle.batch_journal.proofs.ClosingLines.{NoFeedBefore, EndsThere, ends_there, line_more, raw_none}
+use Rattle.batch_journal.proofs.{GroupScan.to_end, ClosingLines.NoFeedBefore, ClosingLines.EndsThere, ClosingLines.ends_there, ClosingLines.line_more, ClosingLines.raw_none}
 use Rattle.batch_journal.proofs.recovery.line_count.Goals as goal
 
 pub loop-len-preserved : goal.loop-len-preserved

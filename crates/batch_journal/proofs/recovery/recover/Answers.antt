@@ -1,8 +1,5 @@
 use Rattle.std.proofs.Common.{subst}
-use Rattle.batch_journal.specs.Disks.{Left, MayLeave}
-use Rattle.batch_journal.specs.Recovery.{IsJournalUnbegun, KeepsLines}
-use Rattle.batch_journal.proofs.RecoveryLemmas.{keeps_all, keeps_same}
-use Rattle.batch_journal.proofs.RunsOfCalls.{started, goes_on, then_run}
+use Rattle.batch_journal.{specs.Disks.Left, specs.Disks.MayLeave, specs.Recovery.IsJournalUnbegun, specs.Recovery.KeepsLines, proofs.RecoveryLemmas.keeps_all, proofs.RecoveryLemmas.keeps_same, proofs.RunsOfCalls.started, proofs.RunsOfCalls.goes_on, proofs.RunsOfCalls.then_run}
 use Rattle.batch_journal.proofs.recovery.recover.Goals as goal
 
 pub returns-in_err-text-clause-any_moment : goal.returns-in_err-text-clause-any_moment

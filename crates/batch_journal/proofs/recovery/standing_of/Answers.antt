@@ -1,8 +1,5 @@
 use Rattle.std.proofs.Common.{rules, ◌≡◌, ◌+◌, ◌≤◌, length, drop, subst, arith}
-use Rattle.batch_journal.specs.Journals.{header, sum_text}
-use Rattle.batch_journal.specs.Recovery.{AreGroupsTaken, ClosesTwice, closing_count, raw_lines}
-use Rattle.batch_journal.proofs.GroupScan.{to_end}
-use Rattle.batch_journal.proofs.RecoveryLemmas.{header_size, begins_so, stands_to, damaged_to}
+use Rattle.batch_journal.{specs.Journals.header, specs.Journals.sum_text, specs.Recovery.AreGroupsTaken, specs.Recovery.ClosesTwice, specs.Recovery.closing_count, specs.Recovery.raw_lines, proofs.GroupScan.to_end, proofs.RecoveryLemmas.header_size, proofs.RecoveryLemmas.begins_so, proofs.RecoveryLemmas.stands_to, proofs.RecoveryLemmas.damaged_to}
 use Rattle.batch_journal.proofs.recovery.standing_of.Goals as goal
 
 pub returns-in-None-clause-ok : goal.returns-in-None-clause-ok

@@ -1,10 +1,6 @@
 use Rattle.std.proofs.Common.{◌≡◌, ◌+◌, ◌++◌, ◌∷◌, [], true, false, take, drop, slice_range, refl, sym, ◌∙◌, ap, subst, arith}
 use Rattle.std.proofs.lemmas.List.{length-drop}
-use Rattle.batch_journal.specs.Journals.{journal_format, sum_text, IsClosed}
-use Rattle.batch_journal.specs.Ends.{EndsLine}
-use Rattle.batch_journal.specs.Lines.{IsLine, whole_lines_before_zero}
-use Rattle.batch_journal.proofs.LineLemmas.{lines_both}
-use Rattle.batch_journal.proofs.GroupScan.{none_left, none_closed, closed_there, begun_there, others_more, line_at, none_between, to_end}
+use Rattle.batch_journal.{specs.Journals.journal_format, specs.Journals.sum_text, specs.Journals.IsClosed, specs.Ends.EndsLine, specs.Lines.IsLine, specs.Lines.whole_lines_before_zero, proofs.LineLemmas.lines_both, proofs.GroupScan.none_left, proofs.GroupScan.none_closed, proofs.GroupScan.closed_there, proofs.GroupScan.begun_there, proofs.GroupScan.others_more, proofs.GroupScan.line_at, proofs.GroupScan.none_between, proofs.GroupScan.to_end}
 use Rattle.batch_journal.proofs.recovery.take_groups.Goals as goal
 
 pub returns-then-not-closes : goal.returns-then-not-closes

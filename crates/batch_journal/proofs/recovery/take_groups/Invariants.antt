@@ -1,7 +1,5 @@
 use Rattle.std.proofs.Common.{◌≡◌, ℕ, ◌-◌, ◌≤◌, List, length, take, slice_range}
-use Rattle.batch_journal.specs.Groups.{AreOthers}
-use Rattle.batch_journal.specs.Journals.{journal_format, sum_text, IsClosed}
-use Rattle.batch_journal.specs.Lines.{AreLines, text_of}
+use Rattle.batch_journal.specs.{Groups.AreOthers, Journals.journal_format, Journals.sum_text, Journals.IsClosed, Lines.AreLines, Lines.text_of}
 use Rattle.batch_journal.proofs.recovery.take_groups.Given as goal
 
 abbrev pub invariant-loop-len : goal.invariant-loop-len

@@ -1,6 +1,5 @@
 use Rattle.std.proofs.Common.{refl, ◌⊎◌, subst}
-use Rattle.batch_journal.specs.Disks.{IsPart}
-use Rattle.batch_journal.specs.Recovery.{HasNoFeed}
+use Rattle.batch_journal.specs.{Disks.IsPart, Recovery.HasNoFeed}
 use Rattle.batch_journal.proofs.recovery.unlike.Goals as goal
 
 pub returns-then-is_unbegun-clause-ok : goal.returns-then-is_unbegun-clause-ok

@@ -1,7 +1,6 @@
 use Rattle.std.proofs.Common.{rules, ◌≡◌, take, sym, subst}
 use Rattle.hex.specs.Hex.{encode_lower}
-use Rattle.batch_journal.specs.Lines.{IsLine}
-use Rattle.batch_journal.proofs.SumLemmas.{line_front, encoded_line}
+use Rattle.batch_journal.{specs.Lines.IsLine, proofs.SumLemmas.line_front, proofs.SumLemmas.encoded_line}
 use Rattle.batch_journal.proofs.sum.first_digits.Goals as goal
 
 pub returns-clause-line : goal.returns-clause-line

@@ -2,8 +2,7 @@ use Rattle.std.proofs.Common.{◌+◌, ◌-◌, List, [], None, Some, drop, leng
 use Rattle.batch_engine.specs.View.{plant_of}
 use Rattle.batch_serve.specs.Safe.{TranscriptsAreSafe}
 use Rattle.batch_wire.specs.Transcript.{lines_of}
-use Rattle.batch_keep.proofs.AuditSteps.{begins_audit, finishes, first_is_next, last_is_next, steps}
-use Rattle.batch_keep.proofs.RecordComparison.{line_shorter}
+use Rattle.batch_keep.proofs.{AuditSteps.begins_audit, AuditSteps.finishes, AuditSteps.first_is_next, AuditSteps.last_is_next, AuditSteps.steps, RecordComparison.line_shorter}
 use Rattle.batch_keep.proofs.auditing.audit_each.Goals as goal
 
 -- the rest behind the line that ends there

@@ -1,7 +1,6 @@
 use Rattle.std.proofs.Common.{◌≡◌, ◌≤◌, length}
 use Rattle.batch_engine.specs.View.{plant_of}
-use Rattle.batch_wire.specs.Known.{AreKnown}
-use Rattle.batch_wire.specs.Transcript.{lines_of}
+use Rattle.batch_wire.specs.{Known.AreKnown, Transcript.lines_of}
 use Rattle.batch_keep.specs.Auditing.{IsAudited}
 use Rattle.batch_keep.proofs.auditing.audit_each.Given as goal
 

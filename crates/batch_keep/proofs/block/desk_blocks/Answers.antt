@@ -1,8 +1,6 @@
 use Rattle.std.proofs.Common.{length, ◌∙◌, ap, arith}
 use Rattle.batch_journal.specs.Journals.{recovered}
-use Rattle.batch_keep.specs.Blocks.{recovery_block_text}
-use Rattle.batch_keep.specs.Counts.{own_lines}
-use Rattle.batch_keep.proofs.RecoveryBlock.{blocks_so_far}
+use Rattle.batch_keep.{specs.Blocks.recovery_block_text, specs.Counts.own_lines, proofs.RecoveryBlock.blocks_so_far}
 use Rattle.batch_keep.proofs.block.desk_blocks.Goals as goal
 
 pub loop-name-preserved : goal.loop-name-preserved

@@ -1,7 +1,6 @@
 use Rattle.std.proofs.Common.{◌≡◌, length, map, take}
 use Rattle.batch_journal.specs.Journals.{recovered}
-use Rattle.batch_keep.specs.Blocks.{recovery_block_text}
-use Rattle.batch_keep.specs.Counts.{own_lines}
+use Rattle.batch_keep.specs.{Blocks.recovery_block_text, Counts.own_lines}
 use Rattle.batch_keep.proofs.block.desk_blocks.Given as goal
 
 -- the blocks of the desks so far

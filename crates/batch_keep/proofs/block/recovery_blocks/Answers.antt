@@ -2,9 +2,7 @@ use Rattle.std.proofs.Common.{ℕ, List, length, map, ◌∙◌, ap, subst}
 use Rattle.batch_engine.specs.View.{setup, plant_of}
 use Rattle.batch_journal.specs.Journals.{recovered}
 use Rattle.batch_record.specs.StatusReading.{LeadsTo}
-use Rattle.batch_keep.specs.Blocks.{recovery_block_text}
-use Rattle.batch_keep.specs.Counts.{own_lines}
-use Rattle.batch_keep.proofs.RecoveryBlock.{are_blocks}
+use Rattle.batch_keep.{specs.Blocks.recovery_block_text, specs.Counts.own_lines, proofs.RecoveryBlock.are_blocks}
 use Rattle.batch_keep.proofs.block.recovery_blocks.Goals as goal
 
 pub returns-clause-blocks : goal.returns-clause-blocks

@@ -1,7 +1,6 @@
 use Rattle.std.proofs.Common.{rules, ◌≡◌, ℕ, List, length, false, ◌∙◌, ap}
 use Rattle.batch_journal.specs.Journals.{recovered}
-use Rattle.batch_keep.specs.Counts.{own_lines}
-use Rattle.batch_keep.proofs.CountedLines.{count_of_desk}
+use Rattle.batch_keep.{specs.Counts.own_lines, proofs.CountedLines.count_of_desk}
 use Rattle.batch_keep.proofs.counting.own_count.Goals as goal
 
 pub returns : goal.returns

@@ -1,6 +1,5 @@
 use Rattle.std.specs.Prelude.{⊤}
-use Rattle.batch_journal.specs.Journals.{recovered}
-use Rattle.batch_journal.specs.Lines.{text_of}
+use Rattle.batch_journal.specs.{Journals.recovered, Lines.text_of}
 use Rattle.batch_keep.proofs.holding.serve_holding.Given as goal
 
 abbrev pub ghosts-serve_started : goal.ghosts-serve_started

@@ -1,8 +1,7 @@
 use Rattle.std.proofs.Common.{List, ℕ, [], Option, sym, ◌∙◌, ap}
 use Rattle.std.specs.Io.KnownBytes.{append_known}
 use Rattle.batch_engine.specs.View.{setup, plant_of}
-use Rattle.batch_keep.proofs.RepeatedAnswers.{never_lost}
-use Rattle.batch_keep.proofs.AnswersToLines.{ok_is, on_told, tells_known_transcript}
+use Rattle.batch_keep.proofs.{RepeatedAnswers.never_lost, AnswersToLines.ok_is, AnswersToLines.on_told, AnswersToLines.tells_known_transcript}
 use Rattle.batch_keep.proofs.holding.serve_holding_at.Goals as goal
 
 pub returns-in-Ok-clause-never_lost : goal.returns-in-Ok-clause-never_lost

@@ -1,8 +1,5 @@
 use Rattle.std.proofs.Common.{◌<◌, ℕ, false, List, Option, None, Some, take, get_or, ◌∙◌, ap, eqb, arith}
-use Rattle.std.specs.Prelude.{◌≡◌, MatchOption}
-use Rattle.std.proofs.lemmas.Bool.{eqb-true, false_from_ne_true}
-use Rattle.std.proofs.lemmas.List.{get_or-take, length-take}
-use Rattle.std.proofs.lemmas.List.Elements.{All-from_get_or}
+use Rattle.std.{specs.Prelude.◌≡◌, specs.Prelude.MatchOption, proofs.lemmas.Bool.eqb-true, proofs.lemmas.Bool.false_from_ne_true, proofs.lemmas.List.get_or-take, proofs.lemmas.List.length-take, proofs.lemmas.List.Elements.All-from_get_or}
 use Rattle.memchr.specs.Find.{IsFirstByte, is_byte}
 use Rattle.batch_serve.specs.Serving.{EndsLine, HasNoFeed}
 use Rattle.batch_keep.proofs.record.line_feed.Goals as goal

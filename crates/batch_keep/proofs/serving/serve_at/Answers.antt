@@ -1,7 +1,6 @@
 use Rattle.std.proofs.Common.{sym, ◌∙◌}
 use Rattle.batch_engine.specs.View.{setup, plant_of}
-use Rattle.batch_keep.proofs.AnswersToLines.{served_known, tells_known}
-use Rattle.batch_keep.proofs.RepeatedAnswers.{again, all_given}
+use Rattle.batch_keep.proofs.{AnswersToLines.served_known, AnswersToLines.tells_known, RepeatedAnswers.again, RepeatedAnswers.all_given}
 use Rattle.batch_keep.proofs.serving.serve_at.Goals as goal
 
 pub returns-clause-served : goal.returns-clause-served

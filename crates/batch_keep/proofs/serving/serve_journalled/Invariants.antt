@@ -1,6 +1,5 @@
 use Rattle.std.specs.Prelude.{⊤}
-use Rattle.batch_journal.specs.Journals.{recovered}
-use Rattle.batch_journal.specs.Lines.{text_of}
+use Rattle.batch_journal.specs.{Journals.recovered, Lines.text_of}
 use Rattle.batch_keep.proofs.serving.serve_journalled.Given as goal
 
 abbrev pub ghosts-serve_at : goal.ghosts-serve_at

@@ -1,6 +1,5 @@
 use Rattle.std.proofs.Common.{ap, length, rules, string_bytes, sym, take, ◌+◌, ◌<◌, ◌∙◌}
-use Rattle.batch_messages.specs.Explaining.{code_in}
-use Rattle.batch_messages.proofs.ExplanationCodes.{first_at, first_of-map, none_at}
+use Rattle.batch_messages.{specs.Explaining.code_in, proofs.ExplanationCodes.first_at, proofs.ExplanationCodes.first_of-map, proofs.ExplanationCodes.none_at}
 use Rattle.batch_messages.proofs.explanation.explanation_among.Goals as goal
 
 pub returns-in-Some : goal.returns-in-Some

@@ -1,9 +1,6 @@
 use Rattle.std.proofs.Common.{ap, length, rules, sym, tests, ◌∙◌}
-use Rattle.std.specs.Char.{is_ascii_whitespace}
-use Rattle.std.proofs.lemmas.Iterator.Consumers.{YieldsList-at, YieldsList-end, YieldsList-so_far, YieldsList-turn}
-use Rattle.std.proofs.lemmas.Iterator.Splits.{YieldsList-from_slice_split}
-use Rattle.batch_messages.specs.Explaining.{code_of_word, first_code, pieces_of}
-use Rattle.batch_messages.proofs.ExplanationCodes.{first_at, first_of-map, none_more}
+use Rattle.std.{specs.Char.is_ascii_whitespace, proofs.lemmas.Iterator.Consumers.YieldsList-at, proofs.lemmas.Iterator.Consumers.YieldsList-end, proofs.lemmas.Iterator.Consumers.YieldsList-so_far, proofs.lemmas.Iterator.Consumers.YieldsList-turn, proofs.lemmas.Iterator.Splits.YieldsList-from_slice_split}
+use Rattle.batch_messages.{specs.Explaining.code_of_word, specs.Explaining.first_code, specs.Explaining.pieces_of, proofs.ExplanationCodes.first_at, proofs.ExplanationCodes.first_of-map, proofs.ExplanationCodes.none_more}
 use Rattle.batch_messages.proofs.explanation.explanation_in.Goals as goal
 
 pub returns-in-Some-explanation_of : goal.returns-in-Some-explanation_of

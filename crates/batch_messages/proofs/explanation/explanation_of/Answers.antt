@@ -1,8 +1,6 @@
 use Rattle.std.proofs.Common.{ap, ◌∙◌, List, ℕ}
-use Rattle.std.specs.Prelude.{find, option_map}
-use Rattle.std.specs.Str.{str_eq_ignore_ascii_case}
-use Rattle.batch_messages.specs.declared.explanation.Explanation.{Explanation}
-use Rattle.batch_messages.proofs.ExplanationCodes.{found_code}
+use Rattle.std.specs.{Prelude.find, Prelude.option_map, Str.str_eq_ignore_ascii_case}
+use Rattle.batch_messages.{specs.declared.explanation.Explanation.Explanation, proofs.ExplanationCodes.found_code}
 use Rattle.batch_messages.proofs.explanation.explanation_of.Goals as goal
 
 pub returns : goal.returns

@@ -1,7 +1,6 @@
 use Rattle.std.proofs.Common.{sym, ◌∙◌}
 use Rattle.batch_recipe.specs.declared.recipe.Recipe.{Recipe}
-use Rattle.batch_messages.proofs.WordsByNumber.{said_found, said_past}
-use Rattle.batch_messages.specs.CircleSentence.{name_of_act_at}
+use Rattle.batch_messages.{proofs.WordsByNumber.said_found, proofs.WordsByNumber.said_past, specs.CircleSentence.name_of_act_at}
 use Rattle.batch_messages.proofs.names.act_name.Goals as goal
 
 pub returns-in-Some : goal.returns-in-Some

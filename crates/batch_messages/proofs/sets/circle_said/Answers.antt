@@ -1,7 +1,6 @@
 use Rattle.std.proofs.Common.{◌<◌, ◌++◌, ◌+◌, ◌∙◌, length, take, get_or, ap, refl, rules, string_bytes, subst, sym}
 use Rattle.batch_check.specs.declared.edge.Edge.{Edge}
-use Rattle.batch_messages.specs.CircleSentence.{IsCircleTold}
-use Rattle.batch_messages.proofs.CircleWords.{told_first, told_more}
+use Rattle.batch_messages.{specs.CircleSentence.IsCircleTold, proofs.CircleWords.told_first, proofs.CircleWords.told_more}
 use Rattle.batch_messages.proofs.sets.circle_said.Goals as goal
 
 abbrev no_edge : Edge

@@ -1,6 +1,5 @@
 use Rattle.std.proofs.Common.{◌≡◌, IfOk, string_bytes, subst, sym}
-use Rattle.batch_messages.proofs.WordsByNumber.{said_found}
-use Rattle.batch_messages.specs.WarningWords.{scaled_said}
+use Rattle.batch_messages.{proofs.WordsByNumber.said_found, specs.WarningWords.scaled_said}
 use Rattle.batch_messages.proofs.warnings.scaled_said.Goals as goal
 
 pub returns-in-Some : goal.returns-in-Some

@@ -1,9 +1,7 @@
 use Rattle.std.proofs.Common.{◌++◌, ◌∙◌, ap, sym, append_assoc, codes, string_bytes}
-use Rattle.std.specs.List.{flat_map}
-use Rattle.std.proofs.lemmas.Result.{on_ok_weaker}
+use Rattle.std.{specs.List.flat_map, proofs.lemmas.Result.on_ok_weaker}
 use Rattle.batch_recipe.specs.declared.need.Need.{Need}
-use Rattle.batch_outline.specs.Showing.{need_text, spaced}
-use Rattle.batch_outline.proofs.LineSeats.{needs_written}
+use Rattle.batch_outline.{specs.Showing.need_text, specs.Showing.spaced, proofs.LineSeats.needs_written}
 use Rattle.batch_outline.proofs.acts.put_needs.Goals as goal
 
 pub returns : goal.returns

@@ -1,8 +1,6 @@
 use Rattle.std.proofs.Common.{◌++◌, ◌∙◌, ap, sym, append_assoc, codes, string_bytes}
-use Rattle.std.specs.List.{flat_map}
-use Rattle.std.proofs.lemmas.Result.{on_ok_weaker}
-use Rattle.batch_outline.specs.Showing.{spaced}
-use Rattle.batch_outline.proofs.LineSeats.{names_written}
+use Rattle.std.{specs.List.flat_map, proofs.lemmas.Result.on_ok_weaker}
+use Rattle.batch_outline.{specs.Showing.spaced, proofs.LineSeats.names_written}
 use Rattle.batch_outline.proofs.acts.put_reserves.Goals as goal
 
 pub returns : goal.returns

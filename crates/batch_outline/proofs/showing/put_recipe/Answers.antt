@@ -1,8 +1,7 @@
 use Rattle.std.proofs.Common.{[], ◌++◌, ◌∙◌, ap, append_assoc, codes, string_bytes, Some}
 use Rattle.std.proofs.lemmas.Result.{on_ok_weaker}
 use Rattle.batch_recipe.specs.declared.acts.LabelTable.TheVariants.{UnitProcedures}
-use Rattle.batch_outline.specs.Along.{act_lines, labels_from}
-use Rattle.batch_outline.proofs.LinesOfNodes.{recipe_told}
+use Rattle.batch_outline.{specs.Along.act_lines, specs.Along.labels_from, proofs.LinesOfNodes.recipe_told}
 use Rattle.batch_outline.proofs.showing.put_recipe.Goals as goal
 
 pub returns : goal.returns

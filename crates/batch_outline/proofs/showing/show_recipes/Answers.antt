@@ -1,6 +1,5 @@
 use Rattle.std.proofs.Common.{[], ◌++◌, ◌∙◌, ap}
-use Rattle.batch_outline.specs.Showing.{recipe_text}
-use Rattle.batch_outline.proofs.LineSeats.{texts_more}
+use Rattle.batch_outline.{specs.Showing.recipe_text, proofs.LineSeats.texts_more}
 use Rattle.batch_outline.proofs.showing.show_recipes.Goals as goal
 
 pub loop-recipe-preserved : goal.loop-recipe-preserved

@@ -1,15 +1,7 @@
 use Rattle.std.proofs.Common.{◌≡◌, [], ◌++◌, ◌+◌, Some, sym, ap, ap₂, ◌∙◌, arith, refl, append_assoc, length, codes, decimal, string_bytes}
 use Rattle.std.proofs.lemmas.Result.{on_ok_weaker}
-use Rattle.batch_recipe.specs.Diagram.{diagram_of}
-use Rattle.batch_recipe.specs.Expanding.{act_named}
-use Rattle.batch_recipe.specs.Procedure.{table_at, tables_from}
-use Rattle.batch_recipe.proofs.NodeCounts.{counted, counted_act, counted_name}
-use Rattle.batch_recipe.proofs.Tables.{counted_some}
-use Rattle.batch_recipe.proofs.Branches.{counted_at, counted_choice, counted_last}
-use Rattle.batch_outline.specs.Along.{act_lines, along, asked_text, below_act, choice_lines, if_text, labels_from, line, loop_text, plain_line, seat_of}
-use Rattle.batch_outline.specs.Showing.{act_text}
-use Rattle.batch_outline.proofs.BranchLines.{cases_last, cases_more, parts_more}
-use Rattle.batch_outline.proofs.LinesOfNodes.{label_stands}
+use Rattle.batch_recipe.{specs.Diagram.diagram_of, specs.Expanding.act_named, specs.Procedure.table_at, specs.Procedure.tables_from, proofs.NodeCounts.counted, proofs.NodeCounts.counted_act, proofs.NodeCounts.counted_name, proofs.Tables.counted_some, proofs.Branches.counted_at, proofs.Branches.counted_choice, proofs.Branches.counted_last}
+use Rattle.batch_outline.{specs.Along.act_lines, specs.Along.along, specs.Along.asked_text, specs.Along.below_act, specs.Along.choice_lines, specs.Along.if_text, specs.Along.labels_from, specs.Along.line, specs.Along.loop_text, specs.Along.plain_line, specs.Along.seat_of, specs.Showing.act_text, proofs.BranchLines.cases_last, proofs.BranchLines.cases_more, proofs.BranchLines.parts_more, proofs.LinesOfNodes.label_stands}
 use Rattle.batch_outline.proofs.walk.+walk.Goals as goal
 
 pub put_act-returns : goal.put_act-returns

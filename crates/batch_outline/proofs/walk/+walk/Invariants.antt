@@ -1,7 +1,5 @@
 use Rattle.std.proofs.Common.{◌≡◌, ◌+◌, ◌*◌, ◌++◌, drop, map, string_bytes}
-use Rattle.batch_recipe.specs.Procedure.{tables_from}
-use Rattle.batch_recipe.specs.Diagram.{diagram_of, diagrams_of, cases_of}
-use Rattle.batch_recipe.proofs.NodeCounts.{counted, counted_each, counted_cases, counted_act, counted_name}
+use Rattle.batch_recipe.{specs.Procedure.tables_from, specs.Diagram.diagram_of, specs.Diagram.diagrams_of, specs.Diagram.cases_of, proofs.NodeCounts.counted, proofs.NodeCounts.counted_each, proofs.NodeCounts.counted_cases, proofs.NodeCounts.counted_act, proofs.NodeCounts.counted_name}
 use Rattle.batch_outline.specs.Along.{choice_lines, part_lines}
 use Rattle.batch_outline.proofs.walk.+walk.Given as goal
 

@@ -1,6 +1,5 @@
 use Rattle.std.proofs.Common.{refl}
-use Rattle.batch_serve.specs.declared.desk.Desk.{Desk}
-use Rattle.batch_serve.specs.declared.rounds.Writer.{Writer}
+use Rattle.batch_serve.specs.declared.{desk.Desk.Desk, rounds.Writer.Writer}
 use Rattle.batch_pipes.proofs.DeskChanges.{handed_more, handed_some}
 use Rattle.batch_pipes.proofs.dropping.drop_all.Goals as goal
 

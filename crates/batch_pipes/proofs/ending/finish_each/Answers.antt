@@ -1,10 +1,7 @@
 use Rattle.std.proofs.Common.{◌<◌, ◌+◌, length, get_or, length-drop, refl, sym, ap, subst, ◌∙◌, arith}
 use Rattle.std.specs.Vec.Iter.{into_iter_items}
 use Rattle.batch_serve.specs.declared.rounds.Writer.{Writer}
-use Rattle.batch_pipes.specs.OutputEnds.{IsHandedBack}
-use Rattle.batch_pipes.specs.Outputs.{AreOutputsKept, AreOutputsOf, IsFinished}
-use Rattle.batch_pipes.proofs.Lists.{first_left, first_set}
-use Rattle.batch_pipes.proofs.WriterOutputs.{output_here, outputs_as_they_are, outputs_finished}
+use Rattle.batch_pipes.{specs.OutputEnds.IsHandedBack, specs.Outputs.AreOutputsKept, specs.Outputs.AreOutputsOf, specs.Outputs.IsFinished, proofs.Lists.first_left, proofs.Lists.first_set, proofs.WriterOutputs.output_here, proofs.WriterOutputs.outputs_as_they_are, proofs.WriterOutputs.outputs_finished}
 use Rattle.batch_pipes.proofs.ending.finish_each.Goals as goal
 
 pub loop-at-init : goal.loop-at-init

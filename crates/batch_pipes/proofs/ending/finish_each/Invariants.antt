@@ -1,9 +1,7 @@
 use Rattle.std.proofs.Common.{◌≡◌, ◌<◌, ℕ, drop, length, get_or}
 use Rattle.std.specs.Vec.Iter.{into_iter_items, into_iter_len}
 use Rattle.batch_serve.specs.declared.rounds.Writer.{Writer}
-use Rattle.batch_pipes.specs.OutputEnds.{IsHandedBack}
-use Rattle.batch_pipes.specs.Outputs.{AreOutputsKept, IsFinished}
-use Rattle.batch_pipes.specs.declared.output.Output.{Output}
+use Rattle.batch_pipes.specs.{OutputEnds.IsHandedBack, Outputs.AreOutputsKept, Outputs.IsFinished, declared.output.Output.Output}
 use Rattle.batch_pipes.proofs.ending.finish_each.Given as goal
 
 -- the rings of the outputs so far have ended

@@ -1,9 +1,6 @@
 use Rattle.std.proofs.Common.{◌≡◌, ◌∷◌, ◌++◌, [], length, refl, sym, ap, subst, ◌∙◌, append_assoc, append-nil, arith}
 use Rattle.std.specs.Vec.Iter.{into_iter_items}
-use Rattle.batch_pipes.specs.OutputEnds.{IsHandedBack}
-use Rattle.batch_pipes.specs.Outputs.{AreSettledBy}
-use Rattle.batch_pipes.proofs.WriterOutputs.{ending_here, settled_more}
-use Rattle.batch_pipes.proofs.DeskRings.{nothing_left}
+use Rattle.batch_pipes.{specs.OutputEnds.IsHandedBack, specs.Outputs.AreSettledBy, proofs.WriterOutputs.ending_here, proofs.WriterOutputs.settled_more, proofs.DeskRings.nothing_left}
 use Rattle.batch_pipes.proofs.ending.settle_each.Goals as goal
 
 pub loop-output-init : goal.loop-output-init

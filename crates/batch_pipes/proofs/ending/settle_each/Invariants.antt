@@ -1,7 +1,6 @@
 use Rattle.std.proofs.Common.{◌≡◌, ◌++◌, length}
 use Rattle.std.specs.Vec.Iter.{into_iter_items, into_iter_len}
-use Rattle.batch_pipes.specs.OutputEnds.{IsHandedBack}
-use Rattle.batch_pipes.specs.Outputs.{AreSettledBy}
+use Rattle.batch_pipes.specs.{OutputEnds.IsHandedBack, Outputs.AreSettledBy}
 use Rattle.batch_pipes.proofs.ending.settle_each.Given as goal
 
 -- these are the outcomes of the outputs so far

@@ -1,10 +1,8 @@
 use Rattle.std.proofs.Common.{◌≡◌, ◌∙◌, ℕ, Bool, true, false, List, [], ◌∷◌, ◌++◌, Option, Some, option_map, string_bytes, inl, inr, refl, sym, ap, subst}
 use Rattle.std.proofs.lemmas.Bool.{false≢true}
 use Rattle.batch_wire.specs.Transcript.{lines_of}
-use Rattle.batch_serve.specs.CleanLines.{clean_lines}
-use Rattle.batch_serve.specs.Replays.{IsWholeLines}
-use Rattle.batch_pipes.specs.InputOrder.{given_by}
-use Rattle.batch_pipes.specs.RowsOfInputs.{IsServed, two_lines}
+use Rattle.batch_serve.specs.{CleanLines.clean_lines, Replays.IsWholeLines}
+use Rattle.batch_pipes.specs.{InputOrder.given_by, RowsOfInputs.IsServed, RowsOfInputs.two_lines}
 use Rattle.batch_pipes.proofs.laws.input_rows.Goals as goal
 
 -- the bytes of the input are known

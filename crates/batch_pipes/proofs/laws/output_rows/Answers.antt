@@ -1,6 +1,5 @@
 use Rattle.std.proofs.Common.{[], ◌∷◌, Some, refl, subst}
-use Rattle.batch_pipes.specs.Ended.{IsGivenBack}
-use Rattle.batch_pipes.proofs.WriterOutputs.{nothing_back}
+use Rattle.batch_pipes.{specs.Ended.IsGivenBack, proofs.WriterOutputs.nothing_back}
 use Rattle.batch_pipes.proofs.laws.output_rows.Goals as goal
 
 pub returns-clause-front : goal.returns-clause-front

@@ -1,8 +1,6 @@
 use Rattle.std.proofs.Common.{ap, subst, ◌∙◌}
 use Rattle.batch_engine.specs.View.{EngineView}
-use Rattle.batch_pipes.specs.Opened.{IsOpened}
-use Rattle.batch_pipes.proofs.WriterOutputs.{outputs_none}
-use Rattle.batch_pipes.proofs.DeskRings.{opened_none}
+use Rattle.batch_pipes.{specs.Opened.IsOpened, proofs.WriterOutputs.outputs_none, proofs.DeskRings.opened_none}
 use Rattle.batch_pipes.proofs.opening.open.Goals as goal
 
 pub open_each-requires-clause-opened : goal.open_each-requires-clause-opened

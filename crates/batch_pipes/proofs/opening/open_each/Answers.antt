@@ -1,10 +1,6 @@
 use Rattle.std.proofs.Common.{◌≡◌, ◌∷◌, [], length, get_or, sym, ap, subst, ◌∙◌, append_assoc, append-nil, arith}
 use Rattle.std.specs.Vec.Iter.{into_iter_items}
-use Rattle.batch_pipes.specs.Opened.{IsOpened}
-use Rattle.batch_pipes.specs.OutputEnds.{IsHandedBack}
-use Rattle.batch_pipes.specs.Outputs.{AreOutputsOpened}
-use Rattle.batch_pipes.proofs.WriterOutputs.{outputs_more}
-use Rattle.batch_pipes.proofs.DeskRings.{nothing_left, opened_more, ports_more}
+use Rattle.batch_pipes.{specs.Opened.IsOpened, specs.OutputEnds.IsHandedBack, specs.Outputs.AreOutputsOpened, proofs.WriterOutputs.outputs_more, proofs.DeskRings.nothing_left, proofs.DeskRings.opened_more, proofs.DeskRings.ports_more}
 use Rattle.batch_pipes.proofs.opening.open_each.Goals as goal
 
 pub loop-desk-preserved : goal.loop-desk-preserved

@@ -1,9 +1,6 @@
 use Rattle.std.proofs.Common.{◌≡◌, ◌++◌, length}
 use Rattle.std.specs.Vec.Iter.{into_iter_items, into_iter_len}
-use Rattle.batch_pipes.specs.Kept.{ArePortsOf}
-use Rattle.batch_pipes.specs.Opened.{IsOpened}
-use Rattle.batch_pipes.specs.OutputEnds.{IsHandedBack}
-use Rattle.batch_pipes.specs.Outputs.{AreOutputsOpened}
+use Rattle.batch_pipes.specs.{Kept.ArePortsOf, Opened.IsOpened, OutputEnds.IsHandedBack, Outputs.AreOutputsOpened}
 use Rattle.batch_pipes.proofs.opening.open_each.Given as goal
 
 -- the rings of the desks so far are made

@@ -1,9 +1,7 @@
 use Rattle.std.proofs.Common.{rules, ◌≡◌, subst}
 use Rattle.rtrb.specs.Ring.{IsPair}
 use Rattle.batch_serve.specs.declared.rounds.Writer.{Writer as OneWriter}
-use Rattle.batch_pipes.specs.OutputEnds.{IsHandedBack}
-use Rattle.batch_pipes.specs.Outputs.{IsOutputOf}
-use Rattle.batch_pipes.specs.declared.output.Output.{Output}
+use Rattle.batch_pipes.specs.{OutputEnds.IsHandedBack, Outputs.IsOutputOf, declared.output.Output.Output}
 use Rattle.batch_pipes.proofs.opening.open_output.Goals as goal
 use Rattle.batch_pipes.proofs.opening.open_output.Goals.{in-Some+in_ok-output-in-Some, in-None}
 

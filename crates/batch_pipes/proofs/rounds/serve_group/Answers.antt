@@ -1,7 +1,6 @@
 use Rattle.std.proofs.Common.{refl, sym, subst}
 use Rattle.batch_serve.specs.Turns.{IsTurned}
-use Rattle.batch_pipes.proofs.DeskChanges.{desks_same, desks_told}
-use Rattle.batch_pipes.proofs.ServiceRounds.{service_turned}
+use Rattle.batch_pipes.proofs.{DeskChanges.desks_same, DeskChanges.desks_told, ServiceRounds.service_turned}
 use Rattle.batch_pipes.proofs.rounds.serve_group.Goals as goal
 
 pub returns-then-is_empty-clause-service : goal.returns-then-is_empty-clause-service

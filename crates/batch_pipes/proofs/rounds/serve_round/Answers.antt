@@ -1,9 +1,5 @@
 use Rattle.std.proofs.Common.{ap, arith, length, ◌∙◌}
-use Rattle.batch_pipes.proofs.ReaderMessages.{inputs_gathered, order_of}
-use Rattle.batch_pipes.proofs.DeskChanges.{desks_handed, desks_same, desks_twice, readers_as_they_are, writers_handed}
-use Rattle.batch_pipes.proofs.ServiceRounds.{service_gathered, service_handed}
-use Rattle.batch_pipes.specs.Service.{rings_of, told_to}
-use Rattle.batch_pipes.specs.declared.ports.Ports.{Ports}
+use Rattle.batch_pipes.{proofs.ReaderMessages.inputs_gathered, proofs.ReaderMessages.order_of, proofs.DeskChanges.desks_handed, proofs.DeskChanges.desks_same, proofs.DeskChanges.desks_twice, proofs.DeskChanges.readers_as_they_are, proofs.DeskChanges.writers_handed, proofs.ServiceRounds.service_gathered, proofs.ServiceRounds.service_handed, specs.Service.rings_of, specs.Service.told_to, specs.declared.ports.Ports.Ports}
 use Rattle.batch_pipes.proofs.rounds.serve_round.Goals as goal
 
 pub returns-clause-ports : goal.returns-clause-ports

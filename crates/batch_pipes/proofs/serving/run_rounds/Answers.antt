@@ -1,8 +1,5 @@
 use Rattle.std.proofs.Common.{refl, ◌∙◌}
-use Rattle.batch_pipes.proofs.ReaderMessages.{inputs_kept, inputs_twice}
-use Rattle.batch_pipes.proofs.DeskChanges.{desks_handed, desks_same, desks_twice}
-use Rattle.batch_pipes.proofs.WriterOutputs.{outputs_as_they_are, outputs_on, outputs_twice}
-use Rattle.batch_pipes.proofs.ServiceRounds.{service_handed}
+use Rattle.batch_pipes.proofs.{ReaderMessages.inputs_kept, ReaderMessages.inputs_twice, DeskChanges.desks_handed, DeskChanges.desks_same, DeskChanges.desks_twice, WriterOutputs.outputs_as_they_are, WriterOutputs.outputs_on, WriterOutputs.outputs_twice, ServiceRounds.service_handed}
 use Rattle.batch_pipes.proofs.serving.run_rounds.Goals as goal
 
 pub loop-init : goal.loop-init

@@ -1,8 +1,4 @@
-use Rattle.batch_pipes.specs.Inputs.{InputsGoOn}
-use Rattle.batch_pipes.specs.Kept.{ArePortsOf, AreSameDesks}
-use Rattle.batch_pipes.specs.OutputEnds.{IsHandedBack}
-use Rattle.batch_pipes.specs.Outputs.{AreOutputsKept}
-use Rattle.batch_pipes.specs.Service.{GoesOn, rings_of}
+use Rattle.batch_pipes.specs.{Inputs.InputsGoOn, Kept.ArePortsOf, Kept.AreSameDesks, OutputEnds.IsHandedBack, Outputs.AreOutputsKept, Service.GoesOn, Service.rings_of}
 use Rattle.batch_pipes.proofs.serving.run_rounds.Given as goal
 
 -- the rounds so far led the service on

@@ -1,7 +1,5 @@
 use Rattle.std.proofs.Common.{◌∙◌}
-use Rattle.batch_pipes.proofs.DeskChanges.{handed_then_kept, kept_twice}
-use Rattle.batch_pipes.proofs.WriterOutputs.{output_on}
-use Rattle.batch_pipes.proofs.Rings.{producer_on}
+use Rattle.batch_pipes.proofs.{DeskChanges.handed_then_kept, DeskChanges.kept_twice, WriterOutputs.output_on, Rings.producer_on}
 use Rattle.batch_pipes.proofs.tending.tend.Goals as goal
 
 pub returns-clause-desk : goal.returns-clause-desk

@@ -1,16 +1,6 @@
 use Rattle.std.proofs.Common.{◌<◌, arith, length, length-set}
-use Rattle.batch_serve.specs.declared.desk.Desk.{Desk}
-use Rattle.batch_serve.specs.declared.rounds.Reader.{Reader}
-use Rattle.batch_serve.specs.declared.rounds.Writer.{Writer}
-use Rattle.batch_serve.proofs.DeskLines.{each_more, kept_behind}
-use Rattle.batch_pipes.specs.declared.ports.DeskThreads.{DeskThreads}
-use Rattle.batch_serve.specs.Rounds.{IsHandedOn}
-use Rattle.batch_pipes.specs.Outputs.{asked_of}
-use Rattle.batch_pipes.specs.declared.input_order.InputOrder.{InputOrder}
-use Rattle.batch_pipes.specs.declared.output.Output.{Output}
-use Rattle.batch_pipes.proofs.DeskChanges.{done_more, readers_more}
-use Rattle.batch_pipes.proofs.Lists.{same_set}
-use Rattle.batch_pipes.proofs.WriterOutputs.{output_here, outputs_set}
+use Rattle.batch_serve.{specs.declared.desk.Desk.Desk, specs.declared.rounds.Reader.Reader, specs.declared.rounds.Writer.Writer, proofs.DeskLines.each_more, proofs.DeskLines.kept_behind, specs.Rounds.IsHandedOn}
+use Rattle.batch_pipes.{specs.declared.ports.DeskThreads.DeskThreads, specs.Outputs.asked_of, specs.declared.input_order.InputOrder.InputOrder, specs.declared.output.Output.Output, proofs.DeskChanges.done_more, proofs.DeskChanges.readers_more, proofs.Lists.same_set, proofs.WriterOutputs.output_here, proofs.WriterOutputs.outputs_set}
 use Rattle.batch_pipes.proofs.tending.tend_each.Goals as goal
 
 pub loop-at-preserved : goal.loop-at-preserved

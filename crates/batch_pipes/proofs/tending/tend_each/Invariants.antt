@@ -1,11 +1,6 @@
 use Rattle.std.proofs.Common.{◌≡◌, ◌<◌, ◌≤◌, ℕ, false, length, get_or}
-use Rattle.batch_serve.specs.Rounds.{IsHandedOn}
-use Rattle.batch_serve.specs.declared.desk.Desk.{Desk}
-use Rattle.batch_serve.specs.declared.rounds.Reader.{Reader}
-use Rattle.batch_serve.specs.declared.rounds.Writer.{Writer}
-use Rattle.batch_pipes.specs.OutputEnds.{IsHandedBack}
-use Rattle.batch_pipes.specs.Outputs.{AreOutputsKept}
-use Rattle.batch_pipes.specs.Kept.{ArePortsOf, IsDone, IsReaderKept}
+use Rattle.batch_serve.specs.{Rounds.IsHandedOn, declared.desk.Desk.Desk, declared.rounds.Reader.Reader, declared.rounds.Writer.Writer}
+use Rattle.batch_pipes.specs.{OutputEnds.IsHandedBack, Outputs.AreOutputsKept, Kept.ArePortsOf, Kept.IsDone, Kept.IsReaderKept}
 use Rattle.batch_pipes.proofs.tending.tend_each.Given as goal
 
 -- the desks before this one were looked after, and the others are as they were

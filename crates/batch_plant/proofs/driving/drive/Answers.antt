@@ -1,14 +1,11 @@
 use Rattle.std.proofs.Common.{◌≡◌, ◌∙◌, ◌-◌, ◌+◌, ℕ, Ok, Err, refl, sym, subst, length, arith}
-use Rattle.std.proofs.lemmas.Result.{err_from_is_err_and}
-use Rattle.std.specs.List.{range_with_len}
+use Rattle.std.{proofs.lemmas.Result.err_from_is_err_and, specs.List.range_with_len}
 use Rattle.batch_cell.specs.LookUps.{units_of}
 use Rattle.batch_safety.specs.Sets.{RunsSafely}
 use Rattle.batch_verify.specs.ClearedSet.{ClearedSet}
 use Rattle.batch_engine.specs.View.{plant_of}
 use Rattle.batch_serve.proofs.UnchangedSet.{settled_in}
-use Rattle.batch_plant.specs.Drive.{Standing, in_rounds}
-use Rattle.batch_plant.specs.Handling.{DrivesSome}
-use Rattle.batch_plant.proofs.TickEffects.{fewer_left, left_stopped, none_left, done_driven, driven, some_settle, round_next, no_round}
+use Rattle.batch_plant.{specs.Drive.Standing, specs.Drive.in_rounds, specs.Handling.DrivesSome, proofs.TickEffects.fewer_left, proofs.TickEffects.left_stopped, proofs.TickEffects.none_left, proofs.TickEffects.done_driven, proofs.TickEffects.driven, proofs.TickEffects.some_settle, proofs.TickEffects.round_next, proofs.TickEffects.no_round}
 use Rattle.batch_plant.proofs.driving.drive.Goals as goal
 
 pub loop-preserved : goal.loop-preserved

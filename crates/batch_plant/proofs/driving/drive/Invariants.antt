@@ -1,8 +1,7 @@
 use Rattle.std.proofs.Common.{◌≡◌, ◌-◌, length}
 use Rattle.batch_cell.specs.LookUps.{units_of}
 use Rattle.batch_engine.specs.View.{plant_of}
-use Rattle.batch_plant.specs.Drive.{in_rounds}
-use Rattle.batch_plant.proofs.TickEffects.{Leaves}
+use Rattle.batch_plant.{specs.Drive.in_rounds, proofs.TickEffects.Leaves}
 use Rattle.batch_plant.proofs.driving.drive.Given as goal
 
 abbrev pub invariant-loop : goal.invariant-loop

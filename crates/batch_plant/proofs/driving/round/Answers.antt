@@ -1,14 +1,9 @@
 use Rattle.std.proofs.Common.{◌≡◌, ◌∙◌, ◌-◌, ◌+◌, ℕ, ◌∷◌, [], Ok, Err, refl, ap, subst, length, arith}
-use Rattle.std.proofs.lemmas.Result.{err_from_is_err_and}
-use Rattle.std.specs.List.{range_with_len}
-use Rattle.batch_cell.specs.LookUps.{units_of}
-use Rattle.batch_cell.specs.declared.cell.Cell.{Cell}
+use Rattle.std.{proofs.lemmas.Result.err_from_is_err_and, specs.List.range_with_len}
+use Rattle.batch_cell.specs.{LookUps.units_of, declared.cell.Cell.Cell}
 use Rattle.batch_verify.specs.ClearedSet.{ClearedSet}
 use Rattle.batch_engine.specs.View.{plant_of}
-use Rattle.batch_plant.specs.Drive.{Standing}
-use Rattle.batch_plant.specs.Handling.{DrivesSome}
-use Rattle.batch_plant.specs.declared.drive_fault.DriveFault.TheVariants.{Write}
-use Rattle.batch_plant.proofs.TickEffects.{fewer_left, left_stopped, none_left, none_driven, not_handed_on, unit_next, no_unit}
+use Rattle.batch_plant.{specs.Drive.Standing, specs.Handling.DrivesSome, specs.declared.drive_fault.DriveFault.TheVariants.Write, proofs.TickEffects.fewer_left, proofs.TickEffects.left_stopped, proofs.TickEffects.none_left, proofs.TickEffects.none_driven, proofs.TickEffects.not_handed_on, proofs.TickEffects.unit_next, proofs.TickEffects.no_unit}
 use Rattle.batch_plant.proofs.driving.round.Goals as goal
 
 pub loop-unit-preserved : goal.loop-unit-preserved

@@ -2,11 +2,8 @@ use Rattle.std.proofs.Common.{◌∙◌, IsSome, Option, option_map, refl, sym, 
 use Rattle.std.proofs.lemmas.Result.{err_from_is_err_and}
 use Rattle.batch_model.specs.Events.{Event}
 use Rattle.batch_verify.specs.ClearedSet.{ClearedSet}
-use Rattle.batch_engine.specs.Surface.{event_of}
-use Rattle.batch_engine.specs.View.{plant_of}
-use Rattle.batch_plant.specs.Drive.{Standing}
-use Rattle.batch_plant.proofs.Deeds.{report_numbered}
-use Rattle.batch_plant.proofs.TickEffects.{quiet_tick, handled_tick, cut_tick, lost_tick}
+use Rattle.batch_engine.specs.{Surface.event_of, View.plant_of}
+use Rattle.batch_plant.{specs.Drive.Standing, proofs.Deeds.report_numbered, proofs.TickEffects.quiet_tick, proofs.TickEffects.handled_tick, proofs.TickEffects.cut_tick, proofs.TickEffects.lost_tick}
 use Rattle.batch_plant.proofs.driving.tick.Goals as goal
 
 pub returns-in_default-clause-driven : goal.returns-in_default-clause-driven

@@ -2,9 +2,7 @@ use Rattle.std.proofs.Common.{refl, subst}
 use Rattle.std.proofs.lemmas.Result.{err_from_is_err_and}
 use Rattle.batch_verify.specs.ClearedSet.{ClearedSet}
 use Rattle.batch_engine.specs.View.{plant_of}
-use Rattle.batch_plant.specs.Drive.{Standing}
-use Rattle.batch_plant.specs.Handling.{WritesOrders}
-use Rattle.batch_plant.proofs.OrdersOfMoves.{reply_stopped, reported}
+use Rattle.batch_plant.{specs.Drive.Standing, specs.Handling.WritesOrders, proofs.OrdersOfMoves.reply_stopped, proofs.OrdersOfMoves.reported}
 use Rattle.batch_plant.proofs.handling.handle.Goals as goal
 
 pub returns-in_err-write_out-clause-reported : goal.returns-in_err-write_out-clause-reported

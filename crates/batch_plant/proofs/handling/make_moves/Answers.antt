@@ -1,12 +1,8 @@
 use Rattle.std.proofs.Common.{refl, sym, ◌∙◌}
-use Rattle.std.proofs.KnownBytes.{Appends-nil}
-use Rattle.std.proofs.lemmas.Result.{err_from_is_err_and}
-use Rattle.batch_engine.specs.Surface.{move_of}
-use Rattle.batch_engine.specs.View.{plant_of}
-use Rattle.batch_serve.proofs.UnchangedSet.{next_in, none_in, after_in}
-use Rattle.batch_serve.proofs.Settlement.{falls}
-use Rattle.batch_plant.specs.Drive.{Standing}
-use Rattle.batch_plant.proofs.OrdersOfMoves.{none_given, one_more, order_taken, all_given, stopped_at}
+use Rattle.std.proofs.{KnownBytes.Appends-nil, lemmas.Result.err_from_is_err_and}
+use Rattle.batch_engine.specs.{Surface.move_of, View.plant_of}
+use Rattle.batch_serve.proofs.{UnchangedSet.next_in, UnchangedSet.none_in, UnchangedSet.after_in, Settlement.falls}
+use Rattle.batch_plant.{specs.Drive.Standing, proofs.OrdersOfMoves.none_given, proofs.OrdersOfMoves.one_more, proofs.OrdersOfMoves.order_taken, proofs.OrdersOfMoves.all_given, proofs.OrdersOfMoves.stopped_at}
 use Rattle.batch_plant.proofs.handling.make_moves.Goals as goal
 
 pub loop-line-init : goal.loop-line-init

@@ -1,6 +1,5 @@
 use Rattle.std.proofs.Common.{◌≡◌}
-use Rattle.batch_engine.specs.Led.{IsLed}
-use Rattle.batch_engine.specs.View.{plant_of}
+use Rattle.batch_engine.specs.{Led.IsLed, View.plant_of}
 use Rattle.batch_model.specs.Runs.{work_left}
 use Rattle.batch_plant.proofs.OrdersOfMoves.{AreGiven}
 use Rattle.batch_plant.proofs.handling.make_moves.Given as goal

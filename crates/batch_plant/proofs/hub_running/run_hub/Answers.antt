@@ -1,6 +1,5 @@
 use Rattle.batch_desk.specs.HubState.{HubState}
-use Rattle.batch_plant.specs.Parts.{HubRan}
-use Rattle.batch_plant.proofs.Joins.{ended_so}
+use Rattle.batch_plant.{specs.Parts.HubRan, proofs.Joins.ended_so}
 use Rattle.batch_plant.proofs.hub_running.run_hub.Goals as goal
 
 pub returns-clause-ran : goal.returns-clause-ran

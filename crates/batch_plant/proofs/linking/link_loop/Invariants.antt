@@ -1,7 +1,6 @@
 use Rattle.std.proofs.Common.{◌≡◌, ◌≤◌, ◌-◌, []}
 use Rattle.batch_desk.specs.Consoles.{completes}
-use Rattle.batch_plant.specs.Links.{Links}
-use Rattle.batch_plant.specs.LinkSteps.{KnowsUnits, linked}
+use Rattle.batch_plant.specs.{Links.Links, LinkSteps.KnowsUnits, LinkSteps.linked}
 use Rattle.batch_plant.proofs.linking.link_loop.Given as goal
 
 abbrev pub invariant-loop-turn : goal.invariant-loop-turn

@@ -1,8 +1,6 @@
 use Rattle.std.proofs.Common.{ap, refl, sym, subst}
 use Rattle.batch_desk.specs.DeskState.{DeskState}
-use Rattle.batch_plant.specs.Links.{Links}
-use Rattle.batch_plant.specs.LinkSteps.{kept_in, linked}
-use Rattle.batch_plant.proofs.Deeds.{counted, none_counted, no_deed, took_out}
+use Rattle.batch_plant.{specs.Links.Links, specs.LinkSteps.kept_in, specs.LinkSteps.linked, proofs.Deeds.counted, proofs.Deeds.none_counted, proofs.Deeds.no_deed, proofs.Deeds.took_out}
 use Rattle.batch_plant.proofs.linking.take_out.Goals as goal
 
 pub returns-in-Some-clause-links : goal.returns-in-Some-clause-links

@@ -1,6 +1,5 @@
 use Rattle.std.proofs.Common.{refl, ap}
-use Rattle.batch_plant.specs.LinkSteps.{kept_in}
-use Rattle.batch_plant.proofs.Deeds.{ticked_next}
+use Rattle.batch_plant.{specs.LinkSteps.kept_in, proofs.Deeds.ticked_next}
 use Rattle.batch_plant.proofs.linking.tick_next.Goals as goal
 
 pub returns-clause-links : goal.returns-clause-links

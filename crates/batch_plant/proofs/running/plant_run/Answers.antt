@@ -1,8 +1,7 @@
 use Rattle.std.proofs.Common.{ap, subst, ◌∙◌}
 use Rattle.batch_cell.specs.declared.cell.Cell.{Cell}
 use Rattle.batch_engine.specs.View.{EngineView}
-use Rattle.batch_plant.specs.Plants.{HasLink}
-use Rattle.batch_plant.proofs.PlantPorts.{comes, from_two, linked_at_end, parts_stay, rings_at_end, still_complete}
+use Rattle.batch_plant.{specs.Plants.HasLink, proofs.PlantPorts.comes, proofs.PlantPorts.from_two, proofs.PlantPorts.linked_at_end, proofs.PlantPorts.parts_stay, proofs.PlantPorts.rings_at_end, proofs.PlantPorts.still_complete}
 use Rattle.batch_plant.proofs.running.plant_run.Goals as goal
 
 pub close-requires : goal.close-requires

@@ -1,8 +1,5 @@
-use Rattle.batch_desk.specs.Consoles.{IsConsole}
-use Rattle.batch_desk.specs.DeskState.{DeskState}
-use Rattle.batch_desk.specs.HubState.{HubState}
-use Rattle.batch_plant.specs.Parts.{HubRan, LinkRan}
-use Rattle.batch_plant.proofs.Joins.{came_back, gave_back}
+use Rattle.batch_desk.specs.{Consoles.IsConsole, DeskState.DeskState, HubState.HubState}
+use Rattle.batch_plant.{specs.Parts.HubRan, specs.Parts.LinkRan, proofs.Joins.came_back, proofs.Joins.gave_back}
 use Rattle.batch_plant.proofs.running.run_three.Goals as goal
 
 pub returns-clause-hub : goal.returns-clause-hub

@@ -1,7 +1,6 @@
 use Rattle.std.proofs.Common.{refl, sym, ◌∙◌, [], get_or, arith}
 use Rattle.std.proofs.lemmas.List.{take_all}
-use Rattle.batch_cell.specs.LookUps.{phases_of, units_of}
-use Rattle.batch_cell.proofs.OfferedPhases.{few_unit_phases}
+use Rattle.batch_cell.{specs.LookUps.phases_of, specs.LookUps.units_of, proofs.OfferedPhases.few_unit_phases}
 use Rattle.batch_verify.proofs.NamesInList.{take_next}
 use Rattle.batch_plant.proofs.unit_phases.phases_of.Goals as goal
 

@@ -1,11 +1,7 @@
 use Rattle.std.proofs.Common.{inl, sym, ◌∙◌, refl}
-use Rattle.std.proofs.Math.Logic.{∥∥₁_elim}
-use Rattle.std.proofs.Props.{props}
-use Rattle.batch_journal.proofs.ReaderLemmas.{begun_before}
-use Rattle.batch_journal.proofs.FilesWithoutRefusal.{not_refused}
-use Rattle.batch_journal.specs.Recovery.{HasNoFault}
-use Rattle.batch_program.proofs.DesksOverJournal.{desks_told, desks_told_as}
-use Rattle.batch_program.proofs.RunsOverJournal.{kept_started, moments_as, no_fault_prop, none_whole, start_refused, told_refused, untouched_of}
+use Rattle.std.proofs.{Math.Logic.∥∥₁_elim, Props.props}
+use Rattle.batch_journal.{proofs.ReaderLemmas.begun_before, proofs.FilesWithoutRefusal.not_refused, specs.Recovery.HasNoFault}
+use Rattle.batch_program.proofs.{DesksOverJournal.desks_told, DesksOverJournal.desks_told_as, RunsOverJournal.kept_started, RunsOverJournal.moments_as, RunsOverJournal.no_fault_prop, RunsOverJournal.none_whole, RunsOverJournal.start_refused, RunsOverJournal.told_refused, RunsOverJournal.untouched_of}
 use Rattle.batch_program.proofs.desk_keeping.serve_file.Goals as goal
 
 pub serve_behind-requires-clause-at_rest : goal.serve_behind-requires-clause-at_rest

@@ -1,6 +1,5 @@
 use Rattle.std.specs.Prelude.{None, ⊤}
-use Rattle.batch_journal.specs.Journals.{recovered}
-use Rattle.batch_journal.specs.Lines.{text_of}
+use Rattle.batch_journal.specs.{Journals.recovered, Lines.text_of}
 use Rattle.batch_program.proofs.desk_keeping.serve_opened.Given as goal
 
 abbrev pub ghosts-serve_file : goal.ghosts-serve_file

@@ -1,10 +1,7 @@
 use Rattle.std.proofs.Common.{inl, sym, ◌∙◌, refl}
-use Rattle.std.proofs.Math.Logic.{∥∥₁_elim}
-use Rattle.std.proofs.Props.{props}
-use Rattle.batch_journal.proofs.ReaderLemmas.{begun_before}
+use Rattle.std.proofs.{Math.Logic.∥∥₁_elim, Props.props}
+use Rattle.batch_journal.{proofs.ReaderLemmas.begun_before, specs.Recovery.HasNoFault, proofs.FilesWithoutRefusal.not_refused}
 use Rattle.batch_program.proofs.RunsOverJournal.{kept_started, moments_as, no_fault_prop, none_accounted, none_whole, start_refused, told_as, told_behind, told_refused, untouched_of}
-use Rattle.batch_journal.specs.Recovery.{HasNoFault}
-use Rattle.batch_journal.proofs.FilesWithoutRefusal.{not_refused}
 use Rattle.batch_program.proofs.keeping.serve_file.Goals as goal
 
 pub serve_behind-requires-clause-at_rest : goal.serve_behind-requires-clause-at_rest

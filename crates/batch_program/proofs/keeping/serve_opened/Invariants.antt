@@ -1,6 +1,5 @@
 use Rattle.std.specs.Prelude.{⊤}
-use Rattle.batch_journal.specs.Journals.{recovered}
-use Rattle.batch_journal.specs.Lines.{text_of}
+use Rattle.batch_journal.specs.{Journals.recovered, Lines.text_of}
 use Rattle.batch_program.specs.Keeping.{cleaned}
 use Rattle.batch_program.proofs.keeping.serve_opened.Given as goal
 

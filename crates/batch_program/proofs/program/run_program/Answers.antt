@@ -1,13 +1,7 @@
 use Rattle.std.proofs.Common.{map, option_map, string_bytes}
 use Rattle.std.proofs.KnownBytes.{Keeps-refl}
 use Rattle.batch_cli.specs.CommandLine.{source_of}
-use Rattle.batch_program.specs.Programs.{tells, serves, keeps, reads, audits, plants, writes, remarks, draws, serves_desks}
-use Rattle.batch_program.specs.declared.program.TheConstants.{MAX_READS}
-use Rattle.batch_program.proofs.DeskService.{desks_kept, desks_to_serve}
-use Rattle.batch_program.proofs.FileRuns.{file_to_write}
-use Rattle.batch_program.proofs.Plants.{has_run}
-use Rattle.batch_program.proofs.RunsWithComments.{remarked_kept, set_to_remark}
-use Rattle.batch_program.proofs.ProgramRuns.{audit_kept, drawn_kept, left_kept, plant_to_run, record_kept, record_to_draw, record_to_read, served_kept, set_to_audit, set_to_serve, told_kept, journal_kept, set_to_keep}
+use Rattle.batch_program.{specs.Programs.tells, specs.Programs.serves, specs.Programs.keeps, specs.Programs.reads, specs.Programs.audits, specs.Programs.plants, specs.Programs.writes, specs.Programs.remarks, specs.Programs.draws, specs.Programs.serves_desks, specs.declared.program.TheConstants.MAX_READS, proofs.DeskService.desks_kept, proofs.DeskService.desks_to_serve, proofs.FileRuns.file_to_write, proofs.Plants.has_run, proofs.RunsWithComments.remarked_kept, proofs.RunsWithComments.set_to_remark, proofs.ProgramRuns.audit_kept, proofs.ProgramRuns.drawn_kept, proofs.ProgramRuns.left_kept, proofs.ProgramRuns.plant_to_run, proofs.ProgramRuns.record_kept, proofs.ProgramRuns.record_to_draw, proofs.ProgramRuns.record_to_read, proofs.ProgramRuns.served_kept, proofs.ProgramRuns.set_to_audit, proofs.ProgramRuns.set_to_serve, proofs.ProgramRuns.told_kept, proofs.ProgramRuns.journal_kept, proofs.ProgramRuns.set_to_keep}
 use Rattle.batch_program.proofs.program.run_program.Goals as goal
 
 pub returns-in-Ends : goal.returns-in-Ends

@@ -1,7 +1,6 @@
 use Rattle.std.proofs.Common.{inr}
 use Rattle.std.proofs.KnownBytes.{Keeps-refl}
-use Rattle.batch_program.specs.DrawingRuns.{fails}
-use Rattle.batch_program.proofs.RecordPictures.{picture_is_printed, refused_is_drawn}
+use Rattle.batch_program.{specs.DrawingRuns.fails, proofs.RecordPictures.picture_is_printed, proofs.RecordPictures.refused_is_drawn}
 use Rattle.batch_program.proofs.record_drawing.draw_bytes.Goals as goal
 
 pub returns-in-Ok : goal.returns-in-Ok

@@ -1,6 +1,5 @@
 use Rattle.std.proofs.KnownBytes.{Keeps-refl}
-use Rattle.batch_program.specs.DrawingRuns.{fails}
-use Rattle.batch_program.proofs.RecordPictures.{drawn_of_input}
+use Rattle.batch_program.{specs.DrawingRuns.fails, proofs.RecordPictures.drawn_of_input}
 use Rattle.batch_program.proofs.record_drawing.draw_record_of.Goals as goal
 
 pub returns-in-Ok : goal.returns-in-Ok

@@ -1,7 +1,6 @@
 use Rattle.std.proofs.Common.{inl, inr}
 use Rattle.std.proofs.KnownBytes.{Keeps-refl}
-use Rattle.batch_program.specs.RecordRuns.{prints, stops}
-use Rattle.batch_program.proofs.RecordStatus.{refused_is_told}
+use Rattle.batch_program.{specs.RecordRuns.prints, specs.RecordRuns.stops, proofs.RecordStatus.refused_is_told}
 use Rattle.batch_program.proofs.record_status.print_status.Goals as goal
 
 pub returns-in-Ok : goal.returns-in-Ok

@@ -1,10 +1,7 @@
 use Rattle.std.proofs.Common.{◌≡◌, None, codes, refl, rules}
 use Rattle.std.proofs.lemmas.Result.{err_from_is_err_and}
-use Rattle.toml.specs.Data.{get_member}
-use Rattle.toml.specs.View.{table_view}
-use Rattle.batch_reader.proofs.EntryFaults.{name_told, optional_name_told, table_told}
-use Rattle.batch_reader.proofs.UnitChoices.{role_refused, unit_refused}
-use Rattle.batch_reader.specs.declared.fault.TableKind.TheVariants.{UnitProcedure}
+use Rattle.toml.specs.{Data.get_member, View.table_view}
+use Rattle.batch_reader.{proofs.EntryFaults.name_told, proofs.EntryFaults.optional_name_told, proofs.EntryFaults.table_told, proofs.UnitChoices.role_refused, proofs.UnitChoices.unit_refused, specs.declared.fault.TableKind.TheVariants.UnitProcedure}
 use Rattle.batch_reader.proofs.act_tables.choice_at.Goals as goal
 
 pub returns-in_err-chosen-clause-refused : goal.returns-in_err-chosen-clause-refused

@@ -1,10 +1,8 @@
 use Rattle.std.proofs.lemmas.Result.{err_from_is_err_and}
-use Rattle.batch_recipe.specs.Diagram.{diagram_of}
+use Rattle.batch_recipe.specs.{Diagram.diagram_of, declared.act.TheConstants.MAX_RESERVES}
 use Rattle.std.proofs.Common.{codes, refl}
-use Rattle.batch_recipe.specs.declared.act.TheConstants.{MAX_RESERVES}
 use Rattle.toml.specs.View.{table_view}
-use Rattle.batch_reader.proofs.EntryFaults.{few_told, label_told, table_told}
-use Rattle.batch_reader.specs.declared.fault.TableKind.TheVariants.{Operation}
+use Rattle.batch_reader.{proofs.EntryFaults.few_told, proofs.EntryFaults.label_told, proofs.EntryFaults.table_told, specs.declared.fault.TableKind.TheVariants.Operation}
 use Rattle.batch_reader.proofs.act_tables.operation.Goals as goal
 
 pub returns-in_err-needs-clause-refused : goal.returns-in_err-needs-clause-refused

@@ -2,8 +2,7 @@ use Rattle.std.proofs.Common.{refl, rules, codes}
 use Rattle.std.proofs.lemmas.Result.{err_from_is_err_and}
 use Rattle.batch_recipe.specs.declared.act.TheConstants.{MAX_REPORTS, MAX_RESERVES, MAX_VALUES}
 use Rattle.toml.specs.View.{table_view}
-use Rattle.batch_reader.proofs.EntryFaults.{few_told, label_told, name_or_told, table_told}
-use Rattle.batch_reader.specs.declared.fault.TableKind.TheVariants.{Phase}
+use Rattle.batch_reader.{proofs.EntryFaults.few_told, proofs.EntryFaults.label_told, proofs.EntryFaults.name_or_told, proofs.EntryFaults.table_told, specs.declared.fault.TableKind.TheVariants.Phase}
 use Rattle.batch_reader.proofs.act_tables.phase_step.Goals as goal
 
 pub returns-in_err-needs-clause-refused : goal.returns-in_err-needs-clause-refused

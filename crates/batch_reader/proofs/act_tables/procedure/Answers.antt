@@ -2,8 +2,7 @@ use Rattle.std.proofs.lemmas.Result.{err_from_is_err_and}
 use Rattle.batch_recipe.specs.Diagram.{diagram_of}
 use Rattle.std.proofs.Common.{refl}
 use Rattle.toml.specs.View.{table_view}
-use Rattle.batch_reader.proofs.EntryFaults.{table_told}
-use Rattle.batch_reader.specs.declared.fault.TableKind.TheVariants.{Procedure}
+use Rattle.batch_reader.{proofs.EntryFaults.table_told, specs.declared.fault.TableKind.TheVariants.Procedure}
 use Rattle.batch_reader.proofs.act_tables.procedure.Goals as goal
 
 pub returns-in_err-needs-clause-refused : goal.returns-in_err-needs-clause-refused

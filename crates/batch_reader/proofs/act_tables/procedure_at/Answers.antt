@@ -1,10 +1,7 @@
 use Rattle.std.proofs.Common.{◌≡◌, Some, codes, rules}
-use Rattle.std.proofs.lemmas.Result.{IfErr-weaker}
-use Rattle.std.specs.Option.{option_and_then}
-use Rattle.toml.specs.Data.{get_member, as_table}
-use Rattle.toml.specs.View.{table_view}
-use Rattle.batch_reader.proofs.OneEntry.{HasTable_refused}
-use Rattle.batch_reader.specs.RecipeTables.{IsProcedureTable}
+use Rattle.std.{proofs.lemmas.Result.IfErr-weaker, specs.Option.option_and_then}
+use Rattle.toml.specs.{Data.get_member, Data.as_table, View.table_view}
+use Rattle.batch_reader.{proofs.OneEntry.HasTable_refused, specs.RecipeTables.IsProcedureTable}
 use Rattle.batch_reader.proofs.act_tables.procedure_at.Goals as goal
 
 pub returns-in-Some-as_table-clause-refused : goal.returns-in-Some-as_table-clause-refused

@@ -2,8 +2,7 @@ use Rattle.std.proofs.lemmas.Result.{err_from_is_err_and}
 use Rattle.std.proofs.Common.{codes, refl}
 use Rattle.batch_recipe.specs.declared.act.TheConstants.{MAX_RESERVES}
 use Rattle.toml.specs.View.{table_view}
-use Rattle.batch_reader.proofs.EntryFaults.{few_told, label_told, table_told}
-use Rattle.batch_reader.specs.declared.fault.TableKind.TheVariants.{UnitProcedure}
+use Rattle.batch_reader.{proofs.EntryFaults.few_told, proofs.EntryFaults.label_told, proofs.EntryFaults.table_told, specs.declared.fault.TableKind.TheVariants.UnitProcedure}
 use Rattle.batch_reader.proofs.act_tables.unit_procedure.Goals as goal
 
 pub returns-in_err-needs-clause-refused : goal.returns-in_err-needs-clause-refused

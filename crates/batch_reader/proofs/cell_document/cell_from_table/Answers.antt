@@ -1,12 +1,7 @@
 use Rattle.std.proofs.lemmas.Result.{err_from_is_err_and}
 use Rattle.toml.specs.View.{table_view}
-use Rattle.batch_reader.proofs.OneCell.{unsound_refused}
+use Rattle.batch_reader.{proofs.OneCell.unsound_refused, proofs.ArrayFaults.at_told, proofs.ArrayFaults.in_among, proofs.ArrayFaults.in_told, proofs.ArrayFaults.tells_weaker, specs.FaultStands.IsWrongAt, proofs.EntryFaults.name_told, proofs.EntryFaults.table_told, specs.declared.fault.TableKind.TheVariants.Cell, specs.declared.fault.TableKind.TheVariants.Unit, specs.declared.fault.TableKind.TheVariants.Module, specs.declared.fault.TableKind.TheVariants.Shared, specs.Faults.is_of_cell}
 use Rattle.std.proofs.Common.{codes, inl, inr, refl}
-use Rattle.batch_reader.proofs.ArrayFaults.{at_told, in_among, in_told, tells_weaker}
-use Rattle.batch_reader.specs.FaultStands.{IsWrongAt}
-use Rattle.batch_reader.proofs.EntryFaults.{name_told, table_told}
-use Rattle.batch_reader.specs.declared.fault.TableKind.TheVariants.{Cell, Unit, Module, Shared}
-use Rattle.batch_reader.specs.Faults.{is_of_cell}
 use Rattle.batch_reader.proofs.cell_document.cell_from_table.Goals as goal
 
 pub returns-in_err-units-clause-refused : goal.returns-in_err-units-clause-refused

@@ -2,10 +2,7 @@ use Rattle.std.proofs.Common.{◌≡◌, ◌<◌, length, arith, rules, codes, r
 use Rattle.std.proofs.lemmas.Result.{err_from_is_err_and}
 use Rattle.batch_cell.specs.declared.module.TheConstants.{MAX_PHASES}
 use Rattle.toml.specs.View.{table_view}
-use Rattle.batch_reader.proofs.OneCell.{refused_phases, refused_phase_count}
-use Rattle.batch_reader.proofs.EntryFaults.{count_fault, name_told, names_told, optional_fault, table_fault, table_told}
-use Rattle.batch_reader.proofs.NeedFaults.{tells_at}
-use Rattle.batch_reader.specs.declared.fault.TableKind.TheVariants.{Module}
+use Rattle.batch_reader.{proofs.OneCell.refused_phases, proofs.OneCell.refused_phase_count, proofs.EntryFaults.count_fault, proofs.EntryFaults.name_told, proofs.EntryFaults.names_told, proofs.EntryFaults.optional_fault, proofs.EntryFaults.table_fault, proofs.EntryFaults.table_told, proofs.NeedFaults.tells_at, specs.declared.fault.TableKind.TheVariants.Module}
 use Rattle.batch_reader.proofs.cell_tables.unit_module.Goals as goal
 use Rattle.batch_reader.proofs.cell_tables.unit_module.Goals.{then-is_empty-via-then-is_empty, then-is_empty-via-else-is_empty+then-len-gt-MAX_PHASES}
 

@@ -1,9 +1,7 @@
 use Rattle.std.proofs.Common.{◌≡◌, Some, codes, rules}
 use Rattle.std.specs.Option.{option_and_then}
-use Rattle.toml.specs.Data.{get_member, as_str}
-use Rattle.toml.specs.View.{table_view}
-use Rattle.batch_reader.specs.ChartAnswer.{IsOutsideAt}
-use Rattle.batch_reader.proofs.OneEntry.{chart_refused}
+use Rattle.toml.specs.{Data.get_member, Data.as_str, View.table_view}
+use Rattle.batch_reader.{specs.ChartAnswer.IsOutsideAt, proofs.OneEntry.chart_refused}
 use Rattle.batch_reader.proofs.chart_entry.read_chart_at.Goals as goal
 
 pub returns-in-Err-OutOfRange-clause-refused : goal.returns-in-Err-OutOfRange-clause-refused

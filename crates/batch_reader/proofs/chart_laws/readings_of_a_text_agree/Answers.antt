@@ -1,5 +1,4 @@
-use Rattle.batch_reader.proofs.ChartCompleteness.{one_chart}
-use Rattle.batch_reader.proofs.ChartOffsets.{same_outside, same_par}
+use Rattle.batch_reader.proofs.{ChartCompleteness.one_chart, ChartOffsets.same_outside, ChartOffsets.same_par}
 use Rattle.batch_reader.proofs.chart_laws.readings_of_a_text_agree.Goals as goal
 
 pub returns-clause-chart : goal.returns-clause-chart

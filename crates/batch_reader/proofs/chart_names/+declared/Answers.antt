@@ -1,9 +1,7 @@
 use Rattle.std.proofs.Common.{◌≡◌, ◌&&◌, sym, ◌∙◌}
 use Rattle.std.specs.List.{list_all}
-use Rattle.batch_recipe.proofs.Diagrams.{diagram_of-seq, diagram_of-par, diagram_of-sel}
-use Rattle.batch_recipe.specs.Diagram.{diagram_of}
-use Rattle.batch_reader.specs.Naming.{is_declared}
-use Rattle.batch_reader.proofs.ChartNames.{branches_declared, cases_declared, is_case_declared}
+use Rattle.batch_recipe.{proofs.Diagrams.diagram_of-seq, proofs.Diagrams.diagram_of-par, proofs.Diagrams.diagram_of-sel, specs.Diagram.diagram_of}
+use Rattle.batch_reader.{specs.Naming.is_declared, proofs.ChartNames.branches_declared, proofs.ChartNames.cases_declared, proofs.ChartNames.is_case_declared}
 use Rattle.batch_reader.proofs.chart_names.+declared.Goals as goal
 
 pub is_declared-returns-in-Seq : goal.is_declared-returns-in-Seq

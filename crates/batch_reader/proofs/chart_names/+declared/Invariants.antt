@@ -1,9 +1,7 @@
 use Rattle.std.proofs.Common.{◌≡◌, ◌&&◌, true, take}
 use Rattle.std.specs.List.{list_all}
-use Rattle.batch_reader.specs.ChartForm.{names_compared}
-use Rattle.batch_recipe.specs.Diagram.{diagram_of}
-use Rattle.batch_recipe.specs.WellFormed.{is_among}
-use Rattle.batch_reader.specs.Naming.{is_declared}
+use Rattle.batch_reader.specs.{ChartForm.names_compared, Naming.is_declared}
+use Rattle.batch_recipe.specs.{Diagram.diagram_of, WellFormed.is_among}
 use Rattle.batch_reader.proofs.chart_names.+declared.Given as goal
 
 -- the branches so far name nothing that isn't declared

@@ -1,12 +1,6 @@
 use Rattle.std.proofs.Common.{◌≡◌, ◌+◌, length, List, ℕ, [], subst, sym, ap, ◌∙◌, arith}
 use Rattle.batch_recipe.specs.Diagram.{diagram_of}
-use Rattle.batch_reader.specs.ChartAnswer.{HasFaultAt, IsOutsideAt}
-use Rattle.batch_reader.specs.ChartView.{state_view, frames_view}
-use Rattle.batch_reader.specs.ChartMachine.{Frame, a_chart, nothing, no_firsts}
-use Rattle.batch_reader.specs.declared.firsts.Firsts.{Firsts}
-use Rattle.batch_reader.specs.declared.state.State.{State}
-use Rattle.batch_reader.proofs.ChartFrames.{frames_view_nil}
-use Rattle.batch_reader.proofs.ChartReader.{IsAfter, after_none, after_next, stops_in_text, stops_at_end, reads_to_end, is_outside}
+use Rattle.batch_reader.{specs.ChartAnswer.HasFaultAt, specs.ChartAnswer.IsOutsideAt, specs.ChartView.state_view, specs.ChartView.frames_view, specs.ChartMachine.Frame, specs.ChartMachine.a_chart, specs.ChartMachine.nothing, specs.ChartMachine.no_firsts, specs.declared.firsts.Firsts.Firsts, specs.declared.state.State.State, proofs.ChartFrames.frames_view_nil, proofs.ChartReader.IsAfter, proofs.ChartReader.after_none, proofs.ChartReader.after_next, proofs.ChartReader.stops_in_text, proofs.ChartReader.stops_at_end, proofs.ChartReader.reads_to_end, proofs.ChartReader.is_outside}
 use Rattle.batch_reader.proofs.chart_reading.read_chart_and_par.Goals as goal
 
 -- the loop ends at the end of the text

@@ -1,5 +1,4 @@
-use Rattle.batch_reader.specs.ChartView.{state_view}
-use Rattle.batch_reader.proofs.ChartReader.{IsAfter}
+use Rattle.batch_reader.{specs.ChartView.state_view, proofs.ChartReader.IsAfter}
 use Rattle.batch_reader.proofs.chart_reading.read_chart_and_par.Given as goal
 
 abbrev pub invariant-loop-place : goal.invariant-loop-place

@@ -1,16 +1,8 @@
 use Rattle.std.proofs.Common.{◌≡◌, ◌≤◌, ℕ, pos, false, [], Some, None, sym, inl, inr, refl, codes, arith, lit≤}
-use Rattle.std.proofs.lemmas.Bool.{false≢true}
-use Rattle.std.specs.List.{IsDistinct}
+use Rattle.std.{proofs.lemmas.Bool.false≢true, specs.List.IsDistinct}
 use Rattle.toml.specs.Data.{Members, no_members, member, integer, string}
 use Rattle.batch_text.specs.NameText.{IsName}
-use Rattle.batch_reader.specs.Entries.{HasName}
-use Rattle.batch_reader.specs.Keys.{is_known}
-use Rattle.batch_reader.specs.declared.fault.EntryFault.TheVariants.{OutOfLimit}
-use Rattle.batch_reader.specs.declared.keys.TheConstants.{MAX_LAG}
-use Rattle.batch_reader.proofs.DeskRefusals.{missing_refused, name_refused, none_first, number_refused, optional_name_refused, path_refused, truth_refused}
-use Rattle.batch_reader.specs.DesksDocument.{HasPath}
-use Rattle.batch_reader.specs.DesksFaults.{IsDeskFault}
-use Rattle.batch_reader.specs.RowsOfDesks.{console, lag_of, named}
+use Rattle.batch_reader.{specs.Entries.HasName, specs.Keys.is_known, specs.declared.fault.EntryFault.TheVariants.OutOfLimit, specs.declared.keys.TheConstants.MAX_LAG, proofs.DeskRefusals.missing_refused, proofs.DeskRefusals.name_refused, proofs.DeskRefusals.none_first, proofs.DeskRefusals.number_refused, proofs.DeskRefusals.optional_name_refused, proofs.DeskRefusals.path_refused, proofs.DeskRefusals.truth_refused, specs.DesksDocument.HasPath, specs.DesksFaults.IsDeskFault, specs.RowsOfDesks.console, specs.RowsOfDesks.lag_of, specs.RowsOfDesks.named}
 use Rattle.batch_reader.proofs.desk_laws.worked_desks.Goals as goal
 
 is_name : IsName (codes "CONSOLE")

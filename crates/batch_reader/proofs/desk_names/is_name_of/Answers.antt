@@ -1,7 +1,5 @@
 use Rattle.std.proofs.Common.{rules, ◌∙◌, nat_eq}
-use Rattle.std.proofs.lemmas.Iterator.{YieldsList-from_slice}
-use Rattle.std.proofs.lemmas.Iterator.Search.{any_from_yields_List}
-use Rattle.std.specs.Cmp.Lexicographic.{pointwise}
+use Rattle.std.{proofs.lemmas.Iterator.YieldsList-from_slice, proofs.lemmas.Iterator.Search.any_from_yields_List, specs.Cmp.Lexicographic.pointwise}
 use Rattle.batch_reader.proofs.KnownKeys.{list_any-map}
 use Rattle.batch_reader.proofs.desk_names.is_name_of.Goals as goal
 

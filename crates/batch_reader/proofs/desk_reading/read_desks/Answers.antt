@@ -1,17 +1,9 @@
 use Rattle.std.proofs.Common.{◌≡◌, ℕ, List, Some, ap, inl, inr, subst, refl}
 use Rattle.std.proofs.lemmas.Result.{err_from_is_err_and}
-use Rattle.toml.specs.Data.{Members}
-use Rattle.toml.specs.Parse.{parse_document}
-use Rattle.toml.specs.View.{table_view}
-use Rattle.batch_reader.specs.Faults.{TellsIn}
-use Rattle.batch_reader.specs.declared.fault.DocFault.{DocFault}
+use Rattle.toml.specs.{Data.Members, Parse.parse_document, View.table_view}
+use Rattle.batch_reader.specs.{Faults.TellsIn, declared.fault.DocFault.DocFault, declared.fault.EntryFault.EntryFault, declared.fault.Spot.Spot, declared.fault.TableFault.TableFault, declared.fault.TableFault.TheVariants.Entry, declared.fault.TableFault.TheVariants.Memory, DesksFaults.DesksFaultStands, DesksFaults.IsDesksFault}
 use Rattle.batch_reader.specs.declared.fault.DocFault.TheVariants as document
-use Rattle.batch_reader.specs.declared.fault.EntryFault.{EntryFault}
-use Rattle.batch_reader.specs.declared.fault.Spot.{Spot}
-use Rattle.batch_reader.specs.declared.fault.TableFault.{TableFault}
-use Rattle.batch_reader.specs.declared.fault.TableFault.TheVariants.{Entry, Memory}
 use Rattle.batch_reader.specs.declared.fault.TableKind.TheVariants as table
-use Rattle.batch_reader.specs.DesksFaults.{DesksFaultStands, IsDesksFault}
 use Rattle.batch_reader.proofs.desk_reading.read_desks.Goals as goal
 
 pub returns-in_err-table-clause-stands : goal.returns-in_err-table-clause-stands

@@ -1,8 +1,5 @@
 use Rattle.std.proofs.Common.{rules, ◌∙◌, nat_eq, string_bytes}
-use Rattle.std.proofs.lemmas.Iterator.Consumers.{YieldsList-from_rest}
-use Rattle.std.proofs.lemmas.Iterator.Search.{all_from_yields_List}
-use Rattle.std.specs.BTreeMap.{keys}
-use Rattle.std.specs.Cmp.Lexicographic.{pointwise}
+use Rattle.std.{proofs.lemmas.Iterator.Consumers.YieldsList-from_rest, proofs.lemmas.Iterator.Search.all_from_yields_List, specs.BTreeMap.keys, specs.Cmp.Lexicographic.pointwise}
 use Rattle.batch_reader.proofs.KnownKeys.{all_keys-view}
 use Rattle.batch_reader.proofs.entries.has_only_key.Goals as goal
 

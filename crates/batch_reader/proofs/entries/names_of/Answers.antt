@@ -1,8 +1,7 @@
 use Rattle.std.proofs.Common.{ℕ, List, get_or, refl}
 use Rattle.std.proofs.lemmas.Result.{err_from_is_err_and}
 use Rattle.toml.specs.View.{view}
-use Rattle.batch_reader.proofs.Items.{AllItems_refused, AllItems-turn}
-use Rattle.batch_reader.specs.Entries.{IsNameItem}
+use Rattle.batch_reader.{proofs.Items.AllItems_refused, proofs.Items.AllItems-turn, specs.Entries.IsNameItem}
 use Rattle.batch_reader.proofs.entries.names_of.Goals as goal
 
 pub returns-in_err-name-clause-refused : goal.returns-in_err-name-clause-refused

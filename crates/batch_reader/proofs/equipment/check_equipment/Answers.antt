@@ -1,9 +1,6 @@
 use Rattle.std.proofs.lemmas.Result.{err_from_is_err_and}
-use Rattle.batch_reader.proofs.FaultsAmongTables.{kind_told, wrong_told}
+use Rattle.batch_reader.{proofs.FaultsAmongTables.kind_told, proofs.FaultsAmongTables.wrong_told, specs.PartFaults.Equipment, specs.PartFaults.HasNameTwice, specs.PartFaults.IsEquipmentFault, specs.PartFaults.OffersTwice, specs.declared.fault.EntryFault.TheVariants.Duplicate, specs.declared.fault.TableKind.TheVariants.Module}
 use Rattle.std.proofs.Common.{inl, inr}
-use Rattle.batch_reader.specs.PartFaults.{Equipment, HasNameTwice, IsEquipmentFault, OffersTwice}
-use Rattle.batch_reader.specs.declared.fault.EntryFault.TheVariants.{Duplicate}
-use Rattle.batch_reader.specs.declared.fault.TableKind.TheVariants.{Module}
 use Rattle.batch_reader.proofs.equipment.check_equipment.Goals as goal
 
 pub returns-in_err-check_names-clause-refused : goal.returns-in_err-check_names-clause-refused

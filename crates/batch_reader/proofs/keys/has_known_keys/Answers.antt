@@ -1,10 +1,7 @@
 use Rattle.std.proofs.Common.{rules, ◌∙◌, string_bytes}
-use Rattle.std.proofs.lemmas.Iterator.Consumers.{YieldsList-from_rest}
-use Rattle.std.proofs.lemmas.Iterator.Search.{all_from_yields_List}
-use Rattle.std.specs.BTreeMap.{keys}
+use Rattle.std.{proofs.lemmas.Iterator.Consumers.YieldsList-from_rest, proofs.lemmas.Iterator.Search.all_from_yields_List, specs.BTreeMap.keys}
 use Rattle.toml.specs.View.{table_view}
-use Rattle.batch_reader.proofs.KnownKeys.{all_keys-view}
-use Rattle.batch_reader.specs.Keys.{is_known}
+use Rattle.batch_reader.{proofs.KnownKeys.all_keys-view, specs.Keys.is_known}
 use Rattle.batch_reader.proofs.keys.has_known_keys.Goals as goal
 
 pub returns : goal.returns

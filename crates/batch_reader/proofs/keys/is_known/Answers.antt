@@ -1,11 +1,7 @@
 use Rattle.std.proofs.Common.{rules, ap, ◌∙◌, ◌&&◌, nat_eq}
-use Rattle.std.proofs.lemmas.Iterator.{YieldsList-from_slice}
-use Rattle.std.proofs.lemmas.Iterator.Search.{any_from_yields_List}
-use Rattle.std.specs.Cmp.Lexicographic.{pointwise}
-use Rattle.std.specs.List.{list_any}
+use Rattle.std.{proofs.lemmas.Iterator.YieldsList-from_slice, proofs.lemmas.Iterator.Search.any_from_yields_List, specs.Cmp.Lexicographic.pointwise, specs.List.list_any}
 use Rattle.toml.specs.View.{table_view}
-use Rattle.batch_reader.proofs.KnownKeys.{list_any-map}
-use Rattle.batch_reader.specs.Keys.{Key, is_known, key_said, may_stand}
+use Rattle.batch_reader.{proofs.KnownKeys.list_any-map, specs.Keys.Key, specs.Keys.is_known, specs.Keys.key_said, specs.Keys.may_stand}
 use Rattle.batch_reader.proofs.keys.is_known.Goals as goal
 
 pub returns : goal.returns

@@ -1,16 +1,10 @@
 use Rattle.std.proofs.Common.{◌≡◌, ◌≢◌, ◌&&◌, true, [], ◌∷◌, Some, ap, sym, inl, inr, refl, codes, arith, ◌∙◌}
-use Rattle.std.proofs.lemmas.Bool.{false≢true}
-use Rattle.std.specs.List.{list_all}
-use Rattle.batch_cell.specs.Equipment.{HasDeclaredUnits}
-use Rattle.batch_cell.specs.declared.module.Module.{Module}
+use Rattle.std.{proofs.lemmas.Bool.false≢true, specs.List.list_all}
+use Rattle.batch_cell.specs.{Equipment.HasDeclaredUnits, declared.module.Module.Module}
 use Rattle.toml.specs.Data.{no_members, table}
-use Rattle.batch_reader.specs.ChartGrammar.{here, no_offsets, whole, skip as reads_skip}
-use Rattle.batch_recipe.specs.Diagram.{skip}
-use Rattle.batch_recipe.specs.WellFormed.{are_distinct, is_among, reserves_among, reserves_once}
-use Rattle.batch_recipe.specs.declared.act.Act.{Act}
-use Rattle.batch_reader.specs.Keys.{is_known, needed}
+use Rattle.batch_reader.specs.{ChartGrammar.here, ChartGrammar.no_offsets, ChartGrammar.whole, ChartGrammar.skip as reads_skip, Keys.is_known, Keys.needed, RowsOfFaults.on_unit, RowsOfFaults.for_role, RowsOfFaults.with_keys}
+use Rattle.batch_recipe.specs.{Diagram.skip, WellFormed.are_distinct, WellFormed.is_among, WellFormed.reserves_among, WellFormed.reserves_once, declared.act.Act.Act}
 use Rattle.batch_reader.specs.declared.keys.ValueForm.TheVariants as form
-use Rattle.batch_reader.specs.RowsOfFaults.{on_unit, for_role, with_keys}
 use Rattle.batch_reader.proofs.laws.worked_faults.Goals as goal
 
 -- no unit of a cell without any is MIXER

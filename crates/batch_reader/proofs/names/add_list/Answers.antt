@@ -1,6 +1,5 @@
 use Rattle.std.proofs.Common.{nat_eq}
-use Rattle.std.proofs.lemmas.Result.{err_from_is_err_and}
-use Rattle.std.specs.Cmp.Lexicographic.{pointwise}
+use Rattle.std.{proofs.lemmas.Result.err_from_is_err_and, specs.Cmp.Lexicographic.pointwise}
 use Rattle.batch_reader.proofs.NamesSoFar.{item_refused}
 use Rattle.batch_reader.proofs.names.add_list.Goals as goal
 

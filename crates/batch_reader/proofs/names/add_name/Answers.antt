@@ -1,6 +1,5 @@
 use Rattle.std.proofs.Common.{◌≡◌, rules, true, nat_eq}
-use Rattle.std.specs.Cmp.Lexicographic.{pointwise, nat_list_eq_equiv}
-use Rattle.std.specs.List.{list_any}
+use Rattle.std.specs.{Cmp.Lexicographic.pointwise, Cmp.Lexicographic.nat_list_eq_equiv, List.list_any}
 use Rattle.batch_reader.proofs.NamesSoFar.{IsDistinct-twice}
 use Rattle.batch_reader.proofs.names.add_name.Goals as goal
 

@@ -1,6 +1,5 @@
 use Rattle.std.proofs.Common.{nat_eq, ap, ◌∙◌}
-use Rattle.std.proofs.lemmas.Result.{err_from_is_err_and}
-use Rattle.std.specs.Cmp.Lexicographic.{pointwise}
+use Rattle.std.{proofs.lemmas.Result.err_from_is_err_and, specs.Cmp.Lexicographic.pointwise}
 use Rattle.batch_reader.proofs.NamesSoFar.{name_refused}
 use Rattle.batch_reader.proofs.names.add_names.Goals as goal
 

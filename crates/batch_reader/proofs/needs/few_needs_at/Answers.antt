@@ -1,7 +1,5 @@
-use Rattle.batch_reader.specs.Entries.{IsNeedItem}
-use Rattle.batch_reader.proofs.OneEntry.{few_refused}
+use Rattle.batch_reader.{specs.Entries.IsNeedItem, proofs.OneEntry.few_refused, proofs.NeedFaults.too_many_needs}
 use Rattle.std.proofs.Common.{refl}
-use Rattle.batch_reader.proofs.NeedFaults.{too_many_needs}
 use Rattle.batch_reader.proofs.needs.few_needs_at.Goals as goal
 
 pub returns-then-values-most-clause-refused : goal.returns-then-values-most-clause-refused

@@ -1,9 +1,7 @@
 use Rattle.std.proofs.Common.{get_or, refl}
 use Rattle.std.proofs.lemmas.Result.{err_from_is_err_and}
 use Rattle.toml.specs.View.{view}
-use Rattle.batch_reader.proofs.Items.{AllItems_refused, AllItems-turn}
-use Rattle.batch_reader.specs.Entries.{IsNeedItem}
-use Rattle.batch_reader.proofs.NeedFaults.{list_of_item, tells_at}
+use Rattle.batch_reader.{proofs.Items.AllItems_refused, proofs.Items.AllItems-turn, specs.Entries.IsNeedItem, proofs.NeedFaults.list_of_item, proofs.NeedFaults.tells_at}
 use Rattle.batch_reader.proofs.needs.needs_of.Goals as goal
 use Rattle.batch_recipe.specs.declared.need.Need.{Need}
 

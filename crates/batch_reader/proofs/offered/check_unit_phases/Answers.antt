@@ -1,6 +1,5 @@
 use Rattle.std.proofs.Common.{◌≡◌, true, nat_eq, [], ap, ◌∙◌, sym, if◌then◌else◌, rules}
-use Rattle.std.proofs.lemmas.Result.{err_from_is_err_and}
-use Rattle.std.specs.Cmp.Lexicographic.{pointwise}
+use Rattle.std.{proofs.lemmas.Result.err_from_is_err_and, specs.Cmp.Lexicographic.pointwise}
 use Rattle.batch_cell.specs.Equipment.{belongs_to, phases_for}
 use Rattle.batch_reader.proofs.NamesSoFar.{names_refused}
 use Rattle.batch_reader.proofs.offered.check_unit_phases.Goals as goal

@@ -1,6 +1,5 @@
 use Rattle.std.proofs.Common.{◌≡◌, take, nat_eq}
-use Rattle.std.specs.Cmp.Lexicographic.{pointwise}
-use Rattle.std.specs.List.{IsDistinct}
+use Rattle.std.specs.{Cmp.Lexicographic.pointwise, List.IsDistinct}
 use Rattle.batch_cell.specs.Equipment.{unit_phases}
 use Rattle.batch_reader.proofs.offered.check_unit_phases.Given as goal
 

@@ -1,11 +1,7 @@
 use Rattle.std.proofs.Common.{◌≡◌, true, List, ◌∙◌, sym, subst}
 use Rattle.std.proofs.lemmas.Result.{err_from_is_err_and}
-use Rattle.batch_recipe.specs.Conditions.{Name}
-use Rattle.batch_recipe.specs.WellFormed.{value_names}
-use Rattle.batch_reader.specs.Naming.{names_differ, acts_are_declared}
-use Rattle.batch_reader.proofs.Conjunctions.{both_true, and_true}
-use Rattle.batch_reader.proofs.WellFormedParts.{well_formed_parts}
-use Rattle.batch_reader.proofs.FaultsAmongTables.{undeclared_told}
+use Rattle.batch_recipe.specs.{Conditions.Name, WellFormed.value_names}
+use Rattle.batch_reader.{specs.Naming.names_differ, specs.Naming.acts_are_declared, proofs.Conjunctions.both_true, proofs.Conjunctions.and_true, proofs.WellFormedParts.well_formed_parts, proofs.FaultsAmongTables.undeclared_told}
 use Rattle.batch_reader.proofs.recipe_checks.check_names.Goals as goal
 
 pub returns-clause-ok : goal.returns-clause-ok

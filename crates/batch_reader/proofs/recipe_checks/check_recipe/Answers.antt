@@ -1,11 +1,7 @@
 use Rattle.std.proofs.Common.{◌&&◌}
-use Rattle.std.proofs.lemmas.Result.{err_from_is_err_and}
-use Rattle.std.specs.List.{list_all}
+use Rattle.std.{proofs.lemmas.Result.err_from_is_err_and, specs.List.list_all}
 use Rattle.batch_recipe.specs.WellFormed.{reports_among, reports_few, reports_once}
-use Rattle.batch_reader.proofs.Conjunctions.{and_true, both_true}
-use Rattle.batch_reader.proofs.ArrayFaults.{tells_weaker}
-use Rattle.batch_reader.proofs.FaultsAmongTables.{naming_fault, report_fault, reserve_fault, role_fault}
-use Rattle.batch_reader.specs.PartFaults.{Parts}
+use Rattle.batch_reader.{proofs.Conjunctions.and_true, proofs.Conjunctions.both_true, proofs.ArrayFaults.tells_weaker, proofs.FaultsAmongTables.naming_fault, proofs.FaultsAmongTables.report_fault, proofs.FaultsAmongTables.reserve_fault, proofs.FaultsAmongTables.role_fault, specs.PartFaults.Parts}
 use Rattle.batch_reader.proofs.recipe_checks.check_recipe.Goals as goal
 
 pub returns-in_err-names-clause-stands : goal.returns-in_err-names-clause-stands

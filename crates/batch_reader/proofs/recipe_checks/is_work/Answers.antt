@@ -1,7 +1,6 @@
 use Rattle.std.proofs.Common.{◌∙◌}
 use Rattle.batch_recipe.specs.Diagram.{diagram_of}
-use Rattle.batch_reader.specs.ChartForm.{IsFormed}
-use Rattle.batch_reader.proofs.ChartNames.{formed_chart}
+use Rattle.batch_reader.{specs.ChartForm.IsFormed, proofs.ChartNames.formed_chart}
 use Rattle.batch_reader.proofs.recipe_checks.is_work.Goals as goal
 
 pub returns-in-Follows : goal.returns-in-Follows

@@ -1,9 +1,6 @@
 use Rattle.std.proofs.Common.{refl}
 use Rattle.std.proofs.lemmas.Result.{err_from_is_err_and}
-use Rattle.batch_reader.proofs.ArrayFaults.{in_among, in_told}
-use Rattle.batch_reader.specs.Faults.{is_of_recipe}
-use Rattle.batch_reader.specs.TableFaults.{IsFaultOfTable}
-use Rattle.batch_reader.specs.declared.fault.TableKind.TheVariants.{UnitProcedure, Operation, Phase}
+use Rattle.batch_reader.{proofs.ArrayFaults.in_among, proofs.ArrayFaults.in_told, specs.Faults.is_of_recipe, specs.TableFaults.IsFaultOfTable, specs.declared.fault.TableKind.TheVariants.UnitProcedure, specs.declared.fault.TableKind.TheVariants.Operation, specs.declared.fault.TableKind.TheVariants.Phase}
 use Rattle.toml.specs.View.{table_view}
 use Rattle.batch_reader.proofs.recipe_document.act_tables_at.Goals as goal
 

@@ -1,8 +1,6 @@
 use Rattle.std.proofs.lemmas.Result.{err_from_is_err_and}
 use Rattle.std.proofs.Common.{refl}
-use Rattle.batch_reader.proofs.ArrayFaults.{at_among, at_told}
-use Rattle.batch_reader.specs.Faults.{is_of_recipe}
-use Rattle.batch_reader.specs.TableFaults.{IsFaultOfTable}
+use Rattle.batch_reader.{proofs.ArrayFaults.at_among, proofs.ArrayFaults.at_told, specs.Faults.is_of_recipe, specs.TableFaults.IsFaultOfTable}
 use Rattle.toml.specs.View.{table_view}
 use Rattle.batch_reader.proofs.recipe_document.acts_at.Goals as goal
 

@@ -2,8 +2,7 @@ use Rattle.std.proofs.Common.{codes, option_map, refl, string_bytes}
 use Rattle.std.proofs.lemmas.Result.{err_from_is_err_and}
 use Rattle.batch_recipe.specs.declared.header.TheConstants.{MAX_VERSION_LEN, MAX_TEXT_LEN}
 use Rattle.toml.specs.View.{table_view}
-use Rattle.batch_reader.proofs.EntryFaults.{optional_text_told, table_told, text_told}
-use Rattle.batch_reader.specs.declared.fault.TableKind.TheVariants.{Recipe}
+use Rattle.batch_reader.{proofs.EntryFaults.optional_text_told, proofs.EntryFaults.table_told, proofs.EntryFaults.text_told, specs.declared.fault.TableKind.TheVariants.Recipe}
 use Rattle.batch_reader.proofs.recipe_document.header_at.Goals as goal
 
 pub returns-in_err-version-clause-told : goal.returns-in_err-version-clause-told

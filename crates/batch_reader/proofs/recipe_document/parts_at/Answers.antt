@@ -1,12 +1,7 @@
 use Rattle.std.proofs.lemmas.Result.{err_from_is_err_and}
 use Rattle.std.proofs.Common.{inl, inr, refl}
 use Rattle.toml.specs.View.{table_view}
-use Rattle.batch_reader.proofs.ArrayFaults.{in_among, in_told, tells_weaker}
-use Rattle.batch_reader.proofs.OneRecipe.{unsound_recipe_refused}
-use Rattle.batch_reader.proofs.RecipeParts.{formed_of_tables}
-use Rattle.batch_reader.specs.FaultStands.{IsWrongAt}
-use Rattle.batch_reader.specs.Faults.{is_of_recipe}
-use Rattle.batch_reader.specs.declared.fault.TableKind.TheVariants.{Role}
+use Rattle.batch_reader.{proofs.ArrayFaults.in_among, proofs.ArrayFaults.in_told, proofs.ArrayFaults.tells_weaker, proofs.OneRecipe.unsound_recipe_refused, proofs.RecipeParts.formed_of_tables, specs.FaultStands.IsWrongAt, specs.Faults.is_of_recipe, specs.declared.fault.TableKind.TheVariants.Role}
 use Rattle.batch_reader.proofs.recipe_document.parts_at.Goals as goal
 
 pub returns-in_err-values-clause-refused : goal.returns-in_err-values-clause-refused

@@ -1,13 +1,7 @@
 use Rattle.std.proofs.lemmas.Result.{err_from_is_err_and}
 use Rattle.std.proofs.Common.{inl, inr, refl}
 use Rattle.toml.specs.View.{table_view}
-use Rattle.batch_reader.proofs.ArrayFaults.{at_among, at_told, tells_weaker}
-use Rattle.batch_reader.proofs.OneRecipe.{unsound_recipe_refused}
-use Rattle.batch_reader.proofs.FaultsAmongTables.{large_refused, large_told}
-use Rattle.batch_reader.proofs.RecipeParts.{kinds_of_tables, free_names_of_tables}
-use Rattle.batch_reader.specs.FaultStands.{IsWrongAt}
-use Rattle.batch_reader.specs.Faults.{is_of_recipe}
-use Rattle.batch_reader.specs.PartFaults.{Parts}
+use Rattle.batch_reader.{proofs.ArrayFaults.at_among, proofs.ArrayFaults.at_told, proofs.ArrayFaults.tells_weaker, proofs.OneRecipe.unsound_recipe_refused, proofs.FaultsAmongTables.large_refused, proofs.FaultsAmongTables.large_told, proofs.RecipeParts.kinds_of_tables, proofs.RecipeParts.free_names_of_tables, specs.FaultStands.IsWrongAt, specs.Faults.is_of_recipe, specs.PartFaults.Parts}
 use Rattle.batch_reader.proofs.recipe_document.recipe_from_table.Goals as goal
 
 pub returns-in_err-top-clause-refused : goal.returns-in_err-top-clause-refused

@@ -2,8 +2,7 @@ use Rattle.std.proofs.Common.{codes, refl}
 use Rattle.std.proofs.lemmas.Result.{err_from_is_err_and}
 use Rattle.batch_recipe.specs.declared.scaling.TheConstants.{MAX_SIZE}
 use Rattle.toml.specs.View.{table_view}
-use Rattle.batch_reader.proofs.EntryFaults.{name_told, number_told, table_told}
-use Rattle.batch_reader.specs.declared.fault.TableKind.TheVariants.{Recipe}
+use Rattle.batch_reader.{proofs.EntryFaults.name_told, proofs.EntryFaults.number_told, proofs.EntryFaults.table_told, specs.declared.fault.TableKind.TheVariants.Recipe}
 use Rattle.batch_reader.proofs.recipe_document.top_at.Goals as goal
 
 pub returns-in_err-name-clause-refused : goal.returns-in_err-name-clause-refused

@@ -1,10 +1,6 @@
 use Rattle.std.proofs.Common.{refl}
 use Rattle.std.proofs.lemmas.Result.{err_from_is_err_and}
-use Rattle.batch_reader.proofs.ArrayFaults.{in_among, in_told}
-use Rattle.batch_reader.specs.Faults.{is_of_recipe}
-use Rattle.batch_reader.specs.Keys.{is_known}
-use Rattle.batch_reader.specs.TableFaults.{IsFaultOfTable}
-use Rattle.batch_reader.specs.declared.fault.TableKind.TheVariants.{Input, Parameter, Output}
+use Rattle.batch_reader.{proofs.ArrayFaults.in_among, proofs.ArrayFaults.in_told, specs.Faults.is_of_recipe, specs.Keys.is_known, specs.TableFaults.IsFaultOfTable, specs.declared.fault.TableKind.TheVariants.Input, specs.declared.fault.TableKind.TheVariants.Parameter, specs.declared.fault.TableKind.TheVariants.Output}
 use Rattle.toml.specs.View.{table_view}
 use Rattle.batch_reader.proofs.recipe_document.values_at.Goals as goal
 

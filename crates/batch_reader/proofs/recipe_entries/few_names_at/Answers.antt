@@ -1,7 +1,6 @@
 use Rattle.std.proofs.Common.{refl}
-use Rattle.batch_reader.proofs.OneEntry.{few_refused, few_names_fault-long, few_names_fault-short}
+use Rattle.batch_reader.{proofs.OneEntry.few_refused, proofs.OneEntry.few_names_fault-long, proofs.OneEntry.few_names_fault-short, specs.Entries.IsNameItem}
 use Rattle.batch_reader.proofs.recipe_entries.few_names_at.Goals as goal
-use Rattle.batch_reader.specs.Entries.{IsNameItem}
 
 pub returns-then-values-most-clause-refused : goal.returns-then-values-most-clause-refused
 returns-then-values-most-clause-refused c = λ _. few_refused IsNameItem _ _ c.in_ok-values.values.now c.args.most c.in_ok-values.ensures.ok c.if-values-most.true

@@ -1,10 +1,7 @@
 use Rattle.std.proofs.Common.{◌≡◌, [], ◌++◌, ap, ◌∙◌, append-nil, List, map}
 use Rattle.std.proofs.lemmas.Result.{err_from_is_err_and}
 use Rattle.batch_recipe.specs.Conditions.{Name}
-use Rattle.batch_reader.proofs.DistinctNames.{are_distinct-from_IsDistinct, names_refused}
-use Rattle.batch_reader.proofs.FaultsAmongTables.{alone, twice_told}
-use Rattle.batch_reader.specs.PartFaults.{AreDistinct, FailsFirst}
-use Rattle.batch_reader.specs.declared.fault.EntryFault.TheVariants.{Duplicate}
+use Rattle.batch_reader.{proofs.DistinctNames.are_distinct-from_IsDistinct, proofs.DistinctNames.names_refused, proofs.FaultsAmongTables.alone, proofs.FaultsAmongTables.twice_told, specs.PartFaults.AreDistinct, specs.PartFaults.FailsFirst, specs.declared.fault.EntryFault.TheVariants.Duplicate}
 use Rattle.batch_reader.proofs.recipe_names.distinct_names.Goals as goal
 
 pub returns-in_err-add_names-clause-refused : goal.returns-in_err-add_names-clause-refused

@@ -1,12 +1,7 @@
 use Rattle.std.proofs.Common.{◌≡◌, true, List, [], ◌++◌, map, ◌∙◌, subst, append-nil, ap}
 use Rattle.std.proofs.lemmas.Result.{err_from_is_err_and}
-use Rattle.batch_recipe.specs.Conditions.{Name}
-use Rattle.batch_recipe.specs.WellFormed.{are_distinct, value_names}
-use Rattle.batch_reader.proofs.DistinctNames.{are_distinct-from_IsDistinct, names_refused, after_none, after_first, after_second}
-use Rattle.batch_recipe.specs.declared.quantity.Quantity.{Quantity}
-use Rattle.batch_reader.proofs.FaultsAmongTables.{after_names, after_no_name, twice_told}
-use Rattle.batch_reader.specs.PartFaults.{HasValueTwice}
-use Rattle.batch_reader.specs.declared.fault.EntryFault.TheVariants.{Duplicate}
+use Rattle.batch_recipe.specs.{Conditions.Name, WellFormed.are_distinct, WellFormed.value_names, declared.quantity.Quantity.Quantity}
+use Rattle.batch_reader.{proofs.DistinctNames.are_distinct-from_IsDistinct, proofs.DistinctNames.names_refused, proofs.DistinctNames.after_none, proofs.DistinctNames.after_first, proofs.DistinctNames.after_second, proofs.FaultsAmongTables.after_names, proofs.FaultsAmongTables.after_no_name, proofs.FaultsAmongTables.twice_told, specs.PartFaults.HasValueTwice, specs.declared.fault.EntryFault.TheVariants.Duplicate}
 use Rattle.batch_reader.specs.declared.fault.TableKind.TheVariants as table_kind
 use Rattle.batch_reader.proofs.recipe_names.value_names.Goals as goal
 

@@ -1,14 +1,7 @@
 use Rattle.std.proofs.Common.{◌≡◌, true}
-use Rattle.std.proofs.lemmas.Result.{err_from_is_err_and, on_ok_weaker, IfErr-weaker}
-use Rattle.std.specs.List.{list_all}
+use Rattle.std.{proofs.lemmas.Result.err_from_is_err_and, proofs.lemmas.Result.on_ok_weaker, proofs.lemmas.Result.IfErr-weaker, specs.List.list_all}
 use Rattle.batch_recipe.specs.WellFormed.{reports_among, reports_once}
-use Rattle.batch_reader.proofs.EntryFaults.{err_both}
-use Rattle.batch_reader.proofs.FaultsAmongTables.{kind_told}
-use Rattle.batch_reader.proofs.Conjunctions.{both_true, and_true}
-use Rattle.batch_reader.specs.Faults.{IsReportFault}
-use Rattle.batch_reader.specs.PartFaults.{FailsFirst}
-use Rattle.batch_reader.specs.declared.fault.EntryFault.TheVariants.{Duplicate, Undeclared}
-use Rattle.batch_reader.specs.declared.fault.TableKind.TheVariants.{Phase}
+use Rattle.batch_reader.{proofs.EntryFaults.err_both, proofs.FaultsAmongTables.kind_told, proofs.Conjunctions.both_true, proofs.Conjunctions.and_true, specs.Faults.IsReportFault, specs.PartFaults.FailsFirst, specs.declared.fault.EntryFault.TheVariants.Duplicate, specs.declared.fault.EntryFault.TheVariants.Undeclared, specs.declared.fault.TableKind.TheVariants.Phase}
 use Rattle.batch_reader.proofs.reports.check_reports.Goals as goal
 
 pub returns-in_err-check_once-clause-refused : goal.returns-in_err-check_once-clause-refused

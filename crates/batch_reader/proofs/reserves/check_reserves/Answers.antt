@@ -1,7 +1,5 @@
 use Rattle.std.proofs.lemmas.Result.{err_from_is_err_and, IfErr-weaker}
-use Rattle.batch_reader.proofs.ArrayFaults.{in_told}
-use Rattle.batch_reader.specs.PartFaults.{HasReserveFault}
-use Rattle.batch_reader.specs.declared.fault.TableKind.TheVariants.{Operation, Phase}
+use Rattle.batch_reader.{proofs.ArrayFaults.in_told, specs.PartFaults.HasReserveFault, specs.declared.fault.TableKind.TheVariants.Operation, specs.declared.fault.TableKind.TheVariants.Phase}
 use Rattle.batch_reader.proofs.reserves.check_reserves.Goals as goal
 
 pub returns-in_err-check_table-2-clause-stands : goal.returns-in_err-check_table-2-clause-stands

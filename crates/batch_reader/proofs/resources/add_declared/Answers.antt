@@ -1,12 +1,7 @@
 use Rattle.std.proofs.Common.{◌≡◌, rules, ◌++◌, [], List, map}
 use Rattle.std.proofs.lemmas.Result.{err_from_is_err_and}
-use Rattle.batch_cell.specs.Equipment.{unit_names, declared_names}
-use Rattle.batch_reader.proofs.CellNames.{declared_units_refused, declared_modules_refused}
-use Rattle.batch_cell.specs.declared.module.Module.{Module}
-use Rattle.batch_cell.specs.declared.unit.Unit.{Unit}
-use Rattle.batch_reader.proofs.FaultsAmongTables.{after_names, after_no_name, twice_told}
-use Rattle.batch_reader.specs.PartFaults.{Equipment, HasNameTwice}
-use Rattle.batch_reader.specs.declared.fault.EntryFault.TheVariants.{Duplicate}
+use Rattle.batch_cell.specs.{Equipment.unit_names, Equipment.declared_names, declared.module.Module.Module, declared.unit.Unit.Unit}
+use Rattle.batch_reader.{proofs.CellNames.declared_units_refused, proofs.CellNames.declared_modules_refused, proofs.FaultsAmongTables.after_names, proofs.FaultsAmongTables.after_no_name, proofs.FaultsAmongTables.twice_told, specs.PartFaults.Equipment, specs.PartFaults.HasNameTwice, specs.declared.fault.EntryFault.TheVariants.Duplicate}
 use Rattle.batch_reader.specs.declared.fault.TableKind.TheVariants as table_kind
 use Rattle.batch_reader.proofs.resources.add_declared.Goals as goal
 

@@ -1,14 +1,7 @@
 use Rattle.std.proofs.Common.{◌≡◌, true, List, sym, subst}
-use Rattle.std.proofs.lemmas.Result.{err_from_is_err_and, on_ok_weaker, IfErr-weaker}
-use Rattle.std.specs.List.{list_all}
-use Rattle.batch_recipe.specs.Conditions.{Name}
-use Rattle.batch_recipe.specs.WellFormed.{are_distinct, is_role_among}
-use Rattle.batch_reader.proofs.FaultsAmongTables.{kind_told}
-use Rattle.batch_reader.proofs.Conjunctions.{both_true, and_true}
-use Rattle.batch_reader.specs.Faults.{IsRoleFault}
-use Rattle.batch_reader.specs.PartFaults.{AreDistinct, FailsFirst, role_names}
-use Rattle.batch_reader.specs.declared.fault.EntryFault.TheVariants.{Duplicate}
-use Rattle.batch_reader.specs.declared.fault.TableKind.TheVariants.{Role}
+use Rattle.std.{proofs.lemmas.Result.err_from_is_err_and, proofs.lemmas.Result.on_ok_weaker, proofs.lemmas.Result.IfErr-weaker, specs.List.list_all}
+use Rattle.batch_recipe.specs.{Conditions.Name, WellFormed.are_distinct, WellFormed.is_role_among}
+use Rattle.batch_reader.{proofs.FaultsAmongTables.kind_told, proofs.Conjunctions.both_true, proofs.Conjunctions.and_true, specs.Faults.IsRoleFault, specs.PartFaults.AreDistinct, specs.PartFaults.FailsFirst, specs.PartFaults.role_names, specs.declared.fault.EntryFault.TheVariants.Duplicate, specs.declared.fault.TableKind.TheVariants.Role}
 use Rattle.batch_reader.proofs.roles.check_roles.Goals as goal
 
 pub returns-in_err-names-clause-stands : goal.returns-in_err-names-clause-stands

@@ -1,8 +1,7 @@
 use Rattle.std.proofs.Common.{◌≡◌, ◌∷◌, [], ◌+◌, ◌-◌, ◌<◌, length, get_or, take, refl, sym, ap, ◌∙◌, arith, rules}
 use Rattle.std.proofs.lemmas.List.{get_or_default}
-use Rattle.batch_reader.specs.ChartView.{cases_view, frame_view, frames_view}
+use Rattle.batch_reader.{specs.ChartView.cases_view, specs.ChartView.frame_view, specs.ChartView.frames_view, proofs.ChartFrames.no_frame, proofs.ChartFrames.innermost, proofs.ChartFrames.comma_in_seq, proofs.ChartFrames.comma_in_par}
 use Rattle.batch_reader.specs.declared.frame.Frame.TheVariants as frame
-use Rattle.batch_reader.proofs.ChartFrames.{no_frame, innermost, comma_in_seq, comma_in_par}
 use Rattle.batch_reader.proofs.signs.take_comma.Goals as goal
 
 pub returns-then-depth-eq0 : goal.returns-then-depth-eq0

@@ -1,9 +1,6 @@
 use Rattle.std.proofs.Common.{◌≡◌, ◌+◌, false, true}
-use Rattle.std.specs.Prelude.{slice_index}
-use Rattle.std.specs.Char.{is_ascii_alphabetic, is_ascii_digit}
-use Rattle.batch_reader.specs.ChartGrammar.{is_chart_space}
-use Rattle.batch_reader.specs.ChartMachine.{begin, takes_operator}
-use Rattle.batch_reader.specs.ChartView.{want_view}
+use Rattle.std.specs.{Prelude.slice_index, Char.is_ascii_alphabetic, Char.is_ascii_digit}
+use Rattle.batch_reader.specs.{ChartGrammar.is_chart_space, ChartMachine.begin, ChartMachine.takes_operator, ChartView.want_view}
 use Rattle.batch_reader.proofs.steps.begin.Goals as goal
 
 pub returns-then-takes_operator : goal.returns-then-takes_operator

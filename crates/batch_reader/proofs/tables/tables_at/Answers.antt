@@ -1,10 +1,7 @@
 use Rattle.std.proofs.Common.{◌≡◌, get_or, None, Some, sym, refl}
 use Rattle.std.proofs.lemmas.Result.{err_from_is_err_and}
-use Rattle.toml.specs.Data.{as_table}
-use Rattle.toml.specs.View.{view, table_view}
-use Rattle.batch_reader.proofs.Items.{HasTables_refused, IsTableOf_none, IsTableOf_refused, AllItems-turn, AllItems_before}
-use Rattle.batch_reader.specs.Entries.{IsTableOf, items_at}
-use Rattle.batch_reader.proofs.ArrayFaults.{array_no_table, array_table}
+use Rattle.toml.specs.{Data.as_table, View.view, View.table_view}
+use Rattle.batch_reader.{proofs.Items.HasTables_refused, proofs.Items.IsTableOf_none, proofs.Items.IsTableOf_refused, proofs.Items.AllItems-turn, proofs.Items.AllItems_before, specs.Entries.IsTableOf, specs.Entries.items_at, proofs.ArrayFaults.array_no_table, proofs.ArrayFaults.array_table}
 use Rattle.batch_reader.proofs.tables.tables_at.Goals as goal
 
 pub returns-in_default-clause-refused : goal.returns-in_default-clause-refused

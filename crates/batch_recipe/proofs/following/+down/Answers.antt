@@ -1,9 +1,5 @@
 use Rattle.std.proofs.Common.{◌<◌, length, sym, ap, ◌∙◌, arith}
-use Rattle.batch_recipe.specs.Expanding.{unbound}
-use Rattle.batch_recipe.specs.Outlines.{a_par, form_of}
-use Rattle.batch_recipe.specs.Procedure.{procedure_nodes}
-use Rattle.batch_recipe.proofs.Followers.{as_many, read_at, formed, found_act, found_other_act, found_bare, is_bare}
-use Rattle.batch_recipe.proofs.FollowerSearch.{IsLookingFrom-first, IsLookingFrom-more, IsFound-branch, IsFound-none, IsFound-in_loop, IsFound-in_seq, IsFound-empty_seq, loop_within, end_within, form_alike, bare_form}
+use Rattle.batch_recipe.{specs.Expanding.unbound, specs.Outlines.a_par, specs.Outlines.form_of, specs.Procedure.procedure_nodes, proofs.Followers.as_many, proofs.Followers.read_at, proofs.Followers.formed, proofs.Followers.found_act, proofs.Followers.found_other_act, proofs.Followers.found_bare, proofs.Followers.is_bare, proofs.FollowerSearch.IsLookingFrom-first, proofs.FollowerSearch.IsLookingFrom-more, proofs.FollowerSearch.IsFound-branch, proofs.FollowerSearch.IsFound-none, proofs.FollowerSearch.IsFound-in_loop, proofs.FollowerSearch.IsFound-in_seq, proofs.FollowerSearch.IsFound-empty_seq, proofs.FollowerSearch.loop_within, proofs.FollowerSearch.end_within, proofs.FollowerSearch.form_alike, proofs.FollowerSearch.bare_form}
 use Rattle.batch_recipe.proofs.following.+down.Goals as goal
 
 pub first_named-index-entry-requires : goal.first_named-index-entry-requires

@@ -1,6 +1,5 @@
 use Rattle.std.proofs.Common.{◌-◌, ◌*◌, length}
-use Rattle.batch_recipe.specs.Procedure.{procedure_nodes}
-use Rattle.batch_recipe.proofs.FollowerSearch.{IsLookingFrom}
+use Rattle.batch_recipe.{specs.Procedure.procedure_nodes, proofs.FollowerSearch.IsLookingFrom}
 use Rattle.batch_recipe.proofs.following.+down.Given as goal
 
 abbrev pub decreases-first_named : goal.decreases-first_named

@@ -1,10 +1,6 @@
 use Rattle.std.proofs.Common.{◌≡◌, ◌<◌, ◌≤◌, length, true, false, slice_get, refl, sym, ap, ◌∙◌, arith, inl, inr}
-use Rattle.std.proofs.lemmas.Bool.{cases_lt}
-use Rattle.std.proofs.lemmas.Grind.{common_steps}
-use Rattle.std.proofs.lemmas.Option.{slice_get_past, slice_get_read}
-use Rattle.batch_recipe.specs.Expanding.{unbound}
-use Rattle.batch_recipe.specs.Procedure.{procedure_nodes}
-use Rattle.batch_recipe.proofs.FollowerSearch.{node_there, within_any, follower_is, no_follower, no_act_follower, nothing_next, told_some, told_none}
+use Rattle.std.proofs.lemmas.{Bool.cases_lt, Grind.common_steps, Option.slice_get_past, Option.slice_get_read}
+use Rattle.batch_recipe.{specs.Expanding.unbound, specs.Procedure.procedure_nodes, proofs.FollowerSearch.node_there, proofs.FollowerSearch.within_any, proofs.FollowerSearch.follower_is, proofs.FollowerSearch.no_follower, proofs.FollowerSearch.no_act_follower, proofs.FollowerSearch.nothing_next, proofs.FollowerSearch.told_some, proofs.FollowerSearch.told_none}
 use Rattle.batch_recipe.proofs.following.follows.Goals as goal
 
 pub returns-in_err-act-clause-none : goal.returns-in_err-act-clause-none

@@ -1,7 +1,5 @@
 use Rattle.std.proofs.Common.{◌≡◌, ◌≢◌, ℕ, true, false, nat_eq, Some, slice_get, arith}
-use Rattle.batch_recipe.specs.Expanding.{unbound}
-use Rattle.batch_recipe.proofs.Followers.{as_many, read_at}
-use Rattle.batch_recipe.proofs.FollowerSearch.{IsLevel-next, IsLevel-act, IsLevel-top, parent_within, parent_earlier, act_form, other_form}
+use Rattle.batch_recipe.{specs.Expanding.unbound, proofs.Followers.as_many, proofs.Followers.read_at, proofs.FollowerSearch.IsLevel-next, proofs.FollowerSearch.IsLevel-act, proofs.FollowerSearch.IsLevel-top, proofs.FollowerSearch.parent_within, proofs.FollowerSearch.parent_earlier, proofs.FollowerSearch.act_form, proofs.FollowerSearch.other_form}
 use Rattle.batch_recipe.proofs.following.is_in_procedure.Goals as goal
 use Rattle.batch_recipe.proofs.following.is_in_procedure.Goals.{After-index, After-index-in-loop-at}
 

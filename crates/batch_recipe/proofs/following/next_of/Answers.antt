@@ -1,8 +1,5 @@
 use Rattle.std.proofs.Common.{◌≡◌, Some, slice_get, true, false, refl, ap, arith}
-use Rattle.batch_recipe.specs.Expanding.{unbound}
-use Rattle.batch_recipe.specs.Outlines.{form_of}
-use Rattle.batch_recipe.proofs.Followers.{as_many, read_at}
-use Rattle.batch_recipe.proofs.FollowerSearch.{IsUp-next, IsUp-none, IsUp-last, IsNext-branch, IsNext-outside, IsNext-top, next_within, parent_within, parent_earlier, ends_form, up_form}
+use Rattle.batch_recipe.{specs.Expanding.unbound, specs.Outlines.form_of, proofs.Followers.as_many, proofs.Followers.read_at, proofs.FollowerSearch.IsUp-next, proofs.FollowerSearch.IsUp-none, proofs.FollowerSearch.IsUp-last, proofs.FollowerSearch.IsNext-branch, proofs.FollowerSearch.IsNext-outside, proofs.FollowerSearch.IsNext-top, proofs.FollowerSearch.next_within, proofs.FollowerSearch.parent_within, proofs.FollowerSearch.parent_earlier, proofs.FollowerSearch.ends_form, proofs.FollowerSearch.up_form}
 use Rattle.batch_recipe.proofs.following.next_of.Goals as goal
 use Rattle.batch_recipe.proofs.following.next_of.Goals.{After-index-entry, After-index-above}
 

@@ -1,24 +1,7 @@
 use Rattle.std.proofs.Common.{◌≡◌, [], ◌∷◌, ◌++◌, map, ℕ, ◌+◌, List, Some, None, Ok, Err, sym, ap, ◌∙◌, arith, refl, subst, slice_get, append-nil, append_assoc, length, length-append}
-use Rattle.std.proofs.lemmas.Grind.{common_steps}
-use Rattle.std.proofs.lemmas.Option.{slice_get_read}
-use Rattle.std.proofs.lemmas.Result.{err_from_is_err_and}
-use Rattle.batch_recipe.specs.Diagram.{diagram_of, cases_of}
-use Rattle.batch_recipe.specs.Conditions.{same_name}
-use Rattle.batch_recipe.specs.Expanding.{act_named}
-use Rattle.batch_recipe.specs.Growing.{Head, grown_work, plain_head, act_head, topped, grown, grown_cases, told_from, named_from, conditions_of_cases, conditions_along_cases, number_in, unit_number, branch_entries, chart_entries, chart_conditions, act_entries, HasGrown, HasAdded}
-use Rattle.batch_recipe.specs.Procedure.{table_at, tables_from}
-use Rattle.batch_recipe.specs.declared.chart.Chart.{Chart}
-use Rattle.batch_recipe.specs.declared.condition.Cond.{Cond}
-use Rattle.batch_recipe.specs.declared.act.Act.{Act}
-use Rattle.batch_recipe.specs.declared.act.Work.{Work}
+use Rattle.std.proofs.lemmas.{Grind.common_steps, Option.slice_get_read, Result.err_from_is_err_and}
+use Rattle.batch_recipe.{specs.Diagram.diagram_of, specs.Diagram.cases_of, specs.Conditions.same_name, specs.Expanding.act_named, specs.Growing.Head, specs.Growing.grown_work, specs.Growing.plain_head, specs.Growing.act_head, specs.Growing.topped, specs.Growing.grown, specs.Growing.grown_cases, specs.Growing.told_from, specs.Growing.named_from, specs.Growing.conditions_of_cases, specs.Growing.conditions_along_cases, specs.Growing.number_in, specs.Growing.unit_number, specs.Growing.branch_entries, specs.Growing.chart_entries, specs.Growing.chart_conditions, specs.Growing.act_entries, specs.Growing.HasGrown, specs.Growing.HasAdded, specs.Procedure.table_at, specs.Procedure.tables_from, specs.declared.chart.Chart.Chart, specs.declared.condition.Cond.Cond, specs.declared.act.Act.Act, specs.declared.act.Work.Work, specs.declared.entry.Entry.Entry, proofs.NodeCounts.counted, proofs.NodeCounts.counted_act, proofs.NodeCounts.counted_name, proofs.Diagrams.diagram_of-label, proofs.Diagrams.diagram_of-seq, proofs.Diagrams.diagram_of-par, proofs.Diagrams.diagram_of-sel, proofs.Diagrams.diagram_of-loop, proofs.Tables.counted_some, proofs.Branches.counted_at, proofs.Branches.counted_choice, proofs.Branches.counted_last, proofs.Growth.found_at, proofs.Growth.node_grown, proofs.Growth.node_failed, proofs.Growth.no_number, proofs.Growth.no_number_told, proofs.Growth.some_act, proofs.Growth.some_act_told, proofs.Growth.nothing_added, proofs.Growth.grown_as, proofs.Growth.KeepsGrowing-more, proofs.Growth.KeepsGrowing-stop, proofs.Growth.KeepsGrowing-room, proofs.Growth.KeepsGrowing-all, proofs.Growth.KeepsGrowing-told, proofs.Growth.KeepsChoosing-more, proofs.Growth.KeepsChoosing-stop, proofs.Growth.KeepsChoosing-room, proofs.Growth.KeepsChoosing-last, proofs.Growth.KeepsChoosing-told, proofs.ConditionCopies.conditions-are}
 use Rattle.batch_recipe.specs.declared.entry.Kind.TheVariants as kind
-use Rattle.batch_recipe.specs.declared.entry.Entry.{Entry}
-use Rattle.batch_recipe.proofs.NodeCounts.{counted, counted_act, counted_name}
-use Rattle.batch_recipe.proofs.Diagrams.{diagram_of-label, diagram_of-seq, diagram_of-par, diagram_of-sel, diagram_of-loop}
-use Rattle.batch_recipe.proofs.Tables.{counted_some}
-use Rattle.batch_recipe.proofs.Branches.{counted_at, counted_choice, counted_last}
-use Rattle.batch_recipe.proofs.Growth.{found_at, node_grown, node_failed, no_number, no_number_told, some_act, some_act_told, nothing_added, grown_as, KeepsGrowing-more, KeepsGrowing-stop, KeepsGrowing-room, KeepsGrowing-all, KeepsGrowing-told, KeepsChoosing-more, KeepsChoosing-stop, KeepsChoosing-room, KeepsChoosing-last, KeepsChoosing-told}
-use Rattle.batch_recipe.proofs.ConditionCopies.{conditions-are}
 use Rattle.batch_recipe.proofs.growing.+grow.Goals as goal
 
 pub grow_label-grow_act-requires : goal.grow_label-grow_act-requires

@@ -1,8 +1,5 @@
 use Rattle.std.proofs.Common.{◌+◌, ◌*◌, map}
-use Rattle.batch_recipe.specs.Procedure.{tables_from}
-use Rattle.batch_recipe.specs.Diagram.{diagram_of, diagrams_of, cases_of}
-use Rattle.batch_recipe.proofs.NodeCounts.{counted, counted_each, counted_cases, counted_act, counted_name}
-use Rattle.batch_recipe.proofs.Growth.{KeepsGrowing, KeepsChoosing}
+use Rattle.batch_recipe.{specs.Procedure.tables_from, specs.Diagram.diagram_of, specs.Diagram.diagrams_of, specs.Diagram.cases_of, proofs.NodeCounts.counted, proofs.NodeCounts.counted_each, proofs.NodeCounts.counted_cases, proofs.NodeCounts.counted_act, proofs.NodeCounts.counted_name, proofs.Growth.KeepsGrowing, proofs.Growth.KeepsChoosing}
 use Rattle.batch_recipe.proofs.growing.+grow.Given as goal
 
 abbrev pub decreases-grow_act : goal.decreases-grow_act

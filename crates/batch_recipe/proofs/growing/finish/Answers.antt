@@ -1,8 +1,6 @@
 use Rattle.std.proofs.Common.{◌≡◌, length, get_or, sym, ap, ◌∙◌, arith}
-use Rattle.std.proofs.Math.Seq.{set-append_seam, get_or-append_seam}
-use Rattle.std.proofs.Math.ListN.{set}
-use Rattle.batch_recipe.specs.Growing.{entry}
-use Rattle.batch_recipe.specs.declared.entry.Entry.{Entry}
+use Rattle.std.proofs.Math.{Seq.set-append_seam, Seq.get_or-append_seam, ListN.set}
+use Rattle.batch_recipe.specs.{Growing.entry, declared.entry.Entry.Entry}
 use Rattle.batch_recipe.proofs.growing.finish.Goals as goal
 
 pub returns : goal.returns

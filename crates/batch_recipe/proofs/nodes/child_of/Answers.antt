@@ -1,7 +1,5 @@
 use Rattle.std.proofs.Common.{◌+◌, arith, inl, inr, refl}
-use Rattle.batch_recipe.proofs.NodeSubtrees.{some_count}
-use Rattle.batch_recipe.proofs.NodesAbove.{as_many}
-use Rattle.batch_recipe.proofs.NodesBelow.{KeepsLooking-first, KeepsLooking-found, KeepsLooking-more, KeepsLooking-none, end_read, read_at}
+use Rattle.batch_recipe.proofs.{NodeSubtrees.some_count, NodesAbove.as_many, NodesBelow.KeepsLooking-first, NodesBelow.KeepsLooking-found, NodesBelow.KeepsLooking-more, NodesBelow.KeepsLooking-none, NodesBelow.end_read, NodesBelow.read_at}
 use Rattle.batch_recipe.proofs.nodes.child_of.Goals as goal
 
 pub index-requires : goal.index-requires

@@ -1,7 +1,6 @@
 use Rattle.std.proofs.Common.{refl}
 use Rattle.std.proofs.lemmas.Option.{slice_get_within}
-use Rattle.batch_recipe.proofs.NodesAbove.{ns}
-use Rattle.batch_recipe.proofs.NodesBelow.{none_from, root_at}
+use Rattle.batch_recipe.proofs.{NodesAbove.ns, NodesBelow.none_from, NodesBelow.root_at}
 use Rattle.batch_recipe.proofs.nodes.node_below.Goals as goal
 
 pub loop-child-init : goal.loop-child-init

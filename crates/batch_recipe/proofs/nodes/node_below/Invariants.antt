@@ -1,6 +1,5 @@
 use Rattle.std.proofs.Common.{◌∷◌, take}
-use Rattle.batch_recipe.specs.Places.{IsNodeAt}
-use Rattle.batch_recipe.specs.Procedure.{procedure_nodes}
+use Rattle.batch_recipe.specs.{Places.IsNodeAt, Procedure.procedure_nodes}
 use Rattle.batch_recipe.proofs.nodes.node_below.Given as goal
 
 abbrev pub invariant-loop-child : goal.invariant-loop-child

@@ -1,6 +1,5 @@
 use Rattle.std.proofs.Common.{◌≡◌, Some, true, false, None, refl, ap, ◌∙◌, sym}
-use Rattle.batch_recipe.specs.WellFormed.{reports_with}
-use Rattle.batch_recipe.proofs.ReportedOutputs.{told-reports}
+use Rattle.batch_recipe.{specs.WellFormed.reports_with, proofs.ReportedOutputs.told-reports}
 use Rattle.batch_recipe.proofs.nodes.reports_at.Goals as goal
 
 pub returns-in-Follows : goal.returns-in-Follows

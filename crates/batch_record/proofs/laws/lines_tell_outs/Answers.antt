@@ -1,6 +1,5 @@
 use Rattle.std.proofs.Common.{refl}
-use Rattle.batch_record.specs.RecordLine.{out_of_line}
-use Rattle.batch_record.proofs.OutFromLine.{line-said}
+use Rattle.batch_record.{specs.RecordLine.out_of_line, proofs.OutFromLine.line-said}
 use Rattle.batch_record.proofs.laws.lines_tell_outs.Goals as goal
 
 pub returns : goal.returns

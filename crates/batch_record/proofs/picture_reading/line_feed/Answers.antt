@@ -1,11 +1,7 @@
 use Rattle.std.proofs.Common.{◌<◌, ℕ, false, List, Option, None, Some, take, get_or, ◌∙◌, ap, eqb, arith}
-use Rattle.std.specs.Prelude.{◌≡◌, MatchOption}
-use Rattle.std.proofs.lemmas.Bool.{eqb-true, false_from_ne_true}
-use Rattle.std.proofs.lemmas.List.{get_or-take, length-take}
-use Rattle.std.proofs.lemmas.List.Elements.{All-from_get_or}
+use Rattle.std.{specs.Prelude.◌≡◌, specs.Prelude.MatchOption, proofs.lemmas.Bool.eqb-true, proofs.lemmas.Bool.false_from_ne_true, proofs.lemmas.List.get_or-take, proofs.lemmas.List.length-take, proofs.lemmas.List.Elements.All-from_get_or}
 use Rattle.memchr.specs.Find.{IsFirstByte, is_byte}
-use Rattle.batch_record.specs.StatusReading.{HasNoFeed}
-use Rattle.batch_record.specs.Taking.{EndsLine}
+use Rattle.batch_record.specs.{StatusReading.HasNoFeed, Taking.EndsLine}
 use Rattle.batch_record.proofs.picture_reading.line_feed.Goals as goal
 
 feed-at : (bytes : List ℕ) (o : Option ℕ) → IsFirstByte (is_byte 10) bytes o → MatchOption o (HasNoFeed bytes) (λ at. EndsLine at bytes)

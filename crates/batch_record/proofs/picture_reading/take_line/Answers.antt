@@ -1,5 +1,4 @@
-use Rattle.batch_record.specs.Reading.{out_told}
-use Rattle.batch_record.proofs.Lines.{passed-on, told-on}
+use Rattle.batch_record.{specs.Reading.out_told, proofs.Lines.passed-on, proofs.Lines.told-on}
 use Rattle.batch_record.proofs.picture_reading.take_line.Goals as goal
 
 pub returns-in_ok-apply_out-in-Ok-Some : goal.returns-in_ok-apply_out-in-Ok-Some

@@ -1,6 +1,5 @@
 use Rattle.std.proofs.Common.{sym, subst, ◌∙◌, ◌+◌, List, ℕ}
-use Rattle.std.proofs.lemmas.Result.{err_from_is_err_and}
-use Rattle.std.proofs.lemmas.List.{take_rest}
+use Rattle.std.proofs.lemmas.{Result.err_from_is_err_and, List.take_rest}
 use Rattle.batch_record.proofs.Lines.{HasTaken, all-taken, line-refused, line-taken, nothing-taken}
 use Rattle.batch_record.proofs.picture_reading.take_lines.Goals as goal
 

@@ -1,6 +1,5 @@
 use Rattle.std.proofs.Common.{◌++◌, ◌<◌, length, take, sym, ◌∙◌, rules}
-use Rattle.std.proofs.KnownBytes.{Consumes-kept, Consumes-trans}
-use Rattle.std.proofs.lemmas.Result.{err_from_is_err_and}
+use Rattle.std.proofs.{KnownBytes.Consumes-kept, KnownBytes.Consumes-trans, lemmas.Result.err_from_is_err_and}
 use Rattle.batch_record.proofs.InputProgress.{all-of-input, gave-nothing, refused-input}
 use Rattle.batch_record.proofs.status_reading.read_status.Goals as goal
 use Rattle.batch_record.proofs.status_reading.read_status.Goals.{in-Ok+in_ok-feed-in-Ok, in-Err}

@@ -1,6 +1,5 @@
 use Rattle.std.proofs.Common.{sym, subst}
-use Rattle.std.specs.List.Sorted.{IsStrictlySortedBy}
-use Rattle.std.specs.Ordering.{nat_cmp}
+use Rattle.std.specs.{List.Sorted.IsStrictlySortedBy, Ordering.nat_cmp}
 use Rattle.batch_record.proofs.StateRows.{keys-kept}
 use Rattle.batch_record.proofs.text.put_batches.Goals as goal
 

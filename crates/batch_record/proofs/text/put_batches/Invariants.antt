@@ -1,6 +1,5 @@
 use Rattle.std.proofs.Common.{◌≡◌, ◌++◌, map}
-use Rattle.batch_record.specs.Kept.{entry_row, listed_rows}
-use Rattle.batch_record.specs.Listing.{batch_words, lines_behind}
+use Rattle.batch_record.specs.{Kept.entry_row, Kept.listed_rows, Listing.batch_words, Listing.lines_behind}
 use Rattle.batch_record.proofs.text.put_batches.Given as goal
 
 abbrev pub invariant-loop-number : goal.invariant-loop-number

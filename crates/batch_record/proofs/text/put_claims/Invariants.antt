@@ -1,6 +1,5 @@
 use Rattle.std.proofs.Common.{◌≡◌, ◌++◌, map, take}
-use Rattle.batch_record.specs.Kept.{kept_claims}
-use Rattle.batch_record.specs.Listing.{claim_words, lines_behind}
+use Rattle.batch_record.specs.{Kept.kept_claims, Listing.claim_words, Listing.lines_behind}
 use Rattle.batch_record.proofs.text.put_claims.Given as goal
 
 abbrev pub invariant-loop-kept : goal.invariant-loop-kept

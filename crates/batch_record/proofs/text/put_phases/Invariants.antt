@@ -1,6 +1,5 @@
 use Rattle.std.proofs.Common.{◌≡◌, ◌++◌, map, take}
-use Rattle.batch_record.specs.Kept.{lives_of}
-use Rattle.batch_record.specs.Listing.{live_words, lines_behind}
+use Rattle.batch_record.specs.{Kept.lives_of, Listing.live_words, Listing.lines_behind}
 use Rattle.batch_record.proofs.text.put_phases.Given as goal
 
 abbrev pub invariant-loop-phase : goal.invariant-loop-phase

@@ -1,7 +1,5 @@
 use Rattle.std.proofs.Common.{◌≡◌, ◌+◌, ◌==◌, ℕ, Bool, sym, ap, ◌∙◌, arith, rules, length, take, drop}
-use Rattle.std.specs.List.{position_or_len}
-use Rattle.std.proofs.lemmas.List.{take_all, take_rest, drop_all}
-use Rattle.std.proofs.lemmas.List.Sums.{position_or_len_is}
+use Rattle.std.{specs.List.position_or_len, proofs.lemmas.List.take_all, proofs.lemmas.List.take_rest, proofs.lemmas.List.drop_all, proofs.lemmas.List.Sums.position_or_len_is}
 use Rattle.batch_record.proofs.word.parted.Goals as goal
 
 pub returns-then-byte-at-clause-front : goal.returns-then-byte-at-clause-front

@@ -1,6 +1,5 @@
 use Rattle.std.proofs.Common.{arith, length-set}
-use Rattle.batch_serve.specs.declared.desk.Desk.{Desk}
-use Rattle.batch_serve.proofs.AnswersToDesks.{told_more, kept_more}
+use Rattle.batch_serve.{specs.declared.desk.Desk.Desk, proofs.AnswersToDesks.told_more, proofs.AnswersToDesks.kept_more}
 use Rattle.batch_serve.proofs.desk.queue_for_each.Goals as goal
 
 pub loop-desk-preserved : goal.loop-desk-preserved

@@ -1,6 +1,5 @@
 use Rattle.std.proofs.Common.{◌≡◌, ◌<◌, ◌≤◌, ℕ, length, get_or}
-use Rattle.batch_serve.specs.Told.{IsDeskTold}
-use Rattle.batch_serve.specs.declared.desk.Desk.{Desk}
+use Rattle.batch_serve.specs.{Told.IsDeskTold, declared.desk.Desk.Desk}
 use Rattle.batch_serve.proofs.desk.queue_for_each.Given as goal
 
 -- the desks before this one are told, and the others as they were

@@ -1,5 +1,4 @@
-use Rattle.batch_serve.proofs.RunTexts.{texts_go_on}
-use Rattle.batch_serve.proofs.ServedRuns.{goes_on}
+use Rattle.batch_serve.proofs.{RunTexts.texts_go_on, ServedRuns.goes_on}
 use Rattle.batch_serve.proofs.desks_laws.service_goes_on.Goals as goal
 
 pub returns-clause-served : goal.returns-clause-served

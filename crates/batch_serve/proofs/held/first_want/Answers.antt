@@ -1,7 +1,6 @@
 use Rattle.std.specs.Prelude.{length, MatchOption}
 use Rattle.std.proofs.Common.{sym, subst}
-use Rattle.batch_serve.specs.Holding.{StopsAt}
-use Rattle.batch_serve.proofs.HeldText.{stops_where}
+use Rattle.batch_serve.{specs.Holding.StopsAt, proofs.HeldText.stops_where}
 use Rattle.batch_serve.proofs.held.first_want.Goals as goal
 
 pub returns : goal.returns

@@ -1,7 +1,6 @@
 use Rattle.std.proofs.Common.{◌≡◌, ◌+◌, ◌-◌, length, take, drop, ap, ◌∙◌, arith, rules, length-drop, take_all}
 use lib.Seq.{paste}
-use Rattle.std.proofs.lemmas.List.{with_items_is, places}
-use Rattle.std.proofs.lemmas.List.Edits.{take-paste}
+use Rattle.std.proofs.lemmas.List.{with_items_is, places, Edits.take-paste}
 use Rattle.batch_serve.proofs.held.remove_front.Goals as goal
 
 pub returns : goal.returns

@@ -1,6 +1,5 @@
 use Rattle.std.proofs.Common.{◌-◌, ◌++◌, length, take, drop, sym, ap, subst, ◌∙◌, arith, length-take, take-add, take-take}
-use Rattle.std.proofs.KnownBytes.{Appends-trans}
-use Rattle.std.specs.Io.KnownBytes.{Appends}
+use Rattle.std.{proofs.KnownBytes.Appends-trans, specs.Io.KnownBytes.Appends}
 use Rattle.batch_serve.proofs.held.write_out.Goals as goal
 
 pub loop-written-preserved : goal.loop-written-preserved

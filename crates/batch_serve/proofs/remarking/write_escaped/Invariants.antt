@@ -1,7 +1,6 @@
 use Rattle.std.proofs.Common.{take}
 use Rattle.std.specs.Io.KnownBytes.{Appends, Keeps}
-use Rattle.batch_serve.specs.Comments.{escaped}
-use Rattle.batch_serve.specs.Remarking.{uncommented}
+use Rattle.batch_serve.specs.{Comments.escaped, Remarking.uncommented}
 use Rattle.batch_serve.proofs.remarking.write_escaped.Given as goal
 
 abbrev pub invariant-loop-byte : goal.invariant-loop-byte

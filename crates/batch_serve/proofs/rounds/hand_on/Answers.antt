@@ -1,8 +1,5 @@
-use Rattle.batch_serve.specs.declared.desk.Desk.{Desk}
-use Rattle.batch_serve.specs.declared.desks_fault.CutReason.TheVariants.{Lag}
-use Rattle.batch_serve.specs.declared.rounds.Writer.{Writer}
+use Rattle.batch_serve.{specs.declared.desk.Desk.Desk, specs.declared.desks_fault.CutReason.TheVariants.Lag, specs.declared.rounds.Writer.Writer, proofs.DeskLines.cut_where_late}
 use Rattle.std.proofs.Common.{Some}
-use Rattle.batch_serve.proofs.DeskLines.{cut_where_late}
 use Rattle.batch_serve.proofs.rounds.hand_on.Goals as goal
 
 pub returns-then-cut_if_late-clause-late : goal.returns-then-cut_if_late-clause-late

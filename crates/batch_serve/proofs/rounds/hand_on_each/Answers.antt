@@ -1,8 +1,5 @@
 use Rattle.std.proofs.Common.{◌<◌, length, length-set, arith}
-use Rattle.batch_serve.specs.Rounds.{IsCutIfLate, IsHandedOn}
-use Rattle.batch_serve.specs.declared.desk.Desk.{Desk}
-use Rattle.batch_serve.specs.declared.rounds.Writer.{Writer}
-use Rattle.batch_serve.proofs.DeskLines.{each_more, kept_behind}
+use Rattle.batch_serve.{specs.Rounds.IsCutIfLate, specs.Rounds.IsHandedOn, specs.declared.desk.Desk.Desk, specs.declared.rounds.Writer.Writer, proofs.DeskLines.each_more, proofs.DeskLines.kept_behind}
 use Rattle.batch_serve.proofs.rounds.hand_on_each.Goals as goal
 
 pub loop-desk-preserved : goal.loop-desk-preserved

@@ -1,7 +1,5 @@
 use Rattle.std.proofs.Common.{◌≡◌, ◌<◌, ◌≤◌, ℕ, length, get_or}
-use Rattle.batch_serve.specs.Rounds.{IsCutIfLate, IsHandedOn}
-use Rattle.batch_serve.specs.declared.desk.Desk.{Desk}
-use Rattle.batch_serve.specs.declared.rounds.Writer.{Writer}
+use Rattle.batch_serve.specs.{Rounds.IsCutIfLate, Rounds.IsHandedOn, declared.desk.Desk.Desk, declared.rounds.Writer.Writer}
 use Rattle.batch_serve.proofs.rounds.hand_on_each.Given as goal
 
 -- to the desks before this one lines were handed on, and the others are as they were

@@ -1,7 +1,6 @@
 use Rattle.std.proofs.Common.{[], sym, arith}
 use Rattle.std.proofs.lemmas.Option.{get_or_from_slice_get, slice_get_within}
-use Rattle.batch_set.specs.Linking.{numbers_on, table_items}
-use Rattle.batch_set.proofs.TableRows.{AreAdded-more, AreAdded-all, row}
+use Rattle.batch_set.{specs.Linking.numbers_on, specs.Linking.table_items, proofs.TableRows.AreAdded-more, proofs.TableRows.AreAdded-all, proofs.TableRows.row}
 use Rattle.batch_set.proofs.cell_phases.number_phases.Goals as goal
 
 pub loop-index-preserved : goal.loop-index-preserved

@@ -1,5 +1,4 @@
-use Rattle.batch_set.specs.Linking.{numbers_on, table_items}
-use Rattle.batch_set.proofs.TableRows.{AreMapped}
+use Rattle.batch_set.{specs.Linking.numbers_on, specs.Linking.table_items, proofs.TableRows.AreMapped}
 use Rattle.batch_set.proofs.cell_phases.number_phases.Given as goal
 
 abbrev pub invariant-loop-index : goal.invariant-loop-index

@@ -1,6 +1,5 @@
 use Rattle.std.proofs.Common.{◌≡◌, [], take, nat_eq}
-use Rattle.std.specs.Prelude.{flat_map}
-use Rattle.std.specs.Cmp.Lexicographic.{pointwise}
+use Rattle.std.specs.{Prelude.flat_map, Cmp.Lexicographic.pointwise}
 use Rattle.indexmap.specs.IndexSet.{insert_all}
 use Rattle.batch_set.specs.Linking.{phases_in}
 use Rattle.batch_set.proofs.cell_phases.phase_names.Given as goal

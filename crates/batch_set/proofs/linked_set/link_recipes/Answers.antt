@@ -1,11 +1,7 @@
 use Rattle.std.proofs.Common.{◌≡◌, ◌<◌, refl, sym, ap, subst, arith, ℕ, length, List, [], ◌∷◌, ◌++◌, Some, slice_get}
-use Rattle.std.proofs.lemmas.List.{length-append}
-use Rattle.std.proofs.lemmas.Option.{slice_get_read}
-use Rattle.batch_recipe.specs.declared.recipe.Recipe.{Recipe}
-use Rattle.batch_recipe.proofs.ValueUpdates.{same-at}
-use Rattle.batch_set.specs.Linking.{IsLinked}
-use Rattle.batch_set.specs.declared.linked.LinkedRecipe.{LinkedRecipe}
-use Rattle.batch_set.proofs.TableRows.{pushed}
+use Rattle.std.proofs.lemmas.{List.length-append, Option.slice_get_read}
+use Rattle.batch_recipe.{specs.declared.recipe.Recipe.Recipe, proofs.ValueUpdates.same-at}
+use Rattle.batch_set.{specs.Linking.IsLinked, specs.declared.linked.LinkedRecipe.LinkedRecipe, proofs.TableRows.pushed}
 use Rattle.batch_set.proofs.linked_set.link_recipes.Goals as goal
 
 pub loop-index-preserved : goal.loop-index-preserved

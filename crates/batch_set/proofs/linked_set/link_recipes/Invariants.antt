@@ -1,7 +1,6 @@
 use Rattle.std.proofs.Common.{◌≡◌, ◌≤◌, ℕ, Some, length, slice_get}
 use Rattle.batch_recipe.specs.declared.recipe.Recipe.{Recipe}
-use Rattle.batch_set.specs.Linking.{IsLinked}
-use Rattle.batch_set.specs.declared.linked.LinkedRecipe.{LinkedRecipe}
+use Rattle.batch_set.specs.{Linking.IsLinked, declared.linked.LinkedRecipe.LinkedRecipe}
 use Rattle.batch_set.proofs.linked_set.link_recipes.Given as goal
 
 -- the recipes so far are linked

@@ -1,6 +1,5 @@
 use Rattle.std.proofs.Common.{[], ◌∷◌, ◌++◌, ap, map, ◌∙◌}
-use Rattle.batch_set.specs.Linking.{need_linked, one_unit_linked, reserved_need, unit_needs}
-use Rattle.batch_set.proofs.TableRows.{AreAdded-more, AreAdded-all}
+use Rattle.batch_set.{specs.Linking.need_linked, specs.Linking.one_unit_linked, specs.Linking.reserved_need, specs.Linking.unit_needs, proofs.TableRows.AreAdded-more, proofs.TableRows.AreAdded-all}
 use Rattle.batch_set.proofs.linking.link_act.Goals as goal
 
 pub loop-name-preserved : goal.loop-name-preserved

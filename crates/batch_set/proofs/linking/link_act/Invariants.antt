@@ -1,6 +1,5 @@
 use Rattle.std.proofs.Common.{◌++◌, map}
-use Rattle.batch_set.specs.Linking.{need_linked, reserved_need, unit_needs}
-use Rattle.batch_set.proofs.TableRows.{AreAdded}
+use Rattle.batch_set.{specs.Linking.need_linked, specs.Linking.reserved_need, specs.Linking.unit_needs, proofs.TableRows.AreAdded}
 use Rattle.batch_set.proofs.linking.link_act.Given as goal
 
 -- the units of the names so far are linked

@@ -1,6 +1,5 @@
 use Rattle.std.proofs.Common.{[], ◌∷◌, ◌++◌, ap, ◌∙◌}
-use Rattle.batch_set.specs.Linking.{run_phase_number}
-use Rattle.batch_set.proofs.TableRows.{AreAdded-more, AreAdded-all}
+use Rattle.batch_set.{specs.Linking.run_phase_number, proofs.TableRows.AreAdded-more, proofs.TableRows.AreAdded-all}
 use Rattle.batch_set.proofs.linking.link_runs.Goals as goal
 
 pub loop-act-preserved : goal.loop-act-preserved

@@ -1,5 +1,4 @@
-use Rattle.batch_set.specs.Linking.{run_phase_number}
-use Rattle.batch_set.proofs.TableRows.{AreMapped}
+use Rattle.batch_set.{specs.Linking.run_phase_number, proofs.TableRows.AreMapped}
 use Rattle.batch_set.proofs.linking.link_runs.Given as goal
 
 -- the phase steps so far

@@ -1,6 +1,5 @@
 use Rattle.std.proofs.Common.{[]}
-use Rattle.batch_set.specs.Linking.{needs_linked, table_items}
-use Rattle.batch_set.proofs.TableRows.{AreAdded-more, AreAdded-all, row}
+use Rattle.batch_set.{specs.Linking.needs_linked, specs.Linking.table_items, proofs.TableRows.AreAdded-more, proofs.TableRows.AreAdded-all, proofs.TableRows.row}
 use Rattle.batch_set.proofs.linking.link_table.Goals as goal
 
 pub loop-act-preserved : goal.loop-act-preserved

@@ -1,5 +1,4 @@
-use Rattle.batch_set.specs.Linking.{needs_linked, table_items}
-use Rattle.batch_set.proofs.TableRows.{AreMapped}
+use Rattle.batch_set.{specs.Linking.needs_linked, specs.Linking.table_items, proofs.TableRows.AreMapped}
 use Rattle.batch_set.proofs.linking.link_table.Given as goal
 
 abbrev pub invariant-loop-act : goal.invariant-loop-act

@@ -1,6 +1,5 @@
 use Rattle.std.proofs.Common.{refl, arith, ◌<◌, ℕ, ◌*◌, ◌%◌, bit_and}
-use Rattle.std.specs.Prelude.{◌^◌, ◌-◌}
-use Rattle.std.proofs.lemmas.Nat.{and_le_l}
+use Rattle.std.{specs.Prelude.◌^◌, specs.Prelude.◌-◌, proofs.lemmas.Nat.and_le_l}
 use Rattle.batch_signs.proofs.Bits.{nothing, lowest, not-zero}
 use Rattle.batch_signs.proofs.word.lowest_from.Goals as goal
 

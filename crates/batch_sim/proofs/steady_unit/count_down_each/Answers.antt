@@ -1,6 +1,5 @@
 use Rattle.std.proofs.Common.{arith}
-use Rattle.batch_sim.specs.SteadyUnit.{after_tick}
-use Rattle.batch_sim.proofs.ChangedPrefix.{one_more, each_changed}
+use Rattle.batch_sim.{specs.SteadyUnit.after_tick, proofs.ChangedPrefix.one_more, proofs.ChangedPrefix.each_changed}
 use Rattle.batch_sim.proofs.steady_unit.count_down_each.Goals as goal
 
 pub loop-phase-preserved : goal.loop-phase-preserved

@@ -1,6 +1,5 @@
 use Rattle.std.proofs.Common.{◌≡◌}
-use Rattle.batch_sim.specs.SteadyUnit.{after_tick}
-use Rattle.batch_sim.proofs.ChangedPrefix.{changed}
+use Rattle.batch_sim.{specs.SteadyUnit.after_tick, proofs.ChangedPrefix.changed}
 use Rattle.batch_sim.proofs.steady_unit.count_down_each.Given as goal
 
 abbrev pub invariant-loop-phase : goal.invariant-loop-phase

@@ -1,6 +1,5 @@
 use Rattle.std.proofs.Common.{rules}
-use Rattle.batch_sim.specs.SteadyUnit.{unstarted}
-use Rattle.batch_sim.proofs.UnitReport.{reported, due_ends}
+use Rattle.batch_sim.{specs.SteadyUnit.unstarted, proofs.UnitReport.reported, proofs.UnitReport.due_ends}
 use Rattle.batch_sim.proofs.steady_unit.report.Goals as goal
 
 pub returns-in_err-end : goal.returns-in_err-end

@@ -1,8 +1,5 @@
-use Rattle.batch_model.specs.Standing.{IsStandingBatch}
-use Rattle.batch_model.proofs.Members.{Each-Has}
-use Rattle.batch_step_laws.proofs.WorkAfterMove.{batch_moves-number}
-use Rattle.batch_step_laws.proofs.HoldersInAdvance.{flat_map-Has, holding-busy, holding-goes_on, holding-moves, each-none, settled-none}
-use Rattle.batch_model.specs.Moves.{batch_moves}
+use Rattle.batch_model.{specs.Standing.IsStandingBatch, proofs.Members.Each-Has, specs.Moves.batch_moves}
+use Rattle.batch_step_laws.proofs.{WorkAfterMove.batch_moves-number, HoldersInAdvance.flat_map-Has, HoldersInAdvance.holding-busy, HoldersInAdvance.holding-goes_on, HoldersInAdvance.holding-moves, HoldersInAdvance.each-none, HoldersInAdvance.settled-none}
 use Rattle.batch_step_laws.proofs.moves.held_in_advance_goes_on.Goals as goal
 
 pub returns : goal.returns

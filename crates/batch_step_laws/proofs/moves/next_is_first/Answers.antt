@@ -1,6 +1,5 @@
 use Rattle.batch_model.specs.Moves.{possible}
-use Rattle.batch_step_laws.proofs.FirstMove.{next-IsFirst}
-use Rattle.batch_step_laws.proofs.MoveOrder.{least-IsFirst}
+use Rattle.batch_step_laws.proofs.{FirstMove.next-IsFirst, MoveOrder.least-IsFirst}
 use Rattle.batch_step_laws.proofs.moves.next_is_first.Goals as goal
 
 pub returns : goal.returns

@@ -1,6 +1,5 @@
 use Rattle.batch_model.specs.Rest.{acts}
-use Rattle.batch_step_laws.proofs.WorkAfterMove.{one_act}
-use Rattle.batch_step_laws.proofs.ActOrder.{acts-rise}
+use Rattle.batch_step_laws.proofs.{WorkAfterMove.one_act, ActOrder.acts-rise}
 use Rattle.batch_step_laws.proofs.rests.acts_rise.Goals as goal
 
 pub returns : goal.returns

@@ -1,5 +1,4 @@
-use Rattle.batch_step_laws.proofs.RestsAfterChange.{withdrawn-IsRestOf}
-use Rattle.batch_step_laws.proofs.NodesOfRests.{advance-IsRestOf, reach-IsRestOf}
+use Rattle.batch_step_laws.proofs.{RestsAfterChange.withdrawn-IsRestOf, NodesOfRests.advance-IsRestOf, NodesOfRests.reach-IsRestOf}
 use Rattle.batch_step_laws.proofs.rests.stands_in_its_chart.Goals as goal
 
 pub returns : goal.returns

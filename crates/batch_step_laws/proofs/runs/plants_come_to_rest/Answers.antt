@@ -1,5 +1,4 @@
-use Rattle.batch_step_laws.proofs.PlantAlongRecord.{led-stands}
-use Rattle.batch_step_laws.proofs.Settlement.{settling-rests}
+use Rattle.batch_step_laws.proofs.{PlantAlongRecord.led-stands, Settlement.settling-rests}
 use Rattle.batch_step_laws.proofs.runs.plants_come_to_rest.Goals as goal
 
 pub returns : goal.returns

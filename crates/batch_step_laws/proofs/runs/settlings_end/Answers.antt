@@ -1,7 +1,6 @@
 use Rattle.std.proofs.Common.{arith}
 use Rattle.batch_model.specs.Runs.{work_left}
-use Rattle.batch_step_laws.proofs.PlantAlongRecord.{led-stands}
-use Rattle.batch_step_laws.proofs.Settlement.{settling-ends}
+use Rattle.batch_step_laws.proofs.{PlantAlongRecord.led-stands, Settlement.settling-ends}
 use Rattle.batch_step_laws.proofs.runs.settlings_end.Goals as goal
 
 pub returns : goal.returns

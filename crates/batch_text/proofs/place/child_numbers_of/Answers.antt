@@ -1,8 +1,5 @@
 use Rattle.std.proofs.Common.{◌==◌, ◌∙◌, ap, rules}
-use Rattle.std.proofs.lemmas.Iterator.{items_from_collect}
-use Rattle.std.proofs.lemmas.Iterator.Consumers.{YieldsList-from_filter_map}
-use Rattle.std.proofs.lemmas.Iterator.Splits.{YieldsList-from_slice_split}
-use Rattle.std.specs.Slice.Iter.{split_callee}
+use Rattle.std.{proofs.lemmas.Iterator.items_from_collect, proofs.lemmas.Iterator.Consumers.YieldsList-from_filter_map, proofs.lemmas.Iterator.Splits.YieldsList-from_slice_split, specs.Slice.Iter.split_callee}
 use Rattle.batch_text.specs.PlaceText.{child_number_of}
 use Rattle.batch_text.proofs.place.child_numbers_of.Goals as goal
 

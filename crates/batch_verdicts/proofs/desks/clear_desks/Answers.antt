@@ -1,7 +1,6 @@
 use Rattle.std.proofs.Common.{[], inl, inr, subst, sym}
 use Rattle.std.proofs.lemmas.Result.{err_from_is_err_and}
-use Rattle.batch_cell.specs.LookUps.{units_of}
-use Rattle.batch_cell.specs.declared.cell.Cell.{Cell}
+use Rattle.batch_cell.specs.{LookUps.units_of, declared.cell.Cell.Cell}
 use Rattle.batch_reader.specs.DeskUnits.{HaveUnits}
 use Rattle.batch_verdicts.proofs.desks.clear_desks.Goals as goal
 

@@ -1,8 +1,6 @@
 use Rattle.std.proofs.Common.{◌<◌, List, ℕ, length, map, rules, string_bytes, subst}
 use Rattle.std.proofs.lemmas.Result.{err_from_is_err_and}
-use Rattle.batch_verdicts.specs.Halting.{HaltsAtRecipe}
-use Rattle.batch_verdicts.proofs.HaltCauses.{halts_at, halts_without_memory}
-use Rattle.batch_verdicts.proofs.RecipeTexts.{none_taken, reads_recipes, takes_next}
+use Rattle.batch_verdicts.{specs.Halting.HaltsAtRecipe, proofs.HaltCauses.halts_at, proofs.HaltCauses.halts_without_memory, proofs.RecipeTexts.none_taken, proofs.RecipeTexts.reads_recipes, proofs.RecipeTexts.takes_next}
 use Rattle.batch_verdicts.proofs.digested.read_recipes.Goals as goal
 
 pub loop-path-init : goal.loop-path-init

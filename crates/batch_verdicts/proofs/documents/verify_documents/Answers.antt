@@ -1,9 +1,7 @@
 use Rattle.std.proofs.Common.{inl, inr, map, string_bytes}
 use Rattle.std.proofs.lemmas.Result.{err_from_is_err_and}
 use Rattle.batch_verify.specs.declared.refusal.SetRefusal.TheVariants.{Memory}
-use Rattle.batch_verdicts.specs.Reading.{Warns}
-use Rattle.batch_verdicts.specs.Saying.{IsWarned}
-use Rattle.batch_verdicts.proofs.WarningEffects.{silent, verified}
+use Rattle.batch_verdicts.{specs.Reading.Warns, specs.Saying.IsWarned, proofs.WarningEffects.silent, proofs.WarningEffects.verified}
 use Rattle.batch_verdicts.proofs.documents.verify_documents.Goals as goal
 
 pub returns-in_err-set-clause-halted : goal.returns-in_err-set-clause-halted

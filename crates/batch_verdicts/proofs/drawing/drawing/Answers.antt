@@ -1,8 +1,7 @@
 use Rattle.std.proofs.Common.{◌≡◌, ◌++◌, All, string_bytes}
 use Rattle.std.proofs.lemmas.Result.{IfOk-weaker}
 use Rattle.batch_messages.specs.CircleSentence.{act_name}
-use Rattle.batch_verdicts.specs.Drawing.{IsDrawingOf, IsOnCircle}
-use Rattle.batch_verdicts.specs.GraphTexts.{graph_text}
+use Rattle.batch_verdicts.specs.{Drawing.IsDrawingOf, Drawing.IsOnCircle, GraphTexts.graph_text}
 use Rattle.batch_verdicts.proofs.drawing.drawing.Goals as goal
 
 pub returns-in-Ok : goal.returns-in-Ok

@@ -1,6 +1,5 @@
 use Rattle.std.proofs.Common.{string_bytes}
-use Rattle.std.proofs.lemmas.Result.{IfOk-weaker}
-use Rattle.std.specs.List.{All}
+use Rattle.std.{proofs.lemmas.Result.IfOk-weaker, specs.List.All}
 use Rattle.batch_check.specs.Edges.{EdgeStands}
 use Rattle.batch_verdicts.specs.Drawing.{IsDrawingOf, IsFaultDrawn}
 use Rattle.batch_verdicts.proofs.drawing.fault_drawing.Goals as goal

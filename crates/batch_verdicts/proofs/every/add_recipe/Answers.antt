@@ -1,6 +1,5 @@
 use Rattle.std.proofs.Common.{inl, inr, refl, subst}
-use Rattle.batch_verdicts.specs.Halting.{HaltsAtRecipe}
-use Rattle.batch_verdicts.specs.declared.refusal.Halt.{Halt}
+use Rattle.batch_verdicts.specs.{Halting.HaltsAtRecipe, declared.refusal.Halt.Halt}
 use Rattle.batch_verdicts.proofs.every.add_recipe.Goals as goal
 use Rattle.batch_verdicts.proofs.every.add_recipe.Goals.{in-Ok+in_ok-push-in-Ok, in-Err-Refused+in_ok-push-in-Err-Refused}
 

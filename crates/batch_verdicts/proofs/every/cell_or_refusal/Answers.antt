@@ -1,6 +1,5 @@
 use Rattle.std.proofs.Common.{subst}
-use Rattle.batch_verdicts.specs.Halting.{HaltsAtCell}
-use Rattle.batch_verdicts.specs.declared.refusal.Halt.{Halt}
+use Rattle.batch_verdicts.specs.{Halting.HaltsAtCell, declared.refusal.Halt.Halt}
 use Rattle.batch_verdicts.proofs.every.cell_or_refusal.Goals as goal
 
 pub returns-in-Err-Refused-clause-looked : goal.returns-in-Err-Refused-clause-looked

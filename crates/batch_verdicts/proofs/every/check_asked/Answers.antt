@@ -1,8 +1,7 @@
 use Rattle.std.proofs.Common.{List, inl, subst, string_bytes}
 use Rattle.std.proofs.lemmas.Result.{err_from_is_err_and, IfOk-weaker}
 use Rattle.batch_recipe.specs.declared.recipe.Recipe.{Recipe}
-use Rattle.batch_verdicts.specs.Judging.{IsChecked, RefusesCheck}
-use Rattle.batch_verdicts.proofs.DocumentRefusals.{judged_asked, so_of_asked}
+use Rattle.batch_verdicts.{specs.Judging.IsChecked, specs.Judging.RefusesCheck, proofs.DocumentRefusals.judged_asked, proofs.DocumentRefusals.so_of_asked}
 use Rattle.batch_verdicts.proofs.every.check_asked.Goals as goal
 
 pub returns-clause-verdict : goal.returns-clause-verdict

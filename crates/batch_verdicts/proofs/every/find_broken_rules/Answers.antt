@@ -1,9 +1,7 @@
 use Rattle.std.proofs.Common.{◌≡◌, ◌<◌, List, ap, arith, inl, inr, length, refl, rules, subst}
-use Rattle.std.proofs.lemmas.List.{nil_from_length}
-use Rattle.std.proofs.lemmas.Result.{err_from_is_err_and}
+use Rattle.std.proofs.lemmas.{List.nil_from_length, Result.err_from_is_err_and}
 use Rattle.batch_verify.proofs.RecipesInSet.{set_length}
-use Rattle.batch_verdicts.specs.Every.{AreRulesRefused}
-use Rattle.batch_verdicts.specs.declared.refusal.DocumentRefusal.{DocumentRefusal}
+use Rattle.batch_verdicts.specs.{Every.AreRulesRefused, declared.refusal.DocumentRefusal.DocumentRefusal}
 use Rattle.batch_verdicts.proofs.every.find_broken_rules.Goals as goal
 
 pub rule_refusals-requires : goal.rule_refusals-requires

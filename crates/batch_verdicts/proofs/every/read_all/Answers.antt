@@ -1,9 +1,7 @@
 use Rattle.std.proofs.Common.{◌≡◌, ◌<◌, Option, [], ap, arith, inl, inr, length, map, rules, string_bytes, subst}
-use Rattle.std.proofs.lemmas.List.{nil_from_length}
-use Rattle.std.proofs.lemmas.Result.{err_from_is_err_and}
+use Rattle.std.proofs.lemmas.{List.nil_from_length, Result.err_from_is_err_and}
 use Rattle.batch_cell.specs.declared.cell.Cell.{Cell}
-use Rattle.batch_verdicts.specs.Looking.{IsCellLooked}
-use Rattle.batch_verdicts.proofs.DocumentRefusals.{all_refused, cell_refused, read_whole}
+use Rattle.batch_verdicts.{specs.Looking.IsCellLooked, proofs.DocumentRefusals.all_refused, proofs.DocumentRefusals.cell_refused, proofs.DocumentRefusals.read_whole}
 use Rattle.batch_verdicts.proofs.every.read_all.Goals as goal
 
 pub returns-clause-read : goal.returns-clause-read

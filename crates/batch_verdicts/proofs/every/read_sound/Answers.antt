@@ -1,8 +1,6 @@
 use Rattle.std.proofs.Common.{inl}
 use Rattle.std.proofs.lemmas.Result.{err_from_is_err_and}
-use Rattle.batch_verdicts.specs.Saying.{IsWarned}
-use Rattle.batch_verdicts.proofs.DocumentRefusals.{broken_at}
-use Rattle.batch_verdicts.proofs.WarningEffects.{silent}
+use Rattle.batch_verdicts.{specs.Saying.IsWarned, proofs.DocumentRefusals.broken_at, proofs.WarningEffects.silent}
 use Rattle.batch_verdicts.proofs.every.read_sound.Goals as goal
 
 pub returns-clause-read : goal.returns-clause-read

@@ -1,7 +1,6 @@
 use Rattle.std.proofs.Common.{◌≡◌, ◌<◌, [], List, ℕ, length, rules, string_bytes, subst}
 use Rattle.std.proofs.lemmas.Result.{err_from_is_err_and}
-use Rattle.batch_verdicts.specs.Reading.{IsUnread}
-use Rattle.batch_verdicts.proofs.DocumentRefusals.{looks_at_none, looks_next, unread_at}
+use Rattle.batch_verdicts.{specs.Reading.IsUnread, proofs.DocumentRefusals.looks_at_none, proofs.DocumentRefusals.looks_next, proofs.DocumentRefusals.unread_at}
 use Rattle.batch_verdicts.proofs.every.recipes_or_refusals.Goals as goal
 
 pub loop-path-preserved : goal.loop-path-preserved

@@ -1,7 +1,5 @@
 use Rattle.std.proofs.Common.{subst}
-use Rattle.batch_verdicts.specs.Judging.{HaltsWith, fault_kind}
-use Rattle.batch_verdicts.specs.VerdictTexts.{fault_text}
-use Rattle.batch_verdicts.specs.declared.refusal.Halt.{Halt}
+use Rattle.batch_verdicts.specs.{Judging.HaltsWith, Judging.fault_kind, VerdictTexts.fault_text, declared.refusal.Halt.Halt}
 use Rattle.batch_verdicts.proofs.every.rule_refusal.Goals as goal
 
 pub returns-in-Refused-clause-text : goal.returns-in-Refused-clause-text

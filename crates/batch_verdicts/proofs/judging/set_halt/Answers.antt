@@ -1,6 +1,5 @@
 use Rattle.std.proofs.Common.{subst}
-use Rattle.batch_verdicts.specs.Judging.{HaltsWith}
-use Rattle.batch_verdicts.specs.VerdictTexts.{refusal_text}
+use Rattle.batch_verdicts.specs.{Judging.HaltsWith, VerdictTexts.refusal_text}
 use Rattle.batch_verdicts.proofs.judging.set_halt.Goals as goal
 
 pub returns : goal.returns

@@ -1,8 +1,7 @@
 use Rattle.std.proofs.Common.{◌∙◌, get_or, sym}
 use Rattle.std.proofs.lemmas.List.Elements.{Contains-get_or}
 use Rattle.batch_check.specs.declared.edge.Edge.{Edge}
-use Rattle.batch_verdicts.specs.Drawing.{IsOnCircle}
-use Rattle.batch_verdicts.proofs.EdgesOnCircles.{All-pushed, on_circle}
+use Rattle.batch_verdicts.{specs.Drawing.IsOnCircle, proofs.EdgesOnCircles.All-pushed, proofs.EdgesOnCircles.on_circle}
 use Rattle.batch_verdicts.proofs.rings.push_into.Goals as goal
 
 abbrev no_edge : Edge

@@ -1,7 +1,6 @@
 use Rattle.std.proofs.Common.{refl}
 use Rattle.std.proofs.KnownBytes.{Keeps-refl}
-use Rattle.batch_verdicts.specs.Running.{audits, halts}
-use Rattle.batch_verdicts.proofs.WarningEffects.{silent}
+use Rattle.batch_verdicts.{specs.Running.audits, specs.Running.halts, proofs.WarningEffects.silent}
 use Rattle.batch_verdicts.proofs.running.audit.Goals as goal
 
 pub returns-in-Ok : goal.returns-in-Ok

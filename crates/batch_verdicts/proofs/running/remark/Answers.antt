@@ -1,8 +1,7 @@
 use Rattle.std.proofs.Common.{refl}
 use Rattle.std.proofs.KnownBytes.{Keeps-refl}
 use Rattle.batch_cli.specs.CommandLine.{source_of}
-use Rattle.batch_verdicts.specs.Running.{halts, remarks}
-use Rattle.batch_verdicts.proofs.WarningEffects.{silent}
+use Rattle.batch_verdicts.{specs.Running.halts, specs.Running.remarks, proofs.WarningEffects.silent}
 use Rattle.batch_verdicts.proofs.running.remark.Goals as goal
 
 pub returns-in-Ok : goal.returns-in-Ok

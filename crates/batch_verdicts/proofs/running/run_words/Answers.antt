@@ -1,8 +1,7 @@
 use Rattle.std.proofs.Common.{subst, map, string_bytes}
 use Rattle.std.proofs.KnownBytes.{Keeps-refl}
-use Rattle.batch_cli.specs.CommandLine.{IsFaultOf, faults_of}
+use Rattle.batch_cli.specs.{CommandLine.IsFaultOf, CommandLine.faults_of, declared.command.CommandFault.CommandFault}
 use Rattle.batch_verdicts.specs.Running.{commands, helps, misuses, starves}
-use Rattle.batch_cli.specs.declared.command.CommandFault.{CommandFault}
 use Rattle.batch_verdicts.proofs.running.run_words.Goals as goal
 
 pub returns-in-Ok : goal.returns-in-Ok

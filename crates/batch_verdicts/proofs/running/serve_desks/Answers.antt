@@ -1,7 +1,6 @@
 use Rattle.std.proofs.Common.{map, refl, string_bytes}
 use Rattle.std.proofs.KnownBytes.{Keeps-refl}
-use Rattle.batch_verdicts.specs.Running.{halts, serves_desks}
-use Rattle.batch_verdicts.proofs.WarningEffects.{silent}
+use Rattle.batch_verdicts.{specs.Running.halts, specs.Running.serves_desks, proofs.WarningEffects.silent}
 use Rattle.batch_verdicts.proofs.running.serve_desks.Goals as goal
 
 pub returns-in-Ok : goal.returns-in-Ok

@@ -1,6 +1,5 @@
 use Rattle.std.proofs.Common.{◌<◌, ◌++◌, ◌∙◌, List, ℕ, [], length, ap, rules, string_bytes}
-use Rattle.batch_verdicts.specs.Saying.{sentence_line}
-use Rattle.batch_verdicts.specs.declared.refusal.DocumentRefusal.{DocumentRefusal}
+use Rattle.batch_verdicts.specs.{Saying.sentence_line, declared.refusal.DocumentRefusal.DocumentRefusal}
 use Rattle.batch_verdicts.proofs.saying.lines_text.Goals as goal
 use Rattle.batch_outline.proofs.LineSeats.{texts_more}
 

@@ -1,7 +1,6 @@
 use Rattle.std.proofs.Common.{◌++◌, ◌∙◌, ap, string_bytes}
 use Rattle.batch_messages.specs.WarningWords.{said_at}
-use Rattle.batch_verdicts.specs.WarningTexts.{lines_on}
-use Rattle.batch_verdicts.proofs.WarningLines.{recipes_more}
+use Rattle.batch_verdicts.{specs.WarningTexts.lines_on, proofs.WarningLines.recipes_more}
 use Rattle.batch_verdicts.proofs.warnings.recipes_text.Goals as goal
 
 pub loop-number-preserved : goal.loop-number-preserved

@@ -1,10 +1,7 @@
 use Rattle.std.proofs.Common.{◌≡◌, ℕ, suc, ◌+◌, ◌<◌, ◌≤◌, List, ◌∷◌, ap, sym, ◌∙◌, max, drop, get_or, length, arith, add-one, drop-cons, drop_of_length-le}
 use Rattle.std.proofs.Math.Nat.{le-max_left, max-le, max-eq_left, max-eq_right}
-use Rattle.batch_cell.specs.LookUps.{units_of_class}
-use Rattle.batch_cell.specs.declared.cell.TheConstants.{MAX_UNITS}
-use Rattle.batch_verify.specs.Bindings.{binding_count}
-use Rattle.batch_verify.proofs.RoleTakers.{few_candidates, max_joined}
-use Rattle.batch_verify.proofs.NumberedBindings.{some-binding}
+use Rattle.batch_cell.specs.{LookUps.units_of_class, declared.cell.TheConstants.MAX_UNITS}
+use Rattle.batch_verify.{specs.Bindings.binding_count, proofs.RoleTakers.few_candidates, proofs.RoleTakers.max_joined, proofs.NumberedBindings.some-binding}
 use Rattle.batch_verify.proofs.bindings.binding_count.Goals as goal
 
 cut : {X : Type 0} (xs : List X) (i : ℕ) (x : X) → i < length xs → x ≡ get_or xs i x → drop i xs ≡ x ∷ drop (i + 1) xs

@@ -1,17 +1,9 @@
 use Rattle.std.proofs.Common.{◌≡◌, ◌<◌, Bool, List, length, map, Some, get_or, slice_get, sym, ap, ◌∙◌, subst, refl, arith}
-use Rattle.std.specs.Prelude.{option_map}
-use Rattle.std.proofs.lemmas.List.{length-map}
-use Rattle.std.proofs.lemmas.Option.{slice_get-get_or, slice_get-map, slice_get_read}
-use Rattle.batch_recipe.specs.Nodes.{Node}
-use Rattle.batch_recipe.specs.Procedure.{procedure_nodes}
-use Rattle.batch_recipe.specs.declared.entry.Entry.{Entry}
+use Rattle.std.{specs.Prelude.option_map, proofs.lemmas.List.length-map, proofs.lemmas.Option.slice_get-get_or, proofs.lemmas.Option.slice_get-map, proofs.lemmas.Option.slice_get_read}
+use Rattle.batch_recipe.{specs.Nodes.Node, specs.Procedure.procedure_nodes, specs.declared.entry.Entry.Entry, specs.declared.recipe.Recipe.Recipe, proofs.NodesAbove.as_many}
 use Rattle.batch_recipe.specs.declared.entry.Kind.TheVariants as kind
-use Rattle.batch_recipe.specs.declared.recipe.Recipe.{Recipe}
-use Rattle.batch_recipe.proofs.NodesAbove.{as_many}
 use Rattle.batch_model.specs.Cleared.{surely_runs}
-use Rattle.batch_verify.specs.Charts.{ReservesAs}
-use Rattle.batch_verify.proofs.Faults.{KeepsFaults-none, KeepsFaults-more, all_faults}
-use Rattle.batch_verify.proofs.RunningTrees.{same_at}
+use Rattle.batch_verify.{specs.Charts.ReservesAs, proofs.Faults.KeepsFaults-none, proofs.Faults.KeepsFaults-more, proofs.Faults.all_faults, proofs.RunningTrees.same_at}
 use Rattle.batch_verify.proofs.charts.chart_faults.Goals as goal
 
 runs_long : (r : Recipe) (runs : List Bool) → runs ≡ map (λ x. surely_runs x.here) (procedure_nodes r.acts) → length runs ≡ length r.outline.entries.items

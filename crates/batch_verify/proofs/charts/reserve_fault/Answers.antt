@@ -1,6 +1,5 @@
 use Rattle.std.proofs.Common.{◌∙◌, sym, subst}
-use Rattle.batch_verify.specs.Charts.{IsChartFault}
-use Rattle.batch_verify.proofs.Faults.{chart_kept, reserves_counted}
+use Rattle.batch_verify.{specs.Charts.IsChartFault, proofs.Faults.chart_kept, proofs.Faults.reserves_counted}
 use Rattle.batch_verify.proofs.charts.reserve_fault.Goals as goal
 
 pub reserves_follow-requires : goal.reserves_follow-requires

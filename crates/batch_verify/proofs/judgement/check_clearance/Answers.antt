@@ -1,12 +1,7 @@
 use Rattle.std.proofs.Common.{◌≡◌, ap, ◌∙◌, subst}
 use Rattle.std.proofs.lemmas.Result.{err_from_is_err_and}
-use Rattle.batch_model.specs.Cleared.{Ranking, IsClearedRecipe}
-use Rattle.batch_model.specs.Setups.{setup_of}
-use Rattle.batch_model.specs.Lists.{Each}
-use Rattle.batch_verify.specs.Ranked.{rank_of}
-use Rattle.batch_verify.specs.Refusals.{rank_in}
-use Rattle.batch_verify.proofs.VerdictMeaning.{same_ranking, recipe_refusal}
-use Rattle.batch_verify.proofs.RecipesInSet.{set_length}
+use Rattle.batch_model.specs.{Cleared.Ranking, Cleared.IsClearedRecipe, Setups.setup_of, Lists.Each}
+use Rattle.batch_verify.{specs.Ranked.rank_of, specs.Refusals.rank_in, proofs.VerdictMeaning.same_ranking, proofs.VerdictMeaning.recipe_refusal, proofs.RecipesInSet.set_length}
 use Rattle.batch_verify.proofs.judgement.check_clearance.Goals as goal
 
 pub judge_each-requires-clause-few : goal.judge_each-requires-clause-few

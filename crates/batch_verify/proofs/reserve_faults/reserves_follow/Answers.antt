@@ -1,6 +1,5 @@
 use Rattle.std.proofs.Common.{arith}
-use Rattle.batch_recipe.specs.Followers.{IsFollowerAt}
-use Rattle.batch_recipe.specs.Procedure.{bound_tree}
+use Rattle.batch_recipe.specs.{Followers.IsFollowerAt, Procedure.bound_tree}
 use Rattle.batch_verify.proofs.Followers.{all_follow, is_found, is_none, one_fails, one_more}
 use Rattle.batch_verify.proofs.reserve_faults.reserves_follow.Goals as goal
 

@@ -1,7 +1,5 @@
 use Rattle.std.proofs.Common.{◌≡◌, Some, slice_get}
-use Rattle.batch_recipe.specs.Expanding.{Binding}
-use Rattle.batch_recipe.specs.Nodes.{Node}
-use Rattle.batch_recipe.specs.Procedure.{bound_nodes, bound_tree}
+use Rattle.batch_recipe.specs.{Expanding.Binding, Nodes.Node, Procedure.bound_nodes, Procedure.bound_tree}
 use Rattle.batch_verify.proofs.Followers.{FollowBefore}
 use Rattle.batch_verify.proofs.reserve_faults.reserves_follow.Given as goal
 

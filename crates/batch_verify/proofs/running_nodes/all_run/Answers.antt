@@ -1,8 +1,6 @@
 use Rattle.std.proofs.Common.{◌≡◌, slice_get, Some, false, true, arith}
-use Rattle.batch_recipe.proofs.NodesAbove.{as_many}
-use Rattle.batch_recipe.proofs.NodesBelow.{read_at}
-use Rattle.batch_verify.proofs.RunningTrees.{bool_at, ends_later}
-use Rattle.batch_verify.proofs.RunningCases.{KeepsAll-first, KeepsAll-all, KeepsAll-found, KeepsAll-next}
+use Rattle.batch_recipe.proofs.{NodesAbove.as_many, NodesBelow.read_at}
+use Rattle.batch_verify.proofs.{RunningTrees.bool_at, RunningTrees.ends_later, RunningCases.KeepsAll-first, RunningCases.KeepsAll-all, RunningCases.KeepsAll-found, RunningCases.KeepsAll-next}
 use Rattle.batch_verify.proofs.running_nodes.all_run.Goals as goal
 use Rattle.batch_verify.proofs.running_nodes.all_run.Goals.{After-index}
 

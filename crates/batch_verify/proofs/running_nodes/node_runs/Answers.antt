@@ -1,14 +1,8 @@
 use Rattle.std.proofs.Common.{◌≡◌, ◌⊎◌, ℕ, ◌+◌, Bool, get_or, slice_get, Some, false, eqb, eq-eqb, ap, refl, inl, inr, arith}
-use Rattle.batch_recipe.specs.Nodes.{Node}
-use Rattle.batch_recipe.specs.Outlines.{Form, an_act, a_skip, a_seq, a_par, a_sel, a_loop, form_of}
-use Rattle.batch_recipe.specs.declared.acts.LabelTable.{LabelTable}
-use Rattle.batch_recipe.specs.declared.entry.Kind.{Kind}
+use Rattle.batch_recipe.{specs.Nodes.Node, specs.Outlines.Form, specs.Outlines.an_act, specs.Outlines.a_skip, specs.Outlines.a_seq, specs.Outlines.a_par, specs.Outlines.a_sel, specs.Outlines.a_loop, specs.Outlines.form_of, specs.declared.acts.LabelTable.LabelTable, specs.declared.entry.Kind.Kind, proofs.NodesAbove.ns, proofs.NodesAbove.as_many, proofs.NodesBelow.read_at}
 use Rattle.batch_recipe.specs.declared.entry.Kind.TheVariants as kind
-use Rattle.batch_recipe.proofs.NodesAbove.{ns, as_many}
-use Rattle.batch_recipe.proofs.NodesBelow.{read_at}
 use Rattle.batch_model.specs.Cleared.{surely_runs}
-use Rattle.batch_verify.proofs.RunningTrees.{bool_at}
-use Rattle.batch_verify.proofs.RunningKinds.{Says, end_within, chart_within, body_within, told}
+use Rattle.batch_verify.proofs.{RunningTrees.bool_at, RunningKinds.Says, RunningKinds.end_within, RunningKinds.chart_within, RunningKinds.body_within, RunningKinds.told}
 use Rattle.batch_verify.proofs.running_nodes.node_runs.Goals as goal
 use Rattle.batch_verify.proofs.running_nodes.node_runs.Goals.{After-index-entry}
 

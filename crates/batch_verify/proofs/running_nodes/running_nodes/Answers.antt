@@ -1,9 +1,7 @@
 use Rattle.std.proofs.Common.{◌≡◌, suc, List, [], ◌∷◌, Bool, map, ap, ◌∙◌, refl, subst, arith}
-use Rattle.batch_recipe.specs.Nodes.{Node}
-use Rattle.batch_recipe.specs.Procedure.{procedure_nodes}
+use Rattle.batch_recipe.specs.{Nodes.Node, Procedure.procedure_nodes}
 use Rattle.batch_model.specs.Cleared.{surely_runs}
-use Rattle.batch_verify.specs.RunningNodes.{RunsFrom}
-use Rattle.batch_verify.proofs.RunningTrees.{same_at}
+use Rattle.batch_verify.{specs.RunningNodes.RunsFrom, proofs.RunningTrees.same_at}
 use Rattle.batch_verify.proofs.running_nodes.running_nodes.Goals as goal
 
 -- all nodes are known once those from the first on are

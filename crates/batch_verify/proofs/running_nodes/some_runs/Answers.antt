@@ -1,8 +1,6 @@
 use Rattle.std.proofs.Common.{◌≡◌, slice_get, Some, false, true, arith}
-use Rattle.batch_recipe.proofs.NodesAbove.{as_many}
-use Rattle.batch_recipe.proofs.NodesBelow.{read_at}
-use Rattle.batch_verify.proofs.RunningTrees.{bool_at, ends_later}
-use Rattle.batch_verify.proofs.RunningBranches.{KeepsSome-first, KeepsSome-none, KeepsSome-found, KeepsSome-next}
+use Rattle.batch_recipe.proofs.{NodesAbove.as_many, NodesBelow.read_at}
+use Rattle.batch_verify.proofs.{RunningTrees.bool_at, RunningTrees.ends_later, RunningBranches.KeepsSome-first, RunningBranches.KeepsSome-none, RunningBranches.KeepsSome-found, RunningBranches.KeepsSome-next}
 use Rattle.batch_verify.proofs.running_nodes.some_runs.Goals as goal
 use Rattle.batch_verify.proofs.running_nodes.some_runs.Goals.{After-index}
 

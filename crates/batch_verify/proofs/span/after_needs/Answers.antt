@@ -1,8 +1,6 @@
 use Rattle.std.proofs.Common.{take, take_all, subst, sym, ap, ◌∙◌, ◌∷◌, [], option_copied, arith}
 use Rattle.std.proofs.lemmas.List.{map-append, take_more}
-use Rattle.batch_verify.specs.Asking.{ask_by, asks_by}
-use Rattle.batch_verify.specs.Spans.{AreAsked}
-use Rattle.batch_verify.proofs.Spans.{AreAsked-append}
+use Rattle.batch_verify.{specs.Asking.ask_by, specs.Asking.asks_by, specs.Spans.AreAsked, proofs.Spans.AreAsked-append}
 use Rattle.batch_verify.proofs.span.after_needs.Goals as goal
 
 pub loop-need-preserved : goal.loop-need-preserved

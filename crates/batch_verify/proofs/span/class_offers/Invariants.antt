@@ -1,6 +1,5 @@
 use Rattle.std.proofs.Common.{◌≡◌, ◌<◌, ℕ, Some, slice_get, true}
-use Rattle.batch_cell.specs.LookUps.{is_of_class}
-use Rattle.batch_cell.specs.declared.unit.Unit.{Unit}
+use Rattle.batch_cell.specs.{LookUps.is_of_class, declared.unit.Unit.Unit}
 use Rattle.batch_verify.specs.Walking.{offers_on}
 use Rattle.batch_verify.proofs.span.class_offers.Given as goal
 

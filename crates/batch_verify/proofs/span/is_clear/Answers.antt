@@ -1,26 +1,9 @@
 use Rattle.std.proofs.Common.{◌≡◌, ◌≤◌, ℕ, List, [], Option, Some, None, false, length, option_copied, get_or, replicate, slice_get, refl, sym, ap, ◌∙◌, subst, arith}
-use Rattle.std.proofs.lemmas.List.{with_items_is}
-use Rattle.std.proofs.lemmas.Option.{slice_get-get_or}
-use Rattle.batch_recipe.specs.Outlines.{act_of_kind}
-use Rattle.batch_recipe.specs.declared.act.Act.{Act}
-use Rattle.batch_recipe.specs.declared.entry.Entry.{Entry}
+use Rattle.std.proofs.lemmas.{List.with_items_is, Option.slice_get-get_or}
+use Rattle.batch_recipe.{specs.Outlines.act_of_kind, specs.declared.act.Act.Act, specs.declared.entry.Entry.Entry, proofs.NodesAbove.as_many}
 use Rattle.batch_recipe.specs.declared.entry.Kind.TheVariants as kind
-use Rattle.batch_recipe.proofs.NodesAbove.{as_many}
 use Rattle.batch_set.specs.Looked.{needs_by}
-use Rattle.batch_verify.specs.Bindings.{takers_of}
-use Rattle.batch_verify.specs.PassedSteps.{Allows, passed_at, with_passed}
-use Rattle.batch_verify.specs.Refusals.{ranking_in}
-use Rattle.batch_verify.specs.Spans.{AreBetween, IsPassed}
-use Rattle.batch_verify.specs.Trials.{bound_by}
-use Rattle.batch_verify.specs.declared.rule.Rule.{Rule}
-use Rattle.batch_verify.specs.declared.passed.Passed.{Passed}
-use Rattle.batch_verify.specs.declared.span.Span.{Span}
-use Rattle.batch_verify.specs.declared.trial.Trial.TheVariants.{Leveled}
-use Rattle.batch_verify.proofs.CandidateBounds.{between}
-use Rattle.batch_verify.proofs.NodeClearance.{Clears-none, Clears-more}
-use Rattle.batch_verify.proofs.PassedSteps.{AreNoted, AreNoted-none, AreNoted-with, HasPassed, IsPassed-allowed}
-use Rattle.batch_verify.proofs.Paths.{paths_end}
-use Rattle.batch_verify.proofs.NumberedBindings.{differ, own_role}
+use Rattle.batch_verify.{specs.Bindings.takers_of, specs.PassedSteps.Allows, specs.PassedSteps.passed_at, specs.PassedSteps.with_passed, specs.Refusals.ranking_in, specs.Spans.AreBetween, specs.Spans.IsPassed, specs.Trials.bound_by, specs.declared.rule.Rule.Rule, specs.declared.passed.Passed.Passed, specs.declared.span.Span.Span, specs.declared.trial.Trial.TheVariants.Leveled, proofs.CandidateBounds.between, proofs.NodeClearance.Clears-none, proofs.NodeClearance.Clears-more, proofs.PassedSteps.AreNoted, proofs.PassedSteps.AreNoted-none, proofs.PassedSteps.AreNoted-with, proofs.PassedSteps.HasPassed, proofs.PassedSteps.IsPassed-allowed, proofs.Paths.paths_end, proofs.NumberedBindings.differ, proofs.NumberedBindings.own_role}
 use Rattle.batch_verify.proofs.span.is_clear.Goals as goal
 
 abbrev no_entry : Entry

@@ -1,10 +1,5 @@
-use Rattle.std.specs.Prelude.{false}
-use Rattle.std.specs.Option.{option_copied}
-use Rattle.batch_verify.specs.Bindings.{takers_of}
-use Rattle.batch_verify.specs.Trials.{bound_by}
-use Rattle.batch_verify.specs.declared.trial.Trial.TheVariants.{Leveled}
-use Rattle.batch_verify.proofs.NodeClearance.{Clears}
-use Rattle.batch_verify.proofs.PassedSteps.{AreNoted, HasPassed}
+use Rattle.std.specs.{Prelude.false, Option.option_copied}
+use Rattle.batch_verify.{specs.Bindings.takers_of, specs.Trials.bound_by, specs.declared.trial.Trial.TheVariants.Leveled, proofs.NodeClearance.Clears, proofs.PassedSteps.AreNoted, proofs.PassedSteps.HasPassed}
 use Rattle.batch_verify.proofs.span.is_clear.Given as goal
 
 abbrev pub invariant-loop-entry : goal.invariant-loop-entry

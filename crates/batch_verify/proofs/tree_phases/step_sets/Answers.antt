@@ -1,13 +1,7 @@
 use Rattle.std.proofs.Common.{◌≡◌, ◌+◌, ◌++◌, ◌∷◌, [], ℕ, Some, drop, length, slice_get, take, refl, sym, ap, ◌∙◌, subst, arith, inl, inr}
-use Rattle.std.proofs.lemmas.List.{length-append, length-take-le, take-append-drop, take_more}
-use Rattle.std.proofs.lemmas.Option.{slice_get_read}
-use Rattle.batch_recipe.specs.Conditions.{Name}
-use Rattle.batch_recipe.specs.declared.act.Act.{Act}
-use Rattle.batch_recipe.proofs.FirstMatch.{position_front}
-use Rattle.batch_verify.specs.NodePhases.{phase_run}
-use Rattle.batch_verify.specs.PhaseSets.{IsSetOf, number_in, number_of, runs}
-use Rattle.batch_verify.proofs.Faults.{one_more}
-use Rattle.batch_verify.proofs.PhaseSets.{IsSetOf-none, IsSetOf-one, numbered, numbered_own, numbered_still}
+use Rattle.std.proofs.lemmas.{List.length-append, List.length-take-le, List.take-append-drop, List.take_more, Option.slice_get_read}
+use Rattle.batch_recipe.{specs.Conditions.Name, specs.declared.act.Act.Act, proofs.FirstMatch.position_front}
+use Rattle.batch_verify.{specs.NodePhases.phase_run, specs.PhaseSets.IsSetOf, specs.PhaseSets.number_in, specs.PhaseSets.number_of, specs.PhaseSets.runs, proofs.Faults.one_more, proofs.PhaseSets.IsSetOf-none, proofs.PhaseSets.IsSetOf-one, proofs.PhaseSets.numbered, proofs.PhaseSets.numbered_own, proofs.PhaseSets.numbered_still}
 use Rattle.batch_verify.proofs.tree_phases.step_sets.Goals as goal
 use Rattle.batch_verify.proofs.tree_phases.step_sets.Goals.{in-Follows, in-Runs+in_ok-number_of-in-Runs}
 

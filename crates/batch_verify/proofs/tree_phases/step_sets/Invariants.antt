@@ -1,9 +1,6 @@
 use Rattle.std.proofs.Common.{◌≡◌, ℕ, Some, length, slice_get, take}
-use Rattle.batch_recipe.specs.Conditions.{Name}
-use Rattle.batch_recipe.specs.declared.act.Act.{Act}
-use Rattle.batch_verify.specs.NodePhases.{phase_run}
-use Rattle.batch_verify.specs.PhaseSets.{IsSetOf, number_in, number_of}
-use Rattle.batch_verify.specs.declared.phase_set.PhaseSet.{PhaseSet}
+use Rattle.batch_recipe.specs.{Conditions.Name, declared.act.Act.Act}
+use Rattle.batch_verify.specs.{NodePhases.phase_run, PhaseSets.IsSetOf, PhaseSets.number_in, PhaseSets.number_of, declared.phase_set.PhaseSet.PhaseSet}
 use Rattle.batch_verify.proofs.tree_phases.step_sets.Given as goal
 
 -- the phases so far have their numbers, and the steps so far their sets

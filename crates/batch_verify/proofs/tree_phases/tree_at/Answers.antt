@@ -1,20 +1,8 @@
 use Rattle.std.proofs.Common.{◌≡◌, ◌+◌, ◌<◌, ◌++◌, ◌&&◌, Bool, true, false, List, [], get_or, length, sym, ap, ◌∙◌, subst, arith}
 use Rattle.std.proofs.lemmas.Option.{slice_get_within}
-use Rattle.batch_recipe.specs.ActsAtNodes.{procedure_acts}
-use Rattle.batch_recipe.specs.Nodes.{node_count}
-use Rattle.batch_recipe.specs.Outlines.{act_of_kind}
-use Rattle.batch_recipe.proofs.NodeSubtrees.{some_count}
-use Rattle.batch_recipe.proofs.NodesAbove.{act_at, as_many, ns}
-use Rattle.batch_recipe.proofs.NodesBelow.{end_read, read_at}
+use Rattle.batch_recipe.{specs.ActsAtNodes.procedure_acts, specs.Nodes.node_count, specs.Outlines.act_of_kind, proofs.NodeSubtrees.some_count, proofs.NodesAbove.act_at, proofs.NodesAbove.as_many, proofs.NodesAbove.ns, proofs.NodesBelow.end_read, proofs.NodesBelow.read_at}
 use Rattle.batch_model.specs.Cleared.{phases}
-use Rattle.batch_verify.specs.NodePhases.{phases_between}
-use Rattle.batch_verify.specs.PhaseSets.{IsOfTree, IsSetOf}
-use Rattle.batch_verify.specs.Walking.{phase_names}
-use Rattle.batch_verify.specs.declared.tree_phases.TreePhases.{TreePhases}
-use Rattle.batch_verify.proofs.NodePhases.{node_phases}
-use Rattle.batch_verify.proofs.PhaseSets.{IsSetOf-joined, apart_as_disjoint}
-use Rattle.batch_verify.proofs.PhasesBelow.{between_split, nested, one_between, own_is, par_runs_none}
-use Rattle.batch_verify.proofs.TreesApart.{AreLeft, AreLeft-all, AreLeft-first, AreLeft-next, branches_stand, ends_at}
+use Rattle.batch_verify.{specs.NodePhases.phases_between, specs.PhaseSets.IsOfTree, specs.PhaseSets.IsSetOf, specs.Walking.phase_names, specs.declared.tree_phases.TreePhases.TreePhases, proofs.NodePhases.node_phases, proofs.PhaseSets.IsSetOf-joined, proofs.PhaseSets.apart_as_disjoint, proofs.PhasesBelow.between_split, proofs.PhasesBelow.nested, proofs.PhasesBelow.one_between, proofs.PhasesBelow.own_is, proofs.PhasesBelow.par_runs_none, proofs.TreesApart.AreLeft, proofs.TreesApart.AreLeft-all, proofs.TreesApart.AreLeft-first, proofs.TreesApart.AreLeft-next, proofs.TreesApart.branches_stand, proofs.TreesApart.ends_at}
 use Rattle.batch_verify.proofs.tree_phases.tree_at.Goals as goal
 use Rattle.batch_verify.proofs.tree_phases.tree_at.Goals.{then-is_disjoint, else-is_disjoint}
 

@@ -1,11 +1,6 @@
 use Rattle.std.proofs.Common.{◌≡◌, ◌-◌, ◌<◌, ◌≤◌, Some, slice_get}
-use Rattle.batch_recipe.specs.ActsAtNodes.{procedure_acts}
-use Rattle.batch_recipe.specs.Nodes.{Node}
-use Rattle.batch_recipe.specs.Procedure.{procedure_nodes}
-use Rattle.batch_recipe.specs.Tree.{Trees, par}
-use Rattle.batch_verify.specs.NodePhases.{phases_between}
-use Rattle.batch_verify.specs.PhaseSets.{IsSetOf}
-use Rattle.batch_verify.proofs.TreesApart.{AreLeft}
+use Rattle.batch_recipe.specs.{ActsAtNodes.procedure_acts, Nodes.Node, Procedure.procedure_nodes, Tree.Trees, Tree.par}
+use Rattle.batch_verify.{specs.NodePhases.phases_between, specs.PhaseSets.IsSetOf, proofs.TreesApart.AreLeft}
 use Rattle.batch_verify.proofs.tree_phases.tree_at.Given as goal
 
 -- the phases so far, and whether the branches so far run apart

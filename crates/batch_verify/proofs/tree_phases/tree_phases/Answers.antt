@@ -1,6 +1,5 @@
 use Rattle.std.proofs.Common.{◌≡◌, ◌+◌, ◌-◌, ◌<◌, length, subst, arith}
-use Rattle.batch_verify.specs.PhaseSets.{AreKnownFrom}
-use Rattle.batch_verify.proofs.PhaseSets.{AreKnownFrom-more}
+use Rattle.batch_verify.{specs.PhaseSets.AreKnownFrom, proofs.PhaseSets.AreKnownFrom-more}
 use Rattle.batch_verify.proofs.tree_phases.tree_phases.Goals as goal
 
 pub loop-node-preserved : goal.loop-node-preserved

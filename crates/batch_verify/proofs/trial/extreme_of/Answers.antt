@@ -1,7 +1,6 @@
 use Rattle.std.proofs.Common.{◌∙◌, Some, ap, sym, get_or, take}
 use Rattle.std.proofs.lemmas.List.{take_more}
-use Rattle.batch_verify.specs.Trials.{better, extreme, rank_at}
-use Rattle.batch_verify.proofs.Extremes.{one_more}
+use Rattle.batch_verify.{specs.Trials.better, specs.Trials.extreme, specs.Trials.rank_at, proofs.Extremes.one_more}
 use Rattle.batch_verify.proofs.trial.extreme_of.Goals as goal
 
 pub loop-candidate-preserved : goal.loop-candidate-preserved

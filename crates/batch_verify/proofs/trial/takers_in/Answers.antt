@@ -2,16 +2,9 @@ use Rattle.std.proofs.Common.{◌≡◌, ◌<◌, ◌≤◌, ◌++◌, ◌∷◌
 use Rattle.std.proofs.lemmas.Option.{slice_get_read}
 use Rattle.batch_cell.specs.LookUps.{resources_of}
 use Rattle.batch_cell.specs.declared.cell.Cell as equipment
-use Rattle.batch_recipe.specs.Conditions.{same_name}
-use Rattle.batch_recipe.specs.declared.role.Role.{Role}
-use Rattle.batch_set.specs.Looked.{row_at}
-use Rattle.batch_set.proofs.CandidateNumbers.{candidates-said}
-use Rattle.batch_set.proofs.TableRows.{AreAdded-all, AreAdded-more}
-use Rattle.batch_verify.specs.Trials.{bound_by, taker_by}
-use Rattle.batch_verify.specs.declared.trial.Trial.{Trial}
-use Rattle.batch_verify.proofs.Choices.{has_at}
-use Rattle.batch_verify.proofs.NumberedBindings.{differ, own_role}
-use Rattle.batch_verify.proofs.TakerNumbers.{taker-is}
+use Rattle.batch_recipe.specs.{Conditions.same_name, declared.role.Role.Role}
+use Rattle.batch_set.{specs.Looked.row_at, proofs.CandidateNumbers.candidates-said, proofs.TableRows.AreAdded-all, proofs.TableRows.AreAdded-more}
+use Rattle.batch_verify.{specs.Trials.bound_by, specs.Trials.taker_by, specs.declared.trial.Trial.Trial, proofs.Choices.has_at, proofs.NumberedBindings.differ, proofs.NumberedBindings.own_role, proofs.TakerNumbers.taker-is}
 use Rattle.batch_verify.proofs.trial.takers_in.Goals as goal
 
 abbrev taker : equipment.Cell → List Role → Trial → Role → Option ℕ

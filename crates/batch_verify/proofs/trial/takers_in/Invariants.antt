@@ -2,8 +2,7 @@ use Rattle.batch_cell.specs.LookUps.{resources_of}
 use Rattle.batch_cell.specs.declared.cell.Cell as equipment
 use Rattle.std.proofs.Common.{position}
 use Rattle.batch_recipe.specs.Conditions.{same_name}
-use Rattle.batch_set.specs.Linking.{IsLinkedIn}
-use Rattle.batch_set.proofs.TableRows.{AreMapped}
+use Rattle.batch_set.{specs.Linking.IsLinkedIn, proofs.TableRows.AreMapped}
 use Rattle.batch_verify.specs.Trials.{bound_by}
 use Rattle.batch_verify.proofs.trial.takers_in.Given as goal
 

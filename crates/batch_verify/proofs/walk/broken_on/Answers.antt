@@ -1,22 +1,10 @@
 use Rattle.std.proofs.Common.{◌≡◌, ◌≤◌, ◌+◌, ℕ, List, Option, Some, None, Ok, Err, length, option_copied, get_or, slice_get, sym, ap, ◌∙◌, subst, arith}
 use Rattle.std.proofs.lemmas.Option.{slice_get-get_or}
-use Rattle.batch_recipe.specs.Outlines.{act_of_kind}
-use Rattle.batch_recipe.specs.declared.act.Act.{Act}
-use Rattle.batch_recipe.specs.declared.entry.Entry.{Entry}
+use Rattle.batch_recipe.{specs.Outlines.act_of_kind, specs.declared.act.Act.Act, specs.declared.entry.Entry.Entry, proofs.NodesAbove.as_many, specs.Procedure.bound_tree, specs.Procedure.sites}
 use Rattle.batch_recipe.specs.declared.entry.Kind.TheVariants as kind
-use Rattle.batch_recipe.proofs.NodesAbove.{as_many}
 use Rattle.batch_model.specs.Setups.{setup_of}
 use Rattle.batch_set.specs.Looked.{needs_by}
-use Rattle.batch_verify.specs.Asking.{asks_by}
-use Rattle.batch_verify.specs.Bindings.{takers_of}
-use Rattle.batch_verify.specs.Trials.{bound_by}
-use Rattle.batch_verify.specs.Refusals.{ranking_in, IsFirstBroken}
-use Rattle.batch_verify.specs.Ways.{bound_parts}
-use Rattle.batch_verify.specs.declared.rule.Rule.{Rule}
-use Rattle.batch_verify.specs.declared.site.Path.{Path}
-use Rattle.batch_recipe.specs.Procedure.{bound_tree, sites}
-use Rattle.batch_verify.proofs.AsksByName.{says-asks}
-use Rattle.batch_verify.proofs.Paths.{KeepsPaths-more, number_above, looked, fault_known, path_stops, paths_end}
+use Rattle.batch_verify.{specs.Asking.asks_by, specs.Bindings.takers_of, specs.Trials.bound_by, specs.Refusals.ranking_in, specs.Refusals.IsFirstBroken, specs.Ways.bound_parts, specs.declared.rule.Rule.Rule, specs.declared.site.Path.Path, proofs.AsksByName.says-asks, proofs.Paths.KeepsPaths-more, proofs.Paths.number_above, proofs.Paths.looked, proofs.Paths.fault_known, proofs.Paths.path_stops, proofs.Paths.paths_end}
 use Rattle.batch_verify.proofs.walk.broken_on.Goals as goal
 
 abbrev no_entry : Entry

@@ -1,7 +1,5 @@
 use Rattle.std.specs.Option.{option_copied}
-use Rattle.batch_verify.specs.Refusals.{ranking_in}
-use Rattle.batch_verify.specs.Trials.{bound_by}
-use Rattle.batch_verify.proofs.Paths.{KeepsPaths}
+use Rattle.batch_verify.{specs.Refusals.ranking_in, specs.Trials.bound_by, proofs.Paths.KeepsPaths}
 use Rattle.batch_verify.proofs.walk.broken_on.Given as goal
 
 abbrev pub invariant-loop-entry : goal.invariant-loop-entry

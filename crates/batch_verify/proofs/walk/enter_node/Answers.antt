@@ -1,9 +1,7 @@
 use Rattle.std.proofs.Common.{◌≡◌, Some, sym, ap, ◌∙◌, subst, option_copied}
-use Rattle.batch_recipe.specs.Expanding.{needs_with}
-use Rattle.batch_recipe.specs.declared.act.Act.{Act}
+use Rattle.batch_recipe.specs.{Expanding.needs_with, declared.act.Act.Act}
 use Rattle.batch_model.specs.Cleared.{Level}
-use Rattle.batch_verify.specs.Asking.{asks_of, asks_on}
-use Rattle.batch_verify.specs.Walking.{IsEntered, ranks_on}
+use Rattle.batch_verify.specs.{Asking.asks_of, Asking.asks_on, Walking.IsEntered, Walking.ranks_on}
 use Rattle.batch_verify.proofs.walk.enter_node.Goals as goal
 
 some_is : (a b : Act) → Some a ≡ Some b → a ≡ b

@@ -2,10 +2,7 @@ use Rattle.std.proofs.Common.{List}
 use Rattle.std.specs.Option.{option_copied}
 use Rattle.batch_recipe.specs.declared.recipe.Recipe as document
 use Rattle.batch_model.specs.Setups.{master_of, setup_of}
-use Rattle.batch_verify.specs.Refusals.{ranking_in}
-use Rattle.batch_verify.specs.Trials.{rank_or_0, roles_raised}
-use Rattle.batch_verify.proofs.LeastVerdict.{IsLeast}
-use Rattle.batch_verify.proofs.Trials.{Both, ByNumber}
+use Rattle.batch_verify.{specs.Refusals.ranking_in, specs.Trials.rank_or_0, specs.Trials.roles_raised, proofs.LeastVerdict.IsLeast, proofs.Trials.Both, proofs.Trials.ByNumber}
 use Rattle.batch_verify.proofs.walk.first_broken.Given as goal
 
 abbrev pub invariant-loop-number : goal.invariant-loop-number

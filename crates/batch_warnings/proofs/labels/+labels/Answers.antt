@@ -1,8 +1,6 @@
 use Rattle.std.proofs.lemmas.Result.{on_ok_weaker}
-use Rattle.batch_recipe.proofs.Diagrams.{diagram_of-seq, diagram_of-par, diagram_of-sel}
-use Rattle.batch_recipe.specs.Diagram.{diagram_of}
-use Rattle.batch_warnings.proofs.AddedNames.{adds-as, adds-both}
-use Rattle.batch_warnings.proofs.Branches.{branches_labelled, choices_labelled}
+use Rattle.batch_recipe.{proofs.Diagrams.diagram_of-seq, proofs.Diagrams.diagram_of-par, proofs.Diagrams.diagram_of-sel, specs.Diagram.diagram_of}
+use Rattle.batch_warnings.proofs.{AddedNames.adds-as, AddedNames.adds-both, Branches.branches_labelled, Branches.choices_labelled}
 use Rattle.batch_warnings.proofs.labels.+labels.Goals as goal
 
 pub add_of_chart-returns-in-Seq : goal.add_of_chart-returns-in-Seq

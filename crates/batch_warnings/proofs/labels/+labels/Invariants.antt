@@ -1,8 +1,7 @@
 use Rattle.std.proofs.Common.{take}
 use Rattle.std.specs.List.{list_any}
 use Rattle.batch_recipe.specs.Diagram.{diagram_of}
-use Rattle.batch_warnings.specs.LabelSets.{AddsNames}
-use Rattle.batch_warnings.specs.Warnings.{has_label}
+use Rattle.batch_warnings.specs.{LabelSets.AddsNames, Warnings.has_label}
 use Rattle.batch_warnings.proofs.labels.+labels.Given as goal
 
 -- the labels of the branches so far were added

@@ -1,7 +1,6 @@
 use Rattle.std.proofs.Common.{[], take}
 use Rattle.std.specs.List.{list_any}
-use Rattle.batch_warnings.specs.LabelSets.{AddsNames}
-use Rattle.batch_warnings.specs.Warnings.{act_has_label}
+use Rattle.batch_warnings.specs.{LabelSets.AddsNames, Warnings.act_has_label}
 use Rattle.batch_warnings.proofs.labels.labels_for.Given as goal
 
 -- the labels of the acts so far were added

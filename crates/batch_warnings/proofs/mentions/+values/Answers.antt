@@ -1,6 +1,5 @@
 use Rattle.std.proofs.Common.{arith, ◌∙◌}
-use Rattle.batch_recipe.proofs.Diagrams.{diagram_of-seq, diagram_of-par, diagram_of-sel}
-use Rattle.batch_recipe.specs.Diagram.{diagram_of}
+use Rattle.batch_recipe.{proofs.Diagrams.diagram_of-seq, proofs.Diagrams.diagram_of-par, proofs.Diagrams.diagram_of-sel, specs.Diagram.diagram_of}
 use Rattle.batch_warnings.proofs.Branches.{branches_compare, choices_compare}
 use Rattle.batch_warnings.proofs.mentions.+values.Goals as goal
 

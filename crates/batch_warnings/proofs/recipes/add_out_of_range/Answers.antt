@@ -1,7 +1,6 @@
 use Rattle.std.proofs.Common.{arith, ◌++◌, ◌∷◌, [], not, if◌then◌else◌, ap, sym, ◌∙◌}
 use Rattle.batch_recipe.specs.Formula.{is_in_range}
-use Rattle.batch_warnings.specs.declared.warning.RecipeWarning.TheVariants.{ValueOutOfRange}
-use Rattle.batch_warnings.proofs.NumbersOfMatches.{numbers_on, numbers_through}
+use Rattle.batch_warnings.{specs.declared.warning.RecipeWarning.TheVariants.ValueOutOfRange, proofs.NumbersOfMatches.numbers_on, proofs.NumbersOfMatches.numbers_through}
 use Rattle.batch_warnings.proofs.recipes.add_out_of_range.Goals as goal
 
 pub loop-number-preserved : goal.loop-number-preserved

@@ -1,7 +1,6 @@
 use Rattle.std.proofs.Common.{◌≡◌, ◌++◌, not, map, take}
 use Rattle.batch_recipe.specs.Formula.{is_in_range}
-use Rattle.batch_warnings.specs.Warnings.{numbers_passing}
-use Rattle.batch_warnings.specs.declared.warning.RecipeWarning.TheVariants.{ValueOutOfRange}
+use Rattle.batch_warnings.specs.{Warnings.numbers_passing, declared.warning.RecipeWarning.TheVariants.ValueOutOfRange}
 use Rattle.batch_warnings.proofs.recipes.add_out_of_range.Given as goal
 
 abbrev pub invariant-loop-number : goal.invariant-loop-number

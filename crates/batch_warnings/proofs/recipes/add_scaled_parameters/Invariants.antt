@@ -1,7 +1,6 @@
 use Rattle.std.proofs.Common.{◌≡◌, ◌++◌, ◌&&◌, not, map, take}
 use Rattle.std.specs.List.{list_any}
-use Rattle.batch_warnings.specs.Warnings.{numbers_passing, takes_value}
-use Rattle.batch_warnings.specs.declared.warning.RecipeWarning.TheVariants.{ScaledParameter}
+use Rattle.batch_warnings.specs.{Warnings.numbers_passing, Warnings.takes_value, declared.warning.RecipeWarning.TheVariants.ScaledParameter}
 use Rattle.batch_warnings.proofs.recipes.add_scaled_parameters.Given as goal
 
 abbrev pub invariant-loop-number : goal.invariant-loop-number

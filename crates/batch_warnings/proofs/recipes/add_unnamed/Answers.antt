@@ -1,7 +1,5 @@
-use Rattle.std.proofs.Common.{arith, arith, ◌++◌, ◌∷◌, [], not, if◌then◌else◌, ap, sym, ◌∙◌}
-use Rattle.batch_warnings.specs.Warnings.{is_named}
-use Rattle.batch_warnings.specs.declared.warning.RecipeWarning.TheVariants.{UnnamedAct}
-use Rattle.batch_warnings.proofs.NumbersOfMatches.{numbers_on, numbers_through}
+use Rattle.std.proofs.Common.{arith, ◌++◌, ◌∷◌, [], not, if◌then◌else◌, ap, sym, ◌∙◌}
+use Rattle.batch_warnings.{specs.Warnings.is_named, specs.declared.warning.RecipeWarning.TheVariants.UnnamedAct, proofs.NumbersOfMatches.numbers_on, proofs.NumbersOfMatches.numbers_through}
 use Rattle.batch_warnings.proofs.recipes.add_unnamed.Goals as goal
 
 pub loop-number-preserved : goal.loop-number-preserved

@@ -1,6 +1,5 @@
 use Rattle.std.proofs.Common.{◌≡◌, ◌++◌, not, map, take}
-use Rattle.batch_warnings.specs.Warnings.{numbers_passing, is_named}
-use Rattle.batch_warnings.specs.declared.warning.RecipeWarning.TheVariants.{UnnamedAct}
+use Rattle.batch_warnings.specs.{Warnings.numbers_passing, Warnings.is_named, declared.warning.RecipeWarning.TheVariants.UnnamedAct}
 use Rattle.batch_warnings.proofs.recipes.add_unnamed.Given as goal
 
 abbrev pub invariant-loop-number : goal.invariant-loop-number

@@ -1,7 +1,6 @@
 use Rattle.std.proofs.Common.{◌≡◌, ◌++◌, ◌&&◌, not, map, take}
 use Rattle.std.specs.List.{list_any}
-use Rattle.batch_warnings.specs.Warnings.{numbers_passing, act_reports, is_compared}
-use Rattle.batch_warnings.specs.declared.warning.RecipeWarning.TheVariants.{UnreportedOutput}
+use Rattle.batch_warnings.specs.{Warnings.numbers_passing, Warnings.act_reports, Warnings.is_compared, declared.warning.RecipeWarning.TheVariants.UnreportedOutput}
 use Rattle.batch_warnings.proofs.recipes.add_unreported.Given as goal
 
 abbrev pub invariant-loop-number : goal.invariant-loop-number

@@ -1,8 +1,6 @@
 use Rattle.std.proofs.Common.{arith, ◌++◌, ◌∷◌, [], not, if◌then◌else◌, ap, sym, ◌∙◌}
 use Rattle.std.specs.List.{list_any}
-use Rattle.batch_warnings.specs.Warnings.{takes_role}
-use Rattle.batch_warnings.specs.declared.warning.RecipeWarning.TheVariants.{UnusedRole}
-use Rattle.batch_warnings.proofs.NumbersOfMatches.{numbers_on, numbers_through}
+use Rattle.batch_warnings.{specs.Warnings.takes_role, specs.declared.warning.RecipeWarning.TheVariants.UnusedRole, proofs.NumbersOfMatches.numbers_on, proofs.NumbersOfMatches.numbers_through}
 use Rattle.batch_warnings.proofs.recipes.add_unused_roles.Goals as goal
 
 pub loop-number-preserved : goal.loop-number-preserved

@@ -1,8 +1,6 @@
 use Rattle.std.proofs.Common.{◌++◌, codes, decimal, arith}
 use Rattle.std.proofs.lemmas.Result.{err_from_is_err_and}
-use Rattle.batch_wire.specs.Pieces.{text_of_place}
-use Rattle.batch_wire.proofs.PlaceParts.{entry-read, past-entries, no-text, root-text, text-below}
-use Rattle.batch_wire.proofs.WrittenTexts.{longer_text, then_last}
+use Rattle.batch_wire.{specs.Pieces.text_of_place, proofs.PlaceParts.entry-read, proofs.PlaceParts.past-entries, proofs.PlaceParts.no-text, proofs.PlaceParts.root-text, proofs.PlaceParts.text-below, proofs.WrittenTexts.longer_text, proofs.WrittenTexts.then_last}
 use Rattle.batch_wire.proofs.places.+write_place_in.Goals as goal
 
 pub returns-in_default : goal.returns-in_default

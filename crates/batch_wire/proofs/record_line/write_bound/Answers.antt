@@ -1,15 +1,7 @@
 use Rattle.std.proofs.Common.{◌≡◌, ◌+◌, ◌≤◌, ◌<◌, ◌++◌, [], codes, ℕ, List, Some, get_or, slice_get, length, drop, map, refl, sym, ap, ◌∙◌, append_assoc, rules}
-use Rattle.std.specs.Prelude.{option_map}
-use Rattle.std.specs.List.{zip}
-use Rattle.std.proofs.KnownBytes.{Appends-nil, Appends-trans}
-use Rattle.std.proofs.lemmas.List.{length-map}
-use Rattle.std.proofs.lemmas.Option.{slice_get-get_or, slice_get-map}
-use Rattle.std.proofs.lemmas.Result.{err_from_is_err_and}
+use Rattle.std.{specs.Prelude.option_map, specs.List.zip, proofs.KnownBytes.Appends-nil, proofs.KnownBytes.Appends-trans, proofs.lemmas.List.length-map, proofs.lemmas.Option.slice_get-get_or, proofs.lemmas.Option.slice_get-map, proofs.lemmas.Result.err_from_is_err_and}
 use Rattle.batch_engine.specs.Names.{resource_name}
-use Rattle.batch_wire.specs.Pieces.{roles_text}
-use Rattle.batch_wire.specs.RecordText.{role_text}
-use Rattle.batch_wire.proofs.WrittenPairs.{next_pair, all_names, all_others}
-use Rattle.batch_wire.proofs.WrittenTexts.{then_beginning}
+use Rattle.batch_wire.{specs.Pieces.roles_text, specs.RecordText.role_text, proofs.WrittenPairs.next_pair, proofs.WrittenPairs.all_names, proofs.WrittenPairs.all_others, proofs.WrittenTexts.then_beginning}
 use Rattle.batch_wire.proofs.record_line.write_bound.Goals as goal
 
 -- the item at a number in a list that is made of another

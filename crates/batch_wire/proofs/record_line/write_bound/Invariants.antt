@@ -1,6 +1,5 @@
 use Rattle.std.proofs.Common.{◌≡◌, ℕ, List, ◌++◌, drop, map}
-use Rattle.std.specs.Io.KnownBytes.{Appends}
-use Rattle.std.specs.List.{zip}
+use Rattle.std.specs.{Io.KnownBytes.Appends, List.zip}
 use Rattle.batch_engine.specs.Names.{resource_name}
 use Rattle.batch_wire.specs.Pieces.{roles_text}
 use Rattle.batch_wire.proofs.record_line.write_bound.Given as goal

@@ -1,11 +1,7 @@
 use Rattle.std.proofs.Common.{◌≡◌, ◌++◌, codes, append_assoc, sym, ◌∙◌}
-use Rattle.std.proofs.KnownBytes.{Appends-trans}
-use Rattle.std.proofs.lemmas.Result.{err_from_is_err_and}
+use Rattle.std.proofs.{KnownBytes.Appends-trans, lemmas.Result.err_from_is_err_and}
 use Rattle.batch_engine.specs.Names.{recipe_name, roles_taken}
-use Rattle.batch_wire.specs.Pieces.{created_front, roles_text}
-use Rattle.batch_wire.specs.RecordText.{role_texts}
-use Rattle.batch_wire.proofs.WrittenPairs.{line_of_created}
-use Rattle.batch_wire.proofs.WrittenTexts.{longer_text, then_beginning, then_last}
+use Rattle.batch_wire.{specs.Pieces.created_front, specs.Pieces.roles_text, specs.RecordText.role_texts, proofs.WrittenPairs.line_of_created, proofs.WrittenTexts.longer_text, proofs.WrittenTexts.then_beginning, proofs.WrittenTexts.then_last}
 use Rattle.batch_wire.proofs.record_line.write_created.Goals as goal
 
 pub returns-in_err-write_created_front : goal.returns-in_err-write_created_front

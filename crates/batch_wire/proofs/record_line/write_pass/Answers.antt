@@ -1,12 +1,8 @@
 use Rattle.std.proofs.Common.{◌≡◌, ◌++◌, List, ℕ, codes, append_assoc, sym, ◌∙◌}
-use Rattle.std.proofs.KnownBytes.{Appends-trans}
-use Rattle.std.proofs.lemmas.Result.{err_from_is_err_and}
+use Rattle.std.proofs.{KnownBytes.Appends-trans, lemmas.Result.err_from_is_err_and}
 use Rattle.batch_recipe.specs.Texts.{place_text}
 use Rattle.batch_engine.specs.Names.{need_of, recipe_place_at, resource_name}
-use Rattle.batch_wire.specs.Pieces.{told_text}
-use Rattle.batch_wire.specs.RecordText.{need_text}
-use Rattle.batch_wire.proofs.WrittenPairs.{line_of_pass}
-use Rattle.batch_wire.proofs.WrittenTexts.{longer_text, then_beginning, then_last}
+use Rattle.batch_wire.{specs.Pieces.told_text, specs.RecordText.need_text, proofs.WrittenPairs.line_of_pass, proofs.WrittenTexts.longer_text, proofs.WrittenTexts.then_beginning, proofs.WrittenTexts.then_last}
 use Rattle.batch_wire.proofs.record_line.write_pass.Goals as goal
 
 abbrev front_of : List ℕ → List ℕ

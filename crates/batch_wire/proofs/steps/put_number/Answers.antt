@@ -1,6 +1,5 @@
 use Rattle.std.proofs.Common.{◌++◌, take, ◌+◌, ap, sym, ◌∙◌, arith}
-use Rattle.std.proofs.lemmas.Fmt.{decimal_digit}
-use Rattle.std.proofs.lemmas.List.{take_more_set}
+use Rattle.std.proofs.lemmas.{Fmt.decimal_digit, List.take_more_set}
 use Rattle.batch_wire.proofs.steps.put_number.Goals as goal
 
 pub returns-then-number-lt10-clause-put : goal.returns-then-number-lt10-clause-put

@@ -1,6 +1,5 @@
 use Rattle.std.proofs.Common.{◌++◌, ◌/◌, ◌%◌, encode_utf8, encode_utf8_all, string_bytes}
-use Rattle.batch_wording.specs.Shown.{escape, hex_digit}
-use Rattle.batch_wording.proofs.TextGrowth.{four_more, grown_to}
+use Rattle.batch_wording.{specs.Shown.escape, specs.Shown.hex_digit, proofs.TextGrowth.four_more, proofs.TextGrowth.grown_to}
 use Rattle.batch_wording.proofs.showing.push_escape.Goals as goal
 
 pub returns : goal.returns

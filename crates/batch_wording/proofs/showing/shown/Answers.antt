@@ -1,6 +1,5 @@
 use Rattle.std.proofs.Common.{sym, ◌∙◌, append_assoc, append-nil}
-use Rattle.std.proofs.lemmas.Str.{IsUtf8-past_char, chars_past_char}
-use Rattle.std.proofs.StrCases.{chars_of_empty}
+use Rattle.std.proofs.{lemmas.Str.IsUtf8-past_char, lemmas.Str.chars_past_char, StrCases.chars_of_empty}
 use Rattle.batch_wording.proofs.ShownLines.{shown_step}
 use Rattle.batch_wording.proofs.showing.shown.Goals as goal
 

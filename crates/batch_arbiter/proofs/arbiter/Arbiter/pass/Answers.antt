@@ -1,6 +1,5 @@
 use Rattle.std.proofs.Common.{◌≡◌, ◌<◌, ◌-◌, ◌++◌, ◌∷◌, [], ℕ, length, ap, subst, ◌∙◌}
-use Rattle.batch_arbiter.specs.Linked.{list_at, with_list, IsRemoved}
-use Rattle.batch_arbiter.proofs.SharesAndLines.{seen-pass}
+use Rattle.batch_arbiter.{specs.Linked.list_at, specs.Linked.with_list, specs.Linked.IsRemoved, proofs.SharesAndLines.seen-pass}
 use Rattle.batch_arbiter.proofs.arbiter.Arbiter.pass.Goals as goal
 
 pub returns-in-Some : goal.returns-in-Some

@@ -1,9 +1,6 @@
 use Rattle.std.proofs.Common.{◌≡◌, ◌<◌, arith, length, get_or, sym, ap}
-use Rattle.std.specs.Prelude.{slice_get}
-use Rattle.std.proofs.lemmas.List.{get_or_read, length-map}
-use Rattle.batch_arbiter.specs.declared.ends.Ends.{Ends}
-use Rattle.batch_arbiter.specs.Linked.{at, ends_at, no_list, nowhere}
-use Rattle.batch_arbiter.proofs.Calls.{first-within, first-seen}
+use Rattle.std.{specs.Prelude.slice_get, proofs.lemmas.List.get_or_read, proofs.lemmas.List.length-map}
+use Rattle.batch_arbiter.{specs.declared.ends.Ends.Ends, specs.Linked.at, specs.Linked.ends_at, specs.Linked.no_list, specs.Linked.nowhere, proofs.Calls.first-within, proofs.Calls.first-seen}
 use Rattle.batch_arbiter.proofs.pool.Pool.first.Goals as goal
 
 pub index-requires : goal.index-requires

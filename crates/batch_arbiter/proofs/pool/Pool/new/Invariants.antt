@@ -1,6 +1,5 @@
 use Rattle.std.proofs.Common.{◌≡◌, ◌+◌, ◌<◌, ℕ, length}
-use Rattle.batch_arbiter.specs.Linked.{ends_at}
-use Rattle.batch_arbiter.proofs.PoolGrowth.{empty_list}
+use Rattle.batch_arbiter.{specs.Linked.ends_at, proofs.PoolGrowth.empty_list}
 use Rattle.batch_arbiter.proofs.pool.Pool.new.Given as goal
 
 abbrev pub invariant-loop-list : goal.invariant-loop-list

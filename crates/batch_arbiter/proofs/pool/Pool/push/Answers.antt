@@ -1,7 +1,6 @@
 use Rattle.std.proofs.Common.{◌≡◌, ◌<◌, arith, length, add-one, refl, ap, ◌-◌}
 use Rattle.std.proofs.lemmas.List.{get_or_read, length-map}
-use Rattle.batch_arbiter.specs.Linked.{at, ends_at, no_list, nowhere}
-use Rattle.batch_arbiter.proofs.Calls.{joins, len-fits, unused-within}
+use Rattle.batch_arbiter.{specs.Linked.at, specs.Linked.ends_at, specs.Linked.no_list, specs.Linked.nowhere, proofs.Calls.joins, proofs.Calls.len-fits, proofs.Calls.unused-within}
 use Rattle.batch_arbiter.proofs.pool.Pool.push.Goals as goal
 
 pub overflow_add-ends : goal.overflow_add-ends

@@ -1,6 +1,5 @@
 use Rattle.std.proofs.Common.{arith, eq-eqb}
-use Rattle.batch_arbiter.specs.Linked.{entry_claim, list_at}
-use Rattle.batch_arbiter.proofs.ListWithdrawal.{none-first, thinned-first, thinned-none}
+use Rattle.batch_arbiter.{specs.Linked.entry_claim, specs.Linked.list_at, proofs.ListWithdrawal.none-first, proofs.ListWithdrawal.thinned-first, proofs.ListWithdrawal.thinned-none}
 use Rattle.batch_arbiter.proofs.pool.Pool.remove_batch.Goals as goal
 
 pub returns-then-most-eq0 : goal.returns-then-most-eq0

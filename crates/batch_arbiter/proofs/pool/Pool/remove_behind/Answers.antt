@@ -1,12 +1,6 @@
 use Rattle.std.proofs.Common.{◌≡◌, ◌<◌, ◌≤◌, length, arith, sym, ap, ◌∙◌, eq-eqb}
-use Rattle.std.proofs.lemmas.Bool.{ne_eqb}
-use Rattle.std.proofs.lemmas.List.{get_or_read, length-map}
-use Rattle.batch_arbiter.specs.declared.ends.Ends.{Ends}
-use Rattle.batch_arbiter.specs.declared.entry.Entry.{Entry}
-use Rattle.batch_arbiter.specs.Allocation.{is_of_batch}
-use Rattle.batch_arbiter.specs.Linked.{Lists, at, entry_claim, ends_at, list_at, no_list, nowhere}
-use Rattle.batch_arbiter.proofs.Calls.{length-seen}
-use Rattle.batch_arbiter.proofs.ListWithdrawal.{walked-first, walked-within, walked-gone, walked-kept, walked-through, walked-enough}
+use Rattle.std.proofs.lemmas.{Bool.ne_eqb, List.get_or_read, List.length-map}
+use Rattle.batch_arbiter.{specs.declared.ends.Ends.Ends, specs.declared.entry.Entry.Entry, specs.Allocation.is_of_batch, specs.Linked.Lists, specs.Linked.at, specs.Linked.entry_claim, specs.Linked.ends_at, specs.Linked.list_at, specs.Linked.no_list, specs.Linked.nowhere, proofs.Calls.length-seen, proofs.ListWithdrawal.walked-first, proofs.ListWithdrawal.walked-within, proofs.ListWithdrawal.walked-gone, proofs.ListWithdrawal.walked-kept, proofs.ListWithdrawal.walked-through, proofs.ListWithdrawal.walked-enough}
 use Rattle.batch_arbiter.proofs.pool.Pool.remove_behind.Goals as goal
 use Rattle.batch_arbiter.proofs.pool.Pool.remove_behind.Goals.{After-index-ends, then-index-batch, else-index-batch}
 

@@ -1,8 +1,6 @@
 use Rattle.std.proofs.Common.{◌≡◌, ◌<◌, ◌+◌, List, length, arith, ap, ap₂, ◌∙◌}
 use Rattle.std.proofs.lemmas.List.{get_or_read, length-map}
-use Rattle.batch_arbiter.specs.declared.entry.Entry.{Entry}
-use Rattle.batch_arbiter.specs.Linked.{at, ends_at, no_list, nowhere, IsBefore}
-use Rattle.batch_arbiter.proofs.ClaimRemoval.{here-within, later-seen, length-unlinked, next-within, removed-units, unlinks, unlinks-act}
+use Rattle.batch_arbiter.{specs.declared.entry.Entry.Entry, specs.Linked.at, specs.Linked.ends_at, specs.Linked.no_list, specs.Linked.nowhere, specs.Linked.IsBefore, proofs.ClaimRemoval.here-within, proofs.ClaimRemoval.later-seen, proofs.ClaimRemoval.length-unlinked, proofs.ClaimRemoval.next-within, proofs.ClaimRemoval.removed-units, proofs.ClaimRemoval.unlinks, proofs.ClaimRemoval.unlinks-act}
 use Rattle.batch_arbiter.proofs.pool.Pool.remove_later.Goals as goal
 
 pub before_act-requires-clause-later : goal.before_act-requires-clause-later

@@ -1,6 +1,5 @@
 use Rattle.std.proofs.Common.{◌≡◌, List, ap, ◌∙◌, map, sym, subst}
-use Rattle.batch_arbiter.specs.declared.entry.Entry.{Entry}
-use Rattle.batch_arbiter.specs.Linked.{Lists, AreLinkedLists, entry_claims}
+use Rattle.batch_arbiter.specs.{declared.entry.Entry.Entry, Linked.Lists, Linked.AreLinkedLists, Linked.entry_claims}
 use Rattle.batch_arbiter.proofs.pool.Pool.reserve.Goals as goal
 
 pub returns-clause-rest : goal.returns-clause-rest

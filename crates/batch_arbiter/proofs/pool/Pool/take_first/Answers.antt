@@ -1,7 +1,6 @@
 use Rattle.std.proofs.Common.{◌≡◌, ◌<◌, ◌+◌, arith, length, get_or, refl, ap}
 use Rattle.std.proofs.lemmas.List.{get_or_read, length-map}
-use Rattle.batch_arbiter.specs.Linked.{at, ends_at, no_list, nowhere}
-use Rattle.batch_arbiter.proofs.Calls.{leaves, first-within, first-seen, length-seen}
+use Rattle.batch_arbiter.{specs.Linked.at, specs.Linked.ends_at, specs.Linked.no_list, specs.Linked.nowhere, proofs.Calls.leaves, proofs.Calls.first-within, proofs.Calls.first-seen, proofs.Calls.length-seen}
 use Rattle.batch_arbiter.proofs.pool.Pool.take_first.Goals as goal
 
 pub index-taken-requires : goal.index-taken-requires

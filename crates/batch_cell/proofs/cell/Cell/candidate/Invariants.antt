@@ -1,6 +1,5 @@
 use Rattle.std.proofs.Common.{◌≡◌, filter, drop, slice_get}
-use Rattle.batch_cell.specs.Equipment.{unit_names}
-use Rattle.batch_cell.specs.LookUps.{units_of_class, is_of_class}
+use Rattle.batch_cell.specs.{Equipment.unit_names, LookUps.units_of_class, LookUps.is_of_class}
 use Rattle.batch_cell.proofs.cell.Cell.candidate.Given as goal
 
 -- the wanted unit has the index `left` among the remaining units of the class

@@ -1,6 +1,5 @@
 use Rattle.std.proofs.Common.{length, ap, arith}
-use Rattle.batch_cell.proofs.Candidates.{few_counted}
-use Rattle.batch_cell.specs.LookUps.{is_of_class}
+use Rattle.batch_cell.{proofs.Candidates.few_counted, specs.LookUps.is_of_class}
 use Rattle.batch_cell.proofs.cell.Cell.candidates.Goals as goal
 
 pub overflow_add-count : goal.overflow_add-count

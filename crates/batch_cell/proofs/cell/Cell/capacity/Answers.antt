@@ -1,6 +1,5 @@
 use Rattle.std.proofs.Common.{◌≡◌, ◌<◌, ◌≤◌, ◌-◌, length, get_or, sym, ap, ◌∙◌, arith, rules}
-use Rattle.batch_cell.proofs.Resources.{capacity_of_equipment, capacity_of_shared}
-use Rattle.batch_cell.specs.LookUps.{resources_of}
+use Rattle.batch_cell.{proofs.Resources.capacity_of_equipment, proofs.Resources.capacity_of_shared, specs.LookUps.resources_of}
 use Rattle.batch_cell.proofs.cell.Cell.capacity.Goals as goal
 
 pub returns-then-number-first_shared : goal.returns-then-number-first_shared

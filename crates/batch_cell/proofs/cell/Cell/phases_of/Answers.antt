@@ -1,7 +1,6 @@
 use Rattle.std.proofs.Common.{◌<◌, [], length, get_or, ◌∙◌, ap, arith}
 use Rattle.std.specs.HashSet.{keys}
-use Rattle.batch_cell.proofs.OfferedPhases.{offered_at, few_unit_phases, length-unit_names}
-use Rattle.batch_cell.specs.LookUps.{units_of}
+use Rattle.batch_cell.{proofs.OfferedPhases.offered_at, proofs.OfferedPhases.few_unit_phases, proofs.OfferedPhases.length-unit_names, specs.LookUps.units_of}
 use Rattle.batch_cell.proofs.cell.Cell.phases_of.Goals as goal
 
 pub returns : goal.returns

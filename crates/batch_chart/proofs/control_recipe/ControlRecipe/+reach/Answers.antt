@@ -1,14 +1,7 @@
 use Rattle.batch_chart.specs.declared.node.Kind.TheVariants as kind
-use Rattle.batch_chart.specs.Needs.{needs_of_kind}
-use Rattle.batch_chart.specs.Outlined.{kind_at}
-use Rattle.batch_chart.proofs.FewTurns.{few-turns}
+use Rattle.batch_chart.{specs.Needs.needs_of_kind, specs.Outlined.kind_at, proofs.FewTurns.few-turns, proofs.TreePositions.within, proofs.TreePositions.below-end, proofs.TreePositions.seq-standing, proofs.TreePositions.par-standing, proofs.TreePositions.sel-standing, proofs.TreePositions.loop-standing, proofs.TreePositions.first-standing, proofs.TreePositions.rest-standing, proofs.TreePositions.choice-standing, proofs.TreePositions.choices-standing, proofs.TreePositions.choices-below, proofs.TreePositions.end-fits, proofs.ReachedTree.reached-step, proofs.ReachedTree.reached-skip, proofs.ReachedTree.reached-seq, proofs.ReachedTree.reached-par, proofs.ReachedTree.reached-sel, proofs.ReachedTree.reached-loop, proofs.ReachedTree.first-end_of_row, proofs.ReachedTree.first-later, proofs.ReachedTree.first-here, proofs.ReachedTree.each-end_of_row, proofs.ReachedTree.each-more, proofs.ReachedTree.choice-last, proofs.ReachedTree.choice-taken, proofs.ReachedTree.choice-passed, proofs.ReachedTreeSigns.neatly-ready, proofs.ReachedTreeSigns.neatly-none, proofs.ReachedTreeSigns.neatly-seq, proofs.ReachedTreeSigns.neatly-par, proofs.ReachedTreeSigns.neatly-sel, proofs.ReachedTreeSigns.neatly-loop, proofs.ReachedTreeSigns.neatly-end, proofs.ReachedTreeSigns.neatly-later, proofs.ReachedTreeSigns.neatly-here, proofs.ReachedTreeSigns.neatly-chosen, proofs.ReachedTreeSigns.neatly-passed, specs.Noting.stage_signs, specs.declared.stage.Stage.TheVariants.Ready}
 use Rattle.std.proofs.Common.{rules, arith, ◌∙◌, ◌≡◌, ◌&&◌, true, false, refl, sym, ap, subst, ℕ, ◌⊎◌}
 use Rattle.std.proofs.Math.ListN.{length-set}
-use Rattle.batch_chart.proofs.TreePositions.{within, below-end, seq-standing, par-standing, sel-standing, loop-standing, first-standing, rest-standing, choice-standing, choices-standing, choices-below, end-fits}
-use Rattle.batch_chart.proofs.ReachedTree.{reached-step, reached-skip, reached-seq, reached-par, reached-sel, reached-loop, first-end_of_row, first-later, first-here, each-end_of_row, each-more, choice-last, choice-taken, choice-passed}
-use Rattle.batch_chart.proofs.ReachedTreeSigns.{neatly-ready, neatly-none, neatly-seq, neatly-par, neatly-sel, neatly-loop, neatly-end, neatly-later, neatly-here, neatly-chosen, neatly-passed}
-use Rattle.batch_chart.specs.Noting.{stage_signs}
-use Rattle.batch_chart.specs.declared.stage.Stage.TheVariants.{Ready}
 use Rattle.batch_chart.proofs.control_recipe.ControlRecipe.+reach.Goals as goal
 
 pub reach-bounds-self-n : goal.reach-bounds-self-n

@@ -1,8 +1,5 @@
-use Rattle.batch_chart.specs.Needs.{needs_of_kind}
+use Rattle.batch_chart.{specs.Needs.needs_of_kind, specs.Noting.open_signs, proofs.ActAfterMove.makes-begin, proofs.ActAfterMove.begin-stands, proofs.ActAfterMove.laid-lengths, proofs.SignUpkeep.keeps-begin}
 use Rattle.std.proofs.Common.{◌∙◌, arith, refl, ap, length-set}
-use Rattle.batch_chart.specs.Noting.{open_signs}
-use Rattle.batch_chart.proofs.ActAfterMove.{makes-begin, begin-stands, laid-lengths}
-use Rattle.batch_chart.proofs.SignUpkeep.{keeps-begin}
 use Rattle.batch_chart.proofs.control_recipe.ControlRecipe.begin.Goals as goal
 
 pub reach-over-requires : goal.reach-over-requires

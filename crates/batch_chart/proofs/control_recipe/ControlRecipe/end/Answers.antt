@@ -1,9 +1,5 @@
 use Rattle.std.proofs.Common.{◌∙◌, refl, ap, subst}
-use Rattle.batch_chart.specs.Outlined.{kind_at}
-use Rattle.batch_chart.specs.Freeing.{IsFreed}
-use Rattle.batch_chart.specs.Needs.{needs_of_kind}
-use Rattle.batch_chart.proofs.ActAfterMove.{makes-end}
-use Rattle.batch_chart.proofs.SignUpkeep.{end-acts}
+use Rattle.batch_chart.{specs.Outlined.kind_at, specs.Freeing.IsFreed, specs.Needs.needs_of_kind, proofs.ActAfterMove.makes-end, proofs.SignUpkeep.end-acts}
 use Rattle.batch_chart.proofs.control_recipe.ControlRecipe.end.Goals as goal
 
 pub free-requires : goal.free-requires

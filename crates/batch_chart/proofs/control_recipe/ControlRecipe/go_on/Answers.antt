@@ -1,9 +1,5 @@
 use Rattle.std.proofs.Common.{◌∙◌, ap, subst}
-use Rattle.batch_chart.specs.Outlined.{kind_at}
-use Rattle.batch_chart.specs.Freeing.{IsFreed}
-use Rattle.batch_chart.specs.Needs.{needs_of_kind}
-use Rattle.batch_chart.proofs.ActAfterMove.{reports-now, reports-same, reports-ended}
-use Rattle.batch_chart.proofs.SignUpkeep.{same-kept, keeps-now, live-acts}
+use Rattle.batch_chart.{specs.Outlined.kind_at, specs.Freeing.IsFreed, specs.Needs.needs_of_kind, proofs.ActAfterMove.reports-now, proofs.ActAfterMove.reports-same, proofs.ActAfterMove.reports-ended, proofs.SignUpkeep.same-kept, proofs.SignUpkeep.keeps-now, proofs.SignUpkeep.live-acts}
 use Rattle.batch_chart.proofs.control_recipe.ControlRecipe.go_on.Goals as goal
 
 pub returns-in-Same : goal.returns-in-Same

@@ -1,7 +1,5 @@
 use Rattle.std.proofs.Common.{rules, arith, refl, sym}
-use Rattle.batch_chart.proofs.TreePositions.{within}
-use Rattle.batch_chart.proofs.ClimbFromNode.{n-standing, seq-rest, passed-on}
-use Rattle.batch_chart.proofs.ClimbSigns.{finished-row, seq-others, neatly-on}
+use Rattle.batch_chart.proofs.{TreePositions.within, ClimbFromNode.n-standing, ClimbFromNode.seq-rest, ClimbFromNode.passed-on, ClimbSigns.finished-row, ClimbSigns.seq-others, ClimbSigns.neatly-on}
 use Rattle.batch_chart.proofs.control_recipe.ControlRecipe.go_on_after.Goals as goal
 
 pub bounds-self-n : goal.bounds-self-n

@@ -1,10 +1,5 @@
-use Rattle.batch_chart.specs.Stages.{is_over_at, stage_at}
+use Rattle.batch_chart.{specs.Stages.is_over_at, specs.Stages.stage_at, proofs.TreePositions.within, proofs.TreePositions.par-standing, proofs.TreePositions.end-fits, proofs.TreeAdvance.left-at, proofs.ClimbFromNode.no-skip, proofs.ClimbFromNode.no-phase, proofs.ClimbFromNode.passed-act, proofs.ClimbFromNode.passed-par, proofs.ClimbFromNode.passed-sel, proofs.ClimbFromNode.told-under, proofs.FinishedRows.over-tells, proofs.ClimbSigns.not-over, proofs.ClimbSigns.finished-row, proofs.ClimbSigns.sel-others, proofs.ClimbSigns.neat-under, proofs.ClimbSigns.neatly-act, proofs.ClimbSigns.neatly-par, proofs.ClimbSigns.neatly-sel}
 use Rattle.std.proofs.Common.{arith, refl, ◌∙◌, ap, inl, inr, length, length-set, sym, rules}
-use Rattle.batch_chart.proofs.TreePositions.{within, par-standing, end-fits}
-use Rattle.batch_chart.proofs.TreeAdvance.{left-at}
-use Rattle.batch_chart.proofs.ClimbFromNode.{no-skip, no-phase, passed-act, passed-par, passed-sel, told-under}
-use Rattle.batch_chart.proofs.FinishedRows.{over-tells}
-use Rattle.batch_chart.proofs.ClimbSigns.{not-over, finished-row, sel-others, neat-under, neatly-act, neatly-par, neatly-sel}
 use Rattle.batch_chart.proofs.control_recipe.ControlRecipe.go_on_at.Goals as goal
 
 pub returns-then-is_over_at : goal.returns-then-is_over_at

@@ -1,8 +1,5 @@
 use Rattle.std.proofs.Common.{◌≡◌, ◌⊎◌, inl, inr, arith, true, refl, sym, ◌∙◌}
-use Rattle.batch_chart.specs.Outlined.{condition_holds, condition_at}
-use Rattle.batch_chart.proofs.TreePositions.{within}
-use Rattle.batch_chart.proofs.ClimbFromNode.{n-standing, passed-last, passed-round}
-use Rattle.batch_chart.proofs.ClimbSigns.{loop-runs, neatly-last, neatly-round}
+use Rattle.batch_chart.{specs.Outlined.condition_holds, specs.Outlined.condition_at, proofs.TreePositions.within, proofs.ClimbFromNode.n-standing, proofs.ClimbFromNode.passed-last, proofs.ClimbFromNode.passed-round, proofs.ClimbSigns.loop-runs, proofs.ClimbSigns.neatly-last, proofs.ClimbSigns.neatly-round}
 use Rattle.batch_chart.proofs.control_recipe.ControlRecipe.go_round.Goals as goal
 
 pub reach-over-requires : goal.reach-over-requires

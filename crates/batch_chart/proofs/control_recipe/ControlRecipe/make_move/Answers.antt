@@ -1,5 +1,4 @@
-use Rattle.batch_chart.proofs.ActAfterMove.{makes-state, makes-send, makes-start, makes-ask}
-use Rattle.batch_chart.proofs.SignUpkeep.{same-kept, keeps-send, keeps-start, keeps-ask}
+use Rattle.batch_chart.proofs.{ActAfterMove.makes-state, ActAfterMove.makes-send, ActAfterMove.makes-start, ActAfterMove.makes-ask, SignUpkeep.same-kept, SignUpkeep.keeps-send, SignUpkeep.keeps-start, SignUpkeep.keeps-ask}
 use Rattle.batch_chart.proofs.control_recipe.ControlRecipe.make_move.Goals as goal
 
 pub returns-in-State : goal.returns-in-State

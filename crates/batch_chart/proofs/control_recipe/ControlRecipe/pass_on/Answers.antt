@@ -1,6 +1,5 @@
 use Rattle.std.proofs.Common.{refl}
-use Rattle.batch_chart.proofs.ActAfterMove.{makes-pass}
-use Rattle.batch_chart.proofs.SignUpkeep.{pass-acts}
+use Rattle.batch_chart.proofs.{ActAfterMove.makes-pass, SignUpkeep.pass-acts}
 use Rattle.batch_chart.proofs.control_recipe.ControlRecipe.pass_on.Goals as goal
 
 pub free-requires : goal.free-requires

@@ -1,6 +1,5 @@
 use Rattle.std.proofs.Common.{refl}
-use Rattle.batch_chart.proofs.ActAfterMove.{makes-release_ready, makes-release}
-use Rattle.batch_chart.proofs.SignUpkeep.{release-acts, keeps-release}
+use Rattle.batch_chart.proofs.{ActAfterMove.makes-release_ready, ActAfterMove.makes-release, SignUpkeep.release-acts, SignUpkeep.keeps-release}
 use Rattle.batch_chart.proofs.control_recipe.ControlRecipe.release.Goals as goal
 
 pub free-requires : goal.free-requires

@@ -1,6 +1,5 @@
 use Rattle.std.proofs.Common.{◌∙◌, arith}
-use Rattle.batch_chart.proofs.PathToRoot.{above-each, some-at, risen-top, risen-stop}
-use Rattle.batch_chart.proofs.EndedActSigns.{left-neat, risen-neat}
+use Rattle.batch_chart.proofs.{PathToRoot.above-each, PathToRoot.some-at, PathToRoot.risen-top, PathToRoot.risen-stop, EndedActSigns.left-neat, EndedActSigns.risen-neat}
 use Rattle.batch_chart.proofs.control_recipe.ControlRecipe.rise.Goals as goal
 
 pub go_on_at-requires-clause-standing : goal.go_on_at-requires-clause-standing

@@ -1,6 +1,5 @@
 use Rattle.std.proofs.Common.{◌≡◌, ◌<◌, ℕ, List, length}
-use Rattle.batch_chart.specs.declared.stage.Stage.{Stage}
-use Rattle.batch_chart.specs.Climbing.{IsRisen, IsNeatlyRisen}
+use Rattle.batch_chart.specs.{declared.stage.Stage.Stage, Climbing.IsRisen, Climbing.IsNeatlyRisen}
 use Rattle.batch_chart.proofs.control_recipe.ControlRecipe.rise.Given as goal
 
 abbrev pub invariant-loop-n : goal.invariant-loop-n

@@ -1,8 +1,6 @@
 use Rattle.std.proofs.Common.{◌∙◌, ap, refl}
 use Rattle.std.proofs.lemmas.List.{with_items_is}
-use Rattle.batch_chart.specs.Meaning.{meaning}
-use Rattle.batch_chart.proofs.RunningCharts.{runs-in-order, went-on}
-use Rattle.batch_chart.proofs.ChartProgress.{granted-runs}
+use Rattle.batch_chart.{specs.Meaning.meaning, proofs.RunningCharts.runs-in-order, proofs.RunningCharts.went-on, proofs.ChartProgress.granted-runs}
 use Rattle.batch_chart.proofs.running.Running.grant.Goals as goal
 
 pub grant_at-requires : goal.grant_at-requires

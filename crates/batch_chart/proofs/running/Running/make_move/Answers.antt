@@ -1,8 +1,6 @@
 use Rattle.std.proofs.Common.{◌∙◌, refl}
 use Rattle.std.proofs.lemmas.List.{with_items_is}
-use Rattle.batch_chart.proofs.RunningCharts.{runs-in-order, is-held, held-nodes}
-use Rattle.batch_chart.proofs.ChartAfterMove.{held-kept, passes-within}
-use Rattle.batch_chart.proofs.ChartProgress.{moved-running, moved-runs}
+use Rattle.batch_chart.proofs.{RunningCharts.runs-in-order, RunningCharts.is-held, RunningCharts.held-nodes, ChartAfterMove.held-kept, ChartAfterMove.passes-within, ChartProgress.moved-running, ChartProgress.moved-runs}
 use Rattle.batch_chart.proofs.running.Running.make_move.Goals as goal
 
 pub move_on-requires : goal.move_on-requires

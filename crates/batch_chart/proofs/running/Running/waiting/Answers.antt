@@ -1,8 +1,6 @@
 use Rattle.std.specs.Prelude.{◌≤◌, ◌<◌, ℕ}
 use Rattle.batch_recipe.specs.Tree.{Tree}
-use Rattle.batch_chart.specs.Charts.{AsksAt, IsChartOf, IsRunningOf, remains}
-use Rattle.batch_chart.specs.Running.{IsAlive}
-use Rattle.batch_chart.proofs.RunningCharts.{some-map}
+use Rattle.batch_chart.{specs.Charts.AsksAt, specs.Charts.IsChartOf, specs.Charts.IsRunningOf, specs.Charts.remains, specs.Running.IsAlive, proofs.RunningCharts.some-map}
 use Rattle.batch_chart.proofs.running.Running.waiting.Goals as goal
 
 pub returns-clause-before : goal.returns-clause-before

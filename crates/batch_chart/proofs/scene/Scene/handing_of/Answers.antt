@@ -1,8 +1,6 @@
 use Rattle.std.proofs.Common.{Some, None, refl, sym, ap, ◌∙◌, subst, length, ◌<◌}
 use Rattle.std.specs.Prelude.{IfSome}
-use Rattle.batch_chart.specs.Nexts.{handed, last_held}
-use Rattle.batch_chart.specs.Passing.{PassesTo}
-use Rattle.batch_chart.specs.Stages.{stage_at}
+use Rattle.batch_chart.specs.{Nexts.handed, Nexts.last_held, Passing.PassesTo, Stages.stage_at}
 use Rattle.batch_chart.proofs.scene.Scene.handing_of.Goals as goal
 
 pub returns-in-None : goal.returns-in-None

@@ -1,8 +1,5 @@
 use Rattle.std.proofs.Common.{sym}
-use Rattle.batch_chart.proofs.NextMoves.{reached-complete, reached-in, reached-live, reached-holds}
-use Rattle.batch_chart.specs.declared.sign.TheConstants.{HOLDS, IS_ACT}
-use Rattle.batch_chart.proofs.SignSearch.{found, found-showing}
-use Rattle.batch_chart.proofs.SignTests.{any_live, live_but, said-live, said-but}
+use Rattle.batch_chart.{proofs.NextMoves.reached-complete, proofs.NextMoves.reached-in, proofs.NextMoves.reached-live, proofs.NextMoves.reached-holds, specs.declared.sign.TheConstants.HOLDS, specs.declared.sign.TheConstants.IS_ACT, proofs.SignSearch.found, proofs.SignSearch.found-showing, proofs.SignTests.any_live, proofs.SignTests.live_but, proofs.SignTests.said-live, proofs.SignTests.said-but}
 use Rattle.batch_chart.proofs.scene.Scene.is_reached.Goals as goal
 
 pub returns-then-is_some : goal.returns-then-is_some

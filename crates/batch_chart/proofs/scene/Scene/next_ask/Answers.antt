@@ -1,11 +1,7 @@
 use Rattle.std.proofs.Common.{arith, refl, sym, ◌∙◌, ap, Some, None}
-use Rattle.batch_chart.proofs.NextMoves.{next-asked, next-none, found-among}
-use Rattle.batch_chart.proofs.FirstMoves.{asks-nothing}
+use Rattle.batch_chart.{proofs.NextMoves.next-asked, proofs.NextMoves.next-none, proofs.NextMoves.found-among, proofs.FirstMoves.asks-nothing, specs.declared.sign.TheConstants.LACKS, proofs.SignSearch.found-showing, proofs.SignTests.showing}
 use Rattle.batch_model.specs.Moves.{is_running}
 use Rattle.batch_chart.specs.declared.chart_move.Move.TheVariants as move
-use Rattle.batch_chart.specs.declared.sign.TheConstants.{LACKS}
-use Rattle.batch_chart.proofs.SignSearch.{found-showing}
-use Rattle.batch_chart.proofs.SignTests.{showing}
 use Rattle.batch_chart.proofs.scene.Scene.next_ask.Goals as goal
 
 pub returns-then-not-is_running : goal.returns-then-not-is_running

@@ -1,12 +1,7 @@
 use Rattle.std.proofs.Common.{sym, ◌∙◌, ap}
-use Rattle.std.specs.Prelude.{◌||◌}
-use Rattle.std.specs.Int.Bits.{bit_or}
-use Rattle.batch_chart.proofs.NextMoves.{next-entered, found-among, next-none}
-use Rattle.batch_chart.proofs.FirstMoves.{enters-nothing, tells-entering, tells-ending}
+use Rattle.std.specs.{Prelude.◌||◌, Int.Bits.bit_or}
+use Rattle.batch_chart.{proofs.NextMoves.next-entered, proofs.NextMoves.found-among, proofs.NextMoves.next-none, proofs.FirstMoves.enters-nothing, proofs.FirstMoves.tells-entering, proofs.FirstMoves.tells-ending, specs.declared.sign.TheConstants.FITS, specs.declared.sign.TheConstants.IS_OVER, proofs.SignSearch.found-showing, proofs.SignTests.showing}
 use Rattle.batch_model.specs.Moves.{is_running, is_stopping, is_stopped}
-use Rattle.batch_chart.specs.declared.sign.TheConstants.{FITS, IS_OVER}
-use Rattle.batch_chart.proofs.SignSearch.{found-showing}
-use Rattle.batch_chart.proofs.SignTests.{showing}
 use Rattle.batch_chart.proofs.scene.Scene.next_entry.Goals as goal
 
 pub returns-then-is_running : goal.returns-then-is_running

@@ -1,7 +1,5 @@
 use Rattle.std.proofs.Common.{arith, Some, None, refl}
-use Rattle.batch_chart.proofs.NextMoves.{found-among}
-use Rattle.batch_chart.proofs.LivePhase.{looks, live-some, live-none, live-never}
-use Rattle.batch_chart.proofs.LivePhaseSigns.{found-named}
+use Rattle.batch_chart.proofs.{NextMoves.found-among, LivePhase.looks, LivePhase.live-some, LivePhase.live-none, LivePhase.live-never, LivePhaseSigns.found-named}
 use Rattle.batch_chart.proofs.scene.Scene.next_live.Goals as goal
 
 pub next_named-requires : goal.next_named-requires

@@ -1,6 +1,5 @@
 use Rattle.std.proofs.Common.{arith, ap, ◌∙◌}
-use Rattle.batch_chart.specs.Nexts.{is_named}
-use Rattle.batch_chart.proofs.LivePhaseSigns.{none-at_first, passed-named}
+use Rattle.batch_chart.{specs.Nexts.is_named, proofs.LivePhaseSigns.none-at_first, proofs.LivePhaseSigns.passed-named}
 use Rattle.batch_chart.proofs.scene.Scene.next_named.Goals as goal
 
 pub loop-node-init : goal.loop-node-init

@@ -1,12 +1,7 @@
 use Rattle.std.proofs.Common.{sym, ◌∙◌, ap, true, false}
 use Rattle.std.specs.Prelude.{◌&&◌, ◌||◌}
-use Rattle.batch_chart.proofs.NextMoves.{next-released, next-handed, found-among, quiet-told}
-use Rattle.batch_chart.proofs.FirstMoves.{tells-freeing, tells-releasing, stopping-others, stopped-halts}
+use Rattle.batch_chart.{proofs.NextMoves.next-released, proofs.NextMoves.next-handed, proofs.NextMoves.found-among, proofs.NextMoves.quiet-told, proofs.FirstMoves.tells-freeing, proofs.FirstMoves.tells-releasing, proofs.FirstMoves.stopping-others, proofs.FirstMoves.stopped-halts, specs.declared.sign.TheConstants.FREES, proofs.ReleaseOnStop.found-giving, proofs.SignSearch.found, proofs.SignSearch.found-showing, proofs.SignTests.showing, proofs.SignTests.any_live, proofs.SignTests.gives_back, proofs.SignTests.said-live}
 use Rattle.batch_model.specs.Moves.{is_running, is_stopping, is_stopped, is_quiet}
-use Rattle.batch_chart.specs.declared.sign.TheConstants.{FREES}
-use Rattle.batch_chart.proofs.ReleaseOnStop.{found-giving}
-use Rattle.batch_chart.proofs.SignSearch.{found, found-showing}
-use Rattle.batch_chart.proofs.SignTests.{showing, any_live, gives_back, said-live}
 use Rattle.batch_chart.proofs.scene.Scene.next_release.Goals as goal
 
 pub returns-then-is_stopped : goal.returns-then-is_stopped

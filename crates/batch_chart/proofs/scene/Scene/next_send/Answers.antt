@@ -1,10 +1,7 @@
 use Rattle.std.proofs.Common.{refl, sym, ◌∙◌, ap, Some, None}
-use Rattle.batch_chart.proofs.NextMoves.{next-sent, next-none}
-use Rattle.batch_chart.proofs.FirstMoves.{sends-nothing}
+use Rattle.batch_chart.proofs.{NextMoves.next-sent, NextMoves.next-none, FirstMoves.sends-nothing, SignSearch.found, SignTests.of_states, SignTests.said-accepting}
 use Rattle.batch_model.specs.Moves.{passed_on}
 use Rattle.batch_matrix.specs.Matrix.{accepts}
-use Rattle.batch_chart.proofs.SignSearch.{found}
-use Rattle.batch_chart.proofs.SignTests.{of_states, said-accepting}
 use Rattle.batch_chart.proofs.scene.Scene.next_send.Goals as goal
 
 pub returns-in-None : goal.returns-in-None

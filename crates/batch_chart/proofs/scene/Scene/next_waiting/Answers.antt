@@ -1,8 +1,5 @@
 use Rattle.std.proofs.Common.{arith, Some, None, refl}
-use Rattle.batch_chart.proofs.NextMoves.{found-among}
-use Rattle.batch_chart.proofs.SignSearch.{found-from}
-use Rattle.batch_chart.proofs.SignTests.{waits_from, said-waiting}
-use Rattle.batch_chart.proofs.FirstInLine.{waiting-some, waiting-none, waiting-never}
+use Rattle.batch_chart.proofs.{NextMoves.found-among, SignSearch.found-from, SignTests.waits_from, SignTests.said-waiting, FirstInLine.waiting-some, FirstInLine.waiting-none, FirstInLine.waiting-never}
 use Rattle.batch_chart.proofs.scene.Scene.next_waiting.Goals as goal
 
 pub bounds : goal.bounds

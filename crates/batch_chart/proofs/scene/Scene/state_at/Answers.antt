@@ -1,8 +1,6 @@
-use Rattle.batch_chart.specs.Outlined.{is_act_kind}
+use Rattle.batch_chart.{specs.Outlined.is_act_kind, specs.Showing.IsStateAt, proofs.ShownStates.state-none, proofs.ShownStates.state-live, proofs.ShownStates.state-open, proofs.ShownStates.state-idle}
 use Rattle.std.proofs.Common.{arith, Some, None, subst, ap, ◌∙◌}
 use Rattle.batch_matrix.specs.declared.state.State.TheVariants.{Idle}
-use Rattle.batch_chart.specs.Showing.{IsStateAt}
-use Rattle.batch_chart.proofs.ShownStates.{state-none, state-live, state-open, state-idle}
 use Rattle.batch_chart.proofs.scene.Scene.state_at.Goals as goal
 
 pub shown-requires : goal.shown-requires

@@ -1,9 +1,6 @@
 use Rattle.std.proofs.Common.{◌≡◌, ℕ, Bool, true, false, if◌then◌else◌, List, [], ◌∷◌, ◌++◌, IsTrue, Option, Some, inl, inr, sym, ◌∙◌, subst}
-use Rattle.std.specs.List.{Contains}
-use Rattle.std.proofs.lemmas.List.Elements.{Contains-append_cases}
-use Rattle.batch_check.specs.Pairs.{has_bit}
-use Rattle.batch_check.specs.declared.asked.Asked.{Asked}
-use Rattle.batch_check.proofs.EdgesFromNeeds.{Contains-one}
+use Rattle.std.{specs.List.Contains, proofs.lemmas.List.Elements.Contains-append_cases}
+use Rattle.batch_check.{specs.Pairs.has_bit, specs.declared.asked.Asked.Asked, proofs.EdgesFromNeeds.Contains-one}
 use Rattle.batch_check.proofs.asked.Asked.push.Goals as goal
 use Rattle.batch_check.proofs.asked.Asked.push.Goals.{in-Some, in_default}
 

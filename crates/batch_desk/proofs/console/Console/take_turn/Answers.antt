@@ -1,5 +1,4 @@
-use Rattle.batch_desk.specs.ConsoleSteps.{Follows}
-use Rattle.batch_desk.proofs.ConsoleTurns.{take_goes}
+use Rattle.batch_desk.{specs.ConsoleSteps.Follows, proofs.ConsoleTurns.take_goes}
 use Rattle.batch_desk.proofs.console.Console.take_turn.Goals as goal
 use Rattle.batch_desk.proofs.console.Console.take_turn.Goals.{in-Some, in_default}
 

@@ -1,7 +1,5 @@
 use Rattle.std.proofs.Common.{rules}
-use Rattle.batch_desk.specs.HubState.{IsEngineSettled}
-use Rattle.batch_desk.proofs.Hubs.{grows_taken}
-use Rattle.batch_desk.proofs.Moves.{turn_answers}
+use Rattle.batch_desk.{specs.HubState.IsEngineSettled, proofs.Hubs.grows_taken, proofs.Moves.turn_answers}
 use Rattle.batch_desk.proofs.hub.Hub.advance_engine.Goals as goal
 
 pub returns-clause-answer : goal.returns-clause-answer

@@ -1,9 +1,5 @@
 use Rattle.std.proofs.Common.{ap, ◌∙◌, ◌<◌, length, arith, refl}
-use Rattle.batch_desk.proofs.HubPorts.{ports_changed}
-use Rattle.batch_desk.specs.PortState.{port_rings}
-use Rattle.batch_desk.specs.HubState.{rings}
-use Rattle.batch_desk.proofs.ListImages.{map-changed}
-use Rattle.batch_desk.proofs.PortEnds.{rings_tried, port_tried, hub_closes, hub_refuses, token_back}
+use Rattle.batch_desk.{proofs.HubPorts.ports_changed, specs.PortState.port_rings, specs.HubState.rings, proofs.ListImages.map-changed, proofs.PortEnds.rings_tried, proofs.PortEnds.port_tried, proofs.PortEnds.hub_closes, proofs.PortEnds.hub_refuses, proofs.PortEnds.token_back}
 use Rattle.batch_desk.proofs.hub.Hub.close.Goals as goal
 
 pub invariant_of-self : goal.invariant_of-self

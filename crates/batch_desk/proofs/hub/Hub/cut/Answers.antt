@@ -1,7 +1,5 @@
 use Rattle.std.proofs.Common.{ap, ◌∙◌}
-use Rattle.batch_desk.specs.PortState.{port_rings}
-use Rattle.batch_desk.specs.HubState.{rings}
-use Rattle.batch_desk.proofs.ListImages.{map-changed}
+use Rattle.batch_desk.{specs.PortState.port_rings, specs.HubState.rings, proofs.ListImages.map-changed}
 use Rattle.batch_desk.proofs.hub.Hub.cut.Goals as goal
 
 pub returns-clause-rings : goal.returns-clause-rings

@@ -1,8 +1,5 @@
 use Rattle.std.proofs.Common.{ap, ◌∙◌}
-use Rattle.batch_desk.specs.HubState.{outlines}
-use Rattle.batch_desk.specs.PortState.{outline}
-use Rattle.batch_desk.proofs.ListImages.{map-changed}
-use Rattle.batch_desk.proofs.HubPorts.{ports_changed, flushed, flushed_outline, within}
+use Rattle.batch_desk.{specs.HubState.outlines, specs.PortState.outline, proofs.ListImages.map-changed, proofs.HubPorts.ports_changed, proofs.HubPorts.flushed, proofs.HubPorts.flushed_outline, proofs.HubPorts.within}
 use Rattle.batch_desk.proofs.hub.Hub.flush.Goals as goal
 
 pub invariant_of-self : goal.invariant_of-self

@@ -1,7 +1,5 @@
 use Rattle.std.proofs.Common.{ap, ◌∙◌, map}
-use Rattle.batch_desk.specs.HubState.{outlines}
-use Rattle.batch_desk.specs.PortState.{outline}
-use Rattle.batch_desk.proofs.Hubs.{hub_moves, made, hub_roomless, outlines_roomless, outlines_told}
+use Rattle.batch_desk.{specs.HubState.outlines, specs.PortState.outline, proofs.Hubs.hub_moves, proofs.Hubs.made, proofs.Hubs.hub_roomless, proofs.Hubs.outlines_roomless, proofs.Hubs.outlines_told}
 use Rattle.batch_desk.proofs.hub.Hub.make_move.Goals as goal
 
 pub invariant_of-self-in_err-reserve_each : goal.invariant_of-self-in_err-reserve_each

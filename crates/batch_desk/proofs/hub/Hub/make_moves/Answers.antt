@@ -1,9 +1,7 @@
 use Rattle.std.proofs.Common.{ap, ◌∙◌, arith, rules, inl, inr}
 use Rattle.std.proofs.lemmas.Bool.Decides.{eqb_tells}
-use Rattle.batch_desk.specs.HubState.{IsEngineSettled}
+use Rattle.batch_desk.{specs.HubState.IsEngineSettled, specs.HubState.HubState, proofs.Moves.moves_made, proofs.Moves.prefix_more}
 use Rattle.batch_engine.specs.declared.out.Out.TheVariants.{Move}
-use Rattle.batch_desk.specs.HubState.{HubState}
-use Rattle.batch_desk.proofs.Moves.{moves_made, prefix_more}
 use Rattle.batch_desk.proofs.hub.Hub.make_moves.Goals as goal
 
 pub returns-then-is_settled-clause-some : goal.returns-then-is_settled-clause-some

@@ -1,7 +1,6 @@
 use Rattle.std.proofs.Common.{◌≡◌, ◌+◌}
 use mathlib.Core.List.{IsPrefix}
-use Rattle.batch_desk.specs.HubState.{outlines}
-use Rattle.batch_desk.specs.Turns.{moves}
+use Rattle.batch_desk.specs.{HubState.outlines, Turns.moves}
 use Rattle.batch_desk.proofs.hub.Hub.make_moves.Given as goal
 
 abbrev pub invariant-loop : goal.invariant-loop

@@ -1,10 +1,6 @@
 use Rattle.std.proofs.Common.{ap, ◌∙◌, [], ◌∷◌, ◌++◌}
 use Rattle.batch_engine.specs.declared.out.Out.TheVariants.{Reply}
-use Rattle.batch_desk.specs.HubState.{outlines}
-use Rattle.batch_desk.specs.PortState.{outline}
-use Rattle.batch_desk.proofs.ListImages.{map-changed}
-use Rattle.batch_desk.proofs.HubPorts.{within}
-use Rattle.batch_desk.proofs.Hubs.{hub_takes, takes_one}
+use Rattle.batch_desk.{specs.HubState.outlines, specs.PortState.outline, proofs.ListImages.map-changed, proofs.HubPorts.within, proofs.Hubs.hub_takes, proofs.Hubs.takes_one}
 use Rattle.batch_desk.proofs.hub.Hub.take_event.Goals as goal
 
 pub returns-in_err-event-clause-outlines : goal.returns-in_err-event-clause-outlines

@@ -2,10 +2,7 @@ use Rattle.std.proofs.Common.{◌≡◌, ◌<◌, ◌∙◌, sym, ap, ap₂, sub
 use Rattle.std.proofs.lemmas.List.{map_push}
 use Rattle.slab.specs.Slab.{Slab}
 use Rattle.batch_model.specs.Lists.{Each}
-use Rattle.batch_engine.specs.Batches.{IsFiled, BatchList, entry_number, list_of, batches_in, with_batch}
-use Rattle.batch_engine.specs.declared.batch.Batch.{Batch}
-use Rattle.batch_engine.specs.declared.batches.Entry.{Entry}
-use Rattle.batch_engine.proofs.SlabChanges.{filed-push, filed-roomy, batches-push}
+use Rattle.batch_engine.{specs.Batches.IsFiled, specs.Batches.BatchList, specs.Batches.entry_number, specs.Batches.list_of, specs.Batches.batches_in, specs.Batches.with_batch, specs.declared.batch.Batch.Batch, specs.declared.batches.Entry.Entry, proofs.SlabChanges.filed-push, proofs.SlabChanges.filed-roomy, proofs.SlabChanges.batches-push}
 use Rattle.batch_engine.proofs.batches.Batches.add.Goals as goal
 
 pub invariant_of-self-2 : goal.invariant_of-self-2

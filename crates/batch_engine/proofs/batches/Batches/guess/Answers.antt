@@ -1,9 +1,6 @@
 use Rattle.std.proofs.Common.{◌≡◌, ◌<◌, ◌+◌, ◌-◌, ◌%◌, ◌∙◌, ap, sym, subst, arith, position, nat_eq, length, Some, get_or, ℕ, List}
-use Rattle.std.proofs.lemmas.Grind.{common_steps}
-use Rattle.std.proofs.lemmas.Option.{get_or_from_slice_get, slice_get-get_or}
-use Rattle.batch_engine.specs.Batches.{BatchList}
-use Rattle.batch_engine.specs.declared.batches.Entry.{Entry}
-use Rattle.batch_engine.proofs.BinarySearch.{found-at, no_entry}
+use Rattle.std.proofs.lemmas.{Grind.common_steps, Option.get_or_from_slice_get, Option.slice_get-get_or}
+use Rattle.batch_engine.{specs.Batches.BatchList, specs.declared.batches.Entry.Entry, proofs.BinarySearch.found-at, proofs.BinarySearch.no_entry}
 use Rattle.batch_engine.proofs.batches.Batches.guess.Goals as goal
 
 pub returns-then-entry-number : goal.returns-then-entry-number

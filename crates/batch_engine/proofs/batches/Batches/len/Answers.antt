@@ -1,6 +1,5 @@
 use Rattle.std.proofs.Common.{arith, ap, length}
-use Rattle.batch_engine.specs.Batches.{BatchList}
-use Rattle.batch_engine.proofs.SlabChanges.{length-batches}
+use Rattle.batch_engine.{specs.Batches.BatchList, proofs.SlabChanges.length-batches}
 use Rattle.batch_engine.proofs.batches.Batches.len.Goals as goal
 
 pub returns : goal.returns

@@ -1,8 +1,6 @@
 use Rattle.std.proofs.Common.{◌≡◌, ◌<◌, ◌∙◌, sym, ap, ap₂, subst, List, Some, arith, length, get_or}
 use Rattle.slab.specs.Slab.{get}
-use Rattle.batch_engine.specs.Batches.{IsFiled, BatchList, entry_number, list_of, without_batch}
-use Rattle.batch_engine.specs.declared.batches.Entry.{Entry}
-use Rattle.batch_engine.proofs.SlabChanges.{LeavesOthers, in-entries, filed-remove, batches-remove, batch-read, map-remove}
+use Rattle.batch_engine.{specs.Batches.IsFiled, specs.Batches.BatchList, specs.Batches.entry_number, specs.Batches.list_of, specs.Batches.without_batch, specs.declared.batches.Entry.Entry, proofs.SlabChanges.LeavesOthers, proofs.SlabChanges.in-entries, proofs.SlabChanges.filed-remove, proofs.SlabChanges.batches-remove, proofs.SlabChanges.batch-read, proofs.SlabChanges.map-remove}
 use Rattle.batch_engine.proofs.batches.Batches.remove.Goals as goal
 
 pub remove-entry-requires : goal.remove-entry-requires

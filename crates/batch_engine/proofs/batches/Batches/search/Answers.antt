@@ -1,8 +1,6 @@
 use Rattle.std.proofs.Common.{rules, ◌∙◌, ap}
-use Rattle.std.specs.Prelude.{nat_eq, position}
-use Rattle.std.proofs.lemmas.List.Sorted.{answers_always}
-use Rattle.batch_engine.specs.Batches.{BatchList}
-use Rattle.batch_engine.proofs.BinarySearch.{searched}
+use Rattle.std.{specs.Prelude.nat_eq, specs.Prelude.position, proofs.lemmas.List.Sorted.answers_always}
+use Rattle.batch_engine.{specs.Batches.BatchList, proofs.BinarySearch.searched}
 use Rattle.batch_engine.proofs.batches.Batches.search.Goals as goal
 
 -- the closure gives an entry's number, and the slice is the entries

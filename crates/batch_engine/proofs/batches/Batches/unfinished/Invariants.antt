@@ -1,7 +1,6 @@
 use Rattle.std.proofs.Common.{◌≡◌, ◌||◌, not, take}
 use Rattle.std.specs.List.{count_by}
-use Rattle.batch_matrix.specs.Matrix.{same_state}
-use Rattle.batch_matrix.specs.declared.state.State.TheVariants.{Complete}
+use Rattle.batch_matrix.specs.{Matrix.same_state, declared.state.State.TheVariants.Complete}
 use Rattle.batch_model.specs.Moves.{is_stopped}
 use Rattle.batch_engine.proofs.batches.Batches.unfinished.Given as goal
 

@@ -1,8 +1,6 @@
 use Rattle.std.proofs.Common.{◌≡◌, ◌<◌, ◌∙◌, refl, sym, ap, subst, List, Some, arith, length, get_or}
 use Rattle.slab.specs.Slab.{ContainsKey, get, with_value}
-use Rattle.batch_engine.specs.Batches.{IsFiled, BatchList, list_of, with_batch_at}
-use Rattle.batch_engine.specs.declared.batches.Entry.{Entry}
-use Rattle.batch_engine.proofs.SlabChanges.{in-entries, occupied-at, batch-read, filed-set, batches-set}
+use Rattle.batch_engine.{specs.Batches.IsFiled, specs.Batches.BatchList, specs.Batches.list_of, specs.Batches.with_batch_at, specs.declared.batches.Entry.Entry, proofs.SlabChanges.in-entries, proofs.SlabChanges.occupied-at, proofs.SlabChanges.batch-read, proofs.SlabChanges.filed-set, proofs.SlabChanges.batches-set}
 use Rattle.batch_engine.proofs.batches.BatchesIndexMutUsize.index_mut.Goals as goal
 
 pub index-entry-requires : goal.index-entry-requires

@@ -1,8 +1,6 @@
 use Rattle.std.proofs.Common.{◌≡◌, ◌<◌, ◌∙◌, sym, ap, subst, List, Some, arith, length, get_or}
 use Rattle.slab.specs.Slab.{ContainsKey, get}
-use Rattle.batch_engine.specs.Batches.{BatchList}
-use Rattle.batch_engine.specs.declared.batches.Entry.{Entry}
-use Rattle.batch_engine.proofs.SlabChanges.{in-entries, occupied-at, batch-read}
+use Rattle.batch_engine.{specs.Batches.BatchList, specs.declared.batches.Entry.Entry, proofs.SlabChanges.in-entries, proofs.SlabChanges.occupied-at, proofs.SlabChanges.batch-read}
 use Rattle.batch_engine.proofs.batches.BatchesIndexUsize.index.Goals as goal
 
 pub index-entry-requires : goal.index-entry-requires

@@ -1,30 +1,14 @@
 use Rattle.std.proofs.Common.{◌≡◌, ◌≤◌, ◌+◌, ◌++◌, ◌∷◌, refl, sym, ◌∙◌, ap, ap₂, subst, ℕ, Some, [], arith, inr, List}
 use Rattle.std.specs.Prelude.{slice_get}
 use Rattle.batch_matrix.specs.declared.state.State.TheVariants.{Idle}
-use Rattle.batch_recipe.specs.Conditions.{Name, ValueList}
+use Rattle.batch_recipe.specs.{Conditions.Name, Conditions.ValueList, Tree.Tree}
 use Rattle.batch_model.specs.Plant as Model
 use Rattle.batch_model.specs.Events as Events
-use Rattle.batch_model.specs.Events.{new_batch, Answer}
-use Rattle.batch_model.specs.Runs.{Reacts, IsCreated}
+use Rattle.batch_model.specs.{Events.new_batch, Events.Answer, Runs.Reacts, Runs.IsCreated}
 use Rattle.batch_arbiter.specs.Allocation.{Allocation}
-use Rattle.batch_recipe.specs.Tree.{Tree}
 use Rattle.batch_recipe.specs.declared.recipe.Recipe as document
-use Rattle.batch_chart.specs.Charts.{IsChartOf, IsRunningOf}
-use Rattle.batch_chart.specs.Early.{in_advance}
-use Rattle.batch_chart.specs.NodesOf.{needs_in}
-use Rattle.batch_engine.specs.declared.batch.Batch.{Batch}
-use Rattle.batch_engine.specs.View.{EngineView, seen, setup, bound_to, recipe_at, tree_at, model_batch, plant_of}
-use Rattle.batch_engine.specs.Kept.{IsKept, needs_of_all}
-use Rattle.batch_engine.proofs.FewNeeds.{few-batches}
-use Rattle.batch_engine.proofs.BatchLookups.{chart-of, got-chart}
-use Rattle.batch_engine.proofs.InvariantAfterEvent.{with}
-use Rattle.batch_engine.proofs.NewBatch.{react-create, create-reacts, create-kept, room-kept}
-use Rattle.batch_engine.specs.Names.{recipe_name, roles_taken}
-use Rattle.batch_engine.proofs.MoveLines.{recipe-named, some-at}
-use Rattle.batch_engine.specs.Batches.{BatchList, HaveOwnNumbers}
-use Rattle.batch_engine.proofs.SlabChanges.{own-numbers-push}
-use Rattle.batch_engine.proofs.Room.{needs-added}
-use Rattle.batch_engine.proofs.BatchByNumber.{new-number}
+use Rattle.batch_chart.specs.{Charts.IsChartOf, Charts.IsRunningOf, Early.in_advance, NodesOf.needs_in}
+use Rattle.batch_engine.{specs.declared.batch.Batch.Batch, specs.View.EngineView, specs.View.seen, specs.View.setup, specs.View.bound_to, specs.View.recipe_at, specs.View.tree_at, specs.View.model_batch, specs.View.plant_of, specs.Kept.IsKept, specs.Kept.needs_of_all, proofs.FewNeeds.few-batches, proofs.BatchLookups.chart-of, proofs.BatchLookups.got-chart, proofs.InvariantAfterEvent.with, proofs.NewBatch.react-create, proofs.NewBatch.create-reacts, proofs.NewBatch.create-kept, proofs.NewBatch.room-kept, specs.Names.recipe_name, specs.Names.roles_taken, proofs.MoveLines.recipe-named, proofs.MoveLines.some-at, specs.Batches.BatchList, specs.Batches.HaveOwnNumbers, proofs.SlabChanges.own-numbers-push, proofs.Room.needs-added, proofs.BatchByNumber.new-number}
 use Rattle.batch_engine.proofs.control.Control.add.Goals as goal
 use Rattle.batch_engine.proofs.control.Control.add.Goals.{In-Ok-reserve}
 

@@ -1,11 +1,7 @@
 use Rattle.std.proofs.Common.{◌<◌, ◌+◌, refl, sym, subst, arith, set}
 use Rattle.std.specs.Prelude.{slice_index}
 use Rattle.batch_chart.specs.NodesOf.{need_at}
-use Rattle.batch_engine.specs.Steps.{IsNumberAt}
-use Rattle.batch_engine.specs.View.{EngineView, tree_of}
-use Rattle.batch_engine.specs.declared.batch.Batch.{Batch}
-use Rattle.batch_engine.proofs.LineAsks.{AreCounted, counted-all, counted-more, counted-none, few-resources, resource-within}
-use Rattle.batch_engine.proofs.BatchAtIndex.{IsSeat, linked-here, needs-there, read-own, seat-of}
+use Rattle.batch_engine.{specs.Steps.IsNumberAt, specs.View.EngineView, specs.View.tree_of, specs.declared.batch.Batch.Batch, proofs.LineAsks.AreCounted, proofs.LineAsks.counted-all, proofs.LineAsks.counted-more, proofs.LineAsks.counted-none, proofs.LineAsks.few-resources, proofs.LineAsks.resource-within, proofs.BatchAtIndex.IsSeat, proofs.BatchAtIndex.linked-here, proofs.BatchAtIndex.needs-there, proofs.BatchAtIndex.read-own, proofs.BatchAtIndex.seat-of}
 use Rattle.batch_engine.proofs.control.Control.asks_by_resource.Goals as goal
 use Rattle.batch_engine.proofs.control.Control.asks_by_resource.Goals.{After-recipe-chart, After-resource_at-resource}
 

@@ -1,16 +1,7 @@
 use Rattle.std.proofs.Common.{◌≡◌, ◌∙◌, refl, sym, subst, Option, Some, None}
 use Rattle.batch_model.specs.Moves as Moves
-use Rattle.batch_chart.specs.OwnMoves.{own_next}
-use Rattle.batch_chart.specs.Seen.{machine_move}
-use Rattle.batch_engine.specs.declared.batch.Batch.{Batch}
-use Rattle.batch_engine.specs.Steps.{IsBatchStep, IsFirstGrant}
-use Rattle.batch_engine.specs.View.{EngineView, model_batch, plant_of, setup, tree_of}
-use Rattle.batch_engine.proofs.StoppedBatches.{stopped-moves}
-use Rattle.batch_engine.proofs.BatchPlaces.{Has-batch_of}
-use Rattle.batch_engine.proofs.BatchLookups.{has}
-use Rattle.batch_engine.proofs.BatchAtIndex.{IsRead, IsSeat, read-at, recipe-batch, recipe-tree, seat-of}
-use Rattle.batch_engine.proofs.RecordOfPlant.{safe}
-use Rattle.batch_engine.proofs.NextStep.{grant-least, no-move, own-least}
+use Rattle.batch_chart.specs.{OwnMoves.own_next, Seen.machine_move}
+use Rattle.batch_engine.{specs.declared.batch.Batch.Batch, specs.Steps.IsBatchStep, specs.Steps.IsFirstGrant, specs.View.EngineView, specs.View.model_batch, specs.View.plant_of, specs.View.setup, specs.View.tree_of, proofs.StoppedBatches.stopped-moves, proofs.BatchPlaces.Has-batch_of, proofs.BatchLookups.has, proofs.BatchAtIndex.IsRead, proofs.BatchAtIndex.IsSeat, proofs.BatchAtIndex.read-at, proofs.BatchAtIndex.recipe-batch, proofs.BatchAtIndex.recipe-tree, proofs.BatchAtIndex.seat-of, proofs.RecordOfPlant.safe, proofs.NextStep.grant-least, proofs.NextStep.no-move, proofs.NextStep.own-least}
 use Rattle.batch_engine.proofs.control.Control.batch_step.Goals as goal
 use Rattle.batch_engine.proofs.control.Control.batch_step.Goals.{After-recipe-chart}
 

@@ -1,11 +1,6 @@
 use Rattle.std.proofs.Common.{refl}
 use Rattle.batch_model.specs.Moves as Moves
-use Rattle.batch_engine.specs.declared.batch.Batch.{Batch}
-use Rattle.batch_engine.specs.Steps.{IsNext}
-use Rattle.batch_engine.specs.View.{EngineView}
-use Rattle.batch_engine.proofs.EngineAfterMove.{Becomes, state-changed}
-use Rattle.batch_engine.proofs.BatchAtIndex.{closed-makes, counted-set, mover}
-use Rattle.batch_engine.proofs.InvariantAfterMove.{changed}
+use Rattle.batch_engine.{specs.declared.batch.Batch.Batch, specs.Steps.IsNext, specs.View.EngineView, proofs.EngineAfterMove.Becomes, proofs.EngineAfterMove.state-changed, proofs.BatchAtIndex.closed-makes, proofs.BatchAtIndex.counted-set, proofs.BatchAtIndex.mover, proofs.InvariantAfterMove.changed}
 use Rattle.batch_engine.proofs.control.Control.change_state.Goals as goal
 use Rattle.batch_engine.proofs.control.Control.change_state.Goals.{After-index_mut-batch}
 

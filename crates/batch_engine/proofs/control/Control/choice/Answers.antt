@@ -1,17 +1,10 @@
 use Rattle.std.proofs.Common.{◌≡◌, refl, sym, ◌∙◌, ap, subst, List, Option, Some, ℕ, length, get_or, false}
-use Rattle.std.specs.Prelude.{slice_get, position}
-use Rattle.std.proofs.lemmas.Option.{slice_get_within, slice_get_read}
+use Rattle.std.{specs.Prelude.slice_get, specs.Prelude.position, proofs.lemmas.Option.slice_get_within, proofs.lemmas.Option.slice_get_read}
 use Rattle.batch_cell.specs.declared.cell.Cell.{Cell}
-use Rattle.batch_recipe.specs.Conditions.{Name, same_name}
-use Rattle.batch_recipe.specs.declared.role.Role.{Role}
+use Rattle.batch_recipe.specs.{Conditions.Name, Conditions.same_name, declared.role.Role.Role}
 use Rattle.batch_recipe.specs.declared.recipe.Recipe as document
-use Rattle.batch_model.specs.Plant.{Master}
-use Rattle.batch_model.specs.Setups.{master_of}
-use Rattle.batch_model.specs.Events.{is_full}
-use Rattle.batch_engine.specs.Bindings.{IsBoundAs}
-use Rattle.batch_engine.specs.View.{EngineView, plant_of, setup}
-use Rattle.batch_engine.proofs.CreateAnswers.{refused-unknown, refused-full, refused-binding, is-chosen}
-use Rattle.batch_engine.proofs.RecipeByName.{find-at}
+use Rattle.batch_model.specs.{Plant.Master, Setups.master_of, Events.is_full}
+use Rattle.batch_engine.{specs.Bindings.IsBoundAs, specs.View.EngineView, specs.View.plant_of, specs.View.setup, proofs.CreateAnswers.refused-unknown, proofs.CreateAnswers.refused-full, proofs.CreateAnswers.refused-binding, proofs.CreateAnswers.is-chosen, proofs.RecipeByName.find-at}
 use Rattle.batch_engine.proofs.control.Control.choice.Goals as goal
 use Rattle.batch_engine.proofs.control.Control.choice.Goals.{After-recipe_named, After-units_for}
 

@@ -2,11 +2,7 @@ use Rattle.std.proofs.Common.{◌≡◌, refl, sym, subst, inl, Some}
 use Rattle.std.specs.Prelude.{slice_get}
 use Rattle.batch_model.specs.Events as Events
 use Rattle.batch_model.specs.Runs.{Reacts}
-use Rattle.batch_engine.specs.Surface.{refusal_of}
-use Rattle.batch_engine.specs.View.{EngineView, plant_of, setup}
-use Rattle.batch_engine.specs.declared.refusal.Refusal.{Refusal}
-use Rattle.batch_engine.proofs.CreateAnswers.{can-create, refused-for}
-use Rattle.batch_engine.proofs.BatchLookups.{got-chart}
+use Rattle.batch_engine.{specs.Surface.refusal_of, specs.View.EngineView, specs.View.plant_of, specs.View.setup, specs.declared.refusal.Refusal.Refusal, proofs.CreateAnswers.can-create, proofs.CreateAnswers.refused-for, proofs.BatchLookups.got-chart}
 use Rattle.batch_engine.proofs.control.Control.create.Goals as goal
 use Rattle.batch_engine.proofs.control.Control.create.Goals.{After-recipe}
 

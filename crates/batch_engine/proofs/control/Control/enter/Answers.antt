@@ -1,11 +1,6 @@
 use Rattle.std.proofs.Common.{refl, sym, subst}
 use Rattle.batch_matrix.specs.declared.state.State.{State}
-use Rattle.batch_engine.specs.declared.batch.Batch.{Batch}
-use Rattle.batch_engine.specs.View.{EngineView}
-use Rattle.batch_engine.proofs.OrderAnswers.{order-at}
-use Rattle.batch_engine.proofs.AcceptedOrders.{Ordered, enter-made}
-use Rattle.batch_engine.proofs.BatchAtIndex.{IsRead, closed-ordered, counted-set, read-there}
-use Rattle.batch_engine.proofs.InvariantAfterMove.{changed}
+use Rattle.batch_engine.{specs.declared.batch.Batch.Batch, specs.View.EngineView, proofs.OrderAnswers.order-at, proofs.AcceptedOrders.Ordered, proofs.AcceptedOrders.enter-made, proofs.BatchAtIndex.IsRead, proofs.BatchAtIndex.closed-ordered, proofs.BatchAtIndex.counted-set, proofs.BatchAtIndex.read-there, proofs.InvariantAfterMove.changed}
 use Rattle.batch_engine.proofs.control.Control.enter.Goals as goal
 use Rattle.batch_engine.proofs.control.Control.enter.Goals.{After-index_mut-batch}
 

@@ -1,8 +1,6 @@
 use Rattle.std.proofs.Common.{sym, ◌∙◌, subst}
 use Rattle.std.specs.Prelude.{option_copied}
-use Rattle.batch_engine.specs.Steps.{IsFoundBy}
-use Rattle.batch_engine.proofs.BatchAtIndex.{IsFound, found-here}
-use Rattle.batch_engine.proofs.BatchByNumber.{none-found}
+use Rattle.batch_engine.{specs.Steps.IsFoundBy, proofs.BatchAtIndex.IsFound, proofs.BatchAtIndex.found-here, proofs.BatchByNumber.none-found}
 use Rattle.batch_engine.proofs.control.Control.find.Goals as goal
 
 pub returns-in_err-index : goal.returns-in_err-index

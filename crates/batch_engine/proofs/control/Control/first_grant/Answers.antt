@@ -2,12 +2,7 @@ use Rattle.std.proofs.Common.{◌≡◌, ◌+◌, ◌<◌, refl, sym, ◌∙◌,
 use Rattle.std.specs.Prelude.{option_map, slice_get}
 use Rattle.batch_arbiter.specs.Allocation.{batch_node, next_grant}
 use Rattle.batch_chart.specs.NodesOf.{need_at}
-use Rattle.batch_engine.specs.declared.batch.Batch.{Batch}
-use Rattle.batch_engine.specs.Steps.{IsNumberAt}
-use Rattle.batch_engine.specs.View.{EngineView, tree_of}
-use Rattle.batch_engine.proofs.BatchLookups.{first-grant, first-serves, first_here, goes-on, known-resource, no-grants, passed}
-use Rattle.batch_engine.proofs.BatchAtIndex.{IsSeat, linked-here, needs-there, read-own, seat-of}
-use Rattle.batch_engine.proofs.UnservedNodes.{skipped}
+use Rattle.batch_engine.{specs.declared.batch.Batch.Batch, specs.Steps.IsNumberAt, specs.View.EngineView, specs.View.tree_of, proofs.BatchLookups.first-grant, proofs.BatchLookups.first-serves, proofs.BatchLookups.first_here, proofs.BatchLookups.goes-on, proofs.BatchLookups.known-resource, proofs.BatchLookups.no-grants, proofs.BatchLookups.passed, proofs.BatchAtIndex.IsSeat, proofs.BatchAtIndex.linked-here, proofs.BatchAtIndex.needs-there, proofs.BatchAtIndex.read-own, proofs.BatchAtIndex.seat-of, proofs.UnservedNodes.skipped}
 use Rattle.batch_engine.proofs.control.Control.first_grant.Goals as goal
 use Rattle.batch_engine.proofs.control.Control.first_grant.Goals.{After-recipe-chart, After-resource_at-resource}
 use Rattle.batch_signs.proofs.Bits.{within-or_past}

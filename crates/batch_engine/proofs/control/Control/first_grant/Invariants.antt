@@ -1,7 +1,6 @@
 use Rattle.std.proofs.Common.{◌≡◌, ◌<◌, ◌≤◌, ◌-◌, ℕ, true}
 use Rattle.batch_model.specs.Moves.{is_served}
-use Rattle.batch_chart.specs.NodesOf.{place_at, need_at}
-use Rattle.batch_chart.specs.Charts.{AsksAt, remains}
+use Rattle.batch_chart.specs.{NodesOf.place_at, NodesOf.need_at, Charts.AsksAt, Charts.remains}
 use Rattle.batch_engine.specs.View.{setup, plant_of, tree_of}
 use Rattle.batch_engine.proofs.control.Control.first_grant.Given as goal
 

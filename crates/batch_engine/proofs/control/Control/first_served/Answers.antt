@@ -1,9 +1,7 @@
 use Rattle.std.proofs.Common.{sym, ◌∙◌, ap, subst}
 use Rattle.std.specs.Prelude.{option_map}
 use Rattle.batch_arbiter.specs.Allocation.{next_grant, batch_node}
-use Rattle.batch_engine.specs.View.{EngineView}
-use Rattle.batch_engine.specs.Kept.{IsKept}
-use Rattle.batch_engine.proofs.BatchMarks.{first-served}
+use Rattle.batch_engine.{specs.View.EngineView, specs.Kept.IsKept, proofs.BatchMarks.first-served}
 use Rattle.batch_engine.proofs.control.Control.first_served.Goals as goal
 
 pub returns : goal.returns

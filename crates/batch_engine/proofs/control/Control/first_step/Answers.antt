@@ -1,9 +1,5 @@
 use Rattle.std.proofs.Common.{◌≡◌, ◌<◌, sym, ap, subst, ℕ, arith, length, inl, inr}
-use Rattle.batch_engine.specs.View.{EngineView}
-use Rattle.batch_engine.specs.Marked.{HasNoMove}
-use Rattle.batch_engine.specs.Steps.{IsLeastAt, IsNext, IsBatchStep, index_of}
-use Rattle.batch_engine.proofs.BatchMarks.{few}
-use Rattle.batch_engine.proofs.NextStep.{step-map, next-at, none-next}
+use Rattle.batch_engine.{specs.View.EngineView, specs.Marked.HasNoMove, specs.Steps.IsLeastAt, specs.Steps.IsNext, specs.Steps.IsBatchStep, specs.Steps.index_of, proofs.BatchMarks.few, proofs.NextStep.step-map, proofs.NextStep.next-at, proofs.NextStep.none-next}
 use Rattle.batch_engine.proofs.control.Control.first_step.Goals as goal
 use Rattle.batch_signs.proofs.Bits.{within-or_past}
 

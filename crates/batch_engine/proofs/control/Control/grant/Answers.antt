@@ -2,15 +2,9 @@ use Rattle.std.proofs.Common.{◌≡◌, refl, subst, Some}
 use Rattle.std.specs.Prelude.{slice_get, option_map}
 use Rattle.batch_model.specs.Moves as Moves
 use Rattle.batch_arbiter.specs.Allocation.{Allocation, batch_node, after_grant, next_grant}
-use Rattle.batch_chart.specs.Charts.{AsksAt, IsWaitingAt, remains}
-use Rattle.batch_chart.specs.NodesOf.{need_at, place_at}
+use Rattle.batch_chart.specs.{Charts.AsksAt, Charts.IsWaitingAt, Charts.remains, NodesOf.need_at, NodesOf.place_at}
 use Rattle.batch_recipe.specs.declared.recipe.Recipe as document
-use Rattle.batch_engine.specs.declared.batch.Batch.{Batch}
-use Rattle.batch_engine.specs.Steps.{IsGrantStep, IsNext}
-use Rattle.batch_engine.specs.View.{EngineView, resource_number, tree_of}
-use Rattle.batch_engine.proofs.EngineAfterMove.{Becomes, grant-made}
-use Rattle.batch_engine.proofs.BatchAtIndex.{IsRead, IsSeat, closed-makes, counted-set, read-there, seat-of}
-use Rattle.batch_engine.proofs.InvariantAfterMove.{changed}
+use Rattle.batch_engine.{specs.declared.batch.Batch.Batch, specs.Steps.IsGrantStep, specs.Steps.IsNext, specs.View.EngineView, specs.View.resource_number, specs.View.tree_of, proofs.EngineAfterMove.Becomes, proofs.EngineAfterMove.grant-made, proofs.BatchAtIndex.IsRead, proofs.BatchAtIndex.IsSeat, proofs.BatchAtIndex.closed-makes, proofs.BatchAtIndex.counted-set, proofs.BatchAtIndex.read-there, proofs.BatchAtIndex.seat-of, proofs.InvariantAfterMove.changed}
 use Rattle.batch_engine.proofs.control.Control.grant.Goals as goal
 use Rattle.batch_engine.proofs.control.Control.grant.Goals.{After-index_mut-batch, After-recipe-chart, After-grant}
 use Rattle.batch_recipe.proofs.ValueUpdates.{same-at}

@@ -1,9 +1,6 @@
 use Rattle.std.proofs.Common.{◌∙◌, ap, ℕ, List}
 use Rattle.std.specs.Prelude.{nat_eq, position}
-use Rattle.batch_engine.specs.declared.batch.Batch.{Batch}
-use Rattle.batch_engine.specs.Batches.{own_number}
-use Rattle.batch_engine.specs.View.{EngineView}
-use Rattle.batch_engine.proofs.BinarySearch.{position-map}
+use Rattle.batch_engine.{specs.declared.batch.Batch.Batch, specs.Batches.own_number, specs.View.EngineView, proofs.BinarySearch.position-map}
 use Rattle.batch_engine.proofs.control.Control.index_of.Goals as goal
 
 pub returns : goal.returns

@@ -1,11 +1,7 @@
 use Rattle.std.proofs.Common.{◌≡◌, sym, subst, ℕ, Some}
 use Rattle.batch_model.specs.Moves as Moves
 use Rattle.batch_chart.specs.NodesOf.{need_at, place_at}
-use Rattle.batch_engine.specs.declared.batch.Batch.{Batch}
-use Rattle.batch_engine.specs.View.{EngineView, resource_number, tree_of}
-use Rattle.batch_engine.specs.Steps.{IsGrantStep, IsNext, IsNextStep, IsNumberAt, IsOwnStep, TellsNext}
-use Rattle.batch_engine.proofs.BatchAtIndex.{IsRead, mover-at, read-there}
-use Rattle.batch_engine.proofs.MoveLines.{grant-told}
+use Rattle.batch_engine.{specs.declared.batch.Batch.Batch, specs.View.EngineView, specs.View.resource_number, specs.View.tree_of, specs.Steps.IsGrantStep, specs.Steps.IsNext, specs.Steps.IsNextStep, specs.Steps.IsNumberAt, specs.Steps.IsOwnStep, specs.Steps.TellsNext, proofs.BatchAtIndex.IsRead, proofs.BatchAtIndex.mover-at, proofs.BatchAtIndex.read-there, proofs.MoveLines.grant-told}
 use Rattle.batch_engine.proofs.control.Control.line_of.Goals as goal
 use Rattle.batch_recipe.proofs.ValueUpdates.{same-at}
 

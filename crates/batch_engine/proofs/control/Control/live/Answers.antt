@@ -1,21 +1,9 @@
 use Rattle.std.proofs.Common.{◌≡◌, sym, ◌∙◌, ap, subst, ℕ, List, Option, Some, None, inl, inr, arith, get_or}
-use Rattle.std.specs.Prelude.{slice_get, position}
-use Rattle.std.proofs.lemmas.Bool.{cases_eq}
-use Rattle.std.proofs.lemmas.Option.{slice_get-get_or}
-use Rattle.batch_cell.specs.LookUps.{resources_of}
-use Rattle.batch_cell.specs.declared.cell.Cell.{Cell}
+use Rattle.std.{specs.Prelude.slice_get, specs.Prelude.position, proofs.lemmas.Bool.cases_eq, proofs.lemmas.Option.slice_get-get_or}
+use Rattle.batch_cell.specs.{LookUps.resources_of, declared.cell.Cell.Cell}
 use Rattle.batch_recipe.specs.Conditions.{Name, same_name}
-use Rattle.batch_model.specs.Events.{live_in}
-use Rattle.batch_model.specs.Rest.{acts}
-use Rattle.batch_engine.specs.declared.batch.Batch.{Batch}
-use Rattle.batch_engine.specs.Kept.{IsKept}
-use Rattle.batch_engine.specs.Marked.{AreHoldingsNoted}
-use Rattle.batch_engine.specs.Reports.{IsLiveIn, IsLivePhase, told_of}
-use Rattle.batch_engine.specs.declared.live_phase.LivePhase.{LivePhase}
-use Rattle.batch_engine.specs.View.{EngineView, model_batch, resource_number}
-use Rattle.batch_engine.proofs.BatchLookups.{known-resource}
-use Rattle.batch_engine.proofs.HeldUnits.{live-elsewhere, live-no_batch, live-no_unit}
-use Rattle.batch_engine.proofs.ReportAnswers.{live-here, live-nowhere}
+use Rattle.batch_model.specs.{Events.live_in, Rest.acts}
+use Rattle.batch_engine.{specs.declared.batch.Batch.Batch, specs.Kept.IsKept, specs.Marked.AreHoldingsNoted, specs.Reports.IsLiveIn, specs.Reports.IsLivePhase, specs.Reports.told_of, specs.declared.live_phase.LivePhase.LivePhase, specs.View.EngineView, specs.View.model_batch, specs.View.resource_number, proofs.BatchLookups.known-resource, proofs.HeldUnits.live-elsewhere, proofs.HeldUnits.live-no_batch, proofs.HeldUnits.live-no_unit, proofs.ReportAnswers.live-here, proofs.ReportAnswers.live-nowhere}
 use Rattle.batch_engine.proofs.control.Control.live.Goals as goal
 use Rattle.batch_engine.proofs.control.Control.live.Goals.{After-resource_of}
 

@@ -1,25 +1,13 @@
 use Rattle.std.proofs.Common.{◌≡◌, refl, sym, ◌∙◌, ap, subst, ℕ, List, Some, None, arith}
 use Rattle.std.specs.Prelude.{position}
 use Rattle.batch_cell.specs.LookUps.{units_of}
-use Rattle.batch_chart.specs.Charts.{IsLive, remains_from}
-use Rattle.batch_chart.specs.NodesOf.{node_at, phase_at, phase_named}
-use Rattle.batch_chart.proofs.LivePhase.{from-first}
-use Rattle.batch_model.specs.Events.{live_in}
-use Rattle.batch_model.specs.Rest.{acts}
-use Rattle.batch_recipe.specs.Conditions.{Name, same_name}
-use Rattle.batch_recipe.specs.declared.recipe.Recipe.{Recipe}
+use Rattle.batch_chart.{specs.Charts.IsLive, specs.Charts.remains_from, specs.NodesOf.node_at, specs.NodesOf.phase_at, specs.NodesOf.phase_named, proofs.LivePhase.from-first}
+use Rattle.batch_model.specs.{Events.live_in, Rest.acts}
+use Rattle.batch_recipe.{specs.Conditions.Name, specs.Conditions.same_name, specs.declared.recipe.Recipe.Recipe, proofs.ValueUpdates.same-at}
 use Rattle.batch_verify.proofs.ListLookups.{found_below}
-use Rattle.batch_engine.specs.declared.batch.Batch.{Batch}
-use Rattle.batch_engine.specs.Names.{resource_name}
-use Rattle.batch_engine.specs.View.{EngineView, model_batch, tree_of}
-use Rattle.batch_engine.proofs.ElementAtIndex.{at-same}
-use Rattle.batch_engine.proofs.LivePhases.{found-on, named-phase, passed-over, phase-within}
-use Rattle.batch_engine.proofs.BatchAtIndex.{IsSeat, read-at, seat-of}
-use Rattle.batch_engine.proofs.UnitNumbers.{unit-is_resource}
-use Rattle.batch_engine.proofs.MoveLines.{resource-told}
+use Rattle.batch_engine.{specs.declared.batch.Batch.Batch, specs.Names.resource_name, specs.View.EngineView, specs.View.model_batch, specs.View.tree_of, proofs.ElementAtIndex.at-same, proofs.LivePhases.found-on, proofs.LivePhases.named-phase, proofs.LivePhases.passed-over, proofs.LivePhases.phase-within, proofs.BatchAtIndex.IsSeat, proofs.BatchAtIndex.read-at, proofs.BatchAtIndex.seat-of, proofs.UnitNumbers.unit-is_resource, proofs.MoveLines.resource-told}
 use Rattle.batch_engine.proofs.control.Control.live_in.Goals as goal
 use Rattle.batch_engine.proofs.control.Control.live_in.Goals.{After-phase_at-number, After-recipe-chart}
-use Rattle.batch_recipe.proofs.ValueUpdates.{same-at}
 
 seat : (c : After-recipe-chart) → IsSeat c.args.self.now c.args.index c.index-batch.result.now c.recipe-chart.result.now
 seat c = seat-of c.self.view_is (read-at c.self.view_is c.self.invariant.kept c.requires c.index-batch.ensures) c.recipe-chart.ensures

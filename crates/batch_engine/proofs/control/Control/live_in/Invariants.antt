@@ -1,7 +1,6 @@
 use Rattle.std.proofs.Common.{◌≡◌, ◌≤◌, ◌-◌, Some}
 use Rattle.batch_recipe.specs.Conditions.{Name}
-use Rattle.batch_model.specs.Events.{live_in}
-use Rattle.batch_model.specs.Rest.{acts}
+use Rattle.batch_model.specs.{Events.live_in, Rest.acts}
 use Rattle.batch_chart.specs.Charts.{remains, remains_from}
 use Rattle.batch_engine.specs.View.{model_batch, resource_number, tree_of}
 use Rattle.batch_engine.proofs.control.Control.live_in.Given as goal

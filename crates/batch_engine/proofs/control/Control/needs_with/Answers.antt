@@ -1,7 +1,5 @@
 use Rattle.std.proofs.Common.{ap, arith}
-use Rattle.batch_engine.specs.View.{EngineView, tree_at}
-use Rattle.batch_engine.specs.Kept.{needs_of_all}
-use Rattle.batch_engine.proofs.FewNeeds.{few-needs, few-of_all}
+use Rattle.batch_engine.{specs.View.EngineView, specs.View.tree_at, specs.Kept.needs_of_all, proofs.FewNeeds.few-needs, proofs.FewNeeds.few-of_all}
 use Rattle.batch_engine.proofs.control.Control.needs_with.Goals as goal
 
 -- at most 22 needs a node, 4,096 nodes a batch, 4,096 batches

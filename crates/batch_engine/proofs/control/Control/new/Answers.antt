@@ -2,10 +2,7 @@ use Rattle.std.proofs.Common.{◌≡◌, refl, sym, ◌∙◌, ap, ap₂, subst,
 use Rattle.batch_cell.specs.LookUps.{capacities_of}
 use Rattle.batch_arbiter.specs.Allocation.{Allocation, idle}
 use Rattle.batch_verify.specs.ClearedSet.{ClearedSet}
-use Rattle.batch_engine.specs.View.{seen, plant_of}
-use Rattle.batch_engine.specs.Kept.{IsKept, needs_of_all}
-use Rattle.batch_engine.proofs.OpeningEngine.{opening-plant, opening-kept}
-use Rattle.batch_engine.specs.Batches.{BatchList, HaveOwnNumbers}
+use Rattle.batch_engine.{specs.View.seen, specs.View.plant_of, specs.Kept.IsKept, specs.Kept.needs_of_all, proofs.OpeningEngine.opening-plant, proofs.OpeningEngine.opening-kept, specs.Batches.BatchList, specs.Batches.HaveOwnNumbers}
 use Rattle.batch_engine.proofs.control.Control.new.Goals as goal
 
 pub invariant_of-result : goal.invariant_of-result

@@ -1,20 +1,9 @@
 use Rattle.std.proofs.Common.{◌≡◌, refl, sym, ◌∙◌, subst, ℕ, Some, None}
-use Rattle.batch_matrix.specs.Matrix.{after, target}
-use Rattle.batch_matrix.specs.declared.command.Command.{Command}
-use Rattle.batch_matrix.specs.declared.command.Command.TheVariants.{Start, Pause, Resume, Hold, Restart, Stop, Abort, Reset}
-use Rattle.batch_matrix.specs.declared.state.State.{State}
+use Rattle.batch_matrix.specs.{Matrix.after, Matrix.target, declared.command.Command.Command, declared.command.Command.TheVariants.Start, declared.command.Command.TheVariants.Pause, declared.command.Command.TheVariants.Resume, declared.command.Command.TheVariants.Hold, declared.command.Command.TheVariants.Restart, declared.command.Command.TheVariants.Stop, declared.command.Command.TheVariants.Abort, declared.command.Command.TheVariants.Reset, declared.state.State.State}
 use Rattle.batch_model.specs.Events as Events
-use Rattle.batch_model.specs.Moves.{next}
-use Rattle.batch_model.specs.Runs.{Reacts}
-use Rattle.batch_engine.specs.Answered.{IsAnswered}
-use Rattle.batch_engine.specs.Orders.{IsOrder, IsOrdered, IsPlain}
-use Rattle.batch_engine.specs.View.{EngineView, model_batch, plant_of, setup}
-use Rattle.batch_engine.specs.declared.batch.Batch.{Batch}
+use Rattle.batch_model.specs.{Moves.next, Runs.Reacts}
+use Rattle.batch_engine.{specs.Answered.IsAnswered, specs.Orders.IsOrder, specs.Orders.IsOrdered, specs.Orders.IsPlain, specs.View.EngineView, specs.View.model_batch, specs.View.plant_of, specs.View.setup, specs.declared.batch.Batch.Batch, proofs.AcceptedCommands.accepted, proofs.AcceptedCommands.not-accepted, proofs.OrderAnswers.order-refused, proofs.OrderAnswers.order-unknown, proofs.BatchAtIndex.IsFound, proofs.BatchAtIndex.found-here, proofs.BatchByNumber.none-found}
 use Rattle.batch_engine.specs.declared.reply.Reply.TheVariants as Reply
-use Rattle.batch_engine.proofs.AcceptedCommands.{accepted, not-accepted}
-use Rattle.batch_engine.proofs.OrderAnswers.{order-refused, order-unknown}
-use Rattle.batch_engine.proofs.BatchAtIndex.{IsFound, found-here}
-use Rattle.batch_engine.proofs.BatchByNumber.{none-found}
 use Rattle.batch_engine.proofs.control.Control.order.Goals as goal
 use Rattle.batch_engine.proofs.control.Control.order.Goals.{After-index}
 

@@ -2,13 +2,7 @@ use Rattle.std.proofs.Common.{◌≡◌, refl, sym, subst, ℕ, Some}
 use Rattle.std.specs.Prelude.{slice_get}
 use Rattle.batch_chart.specs.declared.chart_move.Move.{Move}
 use Rattle.batch_chart.specs.declared.chart_move.Move.TheVariants as Chart
-use Rattle.batch_engine.specs.declared.batch.Batch.{Batch}
-use Rattle.batch_engine.specs.declared.line.Line.{Line}
-use Rattle.batch_engine.specs.Steps.{IsLineAt, IsMover, Tells}
-use Rattle.batch_engine.specs.View.{EngineView}
-use Rattle.batch_engine.proofs.BatchLookups.{got-chart}
-use Rattle.batch_engine.proofs.BatchAtIndex.{chart-within, linked-here, mover, needs-there}
-use Rattle.batch_engine.proofs.MoveLines.{ask-told, begin-told, end-told, pass-told, release-told, state-told}
+use Rattle.batch_engine.{specs.declared.batch.Batch.Batch, specs.declared.line.Line.Line, specs.Steps.IsLineAt, specs.Steps.IsMover, specs.Steps.Tells, specs.View.EngineView, proofs.BatchLookups.got-chart, proofs.BatchAtIndex.chart-within, proofs.BatchAtIndex.linked-here, proofs.BatchAtIndex.mover, proofs.BatchAtIndex.needs-there, proofs.MoveLines.ask-told, proofs.MoveLines.begin-told, proofs.MoveLines.end-told, proofs.MoveLines.pass-told, proofs.MoveLines.release-told, proofs.MoveLines.state-told}
 use Rattle.batch_engine.proofs.control.Control.own_line.Goals as goal
 use Rattle.batch_engine.proofs.control.Control.own_line.Goals.{After-index-batch, After-recipe-chart}
 

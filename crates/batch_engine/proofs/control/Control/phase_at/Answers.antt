@@ -1,13 +1,6 @@
 use Rattle.std.proofs.Common.{◌≡◌, ◌∙◌, ap, sym, subst, arith, Option, Some}
 use Rattle.std.specs.Prelude.{slice_get, unwrap_or}
-use Rattle.batch_engine.specs.Steps.{IsPhaseAt}
-use Rattle.batch_engine.specs.View.{EngineView}
-use Rattle.batch_engine.specs.declared.batch.Batch.{Batch}
-use Rattle.batch_engine.specs.declared.phase_number.PhaseNumber.{PhaseNumber}
-use Rattle.batch_engine.specs.declared.phase_number.TheConstants.{NO_PHASE}
-use Rattle.batch_engine.proofs.BatchLookups.{got-chart}
-use Rattle.batch_engine.proofs.LinkedActs.{phase-here}
-use Rattle.batch_engine.proofs.BatchAtIndex.{IsRead, chart-within, entry-read, entry-within, linked-here, linked-read, linked-within}
+use Rattle.batch_engine.{specs.Steps.IsPhaseAt, specs.View.EngineView, specs.declared.batch.Batch.Batch, specs.declared.phase_number.PhaseNumber.PhaseNumber, specs.declared.phase_number.TheConstants.NO_PHASE, proofs.BatchLookups.got-chart, proofs.LinkedActs.phase-here, proofs.BatchAtIndex.IsRead, proofs.BatchAtIndex.chart-within, proofs.BatchAtIndex.entry-read, proofs.BatchAtIndex.entry-within, proofs.BatchAtIndex.linked-here, proofs.BatchAtIndex.linked-read, proofs.BatchAtIndex.linked-within}
 use Rattle.batch_engine.proofs.control.Control.phase_at.Goals as goal
 use Rattle.batch_engine.proofs.control.Control.phase_at.Goals.{After-recipe-chart}
 

@@ -2,16 +2,7 @@ use Rattle.std.proofs.Common.{◌≡◌, ◌-◌, ◌+◌, refl, sym, ◌∙◌,
 use Rattle.std.specs.List.{remove}
 use Rattle.batch_model.specs.Events as Events
 use Rattle.batch_model.specs.Runs.{Reacts}
-use Rattle.batch_engine.specs.Batches.{BatchList, HaveOwnNumbers}
-use Rattle.batch_engine.specs.Kept.{IsKept, needs_of_all}
-use Rattle.batch_engine.specs.View.{EngineView, model_batch, plant_of, seen, setup, tree_of}
-use Rattle.batch_engine.proofs.SlabChanges.{own-numbers-remove}
-use Rattle.batch_engine.proofs.InvariantAfterEvent.{with}
-use Rattle.batch_engine.proofs.BatchRemoval.{remove-busy, remove-kept, remove-reacts, remove-unknown}
-use Rattle.batch_engine.proofs.Room.{needs-removed}
-use Rattle.batch_engine.proofs.BatchLookups.{batch-runs}
-use Rattle.batch_engine.proofs.BatchAtIndex.{IsFound, IsRead, found-here, read-there}
-use Rattle.batch_engine.proofs.BatchByNumber.{none-found}
+use Rattle.batch_engine.{specs.Batches.BatchList, specs.Batches.HaveOwnNumbers, specs.Kept.IsKept, specs.Kept.needs_of_all, specs.View.EngineView, specs.View.model_batch, specs.View.plant_of, specs.View.seen, specs.View.setup, specs.View.tree_of, proofs.SlabChanges.own-numbers-remove, proofs.InvariantAfterEvent.with, proofs.BatchRemoval.remove-busy, proofs.BatchRemoval.remove-kept, proofs.BatchRemoval.remove-reacts, proofs.BatchRemoval.remove-unknown, proofs.Room.needs-removed, proofs.BatchLookups.batch-runs, proofs.BatchAtIndex.IsFound, proofs.BatchAtIndex.IsRead, proofs.BatchAtIndex.found-here, proofs.BatchAtIndex.read-there, proofs.BatchByNumber.none-found}
 use Rattle.batch_engine.proofs.control.Control.remove.Goals as goal
 use Rattle.batch_engine.proofs.control.Control.remove.Goals.{After-index, After-needs}
 

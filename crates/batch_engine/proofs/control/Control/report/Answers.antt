@@ -1,19 +1,10 @@
 use Rattle.std.proofs.Common.{◌≡◌, ◌<◌, ◌∙◌, refl, sym, ap, ap₂, subst, Some, length, true}
 use Rattle.batch_matrix.specs.Matrix.{after_report}
 use Rattle.batch_model.specs.Events as Events
-use Rattle.batch_recipe.specs.Values.{are_outputs, with_values}
-use Rattle.batch_engine.specs.Answered.{IsAnswered}
-use Rattle.batch_engine.specs.Kept.{IsKept}
-use Rattle.batch_engine.specs.View.{EngineView, tree_of}
-use Rattle.batch_engine.specs.declared.batch.Batch.{Batch}
-use Rattle.batch_engine.specs.declared.reply.Reply.{Reply}
-use Rattle.batch_engine.proofs.BatchLookups.{in-charts}
-use Rattle.batch_engine.proofs.ReportAnswers.{IsReporting, report-bad, report-left_out, report-made, reporting-of}
-use Rattle.batch_engine.proofs.BatchAtIndex.{counted-set, read-there}
-use Rattle.batch_engine.proofs.InvariantAfterMove.{changed}
+use Rattle.batch_recipe.{specs.Values.are_outputs, specs.Values.with_values, proofs.ValueUpdates.same-at}
+use Rattle.batch_engine.{specs.Answered.IsAnswered, specs.Kept.IsKept, specs.View.EngineView, specs.View.tree_of, specs.declared.batch.Batch.Batch, specs.declared.reply.Reply.Reply, proofs.BatchLookups.in-charts, proofs.ReportAnswers.IsReporting, proofs.ReportAnswers.report-bad, proofs.ReportAnswers.report-left_out, proofs.ReportAnswers.report-made, proofs.ReportAnswers.reporting-of, proofs.BatchAtIndex.counted-set, proofs.BatchAtIndex.read-there, proofs.InvariantAfterMove.changed}
 use Rattle.batch_engine.proofs.control.Control.report.Goals as goal
 use Rattle.batch_engine.proofs.control.Control.report.Goals.{After-are_outputs, After-index_mut-batch, After-recipe-chart, After-report}
-use Rattle.batch_recipe.proofs.ValueUpdates.{same-at}
 
 pub recipe-chart-requires : goal.recipe-chart-requires
 recipe-chart-requires c =

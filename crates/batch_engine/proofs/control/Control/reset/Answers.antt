@@ -1,16 +1,8 @@
 use Rattle.std.proofs.Common.{◌≡◌, ◌∙◌, refl, sym, ap, []}
-use Rattle.batch_matrix.specs.declared.command.Command.TheVariants.{Reset}
-use Rattle.batch_matrix.specs.declared.state.State.TheVariants.{Idle}
+use Rattle.batch_matrix.specs.declared.{command.Command.TheVariants.Reset, state.State.TheVariants.Idle}
 use Rattle.batch_model.specs.Plant.{Master}
-use Rattle.batch_recipe.specs.Conditions.{ValueList}
-use Rattle.batch_recipe.specs.Values.{with_outputs_zero}
-use Rattle.batch_engine.specs.declared.batch.Batch.{Batch}
-use Rattle.batch_engine.specs.View.{EngineView, bound_to, recipe_made, tree_of}
-use Rattle.batch_engine.proofs.BatchLookups.{master-found}
-use Rattle.batch_engine.proofs.OrderAnswers.{order-at}
-use Rattle.batch_engine.proofs.AcceptedOrders.{Ordered, reset-made}
-use Rattle.batch_engine.proofs.BatchAtIndex.{IsSeat, closed-ordered, counted-set, read-there, seat-of}
-use Rattle.batch_engine.proofs.InvariantAfterMove.{changed}
+use Rattle.batch_recipe.specs.{Conditions.ValueList, Values.with_outputs_zero}
+use Rattle.batch_engine.{specs.declared.batch.Batch.Batch, specs.View.EngineView, specs.View.bound_to, specs.View.recipe_made, specs.View.tree_of, proofs.BatchLookups.master-found, proofs.OrderAnswers.order-at, proofs.AcceptedOrders.Ordered, proofs.AcceptedOrders.reset-made, proofs.BatchAtIndex.IsSeat, proofs.BatchAtIndex.closed-ordered, proofs.BatchAtIndex.counted-set, proofs.BatchAtIndex.read-there, proofs.BatchAtIndex.seat-of, proofs.InvariantAfterMove.changed}
 use Rattle.batch_engine.proofs.control.Control.reset.Goals as goal
 use Rattle.batch_engine.proofs.control.Control.reset.Goals.{After-recipe-chart, After-reset}
 

@@ -1,20 +1,7 @@
 use Rattle.std.proofs.Common.{◌≡◌, ◌∙◌, refl, sym, ap, subst, ℕ}
 use Rattle.batch_arbiter.specs.Allocation.{Allocation, after_ask}
-use Rattle.batch_chart.specs.NodesOf.{need_at}
-use Rattle.batch_chart.specs.Seen.{machine_move}
-use Rattle.batch_chart.specs.declared.chart_move.Move.{Move}
-use Rattle.batch_chart.specs.declared.chart_move.Move.TheVariants.{Ask, Pass, Release, State}
-use Rattle.batch_chart.specs.declared.running.Running.{Running}
-use Rattle.batch_engine.specs.declared.batch.Batch.{Batch}
-use Rattle.batch_engine.specs.declared.line.Line.{Line}
-use Rattle.batch_engine.specs.Steps.{CanClaim, ClaimsAs, IsMover, IsOfAct, claimed_by}
-use Rattle.batch_engine.specs.View.{EngineView, model_batch, tree_of}
-use Rattle.batch_engine.proofs.BatchLookups.{known-resource}
-use Rattle.batch_engine.proofs.EngineAfterMove.{Becomes, MadeChart, as-released, ask-made, held-share, pass-made, release-made, run-quiet}
-use Rattle.batch_engine.proofs.RoomForAsk.{room-for-ask}
-use Rattle.batch_engine.proofs.BatchAtIndex.{IsSeat, chart-within, closed-makes, counted-set, mover, mover-at, seat-of}
-use Rattle.batch_engine.proofs.SpaceInAdvance.{space-in-advance}
-use Rattle.batch_engine.proofs.InvariantAfterMove.{changed}
+use Rattle.batch_chart.specs.{NodesOf.need_at, Seen.machine_move, declared.chart_move.Move.Move, declared.chart_move.Move.TheVariants.Ask, declared.chart_move.Move.TheVariants.Pass, declared.chart_move.Move.TheVariants.Release, declared.chart_move.Move.TheVariants.State, declared.running.Running.Running}
+use Rattle.batch_engine.{specs.declared.batch.Batch.Batch, specs.declared.line.Line.Line, specs.Steps.CanClaim, specs.Steps.ClaimsAs, specs.Steps.IsMover, specs.Steps.IsOfAct, specs.Steps.claimed_by, specs.View.EngineView, specs.View.model_batch, specs.View.tree_of, proofs.BatchLookups.known-resource, proofs.EngineAfterMove.Becomes, proofs.EngineAfterMove.MadeChart, proofs.EngineAfterMove.as-released, proofs.EngineAfterMove.ask-made, proofs.EngineAfterMove.held-share, proofs.EngineAfterMove.pass-made, proofs.EngineAfterMove.release-made, proofs.EngineAfterMove.run-quiet, proofs.RoomForAsk.room-for-ask, proofs.BatchAtIndex.IsSeat, proofs.BatchAtIndex.chart-within, proofs.BatchAtIndex.closed-makes, proofs.BatchAtIndex.counted-set, proofs.BatchAtIndex.mover, proofs.BatchAtIndex.mover-at, proofs.BatchAtIndex.seat-of, proofs.SpaceInAdvance.space-in-advance, proofs.InvariantAfterMove.changed}
 use Rattle.batch_engine.proofs.control.Control.run.Goals as goal
 use Rattle.batch_engine.proofs.control.Control.run.Goals.{After-index_mut-batch, After-make_move, After-recipe-chart}
 use Rattle.batch_recipe.proofs.ValueUpdates.{same-at}

@@ -1,6 +1,4 @@
-use Rattle.batch_engine.proofs.BatchLookups.{got-chart}
-use Rattle.batch_engine.proofs.BatchAtIndex.{chart-within}
-use Rattle.batch_engine.proofs.MoveLines.{start-told}
+use Rattle.batch_engine.proofs.{BatchLookups.got-chart, BatchAtIndex.chart-within, MoveLines.start-told}
 use Rattle.batch_engine.proofs.control.Control.start_line.Goals as goal
 
 pub recipe-recipe-requires : goal.recipe-recipe-requires

@@ -1,15 +1,7 @@
 use Rattle.std.proofs.Common.{refl, sym, subst}
 use Rattle.batch_matrix.specs.declared.state.State.{State}
 use Rattle.batch_arbiter.specs.Allocation.{after_withdrawal}
-use Rattle.batch_engine.specs.declared.batch.Batch.{Batch}
-use Rattle.batch_engine.specs.Orders.{IsOrder}
-use Rattle.batch_engine.specs.View.{EngineView, model_batch, tree_of}
-use Rattle.batch_engine.proofs.BatchLookups.{batch-runs}
-use Rattle.batch_engine.proofs.EngineAfterMove.{runs-as}
-use Rattle.batch_engine.proofs.OrderAnswers.{order-at}
-use Rattle.batch_engine.proofs.AcceptedOrders.{Ordered, stop-made}
-use Rattle.batch_engine.proofs.BatchAtIndex.{IsRead, closed-ordered, counted-set, read-there}
-use Rattle.batch_engine.proofs.InvariantAfterMove.{changed}
+use Rattle.batch_engine.{specs.declared.batch.Batch.Batch, specs.Orders.IsOrder, specs.View.EngineView, specs.View.model_batch, specs.View.tree_of, proofs.BatchLookups.batch-runs, proofs.EngineAfterMove.runs-as, proofs.OrderAnswers.order-at, proofs.AcceptedOrders.Ordered, proofs.AcceptedOrders.stop-made, proofs.BatchAtIndex.IsRead, proofs.BatchAtIndex.closed-ordered, proofs.BatchAtIndex.counted-set, proofs.BatchAtIndex.read-there, proofs.InvariantAfterMove.changed}
 use Rattle.batch_engine.proofs.control.Control.stop.Goals as goal
 use Rattle.batch_engine.proofs.control.Control.stop.Goals.{After-stop_all}
 

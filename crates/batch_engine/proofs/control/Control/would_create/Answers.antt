@@ -1,6 +1,5 @@
 use Rattle.batch_model.specs.Events as Events
-use Rattle.batch_engine.proofs.CreateAnswers.{refused-otherwise, wants-if}
-use Rattle.batch_engine.proofs.BatchLookups.{got-chart}
+use Rattle.batch_engine.proofs.{CreateAnswers.refused-otherwise, CreateAnswers.wants-if, BatchLookups.got-chart}
 use Rattle.batch_engine.proofs.control.Control.would_create.Goals as goal
 
 pub returns-in-Ok : goal.returns-in-Ok

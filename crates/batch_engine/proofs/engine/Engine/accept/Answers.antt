@@ -1,11 +1,6 @@
 use Rattle.std.proofs.Common.{◌≡◌, refl, sym, subst, None}
 use Rattle.batch_model.specs.Moves.{next}
-use Rattle.batch_engine.specs.View.{EngineView, setup, plant_of}
-use Rattle.batch_engine.specs.Answered.{IsAnswered}
-use Rattle.batch_engine.specs.Marked.{AreHoldingsNoted}
-use Rattle.batch_engine.proofs.HeldUnits.{reply-kept}
-use Rattle.batch_engine.specs.Surface.{event_of}
-use Rattle.batch_engine.proofs.BatchMarks.{marked-answered}
+use Rattle.batch_engine.{specs.View.EngineView, specs.View.setup, specs.View.plant_of, specs.Answered.IsAnswered, specs.Marked.AreHoldingsNoted, proofs.HeldUnits.reply-kept, specs.Surface.event_of, proofs.BatchMarks.marked-answered}
 use Rattle.batch_engine.proofs.engine.Engine.accept.Goals as goal
 
 pub answer_event-reply-requires-clause-noted : goal.answer_event-reply-requires-clause-noted

@@ -1,11 +1,6 @@
 use Rattle.std.proofs.Common.{◌<◌, ◌≤◌, ◌∙◌, sym, subst, subst₂, ℕ, Option}
 use Rattle.std.specs.Prelude.{IfSome, length}
-use Rattle.batch_engine.specs.Marking.{AreMoveMarked, IsTouched}
-use Rattle.batch_engine.specs.Steps.{touched_by}
-use Rattle.batch_engine.specs.View.{EngineView}
-use Rattle.batch_engine.specs.declared.step.Step.{Step}
-use Rattle.batch_engine.proofs.HeldUnits.{move-kept, next-noted}
-use Rattle.batch_engine.proofs.BatchMarks.{marked-after, next-touches, same-count, settled-marked, step-within}
+use Rattle.batch_engine.{specs.Marking.AreMoveMarked, specs.Marking.IsTouched, specs.Steps.touched_by, specs.View.EngineView, specs.declared.step.Step.Step, proofs.HeldUnits.move-kept, proofs.HeldUnits.next-noted, proofs.BatchMarks.marked-after, proofs.BatchMarks.next-touches, proofs.BatchMarks.same-count, proofs.BatchMarks.settled-marked, proofs.BatchMarks.step-within}
 use Rattle.batch_engine.proofs.engine.Engine.next_move.Goals as goal
 
 pub mark_moved-requires-clause-batch : goal.mark_moved-requires-clause-batch

@@ -1,7 +1,6 @@
 use Rattle.std.proofs.Common.{◌≡◌, ◌↔◌, IsTrue, None, subst}
 use Rattle.batch_model.specs.Moves.{next}
-use Rattle.batch_engine.specs.View.{EngineView, setup, plant_of}
-use Rattle.batch_engine.proofs.BatchMarks.{settled-when}
+use Rattle.batch_engine.{specs.View.EngineView, specs.View.setup, specs.View.plant_of, proofs.BatchMarks.settled-when}
 use Rattle.batch_engine.proofs.engine.Engine.settled.Goals as goal
 
 pub returns : goal.returns

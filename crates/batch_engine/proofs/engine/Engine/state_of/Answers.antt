@@ -1,23 +1,10 @@
 use Rattle.std.proofs.Common.{◌≡◌, ◌<◌, refl, sym, ◌∙◌, ap, subst, ℕ, [], ◌∷◌, Some, arith, length, None}
-use Rattle.std.specs.Prelude.{slice_get}
-use Rattle.std.proofs.lemmas.Option.{slice_get_within, get_or_from_slice_get}
+use Rattle.std.{specs.Prelude.slice_get, proofs.lemmas.Option.slice_get_within, proofs.lemmas.Option.get_or_from_slice_get}
 use Rattle.batch_model.specs.ActStates.{state_in}
 use Rattle.batch_chart.specs.NodesOf.{nodes_of, place_at}
-use Rattle.batch_recipe.specs.Nodes.{Node, node_count}
-use Rattle.batch_recipe.specs.Places.{IsNodeAt, NoNodeAt}
-use Rattle.batch_recipe.specs.Procedure.{bound_tree}
-use Rattle.batch_recipe.specs.Tree.{Tree}
-use Rattle.batch_recipe.specs.declared.recipe.Recipe.{Recipe}
-use Rattle.batch_recipe.proofs.NodeOrder.{counted_nodes}
+use Rattle.batch_recipe.{specs.Nodes.Node, specs.Nodes.node_count, specs.Places.IsNodeAt, specs.Places.NoNodeAt, specs.Procedure.bound_tree, specs.Tree.Tree, specs.declared.recipe.Recipe.Recipe, proofs.NodeOrder.counted_nodes}
 use Rattle.batch_verify.specs.ClearedSet.{ClearedSet}
-use Rattle.batch_engine.specs.View.{EngineView, model_batch, bound_to, tree_of}
-use Rattle.batch_engine.specs.declared.batch.Batch.{Batch}
-use Rattle.batch_engine.proofs.PlacesWithoutNodes.{state-nowhere}
-use Rattle.batch_engine.proofs.NodesAcrossBindings.{node-alike, nowhere-alike}
-use Rattle.batch_engine.proofs.BatchLookups.{batch-runs, in-charts, tree-placed}
-use Rattle.batch_engine.proofs.BatchAtIndex.{IsSeat, seat-of}
-use Rattle.batch_engine.proofs.BatchByNumber.{looked}
-use Rattle.batch_engine.proofs.MoveLines.{recipe-here, tree-is}
+use Rattle.batch_engine.{specs.View.EngineView, specs.View.model_batch, specs.View.bound_to, specs.View.tree_of, specs.declared.batch.Batch.Batch, proofs.PlacesWithoutNodes.state-nowhere, proofs.NodesAcrossBindings.node-alike, proofs.NodesAcrossBindings.nowhere-alike, proofs.BatchLookups.batch-runs, proofs.BatchLookups.in-charts, proofs.BatchLookups.tree-placed, proofs.BatchAtIndex.IsSeat, proofs.BatchAtIndex.seat-of, proofs.BatchByNumber.looked, proofs.MoveLines.recipe-here, proofs.MoveLines.tree-is}
 use Rattle.batch_engine.proofs.engine.Engine.state_of.Goals as goal
 use Rattle.batch_engine.proofs.engine.Engine.state_of.Goals.{After-cleared-cleared, After-recipe}
 

@@ -2,10 +2,7 @@ use Rattle.std.proofs.Common.{sym, subst, List}
 use Rattle.std.specs.Prelude.{◌↔◌, IsTrue}
 use Rattle.batch_recipe.specs.Conditions.{Name}
 use Rattle.batch_model.specs.Events as Events
-use Rattle.batch_engine.specs.Answered.{MayWant}
-use Rattle.batch_engine.specs.Surface.{event_of}
-use Rattle.batch_engine.specs.View.{EngineView}
-use Rattle.batch_engine.specs.declared.event.Event.{Event}
+use Rattle.batch_engine.specs.{Answered.MayWant, Surface.event_of, View.EngineView, declared.event.Event.Event}
 use Rattle.batch_engine.proofs.engine.Engine.would_create.Goals as goal
 
 pub returns-else-not-settled : goal.returns-else-not-settled

@@ -1,7 +1,5 @@
 use Rattle.std.proofs.Common.{◌≡◌, refl, sym, ◌∙◌, ap, ℕ, arith}
-use Rattle.std.specs.Int.{bit_at}
-use Rattle.std.specs.Prelude.{◌/◌, ◌%◌}
-use Rattle.std.proofs.lemmas.Nat.Bits.{bit_at-zero}
+use Rattle.std.{specs.Int.bit_at, specs.Prelude.◌/◌, specs.Prelude.◌%◌, proofs.lemmas.Nat.Bits.bit_at-zero}
 use Rattle.batch_signs.proofs.Bits.{zeros}
 use Rattle.batch_engine.proofs.marks.Marks.new.Goals as goal
 

@@ -1,8 +1,7 @@
 use Rattle.std.proofs.Common.{◌*◌, ◌+◌, subst, ℕ, List, arith, Some}
 use Rattle.std.specs.Prelude.{◌/◌, slice_index}
 use Rattle.batch_signs.specs.Bits.{IsLowestFrom}
-use Rattle.batch_engine.specs.Marks.{IsNextMark}
-use Rattle.batch_engine.proofs.Summary.{never, next-later}
+use Rattle.batch_engine.{specs.Marks.IsNextMark, proofs.Summary.never, proofs.Summary.next-later}
 use Rattle.batch_engine.proofs.marks.Marks.next.Goals as goal
 
 pub returns-in_err-bit : goal.returns-in_err-bit

@@ -1,6 +1,5 @@
 use Rattle.std.proofs.Common.{◌∙◌, arith}
-use Rattle.std.specs.Int.{bit_at}
-use Rattle.std.specs.Prelude.{◌/◌, ◌%◌, slice_index}
+use Rattle.std.specs.{Int.bit_at, Prelude.◌/◌, Prelude.◌%◌, Prelude.slice_index}
 use Rattle.batch_signs.proofs.Bits.{bit-some, with-one_same}
 use Rattle.batch_engine.proofs.Summary.{summary-some}
 use Rattle.batch_engine.proofs.marks.Marks.set.Goals as goal

@@ -1,7 +1,6 @@
 use Rattle.std.proofs.Common.{rules, ◌≡◌, ◌++◌, decimal, length, subst}
 use Rattle.sha2.specs.Hashers.{Holds256}
-use Rattle.batch_journal.specs.Digests.{counted}
-use Rattle.batch_journal.proofs.DigestLemmas.{counted_more}
+use Rattle.batch_journal.{specs.Digests.counted, proofs.DigestLemmas.counted_more}
 use Rattle.batch_journal.proofs.digest.DocumentsDigest.push_document.Goals as goal
 
 pub returns : goal.returns

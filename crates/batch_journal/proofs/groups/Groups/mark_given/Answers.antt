@@ -1,8 +1,6 @@
 use Rattle.std.proofs.Common.{ℕ, List, ◌-◌, length, refl, ◌∙◌, ap}
 use Rattle.std.proofs.lemmas.List.{length-drop}
-use Rattle.batch_journal.proofs.PendingLines.{kept_on, kept_rest, recalls_on, rest_kept}
-use Rattle.batch_journal.proofs.LineLemmas.{whole_both}
-use Rattle.batch_journal.proofs.ReaderLemmas.{recalled_on, whole_as}
+use Rattle.batch_journal.proofs.{PendingLines.kept_on, PendingLines.kept_rest, PendingLines.recalls_on, PendingLines.rest_kept, LineLemmas.whole_both, ReaderLemmas.recalled_on, ReaderLemmas.whole_as}
 use Rattle.batch_journal.proofs.groups.Groups.mark_given.Goals as goal
 
 pub invariant_of-self : goal.invariant_of-self

@@ -1,6 +1,5 @@
 use Rattle.std.proofs.Common.{rules, ℕ, List, length, ap}
-use Rattle.batch_journal.proofs.PendingLines.{kept_group, kept_rest, none_in, rest_kept}
-use Rattle.batch_journal.proofs.ReaderLemmas.{recalled_on, recalls_kept, whole_as}
+use Rattle.batch_journal.proofs.{PendingLines.kept_group, PendingLines.kept_rest, PendingLines.none_in, PendingLines.rest_kept, ReaderLemmas.recalled_on, ReaderLemmas.recalls_kept, ReaderLemmas.whole_as}
 use Rattle.batch_journal.proofs.groups.Groups.write.Goals as goal
 
 pub invariant_of-self : goal.invariant_of-self

@@ -1,7 +1,5 @@
 use Rattle.std.proofs.Common.{◌++◌, refl, ap, ◌∙◌}
-use Rattle.batch_journal.specs.Past.{before_append}
-use Rattle.batch_journal.proofs.CrashLemmas.{as_of}
-use Rattle.batch_journal.proofs.DiskInMemory.{wrote}
+use Rattle.batch_journal.{specs.Past.before_append, proofs.CrashLemmas.as_of, proofs.DiskInMemory.wrote}
 use Rattle.batch_journal.proofs.memory.MemoryDisk.append.Goals as goal
 
 pub returns-clause-time : goal.returns-clause-time

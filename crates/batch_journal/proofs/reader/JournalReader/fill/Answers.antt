@@ -1,8 +1,6 @@
 use Rattle.std.proofs.Common.{◌≡◌, ◌≤◌, ℕ, List, ◌++◌, length, take, refl, sym, ◌∙◌, ap, arith}
 use Rattle.std.proofs.lemmas.List.{length-take-le}
-use Rattle.batch_journal.specs.Windows.{items}
-use Rattle.batch_journal.proofs.PendingLines.{group_front, ready_either, within_either}
-use Rattle.batch_journal.proofs.ReaderLemmas.{none_of, keeps_more, accounted_keeps}
+use Rattle.batch_journal.{specs.Windows.items, proofs.PendingLines.group_front, proofs.PendingLines.ready_either, proofs.PendingLines.within_either, proofs.ReaderLemmas.none_of, proofs.ReaderLemmas.keeps_more, proofs.ReaderLemmas.accounted_keeps}
 use Rattle.batch_journal.proofs.reader.JournalReader.fill.Goals as goal
 
 pub invariant_of-self-then-end-eq0 : goal.invariant_of-self-then-end-eq0

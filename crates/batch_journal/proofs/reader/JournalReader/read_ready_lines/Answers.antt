@@ -1,8 +1,6 @@
 use Rattle.std.proofs.Common.{◌≡◌, ◌≤◌, ℕ, List, ◌++◌, length, take, ◌∙◌, ap, arith}
 use Rattle.std.proofs.lemmas.List.{length-take-le}
-use Rattle.batch_journal.specs.Windows.{items}
-use Rattle.batch_journal.proofs.PendingLines.{ready_rest, whole_front, within_rest}
-use Rattle.batch_journal.proofs.ReaderLemmas.{accounted_as, accounted_gives, gives_front, part_within, least_above, not_failed}
+use Rattle.batch_journal.{specs.Windows.items, proofs.PendingLines.ready_rest, proofs.PendingLines.whole_front, proofs.PendingLines.within_rest, proofs.ReaderLemmas.accounted_as, proofs.ReaderLemmas.accounted_gives, proofs.ReaderLemmas.gives_front, proofs.ReaderLemmas.part_within, proofs.ReaderLemmas.least_above, proofs.ReaderLemmas.not_failed}
 use Rattle.batch_journal.proofs.reader.JournalReader.read_ready_lines.Goals as goal
 
 pub mark_given-requires-clause-whole : goal.mark_given-requires-clause-whole

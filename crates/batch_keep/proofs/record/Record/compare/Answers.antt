@@ -1,6 +1,5 @@
 use Rattle.std.proofs.Common.{sym}
-use Rattle.batch_keep.specs.Comparing.{IsCompared, all_told, differs, ends}
-use Rattle.batch_keep.proofs.RecordComparison.{comments_compared, compared_both, line_compared, nothing_compared, nothing_left, something_left}
+use Rattle.batch_keep.{specs.Comparing.IsCompared, specs.Comparing.all_told, specs.Comparing.differs, specs.Comparing.ends, proofs.RecordComparison.comments_compared, proofs.RecordComparison.compared_both, proofs.RecordComparison.line_compared, proofs.RecordComparison.nothing_compared, proofs.RecordComparison.nothing_left, proofs.RecordComparison.something_left}
 use Rattle.batch_keep.proofs.record.Record.compare.Goals as goal
 use Rattle.batch_keep.proofs.record.Record.compare.Goals.{After-next_line}
 

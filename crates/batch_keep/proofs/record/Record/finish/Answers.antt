@@ -1,6 +1,5 @@
 use Rattle.std.proofs.Common.{sym, ◌∙◌}
-use Rattle.batch_keep.specs.Comparing.{empty, more, part}
-use Rattle.batch_keep.proofs.RecordComparison.{nothing_left, something_left}
+use Rattle.batch_keep.{specs.Comparing.empty, specs.Comparing.more, specs.Comparing.part, proofs.RecordComparison.nothing_left, proofs.RecordComparison.something_left}
 use Rattle.batch_keep.proofs.record.Record.finish.Goals as goal
 
 pub returns-in-Some : goal.returns-in-Some

@@ -1,9 +1,7 @@
 use Rattle.std.proofs.Common.{List, ℕ, ap, subst, sym, ◌∙◌}
-use Rattle.std.specs.Io.Buffered.{writer_buffer, writer_contents}
-use Rattle.std.specs.Io.KnownBytes.{append_known}
+use Rattle.std.specs.Io.{Buffered.writer_buffer, Buffered.writer_contents, KnownBytes.append_known}
 use Rattle.rtrb.specs.Ring.{received}
-use Rattle.batch_pipes.specs.Streams.{IsWrittenBehind}
-use Rattle.batch_pipes.proofs.ThreadStreams.{written_out}
+use Rattle.batch_pipes.{specs.Streams.IsWrittenBehind, proofs.ThreadStreams.written_out}
 use Rattle.batch_pipes.proofs.writing.OutputTask.write.Goals as goal
 
 pub returns-clause-written : goal.returns-clause-written

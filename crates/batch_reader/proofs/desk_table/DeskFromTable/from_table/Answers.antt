@@ -1,11 +1,7 @@
 use Rattle.std.proofs.Common.{codes, inl, inr, option_map, string_bytes, sym}
 use Rattle.std.proofs.lemmas.Result.{err_from_is_err_and}
 use Rattle.toml.specs.View.{table_view}
-use Rattle.batch_reader.proofs.EntryFaults.{name_told, optional_name_told, truth_told}
-use Rattle.batch_reader.proofs.NeedFaults.{tells_at}
-use Rattle.batch_reader.proofs.DeskFaults.{path_told}
-use Rattle.batch_reader.proofs.DeskRefusals.{lag_refuses}
-use Rattle.batch_reader.specs.DesksFaults.{IsDeskFault}
+use Rattle.batch_reader.{proofs.EntryFaults.name_told, proofs.EntryFaults.optional_name_told, proofs.EntryFaults.truth_told, proofs.NeedFaults.tells_at, proofs.DeskFaults.path_told, proofs.DeskRefusals.lag_refuses, specs.DesksFaults.IsDeskFault}
 use Rattle.batch_reader.proofs.desk_table.DeskFromTable.from_table.Goals as goal
 
 pub returns-in_err-name-clause-told : goal.returns-in_err-name-clause-told

@@ -1,8 +1,7 @@
 use Rattle.std.proofs.Common.{codes, refl}
 use Rattle.std.proofs.lemmas.Result.{err_from_is_err_and}
 use Rattle.toml.specs.View.{table_view}
-use Rattle.batch_reader.proofs.EntryFaults.{name_told, table_told}
-use Rattle.batch_reader.specs.declared.fault.TableKind.TheVariants.{Role}
+use Rattle.batch_reader.{proofs.EntryFaults.name_told, proofs.EntryFaults.table_told, specs.declared.fault.TableKind.TheVariants.Role}
 use Rattle.batch_reader.proofs.roles.RoleFromTable.from_table.Goals as goal
 
 pub returns-in_err-name-clause-told : goal.returns-in_err-name-clause-told

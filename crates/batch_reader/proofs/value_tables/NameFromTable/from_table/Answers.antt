@@ -1,7 +1,6 @@
 use Rattle.std.proofs.Common.{codes, refl}
 use Rattle.toml.specs.View.{table_view}
-use Rattle.batch_reader.proofs.EntryFaults.{err_both, label_told, table_told}
-use Rattle.batch_reader.specs.declared.fault.TableKind.TheVariants.{Output}
+use Rattle.batch_reader.{proofs.EntryFaults.err_both, proofs.EntryFaults.label_told, proofs.EntryFaults.table_told, specs.declared.fault.TableKind.TheVariants.Output}
 use Rattle.batch_reader.proofs.value_tables.NameFromTable.from_table.Goals as goal
 
 pub returns-clause-told : goal.returns-clause-told

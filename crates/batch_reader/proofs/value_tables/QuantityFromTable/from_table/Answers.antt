@@ -2,8 +2,7 @@ use Rattle.std.proofs.Common.{◌≡◌, arith, codes, inr, refl}
 use Rattle.std.proofs.lemmas.Result.{err_from_is_err_and}
 use Rattle.batch_recipe.specs.declared.scaling.TheConstants.{MAX_VALUE}
 use Rattle.toml.specs.View.{table_view}
-use Rattle.batch_reader.proofs.EntryFaults.{above_fault, label_told, least_told, number_told, table_told, truth_told}
-use Rattle.batch_reader.specs.declared.fault.TableKind.TheVariants.{Input}
+use Rattle.batch_reader.{proofs.EntryFaults.above_fault, proofs.EntryFaults.label_told, proofs.EntryFaults.least_told, proofs.EntryFaults.number_told, proofs.EntryFaults.table_told, proofs.EntryFaults.truth_told, specs.declared.fault.TableKind.TheVariants.Input}
 use Rattle.batch_reader.proofs.value_tables.QuantityFromTable.from_table.Goals as goal
 
 pub returns-in_err-name-clause-told : goal.returns-in_err-name-clause-told

@@ -1,9 +1,5 @@
 use Rattle.std.proofs.Common.{◌≡◌, ap, sym, ◌∙◌}
-use Rattle.batch_recipe.specs.Growing.{number_in}
-use Rattle.batch_recipe.specs.Procedure.{table_at}
-use Rattle.batch_recipe.specs.WellFormed.{act_names}
-use Rattle.batch_recipe.specs.declared.acts.LabelTable.{LabelTable}
-use Rattle.batch_recipe.proofs.LabelNumbers.{number_by_names}
+use Rattle.batch_recipe.{specs.Growing.number_in, specs.Procedure.table_at, specs.WellFormed.act_names, specs.declared.acts.LabelTable.LabelTable, proofs.LabelNumbers.number_by_names}
 use Rattle.batch_recipe.proofs.labels.Labels.number_of.Goals as goal
 use Rattle.batch_recipe.proofs.labels.Labels.number_of.Goals.{in-UnitProcedures, in-Operations, in-Phases}
 

@@ -1,16 +1,7 @@
 use Rattle.std.proofs.Common.{◌≡◌, ℕ, ◌+◌, ◌<◌, ◌++◌, List, length, Some, Err, Result, IsErrOf, ap, ◌∙◌, subst, arith}
 use Rattle.std.proofs.lemmas.Result.{err_from_is_err_and}
-use Rattle.batch_recipe.specs.Expanding.{unbound}
-use Rattle.batch_recipe.specs.Growing.{HasGrown, act_entries, act_conditions}
-use Rattle.batch_recipe.specs.declared.acts.LabelTable.TheVariants.{UnitProcedures}
-use Rattle.batch_recipe.specs.declared.condition.Cond.{Cond}
-use Rattle.batch_recipe.specs.declared.entry.Entry.{Entry}
+use Rattle.batch_recipe.{specs.Expanding.unbound, specs.Growing.HasGrown, specs.Growing.act_entries, specs.Growing.act_conditions, specs.declared.acts.LabelTable.TheVariants.UnitProcedures, specs.declared.condition.Cond.Cond, specs.declared.entry.Entry.Entry, specs.declared.outline.Outline.Outline, specs.declared.outline_fault.OutlineFault.OutlineFault, specs.declared.outline_fault.OutlineFault.TheVariants.TooMany, proofs.OutlineLinks.as_many_entries, proofs.EntryShapes.is_outline}
 use Rattle.batch_recipe.specs.declared.entry.Kind.TheVariants as kind
-use Rattle.batch_recipe.specs.declared.outline.Outline.{Outline}
-use Rattle.batch_recipe.specs.declared.outline_fault.OutlineFault.{OutlineFault}
-use Rattle.batch_recipe.specs.declared.outline_fault.OutlineFault.TheVariants.{TooMany}
-use Rattle.batch_recipe.proofs.OutlineLinks.{as_many_entries}
-use Rattle.batch_recipe.proofs.EntryShapes.{is_outline}
 use Rattle.batch_recipe.proofs.outline.Outline.new.Goals as goal
 
 the_fault : (f : OutlineFault) → IsErrOf {T = Outline} (Err f) TooMany → f ≡ TooMany

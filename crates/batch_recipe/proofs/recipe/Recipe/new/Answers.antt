@@ -1,8 +1,5 @@
 use Rattle.std.proofs.Common.{sym, subst, arith}
-use Rattle.batch_recipe.specs.Expanding.{unbound}
-use Rattle.batch_recipe.specs.Outlines.{IsOutline}
-use Rattle.batch_recipe.proofs.OutlineLinks.{as_many_entries}
-use Rattle.batch_recipe.proofs.EntryShapes.{is_outline}
+use Rattle.batch_recipe.{specs.Expanding.unbound, specs.Outlines.IsOutline, proofs.OutlineLinks.as_many_entries, proofs.EntryShapes.is_outline}
 use Rattle.batch_recipe.proofs.recipe.Recipe.new.Goals as goal
 
 pub invariant_of-result-clause-small : goal.invariant_of-result-clause-small

@@ -1,8 +1,6 @@
 use Rattle.std.proofs.Common.{◌≡◌, Some, length, map, refl, ap, ◌∙◌}
-use Rattle.std.specs.Prelude.{slice_get, option_map}
-use Rattle.std.proofs.lemmas.Option.{slice_get_read, slice_get-map}
-use Rattle.batch_recipe.specs.Conditions.{Name, ValueList}
-use Rattle.batch_recipe.proofs.ValueUpdates.{outputs-next, zero_of}
+use Rattle.std.{specs.Prelude.slice_get, specs.Prelude.option_map, proofs.lemmas.Option.slice_get_read, proofs.lemmas.Option.slice_get-map}
+use Rattle.batch_recipe.{specs.Conditions.Name, specs.Conditions.ValueList, proofs.ValueUpdates.outputs-next, proofs.ValueUpdates.zero_of}
 use Rattle.batch_recipe.proofs.values.Values.clear_outputs.Goals as goal
 
 pub loop-name-preserved : goal.loop-name-preserved

@@ -1,6 +1,5 @@
 use Rattle.std.proofs.Common.{◌≡◌, take, map}
-use Rattle.batch_recipe.specs.Values.{with_values}
-use Rattle.batch_recipe.proofs.ValueUpdates.{zero_of}
+use Rattle.batch_recipe.{specs.Values.with_values, proofs.ValueUpdates.zero_of}
 use Rattle.batch_recipe.proofs.values.Values.clear_outputs.Given as goal
 
 abbrev pub invariant-loop-name : goal.invariant-loop-name

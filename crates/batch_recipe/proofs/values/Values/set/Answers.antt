@@ -1,7 +1,5 @@
 use Rattle.std.proofs.Common.{◌≡◌, ℕ, Some, slice_get, refl, sym, ap, ◌∙◌, subst}
-use Rattle.batch_recipe.specs.Conditions.{ValueList}
-use Rattle.batch_recipe.specs.WellFormed.{are_distinct}
-use Rattle.batch_recipe.proofs.DistinctValues.{none-set, one-set, names-set, read-there}
+use Rattle.batch_recipe.{specs.Conditions.ValueList, specs.WellFormed.are_distinct, proofs.DistinctValues.none-set, proofs.DistinctValues.one-set, proofs.DistinctValues.names-set, proofs.DistinctValues.read-there}
 use Rattle.batch_recipe.proofs.values.Values.set.Goals as goal
 
 at : (c : goal.After-self-1) → (n : ℕ) × (slice_get c.self.inside.entries.items c.in-Some.position ≡ Some (c.args.name.now, n))

@@ -1,8 +1,6 @@
 use Rattle.std.proofs.Common.{◌≡◌, ℕ, Some, length, refl, ◌∙◌}
-use Rattle.std.specs.Prelude.{slice_get}
-use Rattle.std.proofs.lemmas.Option.{slice_get_read}
-use Rattle.batch_recipe.specs.Conditions.{Name}
-use Rattle.batch_recipe.proofs.ValueUpdates.{outputs-next}
+use Rattle.std.{specs.Prelude.slice_get, proofs.lemmas.Option.slice_get_read}
+use Rattle.batch_recipe.{specs.Conditions.Name, proofs.ValueUpdates.outputs-next}
 use Rattle.batch_recipe.proofs.values.Values.set_outputs.Goals as goal
 
 pub loop-output-preserved : goal.loop-output-preserved

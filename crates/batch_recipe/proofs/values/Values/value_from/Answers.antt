@@ -1,9 +1,6 @@
 use Rattle.std.proofs.Common.{◌≡◌, ◌<◌, Some, length, get_or, refl, sym, ap, ◌∙◌, subst, arith}
-use Rattle.std.proofs.lemmas.Grind.{common_steps}
-use Rattle.std.proofs.lemmas.Option.{slice_get_read}
-use Rattle.batch_recipe.specs.Conditions.{ValueList}
-use Rattle.batch_recipe.proofs.DistinctValues.{value-there}
-use Rattle.batch_recipe.proofs.ValueUpdates.{same-names}
+use Rattle.std.proofs.lemmas.{Grind.common_steps, Option.slice_get_read}
+use Rattle.batch_recipe.{specs.Conditions.ValueList, proofs.DistinctValues.value-there, proofs.ValueUpdates.same-names}
 use Rattle.batch_recipe.proofs.values.Values.value_from.Goals as goal
 
 pub returns-in-Some : goal.returns-in-Some

@@ -1,8 +1,6 @@
 use Rattle.std.proofs.Common.{rules}
 use Rattle.std.proofs.lemmas.List.Sorted.{answers_always, ranks_by}
-use Rattle.batch_record.specs.Kept.{kept_live}
-use Rattle.batch_record.specs.Listing.{live_cmp}
-use Rattle.batch_record.proofs.StableSort.{is_before, sorted-seen, live_total, live-back, on-unit}
+use Rattle.batch_record.{specs.Kept.kept_live, specs.Listing.live_cmp, proofs.StableSort.is_before, proofs.StableSort.sorted-seen, proofs.StableSort.live_total, proofs.StableSort.live-back, proofs.StableSort.on-unit}
 use Rattle.batch_record.proofs.live.LivePhases.sort.Goals as goal
 
 pub returns-in-Ok-clause-sorted : goal.returns-in-Ok-clause-sorted

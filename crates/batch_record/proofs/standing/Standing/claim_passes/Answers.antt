@@ -1,8 +1,7 @@
 use Rattle.std.proofs.Common.{rules}
 use Rattle.std.proofs.lemmas.Result.{on_ok_weaker}
 use Rattle.batch_text.specs.PlaceText.{numbers_of}
-use Rattle.batch_record.specs.Reading.{need_told}
-use Rattle.batch_record.proofs.Shares.{passed-read}
+use Rattle.batch_record.{specs.Reading.need_told, proofs.Shares.passed-read}
 use Rattle.batch_record.proofs.standing.Standing.claim_passes.Goals as goal
 
 pub returns-clause-ok : goal.returns-clause-ok

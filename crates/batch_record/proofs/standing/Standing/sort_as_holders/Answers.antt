@@ -1,8 +1,6 @@
 use Rattle.std.proofs.Common.{rules}
 use Rattle.std.proofs.lemmas.List.Sorted.{answers_always, ranks_by}
-use Rattle.batch_record.specs.Kept.{kept_claim}
-use Rattle.batch_record.specs.Listing.{holder_cmp}
-use Rattle.batch_record.proofs.StableSort.{is_before, sorted-seen, holder_total, kept-back, at-act}
+use Rattle.batch_record.{specs.Kept.kept_claim, specs.Listing.holder_cmp, proofs.StableSort.is_before, proofs.StableSort.sorted-seen, proofs.StableSort.holder_total, proofs.StableSort.kept-back, proofs.StableSort.at-act}
 use Rattle.batch_record.proofs.standing.Standing.sort_as_holders.Goals as goal
 
 pub returns-in-Ok-clause-sorted : goal.returns-in-Ok-clause-sorted

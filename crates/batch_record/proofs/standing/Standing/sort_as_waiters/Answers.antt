@@ -1,8 +1,6 @@
 use Rattle.std.proofs.Common.{rules}
 use Rattle.std.proofs.lemmas.List.Sorted.{answers_always, ranks_by}
-use Rattle.batch_record.specs.Kept.{kept_claim}
-use Rattle.batch_record.specs.Listing.{waiter_cmp}
-use Rattle.batch_record.proofs.StableSort.{is_before, sorted-seen, waiter_total, kept-back, at-resource}
+use Rattle.batch_record.{specs.Kept.kept_claim, specs.Listing.waiter_cmp, proofs.StableSort.is_before, proofs.StableSort.sorted-seen, proofs.StableSort.waiter_total, proofs.StableSort.kept-back, proofs.StableSort.at-resource}
 use Rattle.batch_record.proofs.standing.Standing.sort_as_waiters.Goals as goal
 
 pub returns-in-Ok-clause-sorted : goal.returns-in-Ok-clause-sorted

@@ -1,6 +1,5 @@
 use Rattle.std.proofs.Common.{refl, rules}
-use Rattle.batch_record.specs.declared.status.Status.{Status}
-use Rattle.batch_record.proofs.StateRows.{IsInOrder, rows-kept, rows_kept}
+use Rattle.batch_record.{specs.declared.status.Status.Status, proofs.StateRows.IsInOrder, proofs.StateRows.rows-kept, proofs.StateRows.rows_kept}
 use Rattle.batch_record.proofs.status.Status.text.Goals as goal
 
 pub returns : goal.returns

@@ -1,6 +1,5 @@
 use Rattle.std.proofs.Common.{◌≡◌, ◌++◌, sym, ap, ◌∙◌}
-use Rattle.batch_record.specs.Blocks.{stage_after}
-use Rattle.batch_record.proofs.InputProgress.{line-refused, line-taken}
+use Rattle.batch_record.{specs.Blocks.stage_after, proofs.InputProgress.line-refused, proofs.InputProgress.line-taken}
 use Rattle.batch_record.proofs.status_reading.Reading.end_line.Goals as goal
 
 pub returns-in-Ok : goal.returns-in-Ok

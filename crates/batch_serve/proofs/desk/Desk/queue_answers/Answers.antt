@@ -1,7 +1,5 @@
 use Rattle.std.proofs.Common.{List, ℕ, ◌++◌, eqb, take, refl, sym, ◌∙◌, ap, subst, append-nil, arith}
-use Rattle.batch_serve.specs.Runs.{due_of}
-use Rattle.batch_serve.specs.Waits.{IsAccount}
-use Rattle.batch_serve.proofs.TextLines.{told_run}
+use Rattle.batch_serve.{specs.Runs.due_of, specs.Waits.IsAccount, proofs.TextLines.told_run}
 use Rattle.batch_serve.proofs.desk.Desk.queue_answers.Goals as goal
 
 pub loop-answer-init : goal.loop-answer-init

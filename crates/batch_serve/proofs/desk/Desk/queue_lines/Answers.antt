@@ -1,9 +1,7 @@
 use Rattle.std.proofs.Common.{rules, arith, length, ◌+◌, List, ℕ, [], ◌∷◌, ◌++◌, filter, take, drop, sym, ◌∙◌, ap, subst, append-nil}
 use Rattle.std.proofs.lemmas.List.{length-drop, take_rest}
-use Rattle.batch_serve.specs.Dues.{is_due}
+use Rattle.batch_serve.{specs.Dues.is_due, specs.Waits.IsAccount, proofs.TextLines.lines_more, proofs.TextLines.told_line, proofs.TextLines.whole_first, proofs.TextLines.whole_none}
 use Rattle.batch_wire.specs.Transcript.{whole_lines}
-use Rattle.batch_serve.specs.Waits.{IsAccount}
-use Rattle.batch_serve.proofs.TextLines.{lines_more, told_line, whole_first, whole_none}
 use Rattle.batch_serve.proofs.desk.Desk.queue_lines.Goals as goal
 
 pub overflow_add-rest : goal.overflow_add-rest

@@ -1,9 +1,5 @@
 use Rattle.std.proofs.Common.{List, length, length-set, get_or, sym, subst, arith}
-use Rattle.batch_serve.specs.Rounds.{IsGathered}
-use Rattle.batch_serve.specs.Runs.{AreOfDesks}
-use Rattle.batch_serve.specs.declared.desk.Desk.{Desk}
-use Rattle.batch_serve.specs.declared.rounds.Reader.{Reader}
-use Rattle.batch_serve.proofs.DeskLines.{gathered_more, kept_behind, own_behind, same_on}
+use Rattle.batch_serve.{specs.Rounds.IsGathered, specs.Runs.AreOfDesks, specs.declared.desk.Desk.Desk, specs.declared.rounds.Reader.Reader, proofs.DeskLines.gathered_more, proofs.DeskLines.kept_behind, proofs.DeskLines.own_behind, proofs.DeskLines.same_on}
 use Rattle.batch_serve.proofs.desk_server.DeskServer.gather.Goals as goal
 
 pub loop-desk-preserved : goal.loop-desk-preserved

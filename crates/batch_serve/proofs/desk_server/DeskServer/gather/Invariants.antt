@@ -1,9 +1,5 @@
 use Rattle.std.proofs.Common.{◌≡◌, ◌<◌, ◌≤◌, ℕ, length, get_or}
-use Rattle.batch_serve.specs.Rounds.{IsGathered}
-use Rattle.batch_serve.specs.Runs.{AreOfDesks, own_text}
-use Rattle.batch_serve.specs.Turns.{IsSameBut}
-use Rattle.batch_serve.specs.declared.desk.Desk.{Desk}
-use Rattle.batch_serve.specs.declared.rounds.Reader.{Reader}
+use Rattle.batch_serve.specs.{Rounds.IsGathered, Runs.AreOfDesks, Runs.own_text, Turns.IsSameBut, declared.desk.Desk.Desk, declared.rounds.Reader.Reader}
 use Rattle.batch_serve.proofs.desk_server.DeskServer.gather.Given as goal
 
 -- of the desks before this one lines were taken, and the others are as they were

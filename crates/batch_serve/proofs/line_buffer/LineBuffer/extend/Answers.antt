@@ -1,7 +1,6 @@
 use Rattle.std.proofs.Common.{◌≡◌, ◌+◌, ◌++◌, ◌∙◌, length, take, ap, arith, length-take-le}
 use Rattle.std.proofs.lemmas.Slice.{take-put_mid}
-use Rattle.batch_serve.specs.declared.line_buffer.TheConstants.{KEPT}
-use Rattle.batch_serve.proofs.LineBeginnings.{extended, least_within}
+use Rattle.batch_serve.{specs.declared.line_buffer.TheConstants.KEPT, proofs.LineBeginnings.extended, proofs.LineBeginnings.least_within}
 use Rattle.batch_serve.proofs.line_buffer.LineBuffer.extend.Goals as goal
 
 pub returns : goal.returns

@@ -1,6 +1,5 @@
 use Rattle.std.proofs.Common.{false, refl, sym, take}
-use Rattle.batch_serve.specs.Comments.{spot_behind}
-use Rattle.batch_serve.proofs.TextsWithComments.{plain_take, same_spot, told_nothing, told_plain}
+use Rattle.batch_serve.{specs.Comments.spot_behind, proofs.TextsWithComments.plain_take, proofs.TextsWithComments.same_spot, proofs.TextsWithComments.told_nothing, proofs.TextsWithComments.told_plain}
 use Rattle.batch_serve.proofs.remarked.RemarkedWrite.write.Goals as goal
 
 pub invariant_of-self : goal.invariant_of-self

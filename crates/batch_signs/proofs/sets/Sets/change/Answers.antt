@@ -1,10 +1,6 @@
 use Rattle.std.proofs.Common.{◌≡◌, ◌∙◌, ◌/◌, ap, subst, arith, nat_eq}
-use Rattle.std.specs.Prelude.{◌^◌}
-use Rattle.std.specs.Int.{bit_at}
-use Rattle.std.specs.Int.Bits.{bit_and}
-use Rattle.std.proofs.lemmas.Nat.Bits.{bit_at-lt, shr_and_one}
-use Rattle.batch_signs.specs.SignSets.{bit_of}
-use Rattle.batch_signs.proofs.SignSets.{changed-all, changed-more, told-bit, within-turned}
+use Rattle.std.{specs.Prelude.◌^◌, specs.Int.bit_at, specs.Int.Bits.bit_and, proofs.lemmas.Nat.Bits.bit_at-lt, proofs.lemmas.Nat.Bits.shr_and_one}
+use Rattle.batch_signs.{specs.SignSets.bit_of, proofs.SignSets.changed-all, proofs.SignSets.changed-more, proofs.SignSets.told-bit, proofs.SignSets.within-turned}
 use Rattle.batch_signs.proofs.sets.Sets.change.Goals as goal
 
 pub overflow_shr-signs : goal.overflow_shr-signs

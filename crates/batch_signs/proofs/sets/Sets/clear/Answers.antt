@@ -1,6 +1,5 @@
 use Rattle.std.proofs.Common.{arith, subst, sym, List, ℕ, replicate}
-use Rattle.batch_signs.specs.SignSets.{AreSummed}
-use Rattle.batch_signs.proofs.SignSets.{summed-zeros}
+use Rattle.batch_signs.{specs.SignSets.AreSummed, proofs.SignSets.summed-zeros}
 use Rattle.batch_signs.proofs.sets.Sets.clear.Goals as goal
 
 pub invariant_of-self : goal.invariant_of-self

@@ -1,6 +1,5 @@
 use Rattle.std.proofs.Common.{◌*◌, subst, sym, List, ℕ, replicate, arith}
-use Rattle.batch_signs.specs.SignSets.{AreSummed}
-use Rattle.batch_signs.proofs.SignSets.{summed-zeros}
+use Rattle.batch_signs.{specs.SignSets.AreSummed, proofs.SignSets.summed-zeros}
 use Rattle.batch_signs.proofs.sets.Sets.new.Goals as goal
 
 pub invariant_of-result : goal.invariant_of-result

@@ -1,7 +1,6 @@
 use Rattle.std.proofs.Common.{◌≡◌, List, ℕ, subst, None}
 use Rattle.std.specs.Int.Bits.{bit_and}
-use Rattle.batch_signs.specs.SignSets.{IsFirstShown}
-use Rattle.batch_signs.proofs.SignSets.{none-wanted}
+use Rattle.batch_signs.{specs.SignSets.IsFirstShown, proofs.SignSets.none-wanted}
 use Rattle.batch_signs.proofs.sets.Sets.next.Goals as goal
 
 pub returns-then-self-from-eq0 : goal.returns-then-self-from-eq0

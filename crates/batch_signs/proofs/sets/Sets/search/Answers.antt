@@ -1,7 +1,5 @@
 use Rattle.std.proofs.Common.{◌*◌, ◌+◌, ◌/◌, sym, subst, ℕ, List, Some, None}
-use Rattle.batch_signs.specs.Bits.{IsLowestFrom}
-use Rattle.batch_signs.specs.SignSets.{AreJoined, IsFirstShown}
-use Rattle.batch_signs.proofs.SignSets.{first-here, first-later, none-after_last, none-anywhere, not-empty}
+use Rattle.batch_signs.{specs.Bits.IsLowestFrom, specs.SignSets.AreJoined, specs.SignSets.IsFirstShown, proofs.SignSets.first-here, proofs.SignSets.first-later, proofs.SignSets.none-after_last, proofs.SignSets.none-anywhere, proofs.SignSets.not-empty}
 use Rattle.batch_signs.proofs.sets.Sets.search.Goals as goal
 
 pub returns-in-Some : goal.returns-in-Some

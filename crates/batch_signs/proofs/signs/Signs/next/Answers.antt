@@ -1,6 +1,5 @@
 use Rattle.std.proofs.Common.{List, ℕ, subst}
-use Rattle.batch_signs.specs.Signs.{IsNextShown}
-use Rattle.batch_signs.proofs.NodesBySign.{next-shown}
+use Rattle.batch_signs.{specs.Signs.IsNextShown, proofs.NodesBySign.next-shown}
 use Rattle.batch_signs.proofs.signs.Signs.next.Goals as goal
 
 pub returns : goal.returns

@@ -1,7 +1,5 @@
 use Rattle.std.proofs.Common.{◌<◌, ◌++◌, ◌∷◌, ◌∙◌, [], List, length, take, get_or, ap, sym, subst, rules}
-use Rattle.std.specs.Prelude.{All}
-use Rattle.std.proofs.lemmas.List.{take_more}
-use Rattle.std.proofs.lemmas.List.Elements.{All-push}
+use Rattle.std.{specs.Prelude.All, proofs.lemmas.List.take_more, proofs.lemmas.List.Elements.All-push}
 use Rattle.batch_text.specs.NameText.{IsName}
 use Rattle.batch_verify.specs.CertificateText.{Rank}
 use Rattle.batch_verdicts.specs.VerdictTexts.{rank_text}

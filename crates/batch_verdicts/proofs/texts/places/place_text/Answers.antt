@@ -1,7 +1,5 @@
 use Rattle.std.proofs.Common.{◌≡◌, true, false, le_trans, string_bytes}
-use Rattle.batch_recipe.specs.Procedure.{procedure_nodes, procedure_tree}
-use Rattle.batch_recipe.proofs.PlaceTexts.{told_more, told_all, told_node, place_ends}
-use Rattle.batch_recipe.proofs.ShallowPlaces.{root_shallow}
+use Rattle.batch_recipe.{specs.Procedure.procedure_nodes, specs.Procedure.procedure_tree, proofs.PlaceTexts.told_more, proofs.PlaceTexts.told_all, proofs.PlaceTexts.told_node, proofs.PlaceTexts.place_ends, proofs.ShallowPlaces.root_shallow}
 use Rattle.batch_verdicts.proofs.texts.places.place_text.Goals as goal
 use Rattle.batch_verdicts.proofs.texts.places.place_text.Goals.{else-loop-depth-test, then-loop-depth-test+in-None}
 

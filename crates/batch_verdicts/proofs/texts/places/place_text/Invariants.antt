@@ -1,7 +1,5 @@
 use Rattle.std.proofs.Common.{◌≡◌, ◌≤◌, [], Some, length, slice_get, string_bytes}
-use Rattle.batch_recipe.specs.Nodes.{Node}
-use Rattle.batch_recipe.specs.Procedure.{procedure_nodes}
-use Rattle.batch_recipe.proofs.PlaceTexts.{Tells}
+use Rattle.batch_recipe.{specs.Nodes.Node, specs.Procedure.procedure_nodes, proofs.PlaceTexts.Tells}
 use Rattle.batch_verdicts.proofs.texts.places.place_text.Given as goal
 
 abbrev pub invariant-loop-depth : goal.invariant-loop-depth

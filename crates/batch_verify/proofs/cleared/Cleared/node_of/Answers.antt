@@ -1,7 +1,6 @@
 use Rattle.std.proofs.Common.{arith, ◌≡◌, IfSome, IsNone, subst}
 use Rattle.std.proofs.lemmas.Option.{slice_get-get_or, get_or_from_slice_get}
-use Rattle.batch_recipe.specs.Places.{IsNodeAt, NoNodeAt}
-use Rattle.batch_recipe.specs.Procedure.{procedure_nodes}
+use Rattle.batch_recipe.specs.{Places.IsNodeAt, Places.NoNodeAt, Procedure.procedure_nodes}
 use Rattle.batch_recipe.specs.declared.recipe.Recipe as document
 use Rattle.batch_verify.proofs.cleared.Cleared.node_of.Goals as goal
 

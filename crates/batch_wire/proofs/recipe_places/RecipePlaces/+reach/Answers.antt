@@ -1,10 +1,6 @@
 use Rattle.std.proofs.Common.{◌≡◌, ◌≤◌, ℕ, [], ◌++◌, drop, take, length, length-take-le, codes, decimal, ap, sym, ◌∙◌, arith}
 use Rattle.std.proofs.lemmas.List.{drop_all}
-use Rattle.batch_wire.specs.Known.{AreKnownBy, EndsAt}
-use Rattle.batch_wire.specs.Pieces.{text_of_place}
-use Rattle.batch_wire.specs.declared.recipe_places.RecipePlaces.{RecipePlaces}
-use Rattle.batch_wire.proofs.PlaceCache.{still_known, known_further}
-use Rattle.batch_wire.proofs.PlaceParts.{entry-at, root-text, text-below}
+use Rattle.batch_wire.{specs.Known.AreKnownBy, specs.Known.EndsAt, specs.Pieces.text_of_place, specs.declared.recipe_places.RecipePlaces.RecipePlaces, proofs.PlaceCache.still_known, proofs.PlaceCache.known_further, proofs.PlaceParts.entry-at, proofs.PlaceParts.root-text, proofs.PlaceParts.text-below}
 use Rattle.batch_wire.proofs.recipe_places.RecipePlaces.+reach.Goals as goal
 use Rattle.batch_wire.proofs.recipe_places.RecipePlaces.+reach.Goals.{reach-then-node-eq0, reach-else-node-eq0+in_ok-above+else-above-gt-MAX_PLACE_END}
 

@@ -2,9 +2,7 @@ use Rattle.std.proofs.Common.{◌≡◌, ℕ, List, ◌∙◌, subst, sym}
 use Rattle.batch_recipe.specs.Texts.{place_text}
 use Rattle.batch_engine.specs.Names.{recipe_place_at}
 use Rattle.batch_verify.specs.ClearedSet.{ClearedSet}
-use Rattle.batch_wire.specs.Known.{AreKnownBy, AreKnownIn}
-use Rattle.batch_wire.specs.declared.recipe_places.RecipePlaces.{RecipePlaces}
-use Rattle.batch_wire.proofs.PlaceCache.{found_with}
+use Rattle.batch_wire.{specs.Known.AreKnownBy, specs.Known.AreKnownIn, specs.declared.recipe_places.RecipePlaces.RecipePlaces, proofs.PlaceCache.found_with}
 use Rattle.batch_wire.proofs.recipe_places.RecipePlaces.find.Goals as goal
 
 held : (cleared : ClearedSet) (old new : RecipePlaces) → ((text_of : ℕ → List ℕ) → AreKnownBy text_of old → AreKnownBy text_of new) → new.recipe ≡ old.recipe → AreKnownIn cleared old → AreKnownIn cleared new

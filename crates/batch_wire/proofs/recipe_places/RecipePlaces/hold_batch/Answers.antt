@@ -1,6 +1,5 @@
 use Rattle.std.proofs.Common.{ℕ, List, drop, ◌++◌, ◌≡◌, decimal, sym, ◌∙◌, ap, subst, arith}
-use Rattle.batch_wire.specs.Known.{AreKnownBy}
-use Rattle.batch_wire.proofs.PlaceCache.{batch_held}
+use Rattle.batch_wire.{specs.Known.AreKnownBy, proofs.PlaceCache.batch_held}
 use Rattle.batch_wire.proofs.recipe_places.RecipePlaces.hold_batch.Goals as goal
 
 pub returns-in-Some-put_piece-clause-known : goal.returns-in-Some-put_piece-clause-known

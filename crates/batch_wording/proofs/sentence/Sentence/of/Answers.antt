@@ -1,6 +1,5 @@
 use Rattle.std.proofs.Common.{subst, sym}
-use Rattle.batch_wording.specs.Shown.{IsOneLine}
-use Rattle.batch_wording.proofs.ShownLines.{shown_is_one_line}
+use Rattle.batch_wording.{specs.Shown.IsOneLine, proofs.ShownLines.shown_is_one_line}
 use Rattle.batch_wording.proofs.sentence.Sentence.of.Goals as goal
 
 pub invariant_of-result : goal.invariant_of-result
