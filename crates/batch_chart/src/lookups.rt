@@ -10,7 +10,7 @@ use batch_text::Name;
 /// The node of the unit procedure to which the act at the node passes on its need with this number, once it has ended.
 ///
 /// None where the need isn't the unit of a unit procedure that the act reserves, or where that unit procedure doesn't follow the act.
-pub(crate) fn passes_to(recipe: &Recipe, node: u16, need: u16) -> Option<u16>
+pub(crate) fn pass_target(recipe: &Recipe, node: u16, need: u16) -> Option<u16>
     ensures to { PassesTo recipe.now node need result }
     ensures within { IfSome result (λ to. to < length recipe.now.outline.entries.items) }
 {

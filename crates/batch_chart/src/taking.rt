@@ -28,7 +28,7 @@ fn first_held(needs: u16) -> u16
 }
 
 /// Gives the act at the node its first need, if it is ready.
-fn take_at(nodes: &[Entry], stages: &mut [Stage], signs: &mut Signs, n: usize)
+fn take_over_at(nodes: &[Entry], stages: &mut [Stage], signs: &mut Signs, n: usize)
     requires node { n < length nodes.now }
     requires fits { length stages.old ≡ length nodes.now }
     requires signs { length signs.old ≡ length nodes.now }
@@ -54,7 +54,7 @@ fn take_over(
     ensures { IsTakenBy nodes.now recipe.now (is_early held.now.items) stages.old stages.new signs.old signs.new }
 {
     for j in 0..held.len() {
-        take_at(nodes, stages, signs, usize::from(held[j].to));
+        take_over_at(nodes, stages, signs, usize::from(held[j].to));
     }
 }
 

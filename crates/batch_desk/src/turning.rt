@@ -28,8 +28,8 @@ impl Hub {
         end.flush();
     }
 
-    /// Takes one event of the port, if one is there, and says whether it did.
-    fn take_event(&mut self, port: usize) -> Result<bool, HubFault>
+    /// Answers one event of the port, if one is there, and records the event and its reply. Returns whether one was there.
+    fn answer_one(&mut self, port: usize) -> Result<bool, HubFault>
         requires { port < length self.old.ports }
         ensures outlines { outlines self.new ≡ outlines self.old }
         ensures taken { IfOk result (λ taken. MatchBool taken (AnswersOne port self.old self.new) (SameWork self.old self.new)) }
@@ -123,7 +123,7 @@ impl Hub {
         if !self.is_settled() {
             return self.end_turn();
         }
-        if !self.take_event(port)? {
+        if !self.answer_one(port)? {
             return Ok(Turned::Idle);
         }
         self.end_turn()

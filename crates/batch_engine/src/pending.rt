@@ -95,7 +95,7 @@ pub(crate) fn resource_at(
 impl Control {
     /// The node from which the search for an act of a batch that the arbiter would serve goes on, after so many acts were checked in
     /// vain; `next` is the node that follows them.
-    fn look_on(&self, batch: u64, next: u16, looked: u16) -> u16
+    fn search_from(&self, batch: u64, next: u16, looked: u16) -> u16
         ensures { AreUnserved self.now batch next result }
     {
         let resources = self.resources();
@@ -121,7 +121,7 @@ impl Control {
                 return Some((node, resource, units));
             }
             looked += 1;
-            from = self.look_on(batch.number, node + 1, looked);
+            from = self.search_from(batch.number, node + 1, looked);
         }
         None
     }

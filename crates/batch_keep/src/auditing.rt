@@ -102,7 +102,7 @@ fn audit_line(
         → IsAudited engine.old.cleared all (line.now ∷ left) (plant_of engine.old) text audited.old.count audited.old.rest.now
         → IsAnswered engine.old.cleared all left (plant_of engine.new) text audited.new.count audited.new.rest.now found) }
 {
-    if let Some(at) = passed_over(alloc, engine, line, audited)? {
+    if let Some(at) = end_of_free_refusal(alloc, engine, line, audited)? {
         audited.take_line(at);
         return Ok(None);
     }
@@ -117,7 +117,7 @@ fn audit_line(
 
 /// Where the record's next line ends, behind its comments, if that is a refusal for want of memory with which the engine might have
 /// answered.
-fn passed_over(
+fn end_of_free_refusal(
     alloc: Global,
     engine: &Engine,
     line: &[u8],

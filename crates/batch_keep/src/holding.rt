@@ -152,7 +152,7 @@ fn serve_holding_at<
         Ok(()) => {
             // All answers were passed on already, and are written; here that is seen.
             let (told, writer) = held.finish();
-            (told_outcome(told), disk, writer)
+            (outcome_of_flush(told), disk, writer)
         }
         Err(fault) => {
             let fault = keep_fault(fault, held.has_want());
@@ -174,7 +174,7 @@ fn keep_fault(fault: ServeFault, has_want: bool) -> KeepFault
 }
 
 /// The outcome of a run that reached its end, by that of its last flush.
-fn told_outcome(told: io::Result<()>) -> Result<(), KeepFault>
+fn outcome_of_flush(told: io::Result<()>) -> Result<(), KeepFault>
     ensures { OnOk result (IsOk told) }
 {
     match told {

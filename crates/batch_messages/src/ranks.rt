@@ -64,7 +64,7 @@ impl<'a> Scene<'a> {
     }
 
     /// The unit that is to take the role.
-    fn taking(self, role: &Name) -> Option<&'a Name> {
+    fn taker(self, role: &Name) -> Option<&'a Name> {
         match self.taken {
             Some((own, unit)) if *own == *role => Some(unit),
             _ => None,
@@ -76,13 +76,13 @@ impl<'a> Scene<'a> {
         match &act.unit {
             None => None,
             Some(UnitChoice::Unit(unit)) => Some(unit),
-            Some(UnitChoice::Role(role)) => self.taking(role),
+            Some(UnitChoice::Role(role)) => self.taker(role),
         }
     }
 
     /// The units of the least and of the greatest rank that may take the role, the first of each.
     fn extremes(self, role: &Name) -> Option<(&'a Name, &'a Name)> {
-        if let Some(unit) = self.taking(role) {
+        if let Some(unit) = self.taker(role) {
             return Some((unit, unit));
         }
         let class = class_of(self.recipe, role)?;

@@ -168,7 +168,7 @@ impl Patience {
         rest: &mut S,
     ) {
         for _ in 0..u64::MAX {
-            if !output.goes_on() || !self.take_round(output.has_work()) {
+            if !output.goes_on() || !self.use_round(output.has_work()) {
                 return;
             }
             // Else the pauses would grow, and the rounds take minutes.
@@ -178,7 +178,7 @@ impl Patience {
     }
 
     /// Uses up a round. Returns whether one was left.
-    fn take_round(&mut self, has_work: bool) -> bool {
+    fn use_round(&mut self, has_work: bool) -> bool {
         let left = if has_work {
             &mut self.written
         } else {

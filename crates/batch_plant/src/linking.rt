@@ -71,15 +71,15 @@ fn make_turn<D: UnitDriver>(
     ensures links { Links D.command_gives D.tick_gives cell.now (linked cell.now link.old desk.old units.old) (linked cell.now link.new desk.new units.new) }
     ensures left { Counts link.old desk.old link.new desk.new }
 {
-    take_out(link, desk, units);
+    obey_next(link, desk, units);
     match link.kept {
         Some(answer) => send_report(alloc, link, desk, cell, answer),
         None => tick_next(link, units, cell),
     }
 }
 
-/// Takes an out, if one is there, and gives the units its order.
-fn take_out<D: UnitDriver>(link: &mut Link, desk: &mut Desk, units: &mut Simulator<D>)
+/// Gives the units the order of the next out, if one is there.
+fn obey_next<D: UnitDriver>(link: &mut Link, desk: &mut Desk, units: &mut Simulator<D>)
     ensures next { link.new.next ≡ link.old.next }
     ensures kept { link.new.kept ≡ link.old.kept }
     ensures links { (cell : Cell) → Links D.command_gives D.tick_gives cell (linked cell link.old desk.old units.old) (linked cell link.new desk.new units.new) }

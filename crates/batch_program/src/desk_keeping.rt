@@ -35,8 +35,8 @@ use std::time::Clock;
 ///
 /// The lines of the journal are served again first, and their answers aren't written. The recovery block of all lines precedes all
 /// else on the output, and that of its own lines on the output of each desk. A refused file is reported as by
-/// [`keep_journal`](crate::keep_journal).
-pub(crate) fn keep_desk_set<J: Journals, P: DeskRunner, W: Write, E: Write>(
+/// [`serve_over_journal`](crate::serve_over_journal).
+pub(crate) fn serve_desks_over_journal<J: Journals, P: DeskRunner, W: Write, E: Write>(
     alloc: Global,
     runner: &P,
     served: DeskSet,

@@ -5,7 +5,7 @@ ghost use Rattle.batch_pipes.specs.declared.fault.DesksFault as faults;
 ghost use Rattle.batch_program.specs.DeskRuns.{AreDesksRun, IsDesksRecord, status_of_desks, status_of_fault};
 ghost use Rattle.batch_program.specs.JournalRuns.{disks_of};
 
-use crate::desk_keeping::keep_desk_set;
+use crate::desk_keeping::serve_desks_over_journal;
 use crate::desk_runner::DeskRunner;
 use crate::journals::Journals;
 use crate::program::report_left;
@@ -42,7 +42,7 @@ pub(crate) fn run_desks<J: Journals, P: DeskRunner, W: Write, E: Write>(
         (record { before = W.contents output.old.stream; after = W.contents output.new.stream }) result }
 {
     match journal {
-        Some(path) => keep_desk_set(
+        Some(path) => serve_desks_over_journal(
             alloc, runner, served, quiet, &path, times, journals, output, errors,
         ),
         None => serve_desk_set(alloc, runner, served, quiet, times, output, errors),

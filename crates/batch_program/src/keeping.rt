@@ -44,7 +44,7 @@ pub(crate) struct Messages<'a> {
 /// output; comments in the record follow it. A file that is no journal, or one of other documents, or damaged, is refused by a line
 /// on the output.
 // claim: served over a file; behind the block; never lost
-pub fn keep_journal<J: Journals, R: Read, W: Write, E: Write>(
+pub fn serve_over_journal<J: Journals, R: Read, W: Write, E: Write>(
     alloc: Global,
     digested: Digested,
     quiet: bool,

@@ -28,7 +28,7 @@ mod threads;
 pub use desk_runner::DeskRunner;
 pub use file_writing::write_file;
 pub use journals::Journals;
-pub use keeping::keep_journal;
+pub use keeping::serve_over_journal;
 pub use laws::{
     audits_are_true, certificates_are_kept, desks_are_kept, desks_are_safe, plants_are_complete,
     remarked_serving_is_safe, serving_is_safe,

@@ -7,7 +7,7 @@ use crate::desk_runner::DeskRunner;
 use crate::desk_serving::run_desks;
 use crate::file_writing::write_file;
 use crate::journals::Journals;
-use crate::keeping::keep_journal;
+use crate::keeping::serve_over_journal;
 use crate::plant::report_of_plant;
 use crate::plant_runner::PlantRunner;
 use crate::record_audit::audit_record;
@@ -102,7 +102,7 @@ pub fn run_program<
             quiet,
             path,
             comments,
-        } => keep_journal(
+        } => serve_over_journal(
             alloc, digested, quiet, &path, comments, documents, input, output, errors,
         ),
         Course::ServesDesks {

@@ -138,7 +138,7 @@ impl Standing {
             Told::Asked(claim) => self.claim_joins(alloc, claim),
             Told::Granted(claim) => self.claim_leaves(alloc, claim),
             Told::Ordered { command, batch, .. } => {
-                self.told_order(command, batch);
+                self.end_asks(command, batch);
                 Ok(())
             }
             _ => Ok(()),
@@ -146,7 +146,7 @@ impl Standing {
     }
 
     /// If the command ends the asks of its batch, they leave.
-    fn told_order(&mut self, command: Command, batch: u64)
+    fn end_asks(&mut self, command: Command, batch: u64)
         ensures { LeavesAt command batch self.old.shares.items self.new.shares.items }
     {
         if matches!(command, Command::Stop | Command::Abort) {

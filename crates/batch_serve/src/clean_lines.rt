@@ -60,7 +60,7 @@ impl<R: Read> Read for CleanReader<R> {
         if count == 0 {
             return Ok(end_line(&mut self.line, buf));
         }
-        let written = take_lines(&mut self.line, &self.piece[..count], buf);
+        let written = clean_piece(&mut self.line, &self.piece[..count], buf);
         if written == 0 {
             return Err(io::Error::from(ErrorKind::Interrupted));
         }
@@ -79,7 +79,7 @@ fn read_front<R: Read>(reader: &mut R, piece: &mut [u8], most: usize) -> io::Res
 }
 
 /// Consumes a piece of the input, and writes each line that ends in it.
-fn take_lines(line: &mut LineBuffer, piece: &[u8], out: &mut [u8]) -> usize
+fn clean_piece(line: &mut LineBuffer, piece: &[u8], out: &mut [u8]) -> usize
     requires { length line.old + length piece.now + 1 ≤ length out.old }
     ensures within { result ≤ length out.new }
     ensures text { (more : List ℕ) → clean_from line.old (piece.now ++ more) ≡ take result out.new ++ clean_from line.new more }

@@ -87,7 +87,7 @@ impl<W: Write, C: Start> Write for Remarked<W, C> {
     ghost contents = { λ w. uncommented C.contents (W.contents w.inner) };
 
     fn write(&mut self, bytes: &[u8]) -> io::Result<usize> {
-        if takes(self.spot, self.is_cut, bytes) {
+        if may_follow(self.spot, self.is_cut, bytes) {
             let count = self.inner.write(bytes)?;
             self.spot = spot_behind(self.spot, &bytes[..count]);
             Ok(count)
@@ -120,7 +120,7 @@ fn is_at(spot: Spot, from: Spot) -> bool
 }
 
 /// Whether the bytes may follow a record that ends at this spot.
-fn takes(spot: Spot, is_cut: bool, bytes: &[u8]) -> bool
+fn may_follow(spot: Spot, is_cut: bool, bytes: &[u8]) -> bool
     ensures { IsTrue result → (is_cut ≡ false) × (spot ≢ Spot.Comment) × (list_all is_plain bytes.now ≡ true) }
 {
     !is_cut && is_outside(spot) && is_plain(bytes)

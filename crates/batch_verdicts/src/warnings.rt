@@ -78,7 +78,7 @@ fn unit_line(alloc: Global, path: &str, cell: &Cell, unit: usize) -> Result<Stri
     ensures { IfOk result (λ text. string_bytes text ≡ unit_line path.now cell.now unit) }
 {
     let sentence = unit_warning(alloc, path, cell, unit)?;
-    told_line(alloc, &sentence.text)
+    message_line(alloc, &sentence.text)
 }
 
 fn recipes_text(alloc: Global, paths: &[String], recipes: &[Recipe]) -> Result<String, AllocError>
@@ -140,10 +140,10 @@ fn recipe_line(
     ensures { IfOk result (λ text. string_bytes text ≡ recipe_line path.now recipe.now warning) }
 {
     let sentence = recipe_warning(alloc, path, recipe, warning)?;
-    told_line(alloc, &sentence.text)
+    message_line(alloc, &sentence.text)
 }
 
-fn told_line(alloc: Global, text: &str) -> Result<String, AllocError>
+fn message_line(alloc: Global, text: &str) -> Result<String, AllocError>
     ensures { IfOk result (λ line. string_bytes line ≡ message_line text.now) }
 {
     format!(in alloc; "batchd: {text}\n")

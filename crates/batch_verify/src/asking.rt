@@ -43,7 +43,7 @@ pub(crate) fn resource_by(site: &Site, source: Source) -> Option<u16>
 }
 
 /// Whether the need is of a resource, and whether it is of no more units than this has. An unknown name has no units.
-pub(crate) fn look_up(site: &Site, need: &LinkedNeed) -> (bool, bool)
+pub(crate) fn check_need(site: &Site, need: &LinkedNeed) -> (bool, bool)
     ensures resource { result.0 ≡ is_found (ask_by site.now.cell.now site.now.takers.now need.now) }
     ensures units { result.1 ≡ is_fitting site.now.cell.now (ask_by site.now.cell.now site.now.takers.now need.now) }
 {
@@ -54,14 +54,14 @@ pub(crate) fn look_up(site: &Site, need: &LinkedNeed) -> (bool, bool)
 }
 
 /// Whether each need is of a resource, and whether each is of no more units than its resource has.
-pub(crate) fn look_up_each(site: &Site, needs: &[LinkedNeed]) -> (bool, bool)
+pub(crate) fn check_needs(site: &Site, needs: &[LinkedNeed]) -> (bool, bool)
     ensures resources { result.0 ≡ list_all is_found (asks_on site.now needs.now) }
     ensures units { result.1 ≡ list_all (is_fitting site.now.cell.now) (asks_on site.now needs.now) }
 {
     let mut are_resources = true;
     let mut are_within_capacity = true;
     for need in needs {
-        let (is_resource, is_within_capacity) = look_up(site, need);
+        let (is_resource, is_within_capacity) = check_need(site, need);
         are_resources = are_resources && is_resource;
         are_within_capacity = are_within_capacity && is_within_capacity;
     }

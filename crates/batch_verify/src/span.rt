@@ -16,7 +16,7 @@ ghost use Rattle.batch_verify.specs.Spans.{AreAskedInEach, ClassOffers, ComesBel
 ghost use Rattle.batch_verify.specs.declared.passed.Passed as passed;
 ghost use Rattle.batch_verify.specs.declared.span.Span as span;
 
-use crate::asking::{look_up, number_by, resource_by, unit_from};
+use crate::asking::{check_need, number_by, resource_by, unit_from};
 use crate::passed::{Passed, allows, note_passed, passed_at};
 use crate::rising::{rank_by, rise};
 use crate::rule::Rule;
@@ -195,7 +195,7 @@ fn after_need(
     ensures { IfSome result (λ greatest. (roles : List declared.Role)
         → AreAskedInEach low.now.cell.now (option_copied low.now.ranks) roles low.now.takers.now highest.now (need.now ∷ []) last greatest) }
 {
-    let (is_resource, is_within_capacity) = look_up(low, need);
+    let (is_resource, is_within_capacity) = check_need(low, need);
     if !is_resource || !is_within_capacity {
         return None;
     }

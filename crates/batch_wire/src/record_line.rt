@@ -103,7 +103,7 @@ fn write_line<W: Write>(
     ensures { Writes (W.contents writer.old) (W.contents writer.new) result (out_text (out_of cleared.now out.now)) }
 {
     room.clear();
-    match write_telling(out, cleared, told, room) {
+    match write_out_at(out, cleared, told, room) {
         Ok(()) => write_all(writer, room.line()),
         Err(_) => write_by_pieces(out, cleared, told, writer),
     }
@@ -120,7 +120,7 @@ fn write_by_pieces<W: Write>(
     requires { told_text told.now ≡ told_by_out (out_of cleared.now out.now) }
     ensures { Writes (W.contents writer.old) (W.contents writer.new) result (out_text (out_of cleared.now out.now)) }
 {
-    write_telling(out, cleared, told, writer)
+    write_out_at(out, cleared, told, writer)
 }
 
 /// The node whose place is in the line of the out. None if the line has no place.
@@ -204,7 +204,7 @@ fn site_of_move(line: Line) -> Option<Site>
 
 /// Writes the line of an out with this place.
 #[inline(always)]
-fn write_telling<W: Write>(
+fn write_out_at<W: Write>(
     out: &Out,
     cleared: &Cleared,
     place: &ToldPlace<'_>,

@@ -25,7 +25,7 @@ pub fn meant_or_known(
     let names = names?;
     match nearest(alloc, written, &names)? {
         Some(name) => question_said(alloc, name),
-        None => known_said(alloc, &names),
+        None => names_said(alloc, &names),
     }
 }
 
@@ -34,7 +34,7 @@ fn question_said(alloc: Global, name: &str) -> Result<String, AllocError> {
 }
 
 /// The list of the names, or of the first if they are many.
-fn known_said(alloc: Global, names: &[&str]) -> Result<String, AllocError> {
+fn names_said(alloc: Global, names: &[&str]) -> Result<String, AllocError> {
     if names.is_empty() {
         return String::from_str(alloc, "; none is known");
     }

@@ -12,21 +12,21 @@ use std::test::Fail;
 const ANSWERS: [Answer; 3] = [Some((0, Report::Held)), None, Some((7, Report::Fault))];
 
 /// The answers of units of any kinds to the script.
-fn told(alloc: Global, drivers: Vec<AnyDriver>, script: &str) -> Result<String, Fail> {
+fn answers_of_units(alloc: Global, drivers: Vec<AnyDriver>, script: &str) -> Result<String, Fail> {
     let mut units = Simulator::new(drivers);
     answers(alloc, &mut units, &mut (), script)
 }
 
 /// The answers to the script of a steady unit of two phases that run two ticks, and beside it of one that answers by a list.
-fn told_by_two(alloc: Global, script: &str) -> Result<String, Fail> {
+fn answers_of_two(alloc: Global, script: &str) -> Result<String, Fail> {
     let steady = AnyDriver::new(Box::new(alloc, SteadyUnit::new(alloc, 2, 2)?)?);
     let scripted = AnyDriver::new(Box::new(alloc, Scripted::new(&ANSWERS))?);
-    told(alloc, Vec::from_array(alloc, [steady, scripted])?, script)
+    answers_of_units(alloc, Vec::from_array(alloc, [steady, scripted])?, script)
 }
 
 /// Checks that the answers of the two units to the script are the text expected.
 fn assert_two(rt: &impl Abort, alloc: Global, script: &str, expected: &str) -> Result<(), Fail> {
-    assert_text(rt, told_by_two(alloc, script), expected)
+    assert_text(rt, answers_of_two(alloc, script), expected)
 }
 
 #[test]

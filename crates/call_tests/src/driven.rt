@@ -30,7 +30,7 @@ pub(crate) fn start<D: UnitDriver>(
 }
 
 /// The answers to the second script, after the first.
-fn told_behind<D: UnitDriver>(
+fn later_answers<D: UnitDriver>(
     alloc: Global,
     engine: &mut Engine,
     units: &mut Simulator<D>,
@@ -41,20 +41,20 @@ fn told_behind<D: UnitDriver>(
 }
 
 /// The answers to the second script, after the first, of an engine of the recipe and these units of the demo cell.
-pub(crate) fn told_by<D: UnitDriver>(
+pub(crate) fn answers_from_start<D: UnitDriver>(
     alloc: Global,
     recipe: &str,
     units: &mut Simulator<D>,
     scripts: (&str, &str),
 ) -> Result<String, Fail> {
     let mut engine = engine_of(alloc, CELL1, &[recipe])?;
-    told_behind(alloc, &mut engine, units, scripts)
+    later_answers(alloc, &mut engine, units, scripts)
 }
 
 /// The answers to the script if the units work steadily, and a phase of R1 runs.
 fn steady_told(alloc: Global, script: &str) -> Result<String, Fail> {
     let mut units = steady_units(alloc)?;
-    told_by(alloc, A, &mut units, (START, script))
+    answers_from_start(alloc, A, &mut units, (START, script))
 }
 
 /// Checks that the answers to the script, if the units work steadily, are the text expected.
@@ -83,7 +83,7 @@ fn scripted_told(
     script: &str,
 ) -> Result<String, Fail> {
     let mut units = scripted(alloc, answers)?;
-    told_by(alloc, A, &mut units, (START, script))
+    answers_from_start(alloc, A, &mut units, (START, script))
 }
 
 /// Checks that the answers to the script, if the units answer so, are the text expected.

@@ -24,7 +24,7 @@ fn stage_told(
 }
 
 /// The answers to a script, where the first desk finishes at the line `finish`, and the hub ends behind the script.
-fn told_of_set(
+fn answers_of_set(
     alloc: Global,
     cleared: &mut Cleared,
     recipe: &str,
@@ -38,9 +38,14 @@ fn told_of_set(
 }
 
 /// The answers to the script.
-fn told(alloc: Global, recipe: &str, plans: &[PortPlan], script: &str) -> Result<String, Fail> {
+fn answers_of_hub(
+    alloc: Global,
+    recipe: &str,
+    plans: &[PortPlan],
+    script: &str,
+) -> Result<String, Fail> {
     let mut cleared = demo_set_of(alloc, recipe)?;
-    told_of_set(alloc, &mut cleared, recipe, plans, script)
+    answers_of_set(alloc, &mut cleared, recipe, plans, script)
 }
 
 /// Checks that the answers to the script are the text expected.
@@ -52,5 +57,5 @@ pub(crate) fn assert_told(
     script: &str,
     expected: &str,
 ) -> Result<(), Fail> {
-    assert_text(rt, told(alloc, recipe, plans, script), expected)
+    assert_text(rt, answers_of_hub(alloc, recipe, plans, script), expected)
 }

@@ -30,7 +30,7 @@ pub(crate) fn link(unit: u16, places: usize) -> PortPlan {
 }
 
 /// The event that came back, if one did.
-fn told_back(alloc: Global, sent: &Result<(), Full>) -> Result<String, Fail> {
+fn event_back(alloc: Global, sent: &Result<(), Full>) -> Result<String, Fail> {
     match sent {
         Ok(()) => Ok(String::new(alloc)),
         Err(full) => said(alloc, "full", event_words(alloc, &full.0)?.as_str()),
@@ -42,7 +42,7 @@ fn send(alloc: Global, desk: &mut Desk, line: &str) -> Result<String, Fail>
     ensures { desk_rings desk.new ≡ desk_rings desk.old }
 {
     let sent = desk.send(event_of(alloc, line)?);
-    told_back(alloc, &sent)
+    event_back(alloc, &sent)
 }
 
 /// Takes an out at a desk. Returns its line.

@@ -1,5 +1,5 @@
 //! Scripts of an engine: event lines, and questions between them, whose answers are one text.
-use crate::driven::told_by;
+use crate::driven::answers_from_start;
 use crate::expected::assert_text;
 use crate::records::event_of;
 use crate::words::{number_of, said, shown, state_word};
@@ -44,9 +44,9 @@ pub(crate) fn asked(alloc: Global, engine: &Engine, line: &str) -> Result<String
 }
 
 /// The answers to a script of an engine of this recipe in the demo cell, whose units have no drivers.
-fn told(alloc: Global, recipe: &str, script: &str) -> Result<String, Fail> {
+fn answers_of_engine(alloc: Global, recipe: &str, script: &str) -> Result<String, Fail> {
     let mut units: Simulator<SteadyUnit> = Simulator::new(Vec::new(alloc));
-    told_by(alloc, recipe, &mut units, ("", script))
+    answers_from_start(alloc, recipe, &mut units, ("", script))
 }
 
 /// Checks that the answers to the script are the text expected.
@@ -57,5 +57,5 @@ pub(crate) fn assert_told(
     script: &str,
     expected: &str,
 ) -> Result<(), Fail> {
-    assert_text(rt, told(alloc, recipe, script), expected)
+    assert_text(rt, answers_of_engine(alloc, recipe, script), expected)
 }

@@ -88,7 +88,12 @@ impl<D: UnitDriver> Teller<()> for Simulator<D> {
 }
 
 /// The answers to the script of steady units with so many phases each, if a phase runs so many ticks.
-fn told(alloc: Global, phases: &[u16], ticks: u64, script: &str) -> Result<String, Fail> {
+fn answers_of_units(
+    alloc: Global,
+    phases: &[u16],
+    ticks: u64,
+    script: &str,
+) -> Result<String, Fail> {
     let mut units = Simulator::new(steady(alloc, phases, ticks)?);
     answers(alloc, &mut units, &mut (), script)
 }
@@ -102,5 +107,5 @@ pub(crate) fn assert_units(
     script: &str,
     expected: &str,
 ) -> Result<(), Fail> {
-    assert_text(rt, told(alloc, phases, ticks, script), expected)
+    assert_text(rt, answers_of_units(alloc, phases, ticks, script), expected)
 }

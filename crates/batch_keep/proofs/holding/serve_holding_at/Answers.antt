@@ -13,7 +13,7 @@ returns-in-Ok-clause-never_lost g c = λ d known all start is base.
 
 pub returns-in-Ok-clause-served : goal.returns-in-Ok-clause-served
 returns-in-Ok-clause-served g c =
-    on_told c.told_outcome.result c.finish-told.result.0 _ _ c.told_outcome.ensures c.finish-told.ensures.all (λ tells.
+    on_told c.outcome_of_flush.result c.finish-told.result.0 _ _ c.outcome_of_flush.ensures c.finish-told.ensures.all (λ tells.
     tells_known_transcript (setup c.args.engine.now.cleared) (plant_of c.args.engine.now) _ _ g.S.Start.contents _ _ _ c.transcripts_are_whole.ensures
     (c.new-held.ensures ∙ ap (λ (known_first : Option (List ℕ)). append_known known_first []) (sym c.requires.first)) tells (ok_is c.serve_at-served.result.0 _ _ c.in-Ok.is c.serve_at-served.ensures.served))
 

@@ -32,8 +32,8 @@ returns-in-Keeps g c =
     let digested = c.in-Keeps.digested in
     let is = set_to_keep (g.D.Documents.gives c.args.documents.now) (map string_bytes c.args.words.now) _ _ _ digested c.in-Keeps.quiet c.in-Keeps.path c.in-Keeps.comments
     c.run_words.ensures c.in-Keeps.is in
-    keeps (string_bytes c.in-Keeps.path) is.cell is.certificate is.recipes c.in-Keeps.comments.echo c.in-Keeps.comments.times digested.set digested.documents.text c.keep_journal.result.0 is.asked is.is_set
-    (journal_kept (record { disks = _; opens = g.D.Journals.opens c.args.documents.now }) digested.set digested.documents.text (string_bytes c.in-Keeps.path) _ _ _ _ _ _ is.unwritten (rw c.deref-in-Keeps.ensures at c.keep_journal.ensures))
+    keeps (string_bytes c.in-Keeps.path) is.cell is.certificate is.recipes c.in-Keeps.comments.echo c.in-Keeps.comments.times digested.set digested.documents.text c.serve_over_journal.result.0 is.asked is.is_set
+    (journal_kept (record { disks = _; opens = g.D.Journals.opens c.args.documents.now }) digested.set digested.documents.text (string_bytes c.in-Keeps.path) _ _ _ _ _ _ is.unwritten (rw c.deref-in-Keeps.ensures at c.serve_over_journal.ensures))
 
 pub returns-in-Remarks : goal.returns-in-Remarks
 returns-in-Remarks g c =

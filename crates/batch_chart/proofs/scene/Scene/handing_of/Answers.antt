@@ -10,8 +10,8 @@ pub returns-in-Some : goal.returns-in-Some
 returns-in-Some c =
     let need = c.last_held-need.ensures ∙ ap (λ κ. last_held κ (stage_at c.args.self.now.stages.now c.in-Some.n)) c.kind_of.ensures in
     rw c.in-Some.is (record {
-      to = c.passes_to.result;
-      is = ap Some (c.handed.ensures ∙ ap (λ z. handed c.in-Some.n z c.passes_to.result) need);
-      passes = subst (λ z. PassesTo c.args.self.now.recipe.now c.in-Some.n z c.passes_to.result) need c.passes_to.ensures.to;
-      small = subst (λ l. IfSome c.passes_to.result (λ k. k < length l)) (sym c.requires.nodes) c.passes_to.ensures.within;
+      to = c.pass_target.result;
+      is = ap Some (c.handed.ensures ∙ ap (λ z. handed c.in-Some.n z c.pass_target.result) need);
+      passes = subst (λ z. PassesTo c.args.self.now.recipe.now c.in-Some.n z c.pass_target.result) need c.pass_target.ensures.to;
+      small = subst (λ l. IfSome c.pass_target.result (λ k. k < length l)) (sym c.requires.nodes) c.pass_target.ensures.within;
     })

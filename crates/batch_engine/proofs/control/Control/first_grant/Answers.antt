@@ -58,8 +58,8 @@ loop-node-preserved c =
     let asks = c.in-Some.ensures.some.1 (tree_of v.cleared b) s.chart s.runs in
     let not_first : first_here v s.kept c.requires.0 b s.at c.resource_at-resource.result.0 c.in-Some.node → ⊥ =
     λ f. (let g = c.serves.ensures.1 (ap (λ (w : EngineView). option_map batch_node (next_grant w.allocation c.resource_at-resource.result.0)) c.self.view_is ∙ f) in absurd (let h : ◌≡◌ true false = sym g ∙ c.if-serves.false in cc)) in (
-      omega (arith, c.look_on-from.ensures.on, c.in-Some.ensures.some.0),
-      skipped v s.kept c.requires.0 b s.at (c.in-Some.node + 1) c.look_on-from.result c.look_on-from.ensures
+      omega (arith, c.search_from-from.ensures.on, c.in-Some.ensures.some.0),
+      skipped v s.kept c.requires.0 b s.at (c.in-Some.node + 1) c.search_from-from.result c.search_from-from.ensures
           (passed v s.kept c.requires.0 b s.at c.recipe-chart.result.now s.listed c.loop-node.from c.in-Some.node c.in-Some.need c.resource_at-resource.result.0 c.loop-node.invariant.1 c.in-Some.ensures.before asks
           (number w.After-resource_at-resource s).0 not_first),
     )

@@ -6,8 +6,8 @@ use Rattle.batch_serve.proofs.clean_lines.CleanReaderRead.read.Goals as goal
 pub end_line-requires : goal.end_line-requires
 end_line-requires g c = omega (arith, ap length c.as_slice-begun.ensures, c.if-buf-begun.false)
 
-pub take_lines-written-requires : goal.take_lines-written-requires
-take_lines-written-requires g c =
+pub clean_piece-written-requires : goal.clean_piece-written-requires
+clean_piece-written-requires g c =
     omega (arith, ap length c.as_slice-begun.ensures, c.if-buf-begun.false, c.min-most.ensures, c.in_ok-count.ensures.ok.0, length-take c.in_ok-count.count c.read_front.new.piece)
 
 pub returns-in_err-count-clause-bytes : goal.returns-in_err-count-clause-bytes
@@ -23,10 +23,10 @@ returns-then-count-eq0-clause-bytes g c =
 
 pub returns-then-written-eq0-clause-bytes : goal.returns-then-written-eq0-clause-bytes
 returns-then-written-eq0-clause-bytes g c =
-    gave_none _ _ c.take_lines-written.new.out _ c.if-written-eq0.true (consumes _ _ _ _ _ _ c.take_lines-written.ensures.text c.in_ok-count.ensures.ok.1)
+    gave_none _ _ c.clean_piece-written.new.out _ c.if-written-eq0.true (consumes _ _ _ _ _ _ c.clean_piece-written.ensures.text c.in_ok-count.ensures.ok.1)
 
 pub returns-clause-bytes : goal.returns-clause-bytes
 returns-clause-bytes g c = (
-  consumes _ _ _ _ _ _ c.take_lines-written.ensures.text c.in_ok-count.ensures.ok.1,
+  consumes _ _ _ _ _ _ c.clean_piece-written.ensures.text c.in_ok-count.ensures.ok.1,
   λ none room. absurd (c.if-written-eq0.false none),
 )

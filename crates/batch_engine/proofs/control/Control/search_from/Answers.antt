@@ -1,6 +1,6 @@
 use Rattle.std.proofs.Common.{◌≤◌, sym, subst, arith}
 use Rattle.batch_engine.specs.{Steps.IsServedNode, View.EngineView}
-use Rattle.batch_engine.proofs.control.Control.look_on.Goals as goal
+use Rattle.batch_engine.proofs.control.Control.search_from.Goals as goal
 
 pub returns : goal.returns
 returns c =

@@ -1,7 +1,7 @@
 use Rattle.std.proofs.Common.{ap, ◌∙◌, [], ◌∷◌, ◌++◌}
 use Rattle.batch_engine.specs.declared.out.Out.TheVariants.{Reply}
 use Rattle.batch_desk.{specs.HubState.outlines, specs.PortState.outline, proofs.ListImages.map-changed, proofs.HubPorts.within, proofs.Hubs.hub_takes, proofs.Hubs.takes_one}
-use Rattle.batch_desk.proofs.hub.Hub.take_event.Goals as goal
+use Rattle.batch_desk.proofs.hub.Hub.answer_one.Goals as goal
 
 pub returns-in_err-event-clause-outlines : goal.returns-in_err-event-clause-outlines
 returns-in_err-event-clause-outlines c =

@@ -2,7 +2,7 @@ use Rattle.std.proofs.Common.{◌≡◌, ◌<◌, length, true, false, subst, ar
 use Rattle.std.proofs.lemmas.Bool.{cases_lt}
 use Rattle.batch_recipe.specs.Procedure.{procedure_nodes}
 use Rattle.batch_chart.proofs.PassTarget.{as-counted, passes-no_act, passes-before, passes-follower, follower-within}
-use Rattle.batch_chart.proofs.lookups.passes_to.Goals as goal
+use Rattle.batch_chart.proofs.lookups.pass_target.Goals as goal
 
 pub returns-in-None-clause-to : goal.returns-in-None-clause-to
 returns-in-None-clause-to c = λ bound lt. passes-no_act c.args.recipe.now c.args.node c.args.need c.in-None.ensures.act bound lt

@@ -1,6 +1,6 @@
 use Rattle.std.proofs.Common.{◌≡◌, ◌≤◌, ◌+◌, ℕ, List, ◌++◌, length, take}
 use Rattle.batch_serve.specs.CleanLines.{clean_from}
-use Rattle.batch_serve.proofs.clean_lines.take_lines.Given as goal
+use Rattle.batch_serve.proofs.clean_lines.clean_piece.Given as goal
 
 abbrev pub invariant-loop-at : goal.invariant-loop-at
 invariant-loop-at l = record {

@@ -1,6 +1,6 @@
 use Rattle.std.proofs.Common.{take, arith}
 use Rattle.batch_serve.proofs.JournalLines.{stepped, finished, put_behind, room_here, room_left}
-use Rattle.batch_serve.proofs.clean_lines.take_lines.Goals as goal
+use Rattle.batch_serve.proofs.clean_lines.clean_piece.Goals as goal
 
 pub end_line-written-requires : goal.end_line-written-requires
 end_line-written-requires c =

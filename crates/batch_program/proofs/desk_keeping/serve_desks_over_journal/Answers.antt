@@ -1,6 +1,6 @@
 use Rattle.std.proofs.Common.{inl, inr}
 use Rattle.std.proofs.KnownBytes.{Keeps-refl}
-use Rattle.batch_program.proofs.desk_keeping.keep_desk_set.Goals as goal
+use Rattle.batch_program.proofs.desk_keeping.serve_desks_over_journal.Goals as goal
 
 pub returns-in_default : goal.returns-in_default
 returns-in_default g c = inr (Keeps-refl _, inr c.complain.ensures)

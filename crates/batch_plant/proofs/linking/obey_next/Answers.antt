@@ -1,7 +1,7 @@
 use Rattle.std.proofs.Common.{ap, refl, sym, subst}
 use Rattle.batch_desk.specs.DeskState.{DeskState}
 use Rattle.batch_plant.{specs.Links.Links, specs.LinkSteps.kept_in, specs.LinkSteps.linked, proofs.Deeds.counted, proofs.Deeds.none_counted, proofs.Deeds.no_deed, proofs.Deeds.took_out}
-use Rattle.batch_plant.proofs.linking.take_out.Goals as goal
+use Rattle.batch_plant.proofs.linking.obey_next.Goals as goal
 
 pub returns-in-Some-clause-links : goal.returns-in-Some-clause-links
 returns-in-Some-clause-links g c cell =

@@ -1,6 +1,6 @@
 use Rattle.std.proofs.Common.{◌∙◌, ap}
 use Rattle.batch_chart.{specs.Early.first_held, specs.Needs.needs_of_kind, proofs.UnitTakeover.taken-at, proofs.UnitTakeover.idle-at}
-use Rattle.batch_chart.proofs.taking.take_at.Goals as goal
+use Rattle.batch_chart.proofs.taking.take_over_at.Goals as goal
 
 pub returns-in-Ready : goal.returns-in-Ready
 returns-in-Ready c =
