@@ -18,7 +18,7 @@ pub enum Asked {
 
 /// The meaning of the fault of the document at this path: the wrong key or name and its line, if they are known.
 ///
-/// Of a cell in a recipe's place, or the other way round, and of either in the place of the desks, it says this.
+/// It says so if a cell is in a recipe's place, a recipe in a cell's, or either in the place of the desks.
 pub fn document_sentence(
     alloc: Global,
     asked: Asked,

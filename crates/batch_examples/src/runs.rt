@@ -275,7 +275,7 @@ pub fn want_of_memory()
     ensures command { MemoryRefusesNoStart }
 {}
 
-/// Of the states of two phases beneath an act, the graver one is shown.
+/// The graver of the states of two phases beneath an act is shown.
 pub fn earlier_state_shows()
     ensures aborting { AbortingBeforeStopping }
     ensures stopping { StoppingBeforeHolding }
