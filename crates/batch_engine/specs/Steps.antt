@@ -93,7 +93,7 @@ abbrev pub IsFoundBy : EngineView → ℕ → Option Batch → Type 0
 IsFoundBy v n None = batch_at (plant_of v) n ≡ None
 IsFoundBy v n (Some b) = IsBatch v b × (batch_at (plant_of v) n ≡ Some (model_batch v.cleared b))
 
--- the first act in line of a batch that the arbiter would serve
+-- the first act of a batch in a queue that the arbiter would serve
 abbrev pub IsFirstGrant : EngineView → Batch → Option (ℕ × ℕ × ℕ) → Type 0
 IsFirstGrant v b None = grants (setup v.cleared) (plant_of v) (model_batch v.cleared b) ≡ []
 IsFirstGrant v b (Some (node, resource, units)) =
