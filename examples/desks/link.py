@@ -13,7 +13,7 @@ ANSWERS = {"pause": "paused", "hold": "held", "restart": "running", "stop": "sto
 
 
 def report_of(words):
-    """What is to be reported behind an order, if anything."""
+    """The report that is due behind an order, if any."""
     if words[0] == "start":
         outputs = " MATCH=1" if words[4] == "SAMPLE" else ""
         return f"report {words[3]} {words[4]} done{outputs}\n"

@@ -102,7 +102,7 @@ class Plant:
         return [it for it in sorted(self.live) if self.states[self.live[it][0]] == "running"]
 
     def report_of(self, unit, phase):
-        """What a phase reports when it is done: a sample says whether the colour matches."""
+        """The report of a phase that is done: a sample says whether the colour matches."""
         matches = f" MATCH={int(self.chance.random() < 0.5)}" if phase == "SAMPLE" else ""
         return f"report {unit} {phase} done{matches}"
 

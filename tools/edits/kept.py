@@ -1,4 +1,4 @@
-"""What earlier runs on this machine found of edits, each under a sum of all that a try of it reads: so an entry never goes stale.
+"""Results of edits by earlier runs on this machine, each under a sum of all that a try of it reads: so an entry never goes stale.
 
 Usage: tools/edits/kept.py RLIB: a sum of the parts of a built library that other crates can see, for tools/quick.
 """

@@ -51,7 +51,7 @@ pub data EntryPart : Type 0 where
 abbrev pub with_part : (ℕ → EntryPart) → ℕ → EntryPart → ℕ → EntryPart
 with_part parts i part k = cond (nat_eq k i) part (parts k)
 
--- from the entry first, n entries that play this part are linked one after the other, and the last leads to end
+-- n entries that play this part are linked one after the other, from the entry first on, and the last leads to end
 abbrev pub LeadsThrough : EntryPart → (ℕ → EntryPart) → List Entry → ℕ → ℕ → ℕ → Type 0
 LeadsThrough part parts entries zero first end = first ≡ end
 LeadsThrough part parts entries (suc n) first end =

@@ -103,7 +103,7 @@ held_after held _ = held
 abbrev pub still_held : List Stage → List Passed → List Passed
 still_held xs held = filter (λ p. not (is_ready (stage_at xs p.to))) held
 
--- of so many nodes, and there is room for more than `most`
+-- the held passes go to nodes below count, and there is room for more than `most`
 pub record AreHeld (count most : ℕ) (held : List Passed) (room : ℕ) : Type 0 where
   pub within : (p : Passed) → Has held p → p.to < count
   pub enough : most < room

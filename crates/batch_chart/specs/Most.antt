@@ -39,12 +39,12 @@ abbrev pub is_par : Kind → Bool
 is_par Par = true
 is_par _ = false
 
--- of two that are reached at once, or one after the other
+-- the count of two parts that are reached at once, or one after the other
 abbrev pub joined : Bool → ℕ → ℕ → ℕ
 joined true a b = a + b
 joined false a b = max a b
 
--- of charts that are
+-- the count of charts that are
 abbrev pub most_of : Bool → Counted → Trees → ℕ
 most_of true counted ts = most_of_all (own_by counted) ts
 most_of false counted ts = most_of_one (own_by counted) ts

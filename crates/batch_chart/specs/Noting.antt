@@ -75,7 +75,7 @@ stage_signs needs (stage.Live x) = live_signs needs x
 stage_signs needs (stage.Freeing k) = freeing_signs needs k
 stage_signs needs _ = 0
 
--- the signs of an act that had these signs in line, and is ready again
+-- the signs of an act that had these signs in a queue, and is ready again
 abbrev pub readied : ℕ → ℕ
 readied signs = elim (nat_eq (bit_and signs WAITS) 0) [ true ↦ bit_or signs FITS | false ↦ bit_or (bit_xor signs WAITS) LACKS ]
 

@@ -19,7 +19,7 @@ pub record IsBatchOf (doc : Recipe) (t : Tree) (b : Batch) : Type 0 where
   pub tree : t ≡ bound_tree bound doc.acts
   pub follows : b.recipe.procedure ≡ t
 
--- whatever units take the roles, the act at node n passes its need i to the unit procedure at this node, or to none
+-- the act at node n passes its need i to the unit procedure at this node, or to none, whatever units take the roles
 abbrev pub PassesTo : Recipe → ℕ → ℕ → Option ℕ → Type 0
 PassesTo doc n i to =
     (bound : Binding) → n < node_count (bound_tree bound doc.acts)

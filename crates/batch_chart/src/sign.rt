@@ -11,7 +11,7 @@ pub const LACKS: u32 = 1;
 /// A ready act lacks none.
 pub const FITS: u32 = 2;
 
-/// An act stands in line.
+/// An act waits in a queue.
 pub const WAITS: u32 = 4;
 
 /// Nothing is left of the chart that an act follows.
@@ -150,7 +150,7 @@ pub fn of_stage(needs: u16, stage: Stage) -> u32
     }
 }
 
-/// The signs of an act that had these signs in line, and is ready again.
+/// The signs of an act that had these signs in a queue, and is ready again.
 pub fn readied(signs: u32) -> u32
     ensures { result ≡ readied signs }
 {

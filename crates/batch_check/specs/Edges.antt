@@ -64,7 +64,7 @@ has_pair edges earlier later = list_any (λ edge. nat_eq edge.earlier earlier &&
 abbrev pub HasPairsOf : List Edge → List Edge → Type 0
 HasPairsOf edges others = All (λ edge. IsTrue (has_pair others edge.earlier edge.later)) edges
 
--- where both are resources, an edge leads from the one to the other
+-- an edge leads from the one to the other, if both are resources
 abbrev pub Joins : List Edge → Option ℕ → Option ℕ → Type 0
 Joins edges None later = ⊤
 Joins edges (Some earlier) None = ⊤

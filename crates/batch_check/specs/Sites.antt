@@ -18,7 +18,7 @@ use Rattle.batch_check.specs.Takings.{Taking, bound_by, resource_for, units_by}
 use Rattle.batch_check.specs.declared.site.Site.{Site}
 use Rattle.batch_check.specs.Edges.{numbers_of_resources}
 
--- Where these candidates take the roles
+-- Sites whose roles these candidates take
 
 -- how units take the roles of the site's recipe
 abbrev pub bound_on : Site → Taking → Binding
@@ -46,7 +46,7 @@ resource_count site = length (cell_resources site.cell.now)
 abbrev pub count_with_roles : Site → ℕ
 count_with_roles site = resource_count site + length site.recipe.now.roles.items
 
--- of each role the number of the unit that takes it
+-- the number of the unit that takes each role
 abbrev pub units_on : Site → Taking → List (Option ℕ)
 units_on site taking = units_by site.cell.now site.recipe.now.roles.items taking
 

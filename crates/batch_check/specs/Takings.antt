@@ -24,7 +24,7 @@ apart role own other name = elim (same_name name role) [ true ↦ own | false �
 abbrev pub bound_by : Cell → List Role → Taking → Binding
 bound_by cell roles taking name = numbered_binding cell roles (taking name) name
 
--- of each role the number of the unit that takes it
+-- the number of the unit that takes each role
 abbrev pub units_by : Cell → List Role → Taking → List (Option ℕ)
 units_by cell roles taking = numbers_of_resources cell (map (λ role. bound_by cell roles taking role.name) roles)
 

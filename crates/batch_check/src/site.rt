@@ -1,4 +1,4 @@
-//! Where edges are collected.
+//! A recipe in a cell, whose edges are collected.
 ghost use Rattle.std.specs.Prelude.{◌≡◌, IfOk};
 ghost use Rattle.batch_check.specs.Sites.{count_with_roles, number_of, numbers_of};
 

@@ -150,7 +150,7 @@ HasOptionsOf rows options = (options.batches ≡ batches_of rows) × (options.ti
 
 -- documents that are to be judged, by their paths
 pub data Judgement : Type 0 where
-  -- with `all` every refusal is to be reported, else the first alone
+  -- every refusal is to be reported with `all`, else the first alone
   check : (all : Bool) (cell : Text) (recipes : List Text) → Judgement
   -- to draw the orders in which recipes ask for resources
   draw : (all : Bool) (cell : Text) (recipes : List Text) → Judgement
@@ -206,14 +206,14 @@ checked_by rows = written_by (first_of (codes "write") rows) (judged_by rows)
 abbrev pub shown_by : List Row → Request
 shown_by rows = judge (show (word_of (codes "CELL") rows) (words_of (codes "RECIPE") rows))
 
--- with comments in the record if a flag asks for some
+-- the request to serve, with comments in the record if a flag asks for some
 abbrev pub serve_by : Source → List Row → Request
 serve_by source rows =
     if is_given (codes "echo") rows || is_given (codes "times") rows
     then remark source (is_given (codes "echo") rows) (is_given (codes "times") rows)
     else serve source
 
--- with a journal if one is named
+-- the request to serve, over a journal if one is named
 abbrev pub run_by : Option Text → List Row → Request
 run_by None rows = serve_by (documents (word_of (codes "CELL") rows) (word_of (codes "CERT") rows) (words_of (codes "RECIPE") rows)) rows
 run_by (Some journal) rows =

@@ -9,7 +9,7 @@ use Rattle.batch_engine.specs.declared.out.Out.{Out}
 use Rattle.batch_desk.specs.Rings.{Ring, ring_of_producer}
 use Rattle.batch_desk.specs.declared.scope.Scope.{Scope}
 
--- of the ring of outs, until it is sealed: its identity, the outs put there, and how many places are known to be free
+-- The ring of outs, until it is sealed: its identity, the outs put there, and how many places are known to be free
 
 abbrev pub ring_of_port : Option (Producer Out Global AnyItems) → Option Ring
 ring_of_port None = None

@@ -13,7 +13,7 @@ use Rattle.batch_desk.specs.declared.fault.HubFault.TheVariants.{EventsRemain, C
 use Rattle.batch_desk.specs.Due.{sees}
 use Rattle.batch_desk.specs.PortState.{PortState}
 
--- as many outs as fit went from those that wait into the ring, in order
+-- the outs that fit went from those that wait into the ring, in order
 pub record Flushes (p q : PortState) : Type 0 where
   pub scope : q.scope ≡ p.scope
   pub events : q.events ≡ p.events

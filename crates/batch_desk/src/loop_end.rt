@@ -7,6 +7,6 @@ pub enum LoopEnd {
     Done,
     /// An event of a console was refused.
     Refused,
-    /// As many turns were counted as were allowed.
+    /// The allowed number of turns was counted.
     TurnsOut,
 }

@@ -7,6 +7,6 @@ pub enum Turned {
     Idle,
     /// An event was taken, or moves were made; no further move is possible.
     Handled,
-    /// As many moves were made as one turn makes, and more are possible.
+    /// The greatest number of moves of one turn was made, and more are possible.
     MovesLeft,
 }

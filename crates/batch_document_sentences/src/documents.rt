@@ -18,7 +18,7 @@ pub enum Asked {
 
 /// The meaning of the fault of the document at this path: the wrong key or name and its line, if they are known.
 ///
-/// Of a cell in a recipe's place, or the other way round, and of either in the place of the desks, it says this.
+/// It says so if a cell is in a recipe's place, a recipe in a cell's, or either in the place of the desks.
 pub fn document_sentence(
     alloc: Global,
     asked: Asked,
@@ -141,7 +141,7 @@ fn entry_said(
     let wrong = wrong_at(alloc, text, document, spot, fault)?;
     let tables = tables_of(document, spot.kind);
     let line = line_of(text, spot, tables, wrong.key);
-    wrong_said(alloc, spot, line, wrong.what.as_str())
+    wrong_said(alloc, spot, line, wrong.mistake.as_str())
 }
 
 /// The line, the table at the spot, and the words on its fault.
@@ -149,12 +149,12 @@ fn wrong_said(
     alloc: Global,
     spot: Spot,
     line: Option<usize>,
-    what: &str,
+    mistake: &str,
 ) -> Result<String, AllocError> {
     let table = table_said(alloc, spot)?;
     match line {
-        Some(line) => format!(in alloc; "line {line}, {table}: {what}"),
-        None => format!(in alloc; "{table}: {what}"),
+        Some(line) => format!(in alloc; "line {line}, {table}: {mistake}"),
+        None => format!(in alloc; "{table}: {mistake}"),
     }
 }
 

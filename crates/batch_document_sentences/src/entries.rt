@@ -16,23 +16,26 @@ use toml::{Table, Value};
 #[derive(Drop)]
 pub(crate) struct Wrong<'a> {
     pub(crate) key: &'a str,
-    pub(crate) what: String,
+    pub(crate) mistake: String,
 }
 
 impl<'a> Wrong<'a> {
     pub(crate) fn from_str(
         alloc: Global,
         key: &'a str,
-        what: &str,
+        mistake: &str,
     ) -> Result<Wrong<'a>, AllocError> {
-        Wrong::with(key, String::from_str(alloc, what))
+        Wrong::with(key, String::from_str(alloc, mistake))
     }
 
     pub(crate) fn with(
         key: &'a str,
-        what: Result<String, AllocError>,
+        mistake: Result<String, AllocError>,
     ) -> Result<Wrong<'a>, AllocError> {
-        Ok(Wrong { key, what: what? })
+        Ok(Wrong {
+            key,
+            mistake: mistake?,
+        })
     }
 }
 

@@ -42,7 +42,7 @@ pub record IsRunningBatch (c : ClearedSet) (b : Batch) : Type 0 where
   pub units : AreUnits c b.units
   pub runs : IsRunningOf (tree_of c b) b.running
 
--- the number of shares that are held and of asks in line, together
+-- the number of shares that are held and of asks in queues, together
 abbrev pub claims : Allocation → ℕ
 claims a = sum_by (λ xs. length xs) a.shares + sum_by (λ xs. length xs) a.lines
 

@@ -20,7 +20,7 @@ pub record HasNoMove (v : EngineView) (i : ℕ) : Type 0 where
 abbrev pub AreMarked : EngineView → List ℕ → Type 0
 AreMarked v marks = (i : ℕ) → i < length v.batches → IsUnmarked marks i → HasNoMove v i
 
--- of each resource of capacity 1, by its number, the batch is noted that holds it
+-- the batch that holds a resource of capacity 1 is noted, by the number of the resource
 abbrev pub AreNotedBy : (Name → Option ℕ) → Setup → Plant → List ℕ → Type 0
 AreNotedBy number setup plant noted =
     (name : Name) (q : ℕ) → number name ≡ Some q → setup.capacity name ≡ 1

@@ -15,7 +15,7 @@ use Rattle.batch_engine.specs.Marks.{IsUnmarked}
 use Rattle.batch_engine.specs.Steps.{IsNext, IsNextStep, IsServedNode, index_of}
 use Rattle.batch_engine.specs.View.{EngineView, resource_number}
 
--- Of the machine
+-- Moves and replies of the machine
 
 -- the resource of which the move gives or takes a share
 abbrev pub touched : Move → Option Name
@@ -52,7 +52,7 @@ abbrev pub noted_by : Line → List ℕ → List ℕ
 noted_by (Line.Claim ClaimKind.Granted batch recipe node resource units) holders = elim (nat_eq units 1) [ true ↦ slice_set holders resource batch | false ↦ holders ]
 noted_by _ holders = holders
 
--- Of the engine
+-- Steps of the engine
 
 -- an act of the batch at an index would be served of the resource
 abbrev pub IsServedAt : EngineView → ℕ → ℕ → Type 0

@@ -93,13 +93,13 @@ abbrev pub IsFoundBy : EngineView → ℕ → Option Batch → Type 0
 IsFoundBy v n None = batch_at (plant_of v) n ≡ None
 IsFoundBy v n (Some b) = IsBatch v b × (batch_at (plant_of v) n ≡ Some (model_batch v.cleared b))
 
--- the first act in line of a batch that the arbiter would serve
+-- the first act of a batch in a queue that the arbiter would serve
 abbrev pub IsFirstGrant : EngineView → Batch → Option (ℕ × ℕ × ℕ) → Type 0
 IsFirstGrant v b None = grants (setup v.cleared) (plant_of v) (model_batch v.cleared b) ≡ []
 IsFirstGrant v b (Some (node, resource, units)) =
     (i : ℕ) → slice_get v.batches i ≡ Some b → IsGrantStep v (λ m. least (grants (setup v.cleared) (plant_of v) (model_batch v.cleared b)) ≡ Some m) i node resource units
 
--- from one node on up to another no act of the batch with this number would be served
+-- no act of the batch with this number would be served, from one node on up to another
 pub record AreUnserved (v : EngineView) (number from to : ℕ) : Type 0 where
   pub on : from ≤ to
   pub none : (resource node : ℕ) → resource < resource_count v.allocation → IsServedNode v.allocation resource number node → from ≤ node → to ≤ node
@@ -198,7 +198,7 @@ pub record IsLineAt (v : EngineView) (i : ℕ) (m : Move) (line : Line) : Type 0
   pub at : slice_get v.batches i ≡ Some batch
   pub tells : Tells v batch m line
 
--- of the line of a grant, which the arbiter is told by itself, nothing is asked
+-- the line of a step of the batch is that of its move; the line of a grant, which the arbiter is told by itself, may be any
 abbrev pub IsLineOf : EngineView → Step → Line → Type 0
 IsLineOf v (Own i m) line = IsLineAt v i m line
 IsLineOf v (Grant i node resource units) line = ⊤

@@ -19,7 +19,7 @@ use Rattle.batch_engine.specs.declared.batch.Batch.{Batch}
 
 pub record EngineView : Type 0 where
   pub cleared : ClearedSet
-  -- by rising number
+  -- the batches, by rising number
   pub batches : List Batch
   pub next_number : ℕ
   pub allocation : Allocation

@@ -21,7 +21,7 @@ pub struct Entry {
 #[derive(Drop)]
 pub struct Batches {
     slab: Slab<Batch>,
-    /// By rising number, one for each batch.
+    /// The entries of the batches, one for each, by rising number.
     entries: Vec<Entry>,
 }
 

@@ -9,7 +9,7 @@ use std::marker::Model;
 /// it may be the next that is served of a resource: after a release or a grant of that resource, and after a stop or an abort.
 pub struct Engine {
     pub(crate) control: Control,
-    /// Of the indices of batches: one that isn't marked has no move.
+    /// The marked indices of batches. A batch whose index isn't marked has no move.
     pub(crate) marks: Marks,
     /// For each resource, by its number: the batch that was granted one unit of it last. It leads to the holder of a unit of the cell.
     pub(crate) holders: Vec<u64>,

@@ -16,9 +16,9 @@ use batch_matrix::State;
 use batch_recipe::{MAX_NODES, Recipe};
 use batch_set::{LinkedNeed, LinkedSet};
 
-/// The number of a batch's acts in line that are checked one by one before the lines themselves are searched.
+/// The number of a batch's acts in queues that are checked one by one before the queues themselves are searched.
 const FEW_ACTS: u16 = 8;
-/// The number of lines whose check takes as long as that of one act.
+/// The number of queues whose check takes as long as that of one act.
 const LINES_AN_ACT: u16 = 4;
 
 /// Whether the arbiter would serve this act.
@@ -102,11 +102,11 @@ impl Control {
         if looked < FEW_ACTS || looked < resources / LINES_AN_ACT {
             return next;
         }
-        // A search of all lines takes no longer with more acts in them.
+        // A search of all queues takes no longer with more acts in them.
         next.max(least_served(&self.arbiter, resources, batch))
     }
 
-    /// The first act in line of a batch that the arbiter would serve: its node, its resource and how many units of it.
+    /// The first act of a batch in a queue that the arbiter would serve: its node, its resource and how many units of it.
     fn first_grant(&self, batch: &Batch) -> Option<(u16, u16, u32)>
         requires { IsBatch self.now batch.now }
         ensures { IsFirstGrant self.now batch.now result }

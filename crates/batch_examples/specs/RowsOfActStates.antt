@@ -27,7 +27,7 @@ plant_in batch first second = in_batch 1 (with_states batch first second) (plant
 abbrev pub BothShow : Plant → State → Type 0
 BothShow s x = (state_of s 1 p00 ≡ Some x) × (state_of s 1 p000 ≡ Some x)
 
--- of two phases beneath an act the state x shows before y, whichever of them has it and whatever the batch's state is
+-- the state x of a phase beneath an act shows before y of another, whichever of them has it and whatever the batch's state is
 abbrev pub ShowsBefore : State → State → Type 0
 ShowsBefore x y = (batch : State) → BothShow (plant_in batch x y) x × BothShow (plant_in batch y x) x
 

@@ -113,7 +113,7 @@ CrossedBranchesWithoutCircle =
     ∷ releases 2 p000011 hdr
     ∷ closed 2 r2 []))))
 
--- of three parallel steps two share a resource of capacity 2, and the third waits
+-- two of three parallel steps share a resource of capacity 2, and the third waits
 abbrev pub SharedCapacity : Type 0
 SharedCapacity =
     run cell (create (codes "T") 1000 [] ∷ order Start 1 ∷ [])

@@ -201,7 +201,7 @@ DoesNotPointBesideHolder = PointsFrom p000 p001 → ⊥
 abbrev pub DoesNotPointAboveHolder : Type 0
 DoesNotPointAboveHolder = PointsFrom p00 p0 → ⊥
 
--- from batch 2, which waits for HDR, over batch 1 to batch 3
+-- a chain from batch 2, which waits for HDR, over batch 1 to batch 3
 abbrev pub ChainFrom : Place → Place → Type 0
 ChainFrom holds waits =
     IsChain (held_and_waiting holds waits)

@@ -20,7 +20,7 @@ batch n x r = record { number = n; recipe = recipe; size = 1000; values = []; st
 abbrev pub step : Place → Need → Step
 step p need = record { place = p; needs = need ∷ []; reserves = [] }
 
--- an act in line for it
+-- an act in the queue for it
 abbrev pub waits : Place → Need → Rest
 waits p need = asking (step p need) (follows (codes "WAITS") skip) 0
 
@@ -28,7 +28,7 @@ waits p need = asking (step p need) (follows (codes "WAITS") skip) 0
 abbrev pub holds : Place → Need → Rest → Rest
 holds p need below = open_act (step p need) below
 
--- the step of batch 2 is alone in line for its need
+-- the step of batch 2 is alone in the queue for its need
 abbrev pub line_of_two : Place → Need → Name → List Share
 line_of_two p need r = elim (same_name r need.resource) [ true ↦ record { act = (2, p); units = need.units } ∷ [] | false ↦ [] ]
 

@@ -305,7 +305,7 @@ UpwardsFirst =
     × FirstFollow (seq (diagrams_of (loop 3 x_above_0 (label make) ∷ label keep ∷ []))) []
     × (following (drawn (seq (diagrams_of (label keep ∷ label make ∷ [])))) p001 ≡ [])
 
--- of two that follow with one name the first is taken
+-- the first of two that follow with one name is taken
 abbrev pub FirstOfTwoFollows : Type 0
 FirstOfTwoFollows =
     (follower (drawn (first_then (par (diagrams_of (label keep ∷ label keep ∷ []))))) p00000 keep ≡ Some p0010)

@@ -122,7 +122,7 @@ pub fn shared_capacity()
     ensures { SharedCapacity }
 {}
 
-/// A step that wants several units is granted them at once and gives them back at once; those behind it in line wait.
+/// A step that wants several units is granted them at once and gives them back at once; those behind it in the queue wait.
 pub fn shares_of_several_units()
     ensures no_passing { SmallAskDoesNotPass }
     ensures all_back { ReleaseGivesAllBack }
@@ -275,7 +275,7 @@ pub fn want_of_memory()
     ensures command { MemoryRefusesNoStart }
 {}
 
-/// Of the states of two phases beneath an act, the graver one is shown.
+/// The graver of the states of two phases beneath an act is shown.
 pub fn earlier_state_shows()
     ensures aborting { AbortingBeforeStopping }
     ensures stopping { StoppingBeforeHolding }

@@ -45,7 +45,7 @@ pub fn stopping_batch_gives_back()
     ensures { StoppingBatchGivesBack }
 {}
 
-/// From a pass on the place holds the unit that it is passed to.
+/// The place that a unit is passed to holds it from the pass on.
 pub fn pass_is_told()
     ensures { PassIsTold }
 {}

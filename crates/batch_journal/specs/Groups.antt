@@ -39,7 +39,7 @@ abbrev pub AreOthers : Format → List (List ℕ) → Type 0
 AreOthers f [] = ⊤
 AreOthers f (line ∷ lines) = (f.own line ≡ false) × AreOthers f lines
 
--- behind groups that are taken to the end others are taken as by themselves, and nothing is taken back
+-- groups behind others that are taken to the end are taken as by themselves, and nothing is taken back
 abbrev pub GroupsGoOn : Type 0
 GroupsGoOn =
     (f : Format) (sum last : List ℕ) (begun a b : List (List ℕ)) → last_sum f sum begun a ≡ Some last

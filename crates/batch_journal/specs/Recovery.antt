@@ -43,7 +43,7 @@ pub record ClosesTwice (lines : List (List ℕ)) : Type 0 where
   pub own : journal_format.own closing ≡ true
   pub another : 0 < closings more
 
--- behind whole groups is one that has a zero byte or another sum, and another one follows it; this line, from 1, closes it
+-- a group behind whole groups has a zero byte or another sum, and another one follows it; this line, from 1, closes it
 pub record IsDamaged (documents file : List ℕ) (line : ℕ) : Type 0 where
   pub end : ℕ
   pub sum : List ℕ
@@ -52,7 +52,7 @@ pub record IsDamaged (documents file : List ℕ) (line : ℕ) : Type 0 where
   pub wrong : AreLines (behind.front ++ behind.closing ∷ []) → journal_format.closes (journal_format.next sum behind.front) behind.closing ≡ false
   pub number : line ≡ length (raw_lines (take end file)) + (length behind.front + 1)
 
--- behind a journal a group of these lines was written and not synced: whatever a crash left of it isn't taken for damage
+-- a group of these lines that was written behind a journal and not synced isn't taken for damage, whatever a crash left of it
 abbrev pub CrashIsNoDamage : Type 0
 CrashIsNoDamage =
     (documents synced sum closing tail : List ℕ) (lines : List (List ℕ)) (line : ℕ) → IsJournal documents synced sum → AreLines lines → AreOthers journal_format lines

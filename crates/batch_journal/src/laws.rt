@@ -4,7 +4,7 @@ ghost use Rattle.batch_journal.specs.Readers.{LinesBegin};
 ghost use Rattle.batch_journal.specs.RowsOfRecovery.{RecoveryRows};
 ghost use Rattle.batch_journal.specs.Recovery.{CrashIsNoDamage, RecoveredAreLines, TakenIsNotRefused, WholeLinesAreLines};
 
-/// Behind groups that are taken others are taken as by themselves, whatever the sums are.
+/// Groups behind others that are taken are taken as by themselves, whatever the sums are.
 // claim: groups go on
 pub fn groups_go_on()
     ensures { GroupsGoOn }
@@ -28,7 +28,7 @@ pub fn lines_begin()
     ensures { LinesBegin }
 {}
 
-/// Whatever a crash leaves of a group that was being written isn't taken for damage.
+/// A group that was being written isn't taken for damage, whatever a crash leaves of it.
 // claim: a crash is no damage
 pub fn crash_is_no_damage()
     ensures { CrashIsNoDamage }

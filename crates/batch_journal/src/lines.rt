@@ -9,7 +9,7 @@ ghost use Rattle.batch_journal.specs.Readers.{IsWhole};
 use crate::group::is_closing;
 use memchr::memchr2;
 
-/// Where the first line ends, if a line feed ends it and no zero byte precedes that.
+/// The end of the first line, if a line feed ends it and no zero byte precedes that.
 pub(crate) fn next_line(bytes: &[u8]) -> Option<usize>
     ensures { MatchOption result (whole_lines_before_zero bytes.now ≡ []) (λ at. EndsLine at bytes.now) }
 {
@@ -19,7 +19,7 @@ pub(crate) fn next_line(bytes: &[u8]) -> Option<usize>
     }
 }
 
-/// Where the whole lines before the first zero end.
+/// The end of the whole lines before the first zero.
 pub(crate) fn end_of(bytes: &[u8]) -> usize
     ensures within { result ≤ length bytes.now }
     ensures text { take result bytes.now ≡ text_of (whole_lines_before_zero bytes.now) }

@@ -21,7 +21,7 @@ pub record IsReplayed (c : Setup) (old : Plant) (lines : List (List ℕ)) (new :
 abbrev pub recovery_block_text : ℕ → List ℕ → List ℕ
 recovery_block_text count rows = codes "# recovered " ++ (decimal count ++ (codes " lines\n" ++ (rows ++ codes "# end\n")))
 
--- the record of these lines, served again, leads to the state in the rows of the block
+-- the record of these lines, replayed, leads to the state in the rows of the block
 pub record IsBlockOf (c : Setup) (old : Plant) (lines : List (List ℕ)) (new : Plant) (block : List ℕ) : Type 0 where
   pub told : List ℕ
   pub replayed : IsReplayed c old lines new told

@@ -115,8 +115,8 @@ fn audit_line(
     Ok(audited.compare(answer))
 }
 
-/// Where the record's next line ends, behind its comments, if that is a refusal for want of memory with which the engine might have
-/// answered.
+/// The end of the record's next line, behind its comments, if that line is a refusal for want of memory with which the engine might
+/// have answered.
 fn end_of_free_refusal(
     alloc: Global,
     engine: &Engine,

@@ -1,4 +1,4 @@
-//! Recovery blocks: the state of the plant by the lines of a journal, served again.
+//! Recovery blocks: the state of the plant by the replayed lines of a journal.
 ghost use Rattle.std.specs.Prelude.{◌≡◌, ℕ, List, length, map, codes, IfOk};
 ghost use Rattle.batch_engine.specs.View.{setup, plant_of};
 ghost use Rattle.batch_journal.specs.Journals.{IsJournal, recovered};

@@ -16,7 +16,7 @@ use std::io::Write;
 /// # Errors
 ///
 /// Those of `serve`: the writer failed.
-// claim: a journal is served again
+// claim: a journal is replayed
 pub fn replay<W: Write>(
     alloc: Global,
     engine: &mut Engine,

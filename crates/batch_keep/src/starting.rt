@@ -26,7 +26,7 @@ pub enum StartFault {
     /// There was no memory for the engine.
     #[error("out of memory")]
     Memory,
-    /// The journal's lines couldn't be served again.
+    /// The journal's lines couldn't be replayed.
     #[error("{0}")]
     Block(BlockFault),
 }
@@ -64,7 +64,7 @@ pub struct Started {
     pub cut: usize,
 }
 
-/// Recovers the journal of a set whose documents have these digits, makes the set's engine and serves the journal's lines again.
+/// Recovers the journal of a set whose documents have these digits, makes the set's engine and replays the journal's lines.
 ///
 /// # Errors
 ///

@@ -194,7 +194,7 @@ fn mending_said(
     Ok(said)
 }
 
-/// Of each of the edges whether the set would be cleared without its order of its two resources.
+/// Whether the set would be cleared without an edge's order of its two resources, for each of the edges.
 fn clear_without(
     alloc: Global,
     cell: &Cell,

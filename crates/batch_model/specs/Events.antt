@@ -59,7 +59,7 @@ pub data Reply : Type 0 where
 abbrev pub Answer : Type 0
 Answer = Reply × Plant
 
--- as many batches exist as may, or the last number was given
+-- the limit of batches is reached, or the last number was given
 abbrev pub is_full : Setup → Plant → Bool
 is_full setup plant = nat_le setup.batch_limit (length plant.batches) || nat_lt LAST_NUMBER plant.next_number
 

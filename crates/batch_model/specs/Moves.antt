@@ -20,7 +20,7 @@ pub data Move : Type 0 where
   send : ℕ → Place → Phase → Command → Move
   state : ℕ → State → Move
   release : ℕ → Place → Need → Move
-  -- with the place that the act's unit is passed to
+  -- the second place is the one that the act's unit is passed to
   pass : ℕ → Place → Place → Need → Move
   begin : ℕ → Place → Name → Move
   start : ℕ → Place → Phase → ValueList → Move
@@ -143,7 +143,7 @@ handing_over batch step held =
       | Some to ↦ option_map (pass batch.number step.place to) (last_held step held)
     ]
 
--- as many units of the resource are free as are needed, and the act is first in its line
+-- the needed units of the resource are free, and the act is first in its queue
 abbrev pub is_served : Setup → Plant → Need → BatchAct → Bool
 is_served setup plant need act =
     nat_le (units_in (holders plant need.resource) + need.units) (setup.capacity need.resource)

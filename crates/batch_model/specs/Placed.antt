@@ -18,7 +18,7 @@ abbrev mutual
   IsPlacedBelow place (runs phase) = ⊤
   IsPlacedBelow place (follows name chart) = IsPlaced (child place 0) chart
 
-  -- from the child with this number on
+  -- the trees are placed from the child with this number on
   pub ArePlaced : Place → ℕ → Trees → Type 0
   ArePlaced place child_number no_trees = ⊤
   ArePlaced place child_number (tree chart charts) = IsPlaced (child place child_number) chart × ArePlaced place (child_number + 1) charts

@@ -1,4 +1,4 @@
--- trusted: the plant: its batches, the holdings and asks of each, and the line of asks for each resource.
+-- trusted: the plant: its batches, the holdings and asks of each, and the queue of asks for each resource.
 use Rattle.std.specs.Prelude.{ℕ, List, [], ◌∷◌, ◌++◌, take, map, filter, find, flat_map, sum_by, Bool, true, false, ◌&&◌, not, Option, None, nat_eq, slice_get}
 use Rattle.batch_matrix.specs.declared.state.State.{State}
 use Rattle.batch_recipe.specs.Conditions.{Name, ValueList}
@@ -144,7 +144,7 @@ held_by (live step phase state) = step.needs
 held_by (freeing step left) = take left step.needs
 held_by _ = []
 
--- the need that an act in line asks for
+-- the need that an act in a queue asks for
 abbrev pub asked_by : Rest → Option Need
 asked_by (asking step task granted) = slice_get step.needs granted
 asked_by _ = None

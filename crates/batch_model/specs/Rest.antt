@@ -14,7 +14,7 @@ mutual
   pub data Rest : Type 0 where
     -- reached, and holds so many of its first needs
     ready : Step → Task → ℕ → Rest
-    -- holds so many of its first needs and waits in line for the next
+    -- holds so many of its first needs and waits in the queue for the next
     asking : Step → Task → ℕ → Rest
     -- begun, holds all its needs; with the rest of its chart
     open_act : Step → Rest → Rest
@@ -148,7 +148,7 @@ abbrev mutual
   changed_in_each place change no_rests = no_rests
   changed_in_each place change (rest remaining rests) = rest (changed_at place change remaining) (changed_in_each place change rests)
 
--- the rest without its asks: every act in line is ready again
+-- the rest without its asks: every act in a queue is ready again
 abbrev mutual
   pub withdrawn : Rest → Rest
   withdrawn (asking step task granted) = ready step task granted

@@ -60,7 +60,7 @@ reserved_from number procedure _ = []
 abbrev pub reserved_told : ℕ → Tree → List Out → List Kept
 reserved_told number procedure outs = fold (λ kept out. reserved_from number procedure out ++ kept_until number kept out) [] outs
 
--- by the record the batch holds the units that it keeps: each passed one at the place that it was passed to, and at some place each
+-- the batch holds by the record the units that it keeps: each passed one at the place that it was passed to, and at some place each
 -- one that a begun step reserves
 pub record KeepsUnits (outs : List Out) (batch : Batch) : Type 0 where
   pub passed : Each (λ kept. Has (acts_in (holders_told outs kept.unit)) (batch.number, kept.place)) (passed_told batch.number outs)

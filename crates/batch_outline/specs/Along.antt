@@ -103,7 +103,7 @@ named_lines roles acts (table ∷ tables) name s = elim (act_named table name) [
   | Some a ↦ act_lines roles acts (named_lines roles acts tables) s (kind_below a.unit a.work) a
 ]
 
--- of a recipe, from a level on
+-- The lines of a recipe, from a level on
 
 abbrev pub labels_from : Recipe → Option LabelTable → Labels
 labels_from r level = named_lines r.roles.items r.acts (tables_from r.acts level)

@@ -31,8 +31,8 @@ pub record IsOutputTold {W : Type 0} (contents : W → Option (List ℕ)) (stood
       → (output : W) × (w.output ≡ Some output) × (lines rest : List (List ℕ)) × (due ≡ lines ++ rest) × (length rest ≡ left) × Appends stood (contents output) (front ++ lines_text lines)
   pub missing : w.output ≡ None → HasNoOutput w.fault
 
--- of a desk that has an output, at this path, either the result that was handed back for this path is given back, or the thread that
--- was given the path, which nobody joined. Nothing is given back of a desk that has none
+-- the result that was handed back for this path is given back of a desk that has an output there, or the thread that was given the
+-- path, which nobody joined. Nothing is given back of a desk that has none
 abbrev pub IsGivenBack
     : {W P : Type 0} → (W → Option (List ℕ)) → (List ℕ → Option (List ℕ)) → (List ℕ → Written W → Type 0) → Option (List ℕ) → List ℕ → List (List ℕ) → Desk
     → OutputOutcome W P → Type 0

@@ -15,7 +15,7 @@ given_by given (Some path) = given path
 abbrev pub cleaned : Option (List ℕ) → Option (List ℕ)
 cleaned input = option_map (λ (bytes : List ℕ). clean_lines (lines_of bytes)) input
 
--- behind a path come the lines of its input, in order, and the end behind all of them
+-- the lines of an input come behind its path, in order, and the end behind all of them
 abbrev pub IsOrdered : (List ℕ → Option (List ℕ)) → List Sent → Type 0
 IsOrdered given (Path path ∷ messages) = AreMessagesOf (cleaned (given_by given (option_map string_bytes path))) messages
 IsOrdered given _ = ⊤

@@ -8,7 +8,7 @@ use Rattle.batch_pipes.specs.declared.outcome.OutputOutcome.{OutputOutcome}
 use Rattle.batch_pipes.specs.declared.outcome.OutputOutcome.TheVariants.{Absent, Joined}
 use Rattle.batch_pipes.specs.declared.written.Written.{Written}
 
--- of the text 1, 2 behind 7 the first was written
+-- the first of the text 1, 2 was written behind 7
 abbrev pub FrontIsHeld : Type 0
 FrontIsHeld = HoldsBeginning (Some (7 ∷ [])) (Some (7 ∷ 1 ∷ [])) (1 ∷ 2 ∷ [])
 
@@ -18,7 +18,7 @@ NoOtherIsHeld =
     (¬ HoldsBeginning (Some []) (Some (2 ∷ [])) (1 ∷ 2 ∷ [])) × (¬ HoldsBeginning (Some []) (Some (1 ∷ 1 ∷ [])) (1 ∷ 2 ∷ []))
     × (¬ HoldsBeginning (Some (7 ∷ [])) (Some (1 ∷ [])) (1 ∷ 2 ∷ []))
 
--- of a desk that has an output something is given back
+-- something is given back of a desk that has an output
 abbrev pub NothingIsTooLittle : Type 0
 NothingIsTooLittle =
     (contents : ℕ → Option (List ℕ)) (stands : List ℕ → Option (List ℕ)) (path front : List ℕ) (due : List (List ℕ)) (desk : Desk)

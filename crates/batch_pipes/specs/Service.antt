@@ -53,7 +53,7 @@ pub record AppendsTimed (times : Bool) (before after : Option (List ℕ)) (text 
 -- Rounds
 
 -- the start of serving: the set, the names of the desks, the machine's state, the kept text and the record; and whether the lines are
--- served again
+-- replayed
 pub record Opening : Type 0 where
   pub set : ClearedSet
   pub names : List (List ℕ)
@@ -108,7 +108,7 @@ TurnsOn times again safe_before safe_after kept_before kept_after recorded_befor
 
 -- Serving to its end
 
--- runs of lines of the desks were served from the opening on, with these answers. If the lines are served again, the runs are whole ones,
+-- runs of lines of the desks were served from the opening on, with these answers. If the lines are replayed, the runs are whole ones,
 -- and no answer is a refusal for want of memory. The lines are kept, if their keeper has kept all. The answers are recorded, with the
 -- time of each turn if that is asked for
 pub record AreDesksServed (times : Bool) (begun : Opening) (safe : Type 0) (kept : List ℕ) (recorded : Option (List ℕ)) : Type 0 where

@@ -1,4 +1,4 @@
-//! Where the inputs and outputs of desks are opened.
+//! The places where the inputs and outputs of desks are opened.
 ghost use Rattle.std.specs.Prelude.{is_ok, string_bytes};
 ghost use Rattle.rtrb.specs.Ring.{SameConsumer, received, sent};
 ghost use Rattle.batch_pipes.specs.Streams.{HandsOver, IsNew, IsWrittenOut};
@@ -18,7 +18,7 @@ pub trait InputBytes {
     ghost given: { List ℕ → Option (List ℕ) } = { λ _. None };
 }
 
-/// Where the inputs of desks are opened, and in the thread that calls read.
+/// The place where the inputs of desks are opened, and read in the calling thread.
 pub trait Pipes: InputBytes {
     /// A handle of the pipes, for another thread.
     fn another(&self) -> Self;
@@ -29,7 +29,7 @@ pub trait Pipes: InputBytes {
         ensures { HandsOver (is_ok result) (Self.given (string_bytes task.old.path)) (sent task.old.ring) (sent task.new.ring) };
 }
 
-/// Where the outputs of desks are opened, and in the thread that calls written.
+/// The place where the outputs of desks are opened, and written in the calling thread.
 pub trait Outputs<W: Write + Drop> {
     ghost use Rattle.std.specs.Prelude.{ℕ, List, Option, None, ⊤};
     ghost use Rattle.batch_pipes.specs.declared.written.Written.{Written as OneWritten};

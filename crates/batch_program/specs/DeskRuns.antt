@@ -39,8 +39,8 @@ abbrev pub status_of_desks : Result ℕ DesksFault → ℕ
 status_of_desks (Ok left) = 0
 status_of_desks (Err fault) = status_of_fault fault
 
--- behind a recovery block, from the plant of the block: with status 0 runs of lines of the desks were served, their answers were written,
--- and the file was given these runs. They stand behind the bytes that the file had been given first
+-- runs of lines of the desks were served from the plant of a recovery block, if the status is 0. Their answers were written behind the
+-- block, and the file was given these runs. They stand behind the bytes that the file had been given first
 pub record AreDesksBehind (times : Bool) (set : ClearedSet) (names : List (List ℕ)) (is_disk : Type 0) (first given : List ℕ) (after : Option (List ℕ)) (status : ℕ)
     (plant : Plant) (middle : Option (List ℕ)) : Type 0 where
   pub served : status ≡ success_status → AreDesksServed times (record { set = set; names = names; plant = plant; kept = first; recorded = middle; again = true }) is_disk given after

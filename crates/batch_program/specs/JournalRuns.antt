@@ -61,8 +61,8 @@ abbrev pub IsShownAs : Bool → Option (List ℕ) → Option (List ℕ) → Opti
 IsShownAs false middle after plain = after ≡ plain
 IsShownAs true middle after plain = IsRemarked middle after plain
 
--- behind the block: with status 0 all lines of the input are answered. However the run ended, a replay of the file that a crash leaves
--- writes again the answers to the journal's lines and those of this run
+-- all lines of the input are answered behind the block, if the status is 0. However the run ended, a replay of the file that a crash
+-- leaves writes again the answers to the journal's lines and those of this run
 pub record IsServedBehind (disks : DiskKind) (set : ClearedSet) (digits : List ℕ) (plant : Plant) (start end : disks.File) (unread middle after : Option (List ℕ)) (status : ℕ) : Type 0 where
   pub answers : status ≡ success_status → IfSome unread (λ input. (new : Plant) × WritesTranscript (setup set) plant (lines_of input) new middle after)
   pub never_lost : disks.is_disk end → IfSome unread (λ input.

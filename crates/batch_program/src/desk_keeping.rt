@@ -33,7 +33,7 @@ use std::time::Clock;
 
 /// Serves the desks over their set with a journal of their lines in the file at the path, and gives the exit status.
 ///
-/// The lines of the journal are served again first, and their answers aren't written. The recovery block of all lines precedes all
+/// The lines of the journal are replayed first, and their answers aren't written. The recovery block of all lines precedes all
 /// else on the output, and that of its own lines on the output of each desk. A refused file is reported as by
 /// [`serve_over_journal`](crate::serve_over_journal).
 pub(crate) fn serve_desks_over_journal<J: Journals, P: DeskRunner, W: Write, E: Write>(

@@ -40,7 +40,7 @@ pub(crate) struct Messages<'a> {
 
 /// Serves event lines from the input over the set, with a journal of them in the file at the path, and gives the exit status.
 ///
-/// The lines of the journal are served again first, and their answers aren't written. The recovery block precedes all else on the
+/// The lines of the journal are replayed first, and their answers aren't written. The recovery block precedes all else on the
 /// output; comments in the record follow it. A file that is no journal, or one of other documents, or damaged, is refused by a line
 /// on the output.
 // claim: served over a file; behind the block; never lost

@@ -22,12 +22,12 @@ text_fault (Some d) text is_text = rw is_text refl
 
 path_fault-some : (key : List ℕ) (ms : Members) (d : Data) (text : Option (List ℕ)) → get_member key ms ≡ Some d → as_str d ≡ text
     → ((path : List ℕ) → HasPath key ms path → ⊥) → IsKeyFault (path_key key) ms (kind_fault text)
-path_fault-some key ms d None found none refused = record { here = d; found = found; such = none }
+path_fault-some key ms d None found none refused = record { here = d; found = found; fits = none }
 path_fault-some key ms d (Some text) found is_text refused =
     record {
       here = d;
       found = found;
-      such = record { text = text; found = is_text; such = λ some short. refused text (record { text = record { found = rw found is_text; short = short }; some = some }) };
+      fits = record { text = text; found = is_text; fits = λ some short. refused text (record { text = record { found = rw found is_text; short = short }; some = some }) };
     }
 
 path_fault : (key : List ℕ) (ms : Members) (found : Option Data) → get_member key ms ≡ found → ((path : Option (List ℕ)) → MayHavePath key ms path → ⊥)

@@ -16,9 +16,9 @@ none_first w l (inr p) = l p.1
 
 pub name_refused : (key : List ℕ) (ms : Members) (wrong : EntryFault) (name : List ℕ) → HasName key ms name → IsKeyFault (needed key form.Name) ms wrong → ⊥
 name_refused key ms MissingKey name has h = HasName_missing key ms name h.1 has
-name_refused key ms WrongKind name has h = h.such name (record { text = rw h.found at has.text; valid = has.valid })
-name_refused key ms OutOfLimit name has h = h.such
-name_refused key ms (Chart offset) name has h = h.such
+name_refused key ms WrongKind name has h = h.fits name (record { text = rw h.found at has.text; valid = has.valid })
+name_refused key ms OutOfLimit name has h = h.fits
+name_refused key ms (Chart offset) name has h = h.fits
 name_refused key ms UnknownKey name has h = h
 name_refused key ms Undeclared name has h = h
 name_refused key ms Duplicate name has h = h
@@ -26,32 +26,32 @@ name_refused key ms Duplicate name has h = h
 pub optional_name_refused : (key : List ℕ) (ms : Members) (wrong : EntryFault) (name : Option (List ℕ)) → MayHaveName key ms name → IsKeyFault (optional key form.Name) ms wrong → ⊥
 optional_name_refused key ms MissingKey name has h = false≢true h.0
 optional_name_refused key ms WrongKind None has h = let none = rw has at h.found in cc none
-optional_name_refused key ms WrongKind (Some name) has h = h.such name (record { text = rw h.found at has.text; valid = has.valid })
-optional_name_refused key ms OutOfLimit name has h = h.such
-optional_name_refused key ms (Chart offset) name has h = h.such
+optional_name_refused key ms WrongKind (Some name) has h = h.fits name (record { text = rw h.found at has.text; valid = has.valid })
+optional_name_refused key ms OutOfLimit name has h = h.fits
+optional_name_refused key ms (Chart offset) name has h = h.fits
 optional_name_refused key ms UnknownKey name has h = h
 optional_name_refused key ms Undeclared name has h = h
 optional_name_refused key ms Duplicate name has h = h
 
 pub path_refused : (key : List ℕ) (ms : Members) (wrong : EntryFault) (path : Option (List ℕ)) → MayHavePath key ms path → IsKeyFault (path_key key) ms wrong → ⊥
 path_refused key ms WrongKind None has h = let none = rw has at h.found in cc none
-path_refused key ms WrongKind (Some path) has h = let found = rw h.found at has.text.found in cc (found, h.such)
+path_refused key ms WrongKind (Some path) has h = let found = rw h.found at has.text.found in cc (found, h.fits)
 path_refused key ms OutOfLimit None has h = let none = rw has at h.found in cc none
 path_refused key ms OutOfLimit (Some path) has h =
     let found = rw h.found at has.text.found in
-    let same : h.such.text ≡ path = cc (found, h.such.found) in
-    h.such.such (rw same has.some) (rw same has.text.short)
+    let same : h.fits.text ≡ path = cc (found, h.fits.found) in
+    h.fits.fits (rw same has.some) (rw same has.text.short)
 path_refused key ms MissingKey path has h = false≢true h.0
-path_refused key ms (Chart offset) path has h = h.such
+path_refused key ms (Chart offset) path has h = h.fits
 path_refused key ms UnknownKey path has h = h
 path_refused key ms Undeclared path has h = h
 path_refused key ms Duplicate path has h = h
 
 pub truth_refused : (key : List ℕ) (ms : Members) (wrong : EntryFault) (truth : Bool) → IsTruth key ms truth → IsKeyFault (optional key form.Truth) ms wrong → ⊥
 truth_refused key ms MissingKey truth has h = false≢true h.0
-truth_refused key ms WrongKind truth has h = let found = rw h.found at has in cc (found, h.such)
-truth_refused key ms OutOfLimit truth has h = h.such
-truth_refused key ms (Chart offset) truth has h = h.such
+truth_refused key ms WrongKind truth has h = let found = rw h.found at has in cc (found, h.fits)
+truth_refused key ms OutOfLimit truth has h = h.fits
+truth_refused key ms (Chart offset) truth has h = h.fits
 truth_refused key ms UnknownKey truth has h = h
 truth_refused key ms Undeclared truth has h = h
 truth_refused key ms Duplicate truth has h = h
@@ -59,12 +59,12 @@ truth_refused key ms Duplicate truth has h = h
 pub number_refused : (key : List ℕ) (ms : Members) (low high : ℕ) (wrong : EntryFault) (number : ℕ) → HasNumber key ms low high number
     → IsKeyFault (optional key (form.Number low high)) ms wrong → ⊥
 number_refused key ms low high MissingKey number has h = false≢true h.0
-number_refused key ms low high WrongKind number has h = let found = rw h.found at has.integer in cc (found, h.such)
+number_refused key ms low high WrongKind number has h = let found = rw h.found at has.integer in cc (found, h.fits)
 number_refused key ms low high OutOfLimit number has h =
     let found = rw h.found at has.integer in
-    let same : h.such.integer ≡ pos number = cc (found, h.such.found) in
-    h.such.outside number same has.at_least has.at_most
-number_refused key ms low high (Chart offset) number has h = h.such
+    let same : h.fits.integer ≡ pos number = cc (found, h.fits.found) in
+    h.fits.outside number same has.at_least has.at_most
+number_refused key ms low high (Chart offset) number has h = h.fits
 number_refused key ms low high UnknownKey number has h = h
 number_refused key ms low high Undeclared number has h = h
 number_refused key ms low high Duplicate number has h = h
@@ -74,7 +74,7 @@ pub missing_refused : (key : List ℕ) (ms : Members) (low high : ℕ) (wrong : 
 missing_refused key ms low high MissingKey missing h = false≢true h.0
 missing_refused key ms low high WrongKind missing h = let none = rw missing at h.found in cc none
 missing_refused key ms low high OutOfLimit missing h = let none = rw missing at h.found in cc none
-missing_refused key ms low high (Chart offset) missing h = h.such
+missing_refused key ms low high (Chart offset) missing h = h.fits
 missing_refused key ms low high UnknownKey missing h = h
 missing_refused key ms low high Undeclared missing h = h
 missing_refused key ms low high Duplicate missing h = h

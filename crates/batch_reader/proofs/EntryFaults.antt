@@ -22,7 +22,7 @@ name_fault : (key : List ℕ) (ms : Members) (found : Option Data) → get_membe
     → IsKeyFault (needed key form.Name) ms (missing_or_wrong found)
 name_fault key ms None missing none = (refl, missing)
 name_fault key ms (Some d) found none =
-    record { here = d; found = found; such = λ name h. none name (record { text = rw found h.text; valid = h.valid }) }
+    record { here = d; found = found; fits = λ name h. none name (record { text = rw found h.text; valid = h.valid }) }
 
 pub name_told : (key : List ℕ) (ms : Members) (spot : Spot) (fault : TableFault) → (fault ≢ Memory → (name : List ℕ) → HasName key ms name → ⊥)
     → IsToldAs spot (missing_or_wrong (get_member key ms)) fault → TellsAt spot (IsKeyFault (needed key form.Name) ms) fault
@@ -43,7 +43,7 @@ label_fault : (key : List ℕ) (ms : Members) (found : Option Data) → get_memb
     → IsKeyFault (needed key form.FreeName) ms (missing_or_wrong found)
 label_fault key ms None missing none = (refl, missing)
 label_fault key ms (Some d) found none =
-    record { here = d; found = found; such = λ name text label. none name (record { text = rw found text; label = label }) }
+    record { here = d; found = found; fits = λ name text label. none name (record { text = rw found text; label = label }) }
 
 pub label_told : (key : List ℕ) (ms : Members) (spot : Spot) (fault : TableFault) → (fault ≢ Memory → (name : List ℕ) → HasLabel key ms name → ⊥)
     → IsToldAs spot (missing_or_wrong (get_member key ms)) fault → TellsAt spot (IsKeyFault (needed key form.FreeName) ms) fault
@@ -53,7 +53,7 @@ name_or_fault : (key : List ℕ) (ms : Members) (other : List ℕ) (found : Opti
     → IsKeyFault (optional key form.Name) ms WrongKind
 name_or_fault key ms other None missing none = absurd (none other (inr (missing, refl)))
 name_or_fault key ms other (Some d) found none =
-    record { here = d; found = found; such = λ name h. none name (inl (record { text = rw found h.text; valid = h.valid })) }
+    record { here = d; found = found; fits = λ name h. none name (inl (record { text = rw found h.text; valid = h.valid })) }
 
 pub name_or_told : (key : List ℕ) (ms : Members) (other : List ℕ) (spot : Spot) (fault : TableFault) → (fault ≢ Memory → (name : List ℕ) → HasNameOr key ms other name → ⊥)
     → IsToldAs spot WrongKind fault → TellsAt spot (IsKeyFault (optional key form.Name) ms) fault
@@ -64,7 +64,7 @@ optional_name_fault : (key : List ℕ) (ms : Members) (found : Option Data) → 
     → IsKeyFault (optional key form.Name) ms WrongKind
 optional_name_fault key ms None missing none = absurd (none None missing)
 optional_name_fault key ms (Some d) found none =
-    record { here = d; found = found; such = λ name h. none (Some name) (record { text = rw found h.text; valid = h.valid }) }
+    record { here = d; found = found; fits = λ name h. none (Some name) (record { text = rw found h.text; valid = h.valid }) }
 
 pub optional_name_told : (key : List ℕ) (ms : Members) (spot : Spot) (fault : TableFault) → (fault ≢ Memory → (name : Option (List ℕ)) → MayHaveName key ms name → ⊥)
     → IsToldAs spot WrongKind fault → TellsAt spot (IsKeyFault (optional key form.Name) ms) fault
@@ -76,10 +76,10 @@ optional_name_told key ms spot fault refused told =
 text_fault-some : (key : List ℕ) (ms : Members) (most : ℕ) (is_needed : Bool) (d : Data) (text : Option (List ℕ)) → get_member key ms ≡ Some d → as_str d ≡ text
     → ((bytes : List ℕ) → HasText key ms most bytes → ⊥)
     → IsKeyFault (record { word = key; form = form.Text most; is_needed = is_needed }) ms (kind_fault text)
-text_fault-some key ms most is_needed d None found none refused = record { here = d; found = found; such = none }
+text_fault-some key ms most is_needed d None found none refused = record { here = d; found = found; fits = none }
 text_fault-some key ms most is_needed d (Some text) found is_text refused =
     let long : length text ≤ most → ⊥ = λ short. refused text (record { found = rw found is_text; short = short }) in
-    record { here = d; found = found; such = record { text = text; found = is_text; such = omega (arith, long) } }
+    record { here = d; found = found; fits = record { text = text; found = is_text; fits = omega (arith, long) } }
 
 text_fault : (key : List ℕ) (ms : Members) (most : ℕ) (found : Option Data) → get_member key ms ≡ found → ((text : List ℕ) → HasText key ms most text → ⊥)
     → IsKeyFault (needed key (form.Text most)) ms (value_fault as_str found)
@@ -105,12 +105,12 @@ optional_text_told key ms most spot fault refused told =
 
 number_fault-some : (key : List ℕ) (ms : Members) (low high : ℕ) (d : Data) (z : Option ℤ) → get_member key ms ≡ Some d → as_integer d ≡ z
     → ((n : ℕ) → HasNumber key ms low high n → ⊥) → IsKeyFault (needed key (form.Number low high)) ms (kind_fault z)
-number_fault-some key ms low high d None found none refused = record { here = d; found = found; such = none }
+number_fault-some key ms low high d None found none refused = record { here = d; found = found; fits = none }
 number_fault-some key ms low high d (Some z) found is_integer refused =
     record {
       here = d;
       found = found;
-      such = record {
+      fits = record {
         integer = z;
         found = is_integer;
         outside = λ n is at_least at_most. refused n (record { integer = rw (found, is_integer, is) refl; at_least = at_least; at_most = at_most });
@@ -131,8 +131,8 @@ least_fault : (key : List ℕ) (ms : Members) (high : ℕ) (wrong : EntryFault) 
     → IsKeyFault (needed key (form.Least high)) ms wrong
 least_fault key ms high MissingKey h = h
 least_fault key ms high WrongKind h = h
-least_fault key ms high OutOfLimit h = record { here = h.here; found = h.found; such = inl h.such }
-least_fault key ms high (Chart offset) h = record { here = h.here; found = h.found; such = h.such }
+least_fault key ms high OutOfLimit h = record { here = h.here; found = h.found; fits = inl h.fits }
+least_fault key ms high (Chart offset) h = record { here = h.here; found = h.found; fits = h.fits }
 least_fault key ms high UnknownKey h = h
 least_fault key ms high Undeclared h = h
 least_fault key ms high Duplicate h = h
@@ -149,7 +149,7 @@ above_fault-found key ms high least greatest (Some d) found h k above =
     record {
       here = d;
       found = found;
-      such = inr (record {
+      fits = inr (record {
         number = least;
         found = rw found at h.integer;
         other = greatest;
@@ -166,7 +166,7 @@ above_fault key ms high least greatest h k above = above_fault-found key ms high
 
 truth_fault-some : (key : List ℕ) (ms : Members) (d : Data) (b : Option Bool) → get_member key ms ≡ Some d → as_bool d ≡ b
     → ((truth : Bool) → IsTruth key ms truth → ⊥) → IsKeyFault (optional key form.Truth) ms WrongKind
-truth_fault-some key ms d None found none refused = record { here = d; found = found; such = none }
+truth_fault-some key ms d None found none refused = record { here = d; found = found; fits = none }
 truth_fault-some key ms d (Some b) found is_truth refused = absurd (refused b (rw found is_truth))
 
 truth_fault : (key : List ℕ) (ms : Members) (found : Option Data) → get_member key ms ≡ found → ((truth : Bool) → IsTruth key ms truth → ⊥)
@@ -188,9 +188,9 @@ count_of_names R (item d ds) (x ∷ xs) h = omega (arith, count_of_names R ds xs
 
 names_fault-some : (key : List ℕ) (ms : Members) (least most : ℕ) (d : Data) (list : Option Items) → get_member key ms ≡ Some d → as_array d ≡ list
     → ((names : List (List ℕ)) → HasNames key ms names → ⊥) → IsKeyFault (needed key (form.Names least most)) ms WrongKind
-names_fault-some key ms least most d None found none refused = record { here = d; found = found; such = rw none tt }
+names_fault-some key ms least most d None found none refused = record { here = d; found = found; fits = rw none tt }
 names_fault-some key ms least most d (Some items) found is_list refused =
-    record { here = d; found = found; such = rw is_list (λ names listed. refused names (record { items = items; found = rw found is_list; listed = listed })) }
+    record { here = d; found = found; fits = rw is_list (λ names listed. refused names (record { items = items; found = rw found is_list; listed = listed })) }
 
 names_fault : (key : List ℕ) (ms : Members) (least most : ℕ) (found : Option Data) → get_member key ms ≡ found → ((names : List (List ℕ)) → HasNames key ms names → ⊥)
     → IsKeyFault (needed key (form.Names least most)) ms (missing_or_wrong found)
@@ -208,7 +208,7 @@ count_fault-found : (key : List ℕ) (ms : Members) (least most : ℕ) (names : 
 count_fault-found key ms least most names None missing h outside = let none = rw missing at h.found in absurd (cc none)
 count_fault-found key ms least most names (Some d) found h outside =
     let count = count_of_names IsNameItem h.items names h.listed in
-    record { here = d; found = found; such = record { items = h.items; found = rw found at h.found; such = λ at_least at_most. outside (rw count at at_least) (rw count at at_most) } }
+    record { here = d; found = found; fits = record { items = h.items; found = rw found at h.found; fits = λ at_least at_most. outside (rw count at at_least) (rw count at at_most) } }
 
 pub count_fault : (key : List ℕ) (ms : Members) (least most : ℕ) (names : List (List ℕ)) → HasNames key ms names
     → (least ≤ length names → length names ≤ most → ⊥) → IsKeyFault (needed key (form.Names least most)) ms OutOfLimit
@@ -219,13 +219,13 @@ few_fault-test : (key : List ℕ) (ms : Members) (most : ℕ) (d : Data) (items 
     → IsKeyFault (optional key (form.Names 0 most)) ms (if b then OutOfLimit else WrongKind)
 few_fault-test key ms most d items true found is_list many refused =
     let above : most < count_items items = grind (arith, nat_tests, many) in
-    record { here = d; found = found; such = record { items = items; found = is_list; such = λ at_least at_most. omega (arith, above, at_most) } }
+    record { here = d; found = found; fits = record { items = items; found = is_list; fits = λ at_least at_most. omega (arith, above, at_most) } }
 few_fault-test key ms most d items false found is_list few refused =
     let within : count_items items ≤ most = grind (arith, nat_tests, few) in
     record {
       here = d;
       found = found;
-      such = rw is_list (λ names listed. refused names (record {
+      fits = rw is_list (λ names listed. refused names (record {
         items = items;
         found = rw found is_list;
         listed = listed;
@@ -235,7 +235,7 @@ few_fault-test key ms most d items false found is_list few refused =
 
 few_fault-list : (key : List ℕ) (ms : Members) (most : ℕ) (d : Data) (list : Option Items) → get_member key ms ≡ Some d → as_array d ≡ list
     → ((names : List (List ℕ)) → HasFewNames key ms most names → ⊥) → IsKeyFault (optional key (form.Names 0 most)) ms (few_names_fault most list)
-few_fault-list key ms most d None found none refused = record { here = d; found = found; such = rw none tt }
+few_fault-list key ms most d None found none refused = record { here = d; found = found; fits = rw none tt }
 few_fault-list key ms most d (Some items) found is_list refused = few_fault-test key ms most d items (nat_lt most (count_items items)) found is_list refl refused
 
 few_fault : (key : List ℕ) (ms : Members) (most : ℕ) (found : Option Data) → get_member key ms ≡ found → ((names : List (List ℕ)) → HasFewNames key ms most names → ⊥)

@@ -12,11 +12,11 @@ tells_at P Q f spot (Entry here wrong) told = (told.0, f wrong told.1)
 -- of an item to the list
 pub list_of_item : (vs : List Value) (i : ℕ) (d v : Value) → v ≡ get_or vs i d → i < length vs → (wrong : EntryFault) → IsNeedFault (view v) wrong → IsNeedsFault (items_view vs) wrong
 list_of_item vs i d v same below MissingKey h = h
-list_of_item vs i d v same below WrongKind h = record { place = i; here = view v; found = rw same (get_item-view vs i d below); such = h }
+list_of_item vs i d v same below WrongKind h = record { place = i; here = view v; found = rw same (get_item-view vs i d below); fits = h }
 list_of_item vs i d v same below UnknownKey h = h
 list_of_item vs i d v same below Undeclared h = h
 list_of_item vs i d v same below Duplicate h = h
-list_of_item vs i d v same below OutOfLimit h = record { place = i; here = view v; found = rw same (get_item-view vs i d below); such = h }
+list_of_item vs i d v same below OutOfLimit h = record { place = i; here = view v; found = rw same (get_item-view vs i d below); fits = h }
 list_of_item vs i d v same below (Chart offset) h = h
 
 -- there are too many items
@@ -27,7 +27,7 @@ too_many-found key ms most vs None missing listed many =
     let count = count_items-view vs in
     absurd (let empty = rw none at count in omega (arith, empty, many))
 too_many-found key ms most vs (Some d) found listed many =
-    record { here = d; found = found; such = record { items = items_view vs; found = listed; such = inl (rw (count_items-view vs) many) } }
+    record { here = d; found = found; fits = record { items = items_view vs; found = listed; fits = inl (rw (count_items-view vs) many) } }
 
 pub too_many_needs : (key : List ℕ) (ms : Members) (most : ℕ) (vs : List Value) → items_at key ms ≡ Some (items_view vs) → most < length vs
     → IsKeyFault (optional key (form.Needs most)) ms OutOfLimit

@@ -43,9 +43,9 @@ pub data ReadsOp : List ℕ → List ℕ → Op → Type 0 where
 
 -- offsets in a text, in order
 pub record Offsets : Type 0 where
-  -- where the numbers out of range begin
+  -- the starts of the numbers out of range
   pub outside : List ℕ
-  -- where the parentheses of `par` open
+  -- the parentheses that open each `par`
   pub pars : List ℕ
 
 abbrev pub no_offsets : Offsets

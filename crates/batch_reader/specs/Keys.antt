@@ -35,7 +35,7 @@ optional word value = record { word = word; form = value; is_needed = false }
 abbrev pub tables : List ℕ → Key
 tables word = optional word form.Tables
 
--- of an input or a parameter
+-- the keys of an input or a parameter
 abbrev pub quantity_keys : List Key
 quantity_keys =
     needed (codes "name") form.FreeName

@@ -168,7 +168,7 @@ abbrev pub HasUndeclaredReport : List Name → Acts → TableKind → ℕ → Ty
 HasUndeclaredReport outputs acts table_kind.Phase entry = FailsFirst (λ front. list_all (reports_among outputs) front ≡ true) acts.phases.items entry
 HasUndeclaredReport outputs acts _ entry = ⊥
 
--- of the acts of a table this one is the first that reserves a unit procedure twice, or another than these
+-- this one is the first of the acts of a table that reserves a unit procedure twice, or another than these
 abbrev pub IsReserveFaultOf : List Name → List Act → ℕ → EntryFault → Type 0
 IsReserveFaultOf names acts entry Duplicate = FailsFirst (λ front. list_all reserves_once front ≡ true) acts entry
 IsReserveFaultOf names acts entry Undeclared = FailsFirst (λ front. list_all (reserves_among names) front ≡ true) acts entry

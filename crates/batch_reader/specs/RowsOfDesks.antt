@@ -79,7 +79,7 @@ UnitIsNoDesk = HasUnknownTable (member (codes "unit") (string (codes "R1")) no_m
 abbrev pub NoDeskIsTooFew : Type 0
 NoDeskIsTooFew = HasWrongDeskCount [] 0 OutOfLimit × (¬ HasWrongDeskCount [] 1 OutOfLimit)
 
--- of two desks of one name the second is reported, and not the first
+-- the second of two desks of one name is reported, and not the first
 abbrev pub SecondNameIsTold : Type 0
 SecondNameIsTold = (one two : Desk) → one.name ≡ codes "A" → two.name ≡ codes "A"
     → HasDeskNameTwice (one ∷ two ∷ []) 1 Duplicate × (¬ HasDeskNameTwice (one ∷ two ∷ []) 0 Duplicate)

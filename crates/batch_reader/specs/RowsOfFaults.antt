@@ -44,7 +44,7 @@ UnitBesideRoleIsUnknown = IsFaultOfTable (one_unit_procedure (λ rest. on_unit (
 abbrev pub RoleAloneIsKnown : Type 0
 RoleAloneIsKnown = ¬ IsFaultOfTable (one_unit_procedure for_role) table_kind.UnitProcedure 0 UnknownKey
 
--- with neither of them one is missing, and no key is unknown
+-- one is missing if there is neither, and no key is unknown
 abbrev pub NeitherIsMissing : Type 0
 NeitherIsMissing =
     IsFaultOfTable (one_unit_procedure (λ rest. rest)) table_kind.UnitProcedure 0 MissingKey
@@ -61,7 +61,7 @@ FirstModuleIsUndeclared = (m : Module) → m.unit ≡ Some (codes "MIXER") → H
 abbrev pub NoLaterModuleIsTold : Type 0
 NoLaterModuleIsTold = (m : Module) → m.unit ≡ Some (codes "MIXER") → ¬ HasUndeclaredUnit (record { units = []; modules = m ∷ []; shared = [] }) table_kind.Module 1
 
--- of 65 tables where 64 may stand the last one is too many, and of 64 none
+-- the last of 65 tables is too many where 64 may stand, and none of 64 is
 abbrev pub CountsAreTold : Type 0
 CountsAreTold = IsCountFault 1 64 65 64 × (¬ IsCountFault 1 64 65 65) × (¬ IsCountFault 1 64 64 64)
 

@@ -30,13 +30,13 @@ pub record HasItem (Is : Data → Type 0) (items : Items) : Type 0 where
   pub place : ℕ
   pub here : Data
   pub found : get_item place items ≡ Some here
-  pub such : Is here
+  pub fits : Is here
 
 -- the value is a text that has this property
 pub record IsTextThat (Is : List ℕ → Type 0) (d : Data) : Type 0 where
   pub text : List ℕ
   pub found : as_str d ≡ Some text
-  pub such : Is text
+  pub fits : Is text
 
 -- ---- needs
 
@@ -99,7 +99,7 @@ pub record IsNumberAbove (key : List ℕ) (table : Members) (d : Data) : Type 0 
 pub record IsListThat (Is : Items → Type 0) (d : Data) : Type 0 where
   pub items : Items
   pub found : as_array d ≡ Some items
-  pub such : Is items
+  pub fits : Is items
 
 -- the text is too long, or of a chart but for a number that is out of range
 abbrev pub IsChartOutOfLimits : List ℕ → Type 0
@@ -140,7 +140,7 @@ HasChartFaultAt _ offset d = ⊥
 pub record HasValue (Is : Data → Type 0) (word : List ℕ) (table : Members) : Type 0 where
   pub here : Data
   pub found : get_member word table ≡ Some here
-  pub such : Is here
+  pub fits : Is here
 
 -- this is wrong with the table at the key
 abbrev pub IsKeyFault : Key → Members → EntryFault → Type 0

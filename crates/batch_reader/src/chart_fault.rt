@@ -11,7 +11,7 @@ pub enum ChartFault {
     /// The length of the longest prefix of the text that begins some chart, whatever its numbers.
     #[error("not a chart at byte {0}")]
     NotAChart(usize),
-    /// Where the first number out of range begins, in a text that is else a chart.
+    /// The start of the first number out of range, in a text that is a chart but for that.
     #[error("the number at byte {0} is out of range")]
     OutOfRange(usize),
     #[error("out of memory")]

@@ -9,9 +9,9 @@ use batch_recipe::{MAX_TURNS, MAX_VALUE};
 /// The first of each kind of offset.
 #[derive(Clone, Copy)]
 pub struct Firsts {
-    /// Where the first number out of range begins.
+    /// The start of the first number out of range.
     pub outside: Option<usize>,
-    /// Where the first `par` opens.
+    /// The parenthesis that opens the first `par`.
     pub par: Option<usize>,
 }
 

@@ -3,9 +3,9 @@ ghost use Rattle.batch_reader.specs.RowsOfFaults.{UnitLacksItsName, NoSecondUnit
 
 /// Worked rows:
 ///
-/// - a unit without its name is reported as one; no other unit is, and no unknown key;
+/// - `[[unit]]` without `name`: a key is missing in the first unit; no other unit is reported, and no key is unknown;
 /// - a unit procedure has `unit` or `role`, and not both;
-/// - the first byte of a chart that goes on is good;
+/// - the fault of `seq(ADD`, which lacks its end, isn't at the first byte;
 /// - the first module with an undeclared unit is reported, and no later one;
 /// - one table too many is reported at its number;
 /// - a reserved unit procedure is declared, and reserved once.

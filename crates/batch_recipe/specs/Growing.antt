@@ -132,7 +132,7 @@ levels_from (Some UnitProcedures) = UnitProcedures ∷ Operations ∷ Phases ∷
 levels_from (Some Operations) = Operations ∷ Phases ∷ []
 levels_from (Some Phases) = Phases ∷ []
 
--- below the unit procedure o
+-- the entries that labels stand for below the unit procedure o
 abbrev pub grown_named : Acts → List LabelTable → ℕ → Labels
 grown_named acts [] o name n j u i = bare_entries n u i
 grown_named acts (level ∷ levels) o name n j u i = elim (number_in (table_at acts level) name) [
@@ -143,7 +143,7 @@ grown_named acts (level ∷ levels) o name n j u i = elim (number_in (table_at a
   ]
 ]
 
--- Of a recipe's acts, from a level on
+-- The entries of a recipe's acts, from a level on
 
 abbrev pub told_from : Acts → Option LabelTable → LabelConditions
 told_from acts level = conditions_named acts (levels_from level)

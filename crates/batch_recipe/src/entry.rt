@@ -30,8 +30,8 @@ pub struct Entry {
     pub child: u16,
     /// How many needs the act has, its unit and those that it reserves among them: 0 where the node is no act.
     pub needs: u16,
-    /// Of an act the unit procedure that it stands under, by its number in its table; of a `sel` the first of its branches'
-    /// conditions, and of a loop its condition, by their numbers in the outline. 0 at other nodes.
+    /// The number of the unit procedure that an act stands under, in its table; of the first condition of a `sel`'s branches, in the
+    /// outline; of a loop's condition, there too. 0 at other nodes.
     pub detail: usize,
 }
 

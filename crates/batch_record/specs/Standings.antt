@@ -43,14 +43,14 @@ pub record EndsLine (at : ℕ) (bytes : List ℕ) : Type 0 where
   pub feed : get_or bytes at 0 ≡ 10
   pub before : HasNoFeed (take at bytes)
 
--- whatever was read before, the line ends with these bytes, or is none of a record, whatever follows it
+-- the line ends with these bytes, or is none of a record, whatever was read before and whatever follows it
 abbrev pub Ends : Reading → List ℕ → Result (Unit {0}) StatusFault → Reading → Type 0
 Ends old end result new =
     (read : List ℕ) → HasRead old read → HasNoFeed end
     → MatchResult result (λ _. HasRead new (read ++ (end ++ 10 ∷ [])))
     (λ fault. (number : ℕ) → fault ≡ status_faults.NoRecord number → (rest : List ℕ) → IsRefusedAt (read ++ (end ++ 10 ∷ rest)) number)
 
--- whatever was read before, a piece more was read, or a line in it is none of a record
+-- a piece more was read, or a line in it is none of a record, whatever was read before
 abbrev pub Feeds : Reading → List ℕ → Result (Unit {0}) StatusFault → Reading → Type 0
 Feeds old piece result new =
     (read : List ℕ) → HasRead old read

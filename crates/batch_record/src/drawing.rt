@@ -8,23 +8,23 @@ use crate::timeline::{Resource, Timeline};
 use batch_text::Name;
 use std::alloc::{AllocError, Global};
 
-/// Above the first row, in points.
+/// The top of the first row, in points.
 const TOP: u64 = 10;
-/// From one lane to the next, and from one row to the next besides.
+/// The distance between lanes, and the further distance between rows.
 const LANE: u64 = 20;
 
 const GAP: u64 = 8;
-/// From a row's top to the line that its text stands on, and from the last row's end to that of the axis and that of the legend.
+/// The distance from a row's top to the line that its text stands on; and from the last row's end to that of the axis, and of the legend.
 const BASE: u64 = 13;
 
 const AXIS_BASE: u64 = 14;
 
 const LEGEND_BASE: u64 = 36;
-/// Below the last row, and after the axis.
+/// The room below the last row, and after the axis.
 const FOOT: u64 = 48;
 
 const MARGIN: u64 = 40;
-/// From the left edge to the unit of the axis, and from a name to the start of the axis.
+/// The distance from the left edge to the unit of the axis, and from a name to the start of the axis.
 const BESIDE: u64 = 8;
 /// How wide a letter of a name and a digit in a bar are, at most, and for how many letters there is always room.
 const LETTER: u64 = 9;
@@ -148,7 +148,7 @@ fn row_tops(
     Ok((tops, end))
 }
 
-/// Where the rows of units begin, or those of the other resources, and where the last of them ends.
+/// Puts the tops of the rows of units, or of those of the other resources, and gives the end of the last one.
 fn put_tops(
     tops: &mut [u64],
     resources: &[Resource],

@@ -10,5 +10,5 @@ use Rattle.batch_record_laws.specs.Procedures.{IsProcedure}
 pub record IsOfDocuments (setup : Setup) : Type 0 where
   -- a unit has one user at a time
   pub exclusive : (unit : Name) → IsTrue (is_among setup.units unit) → setup.capacity unit ≡ 1
-  -- whatever units take the roles
+  -- recipes are procedures, whatever units take the roles
   pub procedures : Each (λ master. (bound : Binding) → IsProcedure (master.control bound).procedure) setup.recipes

@@ -5,6 +5,6 @@ use Rattle.batch_recipe.specs.declared.recipe.Recipe as document
 use Rattle.batch_model.specs.Setups.{setup_of}
 use Rattle.batch_record_laws.specs.Premises.{IsOfDocuments}
 
--- whatever the cell and the recipes, the conditions of the laws beside clearance hold of them
+-- the conditions of the laws beside clearance hold of any cell and recipes
 abbrev pub SetsAreDocuments : Type 0
 SetsAreDocuments = (cell : equipment.Cell) (recipes : List document.Recipe) → IsOfDocuments (setup_of cell recipes)

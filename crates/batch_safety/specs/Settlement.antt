@@ -29,7 +29,7 @@ IsAtWork plant holder =
     × IsAtOrAbove holder.1 step.place))
 
 pub record WaitsForSomething (setup : Setup) (plant : Plant) : Type 0 where
-  -- of each resource that is asked for, less is free than its oldest ask wants, and somebody holds it
+  -- each resource that is asked for has less free than its oldest ask wants, and somebody holds it
   pub held : (resource : Name) (oldest : Share) (later : List Share) → askers plant resource ≡ oldest ∷ later
       → (setup.capacity resource < units_in (holders plant resource) + oldest.units)
       × ((share : Share) × Has (holders plant resource) share)

@@ -14,7 +14,7 @@ use Rattle.batch_serve.specs.declared.desk.Desk.{Desk}
 use Rattle.batch_serve.specs.declared.rounds.Writer.{Writer}
 use Rattle.batch_serve.specs.declared.desk_server.DeskServer.{DeskServer}
 
--- the start of a server: its set, its machine's state, the kept text and the record; and whether its lines are served again
+-- the start of a server: its set, its machine's state, the kept text and the record; and whether its lines are replayed
 pub record Beginning : Type 0 where
   pub set : ClearedSet
   pub plant : Plant

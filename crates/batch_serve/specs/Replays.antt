@@ -15,7 +15,7 @@ AnswersWell c old (Ok None) said new = (said ≡ silence) × (new ≡ old)
 AnswersWell c old (Err fault) said new = (said ≡ refusal fault) × (new ≡ old)
 AnswersWell c old (Ok (Some event)) said new = (outs : List Out) × Takes c old event outs new × (said ≡ handled event outs)
 
--- from old, these lines lead to this exchange, with memory for each, and the machine goes on to new
+-- these lines lead from old to this exchange, with memory for each, and the machine goes on to new
 abbrev pub WellServed : Setup → Plant → List (List ℕ) → Exchange → Plant → Type 0
 WellServed c old [] said new = (said ≡ silence) × (new ≡ old)
 WellServed c old (line ∷ lines) said new =

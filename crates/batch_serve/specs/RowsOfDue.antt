@@ -19,7 +19,7 @@ abbrev pub LinkSeesItsOrders : Type 0
 LinkSeesItsOrders =
     (is_due false (Some (codes "R1")) (codes "start 1 0.0.0.0 R1 ADD X=5") ≡ true) × (is_due true (Some (codes "R1")) (codes "send 12 0.0.0.0 R1 ADD hold") ≡ true)
 
--- of no other unit, also one whose name begins alike, and of no other move
+-- no line of another unit is due, also of one whose name begins alike, and none of another move
 abbrev pub LinkSeesNoOther : Type 0
 LinkSeesNoOther =
     (is_due true (Some (codes "R2")) (codes "start 1 0.0.0.0 R1 ADD") ≡ false) × (is_due true (Some (codes "R")) (codes "start 1 0.0.0.0 R1 ADD") ≡ false)

@@ -2,7 +2,7 @@
 use Rattle.std.specs.Prelude.{ℕ, [], ◌∷◌, true, false}
 use Rattle.batch_serve.specs.Waits.{IsAccount}
 
--- of the lines 1, 2, 3 the first was sent, and the others are queued
+-- the first of the lines 1, 2, 3 was sent, and the others are queued
 abbrev pub FrontIsTold : Type 0
 FrontIsTold = IsAccount {T = ℕ} (1 ∷ 2 ∷ 3 ∷ []) (1 ∷ []) (record { lines = 2 ∷ 3 ∷ []; lag = 4; is_cut = false })
 

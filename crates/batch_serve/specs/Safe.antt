@@ -14,7 +14,7 @@ use Rattle.batch_wire.specs.Transcript.{whole_lines, Exchange, Transcript}
 use Rattle.batch_wire.specs.Written.{AppendsBeginning}
 use Rattle.batch_serve.specs.Settled.{IsSettled}
 
--- from the opening the lines may lead to this exchange and this plant: its outs are the machine's record of its events, and that
+-- the lines may lead from the opening to this exchange and this plant: its outs are the machine's record of its events, and that
 -- record is safe
 pub record IsSafeTranscript (c : Setup) (lines : List (List ℕ)) (said : Exchange) (new : Plant) : Type 0 where
   pub transcript : Transcript c opening lines said new

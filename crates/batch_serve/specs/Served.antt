@@ -9,7 +9,7 @@ use Rattle.batch_serve.specs.Replays.{ShowsNoWant}
 use Rattle.batch_serve.specs.Safe.{IsSafeTranscript}
 use Rattle.batch_serve.specs.Runs.{Run}
 
--- from the state old, the run's lines got this answer, and the machine came to the state new
+-- the run's lines got this answer in the state old, and the machine came to the state new
 pub record IsRunAnswered (c : Setup) (old : Plant) (run answer : Run) (new : Plant) : Type 0 where
   pub said : Exchange
   pub transcript : Transcript c old (lines_of run.text) said new

@@ -22,7 +22,7 @@ pub record SettlesBetween (c : Setup) (old : Plant) (front others : List (List �
   pub after : Transcript c mid others then_said new
   pub tells : said ≡ followed_by first then_said
 
--- from a settled plant the machine is settled after each line
+-- the machine is settled after each line, if it begins with a settled plant
 abbrev pub TranscriptsSettle : Type 0
 TranscriptsSettle =
     (c : Setup) (old new : Plant) (front others : List (List ℕ)) (said : Exchange) → IsSettled c old

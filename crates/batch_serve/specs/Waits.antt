@@ -21,7 +21,7 @@ cut_off w = record w { lines = []; is_cut = true }
 abbrev pub IsLate : {T : Type 0} → Waits T → Type 0
 IsLate w = w.lag < length w.lines
 
--- of all lines for the desk these were sent to it: they are a prefix; and unless the desk is cut, the others are queued
+-- a prefix of all lines for the desk was sent to it, and unless the desk is cut, the others are queued
 pub record IsAccount {T : Type 0} (all told : List T) (w : Waits T) : Type 0 where
   pub rest : List T
   pub begins : all ≡ told ++ rest

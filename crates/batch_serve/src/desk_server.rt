@@ -79,8 +79,8 @@ impl DeskServer {
 
     /// Serves the lines taken since the last turn: they are kept and answered, the answers are recorded, and the desks are told.
     ///
-    /// If the lines can't be kept, or are to be served again and aren't whole, none is answered. If the record can't be written, or
-    /// there is no memory, no desk is told; nor if a line was refused for want of memory and the lines are to be served again.
+    /// If the lines can't be kept, or are to be replayed and aren't whole, none is answered. If the record can't be written, or
+    /// there is no memory, no desk is told; nor if a line was refused for want of memory and the lines are to be replayed.
     // claim: want ends a turn (turned, untold)
     pub fn turn<K: Keep, W: Write>(
         &mut self,
@@ -112,7 +112,7 @@ impl DeskServer {
     }
 }
 
-/// Checks that runs are whole lines, if lines are to be served again: in a journal others would be joined.
+/// Checks that runs are whole lines, if lines are to be replayed: in a journal others would be joined.
 ///
 /// The error is that one isn't.
 fn check_whole(is_served_again: bool, runs: &[Run]) -> Result<(), KeepFault>
@@ -135,7 +135,7 @@ fn are_whole(runs: &[Run]) -> bool
     true
 }
 
-/// Checks for refusals for want of memory, if lines are to be served again: with memory these lines would get other answers.
+/// Checks for refusals for want of memory, if lines are to be replayed: with memory these lines would get other answers.
 ///
 /// The error is that there is one.
 fn check_want(is_served_again: bool, answers: &[Run]) -> Result<(), AllocError>

@@ -193,7 +193,7 @@ fn remove_front(bytes: &mut Vec<u8>, count: usize)
     bytes.truncate(len - count);
 }
 
-/// Where the first refusal for want of memory begins, or the text ends; and whether there is one.
+/// The start of the first refusal for want of memory, or else the text's end; and whether there is one.
 fn want_or_end(text: &[u8]) -> (usize, bool)
     ensures stops { StopsAt text.now result.0 }
     ensures end { IsFalse result.1 → result.0 ≡ length text.now }
@@ -204,7 +204,7 @@ fn want_or_end(text: &[u8]) -> (usize, bool)
     }
 }
 
-/// Where the first refusal for want of memory begins.
+/// The start of the first refusal for want of memory.
 fn first_want(text: &[u8]) -> Option<usize>
     ensures { MatchOption result (StopsAt text.now (length text.now)) (StopsAt text.now) }
 {

@@ -15,7 +15,7 @@ pub trait Keep {
     /// The text that it keeps.
     ghost kept: { Self → List ℕ };
 
-    /// The kept lines are served again after a crash, so that want of memory must end the program before a desk is told of it.
+    /// The kept lines are replayed after a crash, so that want of memory must end the program before a desk is told of it.
     ghost again: { Bool };
 
     /// Keeps the lines of a turn, as one group. At Ok they are safe.
@@ -26,7 +26,7 @@ pub trait Keep {
         ensures unkept { is_safe self.new → OnErr result (kept self.new ≡ kept self.old) }
         ensures stays { is_safe self.new → is_safe self.old };
 
-    /// Whether its lines are served again.
+    /// Whether its lines are replayed.
     fn is_served_again(&self) -> bool
         ensures { result ≡ again };
 }

@@ -21,7 +21,7 @@ pub fn transcripts_are_safe(cleared: &Cleared)
 
 /// After a transcript from the opening of a cleared set nobody waits in vain.
 ///
-/// Of each resource that is asked for less is free than its oldest ask wants. Every chain of waiting ends at a holder that is at work.
+/// Each resource that is asked for has less free than its oldest ask wants. Every chain of waiting ends at a holder that is at work.
 // claim: transcripts not in vain
 pub fn transcripts_leave_nobody_in_vain(cleared: &Cleared)
     ensures { TranscriptsLeaveNobodyInVain cleared.now }
@@ -35,7 +35,7 @@ pub fn transcripts_settle()
     ensures { TranscriptsSettle }
 {}
 
-/// In which states a batch counts among those that are neither complete, stopped nor aborted.
+/// The states in which a batch counts as unfinished: those that are neither complete, stopped nor aborted.
 // claim: states of unfinished batches
 pub fn unfinished_rows()
     ensures { UnfinishedRows }

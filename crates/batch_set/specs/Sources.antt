@@ -20,7 +20,7 @@ use Rattle.batch_set.specs.declared.linked.LinkedRecipe.{LinkedRecipe}
 use Rattle.batch_set.specs.declared.linked.Source.{Source}
 use Rattle.batch_set.specs.declared.linked.Source.TheVariants.{Resource, Role, Unknown}
 
--- where the roles are bound, the source is the resource with this name; an unknown one is none of the cell
+-- the source is the resource with this name, where the roles are bound; an unknown one is none of the cell
 abbrev pub IsSource : Cell → List declared.Role → Binding → Source → Name → Type 0
 IsSource cell roles bound (Resource number) name = slice_get (resources_of cell) number ≡ Some name
 IsSource cell roles bound (Role number) name = (role : declared.Role) × (slice_get roles number ≡ Some role) × (bound role.name ≡ name)
@@ -32,28 +32,28 @@ SayNeeds cell roles bound [] [] = ⊤
 SayNeeds cell roles bound (linked ∷ more) (need ∷ needs) = IsSource cell roles bound linked.source need.resource × (linked.units ≡ need.units) × SayNeeds cell roles bound more needs
 SayNeeds cell roles bound _ _ = ⊥
 
--- of each act of a recipe
+-- the numbers of the needs of each act of a recipe mean the same as their names
 abbrev pub NeedsSayNames : Type 0
 NeedsSayNames =
     (cell : Cell) (phases : CellPhases) (recipe : document.Recipe) (linked : LinkedRecipe) → IsLinked cell phases recipe linked
     → (bound : Binding) (kind : Kind) (a : Act) → act_of_kind recipe.acts kind ≡ Some a
     → SayNeeds cell recipe.roles.items bound (needs_by linked kind) (needs_with (sites bound recipe.acts) a)
 
--- of each unit procedure
+-- the source of each unit procedure is its unit
 abbrev pub UnitsSayNames : Type 0
 UnitsSayNames =
     (cell : Cell) (phases : CellPhases) (recipe : document.Recipe) (linked : LinkedRecipe) → IsLinked cell phases recipe linked
     → (bound : Binding) (k : ℕ) (a : Act) (choice : UnitChoice) → slice_get recipe.acts.unit_procedures.items k ≡ Some a → a.unit ≡ Some choice
     → IsSource cell recipe.roles.items bound (unit_procedure_source linked k) (unit_chosen bound choice)
 
--- of the candidates of each role, one after another: the units of its class
+-- the candidates of each role are the units of its class, one after another
 abbrev pub CandidatesSayNames : Type 0
 CandidatesSayNames =
     (cell : Cell) (phases : CellPhases) (recipe : document.Recipe) (linked : LinkedRecipe) → IsLinked cell phases recipe linked
     → (k : ℕ) (role : declared.Role) → slice_get recipe.roles.items k ≡ Some role
     → map (λ name. position (same_name name) (resources_of cell)) (units_of_class cell role.class) ≡ map (λ number. Some number) (row_at linked.candidates.items k)
 
--- of each phase step, on each unit that offers its phase
+-- the number of each phase step is that of its phase, on each unit that offers it
 abbrev pub PhasesSayNames : Type 0
 PhasesSayNames =
     (cell : Cell) (phases : CellPhases) → ArePhasesOf cell phases → (recipe : document.Recipe) (linked : LinkedRecipe) → IsLinked cell phases recipe linked

@@ -16,7 +16,7 @@ use std::alloc::{AllocError, Global};
 pub struct CellPhases {
     /// The name of each phase, once.
     pub names: IndexSet<Name>,
-    /// Of each name, and of each unit, the number of the phase among those that the unit offers. None where it doesn't offer it.
+    /// The number of each name's phase on each unit, among those that the unit offers. None if the unit doesn't offer it.
     pub numbers: Vec<Vec<Option<u16>>>,
 }
 

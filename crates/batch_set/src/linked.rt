@@ -44,9 +44,9 @@ pub struct LinkedRecipe {
     pub unit_procedures: Vec<Vec<LinkedNeed>>,
     pub operations: Vec<Vec<LinkedNeed>>,
     pub phases: Vec<Vec<LinkedNeed>>,
-    /// Of each role the numbers of the units that may take it, in the order of the cell.
+    /// The numbers of the units that may take each role, in the order of the cell.
     pub candidates: Vec<Vec<u16>>,
-    /// Of each phase step the number of its phase among the phases of the cell. None where no unit offers it.
+    /// The number of each phase step's phase among the phases of the cell. None if no unit offers it.
     pub runs: Vec<Option<usize>>,
 }
 

@@ -2,7 +2,7 @@
 use Rattle.std.specs.Prelude.{◌≡◌, ◌<◌, ◌≤◌, ◌+◌, ◌*◌, ◌/◌, ◌%◌, ℕ, List, length, Bool, true, false, Option, Some, None, slice_index}
 use Rattle.std.specs.Int.{bit_at}
 
--- of 64 nodes those that show the sign
+-- those of 64 nodes that show the sign
 abbrev pub set_of : List ℕ → ℕ → ℕ → ℕ
 set_of words word sign = slice_index words (word * 32 + sign)
 

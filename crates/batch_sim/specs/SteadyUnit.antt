@@ -10,7 +10,7 @@ use Rattle.batch_sim.specs.declared.order.Order.TheVariants.{Start, Send}
 use Rattle.batch_sim.specs.declared.steady_phase.SteadyPhase.{SteadyPhase}
 
 pub record SteadyView : Type 0 where
-  -- by their numbers
+  -- the phases, by their numbers
   pub phases : List SteadyPhase
   -- how many ticks a phase runs
   pub ticks : ℕ
@@ -63,7 +63,7 @@ report_of_end Stopped = reports.Stopped
 report_of_end Aborted = reports.Aborted
 report_of_end _ = reports.Done
 
--- of the phases that end now, the one with the least number does so and reports it
+-- the phase with the least number among those that end now does so and reports it
 abbrev pub Reports : List SteadyPhase → Option (ℕ × Report) → List SteadyPhase → Type 0
 Reports old answer new =
     elim (position is_report_due old) [

@@ -168,11 +168,11 @@ LeavesOut plant (report unit name word outputs) output = IsFirstLeftOut plant un
 LeavesOut plant _ output = ⊥
 
 -- the cause of a refusal:
--- - moves pend only if there is a next one;
--- - the output is the first that is left out;
--- - a binding is bad only if the recipe's roles aren't bound by it;
--- - the plant is full only at a limit;
--- - memory is wanted by a create alone
+-- - E10 comes only while a move is possible;
+-- - E13 only of the first output that a live phase leaves out;
+-- - E12 only of a binding that doesn't bind the recipe's roles;
+-- - E8 only at a limit;
+-- - E11, want of memory, only of a create
 abbrev pub HasCause : Setup → Plant → Event → Refusal → Type 0
 HasCause setup plant event moves_pending = next setup plant ≡ None → ⊥
 HasCause setup plant event (output_left_out output) = LeavesOut plant event output

@@ -20,7 +20,7 @@ pub fn settlings_end()
     ensures { SettlingsEnd }
 {}
 
-/// From every plant that is led to, moves lead to one with no next move.
+/// Every plant that is led to comes by moves to one with no next move.
 // claim: plants come to rest
 pub fn plants_come_to_rest()
     ensures { PlantsComeToRest }

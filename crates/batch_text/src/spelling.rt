@@ -1,4 +1,4 @@
-//! Where a name keeps its bytes.
+//! The bytes of a name, and where it keeps them.
 ghost use Rattle.std.specs.Prelude.{◌≡◌, ◌≤◌, length, nat_eq, IfOk};
 ghost use Rattle.std.specs.Cmp.Lexicographic.{pointwise};
 ghost use Rattle.batch_text.specs.Spelling.{letters, IsWithinRoom};

@@ -138,15 +138,15 @@ pub data IsDone (gives : Gives) (request : Request) (quiet : Bool) (output error
   serves : (source : Source) (set : ClearedSet)
       → request ≡ serve source → IsSetOf gives source set → IsUnwritten output → IsUnwritten errors
       → IsDone gives request quiet output errors (Serves set quiet)
-  -- with comments in the record
+  -- serving with comments in the record
   remarks : (source : Source) (set : ClearedSet) (comments : Comments)
       → request ≡ remark source comments.echo comments.times → IsSetOf gives source set → IsUnwritten output → IsUnwritten errors
       → IsDone gives request quiet output errors (Remarks set quiet comments)
-  -- with a journal at this path, which names the set by the digits of its documents
+  -- serving over a journal at this path, which names the set by the digits of its documents
   keeps : (cell certificate : Text) (recipes : List Text) (journal : String Global) (digested : Digested) (comments : Comments)
       → request ≡ keep (string_bytes journal) cell certificate recipes comments.echo comments.times → AreDigested gives cell certificate recipes digested.set digested.documents.text
       → IsUnwritten output → IsUnwritten errors → IsDone gives request quiet output errors (courses.Keeps digested quiet journal comments)
-  -- with a journal if a path names one
+  -- serving desks, over a journal if a path names one
   serves_desks : (journal : Option (String Global)) (path cell certificate : Text) (recipes : List Text) (served : DeskSet) (times : Bool)
       → request ≡ serve_desks (option_map string_bytes journal) path cell certificate recipes times
       → AreDesksCleared gives path cell certificate recipes served.desks served.digested.set served.digested.documents.text

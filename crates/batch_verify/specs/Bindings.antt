@@ -33,6 +33,6 @@ abbrev pub binding_count : equipment.Cell → List Role → ℕ
 binding_count cell [] = 1
 binding_count cell (role ∷ roles) = max (length (units_of_class cell role.class)) (binding_count cell roles)
 
--- of each role the number of the unit that takes it
+-- the number of the unit that takes each role
 abbrev pub takers_of : equipment.Cell → Binding → List Role → List (Option ℕ)
 takers_of cell bound roles = map (λ role. position (same_name (bound role.name)) (resources_of cell)) roles

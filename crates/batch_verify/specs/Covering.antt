@@ -58,7 +58,7 @@ abbrev pub IsMetInEach : Setup → Option Ranking → document.Recipe → (Bindi
 IsMetInEach setup ranking recipe Looked node rule =
     (bound : Binding) → Looked bound → (x : Part) → slice_get (bound_parts_of recipe bound) node ≡ Some x → Meets setup ranking (bound_tree bound recipe.acts) rule x
 
--- whatever units are tried for the roles, each node meets the rules that it meets in bindings that are enough
+-- each node meets in every tried binding the rules that it meets in bindings that are enough
 abbrev pub NumberedBindingsSuffice : Type 0
 NumberedBindingsSuffice =
     (cell : equipment.Cell) (recipes : List document.Recipe) (recipe : document.Recipe) → are_kinds recipe.acts ≡ true → are_roles recipe.roles.items recipe.acts ≡ true

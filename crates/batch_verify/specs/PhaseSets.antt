@@ -72,7 +72,7 @@ own_phases steps _ = []
 abbrev pub AreApartAs : Tree → Bool → Type 0
 AreApartAs here apart = (branches : Trees) → here ≡ par branches → IsTrue apart ↔ BranchesRunApart branches
 
--- of the tree at a node: its phases, and whether its branches run apart if it is a `par`
+-- the phases of the tree at a node, and whether its branches run apart if it is a `par`
 pub record IsOfTree (acts : Acts) (x : Node) (tree : TreePhases) : Type 0 where
   pub set : IsSetOf acts.phases.items (phase_names (phases x.here)) tree.set
   pub apart : AreApartAs x.here tree.apart

@@ -18,9 +18,9 @@ use std::alloc::{AllocError, Global};
 pub(crate) enum Trial<'a> {
     /// The candidate with this number takes each role.
     Numbered(u16),
-    /// By these ranks the role with this name is taken at its highest one, and each other role at its lowest.
+    /// The role with this name is taken at its highest one of these ranks, and each other role at its lowest.
     Raised(&'a Name, Option<&'a [u32]>),
-    /// By these ranks each role is taken at its highest one, or each at its lowest.
+    /// Each role is taken at its highest one of these ranks, or each at its lowest.
     Leveled(bool, Option<&'a [u32]>),
 }
 
@@ -104,7 +104,7 @@ fn ranks_or_none(ranks: Option<&[u32]>) -> &[u32]
     }
 }
 
-/// Of the candidates the first that has the greatest rank, or the least one.
+/// The first candidate with the greatest rank, or with the least one.
 fn extreme_of(candidates: &[u16], ranks: &[u32], is_greatest: bool) -> Option<u16>
     ensures { result ≡ extreme (rank_at ranks.now) is_greatest candidates.now }
 {

@@ -1,4 +1,4 @@
-//! The places that were written last, kept for the next ones.
+//! A cache of the places that were written last.
 ghost use Rattle.std.specs.Prelude.{◌<◌};
 ghost use Rattle.batch_verify.specs.ClearedSet.{ClearedSet};
 ghost use Rattle.batch_wire.specs.Known.{AreKnown};
@@ -7,10 +7,10 @@ use crate::line_room::LineRoom;
 use crate::recipe_places::RecipePlaces;
 use crate::site::Site;
 
-/// The number of recipes whose places are kept: as many as a cell may have units, so as many as may run at once with a unit each.
+/// The number of recipes with a cache entry. A cell has at most 64 units, so at most 64 recipes run on units at once.
 const RECIPES: usize = 64;
 
-/// For some recipes the place that was written last. Recipes whose numbers are the same modulo 64 share one, in turn.
+/// The cache: an entry has the place of a recipe that was written last. Recipes whose numbers are the same modulo 64 share one, in turn.
 #[derive(Drop)]
 pub struct KnownPlaces {
     pub(crate) recipes: [RecipePlaces; RECIPES],
@@ -19,7 +19,7 @@ pub struct KnownPlaces {
 }
 
 impl KnownPlaces {
-    /// No place is known yet.
+    /// No place is cached yet.
     pub fn new() -> KnownPlaces
         ensures { (cleared : ClearedSet) → AreKnown cleared result }
     {
@@ -30,7 +30,7 @@ impl KnownPlaces {
     }
 }
 
-/// The index at which the places of a site's recipe are kept.
+/// The index of the cache entry of a site's recipe.
 pub(crate) fn seat_of(site: Option<Site>) -> usize
     ensures { result < 64 }
 {

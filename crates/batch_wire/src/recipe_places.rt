@@ -1,4 +1,4 @@
-//! The place of a recipe that was written last, kept for the next ones.
+//! A cache entry: the place of a recipe that was written last.
 ghost use Rattle.std.specs.Prelude.{◌≡◌, ◌≤◌, ◌<◌, ◌++◌, ℕ, List, IfSome, IsTrue, Some, codes, decimal, drop, length, take};
 ghost use Rattle.batch_recipe.specs.Texts.{place_text};
 ghost use Rattle.batch_engine.specs.Names.{recipe_place_at};
@@ -14,13 +14,13 @@ use batch_recipe::{Entry, Recipe};
 use batch_verify::Cleared;
 use itoa::Buffer;
 
-/// How many nodes are kept: more than lie above one another if forms nest as deep as they may.
+/// How many nodes are cached: more than lie above one another if forms nest as deep as they may.
 const MAX_DEPTH: usize = 192;
 
 /// The start of the text of a place. Before it are a batch's digits, at most 20, and a space.
 const PLACE_START: usize = 24;
 
-/// The greatest end of the text of a place that is kept.
+/// The greatest end of the text of a cached place.
 const MAX_PLACE_END: usize = 408;
 
 /// The nodes from a recipe's root to the one whose place was written last, and the text of that place, which begins with the
@@ -32,7 +32,7 @@ pub(crate) struct RecipePlaces {
     /// The start of these digits.
     start: usize,
     recipe: u16,
-    /// How many nodes are kept.
+    /// How many nodes are cached.
     depth: usize,
     path: [Known; MAX_DEPTH],
     pub(crate) text: [u8; MAX_PLACE_END],
@@ -46,7 +46,7 @@ struct Known {
 }
 
 impl RecipePlaces {
-    /// No place is known yet.
+    /// No place is cached yet.
     pub(crate) fn new() -> RecipePlaces
         ensures { (cleared : ClearedSet) → AreKnownIn cleared result }
     {
@@ -60,7 +60,7 @@ impl RecipePlaces {
         }
     }
 
-    /// Makes the text of a site known, and returns its start and its end. That of no site is empty.
+    /// Caches the text of a site, and returns its start and its end. That of no site is empty.
     #[inline(always)]
     pub(crate) fn find_site(
         &mut self,
@@ -81,8 +81,8 @@ impl RecipePlaces {
         }
     }
 
-    /// Makes the place of a node known, and the batch in front of it, and returns the end of the place's text. None if there is no
-    /// room for it, or no node of this number.
+    /// Caches the place of a node, with the batch in front of it, and returns the end of the place's text. None if there is no room
+    /// for it, or no node of this number.
     #[inline(always)]
     fn find(&mut self, cleared: &Cleared, site: Site) -> Option<usize>
         requires { AreKnownIn cleared.now self.old }
@@ -114,7 +114,7 @@ impl RecipePlaces {
         }
     }
 
-    /// The end of the place of a node in the recipe whose places are known.
+    /// The end of the place of a node in the recipe of this cache entry.
     #[inline(always)]
     fn find_in(&mut self, recipe: &Recipe, node: u16) -> Option<usize>
         requires { AreKnownBy (text_of_place recipe.now) self.old }
@@ -159,8 +159,8 @@ impl RecipePlaces {
         }
     }
 
-    /// Makes the place of a node known from that of the node above it, and returns the end of its text. None if there is no
-    /// room for it.
+    /// Caches the place of a node, made from that of the node above it, and returns the end of its text. None if there is no room for
+    /// it.
     #[cycle(reach)]
     fn reach(&mut self, recipe: &Recipe, node: u16) -> Option<usize>
         requires within { node < length recipe.now.outline.entries.items }
@@ -233,7 +233,7 @@ impl RecipePlaces {
         }
     }
 
-    /// Keeps the node as the last one, unless as many are kept as may be.
+    /// Caches the node as the last one, unless the entry is full.
     fn push_node(&mut self, node: u16, end: usize)
         requires { end ≤ 408 }
         ensures { IsAddedIfRoom node end self.old self.new }

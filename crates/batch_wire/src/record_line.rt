@@ -42,8 +42,8 @@ pub fn write_out<W: Write>(out: &Out, cleared: &Cleared, writer: &mut W) -> Resu
     }
 }
 
-/// Writes the same line, in one piece if it isn't too long. The text of its place is put together from that of the recipe's last one,
-/// and is known from then on: of many lines of a batch each costs the difference of its place from the one before.
+/// Writes the same line, in one piece if it isn't too long. The text of its place is put together from the recipe's cached one, and is
+/// cached in its turn. So each of many lines of a batch costs the difference of its place from the one before.
 // claim: record lines
 pub fn write_out_knowing<W: Write>(
     out: &Out,
@@ -67,7 +67,7 @@ pub fn write_out_knowing<W: Write>(
     )
 }
 
-/// Writes the line of an out with this site, or with none, by the places that are known.
+/// Writes the line of an out with this site, or with none, by the cached places.
 #[inline(always)]
 fn write_site<W: Write>(
     out: &Out,

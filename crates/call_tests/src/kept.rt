@@ -110,7 +110,7 @@ fn begun(alloc: Global, syncs: u32) -> Result<Journal<Pages, Seven>, Fail> {
 /// How the input is served over a journal.
 #[derive(Clone, Copy)]
 enum Served {
-    /// By a read fault, with all of it in the file and nothing told.
+    /// Up to a read fault, with all of it in the file and no answer given.
     Untold,
     /// To its end, with answers held back.
     Held,

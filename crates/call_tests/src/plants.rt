@@ -74,13 +74,23 @@ pub(crate) fn run<
     Ok(fault_of(rt, alloc, demo, size, limit, gates))
 }
 
+fn fault_words(fault: PlantFault) -> &'static str {
+    match fault {
+        PlantFault::Memory => "out of memory",
+        PlantFault::Thread => "a thread can't be started",
+        PlantFault::Refused => "what the console sent was refused",
+        PlantFault::TurnsOut => "the turns ran out",
+        PlantFault::Unclosed => "a port can't be closed",
+    }
+}
+
 /// The words of the fault by which a plant ends, if there is one.
 pub(crate) fn words_of(
     alloc: Global,
     fault: Result<Option<PlantFault>, Fail>,
 ) -> Result<String, Fail> {
     match fault? {
-        Some(fault) => Ok(format!(in alloc; "{fault}")?),
+        Some(fault) => Ok(String::from_str(alloc, fault_words(fault))?),
         None => Ok(String::new(alloc)),
     }
 }

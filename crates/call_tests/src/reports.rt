@@ -104,7 +104,7 @@ driven
     )
 }
 
-/// Of a unit that has no driver nothing comes.
+/// A unit without a driver sends nothing.
 #[test]
 fn units_without_drivers(rt: HostRuntime) -> Result<(), Fail> {
     assert_scripted(

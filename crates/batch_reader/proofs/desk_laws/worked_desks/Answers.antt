@@ -84,7 +84,7 @@ lag_wrong lines outside =
                 (None, refl),
                 inr (
                   (false, refl),
-                  record { here = integer (pos lines); found = refl; such = record { integer = pos lines; found = refl; outside = outside } },
+                  record { here = integer (pos lines); found = refl; fits = record { integer = pos lines; found = refl; outside = outside } },
                 ),
               ),
             ),
@@ -112,10 +112,10 @@ returns-clause-lag c = (
 
 pub returns-clause-path : goal.returns-clause-path
 returns-clause-path c = (
-  record { here = string []; found = refl; such = record { text = []; found = refl; such = λ some short. omega (arith, some) } },
+  record { here = string []; found = refl; fits = record { text = []; found = refl; fits = λ some short. omega (arith, some) } },
   path_refused (codes "input") (member (codes "input") (string (codes "i")) no_members) OutOfLimit (Some (codes "i"))
       (record { text = record { found = refl; short = lit≤ tt }; some = lit≤ tt }),
-  record { here = integer (pos 1); found = refl; such = refl },
+  record { here = integer (pos 1); found = refl; fits = refl },
 )
 
 pub returns-clause-no_desk : goal.returns-clause-no_desk
