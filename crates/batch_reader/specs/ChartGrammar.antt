@@ -45,7 +45,7 @@ pub data ReadsOp : List ℕ → List ℕ → Op → Type 0 where
 pub record Offsets : Type 0 where
   -- the starts of the numbers out of range
   pub outside : List ℕ
-  -- the parentheses that open each `par`
+  -- the parenthesis that opens each `par`
   pub pars : List ℕ
 
 abbrev pub no_offsets : Offsets
