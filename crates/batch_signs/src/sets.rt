@@ -97,10 +97,11 @@ impl Sets {
     pub fn next(&self, wanted: u32, from: usize) -> Option<usize>
         ensures { IsFirstShown self.now wanted from result }
     {
-        if self.all & u64::from(wanted) == 0 {
+        let shown = self.all & u64::from(wanted);
+        if shown == 0 {
             return None;
         }
-        self.search(wanted, from)
+        self.search(shown as u32, from)
     }
 
     /// The first node from this one on that shows one of the signs, by a search of the words.
