@@ -56,8 +56,9 @@ fn accepts(state: State, command: Command) -> bool
     }
 }
 
-/// The state of the command's name.
-fn target(command: Command) -> State
+/// The state that the command leads to, from each state that accepts it.
+// claim: cells of the matrix
+pub fn target(command: Command) -> State
     ensures { result ≡ target command }
 {
     match command {

@@ -4,7 +4,7 @@ ghost use Rattle.batch_matrix.specs.Matrix as matrix;
 ghost use Rattle.batch_sim.specs.SteadyUnit.{end_of, is_unstarted_or_over, ordered, after_tick, unstarted, report_of_end};
 
 use crate::order::Order;
-use batch_matrix::{Command, Report, State, ends_as};
+use batch_matrix::{Report, State, ends_as, target};
 
 /// A phase of a steady unit: its state, and how many ticks it has to run.
 #[derive(Clone, Copy)]
@@ -69,21 +69,6 @@ fn is_over(state: State) -> bool
         state,
         State::Idle | State::Complete | State::Stopped | State::Aborted
     )
-}
-
-/// The state of the command's name.
-fn target(command: Command) -> State
-    ensures { result ≡ matrix.target command }
-{
-    match command {
-        Command::Start | Command::Resume => State::Running,
-        Command::Pause => State::Pausing,
-        Command::Hold => State::Holding,
-        Command::Restart => State::Restarting,
-        Command::Stop => State::Stopping,
-        Command::Abort => State::Aborting,
-        Command::Reset => State::Idle,
-    }
 }
 
 /// The report of a phase that ended as this.
