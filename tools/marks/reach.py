@@ -8,6 +8,7 @@ from sources import Definition, TOP, said_by_definitions, specs
 PROMISES = [
     ("Every record of a cleared set is safe", ["batch_safety::records_are_safe", "batch_safety::cleared_runs_safely"]),
     ("Nobody waits in vain", ["batch_safety::nobody_waits_in_vain"]),
+    ("A reserved unit stays with its batch", ["batch_safety::units_are_kept"]),
     ("`verify` clears a set, or names a fault", ["batch_verify::verify", "batch_verify::read_certificate"]),
     ("`check` finds the least ranks, or why there are none", ["batch_check::check"]),
     ("A cell or a recipe is that of its document", ["batch_reader::read_cell", "batch_reader::read_recipe"]),
@@ -18,6 +19,9 @@ PROMISES = [
         "transcripts_are_whole", "transcripts_leave_nobody_in_vain", "transcripts_settle", "want_is_not_told",
         "clean_line_rows", "comment_rows", "held_rows", "unfinished_rows", "piece_limit_is_fixed")]),
     ("The headline: a run of the program", ["batch_program::serving_is_safe", "batch_program::run_program"]),
+    ("The program's other laws", ["batch_program::" + it for it in (
+        "remarked_serving_is_safe", "journalled_serving_is_safe", "desks_are_safe", "desks_are_kept", "audits_are_true",
+        "certificates_are_kept", "plants_are_complete")]),
 ]
 
 

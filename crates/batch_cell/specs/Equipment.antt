@@ -20,7 +20,7 @@ unit_names units = map (λ u. u.name) units
 abbrev pub resource_names : List Unit → List Module → List Shared → List (List ℕ)
 resource_names units modules shared = unit_names units ++ map (λ m. m.name) (filter is_free modules) ++ map (λ s. s.name) shared
 
--- how many steps may hold each resource at once: a unit and a free module have one user at a time
+-- how many units of capacity of each resource may be held at once: a unit and a free module have the capacity 1
 abbrev pub capacities : List Unit → List Module → List Shared → List ℕ
 capacities units modules shared = replicate (length units + length (filter is_free modules)) 1 ++ map (λ s. s.capacity) shared
 

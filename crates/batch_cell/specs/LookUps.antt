@@ -14,7 +14,7 @@ units_of c = unit_names c.units.items
 abbrev pub resources_of : Cell → List (List ℕ)
 resources_of c = resource_names c.units.items c.modules.items c.shared.items
 
--- how many steps may hold each resource at once
+-- how many units of capacity of each resource may be held at once
 abbrev pub capacities_of : Cell → List ℕ
 capacities_of c = capacities c.units.items c.modules.items c.shared.items
 

@@ -23,7 +23,7 @@ impl Cell {
         self.names.len() as u16
     }
 
-    /// The number of the resource with this name.
+    /// The number of the resource with this name. None if no resource has it.
     // claim: numbers of names
     pub fn resource_of(&self, name: &Name) -> Option<u16>
         ensures { result ≡ position (pointwise nat_eq name.now) (resources_of self.now) }
@@ -41,7 +41,7 @@ impl Cell {
         &self.names[usize::from(resource)]
     }
 
-    /// How many steps may hold the resource at once.
+    /// The capacity of the resource with this number: how many units of capacity may be held at once.
     // claim: names of numbers
     pub fn capacity(&self, resource: u16) -> u32
         requires { resource < length (resources_of self.now) }
@@ -56,7 +56,7 @@ impl Cell {
         }
     }
 
-    /// The number of the unit with this name.
+    /// The number of the unit with this name. None if no unit has it.
     // claim: numbers of names
     pub fn unit_of(&self, name: &Name) -> Option<u16>
         ensures { result ≡ position (pointwise nat_eq name.now) (units_of self.now) }

@@ -27,7 +27,7 @@ impl Cell {
         self.phases_of(unit).contains(phase)
     }
 
-    /// The number of the phase among those that the unit offers.
+    /// The number of the phase among those that the unit offers. None if it isn't one of them.
     // claim: phases of a unit
     pub fn phase_number(&self, unit: u16, phase: &Name) -> Option<u16>
         requires { unit < length (units_of self.now) }
@@ -37,7 +37,7 @@ impl Cell {
         Some(number as u16)
     }
 
-    /// The name of the phase with this number among those that the unit offers.
+    /// The name of the phase with this number among those that the unit offers. None if it offers fewer.
     // claim: phases of a unit
     pub fn phase_name(&self, unit: u16, number: u16) -> Option<&Name>
         requires { unit < length (units_of self.now) }

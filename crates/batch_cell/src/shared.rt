@@ -12,7 +12,7 @@ pub const MAX_CAPACITY: u32 = 1000;
 #[derive(Drop)]
 pub struct Shared {
     pub name: Name,
-    /// How many steps may hold the resource at once.
+    /// The capacity: how many units of it steps may hold at once, all steps together.
     pub capacity: u32,
     ghost some: { 0 < capacity },
     ghost few: { capacity ≤ MAX_CAPACITY },

@@ -42,7 +42,7 @@ fn give_up(nodes: &[Entry], stages: &mut [Stage], signs: &mut Signs, n: usize)
 }
 
 impl ControlRecipe<'_> {
-    /// An act that has ended holds so many needs still. If it holds none, the chart goes on above it.
+    /// Makes the act one that has ended and still holds so many needs. If it holds none, it is finished, and the chart goes on above it.
     pub fn free(&self, stages: &mut [Stage], signs: &mut Signs, node: usize, held: u16)
         requires order { IsInOrder self.now.nodes.now self.now.master.now stages.old signs.old }
         requires node { node < length self.now.nodes.now }

@@ -26,7 +26,7 @@ pub(crate) fn pass_target(recipe: &Recipe, node: u16, need: u16) -> Option<u16>
     }
 }
 
-/// How many needs the act's own unit is.
+/// How many of the act's needs are its own unit: 1 if it has a unit, else 0.
 fn own_units(act: &Act) -> u16
     ensures { result ≡ unit_count act.now.unit }
 {

@@ -15,7 +15,7 @@ use batch_set::LinkedRecipe;
 use batch_verify::{binding_count, takers_numbered};
 use std::alloc::{AllocError, Global};
 
-/// For each number of a candidate the units that take the roles then.
+/// For each candidate number the units that take the roles in its binding.
 pub(crate) fn units_of_each(
     alloc: Global,
     cell: &Cell,

@@ -10,7 +10,7 @@ use crate::edge::Edge;
 use batch_signs::with_bit;
 use std::alloc::{AllocError, Global};
 
-/// How many bits stand in a row for the edges to one later.
+/// How many bits a row has, for the edges that lead to one resource.
 const ROW: usize = WORDS * 64;
 
 /// Edges between the resources and roles below a count, at most one for each pair of them, in the order in which they were added.
@@ -18,8 +18,8 @@ const ROW: usize = WORDS * 64;
 pub(crate) struct EdgeSet {
     /// How many resources there are, and roles.
     pub(crate) count: u16,
-    /// For each later and each earlier a bit, set if an edge leads to the one from the other. Those to one later stand side by side:
-    /// many of them are checked together.
+    /// A bit for each two resources, set if an edge leads to the one from the other. The bits of the edges to one resource stand side by
+    /// side, so that many are checked together.
     pub(crate) known: Vec<u64>,
     pub(crate) edges: Vec<Edge>,
     ghost few: { count ≤ 448 },
@@ -42,7 +42,7 @@ impl EdgeSet {
         })
     }
 
-    /// Adds the edge, if none leads from its earlier to its later yet.
+    /// Adds the edge, if none leads from its earlier resource to its later one yet.
     pub(crate) fn add(&mut self, edge: Edge) -> Result<(), AllocError>
         requires earlier { edge.earlier < self.old.count }
         requires later { edge.later < self.old.count }
@@ -63,7 +63,7 @@ impl EdgeSet {
         Ok(())
     }
 
-    /// Whether an edge leads to the later from each of the needs.
+    /// Whether an edge leads to the resource `later` from each of the needs.
     pub(crate) fn has_each(&self, asked: &Asked, later: u16) -> bool
         requires { later < self.now.count }
         ensures { IsTrue result → (earlier : ℕ) → earlier < self.now.count → Contains asked.now.needs.items (Some earlier)

@@ -11,11 +11,11 @@ pub(crate) enum Round {
     Still,
     /// Some rank was raised.
     Raised,
-    /// The later of this edge would need a rank above the number of resources.
+    /// The later resource of this edge would need a rank above the number of resources.
     Overran(Edge),
 }
 
-/// Raises the later of each edge above its earlier, and keeps for each resource the edge that raised it last.
+/// Raises the later resource of each edge above its earlier one, and keeps for each resource the edge that raised it last.
 ///
 /// No rank goes above the number of resources: at an edge that asks for one, the round stops.
 pub(crate) fn raise_all(edges: &[Edge], ranks: &mut [u32], causes: &mut [Option<Edge>]) -> Round

@@ -5,6 +5,6 @@
 pub struct Comments {
     /// Each line that is answered, before its answer.
     pub echo: bool,
-    /// The time of each read that brought lines that are answered, before the first answer.
+    /// The time of each read that brought a line with an answer, before the first of these answers.
     pub times: bool,
 }

@@ -233,7 +233,7 @@ The same with each line and its time as comments in the record, with a journal o
 ";
 
 const SERVE_HELP: &str = "\
-An example, in examples/desks, whose pipes are made by mkfifo:
+An example; mkfifo makes the pipes that desks.toml names:
   batchd serve desks.toml cell.toml certificate.txt topcoat.toml > day.record
 
 The same with a journal, from which the next start brings the plant back:

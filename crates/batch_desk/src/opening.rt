@@ -59,7 +59,7 @@ fn open_ports(alloc: Global, plans: &[PortPlan]) -> Result<(Vec<Port>, Vec<Desk>
 
 impl Hub {
     /// Makes a hub of an engine in which nothing has happened, and the desk of each port at the port's place. It takes the memory
-    /// of all rings. A refusal gives the engine back.
+    /// of all rings. A refusal gives the engine back: `Limit` unless there are 1 to 64 ports with rings of 1 to 4,096 places, else `Memory`.
     // claim: new hub (hub, ports); limits of ports (within, err)
     pub fn new(
         alloc: Global,

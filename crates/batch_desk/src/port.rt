@@ -111,7 +111,7 @@ impl Port {
         self.closed.is_none()
     }
 
-    /// Takes one event, gives it to the engine and owes the port its reply. A closed port gives none.
+    /// Takes one event out of the ring, gives it to the engine and queues the reply for the port. A closed port gives none.
     pub(crate) fn handle(&mut self, engine: &mut Engine) -> Result<Option<(Event, Reply)>, HubFault>
         ensures ok { IfOk result (λ done. HandlesEvent self.old engine.old done self.new engine.new) }
         ensures err { IfErr result (λ fault. (fault ≡ Memory) × (without_room self.new ≡ without_room self.old) × (engine.new ≡ engine.old)) }

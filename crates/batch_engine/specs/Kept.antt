@@ -59,7 +59,7 @@ pub record IsKept (v : EngineView) : Type 0 where
   pub batches : Each (IsRunningBatch v.cleared) v.batches
   pub cell : IsOfCell v.cleared v.allocation
   pub tracked : IsTracked v
-  -- no act is in a line twice
+  -- no act is in a queue twice
   pub once : (name : Name) (k : ℕ) → resource_number v.cleared name ≡ Some k → IsOnce (claimed_shares v.cleared v.batches (line_of_asks v.allocation k))
   pub room : HasRoom v
 

@@ -24,7 +24,8 @@ use batch_verify::Cleared;
 use std::alloc::{AllocError, Global};
 
 impl Engine {
-    /// The engine of cleared recipes, in which nothing has happened. It keeps the allocator.
+    /// The engine of cleared recipes, in which nothing has happened. It owns them, and keeps the allocator. If memory is refused, the error
+    /// gives them back.
     pub fn new(alloc: Global, cleared: Cleared) -> Result<Engine, (AllocError, Cleared)>
         // claim: opening
         ensures opening { IfOk result (λ engine. plant_of engine ≡ opening) }

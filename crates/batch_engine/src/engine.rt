@@ -11,7 +11,8 @@ pub struct Engine {
     pub(crate) control: Control,
     /// The marked indices of batches. A batch whose index isn't marked has no move.
     pub(crate) marks: Marks,
-    /// For each resource, by its number: the batch that was granted one unit of it last. It leads to the holder of a unit of the cell.
+    /// For each resource, by its number, the batch of the last grant of one unit. If the capacity is 1 and the resource is held, this batch
+    /// holds it.
     pub(crate) holders: Vec<u64>,
 }
 

@@ -13,8 +13,8 @@ pub enum ClaimKind {
     Released,
 }
 
-/// A move, by numbers: of its batch, mostly of the recipe and the node of an act, of a unit and its phase, of a resource and how
-/// many units of its capacity.
+/// A move, by numbers. Each has its batch. One of an act has the recipe and the act's node too, one of a phase also the unit and the phase,
+/// and one of a share the resource and how many units of its capacity.
 #[derive(Clone, Copy)]
 pub enum Line {
     /// A command is sent to a phase.

@@ -65,8 +65,8 @@ pub fn mark_answered(marks: &mut Marks, control: &Control, reply: Reply)
         ..
     } = reply
     {
-        // An ask that is withdrawn makes way for the one behind it, which may be for fewer units. Looking at all lines
-        // takes no longer with more batches.
+        // An ask that is withdrawn makes way for the one behind it, which may be for fewer units. The check of all
+        // queues takes no longer with more batches.
         mark_firsts(marks, control);
     }
 }

@@ -10,8 +10,8 @@ use batch_arbiter::Arbiter;
 use batch_chart::Move;
 use batch_matrix::State;
 
-/// An act that asks for a resource joins its line, one that releases it gives it back, and one that passes it on hands its share over.
-/// The arbiter is told of a grant by `Control::grant`; other lines need nothing of it.
+/// An ask joins the queue of its resource, a release gives the act's share back, and a pass hands the share over. `Control::grant` calls
+/// the arbiter for a grant. A line without a resource leaves the arbiter as it is.
 fn claim(arbiter: &mut Arbiter, line: &Line)
     requires { CanClaim line.now arbiter.old }
     ensures { arbiter.new ≡ claimed_by line.now arbiter.old }
@@ -63,7 +63,7 @@ impl Control {
         batch.running.make_move(chart, made, &batch.values);
     }
 
-    /// The act first in the line of a resource gets it.
+    /// The first act in the queue of a resource is granted it.
     fn grant(&mut self, index: usize, node: u16, resource: u16, units: u32)
         requires { IsGrantStep self.old (IsNext self.old) index node resource units }
         ensures { MakesNext self.old self.new }

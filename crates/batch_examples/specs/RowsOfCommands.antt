@@ -97,7 +97,7 @@ HeldAskIsGranted =
     (starts 2 p0000 r1 add
     ∷ []))))
 
--- a stop while a step waits: its ask leaves the line, and all is given back from below
+-- a stop while a step waits: its ask leaves the queue, and all is given back from below
 abbrev pub StopWithdrawsAsks : Type 0
 StopWithdrawsAsks =
     run narrow_cell

@@ -52,7 +52,7 @@ AbortEndsWait = WaitAfter (reply (ordered Abort 1 Aborting)) (share 2 p0 1 ∷ [
 abbrev pub HoldDoesNotEndWait : Type 0
 HoldDoesNotEndWait = WaitAfter (reply (ordered Hold 1 Holding)) (share 1 p0 1 ∷ share 2 p0 1 ∷ [])
 
--- these phases are active after the start of one and then this report
+-- these phases are live after the start of one and then this report
 abbrev pub ActiveAfter : Report → State → List Active → Type 0
 ActiveAfter word x active = active_told (starts 1 p00 r1 add ∷ reply (reported r1 add word 1 p00 x) ∷ []) ≡ active
 

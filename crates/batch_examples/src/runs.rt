@@ -178,7 +178,7 @@ pub fn held_ask_is_granted()
     ensures { HeldAskIsGranted }
 {}
 
-/// A stop removes the asks of its batch from their lines.
+/// A stop removes the asks of its batch from their queues.
 pub fn stop_withdraws_asks()
     ensures record_lines { StopWithdrawsAsks }
     ensures stopped_ask { LaterAskPassesStopped }

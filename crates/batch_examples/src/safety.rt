@@ -50,7 +50,7 @@ pub fn waits_end()
     ensures hold { HoldDoesNotEndWait }
 {}
 
-/// A phase is active until the report that ends it.
+/// A phase is live until the report that ends it.
 // claim: told in rows
 pub fn phases_end()
     ensures ended { EndingReportsEndPhases }
@@ -65,7 +65,7 @@ pub fn held_past_capacity()
     ensures before_end { UnsafeBeforeItsEnd }
 {}
 
-/// Nor one in which a phase is active whose unit its own batch doesn't hold above it.
+/// Nor one in which a phase is live whose unit its own batch doesn't hold above it.
 // claim: unsafe rows
 pub fn unit_not_held_above()
     ensures own_step { UnitHeldByItsStep }
@@ -75,7 +75,7 @@ pub fn unit_not_held_above()
     ensures given_back { UnitGivenBackEarly }
 {}
 
-/// Nor one in which a phase starts that is active, or that its unit doesn't offer.
+/// Nor one in which a phase starts that is live, or that its unit doesn't offer.
 // claim: unsafe rows
 pub fn started_wrongly()
     ensures twice { StartedTwice }

@@ -100,7 +100,7 @@ IsOfDisk (Damaged line) = ⊥
 abbrev pub HasNoFault : List ℕ → List ℕ → Type 0
 HasNoFault documents file = (fault : RecoveryFault) → IsRefusedFor documents file fault → IsOfDisk fault
 
--- no file that a start takes has a reason to be refused
+-- no file that a start accepts has a reason to be refused
 abbrev pub TakenIsNotRefused : Type 0
 TakenIsNotRefused = (documents file : List ℕ) → IsRecoverable documents file → HasNoFault documents file
 

@@ -35,7 +35,8 @@ pub struct Groups<D: Disk, K: Clock, C: Run> {
 }
 
 impl<D: Disk, K: Clock, C: Run> Groups<D, K, C> {
-    /// Over a disk that recovery left, with the sum that it found. The clock's time stands in the groups; nothing is claimed of it.
+    /// The groups of a run over a disk that recovery left, with the sum that it found. The clock's time stands in the closing lines; nothing
+    /// is claimed of it.
     pub fn new(disk: D, clock: K, sum: Sum) -> Groups<D, K, C>
         requires at_rest { D.is_disk disk → IsJournalKept C.documents C.base (D.durable disk) (D.seen disk) (D.given disk) [] (sum_text sum) }
         requires whole { D.is_disk disk → IsWhole (D.given disk) }

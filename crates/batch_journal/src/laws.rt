@@ -4,25 +4,25 @@ ghost use Rattle.batch_journal.specs.Readers.{LinesBegin};
 ghost use Rattle.batch_journal.specs.RowsOfRecovery.{RecoveryRows};
 ghost use Rattle.batch_journal.specs.Recovery.{CrashIsNoDamage, RecoveredAreLines, TakenIsNotRefused, WholeLinesAreLines};
 
-/// Groups behind others that are taken are taken as by themselves, whatever the sums are.
+/// Groups behind recovered groups are recovered as they are by themselves, for every sum function.
 // claim: groups go on
 pub fn groups_go_on()
     ensures { GroupsGoOn }
 {}
 
-/// A group that was written is taken whole.
+/// A group that was written is recovered whole.
 // claim: a group is taken
 pub fn group_is_taken()
     ensures { GroupIsTaken }
 {}
 
-/// Lines whose group isn't closed are left.
+/// Lines whose group isn't closed aren't recovered.
 // claim: a torn group is left
 pub fn torn_is_left()
     ensures { TornIsLeft }
 {}
 
-/// If the text of a file's lines begins with that of some lines, these are the first that recovery gives.
+/// If the text of the lines recovered from a file begins with the text of some lines, these are its first recovered lines.
 // claim: lines begin
 pub fn lines_begin()
     ensures { LinesBegin }
@@ -34,7 +34,7 @@ pub fn crash_is_no_damage()
     ensures { CrashIsNoDamage }
 {}
 
-/// No file that a start takes has a reason to be refused.
+/// No file that a start accepts has a reason to be refused.
 // claim: taken isn't refused
 pub fn taken_is_not_refused()
     ensures { TakenIsNotRefused }

@@ -34,7 +34,8 @@ pub struct JournalReader<R: Read, D: Disk, K: Clock, C: Run> {
 }
 
 impl<R: Read, D: Disk, K: Clock, C: Run> JournalReader<R, D, K, C> {
-    /// Over a disk that recovery left, with the sum that it found. The clock's time stands in the groups; nothing is claimed of it.
+    /// A reader of the input over a disk that recovery left, with the sum that it found. The clock's time stands in the closing lines;
+    /// nothing is claimed of it.
     pub fn new(inner: R, disk: D, clock: K, sum: Sum) -> JournalReader<R, D, K, C>
         requires at_rest { D.is_disk disk → IsJournalKept C.documents C.base (D.durable disk) (D.seen disk) (D.given disk) [] (sum_text sum) }
         requires whole { D.is_disk disk → IsWhole (D.given disk) }

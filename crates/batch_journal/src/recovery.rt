@@ -13,7 +13,7 @@ use memchr::memchr;
 use std::alloc::Global;
 use thiserror::Error;
 
-/// Why a file wasn't recovered. It stays as it is.
+/// Why a file wasn't recovered. It stays as it is, but for `Disk`.
 #[derive(Clone, Copy, Debug, Error)]
 pub enum RecoveryFault {
     /// A call of the disk failed, or there was no memory for the bytes.
@@ -63,7 +63,8 @@ pub(crate) struct Taken {
 ///
 /// # Errors
 ///
-/// `NoJournal`, `OtherDocuments` and `Damaged` leave the file as it is. `Disk` comes if a call failed.
+/// `NoJournal`, `OtherDocuments` and `Damaged` leave the file as it is. `Disk` comes if a call failed or memory was refused: the file may be
+/// cut or begun anew then, as the next start would do.
 // claim: recovered lines (lines, at_rest); taken files (taken, untouched)
 pub fn recover<D: Disk>(
     alloc: Global,
@@ -205,7 +206,7 @@ fn is_like(bytes: &[u8], header: &[u8; 84]) -> bool
         .all(|(byte, wanted)| *byte == 0 || byte == wanted)
 }
 
-/// Takes the groups behind a header, as long as their sums are right.
+/// The end of the whole groups behind a header, up to the first wrong sum, and the sum of the last.
 fn take_groups(bytes: &[u8], documents: &[u8; 64]) -> Taken
     ensures { AreGroupsTaken documents.now bytes.now result.end (sum_text result.sum) }
 {

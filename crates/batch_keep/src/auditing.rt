@@ -19,9 +19,12 @@ use batch_wire::KnownPlaces;
 use std::alloc::Global;
 use std::io::Read;
 
-/// Reads the lines that were sent, and gives whether the record may be the machine's record of them over the cleared set. Comments of
-/// the record are passed over. So is a line that the record says was refused for want of memory, if the machine might have done so:
-/// then it wasn't given the event.
+/// Reads the lines that were sent, and finds whether the record may be the machine's record of them over the cleared set. Comments of the
+/// record are skipped. A refusal for want of memory is accepted if the machine might have given it: its event changes nothing then.
+///
+/// # Errors
+///
+/// `Read` if the lines that were sent can't be read; `Memory` if there is none for them, for the engine or for an answer.
 // claim: a record found
 pub fn audit<R: Read>(
     alloc: Global,

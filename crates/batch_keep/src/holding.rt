@@ -21,10 +21,11 @@ use std::marker::Brand;
 use std::time::Clock;
 use thiserror::Error;
 
-/// Why a run over a journal stopped before its input ended. The lines that were read are in the journal.
+/// Why a run over a journal stopped before its input ended. The lines that the machine was given are in the journal.
 #[derive(Clone, Copy, Debug, PartialEq, Eq, Error)]
 pub enum KeepFault {
-    /// There was no memory for an event or for the answers of a group. Of these none is written but those before its last comment.
+    /// There was no memory for an event, or for the answers of a group. Of these answers only those are written that come before the group's
+    /// last comment.
     #[error("out of memory")]
     Memory,
     /// The input or the journal failed, or the output.

@@ -72,7 +72,7 @@ pub fn serve_journalled<R: Read + Drop, D: Disk, K: Clock + Drop, W: Write>(
     )
 }
 
-/// Serves over a disk in memory.
+/// Serves as [`serve_journalled`] does, over a disk in memory. Its errors are the same.
 pub fn serve_in_memory<K: Clock + Drop>(
     alloc: Global,
     engine: &mut Engine,

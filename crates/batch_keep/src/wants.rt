@@ -32,7 +32,7 @@ fn want_of(told: &[u8]) -> Option<Want>
     None
 }
 
-/// Whether memory might have been wanted for that when the engine was to be given the event.
+/// Whether the engine might have wanted memory for this purpose at the event.
 fn might_want(want: Want, engine: &Engine, event: &Event) -> bool
     ensures { IsTrue result ↔ MightWant (setup engine.now.cleared) (plant_of engine.now) (event_of event.now) want }
 {

@@ -31,7 +31,7 @@ pub enum State {
     Complete,
 }
 
-/// The state as which this one ends by itself. The others stay until a command comes.
+/// The state in which this one ends by itself. None of a state that stays until a command comes.
 // claim: own ends
 pub fn ends_as(state: State) -> Option<State>
     ensures { result ≡ ends_as state }

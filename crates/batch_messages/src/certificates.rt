@@ -6,8 +6,8 @@ use std::alloc::{AllocError, Global};
 /// The most bytes of a certificate's file.
 const MAX_LEN: usize = 32_768;
 
-/// The meaning of the fault of the certificate at this path. Of a text that looks like another document it says that this is in the
-/// certificate's place.
+/// The meaning of the fault of the certificate at this path. If the text begins as a TOML document does, the sentence says that another
+/// document is in the certificate's place.
 pub fn certificate_sentence(
     alloc: Global,
     path: &str,

@@ -130,8 +130,8 @@ impl<'a> Ranks<'a> {
         ranks
     }
 
-    /// The ranks with that of one more resource, which is one of two. Its rank is the lesser of theirs to the ranks before it, and the
-    /// greater to those behind it.
+    /// The ranks with that of one more resource, which is one of two. The ranks before it are compared with the lesser
+    /// of the two ranks, and those behind it with the greater.
     fn then(self, least: Asked<'a>, greatest: Asked<'a>) -> Ranks<'a> {
         match self {
             Ranks::Rise(Some(earlier)) if least.rank <= earlier.rank => Ranks::Fall(earlier, least),

@@ -120,7 +120,7 @@ commanded command batch =
       | false ↦ record batch { state = target command; rest = elim (ends_asks command) [ true ↦ withdrawn batch.rest | false ↦ batch.rest ] }
     ]
 
--- the lines without the asks of the batch with this number, if the command ends them
+-- the queues without the asks of the batch with this number, if the command ends them
 abbrev pub lines_under : Command → ℕ → (Name → List Share) → Name → List Share
 lines_under command number line resource =
     elim (ends_asks command) [ false ↦ line resource | true ↦ filter (λ share. not (nat_eq share.act.0 number)) (line resource) ]

@@ -1,4 +1,4 @@
--- trusted: the holders, the waiters, the active phases and the states that a record alone tells, and the safety of a record.
+-- trusted: the holders, the waiters, the live phases and the states that a record alone gives, and the safety of a record.
 use Rattle.std.specs.Prelude.{◌≡◌, ◌⊎◌, ℕ, ◌≤◌, List, [], ◌∷◌, ◌++◌, filter, fold, Bool, true, false, ◌||◌, not, IsTrue, ⊤, Option, Some, None, nat_eq}
 use Rattle.batch_matrix.specs.declared.state.State.{State}
 use Rattle.batch_matrix.specs.declared.state.State.TheVariants.{Idle, Complete}
@@ -46,7 +46,7 @@ pub record Active : Type 0 where
 abbrev pub ends_phase : Report → Bool
 ends_phase word = same_report word Report.Done || same_report word Report.Stopped || same_report word Report.Aborted
 
--- a phase of a unit is active from its start to the report at its place that ends it
+-- a phase of a unit is live from its start to the report at its place that ends it
 abbrev pub active_after : List Active → Out → List Active
 active_after actives (move (start number place phase handed)) = actives ++ (record { act = (number, place); phase = phase }) ∷ []
 active_after actives (reply (reported unit name word number place becomes)) =
@@ -148,7 +148,7 @@ IsAtRest now = IsTrue (same_state now Complete || is_stopped now)
 abbrev pub HasCapacity : Setup → List Out → Type 0
 HasCapacity setup outs = (resource : Name) → units_in (holders_told outs resource) ≤ setup.capacity resource
 
--- the unit of each active phase is held by the phase's batch, above the phase
+-- the unit of each live phase is held by the phase's batch, above the phase
 abbrev pub HoldsUnits : List Out → Type 0
 HoldsUnits outs =
     (active : Active) → Has (active_told outs) active
@@ -158,7 +158,7 @@ HoldsUnits outs =
 abbrev pub IsOnUnit : Name → Name → Active → Type 0
 IsOnUnit unit name active = (active.phase.unit ≡ unit) × (active.phase.name ≡ name)
 
--- a phase that the last line starts is offered by its unit and wasn't active there before
+-- a phase that the last line starts is offered by its unit and wasn't live there before
 abbrev pub StartsIdle : Setup → List Out → Type 0
 StartsIdle setup outs =
     (before : List Out) (number : ℕ) (place : Place) (phase : Phase) (handed : List (Name × ℕ))

@@ -1,4 +1,4 @@
-//! Acts, and their requests.
+//! The texts of acts, and of the resources that they ask for.
 ghost use Rattle.std.specs.Prelude.{◌≡◌, ◌++◌, IfOk, OnOk, codes, map, option_copied, string_bytes};
 ghost use Rattle.std.specs.List.{flat_map};
 ghost use Rattle.batch_recipe.specs.Expanding.{unit_chosen};

@@ -13,7 +13,7 @@ pub struct Seat<'a> {
     pub place: &'a str,
     /// The names of the resources that are asked for on the path above it, a space before each.
     pub held: &'a str,
-    /// When it is chosen, a space before it, if it is a branch of a `sel`; else empty.
+    /// At a branch of a `sel` the text on its choice, with a space before it; empty at other nodes.
     pub branch: &'a str,
 }
 

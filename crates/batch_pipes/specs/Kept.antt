@@ -13,7 +13,7 @@ pub record IsDeskKept (old new : Desk) : Type 0 where
   pub waits : new.waiting.is_cut ≡ false → new.waiting.lines ≡ old.waiting.lines
   pub account : (all told : List (List ℕ)) → IsAccount all told old.waiting → IsAccount all told new.waiting
 
--- the desks are the same, whatever they were told
+-- the desks are the same, whatever lines were queued for them or sent
 pub record AreSameDesks (old new : List Desk) : Type 0 where
   pub count : length new ≡ length old
   pub units : (k : ℕ) (desk : Desk) → k < length old → (get_or new k desk).unit ≡ (get_or old k desk).unit

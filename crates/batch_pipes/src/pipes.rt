@@ -37,8 +37,8 @@ pub trait Outputs<W: Write + Drop> {
     /// The bytes in the output of a path when it is opened, where they are known. Nobody can give those of a real file.
     ghost stands: { List ℕ → Option (List ℕ) } = { λ _. None };
 
-    /// The results that may be handed back for the output of a path. In code that knows nothing of this relation, each result that is
-    /// known to be in it came from `run_output`.
+    /// The results that may be handed back for the output of a path. Only the clause of `run_output` gives this relation. So in code over
+    /// any `Outputs` each result that is known to be in it came from `run_output`.
     ghost hands_back: { List ℕ → OneWritten W → Type 0 } = { λ _ _. ⊤ };
 
     /// Opens the task's output, and has it written by `OutputTask::write`. Both may wait for whoever is at the other end.

@@ -45,6 +45,8 @@ pub struct DesksEnd<W: Write + Drop, P: Outputs<W> + Drop> {
 /// of them has none. A desk whose input or output fails, or for which more lines are queued than may be, is cut, and the errors
 /// report it. At the end an output that takes nothing for long is left to its thread, and the errors report it. For each desk that
 /// has an output it gives back the output, or its thread, which isn't joined while it has more to do.
+///
+/// The error is want of memory, a thread that can't be started, a journal or a record that can't be written, or rounds that ran out.
 // claim: desks over pipes; whose lines are served; outputs given back; outputs of desks
 pub fn serve_desks<
     T: Threads,

@@ -1,4 +1,4 @@
-//! Looking after the desks between turns.
+//! Between turns: desks whose pipes failed are cut, and desks for which lines are queued aren't read.
 ghost use Rattle.std.specs.Prelude.{◌≡◌, ◌||◌, true, false, IsTrue};
 ghost use Rattle.batch_serve.specs.Rounds.{AreHandedOn, IsHandedOn, IsHandedOver};
 ghost use Rattle.batch_pipes.specs.Kept.{AreDone, AreReadersKept, ArePortsOf, IsDone, IsReaderKept};
@@ -123,8 +123,8 @@ fn tend_each<T: Threads, O: Write + Drop, P: Pipes + Outputs<O> + Drop, E: Write
     outlook
 }
 
-/// Looks after one desk, and returns its outlook. While lines are queued for it, it isn't read, unless its output takes nothing for
-/// long.
+/// Joins the threads of a desk that are done, cuts the desk if its pipes failed, and returns its outlook. While lines are queued for it, it
+/// isn't read, unless its output takes nothing for long.
 // claim: desks between turns
 fn tend<T: Threads, O: Write + Drop, P: Pipes + Outputs<O> + Drop>(
     threads: &T,

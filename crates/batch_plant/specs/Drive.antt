@@ -62,14 +62,14 @@ module _ {D : Type 0} (command_gives : D → ℕ → Order → D → Type 0) (ti
   Comes None old said new = (said ≡ silence) × (new ≡ old)
   Comes (Some event) old said new = (outs : List Out) × IsReported event old outs new × (said ≡ handled event outs)
 
-  -- a moment passes at the unit with this number
+  -- one tick passes at the unit with this number
   pub record IsTick (unit : ℕ) (old : Standing D) (said : Exchange) (new : Standing D) : Type 0 where
     pub answer : Option (ℕ × Report)
     pub after : List D
     pub ticks : Ticks tick_gives unit old.units answer after
     pub comes : Comes (report_in set.cell unit answer) (record { plant = old.plant; units = after }) said new
 
-  -- a moment passes at each of these units, one after the other
+  -- one tick passes at each of these units, one after the other
   abbrev pub Drives : List ℕ → Standing D → Exchange → Standing D → Type 0
   Drives [] old said new = (said ≡ silence) × (new ≡ old)
   Drives (unit ∷ others) old said new =

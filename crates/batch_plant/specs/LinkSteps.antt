@@ -42,7 +42,7 @@ pub record SendsKept (cell : Cell) (old : Link) (d : DeskState) (new : Link) (e 
   pub sent : e.sent ≡ d.sent ++ more
   pub reports : map event_of more ++ kept_in cell new.kept ≡ kept_in cell old.kept
 
--- a moment passed at a unit, and its report is kept
+-- one tick passed at a unit, and its report is kept
 pub record TicksUnit {D : Type 0} (tick_gives : D → Option (ℕ × Report) → D → Type 0) (cell : Cell) (unit : ℕ) (old : List D) (kept : Option Answer) (new : List D) : Type 0 where
   pub answer : Option (ℕ × Report)
   pub ticks : Ticks tick_gives unit old answer new

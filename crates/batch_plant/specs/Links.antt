@@ -32,7 +32,7 @@ order_in (Move (Start batch recipe node unit phase values)) = Some (unit, phase,
 order_in (Move (Send batch recipe node unit phase command)) = Some (unit, phase, orders.Send command)
 order_in _ = None
 
--- a deed of a link: its desk took an out, and the units were given its order; or a moment passed at a unit, which answered
+-- a deed of a link: its desk took an out, and the units were given its order; or one tick passed at a unit, which answered
 pub data Deed : Type 0 where
   took : Out → Deed
   ticked : ℕ → Option (ℕ × Report) → Deed

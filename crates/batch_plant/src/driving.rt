@@ -21,7 +21,7 @@ use std::io::Write;
 
 /// Drives the units of the engine's cell for so many rounds.
 ///
-/// In a round a moment passes at each unit, in the order of their numbers. The machine handles its report, the reply and each
+/// In a round one tick passes at each unit, in the order of their numbers. The machine handles its report, the reply and each
 /// move are written, and the units get the orders of the moves. An answer for a phase that the unit doesn't have is dropped.
 /// The caller gives the orders of moves that were made before. The writer is flushed at the end of each round. Memory is asked
 /// for the names in a report alone. If there is none, that report is lost and driving stops; another call can go on. After a
@@ -48,7 +48,7 @@ pub fn drive<D: UnitDriver, W: Write>(
     Ok(())
 }
 
-/// A moment passes at each unit, and then the writer is flushed.
+/// One tick passes at each unit, and then the writer is flushed.
 fn round<D: UnitDriver, W: Write>(
     alloc: Global,
     engine: &mut Engine,
@@ -67,7 +67,7 @@ fn round<D: UnitDriver, W: Write>(
     Ok(flush(writer)?)
 }
 
-/// A moment passes at a unit, and its report is handled.
+/// One tick passes at a unit, and its report is handled.
 fn tick<D: UnitDriver, W: Write>(
     alloc: Global,
     engine: &mut Engine,

@@ -1,5 +1,5 @@
-//! A plant to run: a hub, a console, and a link to the units of the cell, each in another thread; and driving, by which one thread
-//! runs an engine and its units.
+//! A plant: a hub in the thread that calls, and a console and a link to the units of the cell, in threads of their own. And driving, by
+//! which one thread runs an engine and its units.
 #![tactic(auto)]
 
 mod answer;

@@ -19,9 +19,10 @@ use batch_matrix::State;
 use batch_sim::{Simulator, UnitDriver};
 use std::alloc::Global;
 
-/// Works as an equipment link at a desk whose port has all moves in its scope, until as many batches are complete.
+/// Works as an equipment link at a desk whose port has all moves in its scope, until `batches` batches are complete. At most `limit` turns
+/// are counted, among them those that the gate doesn't let pass.
 ///
-/// A turn takes at most one out, and gives the units its order. Then it sends the report that is kept; if there is none, a moment
+/// A turn takes at most one out, and gives the units its order. Then it sends the report that is kept; if there is none, one tick
 /// passes at the next unit of the cell in turn, and the link keeps its report. A report for which there is no memory, or no place,
 /// is tried again at the next turn. An answer for a phase that the unit doesn't have is dropped.
 pub fn link_loop<D: UnitDriver, G: Gate>(
@@ -146,7 +147,7 @@ fn send_event(link: &mut Link, desk: &mut Desk, event: Event)
     }
 }
 
-/// A moment passes at the next unit, and the report that it answers with is kept.
+/// One tick passes at the next unit, and the report that it answers with is kept.
 fn tick_next<D: UnitDriver>(link: &mut Link, units: &mut Simulator<D>, cell: &CellUnits)
     requires knows { KnowsUnits cell.now link.old }
     requires none { link.old.kept ≡ None }
@@ -159,7 +160,7 @@ fn tick_next<D: UnitDriver>(link: &mut Link, units: &mut Simulator<D>, cell: &Ce
     link.next = unit_after(cell, unit);
 }
 
-/// A moment passes at the unit. Returns its answer, if that is to be reported.
+/// One tick passes at the unit. Returns its answer, if that is to be reported.
 fn tick_unit<D: UnitDriver>(units: &mut Simulator<D>, cell: &CellUnits, unit: u16) -> Option<Answer>
     requires { unit < length (units_of cell.now) }
     ensures ticks { TicksUnit D.tick_gives cell.now unit units.old result units.new }

@@ -1,7 +1,7 @@
 //! The task of a plant.
 use batch_desk::BatchPlan;
 
-/// The task of a plant: as many batches are created by the plan and started, and run until they are complete.
+/// The task of a plant: `batches` batches are created by the plan and started, and run until they are complete.
 #[derive(Drop)]
 pub struct PlantTask {
     pub plan: BatchPlan,

@@ -28,7 +28,7 @@ use batch_verify::Cleared;
 use std::alloc::Global;
 use std::thread::Threads;
 
-/// Runs a plant until as many batches are complete: a hub in the thread that calls, with a console and an equipment link, each in
+/// Runs a plant until the batches of its task are complete: a hub in the thread that calls, with a console and an equipment link, each in
 /// a thread of its own.
 ///
 /// The console has port 0 and the link port 1, both with all moves in their scope. The link looks its units up in the set's cell.
@@ -152,7 +152,7 @@ fn rests_of(console: Option<usize>, link: Option<usize>) -> Result<PlantRests, P
     }
 }
 
-/// Every hub keeps its account. Nothing is looked at.
+/// States the account that every hub keeps, and does nothing.
 fn keeps_account(hub: &Hub)
     ensures { IsHub hub.now }
 {

@@ -1,5 +1,6 @@
 pub mod DeskRequests
 pub mod DesksOverJournal
+pub mod SafeJournals
 pub mod RepeatedDeskAnswers
 pub mod DeskService
 pub mod FileRuns

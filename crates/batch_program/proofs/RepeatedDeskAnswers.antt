@@ -3,18 +3,18 @@ use Rattle.std.proofs.Common.{◌≡◌, ◌++◌, ◌∙◌, ℕ, zero, suc, Bo
 use Rattle.std.{proofs.lemmas.Bool.and_parts, proofs.lemmas.Bool.Decides.nat_tests, specs.Prelude.◌==◌, specs.List.list_all}
 use Rattle.toml.specs.Data.{Items, item, no_items}
 use Rattle.clap.specs.Walk.{Text}
-use Rattle.batch_model.specs.Plant.{Plant, opening}
+use Rattle.batch_model.specs.{Plant.Plant, Plant.opening, Cleared.CanBeCleared}
 use Rattle.batch_text.specs.NameText.{IsName, is_name_byte}
 use Rattle.batch_engine.specs.View.{setup}
 use Rattle.batch_wire.specs.Transcript.{Exchange, Transcript}
-use Rattle.batch_serve.specs.{Replays.BeginsText, Replays.ShowsNoWant, Runs.runs_text, Served.plain_text}
+use Rattle.batch_serve.specs.{Replays.BeginsText, Replays.ShowsNoWant, Runs.runs_text, Safe.GoesOnSafely, Served.RunsGoOnSafely, Served.plain_text, Served.run_lines}
 use Rattle.batch_journal.specs.{Disks.Left, Journals.recovered, Lines.IsLine, Lines.text_of, Readers.HasRecalled, Readers.StartsText}
 use Rattle.batch_keep.specs.{Blocks.IsBlockOf, Desks.AreShort, Desks.DesksAreToldAgain}
 use Rattle.batch_pipes.specs.Service.{AreDesksServed}
 use Rattle.batch_verify.specs.ClearedSet.{ClearedSet}
 use Rattle.batch_reader.specs.{Entries.AllItems, Entries.IsTableOf, DeskNames.desk_names, DesksDocument.IsDeskTable, declared.desk.Desk.Desk, declared.desk_set.Desks.Desks}
 use Rattle.batch_verdicts.specs.{DeskSets.AreDesksCleared, Reading.Gives, Running.Stream}
-use Rattle.batch_program.{specs.DeskRuns.AreDesksKept, specs.DeskRuns.AreDesksOn, specs.DeskRuns.AreDesksOver, specs.DeskRuns.AreDesksRun, specs.JournalRuns.DiskKind, specs.JournalRuns.IsJournalTold, specs.JournalRuns.JournalFiles, specs.JournalRuns.fails, specs.JournalRuns.refuses, specs.JournalRuns.serves, specs.JournalRuns.stops, specs.Programs.DesksAreKept, specs.RecordRuns.Holds, specs.RecordRuns.IsUntold, specs.RecordRuns.output_of, proofs.DeskService.desks_ran}
+use Rattle.batch_program.{specs.DeskRuns.AreDesksKept, specs.DeskRuns.AreDesksOn, specs.DeskRuns.AreDesksOver, specs.DeskRuns.AreDesksRun, specs.JournalRuns.DiskKind, specs.JournalRuns.IsJournalTold, specs.JournalRuns.JournalFiles, specs.JournalRuns.fails, specs.JournalRuns.refuses, specs.JournalRuns.serves, specs.JournalRuns.stops, specs.Programs.DesksAreKept, specs.RecordRuns.Holds, specs.RecordRuns.IsUntold, specs.RecordRuns.output_of, proofs.DeskService.desks_ran, proofs.SafeJournals.can_be_cleared, proofs.SafeJournals.not_opened}
 
 -- Names
 
@@ -43,8 +43,8 @@ names_short (item d ds) (desk ∷ desks) are (suc k) = names_short ds desks are.
 
 -- Written again
 
-module _ (law : DesksAreToldAgain) (disks : DiskKind) (times : Bool) (set : ClearedSet) (digits : List ℕ) (names : List (List ℕ)) (short : AreShort names) (start end : disks.File)
-    (output : Stream) where
+module _ (law : DesksAreToldAgain) (on : RunsGoOnSafely) (disks : DiskKind) (times : Bool) (set : ClearedSet) (can : CanBeCleared (setup set)) (digits : List ℕ) (names : List (List ℕ))
+    (short : AreShort names) (start end : disks.File) (output : Stream) where
   again : (lines : List (List ℕ)) (plant : Plant) (block : List ℕ) (middle : Option (List ℕ)) (is_block : IsBlockOf (setup set) opening lines plant block)
       (s : AreDesksServed times (record { set = set; names = names; plant = plant; kept = []; recorded = middle; again = true }) (disks.is_disk end) (disks.given end) output.after)
       → HasRecalled digits (text_of (recovered digits (disks.seen start))) (disks.moment start) (disks.moment end) (disks.left_since end) → lines ≡ recovered digits (disks.seen start)
@@ -80,6 +80,8 @@ module _ (law : DesksAreToldAgain) (disks : DiskKind) (times : Bool) (set : Clea
     is_block = is_block;
     begun = appends;
     served = behind.served is;
+    safe = subst (λ t. GoesOnSafely (setup set) lines (run_lines (behind.served is).runs) t (plain_text (behind.served is).answers)) (sym is_block.replayed.is)
+        (on set plant (behind.served is).new lines is_block.replayed.said (behind.served is).runs (behind.served is).answers can is_block.replayed.transcript (behind.served is).served);
     told_again = λ d left since given last whole transcript shows.
         again lines plant block middle is_block (behind.served is) (recalled d) (are d).1 d left since given last whole transcript shows;
   }
@@ -88,24 +90,19 @@ module _ (law : DesksAreToldAgain) (disks : DiskKind) (times : Bool) (set : Clea
       → AreDesksKept disks times set digits names start end output
   over_kept path status over is = told_kept path status over.any_moment over.told is
 
--- no file was opened
-not_opened : (output : Stream) (status : ℕ) → IsUntold output status → status ≡ 0 → ⊥
-not_opened output status (_, inl failed) is = cc
-not_opened output status (_, inr memory) is = cc
-
-pub desks_are_kept : DesksAreToldAgain → (gives : Gives) (holds : Holds) (files : JournalFiles) → DesksAreKept gives holds files
-desks_are_kept law gives holds files words ends errors journal path cell certificate recipes times asked came =
+pub desks_are_kept : DesksAreToldAgain → RunsGoOnSafely → (gives : Gives) (holds : Holds) (files : JournalFiles) → DesksAreKept gives holds files
+desks_are_kept law on gives holds files words ends errors journal path cell certificate recipes times asked came =
     let (desks, set, digits, cleared, run) = desks_ran gives holds files words ends errors (Some journal) path cell certificate recipes times 0 asked came refl in
     let document = cleared.read.2 in
     let short = names_short document.stands_for.tables.items desks.desks.items document.stands_for.tables.tables in
-    kept_by law gives files journal path cell certificate recipes times desks set digits (output_of ends) short cleared run
+    kept_by law on gives files journal path cell certificate recipes times desks set digits (output_of ends) short cleared run
   where
-    kept_by : DesksAreToldAgain → (gives : Gives) (files : JournalFiles) (journal path cell certificate : Text) (recipes : List Text) (times : Bool) (desks : Desks) (set : ClearedSet)
+    kept_by : DesksAreToldAgain → RunsGoOnSafely → (gives : Gives) (files : JournalFiles) (journal path cell certificate : Text) (recipes : List Text) (times : Bool) (desks : Desks) (set : ClearedSet)
         (digits : List ℕ) (output : Stream) → AreShort (desk_names desks.desks.items) → AreDesksCleared gives path cell certificate recipes desks set digits
         → AreDesksRun files set digits (desk_names desks.desks.items) (Some journal) times output 0
         → (desks : Desks) × (set : ClearedSet) × (digits : List ℕ) × AreDesksCleared gives path cell certificate recipes desks set digits
         × (start : files.disks.File) × (end : files.disks.File) × files.opens journal start
         × AreDesksKept files.disks times set digits (desk_names desks.desks.items) start end output
-    kept_by law gives files journal path cell certificate recipes times desks set digits output short cleared (inl (start, end, opens, fresh, over)) =
-        (desks, set, digits, cleared, start, end, opens, over_kept law files.disks times set digits (desk_names desks.desks.items) short start end output journal 0 over refl)
-    kept_by law gives files journal path cell certificate recipes times desks set digits output short cleared (inr untold) = absurd (not_opened output 0 untold refl)
+    kept_by law on gives files journal path cell certificate recipes times desks set digits output short cleared (inl (start, end, opens, fresh, over)) =
+        (desks, set, digits, cleared, start, end, opens, over_kept law on files.disks times set (can_be_cleared gives cell certificate recipes set digits cleared.cleared) digits (desk_names desks.desks.items) short start end output journal 0 over refl)
+    kept_by law on gives files journal path cell certificate recipes times desks set digits output short cleared (inr untold) = absurd (not_opened output 0 untold refl)

@@ -3,7 +3,8 @@ use Rattle.std.specs.Prelude.{◌≡◌, ◌⊎◌, ◌++◌, ℕ, Bool, true, L
 use Rattle.std.specs.Io.KnownBytes.{Appends}
 use Rattle.batch_verify.specs.ClearedSet.{ClearedSet}
 use Rattle.batch_serve.specs.Runs.{Run, runs_text}
-use Rattle.batch_serve.specs.Served.{IsSafeService, plain_text}
+use Rattle.batch_serve.specs.Safe.{GoesOnSafely}
+use Rattle.batch_serve.specs.Served.{IsSafeService, plain_text, run_lines}
 use Rattle.batch_model.specs.Plant.{Plant, opening}
 use Rattle.batch_engine.specs.View.{setup}
 use Rattle.batch_wire.specs.Transcript.{Exchange, Transcript}
@@ -55,7 +56,8 @@ abbrev pub AreDesksOver : (disks : DiskKind) → ClearedSet → List ℕ → Lis
 AreDesksOver disks set digits names path times start end output status =
     IsOver disks set digits path start end (AreDesksOn disks times set names end output.after status) output status
 
--- The recovery block of the lines that the file had was written, and behind it the answers to runs of lines of the desks. Whatever
+-- The recovery block of the lines that the file had was written, and behind it the answers to runs of lines of the desks. The answers to
+-- the block's lines and these are together the text of a safe transcript. Whatever
 -- file a crash leaves once all was given, a replay of it in which memory is never wanted writes again the answers to the block's
 -- lines, and these answers without their comments
 pub record AreDesksKept (disks : DiskKind) (times : Bool) (set : ClearedSet) (digits : List ℕ) (names : List (List ℕ)) (start end : disks.File) (output : Stream) : Type 0 where
@@ -67,6 +69,7 @@ pub record AreDesksKept (disks : DiskKind) (times : Bool) (set : ClearedSet) (di
   pub is_block : IsBlockOf (setup set) opening lines plant block
   pub begun : Appends output.before middle block
   pub served : AreDesksServed times (record { set = set; names = names; plant = plant; kept = []; recorded = middle; again = true }) (disks.is_disk end) (disks.given end) output.after
+  pub safe : GoesOnSafely (setup set) lines (run_lines served.runs) is_block.told (plain_text served.answers)
   pub told_again : disks.is_disk end → (left : Left) → disks.left_since end (disks.moment start) left → left.given ≡ disks.given end
       → (last : Plant) (whole : Exchange) → Transcript (setup set) opening (recovered digits left.file) whole last → ShowsNoWant whole.text
       → BeginsText (is_block.told ++ plain_text served.answers) whole.text

@@ -8,6 +8,7 @@ use Rattle.batch_wire.specs.Transcript.{lines_of}
 use Rattle.batch_wire.specs.Written.{AppendsBeginning}
 use Rattle.batch_wire.specs.WrittenTranscript.{WritesTranscript}
 use Rattle.batch_serve.specs.Comments.{IsRemarked}
+use Rattle.batch_serve.specs.Safe.{GoesOnSafely}
 use Rattle.batch_serve.specs.Serves as serving
 use Rattle.batch_journal.specs.Disks.{Left}
 use Rattle.batch_journal.specs.Journals.{recovered}
@@ -68,6 +69,20 @@ pub record IsServedBehind (disks : DiskKind) (set : ClearedSet) (digits : List �
   pub never_lost : disks.is_disk end → IfSome unread (λ input.
       IsNeverLost (setup set) plant digits (disks.seen start) (disks.durable end) (disks.seen end) (disks.given end) middle after)
   pub ends : (status ≡ success_status) ⊎ (status ≡ fault_status) ⊎ (status ≡ memory_status)
+
+-- The recovery block of the lines that the file had was written, and behind it, comments aside, the answers to all lines of the input.
+-- The answers to the block's lines and these are together the text of a safe transcript
+pub record AreServedSafely (disks : DiskKind) (set : ClearedSet) (digits : List ℕ) (commented : Bool) (start end : disks.File) (ends : serving.Ends) : Type 0 where
+  pub lines : List (List ℕ)
+  pub plant : Plant
+  pub block : List ℕ
+  pub middle : Option (List ℕ)
+  pub plain : Option (List ℕ)
+  pub are_lines : disks.is_disk end → lines ≡ recovered digits (disks.seen start)
+  pub is_block : IsBlockOf (setup set) opening lines plant block
+  pub begun : Appends ends.before middle block
+  pub shown : IsShownAs commented middle ends.after plain
+  pub safe : IfSome ends.unread (λ input. (answers : List ℕ) × Appends middle plain answers × GoesOnSafely (setup set) lines (lines_of input) is_block.told answers)
 
 -- a condition on the output behind a recovery block, by the plant of the block and the output up to its end
 abbrev pub Behind : Type 1

@@ -28,7 +28,7 @@ use Rattle.batch_plant.specs.declared.plant_fault.PlantFault.{PlantFault}
 use Rattle.batch_program.specs.AuditRuns.{IsAccepted, IsAuditTold}
 use Rattle.batch_program.specs.DeskRuns.{AreDesksKept, AreDesksRun, IsDesksRecord}
 use Rattle.batch_program.specs.DrawingRuns.{IsRecordDrawn}
-use Rattle.batch_program.specs.JournalRuns.{JournalFiles, IsJournalRun}
+use Rattle.batch_program.specs.JournalRuns.{AreServedSafely, JournalFiles, IsJournalRun}
 use Rattle.batch_program.specs.FileWriting.{IsWritten}
 use Rattle.batch_program.specs.PlantRuns.{HasRun, IsPlantTold, plant_text}
 use Rattle.batch_program.specs.RecordRuns.{Holds, IsRecordTold, output_of}
@@ -139,6 +139,16 @@ RemarkedServingIsSafe gives holds files =
     → (set : ClearedSet) × (left : ℕ) × (plain : Option (List ℕ)) × IsSetOf gives source set × IsRemarked ends.before ends.after plain
     × AnswersAll set left (record ends { after = plain }) × IsLeftTold (ask_quiet words) errors left
 
+-- a run over a journal that ends with status 0 has answered all lines of its input behind the recovery block of the lines that the file
+-- at its path had. The answers to these and to those lines are together the text of a safe transcript over the set that its documents
+-- make, cleared by their certificate
+abbrev pub JournalledServingIsSafe : Gives → Holds → JournalFiles → Type 0
+JournalledServingIsSafe gives holds files =
+    (words : List Text) (ends : serving.Ends) (errors : Stream) (journal cell certificate : Text) (recipes : List Text) (echo times : Bool)
+    → AskFor words (keep journal cell certificate recipes echo times) → IsProgramRun gives holds files words ends errors 0
+    → (set : ClearedSet) × (digits : List ℕ) × AreDigested gives cell certificate recipes set digits
+    × (start : files.disks.File) × (end : files.disks.File) × files.opens journal start × AreServedSafely files.disks set digits (echo || times) start end ends
+
 -- a run of `check --write` that ends with status 0 has put into its file, and nowhere else, the text of a verdict that accepts its
 -- documents. The text is the certificate with the least ranks, or the drawing. On the errors the run has written its warnings alone
 abbrev pub CertificatesAreKept : Gives → Holds → JournalFiles → Type 0
@@ -168,7 +178,8 @@ DesksAreSafe gives holds files =
     × IsDesksRecord times set (desk_names desks.desks.items) (output_of ends)
 
 -- a run of `serve` with a journal that ends with status 0 has served the desks over the file at its path, behind the recovery block of
--- the lines that the file had. A replay of the file that a crash leaves writes again the answers to these lines and to those of the desks
+-- the lines that the file had. The answers to these lines and to those of the desks are the text of a safe transcript, and a replay of
+-- the file that a crash leaves writes them again
 abbrev pub DesksAreKept : Gives → Holds → JournalFiles → Type 0
 DesksAreKept gives holds files =
     (words : List Text) (ends : serving.Ends) (errors : Stream) (journal path cell certificate : Text) (recipes : List Text) (times : Bool)

@@ -1,4 +1,4 @@
-//! Who serves desks.
+//! Runners of desks.
 ghost use Rattle.std.specs.Prelude.{OnOk};
 ghost use Rattle.batch_reader.specs.DeskNames.{desk_names};
 ghost use Rattle.batch_engine.specs.View.{plant_of};
@@ -11,7 +11,7 @@ use batch_serve::{Keep, Lines};
 use std::alloc::Global;
 use std::io::Write;
 
-/// Who serves desks: the program by threads of its process, and a test as it likes.
+/// A runner of desks. That of the program uses threads of its process (`ThreadsOf`).
 pub trait DeskRunner {
     /// Serves the desks by the engine until each that has an input has ended or is cut. The fronts are written to the outputs of the
     /// desks before all else, one to each in order. The lines of each turn are kept before they are answered. The record goes to the

@@ -15,7 +15,7 @@ pub(crate) struct FilePipes {
 }
 
 impl FilePipes {
-    /// For so many desks.
+    /// The pipes of a server of so many desks.
     pub(crate) fn new(clock: HostRuntime, desks: usize) -> FilePipes {
         let desks = u32::try_from(desks).unwrap_or(u32::MAX);
         FilePipes {
@@ -79,7 +79,7 @@ const LEAST: u32 = 1_000;
 /// The longest pause of the machine's thread, in microseconds: so much later it may see the first line after a silence.
 const MOST: u32 = 10_000;
 
-/// The longest pause of a desk's thread for each desk, in microseconds: so a second has no more pauses of many desks than of a dozen.
+/// The longest pause of a desk's thread, in microseconds for each desk: so many desks make no more pauses a second than a dozen.
 const FOR_A_DESK: u32 = 800;
 
 /// The longest pause of a desk's thread, however many desks there are, in microseconds.

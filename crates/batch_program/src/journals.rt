@@ -15,7 +15,8 @@ pub trait Journals {
     // The file that is opened at a path, as far as it is known.
     ghost opens: { Self → List ℕ → Self.File → Type 0 };
 
-    /// Opens the journal at the path, and makes it if it is missing. The error is `WouldBlock` if another process has it.
+    /// Opens the journal at the path, and makes it if it is missing. The error is `WouldBlock` if another process has it, and else that of
+    /// the system.
     fn open_journal(&self, path: &str) -> io::Result<Self::File>
         ensures opened { IfOk result (λ file. opens self.now path.now file) }
         // After a restart a read returns the bytes on the disk, and none of them was given on.

@@ -1,10 +1,11 @@
 //! Laws over runs of the program.
 ghost use Rattle.batch_program.specs.JournalRuns.{disks_of};
-ghost use Rattle.batch_program.specs.Programs.{AuditsAreTrue, CertificatesAreKept, DesksAreKept, DesksAreSafe, PlantsAreComplete, ServingIsSafe, RemarkedServingIsSafe};
+ghost use Rattle.batch_program.specs.Programs.{AuditsAreTrue, CertificatesAreKept, DesksAreKept, DesksAreSafe, JournalledServingIsSafe, PlantsAreComplete, ServingIsSafe, RemarkedServingIsSafe};
 
 use crate::journals::Journals;
 use crate::records::Records;
 use batch_keep::desks_are_told_again;
+use batch_serve::answers_go_on_safely;
 use batch_verdicts::Documents;
 
 /// If a run that serves ends with status 0, all lines of the input were answered, and the written text is that of a safe record.
@@ -39,6 +40,19 @@ pub fn remarked_serving_is_safe<D: Documents + Records + Journals>(documents: &D
     ensures { RemarkedServingIsSafe (D.gives documents.now) (D.holds documents.now)
         (record { disks = disks_of D.File.Disk; opens = D.opens documents.now }) }
 {
+    let _documents = documents;
+}
+
+/// If a run over a journal ends with status 0, all lines of the input were answered behind the recovery block, and the answers are the later
+/// part of the text of a safe record.
+///
+/// The record begins with the answers to the lines that the file had. The set is that of the documents, cleared by their certificate.
+// claim: safe over a file
+pub fn journalled_serving_is_safe<D: Documents + Records + Journals>(documents: &D)
+    ensures { JournalledServingIsSafe (D.gives documents.now) (D.holds documents.now)
+        (record { disks = disks_of D.File.Disk; opens = D.opens documents.now }) }
+{
+    answers_go_on_safely();
     let _documents = documents;
 }
 
@@ -82,12 +96,14 @@ pub fn desks_are_safe<D: Documents + Records + Journals>(documents: &D)
 ///
 /// - the desks and the set are those of the documents;
 /// - the run has written the recovery block of the lines that the file had, and behind it the answers to lines of the desks;
+/// - the answers to the block's lines and these are together the text of a safe record;
 /// - the replay writes again the answers to the block's lines, and these answers without their comments.
-// claim: desks kept
+// claim: desks kept; safe over a file
 pub fn desks_are_kept<D: Documents + Records + Journals>(documents: &D)
     ensures { DesksAreKept (D.gives documents.now) (D.holds documents.now)
         (record { disks = disks_of D.File.Disk; opens = D.opens documents.now }) }
 {
     desks_are_told_again();
+    answers_go_on_safely();
     let _documents = documents;
 }

@@ -30,8 +30,8 @@ pub use file_writing::write_file;
 pub use journals::Journals;
 pub use keeping::serve_over_journal;
 pub use laws::{
-    audits_are_true, certificates_are_kept, desks_are_kept, desks_are_safe, plants_are_complete,
-    remarked_serving_is_safe, serving_is_safe,
+    audits_are_true, certificates_are_kept, desks_are_kept, desks_are_safe,
+    journalled_serving_is_safe, plants_are_complete, remarked_serving_is_safe, serving_is_safe,
 };
 pub use limits::{read_limit_is_fixed, turn_limit_is_fixed};
 pub use plant::report_of_plant;

@@ -1,4 +1,4 @@
-//! Who runs a plant.
+//! Runners of plants.
 ghost use Rattle.std.specs.Prelude.{IfOk};
 ghost use Rattle.batch_program.specs.PlantWork.{RunsBy};
 
@@ -7,7 +7,7 @@ use batch_plant::PlantFault;
 use batch_verify::Cleared;
 use std::alloc::Global;
 
-/// Who runs a plant: the program by threads of its process, and a test as it likes.
+/// A runner of plants. That of the program uses threads of its process (`ThreadsOf`).
 pub trait PlantRunner {
     /// Creates and starts batches of the set's first recipe, and runs until all are complete. Gives how many events the hub has handled.
     ///

@@ -25,9 +25,9 @@ const TOP: Spot = Spot {
     entry: 0,
 };
 
-/// Reads a cell document. It is refused as
+/// Reads a cell document. One that is too long is refused as `Entry` at its top, before it is parsed. Any other is refused as
 /// - `NotToml`, if its bytes are no TOML in UTF-8;
-/// - `Entry`, if it is too long, which is reported at its top, or says no cell;
+/// - `Entry`, if they give no cell;
 /// - `Memory`, if memory is refused on the way.
 ///
 /// The first fault is reported, in this order:

@@ -7,8 +7,8 @@ use batch_text::Name;
 /// How many lines may wait for a desk without a `lag`.
 pub const USUAL_LAG: usize = 4_096;
 
-/// A console or an equipment link: which lines it sends and is written, and by which paths. A path may be that of a
-/// named pipe, a terminal or a file; nothing checks it before it is opened.
+/// A console or an equipment link: the paths of its input and its output, and the unit whose moves it is sent. A path may be that of a
+/// named pipe, a terminal or a file. Only its length is tested before it is opened.
 // claim: kept desks
 #[derive(Drop)]
 pub struct Desk {
@@ -17,7 +17,7 @@ pub struct Desk {
     pub input: Option<String>,
     /// The path that its answers and moves are written to.
     pub output: Option<String>,
-    /// The one unit whose starts and sends it is told; all where there is none.
+    /// The unit whose starts and sends it is sent. None of a console, which is sent each move.
     pub unit: Option<Name>,
     /// Whether the input goes on when its writer leaves.
     pub stays: bool,

@@ -27,9 +27,9 @@ const TOP: Spot = Spot {
     entry: 0,
 };
 
-/// Reads a document of desks. It is refused as
+/// Reads a document of desks. One that is too long is refused as `Entry` at number 0, before it is parsed. Any other is refused as
 /// - `NotToml`, if its bytes are no TOML in UTF-8;
-/// - `Entry`, if it is too long, which is reported at number 0, or says no desks;
+/// - `Entry`, if they give no desks;
 /// - `Memory`, if memory is refused on the way.
 ///
 /// The first fault is reported, in this order:

@@ -13,8 +13,8 @@ use toml::Table;
 pub const MAX_DOCUMENT_LEN: usize = 1_048_576;
 
 /// The table of a document. It is refused as
+/// - `Entry`, at its top and out of limits, if it is too long, which is tested first;
 /// - `NotToml`, if its bytes are no TOML in UTF-8;
-/// - `Entry`, at its top and out of limits, if it is too long;
 /// - `Memory`, if memory is refused.
 // claim: table of a document
 pub fn table_of(alloc: Global, bytes: &[u8], top: Spot) -> Result<Table, DocFault>

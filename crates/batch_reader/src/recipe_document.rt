@@ -39,9 +39,10 @@ const TOP: Spot = Spot {
     entry: 0,
 };
 
-/// Reads a recipe document. The needs, the units, the classes and the phases that it names are looked up in no cell. It is refused as
+/// Reads a recipe document. The needs, the units, the classes and the phases that it names are looked up in no cell. A document
+/// that is too long is refused as `Entry` at its top, before it is parsed. Any other is refused as
 /// - `NotToml`, if its bytes are no TOML in UTF-8;
-/// - `Entry`, if it is too long, which is reported at its top, or says no recipe;
+/// - `Entry`, if they give no recipe;
 /// - `Memory`, if memory is refused on the way.
 ///
 /// The first fault is reported, in this order:

@@ -30,8 +30,8 @@ pub struct Entry {
     pub child: u16,
     /// How many needs the act has, its unit and those that it reserves among them: 0 where the node is no act.
     pub needs: u16,
-    /// The number of the unit procedure that an act stands under, in its table; of the first condition of a `sel`'s branches, in the
-    /// outline; of a loop's condition, there too. 0 at other nodes.
+    /// At an act: the number, in its table, of the unit procedure above it. At a `sel`: the number, in the outline, of its first condition.
+    /// At a loop: the number, in the outline, of its condition. Else 0.
     pub detail: usize,
 }
 

@@ -27,7 +27,7 @@ impl Model for Values {
 }
 
 impl Values {
-    /// The value with this name.
+    /// The value with this name. None if there is none.
     // claim: values by name
     pub fn value_of(&self, name: &Name) -> Option<u64>
         ensures { result ≡ value_of self.now name.now }
@@ -107,7 +107,7 @@ pub fn are_outputs(names: &[Name], outputs: &[(Name, u64)]) -> bool
     true
 }
 
-/// The number, among these names, of the first that the outputs have no value with.
+/// The index of the first of these names for which the outputs have no value. None if they have one for each.
 // claim: outputs left out
 pub fn first_left_out(names: &[Name], outputs: &[(Name, u64)]) -> Option<usize>
     ensures { result ≡ position (λ name. not (have_output outputs.now name)) names.now }

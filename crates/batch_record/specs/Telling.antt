@@ -84,7 +84,7 @@ pub record Tale : Type 0 where
   pub batches : ℕ → Option Listed
   pub live : List Live
 
--- the state by a record without a line
+-- the state before the first line of a record
 abbrev pub empty_tale : Tale
 empty_tale = record { holders = λ resource. []; waiters = λ resource. []; batches = λ number. None; live = [] }
 

@@ -5,16 +5,16 @@ use std::alloc::{AllocError, Global};
 /// How long the axis is, in the picture's points.
 pub const LENGTH: u64 = 840;
 
-/// At most so many ticks.
+/// The most ticks of an axis.
 const MOST_TICKS: u64 = 10;
 
-/// Between two ticks, in lines.
+/// The possible steps between two ticks, in lines.
 const LINE_STEPS: [u64; 20] = [
     1, 2, 5, 10, 20, 50, 100, 200, 500, 1_000, 2_000, 5_000, 10_000, 20_000, 50_000, 100_000,
     200_000, 500_000, 1_000_000, 10_000_000,
 ];
 
-/// Between two ticks, in milliseconds.
+/// The possible steps between two ticks, in milliseconds.
 const CLOCK_STEPS: [u64; 20] = [
     1,
     10,

@@ -205,7 +205,7 @@ fn claim_with<'a>(
     }
 }
 
-/// At least one unit.
+/// The number of units that the word is: 1 at least, and no more than 32 bits count.
 fn unit_count(word: &[u8]) -> Option<u32>
     ensures { MatchOption result (is_unit_count word.now ≡ false)
         (λ units. (is_unit_count word.now ≡ true) × (units ≡ number_of word.now)) }

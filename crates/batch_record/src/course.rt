@@ -12,12 +12,12 @@ use crate::status::Status;
 use crate::told::Told;
 use std::alloc::Global;
 
-/// Why a line wasn't taken.
+/// Why a line wasn't applied.
 #[derive(Clone, Copy)]
 pub enum LineFault {
     /// The line is no line of a record.
     NoRecord,
-    /// Memory was refused. The line may be taken in part.
+    /// Memory was refused. The line may be applied in part.
     Memory,
 }
 

@@ -15,7 +15,7 @@ use batch_matrix::{Command, State};
 use batch_text::is_name;
 use batch_wire::{command_of, word_of_report};
 
-/// The out that the line tells, or None if it is the text of no out. The line comes without its line feed.
+/// The out of the line, or None if the line is the text of no out. The line comes without its line feed.
 // claim: lines told
 pub fn read_out(line: &[u8]) -> Option<Told<'_>>
     ensures said { GivesAsDefined out_told result (out_of_line line.now) }
@@ -46,7 +46,7 @@ fn read_words(mut line: Words<'_>) -> Option<Told<'_>>
     }
 }
 
-/// The kinds of lines that the state of the plant's resources isn't read from.
+/// Reads the kinds of lines that change no holders, waiting acts or states of batches, and `created`.
 fn read_others<'a>(first: &[u8], line: Words<'a>) -> Option<Told<'a>>
     ensures { GivesAsDefined out_told result (other_of first.now (words_left line.entry.rest)) }
 {

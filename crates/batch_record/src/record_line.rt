@@ -11,7 +11,7 @@ use crate::told::Told;
 #[derive(Clone, Copy)]
 pub struct NoRecordLine;
 
-/// The out that the line tells, or None if it is a comment or says that an event line was refused before the machine saw it. The
+/// The out of the line, or None if it is a comment or says that an event line was refused before the machine saw it. The
 /// line comes without its line feed.
 // claim: lines of a record
 pub fn read_record_line(line: &[u8]) -> Result<Option<Told<'_>>, NoRecordLine>

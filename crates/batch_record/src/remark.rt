@@ -86,7 +86,7 @@ fn read_claim(mut arguments: Words<'_>) -> Option<Claim<'_>> {
     }
 }
 
-/// At least one unit.
+/// The number of units that the word is: 1 at least, and no more than 32 bits count.
 fn unit_count(word: &[u8]) -> Option<u32> {
     let units = plain_number(word)?;
     if units > 0 && units <= 4_294_967_295 {

@@ -32,7 +32,7 @@ impl Drop for Status {
 }
 
 impl Status {
-    /// The state by a record without a line.
+    /// The state before the first line of a record.
     pub fn new(alloc: Global) -> Status
         ensures { Keeps result empty_tale }
     {
@@ -44,7 +44,7 @@ impl Status {
         }
     }
 
-    /// Applies one out more. At Err the out may be applied in part, and the record must be read anew.
+    /// Applies one more out. The error is want of memory: the out may be applied in part then, and the record must be read anew.
     // claim: told out by out
     pub fn apply_out(&mut self, alloc: Global, told: Told<'_>) -> Result<(), NoMemory>
         ensures { OnOk result ((tale : Tale) → Keeps self.old tale → Keeps self.new (tale_after tale (out_told told.entry))) }

@@ -144,7 +144,7 @@ impl Timeline {
         Share::of(alloc, resource, claim, waits)
     }
 
-    /// The units that take the roles of a batch, of which each is a name, `=` and the unit's name.
+    /// Marks the resources that take the roles of a batch as units. Each role is a name, `=` and the unit's name.
     fn note_roles(&mut self, alloc: Global, roles: Words<'_>) -> Result<(), AllocError> {
         for role in roles {
             let mut parts = role.split(|byte| *byte == b'=');
@@ -164,7 +164,7 @@ impl Timeline {
         Ok(())
     }
 
-    /// The number of the resource with this name, which is named from now on.
+    /// The number of the resource with this name, which is added if no line has named it yet.
     fn number_of(&mut self, alloc: Global, name: &[u8]) -> Result<usize, AllocError> {
         for (number, resource) in self.resources.iter().enumerate() {
             if resource.name.text().as_bytes() == name {

@@ -87,7 +87,7 @@ pub fn read_need(word: &[u8]) -> Option<(&[u8], u32)>
     }
 }
 
-/// More than one unit, as a number.
+/// The number of units that the word is: 2 at least, and no more than 32 bits count.
 fn read_units(word: &[u8]) -> Option<u32>
     ensures { MatchOption result (is_plain_units word.now ≡ false)
         (λ units. (is_plain_units word.now ≡ true) × (units ≡ number_of word.now)) }

@@ -104,7 +104,7 @@ pub record IsClearOnEach (setup : Setup) (rank : Ranking) (cell : equipment.Cell
   pub follow : (bound : Binding) → IsServed (master_of cell recipe) bound
       → Each (λ this_part. ReservesFollow (recipe_of recipe bound).procedure this_part.node) (procedure_parts (recipe_of recipe bound))
 
--- the ranking clears a recipe whatever units take its roles exactly where each unit procedure is clear on each unit by itself
+-- the ranking clears a recipe, for every choice of units for its roles, exactly if it is clear on each unit (`IsClearOnEach`)
 abbrev pub CandidatesSuffice : Type 0
 CandidatesSuffice =
     (setup : Setup) (rank : Ranking) (cell : equipment.Cell) (recipe : document.Recipe)

@@ -24,8 +24,8 @@ pub fn ways_rise()
     ensures { WaysRise }
 {}
 
-/// The expanded tree of every recipe has the levels of a procedure: each phase runs on the unit of its unit procedure, which
-/// that asks for first.
+/// The expanded tree of every recipe has the levels of a procedure. Each phase runs on the unit of its unit procedure, and the unit
+/// procedure asks for this unit first.
 pub fn trees_have_units()
     ensures trees { TreesAreProcedures }
     // claim: procedures
@@ -38,8 +38,12 @@ pub fn sets_are_documents()
     ensures { SetsAreDocuments }
 {}
 
-/// A recipe is cleared for whatever units take its roles exactly where each unit procedure is clear on each unit that may run it,
-/// by itself: a path has one unit procedure.
+/// A recipe is cleared, for every choice of units for its roles, exactly if four facts hold:
+///
+/// - each role that its tree names has a candidate;
+/// - each node outside unit procedures is clear;
+/// - each unit procedure is clear by itself on each unit that may run it, with every choice of units for its reserves;
+/// - its reserves follow.
 // claim: candidates
 pub fn candidates_suffice()
     ensures { CandidatesSuffice }

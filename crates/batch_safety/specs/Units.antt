@@ -1,4 +1,4 @@
--- surface: units that are passed on, or that a step reserves, stay with their batch.
+-- trusted: units that are passed on, or that a step reserves, stay with their batch.
 use Rattle.std.specs.Prelude.{List}
 use Rattle.batch_model.specs.Lists.{Each}
 use Rattle.batch_model.specs.Plant.{Setup, Plant, opening}

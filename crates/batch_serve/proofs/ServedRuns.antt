@@ -2,10 +2,11 @@
 use Rattle.std.proofs.Common.{◌≡◌, ◌<◌, ◌+◌, ℕ, length, take, get_or, List, [], ◌∷◌, ◌++◌, refl, sym, ◌∙◌, ap, subst}
 use Rattle.std.proofs.lemmas.List.{take_more}
 use Rattle.batch_model.specs.Plant.{Setup, Plant, opening}
+use Rattle.batch_safety.specs.Sets.{ClearedSetsRunSafely}
 use Rattle.batch_verify.specs.ClearedSet.{ClearedSet}
 use Rattle.batch_engine.specs.View.{setup}
 use Rattle.batch_wire.specs.Transcript.{lines_of, Exchange, silence, followed_by, Transcript}
-use Rattle.batch_serve.specs.{Joined.TranscriptsJoin, Safe.TranscriptsAreSafe, GoingOn.ServiceGoesOn, Runs.Run, Served.AreServed, Served.IsRunAnswered, Served.ServiceIsSafe, Served.plain_text, Served.run_lines}
+use Rattle.batch_serve.{specs.Joined.TranscriptsJoin, specs.Safe.GoesOnSafely, specs.Safe.TranscriptsAreSafe, specs.Safe.TranscriptsGoOnSafely, specs.GoingOn.ServiceGoesOn, specs.Runs.Run, specs.Served.AreServed, specs.Served.IsRunAnswered, specs.Served.RunsGoOnSafely, specs.Served.ServiceIsSafe, specs.Served.plain_text, specs.Served.run_lines, proofs.SettledTranscripts.transcripts_are_safe}
 
 pub goes_on : ServiceGoesOn
 goes_on c old mid new [] more answers told one other =
@@ -44,6 +45,21 @@ all_said join c old new (run ∷ runs) answers (first, others, mid, is, served, 
       transcript = join c old mid new (lines_of run.text) (run_lines runs) is.said rest.said is.transcript rest.transcript;
       text = ap plain_text all ∙ ap (λ l. l ++ plain_text others) is.text ∙ ap (λ l. is.said.text ++ l) rest.text;
     }
+
+module _ (join : TranscriptsJoin) (safely : ClearedSetsRunSafely) where
+  pub transcripts_go_on : TranscriptsGoOnSafely
+  transcripts_go_on set mid new lines more said told can first others = record {
+    said = followed_by said told;
+    new = new;
+    transcript = transcripts_are_safe set (safely set.cell set.recipes can) (lines ++ more) (followed_by said told) new (join (setup set) opening mid new lines more said told first others);
+    text = refl;
+  }
+
+  pub runs_go_on : RunsGoOnSafely
+  runs_go_on set mid new lines said runs answers can first served =
+      let all = all_said join (setup set) mid new runs answers served in
+      subst (λ t. GoesOnSafely (setup set) lines (run_lines runs) said.text t) (sym all.text)
+      (transcripts_go_on set mid new lines (run_lines runs) said all.said can first all.transcript)
 
 pub is_safe : (set : ClearedSet) → TranscriptsJoin → TranscriptsAreSafe set → ServiceIsSafe set
 is_safe set join safe runs answers new served =

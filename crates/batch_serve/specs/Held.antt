@@ -27,7 +27,7 @@ pub record IsPassed (first contents : Option (List ℕ)) (waiting : List ℕ) : 
   pub kept : (held : List ℕ) → first ≡ Some held → option_map (take (length held)) contents ≡ Some held
   pub clear : (held all : List ℕ) → first ≡ Some held → contents ≡ Some all → IsClearText (drop (length held) all ++ waiting)
 
--- the told part of the taken text was passed on; together with the waiting part it is whole lines that show no want of memory
+-- of the text behind the first contents the writer got `told`; `told` and `waiting` together are whole lines that show no want of memory
 pub record TellsClear (held : List ℕ) (contents taken : Option (List ℕ)) : Type 0 where
   pub told : List ℕ
   pub waiting : List ℕ

@@ -27,7 +27,7 @@ abbrev pub last_of : Option ℕ → List Run → Option ℕ
 last_of before [] = before
 last_of before (run ∷ runs) = last_of (Some run.desk) runs
 
--- the lines of the runs that the desk at this place is due, as a console or as the link of a unit
+-- the lines of the runs that are due to the desk at this place, as a console or as the link of a unit
 abbrev pub due_of : ℕ → Option (List ℕ) → List Run → List (List ℕ)
 due_of desk unit runs = flat_map (λ (run : Run). filter (is_due (run.desk == desk) unit) (whole_lines run.text)) runs
 

@@ -1,6 +1,7 @@
 -- trusted: transcripts from the opening of a cleared set: their outs are a safe record.
 use Rattle.std.specs.Prelude.{ℕ, ◌≡◌, List, ◌++◌, Option}
 use Rattle.std.specs.Io.KnownBytes.{Appends, Consumes}
+use Rattle.batch_model.specs.Cleared.{CanBeCleared}
 use Rattle.batch_model.specs.Events.{Event}
 use Rattle.batch_model.specs.Lists.{Each}
 use Rattle.batch_model.specs.Plant.{Setup, Plant, opening}
@@ -36,6 +37,19 @@ abbrev pub TranscriptsLeaveNobodyInVain : ClearedSet → Type 0
 TranscriptsLeaveNobodyInVain set =
     (lines : List (List ℕ)) (said : Exchange) (new : Plant) → Transcript (setup set) opening lines said new
     → WaitsForSomething (setup set) new
+
+-- the answers to some lines, told, and those to more lines are together the text of a safe transcript of all these lines
+pub record GoesOnSafely (c : Setup) (lines more : List (List ℕ)) (told answers : List ℕ) : Type 0 where
+  pub said : Exchange
+  pub new : Plant
+  pub transcript : IsSafeTranscript c (lines ++ more) said new
+  pub text : said.text ≡ told ++ answers
+
+-- over a set that can be cleared a transcript that begins where one from the opening ends goes on safely
+abbrev pub TranscriptsGoOnSafely : Type 0
+TranscriptsGoOnSafely =
+    (set : ClearedSet) (mid new : Plant) (lines more : List (List ℕ)) (said told : Exchange) → CanBeCleared (setup set)
+    → Transcript (setup set) opening lines said mid → Transcript (setup set) mid more told new → GoesOnSafely (setup set) lines more said.text told.text
 
 -- the text of a safe transcript of the lines was written
 pub record WritesSafely (c : Setup) (lines : List (List ℕ)) (before after : Option (List ℕ)) : Type 0 where

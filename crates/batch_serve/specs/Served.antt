@@ -1,12 +1,13 @@
 -- trusted: runs of lines that were served, their answers, and the safe transcript that these make.
 use Rattle.std.specs.Prelude.{◌≡◌, ℕ, List, [], ◌∷◌, flat_map, ⊤}
+use Rattle.batch_model.specs.Cleared.{CanBeCleared}
 use Rattle.batch_model.specs.Plant.{Setup, Plant, opening}
 use Rattle.batch_verify.specs.ClearedSet.{ClearedSet}
 use Rattle.batch_engine.specs.View.{setup}
 use Rattle.batch_wire.specs.Transcript.{lines_of, Exchange, Transcript}
 use Rattle.batch_journal.specs.Readers.{IsWhole}
 use Rattle.batch_serve.specs.Replays.{ShowsNoWant}
-use Rattle.batch_serve.specs.Safe.{IsSafeTranscript}
+use Rattle.batch_serve.specs.Safe.{GoesOnSafely, IsSafeTranscript}
 use Rattle.batch_serve.specs.Runs.{Run}
 
 -- the run's lines got this answer in the state old, and the machine came to the state new
@@ -48,3 +49,10 @@ pub record IsSafeService (set : ClearedSet) (runs answers : List Run) (new : Pla
 -- any service from the opening is safe
 abbrev pub ServiceIsSafe : ClearedSet → Type 0
 ServiceIsSafe set = (runs answers : List Run) (new : Plant) → AreServed (setup set) opening runs answers new → IsSafeService set runs answers new
+
+-- runs that are served where a transcript from the opening ends go on safely, over a set that can be cleared
+abbrev pub RunsGoOnSafely : Type 0
+RunsGoOnSafely =
+    (set : ClearedSet) (mid new : Plant) (lines : List (List ℕ)) (said : Exchange) (runs answers : List Run) → CanBeCleared (setup set)
+    → Transcript (setup set) opening lines said mid → AreServed (setup set) mid runs answers new
+    → GoesOnSafely (setup set) lines (run_lines runs) said.text (plain_text answers)

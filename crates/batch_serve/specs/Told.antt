@@ -4,7 +4,7 @@ use Rattle.batch_serve.specs.Runs.{Run, due_of}
 use Rattle.batch_serve.specs.Waits.{IsAccount}
 use Rattle.batch_serve.specs.declared.desk.Desk.{Desk}
 
--- any account of the desk at this place grows by the lines of the answers that it is due
+-- any account of the desk at this place grows by the lines of the answers that are due to it
 pub record IsDeskTold (desk : ℕ) (answers : List Run) (old new : Desk) : Type 0 where
   pub unit : new.unit ≡ old.unit
   pub cut : new.waiting.is_cut ≡ false → old.waiting.is_cut ≡ false

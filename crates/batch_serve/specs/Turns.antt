@@ -19,8 +19,8 @@ pub record IsSameBut (old new : DeskServer) : Type 0 where
   pub desks : new.desks.items ≡ old.desks.items
   pub last : new.last ≡ old.last
 
--- the group was kept, if the keeper has kept all so far; it was served, its answers were recorded, and each desk was told of them. If
--- lines are to be replayed, they are whole lines, and none was refused for want of memory
+-- the group was kept, if the keeper has kept all so far; it was served, its answers were recorded, and the lines due to each desk were
+-- queued for it. If lines are to be replayed, they are whole lines, and none was refused for want of memory
 pub record IsTurned (old new : DeskServer) (safe : Type 0) (kept_before kept_after : List ℕ) (again : Bool) (record_before record_after : Option (List ℕ)) : Type 0 where
   pub answers : List Run
   pub kept : safe → kept_after ≡ kept_before ++ runs_text old.names.items old.last old.group.items

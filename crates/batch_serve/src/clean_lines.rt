@@ -30,7 +30,7 @@ pub struct CleanReader<R: Read> {
 }
 
 impl<R: Read> CleanReader<R> {
-    /// Over an input.
+    /// A reader of the lines of this input.
     // claim: lines as a journal has them
     pub fn new(inner: R) -> CleanReader<R>
         ensures { option_map (clean_from result.line) (R.remaining result.inner) ≡ option_map (λ input. clean_lines (lines_of input)) (R.remaining inner) }

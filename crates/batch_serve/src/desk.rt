@@ -1,4 +1,4 @@
-//! A desk: the lines that it is due, and the queue of those that it hasn't got.
+//! A desk, and the queue of the lines that are due to it and not yet sent.
 ghost use Rattle.std.specs.Prelude.{◌≡◌, ◌<◌, List, ℕ, [], ◌∷◌, ◌++◌, length, filter, position, false, IfSome};
 ghost use Rattle.batch_wire.specs.Transcript.{whole_lines};
 ghost use Rattle.batch_serve.specs.Dues.{is_due};
@@ -70,7 +70,7 @@ impl Desk {
         }
     }
 
-    /// Queues the lines that it is due of a text, which answers its own lines or another desk's.
+    /// Queues those lines of a text that are due to it. The text answers its own lines or another desk's.
     fn queue_lines(&mut self, alloc: Global, text: &[u8], is_own: bool)
         ensures unit { self.new.unit ≡ self.old.unit }
         ensures cut { self.new.waiting.is_cut ≡ false → self.old.waiting.is_cut ≡ false }
@@ -84,7 +84,7 @@ impl Desk {
         }
     }
 
-    /// Queues the lines of the answers that it is due, as the desk at this place.
+    /// Queues those lines of the answers that are due to it, as the desk at this place.
     pub fn queue_answers(&mut self, alloc: Global, answers: &[Run], desk: usize)
         ensures { IsDeskTold desk answers.now self.old self.new }
     {
@@ -95,7 +95,7 @@ impl Desk {
     }
 }
 
-/// Queues for each desk the lines of the answers that it is due.
+/// Queues for each desk those lines of the answers that are due to it.
 pub fn queue_for_each(alloc: Global, desks: &mut Vec<Desk>, answers: &[Run])
     ensures { AreDesksTold answers.now desks.old.items desks.new.items }
 {

@@ -77,10 +77,14 @@ impl DeskServer {
         Ok(())
     }
 
-    /// Serves the lines taken since the last turn: they are kept and answered, the answers are recorded, and the desks are told.
+    /// Serves the lines received since the last turn: they are kept and answered, the answers are recorded, and the lines due to each desk
+    /// are queued for it.
     ///
-    /// If the lines can't be kept, or are to be replayed and aren't whole, none is answered. If the record can't be written, or
-    /// there is no memory, no desk is told; nor if a line was refused for want of memory and the lines are to be replayed.
+    /// - `Journal`: the lines can't be kept, or are to be replayed and aren't whole. None is answered.
+    /// - `Record`: the record can't be written.
+    /// - `Memory`: there is none, or a line was refused for want of it and the lines are to be replayed.
+    ///
+    /// After any of these no line is queued for a desk.
     // claim: want ends a turn (turned, untold)
     pub fn turn<K: Keep, W: Write>(
         &mut self,

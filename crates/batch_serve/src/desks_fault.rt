@@ -17,13 +17,13 @@ pub enum CutReason {
     Memory,
 }
 
-/// Why a turn ended before its desks were told. Serving must end then.
+/// Why a turn ended before lines were queued for its desks. Serving must end then.
 #[derive(Clone, Copy, Debug, Error)]
 pub enum TurnFault {
-    /// There was no memory.
+    /// There was no memory, or a line that is to be replayed was refused for want of it.
     #[error("out of memory")]
     Memory,
-    /// The lines couldn't be kept.
+    /// The lines couldn't be kept, or are to be replayed and aren't whole.
     #[error("the journal can't be written")]
     Journal,
     /// The record couldn't be written.

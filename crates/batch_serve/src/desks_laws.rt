@@ -1,10 +1,11 @@
-//! Laws and worked rows of served lines, of the lines that a desk is due, and of its queue. Nothing runs here.
+//! Laws and worked rows of served lines, of the lines due to a desk, and of its queue. Nothing runs here.
 ghost use Rattle.batch_serve.specs.Joined.{TranscriptsJoin};
 ghost use Rattle.batch_serve.specs.Lives.{LivesBegin, LivesGoOn, LivesHandOn, LivesTake};
 ghost use Rattle.batch_serve.specs.Recorded.{RecordsAreSorted};
 ghost use Rattle.batch_serve.specs.GoingOn.{ServiceGoesOn, TextsGoOn};
 ghost use Rattle.batch_serve.specs.Rounds.{LinesGoOn};
-ghost use Rattle.batch_serve.specs.Served.{ServiceIsSafe};
+ghost use Rattle.batch_serve.specs.Safe.{TranscriptsGoOnSafely};
+ghost use Rattle.batch_serve.specs.Served.{RunsGoOnSafely, ServiceIsSafe};
 ghost use Rattle.batch_serve.specs.Dues.{RunsAreSorted};
 ghost use Rattle.batch_serve.specs.RowsOfDue.{CommentIsDueToNobody, ConsoleSeesAll, LinkSeesItsOrders, LinkSeesNoOther, RecordIsSorted, ReplyIsOwn};
 ghost use Rattle.batch_serve.specs.RowsOfWaits.{FrontIsTold, NoOtherIsTold, RestWaits, CutLosesTheRest};
@@ -12,6 +13,7 @@ ghost use Rattle.batch_serve.specs.RowsOfWaits.{FrontIsTold, NoOtherIsTold, Rest
 use crate::keep::Keep;
 use crate::laws::transcripts_are_safe;
 use crate::rounds::Sent;
+use batch_safety::cleared_sets_run_safely;
 use batch_verify::Cleared;
 use rtrb::Protocol;
 
@@ -25,13 +27,13 @@ pub fn waiting_rows()
     ensures cut { CutLosesTheRest }
 {}
 
-/// The lines due of a record are those due of each of its runs by itself. A run answers the lines of one desk.
+/// The lines of a record that are due to a desk are those of each of its runs by itself. A run answers the lines of one desk.
 // claim: records sorted
 pub fn runs_are_sorted()
     ensures { RunsAreSorted }
 {}
 
-/// The lines that a desk is due of a record's text, by its comments, are those that it is due of the answers.
+/// The lines of a record's text that are due to a desk by its comments are the lines of the answers that are due to it.
 // claim: records sorted
 pub fn records_are_sorted()
     ensures { RecordsAreSorted }
@@ -57,6 +59,17 @@ pub fn service_is_safe(cleared: &Cleared)
 {
     transcripts_join();
     transcripts_are_safe(cleared);
+}
+
+/// Over a set that can be cleared the answers to lines, and to runs of lines, that are served where a transcript from the opening ends are
+/// the later part of a safe transcript.
+// claim: safe behind a replay
+pub fn answers_go_on_safely()
+    ensures lines { TranscriptsGoOnSafely }
+    ensures runs { RunsGoOnSafely }
+{
+    transcripts_join();
+    cleared_sets_run_safely();
 }
 
 /// Runs that were served behind others were served with them. Their text, the lines of it that a desk is due, and the lines that a

@@ -37,7 +37,7 @@ pub struct Held<W: Write, C: Start> {
 }
 
 impl<W: Write, C: Start> Held<W, C> {
-    /// Over a writer.
+    /// A writer over this one, which holds no text yet.
     pub fn new(alloc: Global, inner: W) -> Held<W, C>
         requires { C.contents ≡ W.contents inner }
         ensures { append_known (W.contents result.inner) result.held.items ≡ append_known (W.contents inner) [] }

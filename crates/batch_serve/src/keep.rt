@@ -15,12 +15,12 @@ pub trait Keep {
     /// The text that it keeps.
     ghost kept: { Self → List ℕ };
 
-    /// The kept lines are replayed after a crash, so that want of memory must end the program before a desk is told of it.
+    /// The kept lines are replayed after a crash. So want of memory must end the program before a line that shows it is queued for a desk.
     ghost again: { Bool };
 
     /// Keeps the lines of a turn, as one group. At Ok they are safe.
     ///
-    /// The error is that they can't be kept. From then on no desk may be told anything.
+    /// The error is that they can't be kept. From then on no line may be queued for a desk.
     fn persist(&mut self, lines: &[u8]) -> Result<(), KeepFault>
         ensures kept { is_safe self.new → OnOk result (kept self.new ≡ kept self.old ++ lines.now) }
         ensures unkept { is_safe self.new → OnErr result (kept self.new ≡ kept self.old) }

@@ -54,7 +54,8 @@ pub fn no_want_is_well()
     ensures { NoWantIsWell }
 {}
 
-/// The text that was written of lines in two lives of a plant is a prefix of the text of a replay of lines that begin with them.
+/// Lines were served in one run and others in the next, and a prefix of the text of the others was written. The text of a replay of all of
+/// them, and of any lines behind, begins with the text of the first run and this prefix. Memory was wanted in none of the three.
 // claim: told again
 pub fn told_is_recovered()
     ensures { ToldIsRecovered }
@@ -78,7 +79,7 @@ pub fn clean_lines_serve_alike()
     ensures { CleanLinesServeAlike }
 {}
 
-/// The law of the replay, but memory may have been wanted after the written text, which is whole lines that show no want.
+/// `told_is_recovered` if the written text is whole lines that show no want of memory: behind this text memory may have been wanted.
 // claim: want isn't told
 pub fn want_is_not_told()
     ensures { WantIsNotTold }

@@ -38,8 +38,8 @@ pub use desk::Desk;
 pub use desk_server::DeskServer;
 pub use desks_fault::{CutReason, TurnFault};
 pub use desks_laws::{
-    due_rows, lines_go_on, lives_go_on, records_are_sorted, runs_are_sorted, service_goes_on,
-    service_is_safe, transcripts_join, waiting_rows,
+    answers_go_on_safely, due_rows, lines_go_on, lives_go_on, records_are_sorted, runs_are_sorted,
+    service_goes_on, service_is_safe, transcripts_join, waiting_rows,
 };
 pub use desks_remarks::runs_text;
 pub use fault::{ServeFault, SetFault};

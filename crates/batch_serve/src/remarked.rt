@@ -38,7 +38,7 @@ pub struct Remarked<W: Write, C: Start> {
 }
 
 impl<W: Write, C: Start> Remarked<W, C> {
-    /// Over a writer.
+    /// A writer over this one. Comments are left out only behind its present contents.
     // claim: a record without its comments
     pub fn new(inner: W) -> Remarked<W, C>
         requires { C.contents ≡ W.contents inner }

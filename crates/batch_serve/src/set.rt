@@ -15,6 +15,10 @@ use std::io::{Read, Write};
 /// counted. The written text is flushed before the reader is called again. Memory is taken for the engine and for events. If an
 /// event finds none, its line is refused and serving goes on. Returns how many batches are neither complete, stopped nor aborted
 /// then.
+///
+/// # Errors
+///
+/// `Memory` if there is none for the engine: nothing is read then. `Stopped` with the fault of `serve`.
 // claim: batches left; served from its opening; no engine
 pub fn serve_set<R: Read, W: Write, M: Remarks<W>>(
     alloc: Global,

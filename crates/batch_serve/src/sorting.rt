@@ -1,12 +1,12 @@
-//! The lines of a record that a desk is due.
+//! The lines of a record that are due to a desk.
 ghost use Rattle.std.specs.Prelude.{◌≡◌, position};
 ghost use Rattle.batch_wire.specs.EventLine.{is_space};
 ghost use Rattle.batch_serve.specs.Dues.{after_word, has_word, is_due, is_order, is_reply, is_seen};
 
 use batch_text::Name;
 
-/// Whether a desk is due a line of the record's text: of answers to its own lines the replies, and of all answers the moves
-/// that it sees. A console, which has no unit, sees each move, and the link of a unit the starts and sends of that unit.
+/// Whether a line of the record's text is due to a desk. Of the answers to its own lines the replies are, and of all answers the moves that
+/// it sees. A console, which has no unit, sees each move, and the link of a unit the starts and sends of that unit.
 // claim: due to a desk
 pub fn is_due(line: &[u8], is_own: bool, unit: &Option<Name>) -> bool
     ensures { result ≡ is_due is_own unit.now line.now }

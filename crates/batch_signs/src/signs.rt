@@ -1,4 +1,4 @@
-//! The signs of the acts of a chart, by which they are found.
+//! The signs of nodes, by which nodes are found.
 ghost use Rattle.std.specs.Prelude.{◌≡◌, ◌<◌, ◌≤◌, ℕ, length, replicate, slice_set, IfOk};
 ghost use Rattle.batch_signs.specs.Signs.{IsNextShown, TellsNone, replaced, sign_at};
 
@@ -86,7 +86,7 @@ impl Signs {
         }
     }
 
-    /// The first node from this one on that shows one of the signs.
+    /// The first node from this one on that shows one of the signs. None if no node does.
     // claim: next sign
     #[inline(always)]
     pub fn next(&self, wanted: u32, from: usize) -> Option<usize>

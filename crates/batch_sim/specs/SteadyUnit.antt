@@ -43,7 +43,7 @@ Commands old phase order new =
 
 -- Ticks
 
--- a moment passes: a running phase has a tick less to run
+-- one tick passes: a running phase has a tick less to run
 abbrev pub after_tick : SteadyPhase → SteadyPhase
 after_tick p = elim (same_state p.state Running) [ true ↦ record p { ticks_left = p.ticks_left - 1 } | false ↦ p ]
 
@@ -73,6 +73,6 @@ Reports old answer new =
           × (answer ≡ Some (number, report_of_end end)) × (new ≡ slice_set old number (record phase { state = end }))
     ]
 
--- a moment passes at all phases, and then at most one reports
+-- one tick passes at all phases, and then at most one reports
 abbrev pub TicksSteadily : SteadyView → Option (ℕ × Report) → SteadyView → Type 0
 TicksSteadily old answer new = Reports (map after_tick old.phases) answer new.phases × (new.ticks ≡ old.ticks)

@@ -3,7 +3,7 @@ use Rattle.std.specs.Prelude.{◌≡◌, ℕ, List, Bool, true, false, Option, S
 use Rattle.batch_matrix.specs.declared.report.Report.{Report}
 use Rattle.batch_sim.specs.declared.order.Order.{Order}
 
--- a moment passes at the unit with this number, and its driver answers. An unknown unit answers nothing
+-- one tick passes at the unit with this number, and its driver answers. An unknown unit answers nothing
 abbrev pub Ticks : {D : Type 0} → (D → Option (ℕ × Report) → D → Type 0) → ℕ → List D → Option (ℕ × Report) → List D → Type 0
 Ticks {D} gives unit old answer new =
     elim (slice_get old unit) [

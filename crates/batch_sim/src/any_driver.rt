@@ -13,6 +13,7 @@ pub struct AnyDriver {
 }
 
 impl AnyDriver {
+    /// The driver in this box.
     // claim: driver in a box
     pub fn new(driver: Box<dyn UnitDriver + Send>) -> AnyDriver
         ensures { result.driver ≡ driver }

@@ -20,7 +20,7 @@ pub trait UnitDriver: Drop {
     fn command(&mut self, phase: u16, order: Order)
         ensures { command_gives self.old phase order self.new };
 
-    /// A moment passes. At most one phase reports, by its number.
+    /// One tick passes. At most one phase reports, by its number.
     fn tick(&mut self) -> Option<(u16, Report)>
         ensures { tick_gives self.old result self.new };
 }

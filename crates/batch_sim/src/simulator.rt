@@ -22,6 +22,7 @@ impl<D: Drop> Model for Simulator<D> {
 }
 
 impl<D: UnitDriver> Simulator<D> {
+    /// The units that these drivers drive, numbered in this order. It owns the drivers.
     // claim: units of a simulator
     pub fn new(drivers: Vec<D>) -> Simulator<D>
         ensures { result ≡ drivers.items }
@@ -41,7 +42,7 @@ impl<D: UnitDriver> Simulator<D> {
         true
     }
 
-    /// A moment passes at a unit, and its driver may report. None, and nothing done, if no unit has the number.
+    /// One tick passes at a unit, and its driver may report. None, and nothing done, if no unit has the number.
     // claim: tick of a unit
     pub fn tick(&mut self, unit: u16) -> Option<(u16, Report)>
         ensures { Ticks D.tick_gives unit self.old result self.new }

@@ -40,7 +40,7 @@ impl SteadyPhase {
         }
     }
 
-    /// A moment passes.
+    /// One tick passes.
     pub(crate) fn count_down(&mut self)
         ensures { self.new ≡ after_tick self.old }
     {

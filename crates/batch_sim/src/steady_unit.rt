@@ -61,7 +61,7 @@ impl UnitDriver for SteadyUnit {
     }
 }
 
-/// A moment passes for each phase, and one may report.
+/// One tick passes for each phase, and one may report.
 fn tick(phases: &mut [SteadyPhase]) -> Option<(u16, Report)>
     requires { length phases.old < 2 ^ 16 }
     ensures { Reports (map after_tick phases.old) result phases.new }
@@ -70,7 +70,7 @@ fn tick(phases: &mut [SteadyPhase]) -> Option<(u16, Report)>
     report(phases)
 }
 
-/// A moment passes for each phase.
+/// One tick passes for each phase.
 fn count_down_each(phases: &mut [SteadyPhase])
     ensures { phases.new ≡ map after_tick phases.old }
 {

@@ -228,7 +228,7 @@ RunsComeToRest = (setup : Setup) → HasPlacedTrees setup → (events : List Eve
 
 -- Records
 
--- the holders, the waiters, the active phases and the states that a record tells change by its last line alone
+-- the holders, the waiters, the live phases and the states that a record gives change by its last line alone
 abbrev pub LastLineTellsHolders : Type 0
 LastLineTellsHolders =
     (outs : List Out) (out : Out) (resource : Name)

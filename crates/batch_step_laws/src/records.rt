@@ -1,7 +1,7 @@
-//! The holders, waiters, active phases and states that a record alone tells.
+//! The holders, waiters, live phases and states that a record alone gives.
 ghost use Rattle.batch_step_laws.specs.Laws.{LastLineTellsActive, LastLineTellsHolders, LastLineTellsState, LastLineTellsWaiters};
 
-/// The holders, the waiters, the active phases and the states that a record tells change by its last line alone.
+/// The holders, the waiters, the live phases and the states that a record gives change by its last line alone.
 // claim: last line tells
 pub fn last_line_tells()
     ensures holders { LastLineTellsHolders }

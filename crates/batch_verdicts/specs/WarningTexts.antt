@@ -1,4 +1,4 @@
--- trusted: the lines of warnings on documents that are taken.
+-- trusted: the lines of warnings on documents that are accepted.
 use Rattle.std.specs.Prelude.{ℕ, List, [], ◌∷◌, ◌++◌}
 use Rattle.std.specs.List.{flat_map}
 use Rattle.batch_cell.specs.declared.cell.Cell.{Cell}

@@ -24,8 +24,8 @@ pub struct DeskSet {
 
 /// The desks and the set of the documents at these paths.
 ///
-/// The first document that can't be read or is refused ends it: of the desks, then of the cell, whose units the desks may name, then
-/// of the certificate and the recipes; and then recipes that aren't cleared.
+/// The first of these ends it: a document of desks that can't be read or is refused; a cell; a desk's unit that the cell doesn't have; a
+/// certificate or a recipe; recipes that aren't cleared.
 pub fn clear_desks<D: Documents>(
     alloc: Global,
     documents: &D,

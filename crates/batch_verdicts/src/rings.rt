@@ -25,7 +25,7 @@ pub(crate) fn red_edges(
     Ok(red)
 }
 
-/// The edges on circles: edges lead back from their later resource to their earlier.
+/// The edges on circles: edges lead back from their later resource to their earlier one.
 fn edges_on_circles(alloc: Global, count: u16, edges: &[Edge]) -> Result<Vec<Edge>, AllocError>
     ensures { IfOk result (λ found. All (IsOnCircle edges.now) found.items) }
 {
@@ -75,7 +75,7 @@ fn reached_from(
     Ok(reached)
 }
 
-/// Marks the later resource of each edge whose earlier is marked, and returns whether some wasn't before.
+/// Marks the later resource of each edge whose earlier one is marked. Returns whether it marked any that wasn't before.
 fn spread(edges: &[Edge], start: u16, reached: &mut [bool]) -> bool
     requires { AreReached edges.now start reached.old }
     ensures { AreReached edges.now start reached.new }

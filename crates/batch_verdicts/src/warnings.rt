@@ -1,4 +1,4 @@
-//! Warnings on documents that are taken.
+//! Warnings on documents that are accepted.
 ghost use Rattle.std.specs.Prelude.{◌≡◌, IfOk, map, string_bytes};
 ghost use Rattle.batch_verdicts.specs.Saying.{IsWarned, WritesFront, message_line};
 ghost use Rattle.batch_verdicts.specs.WarningTexts.{lines_on, recipe_line, recipe_warnings_text, recipes_text, unit_line, units_text, warnings_text};

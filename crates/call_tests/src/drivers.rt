@@ -1,4 +1,4 @@
-//! Drivers that take no order to heart.
+//! Drivers that follow no order.
 use batch_matrix::Report;
 use batch_sim::{Order, UnitDriver};
 
