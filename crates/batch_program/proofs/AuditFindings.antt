@@ -4,12 +4,12 @@ use Rattle.std.specs.{Prelude.IfSome, Io.KnownBytes.Appends}
 use Rattle.clap.specs.Walk.{Text}
 use Rattle.batch_verify.specs.ClearedSet.{ClearedSet}
 use Rattle.batch_wire.specs.Transcript.{lines_of}
-use Rattle.batch_cli.specs.CommandLine.{Judgement, Source, audit, keep, remark, serve, tell, write, picture, serve_desks}
+use Rattle.batch_cli.specs.CommandLine.{Source, audit}
 use Rattle.batch_keep.specs.Audits as findings
 use Rattle.batch_keep.specs.{Audits.Finds, Audits.told_text, declared.finding.Finding.Finding, declared.finding.Finding.TheVariants.Agrees, declared.finding.Finding.TheVariants.Differs, declared.finding.Finding.TheVariants.EndsBefore}
 use Rattle.batch_verdicts.{specs.Reading.Gives, specs.Requests.IsSetOf, specs.Running.AskFor, specs.Running.IsPrinted, specs.Running.IsUnwritten, specs.Running.Stream, specs.Running.memory_status, specs.VerdictTexts.accepted_text, proofs.Successes.same_request}
 use Rattle.batch_serve.specs.Serves as serving
-use Rattle.batch_program.{proofs.DeskRequests.desks_no_audit, specs.AuditRuns.IsAccepted, specs.AuditRuns.IsAuditTold, specs.AuditRuns.finding_status, specs.AuditRuns.finding_text, specs.AuditRuns.finds, specs.AuditRuns.stops, specs.JournalRuns.JournalFiles, specs.Programs.AuditsAreTrue, specs.Programs.IsProgramRun, specs.Programs.tells, specs.Programs.writes, specs.Programs.serves, specs.Programs.serves_desks, specs.Programs.keeps, specs.Programs.remarks, specs.Programs.reads, specs.Programs.audits, specs.Programs.plants, specs.Programs.draws, specs.RecordRuns.Holds, specs.RecordRuns.IsUntold, specs.RecordRuns.output_of, specs.Telling.IsFindingTold, proofs.ProgramRuns.audits_no_journal, proofs.ProgramRuns.plants_no_audit, proofs.ProgramRuns.serves_no_audit, proofs.ProgramRuns.told_at_once}
+use Rattle.batch_program.{specs.AuditRuns.IsAccepted, specs.AuditRuns.IsAuditTold, specs.AuditRuns.finding_status, specs.AuditRuns.finding_text, specs.AuditRuns.finds, specs.AuditRuns.stops, specs.JournalRuns.JournalFiles, specs.Programs.AuditsAreTrue, specs.Programs.IsProgramRun, specs.Programs.tells, specs.Programs.writes, specs.Programs.serves, specs.Programs.serves_desks, specs.Programs.keeps, specs.Programs.remarks, specs.Programs.reads, specs.Programs.audits, specs.Programs.plants, specs.Programs.draws, specs.RecordRuns.Holds, specs.RecordRuns.IsUntold, specs.RecordRuns.output_of, specs.Telling.IsFindingTold, proofs.ProgramRuns.told_at_once}
 
 -- The bytes that were read
 
@@ -100,40 +100,27 @@ same_path a b one other x y is = cc
 same_documents : (a b : Bool) (one other : Text) (x y : Source) → audit a one x ≡ audit b other y → x ≡ y
 same_documents a b one other x y is = cc
 
-audits_no_comments : (source other : Source) (beginning echo times : Bool) (path : Text) → audit beginning path source ≡ remark other echo times → ⊥
-audits_no_comments source other beginning echo times path is = cc
-
-audits_no_file : (source : Source) (beginning : Bool) (path other : Text) (judgement : Judgement) → audit beginning path source ≡ write other judgement → ⊥
-audits_no_file source beginning path other judgement is = cc
-
-audits_no_record : (source : Source) (beginning : Bool) (path : Text) (other : Option Text) → audit beginning path source ≡ tell other → ⊥
-audits_no_record source beginning path other is = cc
-
-audits_no_picture : (source : Source) (beginning : Bool) (path : Text) (other : Option Text) → audit beginning path source ≡ picture other → ⊥
-audits_no_picture source beginning path other is = cc
-
 true_at : (gives : Gives) (holds : Holds) (files : JournalFiles) (words : List Text) (ends : serving.Ends) (errors : Stream) (beginning : Bool) (path : Text) (source : Source) (status : ℕ)
     → AskFor words (audit beginning path source) → IsProgramRun gives holds files words ends errors status → status ≡ 0
     → (set : ClearedSet) × IsSetOf gives source set × IsFound holds set beginning path ends
 true_at gives holds files words ends errors beginning path source _ asked (tells status came _) is =
     absurd (told_at_once gives words (output_of ends) errors (audit beginning path source) status asked came is)
 true_at gives holds files words ends errors beginning path source _ asked (writes other judgement _ _ _ asked2 _ _ _ _) is =
-    absurd (audits_no_file source beginning path other judgement (same_request words (audit beginning path source) (write other judgement) asked asked2))
+    absurd (let same = same_request words _ _ asked asked2 in cc)
 true_at gives holds files words ends errors beginning path source _ asked (serves other _ _ asked2 _ _ _) is =
-    absurd (serves_no_audit other source beginning path (same_request words (serve other) (audit beginning path source) asked2 asked))
+    absurd (let same = same_request words _ _ asked2 asked in cc)
 true_at gives holds files words ends errors beginning path source _ asked (keeps other cell certificate recipes echo times _ _ _ asked2 _ _) is =
-    absurd (audits_no_journal beginning path source other cell certificate recipes echo times
-    (same_request words (audit beginning path source) (keep other cell certificate recipes echo times) asked asked2))
+    absurd (let same = same_request words _ _ asked asked2 in cc)
 true_at gives holds files words ends errors beginning path source _ asked (remarks other echo times _ _ asked2 _ _ _) is =
-    absurd (audits_no_comments source other beginning echo times path (same_request words (audit beginning path source) (remark other echo times) asked asked2))
+    absurd (let same = same_request words _ _ asked asked2 in cc)
 true_at gives holds files words ends errors beginning path source _ asked (serves_desks named desks cell certificate recipes times _ _ _ _ asked2 _ _ _) is =
-    absurd (desks_no_audit beginning path source (same_request words (serve_desks named desks cell certificate recipes times) (audit beginning path source) asked2 asked))
+    absurd (let same = same_request words _ _ asked2 asked in cc)
 true_at gives holds files words ends errors beginning path source _ asked (reads other _ asked2 _) is =
-    absurd (audits_no_record source beginning path other (same_request words (audit beginning path source) (tell other) asked asked2))
+    absurd (let same = same_request words _ _ asked asked2 in cc)
 true_at gives holds files words ends errors beginning path source _ asked (draws other _ asked2 _) is =
-    absurd (audits_no_picture source beginning path other (same_request words (audit beginning path source) (picture other) asked asked2))
+    absurd (let same = same_request words _ _ asked asked2 in cc)
 true_at gives holds files words ends errors beginning path source _ asked (plants planted _ options _ _ asked2 _ _ _ _) is =
-    absurd (plants_no_audit planted options.batches options.ticks options.ring source beginning path (same_request words _ (audit beginning path source) asked2 asked))
+    absurd (let same = same_request words _ _ asked2 asked in cc)
 true_at gives holds files words ends errors beginning path source _ asked (audits wide other from set status asked2 is_set told) is =
     let same = same_request words (audit wide other from) (audit beginning path source) asked2 asked in (
       set,

@@ -13,7 +13,7 @@ use Rattle.batch_verdicts.specs.declared.course.Course.TheVariants as course_of
 use Rattle.batch_reader.specs.{DeskNames.desk_names, declared.desk_set.Desks.Desks}
 use Rattle.batch_pipes.specs.{Service.AreDesksServed, declared.fault.DesksFault.DesksFault, declared.fault.DesksFault.TheVariants.Memory, declared.fault.DesksFault.TheVariants.Thread, declared.fault.DesksFault.TheVariants.Journal, declared.fault.DesksFault.TheVariants.Record, declared.fault.DesksFault.TheVariants.RoundsOut}
 use Rattle.batch_serve.specs.Serves as serving
-use Rattle.batch_program.{specs.DeskRuns.AreDesksOn, specs.DeskRuns.AreDesksRun, specs.DeskRuns.IsDesksRecord, specs.DeskRuns.status_of_desks, specs.DeskRuns.status_of_fault, specs.JournalRuns.JournalFiles, specs.Programs.DesksAreSafe, specs.Programs.IsProgramRun, specs.Programs.audits, specs.Programs.draws, specs.Programs.keeps, specs.Programs.plants, specs.Programs.reads, specs.Programs.remarks, specs.Programs.serves, specs.Programs.serves_desks, specs.Programs.tells, specs.Programs.writes, specs.RecordRuns.Holds, specs.RecordRuns.output_of, proofs.DeskRequests.desks_no_audit, proofs.DeskRequests.desks_no_comments, proofs.DeskRequests.desks_no_file, proofs.DeskRequests.desks_no_journal, proofs.DeskRequests.desks_no_picture, proofs.DeskRequests.desks_no_plant, proofs.DeskRequests.desks_no_record, proofs.DeskRequests.desks_no_serving, proofs.ProgramRuns.kept_then_appended, proofs.ProgramRuns.run_over_kept, proofs.ProgramRuns.told_at_once}
+use Rattle.batch_program.{specs.DeskRuns.AreDesksOn, specs.DeskRuns.AreDesksRun, specs.DeskRuns.IsDesksRecord, specs.DeskRuns.status_of_desks, specs.DeskRuns.status_of_fault, specs.JournalRuns.JournalFiles, specs.Programs.DesksAreSafe, specs.Programs.IsProgramRun, specs.Programs.audits, specs.Programs.draws, specs.Programs.keeps, specs.Programs.plants, specs.Programs.reads, specs.Programs.remarks, specs.Programs.serves, specs.Programs.serves_desks, specs.Programs.tells, specs.Programs.writes, specs.RecordRuns.Holds, specs.RecordRuns.output_of, proofs.ProgramRuns.kept_then_appended, proofs.ProgramRuns.run_over_kept, proofs.ProgramRuns.told_at_once}
 
 -- the desks that are to be served, and nothing was written before
 pub record AreToServe (gives : Gives) (words : List Text) (output errors : Stream) (served : DeskSet) (journal : Option (String Global)) (times : Bool) : Type 0 where
@@ -147,16 +147,16 @@ module _ (gives : Gives) (holds : Holds) (files : JournalFiles) (words : List Te
       × AreDesksRun files set digits (desk_names desks.desks.items) named times (output_of ends) status
   desks_ran _ asked (tells status came _) is =
       absurd (told_at_once gives words (output_of ends) errors (serve_desks named path cell certificate recipes times) status asked came is)
-  desks_ran _ asked (writes file judgement _ _ _ asked2 _ _ _ _) is = absurd (desks_no_file file judgement (same_request words _ _ asked asked2))
-  desks_ran _ asked (serves source _ _ asked2 _ _ _) is = absurd (desks_no_serving source (same_request words _ _ asked asked2))
-  desks_ran _ asked (remarks source echo stamped _ _ asked2 _ _ _) is = absurd (desks_no_comments source echo stamped (same_request words _ _ asked asked2))
+  desks_ran _ asked (writes file judgement _ _ _ asked2 _ _ _ _) is = absurd (let same = same_request words _ _ asked asked2 in cc)
+  desks_ran _ asked (serves source _ _ asked2 _ _ _) is = absurd (let same = same_request words _ _ asked asked2 in cc)
+  desks_ran _ asked (remarks source echo stamped _ _ asked2 _ _ _) is = absurd (let same = same_request words _ _ asked asked2 in cc)
   desks_ran _ asked (keeps journal other ranks others echo stamped _ _ _ asked2 _ _) is =
-      absurd (desks_no_journal journal other ranks others echo stamped (same_request words _ _ asked asked2))
-  desks_ran _ asked (reads record_path _ asked2 _) is = absurd (desks_no_record record_path (same_request words _ _ asked asked2))
-  desks_ran _ asked (draws record_path _ asked2 _) is = absurd (desks_no_picture record_path (same_request words _ _ asked asked2))
-  desks_ran _ asked (audits beginning record_path source _ _ asked2 _ _) is = absurd (desks_no_audit beginning record_path source (same_request words _ _ asked asked2))
+      absurd (let same = same_request words _ _ asked asked2 in cc)
+  desks_ran _ asked (reads record_path _ asked2 _) is = absurd (let same = same_request words _ _ asked asked2 in cc)
+  desks_ran _ asked (draws record_path _ asked2 _) is = absurd (let same = same_request words _ _ asked asked2 in cc)
+  desks_ran _ asked (audits beginning record_path source _ _ asked2 _ _) is = absurd (let same = same_request words _ _ asked asked2 in cc)
   desks_ran _ asked (plants planted _ options _ _ asked2 _ _ _ _) is =
-      absurd (desks_no_plant planted options.batches options.ticks options.ring (same_request words _ _ asked asked2))
+      absurd (let same = same_request words _ _ asked asked2 in cc)
   desks_ran _ asked (serves_desks other p c k rs stamped desks set digits status asked2 cleared ran _) is =
       let (all, done) = same_desks gives files named other times stamped path cell certificate p c k recipes rs desks set digits (output_of ends) status
       (same_request words _ _ asked2 asked) cleared ran in

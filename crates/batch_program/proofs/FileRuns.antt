@@ -1,13 +1,13 @@
 -- Runs that write a file.
-use Rattle.std.proofs.Common.{◌≡◌, ℕ, Bool, List, Option, Some, inl, inr, refl, subst}
+use Rattle.std.proofs.Common.{◌≡◌, ℕ, Bool, List, Some, inl, inr, refl, subst}
 use Rattle.std.specs.{Prelude.String, Prelude.string_bytes, Global.Global}
 use Rattle.clap.specs.Walk.{Text}
-use Rattle.batch_cli.specs.CommandLine.{Judgement, Request, Source, audit, keep, picture, remark, serve, tell, write, serve_desks}
+use Rattle.batch_cli.specs.CommandLine.{Judgement, Request, write}
 use Rattle.batch_verdicts.{specs.Reading.Gives, specs.Requests.IsVerdictText, specs.Running.AskFor, specs.Running.IsDone, specs.Running.IsRun, specs.Running.IsUnwritten, specs.Running.Stream, specs.Running.ask_quiet, specs.Saying.IsWarned, specs.declared.course.Course.Course, proofs.Successes.same_request, proofs.WarningEffects.verdict_more, proofs.WarningEffects.warned_kept}
 use Rattle.batch_verdicts.specs.Running as running
 use Rattle.batch_verdicts.specs.declared.course.Course.TheVariants as course_of
 use Rattle.batch_serve.specs.Serves as serving
-use Rattle.batch_program.{proofs.DeskRequests.desks_no_file, specs.Programs.CertificatesAreKept, specs.Programs.IsProgramRun, specs.Programs.tells, specs.Programs.writes, specs.Programs.serves, specs.Programs.serves_desks, specs.Programs.remarks, specs.Programs.keeps, specs.Programs.reads, specs.Programs.draws, specs.Programs.audits, specs.Programs.plants, specs.JournalRuns.JournalFiles, specs.RecordRuns.Holds, specs.RecordRuns.output_of, proofs.ProgramRuns.plants_no_file, proofs.ProgramRuns.serves_no_file, proofs.ProgramRuns.told_at_once}
+use Rattle.batch_program.{specs.Programs.CertificatesAreKept, specs.Programs.IsProgramRun, specs.Programs.tells, specs.Programs.writes, specs.Programs.serves, specs.Programs.serves_desks, specs.Programs.remarks, specs.Programs.keeps, specs.Programs.reads, specs.Programs.draws, specs.Programs.audits, specs.Programs.plants, specs.JournalRuns.JournalFiles, specs.RecordRuns.Holds, specs.RecordRuns.output_of, proofs.ProgramRuns.told_at_once}
 
 done_to_write : (gives : Gives) (request : Request) (quiet : Bool) (output errors : Stream) (course : Course) (path text : String Global)
     → IsDone gives request quiet output errors course → course ≡ course_of.Writes path text
@@ -51,22 +51,6 @@ same_path a b c d is = cc
 same_judgement : (a b : Text) (c d : Judgement) → write a c ≡ write b d → c ≡ d
 same_judgement a b c d is = cc
 
-reads_no_file : (record_path : Option Text) (path : Text) (judgement : Judgement) → tell record_path ≡ write path judgement → ⊥
-reads_no_file record_path path judgement is = cc
-
-draws_no_file : (record_path : Option Text) (path : Text) (judgement : Judgement) → picture record_path ≡ write path judgement → ⊥
-draws_no_file record_path path judgement is = cc
-
-no_comments : (source : Source) (echo times : Bool) (path : Text) (judgement : Judgement) → remark source echo times ≡ write path judgement → ⊥
-no_comments source echo times path judgement is = cc
-
-no_journal : (journal cell certificate : Text) (recipes : List Text) (echo times : Bool) (path : Text) (judgement : Judgement)
-    → keep journal cell certificate recipes echo times ≡ write path judgement → ⊥
-no_journal journal cell certificate recipes echo times path judgement is = cc
-
-no_audit : (source : Source) (beginning : Bool) (record_path path : Text) (judgement : Judgement) → audit beginning record_path source ≡ write path judgement → ⊥
-no_audit source beginning record_path path judgement is = cc
-
 kept_at : (gives : Gives) (holds : Holds) (files : JournalFiles) (words : List Text) (ends : serving.Ends) (errors : Stream) (path : Text) (judgement : Judgement) (status : ℕ)
     → AskFor words (write path judgement) → IsProgramRun gives holds files words ends errors status → status ≡ 0
     → (text : List ℕ) × IsVerdictText gives (IsWarned (ask_quiet words) errors.before errors.after) judgement text × holds path (Some text)
@@ -86,21 +70,21 @@ kept_at gives holds files words ends errors path judgement status asked (writes 
 kept_at gives holds files words ends errors path judgement status asked (writes _ _ _ _ _ _ _ (inr (inl fault)) _ _) is = absurd cc
 kept_at gives holds files words ends errors path judgement status asked (writes _ _ _ _ _ _ _ (inr (inr memory)) _ _) is = absurd cc
 kept_at gives holds files words ends errors path judgement _ asked (serves source _ _ asked2 _ _ _) is =
-    absurd (serves_no_file source path judgement (same_request words (serve source) (write path judgement) asked2 asked))
+    absurd (let same = same_request words _ _ asked2 asked in cc)
 kept_at gives holds files words ends errors path judgement _ asked (remarks source echo times _ _ asked2 _ _ _) is =
-    absurd (no_comments source echo times path judgement (same_request words (remark source echo times) (write path judgement) asked2 asked))
+    absurd (let same = same_request words _ _ asked2 asked in cc)
 kept_at gives holds files words ends errors path judgement _ asked (keeps journal cell certificate recipes echo times _ _ _ asked2 _ _) is =
-    absurd (no_journal journal cell certificate recipes echo times path judgement (same_request words (keep journal cell certificate recipes echo times) (write path judgement) asked2 asked))
+    absurd (let same = same_request words _ _ asked2 asked in cc)
 kept_at gives holds files words ends errors path judgement _ asked (serves_desks named desks cell certificate recipes times _ _ _ _ asked2 _ _ _) is =
-    absurd (desks_no_file path judgement (same_request words (serve_desks named desks cell certificate recipes times) (write path judgement) asked2 asked))
+    absurd (let same = same_request words _ _ asked2 asked in cc)
 kept_at gives holds files words ends errors path judgement _ asked (audits beginning record_path source _ _ asked2 _ _) is =
-    absurd (no_audit source beginning record_path path judgement (same_request words (audit beginning record_path source) (write path judgement) asked2 asked))
+    absurd (let same = same_request words _ _ asked2 asked in cc)
 kept_at gives holds files words ends errors path judgement _ asked (draws record_path _ asked2 _) is =
-    absurd (draws_no_file record_path path judgement (same_request words (picture record_path) (write path judgement) asked2 asked))
+    absurd (let same = same_request words _ _ asked2 asked in cc)
 kept_at gives holds files words ends errors path judgement _ asked (reads record_path _ asked2 _) is =
-    absurd (reads_no_file record_path path judgement (same_request words (tell record_path) (write path judgement) asked2 asked))
+    absurd (let same = same_request words _ _ asked2 asked in cc)
 kept_at gives holds files words ends errors path judgement _ asked (plants planted _ options _ _ asked2 _ _ _ _) is =
-    absurd (plants_no_file planted options.batches options.ticks options.ring path judgement (same_request words _ (write path judgement) asked2 asked))
+    absurd (let same = same_request words _ _ asked2 asked in cc)
 
 pub certificates_are_kept : (gives : Gives) (holds : Holds) (files : JournalFiles) → CertificatesAreKept gives holds files
 certificates_are_kept gives holds files words ends errors path judgement asked came =

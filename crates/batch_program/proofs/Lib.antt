@@ -1,4 +1,3 @@
-pub mod DeskRequests
 pub mod DesksOverJournal
 pub mod SafeJournals
 pub mod RepeatedDeskAnswers

@@ -7,13 +7,13 @@ use Rattle.batch_model.specs.Plant.{Plant, Setup}
 use Rattle.batch_engine.specs.View.{setup}
 use Rattle.batch_wire.specs.{Transcript.lines_of, Transcript.whole_lines, Written.AppendsBeginning}
 use Rattle.batch_serve.specs.{Safe.BeginsSafely, Safe.WritesSafely, Safe.WritesWholeSafely, Serves.AnswersAll, Serves.Serves, Serves.WritesTo, declared.fault.ServeFault.TheVariants.Read, declared.fault.ServeFault.TheVariants.Write, declared.fault.ServeFault.TheVariants.TooManyReads, declared.fault.SetFault.SetFault, declared.fault.SetFault.TheVariants.Memory, declared.fault.SetFault.TheVariants.Stopped}
-use Rattle.batch_cli.specs.{declared.comments.Comments.Comments, CommandLine.Request, CommandLine.Source, CommandLine.audit, CommandLine.plant, CommandLine.serve, CommandLine.serve_desks, CommandLine.source_of, CommandLine.tell, CommandLine.keep, CommandLine.Judgement, CommandLine.write, CommandLine.remark, CommandLine.picture, declared.command.AuditWords.AuditWords, declared.plant_options.PlantOptions.PlantOptions}
+use Rattle.batch_cli.specs.{declared.comments.Comments.Comments, CommandLine.Request, CommandLine.Source, CommandLine.audit, CommandLine.plant, CommandLine.serve, CommandLine.source_of, CommandLine.tell, CommandLine.keep, CommandLine.write, CommandLine.picture, declared.command.AuditWords.AuditWords, declared.plant_options.PlantOptions.PlantOptions}
 use Rattle.batch_verdicts.{specs.Reading.Gives, specs.Requests.IsSetOf, specs.Running.AskFor, specs.Running.IsAnnounced, specs.Running.IsDone, specs.Running.IsExplained, specs.Running.IsPrinted, specs.Running.IsRun, specs.Running.IsUnwritten, specs.Running.Stream, specs.Running.ask_quiet, specs.Running.fault_status, specs.Running.success_status, specs.Running.usage_status, specs.Running.memory_status, specs.Statuses.IsSuccess, proofs.Successes.done_keeping, proofs.Successes.done_serving, proofs.Successes.every_in_range, proofs.Successes.same_request, proofs.Successes.success_is_told, specs.Judging.status_of, specs.declared.course.Course.Course, specs.declared.course.Course.TheVariants.Ends, specs.declared.refusal.Halt.Halt, specs.declared.refusal.RefusalKind.RefusalKind, specs.declared.refusal.RefusalKind.TheVariants.Fault, specs.declared.refusal.RefusalKind.TheVariants.OutOfMemory, specs.Digested.AreDigested, specs.declared.digested.Digested.Digested}
 use Rattle.batch_verdicts.specs.Running as running
 use Rattle.batch_verdicts.specs.declared.course.Course.TheVariants as course_of
 use Rattle.batch_verdicts.specs.declared.refusal.Halt.TheVariants as halt
 use Rattle.batch_serve.specs.Serves as serving
-use Rattle.batch_program.{specs.declared.program.TheConstants.MAX_READS, specs.Programs.IsLeftTold, specs.Programs.IsProgramRun, specs.Programs.PlantsAreComplete, specs.Programs.ServingIsSafe, specs.Programs.tells, specs.Programs.serves, specs.Programs.serves_desks, specs.Programs.reads, specs.Programs.audits, specs.Programs.plants, specs.Programs.status_of_serving, specs.Programs.keeps, specs.Programs.writes, specs.Programs.remarks, specs.Programs.draws, specs.AuditRuns.IsAuditTold, specs.AuditRuns.finding_status, specs.AuditRuns.finding_text, specs.JournalRuns.Behind, specs.JournalRuns.DiskKind, specs.JournalRuns.IsJournalRefused, specs.JournalRuns.IsJournalRun, specs.JournalRuns.IsJournalTold, specs.JournalRuns.IsRunOver, specs.JournalRuns.IsShownBehind, specs.JournalRuns.JournalFiles, specs.DeskRuns.AreDesksOn, specs.DeskRuns.AreDesksRun, specs.DeskRuns.status_of_desks, specs.DeskRuns.status_of_fault, proofs.DeskRequests.desks_no_plant, proofs.DeskRequests.desks_no_serving, specs.FileWriting.IsWritten, specs.PlantRuns.HasRun, specs.PlantRuns.IsPlantTold, specs.PlantRuns.plant_text, specs.PlantRuns.refused_status, specs.DrawingRuns.IsPictureDrawn, specs.DrawingRuns.IsRecordDrawn, specs.RecordRuns.Holds, specs.RecordRuns.IsRecordTold, specs.RecordRuns.IsStatusTold, specs.RecordRuns.IsUntold, specs.RecordRuns.prints, specs.RecordRuns.refuses, specs.RecordRuns.stops, specs.RecordRuns.no_record_text, specs.RecordRuns.output_of}
+use Rattle.batch_program.specs.{declared.program.TheConstants.MAX_READS, Programs.IsLeftTold, Programs.IsProgramRun, Programs.PlantsAreComplete, Programs.ServingIsSafe, Programs.tells, Programs.serves, Programs.serves_desks, Programs.reads, Programs.audits, Programs.plants, Programs.status_of_serving, Programs.keeps, Programs.writes, Programs.remarks, Programs.draws, AuditRuns.IsAuditTold, AuditRuns.finding_status, AuditRuns.finding_text, JournalRuns.Behind, JournalRuns.DiskKind, JournalRuns.IsJournalRefused, JournalRuns.IsJournalRun, JournalRuns.IsJournalTold, JournalRuns.IsRunOver, JournalRuns.IsShownBehind, JournalRuns.JournalFiles, DeskRuns.AreDesksOn, DeskRuns.AreDesksRun, DeskRuns.status_of_desks, DeskRuns.status_of_fault, FileWriting.IsWritten, PlantRuns.HasRun, PlantRuns.IsPlantTold, PlantRuns.plant_text, PlantRuns.refused_status, DrawingRuns.IsPictureDrawn, DrawingRuns.IsRecordDrawn, RecordRuns.Holds, RecordRuns.IsRecordTold, RecordRuns.IsStatusTold, RecordRuns.IsUntold, RecordRuns.prints, RecordRuns.refuses, RecordRuns.stops, RecordRuns.no_record_text, RecordRuns.output_of}
 use Rattle.batch_plant.specs.declared.plant_fault.PlantFault.{PlantFault}
 use Rattle.batch_plant.specs.declared.plant_fault.PlantFault.TheVariants as plant_fault
 use Rattle.batch_keep.specs.declared.finding.Finding.{Finding, TheVariants.Agrees, TheVariants.Differs, TheVariants.EndsBefore}
@@ -436,75 +436,31 @@ told_at_once gives words output errors request status asked came is =
 same_source : (a b : Source) → serve a ≡ serve b → a ≡ b
 same_source a b is = cc
 
-serves_no_record : (source : Source) (path : Option Text) → serve source ≡ tell path → ⊥
-serves_no_record source path is = cc
-
-pub serves_no_file : (source : Source) (path : Text) (judgement : Judgement) → serve source ≡ write path judgement → ⊥
-serves_no_file source path judgement is = cc
-
-pub plants_no_file : (planted : Source) (batches ticks ring : ℕ) (path : Text) (judgement : Judgement) → plant planted batches ticks ring ≡ write path judgement → ⊥
-plants_no_file planted batches ticks ring path judgement is = cc
-
-plants_no_record : (planted : Source) (batches ticks ring : ℕ) (path : Option Text) → plant planted batches ticks ring ≡ tell path → ⊥
-plants_no_record planted batches ticks ring path is = cc
-
-pub serves_no_audit : (source other : Source) (beginning : Bool) (path : Text) → serve source ≡ audit beginning path other → ⊥
-serves_no_audit source other beginning path is = cc
-
-pub plants_no_audit : (planted : Source) (batches ticks ring : ℕ) (source : Source) (beginning : Bool) (path : Text) → plant planted batches ticks ring ≡ audit beginning path source → ⊥
-plants_no_audit planted batches ticks ring source beginning path is = cc
-
-serves_no_comments : (source other : Source) (echo times : Bool) → serve source ≡ remark other echo times → ⊥
-serves_no_comments source other echo times is = cc
-
-plants_no_comments : (planted : Source) (batches ticks ring : ℕ) (source : Source) (echo times : Bool) → plant planted batches ticks ring ≡ remark source echo times → ⊥
-plants_no_comments planted batches ticks ring source echo times is = cc
-
-serves_no_picture : (source : Source) (path : Option Text) → serve source ≡ picture path → ⊥
-serves_no_picture source path is = cc
-
-plants_no_picture : (planted : Source) (batches ticks ring : ℕ) (path : Option Text) → plant planted batches ticks ring ≡ picture path → ⊥
-plants_no_picture planted batches ticks ring path is = cc
-
-serves_no_plant : (source planted : Source) (batches ticks ring : ℕ) → serve source ≡ plant planted batches ticks ring → ⊥
-serves_no_plant source planted batches ticks ring is = cc
-
-serves_no_journal : (source : Source) (path cell certificate : Text) (recipes : List Text) (echo times : Bool) → serve source ≡ keep path cell certificate recipes echo times → ⊥
-serves_no_journal source path cell certificate recipes echo times is = cc
-
-plants_no_journal : (planted : Source) (batches ticks ring : ℕ) (path cell certificate : Text) (recipes : List Text) (echo times : Bool)
-    → plant planted batches ticks ring ≡ keep path cell certificate recipes echo times → ⊥
-plants_no_journal planted batches ticks ring path cell certificate recipes echo times is = cc
-
-pub audits_no_journal : (beginning : Bool) (record_path : Text) (source : Source) (path cell certificate : Text) (recipes : List Text) (echo times : Bool)
-    → audit beginning record_path source ≡ keep path cell certificate recipes echo times → ⊥
-audits_no_journal beginning record_path source path cell certificate recipes echo times is = cc
-
 safe_at : (gives : Gives) (holds : Holds) (files : JournalFiles) (words : List Text) (ends : serving.Ends) (errors : Stream) (source : Source) (status : ℕ)
     → AskFor words (serve source) → IsProgramRun gives holds files words ends errors status → status ≡ 0
     → (set : ClearedSet) × (left : ℕ) × IsSetOf gives source set × AnswersAll set left ends × IsLeftTold (ask_quiet words) errors left
 safe_at gives holds files words ends errors source _ asked (tells status came _) is =
     absurd (told_at_once gives words (output_of ends) errors (serve source) status asked came is)
 safe_at gives holds files words ends errors source _ asked (writes path judgement _ _ _ asked2 _ _ _ _) is =
-    absurd (serves_no_file source path judgement (same_request words (serve source) (write path judgement) asked asked2))
+    absurd (let same = same_request words _ _ asked asked2 in cc)
 safe_at gives holds files words ends errors source _ asked (serves other set served asked2 is_set all told) is =
     let same = same_source other source (same_request words (serve other) (serve source) asked2 asked) in
     let (left, answers, says) = ran_to_the_end set served ends (ask_quiet words) errors all told is in
     (set, left, subst (λ s. IsSetOf gives s set) same is_set, answers, says)
 safe_at gives holds files words ends errors source _ asked (keeps path cell certificate recipes echo times _ _ _ asked2 _ _) is =
-    absurd (serves_no_journal source path cell certificate recipes echo times (same_request words (serve source) (keep path cell certificate recipes echo times) asked asked2))
+    absurd (let same = same_request words _ _ asked asked2 in cc)
 safe_at gives holds files words ends errors source _ asked (remarks other echo times _ _ asked2 _ _ _) is =
-    absurd (serves_no_comments source other echo times (same_request words (serve source) (remark other echo times) asked asked2))
+    absurd (let same = same_request words _ _ asked asked2 in cc)
 safe_at gives holds files words ends errors source _ asked (reads path _ asked2 _) is =
-    absurd (serves_no_record source path (same_request words (serve source) (tell path) asked asked2))
+    absurd (let same = same_request words _ _ asked asked2 in cc)
 safe_at gives holds files words ends errors source _ asked (draws path _ asked2 _) is =
-    absurd (serves_no_picture source path (same_request words (serve source) (picture path) asked asked2))
+    absurd (let same = same_request words _ _ asked asked2 in cc)
 safe_at gives holds files words ends errors source _ asked (serves_desks named path cell certificate recipes times _ _ _ _ asked2 _ _ _) is =
-    absurd (desks_no_serving source (same_request words (serve_desks named path cell certificate recipes times) (serve source) asked2 asked))
+    absurd (let same = same_request words _ _ asked2 asked in cc)
 safe_at gives holds files words ends errors source _ asked (audits beginning path other _ _ asked2 _ _) is =
-    absurd (serves_no_audit source other beginning path (same_request words (serve source) (audit beginning path other) asked asked2))
+    absurd (let same = same_request words _ _ asked asked2 in cc)
 safe_at gives holds files words ends errors source _ asked (plants planted _ options _ _ asked2 _ _ _ _) is =
-    absurd (serves_no_plant source planted options.batches options.ticks options.ring (same_request words (serve source) _ asked asked2))
+    absurd (let same = same_request words _ _ asked asked2 in cc)
 
 pub serving_is_safe : (gives : Gives) (holds : Holds) (files : JournalFiles) → ServingIsSafe gives holds files
 serving_is_safe gives holds files words ends errors source asked came = safe_at gives holds files words ends errors source 0 asked came refl
@@ -707,22 +663,21 @@ told_plant : (gives : Gives) (holds : Holds) (files : JournalFiles) (words : Lis
 told_plant gives holds files words ends errors planted batches ticks ring _ asked (tells status came _) is =
     absurd (told_at_once gives words (output_of ends) errors (plant planted batches ticks ring) status asked came is)
 told_plant gives holds files words ends errors planted batches ticks ring _ asked (writes path judgement _ _ _ asked2 _ _ _ _) is =
-    absurd (plants_no_file planted batches ticks ring path judgement (same_request words (plant planted batches ticks ring) (write path judgement) asked asked2))
+    absurd (let same = same_request words _ _ asked asked2 in cc)
 told_plant gives holds files words ends errors planted batches ticks ring _ asked (serves source _ _ asked2 _ _ _) is =
-    absurd (serves_no_plant source planted batches ticks ring (same_request words (serve source) (plant planted batches ticks ring) asked2 asked))
+    absurd (let same = same_request words _ _ asked2 asked in cc)
 told_plant gives holds files words ends errors planted batches ticks ring _ asked (keeps path cell certificate recipes echo times _ _ _ asked2 _ _) is =
-    absurd (plants_no_journal planted batches ticks ring path cell certificate recipes echo times
-    (same_request words (plant planted batches ticks ring) (keep path cell certificate recipes echo times) asked asked2))
+    absurd (let same = same_request words _ _ asked asked2 in cc)
 told_plant gives holds files words ends errors planted batches ticks ring _ asked (remarks source echo times _ _ asked2 _ _ _) is =
-    absurd (plants_no_comments planted batches ticks ring source echo times (same_request words (plant planted batches ticks ring) (remark source echo times) asked asked2))
+    absurd (let same = same_request words _ _ asked asked2 in cc)
 told_plant gives holds files words ends errors planted batches ticks ring _ asked (serves_desks named path cell certificate recipes times _ _ _ _ asked2 _ _ _) is =
-    absurd (desks_no_plant planted batches ticks ring (same_request words (serve_desks named path cell certificate recipes times) (plant planted batches ticks ring) asked2 asked))
+    absurd (let same = same_request words _ _ asked2 asked in cc)
 told_plant gives holds files words ends errors planted batches ticks ring _ asked (reads path _ asked2 _) is =
-    absurd (plants_no_record planted batches ticks ring path (same_request words (plant planted batches ticks ring) (tell path) asked asked2))
+    absurd (let same = same_request words _ _ asked asked2 in cc)
 told_plant gives holds files words ends errors planted batches ticks ring _ asked (draws path _ asked2 _) is =
-    absurd (plants_no_picture planted batches ticks ring path (same_request words (plant planted batches ticks ring) (picture path) asked asked2))
+    absurd (let same = same_request words _ _ asked asked2 in cc)
 told_plant gives holds files words ends errors planted batches ticks ring _ asked (audits beginning path source _ _ asked2 _ _) is =
-    absurd (plants_no_audit planted batches ticks ring source beginning path (same_request words (plant planted batches ticks ring) (audit beginning path source) asked asked2))
+    absurd (let same = same_request words _ _ asked asked2 in cc)
 told_plant gives holds files words ends errors planted batches ticks ring status asked (plants source set options end _ asked2 is_set ran told _) is =
     let (from, same) = same_plant source planted options.batches batches options.ticks ticks options.ring ring (same_request words _ (plant planted batches ticks ring) asked2 asked) in
     let (handled, came, appends) = complete_at (output_of ends) errors set options.batches end status ran told is in

@@ -3,13 +3,13 @@ use Rattle.std.proofs.Common.{◌≡◌, ℕ, Bool, List, Option, Some, None, Re
 use Rattle.std.specs.Io.KnownBytes.{Keeps}
 use Rattle.clap.specs.Walk.{Text}
 use Rattle.batch_verify.specs.ClearedSet.{ClearedSet}
-use Rattle.batch_cli.specs.{CommandLine.Judgement, CommandLine.Request, CommandLine.Source, CommandLine.audit, CommandLine.keep, CommandLine.plant, CommandLine.remark, CommandLine.serve, CommandLine.tell, CommandLine.write, CommandLine.picture, CommandLine.serve_desks, declared.comments.Comments.Comments}
+use Rattle.batch_cli.specs.{CommandLine.Request, CommandLine.Source, CommandLine.remark, CommandLine.serve, declared.comments.Comments.Comments}
 use Rattle.batch_verdicts.{specs.Reading.Gives, specs.Requests.IsSetOf, specs.Running.AskFor, specs.Running.IsDone, specs.Running.IsRun, specs.Running.IsUnwritten, specs.Running.Stream, specs.Running.ask_quiet, specs.declared.course.Course.Course, proofs.Successes.same_request}
 use Rattle.batch_verdicts.specs.Running as running
 use Rattle.batch_verdicts.specs.declared.course.Course.TheVariants as course_of
 use Rattle.batch_serve.specs.{Comments.IsRemarked, RemarkedSet.ServesRemarked, Serves.AnswersAll, declared.fault.SetFault.SetFault}
 use Rattle.batch_serve.specs.Serves as serving
-use Rattle.batch_program.{proofs.DeskRequests.desks_no_comments, specs.Programs.IsLeftTold, specs.Programs.IsProgramRun, specs.Programs.RemarkedServingIsSafe, specs.Programs.tells, specs.Programs.writes, specs.Programs.serves, specs.Programs.serves_desks, specs.Programs.keeps, specs.Programs.remarks, specs.Programs.reads, specs.Programs.audits, specs.Programs.plants, specs.Programs.draws, specs.JournalRuns.JournalFiles, specs.RecordRuns.Holds, specs.RecordRuns.output_of, proofs.ProgramRuns.ran_to_the_end, proofs.ProgramRuns.served_kept, proofs.ProgramRuns.told_at_once}
+use Rattle.batch_program.{specs.Programs.IsLeftTold, specs.Programs.IsProgramRun, specs.Programs.RemarkedServingIsSafe, specs.Programs.tells, specs.Programs.writes, specs.Programs.serves, specs.Programs.serves_desks, specs.Programs.keeps, specs.Programs.remarks, specs.Programs.reads, specs.Programs.audits, specs.Programs.plants, specs.Programs.draws, specs.JournalRuns.JournalFiles, specs.RecordRuns.Holds, specs.RecordRuns.output_of, proofs.ProgramRuns.ran_to_the_end, proofs.ProgramRuns.served_kept, proofs.ProgramRuns.told_at_once}
 
 -- contents that are known before are known after it
 same_held : (before mid : Option (List ℕ)) (held : List ℕ) → Keeps before mid → before ≡ Some held → mid ≡ Some held
@@ -75,27 +75,6 @@ set_to_remark gives words output errors _ set quiet comments (running.starves _)
 
 -- Exit statuses
 
-no_serving : (source other : Source) (echo times : Bool) → serve other ≡ remark source echo times → ⊥
-no_serving source other echo times is = cc
-
-no_journal : (source : Source) (echo times e t : Bool) (path cell certificate : Text) (recipes : List Text) → keep path cell certificate recipes e t ≡ remark source echo times → ⊥
-no_journal source echo times e t path cell certificate recipes is = cc
-
-no_audit : (source other : Source) (echo times beginning : Bool) (path : Text) → audit beginning path other ≡ remark source echo times → ⊥
-no_audit source other echo times beginning path is = cc
-
-no_file : (source : Source) (echo times : Bool) (path : Text) (judgement : Judgement) → write path judgement ≡ remark source echo times → ⊥
-no_file source echo times path judgement is = cc
-
-no_record : (source : Source) (echo times : Bool) (path : Option Text) → tell path ≡ remark source echo times → ⊥
-no_record source echo times path is = cc
-
-no_picture : (source : Source) (echo times : Bool) (path : Option Text) → picture path ≡ remark source echo times → ⊥
-no_picture source echo times path is = cc
-
-no_plant : (source : Source) (echo times : Bool) (planted : Source) (batches ticks ring : ℕ) → plant planted batches ticks ring ≡ remark source echo times → ⊥
-no_plant source echo times planted batches ticks ring is = cc
-
 same_source : (a b : Source) (echo times e t : Bool) → remark a e t ≡ remark b echo times → a ≡ b
 same_source a b echo times e t is = cc
 
@@ -106,25 +85,25 @@ safe_at : (gives : Gives) (holds : Holds) (files : JournalFiles) (words : List T
 safe_at gives holds files words ends errors source echo times _ asked (tells status came _) is =
     absurd (told_at_once gives words (output_of ends) errors (remark source echo times) status asked came is)
 safe_at gives holds files words ends errors source echo times _ asked (writes path judgement _ _ _ asked2 _ _ _ _) is =
-    absurd (no_file source echo times path judgement (same_request words (write path judgement) (remark source echo times) asked2 asked))
+    absurd (let same = same_request words _ _ asked2 asked in cc)
 safe_at gives holds files words ends errors source echo times _ asked (serves other _ _ asked2 _ _ _) is =
-    absurd (no_serving source other echo times (same_request words (serve other) (remark source echo times) asked2 asked))
+    absurd (let same = same_request words _ _ asked2 asked in cc)
 safe_at gives holds files words ends errors source echo times _ asked (remarks other e t set served asked2 is_set all told) is =
     let same = same_source other source echo times e t (same_request words (remark other e t) (remark source echo times) asked2 asked) in
     let (left, answers, says) = ran_to_the_end set served (record ends { after = all.plain }) (ask_quiet words) errors all.serves told is in
     (set, left, all.plain, subst (λ s. IsSetOf gives s set) same is_set, all.remarked, answers, says)
 safe_at gives holds files words ends errors source echo times _ asked (keeps path cell certificate recipes e t _ _ _ asked2 _ _) is =
-    absurd (no_journal source echo times e t path cell certificate recipes (same_request words (keep path cell certificate recipes e t) (remark source echo times) asked2 asked))
+    absurd (let same = same_request words _ _ asked2 asked in cc)
 safe_at gives holds files words ends errors source echo times _ asked (audits beginning path other _ _ asked2 _ _) is =
-    absurd (no_audit source other echo times beginning path (same_request words (audit beginning path other) (remark source echo times) asked2 asked))
+    absurd (let same = same_request words _ _ asked2 asked in cc)
 safe_at gives holds files words ends errors source echo times _ asked (serves_desks named desks cell certificate recipes stamped _ _ _ _ asked2 _ _ _) is =
-    absurd (desks_no_comments source echo times (same_request words (serve_desks named desks cell certificate recipes stamped) (remark source echo times) asked2 asked))
+    absurd (let same = same_request words _ _ asked2 asked in cc)
 safe_at gives holds files words ends errors source echo times _ asked (reads path _ asked2 _) is =
-    absurd (no_record source echo times path (same_request words (tell path) (remark source echo times) asked2 asked))
+    absurd (let same = same_request words _ _ asked2 asked in cc)
 safe_at gives holds files words ends errors source echo times _ asked (draws path _ asked2 _) is =
-    absurd (no_picture source echo times path (same_request words (picture path) (remark source echo times) asked2 asked))
+    absurd (let same = same_request words _ _ asked2 asked in cc)
 safe_at gives holds files words ends errors source echo times _ asked (plants planted _ options _ _ asked2 _ _ _ _) is =
-    absurd (no_plant source echo times planted options.batches options.ticks options.ring (same_request words _ (remark source echo times) asked2 asked))
+    absurd (let same = same_request words _ _ asked2 asked in cc)
 
 pub remarked_serving_is_safe : (gives : Gives) (holds : Holds) (files : JournalFiles) → RemarkedServingIsSafe gives holds files
 remarked_serving_is_safe gives holds files words ends errors source echo times asked came = safe_at gives holds files words ends errors source echo times 0 asked came refl
