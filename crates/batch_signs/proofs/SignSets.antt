@@ -1,7 +1,7 @@
 -- Sets of nodes by sign.
-use Rattle.std.proofs.Common.{◌≡◌, ◌<◌, ◌≤◌, ◌+◌, ◌*◌, ◌/◌, ◌%◌, refl, sym, ◌∙◌, ap, ap₂, subst, ℕ, List, length, Bool, true, false, Option, Some, None, inl, inr, ◌⊎◌, arith, nat_eq, bit_and, bit_or, get_or}
-use Rattle.std.{specs.Prelude.◌^◌, specs.Prelude.min, specs.Prelude.max, specs.Prelude.not, specs.Prelude.slice_index, specs.Prelude.slice_set, specs.Int.bit_at, specs.Int.Bits.bit_xor, proofs.lemmas.Bool.cases_lt, proofs.lemmas.List.get_or-set_same, proofs.lemmas.List.get_or-set_other, proofs.lemmas.List.get_or_past, proofs.lemmas.List.length-set, proofs.lemmas.Nat.div-add-mod', proofs.lemmas.Nat.mod_below, proofs.lemmas.Nat.div-mul-add, proofs.lemmas.Nat.mod-mul-add, proofs.lemmas.Nat.Bits.bit_at-lt, proofs.lemmas.Nat.Bits.bit_at-zero, proofs.lemmas.Nat.Bits.bit_at_and, proofs.lemmas.Nat.Bits.bit_at_or, proofs.lemmas.Nat.Bits.bit_at_xor, proofs.lemmas.Nat.Bits.bit_at_above}
-use Rattle.batch_signs.{specs.Bits.with_told, specs.Bits.IsLowestFrom, specs.SignSets.set_of, specs.SignSets.sign_shown, specs.SignSets.bit_of, specs.SignSets.AreSummed, specs.SignSets.AreJoined, specs.SignSets.IsTurnedAt, specs.SignSets.IsChangedAt, specs.SignSets.ShowsNone, specs.SignSets.ShowsSome, specs.SignSets.IsFirstShown, proofs.Bits.nat-same, proofs.Bits.differs, proofs.Bits.no-bits, proofs.Bits.zeros, proofs.Bits.with-one_same, proofs.Bits.with-one_other, proofs.Bits.with-zero_same, proofs.Bits.with-zero_other}
+use Rattle.std.proofs.Common.{◌≡◌, ◌<◌, ◌≤◌, ◌+◌, ◌*◌, ◌/◌, ◌%◌, refl, sym, ◌∙◌, ap, ap₂, subst, ℕ, List, length, Bool, true, false, Some, None, inl, inr, ◌⊎◌, arith, nat_eq, bit_and, bit_or, get_or}
+use Rattle.std.{specs.Prelude.◌^◌, specs.Prelude.min, specs.Prelude.max, specs.Prelude.not, specs.Prelude.slice_index, specs.Prelude.slice_set, specs.Int.bit_at, specs.Int.Bits.bit_xor, proofs.lemmas.Bool.cases_lt, proofs.lemmas.List.get_or-set_same, proofs.lemmas.List.get_or-set_other, proofs.lemmas.List.get_or_past, proofs.lemmas.List.length-set, proofs.lemmas.Nat.div-add-mod', proofs.lemmas.Nat.mod_below, proofs.lemmas.Nat.div-mul-add, proofs.lemmas.Nat.mod-mul-add, proofs.lemmas.Nat.Bits.bit_at-lt, proofs.lemmas.Nat.Bits.bit_at-zero, proofs.lemmas.Nat.Bits.bit_at_or, proofs.lemmas.Nat.Bits.bit_at_xor, proofs.lemmas.Nat.Bits.bit_at_above}
+use Rattle.batch_signs.{specs.Bits.with_told, specs.Bits.IsLowestFrom, specs.SignSets.set_of, specs.SignSets.sign_shown, specs.SignSets.bit_of, specs.SignSets.AreSummed, specs.SignSets.AreJoined, specs.SignSets.IsTurnedAt, specs.SignSets.IsChangedAt, specs.SignSets.ShowsNone, specs.SignSets.ShowsSome, specs.SignSets.IsFirstShown, proofs.Bits.nat-same, proofs.Bits.differs, proofs.Bits.no-bits, proofs.Bits.zeros, proofs.Bits.with-one_same, proofs.Bits.with-one_other, proofs.Bits.with-zero_same, proofs.Bits.with-zero_other, proofs.WantedSigns.no-bit}
 
 not-one : (x : ℕ) → x ≡ 0 → x ≡ 1 → ⊥
 not-one x e f = absurd (omega (arith, e, f))
@@ -344,36 +344,13 @@ module _ (words : List ℕ) (wanted from set : ℕ) (j : AreJoined words (from /
                 let same : k / 64 ≡ later = omega (arith, m, q, low.0, div-add-mod' k 64, mod_below k 64 (omega arith)) in
                 shows-none words wanted later later-set k there same (low.3 (k % 64) (omega arith) (omega (arith, m, same, div-add-mod' k 64)))
 
--- a sign that isn't among all is shown by no node
+-- where none of the wanted signs is among all
 
-missing-shown : (words summary : List ℕ) (all sign k : ℕ) → AreSummed words summary all → sign < 32 → bit_at all sign ≡ 0 → sign_shown words k sign ≡ 0
-missing-shown words summary all sign k h small bit =
-    let none : bit_at (slice_index summary sign) (k / 64) ≡ 0 = ap (λ z. bit_at z (k / 64)) (h.missing sign small bit) ∙ bit_at-zero (k / 64) in
-    ap (λ z. bit_at z (k % 64)) (h.none (k / 64) sign small none) ∙ bit_at-zero (k % 64)
-
--- the wanted signs that are among all find the same node
-
-module _ (words summary : List ℕ) (all wanted : ℕ) (h : AreSummed words summary all) where
-  none-narrowed : (k : ℕ) → ShowsNone words (bit_and all wanted) k → ShowsNone words wanted k
-  none-narrowed k none s small is = go (one-or_none all s)
-    where
-      go : (bit_at all s ≡ 0) ⊎ (bit_at all s ≡ 1) → sign_shown words k s ≡ 0
-      go (inl q) = missing-shown words summary all s k h small q
-      go (inr q) = none s small (bit_at_and all wanted s ∙ ap₂ min q is)
-
-  some-narrowed : (k : ℕ) → ShowsSome words (bit_and all wanted) k → ShowsSome words wanted k
-  some-narrowed k (s, small, is, shown) = (s, small, of-both (bit_at all s) (bit_at wanted s) (bit_at-lt wanted s) (sym (bit_at_and all wanted s) ∙ is), shown)
-    where
-      of-both : (a b : ℕ) → b < 2 → min a b ≡ 1 → b ≡ 1
-      of-both a b l e = grind arith
-
-  narrowed : (from : ℕ) (found : Option ℕ) → IsFirstShown words (bit_and all wanted) from found → IsFirstShown words wanted from found
-  narrowed from None none = λ k l. none-narrowed k (none k l)
-  narrowed from (Some n) f = (f.0, some-narrowed n f.1, λ k a b. none-narrowed k (f.2 k a b))
-
-  pub narrowed-at : (now : List ℕ) (shown from : ℕ) (found : Option ℕ) → words ≡ now → shown ≡ wanted → IsFirstShown now (bit_and all shown) from found → IsFirstShown now wanted from found
-  narrowed-at now shown from found here same f =
-      subst (λ ws. IsFirstShown ws wanted from found) here (narrowed from found (subst (λ z. IsFirstShown words (bit_and all z) from found) same (subst (λ ws. IsFirstShown ws (bit_and all shown) from found) (sym here) f)))
-
-pub nothing-wanted : (words : List ℕ) (wanted from : ℕ) → wanted ≡ 0 → IsFirstShown words wanted from None
-nothing-wanted words wanted from e k l s small is = absurd (not-one (bit_at wanted s) (ap (λ z. bit_at z s) e ∙ bit_at-zero s) is)
+pub none-wanted : (words summary : List ℕ) (all wanted from : ℕ) → AreSummed words summary all → bit_and all wanted ≡ 0 → IsFirstShown words wanted from None
+none-wanted words summary all wanted from h e k l s small is =
+    let bit : bit_at all s ≡ 0 = least (bit_at all s) (bit_at wanted s) (no-bit all wanted e s) is in
+    let none : bit_at (slice_index summary s) (k / 64) ≡ 0 = ap (λ z. bit_at z (k / 64)) (h.missing s small bit) ∙ bit_at-zero (k / 64) in
+    ap (λ z. bit_at z (k % 64)) (h.none (k / 64) s small none) ∙ bit_at-zero (k % 64)
+  where
+    least : (a b : ℕ) → min a b ≡ 0 → b ≡ 1 → a ≡ 0
+    least a b m f = grind arith

@@ -97,11 +97,10 @@ impl Sets {
     pub fn next(&self, wanted: u32, from: usize) -> Option<usize>
         ensures { IsFirstShown self.now wanted from result }
     {
-        let shown = self.all & u64::from(wanted);
-        if shown == 0 {
+        if self.all & u64::from(wanted) == 0 {
             return None;
         }
-        self.search(shown as u32, from)
+        self.search(wanted, from)
     }
 
     /// The first node from this one on that shows one of the signs, by a search of the words.
